@@ -1,4 +1,6 @@
+pub mod Columns
 pub mod Exact
 pub mod Scalars
+pub mod Scopes
 pub mod Types
 pub mod Values

@@ -2,12 +2,16 @@
 #![tactic(auto)]
 
 pub mod bytes;
+pub mod chunk;
+pub mod column;
 pub mod dtype;
 pub mod element;
 pub mod error;
 pub mod nullability;
 pub mod ptype;
 pub mod pvalue;
+pub mod row;
 pub mod scalar;
 pub mod scalar_value;
+pub mod scope;
 pub mod text;
