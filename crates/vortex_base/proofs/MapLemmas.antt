@@ -2,6 +2,7 @@
 use Rattle.std.specs.Prelude.{◌≡◌, suc, Bool, ◌||◌, ◌&&◌, not, List, [], ◌∷◌, map, refl, length}
 use Rattle.std.specs.List.{list_all, list_any, zip, position, prefix_len}
 use Rattle.std.proofs.Common.{ap, arith, rules}
+use Rattle.std.proofs.lemmas.List.{length-map}
 use lib.Pointwise.{pointwise}
 
 pub list_any-map : {X Y : Type 0} (p : Y → Bool) (f : X → Y) (xs : List X) → list_any p (map f xs) ≡ list_any (λ x. p (f x)) xs
@@ -12,18 +13,8 @@ prefix_len-map : {X Y : Type 0} (p : Y → Bool) (f : X → Y) (xs : List X) →
 prefix_len-map p f [] = refl
 prefix_len-map p f (x ∷ xs) = search (rules, prefix_len-map p f xs)
 
-pub length-map : {X Y : Type 0} (f : X → Y) (xs : List X) → length (map f xs) ≡ length xs
-length-map f [] = refl
-length-map f (x ∷ xs) = ap suc (length-map f xs)
-
 pub position-map : {X Y : Type 0} (p : Y → Bool) (f : X → Y) (xs : List X) → position p (map f xs) ≡ position (λ x. p (f x)) xs
-position-map p f xs = rw (prefix_len-map (λ y. not (p y)) f xs, length-map f xs) refl
-
-pub pointwise-map : {X Y : Type 0} (E : Y → Y → Bool) (f : X → Y) (xs ys : List X) → pointwise E (map f xs) (map f ys) ≡ pointwise (λ x y. E (f x) (f y)) xs ys
-pointwise-map E f [] [] = refl
-pointwise-map E f [] (y ∷ ys) = refl
-pointwise-map E f (x ∷ xs) [] = refl
-pointwise-map E f (x ∷ xs) (y ∷ ys) = ap (λ b. E (f x) (f y) && b) (pointwise-map E f xs ys)
+position-map p f xs = rw (prefix_len-map (λ y. not (p y)) f xs, length-map xs f) refl
 
 -- of lists as long as each other
 pub list_all-zip : {X Y Z : Type 0} (E : Y → Z → Bool) (f : X → Y) (xs : List X) (zs : List Z) → length xs ≡ length zs → list_all (λ p. E (f p.0) p.1) (zip xs zs) ≡ pointwise E (map f xs) zs

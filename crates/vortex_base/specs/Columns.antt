@@ -75,6 +75,13 @@ value_at (Some v) = v
 abbrev pub row_of : ℕ → List ColumnData → List Constant
 row_of i cs = map (λ c. record { dtype = c.dtype; value = value_at (slice_get c.values i) }) cs
 
+-- each optional value of a row may stand under its type
+abbrev pub is_row : List Constant → Bool
+is_row cs = list_all (λ c. is_optional_value c.value c.dtype) cs
+
+abbrev pub IsRow : List Constant → Type 0
+IsRow cs = IsTrue (is_row cs)
+
 -- the optional value in a row's cell, and null where there is no such cell
 abbrev pub cell_value : Option Constant → Option ScalarValue
 cell_value None = None

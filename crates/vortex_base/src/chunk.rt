@@ -1,5 +1,7 @@
 //! Columns of one length under a scope.
-ghost use Rattle.std.specs.Prelude.{◌≡◌, ◌<◌, length, slice_get, Some};
+ghost use Rattle.std.specs.Prelude.{◌≡◌, ◌<◌, IsTrue, length, slice_get, Some};
+ghost use Rattle.std.specs.Bool.{OnTrue};
+ghost use Rattle.std.specs.List.{list_all};
 ghost use Rattle.vortex_base.specs.Columns as spec;
 
 use crate::column::Column;
@@ -17,16 +19,16 @@ pub struct Chunk {
 }
 
 impl Model for Chunk {
-    ghost use Rattle.std.specs.Prelude.{◌≡◌, IsTrue};
-    ghost use Rattle.vortex_base.specs.Columns.{ChunkData, row_count, has_shape, has_types};
+    ghost use Rattle.std.specs.Prelude.{◌≡◌};
+    ghost use Rattle.vortex_base.specs.Columns.{ChunkData, row_count, IsChunk};
 
     ghost Value = { ChunkData };
 
     ghost view = { λ a. record { scope = a.scope; columns = a.columns.items } };
 
-    ghost invariant = { λ a. (a.rows ≡ row_count a.columns.items)
-        × IsTrue (has_shape a.scope a.columns.items)
-        × IsTrue (has_types a.scope a.columns.items) };
+    ghost invariant = {
+        λ a. (a.rows ≡ row_count a.columns.items) × IsChunk (record { scope = a.scope; columns = a.columns.items })
+    };
 }
 
 fn row_count(columns: &[Column]) -> usize
@@ -39,9 +41,15 @@ fn row_count(columns: &[Column]) -> usize
 }
 
 fn all_long(rows: usize, columns: &[Column]) -> bool
-    ensures { result ≡ spec.all_long rows columns.now }
+    ensures value { result ≡ spec.all_long rows columns.now }
+    ensures are_columns { OnTrue result (IsTrue (list_all spec.is_column columns.now)) }
 {
-    columns.iter().all(|c| c.len() == rows)
+    for column in columns {
+        if column.len() != rows {
+            return false;
+        }
+    }
+    true
 }
 
 impl Chunk {
@@ -66,13 +74,15 @@ impl Chunk {
 
     pub fn scope(&self) -> &Scope
         ensures value { result.now ≡ self.now.scope }
+        ensures is_chunk { spec.IsChunk self.now }
     {
         &self.scope
     }
 
     /// The number of rows.
     pub fn rows(&self) -> usize
-        ensures { result ≡ spec.row_count self.now.columns }
+        ensures value { result ≡ spec.row_count self.now.columns }
+        ensures is_chunk { spec.IsChunk self.now }
     {
         self.rows
     }
@@ -88,7 +98,8 @@ impl Chunk {
     /// The row at a place, which `rows` tells to be in range.
     pub fn row(&self, i: usize) -> Row<'_>
         requires { i < spec.row_count self.now.columns }
-        ensures { result ≡ spec.row_of i self.entry.now.columns }
+        ensures value { result ≡ spec.row_of i self.entry.now.columns }
+        ensures is_row { spec.IsRow result }
     {
         Row::of_columns(&self.columns, i)
     }

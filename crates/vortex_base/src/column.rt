@@ -64,7 +64,8 @@ impl Column {
 
     /// The number of rows.
     pub fn len(&self) -> usize
-        ensures { result ≡ length self.now.values }
+        ensures value { result ≡ length self.now.values }
+        ensures is_column { IsColumn self.now }
     {
         self.values.len()
     }

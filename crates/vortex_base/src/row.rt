@@ -1,6 +1,6 @@
 //! The rows on which expressions have a meaning.
 ghost use Rattle.std.specs.Prelude.{◌≡◌, length, slice_get, option_copied, option_map, []};
-ghost use Rattle.vortex_base.specs.Columns.{row_of, cell_value};
+ghost use Rattle.vortex_base.specs.Columns.{row_of, cell_value, IsRow};
 
 use crate::column::Column;
 use crate::dtype::DType;
@@ -17,11 +17,13 @@ pub struct Row<'a> {
 impl<'a> Model for Row<'a> {
     ghost use Rattle.std.specs.Prelude.{List};
     ghost use Rattle.vortex_base.specs.Scalars.{Constant};
-    ghost use Rattle.vortex_base.specs.Columns.{row_of};
+    ghost use Rattle.vortex_base.specs.Columns.{row_of, IsRow};
 
     ghost Value = { List Constant };
 
     ghost view = { λ r. row_of r.place r.columns.now };
+
+    ghost invariant = { λ r. IsRow (row_of r.place r.columns.now) };
 }
 
 impl<'a> Row<'a> {
@@ -36,6 +38,7 @@ impl<'a> Row<'a> {
     }
 
     pub(crate) fn of_columns(columns: &'a [Column], place: usize) -> Row<'a>
+        requires { IsRow (row_of place columns.now) }
         ensures { result ≡ row_of place columns.now }
     {
         Row { columns, place }
@@ -43,7 +46,8 @@ impl<'a> Row<'a> {
 
     /// The number of columns.
     pub fn len(&self) -> usize
-        ensures { result ≡ length self.now }
+        ensures value { result ≡ length self.now }
+        ensures is_row { IsRow self.now }
     {
         self.columns.len()
     }

@@ -38,10 +38,14 @@ fn contains(columns: &[(String, DType)], name: &str) -> bool
 fn has_duplicate(columns: &[(String, DType)]) -> bool
     ensures { result ≡ scopes.has_duplicate (scopes.named_columns columns.now) }
 {
-    let Some((first, rest)) = columns.split_first() else {
-        return false;
-    };
-    contains(rest, first.0.as_str()) || has_duplicate(rest)
+    let mut rest = columns;
+    'columns: while let Some((first, later)) = rest.split_first() {
+        if contains(later, first.0.as_str()) {
+            return true;
+        }
+        rest = later;
+    }
+    false
 }
 
 fn is_empty(columns: &[(String, DType)]) -> bool
