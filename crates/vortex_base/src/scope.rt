@@ -1,5 +1,5 @@
 //! Named columns.
-ghost use Rattle.std.specs.Prelude.{◌≡◌, ◌↔◌, ◌<◌, IsTrue, length, slice_get, Some, option_map, position};
+ghost use Rattle.std.specs.Prelude.{◌≡◌, ◌↔◌, ◌<◌, IfSome, IsTrue, length, slice_get, Some, option_map, position};
 ghost use Rattle.std.specs.List.{list_all, list_any, zip};
 ghost use Rattle.vortex_base.specs.Types.{dtype_eq};
 ghost use Rattle.std.specs.Cmp.{partial_equiv_from_equiv};
@@ -66,7 +66,8 @@ fn has_state(columns: &[(String, DType)]) -> bool
 }
 
 fn place_of(columns: &[(String, DType)], name: &str) -> Option<usize>
-    ensures { result ≡ position (λ c. scopes.is_named name.now (scopes.named c)) columns.now }
+    ensures value { result ≡ position (λ c. scopes.is_named name.now (scopes.named c)) columns.now }
+    ensures in_range { IfSome result (λ i. i < length columns.now) }
 {
     columns.iter().position(|c| c.0.as_str() == name)
 }
@@ -137,7 +138,8 @@ impl Scope {
 
     /// The place of the column of a name.
     pub fn find(&self, name: &str) -> Option<usize>
-        ensures { result ≡ scopes.place_of name.now self.now }
+        ensures value { result ≡ scopes.place_of name.now self.now }
+        ensures in_range { IfSome result (λ i. i < length self.now) }
     {
         place_of(&self.columns, name)
     }
