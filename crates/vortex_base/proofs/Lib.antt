@@ -1,3 +1,4 @@
 pub mod MapLemmas
+pub mod OrderLemmas
 pub mod RowLemmas
 pub mod ScopeLemmas

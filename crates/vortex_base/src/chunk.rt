@@ -26,9 +26,7 @@ impl Model for Chunk {
 
     ghost view = { λ a. record { scope = a.scope; columns = a.columns.items } };
 
-    ghost invariant = {
-        λ a. (a.rows ≡ row_count a.columns.items) × IsChunk (record { scope = a.scope; columns = a.columns.items })
-    };
+    ghost invariant = { λ a. (a.rows ≡ row_count a.columns.items) × IsChunk (record { scope = a.scope; columns = a.columns.items }) };
 }
 
 fn row_count(columns: &[Column]) -> usize
