@@ -1,5 +1,6 @@
 pub mod Columns
 pub mod Exact
+pub mod Examples
 pub mod Orders
 pub mod Scalars
 pub mod Scopes
