@@ -1,6 +1,7 @@
 pub mod Columns
 pub mod Exact
 pub mod Examples
+pub mod FromScalars
 pub mod Orders
 pub mod Scalars
 pub mod Scopes

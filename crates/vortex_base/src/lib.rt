@@ -7,6 +7,7 @@ pub mod column;
 pub mod dtype;
 pub mod element;
 pub mod error;
+pub mod from_scalar;
 pub mod laws;
 pub mod nullability;
 pub mod ptype;
