@@ -1,8 +1,8 @@
 pub mod Columns
 pub mod Exact
 pub mod Examples
-pub mod FromScalars
 pub mod Orders
+pub mod Reading
 pub mod Scalars
 pub mod Scopes
 pub mod Types

@@ -1,6 +1,6 @@
 //! Laws of this layer, in the words of its definitions. The functions carry them by their contracts.
 ghost use Rattle.std.specs.Prelude.{◌≡◌, ◌↔◌, IfOk, IsTrue};
-ghost use Rattle.vortex_base.specs.Examples.{TypeExamples, ValueExamples, OrderExamples, ScopeExamples, ChunkExamples, ReadExamples};
+ghost use Rattle.vortex_base.specs.Examples.{TypeExamples, ValueExamples, OrderExamples, ScopeExamples, ChunkExamples};
 ghost use Rattle.vortex_base.specs.Orders.{ValuesAreOrdered, NumbersAreOrdered, pvalue_cmp};
 ghost use Rattle.vortex_base.specs.Values.{value_cmp};
 
@@ -66,12 +66,11 @@ pub fn clone_of_bytes(source: &Bytes) -> Result<Bytes, AllocError>
     clone_of(source)
 }
 
-/// Worked cases of the definitions: types, values and their order, scopes, columns, chunks and rows, and the reading of scalars.
+/// Worked cases of the definitions: types, values and their order, scopes, columns, chunks and rows.
 pub fn examples_hold()
     ensures types { TypeExamples }
     ensures values { ValueExamples }
     ensures order { OrderExamples }
     ensures scopes { ScopeExamples }
     ensures chunks { ChunkExamples }
-    ensures reading { ReadExamples }
 {}
