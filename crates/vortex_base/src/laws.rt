@@ -1,6 +1,7 @@
 //! Laws of this layer, in the words of its definitions. The functions carry them by their contracts.
 ghost use Rattle.std.specs.Prelude.{◌≡◌, ◌↔◌, IfOk, IsTrue};
-ghost use Rattle.vortex_base.specs.Examples.{TypeExamples, ValueExamples, OrderExamples, ScopeExamples, ChunkExamples};
+ghost use Rattle.vortex_base.specs.Examples.{TypeExamples, ValueExamples, OrderExamples};
+ghost use Rattle.vortex_base.specs.Examples.{ScopeExamples, ChunkExamples};
 ghost use Rattle.vortex_base.specs.Orders.{ValuesAreOrdered, NumbersAreOrdered, pvalue_cmp};
 ghost use Rattle.vortex_base.specs.Values.{value_cmp};
 
@@ -66,7 +67,8 @@ pub fn clone_of_bytes(source: &Bytes) -> Result<Bytes, AllocError>
     clone_of(source)
 }
 
-/// Worked cases of the definitions: types, values and their order, scopes, columns, chunks and rows.
+/// Worked cases of the definitions: types, values and their order, scopes, columns, chunks and
+/// rows.
 pub fn examples_hold()
     ensures types { TypeExamples }
     ensures values { ValueExamples }
