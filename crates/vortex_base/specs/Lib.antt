@@ -1,0 +1,2 @@
+pub mod Like
+pub mod LikeSearch
