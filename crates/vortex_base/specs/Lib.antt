@@ -1,6 +1,9 @@
+pub mod Between
 pub mod Exact
 pub mod Like
 pub mod LikeSearch
+pub mod ScalarFns
 pub mod Scalars
+pub mod Tree
 pub mod Types
 pub mod Values

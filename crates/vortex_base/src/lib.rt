@@ -1,15 +1,19 @@
 //! Types, values, columns and typed expressions, and what an expression means on a row.
 #![tactic(auto)]
 
+pub mod aggregate;
+pub mod between;
 pub mod bytes;
 pub mod dtype;
 pub mod element;
 pub mod error;
+pub mod expr_kind;
 pub mod like;
 pub mod nullability;
 pub mod operator;
 pub mod ptype;
 pub mod pvalue;
 pub mod scalar;
+pub mod scalar_fn;
 pub mod scalar_value;
 pub mod text;
