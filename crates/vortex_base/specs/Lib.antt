@@ -2,8 +2,12 @@ pub mod Between
 pub mod Exact
 pub mod Like
 pub mod LikeSearch
+pub mod Node
+pub mod NodeFalls
 pub mod ScalarFns
 pub mod Scalars
 pub mod Tree
+pub mod TreeCode
 pub mod Types
+pub mod Typing
 pub mod Values

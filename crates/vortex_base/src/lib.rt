@@ -3,6 +3,7 @@
 
 pub mod aggregate;
 pub mod between;
+pub mod bound_expression;
 pub mod bytes;
 pub mod dtype;
 pub mod element;
