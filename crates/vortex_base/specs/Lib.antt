@@ -1,3 +1,4 @@
+pub mod Answer
 pub mod Between
 pub mod Exact
 pub mod Like

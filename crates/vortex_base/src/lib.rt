@@ -3,6 +3,8 @@
 
 pub mod aggregate;
 pub mod between;
+pub mod bound;
+mod typing;
 pub mod bound_expression;
 pub mod bytes;
 pub mod dtype;
