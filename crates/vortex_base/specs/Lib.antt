@@ -5,6 +5,7 @@ pub mod Like
 pub mod LikeSearch
 pub mod Node
 pub mod NodeFalls
+pub mod Parts
 pub mod ScalarFns
 pub mod Scalars
 pub mod Tree

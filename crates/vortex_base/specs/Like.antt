@@ -58,3 +58,7 @@ like_text ignore_case pattern text = like (items (folded ignore_case (chars patt
 abbrev pub matches : LikeOptions → (pattern text : List ℕ) → Bool
 matches o pattern text =
     if o.negated then not (like_text o.case_insensitive pattern text) else like_text o.case_insensitive pattern text
+
+-- neither negated nor ignoring case
+abbrev pub plain : LikeOptions
+plain = record { negated = false; case_insensitive = false }

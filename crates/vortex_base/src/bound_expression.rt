@@ -1,6 +1,5 @@
 //! Typed expressions.
 ghost use Rattle.std.specs.Prelude.{◌≡◌, ◌<◌, length, Some, Ok, slice_get, option_copied};
-ghost use Rattle.vortex_base.specs.Tree as tree;
 ghost use Rattle.vortex_base.specs.Tree.{children, kind_of, literal_of, scalar_fn_of};
 ghost use Rattle.vortex_base.specs.Typing.{type_of};
 
@@ -81,5 +80,90 @@ impl BoundExpression {
         ensures { type_of self.now ≡ Ok result }
     {
         self.dtype
+    }
+
+    /// What the top node is.
+    pub fn kind(&self) -> ExprKind
+        ensures { result ≡ kind_of self.now }
+    {
+        match &*self.node {
+            Node::Column(place) => ExprKind::Column(*place),
+            Node::Literal(_) => ExprKind::Literal,
+            Node::Binary(operator, _, _) => ExprKind::Binary(*operator),
+            Node::Between(options, _, _, _) => ExprKind::Between(*options),
+            Node::IsNull(_) => ExprKind::IsNull,
+            Node::IsNotNull(_) => ExprKind::IsNotNull,
+            Node::Not(_) => ExprKind::Not,
+            Node::Like(options, _, _) => ExprKind::Like(*options),
+            Node::Stat(aggregate, _) => ExprKind::Stat(*aggregate),
+            Node::RowCount => ExprKind::RowCount,
+        }
+    }
+
+    /// The number of the top node's children.
+    pub fn child_count(&self) -> usize
+        ensures { result ≡ length (children self.now) }
+    {
+        match &*self.node {
+            Node::Column(_) | Node::Literal(_) | Node::RowCount => 0,
+            Node::IsNull(_) | Node::IsNotNull(_) | Node::Not(_) | Node::Stat(_, _) => 1,
+            Node::Binary(_, _, _) | Node::Like(_, _, _) => 2,
+            Node::Between(_, _, _, _) => 3,
+        }
+    }
+
+    /// A child of the top node, counted from the left; `child_count` tells how many there are.
+    pub fn child(&self, i: usize) -> &BoundExpression
+        requires { i < length (children self.now) }
+        ensures { slice_get (children self.now) i ≡ Some result.now }
+    {
+        match &*self.node {
+            Node::Column(_) | Node::Literal(_) | Node::RowCount => unreachable!(),
+            Node::IsNull(x) | Node::IsNotNull(x) | Node::Not(x) | Node::Stat(_, x) => x,
+            Node::Binary(_, left, right) | Node::Like(_, left, right) => {
+                if i == 0 {
+                    left
+                } else {
+                    right
+                }
+            }
+            Node::Between(_, x, lower, upper) => {
+                if i == 0 {
+                    x
+                } else if i == 1 {
+                    lower
+                } else {
+                    upper
+                }
+            }
+        }
+    }
+
+    /// The literal, where the top node is one.
+    pub fn literal(&self) -> Option<&Scalar>
+        ensures { option_copied result ≡ literal_of self.now }
+    {
+        match &*self.node {
+            Node::Literal(value) => Some(value),
+            _ => None,
+        }
+    }
+
+    /// The function that the top node applies, or `None` for a column.
+    pub fn scalar_fn_id(&self) -> Option<ScalarFnId>
+        ensures { result ≡ scalar_fn_of self.now }
+    {
+        match &*self.node {
+            Node::Column(_) => None,
+            Node::Literal(_) => Some(ScalarFnId::Literal),
+            Node::Binary(_, _, _) => Some(ScalarFnId::Binary),
+            Node::Between(_, _, _, _) => Some(ScalarFnId::Between),
+            Node::IsNull(_) => Some(ScalarFnId::IsNull),
+            Node::IsNotNull(_) => Some(ScalarFnId::IsNotNull),
+            Node::Not(_) => Some(ScalarFnId::Not),
+            Node::Like(_, _, _) => Some(ScalarFnId::Like),
+            Node::Stat(_, _) => Some(ScalarFnId::Stat),
+            Node::RowCount => Some(ScalarFnId::RowCount),
+        }
     }
 }

@@ -1,10 +1,10 @@
 //! Types, values, columns and typed expressions, and what an expression means on a row.
 #![tactic(auto)]
 
+mod typing;
 pub mod aggregate;
 pub mod between;
 pub mod bound;
-mod typing;
 pub mod bound_expression;
 pub mod bytes;
 pub mod dtype;
@@ -14,6 +14,7 @@ pub mod expr_kind;
 pub mod like;
 pub mod nullability;
 pub mod operator;
+pub mod parts;
 pub mod ptype;
 pub mod pvalue;
 pub mod scalar;
