@@ -1,5 +1,6 @@
 pub mod Answer
 pub mod Between
+pub mod Columns
 pub mod Exact
 pub mod Like
 pub mod LikeSearch
@@ -8,6 +9,7 @@ pub mod NodeFalls
 pub mod Parts
 pub mod ScalarFns
 pub mod Scalars
+pub mod Scopes
 pub mod Tree
 pub mod TreeCode
 pub mod Types
