@@ -1,9 +1,12 @@
 pub mod Answer
 pub mod Between
 pub mod Columns
+pub mod Evaluated
 pub mod Exact
+pub mod Fitting
 pub mod Like
 pub mod LikeSearch
+pub mod Meaning
 pub mod Node
 pub mod NodeFalls
 pub mod Parts

@@ -82,7 +82,7 @@ scalar_fn_of (like o x p) = Some function.Like
 scalar_fn_of (stat f x) = Some function.Stat
 scalar_fn_of row_count = Some function.RowCount
 
--- the test passes at some node of the tree
+-- the test passes at some node of the tree, the inputs of placeholders included
 abbrev pub some_node : {C : Type 0} → (Tree C → Bool) → Tree C → Bool
 some_node test (column c) = test (column c)
 some_node test (literal c) = test (literal c)
@@ -95,6 +95,10 @@ some_node test (like o x p) = test (like o x p) || (some_node test x || some_nod
 some_node test (stat f x) = test (stat f x) || some_node test x
 some_node test row_count = test row_count
 
+abbrev pub is_column : {C : Type 0} → Tree C → Bool
+is_column (column c) = true
+is_column e = false
+
 abbrev pub is_placeholder : {C : Type 0} → Tree C → Bool
 is_placeholder (stat f x) = true
 is_placeholder e = false
@@ -103,17 +107,32 @@ abbrev pub is_row_count : {C : Type 0} → Tree C → Bool
 is_row_count row_count = true
 is_row_count e = false
 
-abbrev pub is_column : {C : Type 0} → Tree C → Bool
-is_column (column c) = true
-is_column e = false
+abbrev pub has_column : {C : Type 0} → Tree C → Bool
+has_column e = some_node is_column e
 
 abbrev pub has_placeholder : {C : Type 0} → Tree C → Bool
 has_placeholder e = some_node is_placeholder e
 
+abbrev pub has_row_count : {C : Type 0} → Tree C → Bool
+has_row_count e = some_node is_row_count e
+
 -- no placeholder and no row count
 abbrev pub is_plain : {C : Type 0} → Tree C → Bool
-is_plain e = not_b (some_node (λ x. is_placeholder x || is_row_count x) e)
+is_plain e = not_b (has_placeholder e) && not_b (has_row_count e)
 
 -- no placeholder and no column
 abbrev pub is_closed : {C : Type 0} → Tree C → Bool
-is_closed e = not_b (some_node (λ x. is_placeholder x || is_column x) e)
+is_closed e = not_b (has_placeholder e) && not_b (has_column e)
+
+-- the test passes at each column, those in the inputs of placeholders included
+abbrev pub all_columns : {C : Type 0} → (C → Bool) → Tree C → Bool
+all_columns test (column c) = test c
+all_columns test (literal c) = true
+all_columns test (binary o l r) = all_columns test l && all_columns test r
+all_columns test (between o x l u) = all_columns test x && (all_columns test l && all_columns test u)
+all_columns test (is_null x) = all_columns test x
+all_columns test (is_not_null x) = all_columns test x
+all_columns test (not x) = all_columns test x
+all_columns test (like o x p) = all_columns test x && all_columns test p
+all_columns test (stat f x) = all_columns test x
+all_columns test row_count = true

@@ -1,6 +1,7 @@
 //! Types, values, columns and typed expressions, and what an expression means on a row.
 #![tactic(auto)]
 
+mod holds;
 mod typing;
 pub mod aggregate;
 pub mod between;
@@ -12,6 +13,7 @@ pub mod column;
 pub mod dtype;
 pub mod element;
 pub mod error;
+pub mod evaluate;
 pub mod expr_kind;
 pub mod like;
 pub mod nullability;
