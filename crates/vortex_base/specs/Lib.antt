@@ -15,6 +15,7 @@ pub mod Scalars
 pub mod Scopes
 pub mod Tree
 pub mod TreeCode
+pub mod TreeEq
 pub mod Types
 pub mod Typing
 pub mod Values

@@ -24,6 +24,19 @@ pub data Tree (C : Type 0) : Type 0 where
   stat : AggregateFnRef → (input : Tree C) → Tree C
   row_count : Tree C
 
+-- the same tree over other columns
+abbrev pub map_columns : {C D : Type 0} → (C → D) → Tree C → Tree D
+map_columns f (column c) = column (f c)
+map_columns f (literal c) = literal c
+map_columns f (binary o l r) = binary o (map_columns f l) (map_columns f r)
+map_columns f (between o x l u) = between o (map_columns f x) (map_columns f l) (map_columns f u)
+map_columns f (is_null x) = is_null (map_columns f x)
+map_columns f (is_not_null x) = is_not_null (map_columns f x)
+map_columns f (not x) = not (map_columns f x)
+map_columns f (like o x p) = like o (map_columns f x) (map_columns f p)
+map_columns f (stat g x) = stat g (map_columns f x)
+map_columns f row_count = row_count
+
 -- the place of a column in a row, and its type there
 pub record Place : Type 0 where
   pub index : ℕ

@@ -129,15 +129,19 @@ with_type f (Err e) = Err e
 abbrev pub with_types : {A B C E : Type 0} → (A → B → Result C E) → Result A E → Result B E → Result C E
 with_types f a b = with_type (λ x. with_type (f x) b) a
 
--- the type of a typed tree, or its first fault: children before their parent, from the left
+-- the type of a tree whose columns' types are given, or its first fault: children before their parent, from the left
+abbrev pub type_by : {C : Type 0} → (C → Result DType BaseError) → Tree C → Result DType BaseError
+type_by column_type (column c) = column_type c
+type_by column_type (literal c) = if is_optional_value c.value c.dtype then Ok c.dtype else Err Mismatch
+type_by column_type (binary o l r) = with_types (binary_type o) (type_by column_type l) (type_by column_type r)
+type_by column_type (between o x l u) = with_type (λ t. with_types (between_type t) (type_by column_type l) (type_by column_type u)) (type_by column_type x)
+type_by column_type (is_null x) = with_type null_test_type (type_by column_type x)
+type_by column_type (is_not_null x) = with_type null_test_type (type_by column_type x)
+type_by column_type (not x) = with_type not_type (type_by column_type x)
+type_by column_type (like o x p) = with_types like_type (type_by column_type x) (type_by column_type p)
+type_by column_type (stat f x) = with_type (stat_type f) (type_by column_type x)
+type_by column_type row_count = Ok row_count_type
+
+-- the type of a typed tree; each node of one that has a type meets the table
 abbrev pub type_of : Tree Place → Result DType BaseError
-type_of (column c) = Ok c.dtype
-type_of (literal c) = if is_optional_value c.value c.dtype then Ok c.dtype else Err Mismatch
-type_of (binary o l r) = with_types (binary_type o) (type_of l) (type_of r)
-type_of (between o x l u) = with_type (λ t. with_types (between_type t) (type_of l) (type_of u)) (type_of x)
-type_of (is_null x) = with_type null_test_type (type_of x)
-type_of (is_not_null x) = with_type null_test_type (type_of x)
-type_of (not x) = with_type not_type (type_of x)
-type_of (like o x p) = with_types like_type (type_of x) (type_of p)
-type_of (stat f x) = with_type (stat_type f) (type_of x)
-type_of row_count = Ok row_count_type
+type_of e = type_by (λ c. Ok c.dtype) e

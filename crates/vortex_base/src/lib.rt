@@ -1,6 +1,8 @@
 //! Types, values, columns and typed expressions, and what an expression means on a row.
 #![tactic(auto)]
 
+mod cloning;
+mod equality;
 mod holds;
 mod typing;
 pub mod aggregate;
