@@ -1,5 +1,6 @@
 pub mod Answer
 pub mod Between
+pub mod Binding
 pub mod Columns
 pub mod Evaluated
 pub mod Exact
@@ -7,6 +8,8 @@ pub mod Fitting
 pub mod Like
 pub mod LikeSearch
 pub mod Meaning
+pub mod NamedNode
+pub mod NamedNodeFalls
 pub mod Node
 pub mod NodeFalls
 pub mod Parts

@@ -17,6 +17,7 @@ pub mod element;
 pub mod error;
 pub mod evaluate;
 pub mod expr_kind;
+pub mod expression;
 pub mod like;
 pub mod nullability;
 pub mod operator;
