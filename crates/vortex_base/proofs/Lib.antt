@@ -1,4 +1,5 @@
-mod LikeStops
 pub mod MapLemmas
 pub mod RowLemmas
 pub mod ScopeLemmas
+mod LikeStops
+mod PlacedTypes

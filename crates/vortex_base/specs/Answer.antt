@@ -11,3 +11,8 @@ Makes v r = MatchResult r (λ w. w ≡ v) (λ f. f ≡ Memory alloc_error)
 abbrev pub Answers : {A B : Type 0} → Result A BaseError → B → Result B BaseError → Type 0
 Answers (Err f) v r = r ≡ Err f
 Answers (Ok a) v r = Makes v r
+
+-- the fault that is to be given, or else the value, unless memory was refused
+abbrev pub Gives : {B : Type 0} → Result B BaseError → Result B BaseError → Type 0
+Gives (Err f) r = r ≡ Err f
+Gives (Ok v) r = Makes v r

@@ -1,4 +1,5 @@
 //! Expressions over named columns, before they are bound to a scope.
+ghost use Rattle.std.specs.Prelude.{◌≡◌};
 ghost use Rattle.vortex_base.specs.Tree as tree;
 ghost use Rattle.vortex_base.specs.Like.{plain};
 ghost use Rattle.vortex_base.specs.Answer.{Makes};
@@ -74,6 +75,13 @@ fn of_node(alloc: Global, node: NamedNode) -> Result<Expression, BaseError>
 }
 
 impl Expression {
+    pub(crate) fn into_node(self) -> NamedNode
+        ensures { named_tree result ≡ self }
+    {
+        let Expression { node } = self;
+        Box::into_inner(node)
+    }
+
     /// The column of a name.
     pub fn col(alloc: Global, name: &str) -> Result<Expression, BaseError>
         ensures { Makes (tree.column name.now) result }

@@ -1,6 +1,7 @@
 //! Types, values, columns and typed expressions, and what an expression means on a row.
 #![tactic(auto)]
 
+mod bind;
 mod cloning;
 mod equality;
 mod holds;
