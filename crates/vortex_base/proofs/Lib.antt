@@ -1,4 +1,5 @@
 pub mod MapLemmas
+pub mod OrderLemmas
 pub mod RowLemmas
 pub mod ScopeLemmas
 mod LikeStops

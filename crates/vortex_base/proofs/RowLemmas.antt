@@ -1,7 +1,7 @@
 -- The rows of a chunk hold values of their columns' types.
 use Rattle.std.specs.Prelude.{◌≡◌, ℕ, zero, suc, ◌<◌, ◌==◌, ◌&&◌, Bool, true, List, [], ◌∷◌, Option, length, slice_get, refl}
 use Rattle.std.specs.List.{list_all}
-use Rattle.std.proofs.Common.{arith, sym, ◌∙◌}
+use Rattle.std.proofs.Common.{arith}
 use Rattle.std.proofs.lemmas.Bool.Decides.{nat_tests}
 use Rattle.vortex_base.specs.Exact.{both_true}
 use Rattle.vortex_base.specs.declared.dtype.DType.{DType}

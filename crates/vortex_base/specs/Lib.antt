@@ -4,6 +4,7 @@ pub mod Binding
 pub mod Columns
 pub mod Evaluated
 pub mod Exact
+pub mod Examples
 pub mod Fitting
 pub mod Like
 pub mod LikeSearch
@@ -12,6 +13,7 @@ pub mod NamedNode
 pub mod NamedNodeFalls
 pub mod Node
 pub mod NodeFalls
+pub mod Orders
 pub mod Parts
 pub mod ScalarFns
 pub mod Scalars

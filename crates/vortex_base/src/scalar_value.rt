@@ -118,3 +118,81 @@ impl From<i64> for ScalarValue {
         ScalarValue::Primitive(PValue::I64(value))
     }
 }
+
+#[cfg(test)]
+mod tests {
+    use super::*;
+    use crate::laws;
+    use crate::nullability::Nullability;
+    use crate::ptype::PType;
+    use std::alloc::Global;
+    use std::cmp::Ordering;
+    use std::test::Fail;
+
+    fn text(alloc: Global, text: &str) -> Result<ScalarValue, AllocError> {
+        Ok(ScalarValue::Utf8(Text::new(String::from_str(alloc, text)?)))
+    }
+
+    fn bytes(alloc: Global, bytes: &[u8]) -> Result<ScalarValue, AllocError> {
+        Ok(ScalarValue::Binary(Bytes::new(Vec::from_slice(alloc, bytes)?)))
+    }
+
+    #[test]
+    fn stand_in_one_order(rt: HostRuntime) -> Result<(), Fail> {
+        let ascending = vec![in rt.alloc();
+            ScalarValue::from(false),
+            ScalarValue::from(true),
+            ScalarValue::from(255u8),
+            ScalarValue::from(0u16),
+            ScalarValue::from(7u32),
+            ScalarValue::from(1u64),
+            ScalarValue::from(-128i8),
+            ScalarValue::from(127i8),
+            ScalarValue::from(-1i16),
+            ScalarValue::from(-7i32),
+            ScalarValue::from(i64::MIN),
+            ScalarValue::from(i64::MAX),
+            text(rt.alloc(), "")?,
+            text(rt.alloc(), "a")?,
+            text(rt.alloc(), "ab")?,
+            text(rt.alloc(), "é")?,
+            bytes(rt.alloc(), &[])?,
+            bytes(rt.alloc(), &[0xC1, 0xA1])?,
+        ]?;
+        for (i, left) in ascending.iter().enumerate() {
+            for (j, right) in ascending.iter().enumerate() {
+                let (order, same) = laws::values_compare(left, right);
+                assert_eq!(rt; order, i.cmp(&j), "{i} and {j}");
+                assert_eq!(rt; same, i == j, "{i} and {j}");
+            }
+        }
+        Ok(())
+    }
+
+    #[test]
+    fn clones_are_equal(rt: HostRuntime) -> Result<(), Fail> {
+        let value = text(rt.alloc(), "é")?;
+        assert_eq!(rt; value.try_clone()?, value);
+        assert_eq!(rt; laws::clone_of_value(&value)?, value);
+        let value = bytes(rt.alloc(), &[1, 2])?;
+        assert_eq!(rt; value.try_clone()?, value);
+        assert_eq!(rt; laws::clone_of_value(&value)?.cmp(&value), Ordering::Equal);
+        Ok(())
+    }
+
+    #[test]
+    fn fit_their_kind_and_width(rt: HostRuntime) -> Result<(), Fail> {
+        let plain = Nullability::NonNullable;
+        let five = ScalarValue::from(5i32);
+        let letters = text(rt.alloc(), "ab")?;
+        assert!(rt; five.fits(&DType::Primitive(PType::I32, plain)));
+        assert!(rt; !five.fits(&DType::Primitive(PType::I64, plain)));
+        assert!(rt; !five.fits(&DType::Primitive(PType::U32, plain)));
+        assert!(rt; letters.fits(&DType::Utf8(plain)));
+        assert!(rt; !letters.fits(&DType::Binary(plain)));
+        assert!(rt; bytes(rt.alloc(), &[])?.fits(&DType::Binary(plain)));
+        assert!(rt; ScalarValue::from(true).fits(&DType::Bool(plain)));
+        assert!(rt; !ScalarValue::from(true).fits(&DType::Null));
+        Ok(())
+    }
+}
