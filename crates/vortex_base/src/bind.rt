@@ -95,3 +95,44 @@ impl Expression {
         }
     }
 }
+
+#[cfg(test)]
+mod tests {
+    use super::*;
+    use crate::aggregate::AggregateFnRef;
+    use crate::evaluate::evaluate;
+    use crate::nullability::Nullability;
+    use crate::ptype::PType;
+    use crate::row::Row;
+    use crate::scalar::Scalar;
+    use crate::scalar_value::ScalarValue;
+    use std::test::Fail;
+
+    const I32: DType = DType::Primitive(PType::I32, Nullability::NonNullable);
+
+    fn scope_of_a(alloc: Global) -> Result<Scope, BaseError> {
+        let name = String::from_str(alloc, "a")?;
+        Scope::try_new(vec![in alloc; (name, I32)]?)
+    }
+
+    #[test]
+    fn deep_expressions_fit_the_stack(rt: HostRuntime) -> Result<(), Fail> {
+        let alloc = rt.alloc();
+        let truth = Scalar::try_new(
+            DType::Bool(Nullability::NonNullable),
+            Some(ScalarValue::from(true)),
+        )?;
+        let mut deep = Expression::lit(alloc, truth)?;
+        for _ in 0..4094 {
+            deep = Expression::not(alloc, deep)?;
+        }
+        let bound = deep.bind(alloc, &scope_of_a(alloc)?)?;
+        assert!(rt; bound.is_plain() && bound.is_closed());
+        let copy = bound.try_clone()?;
+        assert!(rt; copy == bound);
+        drop(bound);
+        let value = evaluate(&copy, &Row::empty(), 0)?;
+        assert_eq!(rt; value, Some(ScalarValue::from(true)));
+        Ok(())
+    }
+}
