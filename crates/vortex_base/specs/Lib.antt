@@ -5,6 +5,7 @@ pub mod Columns
 pub mod Evaluated
 pub mod Exact
 pub mod Examples
+pub mod ExpressionExamples
 pub mod Fitting
 pub mod Like
 pub mod LikeSearch

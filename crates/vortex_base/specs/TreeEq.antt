@@ -69,16 +69,16 @@ same_tree : (a b : Tree Place) → IsTrue (tree_eq a b) → a ≡ b
 same_tree (column c) (column d) h = ap column (same_place c d h)
 same_tree (literal c) (literal d) h = ap literal ((constant_eq_is_exact c d).0 h)
 same_tree (binary o a b) (binary p c d) h =
-    let w = both_true _ _ h in
-    let v = both_true _ _ w.1 in
+    let w = both_true (operator_eq o p) (tree_eq a c && tree_eq b d) h in
+    let v = both_true (tree_eq a c) (tree_eq b d) w.1 in
     let s : o ≡ p = (operator_eq_is_exact o p).0 w.0 in
     let x : a ≡ c = same_tree a c v.0 in
     let y : b ≡ d = same_tree b d v.1 in
     λ k. binary (s k) (x k) (y k)
 same_tree (between o a b c) (between p d e f) h =
-    let w = both_true _ _ h in
-    let v = both_true _ _ w.1 in
-    let u = both_true _ _ v.1 in
+    let w = both_true (between_options_eq o p) (tree_eq a d && (tree_eq b e && tree_eq c f)) h in
+    let v = both_true (tree_eq a d) (tree_eq b e && tree_eq c f) w.1 in
+    let u = both_true (tree_eq b e) (tree_eq c f) v.1 in
     let s : o ≡ p = (between_options_eq_is_exact o p).0 w.0 in
     let x : a ≡ d = same_tree a d v.0 in
     let y : b ≡ e = same_tree b e u.0 in
@@ -88,14 +88,14 @@ same_tree (is_null a) (is_null b) h = ap is_null (same_tree a b h)
 same_tree (is_not_null a) (is_not_null b) h = ap is_not_null (same_tree a b h)
 same_tree (not a) (not b) h = ap not (same_tree a b h)
 same_tree (like o a b) (like p c d) h =
-    let w = both_true _ _ h in
-    let v = both_true _ _ w.1 in
+    let w = both_true (like_options_eq o p) (tree_eq a c && tree_eq b d) h in
+    let v = both_true (tree_eq a c) (tree_eq b d) w.1 in
     let s : o ≡ p = (like_options_eq_is_exact o p).0 w.0 in
     let x : a ≡ c = same_tree a c v.0 in
     let y : b ≡ d = same_tree b d v.1 in
     λ k. like (s k) (x k) (y k)
 same_tree (stat f a) (stat g b) h =
-    let w = both_true _ _ h in
+    let w = both_true (aggregate_eq f g) (tree_eq a b) h in
     let s : f ≡ g = (aggregate_eq_is_exact f g).0 w.0 in
     let x : a ≡ b = same_tree a b w.1 in
     λ k. stat (s k) (x k)

@@ -1,6 +1,7 @@
 //! Laws of this layer, in the words of its definitions. The functions carry them by their contracts.
 ghost use Rattle.std.specs.Prelude.{◌≡◌, ◌↔◌, IfOk, IsTrue};
 ghost use Rattle.vortex_base.specs.Examples.{TypeExamples, ValueExamples, OrderExamples, ScopeExamples, ChunkExamples};
+ghost use Rattle.vortex_base.specs.ExpressionExamples.{LikeExamples, TypingExamples, AggregateExamples, BindingExamples, MeaningExamples};
 ghost use Rattle.vortex_base.specs.Orders.{ValuesAreOrdered, NumbersAreOrdered, pvalue_cmp};
 ghost use Rattle.vortex_base.specs.Values.{value_cmp};
 
@@ -73,4 +74,13 @@ pub fn examples_hold()
     ensures order { OrderExamples }
     ensures scopes { ScopeExamples }
     ensures chunks { ChunkExamples }
+{}
+
+/// Worked cases of the definitions of expressions: LIKE, typing, binding and meaning.
+pub fn expression_examples_hold()
+    ensures like { LikeExamples }
+    ensures typing { TypingExamples }
+    ensures aggregates { AggregateExamples }
+    ensures binding { BindingExamples }
+    ensures meaning { MeaningExamples }
 {}
