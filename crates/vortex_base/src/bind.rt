@@ -3,13 +3,12 @@ ghost use Rattle.std.specs.Prelude.{◌≡◌, IsOk, option_map};
 ghost use Rattle.vortex_base.specs.Answer.{Gives, Makes};
 ghost use Rattle.vortex_base.specs.Binding as binding;
 
-use crate::bound;
 use crate::bound_expression::BoundExpression;
 use crate::dtype::DType;
 use crate::error::BaseError;
 use crate::expression::{Expression, NamedNode};
 use crate::scope::Scope;
-use crate::typing;
+use crate::{bound, typing};
 use std::alloc::Global;
 
 fn find_column(scope: &Scope, name: &str) -> Option<(usize, DType)>
@@ -42,7 +41,11 @@ impl Expression {
                 typing::binary_type(*operator, left.type_in(scope)?, right.type_in(scope)?)
             }
             NamedNode::Between(_, x, lower, upper) => {
-                typing::between_type(x.type_in(scope)?, lower.type_in(scope)?, upper.type_in(scope)?)
+                typing::between_type(
+                    x.type_in(scope)?,
+                    lower.type_in(scope)?,
+                    upper.type_in(scope)?,
+                )
             }
             NamedNode::IsNull(x) | NamedNode::IsNotNull(x) => {
                 x.type_in(scope)?;
@@ -97,42 +100,4 @@ impl Expression {
 }
 
 #[cfg(test)]
-mod tests {
-    use super::*;
-    use crate::aggregate::AggregateFnRef;
-    use crate::evaluate::evaluate;
-    use crate::nullability::Nullability;
-    use crate::ptype::PType;
-    use crate::row::Row;
-    use crate::scalar::Scalar;
-    use crate::scalar_value::ScalarValue;
-    use std::test::Fail;
-
-    const I32: DType = DType::Primitive(PType::I32, Nullability::NonNullable);
-
-    fn scope_of_a(alloc: Global) -> Result<Scope, BaseError> {
-        let name = String::from_str(alloc, "a")?;
-        Scope::try_new(vec![in alloc; (name, I32)]?)
-    }
-
-    #[test]
-    fn deep_expressions_fit_the_stack(rt: HostRuntime) -> Result<(), Fail> {
-        let alloc = rt.alloc();
-        let truth = Scalar::try_new(
-            DType::Bool(Nullability::NonNullable),
-            Some(ScalarValue::from(true)),
-        )?;
-        let mut deep = Expression::lit(alloc, truth)?;
-        for _ in 0..4094 {
-            deep = Expression::not(alloc, deep)?;
-        }
-        let bound = deep.bind(alloc, &scope_of_a(alloc)?)?;
-        assert!(rt; bound.is_plain() && bound.is_closed());
-        let copy = bound.try_clone()?;
-        assert!(rt; copy == bound);
-        drop(bound);
-        let value = evaluate(&copy, &Row::empty(), 0)?;
-        assert_eq!(rt; value, Some(ScalarValue::from(true)));
-        Ok(())
-    }
-}
+mod tests;

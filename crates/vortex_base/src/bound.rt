@@ -238,3 +238,6 @@ pub fn row_count(alloc: Global) -> Result<BoundExpression, BaseError>
         node,
     })
 }
+
+#[cfg(test)]
+mod tests;

@@ -196,9 +196,7 @@ impl BoundExpression {
                 made(liked(*options, lent(&text), lent(&pattern)))
             }
             Node::Stat(_, _) => None,
-            Node::RowCount => Some(Evaluated::Made(ScalarValue::Primitive(PValue::U64(
-                row_count,
-            )))),
+            Node::RowCount => Some(Evaluated::Made(ScalarValue::Primitive(PValue::U64(row_count)))),
         }
     }
 }
@@ -225,3 +223,6 @@ pub fn evaluate(
         None => Ok(None),
     }
 }
+
+#[cfg(test)]
+mod tests;

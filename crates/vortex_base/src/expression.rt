@@ -117,7 +117,11 @@ impl Expression {
     }
 
     /// Whether left differs from right.
-    pub fn not_eq(alloc: Global, left: Expression, right: Expression) -> Result<Expression, BaseError>
+    pub fn not_eq(
+        alloc: Global,
+        left: Expression,
+        right: Expression,
+    ) -> Result<Expression, BaseError>
         ensures { Makes (tree.binary Operator.NotEq left right) result }
     {
         Expression::binary(alloc, Operator::NotEq, left, right)
@@ -131,7 +135,11 @@ impl Expression {
     }
 
     /// Whether left is at least right.
-    pub fn gt_eq(alloc: Global, left: Expression, right: Expression) -> Result<Expression, BaseError>
+    pub fn gt_eq(
+        alloc: Global,
+        left: Expression,
+        right: Expression,
+    ) -> Result<Expression, BaseError>
         ensures { Makes (tree.binary Operator.Gte left right) result }
     {
         Expression::binary(alloc, Operator::Gte, left, right)
@@ -145,7 +153,11 @@ impl Expression {
     }
 
     /// Whether left is at most right.
-    pub fn lt_eq(alloc: Global, left: Expression, right: Expression) -> Result<Expression, BaseError>
+    pub fn lt_eq(
+        alloc: Global,
+        left: Expression,
+        right: Expression,
+    ) -> Result<Expression, BaseError>
         ensures { Makes (tree.binary Operator.Lte left right) result }
     {
         Expression::binary(alloc, Operator::Lte, left, right)
@@ -200,7 +212,11 @@ impl Expression {
     }
 
     /// Whether a text matches a pattern, case regarded.
-    pub fn like(alloc: Global, text: Expression, pattern: Expression) -> Result<Expression, BaseError>
+    pub fn like(
+        alloc: Global,
+        text: Expression,
+        pattern: Expression,
+    ) -> Result<Expression, BaseError>
         ensures { Makes (tree.like plain text pattern) result }
     {
         let options = LikeOptions {

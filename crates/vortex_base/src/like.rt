@@ -147,3 +147,6 @@ fn is_match_at_some_end<'a>(mut pattern: Characters<'a>, mut text: Characters<'a
         }
     }
 }
+
+#[cfg(test)]
+mod tests;

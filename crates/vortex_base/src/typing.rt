@@ -60,11 +60,7 @@ fn type_if(fits: bool, dtype: DType) -> Result<DType, BaseError>
 }
 
 /// The type of a comparison or a connective.
-pub(crate) fn binary_type(
-    operator: Operator,
-    left: DType,
-    right: DType,
-) -> Result<DType, BaseError>
+pub(crate) fn binary_type(operator: Operator, left: DType, right: DType) -> Result<DType, BaseError>
     ensures { result ≡ table.binary_type operator left right }
 {
     let fits = match operator {
