@@ -3,4 +3,5 @@ pub mod OrderLemmas
 pub mod RowLemmas
 pub mod ScopeLemmas
 mod LikeStops
+mod MeaningFits
 mod PlacedTypes

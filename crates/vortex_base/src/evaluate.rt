@@ -1,5 +1,5 @@
 //! The value of an expression on a row.
-ghost use Rattle.std.specs.Prelude.{◌≡◌, option_map, option_copied};
+ghost use Rattle.std.specs.Prelude.{◌≡◌, IfOk, IsTrue, OnErr, alloc_error, option_map, option_copied};
 ghost use Rattle.vortex_base.specs.Meaning as spec;
 ghost use Rattle.vortex_base.specs.Meaning.{can_evaluate, meaning};
 ghost use Rattle.vortex_base.specs.Evaluated.{evaluated};
@@ -14,6 +14,7 @@ use crate::operator::Operator;
 use crate::pvalue::PValue;
 use crate::row::Row;
 use crate::scalar_value::ScalarValue;
+use std::alloc::AllocError;
 use std::cmp::Ordering;
 
 /// A value that the row or a literal lends, or that the evaluation made. What it makes is never a text or bytes, so no node but
@@ -40,6 +41,17 @@ fn borrowed(value: Option<&ScalarValue>) -> Option<Evaluated<'_>>
     match value {
         Some(value) => Some(Evaluated::Lent(value)),
         None => None,
+    }
+}
+
+fn owned(value: &ScalarValue) -> Result<ScalarValue, AllocError>
+    ensures ok { IfOk result (λ v. v ≡ value.now) }
+    ensures memory { OnErr result (IsTrue (spec.is_long (Some value.now))) }
+{
+    match value {
+        ScalarValue::Bool(truth) => Ok(ScalarValue::Bool(*truth)),
+        ScalarValue::Primitive(number) => Ok(ScalarValue::Primitive(*number)),
+        ScalarValue::Utf8(_) | ScalarValue::Binary(_) => value.try_clone(),
     }
 }
 
@@ -209,7 +221,8 @@ pub fn evaluate(
     row: &Row<'_>,
     row_count: u64,
 ) -> Result<Option<ScalarValue>, BaseError>
-    ensures { Answers (can_evaluate expression.now row.now) (meaning expression.now row.now row_count) result }
+    ensures value { Answers (can_evaluate expression.now row.now) (meaning expression.now row.now row_count) result }
+    ensures memory { result ≡ Err (BaseError.Memory alloc_error) → IsTrue (spec.is_long (meaning expression.now row.now row_count)) }
 {
     if expression.has_placeholder() {
         return Err(BaseError::Placeholder);
@@ -218,7 +231,7 @@ pub fn evaluate(
         return Err(BaseError::RowShape);
     }
     match expression.value_on(row, row_count) {
-        Some(Evaluated::Lent(value)) => Ok(Some(value.try_clone()?)),
+        Some(Evaluated::Lent(value)) => Ok(Some(owned(value)?)),
         Some(Evaluated::Made(value)) => Ok(Some(value)),
         None => Ok(None),
     }
