@@ -7,6 +7,7 @@ pub mod Exact
 pub mod Examples
 pub mod ExpressionExamples
 pub mod Fitting
+pub mod FromScalars
 pub mod Like
 pub mod LikeSearch
 pub mod Meaning

@@ -47,6 +47,12 @@ impl Bytes {
             bytes: self.bytes.clone()?,
         })
     }
+
+    pub(crate) fn clone_vec(&self) -> Result<Vec<u8>, AllocError>
+        ensures { IfOk result (λ v. v.items ≡ self.now) }
+    {
+        self.bytes.clone()
+    }
 }
 
 impl Clone for Bytes {

@@ -137,19 +137,29 @@ mod tests {
         Column::try_new(TRUTH, values, 1)
     }
 
-    #[test]
-    fn lend_columns_and_rows(rt: HostRuntime) -> Result<(), Fail> {
-        let alloc = rt.alloc();
+    fn two_rows(alloc: Global) -> Result<Chunk, BaseError> {
         let columns = vec![in alloc; numbers(alloc)?, truths(alloc, 2)?]?;
-        let chunk = Chunk::try_new(scope(alloc)?, columns)?;
-        assert_eq!(rt; chunk.rows(), 2);
-        assert!(rt; *chunk.scope() == scope(alloc)?);
+        Chunk::try_new(scope(alloc)?, columns)
+    }
+
+    #[test]
+    fn lend_columns(rt: HostRuntime) -> Result<(), Fail> {
+        let chunk = two_rows(rt.alloc())?;
+        assert!(rt; *chunk.scope() == scope(rt.alloc())?);
+        assert_eq!(rt; chunk.scope().len(), 2);
         let column = chunk.column(0);
         assert_eq!(rt; column.dtype(), NUMBER);
         assert_eq!(rt; column.size(), 16);
         assert_eq!(rt; column.len(), 2);
         assert!(rt; column.get(0) == Some(&ScalarValue::from(7i64)));
         assert!(rt; column.get(1).is_none());
+        Ok(())
+    }
+
+    #[test]
+    fn lend_rows(rt: HostRuntime) -> Result<(), Fail> {
+        let chunk = two_rows(rt.alloc())?;
+        assert_eq!(rt; chunk.rows(), 2);
         let row = chunk.row(1);
         assert_eq!(rt; row.len(), 2);
         assert_eq!(rt; row.dtype(0), Some(NUMBER));
@@ -160,33 +170,32 @@ mod tests {
         Ok(())
     }
 
+    fn refusal(alloc: Global, columns: Vec<Column>) -> Result<Option<BaseError>, BaseError> {
+        Ok(Chunk::try_new(scope(alloc)?, columns).err())
+    }
+
     #[test]
     fn are_refused_for_their_shape_first(rt: HostRuntime) -> Result<(), Fail> {
         let alloc = rt.alloc();
-        let one = Chunk::try_new(scope(alloc)?, vec![in alloc; numbers(alloc)?]?);
-        assert!(rt; matches!(one, Err(BaseError::RowShape)));
+        let too_few = vec![in alloc; numbers(alloc)?]?;
+        assert!(rt; matches!(refusal(alloc, too_few)?, Some(BaseError::RowShape)));
         let unequal = vec![in alloc; numbers(alloc)?, truths(alloc, 3)?]?;
-        assert!(rt;
-            matches!(
-                Chunk::try_new(scope(alloc)?, unequal),
-                Err(BaseError::RowShape)
-            )
-        );
+        assert!(rt; matches!(refusal(alloc, unequal)?, Some(BaseError::RowShape)));
         let turned_and_unequal = vec![in alloc; truths(alloc, 3)?, numbers(alloc)?]?;
         assert!(rt;
             matches!(
-                Chunk::try_new(scope(alloc)?, turned_and_unequal),
-                Err(BaseError::RowShape)
+                refusal(alloc, turned_and_unequal)?,
+                Some(BaseError::RowShape)
             )
         );
         let turned = vec![in alloc; truths(alloc, 2)?, numbers(alloc)?]?;
-        assert!(rt;
-            matches!(
-                Chunk::try_new(scope(alloc)?, turned),
-                Err(BaseError::Mismatch)
-            )
-        );
-        let null = vec![in alloc; Some(ScalarValue::from(true)), None]?;
+        assert!(rt; matches!(refusal(alloc, turned)?, Some(BaseError::Mismatch)));
+        Ok(())
+    }
+
+    #[test]
+    fn take_no_null_where_there_is_none(rt: HostRuntime) -> Result<(), Fail> {
+        let null = vec![in rt.alloc(); Some(ScalarValue::from(true)), None]?;
         assert!(rt; matches!(Column::try_new(TRUTH, null, 1), Err(BaseError::Mismatch)));
         Ok(())
     }

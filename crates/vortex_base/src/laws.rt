@@ -1,6 +1,6 @@
 //! Laws of this layer, in the words of its definitions. The functions carry them by their contracts.
 ghost use Rattle.std.specs.Prelude.{◌≡◌, ◌↔◌, IfOk, IsTrue};
-ghost use Rattle.vortex_base.specs.Examples.{TypeExamples, ValueExamples, OrderExamples, ScopeExamples, ChunkExamples};
+ghost use Rattle.vortex_base.specs.Examples.{TypeExamples, ValueExamples, OrderExamples, ScopeExamples, ChunkExamples, ReadExamples};
 ghost use Rattle.vortex_base.specs.ExpressionExamples.{LikeExamples, TypingExamples, AggregateExamples, BindingExamples, MeaningExamples};
 ghost use Rattle.vortex_base.specs.Meaning.{MeaningFits};
 ghost use Rattle.vortex_base.specs.Orders.{ValuesAreOrdered, NumbersAreOrdered, pvalue_cmp};
@@ -70,13 +70,14 @@ pub fn clone_of_bytes(source: &Bytes) -> Result<Bytes, AllocError>
     clone_of(source)
 }
 
-/// Worked cases of the definitions: types, values and their order, scopes, columns, chunks and rows.
+/// Worked cases of the definitions: types, values and their order, scopes, columns, chunks and rows, and the reading of scalars.
 pub fn examples_hold()
     ensures types { TypeExamples }
     ensures values { ValueExamples }
     ensures order { OrderExamples }
     ensures scopes { ScopeExamples }
     ensures chunks { ChunkExamples }
+    ensures reading { ReadExamples }
 {}
 
 /// Worked cases of the definitions of expressions: LIKE, typing, binding and meaning.

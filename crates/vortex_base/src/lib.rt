@@ -17,6 +17,7 @@ pub mod error;
 pub mod evaluate;
 pub mod expr_kind;
 pub mod expression;
+pub mod from_scalar;
 mod holds;
 pub mod laws;
 pub mod like;

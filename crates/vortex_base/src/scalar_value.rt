@@ -127,6 +127,7 @@ mod tests {
     use crate::ptype::PType;
     use std::alloc::Global;
     use std::cmp::Ordering;
+    use std::process::Abort;
     use std::test::Fail;
 
     fn text(alloc: Global, text: &str) -> Result<ScalarValue, AllocError> {
@@ -137,9 +138,9 @@ mod tests {
         Ok(ScalarValue::Binary(Bytes::new(Vec::from_slice(alloc, bytes)?)))
     }
 
-    #[test]
-    fn stand_in_one_order(rt: HostRuntime) -> Result<(), Fail> {
-        let ascending = vec![in rt.alloc();
+    // Truths and numbers in ascending order.
+    fn numbers(alloc: Global) -> Result<Vec<ScalarValue>, AllocError> {
+        Ok(vec![in alloc;
             ScalarValue::from(false),
             ScalarValue::from(true),
             ScalarValue::from(255u8),
@@ -152,13 +153,21 @@ mod tests {
             ScalarValue::from(-7i32),
             ScalarValue::from(i64::MIN),
             ScalarValue::from(i64::MAX),
-            text(rt.alloc(), "")?,
-            text(rt.alloc(), "a")?,
-            text(rt.alloc(), "ab")?,
-            text(rt.alloc(), "é")?,
-            bytes(rt.alloc(), &[])?,
-            bytes(rt.alloc(), &[0xC1, 0xA1])?,
-        ]?;
+        ]?)
+    }
+
+    // Texts and bytes in ascending order.
+    fn strings(alloc: Global) -> Result<Vec<ScalarValue>, AllocError> {
+        Ok(vec![in alloc;
+            text(alloc, "")?,
+            text(alloc, "ab")?,
+            text(alloc, "é")?,
+            bytes(alloc, &[])?,
+            bytes(alloc, &[0xC1, 0xA1])?,
+        ]?)
+    }
+
+    fn stand_in_order(rt: &impl Abort, ascending: &[ScalarValue]) {
         for (i, left) in ascending.iter().enumerate() {
             for (j, right) in ascending.iter().enumerate() {
                 let (order, same) = laws::values_compare(left, right);
@@ -166,6 +175,15 @@ mod tests {
                 assert_eq!(rt; same, i == j, "{i} and {j}");
             }
         }
+    }
+
+    #[test]
+    fn stand_in_one_order(rt: HostRuntime) -> Result<(), Fail> {
+        let mut ascending = numbers(rt.alloc())?;
+        for value in strings(rt.alloc())? {
+            ascending.push(value)?;
+        }
+        stand_in_order(&rt, &ascending);
         Ok(())
     }
 

@@ -49,6 +49,12 @@ impl Text {
             text: self.text.clone()?,
         })
     }
+
+    pub(crate) fn clone_string(&self) -> Result<String, AllocError>
+        ensures { IfOk result (λ s. string_bytes s ≡ self.now) }
+    {
+        self.text.clone()
+    }
 }
 
 impl Clone for Text {
