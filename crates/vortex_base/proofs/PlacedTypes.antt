@@ -63,9 +63,11 @@ makes-answers : (e : Tree Place) (r : Result (Tree Place) BaseError) (t : Result
 makes-answers e r (Ok t) h a = a
 makes-answers e r (Err f) h a = cc
 
--- what answers with the placed tree's parts makes the placed tree
-pub makes-placed_in : (scope : List Named) (e : Tree Name) (made : Tree Place) (r : Result (Tree Place) BaseError) → made ≡ placed_in scope e → IsOk (type_in scope e) → Answers (type_of made) made r → Makes (placed_in scope e) r
-makes-placed_in scope e made r same h a =
+-- what answers with the placed tree of the parts makes the placed tree of the whole
+pub makes-placed_in : (scope : List Named) (whole parts : Tree Name) (made : Tree Place) (r : Result (Tree Place) BaseError) → parts ≡ whole → made ≡ placed_in scope parts → IsOk (type_in scope whole) → Answers (type_of made) made r → Makes (placed_in scope whole) r
+makes-placed_in scope whole parts made r same placed h a =
     let P : Tree Place → Type 0 = λ m. Answers (type_of m) m r in
     let Q : Result DType BaseError → Type 0 = IsOk in
-    makes-answers (placed_in scope e) r (type_of (placed_in scope e)) (subst Q (sym (type_of-placed_in scope e h)) h) (subst P same a)
+    let M : Tree Name → Type 0 = λ e. Makes (placed_in scope e) r in
+    let typed : IsOk (type_in scope parts) = subst (λ e. Q (type_in scope e)) (sym same) h in
+    subst M same (makes-answers (placed_in scope parts) r (type_of (placed_in scope parts)) (subst Q (sym (type_of-placed_in scope parts typed)) typed) (subst P placed a))
