@@ -12,7 +12,8 @@ use crate::{bound, typing};
 use std::alloc::Global;
 
 fn find_column(scope: &Scope, name: &str) -> Option<(usize, DType)>
-    ensures { option_map (λ p. record { index = p.0; dtype = p.1 }) result ≡ binding.find_column scope.now name.now }
+    ensures { option_map
+        (λ p. record { index = p.0; dtype = p.1 }) result ≡ binding.find_column scope.now name.now }
 {
     let place = scope.find(name)?;
     Some((place, scope.dtype(place)))

@@ -147,7 +147,8 @@ fn within(
     lower: Option<&ScalarValue>,
     upper: Option<&ScalarValue>,
 ) -> Option<bool>
-    ensures { result ≡ spec.within options (option_copied x.entry) (option_copied lower.entry) (option_copied upper.entry) }
+    ensures { result ≡
+        spec.within options (option_copied x.entry) (option_copied lower.entry) (option_copied upper.entry) }
 {
     let above = compared(options.lower_strict.to_operator(), lower, x);
     let below = compared(options.upper_strict.to_operator(), x, upper);
@@ -222,7 +223,8 @@ pub fn evaluate(
     row_count: u64,
 ) -> Result<Option<ScalarValue>, BaseError>
     ensures value { Answers (can_evaluate expression.now row.now) (meaning expression.now row.now row_count) result }
-    ensures memory { result ≡ Err (BaseError.Memory alloc_error) → IsTrue (spec.is_long (meaning expression.now row.now row_count)) }
+    ensures memory { result ≡
+        Err (BaseError.Memory alloc_error) → IsTrue (spec.is_long (meaning expression.now row.now row_count)) }
 {
     if expression.has_placeholder() {
         return Err(BaseError::Placeholder);

@@ -68,7 +68,8 @@ fn split_char(text: &str) -> Option<(char, &str)>
 
 impl<'a> Characters<'a> {
     fn split_first(self) -> Option<(char, Characters<'a>)>
-        ensures { MatchOption result (characters self.entry ≡ []) (λ p. characters self.entry ≡ p.0 ∷ characters p.1) }
+        ensures { MatchOption result (characters self.entry ≡ [])
+            (λ p. characters self.entry ≡ p.0 ∷ characters p.1) }
     {
         let ignore_case = self.ignore_case;
         let (first, text) = split_char(self.text)?;
@@ -82,7 +83,8 @@ impl<'a> Characters<'a> {
 }
 
 fn next_item<'a>(pattern: Characters<'a>) -> Option<(Item, Characters<'a>)>
-    ensures items { MatchOption result (items (characters pattern.entry) ≡ []) (λ p. items (characters pattern.entry) ≡ p.0 ∷ items (characters p.1)) }
+    ensures items { MatchOption result (items (characters pattern.entry) ≡ [])
+        (λ p. items (characters pattern.entry) ≡ p.0 ∷ items (characters p.1)) }
     ensures shorter { IfSome result (λ p. length (characters p.1) < length (characters pattern.entry)) }
 {
     let (first, rest) = pattern.split_first()?;
