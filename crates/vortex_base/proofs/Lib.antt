@@ -4,4 +4,6 @@ pub mod RowLemmas
 pub mod ScopeLemmas
 mod LikeStops
 mod MeaningFits
+mod PlacedFits
 mod PlacedTypes
+mod RowsFit

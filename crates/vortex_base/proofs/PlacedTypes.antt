@@ -9,16 +9,16 @@ use Rattle.vortex_base.specs.Typing.{with_type, with_types, type_by, type_of, bi
 use Rattle.vortex_base.specs.Binding.{Name, find_column, type_at, place_or_any, type_in, placed_in}
 use Rattle.vortex_base.specs.Answer.{Answers, Makes}
 
-with_type-ok : {A B E : Type 0} (f : A → Result B E) (a : Result A E) → IsOk (with_type f a) → IsOk a
+pub with_type-ok : {A B E : Type 0} (f : A → Result B E) (a : Result A E) → IsOk (with_type f a) → IsOk a
 with_type-ok f (Ok a) h = refl
 with_type-ok f (Err e) h = h
 
-with_types-ok : {A B C E : Type 0} (f : A → B → Result C E) (a : Result A E) (b : Result B E) → IsOk (with_types f a b) → IsOk a × IsOk b
+pub with_types-ok : {A B C E : Type 0} (f : A → B → Result C E) (a : Result A E) (b : Result B E) → IsOk (with_types f a b) → IsOk a × IsOk b
 with_types-ok f (Ok a) b h = (refl, with_type-ok (f a) b h)
 with_types-ok f (Err e) b h = (h, cc)
 
 -- the same, where the function is made of a first type
-with_three-ok : {A B C D E : Type 0} (f : A → B → C → Result D E) (a : Result A E) (b : Result B E) (c : Result C E) → IsOk (with_type (λ x. with_types (f x) b c) a) → IsOk a × (IsOk b × IsOk c)
+pub with_three-ok : {A B C D E : Type 0} (f : A → B → C → Result D E) (a : Result A E) (b : Result B E) (c : Result C E) → IsOk (with_type (λ x. with_types (f x) b c) a) → IsOk a × (IsOk b × IsOk c)
 with_three-ok f (Ok a) b c h = (refl, with_types-ok (f a) b c h)
 with_three-ok f (Err e) b c h = (h, cc)
 

@@ -1,7 +1,8 @@
 //! Binding an expression to a scope.
-ghost use Rattle.std.specs.Prelude.{◌≡◌, IsOk, option_map};
+ghost use Rattle.std.specs.Prelude.{◌≡◌, IfOk, IsOk, IsTrue, option_map};
 ghost use Rattle.vortex_base.specs.Answer.{Gives, Makes};
 ghost use Rattle.vortex_base.specs.Binding as binding;
+ghost use Rattle.vortex_base.specs.Fitting.{fits_scope};
 
 use crate::bound_expression::BoundExpression;
 use crate::dtype::DType;
@@ -23,7 +24,8 @@ impl Expression {
     /// The typed expression that this is under a scope. A fault is that of the first faulty node, children before their parent
     /// and from the left: `UnknownColumn`, `TypeFault` or `Unsupported`. It is found before any memory is taken.
     pub fn bind(self, alloc: Global, scope: &Scope) -> Result<BoundExpression, BaseError>
-        ensures { Gives (binding.bound_in scope.now self) result }
+        ensures value { Gives (binding.bound_in scope.now self) result }
+        ensures fits { IfOk result (λ b. IsTrue (fits_scope b scope.now)) }
     {
         self.type_in(scope)?;
         self.placed_in(alloc, scope)
