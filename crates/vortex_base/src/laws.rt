@@ -2,11 +2,17 @@
 ghost use Rattle.std.specs.Prelude.{◌≡◌, ◌↔◌, IfOk, IsTrue};
 ghost use Rattle.vortex_base.specs.Examples.{TypeExamples, ValueExamples, OrderExamples};
 ghost use Rattle.vortex_base.specs.Examples.{ScopeExamples, ChunkExamples};
+ghost use Rattle.vortex_base.specs.ExpressionExamples.{LikeExamples, TypingExamples, AggregateExamples, BindingExamples, MeaningExamples};
+ghost use Rattle.vortex_base.specs.Fitting.{RowsFit};
+ghost use Rattle.vortex_base.specs.Meaning.{MeaningFits};
 ghost use Rattle.vortex_base.specs.Orders.{ValuesAreOrdered, NumbersAreOrdered, pvalue_cmp};
 ghost use Rattle.vortex_base.specs.Values.{value_cmp};
 
+use crate::bound_expression::BoundExpression;
 use crate::bytes::Bytes;
+use crate::chunk::Chunk;
 use crate::pvalue::PValue;
+use crate::row::Row;
 use crate::scalar_value::ScalarValue;
 use crate::text::Text;
 use std::alloc::AllocError;
@@ -75,4 +81,23 @@ pub fn examples_hold()
     ensures order { OrderExamples }
     ensures scopes { ScopeExamples }
     ensures chunks { ChunkExamples }
+{}
+
+/// Worked cases of the definitions of expressions: LIKE, typing, binding and meaning.
+pub fn expression_examples_hold()
+    ensures like { LikeExamples }
+    ensures typing { TypingExamples }
+    ensures aggregates { AggregateExamples }
+    ensures binding { BindingExamples }
+    ensures meaning { MeaningExamples }
+{}
+
+/// The value of an expression on a row that it fits is of the expression's type, or null.
+pub fn meaning_fits(expression: &BoundExpression, row: &Row<'_>, row_count: u64)
+    ensures { MeaningFits expression.now row.now row_count }
+{}
+
+/// An expression that fits the scope of a chunk fits each of its rows.
+pub fn rows_fit(expression: &BoundExpression, chunk: &Chunk, i: usize)
+    ensures { RowsFit expression.now chunk.now i }
 {}
