@@ -1,0 +1,16 @@
+//! Statistics of columns: values with a precision, bounds, the kinds of statistics and sets of them.
+//!
+//! A statistic's value is a [`precision::Precision`]: exact, inexact or absent. What an inexact value
+//! says depends on the statistic, and a bound of module [`bound`] tells it: an inexact maximum is an
+//! upper bound, an inexact minimum a lower one.
+#![tactic(auto)]
+
+pub mod bound;
+mod chosen;
+pub mod error;
+pub mod laws;
+pub mod precision;
+pub mod stat;
+pub mod stat_bound;
+#[cfg(test)]
+mod tests;
