@@ -1,0 +1,4 @@
+pub mod Exact
+pub mod Scalars
+pub mod Types
+pub mod Values
