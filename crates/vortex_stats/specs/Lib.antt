@@ -6,3 +6,4 @@ pub mod Bound
 pub mod UpperBound
 pub mod LowerBound
 pub mod PointBound
+pub mod Scalars

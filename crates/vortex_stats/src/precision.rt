@@ -1,8 +1,11 @@
 //! A value with a precision.
-ghost use Rattle.std.specs.Prelude.{◌≡◌, IfOk, IfErr};
+ghost use Rattle.std.specs.Prelude.{◌≡◌, Ok, Err, IfOk, IfErr, if◌then◌else◌};
 ghost use Rattle.std.specs.Option.{option_map};
 ghost use Rattle.vortex_stats.specs.declared.precision.Precision.{Precision};
+ghost use Rattle.vortex_stats.specs.declared.error.StatsError.TheVariants.{Mismatch};
 ghost use Rattle.vortex_stats.specs.Bound.{ClonesEqual};
+ghost use Rattle.vortex_stats.specs.Scalars.{precise_scalar, scalar_of, IsAnswerOrMemory};
+ghost use Rattle.vortex_base.specs.Values.{is_value};
 ghost use Rattle.vortex_stats.specs.Precision.{
   is_exact,
   is_absent,
@@ -23,9 +26,13 @@ ghost use Rattle.vortex_stats.specs.Precision.{
   IsMappedOrAbsent,
 };
 
+use crate::error::StatsError;
 use crate::stat_bound::{StatBound, StatType};
 use std::alloc::AllocError;
 use std::fmt;
+use vortex_base::dtype::DType;
+use vortex_base::scalar::Scalar;
+use vortex_base::scalar_value::ScalarValue;
 
 /// A statistic's value and how far it can be trusted.
 ///
@@ -219,6 +226,53 @@ impl<T: Ord + Clone> Precision<T> {
             value => Some(<S::Bound as StatBound<T>>::lift(value)),
         }
     }
+}
+
+impl Precision<ScalarValue> {
+    /// The same case around the scalar of this type. `Mismatch` if the value is none of the type.
+    pub fn into_scalar(self, dtype: DType) -> Result<Precision<Scalar>, StatsError>
+        ensures { result ≡ precise_scalar self dtype }
+    {
+        match self {
+            Precision::Exact(v) => Ok(Precision::Exact(typed(v, dtype)?)),
+            Precision::Inexact(v) => Ok(Precision::Inexact(typed(v, dtype)?)),
+            Precision::Absent => Ok(Precision::Absent),
+        }
+    }
+}
+
+impl Precision<&ScalarValue> {
+    /// The same case around the scalar of this type and a clone of the value. `Mismatch` if the value
+    /// is none of the type, which is found before anything is cloned; `Memory` if the clone is refused.
+    pub fn into_scalar(self, dtype: DType) -> Result<Precision<Scalar>, StatsError>
+        ensures { IsAnswerOrMemory (precise_scalar (precision_map (λ v. v.now) self.entry) dtype) result }
+    {
+        match self {
+            Precision::Exact(v) => Ok(Precision::Exact(typed_clone(v, dtype)?)),
+            Precision::Inexact(v) => Ok(Precision::Inexact(typed_clone(v, dtype)?)),
+            Precision::Absent => Ok(Precision::Absent),
+        }
+    }
+}
+
+/// The scalar of a value and its type.
+fn typed(value: ScalarValue, dtype: DType) -> Result<Scalar, StatsError>
+    ensures { result ≡ (if is_value value dtype then Ok (scalar_of value dtype) else Err Mismatch) }
+{
+    match Scalar::try_new(dtype, Some(value)) {
+        Ok(scalar) => Ok(scalar),
+        Err(_) => Err(StatsError::Mismatch),
+    }
+}
+
+/// The scalar of a clone of a value and its type.
+fn typed_clone(value: &ScalarValue, dtype: DType) -> Result<Scalar, StatsError>
+    ensures { IsAnswerOrMemory (if is_value value.now dtype then Ok (scalar_of value.now dtype) else Err Mismatch) result }
+{
+    if !value.fits(&dtype) {
+        return Err(StatsError::Mismatch);
+    }
+    typed(value.try_clone()?, dtype)
 }
 
 impl<T: Clone> Precision<&T> {
