@@ -43,12 +43,12 @@ pub(crate) fn union_of_uppers<'a, T: Ord>(
     match (a, b) {
         (Precision::Exact(a), Precision::Exact(b)) => Some(Precision::Exact(greater(a, b))),
         (Precision::Inexact(a), Precision::Inexact(b)) => Some(Precision::Inexact(greater(a, b))),
-        (Precision::Exact(e), Precision::Inexact(i))
-        | (Precision::Inexact(i), Precision::Exact(e)) => {
-            if is_less(e, i) {
-                Some(Precision::Inexact(i))
+        (Precision::Exact(max), Precision::Inexact(ceiling))
+        | (Precision::Inexact(ceiling), Precision::Exact(max)) => {
+            if is_less(max, ceiling) {
+                Some(Precision::Inexact(ceiling))
             } else {
-                Some(Precision::Exact(e))
+                Some(Precision::Exact(max))
             }
         }
         _ => None,
@@ -72,12 +72,12 @@ pub(crate) fn intersection_of_uppers<'a, T: Ord>(
         (Precision::Inexact(a), Precision::Inexact(b)) => Some(IntersectionResult::Value(
             Precision::Inexact(lesser(a, b)),
         )),
-        (Precision::Exact(e), Precision::Inexact(i))
-        | (Precision::Inexact(i), Precision::Exact(e)) => {
-            if is_less(i, e) {
+        (Precision::Exact(max), Precision::Inexact(ceiling))
+        | (Precision::Inexact(ceiling), Precision::Exact(max)) => {
+            if is_less(ceiling, max) {
                 Some(IntersectionResult::Empty)
             } else {
-                Some(IntersectionResult::Value(Precision::Exact(e)))
+                Some(IntersectionResult::Value(Precision::Exact(max)))
             }
         }
         _ => None,
@@ -93,12 +93,12 @@ pub(crate) fn union_of_lowers<'a, T: Ord>(
     match (a, b) {
         (Precision::Exact(a), Precision::Exact(b)) => Some(Precision::Exact(lesser(a, b))),
         (Precision::Inexact(a), Precision::Inexact(b)) => Some(Precision::Inexact(lesser(a, b))),
-        (Precision::Exact(e), Precision::Inexact(i))
-        | (Precision::Inexact(i), Precision::Exact(e)) => {
-            if is_less(i, e) {
-                Some(Precision::Inexact(i))
+        (Precision::Exact(min), Precision::Inexact(floor))
+        | (Precision::Inexact(floor), Precision::Exact(min)) => {
+            if is_less(floor, min) {
+                Some(Precision::Inexact(floor))
             } else {
-                Some(Precision::Exact(e))
+                Some(Precision::Exact(min))
             }
         }
         _ => None,
@@ -122,12 +122,12 @@ pub(crate) fn intersection_of_lowers<'a, T: Ord>(
         (Precision::Inexact(a), Precision::Inexact(b)) => Some(IntersectionResult::Value(
             Precision::Inexact(greater(a, b)),
         )),
-        (Precision::Exact(e), Precision::Inexact(i))
-        | (Precision::Inexact(i), Precision::Exact(e)) => {
-            if is_less(e, i) {
+        (Precision::Exact(min), Precision::Inexact(floor))
+        | (Precision::Inexact(floor), Precision::Exact(min)) => {
+            if is_less(min, floor) {
                 Some(IntersectionResult::Empty)
             } else {
-                Some(IntersectionResult::Value(Precision::Exact(e)))
+                Some(IntersectionResult::Value(Precision::Exact(min)))
             }
         }
         _ => None,
@@ -167,12 +167,12 @@ pub(crate) fn intersection_of_points<'a, T: Ord>(
         (Precision::Inexact(a), Precision::Inexact(b)) => IntersectionResult::Value(
             Precision::Inexact(lesser(a, b)),
         ),
-        (Precision::Exact(e), Precision::Inexact(i))
-        | (Precision::Inexact(i), Precision::Exact(e)) => {
-            if is_less(e, i) {
-                IntersectionResult::Value(Precision::Inexact(e))
+        (Precision::Exact(exact), Precision::Inexact(other))
+        | (Precision::Inexact(other), Precision::Exact(exact)) => {
+            if is_less(exact, other) {
+                IntersectionResult::Value(Precision::Inexact(exact))
             } else {
-                IntersectionResult::Value(Precision::Exact(e))
+                IntersectionResult::Value(Precision::Exact(exact))
             }
         }
         _ => IntersectionResult::Empty,

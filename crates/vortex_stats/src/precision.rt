@@ -221,10 +221,10 @@ impl<T: Ord + Clone> Precision<T> {
     pub fn bound<S: StatType<T>>(self) -> Option<S::Bound>
         ensures { option_map S.Bound.precision result ≡ present_only self }
     {
-        match self {
-            Precision::Absent => None,
-            value => Some(<S::Bound as StatBound<T>>::lift(value)),
+        if self.is_absent() {
+            return None;
         }
+        Some(<S::Bound as StatBound<T>>::lift(self))
     }
 }
 
