@@ -1,13 +1,32 @@
-//! Types, values and columns: the layer that statistics and pruning stand on.
+//! Types, values, columns and typed expressions, and what an expression means on a row.
 #![tactic(auto)]
 
+mod cloning;
+mod equality;
+mod holds;
+mod typing;
+pub mod aggregate;
+pub mod between;
+pub mod bound;
+pub mod bound_expression;
 pub mod bytes;
+pub mod chunk;
+pub mod column;
 pub mod dtype;
 pub mod element;
 pub mod error;
+pub mod evaluate;
+pub mod expr_kind;
+pub mod expression;
+pub mod like;
 pub mod nullability;
+pub mod operator;
+pub mod parts;
 pub mod ptype;
 pub mod pvalue;
+pub mod row;
 pub mod scalar;
+pub mod scalar_fn;
 pub mod scalar_value;
+pub mod scope;
 pub mod text;

@@ -1,0 +1,4 @@
+mod LikeStops
+pub mod MapLemmas
+pub mod RowLemmas
+pub mod ScopeLemmas

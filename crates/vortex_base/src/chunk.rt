@@ -1,0 +1,106 @@
+//! Columns of one length under a scope.
+ghost use Rattle.std.specs.Prelude.{◌≡◌, ◌<◌, IsTrue, length, slice_get, Some};
+ghost use Rattle.std.specs.Bool.{OnTrue};
+ghost use Rattle.std.specs.List.{list_all};
+ghost use Rattle.vortex_base.specs.Columns as spec;
+
+use crate::column::Column;
+use crate::error::BaseError;
+use crate::row::Row;
+use crate::scope::Scope;
+use std::marker::Model;
+
+/// The columns of a scope, in its order and all of one length.
+#[derive(Debug, Drop)]
+pub struct Chunk {
+    scope: Scope,
+    columns: Vec<Column>,
+    rows: usize,
+}
+
+impl Model for Chunk {
+    ghost use Rattle.std.specs.Prelude.{◌≡◌};
+    ghost use Rattle.vortex_base.specs.Columns.{ChunkData, row_count, IsChunk};
+
+    ghost Value = { ChunkData };
+
+    ghost view = { λ a. record { scope = a.scope; columns = a.columns.items } };
+
+    ghost invariant = {
+        λ a. (a.rows ≡ row_count a.columns.items) × IsChunk (record { scope = a.scope; columns = a.columns.items })
+    };
+}
+
+fn row_count(columns: &[Column]) -> usize
+    ensures { result ≡ spec.row_count columns.now }
+{
+    match columns.first() {
+        None => 0,
+        Some(column) => column.len(),
+    }
+}
+
+fn all_long(rows: usize, columns: &[Column]) -> bool
+    ensures value { result ≡ spec.all_long rows columns.now }
+    ensures are_columns { OnTrue result (IsTrue (list_all spec.is_column columns.now)) }
+{
+    for column in columns {
+        if column.len() != rows {
+            return false;
+        }
+    }
+    true
+}
+
+impl Chunk {
+    /// The chunk of a scope and its columns. `RowShape` if the number of columns is not the scope's or their lengths differ, and
+    /// else `Mismatch` if a column's type is not the scope's.
+    pub fn try_new(scope: Scope, columns: Vec<Column>) -> Result<Chunk, BaseError>
+        ensures { result ≡ spec.chunk_of scope columns.items }
+    {
+        let rows = row_count(&columns);
+        if scope.len() != columns.len() || !all_long(rows, &columns) {
+            return Err(BaseError::RowShape);
+        }
+        if !scope.has_types(&columns) {
+            return Err(BaseError::Mismatch);
+        }
+        Ok(Chunk {
+            scope,
+            columns,
+            rows,
+        })
+    }
+
+    pub fn scope(&self) -> &Scope
+        ensures value { result.now ≡ self.now.scope }
+        ensures is_chunk { spec.IsChunk self.now }
+    {
+        &self.scope
+    }
+
+    /// The number of rows.
+    pub fn rows(&self) -> usize
+        ensures value { result ≡ spec.row_count self.now.columns }
+        ensures is_chunk { spec.IsChunk self.now }
+    {
+        self.rows
+    }
+
+    /// The column at a place, which the length of `scope` tells to be in range.
+    pub fn column(&self, i: usize) -> &Column
+        requires { i < length self.now.scope }
+        ensures { slice_get self.now.columns i ≡ Some result.now }
+    {
+        &self.columns[i]
+    }
+
+    /// The row at a place, which `rows` tells to be in range.
+    pub fn row(&self, i: usize) -> Row<'_>
+        requires { i < spec.row_count self.now.columns }
+        ensures value { result ≡ spec.row_of i self.entry.now.columns }
+        ensures is_row { spec.IsRow result }
+    {
+        Row::of_columns(&self.columns, i)
+    }
+}
