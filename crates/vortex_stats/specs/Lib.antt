@@ -7,3 +7,5 @@ pub mod UpperBound
 pub mod LowerBound
 pub mod PointBound
 pub mod Scalars
+pub mod Bitset
+pub mod Entries

@@ -5,12 +5,15 @@
 //! upper bound, an inexact minimum a lower one.
 #![tactic(auto)]
 
+pub mod bitset;
 pub mod bound;
 mod chosen;
+mod entries;
 pub mod error;
 pub mod laws;
 pub mod precision;
 pub mod stat;
 pub mod stat_bound;
+pub mod stats_set;
 #[cfg(test)]
 mod tests;
