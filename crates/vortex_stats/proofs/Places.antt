@@ -12,7 +12,7 @@ use Rattle.vortex_stats.specs.declared.stat.Stat.{Stat}
 use Rattle.vortex_stats.specs.declared.precision.Precision.{Precision}
 use Rattle.vortex_stats.specs.declared.precision.Precision.TheVariants.{Exact, Inexact, Absent}
 use Rattle.vortex_stats.specs.Stat.{stat_number, stat_eq, same_from_stat_eq, stat_eq-itself}
-use Rattle.vortex_stats.specs.Entries.{is_entry_of, has_entry, entry_value, with_entry, without_entry, is_kept, retained_entries, AreDistinct}
+use Rattle.vortex_stats.specs.Entries.{is_entry_of, has_entry, entry_value, with_entry, with_entries, without_entry, is_kept, retained_entries, AreDistinct}
 
 none_step : (i : ℕ) (b c : Bool) (o : Option ℕ) → (o ≡ None → c ≡ false) → cond b (Some i) o ≡ None → (b || c) ≡ false
 none_step i true c o ih h = cc
@@ -152,3 +152,9 @@ module _ {V : Type 0} where
   pub has_entry-from_place : (s : Stat) (p : Precision V) (es : List (Stat × Precision V)) (i : ℕ) → position (is_entry_of s) es ≡ Some i → has_entry s es ≡ true
   has_entry-from_place s p es i h =
       let f = position-Some (is_entry_of s) es i (s, p) h in has_entry-at s es i (s, p) f.0 f.1
+
+module _ {V : Type 0} where
+  -- one more item is set last
+  pub with_entries-snoc : (items : List (Stat × Precision V)) (x : Stat × Precision V) (es : List (Stat × Precision V)) → with_entries (items ++ x ∷ []) es ≡ with_entry x.0 x.1 (with_entries items es)
+  with_entries-snoc [] x es = refl
+  with_entries-snoc (y ∷ items) x es = with_entries-snoc items x (with_entry y.0 y.1 es)

@@ -32,8 +32,8 @@ abbrev pub distinct_ascending : List Stat → List Stat
 distinct_ascending stats = filter (λ s. list_any (λ r. stat_eq r s) stats) all_stats
 
 -- what was written is read back, each statistic once and ascending
-pub stats_in-written : (stats : List Stat) (bytes : List ℕ) → IsBitsetOf stats bytes → stats_in bytes ≡ distinct_ascending stats
-stats_in-written stats bytes w = ap (λ p. filter p all_stats) (λ i s. w.bits (stat_number s) i)
+pub stats_in_written : (stats : List Stat) (bytes : List ℕ) → IsBitsetOf stats bytes → stats_in bytes ≡ distinct_ascending stats
+stats_in_written stats bytes w = ap (λ p. filter p all_stats) (λ i s. w.bits (stat_number s) i)
 
 -- ---- the two bytes as they are made
 

@@ -1,6 +1,7 @@
 -- Lists of entries: a statistic and its value with a precision.
 use Rattle.std.specs.Prelude.{◌≡◌, Bool, true, false, not, ◌||◌, List, [], ◌∷◌, ◌++◌, Option, Some, None, MatchOption, if◌then◌else◌, ⊤}
 use Rattle.std.specs.List.{filter, list_any, list_all}
+use Rattle.std.specs.Iterator.{Drains, Yields}
 use Rattle.vortex_base.specs.declared.dtype.DType.{DType}
 use Rattle.vortex_base.specs.declared.scalar_value.ScalarValue.{ScalarValue}
 use Rattle.vortex_base.specs.Values.{is_value}
@@ -49,6 +50,16 @@ module _ {V : Type 0} where
   abbrev pub AreDistinct : List (Stat × Precision V) → Type 0
   AreDistinct [] = ⊤
   AreDistinct (e ∷ es) = (has_entry e.0 es ≡ false) × AreDistinct es
+
+-- what setting the items of an iterator makes of a list; `steps` is what a call of `next` gives
+module _ {S V : Type 0} (steps : S → Option (Stat × Precision V) → S → Type 0) where
+  -- each item was set, in order
+  abbrev pub SetsAll : S → List (Stat × Precision V) → List (Stat × Precision V) → Type 0
+  SetsAll s old new = (items : List (Stat × Precision V)) × Drains steps s items × (new ≡ with_entries items old)
+
+  -- the first items were set, in order
+  abbrev pub SetsFirst : S → List (Stat × Precision V) → List (Stat × Precision V) → Type 0
+  SetsFirst s old new = (items : List (Stat × Precision V)) × (t : S) × Yields steps s items t × (new ≡ with_entries items old)
 
 -- a value of the type, if there is one
 abbrev pub is_value_of : Option DType → ScalarValue → Bool

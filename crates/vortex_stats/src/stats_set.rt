@@ -1,10 +1,12 @@
 //! Sets of statistics.
-ghost use Rattle.std.specs.Prelude.{◌≡◌, ◌==◌, ◌∷◌, [], Ok, IfOk, IsOk, OnOk, OnErr, IsTrue, length};
-ghost use Rattle.std.specs.Iterator.{YieldsFirst, YieldsFirstRef, item_count};
+ghost use Rattle.std.specs.Prelude.{◌≡◌, ◌==◌, ◌∷◌, [], Ok, IfOk, IfErr, IsOk, alloc_error, OnOk, OnErr, IsTrue, length};
+ghost use Rattle.std.specs.Iterator.{YieldsFirst, YieldsFirstRef, item_count, IsFinite};
+ghost use Rattle.vortex_stats.specs.declared.error.StatsError.TheVariants.{Memory};
 ghost use Rattle.vortex_stats.specs.Precision.{is_present, precision_map};
-ghost use Rattle.vortex_stats.specs.Entries.{entry_value, with_entry, without_entry, retained_entries, has_entry, is_value_of as value_is_of, value_fits, entries_fit, AreDistinct};
+ghost use Rattle.vortex_stats.specs.Entries.{entry_value, with_entry, without_entry, retained_entries, has_entry, is_value_of as value_is_of, value_fits, entries_fit, AreDistinct, SetsAll, SetsFirst};
 
 use crate::entries;
+use crate::error::StatsError;
 pub use crate::entries::StatsArray;
 use crate::precision::Precision;
 use crate::stat::Stat;
@@ -65,7 +67,8 @@ impl StatsSet {
 
     /// The number of entries, Absent ones too.
     pub fn len(&self) -> usize
-        ensures { result ≡ length self.now }
+        ensures value { result ≡ length self.now }
+        ensures distinct { AreDistinct self.now }
     {
         self.entries.len()
     }
@@ -118,10 +121,43 @@ impl StatsSet {
 
     /// The entries in order.
     pub fn iter(&self) -> StatsSetIter<'_>
-        ensures { result ≡ self.now }
+        ensures entries { result ≡ self.now }
+        ensures distinct { AreDistinct self.now }
     {
         StatsSetIter {
             rest: self.entries.as_slice(),
+        }
+    }
+
+    /// Sets each item in order. Where memory is refused, the items set so far stay.
+    pub fn try_extend<I: Iterator<Item = (Stat, Precision<ScalarValue>)> + Drop>(&mut self, items: I) -> Result<(), AllocError>
+        requires can { I.can_next items }
+        requires ends { IsFinite (I.remaining items) }
+        ensures all { OnOk result (SetsAll I.next_gives items self.old self.new) }
+        ensures refused { OnErr result (SetsFirst I.next_gives items self.old self.new) }
+    {
+        for item in items {
+            self.set(item.0, item.1)?;
+        }
+        Ok(())
+    }
+
+    /// The set that setting each item in order makes. Where memory is refused, the set of the items so
+    /// far is handed back.
+    pub fn try_from_iter<I: Iterator<Item = (Stat, Precision<ScalarValue>)> + Drop>(alloc: Global, items: I) -> Result<Self, MergeRefused>
+        requires can { I.can_next items }
+        requires ends { IsFinite (I.remaining items) }
+        ensures all { IfOk result (λ set. SetsAll I.next_gives items [] set) }
+        ensures refused { IfErr result (λ r. SetsFirst I.next_gives items [] r.set) }
+        ensures memory { IfErr result (λ r. r.error ≡ Memory alloc_error) }
+    {
+        let mut set = StatsSet::new(alloc);
+        match set.try_extend(items) {
+            Ok(()) => Ok(set),
+            Err(refused) => Err(MergeRefused {
+                error: StatsError::Memory(refused),
+                set,
+            }),
         }
     }
 
@@ -152,6 +188,15 @@ impl StatsSet {
             .iter()
             .all(|entry| StatsSet::value_fits(entry.0, dtype, &entry.1))
     }
+}
+
+/// A set that is handed back beside the cause of a refusal.
+#[derive(Debug, Drop)]
+pub struct MergeRefused {
+    /// Why the call was refused.
+    pub error: StatsError,
+    /// The set as the call left it.
+    pub set: StatsSet,
 }
 
 /// Whether there is a type and the value is one of it.
