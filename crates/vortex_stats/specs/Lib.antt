@@ -9,3 +9,4 @@ pub mod PointBound
 pub mod Scalars
 pub mod Bitset
 pub mod Entries
+pub mod TypedStats

@@ -12,8 +12,10 @@ mod entries;
 pub mod error;
 pub mod laws;
 pub mod precision;
+pub mod provider;
 pub mod stat;
 pub mod stat_bound;
 pub mod stats_set;
+pub mod typed;
 #[cfg(test)]
 mod tests;

@@ -1,0 +1,196 @@
+//! Views of a set under the type of its column, which its values fit.
+ghost use Rattle.std.specs.Prelude.{◌≡◌, IfOk, OnOk, OnErr, IsOk, IsTrue};
+ghost use Rattle.vortex_base.specs.Values.{is_value};
+ghost use Rattle.vortex_stats.specs.Precision.{is_present, precision_map, IfPresent};
+ghost use Rattle.vortex_stats.specs.Scalars.{scalar_of};
+ghost use Rattle.vortex_stats.specs.Entries.{entry_value, entries_fit, value_fits, with_entry, without_entry, has_entry};
+ghost use Rattle.vortex_stats.specs.TypedStats.{typed_value, AreFitting};
+
+use crate::precision::Precision;
+use crate::provider::StatsProvider;
+use crate::stat::Stat;
+use crate::stats_set::StatsSet;
+use std::alloc::AllocError;
+use std::marker::Model;
+use vortex_base::dtype::DType;
+use vortex_base::scalar::Scalar;
+use vortex_base::scalar_value::ScalarValue;
+
+/// A set whose values fit the type of their column.
+#[derive(Drop)]
+pub struct TypedStatsSetRef<'a> {
+    values: &'a StatsSet,
+    dtype: DType,
+}
+
+impl<'a> Model for TypedStatsSetRef<'a> {
+    ghost use Rattle.vortex_stats.specs.TypedStats.{TypedStats, AreFitting};
+
+    ghost Value = { TypedStats };
+
+    ghost view = { λ v. record { values = v.values.now; dtype = v.dtype } };
+
+    ghost invariant = { λ v. AreFitting (record { values = v.values.now; dtype = v.dtype }) };
+}
+
+impl StatsSet {
+    /// A view of the set under the type of its column, which the set fits, as `fits` tells.
+    pub fn as_typed_ref(&self, dtype: &DType) -> TypedStatsSetRef<'_>
+        requires { IsTrue (entries_fit self.now dtype.now) }
+        ensures { result ≡ record { values = self.now; dtype = dtype.now } }
+    {
+        TypedStatsSetRef {
+            values: self,
+            dtype: *dtype,
+        }
+    }
+}
+
+impl<'a> TypedStatsSetRef<'a> {
+    /// The set.
+    pub fn values(&self) -> &StatsSet
+        ensures values { result.now ≡ self.now.values }
+        ensures fits { AreFitting self.now }
+    {
+        self.values
+    }
+
+    /// The type of the column.
+    pub fn dtype(&self) -> &DType
+        ensures dtype { result.now ≡ self.now.dtype }
+        ensures fits { AreFitting self.now }
+    {
+        &self.dtype
+    }
+}
+
+impl<'a> StatsProvider for TypedStatsSetRef<'a> {
+    ghost typed = { λ v. v };
+
+    fn get(&self, stat: Stat) -> Result<Precision<Scalar>, AllocError> {
+        get_typed(self.values, &self.dtype, stat)
+    }
+
+    fn len(&self) -> usize {
+        self.values.len()
+    }
+}
+
+/// The statistic's value under the statistic's type in a column of this type.
+fn get_typed(values: &StatsSet, dtype: &DType, stat: Stat) -> Result<Precision<Scalar>, AllocError>
+    requires { IsTrue (entries_fit values.now dtype.now) }
+    ensures value { IfOk result (λ p. p ≡ typed_value stat (record { values = values.now; dtype = dtype.now })) }
+    ensures refused { OnErr result (IsTrue (is_present (entry_value stat values.now))) }
+{
+    match stat.dtype(dtype) {
+        Some(expected) => scalar_of_found(values.find(stat), expected),
+        None => Ok(Precision::Absent),
+    }
+}
+
+/// The same case around the scalar of a clone.
+fn scalar_of_found(value: Precision<&ScalarValue>, dtype: DType) -> Result<Precision<Scalar>, AllocError>
+    requires { IfPresent value (λ v. IsTrue (is_value v.now dtype)) }
+    ensures value { IfOk result (λ p. p ≡ precision_map (λ v. scalar_of v.now dtype) value.entry) }
+    ensures refused { OnErr result (IsTrue (is_present value.entry)) }
+{
+    match value {
+        Precision::Exact(v) => Ok(Precision::Exact(scalar_of_clone(v, dtype)?)),
+        Precision::Inexact(v) => Ok(Precision::Inexact(scalar_of_clone(v, dtype)?)),
+        Precision::Absent => Ok(Precision::Absent),
+    }
+}
+
+fn scalar_of_clone(value: &ScalarValue, dtype: DType) -> Result<Scalar, AllocError>
+    requires { IsTrue (is_value value.now dtype) }
+    ensures { IfOk result (λ s. s ≡ scalar_of value.now dtype) }
+{
+    match Scalar::try_new(dtype, Some(value.try_clone()?)) {
+        Ok(scalar) => Ok(scalar),
+        Err(_) => unreachable!(),
+    }
+}
+
+/// A set whose values fit the type of their column, and can be written.
+#[derive(Drop)]
+pub struct MutTypedStatsSetRef<'a> {
+    values: &'a mut StatsSet,
+    dtype: DType,
+    ghost fitting: { IsTrue (entries_fit values.now dtype) },
+}
+
+impl StatsSet {
+    /// A view of the set under the type of its column, which the set fits, as `fits` tells, and keeps
+    /// fitting at each write.
+    pub fn as_mut_typed_ref(&mut self, dtype: &DType) -> MutTypedStatsSetRef<'_>
+        requires { IsTrue (entries_fit self.old dtype.now) }
+        ensures same_set { result.values.ghost_name ≡ self.entry.ghost_name }
+        ensures values { result.values.now ≡ self.old }
+        ensures dtype { result.dtype ≡ dtype.now }
+    {
+        MutTypedStatsSetRef {
+            values: self,
+            dtype: *dtype,
+        }
+    }
+}
+
+#[tactic(auto, using(crate::proofs::Fitting::fitting))]
+impl<'a> MutTypedStatsSetRef<'a> {
+    /// The set.
+    pub fn values(&self) -> &StatsSet
+        ensures { result.now ≡ self.now.values.now }
+    {
+        self.values
+    }
+
+    /// The type of the column.
+    pub fn dtype(&self) -> &DType
+        ensures { result.now ≡ self.now.dtype }
+    {
+        &self.dtype
+    }
+
+    /// Sets the statistic's value, which fits, as `StatsSet::value_fits` tells: a present one keeps its
+    /// place, a new one goes last. Where memory is refused, the set stays as it was.
+    pub fn set(&mut self, stat: Stat, value: Precision<ScalarValue>) -> Result<(), AllocError>
+        requires { IsTrue (value_fits stat self.old.dtype value) }
+        ensures set { OnOk result (self.new.values.now ≡ with_entry stat value self.old.values.now) }
+        ensures refused { OnErr result (self.new.values.now ≡ self.old.values.now) }
+        ensures succeeds { IsTrue (has_entry stat self.old.values.now) → IsOk result }
+        ensures dtype { self.new.dtype ≡ self.old.dtype }
+        ensures same_set { self.new.values.ghost_name ≡ self.old.values.ghost_name }
+    {
+        self.values.set(stat, value)
+    }
+
+    /// Removes the statistic's entry, if there is one. The others keep their order.
+    pub fn clear(&mut self, stat: Stat)
+        ensures cleared { self.new.values.now ≡ without_entry stat self.old.values.now }
+        ensures dtype { self.new.dtype ≡ self.old.dtype }
+        ensures same_set { self.new.values.ghost_name ≡ self.old.values.ghost_name }
+    {
+        self.values.clear(stat);
+    }
+}
+
+impl<'a> StatsProvider for MutTypedStatsSetRef<'a> {
+    ghost typed = { λ v. record { values = v.values.now; dtype = v.dtype } };
+
+    fn get(&self, stat: Stat) -> Result<Precision<Scalar>, AllocError> {
+        get_typed(self.values, &self.dtype, stat)
+    }
+
+    fn len(&self) -> usize {
+        self.values.len()
+    }
+}
+
+/// A caller of the view that writes.
+fn cleared_through_view(set: &mut StatsSet, dtype: &DType, stat: Stat)
+    requires { IsTrue (entries_fit set.old dtype.now) }
+    ensures { set.new ≡ without_entry stat set.old }
+{
+    let mut view = set.as_mut_typed_ref(dtype);
+    view.clear(stat);
+}
