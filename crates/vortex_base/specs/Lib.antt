@@ -13,6 +13,7 @@ pub mod NamedNodeFalls
 pub mod Node
 pub mod NodeFalls
 pub mod Parts
+pub mod Reading
 pub mod ScalarFns
 pub mod Scalars
 pub mod Scopes

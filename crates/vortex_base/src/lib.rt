@@ -18,6 +18,7 @@ pub mod error;
 pub mod evaluate;
 pub mod expr_kind;
 pub mod expression;
+pub mod from_scalar;
 pub mod like;
 pub mod nullability;
 pub mod operator;
