@@ -10,3 +10,4 @@ pub mod Scalars
 pub mod Bitset
 pub mod Entries
 pub mod TypedStats
+pub mod Reading

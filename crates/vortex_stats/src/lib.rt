@@ -13,6 +13,7 @@ pub mod error;
 pub mod laws;
 pub mod precision;
 pub mod provider;
+mod reading;
 pub mod stat;
 pub mod stat_bound;
 pub mod stats_set;

@@ -256,7 +256,7 @@ impl Precision<&ScalarValue> {
 }
 
 /// The scalar of a value and its type.
-fn typed(value: ScalarValue, dtype: DType) -> Result<Scalar, StatsError>
+pub(crate) fn typed(value: ScalarValue, dtype: DType) -> Result<Scalar, StatsError>
     ensures { result ≡ (if is_value value dtype then Ok (scalar_of value dtype) else Err Mismatch) }
 {
     match Scalar::try_new(dtype, Some(value)) {

@@ -2,6 +2,7 @@
 ghost use Rattle.std.specs.Prelude.{◌≡◌, ◌==◌, ◌∷◌, [], Ok, IfOk, IfErr, IsOk, alloc_error, OnOk, OnErr, IsTrue, length};
 ghost use Rattle.std.specs.Iterator.{YieldsFirst, YieldsFirstRef, item_count, IsFinite};
 ghost use Rattle.vortex_stats.specs.declared.error.StatsError.TheVariants.{Memory};
+ghost use Rattle.vortex_stats.specs.Reading.{IsPreciselyReadAs};
 ghost use Rattle.vortex_stats.specs.Precision.{is_present, precision_map};
 ghost use Rattle.vortex_stats.specs.Entries.{entry_value, with_entry, without_entry, retained_entries, has_entry, is_value_of as value_is_of, value_fits, entries_fit, AreDistinct, SetsAll, SetsFirst};
 
@@ -9,11 +10,13 @@ use crate::entries;
 use crate::error::StatsError;
 pub use crate::entries::StatsArray;
 use crate::precision::Precision;
+use crate::reading;
 use crate::stat::Stat;
 use smallvec::SmallVec;
 use std::alloc::{AllocError, Global};
 use std::marker::Model;
 use vortex_base::dtype::DType;
+use vortex_base::from_scalar::FromScalar;
 use vortex_base::scalar_value::ScalarValue;
 
 /// The statistics of one column: a list of entries, a statistic and its value each, no two of one
@@ -110,6 +113,14 @@ impl StatsSet {
         ensures refused { OnErr result (IsTrue (is_present (entry_value stat self.now))) }
     {
         self.find(stat).cloned()
+    }
+
+    /// The statistic's value, read under this type, and Absent where there is no entry. `Mismatch` if
+    /// the value is none of the type, or is no `T`; `Memory` if a clone is refused.
+    pub fn get_as<T: FromScalar>(&self, stat: Stat, dtype: &DType) -> Result<Precision<T>, StatsError>
+        ensures { IsPreciselyReadAs T.can_read T.reads dtype.now (entry_value stat self.now) result }
+    {
+        reading::read_precision(self.find(stat), *dtype)
     }
 
     /// The statistic's value by reference, and Absent where there is no entry.

@@ -3,16 +3,21 @@ ghost use Rattle.std.specs.Prelude.{◌≡◌, IfOk, OnOk, OnErr, IsOk, IsTrue};
 ghost use Rattle.vortex_base.specs.Values.{is_value};
 ghost use Rattle.vortex_stats.specs.Precision.{is_present, precision_map, IfPresent};
 ghost use Rattle.vortex_stats.specs.Scalars.{scalar_of};
+ghost use Rattle.vortex_stats.specs.Stat.{stat_dtype};
+ghost use Rattle.vortex_stats.specs.Reading.{IsReadUnder};
 ghost use Rattle.vortex_stats.specs.Entries.{entry_value, entries_fit, value_fits, with_entry, without_entry, has_entry};
 ghost use Rattle.vortex_stats.specs.TypedStats.{typed_value, AreFitting};
 
+use crate::error::StatsError;
 use crate::precision::Precision;
 use crate::provider::StatsProvider;
+use crate::reading;
 use crate::stat::Stat;
 use crate::stats_set::StatsSet;
 use std::alloc::AllocError;
 use std::marker::Model;
 use vortex_base::dtype::DType;
+use vortex_base::from_scalar::FromScalar;
 use vortex_base::scalar::Scalar;
 use vortex_base::scalar_value::ScalarValue;
 
@@ -61,6 +66,17 @@ impl<'a> TypedStatsSetRef<'a> {
         ensures fits { AreFitting self.now }
     {
         &self.dtype
+    }
+
+    /// The statistic's value, read under the statistic's type, and Absent where there is no entry.
+    /// `Mismatch` if the value is no `T`; `Memory` if a clone is refused.
+    pub fn get_as<T: FromScalar>(&self, stat: Stat) -> Result<Precision<T>, StatsError>
+        ensures { IsReadUnder T.can_read T.reads (stat_dtype stat self.now.dtype) (entry_value stat self.now.values) result }
+    {
+        match stat.dtype(&self.dtype) {
+            Some(expected) => reading::read_precision(self.values.find(stat), expected),
+            None => Ok(Precision::Absent),
+        }
     }
 }
 
@@ -172,6 +188,17 @@ impl<'a> MutTypedStatsSetRef<'a> {
     {
         self.values.clear(stat);
     }
+
+    /// The statistic's value, read under the statistic's type, and Absent where there is no entry.
+    /// `Mismatch` if the value is no `T`; `Memory` if a clone is refused.
+    pub fn get_as<T: FromScalar>(&self, stat: Stat) -> Result<Precision<T>, StatsError>
+        ensures { IsReadUnder T.can_read T.reads (stat_dtype stat self.now.dtype) (entry_value stat self.now.values.now) result }
+    {
+        match stat.dtype(&self.dtype) {
+            Some(expected) => reading::read_precision(self.values.find(stat), expected),
+            None => Ok(Precision::Absent),
+        }
+    }
 }
 
 impl<'a> StatsProvider for MutTypedStatsSetRef<'a> {
@@ -184,13 +211,4 @@ impl<'a> StatsProvider for MutTypedStatsSetRef<'a> {
     fn len(&self) -> usize {
         self.values.len()
     }
-}
-
-/// A caller of the view that writes.
-fn cleared_through_view(set: &mut StatsSet, dtype: &DType, stat: Stat)
-    requires { IsTrue (entries_fit set.old dtype.now) }
-    ensures { set.new ≡ without_entry stat set.old }
-{
-    let mut view = set.as_mut_typed_ref(dtype);
-    view.clear(stat);
 }
