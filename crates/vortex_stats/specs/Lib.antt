@@ -11,3 +11,4 @@ pub mod Bitset
 pub mod Entries
 pub mod TypedStats
 pub mod Reading
+pub mod MutTypedStats

@@ -28,33 +28,28 @@ pub fn lower_intersection_is_tight<T: Ord>()
 #[tactic(auto, using(crate::specs::Stat::stats_are_told))]
 pub fn statistics_are_told()
     ensures { (s : Stat) → IsTold s }
-{
-}
+{}
 
 /// For every statistic with an aggregate and every column type, the statistic's type and the type of
 /// the aggregate's state are equal up to nullability, or there is neither.
 #[tactic(auto, using(crate::specs::Stat::stats_agree))]
 pub fn state_types_agree()
     ensures { (s : Stat) (t : DType) → IsColumnType t → AgreesWithAggregate s t }
-{
-}
+{}
 
 /// Statistics are equal, and ordered, as their numbers are.
 pub fn statistics_compare_by_number()
     ensures order { (a b : Stat) → ⟦<Stat as Ord>⟧.cmp a b ≡ nat_cmp (stat_number a) (stat_number b) }
     ensures equality { (a b : Stat) → ⟦<Stat as PartialEq>⟧.eq a b ≡ stat_eq a b }
-{
-}
+{}
 
 /// Equal statistics hash alike.
 pub fn equal_statistics_hash_alike()
     ensures { (a b : Stat) → IsTrue (stat_eq a b) → ⟦<Stat as Hash>⟧.hash_input a ≡ ⟦<Stat as Hash>⟧.hash_input b }
-{
-}
+{}
 
 /// Bytes that hold a list of statistics are read back as those statistics, each once and ascending.
 #[tactic(auto, using(crate::specs::Bitset::stats_in_written))]
 pub fn bitsets_are_read_back()
     ensures { (stats : List Stat) (bytes : List ℕ) → IsBitsetOf stats bytes → stats_in bytes ≡ distinct_ascending stats }
-{
-}
+{}

@@ -17,6 +17,6 @@ mod reading;
 pub mod stat;
 pub mod stat_bound;
 pub mod stats_set;
-pub mod typed;
 #[cfg(test)]
 mod tests;
+pub mod typed;

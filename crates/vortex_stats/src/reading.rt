@@ -10,7 +10,10 @@ use vortex_base::from_scalar::FromScalar;
 use vortex_base::scalar_value::ScalarValue;
 
 /// The same case around what the value is read as, under this type.
-pub(crate) fn read_precision<T: FromScalar>(value: Precision<&ScalarValue>, dtype: DType) -> Result<Precision<T>, StatsError>
+pub(crate) fn read_precision<T: FromScalar>(
+    value: Precision<&ScalarValue>,
+    dtype: DType,
+) -> Result<Precision<T>, StatsError>
     ensures { IsPreciselyReadAs T.can_read T.reads dtype (precision_map (λ v. v.now) value.entry) result }
 {
     match value {

@@ -6,12 +6,11 @@ ghost use Rattle.vortex_stats.specs.Reading.{IsPreciselyReadAs};
 ghost use Rattle.vortex_stats.specs.Precision.{is_present, precision_map};
 ghost use Rattle.vortex_stats.specs.Entries.{entry_value, with_entry, without_entry, retained_entries, has_entry, is_value_of as value_is_of, value_fits, entries_fit, AreDistinct, SetsAll, SetsFirst};
 
-use crate::entries;
-use crate::error::StatsError;
 pub use crate::entries::StatsArray;
+use crate::error::StatsError;
 use crate::precision::Precision;
-use crate::reading;
 use crate::stat::Stat;
+use crate::{entries, reading};
 use smallvec::SmallVec;
 use std::alloc::{AllocError, Global};
 use std::marker::Model;
@@ -117,7 +116,11 @@ impl StatsSet {
 
     /// The statistic's value, read under this type, and Absent where there is no entry. `Mismatch` if
     /// the value is none of the type, or is no `T`; `Memory` if a clone is refused.
-    pub fn get_as<T: FromScalar>(&self, stat: Stat, dtype: &DType) -> Result<Precision<T>, StatsError>
+    pub fn get_as<T: FromScalar>(
+        &self,
+        stat: Stat,
+        dtype: &DType,
+    ) -> Result<Precision<T>, StatsError>
         ensures { IsPreciselyReadAs T.can_read T.reads dtype.now (entry_value stat self.now) result }
     {
         reading::read_precision(self.find(stat), *dtype)
@@ -141,7 +144,10 @@ impl StatsSet {
     }
 
     /// Sets each item in order. Where memory is refused, the items set so far stay.
-    pub fn try_extend<I: Iterator<Item = (Stat, Precision<ScalarValue>)> + Drop>(&mut self, items: I) -> Result<(), AllocError>
+    pub fn try_extend<I: Iterator<Item = (Stat, Precision<ScalarValue>)> + Drop>(
+        &mut self,
+        items: I,
+    ) -> Result<(), AllocError>
         requires can { I.can_next items }
         requires ends { IsFinite (I.remaining items) }
         ensures all { OnOk result (SetsAll I.next_gives items self.old self.new) }
@@ -155,7 +161,10 @@ impl StatsSet {
 
     /// The set that setting each item in order makes. Where memory is refused, the set of the items so
     /// far is handed back.
-    pub fn try_from_iter<I: Iterator<Item = (Stat, Precision<ScalarValue>)> + Drop>(alloc: Global, items: I) -> Result<Self, MergeRefused>
+    pub fn try_from_iter<I: Iterator<Item = (Stat, Precision<ScalarValue>)> + Drop>(
+        alloc: Global,
+        items: I,
+    ) -> Result<Self, MergeRefused>
         requires can { I.can_next items }
         requires ends { IsFinite (I.remaining items) }
         ensures all { IfOk result (λ set. SetsAll I.next_gives items [] set) }

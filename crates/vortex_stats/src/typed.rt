@@ -5,8 +5,8 @@ ghost use Rattle.vortex_stats.specs.Precision.{is_present, precision_map, IfPres
 ghost use Rattle.vortex_stats.specs.Scalars.{scalar_of};
 ghost use Rattle.vortex_stats.specs.Stat.{stat_dtype};
 ghost use Rattle.vortex_stats.specs.Reading.{IsReadUnder};
-ghost use Rattle.vortex_stats.specs.Entries.{entry_value, entries_fit, value_fits, with_entry, without_entry, has_entry};
-ghost use Rattle.vortex_stats.specs.TypedStats.{typed_value, AreFitting};
+ghost use Rattle.vortex_stats.specs.Entries.{entry_value, entries_fit, value_fits, has_entry};
+ghost use Rattle.vortex_stats.specs.TypedStats.{typed_value, with_value, without_value, AreFitting};
 
 use crate::error::StatsError;
 use crate::precision::Precision;
@@ -105,7 +105,10 @@ fn get_typed(values: &StatsSet, dtype: &DType, stat: Stat) -> Result<Precision<S
 }
 
 /// The same case around the scalar of a clone.
-fn scalar_of_found(value: Precision<&ScalarValue>, dtype: DType) -> Result<Precision<Scalar>, AllocError>
+fn scalar_of_found(
+    value: Precision<&ScalarValue>,
+    dtype: DType,
+) -> Result<Precision<Scalar>, AllocError>
     requires { IfPresent value (λ v. IsTrue (is_value v.now dtype)) }
     ensures value { IfOk result (λ p. p ≡ precision_map (λ v. scalar_of v.now dtype) value.entry) }
     ensures refused { OnErr result (IsTrue (is_present value.entry)) }
@@ -136,13 +139,14 @@ pub struct MutTypedStatsSetRef<'a> {
 }
 
 impl StatsSet {
+    ghost use Rattle.vortex_stats.specs.MutTypedStats.{typed_stats};
+
     /// A view of the set under the type of its column, which the set fits, as `fits` tells, and keeps
     /// fitting at each write.
     pub fn as_mut_typed_ref(&mut self, dtype: &DType) -> MutTypedStatsSetRef<'_>
         requires { IsTrue (entries_fit self.old dtype.now) }
+        ensures typed { typed_stats result ≡ record { values = self.old; dtype = dtype.now } }
         ensures same_set { result.values.ghost_name ≡ self.entry.ghost_name }
-        ensures values { result.values.now ≡ self.old }
-        ensures dtype { result.dtype ≡ dtype.now }
     {
         MutTypedStatsSetRef {
             values: self,
@@ -153,16 +157,20 @@ impl StatsSet {
 
 #[tactic(auto, using(crate::proofs::Fitting::fitting))]
 impl<'a> MutTypedStatsSetRef<'a> {
+    ghost use Rattle.vortex_stats.specs.MutTypedStats.{typed_stats};
+
     /// The set.
     pub fn values(&self) -> &StatsSet
-        ensures { result.now ≡ self.now.values.now }
+        ensures values { result.now ≡ (typed_stats self.now).values }
+        ensures fits { AreFitting (typed_stats self.now) }
     {
         self.values
     }
 
     /// The type of the column.
     pub fn dtype(&self) -> &DType
-        ensures { result.now ≡ self.now.dtype }
+        ensures dtype { result.now ≡ (typed_stats self.now).dtype }
+        ensures fits { AreFitting (typed_stats self.now) }
     {
         &self.dtype
     }
@@ -170,11 +178,10 @@ impl<'a> MutTypedStatsSetRef<'a> {
     /// Sets the statistic's value, which fits, as `StatsSet::value_fits` tells: a present one keeps its
     /// place, a new one goes last. Where memory is refused, the set stays as it was.
     pub fn set(&mut self, stat: Stat, value: Precision<ScalarValue>) -> Result<(), AllocError>
-        requires { IsTrue (value_fits stat self.old.dtype value) }
-        ensures set { OnOk result (self.new.values.now ≡ with_entry stat value self.old.values.now) }
-        ensures refused { OnErr result (self.new.values.now ≡ self.old.values.now) }
-        ensures succeeds { IsTrue (has_entry stat self.old.values.now) → IsOk result }
-        ensures dtype { self.new.dtype ≡ self.old.dtype }
+        requires { IsTrue (value_fits stat (typed_stats self.old).dtype value) }
+        ensures set { OnOk result (typed_stats self.new ≡ with_value stat value (typed_stats self.old)) }
+        ensures refused { OnErr result (typed_stats self.new ≡ typed_stats self.old) }
+        ensures succeeds { IsTrue (has_entry stat (typed_stats self.old).values) → IsOk result }
         ensures same_set { self.new.values.ghost_name ≡ self.old.values.ghost_name }
     {
         self.values.set(stat, value)
@@ -182,8 +189,7 @@ impl<'a> MutTypedStatsSetRef<'a> {
 
     /// Removes the statistic's entry, if there is one. The others keep their order.
     pub fn clear(&mut self, stat: Stat)
-        ensures cleared { self.new.values.now ≡ without_entry stat self.old.values.now }
-        ensures dtype { self.new.dtype ≡ self.old.dtype }
+        ensures cleared { typed_stats self.new ≡ without_value stat (typed_stats self.old) }
         ensures same_set { self.new.values.ghost_name ≡ self.old.values.ghost_name }
     {
         self.values.clear(stat);
@@ -192,7 +198,7 @@ impl<'a> MutTypedStatsSetRef<'a> {
     /// The statistic's value, read under the statistic's type, and Absent where there is no entry.
     /// `Mismatch` if the value is no `T`; `Memory` if a clone is refused.
     pub fn get_as<T: FromScalar>(&self, stat: Stat) -> Result<Precision<T>, StatsError>
-        ensures { IsReadUnder T.can_read T.reads (stat_dtype stat self.now.dtype) (entry_value stat self.now.values.now) result }
+        ensures { IsReadUnder T.can_read T.reads (stat_dtype stat (typed_stats self.now).dtype) (entry_value stat (typed_stats self.now).values) result }
     {
         match stat.dtype(&self.dtype) {
             Some(expected) => reading::read_precision(self.values.find(stat), expected),
@@ -202,7 +208,9 @@ impl<'a> MutTypedStatsSetRef<'a> {
 }
 
 impl<'a> StatsProvider for MutTypedStatsSetRef<'a> {
-    ghost typed = { λ v. record { values = v.values.now; dtype = v.dtype } };
+    ghost use Rattle.vortex_stats.specs.MutTypedStats.{typed_stats};
+
+    ghost typed = { typed_stats };
 
     fn get(&self, stat: Stat) -> Result<Precision<Scalar>, AllocError> {
         get_typed(self.values, &self.dtype, stat)

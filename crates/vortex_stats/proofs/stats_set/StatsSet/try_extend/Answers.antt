@@ -12,5 +12,5 @@ loop-item-preserved g c =
 pub returns-clause-all : goal.returns-clause-all
 returns-clause-all g c =
     let from_items : Yields g.I.Iterator.next_gives c.args.items c.loop-item.yielded c.loop-item.item-iterator =
-        subst (λ s. Yields g.I.Iterator.next_gives s c.loop-item.yielded c.loop-item.item-iterator) c.into_iter-item-iterator.ensures.into_iter_gives c.loop-item.yielded_by in
+    subst (λ s. Yields g.I.Iterator.next_gives s c.loop-item.yielded c.loop-item.item-iterator) c.into_iter-item-iterator.ensures.into_iter_gives c.loop-item.yielded_by in
     (c.loop-item.yielded, (c.next.new.self, (c.loop-item.item-iterator, from_items, c.in-None.ensures.steps)), c.loop-item.invariant)
