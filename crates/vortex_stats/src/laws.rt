@@ -6,10 +6,10 @@ ghost use Rattle.std.specs.Prelude.{◌≡◌, ℕ, IsTrue, List};
 ghost use Rattle.std.specs.Ordering.{nat_cmp};
 ghost use Rattle.vortex_base.specs.declared.dtype.DType.{DType};
 ghost use Rattle.vortex_stats.specs.declared.stat.Stat.{Stat};
-ghost use Rattle.vortex_stats.specs.Stat.{stat_number, stat_eq, IsTold, IsColumnType, AgreesWithAggregate, stats_are_told, stats_agree};
+ghost use Rattle.vortex_stats.specs.Stat.{stat_number, stat_eq, pruning_stats, IsTold, IsColumnType, AgreesWithAggregate, stats_are_told, stats_agree};
 ghost use Rattle.vortex_stats.specs.Bitset.{IsBitsetOf, stats_in, distinct_ascending};
 
-use crate::stat::Stat;
+use crate::stat::{PRUNING_STATS, Stat};
 use std::hash::Hash;
 
 /// An intersection of present upper bounds allows exactly what both allow, its own value among it,
@@ -42,6 +42,12 @@ pub fn statistics_compare_by_number()
     ensures order { (a b : Stat) → ⟦<Stat as Ord>⟧.cmp a b ≡ nat_cmp (stat_number a) (stat_number b) }
     ensures equality { (a b : Stat) → ⟦<Stat as PartialEq>⟧.eq a b ≡ stat_eq a b }
 {}
+
+/// The statistics that pruning reads are Min, Max, Sum, NullCount and NaNCount.
+pub fn pruning_reads_these()
+    ensures { PRUNING_STATS.now ≡ pruning_stats }
+{
+}
 
 /// Equal statistics hash alike.
 pub fn equal_statistics_hash_alike()
