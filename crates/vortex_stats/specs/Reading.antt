@@ -5,6 +5,10 @@ use Rattle.vortex_base.specs.declared.scalar_value.ScalarValue.{ScalarValue}
 use Rattle.vortex_base.specs.Values.{is_value}
 use Rattle.vortex_stats.specs.declared.precision.Precision.{Precision}
 use Rattle.vortex_stats.specs.declared.precision.Precision.TheVariants.{Exact, Inexact, Absent}
+use Rattle.vortex_stats.specs.declared.stat.Stat.{Stat}
+use Rattle.vortex_stats.specs.Stat.{stat_dtype}
+use Rattle.vortex_stats.specs.Entries.{entry_value}
+use Rattle.vortex_stats.specs.TypedStats.{TypedStats}
 use Rattle.vortex_stats.specs.declared.error.StatsError.{StatsError}
 use Rattle.vortex_stats.specs.declared.error.StatsError.TheVariants.{Memory, Mismatch}
 
@@ -30,3 +34,7 @@ module _ {X : Type 0} (can_read : ScalarValue → Type 0) (reads : ScalarValue �
   abbrev pub IsReadUnder : Option DType → Precision ScalarValue → Result (Precision X) StatsError → Type 0
   IsReadUnder None p r = r ≡ Ok Absent
   IsReadUnder (Some t) p r = IsPreciselyReadAs t p r
+
+  -- the statistic's value, read under the statistic's type
+  abbrev pub IsReadFrom : Stat → TypedStats → Result (Precision X) StatsError → Type 0
+  IsReadFrom s v r = IsReadUnder (stat_dtype s v.dtype) (entry_value s v.values) r

@@ -13,6 +13,10 @@ use Rattle.vortex_stats.specs.declared.error.StatsError.TheVariants.{Memory, Mis
 abbrev pub scalar_of : ScalarValue → DType → Constant
 scalar_of v t = record { dtype = t; value = Some v }
 
+-- the scalar, or Mismatch where the value is none of the type
+abbrev pub checked_scalar : ScalarValue → DType → Result Constant StatsError
+checked_scalar v t = if is_value v t then Ok (scalar_of v t) else Err Mismatch
+
 -- the case around the scalar; Mismatch where the value is none of the type
 abbrev pub precise_scalar : Precision ScalarValue → DType → Result (Precision Constant) StatsError
 precise_scalar (Exact v) t = if is_value v t then Ok (Exact (scalar_of v t)) else Err Mismatch

@@ -1,7 +1,8 @@
 //! Sets of statistics as bytes.
 ghost use Rattle.std.specs.Prelude.{◌≡◌, ◌≤◌, IfOk};
 ghost use Rattle.vortex_stats.specs.Stat.{stat_number};
-ghost use Rattle.vortex_stats.specs.Bitset.{is_set, stats_in, IsBitsetOf, bit, is_listed, number_of, low_bits, high_bits};
+ghost use Rattle.vortex_stats.specs.Bitset.{is_set, stats_in, IsBitsetOf};
+ghost use Rattle.vortex_stats.specs.Bitset.{bit, is_listed, number_of, low_bits, high_bits};
 
 use crate::stat::Stat;
 use std::alloc::{AllocError, Global};

@@ -1,5 +1,5 @@
 //! Upper and lower bounds over values with a total order.
-ghost use Rattle.std.specs.Prelude.{◌≡◌, IfOk, IfErr};
+ghost use Rattle.std.specs.Prelude.{◌≡◌, IfOk, OnErr};
 ghost use Rattle.vortex_stats.specs.Precision.{is_exact, is_exactly, IsPresentAnd};
 ghost use Rattle.vortex_stats.specs.Bound.{ClonesEqual, IsOkOrElse, IsValueAnd};
 ghost use Rattle.vortex_stats.specs.UpperBound.{upper_compared};
@@ -41,7 +41,7 @@ impl<T: Clone> IntersectionResult<T> {
     pub fn try_clone(&self) -> Result<Self, AllocError>
         requires { ClonesEqual T.is_clone }
         ensures value { IfOk result (λ r. r ≡ self.now) }
-        ensures refused { IfErr result (λ _. IsValueAnd self.now (λ v. ¬ (T.is_infallible v))) }
+        ensures refused { OnErr result (IsValueAnd self.now (λ v. ¬ (T.is_infallible v))) }
     {
         match self {
             IntersectionResult::Value(v) => Ok(IntersectionResult::Value(v.clone()?)),
@@ -132,8 +132,8 @@ impl<T: Ord> UpperBound<T> {
         self.0.eq_value(value)
     }
 
-    /// The order of the bound's value and `value`. Of an inexact bound whose value is greater nothing
-    /// is known, and of an absent one never.
+    /// The order of the bound's value and `value`, where it is known. Of an inexact bound whose value
+    /// is greater it isn't, nor of an absent one.
     pub fn partial_cmp_value(&self, value: &T) -> Option<Ordering>
         ensures { result ≡ upper_compared T.cmp self.now value.now }
     {
@@ -153,7 +153,7 @@ impl<T: Clone> UpperBound<T> {
     pub fn try_clone(&self) -> Result<Self, AllocError>
         requires { ClonesEqual T.is_clone }
         ensures value { IfOk result (λ r. r ≡ self.now) }
-        ensures refused { IfErr result (λ _. IsPresentAnd self.now (λ v. ¬ (T.is_infallible v))) }
+        ensures refused { OnErr result (IsPresentAnd self.now (λ v. ¬ (T.is_infallible v))) }
     {
         Ok(UpperBound(self.0.as_ref().cloned()?))
     }
@@ -250,8 +250,8 @@ impl<T: Ord> LowerBound<T> {
         self.0.eq_value(value)
     }
 
-    /// The order of the bound's value and `value`. Of an inexact bound whose value is less nothing is
-    /// known, and of an absent one never.
+    /// The order of the bound's value and `value`, where it is known. Of an inexact bound whose value
+    /// is less it isn't, nor of an absent one.
     pub fn partial_cmp_value(&self, value: &T) -> Option<Ordering>
         ensures { result ≡ lower_compared T.cmp self.now value.now }
     {
@@ -271,7 +271,7 @@ impl<T: Clone> LowerBound<T> {
     pub fn try_clone(&self) -> Result<Self, AllocError>
         requires { ClonesEqual T.is_clone }
         ensures value { IfOk result (λ r. r ≡ self.now) }
-        ensures refused { IfErr result (λ _. IsPresentAnd self.now (λ v. ¬ (T.is_infallible v))) }
+        ensures refused { OnErr result (IsPresentAnd self.now (λ v. ¬ (T.is_infallible v))) }
     {
         Ok(LowerBound(self.0.as_ref().cloned()?))
     }

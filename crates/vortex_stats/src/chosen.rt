@@ -59,7 +59,8 @@ pub(crate) fn intersection_of_uppers<'a, T: Ord>(
     a: &'a Precision<T>,
     b: &'a Precision<T>,
 ) -> Option<IntersectionResult<Precision<&'a T>>>
-    ensures { option_map (intersection_map (precision_map (λ v. v.now))) result ≡ upper_intersection T.cmp a.now b.now }
+    ensures { option_map (intersection_map (precision_map (λ v. v.now))) result
+        ≡ upper_intersection T.cmp a.now b.now }
 {
     match (a, b) {
         (Precision::Exact(a), Precision::Exact(b)) => {
@@ -109,7 +110,8 @@ pub(crate) fn intersection_of_lowers<'a, T: Ord>(
     a: &'a Precision<T>,
     b: &'a Precision<T>,
 ) -> Option<IntersectionResult<Precision<&'a T>>>
-    ensures { option_map (intersection_map (precision_map (λ v. v.now))) result ≡ lower_intersection T.cmp a.now b.now }
+    ensures { option_map (intersection_map (precision_map (λ v. v.now))) result
+        ≡ lower_intersection T.cmp a.now b.now }
 {
     match (a, b) {
         (Precision::Exact(a), Precision::Exact(b)) => {
@@ -154,7 +156,8 @@ pub(crate) fn intersection_of_points<'a, T: Ord>(
     a: &'a Precision<T>,
     b: &'a Precision<T>,
 ) -> IntersectionResult<Precision<&'a T>>
-    ensures { Some (intersection_map (precision_map (λ v. v.now)) result) ≡ point_intersection T.cmp a.now b.now }
+    ensures { Some (intersection_map (precision_map (λ v. v.now)) result)
+        ≡ point_intersection T.cmp a.now b.now }
 {
     match (a, b) {
         (Precision::Exact(a), Precision::Exact(b)) => {

@@ -2,7 +2,8 @@
 ghost use Rattle.std.specs.Prelude.{◌≡◌, ◌<◌, Some, None, OnOk, OnErr, IsOk, IsTrue, length, slice_set};
 ghost use Rattle.std.specs.List.{position};
 ghost use Rattle.vortex_stats.specs.Precision.{precision_map};
-ghost use Rattle.vortex_stats.specs.Entries.{entry_value, with_entry, without_entry, retained_entries, has_entry, is_entry_of, is_kept};
+ghost use Rattle.vortex_stats.specs.Entries.{entry_value, with_entry, without_entry, retained_entries};
+ghost use Rattle.vortex_stats.specs.Entries.{has_entry, is_entry_of, is_kept};
 
 use crate::precision::Precision;
 use crate::stat::Stat;

@@ -6,7 +6,7 @@ ghost use Rattle.std.specs.Prelude.{◌≡◌, ℕ, IsTrue, List};
 ghost use Rattle.std.specs.Ordering.{nat_cmp};
 ghost use Rattle.vortex_base.specs.declared.dtype.DType.{DType};
 ghost use Rattle.vortex_stats.specs.declared.stat.Stat.{Stat};
-ghost use Rattle.vortex_stats.specs.Stat.{stat_number, stat_eq, pruning_stats, IsTold, IsColumnType, AgreesWithAggregate, stats_are_told, stats_agree};
+ghost use Rattle.vortex_stats.specs.Stat.{stat_number, stat_eq, pruning_stats, IsTold, IsColumnType, AgreesWithAggregate};
 ghost use Rattle.vortex_stats.specs.Bitset.{IsBitsetOf, stats_in, distinct_ascending};
 
 use crate::stat::{PRUNING_STATS, Stat};
@@ -46,16 +46,17 @@ pub fn statistics_compare_by_number()
 /// The statistics that pruning reads are Min, Max, Sum, NullCount and NaNCount.
 pub fn pruning_reads_these()
     ensures { PRUNING_STATS.now ≡ pruning_stats }
-{
-}
+{}
 
 /// Equal statistics hash alike.
 pub fn equal_statistics_hash_alike()
-    ensures { (a b : Stat) → IsTrue (stat_eq a b) → ⟦<Stat as Hash>⟧.hash_input a ≡ ⟦<Stat as Hash>⟧.hash_input b }
+    ensures { (a b : Stat) → IsTrue (stat_eq a b)
+        → ⟦<Stat as Hash>⟧.hash_input a ≡ ⟦<Stat as Hash>⟧.hash_input b }
 {}
 
 /// Bytes that hold a list of statistics are read back as those statistics, each once and ascending.
 #[tactic(auto, using(crate::specs::Bitset::stats_in_written))]
 pub fn bitsets_are_read_back()
-    ensures { (stats : List Stat) (bytes : List ℕ) → IsBitsetOf stats bytes → stats_in bytes ≡ distinct_ascending stats }
+    ensures { (stats : List Stat) (bytes : List ℕ) → IsBitsetOf stats bytes
+        → stats_in bytes ≡ distinct_ascending stats }
 {}

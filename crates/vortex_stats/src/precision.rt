@@ -1,10 +1,10 @@
 //! A value with a precision.
-ghost use Rattle.std.specs.Prelude.{◌≡◌, Ok, Err, IfOk, IfErr, if◌then◌else◌};
+ghost use Rattle.std.specs.Prelude.{◌≡◌, Ok, Err, IfOk, OnErr, if◌then◌else◌};
 ghost use Rattle.std.specs.Option.{option_map};
 ghost use Rattle.vortex_stats.specs.declared.precision.Precision.{Precision};
 ghost use Rattle.vortex_stats.specs.declared.error.StatsError.TheVariants.{Mismatch};
 ghost use Rattle.vortex_stats.specs.Bound.{ClonesEqual};
-ghost use Rattle.vortex_stats.specs.Scalars.{precise_scalar, scalar_of, IsAnswerOrMemory};
+ghost use Rattle.vortex_stats.specs.Scalars.{precise_scalar, checked_scalar, IsAnswerOrMemory};
 ghost use Rattle.vortex_base.specs.Values.{is_value};
 ghost use Rattle.vortex_stats.specs.Precision.{
   is_exact,
@@ -257,7 +257,7 @@ impl Precision<&ScalarValue> {
 
 /// The scalar of a value and its type.
 pub(crate) fn typed(value: ScalarValue, dtype: DType) -> Result<Scalar, StatsError>
-    ensures { result ≡ (if is_value value dtype then Ok (scalar_of value dtype) else Err Mismatch) }
+    ensures { result ≡ checked_scalar value dtype }
 {
     match Scalar::try_new(dtype, Some(value)) {
         Ok(scalar) => Ok(scalar),
@@ -267,7 +267,7 @@ pub(crate) fn typed(value: ScalarValue, dtype: DType) -> Result<Scalar, StatsErr
 
 /// The scalar of a clone of a value and its type.
 fn typed_clone(value: &ScalarValue, dtype: DType) -> Result<Scalar, StatsError>
-    ensures { IsAnswerOrMemory (if is_value value.now dtype then Ok (scalar_of value.now dtype) else Err Mismatch) result }
+    ensures { IsAnswerOrMemory (checked_scalar value.now dtype) result }
 {
     if !value.fits(&dtype) {
         return Err(StatsError::Mismatch);
@@ -280,7 +280,7 @@ impl<T: Clone> Precision<&T> {
     pub fn cloned(self) -> Result<Precision<T>, AllocError>
         requires { ClonesEqual T.is_clone }
         ensures value { IfOk result (λ p. p ≡ precision_map (λ v. v.now) self.entry) }
-        ensures refused { IfErr result (λ _. IsPresentAnd self.entry (λ v. ¬ (T.is_infallible v.now))) }
+        ensures refused { OnErr result (IsPresentAnd self.entry (λ v. ¬ (T.is_infallible v.now))) }
     {
         match self {
             Precision::Exact(v) => Ok(Precision::Exact(v.clone()?)),

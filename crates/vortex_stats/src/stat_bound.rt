@@ -1,10 +1,11 @@
 //! What a bound is, and which bound a statistic has.
-ghost use Rattle.std.specs.Prelude.{◌≡◌, IfOk, IfErr, Option};
+ghost use Rattle.std.specs.Prelude.{◌≡◌, IfOk, OnErr, Option};
 ghost use Rattle.std.specs.Option.{option_map, option_copied};
 ghost use Rattle.vortex_stats.specs.declared.precision.Precision.{Precision};
 ghost use Rattle.vortex_stats.specs.declared.bound.IntersectionResult.{IntersectionResult};
 ghost use Rattle.vortex_stats.specs.Precision.{exact_value};
-ghost use Rattle.vortex_stats.specs.Bound.{ClonesEqual, TiesAllowed, IsUnion, IsIntersection, intersection_map, HoldsFallible, IntersectionHoldsFallible};
+ghost use Rattle.vortex_stats.specs.Bound.{ClonesEqual, TiesAllowed, IsUnion, IsIntersection};
+ghost use Rattle.vortex_stats.specs.Bound.{intersection_map, HoldsFallible, IntersectionHoldsFallible};
 
 use crate::bound::IntersectionResult;
 use crate::chosen;
@@ -44,14 +45,18 @@ pub trait StatBound<T: Ord + Clone>: Sized + Drop {
     /// The bound on what either operand bounds. It clones at most one value.
     fn union(&self, other: &Self) -> Result<Option<Self>, AllocError>
         requires { ClonesEqual T.is_clone }
-        ensures value { IfOk result (λ r. option_map precision r ≡ union (precision self.now) (precision other.now)) }
-        ensures refused { IfErr result (λ _. HoldsFallible T.is_infallible (union (precision self.now) (precision other.now))) };
+        ensures value { IfOk result (λ r. option_map precision r
+            ≡ union (precision self.now) (precision other.now)) }
+        ensures refused { OnErr result (HoldsFallible T.is_infallible
+            (union (precision self.now) (precision other.now))) };
 
     /// The bound on what both operands bound. It clones at most one value.
     fn intersection(&self, other: &Self) -> Result<Option<IntersectionResult<Self>>, AllocError>
         requires { ClonesEqual T.is_clone }
-        ensures value { IfOk result (λ r. option_map (intersection_map precision) r ≡ intersection (precision self.now) (precision other.now)) }
-        ensures refused { IfErr result (λ _. IntersectionHoldsFallible T.is_infallible (intersection (precision self.now) (precision other.now))) };
+        ensures value { IfOk result (λ r. option_map (intersection_map precision) r
+            ≡ intersection (precision self.now) (precision other.now)) }
+        ensures refused { OnErr result (IntersectionHoldsFallible T.is_infallible
+            (intersection (precision self.now) (precision other.now))) };
 
     // An exact bound allows what compares equal to its value alone, an absent one everything.
     ghost allows_law: { TiesAllowed T.cmp allows };

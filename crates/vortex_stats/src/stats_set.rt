@@ -4,7 +4,9 @@ ghost use Rattle.std.specs.Iterator.{YieldsFirst, YieldsFirstRef, item_count, Is
 ghost use Rattle.vortex_stats.specs.declared.error.StatsError.TheVariants.{Memory};
 ghost use Rattle.vortex_stats.specs.Reading.{IsPreciselyReadAs};
 ghost use Rattle.vortex_stats.specs.Precision.{is_present, precision_map};
-ghost use Rattle.vortex_stats.specs.Entries.{entry_value, with_entry, without_entry, retained_entries, has_entry, is_value_of as value_is_of, value_fits, entries_fit, AreDistinct, SetsAll, SetsFirst};
+ghost use Rattle.vortex_stats.specs.Entries.{entry_value, with_entry, without_entry, retained_entries, has_entry};
+ghost use Rattle.vortex_stats.specs.Entries.{value_fits, entries_fit, AreDistinct, SetsAll, SetsFirst};
+ghost use Rattle.vortex_stats.specs.Entries.{is_value_of as value_is_of};
 
 pub use crate::entries::StatsArray;
 use crate::error::StatsError;

@@ -3,8 +3,7 @@ ghost use Rattle.std.specs.Prelude.{◌≡◌, IfOk, OnOk, OnErr, IsOk, IsTrue};
 ghost use Rattle.vortex_base.specs.Values.{is_value};
 ghost use Rattle.vortex_stats.specs.Precision.{is_present, precision_map, IfPresent};
 ghost use Rattle.vortex_stats.specs.Scalars.{scalar_of};
-ghost use Rattle.vortex_stats.specs.Stat.{stat_dtype};
-ghost use Rattle.vortex_stats.specs.Reading.{IsReadUnder};
+ghost use Rattle.vortex_stats.specs.Reading.{IsReadFrom};
 ghost use Rattle.vortex_stats.specs.Entries.{entry_value, entries_fit, value_fits, has_entry};
 ghost use Rattle.vortex_stats.specs.TypedStats.{typed_value, with_value, without_value, AreFitting};
 
@@ -71,7 +70,7 @@ impl<'a> TypedStatsSetRef<'a> {
     /// The statistic's value, read under the statistic's type, and Absent where there is no entry.
     /// `Mismatch` if the value is no `T`; `Memory` if a clone is refused.
     pub fn get_as<T: FromScalar>(&self, stat: Stat) -> Result<Precision<T>, StatsError>
-        ensures { IsReadUnder T.can_read T.reads (stat_dtype stat self.now.dtype) (entry_value stat self.now.values) result }
+        ensures { IsReadFrom T.can_read T.reads stat self.now result }
     {
         match stat.dtype(&self.dtype) {
             Some(expected) => reading::read_precision(self.values.find(stat), expected),
@@ -198,7 +197,7 @@ impl<'a> MutTypedStatsSetRef<'a> {
     /// The statistic's value, read under the statistic's type, and Absent where there is no entry.
     /// `Mismatch` if the value is no `T`; `Memory` if a clone is refused.
     pub fn get_as<T: FromScalar>(&self, stat: Stat) -> Result<Precision<T>, StatsError>
-        ensures { IsReadUnder T.can_read T.reads (stat_dtype stat (typed_stats self.now).dtype) (entry_value stat (typed_stats self.now).values) result }
+        ensures { IsReadFrom T.can_read T.reads stat (typed_stats self.now) result }
     {
         match stat.dtype(&self.dtype) {
             Some(expected) => reading::read_precision(self.values.find(stat), expected),

@@ -2,6 +2,7 @@ use crate::bound::{IntersectionResult, LowerBound, UpperBound};
 use crate::precision::Precision;
 use crate::stat_bound::StatBound;
 use std::alloc::{AllocError, Global};
+use std::cell::Cell;
 use std::cmp::Ordering;
 use std::test::Fail;
 use vortex_base::text::Text;
@@ -142,16 +143,92 @@ fn text(alloc: Global, text: &str) -> Result<Precision<Text>, AllocError> {
 
 #[test]
 fn texts(rt: HostRuntime) -> Result<(), Fail> {
+    let apple = text(rt.alloc(), "apple")?;
     let pear = text(rt.alloc(), "pear")?;
-    let apple = UpperBound::lift(text(rt.alloc(), "apple")?);
-    match apple.union(&UpperBound::lift(pear.as_ref().cloned()?))? {
-        Some(greater) => assert!(rt; greater.into_value() == pear),
-        None => assert!(rt; false),
+    let upper_apple = UpperBound::lift(apple.as_ref().cloned()?);
+    let upper_pear = UpperBound::lift(pear.as_ref().cloned()?);
+    assert!(rt; upper_apple.union(&upper_pear)? == Some(upper_pear.try_clone()?));
+    match upper_apple.intersection(&upper_pear)? {
+        Some(IntersectionResult::Value(lesser)) => assert!(rt; lesser == upper_apple),
+        _ => assert!(rt; false),
     }
-    match apple.intersection(&UpperBound::lift(pear))? {
+    let name = Text::new(String::from_str(rt.alloc(), "banana")?);
+    assert_eq!(rt; upper_apple.partial_cmp_value(&name), Some(Ordering::Less));
+    assert_eq!(rt; upper_pear.partial_cmp_value(&name), None);
+    assert!(rt; !upper_pear.eq_value(&name) && upper_pear.to_exact().is_none());
+
+    let lower_apple = LowerBound::lift(apple.as_ref().cloned()?);
+    let lower_pear = LowerBound::lift(pear.as_ref().cloned()?);
+    assert!(rt; lower_apple.union(&lower_pear)? == Some(lower_apple.try_clone()?));
+    match lower_apple.intersection(&lower_pear)? {
+        Some(IntersectionResult::Value(greater)) => assert!(rt; greater == lower_pear),
+        _ => assert!(rt; false),
+    }
+    assert_eq!(rt; lower_apple.partial_cmp_value(&name), None);
+    assert_eq!(rt;
+        lower_pear.partial_cmp_value(&name),
+        Some(Ordering::Greater)
+    );
+    assert!(rt; !lower_pear.eq_value(&name) && !lower_pear.is_exact());
+
+    assert!(rt; apple.union(&pear)? == Some(apple.as_ref().cloned()?));
+    match apple.intersection(&pear)? {
         Some(IntersectionResult::Value(lesser)) => assert!(rt; lesser == apple),
         _ => assert!(rt; false),
     }
+    let found = IntersectionResult::Value(name);
+    assert!(rt; found.try_clone()? == found);
+    assert!(rt; found.ok_or_else(|| 'e').is_ok());
+    Ok(())
+}
+
+/// A number that counts its clones.
+#[derive(Drop)]
+#[derive_where(PartialEq, Eq, PartialOrd, Ord)]
+struct Counted<'a> {
+    value: u32,
+    #[derive_where(skip)]
+    clones: &'a Cell<u32>,
+}
+
+impl<'a> Clone for Counted<'a> {
+    ghost use Rattle.std.specs.Prelude.{◌≡◌};
+
+    ghost is_clone = { λ x y. y ≡ x };
+
+    fn clone(&self) -> Result<Self, AllocError> {
+        self.clones.set(self.clones.get().saturating_add(1));
+        Ok(Counted {
+            value: self.value,
+            clones: self.clones,
+        })
+    }
+}
+
+/// A call clones the answer's value once, and nothing where there is no answer.
+#[test]
+fn counted_clones(rt: HostRuntime) -> Result<(), Fail> {
+    let clones = Cell::new(0);
+    let three = Precision::Exact(Counted {
+        value: 3,
+        clones: &clones,
+    });
+    let five = Precision::Exact(Counted {
+        value: 5,
+        clones: &clones,
+    });
+    assert!(rt; three.union(&five)?.is_some());
+    assert_eq!(rt; clones.get(), 1);
+    assert!(rt; three.intersection(&five)?.is_some());
+    assert_eq!(rt; clones.get(), 1);
+    let upper = UpperBound::lift(three);
+    let lower = LowerBound::lift(five);
+    assert!(rt; upper.union(&upper)?.is_some() && lower.union(&lower)?.is_some());
+    assert_eq!(rt; clones.get(), 3);
+    assert!(rt; upper.intersection(&upper)?.is_some() && lower.intersection(&lower)?.is_some());
+    assert_eq!(rt; clones.get(), 5);
+    assert!(rt; upper.union(&UpperBound::lift(Precision::Absent))?.is_none());
+    assert_eq!(rt; clones.get(), 5);
     Ok(())
 }
 

@@ -66,6 +66,42 @@ fn closures(rt: HostRuntime) {
 }
 
 #[test]
+fn names(rt: HostRuntime) -> Result<(), Fail> {
+    let name = Text::new(String::from_str(rt.alloc(), "a name")?);
+    let other = Text::new(String::from_str(rt.alloc(), "another name")?);
+    let exact: Precision<Text> = Precision::exact(name.try_clone()?);
+    assert!(rt; exact.eq_value(&name) && !exact.eq_value(&other) && exact.is_exact());
+    assert!(rt;
+        exact
+            .as_ref()
+            .cloned()?
+            .as_exact()
+            .is_some_and(|text| text == name)
+    );
+    assert_eq!(rt;
+        exact.as_ref().map(|text| text.as_str().len()),
+        Precision::Exact(6)
+    );
+    let first = exact
+        .as_ref()
+        .and_then(|text| text.as_str().as_bytes().first().copied());
+    assert_eq!(rt; first, Precision::Exact(b'a'));
+    let inexact: Precision<Text> = Precision::inexact(other);
+    assert!(rt; !inexact.is_absent() && inexact.as_ref().cloned()?.as_inexact().is_some());
+    let both = exact.as_ref().cloned()?.zip(inexact);
+    assert!(rt;
+        both.into_inexact()
+            .into_inner()
+            .is_some_and(|pair| pair.0 == name)
+    );
+    let tried: Precision<Result<Text, char>> = exact.map(Ok);
+    assert!(rt; tried.transpose().is_ok());
+    assert!(rt; Precision::Exact(name).bound::<Max>().is_some());
+    assert!(rt; Precision::<Text>::default().bound::<Min>().is_none());
+    Ok(())
+}
+
+#[test]
 fn bounds_of_statistics(rt: HostRuntime) {
     let [exact, inexact, absent] = CASES;
     let upper = exact.bound::<Max>().map(|b| b.into_value());
