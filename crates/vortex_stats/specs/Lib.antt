@@ -1,0 +1,14 @@
+pub mod Stat
+pub mod StatsError
+pub mod Precision
+pub mod Order
+pub mod Bound
+pub mod UpperBound
+pub mod LowerBound
+pub mod PointBound
+pub mod Scalars
+pub mod Bitset
+pub mod Entries
+pub mod TypedStats
+pub mod Reading
+pub mod MutTypedStats

@@ -1,0 +1,62 @@
+//! Laws of the definitions, as functions whose contracts state them.
+ghost use Rattle.vortex_stats.specs.Bound.{IsTightIntersection};
+ghost use Rattle.vortex_stats.specs.UpperBound.{upper_allows, upper_intersection};
+ghost use Rattle.vortex_stats.specs.LowerBound.{lower_allows, lower_intersection};
+ghost use Rattle.std.specs.Prelude.{◌≡◌, ℕ, IsTrue, List};
+ghost use Rattle.std.specs.Ordering.{nat_cmp};
+ghost use Rattle.vortex_base.specs.declared.dtype.DType.{DType};
+ghost use Rattle.vortex_stats.specs.declared.stat.Stat.{Stat};
+ghost use Rattle.vortex_stats.specs.Stat.{stat_number, stat_eq, pruning_stats, IsTold, IsColumnType, AgreesWithAggregate};
+ghost use Rattle.vortex_stats.specs.Bitset.{IsBitsetOf, stats_in, distinct_ascending};
+
+use crate::stat::{PRUNING_STATS, Stat};
+use std::hash::Hash;
+
+/// An intersection of present upper bounds allows exactly what both allow, its own value among it,
+/// and is Empty exactly where that is nothing.
+pub fn upper_intersection_is_tight<T: Ord>()
+    ensures { IsTightIntersection (upper_allows T.cmp) (upper_intersection T.cmp) }
+{}
+
+/// An intersection of present lower bounds allows exactly what both allow, its own value among it,
+/// and is Empty exactly where that is nothing.
+pub fn lower_intersection_is_tight<T: Ord>()
+    ensures { IsTightIntersection (lower_allows T.cmp) (lower_intersection T.cmp) }
+{}
+
+/// A statistic is told by its number, and by its aggregate where it has one.
+#[tactic(auto, using(crate::specs::Stat::stats_are_told))]
+pub fn statistics_are_told()
+    ensures { (s : Stat) → IsTold s }
+{}
+
+/// For every statistic with an aggregate and every column type, the statistic's type and the type of
+/// the aggregate's state are equal up to nullability, or there is neither.
+#[tactic(auto, using(crate::specs::Stat::stats_agree))]
+pub fn state_types_agree()
+    ensures { (s : Stat) (t : DType) → IsColumnType t → AgreesWithAggregate s t }
+{}
+
+/// Statistics are equal, and ordered, as their numbers are.
+pub fn statistics_compare_by_number()
+    ensures order { (a b : Stat) → ⟦<Stat as Ord>⟧.cmp a b ≡ nat_cmp (stat_number a) (stat_number b) }
+    ensures equality { (a b : Stat) → ⟦<Stat as PartialEq>⟧.eq a b ≡ stat_eq a b }
+{}
+
+/// The statistics that pruning reads are Min, Max, Sum, NullCount and NaNCount.
+pub fn pruning_reads_these()
+    ensures { PRUNING_STATS.now ≡ pruning_stats }
+{}
+
+/// Equal statistics hash alike.
+pub fn equal_statistics_hash_alike()
+    ensures { (a b : Stat) → IsTrue (stat_eq a b)
+        → ⟦<Stat as Hash>⟧.hash_input a ≡ ⟦<Stat as Hash>⟧.hash_input b }
+{}
+
+/// Bytes that hold a list of statistics are read back as those statistics, each once and ascending.
+#[tactic(auto, using(crate::specs::Bitset::stats_in_written))]
+pub fn bitsets_are_read_back()
+    ensures { (stats : List Stat) (bytes : List ℕ) → IsBitsetOf stats bytes
+        → stats_in bytes ≡ distinct_ascending stats }
+{}

@@ -1,0 +1,320 @@
+//! A value with a precision.
+ghost use Rattle.std.specs.Prelude.{◌≡◌, Ok, Err, IfOk, OnErr, if◌then◌else◌};
+ghost use Rattle.std.specs.Option.{option_map};
+ghost use Rattle.vortex_stats.specs.declared.precision.Precision.{Precision};
+ghost use Rattle.vortex_stats.specs.declared.error.StatsError.TheVariants.{Mismatch};
+ghost use Rattle.vortex_stats.specs.Bound.{ClonesEqual};
+ghost use Rattle.vortex_stats.specs.Scalars.{precise_scalar, checked_scalar, IsAnswerOrMemory};
+ghost use Rattle.vortex_base.specs.Values.{is_value};
+ghost use Rattle.vortex_stats.specs.Precision.{
+  is_exact,
+  is_absent,
+  is_exactly,
+  exact_value,
+  inexact_value,
+  present_value,
+  inexact_of,
+  precision_map,
+  precision_zip,
+  transposed,
+  present_only,
+  IsExactAnd,
+  IsInexactAnd,
+  IfPresent,
+  IsPresentAnd,
+  IsMapped,
+  IsMappedOrAbsent,
+};
+
+use crate::error::StatsError;
+use crate::stat_bound::{StatBound, StatType};
+use std::alloc::AllocError;
+use std::fmt;
+use vortex_base::dtype::DType;
+use vortex_base::scalar::Scalar;
+use vortex_base::scalar_value::ScalarValue;
+
+/// A statistic's value and how far it can be trusted.
+///
+/// An exact value is the statistic. An inexact one confines it, and how is for the statistic to say:
+/// of a maximum it is an upper bound, of a minimum a lower one. Of an absent one nothing is known.
+#[derive(Debug, Clone, Copy, PartialEq, Eq, Drop)]
+pub enum Precision<T> {
+    /// The statistic's value.
+    Exact(T),
+    /// A value that confines the statistic.
+    Inexact(T),
+    /// Nothing is known.
+    Absent,
+}
+
+impl<T> Default for Precision<T> {
+    ghost use Rattle.std.specs.Prelude.{◌≡◌};
+    ghost use Rattle.vortex_stats.specs.declared.precision.Precision.TheVariants.{Absent};
+
+    ghost is_default = { λ p. p ≡ Absent };
+
+    fn default() -> Self {
+        Precision::Absent
+    }
+}
+
+impl<T> Precision<T> {
+    /// An exact value.
+    pub fn exact<S: Into<T>>(value: S) -> Self
+        ensures { IsExactAnd result (S.converts value) }
+    {
+        Precision::Exact(value.into())
+    }
+
+    /// An inexact value.
+    pub fn inexact<S: Into<T>>(value: S) -> Self
+        ensures { IsInexactAnd result (S.converts value) }
+    {
+        Precision::Inexact(value.into())
+    }
+
+    /// The same case by reference.
+    pub fn as_ref(&self) -> Precision<&T>
+        ensures { precision_map (λ r. r.now) result ≡ self.now }
+    {
+        match self {
+            Precision::Exact(v) => Precision::Exact(v),
+            Precision::Inexact(v) => Precision::Inexact(v),
+            Precision::Absent => Precision::Absent,
+        }
+    }
+
+    /// The value, from here on inexact.
+    pub fn into_inexact(self) -> Self
+        ensures { result ≡ inexact_of self }
+    {
+        match self {
+            Precision::Exact(v) => Precision::Inexact(v),
+            other => other,
+        }
+    }
+
+    /// The value if it is exact.
+    pub fn as_exact(self) -> Option<T>
+    where
+        T: Drop,
+        ensures { result ≡ exact_value self }
+    {
+        match self {
+            Precision::Exact(v) => Some(v),
+            _ => None,
+        }
+    }
+
+    /// The value if it is inexact.
+    pub fn as_inexact(self) -> Option<T>
+    where
+        T: Drop,
+        ensures { result ≡ inexact_value self }
+    {
+        match self {
+            Precision::Inexact(v) => Some(v),
+            _ => None,
+        }
+    }
+
+    /// The value at either precision.
+    pub fn into_inner(self) -> Option<T>
+        ensures { result ≡ present_value self }
+    {
+        match self {
+            Precision::Exact(v) | Precision::Inexact(v) => Some(v),
+            Precision::Absent => None,
+        }
+    }
+
+    /// Whether the value is exact.
+    pub fn is_exact(&self) -> bool
+        ensures { result ≡ is_exact self.now }
+    {
+        matches!(self, Precision::Exact(_))
+    }
+
+    /// Whether nothing is known.
+    pub fn is_absent(&self) -> bool
+        ensures { result ≡ is_absent self.now }
+    {
+        matches!(self, Precision::Absent)
+    }
+
+    /// The same case around what `f` answers for the value.
+    pub fn map<U, F: FnOnce(T) -> U>(self, f: F) -> Precision<U>
+    where
+        F: Drop,
+        requires { IfPresent self (F.pre f) }
+        ensures { IsMapped (F.post f) self result }
+    {
+        match self {
+            Precision::Exact(v) => Precision::Exact(f(v)),
+            Precision::Inexact(v) => Precision::Inexact(f(v)),
+            Precision::Absent => Precision::Absent,
+        }
+    }
+
+    /// The same case around what `f` answers for the value, and Absent where it answers None.
+    pub fn and_then<U, F: FnOnce(T) -> Option<U>>(self, f: F) -> Precision<U>
+    where
+        F: Drop,
+        requires { IfPresent self (F.pre f) }
+        ensures { IsMappedOrAbsent (F.post f) self result }
+    {
+        match self {
+            Precision::Exact(v) => match f(v) {
+                Some(u) => Precision::Exact(u),
+                None => Precision::Absent,
+            },
+            Precision::Inexact(v) => match f(v) {
+                Some(u) => Precision::Inexact(u),
+                None => Precision::Absent,
+            },
+            Precision::Absent => Precision::Absent,
+        }
+    }
+
+    /// Both values: exact if both are, and Absent if either is.
+    pub fn zip<U>(self, other: Precision<U>) -> Precision<(T, U)>
+    where
+        T: Drop,
+        U: Drop,
+        ensures { result ≡ precision_zip self other }
+    {
+        match (self, other) {
+            (Precision::Exact(a), Precision::Exact(b)) => Precision::Exact((a, b)),
+            (
+                Precision::Exact(a) | Precision::Inexact(a),
+                Precision::Exact(b) | Precision::Inexact(b),
+            ) => Precision::Inexact((a, b)),
+            _ => Precision::Absent,
+        }
+    }
+
+    /// Whether this is an exact value that equals `value`. An inexact one never does.
+    pub fn eq_value(&self, value: &T) -> bool
+    where
+        T: PartialEq,
+        ensures { result ≡ is_exactly T.eq self.now value.now }
+    {
+        match self {
+            Precision::Exact(v) => *v == *value,
+            _ => false,
+        }
+    }
+}
+
+impl<T: Copy> Precision<T> {
+    /// A copy of the value, inexact.
+    pub fn to_inexact(&self) -> Self
+        ensures { result ≡ inexact_of self.now }
+    {
+        self.into_inexact()
+    }
+}
+
+impl<T: Ord + Clone> Precision<T> {
+    /// The bound of the statistic `S` with this value, and None where nothing is known.
+    pub fn bound<S: StatType<T>>(self) -> Option<S::Bound>
+        ensures { option_map S.Bound.precision result ≡ present_only self }
+    {
+        if self.is_absent() {
+            return None;
+        }
+        Some(<S::Bound as StatBound<T>>::lift(self))
+    }
+}
+
+impl Precision<ScalarValue> {
+    /// The same case around the scalar of this type. `Mismatch` if the value is none of the type.
+    pub fn into_scalar(self, dtype: DType) -> Result<Precision<Scalar>, StatsError>
+        ensures { result ≡ precise_scalar self dtype }
+    {
+        match self {
+            Precision::Exact(v) => Ok(Precision::Exact(typed(v, dtype)?)),
+            Precision::Inexact(v) => Ok(Precision::Inexact(typed(v, dtype)?)),
+            Precision::Absent => Ok(Precision::Absent),
+        }
+    }
+}
+
+impl Precision<&ScalarValue> {
+    /// The same case around the scalar of this type and a clone of the value. `Mismatch` if the value
+    /// is none of the type, which is found before anything is cloned; `Memory` if the clone is refused.
+    pub fn into_scalar(self, dtype: DType) -> Result<Precision<Scalar>, StatsError>
+        ensures { IsAnswerOrMemory (precise_scalar (precision_map (λ v. v.now) self.entry) dtype) result }
+    {
+        match self {
+            Precision::Exact(v) => Ok(Precision::Exact(typed_clone(v, dtype)?)),
+            Precision::Inexact(v) => Ok(Precision::Inexact(typed_clone(v, dtype)?)),
+            Precision::Absent => Ok(Precision::Absent),
+        }
+    }
+}
+
+/// The scalar of a value and its type.
+pub(crate) fn typed(value: ScalarValue, dtype: DType) -> Result<Scalar, StatsError>
+    ensures { result ≡ checked_scalar value dtype }
+{
+    match Scalar::try_new(dtype, Some(value)) {
+        Ok(scalar) => Ok(scalar),
+        Err(_) => Err(StatsError::Mismatch),
+    }
+}
+
+/// The scalar of a clone of a value and its type.
+fn typed_clone(value: &ScalarValue, dtype: DType) -> Result<Scalar, StatsError>
+    ensures { IsAnswerOrMemory (checked_scalar value.now dtype) result }
+{
+    if !value.fits(&dtype) {
+        return Err(StatsError::Mismatch);
+    }
+    typed(value.try_clone()?, dtype)
+}
+
+impl<T: Clone> Precision<&T> {
+    /// The same case around a clone of the value.
+    pub fn cloned(self) -> Result<Precision<T>, AllocError>
+        requires { ClonesEqual T.is_clone }
+        ensures value { IfOk result (λ p. p ≡ precision_map (λ v. v.now) self.entry) }
+        ensures refused { OnErr result (IsPresentAnd self.entry (λ v. ¬ (T.is_infallible v.now))) }
+    {
+        match self {
+            Precision::Exact(v) => Ok(Precision::Exact(v.clone()?)),
+            Precision::Inexact(v) => Ok(Precision::Inexact(v.clone()?)),
+            Precision::Absent => Ok(Precision::Absent),
+        }
+    }
+}
+
+impl<T, E> Precision<Result<T, E>> {
+    /// The error that a present case holds, else the case around the value.
+    pub fn transpose(self) -> Result<Precision<T>, E>
+        ensures { result ≡ transposed self }
+    {
+        match self {
+            Precision::Exact(Ok(v)) => Ok(Precision::Exact(v)),
+            Precision::Inexact(Ok(v)) => Ok(Precision::Inexact(v)),
+            Precision::Exact(Err(e)) | Precision::Inexact(Err(e)) => Err(e),
+            Precision::Absent => Ok(Precision::Absent),
+        }
+    }
+}
+
+/// `v` for an exact value, `~v` for an inexact one, `{empty}` for none.
+impl<T: fmt::Display> fmt::Display for Precision<T> {
+    ghost use Rattle.vortex_stats.specs.Precision.{precision_text};
+
+    ghost output = { precision_text T.output };
+
+    fn fmt<W: fmt::Write>(&self, f: &mut fmt::Formatter<W>) -> fmt::Result {
+        match self {
+            Precision::Exact(v) => write!(f, "{v}"),
+            Precision::Inexact(v) => write!(f, "~{v}"),
+            Precision::Absent => write!(f, "{{empty}}"),
+        }
+    }
+}

@@ -1,0 +1,11 @@
+//! Worked rows: values that were written down before the code, over numbers, texts and a type whose
+//! clone refuses; and callers that are proved from the contracts alone.
+
+mod bitsets;
+mod bounds;
+mod callers;
+mod precisions;
+mod refused;
+mod sets;
+mod stats;
+mod views;
