@@ -1,0 +1,4 @@
+pub mod Part
+pub mod Precision
+pub mod Proof
+pub mod Scanning

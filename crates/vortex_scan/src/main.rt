@@ -1,0 +1,10 @@
+// Reads parts of a column and a predicate, and prints which parts were skipped and which rows were selected.
+#![tactic(auto)]
+
+mod bind;
+mod part;
+mod precision;
+mod proof;
+mod scan;
+
+fn main() {}
