@@ -1,1 +1,5 @@
+pub mod FirstLine
+pub mod FirstWord
+pub mod LastPart
 pub mod Lossless
+pub mod Numbers

@@ -2,9 +2,12 @@
 #![tactic(auto)]
 
 mod bind;
+mod draft;
+mod lines;
 mod part;
 mod precision;
 mod proof;
 mod scan;
+mod words;
 
 fn main() {}
