@@ -14,13 +14,3 @@ with_last_is change (x ∷ y ∷ xs) (suc last) d long = ap (option_map (λ ys. 
 pub last_changed : (change : Part → Part) (parts : List Part) (last : ℕ) (was now new : Part) → length parts ≡ suc last → now ≡ get_or parts last now → was ≡ now → new ≡ change was → with_last change parts ≡ Some (set parts last new)
 last_changed change parts last was now new long is same e =
     with_last_is change parts last now long ∙ ap (λ p. Some (set parts last p)) (sym (e ∙ ap change (same ∙ is)))
-
--- a `stat` line has four words more
-pub read_stat_none : (r : Reading) (words : List (List ℕ)) → length words ≢ 4 → read_stat r words ≡ None
-unfolding read_stat
-read_stat_none r [] h = refl
-read_stat_none r (a ∷ []) h = refl
-read_stat_none r (a ∷ b ∷ []) h = refl
-read_stat_none r (a ∷ b ∷ c ∷ []) h = refl
-read_stat_none r (a ∷ b ∷ c ∷ d ∷ []) h = absurd (h refl)
-read_stat_none r (a ∷ b ∷ c ∷ d ∷ e ∷ words) h = refl

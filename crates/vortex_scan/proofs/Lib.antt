@@ -2,4 +2,6 @@ pub mod FirstLine
 pub mod FirstWord
 pub mod LastPart
 pub mod Lossless
+pub mod NamedLines
 pub mod Numbers
+pub mod Refusals

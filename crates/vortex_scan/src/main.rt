@@ -4,10 +4,21 @@
 mod bind;
 mod draft;
 mod lines;
+mod naming;
 mod part;
 mod precision;
+mod printing;
+mod program;
 mod proof;
 mod scan;
+mod streams;
 mod words;
 
-fn main() {}
+use std::io;
+use std::process::ExitCode;
+
+fn main(rt: HostRuntime) -> ExitCode {
+    let mut reader = rt.reader();
+    let mut writer = io::writer(&rt);
+    ExitCode::from(program::run(rt.alloc(), &mut reader, &mut writer))
+}
