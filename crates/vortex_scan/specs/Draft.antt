@@ -98,8 +98,8 @@ read_row r _ = None
 unfoldable pub read_where : Reading → List (List ℕ) → Option Reading
 read_where r (gt ∷ col ∷ name ∷ lit ∷ i64 ∷ value ∷ []) =
     if (bytes_eq gt (codes "gt") && bytes_eq col (codes "col") && bytes_eq lit (codes "lit") && bytes_eq i64 (codes "i64")) && is_column r.column name then (do
-  literal ← number_of value
-  Some (record r { literal = Some literal })) else None
+      literal ← number_of value
+      Some (record r { literal = Some literal })) else None
 read_where r _ = None
 
 -- the words of one line. A line without words says nothing, and after `where` no line may have words.
