@@ -1,3 +1,4 @@
+pub mod Checks
 pub mod FirstLine
 pub mod FirstWord
 pub mod LastPart

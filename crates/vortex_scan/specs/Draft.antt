@@ -1,6 +1,6 @@
 -- What the lines of an input say, line by line.
 use Rattle.std.specs.Prelude.{◌≡◌, ℕ, ℤ, Bool, true, false, ◌&&◌, List, [], ◌∷◌, ◌++◌, Option, None, Some, Result, Ok, Err, option_and_then, option_map, is_some, codes, if◌then◌else◌, ⊤}
-use Rattle.std.specs.Str.{bytes_eq}
+use Rattle.std.specs.Str.{bytes_eq, is_utf8}
 use Rattle.vortex_scan.specs.declared.draft.LineError.{LineError}
 use Rattle.vortex_scan.specs.declared.draft.LineError.TheVariants as errors
 use Rattle.vortex_scan.specs.declared.draft.Bound.{Bound}
@@ -8,7 +8,7 @@ use Rattle.vortex_scan.specs.declared.draft.Bound.TheVariants.{Min, Max}
 use Rattle.vortex_scan.specs.declared.precision.Precision.{Precision}
 use Rattle.vortex_scan.specs.declared.precision.Precision.TheVariants.{Exact, Inexact, Absent}
 use Rattle.vortex_scan.specs.Part.{Part}
-use Rattle.vortex_scan.specs.Words.{is_name, is_utf8, number_of, words}
+use Rattle.vortex_scan.specs.Words.{is_name, number_of, words}
 
 -- what the lines so far say: the column's name and whether its values may be null, the parts, and the predicate's literal
 pub record Reading : Type 0 where

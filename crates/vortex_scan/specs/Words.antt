@@ -3,16 +3,11 @@ use Rattle.std.specs.Prelude.{ℕ, ℤ, pos, neg_ℤ, ◌^◌, Bool, ◌&&◌, �
 use Rattle.std.specs.Char.{is_ascii_alphabetic, is_ascii_alphanumeric}
 use Rattle.std.specs.List.{list_all, slice_split}
 use Rattle.std.specs.Str.{all_ascii_digits}
-use Rattle.std.specs.Str.Lossy.{utf8_valid_len}
 use Rattle.std.specs.Str.Parse.{digits_value}
 
 -- the words of a line: what stands between its spaces
 abbrev pub words : List ℕ → List (List ℕ)
 words line = filter (λ word. not (length word == 0)) (slice_split (λ b. b == 32) line)
-
--- the whole line is UTF-8
-abbrev pub is_utf8 : List ℕ → Bool
-is_utf8 line = utf8_valid_len line == length line
 
 -- one decimal digit or more
 abbrev pub is_numeral : List ℕ → Bool
