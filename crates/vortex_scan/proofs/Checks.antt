@@ -1,5 +1,5 @@
 -- Worked rows: what the definitions give at known inputs, computed.
-use Rattle.std.proofs.Common.{◌≡◌, ℕ, ℤ, true, pos, negsuc, List, [], ◌∷◌, ◌++◌, None, Some, Ok, Err, codes, refl}
+use Rattle.std.proofs.Common.{◌≡◌, ℕ, true, pos, negsuc, List, [], ◌∷◌, ◌++◌, None, Some, Ok, Err, codes, refl}
 use Rattle.std.specs.Str.{chars, is_utf8}
 use Rattle.std.specs.Str.Lines.{lines}
 use Rattle.std.specs.Fmt.{digits}
@@ -7,7 +7,6 @@ use Rattle.vortex_scan.specs.declared.precision.Precision.TheVariants.{Exact, In
 use Rattle.vortex_scan.specs.Draft.{read_column, read_part, read_row, read_stat, read_where}
 use Rattle.vortex_scan.specs.Naming.{named}
 use Rattle.vortex_scan.specs.Part.{Part}
-use Rattle.vortex_scan.specs.Printing.{bad_text, scan_text}
 use Rattle.vortex_scan.specs.Program.{reply_to}
 use Rattle.vortex_scan.specs.Scanning.{full, selected_rows, skipped_parts}
 use Rattle.vortex_scan.specs.Words.{is_name, number_of, words}

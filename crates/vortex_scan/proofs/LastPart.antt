@@ -1,6 +1,6 @@
 -- The last part, changed.
-use Rattle.std.proofs.Common.{◌≡◌, ◌≢◌, ℕ, zero, suc, List, [], ◌∷◌, None, Some, option_map, length, get_or, set, refl, sym, ap, ◌∙◌, arith}
-use Rattle.vortex_scan.specs.Draft.{Reading, read_stat, with_last}
+use Rattle.std.proofs.Common.{◌≡◌, ℕ, zero, suc, List, [], ◌∷◌, Some, option_map, length, get_or, set, refl, sym, ap, ◌∙◌, arith}
+use Rattle.vortex_scan.specs.Draft.{with_last}
 use Rattle.vortex_scan.specs.Part.{Part}
 
 pub with_last_is : {X : Type 0} (change : X → X) (xs : List X) (last : ℕ) (d : X) → length xs ≡ suc last → with_last change xs ≡ Some (set xs last (change (get_or xs last d)))

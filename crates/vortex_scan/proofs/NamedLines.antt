@@ -1,5 +1,5 @@
 -- What a text names, in terms of its lines.
-use Rattle.std.proofs.Common.{◌≡◌, ◌+◌, ℕ, ℤ, zero, suc, List, [], ◌∷◌, ◌++◌, Option, None, Some, Result, Ok, Err, length, refl, sym, ap, ◌∙◌, ◌⊎◌, inl, inr, arith}
+use Rattle.std.proofs.Common.{◌≡◌, ◌+◌, ℕ, ℤ, List, [], ◌∷◌, ◌++◌, Option, None, Some, Result, Ok, Err, length, refl, sym, ap, ◌∙◌, ◌⊎◌, inl, inr, arith}
 use Rattle.std.specs.Str.Lines.{lines}
 use Rattle.vortex_scan.specs.Draft.{Reading, nothing_read, read_line}
 use Rattle.vortex_scan.specs.Naming.{finish, go_on, named, named_from, IsFirstBad, NamesScan, Reads, StopsAt}

@@ -1,5 +1,5 @@
 -- A run that ends without an answer.
-use Rattle.std.proofs.Common.{◌≡◌, ◌<◌, ℕ, List, Option, None, Some, IfSome, length, inl, inr}
+use Rattle.std.proofs.Common.{◌<◌, ℕ, List, Option, None, Some, IfSome, length, inl}
 use Rattle.vortex_scan.specs.declared.streams.TheConstants.{INPUT_LIMIT}
 use Rattle.vortex_scan.specs.Program.{IsReason, Stops}
 use Rattle.vortex_scan.specs.Streams.{AppendsFront}
