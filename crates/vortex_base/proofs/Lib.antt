@@ -1,0 +1,6 @@
+pub mod MapLemmas
+pub mod OrderLemmas
+pub mod RowLemmas
+pub mod ScopeLemmas
+mod LikeStops
+mod PlacedTypes

@@ -1,0 +1,18 @@
+-- What a call that takes memory answers.
+use Rattle.std.specs.Prelude.{◌≡◌, Result, Ok, Err, MatchResult, alloc_error}
+use Rattle.vortex_base.specs.declared.error.BaseError.{BaseError}
+use Rattle.vortex_base.specs.declared.error.BaseError.TheVariants.{Memory}
+
+-- this value, unless memory was refused
+abbrev pub Makes : {B : Type 0} → B → Result B BaseError → Type 0
+Makes v r = MatchResult r (λ w. w ≡ v) (λ f. f ≡ Memory alloc_error)
+
+-- the check's fault, or else this value, unless memory was refused
+abbrev pub Answers : {A B : Type 0} → Result A BaseError → B → Result B BaseError → Type 0
+Answers (Err f) v r = r ≡ Err f
+Answers (Ok a) v r = Makes v r
+
+-- the fault that is to be given, or else the value, unless memory was refused
+abbrev pub Gives : {B : Type 0} → Result B BaseError → Result B BaseError → Type 0
+Gives (Err f) r = r ≡ Err f
+Gives (Ok v) r = Makes v r

@@ -1,0 +1,112 @@
+//! Byte strings, seen as the list of their bytes.
+ghost use Rattle.std.specs.Prelude.{◌≡◌, ◌==◌, IfOk};
+ghost use Rattle.std.specs.Ordering.{nat_cmp, as_partial_cmp};
+ghost use Rattle.std.specs.Cmp.Lexicographic.{slice_cmp};
+ghost use Rattle.std.specs.Cmp.Rules.{comparing};
+ghost use Rattle.std.specs.Cmp.{partial_order_from_own_ties};
+ghost use Rattle.std.proofs.Common.{rules};
+ghost use lib.Pointwise.{pointwise};
+
+use std::alloc::AllocError;
+use std::cmp::Ordering;
+use std::marker::Model;
+
+/// A string of bytes of any kind, ordered byte by byte.
+#[derive(Drop, Debug)]
+pub struct Bytes {
+    bytes: Vec<u8>,
+}
+
+impl Model for Bytes {
+    ghost use Rattle.std.specs.Prelude.{ℕ, List};
+
+    ghost Value = { List ℕ };
+
+    ghost view = { λ b. b.bytes.items };
+}
+
+impl Bytes {
+    pub fn new(bytes: Vec<u8>) -> Bytes
+        ensures { result ≡ bytes.items }
+    {
+        Bytes { bytes }
+    }
+
+    /// The bytes themselves.
+    pub fn as_slice(&self) -> &[u8]
+        ensures { result.now ≡ self.now }
+    {
+        self.bytes.as_slice()
+    }
+
+    /// A copy, by the bytes' allocator.
+    pub fn try_clone(&self) -> Result<Bytes, AllocError>
+        ensures { IfOk result (λ b. b ≡ self.now) }
+    {
+        Ok(Bytes {
+            bytes: self.bytes.clone()?,
+        })
+    }
+}
+
+impl Clone for Bytes {
+    ghost is_clone = { λ s t. t ≡ s };
+
+    fn clone(&self) -> Result<Bytes, AllocError> {
+        self.try_clone()
+    }
+}
+
+impl PartialEq for Bytes {
+    ghost eq = { pointwise ◌==◌ };
+
+    ghost laws = { Prim.search (comparing, rules) };
+
+    fn eq(&self, other: &Bytes) -> bool {
+        self.as_slice() == other.as_slice()
+    }
+}
+
+impl Eq for Bytes {
+    ghost laws = { Prim.search (comparing, rules) };
+}
+
+impl Ord for Bytes {
+    ghost cmp = { slice_cmp nat_cmp };
+
+    ghost total = { Prim.search (comparing, rules) };
+
+    ghost matches_partial_cmp = { Prim.search (comparing, rules) };
+
+    ghost matches_eq = { Prim.search (comparing, rules) };
+
+    fn cmp(&self, other: &Bytes) -> Ordering {
+        self.as_slice().cmp(other.as_slice())
+    }
+}
+
+impl PartialOrd for Bytes {
+    ghost partial_cmp = { as_partial_cmp (slice_cmp nat_cmp) };
+
+    ghost laws = { partial_order_from_own_ties (Prim.search (comparing, rules)) (Prim.search (comparing, rules)) };
+
+    fn partial_cmp(&self, other: &Bytes) -> Option<Ordering> {
+        Some(self.cmp(other))
+    }
+}
+
+#[cfg(test)]
+mod tests {
+    use super::*;
+    use crate::laws;
+    use std::test::Fail;
+
+    #[test]
+    fn lend_what_they_were_made_of(rt: HostRuntime) -> Result<(), Fail> {
+        let bytes = Bytes::new(Vec::from_slice(rt.alloc(), &[0, 255])?);
+        assert_eq!(rt; bytes.as_slice(), [0, 255].as_slice());
+        assert_eq!(rt; bytes.try_clone()?.as_slice(), [0, 255].as_slice());
+        assert_eq!(rt; laws::clone_of_bytes(&bytes)?, bytes);
+        Ok(())
+    }
+}

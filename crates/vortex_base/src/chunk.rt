@@ -1,0 +1,193 @@
+//! Columns of one length under a scope.
+ghost use Rattle.std.specs.Prelude.{◌≡◌, ◌<◌, IsTrue, length, slice_get, Some};
+ghost use Rattle.std.specs.Bool.{OnTrue};
+ghost use Rattle.std.specs.List.{list_all};
+ghost use Rattle.vortex_base.specs.Columns as spec;
+
+use crate::column::Column;
+use crate::error::BaseError;
+use crate::row::Row;
+use crate::scope::Scope;
+use std::marker::Model;
+
+/// The columns of a scope, in its order and all of one length.
+#[derive(Debug, Drop)]
+pub struct Chunk {
+    scope: Scope,
+    columns: Vec<Column>,
+    rows: usize,
+}
+
+impl Model for Chunk {
+    ghost use Rattle.std.specs.Prelude.{◌≡◌};
+    ghost use Rattle.vortex_base.specs.Columns.{ChunkData, row_count, IsChunk};
+
+    ghost Value = { ChunkData };
+
+    ghost view = { λ a. record { scope = a.scope; columns = a.columns.items } };
+
+    ghost invariant = { λ a. (a.rows ≡ row_count a.columns.items) × IsChunk (record { scope = a.scope; columns = a.columns.items }) };
+}
+
+fn row_count(columns: &[Column]) -> usize
+    ensures { result ≡ spec.row_count columns.now }
+{
+    match columns.first() {
+        None => 0,
+        Some(column) => column.len(),
+    }
+}
+
+fn all_long(rows: usize, columns: &[Column]) -> bool
+    ensures value { result ≡ spec.all_long rows columns.now }
+    ensures are_columns { OnTrue result (IsTrue (list_all spec.is_column columns.now)) }
+{
+    for column in columns {
+        if column.len() != rows {
+            return false;
+        }
+    }
+    true
+}
+
+impl Chunk {
+    /// The chunk of a scope and its columns. `RowShape` if the number of columns is not the scope's or their lengths differ, and
+    /// else `Mismatch` if a column's type is not the scope's.
+    pub fn try_new(scope: Scope, columns: Vec<Column>) -> Result<Chunk, BaseError>
+        ensures { result ≡ spec.chunk_of scope columns.items }
+    {
+        let rows = row_count(&columns);
+        if scope.len() != columns.len() || !all_long(rows, &columns) {
+            return Err(BaseError::RowShape);
+        }
+        if !scope.has_types(&columns) {
+            return Err(BaseError::Mismatch);
+        }
+        Ok(Chunk {
+            scope,
+            columns,
+            rows,
+        })
+    }
+
+    pub fn scope(&self) -> &Scope
+        ensures value { result.now ≡ self.now.scope }
+        ensures is_chunk { spec.IsChunk self.now }
+    {
+        &self.scope
+    }
+
+    /// The number of rows.
+    pub fn rows(&self) -> usize
+        ensures value { result ≡ spec.row_count self.now.columns }
+        ensures is_chunk { spec.IsChunk self.now }
+    {
+        self.rows
+    }
+
+    /// The column at a place, which the length of `scope` tells to be in range.
+    pub fn column(&self, i: usize) -> &Column
+        requires { i < length self.now.scope }
+        ensures { slice_get self.now.columns i ≡ Some result.now }
+    {
+        &self.columns[i]
+    }
+
+    /// The row at a place, which `rows` tells to be in range.
+    pub fn row(&self, i: usize) -> Row<'_>
+        requires { i < spec.row_count self.now.columns }
+        ensures value { result ≡ spec.row_of i self.entry.now.columns }
+        ensures is_row { spec.IsRow result }
+    {
+        Row::of_columns(&self.columns, i)
+    }
+}
+
+#[cfg(test)]
+mod tests {
+    use super::*;
+    use crate::dtype::DType;
+    use crate::nullability::Nullability;
+    use crate::ptype::PType;
+    use crate::scalar_value::ScalarValue;
+    use std::alloc::Global;
+    use std::test::Fail;
+
+    const NUMBER: DType = DType::Primitive(PType::I64, Nullability::Nullable);
+
+    const TRUTH: DType = DType::Bool(Nullability::NonNullable);
+
+    fn scope(alloc: Global) -> Result<Scope, BaseError> {
+        let mut columns = Vec::new(alloc);
+        columns.push((String::from_str(alloc, "a")?, NUMBER))?;
+        columns.push((String::from_str(alloc, "t")?, TRUTH))?;
+        Scope::try_new(columns)
+    }
+
+    fn numbers(alloc: Global) -> Result<Column, BaseError> {
+        let values = vec![in alloc; Some(ScalarValue::from(7i64)), None]?;
+        Column::try_new(NUMBER, values, 16)
+    }
+
+    fn truths(alloc: Global, count: usize) -> Result<Column, BaseError> {
+        let mut values = Vec::new(alloc);
+        for _ in 0..count {
+            values.push(Some(ScalarValue::from(true)))?;
+        }
+        Column::try_new(TRUTH, values, 1)
+    }
+
+    #[test]
+    fn lend_columns_and_rows(rt: HostRuntime) -> Result<(), Fail> {
+        let alloc = rt.alloc();
+        let columns = vec![in alloc; numbers(alloc)?, truths(alloc, 2)?]?;
+        let chunk = Chunk::try_new(scope(alloc)?, columns)?;
+        assert_eq!(rt; chunk.rows(), 2);
+        assert!(rt; *chunk.scope() == scope(alloc)?);
+        let column = chunk.column(0);
+        assert_eq!(rt; column.dtype(), NUMBER);
+        assert_eq!(rt; column.size(), 16);
+        assert_eq!(rt; column.len(), 2);
+        assert!(rt; column.get(0) == Some(&ScalarValue::from(7i64)));
+        assert!(rt; column.get(1).is_none());
+        let row = chunk.row(1);
+        assert_eq!(rt; row.len(), 2);
+        assert_eq!(rt; row.dtype(0), Some(NUMBER));
+        assert!(rt; row.value(0).is_none());
+        assert!(rt; row.value(1) == Some(&ScalarValue::from(true)));
+        assert_eq!(rt; row.dtype(2), None);
+        assert!(rt; row.value(2).is_none());
+        Ok(())
+    }
+
+    #[test]
+    fn are_refused_for_their_shape_first(rt: HostRuntime) -> Result<(), Fail> {
+        let alloc = rt.alloc();
+        let one = Chunk::try_new(scope(alloc)?, vec![in alloc; numbers(alloc)?]?);
+        assert!(rt; matches!(one, Err(BaseError::RowShape)));
+        let unequal = vec![in alloc; numbers(alloc)?, truths(alloc, 3)?]?;
+        assert!(rt;
+            matches!(
+                Chunk::try_new(scope(alloc)?, unequal),
+                Err(BaseError::RowShape)
+            )
+        );
+        let turned_and_unequal = vec![in alloc; truths(alloc, 3)?, numbers(alloc)?]?;
+        assert!(rt;
+            matches!(
+                Chunk::try_new(scope(alloc)?, turned_and_unequal),
+                Err(BaseError::RowShape)
+            )
+        );
+        let turned = vec![in alloc; truths(alloc, 2)?, numbers(alloc)?]?;
+        assert!(rt;
+            matches!(
+                Chunk::try_new(scope(alloc)?, turned),
+                Err(BaseError::Mismatch)
+            )
+        );
+        let null = vec![in alloc; Some(ScalarValue::from(true)), None]?;
+        assert!(rt; matches!(Column::try_new(TRUTH, null, 1), Err(BaseError::Mismatch)));
+        Ok(())
+    }
+}

@@ -1,0 +1,96 @@
+//! The values of a column.
+ghost use Rattle.std.specs.Prelude.{◌≡◌, ◌<◌, length, slice_get, Some, option_copied};
+ghost use Rattle.vortex_base.specs.Columns.{all_fit, column_of, value_at, IsColumn};
+
+use crate::dtype::DType;
+use crate::error::BaseError;
+use crate::scalar_value::ScalarValue;
+use std::marker::Model;
+
+/// Values of one type in order, `None` being null, with their declared size.
+#[derive(Debug, Drop)]
+pub struct Column {
+    dtype: DType,
+    values: Vec<Option<ScalarValue>>,
+    size: u64,
+}
+
+impl Model for Column {
+    ghost use Rattle.std.specs.Prelude.{IsTrue};
+    ghost use Rattle.vortex_base.specs.Columns.{ColumnData, all_fit};
+
+    ghost Value = { ColumnData };
+
+    ghost view = { λ a. record { dtype = a.dtype; values = a.values.items; size = a.size } };
+
+    ghost invariant = { λ a. IsTrue (all_fit a.dtype a.values.items) };
+}
+
+fn all_fit(dtype: &DType, values: &[Option<ScalarValue>]) -> bool
+    ensures { result ≡ all_fit dtype.now values.now }
+{
+    values.iter().all(|v| match v {
+        None => dtype.is_nullable(),
+        Some(v) => v.fits(dtype),
+    })
+}
+
+impl Column {
+    /// The column of a type, its values and its size in bytes, which is taken as declared. `Mismatch` if a value does not fit the
+    /// type, or a null stands where the type has none.
+    pub fn try_new(
+        dtype: DType,
+        values: Vec<Option<ScalarValue>>,
+        size: u64,
+    ) -> Result<Column, BaseError>
+        ensures { result ≡ column_of dtype values.items size }
+    {
+        if !all_fit(&dtype, &values) {
+            return Err(BaseError::Mismatch);
+        }
+        Ok(Column {
+            dtype,
+            values,
+            size,
+        })
+    }
+
+    pub fn dtype(&self) -> DType
+        ensures value { result ≡ self.now.dtype }
+        ensures is_column { IsColumn self.now }
+    {
+        self.dtype
+    }
+
+    /// The number of rows.
+    pub fn len(&self) -> usize
+        ensures value { result ≡ length self.now.values }
+        ensures is_column { IsColumn self.now }
+    {
+        self.values.len()
+    }
+
+    /// The declared size in bytes.
+    pub fn size(&self) -> u64
+        ensures { result ≡ self.now.size }
+    {
+        self.size
+    }
+
+    /// The value at a place, which `len` tells to be in range, or `None` for null.
+    pub fn get(&self, i: usize) -> Option<&ScalarValue>
+        requires { i < length self.now.values }
+        ensures { slice_get self.now.values i ≡ Some (option_copied result) }
+    {
+        self.values[i].as_ref()
+    }
+
+    pub(crate) fn value_at(&self, i: usize) -> Option<&ScalarValue>
+        ensures { option_copied result ≡ value_at (slice_get self.now.values i) }
+    {
+        match self.values.get(i) {
+            None => None,
+            Some(v) => v.as_ref(),
+        }
+    }
+}

@@ -1,0 +1,149 @@
+//! LIKE: whether a text matches a pattern.
+//!
+//! `%` stands for any run of characters, `_` for any one character, and `\` makes the next character
+//! literal. The search goes back to the last `%` alone, so it takes at most as many steps as the
+//! pattern has characters times the text's.
+ghost use Rattle.std.specs.Prelude.{◌≡◌, ◌<◌, ◌∷◌, [], length, MatchOption, IfSome};
+ghost use Rattle.std.specs.Str.{chars};
+ghost use Rattle.vortex_base.specs.Like.{items, like, some_end, like_text};
+ghost use Rattle.vortex_base.specs.LikeSearch.{characters, reached, stop};
+
+/// How a text is compared with a pattern.
+#[derive(Clone, Copy, Debug, PartialEq, Eq)]
+pub struct LikeOptions {
+    /// The answer is turned round.
+    pub negated: bool,
+    /// ASCII letters of both are compared in lower case, other characters as they are.
+    pub case_insensitive: bool,
+}
+
+impl LikeOptions {
+    ghost use Rattle.vortex_base.specs.Like.{matches};
+
+    /// Whether the whole text matches the pattern or, where negated, doesn't.
+    pub fn matches(&self, text: &str, pattern: &str) -> bool
+        ensures { result ≡ matches self.now pattern.now text.now }
+    {
+        let ignore_case = self.case_insensitive;
+        let pattern = Characters {
+            text: pattern,
+            ignore_case,
+        };
+        let text = Characters { text, ignore_case };
+        is_match(pattern, text) != self.negated
+    }
+}
+
+/// The characters that are left of a text, as they are compared: where case is ignored, ASCII
+/// letters are lowered.
+#[derive(Clone, Copy)]
+struct Characters<'a> {
+    text: &'a str,
+    ignore_case: bool,
+}
+
+/// One part of a pattern.
+#[derive(Clone, Copy)]
+enum Item {
+    Char(char),
+    AnyChar,
+    AnyRun,
+}
+
+/// Where the items before a pattern's first run end.
+#[derive(Clone, Copy)]
+enum Front<'a> {
+    Mismatch,
+    Whole,
+    BeforeRun(Characters<'a>, Characters<'a>),
+}
+
+fn split_char(text: &str) -> Option<(char, &str)>
+    ensures { MatchOption result (chars text.now ≡ []) (λ p. chars text.now ≡ p.0 ∷ chars p.1.now) }
+{
+    let mut left = text.chars();
+    let first = left.next()?;
+    Some((first, left.as_str()))
+}
+
+impl<'a> Characters<'a> {
+    fn split_first(self) -> Option<(char, Characters<'a>)>
+        ensures { MatchOption result (characters self.entry ≡ []) (λ p. characters self.entry ≡ p.0 ∷ characters p.1) }
+    {
+        let ignore_case = self.ignore_case;
+        let (first, text) = split_char(self.text)?;
+        let rest = Characters { text, ignore_case };
+        if ignore_case {
+            Some((first.to_ascii_lowercase(), rest))
+        } else {
+            Some((first, rest))
+        }
+    }
+}
+
+fn next_item<'a>(pattern: Characters<'a>) -> Option<(Item, Characters<'a>)>
+    ensures items { MatchOption result (items (characters pattern.entry) ≡ []) (λ p. items (characters pattern.entry) ≡ p.0 ∷ items (characters p.1)) }
+    ensures shorter { IfSome result (λ p. length (characters p.1) < length (characters pattern.entry)) }
+{
+    let (first, rest) = pattern.split_first()?;
+    match first {
+        '%' => Some((Item::AnyRun, rest)),
+        '_' => Some((Item::AnyChar, rest)),
+        '\\' => match rest.split_first() {
+            Some((literal, rest)) => Some((Item::Char(literal), rest)),
+            None => Some((Item::Char('\\'), rest)),
+        },
+        _ => Some((Item::Char(first), rest)),
+    }
+}
+
+fn match_front<'a>(mut pattern: Characters<'a>, mut text: Characters<'a>) -> Front<'a>
+    ensures { reached result ≡ stop (items (characters pattern.entry)) (characters text.entry) }
+{
+    while let Some((item, rest)) = next_item(pattern) {
+        pattern = rest;
+        match item {
+            Item::AnyRun => return Front::BeforeRun(pattern, text),
+            Item::AnyChar => match text.split_first() {
+                Some((_, rest)) => text = rest,
+                None => return Front::Mismatch,
+            },
+            Item::Char(literal) => match text.split_first() {
+                Some((first, rest)) if first == literal => text = rest,
+                _ => return Front::Mismatch,
+            },
+        }
+    }
+    match text.split_first() {
+        Some(_) => Front::Mismatch,
+        None => Front::Whole,
+    }
+}
+
+fn is_match<'a>(pattern: Characters<'a>, text: Characters<'a>) -> bool
+    ensures { result ≡ like (items (characters pattern.entry)) (characters text.entry) }
+{
+    match match_front(pattern, text) {
+        Front::Mismatch => false,
+        Front::Whole => true,
+        Front::BeforeRun(pattern, text) => is_match_at_some_end(pattern, text),
+    }
+}
+
+fn is_match_at_some_end<'a>(mut pattern: Characters<'a>, mut text: Characters<'a>) -> bool
+    ensures { result ≡ some_end (like (items (characters pattern.entry))) (characters text.entry) }
+{
+    loop {
+        match match_front(pattern, text) {
+            Front::Whole => return true,
+            Front::BeforeRun(next, rest) => {
+                pattern = next;
+                text = rest;
+            }
+            Front::Mismatch => match text.split_first() {
+                Some((_, rest)) => text = rest,
+                None => return false,
+            },
+        }
+    }
+}

@@ -1,0 +1,57 @@
+//! Whole numbers with their types.
+ghost use Rattle.std.specs.Prelude.{◌≡◌, IsTrue};
+ghost use Rattle.vortex_base.specs.Values.{ptype_of, in_range};
+
+use crate::ptype::PType;
+
+/// A whole number of one of the eight types. Numbers are ordered by type, in the order of the variants, and then by size.
+#[derive(Clone, Copy, Debug, PartialEq, Eq, PartialOrd, Ord)]
+pub enum PValue {
+    U8(u8),
+    U16(u16),
+    U32(u32),
+    U64(u64),
+    I8(i8),
+    I16(i16),
+    I32(i32),
+    I64(i64),
+}
+
+impl PValue {
+    /// The number's type.
+    pub fn ptype(self) -> PType
+        ensures value { result ≡ ptype_of self }
+        ensures in_range { IsTrue (in_range self) }
+    {
+        match self {
+            PValue::U8(_) => PType::U8,
+            PValue::U16(_) => PType::U16,
+            PValue::U32(_) => PType::U32,
+            PValue::U64(_) => PType::U64,
+            PValue::I8(_) => PType::I8,
+            PValue::I16(_) => PType::I16,
+            PValue::I32(_) => PType::I32,
+            PValue::I64(_) => PType::I64,
+        }
+    }
+}
+
+#[cfg(test)]
+mod tests {
+    use super::*;
+    use crate::laws;
+    use std::cmp::Ordering;
+
+    #[test]
+    fn stand_by_type_and_then_by_size(rt: HostRuntime) {
+        assert_eq!(rt; PValue::U64(3).ptype(), PType::U64);
+        let (order, same) = laws::numbers_compare(PValue::U64(3), PValue::I8(-1));
+        assert_eq!(rt; order, Ordering::Less);
+        assert!(rt; !same);
+        let (order, same) = laws::numbers_compare(PValue::I8(-1), PValue::I8(-1));
+        assert_eq!(rt; order, Ordering::Equal);
+        assert!(rt; same);
+        let (order, _) = laws::numbers_compare(PValue::I8(1), PValue::I8(-1));
+        assert_eq!(rt; order, Ordering::Greater);
+    }
+}

@@ -1,0 +1,158 @@
+//! Values or null, with their types.
+ghost use Rattle.std.specs.Prelude.{◌≡◌, ◌↔◌, IfOk, IsTrue, IsNone, option_copied};
+ghost use Rattle.std.specs.Cmp.{partial_equiv_from_equiv};
+ghost use Rattle.vortex_base.specs.Exact.{exact_equivalence};
+ghost use Rattle.vortex_base.specs.Types.{is_nullable};
+ghost use Rattle.vortex_base.specs.Scalars.{constant_eq, constant_eq_is_exact, constant_of, null_of, IsConstant};
+
+use crate::dtype::DType;
+use crate::error::BaseError;
+use crate::scalar_value::ScalarValue;
+use std::alloc::AllocError;
+use std::marker::Model;
+
+/// A value of a type, or null where the type has null.
+#[derive(Debug, Drop)]
+pub struct Scalar {
+    dtype: DType,
+    value: Option<ScalarValue>,
+}
+
+impl Model for Scalar {
+    ghost use Rattle.std.specs.Prelude.{IsTrue};
+    ghost use Rattle.vortex_base.specs.Scalars.{Constant, is_optional_value};
+
+    ghost Value = { Constant };
+
+    ghost view = { λ a. record { dtype = a.dtype; value = a.value } };
+
+    ghost invariant = { λ a. IsTrue (is_optional_value a.value a.dtype) };
+
+    ghost inverse = { λ c. record { dtype = c.dtype; value = c.value } };
+}
+
+impl Scalar {
+    /// The scalar of a type and a value, or of null. `Mismatch` if the value does not fit the type, or the type has no null.
+    pub fn try_new(dtype: DType, value: Option<ScalarValue>) -> Result<Scalar, BaseError>
+        ensures { result ≡ constant_of dtype value }
+    {
+        let fits = match &value {
+            None => dtype.is_nullable(),
+            Some(v) => v.fits(&dtype),
+        };
+        if !fits {
+            return Err(BaseError::Mismatch);
+        }
+        Ok(Scalar { dtype, value })
+    }
+
+    /// Null of a type that has null, as `DType::is_nullable` tells.
+    pub fn null(dtype: DType) -> Scalar
+        requires { IsTrue (is_nullable dtype) }
+        ensures { result ≡ null_of dtype }
+    {
+        Scalar { dtype, value: None }
+    }
+
+    pub fn dtype(&self) -> DType
+        ensures value { result ≡ self.now.dtype }
+        ensures is_constant { IsConstant self.now }
+    {
+        self.dtype
+    }
+
+    /// The value, or `None` for null.
+    pub fn value(&self) -> Option<&ScalarValue>
+        ensures value { option_copied result ≡ self.now.value }
+        ensures is_constant { IsConstant self.now }
+    {
+        self.value.as_ref()
+    }
+
+    /// The value, or `None` for null.
+    pub fn into_value(self) -> Option<ScalarValue>
+        ensures value { result ≡ self.value }
+        ensures is_constant { IsConstant self }
+    {
+        self.value
+    }
+
+    pub fn is_null(&self) -> bool
+        ensures { IsTrue result ↔ IsNone self.now.value }
+    {
+        self.value.is_none()
+    }
+
+    /// A copy, by the allocator that the value holds.
+    pub fn try_clone(&self) -> Result<Scalar, AllocError>
+        ensures { IfOk result (λ s. s ≡ self.now) }
+    {
+        let value = match &self.value {
+            None => None,
+            Some(v) => Some(v.try_clone()?),
+        };
+        Ok(Scalar {
+            dtype: self.dtype,
+            value,
+        })
+    }
+}
+
+impl PartialEq for Scalar {
+    ghost eq = { constant_eq };
+
+    ghost laws = { partial_equiv_from_equiv (exact_equivalence constant_eq constant_eq_is_exact) };
+
+    fn eq(&self, other: &Scalar) -> bool
+        ensures value { result ≡ constant_eq self.now other.now }
+        ensures same { IsTrue result ↔ (self.now ≡ other.now) }
+    {
+        self.dtype == other.dtype && self.value == other.value
+    }
+}
+
+impl Eq for Scalar {
+    ghost laws = { exact_equivalence constant_eq constant_eq_is_exact };
+}
+
+#[cfg(test)]
+mod tests {
+    use super::*;
+    use crate::nullability::Nullability;
+    use crate::ptype::PType;
+    use crate::text::Text;
+    use std::test::Fail;
+
+    #[test]
+    fn hold_values_of_their_types(rt: HostRuntime) -> Result<(), Fail> {
+        let dtype = DType::Primitive(PType::I32, Nullability::NonNullable);
+        let five = Scalar::try_new(dtype, Some(ScalarValue::from(5i32)))?;
+        assert_eq!(rt; five.dtype(), dtype);
+        assert_eq!(rt; five.value().is_some(), true);
+        assert!(rt; !five.is_null());
+        assert_eq!(rt; five.try_clone()?, five);
+        assert_eq!(rt; five.into_value(), Some(ScalarValue::from(5i32)));
+        let wide = Scalar::try_new(dtype, Some(ScalarValue::from(5i64)));
+        assert!(rt; matches!(wide, Err(BaseError::Mismatch)));
+        let null = Scalar::try_new(dtype, None);
+        assert!(rt; matches!(null, Err(BaseError::Mismatch)));
+        Ok(())
+    }
+
+    #[test]
+    fn may_be_null(rt: HostRuntime) -> Result<(), Fail> {
+        let null = Scalar::null(DType::Utf8(Nullability::Nullable));
+        let text = Text::new(String::from_str(rt.alloc(), "é")?);
+        let e = Scalar::try_new(
+            DType::Utf8(Nullability::Nullable),
+            Some(ScalarValue::Utf8(text)),
+        )?;
+        assert!(rt; null.is_null());
+        assert!(rt; null.value().is_none());
+        assert_eq!(rt; null.try_clone()?, null);
+        assert_eq!(rt; e.try_clone()?, e);
+        assert!(rt; e != null);
+        assert!(rt; null != Scalar::null(DType::Null));
+        Ok(())
+    }
+}

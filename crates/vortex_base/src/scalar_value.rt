@@ -1,0 +1,198 @@
+//! The values of columns that are not null, and their one total order.
+ghost use Rattle.std.specs.Prelude.{◌≡◌, IfOk};
+ghost use Rattle.vortex_base.specs.Values.{is_value};
+ghost use Rattle.vortex_base.specs.declared.pvalue.PValue.TheVariants as number;
+ghost use Rattle.vortex_base.specs.declared.scalar_value.ScalarValue.TheVariants as value;
+
+use crate::bytes::Bytes;
+use crate::dtype::DType;
+use crate::pvalue::PValue;
+use crate::text::Text;
+use std::alloc::AllocError;
+
+/// A value other than null. Values are ordered by kind, in the order of the variants, and then false before true, numbers by
+/// `PValue`'s order, and texts and bytes by their bytes.
+#[derive(Debug, Drop, Clone, PartialEq, Eq, PartialOrd, Ord)]
+pub enum ScalarValue {
+    Bool(bool),
+    Primitive(PValue),
+    Utf8(Text),
+    Binary(Bytes),
+}
+
+impl ScalarValue {
+    /// A copy, by the allocator that the value holds.
+    pub fn try_clone(&self) -> Result<ScalarValue, AllocError>
+        ensures { IfOk result (λ v. v ≡ self.now) }
+    {
+        self.clone()
+    }
+
+    /// Whether this is a value of the type: of its kind and, for a number, of its `PType`.
+    pub fn fits(&self, dtype: &DType) -> bool
+        ensures { result ≡ is_value self.now dtype.now }
+    {
+        match (self, dtype) {
+            (ScalarValue::Bool(_), DType::Bool(_)) => true,
+            (ScalarValue::Primitive(number), DType::Primitive(ptype, _)) => {
+                number.ptype() == *ptype
+            }
+            (ScalarValue::Utf8(text), DType::Utf8(_)) => {
+                let _text = text.as_str();
+                true
+            }
+            (ScalarValue::Binary(_), DType::Binary(_)) => true,
+            _ => false,
+        }
+    }
+}
+
+impl From<bool> for ScalarValue {
+    ghost from_gives = { λ b v. v ≡ value.Bool b };
+
+    fn from(value: bool) -> ScalarValue {
+        ScalarValue::Bool(value)
+    }
+}
+
+impl From<u8> for ScalarValue {
+    ghost from_gives = { λ n v. v ≡ value.Primitive (number.U8 n) };
+
+    fn from(value: u8) -> ScalarValue {
+        ScalarValue::Primitive(PValue::U8(value))
+    }
+}
+
+impl From<u16> for ScalarValue {
+    ghost from_gives = { λ n v. v ≡ value.Primitive (number.U16 n) };
+
+    fn from(value: u16) -> ScalarValue {
+        ScalarValue::Primitive(PValue::U16(value))
+    }
+}
+
+impl From<u32> for ScalarValue {
+    ghost from_gives = { λ n v. v ≡ value.Primitive (number.U32 n) };
+
+    fn from(value: u32) -> ScalarValue {
+        ScalarValue::Primitive(PValue::U32(value))
+    }
+}
+
+impl From<u64> for ScalarValue {
+    ghost from_gives = { λ n v. v ≡ value.Primitive (number.U64 n) };
+
+    fn from(value: u64) -> ScalarValue {
+        ScalarValue::Primitive(PValue::U64(value))
+    }
+}
+
+impl From<i8> for ScalarValue {
+    ghost from_gives = { λ n v. v ≡ value.Primitive (number.I8 n) };
+
+    fn from(value: i8) -> ScalarValue {
+        ScalarValue::Primitive(PValue::I8(value))
+    }
+}
+
+impl From<i16> for ScalarValue {
+    ghost from_gives = { λ n v. v ≡ value.Primitive (number.I16 n) };
+
+    fn from(value: i16) -> ScalarValue {
+        ScalarValue::Primitive(PValue::I16(value))
+    }
+}
+
+impl From<i32> for ScalarValue {
+    ghost from_gives = { λ n v. v ≡ value.Primitive (number.I32 n) };
+
+    fn from(value: i32) -> ScalarValue {
+        ScalarValue::Primitive(PValue::I32(value))
+    }
+}
+
+impl From<i64> for ScalarValue {
+    ghost from_gives = { λ n v. v ≡ value.Primitive (number.I64 n) };
+
+    fn from(value: i64) -> ScalarValue {
+        ScalarValue::Primitive(PValue::I64(value))
+    }
+}
+
+#[cfg(test)]
+mod tests {
+    use super::*;
+    use crate::laws;
+    use crate::nullability::Nullability;
+    use crate::ptype::PType;
+    use std::alloc::Global;
+    use std::cmp::Ordering;
+    use std::test::Fail;
+
+    fn text(alloc: Global, text: &str) -> Result<ScalarValue, AllocError> {
+        Ok(ScalarValue::Utf8(Text::new(String::from_str(alloc, text)?)))
+    }
+
+    fn bytes(alloc: Global, bytes: &[u8]) -> Result<ScalarValue, AllocError> {
+        Ok(ScalarValue::Binary(Bytes::new(Vec::from_slice(alloc, bytes)?)))
+    }
+
+    #[test]
+    fn stand_in_one_order(rt: HostRuntime) -> Result<(), Fail> {
+        let ascending = vec![in rt.alloc();
+            ScalarValue::from(false),
+            ScalarValue::from(true),
+            ScalarValue::from(255u8),
+            ScalarValue::from(0u16),
+            ScalarValue::from(7u32),
+            ScalarValue::from(1u64),
+            ScalarValue::from(-128i8),
+            ScalarValue::from(127i8),
+            ScalarValue::from(-1i16),
+            ScalarValue::from(-7i32),
+            ScalarValue::from(i64::MIN),
+            ScalarValue::from(i64::MAX),
+            text(rt.alloc(), "")?,
+            text(rt.alloc(), "a")?,
+            text(rt.alloc(), "ab")?,
+            text(rt.alloc(), "é")?,
+            bytes(rt.alloc(), &[])?,
+            bytes(rt.alloc(), &[0xC1, 0xA1])?,
+        ]?;
+        for (i, left) in ascending.iter().enumerate() {
+            for (j, right) in ascending.iter().enumerate() {
+                let (order, same) = laws::values_compare(left, right);
+                assert_eq!(rt; order, i.cmp(&j), "{i} and {j}");
+                assert_eq!(rt; same, i == j, "{i} and {j}");
+            }
+        }
+        Ok(())
+    }
+
+    #[test]
+    fn clones_are_equal(rt: HostRuntime) -> Result<(), Fail> {
+        let value = text(rt.alloc(), "é")?;
+        assert_eq!(rt; value.try_clone()?, value);
+        assert_eq!(rt; laws::clone_of_value(&value)?, value);
+        let value = bytes(rt.alloc(), &[1, 2])?;
+        assert_eq!(rt; value.try_clone()?, value);
+        assert_eq!(rt; laws::clone_of_value(&value)?.cmp(&value), Ordering::Equal);
+        Ok(())
+    }
+
+    #[test]
+    fn fit_their_kind_and_width(rt: HostRuntime) -> Result<(), Fail> {
+        let plain = Nullability::NonNullable;
+        let five = ScalarValue::from(5i32);
+        let letters = text(rt.alloc(), "ab")?;
+        assert!(rt; five.fits(&DType::Primitive(PType::I32, plain)));
+        assert!(rt; !five.fits(&DType::Primitive(PType::I64, plain)));
+        assert!(rt; !five.fits(&DType::Primitive(PType::U32, plain)));
+        assert!(rt; letters.fits(&DType::Utf8(plain)));
+        assert!(rt; !letters.fits(&DType::Binary(plain)));
+        assert!(rt; bytes(rt.alloc(), &[])?.fits(&DType::Binary(plain)));
+        assert!(rt; ScalarValue::from(true).fits(&DType::Bool(plain)));
+        assert!(rt; !ScalarValue::from(true).fits(&DType::Null));
+        Ok(())
+    }
+}

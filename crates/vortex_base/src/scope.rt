@@ -1,0 +1,217 @@
+//! Named columns.
+ghost use Rattle.std.specs.Prelude.{◌≡◌, ◌↔◌, ◌<◌, IfSome, IsTrue, length, slice_get, Some, option_map, position};
+ghost use Rattle.std.specs.List.{list_all, list_any, zip};
+ghost use Rattle.vortex_base.specs.Types.{dtype_eq};
+ghost use Rattle.std.specs.Cmp.{partial_equiv_from_equiv};
+ghost use Rattle.vortex_base.specs.Exact.{exact_equivalence};
+ghost use Rattle.vortex_base.specs.Columns as columns_spec;
+ghost use Rattle.vortex_base.specs.Scopes as scopes;
+
+use crate::column::Column;
+use crate::dtype::DType;
+use crate::error::BaseError;
+use std::marker::Model;
+
+/// The columns that expressions can speak of: a list of distinct names, each with its type.
+#[derive(Debug, Drop)]
+pub struct Scope {
+    columns: Vec<(String, DType)>,
+}
+
+impl Model for Scope {
+    ghost use Rattle.std.specs.Prelude.{List};
+    ghost use Rattle.vortex_base.specs.Scopes.{Named, IsScope, named_columns};
+
+    ghost Value = { List Named };
+
+    ghost view = { λ s. named_columns s.columns.items };
+
+    ghost invariant = { λ s. IsScope (named_columns s.columns.items) };
+}
+
+fn contains(columns: &[(String, DType)], name: &str) -> bool
+    ensures { result ≡ list_any (λ c. scopes.is_named name.now (scopes.named c)) columns.now }
+{
+    columns.iter().any(|c| c.0.as_str() == name)
+}
+
+fn has_duplicate(columns: &[(String, DType)]) -> bool
+    ensures { result ≡ scopes.has_duplicate (scopes.named_columns columns.now) }
+{
+    let mut rest = columns;
+    'columns: while let Some((first, later)) = rest.split_first() {
+        if contains(later, first.0.as_str()) {
+            return true;
+        }
+        rest = later;
+    }
+    false
+}
+
+fn is_empty(columns: &[(String, DType)]) -> bool
+    ensures { result ≡ scopes.is_empty (scopes.named_columns columns.now) }
+{
+    match columns.split_first() {
+        None => true,
+        Some(_) => false,
+    }
+}
+
+fn has_state(columns: &[(String, DType)]) -> bool
+    ensures { result ≡ list_any (λ c. scopes.is_state (scopes.named c)) columns.now }
+{
+    columns
+        .iter()
+        .any(|c| matches!(c.1, DType::MinMaxState(_, _)))
+}
+
+fn place_of(columns: &[(String, DType)], name: &str) -> Option<usize>
+    ensures value { result ≡ position (λ c. scopes.is_named name.now (scopes.named c)) columns.now }
+    ensures in_range { IfSome result (λ i. i < length columns.now) }
+{
+    columns.iter().position(|c| c.0.as_str() == name)
+}
+
+fn pairs_fit(names: &[(String, DType)], columns: &[Column]) -> bool
+    ensures { result ≡ list_all (λ p. dtype_eq p.0.1 p.1.dtype) (zip names.now columns.now) }
+{
+    names
+        .iter()
+        .zip(columns.iter())
+        .all(|(named, column)| named.1 == column.dtype())
+}
+
+fn has_types(names: &[(String, DType)], columns: &[Column]) -> bool
+    ensures { result ≡ columns_spec.has_types (scopes.named_columns names.now) columns.now }
+{
+    names.len() == columns.len() && pairs_fit(names, columns)
+}
+
+fn is_same(left: &[(String, DType)], right: &[(String, DType)]) -> bool
+    ensures { result ≡ scopes.scope_eq (scopes.named_columns left.now) (scopes.named_columns right.now) }
+{
+    left == right
+}
+
+impl Scope {
+    /// The scope of these columns. Of several faults the first of these is answered: `EmptyScope` if there is no column,
+    /// `DuplicateColumn` if a name stands twice, `TypeFault` if a type is a `MinMaxState`.
+    pub fn try_new(columns: Vec<(String, DType)>) -> Result<Scope, BaseError>
+        ensures { result ≡ scopes.scope_of (scopes.named_columns columns.items) }
+    {
+        if is_empty(&columns) {
+            return Err(BaseError::EmptyScope);
+        }
+        if has_duplicate(&columns) {
+            return Err(BaseError::DuplicateColumn);
+        }
+        if has_state(&columns) {
+            return Err(BaseError::TypeFault);
+        }
+        Ok(Scope { columns })
+    }
+
+    /// The number of columns.
+    pub fn len(&self) -> usize
+        ensures value { result ≡ length self.now }
+        ensures is_scope { scopes.IsScope self.now }
+    {
+        self.columns.len()
+    }
+
+    /// The name of the column at a place, which `len` tells to be in range.
+    pub fn name(&self, i: usize) -> &str
+        requires { i < length self.now }
+        ensures { option_map (λ c. c.0) (slice_get self.now i) ≡ Some result.now }
+    {
+        self.columns[i].0.as_str()
+    }
+
+    /// The type of the column at a place, which `len` tells to be in range.
+    pub fn dtype(&self, i: usize) -> DType
+        requires { i < length self.now }
+        ensures { option_map (λ c. c.1) (slice_get self.now i) ≡ Some result }
+    {
+        let (_, dtype) = &self.columns[i];
+        *dtype
+    }
+
+    /// The place of the column of a name.
+    pub fn find(&self, name: &str) -> Option<usize>
+        ensures value { result ≡ scopes.place_of name.now self.now }
+        ensures in_range { IfSome result (λ i. i < length self.now) }
+    {
+        place_of(&self.columns, name)
+    }
+
+    /// Whether there are as many columns as names, each of its name's type.
+    pub(crate) fn has_types(&self, columns: &[Column]) -> bool
+        ensures { result ≡ columns_spec.has_types self.now columns.now }
+    {
+        has_types(&self.columns, columns)
+    }
+}
+
+impl PartialEq for Scope {
+    ghost eq = { scopes.scope_eq };
+
+    ghost laws = { partial_equiv_from_equiv (exact_equivalence scopes.scope_eq scopes.scope_eq_is_exact) };
+
+    fn eq(&self, other: &Scope) -> bool
+        ensures value { result ≡ scopes.scope_eq self.now other.now }
+        ensures same { IsTrue result ↔ (self.now ≡ other.now) }
+    {
+        is_same(&self.columns, &other.columns)
+    }
+}
+
+impl Eq for Scope {
+    ghost laws = { exact_equivalence scopes.scope_eq scopes.scope_eq_is_exact };
+}
+
+#[cfg(test)]
+mod tests {
+    use super::*;
+    use crate::element::Element;
+    use crate::nullability::Nullability;
+    use std::alloc::{AllocError, Global};
+    use std::test::Fail;
+
+    const BOOL: DType = DType::Bool(Nullability::Nullable);
+
+    const STATE: DType = DType::MinMaxState(Element::Bool, Nullability::Nullable);
+
+    fn named(alloc: Global, columns: &[(&str, DType)]) -> Result<Vec<(String, DType)>, AllocError> {
+        let mut named = Vec::new(alloc);
+        for (name, dtype) in columns {
+            named.push((String::from_str(alloc, name)?, *dtype))?;
+        }
+        Ok(named)
+    }
+
+    #[test]
+    fn list_distinct_names(rt: HostRuntime) -> Result<(), Fail> {
+        let two = Scope::try_new(named(rt.alloc(), &[("a", BOOL), ("é", DType::Null)])?)?;
+        assert_eq!(rt; two.len(), 2);
+        assert_eq!(rt; two.name(1), "é");
+        assert_eq!(rt; two.dtype(1), DType::Null);
+        assert_eq!(rt; two.find("é"), Some(1));
+        assert_eq!(rt; two.find("b"), None);
+        let same = Scope::try_new(named(rt.alloc(), &[("a", BOOL), ("é", DType::Null)])?)?;
+        let turned = Scope::try_new(named(rt.alloc(), &[("é", DType::Null), ("a", BOOL)])?)?;
+        assert!(rt; two == same);
+        assert!(rt; two != turned);
+        Ok(())
+    }
+
+    #[test]
+    fn are_refused_for_the_first_fault(rt: HostRuntime) -> Result<(), Fail> {
+        let none = Scope::try_new(named(rt.alloc(), &[])?);
+        assert!(rt; matches!(none, Err(BaseError::EmptyScope)));
+        let twice = Scope::try_new(named(rt.alloc(), &[("a", BOOL), ("b", STATE), ("a", STATE)])?);
+        assert!(rt; matches!(twice, Err(BaseError::DuplicateColumn)));
+        let state = Scope::try_new(named(rt.alloc(), &[("a", BOOL), ("b", STATE)])?);
+        assert!(rt; matches!(state, Err(BaseError::TypeFault)));
+        Ok(())
+    }
+}

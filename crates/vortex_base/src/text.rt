@@ -1,0 +1,114 @@
+//! Texts, seen as the list of their bytes.
+ghost use Rattle.std.specs.Prelude.{◌≡◌, ◌==◌, IfOk, string_bytes, IsTrue};
+ghost use Rattle.std.specs.Str.{is_utf8};
+ghost use Rattle.std.specs.Ordering.{nat_cmp, as_partial_cmp};
+ghost use Rattle.std.specs.Cmp.Lexicographic.{slice_cmp};
+ghost use Rattle.std.specs.Cmp.Rules.{comparing};
+ghost use Rattle.std.specs.Cmp.{partial_order_from_own_ties};
+ghost use Rattle.std.proofs.Common.{rules};
+ghost use lib.Pointwise.{pointwise};
+
+use std::alloc::AllocError;
+use std::cmp::Ordering;
+use std::marker::Model;
+
+/// A text, ordered by its bytes. They are UTF-8.
+#[derive(Drop, Debug)]
+pub struct Text {
+    text: String,
+}
+
+impl Model for Text {
+    ghost use Rattle.std.specs.Prelude.{ℕ, List, string_bytes};
+
+    ghost Value = { List ℕ };
+
+    ghost view = { λ t. string_bytes t.text };
+}
+
+impl Text {
+    pub fn new(text: String) -> Text
+        ensures { result ≡ string_bytes text }
+    {
+        Text { text }
+    }
+
+    /// The text itself.
+    pub fn as_str(&self) -> &str
+        ensures value { result.now ≡ self.now }
+        ensures utf8 { IsTrue (is_utf8 self.now) }
+    {
+        self.text.as_str()
+    }
+
+    /// A copy, by the text's allocator.
+    pub fn try_clone(&self) -> Result<Text, AllocError>
+        ensures { IfOk result (λ t. t ≡ self.now) }
+    {
+        Ok(Text {
+            text: self.text.clone()?,
+        })
+    }
+}
+
+impl Clone for Text {
+    ghost is_clone = { λ s t. t ≡ s };
+
+    fn clone(&self) -> Result<Text, AllocError> {
+        self.try_clone()
+    }
+}
+
+impl PartialEq for Text {
+    ghost eq = { pointwise ◌==◌ };
+
+    ghost laws = { Prim.search (comparing, rules) };
+
+    fn eq(&self, other: &Text) -> bool {
+        self.as_str() == other.as_str()
+    }
+}
+
+impl Eq for Text {
+    ghost laws = { Prim.search (comparing, rules) };
+}
+
+impl Ord for Text {
+    ghost cmp = { slice_cmp nat_cmp };
+
+    ghost total = { Prim.search (comparing, rules) };
+
+    ghost matches_partial_cmp = { Prim.search (comparing, rules) };
+
+    ghost matches_eq = { Prim.search (comparing, rules) };
+
+    fn cmp(&self, other: &Text) -> Ordering {
+        self.as_str().cmp(other.as_str())
+    }
+}
+
+impl PartialOrd for Text {
+    ghost partial_cmp = { as_partial_cmp (slice_cmp nat_cmp) };
+
+    ghost laws = { partial_order_from_own_ties (Prim.search (comparing, rules)) (Prim.search (comparing, rules)) };
+
+    fn partial_cmp(&self, other: &Text) -> Option<Ordering> {
+        Some(self.cmp(other))
+    }
+}
+
+#[cfg(test)]
+mod tests {
+    use super::*;
+    use crate::laws;
+    use std::test::Fail;
+
+    #[test]
+    fn lends_what_it_was_made_of(rt: HostRuntime) -> Result<(), Fail> {
+        let text = Text::new(String::from_str(rt.alloc(), "é")?);
+        assert_eq!(rt; text.as_str(), "é");
+        assert_eq!(rt; text.try_clone()?.as_str(), "é");
+        assert_eq!(rt; laws::clone_of_text(&text)?, text);
+        Ok(())
+    }
+}
