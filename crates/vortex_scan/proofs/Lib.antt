@@ -6,3 +6,4 @@ pub mod Lossless
 pub mod NamedLines
 pub mod Numbers
 pub mod Refusals
+pub mod SatisfiedRows

@@ -5,6 +5,7 @@ pub mod Precision
 pub mod Printing
 pub mod Program
 pub mod Proof
+pub mod Rows
 pub mod Scanning
 pub mod Streams
 pub mod Words

@@ -10,6 +10,8 @@ mod precision;
 mod printing;
 mod program;
 mod proof;
+mod query;
+mod rows;
 mod scan;
 mod streams;
 mod words;

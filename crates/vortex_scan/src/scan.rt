@@ -1,13 +1,14 @@
 // Which rows of which parts a predicate selects, and which parts it needn't look at.
-ghost use Rattle.std.specs.Prelude.{◌≡◌, ◌++◌, ◌∷◌, [], All, IfOk, OnOk, if◌then◌else◌};
+ghost use Rattle.std.specs.Prelude.{◌≡◌, ◌++◌, ◌∷◌, [], All, IfErr, IfOk, OnOk, alloc_error, if◌then◌else◌};
+ghost use Rattle.vortex_base.specs.declared.error.BaseError.TheVariants.{Memory};
 ghost use Rattle.vortex_scan.specs.Part.{HasTrueBounds};
-ghost use Rattle.vortex_scan.specs.Proof.{falsifier_of, rules_out};
-ghost use Rattle.vortex_scan.specs.Scanning.{full, is_above, is_at_most, kept_rows, satisfying_rows, selected_rows, skipped_parts};
+ghost use Rattle.vortex_scan.specs.Scanning.{full, is_at_most, kept_rows, satisfying_rows, selected_rows, skipped_parts};
 
-use crate::bind::bind;
 use crate::part::FirstPart;
-use crate::proof::{LtEq, falsifier};
+use crate::query::Query;
+use crate::rows::chunk_of;
 use std::alloc::{AllocError, Global};
+use vortex_base::error::BaseError;
 
 /// What a scan found. Parts and rows count from 0.
 #[derive(Debug, PartialEq, Eq, Drop)]
@@ -18,34 +19,20 @@ pub struct Scan {
     pub skipped: Vec<usize>,
 }
 
-// Whether the part's statistics make the proof true. False and null prove nothing.
-fn is_ruled_out(proof: LtEq, part: &FirstPart) -> bool
-    ensures { result ≡ rules_out proof part.now.max }
-{
-    bind(proof, part).evaluate().unwrap_or(false)
-}
-
-// Whether a row's value is above the literal. Null isn't.
-fn is_above(literal: i64, row: &Option<i64>) -> bool
-    ensures { result ≡ is_above literal row.now }
-{
-    match row {
-        Some(value) => *value > literal,
-        None => false,
-    }
-}
-
 // Adds the satisfying rows of one part.
 fn select(
     selected: &mut Vec<(usize, usize)>,
-    literal: i64,
+    alloc: Global,
+    query: &Query,
     place: usize,
     rows: &[Option<i64>],
-) -> Result<(), AllocError>
-    ensures { OnOk result (selected.new.items ≡ selected.old.items ++ satisfying_rows literal place rows.now) }
+) -> Result<(), BaseError>
+    ensures selected { OnOk result (selected.new.items ≡ selected.old.items ++ satisfying_rows query.now place rows.now) }
+    ensures memory { IfErr result (λ e. e ≡ Memory alloc_error) }
 {
-    for (row, value) in rows.iter().enumerate() {
-        if is_above(literal, value) {
+    let chunk = chunk_of(alloc, rows)?;
+    for row in 0..chunk.rows() {
+        if query.is_satisfied(&chunk, row)? {
             selected.push((place, row))?;
         }
     }
@@ -56,21 +43,38 @@ impl Scan {
     // Looks at one part: it is skipped, or its satisfying rows are selected.
     fn visit(
         &mut self,
-        literal: i64,
-        proof: LtEq,
+        alloc: Global,
+        query: &Query,
         place: usize,
         part: &FirstPart,
-    ) -> Result<(), AllocError>
-        requires { proof ≡ falsifier_of literal }
-        ensures skipped { OnOk result (self.new.skipped.items ≡ self.old.skipped.items ++ (if is_at_most literal part.now.max then place ∷ [] else [])) }
-        ensures selected { OnOk result (self.new.selected.items ≡ self.old.selected.items ++ kept_rows literal place part.now) }
+    ) -> Result<(), BaseError>
+        ensures skipped { OnOk result (self.new.skipped.items ≡ self.old.skipped.items ++ (if is_at_most query.now part.now.max then place ∷ [] else [])) }
+        ensures selected { OnOk result (self.new.selected.items ≡ self.old.selected.items ++ kept_rows query.now place part.now) }
+        ensures memory { IfErr result (λ e. e ≡ Memory alloc_error) }
     {
-        if is_ruled_out(proof, part) {
+        if query.rules_out(part) {
             self.skipped.push(place)?;
             return Ok(());
         }
-        select(&mut self.selected, literal, place, &part.rows)
+        select(&mut self.selected, alloc, query, place, &part.rows)
     }
+}
+
+// The scan, with the faults of the layer below.
+fn scan_parts(alloc: Global, parts: &[FirstPart], literal: i64) -> Result<Scan, BaseError>
+    ensures skipped { IfOk result (λ scan. scan.skipped.items ≡ skipped_parts literal parts.now) }
+    ensures kept { IfOk result (λ scan. scan.selected.items ≡ selected_rows literal parts.now) }
+    ensures memory { IfErr result (λ e. e ≡ Memory alloc_error) }
+{
+    let query = Query::new(alloc, literal)?;
+    let mut scan = Scan {
+        selected: Vec::new(alloc),
+        skipped: Vec::new(alloc),
+    };
+    for (place, part) in parts.iter().enumerate() {
+        scan.visit(alloc, &query, place, part)?;
+    }
+    Ok(scan)
 }
 
 /// Selects the rows whose value is above the literal, and leaves out unread each part whose statistics prove that it
@@ -83,13 +87,9 @@ pub fn scan_gt(alloc: Global, parts: &[FirstPart], literal: i64) -> Result<Scan,
     // Whatever the bounds claim, the satisfying rows of the other parts are selected.
     ensures kept { IfOk result (λ scan. scan.selected.items ≡ selected_rows literal parts.now) }
 {
-    let proof = falsifier(literal);
-    let mut scan = Scan {
-        selected: Vec::new(alloc),
-        skipped: Vec::new(alloc),
-    };
-    for (place, part) in parts.iter().enumerate() {
-        scan.visit(literal, proof, place, part)?;
+    match scan_parts(alloc, parts, literal) {
+        Ok(scan) => Ok(scan),
+        Err(BaseError::Memory(e)) => Err(e),
+        Err(_) => unreachable!(),
     }
-    Ok(scan)
 }
