@@ -1,0 +1,34 @@
+#!/usr/bin/env bash
+# Times the built program on large inputs, beside a plain Rust program that answers the same (if rustc is there).
+# usage: bench/run.sh [RUNS]
+set -eu
+here="$(cd "$(dirname "$0")" && pwd)"
+runs="${1:-5}"
+program="$here/../crates/vortex_scan/out/vortex_scan"
+[ -x "$program" ] || "$here/../scan" < "$here/../examples/first-run.txt" > /dev/null
+mkdir -p "$here/data"
+plain="$here/data/plain"
+if command -v rustc > /dev/null; then rustc -O "$here/plain/main.rs" -o "$plain"; else plain=""; fi
+
+# the least time of some runs, in milliseconds
+best() {
+    local least=999999 start end
+    for _ in $(seq "$runs"); do
+        start=$(date +%s%N); "$1" < "$2" > "$3"; end=$(date +%s%N)
+        least=$(( (end - start) / 1000000 < least ? (end - start) / 1000000 : least ))
+    done
+    echo "$least"
+}
+
+for kind in parts rows wide; do
+    input="$here/data/$kind.txt"
+    [ -f "$input" ] || python3 "$here/generate.py" "$kind" > "$input"
+    ours=$(best "$program" "$input" "$here/data/ours.out")
+    if [ -n "$plain" ]; then
+        theirs=$(best "$plain" "$input" "$here/data/plain.out")
+        cmp "$here/data/ours.out" "$here/data/plain.out"
+        echo "$kind: ${ours} ms, plain Rust ${theirs} ms, ratio $(( 100 * ours / theirs ))%"
+    else
+        echo "$kind: ${ours} ms"
+    fi
+done

@@ -1,0 +1,11 @@
+pub mod Draft
+pub mod Naming
+pub mod Part
+pub mod Precision
+pub mod Printing
+pub mod Program
+pub mod Proof
+pub mod Rows
+pub mod Scanning
+pub mod Streams
+pub mod Words
