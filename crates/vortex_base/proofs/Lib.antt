@@ -1,9 +1,11 @@
+pub mod AppendLemmas
+pub mod ChunkLemmas
+pub mod LikeStops
 pub mod MapLemmas
+pub mod MeaningFits
 pub mod OrderLemmas
+pub mod PlacedFits
+pub mod PlacedTypes
 pub mod RowLemmas
+pub mod RowsFit
 pub mod ScopeLemmas
-mod LikeStops
-mod MeaningFits
-mod PlacedFits
-mod PlacedTypes
-mod RowsFit

@@ -1,5 +1,5 @@
 -- Columns, chunks of columns, and the rows of a chunk.
-use Rattle.std.specs.Prelude.{ℕ, Bool, List, [], ◌∷◌, Result, Ok, Err, Option, Some, None, IsTrue, if◌then◌else◌, ◌&&◌, length, ◌==◌, slice_get, map}
+use Rattle.std.specs.Prelude.{ℕ, ◌+◌, ◌^◌, ◌++◌, nat_lt, Bool, true, List, [], ◌∷◌, Result, Ok, Err, Option, Some, None, IsTrue, if◌then◌else◌, ◌&&◌, length, ◌==◌, slice_get, map}
 use Rattle.std.specs.List.{list_all}
 use lib.Pointwise.{pointwise}
 use Rattle.vortex_base.specs.Types.{dtype_eq}
@@ -52,12 +52,42 @@ has_shape ss cs = (length ss == length cs) && all_long (row_count cs) cs
 abbrev pub has_types : List Named → List ColumnData → Bool
 has_types ss cs = pointwise (λ s c. dtype_eq s.1 c.dtype) ss cs
 
+-- the values of one column after those of another of its type, with the sizes added
+abbrev pub appended : ColumnData → ColumnData → ColumnData
+appended c d = record { dtype = c.dtype; values = c.values ++ d.values; size = c.size + d.size }
+
+-- a column that has lost its values
+abbrev pub emptied : ColumnData → ColumnData
+emptied c = record { dtype = c.dtype; values = []; size = c.size }
+
+-- each column with the values of the one beside it after its own
+abbrev pub all_appended : List ColumnData → List ColumnData → List ColumnData
+all_appended (c ∷ cs) (d ∷ ds) = appended c d ∷ all_appended cs ds
+all_appended cs ds = cs
+
+-- there are as many columns on either side, of equal types, and no two sizes add up past 64 bits
+abbrev pub can_append : List ColumnData → List ColumnData → Bool
+can_append cs ds = pointwise (λ c d. dtype_eq c.dtype d.dtype && nat_lt (c.size + d.size) (2 ^ 64)) cs ds
+
 -- the chunk of a scope and columns, where they have its shape and types
 abbrev pub chunk_of : List Named → List ColumnData → Result ChunkData BaseError
 chunk_of ss cs =
     if has_shape ss cs
     then (if has_types ss cs then Ok (record { scope = ss; columns = cs }) else Err Mismatch)
     else Err RowShape
+
+-- no two sizes of columns at one place add up past 64 bits
+abbrev pub sizes_fit : List ColumnData → List ColumnData → Bool
+sizes_fit (c ∷ cs) (d ∷ ds) = nat_lt (c.size + d.size) (2 ^ 64) && sizes_fit cs ds
+sizes_fit cs ds = true
+
+-- the rows of one chunk after those of another of its scope, with the sizes added
+abbrev pub appended_chunk : ChunkData → ChunkData → ChunkData
+appended_chunk k l = record { scope = k.scope; columns = all_appended k.columns l.columns }
+
+-- a chunk that has lost its rows
+abbrev pub emptied_chunk : ChunkData → ChunkData
+emptied_chunk k = record { scope = k.scope; columns = map emptied k.columns }
 
 -- a chunk's columns are of its scope, and each is a column
 abbrev pub is_chunk : ChunkData → Bool

@@ -1,13 +1,14 @@
 //! Columns of one length under a scope.
-ghost use Rattle.std.specs.Prelude.{◌≡◌, ◌<◌, IsTrue, length, slice_get, Some};
+ghost use Rattle.std.specs.Prelude.{◌≡◌, ◌<◌, IsTrue, OnErr, OnOk, length, map, slice_get, Some};
 ghost use Rattle.std.specs.Bool.{OnTrue};
 ghost use Rattle.std.specs.List.{list_all};
 ghost use Rattle.vortex_base.specs.Columns as spec;
 
-use crate::column::Column;
+use crate::column::{Column, append_all};
 use crate::error::BaseError;
 use crate::row::Row;
 use crate::scope::Scope;
+use std::alloc::AllocError;
 use std::marker::Model;
 
 /// The columns of a scope, in its order and all of one length.
@@ -48,6 +49,16 @@ fn all_long(rows: usize, columns: &[Column]) -> bool
         }
     }
     true
+}
+
+fn append_columns(columns: &mut Vec<Column>, others: &mut Vec<Column>) -> Result<(), AllocError>
+    requires { IsTrue (spec.can_append columns.old.items others.old.items) }
+    ensures appended { OnOk result (columns.new.items ≡ spec.all_appended columns.old.items others.old.items) }
+    ensures emptied { OnOk result (others.new.items ≡ map spec.emptied others.old.items) }
+    ensures columns { OnErr result (columns.new.items ≡ columns.old.items) }
+    ensures others { OnErr result (others.new.items ≡ others.old.items) }
+{
+    append_all(columns, others)
 }
 
 impl Chunk {
@@ -100,6 +111,21 @@ impl Chunk {
         ensures is_row { spec.IsRow result }
     {
         Row::of_columns(&self.columns, i)
+    }
+
+    /// Moves the rows of another chunk of the same scope behind this one's, and adds the declared sizes. The other is left without
+    /// rows. Where memory is refused, both are as they were.
+    pub fn append(&mut self, other: &mut Chunk) -> Result<(), AllocError>
+        requires scope { self.old.scope ≡ other.old.scope }
+        requires sizes { IsTrue (spec.sizes_fit self.old.columns other.old.columns) }
+        ensures appended { OnOk result (self.new ≡ spec.appended_chunk self.old other.old) }
+        ensures emptied { OnOk result (other.new ≡ spec.emptied_chunk other.old) }
+        ensures refused { OnErr result ((self.new ≡ self.old) × (other.new ≡ other.old)) }
+    {
+        append_columns(&mut self.columns, &mut other.columns)?;
+        self.rows = row_count(&self.columns);
+        other.rows = 0;
+        Ok(())
     }
 }
 

@@ -1,10 +1,11 @@
 //! The values of a column.
-ghost use Rattle.std.specs.Prelude.{◌≡◌, ◌<◌, length, slice_get, Some, option_copied};
-ghost use Rattle.vortex_base.specs.Columns.{all_fit, column_of, value_at, IsColumn};
+ghost use Rattle.std.specs.Prelude.{◌≡◌, ◌<◌, IsTrue, OnErr, OnOk, length, map, slice_get, Some, option_copied};
+ghost use Rattle.vortex_base.specs.Columns.{all_appended, all_fit, can_append, column_of, emptied, value_at, IsColumn};
 
 use crate::dtype::DType;
 use crate::error::BaseError;
 use crate::scalar_value::ScalarValue;
+use std::alloc::AllocError;
 use std::marker::Model;
 
 /// Values of one type in order, `None` being null, with their declared size.
@@ -94,3 +95,23 @@ impl Column {
         }
     }
 }
+
+/// Moves the values of each other column behind those of the column beside it, and adds the sizes. All room is made first, so
+/// that nothing has moved where memory is refused.
+pub(crate) fn append_all(columns: &mut [Column], others: &mut [Column]) -> Result<(), AllocError>
+    requires { IsTrue (can_append columns.old others.old) }
+    ensures appended { OnOk result (columns.new ≡ all_appended columns.old others.old) }
+    ensures emptied { OnOk result (others.new ≡ map emptied others.old) }
+    ensures refused { OnErr result ((columns.new ≡ columns.old) × (others.new ≡ others.old)) }
+{
+    let (Some((column, columns)), Some((other, others))) =
+        (columns.split_first_mut(), others.split_first_mut())
+    else {
+        return Ok(());
+    };
+    column.values.reserve(other.values.len())?;
+    append_all(columns, others)?;
+    column.size += other.size;
+    column.values.append(&mut other.values)
+}
+
