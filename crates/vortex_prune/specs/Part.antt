@@ -1,0 +1,47 @@
+-- Parts: the columns of some rows, with a set of statistics for each.
+use Rattle.std.specs.Prelude.{◌≡◌, Bool, true, false, List, [], ◌∷◌, IsTrue, Result, Ok, Err, MatchResult, alloc_error, ⊤}
+use lib.Pointwise.{pointwise}
+use Rattle.vortex_base.specs.declared.scalar_value.ScalarValue.{ScalarValue}
+use Rattle.vortex_base.specs.Columns.{ChunkData, ColumnData, IsChunk, appended_chunk, sizes_fit}
+use Rattle.vortex_stats.specs.Claims.{IsTrueOf}
+use Rattle.vortex_stats.specs.Entries.{AreDistinct, entries_fit}
+use Rattle.vortex_stats.specs.Merges.{merged_ordered}
+use Rattle.vortex_stats.specs.declared.error.StatsError.{StatsError}
+use Rattle.vortex_stats.specs.declared.error.StatsError.TheVariants.{Memory, Mismatch, TooLarge}
+use Rattle.vortex_stats.specs.declared.precision.Precision.{Precision}
+use Rattle.vortex_stats.specs.declared.stat.Stat.{Stat}
+
+-- a set of statistics, as the list of its entries
+abbrev pub Entries : Type 0
+Entries = List (Stat × Precision ScalarValue)
+
+-- a part: a chunk, and a set for each of its columns
+pub record PartData : Type 0 where
+  pub chunk : ChunkData
+  pub stats : List Entries
+
+-- there is one set a column, and each fits its column's type
+abbrev pub sets_fit : List ColumnData → List Entries → Bool
+sets_fit cs ss = pointwise (λ c es. entries_fit es c.dtype) cs ss
+
+abbrev pub IsPart : PartData → Type 0
+IsPart p = IsChunk p.chunk × IsTrue (sets_fit p.chunk.columns p.stats)
+
+-- each set is true of the column beside it
+abbrev pub AreTrueSets : List ColumnData → List Entries → Type 0
+AreTrueSets [] [] = ⊤
+AreTrueSets (c ∷ cs) (es ∷ ss) = IsTrueOf es c × AreTrueSets cs ss
+AreTrueSets cs ss = ⊥
+
+-- the statistics of the part are true of its columns
+abbrev pub IsTruePart : PartData → Type 0
+IsTruePart p = AreTrueSets p.chunk.columns p.stats
+
+-- each set merged with the one beside it
+abbrev pub merged_sets : List Entries → List Entries → List Entries
+merged_sets (a ∷ as') (b ∷ bs) = merged_ordered a b ∷ merged_sets as' bs
+merged_sets as' bs = []
+
+-- the rows of one part after those of another of its scope
+abbrev pub joined : PartData → PartData → PartData
+joined p q = record { chunk = appended_chunk p.chunk q.chunk; stats = merged_sets p.stats q.stats }

@@ -1,0 +1,4 @@
+//! Parts of columns with their statistics, and what is pruned by them.
+#![tactic(auto)]
+
+pub mod part;

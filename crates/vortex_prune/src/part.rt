@@ -1,0 +1,92 @@
+//! Parts: chunks of rows, each with the statistics of its columns.
+ghost use Rattle.std.specs.Prelude.{◌≡◌, ◌<◌, IfErr, IfOk, IsOk, IsTrue, length, slice_get, Some};
+ghost use Rattle.vortex_base.specs.Columns.{IsChunk};
+ghost use Rattle.vortex_stats.specs.declared.error.StatsError.TheVariants.{Mismatch};
+ghost use Rattle.vortex_prune.specs.Part.{IsPart, sets_fit};
+
+use std::marker::Model;
+use vortex_base::chunk::Chunk;
+use vortex_stats::error::StatsError;
+use vortex_stats::stats_set::StatsSet;
+
+/// The rows of a chunk, and for each of its columns the statistics that came with it.
+#[derive(Debug, Drop)]
+pub struct Part {
+    chunk: Chunk,
+    stats: Vec<StatsSet>,
+}
+
+impl Model for Part {
+    ghost use Rattle.std.specs.Prelude.{IsTrue};
+    ghost use Rattle.vortex_prune.specs.Part.{PartData, sets_fit};
+
+    ghost Value = { PartData };
+
+    ghost view = { λ p. record { chunk = p.chunk; stats = p.stats.items } };
+
+    ghost invariant = { λ p. IsTrue (sets_fit p.chunk.columns p.stats.items) };
+}
+
+/// A chunk and sets that make no part, handed back beside the cause.
+#[derive(Debug, Drop)]
+pub struct PartRefused {
+    /// `Mismatch`.
+    pub error: StatsError,
+    /// The chunk as it was given.
+    pub chunk: Chunk,
+    /// The sets as they were given.
+    pub stats: Vec<StatsSet>,
+}
+
+// Whether there is one set a column that fits its type.
+fn sets_fit(chunk: &Chunk, stats: &[StatsSet]) -> bool
+    ensures { result ≡ sets_fit chunk.now.columns stats.now }
+{
+    if chunk.scope().len() != stats.len() {
+        return false;
+    }
+    for (i, set) in stats.iter().enumerate() {
+        if !set.fits(&chunk.column(i).dtype()) {
+            return false;
+        }
+    }
+    true
+}
+
+impl Part {
+    /// The part of a chunk and the statistics of its columns, in their order. `Mismatch` unless there is one set a column and
+    /// each fits its column's type. No memory is taken, and what was given comes back with the refusal.
+    pub fn try_new(chunk: Chunk, stats: Vec<StatsSet>) -> Result<Part, PartRefused>
+        ensures made { IfOk result (λ part. part ≡ record { chunk = chunk; stats = stats.items }) }
+        ensures fits { IsTrue (sets_fit chunk.columns stats.items) → IsOk result }
+        ensures error { IfErr result (λ refused. refused.error ≡ Mismatch) }
+        ensures chunk_back { IfErr result (λ refused. refused.chunk ≡ chunk) }
+        ensures stats_back { IfErr result (λ refused. refused.stats ≡ stats) }
+    {
+        if sets_fit(&chunk, &stats) {
+            Ok(Part { chunk, stats })
+        } else {
+            Err(PartRefused {
+                error: StatsError::Mismatch,
+                chunk,
+                stats,
+            })
+        }
+    }
+
+    /// The rows.
+    pub fn chunk(&self) -> &Chunk
+        ensures value { result.now ≡ self.now.chunk }
+        ensures fits { IsTrue (sets_fit self.now.chunk.columns self.now.stats) }
+    {
+        &self.chunk
+    }
+
+    /// The statistics of the column at a place, which the length of the chunk's scope tells to be in range.
+    pub fn stats(&self, i: usize) -> &StatsSet
+        requires { i < length self.now.chunk.scope }
+        ensures { slice_get self.now.stats i ≡ Some result.now }
+    {
+        &self.stats[i]
+    }
+}
