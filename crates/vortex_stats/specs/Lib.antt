@@ -12,3 +12,6 @@ pub mod Entries
 pub mod TypedStats
 pub mod Reading
 pub mod MutTypedStats
+pub mod Claims
+pub mod Merges
+pub mod Combined
