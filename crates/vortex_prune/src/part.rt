@@ -17,14 +17,13 @@ pub struct Part {
 }
 
 impl Model for Part {
-    ghost use Rattle.std.specs.Prelude.{IsTrue};
-    ghost use Rattle.vortex_prune.specs.Part.{PartData, sets_fit};
+    ghost use Rattle.vortex_prune.specs.Part.{PartData, IsPart};
 
     ghost Value = { PartData };
 
     ghost view = { λ p. record { chunk = p.chunk; stats = p.stats.items } };
 
-    ghost invariant = { λ p. IsTrue (sets_fit p.chunk.columns p.stats.items) };
+    ghost invariant = { λ p. IsPart (record { chunk = p.chunk; stats = p.stats.items }) };
 }
 
 /// A chunk and sets that make no part, handed back beside the cause.
@@ -40,7 +39,8 @@ pub struct PartRefused {
 
 // Whether there is one set a column that fits its type.
 fn sets_fit(chunk: &Chunk, stats: &[StatsSet]) -> bool
-    ensures { result ≡ sets_fit chunk.now.columns stats.now }
+    ensures value { result ≡ sets_fit chunk.now.columns stats.now }
+    ensures is_chunk { IsChunk chunk.now }
 {
     if chunk.scope().len() != stats.len() {
         return false;
@@ -77,7 +77,7 @@ impl Part {
     /// The rows.
     pub fn chunk(&self) -> &Chunk
         ensures value { result.now ≡ self.now.chunk }
-        ensures fits { IsTrue (sets_fit self.now.chunk.columns self.now.stats) }
+        ensures is_part { IsPart self.now }
     {
         &self.chunk
     }
@@ -87,6 +87,7 @@ impl Part {
         requires { i < length self.now.chunk.scope }
         ensures { slice_get self.now.stats i ≡ Some result.now }
     {
-        &self.stats[i]
+        let sets = self.stats.as_slice();
+        &sets[i]
     }
 }
