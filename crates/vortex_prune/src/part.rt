@@ -91,3 +91,14 @@ impl Part {
         &sets[i]
     }
 }
+
+/// Two parts that were not joined, handed back beside the cause.
+#[derive(Debug, Drop)]
+pub struct JoinRefused {
+    /// `TooLarge` or `Memory`.
+    pub error: StatsError,
+    /// The first part as it was given.
+    pub left: Part,
+    /// The second part as it was given.
+    pub right: Part,
+}
