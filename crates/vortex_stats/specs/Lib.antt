@@ -14,4 +14,5 @@ pub mod Reading
 pub mod MutTypedStats
 pub mod Claims
 pub mod Merges
+pub mod Changes
 pub mod Combined

@@ -1,5 +1,5 @@
 //! Lists of entries, a statistic and its value each, in a small vector.
-ghost use Rattle.std.specs.Prelude.{◌≡◌, ◌<◌, Some, None, OnOk, OnErr, IsOk, IsTrue, length, slice_set};
+ghost use Rattle.std.specs.Prelude.{◌≡◌, ◌<◌, Some, None, OnOk, OnErr, IsOk, IsTrue, length, slice_set, if◌then◌else◌};
 ghost use Rattle.std.specs.List.{position};
 ghost use Rattle.vortex_stats.specs.Precision.{precision_map};
 ghost use Rattle.vortex_stats.specs.Entries.{entry_value, with_entry, without_entry, retained_entries};
@@ -66,6 +66,15 @@ pub(crate) fn put(
             entries.push((stat, value))?;
             Ok(())
         }
+    }
+}
+
+/// The statistic's entry, if there is one, has this value from here on.
+pub(crate) fn replace(entries: &mut StatsArray, stat: Stat, value: Precision<ScalarValue>)
+    ensures { entries.new.items ≡ (if has_entry stat entries.old.items then with_entry stat value entries.old.items else entries.old.items) }
+{
+    if let Some(i) = place(entries.as_slice(), stat) {
+        write_at(entries.as_mut_slice(), i, (stat, value));
     }
 }
 

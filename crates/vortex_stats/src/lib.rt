@@ -11,6 +11,7 @@ mod chosen;
 mod entries;
 pub mod error;
 pub mod laws;
+mod merge;
 pub mod precision;
 pub mod provider;
 mod reading;

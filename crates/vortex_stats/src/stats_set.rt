@@ -24,7 +24,7 @@ use vortex_base::scalar_value::ScalarValue;
 /// statistic. An entry may hold Absent, and then it still counts.
 #[derive(Debug, Drop)]
 pub struct StatsSet {
-    entries: StatsArray,
+    pub(crate) entries: StatsArray,
 }
 
 impl Model for StatsSet {

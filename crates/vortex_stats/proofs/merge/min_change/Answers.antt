@@ -1,0 +1,23 @@
+use Rattle.std.proofs.Common.{◌≡◌, Some, sym, ap, ◌∙◌}
+use Rattle.std.specs.Option.{option_map}
+use Rattle.vortex_base.specs.Values.{value_cmp}
+use Rattle.vortex_stats.specs.declared.stat.Stat.TheVariants as stats
+use Rattle.vortex_stats.specs.Entries.{entry_value}
+use Rattle.vortex_stats.specs.Precision.{precision_map}
+use Rattle.vortex_stats.specs.LowerBound.{lower_union}
+use Rattle.vortex_stats.proofs.DerivedOrder.{derived_cmp, lower_union-read}
+use Rattle.vortex_stats.proofs.Revisions.{makes-same}
+use Rattle.vortex_stats.proofs.merge.min_change.Goals as goal
+
+pub returns-in-Some : goal.returns-in-Some
+returns-in-Some c =
+    let own = entry_value stats.Min c.args.own.now in
+    let other = entry_value stats.Min c.args.other.now in
+    let chosen : Some c.in-Some.bound ≡ lower_union (λ x y. derived_cmp x.now y.now) c.lift-first.result c.lift.result =
+    ap (option_map (λ b. b)) (sym c.in-Some.is) ∙ c.in_ok-bound.ensures.value in
+    let read_own : precision_map (λ v. v.now) c.lift-first.result ≡ own = ap (precision_map (λ v. v.now)) c.lift-first.ensures ∙ c.find-value.ensures in
+    let read_other : precision_map (λ v. v.now) c.lift.result ≡ other = ap (precision_map (λ v. v.now)) c.lift.ensures ∙ c.find.ensures in
+    let bound : Some (precision_map (λ v. v.now) c.in-Some.bound) ≡ lower_union value_cmp own other =
+    ap (option_map (precision_map (λ v. v.now))) chosen ∙ lower_union-read (λ v. v.now) c.lift-first.result c.lift.result
+    ∙ ap (λ p. lower_union value_cmp p (precision_map (λ v. v.now) c.lift.result)) read_own ∙ ap (λ q. lower_union value_cmp own q) read_other in
+    makes-same c.bound_change.result _ own _ (lower_union value_cmp own other) c.find-value.ensures (ap (λ b. Some (precision_map (λ v. v.now) b)) c.into_value.ensures ∙ bound) c.bound_change.ensures

@@ -1,0 +1,14 @@
+use Rattle.std.proofs.Common.{rules, ◌≡◌, OnOk, OnErr, refl, ap}
+use Rattle.vortex_stats.specs.Merges.{merged_value, all_revised}
+use Rattle.vortex_stats.proofs.Revisions.{merged-written, distinct-written, merged-needs_own}
+use Rattle.vortex_stats.proofs.stats_set.StatsSet.append.Goals as goal
+
+pub returns-clause-merged : goal.returns-clause-merged
+returns-clause-merged c =
+    merged-written c.change_all.result c.in_ok-changes.changes (λ s. merged_value s c.args.self.now c.args.other.now) c.args.self.now c.change_all.new.entries.items
+    (merged-needs_own c.args.self.now c.args.other.now) refl (search rules) (search rules)
+
+pub invariant_of-self : goal.invariant_of-self
+invariant_of-self c =
+    distinct-written c.change_all.result (λ s. merged_value s c.args.self.now c.args.other.now) c.args.self.now c.change_all.new.entries.items
+    (search rules) (returns-clause-merged c) (search rules)

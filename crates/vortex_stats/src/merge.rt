@@ -1,0 +1,389 @@
+//! Merges: the statistics of one array followed by another, from the statistics of both.
+//!
+//! A merge first finds what becomes of each entry, and clones there. Then it writes: the one write that
+//! may add an entry goes first, and no other takes memory. So a refused merge has changed nothing.
+ghost use Rattle.std.specs.Prelude.{◌≡◌, true, false, if◌then◌else◌, IfOk, IfErr, OnOk, OnErr, IsTrue, Some, alloc_error};
+ghost use Rattle.vortex_stats.specs.declared.error.StatsError.TheVariants.{Memory};
+ghost use Rattle.vortex_stats.specs.declared.precision.Precision.TheVariants as precise;
+ghost use Rattle.vortex_stats.specs.declared.stat.Stat.TheVariants as stats;
+ghost use Rattle.vortex_stats.specs.Precision.{precision_map, present_value};
+ghost use Rattle.vortex_stats.specs.Entries.{entry_value, entries_fit};
+ghost use Rattle.vortex_stats.specs.Merges.{truth, is_exactly, seam, at_seam, is_below, is_at_most, sum_added, count_added, count_merged, merged_value, unordered_value, revised, merged_ordered, merged_unordered};
+ghost use Rattle.vortex_stats.specs.Changes.{made, changed, all_changed, MakesAll};
+
+use crate::bound::{LowerBound, UpperBound};
+use crate::entries::{self, StatsArray, find};
+use crate::error::StatsError;
+use crate::precision::Precision;
+use crate::stat::Stat;
+use crate::stat_bound::StatBound;
+use crate::stats_set::{MergeRefused, StatsSet};
+use std::alloc::AllocError;
+use vortex_base::dtype::DType;
+use vortex_base::pvalue::PValue;
+use vortex_base::scalar_value::ScalarValue;
+
+type Entry = (Stat, Precision<ScalarValue>);
+
+/// What becomes of an entry.
+#[derive(Drop)]
+pub(crate) enum Change {
+    /// It stays as it is.
+    Kept,
+    /// It has this value from here on.
+    Set(Precision<ScalarValue>),
+    /// It is removed.
+    Cleared,
+}
+
+impl Change {
+    /// The value, or no entry.
+    fn of(value: Option<Precision<ScalarValue>>) -> Change
+        ensures { (p : _) → made result p ≡ value }
+    {
+        match value {
+            Some(value) => Change::Set(value),
+            None => Change::Cleared,
+        }
+    }
+}
+
+/// An exact truth value.
+fn truth(holds: bool) -> Precision<ScalarValue>
+    ensures { result ≡ truth holds }
+{
+    Precision::Exact(ScalarValue::Bool(holds))
+}
+
+fn is_exactly(holds: bool, value: Precision<&ScalarValue>) -> bool
+    ensures { result ≡ is_exactly holds (precision_map (λ v. v.now) value.entry) }
+{
+    match value {
+        Precision::Exact(ScalarValue::Bool(b)) => *b == holds,
+        _ => false,
+    }
+}
+
+/// IsConstant: false if either side is exactly false; of two that are exactly true whether the exact
+/// minima are equal.
+fn is_constant_value(own: &[Entry], other: &[Entry]) -> Option<Precision<ScalarValue>>
+    ensures { result ≡ merged_value stats.IsConstant own.now other.now }
+{
+    let first = find(own, Stat::IsConstant);
+    let second = find(other, Stat::IsConstant);
+    if is_exactly(false, first) || is_exactly(false, second) {
+        return Some(truth(false));
+    }
+    if !is_exactly(true, first) || !is_exactly(true, second) {
+        return None;
+    }
+    match (find(own, Stat::Min), find(other, Stat::Min)) {
+        (Precision::Exact(x), Precision::Exact(y)) => Some(truth(x.cmp(y).is_eq())),
+        _ => None,
+    }
+}
+
+/// True where the rows are in order, and else unknown, which is written as inexactly false.
+fn seam(in_order: bool) -> Precision<ScalarValue>
+    ensures { result ≡ seam in_order }
+{
+    if in_order {
+        truth(true)
+    } else {
+        Precision::Inexact(ScalarValue::Bool(false))
+    }
+}
+
+/// Whether the greatest value of rows may stand before the least of those that follow.
+fn may_precede(max: &ScalarValue, min: &ScalarValue, is_strict: bool) -> bool
+    ensures { result ≡ (if is_strict then is_below else is_at_most) max.now min.now }
+{
+    if is_strict {
+        max.cmp(min).is_lt()
+    } else {
+        !max.cmp(min).is_gt()
+    }
+}
+
+/// What the order of the first side's greatest value and the other's least tells, where both are known.
+fn at_seam(
+    max: Precision<&ScalarValue>,
+    min: Precision<&ScalarValue>,
+    is_strict: bool,
+) -> Option<Precision<ScalarValue>>
+    ensures { result ≡ at_seam (if is_strict then is_below else is_at_most) (present_value (precision_map (λ v. v.now) max.entry)) (present_value (precision_map (λ v. v.now) min.entry)) }
+{
+    match (max.into_inner(), min.into_inner()) {
+        (Some(max), Some(min)) => Some(seam(may_precede(max, min, is_strict))),
+        _ => None,
+    }
+}
+
+/// IsSorted: whether the first side's greatest value is at most the other's least.
+fn is_sorted_value(own: &[Entry], other: &[Entry]) -> Option<Precision<ScalarValue>>
+    ensures { result ≡ merged_value stats.IsSorted own.now other.now }
+{
+    if is_exactly(true, find(own, Stat::IsSorted)) && is_exactly(true, find(other, Stat::IsSorted)) {
+        at_seam(find(own, Stat::Max), find(other, Stat::Min), false)
+    } else {
+        None
+    }
+}
+
+/// IsStrictSorted: whether the first side's greatest value is below the other's least.
+fn is_strict_sorted_value(own: &[Entry], other: &[Entry]) -> Option<Precision<ScalarValue>>
+    ensures { result ≡ merged_value stats.IsStrictSorted own.now other.now }
+{
+    if is_exactly(true, find(own, Stat::IsStrictSorted)) && is_exactly(true, find(other, Stat::IsStrictSorted)) {
+        at_seam(find(own, Stat::Max), find(other, Stat::Min), true)
+    } else {
+        None
+    }
+}
+
+/// The own value stays where the bound of both is that value; else the bound's value is cloned.
+fn bound_change(
+    own: Precision<&ScalarValue>,
+    bound: Precision<&ScalarValue>,
+) -> Result<Change, AllocError>
+    ensures { IfOk result (λ c. made c (precision_map (λ v. v.now) own.entry) ≡ Some (precision_map (λ v. v.now) bound.entry)) }
+{
+    if bound == own {
+        return Ok(Change::Kept);
+    }
+    Ok(Change::Set(bound.cloned()?))
+}
+
+/// Max: the union of two upper bounds.
+fn max_change(own: &[Entry], other: &[Entry]) -> Result<Change, AllocError>
+    ensures { IfOk result (λ c. made c (entry_value stats.Max own.now) ≡ merged_value stats.Max own.now other.now) }
+{
+    let value = find(own, Stat::Max);
+    let first = UpperBound::lift(value);
+    match first.union(&UpperBound::lift(find(other, Stat::Max)))? {
+        Some(bound) => bound_change(value, bound.into_value()),
+        None => Ok(Change::Cleared),
+    }
+}
+
+/// Min: the union of two lower bounds.
+fn min_change(own: &[Entry], other: &[Entry]) -> Result<Change, AllocError>
+    ensures { IfOk result (λ c. made c (entry_value stats.Min own.now) ≡ merged_value stats.Min own.now other.now) }
+{
+    let value = find(own, Stat::Min);
+    let first = LowerBound::lift(value);
+    match first.union(&LowerBound::lift(find(other, Stat::Min)))? {
+        Some(bound) => bound_change(value, bound.into_value()),
+        None => Ok(Change::Cleared),
+    }
+}
+
+/// The sum of two sums, where it stays in their type.
+fn sum_of(own: &ScalarValue, other: &ScalarValue) -> Option<Precision<ScalarValue>>
+    ensures { result ≡ sum_added own.now other.now }
+{
+    match (own, other) {
+        (
+            ScalarValue::Primitive(PValue::I64(m)),
+            ScalarValue::Primitive(PValue::I64(n)),
+        ) => match m.checked_add(*n) {
+            Some(sum) => Some(Precision::Exact(ScalarValue::from(sum))),
+            None => None,
+        },
+        (
+            ScalarValue::Primitive(PValue::U64(m)),
+            ScalarValue::Primitive(PValue::U64(n)),
+        ) => match m.checked_add(*n) {
+            Some(sum) => Some(Precision::Exact(ScalarValue::from(sum))),
+            None => None,
+        },
+        _ => None,
+    }
+}
+
+/// Sum: of two exact ones.
+fn sum_value(own: &[Entry], other: &[Entry]) -> Option<Precision<ScalarValue>>
+    ensures { result ≡ merged_value stats.Sum own.now other.now }
+{
+    match (find(own, Stat::Sum), find(other, Stat::Sum)) {
+        (Precision::Exact(m), Precision::Exact(n)) => sum_of(m, n),
+        _ => None,
+    }
+}
+
+/// The sum of two counts, where it stays below 2 ^ 64.
+fn sum_of_counts(own: &ScalarValue, other: &ScalarValue, is_exact: bool) -> Option<Precision<ScalarValue>>
+    ensures { result ≡ count_added (λ v. if is_exact then precise.Exact v else precise.Inexact v) own.now other.now }
+{
+    match (own, other) {
+        (
+            ScalarValue::Primitive(PValue::U64(m)),
+            ScalarValue::Primitive(PValue::U64(n)),
+        ) => {
+            let sum = ScalarValue::from(m.checked_add(*n)?);
+            Some(if is_exact { Precision::Exact(sum) } else { Precision::Inexact(sum) })
+        }
+        _ => None,
+    }
+}
+
+/// NullCount and UncompressedSizeInBytes: the sum, exact of two exact ones.
+fn count_value(own: Precision<&ScalarValue>, other: Precision<&ScalarValue>) -> Option<Precision<ScalarValue>>
+    ensures { result ≡ count_merged (precision_map (λ v. v.now) own.entry) (precision_map (λ v. v.now) other.entry) }
+{
+    match own.zip(other) {
+        Precision::Exact((m, n)) => sum_of_counts(m, n, true),
+        Precision::Inexact((m, n)) => sum_of_counts(m, n, false),
+        Precision::Absent => None,
+    }
+}
+
+/// What becomes of each entry. NaNCount has none, and is always cleared.
+#[derive(Drop)]
+pub(crate) struct Changes {
+    is_constant: Option<Precision<ScalarValue>>,
+    is_sorted: Change,
+    is_strict_sorted: Change,
+    max: Change,
+    min: Change,
+    sum: Change,
+    null_count: Change,
+    uncompressed_size_in_bytes: Change,
+}
+
+/// What becomes of each entry where the rows of the other side follow.
+fn ordered_changes(own: &[Entry], other: &[Entry]) -> Result<Changes, AllocError>
+    ensures { IfOk result (λ c. MakesAll c (λ s. merged_value s own.now other.now) own.now) }
+{
+    Ok(Changes {
+        is_constant: is_constant_value(own, other),
+        is_sorted: Change::of(is_sorted_value(own, other)),
+        is_strict_sorted: Change::of(is_strict_sorted_value(own, other)),
+        max: max_change(own, other)?,
+        min: min_change(own, other)?,
+        sum: Change::of(sum_value(own, other)),
+        null_count: Change::of(count_value(find(own, Stat::NullCount), find(other, Stat::NullCount))),
+        uncompressed_size_in_bytes: Change::of(count_value(
+            find(own, Stat::UncompressedSizeInBytes),
+            find(other, Stat::UncompressedSizeInBytes),
+        )),
+    })
+}
+
+/// What becomes of each entry where the order of the rows isn't known.
+fn unordered_changes(own: &[Entry], other: &[Entry]) -> Result<Changes, AllocError>
+    ensures { IfOk result (λ c. MakesAll c (λ s. unordered_value s own.now other.now) own.now) }
+{
+    let mut changes = ordered_changes(own, other)?;
+    changes.is_sorted = Change::Cleared;
+    changes.is_strict_sorted = Change::Cleared;
+    Ok(changes)
+}
+
+/// Writes the one value that a merge may add, and nothing where memory is refused.
+fn place(
+    entries: &mut StatsArray,
+    stat: Stat,
+    value: Option<Precision<ScalarValue>>,
+) -> Result<(), AllocError>
+    ensures written { OnOk result (entries.new.items ≡ revised stat value entries.old.items) }
+    ensures refused { OnErr result (entries.new ≡ entries.old) }
+{
+    match value {
+        Some(value) => entries::put(entries, stat, value),
+        None => {
+            entries::remove(entries, stat);
+            Ok(())
+        }
+    }
+}
+
+/// Changes the statistic's entry, which takes no memory.
+fn change_entry(entries: &mut StatsArray, stat: Stat, change: Change)
+    ensures { entries.new.items ≡ changed stat change entries.old.items }
+{
+    match change {
+        Change::Kept => {}
+        Change::Set(value) => entries::replace(entries, stat, value),
+        Change::Cleared => entries::remove(entries, stat),
+    }
+}
+
+/// Changes all entries. Where memory is refused nothing has changed.
+fn change_all(entries: &mut StatsArray, changes: Changes) -> Result<(), AllocError>
+    ensures written { OnOk result (entries.new.items ≡ all_changed changes entries.old.items) }
+    ensures refused { OnErr result (entries.new ≡ entries.old) }
+{
+    place(entries, Stat::IsConstant, changes.is_constant)?;
+    change_entry(entries, Stat::IsSorted, changes.is_sorted);
+    change_entry(entries, Stat::IsStrictSorted, changes.is_strict_sorted);
+    change_entry(entries, Stat::Max, changes.max);
+    change_entry(entries, Stat::Min, changes.min);
+    change_entry(entries, Stat::Sum, changes.sum);
+    change_entry(entries, Stat::NullCount, changes.null_count);
+    change_entry(entries, Stat::UncompressedSizeInBytes, changes.uncompressed_size_in_bytes);
+    entries::remove(entries, Stat::NaNCount);
+    Ok(())
+}
+
+impl StatsSet {
+    /// The merge in place. Where memory is refused, the set stays as it was.
+    pub(crate) fn append(&mut self, other: &Self) -> Result<(), AllocError>
+        ensures merged { OnOk result (self.new ≡ merged_ordered self.old other.now) }
+        ensures refused { OnErr result (self.new ≡ self.old) }
+    {
+        let changes = ordered_changes(self.entries.as_slice(), other.entries.as_slice())?;
+        change_all(&mut self.entries, changes)
+    }
+
+    /// The unordered merge in place. Where memory is refused, the set stays as it was.
+    pub(crate) fn mix(&mut self, other: &Self) -> Result<(), AllocError>
+        ensures merged { OnOk result (self.new ≡ merged_unordered self.old other.now) }
+        ensures refused { OnErr result (self.new ≡ self.old) }
+    {
+        let changes = unordered_changes(self.entries.as_slice(), other.entries.as_slice())?;
+        change_all(&mut self.entries, changes)
+    }
+
+    /// The statistics of the array of this set followed by the array of the other. Both sets fit the
+    /// type of the column, as `fits` tells. `Memory` if a growth or a clone is refused, and then this
+    /// set is handed back as it was.
+    pub fn merge_ordered(mut self, other: &Self, dtype: &DType) -> Result<StatsSet, MergeRefused>
+        requires own_fits { IsTrue (entries_fit self dtype.now) }
+        requires other_fits { IsTrue (entries_fit other.now dtype.now) }
+        ensures merged { IfOk result (λ set. set ≡ merged_ordered self other.now) }
+        ensures fits { IfOk result (λ set. IsTrue (entries_fit set dtype.now)) }
+        ensures unchanged { IfErr result (λ r. r.set ≡ self) }
+        ensures memory { IfErr result (λ r. r.error ≡ Memory alloc_error) }
+    {
+        let _ = dtype;
+        match self.append(other) {
+            Ok(()) => Ok(self),
+            Err(refused) => Err(MergeRefused {
+                error: StatsError::Memory(refused),
+                set: self,
+            }),
+        }
+    }
+
+    /// The statistics of any arrangement of the rows of both arrays. Both sets fit the type of the
+    /// column, as `fits` tells. `Memory` if a growth or a clone is refused, and then this set is handed
+    /// back as it was.
+    pub fn merge_unordered(mut self, other: &Self, dtype: &DType) -> Result<StatsSet, MergeRefused>
+        requires own_fits { IsTrue (entries_fit self dtype.now) }
+        requires other_fits { IsTrue (entries_fit other.now dtype.now) }
+        ensures merged { IfOk result (λ set. set ≡ merged_unordered self other.now) }
+        ensures fits { IfOk result (λ set. IsTrue (entries_fit set dtype.now)) }
+        ensures unchanged { IfErr result (λ r. r.set ≡ self) }
+        ensures memory { IfErr result (λ r. r.error ≡ Memory alloc_error) }
+    {
+        let _ = dtype;
+        match self.mix(other) {
+            Ok(()) => Ok(self),
+            Err(refused) => Err(MergeRefused {
+                error: StatsError::Memory(refused),
+                set: self,
+            }),
+        }
+    }
+}
