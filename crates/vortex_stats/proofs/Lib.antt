@@ -1,3 +1,12 @@
 pub mod Bits
 pub mod Places
 pub mod Fitting
+pub mod ValueOrder
+pub mod Lookups
+pub mod Extremes
+pub mod Counts
+pub mod Sums
+pub mod Constants
+pub mod Ascending
+pub mod MergedFit
+pub mod MergedTruth

@@ -9,6 +9,8 @@ ghost use Rattle.vortex_stats.specs.declared.stat.Stat.{Stat};
 ghost use Rattle.vortex_stats.specs.Stat.{stat_number, stat_eq, IsTold, IsColumnType, AgreesWithAggregate, stats_are_told, stats_agree};
 ghost use Rattle.vortex_stats.specs.Bitset.{IsBitsetOf, stats_in, distinct_ascending};
 
+pub mod truth;
+
 use crate::stat::Stat;
 use std::hash::Hash;
 
