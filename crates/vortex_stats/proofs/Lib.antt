@@ -10,3 +10,6 @@ pub mod Constants
 pub mod Ascending
 pub mod MergedFit
 pub mod MergedTruth
+pub mod CombinedTruth
+pub mod KeptTruth
+pub mod UnorderedTruth
