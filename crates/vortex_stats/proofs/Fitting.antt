@@ -13,11 +13,11 @@ use Rattle.vortex_stats.specs.Precision.{precision_map, IfPresent}
 use Rattle.vortex_stats.specs.Stat.{stat_dtype, same_from_stat_eq}
 use Rattle.vortex_stats.specs.Entries.{is_entry_of, entry_value, with_entry, is_value_of, value_fits, entries_fit}
 
-first_true : (a b : Bool) → (a && b) ≡ true → a ≡ true
+pub first_true : (a b : Bool) → (a && b) ≡ true → a ≡ true
 first_true true b h = refl
 first_true false b h = absurd (true≢false (sym h))
 
-second_true : (a b : Bool) → (a && b) ≡ true → b ≡ true
+pub second_true : (a b : Bool) → (a && b) ≡ true → b ≡ true
 second_true true b h = h
 second_true false b h = absurd (true≢false (sym h))
 

@@ -5,3 +5,15 @@ pub mod Mapped
 pub mod DerivedOrder
 pub mod Revisions
 pub mod MergedFits
+pub mod ValueOrder
+pub mod Lookups
+pub mod Extremes
+pub mod Counts
+pub mod Sums
+pub mod Constants
+pub mod Ascending
+pub mod MergedFit
+pub mod MergedTruth
+pub mod CombinedTruth
+pub mod KeptTruth
+pub mod UnorderedTruth

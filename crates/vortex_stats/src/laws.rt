@@ -9,6 +9,8 @@ ghost use Rattle.vortex_stats.specs.declared.stat.Stat.{Stat};
 ghost use Rattle.vortex_stats.specs.Stat.{stat_number, stat_eq, pruning_stats, IsTold, IsColumnType, AgreesWithAggregate};
 ghost use Rattle.vortex_stats.specs.Bitset.{IsBitsetOf, stats_in, distinct_ascending};
 
+pub mod truth;
+
 use crate::stat::{PRUNING_STATS, Stat};
 use std::hash::Hash;
 

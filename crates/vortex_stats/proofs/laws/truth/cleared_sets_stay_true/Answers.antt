@@ -1,0 +1,5 @@
+use Rattle.vortex_stats.proofs.KeptTruth.{without_entry_is_true}
+use Rattle.vortex_stats.proofs.laws.truth.cleared_sets_stay_true.Goals as goal
+
+pub returns : goal.returns
+returns c = without_entry_is_true

@@ -1,0 +1,5 @@
+use Rattle.vortex_stats.proofs.CombinedTruth.{combined_is_true}
+use Rattle.vortex_stats.proofs.laws.truth.true_sets_agree.Goals as goal
+
+pub returns : goal.returns
+returns c = λ a b r d p q. (combined_is_true r a b d p q).0
