@@ -21,7 +21,7 @@ use Rattle.vortex_stats.specs.declared.stat.Stat.TheVariants.{IsConstant, IsSort
 use Rattle.vortex_stats.specs.declared.precision.Precision.{Precision}
 use Rattle.vortex_stats.specs.declared.precision.Precision.TheVariants.{Exact, Inexact, Absent}
 use Rattle.vortex_stats.specs.Entries.{entry_value, with_entry, without_entry, is_value_of, value_fits, entries_fit}
-use Rattle.vortex_stats.specs.Merges.{is_exactly, same_minima, constant_merged, truth, seam, at_seam, order_merged, is_at_most, is_below, sum_added, sum_merged, count_added, count_merged, merged_value, revised, all_revised, merged_ordered}
+use Rattle.vortex_stats.specs.Merges.{is_exactly, same_minima, constant_merged, truth, seam, at_seam, order_merged, is_at_most, is_below, sum_added, sum_merged, count_added, count_merged, merged_value, revised, all_revised, merged_ordered, merged_unordered, unordered_value}
 use Rattle.vortex_stats.specs.Precision.{present_value}
 use Rattle.vortex_stats.specs.Stat.{stat_dtype}
 use Rattle.vortex_stats.specs.UpperBound.{upper_union}
@@ -159,3 +159,23 @@ all_revised_fit v t es h f =
     (revised_fits NullCount t (v NullCount) _ (h NullCount) (revised_fits Sum t (v Sum) _ (h Sum) (revised_fits Min t (v Min) _ (h Min)
     (revised_fits Max t (v Max) _ (h Max) (revised_fits IsStrictSorted t (v IsStrictSorted) _ (h IsStrictSorted)
     (revised_fits IsSorted t (v IsSorted) _ (h IsSorted) (revised_fits IsConstant t (v IsConstant) es (h IsConstant) f))))))))
+
+-- so do the values of an unordered merge
+pub unordered_value_fits : (s : Stat) (t : DType) (a b : List (Stat × Precision ScalarValue)) → entries_fit a t ≡ true → entries_fit b t ≡ true → Fits s t (unordered_value s a b)
+unordered_value_fits IsConstant t a b f g = merged_value_fits IsConstant t a b f g
+unordered_value_fits IsSorted t a b f g = tt
+unordered_value_fits IsStrictSorted t a b f g = tt
+unordered_value_fits Max t a b f g = merged_value_fits Max t a b f g
+unordered_value_fits Min t a b f g = merged_value_fits Min t a b f g
+unordered_value_fits Sum t a b f g = merged_value_fits Sum t a b f g
+unordered_value_fits NullCount t a b f g = merged_value_fits NullCount t a b f g
+unordered_value_fits UncompressedSizeInBytes t a b f g = merged_value_fits UncompressedSizeInBytes t a b f g
+unordered_value_fits NaNCount t a b f g = merged_value_fits NaNCount t a b f g
+
+-- an ordered merge of sets that fit a type fits it
+pub merged_ordered_fits : (t : DType) (a b : List (Stat × Precision ScalarValue)) → entries_fit a t ≡ true → entries_fit b t ≡ true → entries_fit (merged_ordered a b) t ≡ true
+merged_ordered_fits t a b f g = all_revised_fit (λ s. merged_value s a b) t a (λ s. merged_value_fits s t a b f g) f
+
+-- so does an unordered one
+pub merged_unordered_fits : (t : DType) (a b : List (Stat × Precision ScalarValue)) → entries_fit a t ≡ true → entries_fit b t ≡ true → entries_fit (merged_unordered a b) t ≡ true
+merged_unordered_fits t a b f g = all_revised_fit (λ s. unordered_value s a b) t a (λ s. unordered_value_fits s t a b f g) f
