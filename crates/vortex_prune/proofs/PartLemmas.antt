@@ -1,14 +1,18 @@
 -- A part has as many sets as columns.
-use Rattle.std.proofs.Common.{◌≡◌, ◌<◌, ◌==◌, ◌&&◌, ◌+◌, ◌^◌, ◌≤◌, ℕ, zero, suc, nat_lt, Bool, true, false, List, [], ◌∷◌, Some, length, get_or, drop, refl, sym, ap, subst, ◌∙◌, arith}
+use Rattle.std.proofs.Common.{◌≡◌, ◌<◌, ◌==◌, ◌&&◌, ◌+◌, ◌^◌, ◌≤◌, ℕ, zero, suc, nat_lt, Bool, true, false, List, [], ◌∷◌, ◌++◌, append_assoc, Some, length, get_or, drop, refl, sym, ap, subst, ◌∙◌, arith}
 use Rattle.std.specs.Prelude.{slice_get}
 use Rattle.std.proofs.lemmas.List.{drop_all, drop_more}
-use Rattle.std.proofs.lemmas.Option.{get_or_from_slice_get, slice_get_read}
+use Rattle.std.proofs.lemmas.Option.{get_or_from_slice_get, slice_get-get_or, slice_get_read}
 use Rattle.std.proofs.lemmas.Bool.Decides.{nat_tests}
 use lib.Pointwise.{pointwise_long}
-use Rattle.vortex_base.specs.Columns.{ChunkData, ColumnData, IsChunk, sizes_fit}
+use Rattle.vortex_base.specs.Columns.{ChunkData, ColumnData, IsChunk, has_types, sizes_fit}
 use Rattle.vortex_base.specs.Exact.{both_true}
-use Rattle.vortex_prune.specs.Part.{Entries, IsPart, PartData, sets_fit}
+use Rattle.vortex_base.specs.Scopes.{Named}
+use Rattle.vortex_base.specs.Types.{dtype_eq, dtype_eq_is_exact}
+use Rattle.vortex_base.specs.declared.dtype.DType.{DType}
+use Rattle.vortex_prune.specs.Part.{Entries, IsPart, PartData, merged_sets, sets_fit}
 use Rattle.vortex_stats.specs.Entries.{entries_fit}
+use Rattle.vortex_stats.specs.Merges.{merged_ordered}
 
 equal_lengths : (m n : ℕ) → (m == n) ≡ true → m ≡ n
 equal_lengths m n h = grind (arith, nat_tests)
@@ -80,3 +84,53 @@ sizes_go_on cs ds i c d b there there' fits all = sym (sizes_step cs ds i c d th
 -- past the last column nothing is left to fit
 pub sizes_done : (cs ds : List ColumnData) (i : ℕ) (b : Bool) → length cs ≤ i → sizes_fit (drop i cs) (drop i ds) ≡ b → true ≡ b
 sizes_done cs ds i b past all = sym (rw (drop_all i cs past) refl) ∙ all
+
+fits_at : (cs : List ColumnData) (ss : List Entries) (i : ℕ) (c : ColumnData) (es : Entries) → sets_fit cs ss ≡ true → slice_get cs i ≡ Some c → slice_get ss i ≡ Some es
+    → entries_fit es c.dtype ≡ true
+fits_at [] ss i c es h there set = cc
+fits_at (x ∷ xs) [] i c es h there set = cc
+fits_at (x ∷ xs) (s ∷ ss) zero c es h there set = (let same : x ≡ c = cc in let own : s ≡ es = cc in rw (← same, ← own) ((both_true _ _ h).0))
+fits_at (x ∷ xs) (s ∷ ss) (suc i) c es h there set = fits_at xs ss i c es (both_true _ _ h).1 there set
+
+-- the set of a column fits its type
+pub own_set_fits : (p : PartData) (i : ℕ) (c : ColumnData) (es : Entries) → IsPart p → slice_get p.chunk.columns i ≡ Some c → slice_get p.stats i ≡ Some es → entries_fit es c.dtype ≡ true
+own_set_fits p i c es h there set = fits_at p.chunk.columns p.stats i c es h.1 there set
+
+same_types : (r s t : DType) → dtype_eq r s ≡ true → dtype_eq r t ≡ true → s ≡ t
+same_types r s t p q = sym ((dtype_eq_is_exact r s).0 p) ∙ (dtype_eq_is_exact r t).0 q
+
+other_fits_at : (ns : List Named) (cs ds : List ColumnData) (ss : List Entries) (i : ℕ) (c : ColumnData) (es : Entries) → has_types ns cs ≡ true → has_types ns ds ≡ true → sets_fit ds ss ≡ true
+    → slice_get cs i ≡ Some c → slice_get ss i ≡ Some es → entries_fit es c.dtype ≡ true
+other_fits_at ns [] ds ss i c es p q h there set = cc
+other_fits_at [] (x ∷ xs) ds ss i c es p q h there set = cc
+other_fits_at (n ∷ ns) (x ∷ xs) [] ss i c es p q h there set = cc
+other_fits_at (n ∷ ns) (x ∷ xs) (d ∷ ds) [] i c es p q h there set = cc
+other_fits_at (n ∷ ns) (x ∷ xs) (d ∷ ds) (s ∷ ss) zero c es p q h there set =
+    let same : x ≡ c = cc in
+    let own : s ≡ es = cc in
+    let types : d.dtype ≡ x.dtype = same_types n.1 d.dtype x.dtype (both_true _ _ q).0 (both_true _ _ p).0 in
+    let fits : entries_fit s d.dtype ≡ true = (both_true _ _ h).0 in
+    rw (← same, ← own, ← types) fits
+other_fits_at (n ∷ ns) (x ∷ xs) (d ∷ ds) (s ∷ ss) (suc i) c es p q h there set =
+    other_fits_at ns xs ds ss i c es (both_true _ _ p).1 (both_true _ _ q).1 (both_true _ _ h).1 there set
+
+types_of : (k : ChunkData) → IsChunk k → has_types k.scope k.columns ≡ true
+types_of k h = (both_true _ _ (both_true _ _ (both_true _ _ h).1).1).0
+
+-- the set of a column of another part of the same scope fits it too
+pub other_set_fits : (p q : PartData) (i : ℕ) (c : ColumnData) (es : Entries) → IsPart p → IsPart q → p.chunk.scope ≡ q.chunk.scope
+    → slice_get p.chunk.columns i ≡ Some c → slice_get q.stats i ≡ Some es → entries_fit es c.dtype ≡ true
+other_set_fits p q i c es h g same there set =
+    other_fits_at p.chunk.scope p.chunk.columns q.chunk.columns q.stats i c es (types_of p.chunk h.0)
+    (subst (λ (ns : List Named). has_types ns q.chunk.columns ≡ true) (sym same) (types_of q.chunk g.0)) g.1 there set
+
+-- one more set is merged
+pub sets_pushed : (xs ys : List Entries) (i : ℕ) (set : Entries) (old new all : List Entries) → i < length xs → i < length ys
+    → ((a b : Entries) → slice_get xs i ≡ Some a → slice_get ys i ≡ Some b → set ≡ merged_ordered a b)
+    → new ≡ old ++ set ∷ [] → old ++ merged_sets (drop i xs) (drop i ys) ≡ all
+    → new ++ merged_sets (drop (i + 1) xs) (drop (i + 1) ys) ≡ all
+sets_pushed xs ys i set old new all within within' merged pushed before =
+    let rest = merged_sets (drop (i + 1) xs) (drop (i + 1) ys) in
+    let is = merged (get_or xs i []) (get_or ys i []) (slice_get-get_or xs i [] within) (slice_get-get_or ys i [] within') in
+    let split : merged_sets (drop i xs) (drop i ys) ≡ set ∷ rest = rw (drop_more xs i [] within, drop_more ys i [] within', is) refl in
+    ap (λ l. l ++ rest) pushed ∙ append_assoc old (set ∷ []) rest ∙ ap (λ l. old ++ l) (sym split) ∙ before

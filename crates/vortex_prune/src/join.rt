@@ -1,8 +1,17 @@
 //! Parts joined to one.
-ghost use Rattle.std.specs.Prelude.{◌≡◌, ◌+◌, ◌^◌, nat_lt};
+ghost use Rattle.std.specs.Prelude.{◌≡◌, ◌+◌, ◌<◌, ◌^◌, IfErr, IfOk, IsTrue, alloc_error, length, nat_lt, slice_get, Some};
+ghost use Rattle.std.specs.Bool.{MatchBool};
 ghost use Rattle.vortex_base.specs.Columns.{sizes_fit};
+ghost use Rattle.vortex_prune.specs.Part.{Entries, IsPart, IsTruePart, joined, merged_sets, sets_fit};
+ghost use Rattle.vortex_stats.specs.Entries.{entries_fit};
+ghost use Rattle.vortex_stats.specs.Merges.{merged_ordered};
+ghost use Rattle.vortex_stats.specs.declared.error.StatsError.TheVariants.{Memory, TooLarge};
 
+use crate::part::Part;
+use std::alloc::{AllocError, Global};
 use vortex_base::chunk::Chunk;
+use vortex_stats::error::StatsError;
+use vortex_stats::stats_set::StatsSet;
 
 // Whether two sizes add up to no more than `u64` has.
 fn fit_together(left: u64, right: u64) -> bool
@@ -22,4 +31,34 @@ fn sizes_fit(left: &Chunk, right: &Chunk) -> bool
         }
     }
     true
+}
+
+// The set of one column of the joined part. The sets that it is made of stay as they are.
+fn merged_set(left: &Part, right: &Part, i: usize) -> Result<StatsSet, AllocError>
+    requires scope { left.now.chunk.scope ≡ right.now.chunk.scope }
+    requires within { i < length left.now.chunk.scope }
+    ensures merged { IfOk result (λ set. (a b : Entries) → slice_get left.now.stats i ≡ Some a → slice_get right.now.stats i ≡ Some b
+        → set ≡ merged_ordered a b) }
+    ensures left_part { IsPart left.now }
+    ensures right_part { IsPart right.now }
+{
+    let dtype = left.chunk().column(i).dtype();
+    let other = right.stats(i);
+    let own = left.stats(i).try_clone()?;
+    match own.merge_ordered(other, &dtype) {
+        Ok(set) => Ok(set),
+        Err(_) => Err(AllocError),
+    }
+}
+
+// The sets of the joined part's columns.
+fn merged_sets(alloc: Global, left: &Part, right: &Part) -> Result<Vec<StatsSet>, AllocError>
+    requires { left.now.chunk.scope ≡ right.now.chunk.scope }
+    ensures { IfOk result (λ sets. sets.items ≡ merged_sets left.now.stats right.now.stats) }
+{
+    let mut sets = Vec::new(alloc);
+    for i in 0..left.chunk().scope().len() {
+        sets.push(merged_set(left, right, i)?)?;
+    }
+    Ok(sets)
 }

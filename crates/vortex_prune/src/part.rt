@@ -85,7 +85,8 @@ impl Part {
     /// The statistics of the column at a place, which the length of the chunk's scope tells to be in range.
     pub fn stats(&self, i: usize) -> &StatsSet
         requires { i < length self.now.chunk.scope }
-        ensures { slice_get self.now.stats i ≡ Some result.now }
+        ensures value { slice_get self.now.stats i ≡ Some result.now }
+        ensures is_part { IsPart self.now }
     {
         let sets = self.stats.as_slice();
         &sets[i]

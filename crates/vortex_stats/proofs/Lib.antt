@@ -4,7 +4,6 @@ pub mod Fitting
 pub mod Mapped
 pub mod DerivedOrder
 pub mod Revisions
-pub mod MergedFits
 pub mod ValueOrder
 pub mod Lookups
 pub mod Extremes
