@@ -1,5 +1,4 @@
 //! Parts of columns with their statistics, and what is pruned by them.
 #![tactic(auto)]
 
-mod join;
 pub mod part;

@@ -4,6 +4,8 @@ ghost use Rattle.vortex_base.specs.Columns.{IsChunk};
 ghost use Rattle.vortex_stats.specs.declared.error.StatsError.TheVariants.{Mismatch};
 ghost use Rattle.vortex_prune.specs.Part.{IsPart, sets_fit};
 
+mod join;
+
 use std::marker::Model;
 use vortex_base::chunk::Chunk;
 use vortex_stats::error::StatsError;

@@ -1,6 +1,6 @@
 use Rattle.std.proofs.Common.{◌≡◌, drop}
 use Rattle.vortex_base.specs.Columns.{sizes_fit}
-use Rattle.vortex_prune.proofs.join.sizes_fit.Given as goal
+use Rattle.vortex_prune.proofs.part.join.sizes_fit.Given as goal
 
 -- the sizes so far fit, so the rest decides
 abbrev pub invariant-loop-i : goal.invariant-loop-i

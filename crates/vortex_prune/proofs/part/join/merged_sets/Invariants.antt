@@ -1,6 +1,6 @@
 use Rattle.std.proofs.Common.{◌≡◌, ◌++◌, drop}
 use Rattle.vortex_prune.specs.Part.{merged_sets}
-use Rattle.vortex_prune.proofs.join.merged_sets.Given as goal
+use Rattle.vortex_prune.proofs.part.join.merged_sets.Given as goal
 
 -- the sets so far, and those to come, are all
 abbrev pub invariant-loop-i : goal.invariant-loop-i

@@ -1,5 +1,5 @@
 use Rattle.vortex_prune.proofs.PartLemmas.{other_set_fits, own_set_fits}
-use Rattle.vortex_prune.proofs.join.merged_set.Goals as goal
+use Rattle.vortex_prune.proofs.part.join.merged_set.Goals as goal
 
 pub merge_ordered-requires-clause-own_fits : goal.merge_ordered-requires-clause-own_fits
 merge_ordered-requires-clause-own_fits c =

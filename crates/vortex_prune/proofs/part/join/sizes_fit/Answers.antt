@@ -1,6 +1,6 @@
 use Rattle.std.proofs.Common.{sym, ◌∙◌}
 use Rattle.vortex_prune.proofs.PartLemmas.{sizes_go_on, sizes_stop}
-use Rattle.vortex_prune.proofs.join.sizes_fit.Goals as goal
+use Rattle.vortex_prune.proofs.part.join.sizes_fit.Goals as goal
 
 pub returns-then-not-fit_together : goal.returns-then-not-fit_together
 returns-then-not-fit_together c =
