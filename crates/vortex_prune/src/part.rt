@@ -105,3 +105,6 @@ pub struct JoinRefused {
     /// The second part as it was given.
     pub right: Part,
 }
+
+#[cfg(test)]
+mod tests;

@@ -105,14 +105,26 @@ fn append(left: Part, right: Part, stats: Vec<StatsSet>) -> Result<Part, JoinRef
     ensures left_back { IfErr result (λ refused. refused.left ≡ left) }
     ensures right_back { IfErr result (λ refused. refused.right ≡ right) }
 {
-    let Part { mut chunk, stats: left_stats } = left;
-    let Part { chunk: mut other, stats: right_stats } = right;
+    let Part {
+        mut chunk,
+        stats: left_stats,
+    } = left;
+    let Part {
+        chunk: mut other,
+        stats: right_stats,
+    } = right;
     match chunk.append(&mut other) {
         Ok(()) => Ok(Part { chunk, stats }),
         Err(refused) => Err(JoinRefused {
             error: StatsError::Memory(refused),
-            left: Part { chunk, stats: left_stats },
-            right: Part { chunk: other, stats: right_stats },
+            left: Part {
+                chunk,
+                stats: left_stats,
+            },
+            right: Part {
+                chunk: other,
+                stats: right_stats,
+            },
         }),
     }
 }
