@@ -13,7 +13,6 @@ use Rattle.vortex_base.specs.declared.error.BaseError.TheVariants.{EmptyScope, D
 use Rattle.vortex_base.specs.Types.{is_nullable, as_nullable, eq_ignore_nullability}
 use Rattle.vortex_base.specs.Values.{is_value, value_cmp}
 use Rattle.vortex_base.specs.Scalars.{is_optional_value}
-use Rattle.vortex_base.specs.FromScalars.{bool_read, signed_read, unsigned_read, text_read, bytes_read}
 use Rattle.vortex_base.specs.Scopes.{Named, scope_of, place_of}
 use Rattle.vortex_base.specs.Columns.{ColumnData, column_of, chunk_of, row_of}
 
@@ -111,18 +110,3 @@ pub record ChunkExamples : Type 0 where
   pub null_apart : chunk_of (column_a ∷ []) (record { dtype = i32_or_null; values = []; size = 0 } ∷ []) ≡ Err Mismatch
   pub the_row : row_of 1 (of_numbers (Some (i32_value 1) ∷ Some (i32_value 2) ∷ []) ∷ of_bools (Some (value.Bool true) ∷ None ∷ []) ∷ [])
       ≡ record { dtype = i32_type; value = Some (i32_value 2) } ∷ record { dtype = dtype.Bool Nullable; value = None } ∷ []
-
--- what Rust's types read
-pub record ReadExamples : Type 0 where
-  pub narrower : unsigned_read ptype.U8 (Some (i32_value 200)) ≡ Ok 200
-  pub too_great : unsigned_read ptype.U8 (Some (i32_value 256)) ≡ Err Mismatch
-  pub below_zero : unsigned_read ptype.U64 (Some (value.Primitive (number.I32 (negsuc 0)))) ≡ Err Mismatch
-  pub least_i8 : signed_read ptype.I8 (Some (value.Primitive (number.I32 (negsuc 127)))) ≡ Ok (negsuc 127)
-  pub too_small : signed_read ptype.I8 (Some (value.Primitive (number.I32 (negsuc 128)))) ≡ Err Mismatch
-  pub wider : signed_read ptype.I64 (Some (value.Primitive (number.U8 7))) ≡ Ok (pos 7)
-  pub no_number : unsigned_read ptype.U8 (Some (value.Bool true)) ≡ Err Mismatch
-  pub null : bool_read None ≡ Err Mismatch
-  pub truth : bool_read (Some (value.Bool true)) ≡ Ok true
-  pub text : text_read (Some (value.Utf8 text_a)) ≡ Ok text_a
-  pub bytes_are_no_text : text_read (Some (value.Binary text_a)) ≡ Err Mismatch
-  pub bytes : bytes_read (Some (value.Binary text_a)) ≡ Ok text_a

@@ -7,7 +7,6 @@ pub mod Exact
 pub mod Examples
 pub mod ExpressionExamples
 pub mod Fitting
-pub mod FromScalars
 pub mod Like
 pub mod LikeSearch
 pub mod Meaning
@@ -17,6 +16,7 @@ pub mod Node
 pub mod NodeFalls
 pub mod Orders
 pub mod Parts
+pub mod Reading
 pub mod ScalarFns
 pub mod Scalars
 pub mod Scopes

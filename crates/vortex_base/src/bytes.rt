@@ -39,6 +39,13 @@ impl Bytes {
         self.bytes.as_slice()
     }
 
+    /// A copy of the vector, by the bytes' allocator.
+    pub(crate) fn try_clone_vec(&self) -> Result<Vec<u8>, AllocError>
+        ensures { IfOk result (λ v. v.items ≡ self.now) }
+    {
+        self.bytes.clone()
+    }
+
     /// A copy, by the bytes' allocator.
     pub fn try_clone(&self) -> Result<Bytes, AllocError>
         ensures { IfOk result (λ b. b ≡ self.now) }
@@ -46,12 +53,6 @@ impl Bytes {
         Ok(Bytes {
             bytes: self.bytes.clone()?,
         })
-    }
-
-    pub(crate) fn clone_vec(&self) -> Result<Vec<u8>, AllocError>
-        ensures { IfOk result (λ v. v.items ≡ self.now) }
-    {
-        self.bytes.clone()
     }
 }
 

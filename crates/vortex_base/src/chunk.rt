@@ -51,8 +51,8 @@ fn all_long(rows: usize, columns: &[Column]) -> bool
 }
 
 impl Chunk {
-    /// The chunk of a scope and its columns. `RowShape` if the number of columns is not the scope's or their lengths differ, and
-    /// else `Mismatch` if a column's type is not the scope's.
+    /// The chunk of a scope and its columns. `RowShape` if the number of columns is not the scope's
+    /// or their lengths differ, and else `Mismatch` if a column's type is not the scope's.
     pub fn try_new(scope: Scope, columns: Vec<Column>) -> Result<Chunk, BaseError>
         ensures { result ≡ spec.chunk_of scope columns.items }
     {

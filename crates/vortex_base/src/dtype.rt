@@ -15,7 +15,8 @@ pub enum DType {
     Primitive(PType, Nullability),
     Utf8(Nullability),
     Binary(Nullability),
-    /// The type of a pair of a least and a greatest value, of which an expression may speak. It has no value but null.
+    /// The type of a pair of a least and a greatest value, of which an expression may speak. It has
+    /// no value but null.
     MinMaxState(Element, Nullability),
 }
 

@@ -20,7 +20,8 @@ pub enum BaseError {
     /// A scope has no column.
     #[error("a scope needs a column")]
     EmptyScope,
-    /// The operands of a node have types that it does not take, or a column has a type that no column may have.
+    /// The operands of a node have types that it does not take, or a column has a type that no
+    /// column may have.
     #[error("the types do not fit")]
     TypeFault,
     /// The aggregate does not support the type.

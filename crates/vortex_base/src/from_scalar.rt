@@ -1,66 +1,82 @@
-//! Reading a scalar as one of Rust's own types.
-ghost use Rattle.std.specs.Prelude.{◌≡◌, Result};
-ghost use Rattle.vortex_base.specs.declared.error.BaseError.{BaseError};
-ghost use Rattle.vortex_base.specs.declared.ptype.PType.TheVariants as ptype;
-ghost use Rattle.vortex_base.specs.FromScalars as read;
-ghost use Rattle.vortex_base.specs.Scalars.{Constant};
+//! Rust's own values, read out of scalars.
+ghost use Rattle.std.specs.Prelude.{◌≡◌, IfOk, IsErr, true, false, pos, string_bytes, ⊤, FitsSigned};
+ghost use Rattle.std.specs.Int.{w8, w16, w32, w64, FitsUnsigned};
 ghost use Rattle.vortex_base.specs.Values.{number_of};
+ghost use Rattle.vortex_base.specs.Reading.{IsReading, IsBoolAnd, IsNumberAnd, IsTextAnd, AreBytesAnd};
 
 use crate::error::BaseError;
 use crate::pvalue::PValue;
 use crate::scalar::Scalar;
 use crate::scalar_value::ScalarValue;
 
-/// A type that a scalar can be read as. Null, and a value of another kind, are a `Mismatch`.
+/// What can be read out of a scalar.
 pub trait FromScalar: Sized {
-    ghost from_scalar_gives: { Constant → Result Self BaseError → Type 0 };
+    ghost use Rattle.std.specs.Prelude.{Bool};
+    ghost use Rattle.vortex_base.specs.declared.scalar_value.ScalarValue.{ScalarValue};
 
-    /// The scalar's value. A number is read as any type of numbers in whose range it lies, whatever its own type. A text or bytes are
-    /// cloned, by the allocator that they hold.
+    // Holds of a value that can be read.
+    ghost can_read: { ScalarValue → Type 0 };
+    // Holds of a value and what it is read as.
+    ghost reads: { ScalarValue → Self → Type 0 };
+    // Whether reading takes memory.
+    ghost takes_memory: { Bool };
+
+    /// The scalar's value. `Mismatch` if it is null, of another kind, or a number out of range; a number
+    /// may have another `PType`. `Memory` if the copy of a text or of bytes is refused.
     fn from_scalar(scalar: &Scalar) -> Result<Self, BaseError>
-        ensures { from_scalar_gives scalar.now result };
-}
-
-fn whole_number(scalar: &Scalar) -> Result<i128, BaseError>
-    ensures { result ≡ read.number_read scalar.now.value }
-{
-    match scalar.value() {
-        Some(ScalarValue::Primitive(number)) => Ok(widened(*number)),
-        _ => Err(BaseError::Mismatch),
-    }
-}
-
-fn widened(number: PValue) -> i128
-    ensures { result ≡ number_of number }
-{
-    match number {
-        PValue::U8(n) => i128::from(n),
-        PValue::U16(n) => i128::from(n),
-        PValue::U32(n) => i128::from(n),
-        PValue::U64(n) => i128::from(n),
-        PValue::I8(n) => i128::from(n),
-        PValue::I16(n) => i128::from(n),
-        PValue::I32(n) => i128::from(n),
-        PValue::I64(n) => i128::from(n),
-    }
+        ensures { IsReading can_read reads takes_memory scalar.now.value result };
 }
 
 impl FromScalar for bool {
-    ghost from_scalar_gives = { λ c r. r ≡ read.bool_read c.value };
+    ghost can_read = { λ v. IsBoolAnd v (λ _. ⊤) };
+
+    ghost reads = { λ v b. IsBoolAnd v (λ c. b ≡ c) };
+
+    ghost takes_memory = { false };
 
     fn from_scalar(scalar: &Scalar) -> Result<bool, BaseError> {
         match scalar.value() {
-            Some(ScalarValue::Bool(value)) => Ok(*value),
+            Some(ScalarValue::Bool(b)) => Ok(*b),
             _ => Err(BaseError::Mismatch),
         }
     }
 }
 
+/// The number itself.
+fn whole(number: PValue) -> i128
+    ensures { result ≡ number_of number }
+{
+    match number {
+        PValue::U8(n) => n as i128,
+        PValue::U16(n) => n as i128,
+        PValue::U32(n) => n as i128,
+        PValue::U64(n) => n as i128,
+        PValue::I8(n) => n as i128,
+        PValue::I16(n) => n as i128,
+        PValue::I32(n) => n as i128,
+        PValue::I64(n) => n as i128,
+    }
+}
+
+/// The whole number that the scalar holds.
+fn whole_of(scalar: &Scalar) -> Result<i128, BaseError>
+    ensures { IsReading (λ v. IsNumberAnd v (λ _. ⊤)) (λ v z. IsNumberAnd v (λ x. x ≡ z)) false scalar.now.value result }
+{
+    match scalar.value() {
+        Some(ScalarValue::Primitive(number)) => Ok(whole(*number)),
+        _ => Err(BaseError::Mismatch),
+    }
+}
+
 impl FromScalar for u8 {
-    ghost from_scalar_gives = { λ c r. r ≡ read.unsigned_read ptype.U8 c.value };
+    ghost can_read = { λ v. IsNumberAnd v (FitsUnsigned w8) };
+
+    ghost reads = { λ v n. IsNumberAnd v (λ z. z ≡ pos n) };
+
+    ghost takes_memory = { false };
 
     fn from_scalar(scalar: &Scalar) -> Result<u8, BaseError> {
-        match u8::try_from(whole_number(scalar)?) {
+        match u8::try_from(whole_of(scalar)?) {
             Ok(number) => Ok(number),
             Err(_) => Err(BaseError::Mismatch),
         }
@@ -68,10 +84,14 @@ impl FromScalar for u8 {
 }
 
 impl FromScalar for u16 {
-    ghost from_scalar_gives = { λ c r. r ≡ read.unsigned_read ptype.U16 c.value };
+    ghost can_read = { λ v. IsNumberAnd v (FitsUnsigned w16) };
+
+    ghost reads = { λ v n. IsNumberAnd v (λ z. z ≡ pos n) };
+
+    ghost takes_memory = { false };
 
     fn from_scalar(scalar: &Scalar) -> Result<u16, BaseError> {
-        match u16::try_from(whole_number(scalar)?) {
+        match u16::try_from(whole_of(scalar)?) {
             Ok(number) => Ok(number),
             Err(_) => Err(BaseError::Mismatch),
         }
@@ -79,10 +99,14 @@ impl FromScalar for u16 {
 }
 
 impl FromScalar for u32 {
-    ghost from_scalar_gives = { λ c r. r ≡ read.unsigned_read ptype.U32 c.value };
+    ghost can_read = { λ v. IsNumberAnd v (FitsUnsigned w32) };
+
+    ghost reads = { λ v n. IsNumberAnd v (λ z. z ≡ pos n) };
+
+    ghost takes_memory = { false };
 
     fn from_scalar(scalar: &Scalar) -> Result<u32, BaseError> {
-        match u32::try_from(whole_number(scalar)?) {
+        match u32::try_from(whole_of(scalar)?) {
             Ok(number) => Ok(number),
             Err(_) => Err(BaseError::Mismatch),
         }
@@ -90,10 +114,14 @@ impl FromScalar for u32 {
 }
 
 impl FromScalar for u64 {
-    ghost from_scalar_gives = { λ c r. r ≡ read.unsigned_read ptype.U64 c.value };
+    ghost can_read = { λ v. IsNumberAnd v (FitsUnsigned w64) };
+
+    ghost reads = { λ v n. IsNumberAnd v (λ z. z ≡ pos n) };
+
+    ghost takes_memory = { false };
 
     fn from_scalar(scalar: &Scalar) -> Result<u64, BaseError> {
-        match u64::try_from(whole_number(scalar)?) {
+        match u64::try_from(whole_of(scalar)?) {
             Ok(number) => Ok(number),
             Err(_) => Err(BaseError::Mismatch),
         }
@@ -101,10 +129,14 @@ impl FromScalar for u64 {
 }
 
 impl FromScalar for i8 {
-    ghost from_scalar_gives = { λ c r. r ≡ read.signed_read ptype.I8 c.value };
+    ghost can_read = { λ v. IsNumberAnd v (FitsSigned w8) };
+
+    ghost reads = { λ v n. IsNumberAnd v (λ z. z ≡ n) };
+
+    ghost takes_memory = { false };
 
     fn from_scalar(scalar: &Scalar) -> Result<i8, BaseError> {
-        match i8::try_from(whole_number(scalar)?) {
+        match i8::try_from(whole_of(scalar)?) {
             Ok(number) => Ok(number),
             Err(_) => Err(BaseError::Mismatch),
         }
@@ -112,10 +144,14 @@ impl FromScalar for i8 {
 }
 
 impl FromScalar for i16 {
-    ghost from_scalar_gives = { λ c r. r ≡ read.signed_read ptype.I16 c.value };
+    ghost can_read = { λ v. IsNumberAnd v (FitsSigned w16) };
+
+    ghost reads = { λ v n. IsNumberAnd v (λ z. z ≡ n) };
+
+    ghost takes_memory = { false };
 
     fn from_scalar(scalar: &Scalar) -> Result<i16, BaseError> {
-        match i16::try_from(whole_number(scalar)?) {
+        match i16::try_from(whole_of(scalar)?) {
             Ok(number) => Ok(number),
             Err(_) => Err(BaseError::Mismatch),
         }
@@ -123,10 +159,14 @@ impl FromScalar for i16 {
 }
 
 impl FromScalar for i32 {
-    ghost from_scalar_gives = { λ c r. r ≡ read.signed_read ptype.I32 c.value };
+    ghost can_read = { λ v. IsNumberAnd v (FitsSigned w32) };
+
+    ghost reads = { λ v n. IsNumberAnd v (λ z. z ≡ n) };
+
+    ghost takes_memory = { false };
 
     fn from_scalar(scalar: &Scalar) -> Result<i32, BaseError> {
-        match i32::try_from(whole_number(scalar)?) {
+        match i32::try_from(whole_of(scalar)?) {
             Ok(number) => Ok(number),
             Err(_) => Err(BaseError::Mismatch),
         }
@@ -134,10 +174,14 @@ impl FromScalar for i32 {
 }
 
 impl FromScalar for i64 {
-    ghost from_scalar_gives = { λ c r. r ≡ read.signed_read ptype.I64 c.value };
+    ghost can_read = { λ v. IsNumberAnd v (FitsSigned w64) };
+
+    ghost reads = { λ v n. IsNumberAnd v (λ z. z ≡ n) };
+
+    ghost takes_memory = { false };
 
     fn from_scalar(scalar: &Scalar) -> Result<i64, BaseError> {
-        match i64::try_from(whole_number(scalar)?) {
+        match i64::try_from(whole_of(scalar)?) {
             Ok(number) => Ok(number),
             Err(_) => Err(BaseError::Mismatch),
         }
@@ -145,22 +189,30 @@ impl FromScalar for i64 {
 }
 
 impl FromScalar for String {
-    ghost from_scalar_gives = { λ c r. read.HoldsText c.value r };
+    ghost can_read = { λ v. IsTextAnd v (λ _. ⊤) };
+
+    ghost reads = { λ v s. IsTextAnd v (λ bytes. string_bytes s ≡ bytes) };
+
+    ghost takes_memory = { true };
 
     fn from_scalar(scalar: &Scalar) -> Result<String, BaseError> {
         match scalar.value() {
-            Some(ScalarValue::Utf8(text)) => Ok(text.clone_string()?),
+            Some(ScalarValue::Utf8(text)) => Ok(text.try_clone_string()?),
             _ => Err(BaseError::Mismatch),
         }
     }
 }
 
 impl FromScalar for Vec<u8> {
-    ghost from_scalar_gives = { λ c r. read.HoldsBytes c.value r };
+    ghost can_read = { λ v. AreBytesAnd v (λ _. ⊤) };
+
+    ghost reads = { λ v s. AreBytesAnd v (λ bytes. s.items ≡ bytes) };
+
+    ghost takes_memory = { true };
 
     fn from_scalar(scalar: &Scalar) -> Result<Vec<u8>, BaseError> {
         match scalar.value() {
-            Some(ScalarValue::Binary(bytes)) => Ok(bytes.clone_vec()?),
+            Some(ScalarValue::Binary(bytes)) => Ok(bytes.try_clone_vec()?),
             _ => Err(BaseError::Mismatch),
         }
     }
@@ -176,49 +228,60 @@ mod tests {
     use crate::text::Text;
     use std::test::Fail;
 
-    fn number(value: i32) -> Result<Scalar, BaseError> {
-        let dtype = DType::Primitive(PType::I32, Nullability::NonNullable);
-        Scalar::try_new(dtype, Some(ScalarValue::from(value)))
-    }
+    const I32: DType = DType::Primitive(PType::I32, Nullability::Nullable);
 
-    fn read<T: FromScalar>(value: i32) -> Result<T, BaseError> {
-        T::from_scalar(&number(value)?)
+    fn number(value: i32) -> Result<Scalar, BaseError> {
+        Scalar::try_new(I32, Some(ScalarValue::from(value)))
     }
 
     #[test]
-    fn numbers_are_read_by_their_size(rt: HostRuntime) -> Result<(), Fail> {
-        assert_eq!(rt; read::<u8>(200)?, 200);
-        assert!(rt; matches!(read::<u8>(300), Err(BaseError::Mismatch)));
-        assert!(rt; matches!(read::<u64>(-1), Err(BaseError::Mismatch)));
-        assert_eq!(rt; read::<u16>(300)?, 300);
-        assert_eq!(rt; read::<u32>(300)?, 300);
-        assert_eq!(rt; read::<u64>(300)?, 300);
-        assert_eq!(rt; read::<i8>(-128)?, -128);
-        assert!(rt; matches!(read::<i8>(-129), Err(BaseError::Mismatch)));
-        assert_eq!(rt; read::<i16>(-129)?, -129);
-        assert_eq!(rt; read::<i32>(-129)?, -129);
-        assert_eq!(rt; read::<i64>(-129)?, -129);
+    fn numbers(rt: HostRuntime) -> Result<(), Fail> {
+        let positive = number(200)?;
+        assert_eq!(rt; u8::from_scalar(&positive)?, 200);
+        assert!(rt; matches!(i8::from_scalar(&positive), Err(BaseError::Mismatch)));
+        assert_eq!(rt; u16::from_scalar(&positive)?, 200);
+        assert_eq!(rt; i16::from_scalar(&positive)?, 200);
+        assert_eq!(rt; u32::from_scalar(&positive)?, 200);
+        assert_eq!(rt; i32::from_scalar(&positive)?, 200);
+        assert_eq!(rt; u64::from_scalar(&positive)?, 200);
+        assert_eq!(rt; i64::from_scalar(&positive)?, 200);
+        assert!(rt; matches!(u8::from_scalar(&number(300)?), Err(BaseError::Mismatch)));
+        assert!(rt; matches!(u64::from_scalar(&number(-1)?), Err(BaseError::Mismatch)));
+        assert_eq!(rt; i8::from_scalar(&number(-128)?)?, -128);
+        assert!(rt;
+            matches!(
+                i64::from_scalar(&Scalar::null(I32)),
+                Err(BaseError::Mismatch)
+            )
+        );
+        assert!(rt; matches!(bool::from_scalar(&positive), Err(BaseError::Mismatch)));
         Ok(())
     }
 
     #[test]
-    fn other_kinds_are_read_as_themselves(rt: HostRuntime) -> Result<(), Fail> {
-        let plain = Nullability::NonNullable;
-        let yes = Scalar::try_new(DType::Bool(plain), Some(ScalarValue::from(true)))?;
-        let text = Text::new(String::from_str(rt.alloc(), "é")?);
-        let text = Scalar::try_new(DType::Utf8(plain), Some(ScalarValue::Utf8(text)))?;
-        let bytes = Bytes::new(Vec::from_slice(rt.alloc(), &[255])?);
-        let bytes = Scalar::try_new(DType::Binary(plain), Some(ScalarValue::Binary(bytes)))?;
-        let null = Scalar::null(DType::Null);
-        assert_eq!(rt; bool::from_scalar(&yes)?, true);
-        assert_eq!(rt; String::from_scalar(&text)?.as_str(), "é");
+    fn other_kinds(rt: HostRuntime) -> Result<(), Fail> {
+        let truth = Scalar::try_new(
+            DType::Bool(Nullability::NonNullable),
+            Some(ScalarValue::from(true)),
+        )?;
+        assert!(rt; bool::from_scalar(&truth)?);
+        let text = Text::new(String::from_str(rt.alloc(), "a name")?);
+        let text = Scalar::try_new(
+            DType::Utf8(Nullability::NonNullable),
+            Some(ScalarValue::Utf8(text)),
+        )?;
+        assert_eq!(rt; String::from_scalar(&text)?.as_str(), "a name");
+        assert!(rt; Vec::<u8>::from_scalar(&text).is_err());
+        let bytes = Bytes::new(vec![in rt.alloc(); 7, 8]?);
+        let bytes = Scalar::try_new(
+            DType::Binary(Nullability::NonNullable),
+            Some(ScalarValue::Binary(bytes)),
+        )?;
         assert_eq!(rt;
             Vec::<u8>::from_scalar(&bytes)?.as_slice(),
-            [255].as_slice()
+            [7, 8].as_slice()
         );
-        assert!(rt; matches!(u8::from_scalar(&yes), Err(BaseError::Mismatch)));
-        assert!(rt; matches!(String::from_scalar(&bytes), Err(BaseError::Mismatch)));
-        assert!(rt; matches!(bool::from_scalar(&null), Err(BaseError::Mismatch)));
+        assert!(rt; String::from_scalar(&bytes).is_err());
         Ok(())
     }
 }

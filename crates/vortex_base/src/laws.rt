@@ -1,7 +1,10 @@
 //! Laws of this layer, in the words of its definitions. The functions carry them by their contracts.
 ghost use Rattle.std.specs.Prelude.{◌≡◌, ◌↔◌, IfOk, IsTrue};
-ghost use Rattle.vortex_base.specs.Examples.{TypeExamples, ValueExamples, OrderExamples, ScopeExamples, ChunkExamples, ReadExamples};
-ghost use Rattle.vortex_base.specs.ExpressionExamples.{LikeExamples, TypingExamples, AggregateExamples, BindingExamples, MeaningExamples};
+ghost use Rattle.vortex_base.specs.Examples.{TypeExamples, ValueExamples, OrderExamples};
+ghost use Rattle.vortex_base.specs.Examples.{ScopeExamples, ChunkExamples};
+ghost use Rattle.vortex_base.specs.ExpressionExamples.{LikeExamples, TypingExamples};
+ghost use Rattle.vortex_base.specs.ExpressionExamples.{AggregateExamples, BindingExamples};
+ghost use Rattle.vortex_base.specs.ExpressionExamples.{MeaningExamples};
 ghost use Rattle.vortex_base.specs.Fitting.{RowsFit};
 ghost use Rattle.vortex_base.specs.Meaning.{MeaningFits};
 ghost use Rattle.vortex_base.specs.Orders.{ValuesAreOrdered, NumbersAreOrdered, pvalue_cmp};
@@ -72,14 +75,14 @@ pub fn clone_of_bytes(source: &Bytes) -> Result<Bytes, AllocError>
     clone_of(source)
 }
 
-/// Worked cases of the definitions: types, values and their order, scopes, columns, chunks and rows, and the reading of scalars.
+/// Worked cases of the definitions: types, values and their order, scopes, columns, chunks and
+/// rows.
 pub fn examples_hold()
     ensures types { TypeExamples }
     ensures values { ValueExamples }
     ensures order { OrderExamples }
     ensures scopes { ScopeExamples }
     ensures chunks { ChunkExamples }
-    ensures reading { ReadExamples }
 {}
 
 /// Worked cases of the definitions of expressions: LIKE, typing, binding and meaning.

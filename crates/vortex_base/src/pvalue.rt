@@ -4,7 +4,8 @@ ghost use Rattle.vortex_base.specs.Values.{ptype_of, in_range};
 
 use crate::ptype::PType;
 
-/// A whole number of one of the eight types. Numbers are ordered by type, in the order of the variants, and then by size.
+/// A whole number of one of the eight types. Numbers are ordered by type, in the order of the
+/// variants, and then by size.
 #[derive(Clone, Copy, Debug, PartialEq, Eq, PartialOrd, Ord)]
 pub enum PValue {
     U8(u8),

@@ -32,7 +32,8 @@ impl Model for Scalar {
 }
 
 impl Scalar {
-    /// The scalar of a type and a value, or of null. `Mismatch` if the value does not fit the type, or the type has no null.
+    /// The scalar of a type and a value, or of null. `Mismatch` if the value does not fit the type,
+    /// or the type has no null.
     pub fn try_new(dtype: DType, value: Option<ScalarValue>) -> Result<Scalar, BaseError>
         ensures { result ≡ constant_of dtype value }
     {

@@ -10,8 +10,8 @@ use crate::pvalue::PValue;
 use crate::text::Text;
 use std::alloc::AllocError;
 
-/// A value other than null. Values are ordered by kind, in the order of the variants, and then false before true, numbers by
-/// `PValue`'s order, and texts and bytes by their bytes.
+/// A value other than null. Values are ordered by kind, in the order of the variants, and then
+/// false before true, numbers by `PValue`'s order, and texts and bytes by their bytes.
 #[derive(Debug, Drop, Clone, PartialEq, Eq, PartialOrd, Ord)]
 pub enum ScalarValue {
     Bool(bool),
@@ -38,6 +38,7 @@ impl ScalarValue {
                 number.ptype() == *ptype
             }
             (ScalarValue::Utf8(text), DType::Utf8(_)) => {
+                // A text is UTF-8, as its string slice tells.
                 let _text = text.as_str();
                 true
             }

@@ -1,11 +1,12 @@
 //! Named columns.
-ghost use Rattle.std.specs.Prelude.{◌≡◌, ◌↔◌, ◌<◌, IfSome, IsTrue, length, slice_get, Some, option_map, position};
-ghost use Rattle.std.specs.List.{list_all, list_any, zip};
-ghost use Rattle.vortex_base.specs.Types.{dtype_eq};
+ghost use Rattle.std.specs.Prelude.{◌≡◌, ◌↔◌, ◌<◌, IfSome, IsTrue, Some, option_map};
+ghost use Rattle.std.specs.Prelude.{length, position, slice_get};
 ghost use Rattle.std.specs.Cmp.{partial_equiv_from_equiv};
-ghost use Rattle.vortex_base.specs.Exact.{exact_equivalence};
+ghost use Rattle.std.specs.List.{list_all, list_any, zip};
 ghost use Rattle.vortex_base.specs.Columns as columns_spec;
+ghost use Rattle.vortex_base.specs.Exact.{exact_equivalence};
 ghost use Rattle.vortex_base.specs.Scopes as scopes;
+ghost use Rattle.vortex_base.specs.Types.{dtype_eq};
 
 use crate::column::Column;
 use crate::dtype::DType;
@@ -94,8 +95,9 @@ fn is_same(left: &[(String, DType)], right: &[(String, DType)]) -> bool
 }
 
 impl Scope {
-    /// The scope of these columns. Of several faults the first of these is answered: `EmptyScope` if there is no column,
-    /// `DuplicateColumn` if a name stands twice, `TypeFault` if a type is a `MinMaxState`.
+    /// The scope of these columns. Of several faults the first of these is answered: `EmptyScope`
+    /// if there is no column, `DuplicateColumn` if a name stands twice, `TypeFault` if a type is a
+    /// `MinMaxState`.
     pub fn try_new(columns: Vec<(String, DType)>) -> Result<Scope, BaseError>
         ensures { result ≡ scopes.scope_of (scopes.named_columns columns.items) }
     {

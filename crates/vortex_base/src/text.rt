@@ -41,6 +41,13 @@ impl Text {
         self.text.as_str()
     }
 
+    /// A copy of the string, by the text's allocator.
+    pub(crate) fn try_clone_string(&self) -> Result<String, AllocError>
+        ensures { IfOk result (λ s. string_bytes s ≡ self.now) }
+    {
+        self.text.clone()
+    }
+
     /// A copy, by the text's allocator.
     pub fn try_clone(&self) -> Result<Text, AllocError>
         ensures { IfOk result (λ t. t ≡ self.now) }
@@ -48,12 +55,6 @@ impl Text {
         Ok(Text {
             text: self.text.clone()?,
         })
-    }
-
-    pub(crate) fn clone_string(&self) -> Result<String, AllocError>
-        ensures { IfOk result (λ s. string_bytes s ≡ self.now) }
-    {
-        self.text.clone()
     }
 }
 

@@ -67,19 +67,3 @@ returns-clause-chunks c = record {
   null_apart = refl;
   the_row = refl;
 }
-
-pub returns-clause-reading : goal.returns-clause-reading
-returns-clause-reading c = record {
-  narrower = refl;
-  too_great = refl;
-  below_zero = refl;
-  least_i8 = refl;
-  too_small = refl;
-  wider = refl;
-  no_number = refl;
-  null = refl;
-  truth = refl;
-  text = refl;
-  bytes_are_no_text = refl;
-  bytes = refl;
-}
