@@ -1,4 +1,5 @@
-//! Laws of this layer, in the words of its definitions. The functions carry them by their contracts.
+//! Laws of this layer, in the words of its definitions. The functions carry them by their
+//! contracts.
 ghost use Rattle.std.specs.Prelude.{◌≡◌, ◌↔◌, IfOk, IsTrue};
 ghost use Rattle.vortex_base.specs.Examples.{TypeExamples, ValueExamples, OrderExamples};
 ghost use Rattle.vortex_base.specs.Examples.{ScopeExamples, ChunkExamples};
