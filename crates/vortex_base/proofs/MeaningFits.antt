@@ -13,7 +13,7 @@ use Rattle.vortex_base.specs.declared.error.BaseError.{BaseError}
 use Rattle.vortex_base.specs.declared.error.BaseError.TheVariants.{TypeFault, Mismatch}
 use Rattle.vortex_base.specs.declared.operator.Operator.{Operator}
 use Rattle.vortex_base.specs.declared.operator.Operator.TheVariants as operator
-use Rattle.vortex_base.specs.Exact.{both_true}
+use Rattle.vortex_base.specs.Exact.{both_hold, both_true}
 use Rattle.vortex_base.specs.Types.{as_nullable, dtype_eq_is_exact, eq_ignore_nullability, is_nullable}
 use Rattle.vortex_base.specs.Values.{is_value, in_range}
 use Rattle.vortex_base.specs.Scalars.{Constant, is_optional_value}
@@ -98,9 +98,6 @@ of_two f (Err e) b t s g h = cc
 literal_fits : (c : Constant) (t : DType) (fits : Bool) → is_optional_value c.value c.dtype ≡ fits → cond fits (ok c.dtype) (Err Mismatch) ≡ ok t → is_optional_value c.value (as_nullable t) ≡ true
 literal_fits c t true e h = ap (λ s. is_optional_value c.value (as_nullable s)) (sym (same_ok _ t h)) ∙ weakened c.value c.dtype e
 literal_fits c t false e h = cc
-
-both_hold : (a b : Bool) → a ≡ true → b ≡ true → (a && b) ≡ true
-both_hold a b p q = rw (p, q) refl
 
 count_fits : (n : ℕ) → n < 2 ^ 64 → in_range (number.U64 n) ≡ true
 count_fits n h =
