@@ -1,5 +1,5 @@
 -- What the stop of the items before the first run says of the whole match, and of a match at some end.
-use Rattle.std.proofs.Common.{◌≡◌, ◌==◌, ℕ, ◌<◌, ◌≤◌, ◌+◌, Bool, true, false, ◌&&◌, ◌||◌, List, [], ◌∷◌, length, refl, sym, ◌∙◌, ap, arith, cond, zero, suc, add-one}
+use Rattle.std.proofs.Common.{◌≡◌, ◌==◌, ℕ, ◌<◌, ◌≤◌, Bool, true, false, ◌&&◌, ◌||◌, List, [], ◌∷◌, length, refl, sym, ◌∙◌, ap, arith, cond}
 use Rattle.vortex_base.specs.declared.like.Item.{Item}
 use Rattle.vortex_base.specs.declared.like.Item.TheVariants.{Char, AnyChar, AnyRun}
 use Rattle.vortex_base.specs.Like.{like, some_end}

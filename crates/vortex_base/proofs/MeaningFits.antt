@@ -1,26 +1,25 @@
 -- An expression that has a type means a value of it or null.
-use Rattle.std.proofs.Common.{◌≡◌, ◌<◌, ◌^◌, ℕ, zero, suc, Bool, true, false, List, [], ◌∷◌, refl, sym, ◌∙◌, ap, subst, cond, arith}
+use Rattle.std.proofs.Common.{◌≡◌, ◌<◌, ◌^◌, ℕ, zero, suc, Bool, true, false, List, [], ◌∷◌, refl, sym, ◌∙◌, ap, cond, arith}
 use Rattle.std.proofs.lemmas.Bool.Decides.{nat_tests}
-use Rattle.std.specs.Prelude.{nat_le, ◌||◌, ◌&&◌, Option, Some, None, Result, Ok, Err, IsTrue, slice_get, option_map, is_none, pos, not as not_b}
-use Rattle.vortex_base.specs.declared.nullability.Nullability.TheVariants.{Nullable, NonNullable}
-use Rattle.vortex_base.specs.declared.ptype.PType.TheVariants as ptype
+use Rattle.std.specs.Prelude.{nat_le, Option, Some, None, Result, Ok, Err, slice_get, is_none, not as not_b}
+use Rattle.vortex_base.specs.declared.nullability.Nullability.TheVariants.{Nullable}
 use Rattle.vortex_base.specs.declared.dtype.DType.{DType}
 use Rattle.vortex_base.specs.declared.dtype.DType.TheVariants as dtype
 use Rattle.vortex_base.specs.declared.pvalue.PValue.TheVariants as number
 use Rattle.vortex_base.specs.declared.scalar_value.ScalarValue.{ScalarValue}
 use Rattle.vortex_base.specs.declared.scalar_value.ScalarValue.TheVariants as value
 use Rattle.vortex_base.specs.declared.error.BaseError.{BaseError}
-use Rattle.vortex_base.specs.declared.error.BaseError.TheVariants.{TypeFault, Mismatch}
+use Rattle.vortex_base.specs.declared.error.BaseError.TheVariants.{Mismatch}
 use Rattle.vortex_base.specs.declared.operator.Operator.{Operator}
 use Rattle.vortex_base.specs.declared.operator.Operator.TheVariants as operator
-use Rattle.vortex_base.specs.Exact.{both_true}
+use Rattle.vortex_base.specs.Exact.{both_hold, both_true}
 use Rattle.vortex_base.specs.Types.{as_nullable, dtype_eq_is_exact, eq_ignore_nullability, is_nullable}
 use Rattle.vortex_base.specs.Values.{is_value, in_range}
 use Rattle.vortex_base.specs.Scalars.{Constant, is_optional_value}
-use Rattle.vortex_base.specs.Columns.{cell_value, is_row, IsRow}
-use Rattle.vortex_base.specs.Fitting.{is_cell_of, fits_row}
+use Rattle.vortex_base.specs.Columns.{cell_value, is_row}
+use Rattle.vortex_base.specs.Fitting.{is_cell_of}
 use Rattle.vortex_base.specs.Tree.{Tree, Place, column, literal, binary, between, is_null, is_not_null, not, like, stat, row_count}
-use Rattle.vortex_base.specs.Typing.{type_of, with_type, with_types, type_if, truth_type, binary_type, between_type, not_type, like_type, row_count_type, is_bool}
+use Rattle.vortex_base.specs.Typing.{type_of, with_type, with_types, type_if, truth_type, binary_type, between_type, not_type, like_type, row_count_type}
 use Rattle.vortex_base.specs.Meaning.{meaning, truth_value, MeaningFits}
 
 is_value-as_nullable : (v : ScalarValue) (t : DType) → is_value v (as_nullable t) ≡ is_value v t
@@ -98,9 +97,6 @@ of_two f (Err e) b t s g h = cc
 literal_fits : (c : Constant) (t : DType) (fits : Bool) → is_optional_value c.value c.dtype ≡ fits → cond fits (ok c.dtype) (Err Mismatch) ≡ ok t → is_optional_value c.value (as_nullable t) ≡ true
 literal_fits c t true e h = ap (λ s. is_optional_value c.value (as_nullable s)) (sym (same_ok _ t h)) ∙ weakened c.value c.dtype e
 literal_fits c t false e h = cc
-
-both_hold : (a b : Bool) → a ≡ true → b ≡ true → (a && b) ≡ true
-both_hold a b p q = rw (p, q) refl
 
 count_fits : (n : ℕ) → n < 2 ^ 64 → in_range (number.U64 n) ≡ true
 count_fits n h =

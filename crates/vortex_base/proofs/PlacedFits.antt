@@ -1,18 +1,16 @@
 -- An expression that has a type under a scope fits the scope when its columns are placed.
-use Rattle.std.proofs.Common.{◌≡◌, ℕ, Bool, true, false, List, refl, sym, ◌∙◌, ap}
-use Rattle.std.specs.Prelude.{◌&&◌, Option, Some, None, Result, Ok, Err, IsOk, IfOk, IsTrue, slice_get}
+use Rattle.std.proofs.Common.{◌≡◌, ℕ, true, List, refl, ◌∙◌, ap}
+use Rattle.std.specs.Prelude.{Option, Some, None, Result, Ok, Err, IsOk, IfOk, IsTrue, slice_get}
 use Rattle.vortex_base.specs.declared.error.BaseError.{BaseError}
+use Rattle.vortex_base.specs.Exact.{both_hold}
 use Rattle.vortex_base.specs.Types.{dtype_eq_is_exact}
 use Rattle.vortex_base.specs.Scopes.{Named, place_of}
-use Rattle.vortex_base.specs.Tree.{Tree, Place, map_columns, all_columns, column, literal, binary, between, is_null, is_not_null, not, like, stat, row_count}
-use Rattle.vortex_base.specs.Typing.{type_by, with_type, binary_type, between_type, null_test_type, not_type, like_type, stat_type}
-use Rattle.vortex_base.specs.Binding.{Name, find_column, found, place_at, type_at, place_or_any, type_in, placed_in}
+use Rattle.vortex_base.specs.Tree.{Tree, Place, column, literal, binary, between, is_null, is_not_null, not, like, stat, row_count}
+use Rattle.vortex_base.specs.Typing.{binary_type, between_type, null_test_type, not_type, like_type, stat_type}
+use Rattle.vortex_base.specs.Binding.{Name, found, place_at, type_at, place_or_any, type_in, placed_in}
 use Rattle.vortex_base.specs.Fitting.{is_of_type, fits_scope}
 use Rattle.vortex_base.specs.Answer.{Makes}
 use Rattle.vortex_base.proofs.PlacedTypes.{with_type-ok, with_types-ok, with_three-ok}
-
-both_hold : (a b : Bool) → a ≡ true → b ≡ true → (a && b) ≡ true
-both_hold a b p q = rw (p, q) refl
 
 -- the place is the scope's
 abbrev IsPlaced : List Named → Place → Type 0

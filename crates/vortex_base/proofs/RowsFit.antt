@@ -1,16 +1,13 @@
 -- What fits the scope of a chunk fits its rows.
-use Rattle.std.proofs.Common.{◌≡◌, ℕ, zero, suc, Bool, true, false, List, [], ◌∷◌, refl, sym, ◌∙◌, ap}
+use Rattle.std.proofs.Common.{◌≡◌, ℕ, zero, suc, Bool, true, List, [], ◌∷◌, refl, sym, ◌∙◌, ap}
 use Rattle.std.specs.Prelude.{◌&&◌, slice_get}
-use Rattle.vortex_base.specs.Exact.{both_true}
+use Rattle.vortex_base.specs.Exact.{both_hold, both_true}
 use Rattle.vortex_base.specs.declared.dtype.DType.{DType}
 use Rattle.vortex_base.specs.Types.{as_nullable, dtype_eq, dtype_eq_is_exact, eq_ignore_nullability}
 use Rattle.vortex_base.specs.Scopes.{Named}
-use Rattle.vortex_base.specs.Columns.{ColumnData, ChunkData, IsChunk, has_types, row_of}
+use Rattle.vortex_base.specs.Columns.{ColumnData, ChunkData, has_types, row_of}
 use Rattle.vortex_base.specs.Tree.{Tree, Place, all_columns, column, literal, binary, between, is_null, is_not_null, not, like, stat, row_count}
-use Rattle.vortex_base.specs.Fitting.{is_of_type, is_cell_of, fits_scope, fits_row, RowsFit}
-
-both_hold : (a b : Bool) → a ≡ true → b ≡ true → (a && b) ≡ true
-both_hold a b p q = rw (p, q) refl
+use Rattle.vortex_base.specs.Fitting.{is_of_type, is_cell_of, RowsFit}
 
 -- a test that passes wherever another does passes at all columns where that one does
 weaker : {C : Type 0} (p q : C → Bool) → ((c : C) → p c ≡ true → q c ≡ true) → (e : Tree C) → all_columns p e ≡ true → all_columns q e ≡ true

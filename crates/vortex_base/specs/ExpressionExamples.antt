@@ -1,8 +1,7 @@
 -- Worked cases of the definitions of LIKE, typing, binding and meaning.
-use Rattle.std.specs.Prelude.{◌≡◌, ℕ, Bool, true, false, List, [], ◌∷◌, Option, Some, None, Result, Ok, Err, pos, codes}
+use Rattle.std.specs.Prelude.{◌≡◌, ℕ, Bool, true, false, List, [], ◌∷◌, Option, Some, None, Ok, Err, pos, codes}
 use Rattle.vortex_base.specs.declared.nullability.Nullability.TheVariants.{Nullable, NonNullable}
 use Rattle.vortex_base.specs.declared.ptype.PType.TheVariants as ptype
-use Rattle.vortex_base.specs.declared.element.Element.TheVariants as element
 use Rattle.vortex_base.specs.declared.dtype.DType.{DType}
 use Rattle.vortex_base.specs.declared.dtype.DType.TheVariants as dtype
 use Rattle.vortex_base.specs.declared.pvalue.PValue.TheVariants as number
@@ -13,10 +12,8 @@ use Rattle.vortex_base.specs.declared.operator.Operator.TheVariants as operator
 use Rattle.vortex_base.specs.declared.between.BetweenOptions.{BetweenOptions}
 use Rattle.vortex_base.specs.declared.between.StrictComparison.TheVariants.{Strict, NonStrict}
 use Rattle.vortex_base.specs.declared.aggregate.AggregateFnRef.TheVariants as aggregate
-use Rattle.vortex_base.specs.declared.like.LikeOptions.{LikeOptions}
 use Rattle.vortex_base.specs.declared.like.Item.TheVariants as item
 use Rattle.vortex_base.specs.Scalars.{Constant}
-use Rattle.vortex_base.specs.Scopes.{Named}
 use Rattle.vortex_base.specs.Like.{items, like_text, matches, plain}
 use Rattle.vortex_base.specs.Tree.{Tree, Place, column, literal, binary, between, is_null, is_not_null, not, like, stat, row_count, is_plain, is_closed}
 use Rattle.vortex_base.specs.Typing.{state_dtype, type_of}

@@ -1,5 +1,5 @@
 -- Whether the columns of a typed expression are those of a scope, or of a row.
-use Rattle.std.specs.Prelude.{ℕ, Bool, true, false, Option, Some, None, List, IsTrue, slice_get}
+use Rattle.std.specs.Prelude.{ℕ, Bool, false, Option, Some, None, List, IsTrue, slice_get}
 use Rattle.vortex_base.specs.declared.dtype.DType.{DType}
 use Rattle.vortex_base.specs.Types.{dtype_eq, eq_ignore_nullability}
 use Rattle.vortex_base.specs.Scalars.{Constant}

@@ -1,5 +1,5 @@
 -- What an expression means on a row: a value, or null.
-use Rattle.std.specs.Prelude.{◌≡◌, ℕ, ◌<◌, ◌^◌, IsTrue, Bool, true, false, not as not_b, ◌&&◌, ◌||◌, Option, Some, None, List, Result, Ok, Err, if◌then◌else◌, slice_get, is_none, option_map}
+use Rattle.std.specs.Prelude.{◌≡◌, ℕ, ◌<◌, ◌^◌, IsTrue, Bool, true, false, not as not_b, Option, Some, None, List, Result, Ok, Err, if◌then◌else◌, slice_get, is_none, option_map}
 use Rattle.std.specs.declared.cmp.Ordering.{Ordering}
 use Rattle.std.specs.Ordering.{is_lt, is_eq, is_gt}
 use Rattle.vortex_base.specs.declared.dtype.DType.{DType}

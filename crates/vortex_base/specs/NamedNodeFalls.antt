@@ -1,5 +1,5 @@
 -- Each child of an expression over named columns has fewer nodes than the whole.
-use Rattle.std.specs.Prelude.{◌≤◌, ◌+◌, max}
+use Rattle.std.specs.Prelude.{◌≤◌, max}
 use Rattle.std.proofs.Common.{arith}
 use Rattle.vortex_base.specs.declared.expression.NamedNode.{NamedNode}
 use Rattle.vortex_base.specs.declared.expression.NamedNode.TheVariants as node

@@ -1,5 +1,5 @@
 -- Each child has fewer nodes than the whole.
-use Rattle.std.specs.Prelude.{◌≤◌, ◌+◌, max}
+use Rattle.std.specs.Prelude.{◌≤◌, max}
 use Rattle.std.proofs.Common.{arith}
 use Rattle.vortex_base.specs.declared.dtype.DType.{DType}
 use Rattle.vortex_base.specs.declared.bound_expression.Node.{Node}

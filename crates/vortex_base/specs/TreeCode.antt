@@ -1,5 +1,5 @@
 -- A tree is stored as the list of its nodes, the children before their parent.
-use Rattle.std.specs.Prelude.{◌≡◌, ℕ, Option, List, [], ◌∷◌, refl, ◌⊎◌}
+use Rattle.std.specs.Prelude.{◌≡◌, ℕ, List, [], ◌∷◌, refl, ◌⊎◌}
 use Rattle.std.proofs.Common.{◌∙◌, ap, inl, inr, zero, suc}
 use Rattle.std.specs.Coded.{Coded, code_by, coded×, coded⊎, coded_ℕ, coded_list}
 use Rattle.vortex_base.specs.declared.dtype.DType.{DType}

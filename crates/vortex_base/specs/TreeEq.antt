@@ -1,7 +1,7 @@
 -- An exact equality test of typed trees.
 use Rattle.std.specs.Prelude.{◌≡◌, ◌==◌, ◌&&◌, ℕ, Bool, true, false, IsTrue, refl}
 use Rattle.std.proofs.Common.{rules, ap, subst}
-use Rattle.vortex_base.specs.Exact.{IsExact, both_true}
+use Rattle.vortex_base.specs.Exact.{IsExact, both_hold, both_true}
 use Rattle.vortex_base.specs.Types.{dtype_eq, dtype_eq_is_exact}
 use Rattle.vortex_base.specs.Scalars.{constant_eq, constant_eq_is_exact}
 use Rattle.vortex_base.specs.declared.operator.Operator.{Operator}
@@ -102,21 +102,17 @@ same_tree (stat f a) (stat g b) h =
 same_tree row_count row_count h = refl
 same_tree a b h = cc
 
-and_true : (a b : Bool) → IsTrue a → IsTrue b → IsTrue (a && b)
-and_true true b h k = k
-and_true false b h k = h
-
 tree_eq_itself : (a : Tree Place) → IsTrue (tree_eq a a)
-tree_eq_itself (column c) = and_true _ _ ((nat_eq_is_exact c.index c.index).1 refl) ((dtype_eq_is_exact c.dtype c.dtype).1 refl)
+tree_eq_itself (column c) = both_hold _ _ ((nat_eq_is_exact c.index c.index).1 refl) ((dtype_eq_is_exact c.dtype c.dtype).1 refl)
 tree_eq_itself (literal c) = (constant_eq_is_exact c c).1 refl
-tree_eq_itself (binary o a b) = and_true _ _ ((operator_eq_is_exact o o).1 refl) (and_true _ _ (tree_eq_itself a) (tree_eq_itself b))
+tree_eq_itself (binary o a b) = both_hold _ _ ((operator_eq_is_exact o o).1 refl) (both_hold _ _ (tree_eq_itself a) (tree_eq_itself b))
 tree_eq_itself (between o a b c) =
-    and_true _ _ ((between_options_eq_is_exact o o).1 refl) (and_true _ _ (tree_eq_itself a) (and_true _ _ (tree_eq_itself b) (tree_eq_itself c)))
+    both_hold _ _ ((between_options_eq_is_exact o o).1 refl) (both_hold _ _ (tree_eq_itself a) (both_hold _ _ (tree_eq_itself b) (tree_eq_itself c)))
 tree_eq_itself (is_null a) = tree_eq_itself a
 tree_eq_itself (is_not_null a) = tree_eq_itself a
 tree_eq_itself (not a) = tree_eq_itself a
-tree_eq_itself (like o a b) = and_true _ _ ((like_options_eq_is_exact o o).1 refl) (and_true _ _ (tree_eq_itself a) (tree_eq_itself b))
-tree_eq_itself (stat f a) = and_true _ _ ((aggregate_eq_is_exact f f).1 refl) (tree_eq_itself a)
+tree_eq_itself (like o a b) = both_hold _ _ ((like_options_eq_is_exact o o).1 refl) (both_hold _ _ (tree_eq_itself a) (tree_eq_itself b))
+tree_eq_itself (stat f a) = both_hold _ _ ((aggregate_eq_is_exact f f).1 refl) (tree_eq_itself a)
 tree_eq_itself row_count = refl
 
 pub tree_eq_is_exact : IsExact tree_eq

@@ -1,12 +1,11 @@
 -- The typing table.
-use Rattle.std.specs.Prelude.{ℕ, Bool, true, false, ◌||◌, ◌&&◌, not as not_b, Option, Some, None, Result, Ok, Err, if◌then◌else◌}
+use Rattle.std.specs.Prelude.{Bool, true, false, ◌||◌, ◌&&◌, not as not_b, Option, Some, None, Result, Ok, Err, if◌then◌else◌}
 use Rattle.vortex_base.specs.declared.dtype.DType.{DType}
 use Rattle.vortex_base.specs.declared.dtype.DType.TheVariants as dtype
 use Rattle.vortex_base.specs.declared.ptype.PType.{PType}
 use Rattle.vortex_base.specs.declared.ptype.PType.TheVariants as ptype
 use Rattle.vortex_base.specs.declared.element.Element.{Element}
 use Rattle.vortex_base.specs.declared.element.Element.TheVariants as element
-use Rattle.vortex_base.specs.declared.nullability.Nullability.{Nullability}
 use Rattle.vortex_base.specs.declared.nullability.Nullability.TheVariants.{Nullable, NonNullable}
 use Rattle.vortex_base.specs.declared.error.BaseError.{BaseError}
 use Rattle.vortex_base.specs.declared.error.BaseError.TheVariants.{TypeFault, Unsupported, Mismatch}
@@ -15,7 +14,7 @@ use Rattle.vortex_base.specs.declared.operator.Operator.TheVariants as operator
 use Rattle.vortex_base.specs.declared.aggregate.AggregateFnRef.{AggregateFnRef}
 use Rattle.vortex_base.specs.declared.aggregate.AggregateFnRef.TheVariants as aggregate
 use Rattle.vortex_base.specs.Types.{is_nullable, as_nullable, eq_ignore_nullability}
-use Rattle.vortex_base.specs.Scalars.{Constant, is_optional_value}
+use Rattle.vortex_base.specs.Scalars.{is_optional_value}
 use Rattle.vortex_base.specs.Tree.{Tree, Place, column, literal, binary, between, is_null, is_not_null, not, like, stat, row_count}
 
 -- ---- the state types of aggregates

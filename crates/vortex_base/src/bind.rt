@@ -13,16 +13,17 @@ use crate::{bound, typing};
 use std::alloc::Global;
 
 fn find_column(scope: &Scope, name: &str) -> Option<(usize, DType)>
-    ensures { option_map
-        (λ p. record { index = p.0; dtype = p.1 }) result ≡ binding.find_column scope.now name.now }
+    ensures { option_map (λ p. record { index = p.0; dtype = p.1 }) result
+        ≡ binding.find_column scope.now name.now }
 {
     let place = scope.find(name)?;
     Some((place, scope.dtype(place)))
 }
 
 impl Expression {
-    /// The typed expression that this is under a scope. A fault is that of the first faulty node, children before their parent
-    /// and from the left: `UnknownColumn`, `TypeFault` or `Unsupported`. It is found before any memory is taken.
+    /// The typed expression that this is under a scope. A fault is that of the first faulty node,
+    /// children before their parent and from the left: `UnknownColumn`, `TypeFault` or
+    /// `Unsupported`. It is found before any memory is taken.
     pub fn bind(self, alloc: Global, scope: &Scope) -> Result<BoundExpression, BaseError>
         ensures value { Gives (binding.bound_in scope.now self) result }
         ensures fits { IfOk result (λ b. IsTrue (fits_scope b scope.now)) }

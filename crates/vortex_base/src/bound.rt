@@ -1,7 +1,7 @@
 //! The constructors of typed expressions.
 //!
-//! Each answers `TypeFault`, or `Unsupported` for a placeholder, exactly where the typing table has no type for the node, and
-//! drops what it was given where it refuses.
+//! Each answers `TypeFault`, or `Unsupported` for a placeholder, exactly where the typing table has
+//! no type for the node, and drops what it was given where it refuses.
 ghost use Rattle.std.specs.Prelude.{◌≡◌};
 ghost use Rattle.vortex_base.specs.Tree as tree;
 ghost use Rattle.vortex_base.specs.Like.{plain};
@@ -214,7 +214,8 @@ pub fn like_with(
     Ok(BoundExpression { dtype, node })
 }
 
-/// The placeholder for an aggregate of an input. `Unsupported` where the aggregate does not support the input's type.
+/// The placeholder for an aggregate of an input. `Unsupported` where the aggregate does not support
+/// the input's type.
 pub fn new_stat(
     alloc: Global,
     input: BoundExpression,

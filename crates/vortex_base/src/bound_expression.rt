@@ -13,8 +13,8 @@ use crate::scalar::Scalar;
 use crate::scalar_fn::ScalarFnId;
 use std::marker::Model;
 
-/// A typed expression over the columns of a row, given by their places. Each node stores its type, and that is what the typing
-/// table gives from the types of its children.
+/// A typed expression over the columns of a row, given by their places. Each node stores its type,
+/// and that is what the typing table gives from the types of its children.
 #[cycle(expression)]
 pub struct BoundExpression {
     pub(crate) dtype: DType,

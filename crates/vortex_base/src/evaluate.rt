@@ -1,5 +1,6 @@
 //! The value of an expression on a row.
-ghost use Rattle.std.specs.Prelude.{◌≡◌, IfOk, IsTrue, OnErr, alloc_error, option_map, option_copied};
+ghost use Rattle.std.specs.Prelude.{◌≡◌, IfOk, IsTrue, OnErr, alloc_error};
+ghost use Rattle.std.specs.Prelude.{option_copied, option_map};
 ghost use Rattle.vortex_base.specs.Meaning as spec;
 ghost use Rattle.vortex_base.specs.Meaning.{can_evaluate, meaning};
 ghost use Rattle.vortex_base.specs.Evaluated.{evaluated};
@@ -17,8 +18,8 @@ use crate::scalar_value::ScalarValue;
 use std::alloc::AllocError;
 use std::cmp::Ordering;
 
-/// A value that the row or a literal lends, or that the evaluation made. What it makes is never a text or bytes, so no node but
-/// the answer's own is copied.
+/// A value that the row or a literal lends, or that the evaluation made. What it makes is never a
+/// text or bytes, so no node but the answer's own is copied.
 #[derive(Drop)]
 enum Evaluated<'a> {
     Lent(&'a ScalarValue),
@@ -147,8 +148,8 @@ fn within(
     lower: Option<&ScalarValue>,
     upper: Option<&ScalarValue>,
 ) -> Option<bool>
-    ensures { result ≡
-        spec.within options (option_copied x.entry) (option_copied lower.entry) (option_copied upper.entry) }
+    ensures { result ≡ spec.within options (option_copied x.entry)
+        (option_copied lower.entry) (option_copied upper.entry) }
 {
     let above = compared(options.lower_strict.to_operator(), lower, x);
     let below = compared(options.upper_strict.to_operator(), x, upper);
@@ -214,17 +215,19 @@ impl BoundExpression {
     }
 }
 
-/// The value of an expression on a row, `None` being null; the row count is what a row count in it is worth. `Placeholder` if it
-/// holds a placeholder, and else `RowShape` if it holds a column that the row lacks or that has another type there, nullability
-/// aside. Memory is taken only where the answer is a text or bytes.
+/// The value of an expression on a row, `None` being null; the row count is what a row count in it
+/// is worth. `Placeholder` if it holds a placeholder, and else `RowShape` if it holds a column that
+/// the row lacks or that has another type there, nullability aside. Memory is taken only where the
+/// answer is a text or bytes.
 pub fn evaluate(
     expression: &BoundExpression,
     row: &Row<'_>,
     row_count: u64,
 ) -> Result<Option<ScalarValue>, BaseError>
-    ensures value { Answers (can_evaluate expression.now row.now) (meaning expression.now row.now row_count) result }
-    ensures memory { result ≡
-        Err (BaseError.Memory alloc_error) → IsTrue (spec.is_long (meaning expression.now row.now row_count)) }
+    ensures value { Answers (can_evaluate expression.now row.now)
+        (meaning expression.now row.now row_count) result }
+    ensures memory { result ≡ Err (BaseError.Memory alloc_error)
+        → IsTrue (spec.is_long (meaning expression.now row.now row_count)) }
 {
     if expression.has_placeholder() {
         return Err(BaseError::Placeholder);

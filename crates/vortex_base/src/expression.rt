@@ -14,7 +14,8 @@ use crate::scalar::Scalar;
 use std::alloc::Global;
 use std::marker::Model;
 
-/// An expression whose columns are given by their names. It has no type until it is bound to a scope.
+/// An expression whose columns are given by their names. It has no type until it is bound to a
+/// scope.
 #[cycle(named_expression)]
 pub struct Expression {
     pub(crate) node: Box<NamedNode>,

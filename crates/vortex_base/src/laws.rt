@@ -1,8 +1,11 @@
-//! Laws of this layer, in the words of its definitions. The functions carry them by their contracts.
+//! Laws of this layer, in the words of its definitions. The functions carry them by their
+//! contracts.
 ghost use Rattle.std.specs.Prelude.{◌≡◌, ◌↔◌, IfOk, IsTrue};
 ghost use Rattle.vortex_base.specs.Examples.{TypeExamples, ValueExamples, OrderExamples};
 ghost use Rattle.vortex_base.specs.Examples.{ScopeExamples, ChunkExamples};
-ghost use Rattle.vortex_base.specs.ExpressionExamples.{LikeExamples, TypingExamples, AggregateExamples, BindingExamples, MeaningExamples};
+ghost use Rattle.vortex_base.specs.ExpressionExamples.{LikeExamples, TypingExamples};
+ghost use Rattle.vortex_base.specs.ExpressionExamples.{AggregateExamples, BindingExamples};
+ghost use Rattle.vortex_base.specs.ExpressionExamples.{MeaningExamples};
 ghost use Rattle.vortex_base.specs.Fitting.{RowsFit};
 ghost use Rattle.vortex_base.specs.Meaning.{MeaningFits};
 ghost use Rattle.vortex_base.specs.Orders.{ValuesAreOrdered, NumbersAreOrdered, pvalue_cmp};

@@ -1,8 +1,8 @@
 //! LIKE: whether a text matches a pattern.
 //!
-//! `%` stands for any run of characters, `_` for any one character, and `\` makes the next character
-//! literal. The search goes back to the last `%` alone, so it takes at most as many steps as the
-//! pattern has characters times the text's.
+//! `%` stands for any run of characters, `_` for any one character, and `\` makes the next
+//! character literal. The search goes back to the last `%` alone, so it takes at most as many steps
+//! as the pattern has characters times the text's.
 ghost use Rattle.std.specs.Prelude.{◌≡◌, ◌<◌, ◌∷◌, [], length, MatchOption, IfSome};
 ghost use Rattle.std.specs.Str.{chars};
 ghost use Rattle.vortex_base.specs.Like.{items, like, some_end, like_text};

@@ -94,7 +94,8 @@ pub(crate) fn like_type(x: DType, pattern: DType) -> Result<DType, BaseError>
     type_if(is_utf8(x) && is_utf8(pattern), truth_type(nullable))
 }
 
-/// The type of a placeholder: the aggregate's state type made nullable. `Unsupported` where the aggregate has none.
+/// The type of a placeholder: the aggregate's state type made nullable. `Unsupported` where the
+/// aggregate has none.
 pub(crate) fn stat_type(aggregate: AggregateFnRef, input: DType) -> Result<DType, BaseError>
     ensures { result ≡ table.stat_type aggregate input }
 {

@@ -113,7 +113,8 @@ fn is_memory<T: Drop>(answer: Result<T, BaseError>) -> bool {
     matches!(answer, Err(BaseError::Memory(_)))
 }
 
-// With a growth refused, as `rt try --test --fail-alloc` refuses one, binding answers `Memory` and nothing else.
+// With a growth refused, as `rt try --test --fail-alloc` refuses one,
+// binding answers `Memory` and nothing else.
 #[test]
 fn binding_is_refused_for_memory_alone(rt: HostRuntime) {
     let alloc = rt.alloc();

@@ -109,7 +109,8 @@ fn is_copied(source: &BoundExpression) -> bool {
     }
 }
 
-// With a growth refused, as `rt try --test --fail-alloc` refuses one, a copy is refused and its source stays.
+// With a growth refused, as `rt try --test --fail-alloc` refuses one,
+// a copy is refused and its source stays.
 #[test]
 fn copies_are_refused_for_memory_alone(rt: HostRuntime) {
     if let Ok(range) = range(rt.alloc()) {

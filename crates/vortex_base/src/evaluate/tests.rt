@@ -161,7 +161,8 @@ fn columns_are_read_at_the_row(rt: HostRuntime) -> Result<(), Fail> {
     Ok(())
 }
 
-// With a growth refused, as `rt try --test --fail-alloc` refuses one, a text is refused for memory and nothing else.
+// With a growth refused, as `rt try --test --fail-alloc` refuses one,
+// a text is refused for memory and nothing else.
 #[test]
 fn texts_are_refused_for_memory_alone(rt: HostRuntime) {
     let Ok(x) = text(rt.alloc(), "x") else {

@@ -1,5 +1,5 @@
 use Rattle.std.proofs.Common.{refl}
-use Rattle.std.specs.Str.{chars, is_utf8}
+use Rattle.std.specs.Str.{chars}
 use Rattle.vortex_base.proofs.laws.expression_examples_hold.Goals as goal
 
 pub returns-clause-like : goal.returns-clause-like

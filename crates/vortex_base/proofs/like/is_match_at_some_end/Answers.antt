@@ -1,4 +1,4 @@
-use Rattle.std.proofs.Common.{◌≡◌, ◌∷◌, [], length, ◌<◌, ◌≤◌, sym, ◌∙◌, ap, arith}
+use Rattle.std.proofs.Common.{◌≡◌, ◌∷◌, [], sym, ◌∙◌, ap, arith}
 use Rattle.vortex_base.specs.Like.{items, like, some_end}
 use Rattle.vortex_base.specs.LikeSearch.{characters, stop, Mismatch}
 use Rattle.vortex_base.proofs.LikeStops.{some_end-at_run, some_end-at_whole, some_end-at_mismatch, some_end-at_end, length-at_run}
