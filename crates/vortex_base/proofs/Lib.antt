@@ -1,4 +1,9 @@
-mod LikeStops
 pub mod MapLemmas
+pub mod OrderLemmas
 pub mod RowLemmas
 pub mod ScopeLemmas
+mod LikeStops
+mod MeaningFits
+mod PlacedFits
+mod PlacedTypes
+mod RowsFit

@@ -1,5 +1,5 @@
 -- Tests of lists that a function was mapped over.
-use Rattle.std.specs.Prelude.{◌≡◌, suc, Bool, ◌||◌, ◌&&◌, not, List, [], ◌∷◌, map, refl, length}
+use Rattle.std.specs.Prelude.{◌≡◌, Bool, ◌||◌, ◌&&◌, not, List, [], ◌∷◌, map, refl, length}
 use Rattle.std.specs.List.{list_all, list_any, zip, position, prefix_len}
 use Rattle.std.proofs.Common.{ap, arith, rules}
 use Rattle.std.proofs.lemmas.List.{length-map}

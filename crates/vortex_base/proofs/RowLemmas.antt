@@ -1,9 +1,9 @@
 -- The rows of a chunk hold values of their columns' types.
 use Rattle.std.specs.Prelude.{◌≡◌, ℕ, zero, suc, ◌<◌, ◌==◌, ◌&&◌, Bool, true, List, [], ◌∷◌, Option, length, slice_get, refl}
 use Rattle.std.specs.List.{list_all}
-use Rattle.std.proofs.Common.{arith, sym, ◌∙◌}
+use Rattle.std.proofs.Common.{arith}
 use Rattle.std.proofs.lemmas.Bool.Decides.{nat_tests}
-use Rattle.vortex_base.specs.Exact.{both_true}
+use Rattle.vortex_base.specs.Exact.{both_hold, both_true}
 use Rattle.vortex_base.specs.declared.dtype.DType.{DType}
 use Rattle.vortex_base.specs.declared.scalar_value.ScalarValue.{ScalarValue}
 use Rattle.vortex_base.specs.Scalars.{is_optional_value}
@@ -14,9 +14,6 @@ fits_at : (t : DType) (vs : List (Option ScalarValue)) (i : ℕ) → all_fit t v
 fits_at t [] i h l = absurd (omega arith)
 fits_at t (v ∷ vs) zero h l = (both_true _ _ h).0
 fits_at t (v ∷ vs) (suc i) h l = fits_at t vs i (both_true _ _ h).1 (omega arith)
-
-both_hold : (a b : Bool) → a ≡ true → b ≡ true → (a && b) ≡ true
-both_hold a b p q = rw (p, q) refl
 
 equal_lengths : (m n : ℕ) → (m == n) ≡ true → m ≡ n
 equal_lengths m n h = grind (arith, nat_tests)

@@ -2,6 +2,8 @@
 use Rattle.std.specs.Prelude.{◌≡◌, Result, Ok, Err, MatchResult, alloc_error}
 use Rattle.vortex_base.specs.declared.error.BaseError.{BaseError}
 use Rattle.vortex_base.specs.declared.error.BaseError.TheVariants.{Memory}
+use Rattle.vortex_base.specs.Tree.{Tree, Place}
+use Rattle.vortex_base.specs.Typing.{type_of}
 
 -- this value, unless memory was refused
 abbrev pub Makes : {B : Type 0} → B → Result B BaseError → Type 0
@@ -11,3 +13,12 @@ Makes v r = MatchResult r (λ w. w ≡ v) (λ f. f ≡ Memory alloc_error)
 abbrev pub Answers : {A B : Type 0} → Result A BaseError → B → Result B BaseError → Type 0
 Answers (Err f) v r = r ≡ Err f
 Answers (Ok a) v r = Makes v r
+
+-- the fault that is to be given, or else the value, unless memory was refused
+abbrev pub Gives : {B : Type 0} → Result B BaseError → Result B BaseError → Type 0
+Gives (Err f) r = r ≡ Err f
+Gives (Ok v) r = Makes v r
+
+-- this typed tree, if the typing table gives it a type, and else its fault
+abbrev pub Builds : Tree Place → Result (Tree Place) BaseError → Type 0
+Builds e r = Answers (type_of e) e r

@@ -23,3 +23,7 @@ exact_equivalence E h = record {
 pub both_true : (a b : Bool) → IsTrue (a && b) → IsTrue a × IsTrue b
 both_true true b h = (refl, h)
 both_true false b h = cc
+
+pub both_hold : (a b : Bool) → IsTrue a → IsTrue b → IsTrue (a && b)
+both_hold true b h k = k
+both_hold false b h k = h

@@ -1,9 +1,10 @@
 -- Whether the columns of a typed expression are those of a scope, or of a row.
-use Rattle.std.specs.Prelude.{ℕ, Bool, true, false, Option, Some, None, List, slice_get}
+use Rattle.std.specs.Prelude.{ℕ, Bool, true, false, Option, Some, None, List, IsTrue, slice_get}
 use Rattle.vortex_base.specs.declared.dtype.DType.{DType}
 use Rattle.vortex_base.specs.Types.{dtype_eq, eq_ignore_nullability}
 use Rattle.vortex_base.specs.Scalars.{Constant}
 use Rattle.vortex_base.specs.Scopes.{Named}
+use Rattle.vortex_base.specs.Columns.{ChunkData, IsChunk, row_of}
 use Rattle.vortex_base.specs.Tree.{Tree, Place, all_columns}
 
 -- the column has this type
@@ -23,3 +24,7 @@ is_cell_of t (Some c) = eq_ignore_nullability c.dtype t
 -- each column has its place in the row, and its type there, nullability aside
 abbrev pub fits_row : Tree Place → List Constant → Bool
 fits_row e row = all_columns (λ c. is_cell_of c.dtype (slice_get row c.index)) e
+
+-- an expression that fits the scope of a chunk fits its rows
+abbrev pub RowsFit : Tree Place → ChunkData → ℕ → Type 0
+RowsFit e k i = IsChunk k → IsTrue (fits_scope e k.scope) → IsTrue (fits_row e (row_of i k.columns))

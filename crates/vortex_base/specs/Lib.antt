@@ -4,6 +4,8 @@ pub mod Binding
 pub mod Columns
 pub mod Evaluated
 pub mod Exact
+pub mod Examples
+pub mod ExpressionExamples
 pub mod Fitting
 pub mod Like
 pub mod LikeSearch
@@ -12,6 +14,7 @@ pub mod NamedNode
 pub mod NamedNodeFalls
 pub mod Node
 pub mod NodeFalls
+pub mod Orders
 pub mod Parts
 pub mod Reading
 pub mod ScalarFns

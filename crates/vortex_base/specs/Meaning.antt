@@ -1,7 +1,8 @@
 -- What an expression means on a row: a value, or null.
-use Rattle.std.specs.Prelude.{ℕ, Bool, true, false, not as not_b, ◌&&◌, ◌||◌, Option, Some, None, List, Result, Ok, Err, if◌then◌else◌, slice_get, is_none, option_map}
+use Rattle.std.specs.Prelude.{◌≡◌, ℕ, ◌<◌, ◌^◌, IsTrue, Bool, true, false, not as not_b, ◌&&◌, ◌||◌, Option, Some, None, List, Result, Ok, Err, if◌then◌else◌, slice_get, is_none, option_map}
 use Rattle.std.specs.declared.cmp.Ordering.{Ordering}
 use Rattle.std.specs.Ordering.{is_lt, is_eq, is_gt}
+use Rattle.vortex_base.specs.declared.dtype.DType.{DType}
 use Rattle.vortex_base.specs.declared.pvalue.PValue.TheVariants as number
 use Rattle.vortex_base.specs.declared.scalar_value.ScalarValue.{ScalarValue}
 use Rattle.vortex_base.specs.declared.scalar_value.ScalarValue.TheVariants as value
@@ -12,11 +13,13 @@ use Rattle.vortex_base.specs.declared.operator.Operator.TheVariants as operator
 use Rattle.vortex_base.specs.declared.between.BetweenOptions.{BetweenOptions}
 use Rattle.vortex_base.specs.declared.like.LikeOptions.{LikeOptions}
 use Rattle.vortex_base.specs.Values.{value_cmp}
-use Rattle.vortex_base.specs.Scalars.{Constant}
-use Rattle.vortex_base.specs.Columns.{cell_value}
+use Rattle.vortex_base.specs.Types.{as_nullable}
+use Rattle.vortex_base.specs.Scalars.{Constant, is_optional_value}
+use Rattle.vortex_base.specs.Columns.{cell_value, IsRow}
 use Rattle.vortex_base.specs.Between.{to_operator}
 use Rattle.vortex_base.specs.Like.{matches}
 use Rattle.vortex_base.specs.Tree.{Tree, Place, column, literal, binary, between, is_null, is_not_null, not, like, stat, row_count, has_placeholder}
+use Rattle.vortex_base.specs.Typing.{type_of}
 use Rattle.vortex_base.specs.Fitting.{fits_row}
 
 -- ---- truths of three values, None being null
@@ -114,3 +117,13 @@ is_true v = false
 
 abbrev pub satisfies : Tree Place → (row : List Constant) → (n : ℕ) → Bool
 satisfies e row n = is_true (meaning e row n)
+
+-- a copy of the value takes memory
+abbrev pub is_long : Option ScalarValue → Bool
+is_long (Some (value.Utf8 bs)) = true
+is_long (Some (value.Binary bs)) = true
+is_long v = false
+
+-- an expression that has a type means a value of it or null, on every row that holds values of their types and that it fits
+abbrev pub MeaningFits : Tree Place → (row : List Constant) → (n : ℕ) → Type 0
+MeaningFits e row n = (t : DType) → type_of e ≡ Ok t → IsRow row → IsTrue (fits_row e row) → n < 2 ^ 64 → IsTrue (is_optional_value (meaning e row n) (as_nullable t))

@@ -1,5 +1,5 @@
 -- What is read out of a value or null.
-use Rattle.std.specs.Prelude.{◌≡◌, Bool, Option, Some, None, Result, Ok, Err, IsTrue, IsSomeAnd, IfSome, ℤ, ⊤, ℕ, List}
+use Rattle.std.specs.Prelude.{Bool, Option, Result, Ok, Err, IsTrue, IsSomeAnd, IfSome, ℤ, ℕ, List}
 use Rattle.vortex_base.specs.declared.error.BaseError.{BaseError}
 use Rattle.vortex_base.specs.declared.error.BaseError.TheVariants.{Memory, Mismatch}
 use Rattle.vortex_base.specs.declared.scalar_value.ScalarValue.{ScalarValue}

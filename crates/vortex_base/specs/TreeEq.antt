@@ -1,7 +1,7 @@
 -- An exact equality test of typed trees.
 use Rattle.std.specs.Prelude.{◌≡◌, ◌==◌, ◌&&◌, ℕ, Bool, true, false, IsTrue, refl}
 use Rattle.std.proofs.Common.{rules, ap, subst}
-use Rattle.vortex_base.specs.Exact.{IsExact, both_true}
+use Rattle.vortex_base.specs.Exact.{IsExact, both_hold, both_true}
 use Rattle.vortex_base.specs.Types.{dtype_eq, dtype_eq_is_exact}
 use Rattle.vortex_base.specs.Scalars.{constant_eq, constant_eq_is_exact}
 use Rattle.vortex_base.specs.declared.operator.Operator.{Operator}
@@ -69,16 +69,16 @@ same_tree : (a b : Tree Place) → IsTrue (tree_eq a b) → a ≡ b
 same_tree (column c) (column d) h = ap column (same_place c d h)
 same_tree (literal c) (literal d) h = ap literal ((constant_eq_is_exact c d).0 h)
 same_tree (binary o a b) (binary p c d) h =
-    let w = both_true _ _ h in
-    let v = both_true _ _ w.1 in
+    let w = both_true (operator_eq o p) (tree_eq a c && tree_eq b d) h in
+    let v = both_true (tree_eq a c) (tree_eq b d) w.1 in
     let s : o ≡ p = (operator_eq_is_exact o p).0 w.0 in
     let x : a ≡ c = same_tree a c v.0 in
     let y : b ≡ d = same_tree b d v.1 in
     λ k. binary (s k) (x k) (y k)
 same_tree (between o a b c) (between p d e f) h =
-    let w = both_true _ _ h in
-    let v = both_true _ _ w.1 in
-    let u = both_true _ _ v.1 in
+    let w = both_true (between_options_eq o p) (tree_eq a d && (tree_eq b e && tree_eq c f)) h in
+    let v = both_true (tree_eq a d) (tree_eq b e && tree_eq c f) w.1 in
+    let u = both_true (tree_eq b e) (tree_eq c f) v.1 in
     let s : o ≡ p = (between_options_eq_is_exact o p).0 w.0 in
     let x : a ≡ d = same_tree a d v.0 in
     let y : b ≡ e = same_tree b e u.0 in
@@ -88,35 +88,31 @@ same_tree (is_null a) (is_null b) h = ap is_null (same_tree a b h)
 same_tree (is_not_null a) (is_not_null b) h = ap is_not_null (same_tree a b h)
 same_tree (not a) (not b) h = ap not (same_tree a b h)
 same_tree (like o a b) (like p c d) h =
-    let w = both_true _ _ h in
-    let v = both_true _ _ w.1 in
+    let w = both_true (like_options_eq o p) (tree_eq a c && tree_eq b d) h in
+    let v = both_true (tree_eq a c) (tree_eq b d) w.1 in
     let s : o ≡ p = (like_options_eq_is_exact o p).0 w.0 in
     let x : a ≡ c = same_tree a c v.0 in
     let y : b ≡ d = same_tree b d v.1 in
     λ k. like (s k) (x k) (y k)
 same_tree (stat f a) (stat g b) h =
-    let w = both_true _ _ h in
+    let w = both_true (aggregate_eq f g) (tree_eq a b) h in
     let s : f ≡ g = (aggregate_eq_is_exact f g).0 w.0 in
     let x : a ≡ b = same_tree a b w.1 in
     λ k. stat (s k) (x k)
 same_tree row_count row_count h = refl
 same_tree a b h = cc
 
-and_true : (a b : Bool) → IsTrue a → IsTrue b → IsTrue (a && b)
-and_true true b h k = k
-and_true false b h k = h
-
 tree_eq_itself : (a : Tree Place) → IsTrue (tree_eq a a)
-tree_eq_itself (column c) = and_true _ _ ((nat_eq_is_exact c.index c.index).1 refl) ((dtype_eq_is_exact c.dtype c.dtype).1 refl)
+tree_eq_itself (column c) = both_hold _ _ ((nat_eq_is_exact c.index c.index).1 refl) ((dtype_eq_is_exact c.dtype c.dtype).1 refl)
 tree_eq_itself (literal c) = (constant_eq_is_exact c c).1 refl
-tree_eq_itself (binary o a b) = and_true _ _ ((operator_eq_is_exact o o).1 refl) (and_true _ _ (tree_eq_itself a) (tree_eq_itself b))
+tree_eq_itself (binary o a b) = both_hold _ _ ((operator_eq_is_exact o o).1 refl) (both_hold _ _ (tree_eq_itself a) (tree_eq_itself b))
 tree_eq_itself (between o a b c) =
-    and_true _ _ ((between_options_eq_is_exact o o).1 refl) (and_true _ _ (tree_eq_itself a) (and_true _ _ (tree_eq_itself b) (tree_eq_itself c)))
+    both_hold _ _ ((between_options_eq_is_exact o o).1 refl) (both_hold _ _ (tree_eq_itself a) (both_hold _ _ (tree_eq_itself b) (tree_eq_itself c)))
 tree_eq_itself (is_null a) = tree_eq_itself a
 tree_eq_itself (is_not_null a) = tree_eq_itself a
 tree_eq_itself (not a) = tree_eq_itself a
-tree_eq_itself (like o a b) = and_true _ _ ((like_options_eq_is_exact o o).1 refl) (and_true _ _ (tree_eq_itself a) (tree_eq_itself b))
-tree_eq_itself (stat f a) = and_true _ _ ((aggregate_eq_is_exact f f).1 refl) (tree_eq_itself a)
+tree_eq_itself (like o a b) = both_hold _ _ ((like_options_eq_is_exact o o).1 refl) (both_hold _ _ (tree_eq_itself a) (tree_eq_itself b))
+tree_eq_itself (stat f a) = both_hold _ _ ((aggregate_eq_is_exact f f).1 refl) (tree_eq_itself a)
 tree_eq_itself row_count = refl
 
 pub tree_eq_is_exact : IsExact tree_eq

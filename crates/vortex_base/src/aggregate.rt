@@ -33,7 +33,8 @@ pub enum AggregateFnRef {
 impl AggregateFnRef {
     ghost use Rattle.vortex_base.specs.Typing.{state_dtype};
 
-    /// The type of the aggregate's state over an input of this type, or `None` where it does not support the type.
+    /// The type of the aggregate's state over an input of this type, or `None` where it does not
+    /// support the type.
     pub fn state_dtype(&self, dtype: &DType) -> Option<DType>
         ensures { result ≡ state_dtype self.now dtype.now }
     {

@@ -15,7 +15,8 @@ pub enum StrictComparison {
 impl StrictComparison {
     ghost use Rattle.vortex_base.specs.Between.{to_operator};
 
-    /// The comparison of the lesser with the greater: `Lt` for a strict end, `Lte` for one that isn't.
+    /// The comparison of the lesser with the greater: `Lt` for a strict end, `Lte` for one that
+    /// isn't.
     pub fn to_operator(self) -> Operator
         ensures { result ≡ to_operator self }
     {

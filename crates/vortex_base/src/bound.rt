@@ -1,12 +1,11 @@
 //! The constructors of typed expressions.
 //!
-//! Each answers `TypeFault`, or `Unsupported` for a placeholder, exactly where the typing table has no type for the node, and
-//! drops what it was given where it refuses.
+//! Each answers `TypeFault`, or `Unsupported` for a placeholder, exactly where the typing table has
+//! no type for the node, and drops what it was given where it refuses.
 ghost use Rattle.std.specs.Prelude.{◌≡◌};
 ghost use Rattle.vortex_base.specs.Tree as tree;
 ghost use Rattle.vortex_base.specs.Like.{plain};
-ghost use Rattle.vortex_base.specs.Typing.{type_of};
-ghost use Rattle.vortex_base.specs.Answer.{Answers, Makes};
+ghost use Rattle.vortex_base.specs.Answer.{Builds, Makes};
 
 use crate::aggregate::AggregateFnRef;
 use crate::between::BetweenOptions;
@@ -43,7 +42,7 @@ pub fn binary(
     left: BoundExpression,
     right: BoundExpression,
 ) -> Result<BoundExpression, BaseError>
-    ensures { Answers (type_of (tree.binary operator left right)) (tree.binary operator left right) result }
+    ensures { Builds (tree.binary operator left right) result }
 {
     let dtype = typing::binary_type(operator, left.dtype(), right.dtype())?;
     let node = Box::new(alloc, Node::Binary(operator, left, right))?;
@@ -56,7 +55,7 @@ pub fn eq(
     left: BoundExpression,
     right: BoundExpression,
 ) -> Result<BoundExpression, BaseError>
-    ensures { Answers (type_of (tree.binary Operator.Eq left right)) (tree.binary Operator.Eq left right) result }
+    ensures { Builds (tree.binary Operator.Eq left right) result }
 {
     binary(alloc, Operator::Eq, left, right)
 }
@@ -67,7 +66,7 @@ pub fn not_eq(
     left: BoundExpression,
     right: BoundExpression,
 ) -> Result<BoundExpression, BaseError>
-    ensures { Answers (type_of (tree.binary Operator.NotEq left right)) (tree.binary Operator.NotEq left right) result }
+    ensures { Builds (tree.binary Operator.NotEq left right) result }
 {
     binary(alloc, Operator::NotEq, left, right)
 }
@@ -78,7 +77,7 @@ pub fn gt(
     left: BoundExpression,
     right: BoundExpression,
 ) -> Result<BoundExpression, BaseError>
-    ensures { Answers (type_of (tree.binary Operator.Gt left right)) (tree.binary Operator.Gt left right) result }
+    ensures { Builds (tree.binary Operator.Gt left right) result }
 {
     binary(alloc, Operator::Gt, left, right)
 }
@@ -89,7 +88,7 @@ pub fn gt_eq(
     left: BoundExpression,
     right: BoundExpression,
 ) -> Result<BoundExpression, BaseError>
-    ensures { Answers (type_of (tree.binary Operator.Gte left right)) (tree.binary Operator.Gte left right) result }
+    ensures { Builds (tree.binary Operator.Gte left right) result }
 {
     binary(alloc, Operator::Gte, left, right)
 }
@@ -100,7 +99,7 @@ pub fn lt(
     left: BoundExpression,
     right: BoundExpression,
 ) -> Result<BoundExpression, BaseError>
-    ensures { Answers (type_of (tree.binary Operator.Lt left right)) (tree.binary Operator.Lt left right) result }
+    ensures { Builds (tree.binary Operator.Lt left right) result }
 {
     binary(alloc, Operator::Lt, left, right)
 }
@@ -111,7 +110,7 @@ pub fn lt_eq(
     left: BoundExpression,
     right: BoundExpression,
 ) -> Result<BoundExpression, BaseError>
-    ensures { Answers (type_of (tree.binary Operator.Lte left right)) (tree.binary Operator.Lte left right) result }
+    ensures { Builds (tree.binary Operator.Lte left right) result }
 {
     binary(alloc, Operator::Lte, left, right)
 }
@@ -122,7 +121,7 @@ pub fn and(
     left: BoundExpression,
     right: BoundExpression,
 ) -> Result<BoundExpression, BaseError>
-    ensures { Answers (type_of (tree.binary Operator.And left right)) (tree.binary Operator.And left right) result }
+    ensures { Builds (tree.binary Operator.And left right) result }
 {
     binary(alloc, Operator::And, left, right)
 }
@@ -133,7 +132,7 @@ pub fn or(
     left: BoundExpression,
     right: BoundExpression,
 ) -> Result<BoundExpression, BaseError>
-    ensures { Answers (type_of (tree.binary Operator.Or left right)) (tree.binary Operator.Or left right) result }
+    ensures { Builds (tree.binary Operator.Or left right) result }
 {
     binary(alloc, Operator::Or, left, right)
 }
@@ -146,7 +145,7 @@ pub fn between(
     upper: BoundExpression,
     options: BetweenOptions,
 ) -> Result<BoundExpression, BaseError>
-    ensures { Answers (type_of (tree.between options x lower upper)) (tree.between options x lower upper) result }
+    ensures { Builds (tree.between options x lower upper) result }
 {
     let dtype = typing::between_type(x.dtype(), lower.dtype(), upper.dtype())?;
     let node = Box::new(alloc, Node::Between(options, x, lower, upper))?;
@@ -179,7 +178,7 @@ pub fn is_not_null(alloc: Global, x: BoundExpression) -> Result<BoundExpression,
 
 /// The opposite of a truth.
 pub fn not(alloc: Global, x: BoundExpression) -> Result<BoundExpression, BaseError>
-    ensures { Answers (type_of (tree.not x)) (tree.not x) result }
+    ensures { Builds (tree.not x) result }
 {
     let dtype = typing::not_type(x.dtype())?;
     let node = Box::new(alloc, Node::Not(x))?;
@@ -192,7 +191,7 @@ pub fn like(
     text: BoundExpression,
     pattern: BoundExpression,
 ) -> Result<BoundExpression, BaseError>
-    ensures { Answers (type_of (tree.like plain text pattern)) (tree.like plain text pattern) result }
+    ensures { Builds (tree.like plain text pattern) result }
 {
     let options = LikeOptions {
         negated: false,
@@ -208,20 +207,21 @@ pub fn like_with(
     pattern: BoundExpression,
     options: LikeOptions,
 ) -> Result<BoundExpression, BaseError>
-    ensures { Answers (type_of (tree.like options text pattern)) (tree.like options text pattern) result }
+    ensures { Builds (tree.like options text pattern) result }
 {
     let dtype = typing::like_type(text.dtype(), pattern.dtype())?;
     let node = Box::new(alloc, Node::Like(options, text, pattern))?;
     Ok(BoundExpression { dtype, node })
 }
 
-/// The placeholder for an aggregate of an input. `Unsupported` where the aggregate does not support the input's type.
+/// The placeholder for an aggregate of an input. `Unsupported` where the aggregate does not support
+/// the input's type.
 pub fn new_stat(
     alloc: Global,
     input: BoundExpression,
     aggregate: AggregateFnRef,
 ) -> Result<BoundExpression, BaseError>
-    ensures { Answers (type_of (tree.stat aggregate input)) (tree.stat aggregate input) result }
+    ensures { Builds (tree.stat aggregate input) result }
 {
     let dtype = typing::stat_type(aggregate, input.dtype())?;
     let node = Box::new(alloc, Node::Stat(aggregate, input))?;
@@ -238,3 +238,6 @@ pub fn row_count(alloc: Global) -> Result<BoundExpression, BaseError>
         node,
     })
 }
+
+#[cfg(test)]
+mod tests;

@@ -13,8 +13,8 @@ use crate::scalar::Scalar;
 use crate::scalar_fn::ScalarFnId;
 use std::marker::Model;
 
-/// A typed expression over the columns of a row, given by their places. Each node stores its type, and that is what the typing
-/// table gives from the types of its children.
+/// A typed expression over the columns of a row, given by their places. Each node stores its type,
+/// and that is what the typing table gives from the types of its children.
 #[cycle(expression)]
 pub struct BoundExpression {
     pub(crate) dtype: DType,
@@ -28,12 +28,7 @@ pub(crate) enum Node {
     Column(usize),
     Literal(Scalar),
     Binary(Operator, BoundExpression, BoundExpression),
-    Between(
-        BetweenOptions,
-        BoundExpression,
-        BoundExpression,
-        BoundExpression,
-    ),
+    Between(BetweenOptions, BoundExpression, BoundExpression, BoundExpression),
     IsNull(BoundExpression),
     IsNotNull(BoundExpression),
     Not(BoundExpression),
@@ -121,11 +116,7 @@ impl BoundExpression {
             Node::Column(_) | Node::Literal(_) | Node::RowCount => unreachable!(),
             Node::IsNull(x) | Node::IsNotNull(x) | Node::Not(x) | Node::Stat(_, x) => x,
             Node::Binary(_, left, right) | Node::Like(_, left, right) => {
-                if i == 0 {
-                    left
-                } else {
-                    right
-                }
+                if i == 0 { left } else { right }
             }
             Node::Between(_, x, lower, upper) => {
                 if i == 0 {
@@ -167,3 +158,6 @@ impl BoundExpression {
         }
     }
 }
+
+#[cfg(test)]
+mod tests;

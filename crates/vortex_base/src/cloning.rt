@@ -31,7 +31,12 @@ fn cloned(node: &Node) -> Result<Node, AllocError>
             Node::Binary(*operator, left.try_clone()?, right.try_clone()?)
         }
         Node::Between(options, x, lower, upper) => {
-            Node::Between(*options, x.try_clone()?, lower.try_clone()?, upper.try_clone()?)
+            Node::Between(
+                *options,
+                x.try_clone()?,
+                lower.try_clone()?,
+                upper.try_clone()?,
+            )
         }
         Node::IsNull(x) => Node::IsNull(x.try_clone()?),
         Node::IsNotNull(x) => Node::IsNotNull(x.try_clone()?),

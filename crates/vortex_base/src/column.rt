@@ -36,8 +36,8 @@ fn all_fit(dtype: &DType, values: &[Option<ScalarValue>]) -> bool
 }
 
 impl Column {
-    /// The column of a type, its values and its size in bytes, which is taken as declared. `Mismatch` if a value does not fit the
-    /// type, or a null stands where the type has none.
+    /// The column of a type, its values and its size in bytes, which is taken as declared.
+    /// `Mismatch` if a value does not fit the type, or a null stands where the type has none.
     pub fn try_new(
         dtype: DType,
         values: Vec<Option<ScalarValue>>,

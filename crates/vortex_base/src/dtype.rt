@@ -15,7 +15,8 @@ pub enum DType {
     Primitive(PType, Nullability),
     Utf8(Nullability),
     Binary(Nullability),
-    /// The type of a pair of a least and a greatest value, of which an expression may speak. It has no value but null.
+    /// The type of a pair of a least and a greatest value, of which an expression may speak. It has
+    /// no value but null.
     MinMaxState(Element, Nullability),
 }
 
@@ -53,5 +54,22 @@ impl DType {
         ensures { result ≡ types.eq_ignore_nullability self.now other.now }
     {
         self.as_nullable() == other.as_nullable()
+    }
+}
+
+#[cfg(test)]
+mod tests {
+    use super::*;
+
+    #[test]
+    fn null_aside(rt: HostRuntime) {
+        let plain = DType::Utf8(Nullability::NonNullable);
+        let state = DType::MinMaxState(Element::Bool, Nullability::NonNullable);
+        assert!(rt; DType::Null.is_nullable());
+        assert!(rt; !plain.is_nullable());
+        assert_eq!(rt; plain.as_nullable(), DType::Utf8(Nullability::Nullable));
+        assert!(rt; plain.eq_ignore_nullability(&DType::Utf8(Nullability::Nullable)));
+        assert!(rt; !plain.eq_ignore_nullability(&DType::Binary(Nullability::NonNullable)));
+        assert!(rt; state.as_nullable().is_nullable());
     }
 }

@@ -20,7 +20,8 @@ pub enum BaseError {
     /// A scope has no column.
     #[error("a scope needs a column")]
     EmptyScope,
-    /// The operands of a node have types that it does not take, or a column has a type that no column may have.
+    /// The operands of a node have types that it does not take, or a column has a type that no
+    /// column may have.
     #[error("the types do not fit")]
     TypeFault,
     /// The aggregate does not support the type.
@@ -50,5 +51,33 @@ impl<T: Drop> From<AllocFailed<T>> for BaseError {
 
     fn from(e: AllocFailed<T>) -> BaseError {
         BaseError::Memory(AllocError::from(e))
+    }
+}
+
+#[cfg(test)]
+mod tests {
+    use super::*;
+    use std::test::Fail;
+
+    #[test]
+    fn print_their_cause(rt: HostRuntime) -> Result<(), Fail> {
+        let cases = [
+            (BaseError::UnknownColumn, "no column has this name"),
+            (BaseError::DuplicateColumn, "two columns have one name"),
+            (BaseError::EmptyScope, "a scope needs a column"),
+            (BaseError::TypeFault, "the types do not fit"),
+            (
+                BaseError::Unsupported,
+                "the aggregate does not support the type",
+            ),
+            (BaseError::Mismatch, "a value does not fit its type"),
+            (BaseError::RowShape, "the columns do not make up the rows"),
+            (BaseError::Placeholder, "a placeholder has no value"),
+        ];
+        for (error, text) in &cases {
+            let printed = format!(in rt.alloc(); "{error}")?;
+            assert_eq!(rt; printed.as_str(), *text);
+        }
+        Ok(())
     }
 }

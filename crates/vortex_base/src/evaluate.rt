@@ -1,5 +1,6 @@
 //! The value of an expression on a row.
-ghost use Rattle.std.specs.Prelude.{◌≡◌, option_map, option_copied};
+ghost use Rattle.std.specs.Prelude.{◌≡◌, IfOk, IsTrue, OnErr, alloc_error};
+ghost use Rattle.std.specs.Prelude.{option_copied, option_map};
 ghost use Rattle.vortex_base.specs.Meaning as spec;
 ghost use Rattle.vortex_base.specs.Meaning.{can_evaluate, meaning};
 ghost use Rattle.vortex_base.specs.Evaluated.{evaluated};
@@ -14,10 +15,11 @@ use crate::operator::Operator;
 use crate::pvalue::PValue;
 use crate::row::Row;
 use crate::scalar_value::ScalarValue;
+use std::alloc::AllocError;
 use std::cmp::Ordering;
 
-/// A value that the row or a literal lends, or that the evaluation made. What it makes is never a text or bytes, so no node but
-/// the answer's own is copied.
+/// A value that the row or a literal lends, or that the evaluation made. What it makes is never a
+/// text or bytes, so no node but the answer's own is copied.
 #[derive(Drop)]
 enum Evaluated<'a> {
     Lent(&'a ScalarValue),
@@ -40,6 +42,17 @@ fn borrowed(value: Option<&ScalarValue>) -> Option<Evaluated<'_>>
     match value {
         Some(value) => Some(Evaluated::Lent(value)),
         None => None,
+    }
+}
+
+fn owned(value: &ScalarValue) -> Result<ScalarValue, AllocError>
+    ensures ok { IfOk result (λ v. v ≡ value.now) }
+    ensures memory { OnErr result (IsTrue (spec.is_long (Some value.now))) }
+{
+    match value {
+        ScalarValue::Bool(truth) => Ok(ScalarValue::Bool(*truth)),
+        ScalarValue::Primitive(number) => Ok(ScalarValue::Primitive(*number)),
+        ScalarValue::Utf8(_) | ScalarValue::Binary(_) => value.try_clone(),
     }
 }
 
@@ -135,7 +148,8 @@ fn within(
     lower: Option<&ScalarValue>,
     upper: Option<&ScalarValue>,
 ) -> Option<bool>
-    ensures { result ≡ spec.within options (option_copied x.entry) (option_copied lower.entry) (option_copied upper.entry) }
+    ensures { result ≡ spec.within options (option_copied x.entry)
+        (option_copied lower.entry) (option_copied upper.entry) }
 {
     let above = compared(options.lower_strict.to_operator(), lower, x);
     let below = compared(options.upper_strict.to_operator(), x, upper);
@@ -196,22 +210,24 @@ impl BoundExpression {
                 made(liked(*options, lent(&text), lent(&pattern)))
             }
             Node::Stat(_, _) => None,
-            Node::RowCount => Some(Evaluated::Made(ScalarValue::Primitive(PValue::U64(
-                row_count,
-            )))),
+            Node::RowCount => Some(Evaluated::Made(ScalarValue::Primitive(PValue::U64(row_count)))),
         }
     }
 }
 
-/// The value of an expression on a row, `None` being null; the row count is what a row count in it is worth. `Placeholder` if it
-/// holds a placeholder, and else `RowShape` if it holds a column that the row lacks or that has another type there, nullability
-/// aside. Memory is taken only where the answer is a text or bytes.
+/// The value of an expression on a row, `None` being null; the row count is what a row count in it
+/// is worth. `Placeholder` if it holds a placeholder, and else `RowShape` if it holds a column that
+/// the row lacks or that has another type there, nullability aside. Memory is taken only where the
+/// answer is a text or bytes.
 pub fn evaluate(
     expression: &BoundExpression,
     row: &Row<'_>,
     row_count: u64,
 ) -> Result<Option<ScalarValue>, BaseError>
-    ensures { Answers (can_evaluate expression.now row.now) (meaning expression.now row.now row_count) result }
+    ensures value { Answers (can_evaluate expression.now row.now)
+        (meaning expression.now row.now row_count) result }
+    ensures memory { result ≡ Err (BaseError.Memory alloc_error)
+        → IsTrue (spec.is_long (meaning expression.now row.now row_count)) }
 {
     if expression.has_placeholder() {
         return Err(BaseError::Placeholder);
@@ -220,8 +236,11 @@ pub fn evaluate(
         return Err(BaseError::RowShape);
     }
     match expression.value_on(row, row_count) {
-        Some(Evaluated::Lent(value)) => Ok(Some(value.try_clone()?)),
+        Some(Evaluated::Lent(value)) => Ok(Some(owned(value)?)),
         Some(Evaluated::Made(value)) => Ok(Some(value)),
         None => Ok(None),
     }
 }
+
+#[cfg(test)]
+mod tests;

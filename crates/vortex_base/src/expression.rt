@@ -1,4 +1,5 @@
 //! Expressions over named columns, before they are bound to a scope.
+ghost use Rattle.std.specs.Prelude.{◌≡◌};
 ghost use Rattle.vortex_base.specs.Tree as tree;
 ghost use Rattle.vortex_base.specs.Like.{plain};
 ghost use Rattle.vortex_base.specs.Answer.{Makes};
@@ -13,7 +14,8 @@ use crate::scalar::Scalar;
 use std::alloc::Global;
 use std::marker::Model;
 
-/// An expression whose columns are given by their names. It has no type until it is bound to a scope.
+/// An expression whose columns are given by their names. It has no type until it is bound to a
+/// scope.
 #[cycle(named_expression)]
 pub struct Expression {
     pub(crate) node: Box<NamedNode>,
@@ -74,6 +76,13 @@ fn of_node(alloc: Global, node: NamedNode) -> Result<Expression, BaseError>
 }
 
 impl Expression {
+    pub(crate) fn into_node(self) -> NamedNode
+        ensures { named_tree result ≡ self }
+    {
+        let Expression { node } = self;
+        Box::into_inner(node)
+    }
+
     /// The column of a name.
     pub fn col(alloc: Global, name: &str) -> Result<Expression, BaseError>
         ensures { Makes (tree.column name.now) result }
@@ -109,7 +118,11 @@ impl Expression {
     }
 
     /// Whether left differs from right.
-    pub fn not_eq(alloc: Global, left: Expression, right: Expression) -> Result<Expression, BaseError>
+    pub fn not_eq(
+        alloc: Global,
+        left: Expression,
+        right: Expression,
+    ) -> Result<Expression, BaseError>
         ensures { Makes (tree.binary Operator.NotEq left right) result }
     {
         Expression::binary(alloc, Operator::NotEq, left, right)
@@ -123,7 +136,11 @@ impl Expression {
     }
 
     /// Whether left is at least right.
-    pub fn gt_eq(alloc: Global, left: Expression, right: Expression) -> Result<Expression, BaseError>
+    pub fn gt_eq(
+        alloc: Global,
+        left: Expression,
+        right: Expression,
+    ) -> Result<Expression, BaseError>
         ensures { Makes (tree.binary Operator.Gte left right) result }
     {
         Expression::binary(alloc, Operator::Gte, left, right)
@@ -137,7 +154,11 @@ impl Expression {
     }
 
     /// Whether left is at most right.
-    pub fn lt_eq(alloc: Global, left: Expression, right: Expression) -> Result<Expression, BaseError>
+    pub fn lt_eq(
+        alloc: Global,
+        left: Expression,
+        right: Expression,
+    ) -> Result<Expression, BaseError>
         ensures { Makes (tree.binary Operator.Lte left right) result }
     {
         Expression::binary(alloc, Operator::Lte, left, right)
@@ -192,7 +213,11 @@ impl Expression {
     }
 
     /// Whether a text matches a pattern, case regarded.
-    pub fn like(alloc: Global, text: Expression, pattern: Expression) -> Result<Expression, BaseError>
+    pub fn like(
+        alloc: Global,
+        text: Expression,
+        pattern: Expression,
+    ) -> Result<Expression, BaseError>
         ensures { Makes (tree.like plain text pattern) result }
     {
         let options = LikeOptions {

@@ -21,8 +21,8 @@ pub trait FromScalar: Sized {
     // Whether reading takes memory.
     ghost takes_memory: { Bool };
 
-    /// The scalar's value. `Mismatch` if it is null, of another kind, or a number out of range; a number
-    /// may have another `PType`. `Memory` if the copy of a text or of bytes is refused.
+    /// The scalar's value. `Mismatch` if it is null, of another kind, or a number out of range; a
+    /// number may have another `PType`. `Memory` if the copy of a text or of bytes is refused.
     fn from_scalar(scalar: &Scalar) -> Result<Self, BaseError>
         ensures { IsReading can_read reads takes_memory scalar.now.value result };
 }

@@ -1,8 +1,8 @@
 //! LIKE: whether a text matches a pattern.
 //!
-//! `%` stands for any run of characters, `_` for any one character, and `\` makes the next character
-//! literal. The search goes back to the last `%` alone, so it takes at most as many steps as the
-//! pattern has characters times the text's.
+//! `%` stands for any run of characters, `_` for any one character, and `\` makes the next
+//! character literal. The search goes back to the last `%` alone, so it takes at most as many steps
+//! as the pattern has characters times the text's.
 ghost use Rattle.std.specs.Prelude.{◌≡◌, ◌<◌, ◌∷◌, [], length, MatchOption, IfSome};
 ghost use Rattle.std.specs.Str.{chars};
 ghost use Rattle.vortex_base.specs.Like.{items, like, some_end, like_text};
@@ -68,7 +68,8 @@ fn split_char(text: &str) -> Option<(char, &str)>
 
 impl<'a> Characters<'a> {
     fn split_first(self) -> Option<(char, Characters<'a>)>
-        ensures { MatchOption result (characters self.entry ≡ []) (λ p. characters self.entry ≡ p.0 ∷ characters p.1) }
+        ensures { MatchOption result (characters self.entry ≡ [])
+            (λ p. characters self.entry ≡ p.0 ∷ characters p.1) }
     {
         let ignore_case = self.ignore_case;
         let (first, text) = split_char(self.text)?;
@@ -82,7 +83,8 @@ impl<'a> Characters<'a> {
 }
 
 fn next_item<'a>(pattern: Characters<'a>) -> Option<(Item, Characters<'a>)>
-    ensures items { MatchOption result (items (characters pattern.entry) ≡ []) (λ p. items (characters pattern.entry) ≡ p.0 ∷ items (characters p.1)) }
+    ensures items { MatchOption result (items (characters pattern.entry) ≡ [])
+        (λ p. items (characters pattern.entry) ≡ p.0 ∷ items (characters p.1)) }
     ensures shorter { IfSome result (λ p. length (characters p.1) < length (characters pattern.entry)) }
 {
     let (first, rest) = pattern.split_first()?;
@@ -147,3 +149,6 @@ fn is_match_at_some_end<'a>(mut pattern: Characters<'a>, mut text: Characters<'a
         }
     }
 }
+
+#[cfg(test)]
+mod tests;

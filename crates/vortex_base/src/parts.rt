@@ -18,12 +18,7 @@ pub enum Parts<'a> {
     Literal(&'a Scalar),
     Binary(Operator, &'a BoundExpression, &'a BoundExpression),
     /// The operand and then the lower and the upper end.
-    Between(
-        BetweenOptions,
-        &'a BoundExpression,
-        &'a BoundExpression,
-        &'a BoundExpression,
-    ),
+    Between(BetweenOptions, &'a BoundExpression, &'a BoundExpression, &'a BoundExpression),
     IsNull(&'a BoundExpression),
     IsNotNull(&'a BoundExpression),
     Not(&'a BoundExpression),

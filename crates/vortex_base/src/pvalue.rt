@@ -4,7 +4,8 @@ ghost use Rattle.vortex_base.specs.Values.{ptype_of, in_range};
 
 use crate::ptype::PType;
 
-/// A whole number of one of the eight types. Numbers are ordered by type, in the order of the variants, and then by size.
+/// A whole number of one of the eight types. Numbers are ordered by type, in the order of the
+/// variants, and then by size.
 #[derive(Clone, Copy, Debug, PartialEq, Eq, PartialOrd, Ord)]
 pub enum PValue {
     U8(u8),
@@ -33,5 +34,25 @@ impl PValue {
             PValue::I32(_) => PType::I32,
             PValue::I64(_) => PType::I64,
         }
+    }
+}
+
+#[cfg(test)]
+mod tests {
+    use super::*;
+    use crate::laws;
+    use std::cmp::Ordering;
+
+    #[test]
+    fn stand_by_type_and_then_by_size(rt: HostRuntime) {
+        assert_eq!(rt; PValue::U64(3).ptype(), PType::U64);
+        let (order, same) = laws::numbers_compare(PValue::U64(3), PValue::I8(-1));
+        assert_eq!(rt; order, Ordering::Less);
+        assert!(rt; !same);
+        let (order, same) = laws::numbers_compare(PValue::I8(-1), PValue::I8(-1));
+        assert_eq!(rt; order, Ordering::Equal);
+        assert!(rt; same);
+        let (order, _) = laws::numbers_compare(PValue::I8(1), PValue::I8(-1));
+        assert_eq!(rt; order, Ordering::Greater);
     }
 }

@@ -1,11 +1,12 @@
 //! Named columns.
-ghost use Rattle.std.specs.Prelude.{◌≡◌, ◌↔◌, ◌<◌, IsTrue, length, slice_get, Some, option_map, position};
-ghost use Rattle.std.specs.List.{list_all, list_any, zip};
-ghost use Rattle.vortex_base.specs.Types.{dtype_eq};
+ghost use Rattle.std.specs.Prelude.{◌≡◌, ◌↔◌, ◌<◌, IfSome, IsTrue, Some, option_map};
+ghost use Rattle.std.specs.Prelude.{length, position, slice_get};
 ghost use Rattle.std.specs.Cmp.{partial_equiv_from_equiv};
-ghost use Rattle.vortex_base.specs.Exact.{exact_equivalence};
+ghost use Rattle.std.specs.List.{list_all, list_any, zip};
 ghost use Rattle.vortex_base.specs.Columns as columns_spec;
+ghost use Rattle.vortex_base.specs.Exact.{exact_equivalence};
 ghost use Rattle.vortex_base.specs.Scopes as scopes;
+ghost use Rattle.vortex_base.specs.Types.{dtype_eq};
 
 use crate::column::Column;
 use crate::dtype::DType;
@@ -66,7 +67,8 @@ fn has_state(columns: &[(String, DType)]) -> bool
 }
 
 fn place_of(columns: &[(String, DType)], name: &str) -> Option<usize>
-    ensures { result ≡ position (λ c. scopes.is_named name.now (scopes.named c)) columns.now }
+    ensures value { result ≡ position (λ c. scopes.is_named name.now (scopes.named c)) columns.now }
+    ensures in_range { IfSome result (λ i. i < length columns.now) }
 {
     columns.iter().position(|c| c.0.as_str() == name)
 }
@@ -93,8 +95,9 @@ fn is_same(left: &[(String, DType)], right: &[(String, DType)]) -> bool
 }
 
 impl Scope {
-    /// The scope of these columns. Of several faults the first of these is answered: `EmptyScope` if there is no column,
-    /// `DuplicateColumn` if a name stands twice, `TypeFault` if a type is a `MinMaxState`.
+    /// The scope of these columns. Of several faults the first of these is answered: `EmptyScope`
+    /// if there is no column, `DuplicateColumn` if a name stands twice, `TypeFault` if a type is a
+    /// `MinMaxState`.
     pub fn try_new(columns: Vec<(String, DType)>) -> Result<Scope, BaseError>
         ensures { result ≡ scopes.scope_of (scopes.named_columns columns.items) }
     {
@@ -137,7 +140,8 @@ impl Scope {
 
     /// The place of the column of a name.
     pub fn find(&self, name: &str) -> Option<usize>
-        ensures { result ≡ scopes.place_of name.now self.now }
+        ensures value { result ≡ scopes.place_of name.now self.now }
+        ensures in_range { IfSome result (λ i. i < length self.now) }
     {
         place_of(&self.columns, name)
     }
@@ -165,4 +169,51 @@ impl PartialEq for Scope {
 
 impl Eq for Scope {
     ghost laws = { exact_equivalence scopes.scope_eq scopes.scope_eq_is_exact };
+}
+
+#[cfg(test)]
+mod tests {
+    use super::*;
+    use crate::element::Element;
+    use crate::nullability::Nullability;
+    use std::alloc::{AllocError, Global};
+    use std::test::Fail;
+
+    const BOOL: DType = DType::Bool(Nullability::Nullable);
+
+    const STATE: DType = DType::MinMaxState(Element::Bool, Nullability::Nullable);
+
+    fn named(alloc: Global, columns: &[(&str, DType)]) -> Result<Vec<(String, DType)>, AllocError> {
+        let mut named = Vec::new(alloc);
+        for (name, dtype) in columns {
+            named.push((String::from_str(alloc, name)?, *dtype))?;
+        }
+        Ok(named)
+    }
+
+    #[test]
+    fn list_distinct_names(rt: HostRuntime) -> Result<(), Fail> {
+        let two = Scope::try_new(named(rt.alloc(), &[("a", BOOL), ("é", DType::Null)])?)?;
+        assert_eq!(rt; two.len(), 2);
+        assert_eq!(rt; two.name(1), "é");
+        assert_eq!(rt; two.dtype(1), DType::Null);
+        assert_eq!(rt; two.find("é"), Some(1));
+        assert_eq!(rt; two.find("b"), None);
+        let same = Scope::try_new(named(rt.alloc(), &[("a", BOOL), ("é", DType::Null)])?)?;
+        let turned = Scope::try_new(named(rt.alloc(), &[("é", DType::Null), ("a", BOOL)])?)?;
+        assert!(rt; two == same);
+        assert!(rt; two != turned);
+        Ok(())
+    }
+
+    #[test]
+    fn are_refused_for_the_first_fault(rt: HostRuntime) -> Result<(), Fail> {
+        let none = Scope::try_new(named(rt.alloc(), &[])?);
+        assert!(rt; matches!(none, Err(BaseError::EmptyScope)));
+        let twice = Scope::try_new(named(rt.alloc(), &[("a", BOOL), ("b", STATE), ("a", STATE)])?);
+        assert!(rt; matches!(twice, Err(BaseError::DuplicateColumn)));
+        let state = Scope::try_new(named(rt.alloc(), &[("a", BOOL), ("b", STATE)])?);
+        assert!(rt; matches!(state, Err(BaseError::TypeFault)));
+        Ok(())
+    }
 }

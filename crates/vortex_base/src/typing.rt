@@ -60,11 +60,7 @@ fn type_if(fits: bool, dtype: DType) -> Result<DType, BaseError>
 }
 
 /// The type of a comparison or a connective.
-pub(crate) fn binary_type(
-    operator: Operator,
-    left: DType,
-    right: DType,
-) -> Result<DType, BaseError>
+pub(crate) fn binary_type(operator: Operator, left: DType, right: DType) -> Result<DType, BaseError>
     ensures { result ≡ table.binary_type operator left right }
 {
     let fits = match operator {
@@ -98,7 +94,8 @@ pub(crate) fn like_type(x: DType, pattern: DType) -> Result<DType, BaseError>
     type_if(is_utf8(x) && is_utf8(pattern), truth_type(nullable))
 }
 
-/// The type of a placeholder: the aggregate's state type made nullable. `Unsupported` where the aggregate has none.
+/// The type of a placeholder: the aggregate's state type made nullable. `Unsupported` where the
+/// aggregate has none.
 pub(crate) fn stat_type(aggregate: AggregateFnRef, input: DType) -> Result<DType, BaseError>
     ensures { result ≡ table.stat_type aggregate input }
 {
