@@ -1,13 +1,11 @@
 -- The bits of numbers that are made of bits.
-use Rattle.std.proofs.Common.{◌≡◌, ℕ, zero, suc, ◌+◌, ◌*◌, ◌/◌, ◌%◌, ◌^◌, ◌<◌, ◌≤◌, ◌==◌, Bool, true, false, cond, ◌||◌, List, [], ◌∷◌, length, get_or, refl, sym, ap, ◌∙◌, arith, lit≤, subst}
-use Rattle.std.specs.Prelude.{slice_index}
-use Rattle.std.specs.List.{list_any}
+use Rattle.std.proofs.Common.{◌≡◌, ℕ, zero, suc, ◌+◌, ◌*◌, ◌/◌, ◌%◌, ◌^◌, ◌≤◌, ◌==◌, Bool, true, false, ◌||◌, List, [], ◌∷◌, refl, sym, ap, ◌∙◌, arith, lit≤, subst}
 use Rattle.std.proofs.Math.Nat.{div-div-eq-div-mul, pow-succ', zero-div}
 use Rattle.std.proofs.lemmas.List.{get_or_past}
 use Rattle.std.proofs.lemmas.Bool.Decides.{nat_tests}
 use Rattle.vortex_stats.specs.declared.stat.Stat.{Stat}
 use Rattle.vortex_stats.specs.declared.stat.Stat.TheVariants.{IsConstant, IsSorted, IsStrictSorted, Max, Min, Sum, NullCount, UncompressedSizeInBytes, NaNCount}
-use Rattle.vortex_stats.specs.Stat.{stat_number, stat_eq}
+use Rattle.vortex_stats.specs.Stat.{stat_number}
 use Rattle.vortex_stats.specs.Bitset.{bit_of, is_set, has_number, IsBitsetOf, bit, number_of, bit_at, low_bits, high_bits}
 
 zero_bit : (k : ℕ) → bit_of 0 k ≡ false

@@ -1,18 +1,17 @@
 -- Entries by the place that `position` gives.
-use Rattle.std.proofs.Common.{◌≡◌, ℕ, zero, suc, ◌+◌, ◌<◌, ◌≤◌, Bool, true, false, cond, ◌||◌, not, List, [], ◌∷◌, ◌++◌, length, get_or, set, take, drop, Option, Some, None, refl, sym, ap, subst, ◌∙◌, arith, add-suc}
+use Rattle.std.proofs.Common.{◌≡◌, ℕ, zero, suc, ◌+◌, ◌<◌, Bool, true, false, cond, ◌||◌, List, [], ◌∷◌, ◌++◌, length, get_or, set, Option, Some, None, refl, sym, ap, subst, ◌∙◌, arith}
 use Rattle.std.proofs.lemmas.Grind.{common_steps}
-use Rattle.std.specs.List.{position, position_or_len, position_from, filter, refill}
+use Rattle.std.specs.List.{position, position_from, filter, refill}
 use Rattle.std.specs.List.Retain.{RetainsInTurn}
 use Rattle.std.proofs.lemmas.List.Quantifiers.{position-Some}
 use Rattle.std.proofs.lemmas.Iterator.Adapters.{position_from-zero}
-use Rattle.std.proofs.Math.Seq.{take-append_seam}
 use mathlib.Core.Bool.{true≢false}
 use Rattle.std.proofs.lemmas.Bool.Decides.{nat_tests}
 use Rattle.vortex_stats.specs.declared.stat.Stat.{Stat}
 use Rattle.vortex_stats.specs.declared.precision.Precision.{Precision}
-use Rattle.vortex_stats.specs.declared.precision.Precision.TheVariants.{Exact, Inexact, Absent}
-use Rattle.vortex_stats.specs.Stat.{stat_number, stat_eq, same_from_stat_eq, stat_eq-itself}
-use Rattle.vortex_stats.specs.Entries.{is_entry_of, has_entry, entry_value, with_entry, with_entries, without_entry, is_kept, retained_entries, AreDistinct}
+use Rattle.vortex_stats.specs.declared.precision.Precision.TheVariants.{Absent}
+use Rattle.vortex_stats.specs.Stat.{stat_eq, same_from_stat_eq}
+use Rattle.vortex_stats.specs.Entries.{is_entry_of, has_entry, entry_value, with_entry, with_entries, AreDistinct}
 
 none_step : (i : ℕ) (b c : Bool) (o : Option ℕ) → (o ≡ None → c ≡ false) → cond b (Some i) o ≡ None → (b || c) ≡ false
 none_step i true c o ih h = cc

@@ -1,5 +1,5 @@
 -- Sets of statistics as bytes: number n is in a list of bytes if bit n mod 8 of byte n div 8 exists and is set.
-use Rattle.std.specs.Prelude.{◌≡◌, ℕ, zero, suc, ◌+◌, ◌*◌, ◌/◌, ◌%◌, ◌^◌, ◌==◌, Bool, true, false, if◌then◌else◌, List, [], ◌∷◌, length, slice_index}
+use Rattle.std.specs.Prelude.{◌≡◌, ℕ, zero, suc, ◌+◌, ◌*◌, ◌/◌, ◌%◌, ◌^◌, ◌==◌, Bool, false, if◌then◌else◌, List, [], ◌∷◌, length, slice_index}
 use Rattle.std.specs.List.{filter, list_any}
 use Rattle.std.proofs.Common.{ap}
 use Rattle.vortex_stats.specs.declared.stat.Stat.{Stat}

@@ -103,7 +103,8 @@ module _ {T : Type 0} (allows : Precision T → T → Type 0) where
   loosened_option a b (Some m) h = loosened a b m h
   loosened_option a b None h = h
 
-pub intersection_from_tight : {T : Type 0} {allows : Precision T → T → Type 0} {intersection : Precision T → Precision T → Option (IntersectionResult (Precision T))}
+pub intersection_from_tight : {T : Type 0} {allows : Precision T → T → Type 0}
+    {intersection : Precision T → Precision T → Option (IntersectionResult (Precision T))}
     → IsTightIntersection allows intersection → IsIntersection allows intersection
 intersection_from_tight {T} {allows} {intersection} t =
     record { present = λ a b p q. loosened_option allows a b (intersection a b) (t.present a b p q) }

@@ -1,5 +1,5 @@
 -- Lists of entries: a statistic and its value with a precision.
-use Rattle.std.specs.Prelude.{◌≡◌, Bool, true, false, not, ◌||◌, List, [], ◌∷◌, ◌++◌, Option, Some, None, MatchOption, if◌then◌else◌, ⊤}
+use Rattle.std.specs.Prelude.{◌≡◌, Bool, true, false, not, ◌||◌, List, [], ◌∷◌, Option, Some, None, if◌then◌else◌, ⊤}
 use Rattle.std.specs.List.{filter, list_any, list_all}
 use Rattle.std.specs.Iterator.{Drains, Yields}
 use Rattle.vortex_base.specs.declared.dtype.DType.{DType}

@@ -1,5 +1,4 @@
 -- What a view that writes shows of its set.
-use Rattle.std.specs.Prelude.{ℕ}
 use Rattle.vortex_stats.specs.declared.typed.MutTypedStatsSetRef.{MutTypedStatsSetRef}
 use Rattle.vortex_stats.specs.TypedStats.{TypedStats}
 

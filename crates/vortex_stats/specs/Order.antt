@@ -69,7 +69,9 @@ module _ {T : Type 0} {R : T → T → Ordering} (o : IsTotalOrder R) where
   -- the greater rises with both
   pub greater-rises : (a b x y : T) → AtMost R x a → AtMost R y b → AtMost R (greater R x y) (greater R a b)
   greater-rises a b x y p q =
-      greater-least x y (greater R a b) (AtMost-trans x a (greater R a b) p (greater-above a b).0) (AtMost-trans y b (greater R a b) q (greater-above a b).1)
+      greater-least x y (greater R a b)
+      (AtMost-trans x a (greater R a b) p (greater-above a b).0)
+      (AtMost-trans y b (greater R a b) q (greater-above a b).1)
 
   less_not : (a b : T) → R a b ≡ Less → AtMost R b a → ⊥
   less_not a b e q = true≢false (sym (ap is_gt (o.antisymm b a ∙ ap ordering_reverse e)) ∙ q)

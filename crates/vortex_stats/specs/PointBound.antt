@@ -46,15 +46,20 @@ module _ {T : Type 0} {R : T → T → Ordering} (o : IsTotalOrder R) where
   pub point_allows-tied : TiesAllowed R (point_allows R)
   point_allows-tied = record { exact = λ v z. (λ e. e, λ e. e); absent = λ z. tt }
 
-  inexact_union : (a b : Precision T) (v : T) → ((Some v ≡ present_value a) ⊎ (Some v ≡ present_value b)) → IsUnionAt (point_allows R) (lesser R) a b (Inexact v)
+  inexact_union : (a b : Precision T) (v : T) → ((Some v ≡ present_value a) ⊎ (Some v ≡ present_value b))
+      → IsUnionAt (point_allows R) (lesser R) a b (Inexact v)
   inexact_union a b v h = record {
     allowed = λ x y p q. tt;
     made = record { value = h; exact = λ e. absurd (true≢false (sym e)) };
   }
 
-  union_at : (a b : Precision T) → IsTrue (is_present a) → IsTrue (is_present b) → MatchOption (point_union R a b) ⊥ (IsUnionAt (point_allows R) (lesser R) a b)
+  union_at : (a b : Precision T) → IsTrue (is_present a) → IsTrue (is_present b)
+      → MatchOption (point_union R a b) ⊥ (IsUnionAt (point_allows R) (lesser R) a b)
   union_at (Exact a) (Exact b) p q = record {
-    allowed = λ x y p q. equal-of_both o (lesser R a b) (lesser R x y) (lesser-rises o x y a b (AtMost-of_equal o a x p) (AtMost-of_equal o b y q)) (lesser-rises o a b x y (AtMost-of_equal o x a (tied_back o a x p)) (AtMost-of_equal o y b (tied_back o b y q)));
+    allowed = λ x y p q.
+        equal-of_both o (lesser R a b) (lesser R x y)
+        (lesser-rises o x y a b (AtMost-of_equal o a x p) (AtMost-of_equal o b y q))
+        (lesser-rises o a b x y (AtMost-of_equal o x a (tied_back o a x p)) (AtMost-of_equal o y b (tied_back o b y q)));
     made = record { value = lesser-one_of Some R a b; exact = λ h. inl refl };
   }
   union_at (Exact a) (Inexact b) p q = inexact_union (Exact a) (Inexact b) (lesser R a b) (lesser-one_of Some R a b)
@@ -68,7 +73,8 @@ module _ {T : Type 0} {R : T → T → Ordering} (o : IsTotalOrder R) where
   point_union-law = record { present = union_at }
 
   meet_at-exact : (a b : T) (c : Ordering) → R a b ≡ c
-      → MatchIntersection (if is_eq c then Value (Exact a) else Empty) (AllowNothing (point_allows R) (Exact a) (Exact b)) (IsIntersectionAt (point_allows R) (Exact a) (Exact b))
+      → MatchIntersection (if is_eq c then Value (Exact a) else Empty) (AllowNothing (point_allows R) (Exact a) (Exact b))
+      (IsIntersectionAt (point_allows R) (Exact a) (Exact b))
   meet_at-exact a b Less l = λ z p q. less_not_equal o a b l (o.congr a z b p ∙ tied_back o b z q)
   meet_at-exact a b Equal l = record {
     allowed = λ z p q. p;
@@ -97,7 +103,8 @@ module _ {T : Type 0} {R : T → T → Ordering} (o : IsTotalOrder R) where
   }
 
   meet_at : (a b : Precision T) → IsTrue (is_present a) → IsTrue (is_present b)
-      → MatchOption (point_intersection R a b) ⊥ (λ m. MatchIntersection m (AllowNothing (point_allows R) a b) (IsIntersectionAt (point_allows R) a b))
+      → MatchOption (point_intersection R a b) ⊥
+      (λ m. MatchIntersection m (AllowNothing (point_allows R) a b) (IsIntersectionAt (point_allows R) a b))
   meet_at (Exact a) (Exact b) p q = meet_at-exact a b (R a b) refl
   meet_at (Exact e) (Inexact i) p q = meet_at-mixed e i (is_lt (R e i))
   meet_at (Exact e) Absent p q = absurd (true≢false (sym q))

@@ -5,7 +5,7 @@ use Rattle.vortex_base.specs.declared.scalar_value.ScalarValue.{ScalarValue}
 use Rattle.vortex_base.specs.Scalars.{Constant}
 use Rattle.vortex_stats.specs.declared.stat.Stat.{Stat}
 use Rattle.vortex_stats.specs.declared.precision.Precision.{Precision}
-use Rattle.vortex_stats.specs.declared.precision.Precision.TheVariants.{Exact, Inexact, Absent}
+use Rattle.vortex_stats.specs.declared.precision.Precision.TheVariants.{Absent}
 use Rattle.vortex_stats.specs.Precision.{precision_map}
 use Rattle.vortex_stats.specs.Stat.{stat_dtype}
 use Rattle.vortex_stats.specs.Scalars.{scalar_of}

@@ -52,19 +52,32 @@ module _ {T : Type 0} {R : T → T → Ordering} (o : IsTotalOrder R) where
   pub upper_allows-tied : TiesAllowed R (upper_allows R)
   upper_allows-tied = record { exact = λ v z. (λ e. e, λ e. e); absent = λ z. tt }
 
+  -- the exact value is at least the inexact one
+  union_at-reached : (e i : T) → AtMost R i e → IsUnionAt (upper_allows R) (greater R) (Exact e) (Inexact i) (Exact e)
+  union_at-reached e i l = record {
+    allowed = λ x y p q.
+        let above : AtMost R e (greater R x y) = AtMost-trans o e x (greater R x y) (AtMost-of_equal o e x p) (greater-above o x y).0 in
+        let x_below : AtMost R x e = AtMost-of_equal o x e (tied_back o e x p) in
+        equal-of_both o e (greater R x y) above (greater-least o x y e x_below (AtMost-trans o y i e q l));
+    made = record { value = inl refl; exact = λ h. inl refl };
+  }
+
   union_at-mixed : (e i : T) (c : Ordering) → R e i ≡ c
       → IsUnionAt (upper_allows R) (greater R) (Exact e) (Inexact i) (if is_lt c then Inexact i else Exact e)
   union_at-mixed e i Less l = record {
     allowed = λ x y p q. greater-least o x y i (AtMost-equal_left o x e i p (AtMost-of_less o e i l)) q;
     made = record { value = inr refl; exact = λ h. inl refl };
   }
-  union_at-mixed e i Equal l = record {
-    allowed = λ x y p q. equal-of_both o e (greater R x y) (AtMost-trans o e x (greater R x y) (AtMost-of_equal o e x p) (greater-above o x y).0) (greater-least o x y e (AtMost-of_equal o x e (tied_back o e x p)) (AtMost-trans o y i e q (AtMost-of_equal o i e (tied_back o e i l))));
-    made = record { value = inl refl; exact = λ h. inl refl };
-  }
-  union_at-mixed e i Greater l = record {
-    allowed = λ x y p q. equal-of_both o e (greater R x y) (AtMost-trans o e x (greater R x y) (AtMost-of_equal o e x p) (greater-above o x y).0) (greater-least o x y e (AtMost-of_equal o x e (tied_back o e x p)) (AtMost-trans o y i e q (AtMost-of_greater o e i l)));
-    made = record { value = inl refl; exact = λ h. inl refl };
+  union_at-mixed e i Equal l = union_at-reached e i (AtMost-of_equal o i e (tied_back o e i l))
+  union_at-mixed e i Greater l = union_at-reached e i (AtMost-of_greater o e i l)
+
+  union_at-reached_back : (e i : T) → AtMost R i e → IsUnionAt (upper_allows R) (greater R) (Inexact i) (Exact e) (Exact e)
+  union_at-reached_back e i l = record {
+    allowed = λ x y p q.
+        let above : AtMost R e (greater R x y) = AtMost-trans o e y (greater R x y) (AtMost-of_equal o e y q) (greater-above o x y).1 in
+        let y_below : AtMost R y e = AtMost-of_equal o y e (tied_back o e y q) in
+        equal-of_both o e (greater R x y) above (greater-least o x y e (AtMost-trans o x i e p l) y_below);
+    made = record { value = inr refl; exact = λ h. inr refl };
   }
 
   union_at-mixed_back : (e i : T) (c : Ordering) → R e i ≡ c
@@ -73,18 +86,15 @@ module _ {T : Type 0} {R : T → T → Ordering} (o : IsTotalOrder R) where
     allowed = λ x y p q. greater-least o x y i p (AtMost-equal_left o y e i q (AtMost-of_less o e i l));
     made = record { value = inl refl; exact = λ h. inr refl };
   }
-  union_at-mixed_back e i Equal l = record {
-    allowed = λ x y p q. equal-of_both o e (greater R x y) (AtMost-trans o e y (greater R x y) (AtMost-of_equal o e y q) (greater-above o x y).1) (greater-least o x y e (AtMost-trans o x i e p (AtMost-of_equal o i e (tied_back o e i l))) (AtMost-of_equal o y e (tied_back o e y q)));
-    made = record { value = inr refl; exact = λ h. inr refl };
-  }
-  union_at-mixed_back e i Greater l = record {
-    allowed = λ x y p q. equal-of_both o e (greater R x y) (AtMost-trans o e y (greater R x y) (AtMost-of_equal o e y q) (greater-above o x y).1) (greater-least o x y e (AtMost-trans o x i e p (AtMost-of_greater o e i l)) (AtMost-of_equal o y e (tied_back o e y q)));
-    made = record { value = inr refl; exact = λ h. inr refl };
-  }
+  union_at-mixed_back e i Equal l = union_at-reached_back e i (AtMost-of_equal o i e (tied_back o e i l))
+  union_at-mixed_back e i Greater l = union_at-reached_back e i (AtMost-of_greater o e i l)
 
   union_at-exact : (a b : T) → IsUnionAt (upper_allows R) (greater R) (Exact a) (Exact b) (Exact (greater R a b))
   union_at-exact a b = record {
-    allowed = λ x y p q. equal-of_both o (greater R a b) (greater R x y) (greater-rises o x y a b (AtMost-of_equal o a x p) (AtMost-of_equal o b y q)) (greater-rises o a b x y (AtMost-of_equal o x a (tied_back o a x p)) (AtMost-of_equal o y b (tied_back o b y q)));
+    allowed = λ x y p q.
+        equal-of_both o (greater R a b) (greater R x y)
+        (greater-rises o x y a b (AtMost-of_equal o a x p) (AtMost-of_equal o b y q))
+        (greater-rises o a b x y (AtMost-of_equal o x a (tied_back o a x p)) (AtMost-of_equal o y b (tied_back o b y q)));
     made = record { value = greater-one_of Some R a b; exact = λ h. inl refl };
   }
 
@@ -94,7 +104,8 @@ module _ {T : Type 0} {R : T → T → Ordering} (o : IsTotalOrder R) where
     made = record { value = greater-one_of Some R a b; exact = λ h. absurd (true≢false (sym h)) };
   }
 
-  union_at : (a b : Precision T) → IsTrue (is_present a) → IsTrue (is_present b) → MatchOption (upper_union R a b) ⊥ (IsUnionAt (upper_allows R) (greater R) a b)
+  union_at : (a b : Precision T) → IsTrue (is_present a) → IsTrue (is_present b)
+      → MatchOption (upper_union R a b) ⊥ (IsUnionAt (upper_allows R) (greater R) a b)
   union_at (Exact a) (Exact b) p q = union_at-exact a b
   union_at (Exact e) (Inexact i) p q = union_at-mixed e i (R e i) refl
   union_at (Exact e) Absent p q = true≢false (sym q)
@@ -115,13 +126,16 @@ module _ {T : Type 0} {R : T → T → Ordering} (o : IsTotalOrder R) where
   }
 
   meet_at-mixed : (e i : T) (c : Ordering) → R i e ≡ c
-      → MatchIntersection (if is_lt c then Empty else Value (Exact e)) (AllowNothing (upper_allows R) (Exact e) (Inexact i)) (IsTightIntersectionAt (upper_allows R) (Exact e) (Inexact i))
-  meet_at-mixed e i Less l = λ z p q. greater_not o e i (o.antisymm e i ∙ ap ordering_reverse l) (AtMost-trans o e z i (AtMost-of_equal o e z p) q)
+      → MatchIntersection (if is_lt c then Empty else Value (Exact e)) (AllowNothing (upper_allows R) (Exact e) (Inexact i))
+      (IsTightIntersectionAt (upper_allows R) (Exact e) (Inexact i))
+  meet_at-mixed e i Less l = λ z p q.
+      greater_not o e i (o.antisymm e i ∙ ap ordering_reverse l) (AtMost-trans o e z i (AtMost-of_equal o e z p) q)
   meet_at-mixed e i Equal l = meet_at-within e i (AtMost-of_equal o e i (tied_back o i e l))
   meet_at-mixed e i Greater l = meet_at-within e i (AtMost-of_greater o i e l)
 
   meet_at-exact : (a b : T) (c : Ordering) → R a b ≡ c
-      → MatchIntersection (if is_eq c then Value (Exact a) else Empty) (AllowNothing (upper_allows R) (Exact a) (Exact b)) (IsTightIntersectionAt (upper_allows R) (Exact a) (Exact b))
+      → MatchIntersection (if is_eq c then Value (Exact a) else Empty) (AllowNothing (upper_allows R) (Exact a) (Exact b))
+      (IsTightIntersectionAt (upper_allows R) (Exact a) (Exact b))
   meet_at-exact a b Less l = λ z p q. less_not_equal o a b l (o.congr a z b p ∙ tied_back o b z q)
   meet_at-exact a b Equal l = record {
     allowed = λ z p q. p;
@@ -134,12 +148,14 @@ module _ {T : Type 0} {R : T → T → Ordering} (o : IsTotalOrder R) where
   meet_at-inexact : (a b : T) → IsTightIntersectionAt (upper_allows R) (Inexact a) (Inexact b) (Inexact (lesser R a b))
   meet_at-inexact a b = record {
     allowed = λ z p q. lesser-greatest o a b z p q;
-    only = λ z p. (AtMost-trans o z (lesser R a b) a p (lesser-below o a b).0, AtMost-trans o z (lesser R a b) b p (lesser-below o a b).1);
+    only = λ z p.
+        (AtMost-trans o z (lesser R a b) a p (lesser-below o a b).0, AtMost-trans o z (lesser R a b) b p (lesser-below o a b).1);
     own = lesser-below o a b;
     made = record { value = lesser-one_of Some R a b; exact = λ h. absurd (true≢false (sym h)) };
   }
 
-  turned : (e i : T) → IsTightIntersectionAt (upper_allows R) (Exact e) (Inexact i) (Exact e) → IsTightIntersectionAt (upper_allows R) (Inexact i) (Exact e) (Exact e)
+  turned : (e i : T) → IsTightIntersectionAt (upper_allows R) (Exact e) (Inexact i) (Exact e)
+      → IsTightIntersectionAt (upper_allows R) (Inexact i) (Exact e) (Exact e)
   turned e i h = record {
     allowed = λ z p q. h.allowed z q p;
     only = λ z p. ((h.only z p).1, (h.only z p).0);
@@ -149,14 +165,17 @@ module _ {T : Type 0} {R : T → T → Ordering} (o : IsTotalOrder R) where
 
   -- the same for the operands in the other order
   swapped : (e i : T) (c : Ordering)
-      → MatchIntersection (if is_lt c then Empty else Value (Exact e)) (AllowNothing (upper_allows R) (Exact e) (Inexact i)) (IsTightIntersectionAt (upper_allows R) (Exact e) (Inexact i))
-      → MatchIntersection (if is_lt c then Empty else Value (Exact e)) (AllowNothing (upper_allows R) (Inexact i) (Exact e)) (IsTightIntersectionAt (upper_allows R) (Inexact i) (Exact e))
+      → MatchIntersection (if is_lt c then Empty else Value (Exact e)) (AllowNothing (upper_allows R) (Exact e) (Inexact i))
+      (IsTightIntersectionAt (upper_allows R) (Exact e) (Inexact i))
+      → MatchIntersection (if is_lt c then Empty else Value (Exact e)) (AllowNothing (upper_allows R) (Inexact i) (Exact e))
+      (IsTightIntersectionAt (upper_allows R) (Inexact i) (Exact e))
   swapped e i Less h = λ z p q. h z q p
   swapped e i Equal h = turned e i h
   swapped e i Greater h = turned e i h
 
   meet_at : (a b : Precision T) → IsTrue (is_present a) → IsTrue (is_present b)
-      → MatchOption (upper_intersection R a b) ⊥ (λ m. MatchIntersection m (AllowNothing (upper_allows R) a b) (IsTightIntersectionAt (upper_allows R) a b))
+      → MatchOption (upper_intersection R a b) ⊥
+      (λ m. MatchIntersection m (AllowNothing (upper_allows R) a b) (IsTightIntersectionAt (upper_allows R) a b))
   meet_at (Exact a) (Exact b) p q = meet_at-exact a b (R a b) refl
   meet_at (Exact e) (Inexact i) p q = meet_at-mixed e i (R i e) refl
   meet_at (Exact e) Absent p q = true≢false (sym q)

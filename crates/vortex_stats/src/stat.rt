@@ -221,6 +221,11 @@ impl fmt::Display for Stat {
 
 /// The statistic that stands in free places of a small vector.
 impl Default for Stat {
+    ghost use Rattle.std.specs.Prelude.{◌≡◌};
+    ghost use Rattle.vortex_stats.specs.declared.stat.Stat.TheVariants.{IsConstant};
+
+    ghost is_default = { λ s. s ≡ IsConstant };
+
     fn default() -> Self {
         Stat::IsConstant
     }

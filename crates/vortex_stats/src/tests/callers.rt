@@ -1,5 +1,5 @@
 //! Callers that know a set by its list alone.
-ghost use Rattle.std.specs.Prelude.{◌≡◌, IfOk, IsTrue, length};
+ghost use Rattle.std.specs.Prelude.{◌≡◌, IfOk, IsTrue, length, map};
 ghost use Rattle.vortex_stats.specs.Entries.{entries_fit, without_entry};
 
 use crate::precision::Precision;
@@ -21,6 +21,17 @@ pub fn entries_of(
         entries.push(entry)?;
     }
     Ok(entries)
+}
+
+/// A `for` over a set by reference goes over the list too.
+pub fn statistics_of(alloc: Global, set: &StatsSet) -> Result<Vec<Stat>, AllocError>
+    ensures { IfOk result (λ stats. stats.items ≡ map (λ e. e.0) set.now) }
+{
+    let mut stats = Vec::new(alloc);
+    for entry in set.iter() {
+        stats.push(entry.0)?;
+    }
+    Ok(stats)
 }
 
 /// The iterator by value gives the list, and ends.

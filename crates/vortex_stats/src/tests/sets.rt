@@ -1,4 +1,4 @@
-use super::callers::{collected, counted, entries_of};
+use super::callers::{collected, counted, entries_of, statistics_of};
 use crate::error::StatsError;
 use crate::precision::Precision;
 use crate::stat::Stat;
@@ -48,6 +48,8 @@ fn iterators(rt: HostRuntime) -> Result<(), Fail> {
     );
     assert!(rt; iter.next().is_none());
     assert_eq!(rt; counted(&set), 2);
+    let stats = statistics_of(rt.alloc(), &set)?;
+    assert_eq!(rt; stats.as_slice(), [Stat::Max, Stat::Min].as_slice());
     let mut into_iter = set.into_iter();
     assert!(rt; into_iter.next() == Some((Stat::Max, exact(100))));
     assert!(rt; into_iter.next() == Some((Stat::Min, exact(42))));

@@ -1,4 +1,4 @@
-use Rattle.std.proofs.Common.{◌≡◌, rules, sym, ◌∙◌, ap}
+use Rattle.std.proofs.Common.{sym, ◌∙◌}
 use Rattle.vortex_stats.proofs.Places.{entry_value-from_place, entry_value-none, no_entry-from_place}
 use Rattle.vortex_stats.proofs.entries.find.Goals as goal
 

@@ -1,4 +1,4 @@
-use Rattle.std.proofs.Common.{◌≡◌, rules, sym, ◌∙◌, not}
+use Rattle.std.proofs.Common.{rules}
 use Rattle.vortex_stats.proofs.Places.{filtered-from_retain}
 use Rattle.vortex_stats.specs.Entries.{is_kept}
 use Rattle.vortex_stats.proofs.entries.keep_only.Goals as goal

@@ -1,4 +1,4 @@
-use Rattle.std.proofs.Common.{◌≡◌, rules, sym, ap, subst, ◌∙◌, set, length, Some, None}
+use Rattle.std.proofs.Common.{◌≡◌, sym, ap, ◌∙◌, Some, None}
 use Rattle.std.specs.List.{position}
 use mathlib.Core.Bool.{true≢false}
 use Rattle.vortex_stats.specs.Entries.{is_entry_of}

@@ -1,6 +1,6 @@
-use Rattle.std.proofs.Common.{◌≡◌, rules, sym, ◌∙◌, not}
+use Rattle.std.proofs.Common.{rules, not}
 use Rattle.vortex_stats.proofs.Places.{filtered-from_retain}
-use Rattle.vortex_stats.specs.Entries.{without_entry, is_entry_of}
+use Rattle.vortex_stats.specs.Entries.{is_entry_of}
 use Rattle.vortex_stats.proofs.entries.remove.Goals as goal
 
 pub returns : goal.returns

@@ -1,4 +1,4 @@
-use Rattle.std.proofs.Common.{◌≡◌, ap, sym, subst, ◌∙◌}
+use Rattle.std.proofs.Common.{ap, sym, subst, ◌∙◌}
 use Rattle.std.specs.Iterator.{Yields}
 use Rattle.vortex_stats.specs.Entries.{with_entry}
 use Rattle.vortex_stats.proofs.Places.{with_entries-snoc}
