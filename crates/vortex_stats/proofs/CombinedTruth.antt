@@ -1,8 +1,8 @@
 -- Two sets that are true of one column never contradict each other, and combine to one that is true of it.
-use Rattle.std.proofs.Common.{◌≡◌, ℕ, Bool, true, false, cond, ◌&&◌, ◌||◌, List, [], ◌∷◌, Option, Some, None, refl, sym, ap, subst, ◌∙◌, inl, inr, arith}
-use Rattle.std.specs.Prelude.{MatchOption, ℤ, IsTrue, ◌==◌, ⊤}
+use Rattle.std.proofs.Common.{◌≡◌, Bool, true, false, cond, List, [], ◌∷◌, Option, Some, None, refl, sym, ap, subst, ◌∙◌}
+use Rattle.std.specs.Prelude.{MatchOption, IsTrue, ◌==◌, ⊤}
 use Rattle.std.specs.declared.cmp.Ordering.{Ordering}
-use Rattle.std.specs.declared.cmp.Ordering.TheVariants.{Less, Equal, Greater}
+use Rattle.std.specs.declared.cmp.Ordering.TheVariants.{Equal}
 use Rattle.std.specs.Ordering.{is_lt, is_eq, flip_args}
 use Rattle.std.specs.Cmp.{tied_itself}
 use Rattle.std.proofs.lemmas.Bool.{and_parts, eqb-true}
@@ -24,18 +24,17 @@ use Rattle.vortex_stats.specs.declared.stat.Stat.TheVariants.{IsConstant, IsSort
 use Rattle.vortex_stats.specs.declared.precision.Precision.{Precision}
 use Rattle.vortex_stats.specs.declared.precision.Precision.TheVariants.{Exact, Inexact, Absent}
 use Rattle.vortex_stats.specs.Bound.{MatchIntersection}
-use Rattle.vortex_stats.specs.Claims.{Claims, ClaimsTruth, ClaimsSum, IsTrueOf, sum_of, present}
+use Rattle.vortex_stats.specs.Claims.{Claims, ClaimsTruth, IsTrueOf}
 use Rattle.vortex_stats.specs.Combined.{Outcome, intersection_of, met, combined_by, combined_entry, or_conflict, combined}
-use Rattle.vortex_stats.specs.Entries.{is_entry_of, has_entry, entry_value, with_entry, without_entry, is_value_of, value_fits, entries_fit, AreDistinct}
+use Rattle.vortex_stats.specs.Entries.{is_entry_of, has_entry, entry_value, is_value_of, value_fits, entries_fit, AreDistinct}
 use Rattle.vortex_stats.specs.Order.{reversed_total}
 use Rattle.vortex_stats.specs.PointBound.{point_intersection}
 use Rattle.vortex_stats.specs.Precision.{is_present}
-use Rattle.vortex_stats.specs.Stat.{stat_eq, same_from_stat_eq, stat_eq-itself, sum_dtype, sum_ptype, stat_dtype}
+use Rattle.vortex_stats.specs.Stat.{same_from_stat_eq, stat_eq-itself, sum_dtype, sum_ptype}
 use Rattle.vortex_stats.specs.UpperBound.{upper_intersection}
 use Rattle.vortex_stats.proofs.Counts.{count_of_intersection}
 use Rattle.vortex_stats.proofs.Extremes.{greatest_of_intersection}
-use Rattle.vortex_stats.proofs.Fitting.{entry_value-fits, entries_fit_with_entry, entries_fit_filter, first_true, second_true}
-use Rattle.vortex_stats.proofs.Lookups.{entry_value-with_own, entry_value-with_other}
+use Rattle.vortex_stats.proofs.Fitting.{entry_value-fits, first_true, second_true}
 use Rattle.vortex_stats.proofs.KeptTruth.{without_entry_is_true, with_entry_is_true}
 use Rattle.vortex_stats.proofs.MergedTruth.{absent_claims}
 use Rattle.vortex_stats.proofs.Places.{entry_value-none}

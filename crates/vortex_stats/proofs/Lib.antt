@@ -13,3 +13,4 @@ pub mod MergedTruth
 pub mod CombinedTruth
 pub mod KeptTruth
 pub mod UnorderedTruth
+pub mod ClaimRows

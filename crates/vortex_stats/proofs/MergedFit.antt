@@ -1,11 +1,9 @@
 -- Merged values are of their statistics' types.
-use Rattle.std.proofs.Common.{◌≡◌, ℕ, ◌+◌, ◌<◌, Bool, true, false, cond, ◌||◌, ◌&&◌, List, [], ◌∷◌, Option, Some, None, refl, sym, ap, subst, ◌∙◌, arith}
-use Rattle.std.specs.Prelude.{MatchOption, ℤ, pos, ◌-◌, ◌+ℤ◌, int_le, nat_lt, ◌^◌, ◌==◌, nat_le as leb, ⊤}
+use Rattle.std.proofs.Common.{◌≡◌, ℕ, ◌+◌, ◌<◌, Bool, true, false, cond, ◌||◌, ◌&&◌, List, Option, Some, None, refl, sym, ap, ◌∙◌, arith}
+use Rattle.std.specs.Prelude.{MatchOption, ◌-◌, ◌+ℤ◌, int_le, nat_lt, ◌^◌, ◌==◌, nat_le as leb, ⊤}
 use Rattle.std.specs.declared.cmp.Ordering.{Ordering}
 use Rattle.std.specs.Ordering.{is_lt, flip_args}
 use Rattle.std.proofs.lemmas.Bool.{and_parts, and_from, ltb-true, le-leb}
-use Rattle.std.proofs.lemmas.Bool.Decides.{nat_tests}
-use Rattle.std.proofs.lemmas.Int.{ints}
 use mathlib.Core.Bool.{true≢false}
 use Rattle.vortex_base.specs.declared.dtype.DType.{DType}
 use Rattle.vortex_base.specs.declared.dtype.DType.TheVariants as dtype
@@ -15,13 +13,13 @@ use Rattle.vortex_base.specs.declared.pvalue.PValue.TheVariants as number
 use Rattle.vortex_base.specs.declared.scalar_value.ScalarValue.{ScalarValue}
 use Rattle.vortex_base.specs.declared.scalar_value.ScalarValue.TheVariants as value
 use Rattle.vortex_base.specs.Types.{ptype_index}
-use Rattle.vortex_base.specs.Values.{ptype_of, in_range, is_value, least, greatest, value_cmp}
+use Rattle.vortex_base.specs.Values.{ptype_of, in_range, least, greatest, value_cmp}
 use Rattle.vortex_stats.specs.declared.stat.Stat.{Stat}
 use Rattle.vortex_stats.specs.declared.stat.Stat.TheVariants.{IsConstant, IsSorted, IsStrictSorted, Max, Min, Sum, NullCount, UncompressedSizeInBytes, NaNCount}
 use Rattle.vortex_stats.specs.declared.precision.Precision.{Precision}
 use Rattle.vortex_stats.specs.declared.precision.Precision.TheVariants.{Exact, Inexact, Absent}
-use Rattle.vortex_stats.specs.Entries.{entry_value, with_entry, without_entry, is_value_of, value_fits, entries_fit}
-use Rattle.vortex_stats.specs.Merges.{is_exactly, same_minima, constant_merged, truth, seam, at_seam, order_merged, is_at_most, is_below, sum_added, sum_merged, count_added, count_merged, merged_value, revised, all_revised, merged_ordered}
+use Rattle.vortex_stats.specs.Entries.{entry_value, is_value_of, value_fits, entries_fit}
+use Rattle.vortex_stats.specs.Merges.{is_exactly, same_minima, truth, seam, at_seam, is_at_most, is_below, sum_added, sum_merged, count_added, count_merged, merged_value, revised, all_revised}
 use Rattle.vortex_stats.specs.Precision.{present_value}
 use Rattle.vortex_stats.specs.Stat.{stat_dtype}
 use Rattle.vortex_stats.specs.UpperBound.{upper_union}

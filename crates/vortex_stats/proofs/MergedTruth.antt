@@ -1,14 +1,12 @@
 -- Sets that are true of two columns merge to one that is true of the first with the second appended.
-use Rattle.std.proofs.Common.{◌≡◌, Bool, true, List, [], ◌∷◌, ◌++◌, Option, Some, None, refl, sym, ap, subst, ◌∙◌}
-use Rattle.std.specs.Prelude.{MatchOption, ℕ, ◌+◌, ⊤}
-use Rattle.std.specs.Ordering.{flip_args}
+use Rattle.std.proofs.Common.{◌≡◌, true, List, Option, Some, None, sym, subst}
+use Rattle.std.specs.Prelude.{MatchOption, ⊤}
 use Rattle.vortex_base.specs.declared.scalar_value.ScalarValue.{ScalarValue}
 use Rattle.vortex_base.specs.Columns.{ColumnData}
-use Rattle.vortex_base.specs.Values.{value_cmp}
 use Rattle.vortex_stats.specs.declared.stat.Stat.{Stat}
 use Rattle.vortex_stats.specs.declared.stat.Stat.TheVariants.{IsConstant, IsSorted, IsStrictSorted, Max, Min, Sum, NullCount, UncompressedSizeInBytes, NaNCount}
 use Rattle.vortex_stats.specs.declared.precision.Precision.{Precision}
-use Rattle.vortex_stats.specs.declared.precision.Precision.TheVariants.{Exact, Inexact, Absent}
+use Rattle.vortex_stats.specs.declared.precision.Precision.TheVariants.{Absent}
 use Rattle.vortex_stats.specs.Claims.{Claims, ClaimsCount, ClaimsSum, IsTrueOf, appended, present, null_count, sum_of}
 use Rattle.vortex_stats.specs.Entries.{entry_value, entries_fit}
 use Rattle.vortex_stats.specs.Merges.{merged_value, merged_ordered, count_merged, sum_merged, all_revised}

@@ -1,10 +1,10 @@
 -- Unordered merges: true of every reordering of the appended column, and the same the other way round.
-use Rattle.std.proofs.Common.{◌≡◌, ℕ, ◌+◌, Bool, true, false, cond, ◌||◌, ◌&&◌, List, [], ◌∷◌, Option, Some, None, refl, sym, ap, subst, ◌∙◌, arith}
-use Rattle.std.specs.Prelude.{MatchOption, IsPermutation, ℤ, pos, ◌+ℤ◌, int_le, nat_lt, ◌^◌, is_none, ⊤}
+use Rattle.std.proofs.Common.{◌≡◌, ◌+◌, Bool, true, false, cond, ◌||◌, ◌&&◌, List, Option, Some, None, refl, sym, ap, subst, ◌∙◌, arith}
+use Rattle.std.specs.Prelude.{MatchOption, IsPermutation, ◌+ℤ◌, int_le, nat_lt, ◌^◌, is_none, ⊤}
 use Rattle.std.specs.Option.{is_some}
 use Rattle.std.specs.declared.cmp.Ordering.{Ordering}
 use Rattle.std.specs.declared.cmp.Ordering.TheVariants.{Less, Equal, Greater}
-use Rattle.std.specs.Ordering.{is_lt, is_eq, flip_args, ordering_reverse}
+use Rattle.std.specs.Ordering.{is_lt, flip_args, ordering_reverse}
 use Rattle.std.specs.Cmp.{IsTotalOrder, tied_back}
 use Rattle.std.proofs.lemmas.Cmp.{eq_by_cmp_equiv}
 use Rattle.std.proofs.lemmas.Int.{ints}
@@ -87,7 +87,7 @@ merged_unordered_is_true a b c d e k p q r =
     true_by_values (λ s. unordered_value s a b) a e
     (subst (λ t. entries_fit a t ≡ true) (sym r.dtype) p.fits)
     (λ s. unordered_value_fits s e.dtype a b
-        (merged_value_fits s e.dtype a b (subst (λ t. entries_fit a t ≡ true) (sym r.dtype) p.fits) (subst (λ t. entries_fit b t ≡ true) (sym k ∙ sym r.dtype) q.fits)))
+    (merged_value_fits s e.dtype a b (subst (λ t. entries_fit a t ≡ true) (sym r.dtype) p.fits) (subst (λ t. entries_fit b t ≡ true) (sym k ∙ sym r.dtype) q.fits)))
     (λ s. unordered_tells (appended c d) e r s a b (λ t. merged_value_tells t a b c d p.claims q.claims))
 
 -- ---- without the statistics of order

@@ -15,19 +15,15 @@ ghost use Rattle.vortex_stats.specs.Precision.{inexact_of};
 /// The ordered merge of sets that are true of two columns of one type is true of the first column
 /// with the second appended, sizes added.
 pub fn ordered_merges_stay_true()
-    ensures {
-        (a b : List (Stat × Precision ScalarValue)) (c d : ColumnData)
-            → c.dtype ≡ d.dtype → IsTrueOf a c → IsTrueOf b d → IsTrueOf (merged_ordered a b) (appended c d)
-    }
+    ensures { (a b : List (Stat × Precision ScalarValue)) (c d : ColumnData)
+        → c.dtype ≡ d.dtype → IsTrueOf a c → IsTrueOf b d → IsTrueOf (merged_ordered a b) (appended c d) }
 {}
 
 /// The unordered merge of sets that are true of two columns of one type is true of the appended
 /// column in whatever order its values stand.
 pub fn unordered_merges_stay_true()
-    ensures {
-        (a b : List (Stat × Precision ScalarValue)) (c d e : ColumnData)
-            → c.dtype ≡ d.dtype → IsTrueOf a c → IsTrueOf b d → IsReordered (appended c d) e → IsTrueOf (merged_unordered a b) e
-    }
+    ensures { (a b : List (Stat × Precision ScalarValue)) (c d e : ColumnData)
+        → c.dtype ≡ d.dtype → IsTrueOf a c → IsTrueOf b d → IsReordered (appended c d) e → IsTrueOf (merged_unordered a b) e }
 {}
 
 /// An unordered merge says nothing of the order of the values.
@@ -44,38 +40,28 @@ pub fn unordered_merges_commute()
 
 /// Sets that are true of one column do not contradict each other.
 pub fn true_sets_agree()
-    ensures {
-        (a b : List (Stat × Precision ScalarValue)) (c : ColumnData)
-            → AreDistinct b → IsTrueOf a c → IsTrueOf b c → (combined a b).conflict ≡ None
-    }
+    ensures { (a b : List (Stat × Precision ScalarValue)) (c : ColumnData)
+        → AreDistinct b → IsTrueOf a c → IsTrueOf b c → (combined a b).conflict ≡ None }
 {}
 
 /// The combination of sets that are true of one column is true of it.
 pub fn combinations_stay_true()
-    ensures {
-        (a b : List (Stat × Precision ScalarValue)) (c : ColumnData)
-            → AreDistinct b → IsTrueOf a c → IsTrueOf b c → IsTrueOf (combined a b).entries c
-    }
+    ensures { (a b : List (Stat × Precision ScalarValue)) (c : ColumnData)
+        → AreDistinct b → IsTrueOf a c → IsTrueOf b c → IsTrueOf (combined a b).entries c }
 {}
 
 /// A true set stays true without the entry of a statistic.
 pub fn cleared_sets_stay_true()
-    ensures {
-        (s : Stat) (es : List (Stat × Precision ScalarValue)) (c : ColumnData) → IsTrueOf es c → IsTrueOf (without_entry s es) c
-    }
+    ensures { (s : Stat) (es : List (Stat × Precision ScalarValue)) (c : ColumnData) → IsTrueOf es c → IsTrueOf (without_entry s es) c }
 {}
 
 /// A true set stays true with the entries of some statistics alone.
 pub fn retained_sets_stay_true()
-    ensures {
-        (stats : List Stat) (es : List (Stat × Precision ScalarValue)) (c : ColumnData) → IsTrueOf es c → IsTrueOf (retained_entries stats es) c
-    }
+    ensures { (stats : List Stat) (es : List (Stat × Precision ScalarValue)) (c : ColumnData) → IsTrueOf es c → IsTrueOf (retained_entries stats es) c }
 {}
 
 /// A true set stays true with a statistic's value made inexact.
 pub fn loosened_sets_stay_true()
-    ensures {
-        (s : Stat) (es : List (Stat × Precision ScalarValue)) (c : ColumnData)
-            → IsTrueOf es c → IsTrueOf (with_entry s (inexact_of (entry_value s es)) es) c
-    }
+    ensures { (s : Stat) (es : List (Stat × Precision ScalarValue)) (c : ColumnData)
+        → IsTrueOf es c → IsTrueOf (with_entry s (inexact_of (entry_value s es)) es) c }
 {}
