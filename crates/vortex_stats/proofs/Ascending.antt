@@ -20,10 +20,10 @@ use Rattle.vortex_stats.proofs.Constants.{when_true, inner}
 use Rattle.vortex_stats.proofs.Sums.{present-append}
 use Rattle.vortex_stats.proofs.ValueOrder.{value_total}
 
-contains_first : {X : Type 0} (x : X) (xs : List X) → Contains (x ∷ xs) x
+pub contains_first : {X : Type 0} (x : X) (xs : List X) → Contains (x ∷ xs) x
 contains_first x xs = (zero, omega arith, refl)
 
-contains_later : {X : Type 0} (x y : X) (xs : List X) → Contains xs y → Contains (x ∷ xs) y
+pub contains_later : {X : Type 0} (x y : X) (xs : List X) → Contains xs y → Contains (x ∷ xs) y
 contains_later x y xs i = (suc i.0, omega (arith, i.1), i.2)
 
 -- a value among those that are present stands in the column

@@ -10,6 +10,7 @@ pub mod Constants
 pub mod Ascending
 pub mod MergedFit
 pub mod MergedTruth
+pub mod EntryClaims
 pub mod CombinedTruth
 pub mod KeptTruth
 pub mod UnorderedTruth

@@ -106,7 +106,7 @@ Claims NullCount p c = ClaimsCount p (null_count c.values)
 Claims UncompressedSizeInBytes p c = ClaimsCount p c.size
 Claims NaNCount p c = ⊤
 
--- the set fits the column's type, and the claim of each of its entries holds
+-- the set fits the column's type, and the claim of each of its entries holds: their statistics being distinct, each is the one that is looked up
 pub record IsTrueOf (entries : List (Stat × Precision ScalarValue)) (column : ColumnData) : Type 0 where
   pub fits : IsTrue (entries_fit entries column.dtype)
   pub claims : (s : Stat) → Claims s (entry_value s entries) column

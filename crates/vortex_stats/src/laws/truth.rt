@@ -1,16 +1,24 @@
 //! Laws of true sets: a set is true of a column if its values are of their statistics' types and
 //! each claims what holds of the column's values and size.
-ghost use Rattle.std.specs.Prelude.{◌≡◌, List, false, None};
+ghost use Rattle.std.specs.Prelude.{◌≡◌, ◌↔◌, List, false, None, Contains, IsTrue};
 ghost use Rattle.vortex_base.specs.declared.scalar_value.ScalarValue.{ScalarValue};
 ghost use Rattle.vortex_base.specs.Columns.{ColumnData};
 ghost use Rattle.vortex_stats.specs.declared.precision.Precision.{Precision};
 ghost use Rattle.vortex_stats.specs.declared.stat.Stat.{Stat};
 ghost use Rattle.vortex_stats.specs.declared.stat.Stat.TheVariants.{IsSorted, IsStrictSorted};
-ghost use Rattle.vortex_stats.specs.Claims.{IsTrueOf, IsReordered, appended};
+ghost use Rattle.vortex_stats.specs.Claims.{Claims, IsTrueOf, IsReordered, appended};
 ghost use Rattle.vortex_stats.specs.Combined.{combined};
-ghost use Rattle.vortex_stats.specs.Entries.{AreDistinct, has_entry, entry_value, with_entry, without_entry, retained_entries};
+ghost use Rattle.vortex_stats.specs.Entries.{AreDistinct, entries_fit, has_entry, entry_value, with_entry, without_entry, retained_entries};
 ghost use Rattle.vortex_stats.specs.Merges.{merged_ordered, merged_unordered};
 ghost use Rattle.vortex_stats.specs.Precision.{inexact_of};
+
+/// A set whose values are of their statistics' types is true of a column exactly if each of its
+/// entries claims what holds of it.
+pub fn sets_are_true_by_entry()
+    ensures { (es : List (Stat × Precision ScalarValue)) (c : ColumnData)
+        → AreDistinct es → IsTrue (entries_fit es c.dtype)
+        → IsTrueOf es c ↔ ((e : Stat × Precision ScalarValue) → Contains es e → Claims e.0 e.1 c) }
+{}
 
 /// The ordered merge of sets that are true of two columns of one type is true of the first column
 /// with the second appended, sizes added.
