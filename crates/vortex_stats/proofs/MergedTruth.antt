@@ -16,7 +16,7 @@ use Rattle.vortex_stats.proofs.Constants.{constant_of_merged}
 use Rattle.vortex_stats.proofs.Counts.{null_count-append, count_of_merged}
 use Rattle.vortex_stats.proofs.Extremes.{greatest_of_union}
 use Rattle.vortex_stats.proofs.Lookups.{or_absent, entry_value-all_revised}
-use Rattle.vortex_stats.proofs.MergedFit.{Fits, merged_value_fits, all_revised_fit}
+use Rattle.vortex_stats.proofs.MergedFits.{merged_ordered-fits}
 use Rattle.vortex_stats.proofs.Sums.{sum_of-both, sum_of_merged}
 use Rattle.vortex_stats.proofs.ValueOrder.{value_total}
 
@@ -40,11 +40,11 @@ pub or_absent_claims : (s : Stat) (c : ColumnData) (o : Option (Precision Scalar
 or_absent_claims s c None h = absent_claims s c
 or_absent_claims s c (Some p) h = h
 
--- a set with new values, each of which fits and has its claim
+-- a set with new values that fits, and whose new values have their claims
 pub true_by_values : (v : Stat → Option (Precision ScalarValue)) (es : List (Stat × Precision ScalarValue)) (c : ColumnData)
-    → entries_fit es c.dtype ≡ true → ((s : Stat) → Fits s c.dtype (v s)) → ((s : Stat) → Tells s c (v s)) → IsTrueOf (all_revised v es) c
-true_by_values v es c f g h = record {
-  fits = all_revised_fit v c.dtype es g f;
+    → entries_fit (all_revised v es) c.dtype ≡ true → ((s : Stat) → Tells s c (v s)) → IsTrueOf (all_revised v es) c
+true_by_values v es c f h = record {
+  fits = f;
   claims = λ s. subst (λ p. Claims s p c) (sym (entry_value-all_revised v s es)) (or_absent_claims s c (v s) (h s));
 }
 
@@ -71,6 +71,6 @@ merged_value_tells NaNCount a b c d p q = tt
 
 pub merged_ordered_is_true : (a b : List (Stat × Precision ScalarValue)) (c d : ColumnData) → c.dtype ≡ d.dtype → IsTrueOf a c → IsTrueOf b d → IsTrueOf (merged_ordered a b) (appended c d)
 merged_ordered_is_true a b c d e p q =
-    true_by_values (λ s. merged_value s a b) a (appended c d) p.fits
-    (λ s. merged_value_fits s c.dtype a b p.fits (subst (λ t. entries_fit b t ≡ true) (sym e) q.fits))
+    true_by_values (λ s. merged_value s a b) a (appended c d)
+    (merged_ordered-fits c.dtype a b p.fits (subst (λ t. entries_fit b t ≡ true) (sym e) q.fits))
     (λ s. merged_value_tells s a b c d p.claims q.claims)
