@@ -6,7 +6,7 @@ use Rattle.vortex_base.specs.Columns.{ChunkData, ColumnData, IsChunk, all_append
 use Rattle.vortex_base.specs.Exact.{both_true}
 use Rattle.vortex_base.specs.declared.dtype.DType.{DType}
 use Rattle.vortex_prune.specs.Part.{AreTrueSets, Entries, IsPart, IsTruePart, PartData, joined, merged_sets, sets_fit}
-use Rattle.vortex_stats.proofs.MergedFit.{merged_ordered_fits}
+use Rattle.vortex_stats.proofs.MergedFits.{merged_ordered-fits}
 use Rattle.vortex_stats.proofs.MergedTruth.{merged_ordered_is_true}
 use Rattle.vortex_stats.specs.Entries.{entries_fit}
 use Rattle.vortex_stats.specs.Merges.{merged_ordered}
@@ -25,7 +25,7 @@ merged_fit (c ∷ cs) (d ∷ ds) (x ∷ xs) [] h p q = cc
 merged_fit (c ∷ cs) (d ∷ ds) (x ∷ xs) (y ∷ ys) h p q =
     let types = same_type c d cs ds h in
     let fits = subst (λ (t : DType). entries_fit y t ≡ true) (sym types) (both_true _ _ q).0 in
-    both_hold _ _ (merged_ordered_fits c.dtype x y (both_true _ _ p).0 fits) (merged_fit cs ds xs ys (both_true _ _ h).1 (both_true _ _ p).1 (both_true _ _ q).1)
+    both_hold _ _ (merged_ordered-fits c.dtype x y (both_true _ _ p).0 fits) (merged_fit cs ds xs ys (both_true _ _ h).1 (both_true _ _ p).1 (both_true _ _ q).1)
 
 merged_true : (cs ds : List ColumnData) (xs ys : List Entries) → can_append cs ds ≡ true → AreTrueSets cs xs → AreTrueSets ds ys → AreTrueSets (all_appended cs ds) (merged_sets xs ys)
 merged_true [] [] [] [] h p q = tt

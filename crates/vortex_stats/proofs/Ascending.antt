@@ -1,5 +1,5 @@
 -- Whether values ascend: of two columns together.
-use Rattle.std.proofs.Common.{◌≡◌, ℕ, zero, suc, ◌⊎◌, Bool, true, false, cond, not, ◌&&◌, List, [], ◌∷◌, ◌++◌, Option, Some, None, refl, sym, ap, subst, ◌∙◌, inl, inr, ⊎_elim, arith}
+use Rattle.std.proofs.Common.{◌≡◌, zero, suc, Bool, true, false, cond, not, ◌&&◌, List, [], ◌∷◌, ◌++◌, Option, Some, None, refl, sym, ap, subst, ◌∙◌, arith}
 use Rattle.std.specs.Prelude.{Contains, MatchOption, ⊤}
 use Rattle.std.specs.declared.cmp.Ordering.{Ordering}
 use Rattle.std.specs.declared.cmp.Ordering.TheVariants.{Less, Equal, Greater}
@@ -13,17 +13,17 @@ use Rattle.vortex_base.specs.Values.{value_cmp}
 use Rattle.vortex_stats.specs.declared.precision.Precision.{Precision}
 use Rattle.vortex_stats.specs.declared.precision.Precision.TheVariants.{Exact, Inexact, Absent}
 use Rattle.vortex_stats.specs.Claims.{present, is_sorted, is_strict_sorted, NoneAbove, NoneBelow, ClaimsTruth, ClaimsMax, ClaimsMin}
-use Rattle.vortex_stats.specs.Merges.{is_exactly, truth, seam, at_seam, order_merged, is_at_most, is_below}
+use Rattle.vortex_stats.specs.Merges.{is_exactly, seam, at_seam, order_merged, is_at_most, is_below}
 use Rattle.vortex_stats.specs.Order.{AtMost, AtMost-trans, AtMost-of_greater, AtMost-of_equal, greater_not}
 use Rattle.vortex_stats.specs.Precision.{present_value}
 use Rattle.vortex_stats.proofs.Constants.{when_true, inner}
 use Rattle.vortex_stats.proofs.Sums.{present-append}
 use Rattle.vortex_stats.proofs.ValueOrder.{value_total}
 
-contains_first : {X : Type 0} (x : X) (xs : List X) → Contains (x ∷ xs) x
+pub contains_first : {X : Type 0} (x : X) (xs : List X) → Contains (x ∷ xs) x
 contains_first x xs = (zero, omega arith, refl)
 
-contains_later : {X : Type 0} (x y : X) (xs : List X) → Contains xs y → Contains (x ∷ xs) y
+pub contains_later : {X : Type 0} (x y : X) (xs : List X) → Contains xs y → Contains (x ∷ xs) y
 contains_later x y xs i = (suc i.0, omega (arith, i.1), i.2)
 
 -- a value among those that are present stands in the column

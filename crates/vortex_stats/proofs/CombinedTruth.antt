@@ -1,8 +1,8 @@
 -- Two sets that are true of one column never contradict each other, and combine to one that is true of it.
-use Rattle.std.proofs.Common.{◌≡◌, ℕ, Bool, true, false, cond, ◌&&◌, ◌||◌, List, [], ◌∷◌, Option, Some, None, refl, sym, ap, subst, ◌∙◌, inl, inr, arith}
-use Rattle.std.specs.Prelude.{MatchOption, ℤ, IsTrue, ◌==◌, ⊤}
+use Rattle.std.proofs.Common.{◌≡◌, Bool, true, false, cond, List, [], ◌∷◌, Option, Some, None, refl, sym, ap, subst, ◌∙◌}
+use Rattle.std.specs.Prelude.{MatchOption, IsTrue, ◌==◌, ⊤}
 use Rattle.std.specs.declared.cmp.Ordering.{Ordering}
-use Rattle.std.specs.declared.cmp.Ordering.TheVariants.{Less, Equal, Greater}
+use Rattle.std.specs.declared.cmp.Ordering.TheVariants.{Equal}
 use Rattle.std.specs.Ordering.{is_lt, is_eq, flip_args}
 use Rattle.std.specs.Cmp.{tied_itself}
 use Rattle.std.proofs.lemmas.Bool.{and_parts, eqb-true}
@@ -24,21 +24,19 @@ use Rattle.vortex_stats.specs.declared.stat.Stat.TheVariants.{IsConstant, IsSort
 use Rattle.vortex_stats.specs.declared.precision.Precision.{Precision}
 use Rattle.vortex_stats.specs.declared.precision.Precision.TheVariants.{Exact, Inexact, Absent}
 use Rattle.vortex_stats.specs.Bound.{MatchIntersection}
-use Rattle.vortex_stats.specs.Claims.{Claims, ClaimsTruth, ClaimsSum, IsTrueOf, sum_of, present}
+use Rattle.vortex_stats.specs.Claims.{Claims, ClaimsTruth, IsTrueOf}
 use Rattle.vortex_stats.specs.Combined.{Outcome, intersection_of, met, combined_by, combined_entry, or_conflict, combined}
-use Rattle.vortex_stats.specs.Entries.{is_entry_of, has_entry, entry_value, with_entry, without_entry, is_value_of, value_fits, entries_fit, AreDistinct}
+use Rattle.vortex_stats.specs.Entries.{entry_value, is_value_of, value_fits, AreDistinct}
 use Rattle.vortex_stats.specs.Order.{reversed_total}
 use Rattle.vortex_stats.specs.PointBound.{point_intersection}
 use Rattle.vortex_stats.specs.Precision.{is_present}
-use Rattle.vortex_stats.specs.Stat.{stat_eq, same_from_stat_eq, stat_eq-itself, sum_dtype, sum_ptype, stat_dtype}
+use Rattle.vortex_stats.specs.Stat.{sum_dtype, sum_ptype}
 use Rattle.vortex_stats.specs.UpperBound.{upper_intersection}
 use Rattle.vortex_stats.proofs.Counts.{count_of_intersection}
+use Rattle.vortex_stats.proofs.EntryClaims.{first_claims, first_fits, rest_is_true}
 use Rattle.vortex_stats.proofs.Extremes.{greatest_of_intersection}
-use Rattle.vortex_stats.proofs.Fitting.{entry_value-fits, entries_fit_with_entry, entries_fit_filter, first_true, second_true}
-use Rattle.vortex_stats.proofs.Lookups.{entry_value-with_own, entry_value-with_other}
+use Rattle.vortex_stats.proofs.Fitting.{entry_value-fits}
 use Rattle.vortex_stats.proofs.KeptTruth.{without_entry_is_true, with_entry_is_true}
-use Rattle.vortex_stats.proofs.MergedTruth.{absent_claims}
-use Rattle.vortex_stats.proofs.Places.{entry_value-none}
 use Rattle.vortex_stats.proofs.ValueOrder.{value_total, same_from_parts}
 
 -- there is no contradiction, and the intersection, if there is one, has P
@@ -189,22 +187,6 @@ module _ (c : ColumnData) where
 
   -- ---- the whole list
 
-  -- the first entry is the one that is looked up
-  first_tells : (e : Stat × Precision ScalarValue) (es : List (Stat × Precision ScalarValue)) → IsTrueOf (e ∷ es) c → Tells e.0 e.1
-  first_tells e es h =
-      (subst (λ b. Claims e.0 (cond b e.1 (entry_value e.0 es)) c) (stat_eq-itself e.0) (h.claims e.0), first_true (value_fits e.0 c.dtype e.1) (entries_fit es c.dtype) h.fits)
-
-  later_step : (e : Stat × Precision ScalarValue) (es : List (Stat × Precision ScalarValue)) (s : Stat) (b : Bool) → is_entry_of s e ≡ b → has_entry e.0 es ≡ false
-      → Claims s (cond b e.1 (entry_value s es)) c → Claims s (entry_value s es) c
-  later_step e es s true i n h = subst (λ r. Claims r (entry_value r es) c) (same_from_stat_eq e.0 s i) (subst (λ p. Claims e.0 p c) (sym (entry_value-none e.0 es n)) (absent_claims e.0 c))
-  later_step e es s false i n h = h
-
-  rest_is_true : (e : Stat × Precision ScalarValue) (es : List (Stat × Precision ScalarValue)) → IsTrueOf (e ∷ es) c → has_entry e.0 es ≡ false → IsTrueOf es c
-  rest_is_true e es h n = record {
-    fits = second_true (value_fits e.0 c.dtype e.1) (entries_fit es c.dtype) h.fits;
-    claims = λ s. later_step e es s (is_entry_of s e) refl n (h.claims s);
-  }
-
   -- nothing contradicted, and the entries are true
   abbrev pub Agrees : Outcome → Type 0
   Agrees o = (o.conflict ≡ None) × IsTrueOf o.entries c
@@ -218,5 +200,5 @@ module _ (c : ColumnData) where
   combined_is_true es [] d h k = (refl, h)
   combined_is_true es (e ∷ more) d h k =
       or_conflict_agrees (combined_entry es e) es e.0 (λ new. combined new more)
-      (combined_by_is_true e.0 (entry_value e.0 es) e.1 es h (h.claims e.0, entry_value-fits e.0 c.dtype es h.fits) (first_tells e more k))
-      (λ new n. combined_is_true new more d.1 n (rest_is_true e more k d.0))
+      (combined_by_is_true e.0 (entry_value e.0 es) e.1 es h (h.claims e.0, entry_value-fits e.0 c.dtype es h.fits) (first_claims c e more k, first_fits c e more k))
+      (λ new n. combined_is_true new more d.1 n (rest_is_true c e more k d.0))

@@ -1,7 +1,6 @@
 -- Whether all optional values are equal: of two columns together, and of a column in another order.
-use Rattle.std.proofs.Common.{◌≡◌, ℕ, zero, suc, ◌⊎◌, Bool, true, false, cond, ◌||◌, ◌&&◌, List, [], ◌∷◌, ◌++◌, Option, Some, None, refl, sym, ap, subst, ◌∙◌, inl, inr, ⊎_elim, arith}
+use Rattle.std.proofs.Common.{◌≡◌, ℕ, zero, suc, Bool, true, false, cond, ◌||◌, ◌&&◌, List, [], ◌∷◌, ◌++◌, Option, Some, None, refl, sym, ap, ◌∙◌, ⊎_elim, arith}
 use Rattle.std.specs.Prelude.{Contains, MatchOption, IsPermutation, Decides, ⊤}
-use Rattle.std.specs.List.{list_all, All, AllPass}
 use Rattle.std.specs.declared.cmp.Ordering.TheVariants.{Equal}
 use Rattle.std.specs.Ordering.{is_eq}
 use Rattle.std.specs.Cmp.{Equal-is, tied_itself}
@@ -74,9 +73,10 @@ module _ (xs ys : List (Option ScalarValue)) where
 
   constant_of_minima : (x y : ScalarValue) → is_constant xs ≡ true → is_constant ys ≡ true → Contains xs (Some x) → Contains ys (Some y) → is_eq (value_cmp x y) ≡ is_constant (xs ++ ys)
   constant_of_minima x y h k i j =
-      same_from_decides (is_eq (value_cmp x y)) (is_constant (xs ++ ys))
-      (λ e u v m n. let s = same_from_equal x y ((Equal-is (value_cmp x y)).0 e) in across x y h k i j s u m ∙ sym (across x y h k i j s v n),
-      λ s. ap is_eq (tied_from_same x y (s (Some x) (Some y) (Contains-append_left xs ys (Some x) i) (Contains-append_right xs ys (Some y) j))))
+      same_from_decides (is_eq (value_cmp x y)) (is_constant (xs ++ ys)) (
+        λ e u v m n. let s = same_from_equal x y ((Equal-is (value_cmp x y)).0 e) in across x y h k i j s u m ∙ sym (across x y h k i j s v n),
+        λ s. ap is_eq (tied_from_same x y (s (Some x) (Some y) (Contains-append_left xs ys (Some x) i) (Contains-append_right xs ys (Some y) j))),
+      )
       (constant_means (xs ++ ys))
 
   one_false : (b c : Bool) → (b || c) ≡ true → (b ≡ true → is_constant xs ≡ false) → (c ≡ true → is_constant ys ≡ false) → is_constant (xs ++ ys) ≡ false
@@ -116,9 +116,10 @@ module _ (xs ys : List (Option ScalarValue)) where
 pub constant_of_reordered : (xs ys : List (Option ScalarValue)) → IsPermutation xs ys → is_constant ys ≡ is_constant xs
 constant_of_reordered xs ys m =
     same_from_decides (is_constant ys) (is_constant xs)
-    (constant_means ys)
-    (λ e x y i j. (constant_means xs).0 e x y (Contains-permutation ys xs x (IsPermutation-sym xs ys m) i) (Contains-permutation ys xs y (IsPermutation-sym xs ys m) j),
-    λ s. (constant_means xs).1 (λ x y i j. s x y (Contains-permutation xs ys x m i) (Contains-permutation xs ys y m j)))
+    (constant_means ys) (
+      λ e x y i j. (constant_means xs).0 e x y (Contains-permutation ys xs x (IsPermutation-sym xs ys m) i) (Contains-permutation ys xs y (IsPermutation-sym xs ys m) j),
+      λ s. (constant_means xs).1 (λ x y i j. s x y (Contains-permutation xs ys x m i) (Contains-permutation xs ys y m j)),
+    )
 
 pub truth_of_inexact : (p : Precision ScalarValue) (b : Bool) → ClaimsTruth (inexact_of p) b
 truth_of_inexact (Exact v) b = tt

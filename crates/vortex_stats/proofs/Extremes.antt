@@ -1,17 +1,16 @@
 -- True greatest values: of two columns together, and of one column twice. Least values are the same under the reversed order.
-use Rattle.std.proofs.Common.{◌≡◌, ◌⊎◌, Bool, true, false, cond, List, [], ◌∷◌, ◌++◌, Option, Some, None, refl, sym, ap, ◌∙◌, inl, inr, ⊎_elim}
+use Rattle.std.proofs.Common.{◌≡◌, Bool, true, false, cond, List, ◌++◌, Option, Some, refl, ap, ◌∙◌, ⊎_elim}
 use Rattle.std.specs.Prelude.{Contains, MatchOption, IsPermutation, ⊤}
 use Rattle.std.specs.declared.cmp.Ordering.{Ordering}
 use Rattle.std.specs.declared.cmp.Ordering.TheVariants.{Less, Equal, Greater}
-use Rattle.std.specs.Ordering.{is_lt, is_eq, is_gt, flip_args, ordering_reverse}
+use Rattle.std.specs.Ordering.{is_lt, is_eq, ordering_reverse}
 use Rattle.std.specs.Cmp.{IsTotalOrder, tied_back}
 use Rattle.std.proofs.lemmas.List.Elements.{Contains-append_left, Contains-append_right, Contains-append_cases}
 use Rattle.std.proofs.lemmas.List.Sorted.{Contains-permutation, IsPermutation-sym}
 use Rattle.vortex_stats.specs.declared.precision.Precision.{Precision}
 use Rattle.vortex_stats.specs.declared.precision.Precision.TheVariants.{Exact, Inexact, Absent}
-use Rattle.vortex_stats.specs.declared.bound.IntersectionResult.{IntersectionResult}
 use Rattle.vortex_stats.specs.declared.bound.IntersectionResult.TheVariants.{Value, Empty}
-use Rattle.vortex_stats.specs.Order.{AtMost, AtMost-refl, AtMost-trans, AtMost-of_less, AtMost-of_equal, AtMost-of_greater, greater, greater-above, lesser, equal-of_both, greater_not}
+use Rattle.vortex_stats.specs.Order.{AtMost, AtMost-refl, AtMost-trans, AtMost-of_less, AtMost-of_equal, AtMost-of_greater, greater, greater-above, greater_not}
 use Rattle.vortex_stats.specs.UpperBound.{upper_union, upper_intersection}
 use Rattle.vortex_stats.specs.Precision.{inexact_of}
 use Rattle.vortex_stats.specs.Bound.{MatchIntersection}

@@ -1,5 +1,5 @@
 -- A true set stays true with entries left out, with a true value written, and with a value made inexact.
-use Rattle.std.proofs.Common.{◌≡◌, Bool, true, false, cond, not, List, [], ◌∷◌, Option, Some, None, refl, sym, ap, subst, ◌∙◌}
+use Rattle.std.proofs.Common.{◌≡◌, Bool, true, false, not, List, refl, sym, subst}
 use Rattle.std.specs.List.{filter, list_any}
 use Rattle.std.specs.Ordering.{flip_args}
 use Rattle.vortex_base.specs.declared.dtype.DType.{DType}
@@ -11,7 +11,7 @@ use Rattle.vortex_stats.specs.declared.stat.Stat.TheVariants.{IsConstant, IsSort
 use Rattle.vortex_stats.specs.declared.precision.Precision.{Precision}
 use Rattle.vortex_stats.specs.declared.precision.Precision.TheVariants.{Exact, Inexact, Absent}
 use Rattle.vortex_stats.specs.Claims.{Claims, IsTrueOf}
-use Rattle.vortex_stats.specs.Entries.{entry_value, with_entry, without_entry, retained_entries, value_fits, entries_fit}
+use Rattle.vortex_stats.specs.Entries.{entry_value, with_entry, without_entry, retained_entries, value_fits}
 use Rattle.vortex_stats.specs.Precision.{inexact_of}
 use Rattle.vortex_stats.specs.Stat.{stat_eq, same_from_stat_eq}
 use Rattle.vortex_stats.proofs.Constants.{truth_of_inexact}

@@ -11,8 +11,10 @@ pub mod Counts
 pub mod Sums
 pub mod Constants
 pub mod Ascending
-pub mod MergedFit
+pub mod MergedFits
 pub mod MergedTruth
+pub mod EntryClaims
 pub mod CombinedTruth
 pub mod KeptTruth
 pub mod UnorderedTruth
+pub mod ClaimRows

@@ -1,14 +1,12 @@
 -- Sets that are true of two columns merge to one that is true of the first with the second appended.
-use Rattle.std.proofs.Common.{◌≡◌, Bool, true, List, [], ◌∷◌, ◌++◌, Option, Some, None, refl, sym, ap, subst, ◌∙◌}
-use Rattle.std.specs.Prelude.{MatchOption, ℕ, ◌+◌, ⊤}
-use Rattle.std.specs.Ordering.{flip_args}
+use Rattle.std.proofs.Common.{◌≡◌, true, List, Option, Some, None, sym, subst}
+use Rattle.std.specs.Prelude.{MatchOption, ⊤}
 use Rattle.vortex_base.specs.declared.scalar_value.ScalarValue.{ScalarValue}
 use Rattle.vortex_base.specs.Columns.{ColumnData}
-use Rattle.vortex_base.specs.Values.{value_cmp}
 use Rattle.vortex_stats.specs.declared.stat.Stat.{Stat}
 use Rattle.vortex_stats.specs.declared.stat.Stat.TheVariants.{IsConstant, IsSorted, IsStrictSorted, Max, Min, Sum, NullCount, UncompressedSizeInBytes, NaNCount}
 use Rattle.vortex_stats.specs.declared.precision.Precision.{Precision}
-use Rattle.vortex_stats.specs.declared.precision.Precision.TheVariants.{Exact, Inexact, Absent}
+use Rattle.vortex_stats.specs.declared.precision.Precision.TheVariants.{Absent}
 use Rattle.vortex_stats.specs.Claims.{Claims, ClaimsCount, ClaimsSum, IsTrueOf, appended, present, null_count, sum_of}
 use Rattle.vortex_stats.specs.Entries.{entry_value, entries_fit}
 use Rattle.vortex_stats.specs.Merges.{merged_value, merged_ordered, count_merged, sum_merged, all_revised}
@@ -18,7 +16,7 @@ use Rattle.vortex_stats.proofs.Constants.{constant_of_merged}
 use Rattle.vortex_stats.proofs.Counts.{null_count-append, count_of_merged}
 use Rattle.vortex_stats.proofs.Extremes.{greatest_of_union}
 use Rattle.vortex_stats.proofs.Lookups.{or_absent, entry_value-all_revised}
-use Rattle.vortex_stats.proofs.MergedFit.{Fits, merged_value_fits, all_revised_fit}
+use Rattle.vortex_stats.proofs.MergedFits.{merged_ordered-fits}
 use Rattle.vortex_stats.proofs.Sums.{sum_of-both, sum_of_merged}
 use Rattle.vortex_stats.proofs.ValueOrder.{value_total}
 
@@ -42,11 +40,11 @@ pub or_absent_claims : (s : Stat) (c : ColumnData) (o : Option (Precision Scalar
 or_absent_claims s c None h = absent_claims s c
 or_absent_claims s c (Some p) h = h
 
--- a set with new values, each of which fits and has its claim
+-- a set with new values that fits, and whose new values have their claims
 pub true_by_values : (v : Stat → Option (Precision ScalarValue)) (es : List (Stat × Precision ScalarValue)) (c : ColumnData)
-    → entries_fit es c.dtype ≡ true → ((s : Stat) → Fits s c.dtype (v s)) → ((s : Stat) → Tells s c (v s)) → IsTrueOf (all_revised v es) c
-true_by_values v es c f g h = record {
-  fits = all_revised_fit v c.dtype es g f;
+    → entries_fit (all_revised v es) c.dtype ≡ true → ((s : Stat) → Tells s c (v s)) → IsTrueOf (all_revised v es) c
+true_by_values v es c f h = record {
+  fits = f;
   claims = λ s. subst (λ p. Claims s p c) (sym (entry_value-all_revised v s es)) (or_absent_claims s c (v s) (h s));
 }
 
@@ -73,6 +71,6 @@ merged_value_tells NaNCount a b c d p q = tt
 
 pub merged_ordered_is_true : (a b : List (Stat × Precision ScalarValue)) (c d : ColumnData) → c.dtype ≡ d.dtype → IsTrueOf a c → IsTrueOf b d → IsTrueOf (merged_ordered a b) (appended c d)
 merged_ordered_is_true a b c d e p q =
-    true_by_values (λ s. merged_value s a b) a (appended c d) p.fits
-    (λ s. merged_value_fits s c.dtype a b p.fits (subst (λ t. entries_fit b t ≡ true) (sym e) q.fits))
+    true_by_values (λ s. merged_value s a b) a (appended c d)
+    (merged_ordered-fits c.dtype a b p.fits (subst (λ t. entries_fit b t ≡ true) (sym e) q.fits))
     (λ s. merged_value_tells s a b c d p.claims q.claims)

@@ -1,7 +1,7 @@
 -- True sums: of two columns together, and of a column in another order.
-use Rattle.std.proofs.Common.{◌≡◌, ℕ, ◌+◌, Bool, true, false, cond, List, [], ◌∷◌, ◌++◌, Option, Some, None, refl, sym, ap, subst, ◌∙◌, arith}
-use Rattle.std.specs.Prelude.{MatchOption, ℤ, pos, negsuc, ◌+ℤ◌, int_le, ◌&&◌, nat_lt, ◌^◌, IsPermutation, ⊤}
-use Rattle.std.specs.List.{sum_by, filter_map}
+use Rattle.std.proofs.Common.{◌≡◌, ℕ, ◌+◌, Bool, true, false, cond, List, [], ◌∷◌, ◌++◌, Option, Some, None, refl, ap, subst, ◌∙◌, arith}
+use Rattle.std.specs.Prelude.{MatchOption, ℤ, pos, ◌+ℤ◌, int_le, ◌&&◌, nat_lt, ◌^◌, IsPermutation, ⊤}
+use Rattle.std.specs.List.{sum_by}
 use Rattle.std.proofs.lemmas.Int.{ints}
 use Rattle.std.proofs.lemmas.List.Sums.{sum_by-cons}
 use Rattle.std.proofs.lemmas.List.Sorted.{sum_by-IsPermutation}

@@ -1,15 +1,14 @@
 -- Unordered merges: true of every reordering of the appended column, and the same the other way round.
-use Rattle.std.proofs.Common.{◌≡◌, ℕ, ◌+◌, Bool, true, false, cond, ◌||◌, ◌&&◌, List, [], ◌∷◌, Option, Some, None, refl, sym, ap, subst, ◌∙◌, arith}
-use Rattle.std.specs.Prelude.{MatchOption, IsPermutation, ℤ, pos, ◌+ℤ◌, int_le, nat_lt, ◌^◌, is_none, ⊤}
+use Rattle.std.proofs.Common.{◌≡◌, ◌+◌, Bool, true, false, cond, ◌||◌, ◌&&◌, List, Option, Some, None, refl, sym, ap, subst, ◌∙◌, arith}
+use Rattle.std.specs.Prelude.{MatchOption, IsPermutation, ◌+ℤ◌, int_le, nat_lt, ◌^◌, is_none, ⊤}
 use Rattle.std.specs.Option.{is_some}
 use Rattle.std.specs.declared.cmp.Ordering.{Ordering}
 use Rattle.std.specs.declared.cmp.Ordering.TheVariants.{Less, Equal, Greater}
-use Rattle.std.specs.Ordering.{is_lt, is_eq, flip_args, ordering_reverse}
+use Rattle.std.specs.Ordering.{is_lt, flip_args, ordering_reverse}
 use Rattle.std.specs.Cmp.{IsTotalOrder, tied_back}
 use Rattle.std.proofs.lemmas.Cmp.{eq_by_cmp_equiv}
 use Rattle.std.proofs.lemmas.Int.{ints}
 use Rattle.std.proofs.lemmas.List.Sorted.{sum_by-IsPermutation}
-use Rattle.vortex_base.specs.declared.dtype.DType.{DType}
 use Rattle.vortex_base.specs.declared.ptype.PType.TheVariants as ptype
 use Rattle.vortex_base.specs.declared.pvalue.PValue.TheVariants as number
 use Rattle.vortex_base.specs.declared.scalar_value.ScalarValue.{ScalarValue}
@@ -28,7 +27,7 @@ use Rattle.vortex_stats.specs.UpperBound.{upper_union}
 use Rattle.vortex_stats.proofs.Constants.{constant_of_reordered}
 use Rattle.vortex_stats.proofs.Extremes.{greatest_of_reordered}
 use Rattle.vortex_stats.proofs.Lookups.{or_absent, entry_value-all_revised, has_entry-all_revised}
-use Rattle.vortex_stats.proofs.MergedFit.{Fits, merged_value_fits}
+use Rattle.vortex_stats.proofs.MergedFits.{merged_unordered-fits}
 use Rattle.vortex_stats.proofs.MergedTruth.{Tells, merged_value_tells, true_by_values}
 use Rattle.vortex_stats.proofs.Sums.{sum_of_reordered}
 use Rattle.vortex_stats.proofs.ValueOrder.{value_total, same_from_equal}
@@ -70,24 +69,11 @@ module _ (c e : ColumnData) (r : IsReordered c e) where
       told_again (λ p. Claims UncompressedSizeInBytes p c) (λ p. Claims UncompressedSizeInBytes p e) size_again (merged_value UncompressedSizeInBytes a b) (h UncompressedSizeInBytes)
   unordered_tells NaNCount a b h = tt
 
-unordered_value_fits : (s : Stat) (t : DType) (a b : List (Stat × Precision ScalarValue)) → Fits s t (merged_value s a b) → Fits s t (unordered_value s a b)
-unordered_value_fits IsConstant t a b h = h
-unordered_value_fits IsSorted t a b h = tt
-unordered_value_fits IsStrictSorted t a b h = tt
-unordered_value_fits Max t a b h = h
-unordered_value_fits Min t a b h = h
-unordered_value_fits Sum t a b h = h
-unordered_value_fits NullCount t a b h = h
-unordered_value_fits UncompressedSizeInBytes t a b h = h
-unordered_value_fits NaNCount t a b h = h
-
 pub merged_unordered_is_true : (a b : List (Stat × Precision ScalarValue)) (c d e : ColumnData) → c.dtype ≡ d.dtype → IsTrueOf a c → IsTrueOf b d → IsReordered (appended c d) e
     → IsTrueOf (merged_unordered a b) e
 merged_unordered_is_true a b c d e k p q r =
     true_by_values (λ s. unordered_value s a b) a e
-    (subst (λ t. entries_fit a t ≡ true) (sym r.dtype) p.fits)
-    (λ s. unordered_value_fits s e.dtype a b
-        (merged_value_fits s e.dtype a b (subst (λ t. entries_fit a t ≡ true) (sym r.dtype) p.fits) (subst (λ t. entries_fit b t ≡ true) (sym k ∙ sym r.dtype) q.fits)))
+    (merged_unordered-fits e.dtype a b (subst (λ t. entries_fit a t ≡ true) (sym r.dtype) p.fits) (subst (λ t. entries_fit b t ≡ true) (sym k ∙ sym r.dtype) q.fits))
     (λ s. unordered_tells (appended c d) e r s a b (λ t. merged_value_tells t a b c d p.claims q.claims))
 
 -- ---- without the statistics of order

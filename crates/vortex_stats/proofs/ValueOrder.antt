@@ -1,11 +1,10 @@
 -- The order of values is total, and values that compare equal are the same.
-use Rattle.std.proofs.Common.{◌≡◌, ℕ, List, [], ◌∷◌, refl, sym, ap, ◌∙◌, arith}
-use Rattle.std.specs.Prelude.{ℤ, Bool, true, false}
+use Rattle.std.proofs.Common.{◌≡◌, refl, ap, arith}
+use Rattle.std.specs.Prelude.{Bool, true, false}
 use Rattle.std.specs.declared.cmp.Ordering.{Ordering}
 use Rattle.std.specs.declared.cmp.Ordering.TheVariants.{Less, Equal, Greater}
-use Rattle.std.specs.Ordering.{nat_cmp, int_cmp, is_eq, ordering_then}
-use Rattle.std.specs.Cmp.{IsTotalOrder, tied_itself, tied_back, Equal-is}
-use Rattle.std.specs.Cmp.Lexicographic.{slice_cmp}
+use Rattle.std.specs.Ordering.{nat_cmp, int_cmp, ordering_then}
+use Rattle.std.specs.Cmp.{IsTotalOrder}
 use Rattle.std.proofs.lemmas.Cmp.{nat_cmp_total, int_cmp_total, nat_list_cmp_total, on_total, then_total}
 use Rattle.std.proofs.lemmas.Map.Lookups.{exact_unsigned, exact_signed, exact_bytes}
 use Rattle.vortex_base.specs.declared.pvalue.PValue.{PValue}

@@ -1,8 +1,7 @@
 -- What a statistic claims of a column, and when a set is true of it.
-use Rattle.std.specs.Prelude.{◌≡◌, ◌≤◌, ℕ, ◌+◌, ℤ, pos, ◌+ℤ◌, Bool, true, false, not, ◌&&◌, List, [], ◌∷◌, ◌++◌, Option, Some, None, IsTrue, Contains, IsPermutation, count_by, is_none, ⊤}
+use Rattle.std.specs.Prelude.{◌≡◌, ◌≤◌, ℕ, ◌+◌, ℤ, pos, ◌+ℤ◌, Bool, true, false, not, ◌&&◌, List, [], ◌∷◌, ◌++◌, Option, Some, IsTrue, Contains, IsPermutation, count_by, is_none, ⊤}
 use Rattle.std.specs.List.{filter_map, list_all}
 use Rattle.std.specs.Ordering.{is_lt, is_gt}
-use Rattle.vortex_base.specs.declared.dtype.DType.{DType}
 use Rattle.vortex_base.specs.declared.pvalue.PValue.TheVariants as number
 use Rattle.vortex_base.specs.declared.scalar_value.ScalarValue.{ScalarValue}
 use Rattle.vortex_base.specs.declared.scalar_value.ScalarValue.TheVariants as value
@@ -107,7 +106,7 @@ Claims NullCount p c = ClaimsCount p (null_count c.values)
 Claims UncompressedSizeInBytes p c = ClaimsCount p c.size
 Claims NaNCount p c = ⊤
 
--- the set fits the column's type, and the claim of each of its entries holds
+-- the set fits the column's type, and the claim of each of its entries holds: their statistics being distinct, each is the one that is looked up
 pub record IsTrueOf (entries : List (Stat × Precision ScalarValue)) (column : ColumnData) : Type 0 where
   pub fits : IsTrue (entries_fit entries column.dtype)
   pub claims : (s : Stat) → Claims s (entry_value s entries) column

@@ -1,11 +1,9 @@
 -- Merged values are of their statistics' types.
-use Rattle.std.proofs.Common.{◌≡◌, ℕ, ◌+◌, ◌<◌, Bool, true, false, cond, ◌||◌, ◌&&◌, List, [], ◌∷◌, Option, Some, None, refl, sym, ap, subst, ◌∙◌, arith}
-use Rattle.std.specs.Prelude.{MatchOption, ℤ, pos, ◌-◌, ◌+ℤ◌, int_le, nat_lt, ◌^◌, ◌==◌, nat_le as leb, ⊤}
+use Rattle.std.proofs.Common.{◌≡◌, ℕ, ◌+◌, ◌<◌, Bool, true, false, cond, ◌||◌, ◌&&◌, List, Option, Some, None, refl, sym, ap, ◌∙◌, arith}
+use Rattle.std.specs.Prelude.{MatchOption, ◌-◌, ◌+ℤ◌, int_le, nat_lt, ◌^◌, ◌==◌, nat_le as leb, ⊤}
 use Rattle.std.specs.declared.cmp.Ordering.{Ordering}
 use Rattle.std.specs.Ordering.{is_lt, flip_args}
 use Rattle.std.proofs.lemmas.Bool.{and_parts, and_from, ltb-true, le-leb}
-use Rattle.std.proofs.lemmas.Bool.Decides.{nat_tests}
-use Rattle.std.proofs.lemmas.Int.{ints}
 use mathlib.Core.Bool.{true≢false}
 use Rattle.vortex_base.specs.declared.dtype.DType.{DType}
 use Rattle.vortex_base.specs.declared.dtype.DType.TheVariants as dtype
@@ -15,13 +13,13 @@ use Rattle.vortex_base.specs.declared.pvalue.PValue.TheVariants as number
 use Rattle.vortex_base.specs.declared.scalar_value.ScalarValue.{ScalarValue}
 use Rattle.vortex_base.specs.declared.scalar_value.ScalarValue.TheVariants as value
 use Rattle.vortex_base.specs.Types.{ptype_index}
-use Rattle.vortex_base.specs.Values.{ptype_of, in_range, is_value, least, greatest, value_cmp}
+use Rattle.vortex_base.specs.Values.{ptype_of, in_range, least, greatest, value_cmp}
 use Rattle.vortex_stats.specs.declared.stat.Stat.{Stat}
 use Rattle.vortex_stats.specs.declared.stat.Stat.TheVariants.{IsConstant, IsSorted, IsStrictSorted, Max, Min, Sum, NullCount, UncompressedSizeInBytes, NaNCount}
 use Rattle.vortex_stats.specs.declared.precision.Precision.{Precision}
 use Rattle.vortex_stats.specs.declared.precision.Precision.TheVariants.{Exact, Inexact, Absent}
-use Rattle.vortex_stats.specs.Entries.{entry_value, with_entry, without_entry, is_value_of, value_fits, entries_fit}
-use Rattle.vortex_stats.specs.Merges.{is_exactly, same_minima, constant_merged, truth, seam, at_seam, order_merged, is_at_most, is_below, sum_added, sum_merged, count_added, count_merged, merged_value, revised, all_revised, merged_ordered, merged_unordered, unordered_value}
+use Rattle.vortex_stats.specs.Entries.{entry_value, is_value_of, value_fits, entries_fit}
+use Rattle.vortex_stats.specs.Merges.{is_exactly, same_minima, truth, seam, at_seam, is_at_most, is_below, sum_added, sum_merged, count_added, count_merged, merged_value, unordered_value, revised, all_revised, merged_ordered, merged_unordered}
 use Rattle.vortex_stats.specs.Precision.{present_value}
 use Rattle.vortex_stats.specs.Stat.{stat_dtype}
 use Rattle.vortex_stats.specs.UpperBound.{upper_union}
@@ -29,7 +27,7 @@ use Rattle.vortex_stats.proofs.Fitting.{entry_value-fits, entries_fit_with_entry
 
 module _ (s : Stat) (t : DType) where
   -- the value, if there is one, fits
-  abbrev pub Fits : Option (Precision ScalarValue) → Type 0
+  abbrev Fits : Option (Precision ScalarValue) → Type 0
   Fits o = MatchOption o ⊤ (λ p. value_fits s t p ≡ true)
 
   either_exact : (c : Bool) (v w : ScalarValue) → value_fits s t (Exact v) ≡ true → value_fits s t (Exact w) ≡ true → value_fits s t (Exact (cond c w v)) ≡ true
@@ -131,7 +129,7 @@ module _ (s : Stat) (t : DType) where
 -- ---- whole sets
 
 -- each merged value fits, where both sets do
-pub merged_value_fits : (s : Stat) (t : DType) (a b : List (Stat × Precision ScalarValue)) → entries_fit a t ≡ true → entries_fit b t ≡ true → Fits s t (merged_value s a b)
+merged_value_fits : (s : Stat) (t : DType) (a b : List (Stat × Precision ScalarValue)) → entries_fit a t ≡ true → entries_fit b t ≡ true → Fits s t (merged_value s a b)
 merged_value_fits IsConstant t a b f g =
     constant_fits_step t (is_exactly false (entry_value IsConstant a) || is_exactly false (entry_value IsConstant b))
     (is_exactly true (entry_value IsConstant a) && is_exactly true (entry_value IsConstant b)) (entry_value Min a) (entry_value Min b)
@@ -152,7 +150,7 @@ revised_fits s t None es h f = entries_fit_filter _ t es f
 revised_fits s t (Some p) es h f = entries_fit_with_entry s p t es h f
 
 -- a set that fits does so with new values that fit
-pub all_revised_fit : (v : Stat → Option (Precision ScalarValue)) (t : DType) (es : List (Stat × Precision ScalarValue)) → ((s : Stat) → Fits s t (v s)) → entries_fit es t ≡ true
+all_revised_fit : (v : Stat → Option (Precision ScalarValue)) (t : DType) (es : List (Stat × Precision ScalarValue)) → ((s : Stat) → Fits s t (v s)) → entries_fit es t ≡ true
     → entries_fit (all_revised v es) t ≡ true
 all_revised_fit v t es h f =
     revised_fits NaNCount t (v NaNCount) _ (h NaNCount) (revised_fits UncompressedSizeInBytes t (v UncompressedSizeInBytes) _ (h UncompressedSizeInBytes)
@@ -160,22 +158,20 @@ all_revised_fit v t es h f =
     (revised_fits Max t (v Max) _ (h Max) (revised_fits IsStrictSorted t (v IsStrictSorted) _ (h IsStrictSorted)
     (revised_fits IsSorted t (v IsSorted) _ (h IsSorted) (revised_fits IsConstant t (v IsConstant) es (h IsConstant) f))))))))
 
--- so do the values of an unordered merge
-pub unordered_value_fits : (s : Stat) (t : DType) (a b : List (Stat × Precision ScalarValue)) → entries_fit a t ≡ true → entries_fit b t ≡ true → Fits s t (unordered_value s a b)
-unordered_value_fits IsConstant t a b f g = merged_value_fits IsConstant t a b f g
-unordered_value_fits IsSorted t a b f g = tt
-unordered_value_fits IsStrictSorted t a b f g = tt
-unordered_value_fits Max t a b f g = merged_value_fits Max t a b f g
-unordered_value_fits Min t a b f g = merged_value_fits Min t a b f g
-unordered_value_fits Sum t a b f g = merged_value_fits Sum t a b f g
-unordered_value_fits NullCount t a b f g = merged_value_fits NullCount t a b f g
-unordered_value_fits UncompressedSizeInBytes t a b f g = merged_value_fits UncompressedSizeInBytes t a b f g
-unordered_value_fits NaNCount t a b f g = merged_value_fits NaNCount t a b f g
+-- where both sets fit, so does the ordered merge
+pub merged_ordered-fits : (t : DType) (own other : List (Stat × Precision ScalarValue)) → entries_fit own t ≡ true → entries_fit other t ≡ true → entries_fit (merged_ordered own other) t ≡ true
+merged_ordered-fits t own other f g = all_revised_fit (λ s. merged_value s own other) t own (λ s. merged_value_fits s t own other f g) f
 
--- an ordered merge of sets that fit a type fits it
-pub merged_ordered_fits : (t : DType) (a b : List (Stat × Precision ScalarValue)) → entries_fit a t ≡ true → entries_fit b t ≡ true → entries_fit (merged_ordered a b) t ≡ true
-merged_ordered_fits t a b f g = all_revised_fit (λ s. merged_value s a b) t a (λ s. merged_value_fits s t a b f g) f
+unordered_value_fits : (s : Stat) (t : DType) (a b : List (Stat × Precision ScalarValue)) → Fits s t (merged_value s a b) → Fits s t (unordered_value s a b)
+unordered_value_fits IsConstant t a b h = h
+unordered_value_fits IsSorted t a b h = tt
+unordered_value_fits IsStrictSorted t a b h = tt
+unordered_value_fits Max t a b h = h
+unordered_value_fits Min t a b h = h
+unordered_value_fits Sum t a b h = h
+unordered_value_fits NullCount t a b h = h
+unordered_value_fits UncompressedSizeInBytes t a b h = h
+unordered_value_fits NaNCount t a b h = h
 
--- so does an unordered one
-pub merged_unordered_fits : (t : DType) (a b : List (Stat × Precision ScalarValue)) → entries_fit a t ≡ true → entries_fit b t ≡ true → entries_fit (merged_unordered a b) t ≡ true
-merged_unordered_fits t a b f g = all_revised_fit (λ s. unordered_value s a b) t a (λ s. unordered_value_fits s t a b f g) f
+pub merged_unordered-fits : (t : DType) (own other : List (Stat × Precision ScalarValue)) → entries_fit own t ≡ true → entries_fit other t ≡ true → entries_fit (merged_unordered own other) t ≡ true
+merged_unordered-fits t own other f g = all_revised_fit (λ s. unordered_value s own other) t own (λ s. unordered_value_fits s t own other (merged_value_fits s t own other f g)) f

@@ -1,0 +1,5 @@
+use Rattle.vortex_stats.proofs.EntryClaims.{true_by_entry}
+use Rattle.vortex_stats.proofs.laws.truth.sets_are_true_by_entry.Goals as goal
+
+pub returns : goal.returns
+returns c = λ es r d f. true_by_entry r es d f
