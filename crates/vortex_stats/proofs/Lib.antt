@@ -5,3 +5,4 @@ pub mod Mapped
 pub mod DerivedOrder
 pub mod Revisions
 pub mod MergedFits
+pub mod Combining

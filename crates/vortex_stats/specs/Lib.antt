@@ -16,3 +16,4 @@ pub mod Claims
 pub mod Merges
 pub mod Changes
 pub mod Combined
+pub mod CombineSteps
