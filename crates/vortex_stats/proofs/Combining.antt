@@ -1,6 +1,6 @@
 -- One step of a combination, by its cases.
 use Rattle.std.proofs.Common.{◌≡◌, Bool, true, false, cond, ◌&&◌, List, [], ◌∷◌, Option, Some, None, Result, Ok, Err, refl, sym, ap, subst, ◌∙◌}
-use Rattle.std.specs.Prelude.{IsTrue, ⊤}
+use Rattle.std.specs.Prelude.{IsTrue, IsErrAnd, ⊤}
 use Rattle.std.specs.Option.{option_map}
 use Rattle.std.specs.declared.cmp.Ordering.{Ordering}
 use Rattle.std.specs.Ordering.{is_lt, is_eq, bool_cmp, flip_args}
@@ -48,6 +48,11 @@ point_intersection-truths t p q h k =
 
 -- ---- one step
 
+pub absent_map : {A B : Type 0} (f : A → B) (p : Precision A) → is_absent (precision_map f p) ≡ is_absent p
+absent_map f (Exact v) = refl
+absent_map f (Inexact v) = refl
+absent_map f Absent = refl
+
 met_case : (s : Stat) (p q : Precision ScalarValue) (es : List (Stat × Precision ScalarValue)) → is_absent p ≡ false → is_absent q ≡ false
     → combined_by s p q es ≡ met s (intersection_of s p q) es
 met_case s (Exact a) (Exact b) es h k = refl
@@ -93,6 +98,12 @@ module _ (s : Stat) (p q own other : Precision ScalarValue) (es : List (Stat × 
 
   pub met_refused : (e : StatsError) → IsAnswerOrMemory (meeting s (intersection_of s own other)) (Err e) → IsStep (combined_by s p q es) s es es (Err e)
   met_refused e m = subst (λ o. IsStep o s es es (Err e)) (sym met_at) (refused_step (intersection_of s own other) s es e m)
+
+-- a refusal that is handed on
+pub refused_with : (o : Option (List (Stat × Precision ScalarValue))) (s : Stat) (es : List (Stat × Precision ScalarValue)) (r : Result (Unit {0}) StatsError) (x : StatsError)
+    → IsErrAnd r (λ e. e ≡ x) → IsStep o s es es (Err x) → IsStep o s es es r
+refused_with o s es (Ok u) x h k = absurd h
+refused_with o s es (Err e) x h k = subst (λ y. IsStep o s es es (Err y)) (sym h) k
 
 -- the steps that are left, after one
 pub combined-step : (es new : List (Stat × Precision ScalarValue)) (e : Stat × Precision ScalarValue) (rest : List (Stat × Precision ScalarValue))
