@@ -4,6 +4,8 @@
 mod bitsets;
 mod bounds;
 mod callers;
+mod combinations;
+mod merges;
 mod precisions;
 mod refused;
 mod sets;
