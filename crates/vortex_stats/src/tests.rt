@@ -5,6 +5,7 @@ mod bitsets;
 mod bounds;
 mod callers;
 mod combinations;
+mod merge_rows;
 mod merges;
 mod precisions;
 mod refused;
