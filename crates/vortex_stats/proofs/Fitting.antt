@@ -77,4 +77,11 @@ pub entries_fit_filter : (test : Stat × Precision ScalarValue → Bool) (t : DT
 entries_fit_filter test t [] h = refl
 entries_fit_filter test t (e ∷ es) h = left_out_step test t e es (test e) h (entries_fit_filter test t es (second_true (value_fits e.0 t e.1) (entries_fit es t) h))
 
+-- a list of entries that fits does so without the first, which fits too
+pub rest_fits : (t : DType) (e : Stat × Precision ScalarValue) (es : List (Stat × Precision ScalarValue)) → entries_fit (e ∷ es) t ≡ true → entries_fit es t ≡ true
+rest_fits t e es h = second_true (value_fits e.0 t e.1) (entries_fit es t) h
+
+pub front_fits : (t : DType) (e : Stat × Precision ScalarValue) (es : List (Stat × Precision ScalarValue)) → entries_fit (e ∷ es) t ≡ true → value_fits e.0 t e.1 ≡ true
+front_fits t e es h = first_true (value_fits e.0 t e.1) (entries_fit es t) h
+
 pub ruleset fitting = (entries_fit_with_entry, entries_fit_filter)

@@ -18,3 +18,4 @@ pub mod CombinedTruth
 pub mod KeptTruth
 pub mod UnorderedTruth
 pub mod ClaimRows
+pub mod Combining

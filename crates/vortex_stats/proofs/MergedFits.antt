@@ -1,177 +1,185 @@
--- Merged values are of their statistics' types.
-use Rattle.std.proofs.Common.{◌≡◌, ℕ, ◌+◌, ◌<◌, Bool, true, false, cond, ◌||◌, ◌&&◌, List, Option, Some, None, refl, sym, ap, ◌∙◌, arith}
-use Rattle.std.specs.Prelude.{MatchOption, ◌-◌, ◌+ℤ◌, int_le, nat_lt, ◌^◌, ◌==◌, nat_le as leb, ⊤}
+-- Merged sets fit the type of their column again.
+use Rattle.std.proofs.Common.{◌≡◌, ℕ, ◌+◌, ◌<◌, ◌^◌, Bool, true, false, cond, ◌&&◌, ◌||◌, List, [], ◌∷◌, Option, Some, None, refl, sym, ap, subst, ◌∙◌, rules, arith}
+use Rattle.std.proofs.lemmas.Bool.Decides.{nat_tests}
+use Rattle.std.specs.Prelude.{IsTrue, IfSome, OnOk, OnErr, Result, Ok, Err, ◌==◌, nat_lt, ⊤, ℤ, ◌+ℤ◌, int_le}
 use Rattle.std.specs.declared.cmp.Ordering.{Ordering}
 use Rattle.std.specs.Ordering.{is_lt, flip_args}
-use Rattle.std.proofs.lemmas.Bool.{and_parts, and_from, ltb-true, le-leb}
 use mathlib.Core.Bool.{true≢false}
 use Rattle.vortex_base.specs.declared.dtype.DType.{DType}
 use Rattle.vortex_base.specs.declared.dtype.DType.TheVariants as dtype
-use Rattle.vortex_base.specs.declared.ptype.PType.TheVariants as ptype
 use Rattle.vortex_base.specs.declared.pvalue.PValue.{PValue}
 use Rattle.vortex_base.specs.declared.pvalue.PValue.TheVariants as number
+use Rattle.vortex_base.specs.declared.ptype.PType.TheVariants as ptype
 use Rattle.vortex_base.specs.declared.scalar_value.ScalarValue.{ScalarValue}
 use Rattle.vortex_base.specs.declared.scalar_value.ScalarValue.TheVariants as value
 use Rattle.vortex_base.specs.Types.{ptype_index}
-use Rattle.vortex_base.specs.Values.{ptype_of, in_range, least, greatest, value_cmp}
+use Rattle.vortex_base.specs.Values.{value_cmp, is_value, in_range, ptype_of, least, greatest}
 use Rattle.vortex_stats.specs.declared.stat.Stat.{Stat}
 use Rattle.vortex_stats.specs.declared.stat.Stat.TheVariants.{IsConstant, IsSorted, IsStrictSorted, Max, Min, Sum, NullCount, UncompressedSizeInBytes, NaNCount}
 use Rattle.vortex_stats.specs.declared.precision.Precision.{Precision}
 use Rattle.vortex_stats.specs.declared.precision.Precision.TheVariants.{Exact, Inexact, Absent}
-use Rattle.vortex_stats.specs.Entries.{entry_value, is_value_of, value_fits, entries_fit}
-use Rattle.vortex_stats.specs.Merges.{is_exactly, same_minima, truth, seam, at_seam, is_at_most, is_below, sum_added, sum_merged, count_added, count_merged, merged_value, unordered_value, revised, all_revised, merged_ordered, merged_unordered}
-use Rattle.vortex_stats.specs.Precision.{present_value}
 use Rattle.vortex_stats.specs.Stat.{stat_dtype}
+use Rattle.vortex_stats.specs.Precision.{present_value}
+use Rattle.vortex_stats.specs.Entries.{entry_value, is_value_of, value_fits, entries_fit, with_entry}
+use Rattle.vortex_stats.specs.LowerBound.{lower_union}
 use Rattle.vortex_stats.specs.UpperBound.{upper_union}
+use Rattle.vortex_stats.specs.Merges.{truth, is_exactly, same_minima, constant_merged, seam, at_seam, order_merged, is_at_most, is_below, sum_added, sum_merged, count_added, count_merged, merged_value, unordered_value, revised, all_revised, merged_ordered, merged_unordered}
 use Rattle.vortex_stats.proofs.Fitting.{entry_value-fits, entries_fit_with_entry, entries_fit_filter}
 
-module _ (s : Stat) (t : DType) where
-  -- the value, if there is one, fits
-  abbrev Fits : Option (Precision ScalarValue) → Type 0
-  Fits o = MatchOption o ⊤ (λ p. value_fits s t p ≡ true)
+either : {A : Type 0} (P : A → Type 0) (b : Bool) (x y : A) → P x → P y → P (cond b x y)
+either P true x y p q = p
+either P false x y p q = q
 
-  either_exact : (c : Bool) (v w : ScalarValue) → value_fits s t (Exact v) ≡ true → value_fits s t (Exact w) ≡ true → value_fits s t (Exact (cond c w v)) ≡ true
-  either_exact true v w p q = q
-  either_exact false v w p q = p
+module _ (P : Precision ScalarValue → Type 0) where
+  abbrev IfNew : Option (Precision ScalarValue) → Type 0
+  IfNew o = IfSome o P
 
-  either_inexact : (c : Bool) (v w : ScalarValue) → value_fits s t (Inexact v) ≡ true → value_fits s t (Inexact w) ≡ true → value_fits s t (Inexact (cond c w v)) ≡ true
-  either_inexact true v w p q = q
-  either_inexact false v w p q = p
+  -- a union is one of its operands
+  upper_union-either : (R : ScalarValue → ScalarValue → Ordering) (p q : Precision ScalarValue) → P p → P q → IfNew (upper_union R p q)
+  upper_union-either R (Exact a) (Exact b) h k = either (λ v. P (Exact v)) (is_lt (R a b)) b a k h
+  upper_union-either R (Exact e) (Inexact i) h k = either P (is_lt (R e i)) (Inexact i) (Exact e) k h
+  upper_union-either R (Exact e) Absent h k = tt
+  upper_union-either R (Inexact i) (Exact e) h k = either P (is_lt (R e i)) (Inexact i) (Exact e) h k
+  upper_union-either R (Inexact a) (Inexact b) h k = either (λ v. P (Inexact v)) (is_lt (R a b)) b a k h
+  upper_union-either R (Inexact i) Absent h k = tt
+  upper_union-either R Absent q h k = tt
 
-  either_case : (c : Bool) (e i : ScalarValue) → value_fits s t (Exact e) ≡ true → value_fits s t (Inexact i) ≡ true → value_fits s t (cond c (Inexact i) (Exact e)) ≡ true
-  either_case true e i p q = q
-  either_case false e i p q = p
+  lower_union-either : (R : ScalarValue → ScalarValue → Ordering) (p q : Precision ScalarValue) → P p → P q → IfNew (lower_union R p q)
+  lower_union-either R = upper_union-either (flip_args R)
 
-  union_fits : (R : ScalarValue → ScalarValue → Ordering) (p q : Precision ScalarValue) → value_fits s t p ≡ true → value_fits s t q ≡ true → Fits (upper_union R p q)
-  union_fits R (Exact v) (Exact w) p q = either_exact (is_lt (R v w)) v w p q
-  union_fits R (Exact e) (Inexact i) p q = either_case (is_lt (R e i)) e i p q
-  union_fits R (Exact e) Absent p q = tt
-  union_fits R (Inexact i) (Exact e) p q = either_case (is_lt (R e i)) e i q p
-  union_fits R (Inexact v) (Inexact w) p q = either_inexact (is_lt (R v w)) v w p q
-  union_fits R (Inexact i) Absent p q = tt
-  union_fits R Absent q p h = tt
+  -- truth values alone
+  module _ (exact : (b : Bool) → P (truth b)) (unknown : P (Inexact (value.Bool false))) where
+    same_minima-truth : (p q : Precision ScalarValue) → IfNew (same_minima p q)
+    same_minima-truth (Exact x) (Exact y) = exact _
+    same_minima-truth (Exact x) (Inexact y) = tt
+    same_minima-truth (Exact x) Absent = tt
+    same_minima-truth (Inexact x) q = tt
+    same_minima-truth Absent q = tt
 
--- ---- truths
+    constant_merged-truth : (c d m n : Precision ScalarValue) → IfNew (constant_merged c d m n)
+    constant_merged-truth c d m n =
+        either IfNew (is_exactly false c || is_exactly false d) (Some (truth false)) (cond (is_exactly true c && is_exactly true d) (same_minima m n) None) (exact false)
+        (either IfNew (is_exactly true c && is_exactly true d) (same_minima m n) None (same_minima-truth m n) tt)
 
-constant_fits_step : (t : DType) (b c : Bool) (m n : Precision ScalarValue) → Fits IsConstant t (cond b (Some (truth false)) (cond c (same_minima m n) None))
-constant_fits_step t true c m n = refl
-constant_fits_step t false true (Exact x) (Exact y) = refl
-constant_fits_step t false true (Exact x) (Inexact y) = tt
-constant_fits_step t false true (Exact x) Absent = tt
-constant_fits_step t false true (Inexact x) n = tt
-constant_fits_step t false true Absent n = tt
-constant_fits_step t false false m n = tt
+    at_seam-truth : (test : ScalarValue → ScalarValue → Bool) (v w : Option ScalarValue) → IfNew (at_seam test v w)
+    at_seam-truth test (Some v) (Some w) = either P (test v w) (truth true) (Inexact (value.Bool false)) (exact true) unknown
+    at_seam-truth test (Some v) None = tt
+    at_seam-truth test None w = tt
 
-seam_fits : (s : Stat) (t : DType) → value_fits s t (truth true) ≡ true → value_fits s t (Inexact (value.Bool false)) ≡ true → (b : Bool) → value_fits s t (seam b) ≡ true
-seam_fits s t p q true = p
-seam_fits s t p q false = q
+    order_merged-truth : (test : ScalarValue → ScalarValue → Bool) (c d max min : Precision ScalarValue) → IfNew (order_merged test c d max min)
+    order_merged-truth test c d max min =
+        either IfNew (is_exactly true c && is_exactly true d) (at_seam test (present_value max) (present_value min)) None (at_seam-truth test (present_value max) (present_value min)) tt
 
-order_fits_step : (s : Stat) (t : DType) (test : ScalarValue → ScalarValue → Bool) → value_fits s t (truth true) ≡ true → value_fits s t (Inexact (value.Bool false)) ≡ true
-    → (b : Bool) (max min : Option ScalarValue) → Fits s t (cond b (at_seam test max min) None)
-order_fits_step s t test p q true (Some max) (Some min) = seam_fits s t p q (test max min)
-order_fits_step s t test p q true (Some max) None = tt
-order_fits_step s t test p q true None min = tt
-order_fits_step s t test p q false max min = tt
+  -- a sum under its own test
+  tested : (b : Bool) (p : Precision ScalarValue) → (b ≡ true → P p) → IfNew (cond b (Some p) None)
+  tested true p h = h refl
+  tested false p h = tt
 
--- ---- numbers
+  count_added-counts : (case : ScalarValue → Precision ScalarValue) → ((n : ℕ) → n < 2 ^ 64 → P (case (value.Primitive (number.U64 n)))) → (v w : ScalarValue) → IfNew (count_added case v w)
+  count_added-counts case h (value.Primitive (number.U64 m)) (value.Primitive (number.U64 n)) =
+      tested (nat_lt (m + n) (2 ^ 64)) (case (value.Primitive (number.U64 (m + n)))) (λ e. h (m + n) (grind (arith, nat_tests)))
+  count_added-counts case h v w = tt
 
--- a number of the same type and in range fits where the first does
-number_fits : (o : Option DType) (p q : PValue) → ptype_index (ptype_of p) ≡ ptype_index (ptype_of q) → is_value_of o (value.Primitive p) ≡ true → in_range q ≡ true → is_value_of o (value.Primitive q) ≡ true
-number_fits (Some (dtype.Primitive t n)) p q e h k =
-    let parts = and_parts (ptype_index (ptype_of p) == ptype_index t) (in_range p) h in
-    and_from (ptype_index (ptype_of q) == ptype_index t) (in_range q) (ap (λ i. i == ptype_index t) (sym e) ∙ parts.0) k
-number_fits o p q e h k = absurd (true≢false (sym h))
+  count_merged-counts : ((n : ℕ) → n < 2 ^ 64 → P (Exact (value.Primitive (number.U64 n)))) → ((n : ℕ) → n < 2 ^ 64 → P (Inexact (value.Primitive (number.U64 n))))
+      → (p q : Precision ScalarValue) → IfNew (count_merged p q)
+  count_merged-counts h k (Exact v) (Exact w) = count_added-counts Exact h v w
+  count_merged-counts h k (Exact v) (Inexact w) = count_added-counts Inexact k v w
+  count_merged-counts h k (Exact v) Absent = tt
+  count_merged-counts h k (Inexact v) (Exact w) = count_added-counts Inexact k v w
+  count_merged-counts h k (Inexact v) (Inexact w) = count_added-counts Inexact k v w
+  count_merged-counts h k (Inexact v) Absent = tt
+  count_merged-counts h k Absent q = tt
 
-small_in_range : (n : ℕ) → nat_lt n (2 ^ 64) ≡ true → in_range (number.U64 n) ≡ true
-small_in_range n h =
-    let below : n < 2 ^ 64 = ltb-true n (2 ^ 64) h in
-    and_from (leb 0 n) (leb n (2 ^ 64 - 1)) (le-leb 0 n (omega arith)) (le-leb n (2 ^ 64 - 1) (omega arith))
+-- ---- numbers of a type
 
-module _ (s : Stat) (t : DType) where
-  added_fits : (p q : PValue) (f : ScalarValue → Precision ScalarValue) → ((v : ScalarValue) → value_fits s t (f v) ≡ is_value_of (stat_dtype s t) v) → ptype_index (ptype_of p) ≡ ptype_index (ptype_of q)
-      → is_value_of (stat_dtype s t) (value.Primitive p) ≡ true → (b : Bool) → b ≡ in_range q → Fits s t (cond b (Some (f (value.Primitive q))) None)
-  added_fits p q f told e h true k = told (value.Primitive q) ∙ number_fits (stat_dtype s t) p q e h (sym k)
-  added_fits p q f told e h false k = tt
+both : (a b : Bool) → a ≡ true → b ≡ true → (a && b) ≡ true
+both true b h k = k
+both false b h k = h
 
-  small_fits : (p : PValue) (n : ℕ) (f : ScalarValue → Precision ScalarValue) → ((v : ScalarValue) → value_fits s t (f v) ≡ is_value_of (stat_dtype s t) v) → ptype_index (ptype_of p) ≡ 3
-      → is_value_of (stat_dtype s t) (value.Primitive p) ≡ true → (b : Bool) → nat_lt n (2 ^ 64) ≡ b → Fits s t (cond b (Some (f (value.Primitive (number.U64 n)))) None)
-  small_fits p n f told e h true k = told (value.Primitive (number.U64 n)) ∙ number_fits (stat_dtype s t) p (number.U64 n) e h (small_in_range n k)
-  small_fits p n f told e h false k = tt
+left : (a b : Bool) → (a && b) ≡ true → a ≡ true
+left true b h = refl
+left false b h = h
 
-  sum_added_fits : (v w : ScalarValue) → is_value_of (stat_dtype s t) v ≡ true → Fits s t (sum_added v w)
-  sum_added_fits (value.Primitive (number.I64 m)) (value.Primitive (number.I64 n)) h =
-      added_fits (number.I64 m) (number.I64 (m +ℤ n)) Exact (λ v. refl) refl h (int_le (least ptype.I64) (m +ℤ n) && int_le (m +ℤ n) (greatest ptype.I64)) refl
-  sum_added_fits (value.Primitive (number.U64 m)) (value.Primitive (number.U64 n)) h =
-      small_fits (number.U64 m) (m + n) Exact (λ v. refl) refl h (nat_lt (m + n) (2 ^ 64)) refl
-  sum_added_fits v w h = tt
+count_in_range : (n : ℕ) → n < 2 ^ 64 → in_range (number.U64 n) ≡ true
+count_in_range n h = search rules
 
-  sum_fits : (p q : Precision ScalarValue) → value_fits s t p ≡ true → Fits s t (sum_merged p q)
-  sum_fits (Exact v) (Exact w) h = sum_added_fits v w h
-  sum_fits (Exact v) (Inexact w) h = tt
-  sum_fits (Exact v) Absent h = tt
-  sum_fits (Inexact v) q h = tt
-  sum_fits Absent q h = tt
+-- a number in range of the type of another is a value of that one's type
+same_type : (o : Option DType) (p q : PValue) → ptype_of q ≡ ptype_of p → is_value_of o (value.Primitive p) ≡ true → in_range q ≡ true → is_value_of o (value.Primitive q) ≡ true
+same_type None p q e h r = absurd (true≢false (sym h))
+same_type (Some (dtype.Primitive t n)) p q e h r =
+    both (ptype_index (ptype_of q) == ptype_index t) (in_range q) (ap (λ u. ptype_index u == ptype_index t) e ∙ left (ptype_index (ptype_of p) == ptype_index t) (in_range p) h) r
+same_type (Some t) p q e h r = absurd (true≢false (sym h))
 
-  count_added_fits : (f : ScalarValue → Precision ScalarValue) → ((v : ScalarValue) → value_fits s t (f v) ≡ is_value_of (stat_dtype s t) v) → (v w : ScalarValue)
-      → is_value_of (stat_dtype s t) v ≡ true → Fits s t (count_added f v w)
-  count_added_fits f told (value.Primitive (number.U64 m)) (value.Primitive (number.U64 n)) h = small_fits (number.U64 m) (m + n) f told refl h (nat_lt (m + n) (2 ^ 64)) refl
-  count_added_fits f told v w h = tt
+sum_added-fits : (t : DType) (v w : ScalarValue) → is_value_of (stat_dtype Sum t) v ≡ true → IfSome (sum_added v w) (λ p. value_fits Sum t p ≡ true)
+sum_added-fits t (value.Primitive (number.I64 m)) (value.Primitive (number.I64 n)) h =
+    tested (λ p. value_fits Sum t p ≡ true) (int_le (least ptype.I64) (m +ℤ n) && int_le (m +ℤ n) (greatest ptype.I64)) (Exact (value.Primitive (number.I64 (m +ℤ n))))
+    (λ e. same_type (stat_dtype Sum t) (number.I64 m) (number.I64 (m +ℤ n)) refl h e)
+sum_added-fits t (value.Primitive (number.U64 m)) (value.Primitive (number.U64 n)) h =
+    tested (λ p. value_fits Sum t p ≡ true) (nat_lt (m + n) (2 ^ 64)) (Exact (value.Primitive (number.U64 (m + n))))
+    (λ e. same_type (stat_dtype Sum t) (number.U64 m) (number.U64 (m + n)) refl h (count_in_range (m + n) (grind (arith, nat_tests))))
+sum_added-fits t v w h = tt
 
-  count_fits : (p q : Precision ScalarValue) → value_fits s t p ≡ true → Fits s t (count_merged p q)
-  count_fits (Exact v) (Exact w) h = count_added_fits Exact (λ u. refl) v w h
-  count_fits (Exact v) (Inexact w) h = count_added_fits Inexact (λ u. refl) v w h
-  count_fits (Exact v) Absent h = tt
-  count_fits (Inexact v) (Exact w) h = count_added_fits Inexact (λ u. refl) v w h
-  count_fits (Inexact v) (Inexact w) h = count_added_fits Inexact (λ u. refl) v w h
-  count_fits (Inexact v) Absent h = tt
-  count_fits Absent q h = tt
+sum_merged-fits : (t : DType) (p q : Precision ScalarValue) → value_fits Sum t p ≡ true → IfSome (sum_merged p q) (λ p. value_fits Sum t p ≡ true)
+sum_merged-fits t (Exact v) (Exact w) h = sum_added-fits t v w h
+sum_merged-fits t p q h = tt
 
--- ---- whole sets
+-- ---- sets
 
--- each merged value fits, where both sets do
-merged_value_fits : (s : Stat) (t : DType) (a b : List (Stat × Precision ScalarValue)) → entries_fit a t ≡ true → entries_fit b t ≡ true → Fits s t (merged_value s a b)
-merged_value_fits IsConstant t a b f g =
-    constant_fits_step t (is_exactly false (entry_value IsConstant a) || is_exactly false (entry_value IsConstant b))
-    (is_exactly true (entry_value IsConstant a) && is_exactly true (entry_value IsConstant b)) (entry_value Min a) (entry_value Min b)
-merged_value_fits IsSorted t a b f g =
-    order_fits_step IsSorted t is_at_most refl refl (is_exactly true (entry_value IsSorted a) && is_exactly true (entry_value IsSorted b)) (present_value (entry_value Max a)) (present_value (entry_value Min b))
-merged_value_fits IsStrictSorted t a b f g =
-    order_fits_step IsStrictSorted t is_below refl refl (is_exactly true (entry_value IsStrictSorted a) && is_exactly true (entry_value IsStrictSorted b)) (present_value (entry_value Max a)) (present_value (entry_value Min b))
-merged_value_fits Max t a b f g = union_fits Max t value_cmp (entry_value Max a) (entry_value Max b) (entry_value-fits Max t a f) (entry_value-fits Max t b g)
-merged_value_fits Min t a b f g = union_fits Min t (flip_args value_cmp) (entry_value Min a) (entry_value Min b) (entry_value-fits Min t a f) (entry_value-fits Min t b g)
-merged_value_fits Sum t a b f g = sum_fits Sum t (entry_value Sum a) (entry_value Sum b) (entry_value-fits Sum t a f)
-merged_value_fits NullCount t a b f g = count_fits NullCount t (entry_value NullCount a) (entry_value NullCount b) (entry_value-fits NullCount t a f)
-merged_value_fits UncompressedSizeInBytes t a b f g =
-    count_fits UncompressedSizeInBytes t (entry_value UncompressedSizeInBytes a) (entry_value UncompressedSizeInBytes b) (entry_value-fits UncompressedSizeInBytes t a f)
-merged_value_fits NaNCount t a b f g = tt
+-- a new value of a statistic fits
+abbrev NewFits : DType → Stat → Option (Precision ScalarValue) → Type 0
+NewFits t s o = IfSome o (λ p. value_fits s t p ≡ true)
 
-revised_fits : (s : Stat) (t : DType) (o : Option (Precision ScalarValue)) (es : List (Stat × Precision ScalarValue)) → Fits s t o → entries_fit es t ≡ true → entries_fit (revised s o es) t ≡ true
-revised_fits s t None es h f = entries_fit_filter _ t es f
-revised_fits s t (Some p) es h f = entries_fit_with_entry s p t es h f
+merged_value-fits : (t : DType) (own other : List (Stat × Precision ScalarValue)) → entries_fit own t ≡ true → entries_fit other t ≡ true
+    → (s : Stat) → NewFits t s (merged_value s own other)
+merged_value-fits t own other h k IsConstant =
+    constant_merged-truth (λ p. value_fits IsConstant t p ≡ true) (λ b. refl) refl (entry_value IsConstant own) (entry_value IsConstant other) (entry_value Min own) (entry_value Min other)
+merged_value-fits t own other h k IsSorted =
+    order_merged-truth (λ p. value_fits IsSorted t p ≡ true) (λ b. refl) refl is_at_most (entry_value IsSorted own) (entry_value IsSorted other) (entry_value Max own) (entry_value Min other)
+merged_value-fits t own other h k IsStrictSorted =
+    order_merged-truth (λ p. value_fits IsStrictSorted t p ≡ true) (λ b. refl) refl is_below
+    (entry_value IsStrictSorted own) (entry_value IsStrictSorted other) (entry_value Max own) (entry_value Min other)
+merged_value-fits t own other h k Max =
+    upper_union-either (λ p. value_fits Max t p ≡ true) value_cmp (entry_value Max own) (entry_value Max other) (entry_value-fits Max t own h) (entry_value-fits Max t other k)
+merged_value-fits t own other h k Min =
+    lower_union-either (λ p. value_fits Min t p ≡ true) value_cmp (entry_value Min own) (entry_value Min other) (entry_value-fits Min t own h) (entry_value-fits Min t other k)
+merged_value-fits t own other h k Sum = sum_merged-fits t (entry_value Sum own) (entry_value Sum other) (entry_value-fits Sum t own h)
+merged_value-fits t own other h k NullCount =
+    count_merged-counts (λ p. value_fits NullCount t p ≡ true) count_in_range count_in_range (entry_value NullCount own) (entry_value NullCount other)
+merged_value-fits t own other h k UncompressedSizeInBytes =
+    count_merged-counts (λ p. value_fits UncompressedSizeInBytes t p ≡ true) count_in_range count_in_range (entry_value UncompressedSizeInBytes own) (entry_value UncompressedSizeInBytes other)
+merged_value-fits t own other h k NaNCount = tt
 
--- a set that fits does so with new values that fit
-all_revised_fit : (v : Stat → Option (Precision ScalarValue)) (t : DType) (es : List (Stat × Precision ScalarValue)) → ((s : Stat) → Fits s t (v s)) → entries_fit es t ≡ true
+unordered_value-fits : (t : DType) (own other : List (Stat × Precision ScalarValue)) → entries_fit own t ≡ true → entries_fit other t ≡ true
+    → (s : Stat) → NewFits t s (unordered_value s own other)
+unordered_value-fits t own other h k IsConstant = merged_value-fits t own other h k IsConstant
+unordered_value-fits t own other h k IsSorted = tt
+unordered_value-fits t own other h k IsStrictSorted = tt
+unordered_value-fits t own other h k Max = merged_value-fits t own other h k Max
+unordered_value-fits t own other h k Min = merged_value-fits t own other h k Min
+unordered_value-fits t own other h k Sum = merged_value-fits t own other h k Sum
+unordered_value-fits t own other h k NullCount = merged_value-fits t own other h k NullCount
+unordered_value-fits t own other h k UncompressedSizeInBytes = merged_value-fits t own other h k UncompressedSizeInBytes
+unordered_value-fits t own other h k NaNCount = tt
+
+revised-fits : (t : DType) (s : Stat) (o : Option (Precision ScalarValue)) (es : List (Stat × Precision ScalarValue)) → NewFits t s o → entries_fit es t ≡ true → entries_fit (revised s o es) t ≡ true
+revised-fits t s (Some p) es f h = entries_fit_with_entry s p t es f h
+revised-fits t s None es f h = entries_fit_filter _ t es h
+
+all_revised-fits : (t : DType) (v : Stat → Option (Precision ScalarValue)) (es : List (Stat × Precision ScalarValue)) → ((s : Stat) → NewFits t s (v s)) → entries_fit es t ≡ true
     → entries_fit (all_revised v es) t ≡ true
-all_revised_fit v t es h f =
-    revised_fits NaNCount t (v NaNCount) _ (h NaNCount) (revised_fits UncompressedSizeInBytes t (v UncompressedSizeInBytes) _ (h UncompressedSizeInBytes)
-    (revised_fits NullCount t (v NullCount) _ (h NullCount) (revised_fits Sum t (v Sum) _ (h Sum) (revised_fits Min t (v Min) _ (h Min)
-    (revised_fits Max t (v Max) _ (h Max) (revised_fits IsStrictSorted t (v IsStrictSorted) _ (h IsStrictSorted)
-    (revised_fits IsSorted t (v IsSorted) _ (h IsSorted) (revised_fits IsConstant t (v IsConstant) es (h IsConstant) f))))))))
+all_revised-fits t v es f h =
+    revised-fits t NaNCount (v NaNCount) _ (f NaNCount) (revised-fits t UncompressedSizeInBytes (v UncompressedSizeInBytes) _ (f UncompressedSizeInBytes)
+    (revised-fits t NullCount (v NullCount) _ (f NullCount) (revised-fits t Sum (v Sum) _ (f Sum) (revised-fits t Min (v Min) _ (f Min) (revised-fits t Max (v Max) _ (f Max)
+    (revised-fits t IsStrictSorted (v IsStrictSorted) _ (f IsStrictSorted) (revised-fits t IsSorted (v IsSorted) _ (f IsSorted) (revised-fits t IsConstant (v IsConstant) es (f IsConstant) h))))))))
 
--- where both sets fit, so does the ordered merge
 pub merged_ordered-fits : (t : DType) (own other : List (Stat × Precision ScalarValue)) → entries_fit own t ≡ true → entries_fit other t ≡ true → entries_fit (merged_ordered own other) t ≡ true
-merged_ordered-fits t own other f g = all_revised_fit (λ s. merged_value s own other) t own (λ s. merged_value_fits s t own other f g) f
-
-unordered_value_fits : (s : Stat) (t : DType) (a b : List (Stat × Precision ScalarValue)) → Fits s t (merged_value s a b) → Fits s t (unordered_value s a b)
-unordered_value_fits IsConstant t a b h = h
-unordered_value_fits IsSorted t a b h = tt
-unordered_value_fits IsStrictSorted t a b h = tt
-unordered_value_fits Max t a b h = h
-unordered_value_fits Min t a b h = h
-unordered_value_fits Sum t a b h = h
-unordered_value_fits NullCount t a b h = h
-unordered_value_fits UncompressedSizeInBytes t a b h = h
-unordered_value_fits NaNCount t a b h = h
+merged_ordered-fits t own other h k = all_revised-fits t (λ s. merged_value s own other) own (merged_value-fits t own other h k) h
 
 pub merged_unordered-fits : (t : DType) (own other : List (Stat × Precision ScalarValue)) → entries_fit own t ≡ true → entries_fit other t ≡ true → entries_fit (merged_unordered own other) t ≡ true
-merged_unordered-fits t own other f g = all_revised_fit (λ s. unordered_value s own other) t own (λ s. unordered_value_fits s t own other (merged_value_fits s t own other f g)) f
+merged_unordered-fits t own other h k = all_revised-fits t (λ s. unordered_value s own other) own (unordered_value-fits t own other h k) h
+
+-- a list that was either merged or left as it was
+pub fits-written : {E : Type 0} (r : Result (Unit {0}) E) (t : DType) (merged own new : List (Stat × Precision ScalarValue)) → entries_fit merged t ≡ true → entries_fit own t ≡ true
+    → OnOk r (new ≡ merged) → OnErr r (new ≡ own) → entries_fit new t ≡ true
+fits-written (Ok u) t merged own new f g h k = subst (λ es. entries_fit es t ≡ true) (sym h) f
+fits-written (Err x) t merged own new f g h k = subst (λ es. entries_fit es t ≡ true) (sym k) g

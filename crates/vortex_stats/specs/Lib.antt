@@ -14,5 +14,7 @@ pub mod Reading
 pub mod MutTypedStats
 pub mod Claims
 pub mod Merges
+pub mod MergeRows
 pub mod Changes
 pub mod Combined
+pub mod CombineSteps

@@ -35,3 +35,7 @@ with_value s p v = record { values = with_entry s p v.values; dtype = v.dtype }
 -- the statistic has no entry from here on
 abbrev pub without_value : Stat → TypedStats → TypedStats
 without_value s v = record { values = without_entry s v.values; dtype = v.dtype }
+
+-- other values under the same type
+abbrev pub with_values : List (Stat × Precision ScalarValue) → TypedStats → TypedStats
+with_values es v = record { values = es; dtype = v.dtype }

@@ -8,6 +8,9 @@ ghost use Rattle.vortex_base.specs.declared.dtype.DType.{DType};
 ghost use Rattle.vortex_stats.specs.declared.stat.Stat.{Stat};
 ghost use Rattle.vortex_stats.specs.Stat.{stat_number, stat_eq, pruning_stats, IsTold, IsColumnType, AgreesWithAggregate};
 ghost use Rattle.vortex_stats.specs.Bitset.{IsBitsetOf, stats_in, distinct_ascending};
+ghost use Rattle.vortex_base.specs.declared.scalar_value.ScalarValue.{ScalarValue};
+ghost use Rattle.vortex_stats.specs.declared.precision.Precision.{Precision};
+ghost use Rattle.vortex_stats.specs.Merges.{merged_ordered, merged_by_steps};
 
 pub mod truth;
 
@@ -61,4 +64,10 @@ pub fn equal_statistics_hash_alike()
 pub fn bitsets_are_read_back()
     ensures { (stats : List Stat) (bytes : List ℕ) → IsBitsetOf stats bytes
         → stats_in bytes ≡ distinct_ascending stats }
+{}
+
+/// The table of a merge is what the statistics give one after the other, in the order of their numbers,
+/// where each step sees what the earlier ones left.
+pub fn merges_go_step_by_step()
+    ensures { (own other : List (Stat × Precision ScalarValue)) → merged_ordered own other ≡ merged_by_steps own other }
 {}

@@ -8,6 +8,7 @@
 pub mod bitset;
 pub mod bound;
 mod chosen;
+mod combine;
 mod entries;
 pub mod error;
 pub mod laws;

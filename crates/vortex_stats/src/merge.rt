@@ -328,19 +328,27 @@ fn change_all(entries: &mut StatsArray, changes: Changes) -> Result<(), AllocErr
 
 impl StatsSet {
     /// The merge in place. Where memory is refused, the set stays as it was.
-    pub(crate) fn append(&mut self, other: &Self) -> Result<(), AllocError>
+    pub(crate) fn append(&mut self, other: &Self, dtype: &DType) -> Result<(), AllocError>
+        requires own_fits { IsTrue (entries_fit self.old dtype.now) }
+        requires other_fits { IsTrue (entries_fit other.now dtype.now) }
         ensures merged { OnOk result (self.new ≡ merged_ordered self.old other.now) }
         ensures refused { OnErr result (self.new ≡ self.old) }
+        ensures fits { IsTrue (entries_fit self.new dtype.now) }
     {
+        let _ = dtype;
         let changes = ordered_changes(self.entries.as_slice(), other.entries.as_slice())?;
         change_all(&mut self.entries, changes)
     }
 
     /// The unordered merge in place. Where memory is refused, the set stays as it was.
-    pub(crate) fn mix(&mut self, other: &Self) -> Result<(), AllocError>
+    pub(crate) fn mix(&mut self, other: &Self, dtype: &DType) -> Result<(), AllocError>
+        requires own_fits { IsTrue (entries_fit self.old dtype.now) }
+        requires other_fits { IsTrue (entries_fit other.now dtype.now) }
         ensures merged { OnOk result (self.new ≡ merged_unordered self.old other.now) }
         ensures refused { OnErr result (self.new ≡ self.old) }
+        ensures fits { IsTrue (entries_fit self.new dtype.now) }
     {
+        let _ = dtype;
         let changes = unordered_changes(self.entries.as_slice(), other.entries.as_slice())?;
         change_all(&mut self.entries, changes)
     }
@@ -356,8 +364,7 @@ impl StatsSet {
         ensures unchanged { IfErr result (λ r. r.set ≡ self) }
         ensures memory { IfErr result (λ r. r.error ≡ Memory alloc_error) }
     {
-        let _ = dtype;
-        match self.append(other) {
+        match self.append(other, dtype) {
             Ok(()) => Ok(self),
             Err(refused) => Err(MergeRefused {
                 error: StatsError::Memory(refused),
@@ -377,8 +384,7 @@ impl StatsSet {
         ensures unchanged { IfErr result (λ r. r.set ≡ self) }
         ensures memory { IfErr result (λ r. r.error ≡ Memory alloc_error) }
     {
-        let _ = dtype;
-        match self.mix(other) {
+        match self.mix(other, dtype) {
             Ok(()) => Ok(self),
             Err(refused) => Err(MergeRefused {
                 error: StatsError::Memory(refused),

@@ -4,6 +4,9 @@
 mod bitsets;
 mod bounds;
 mod callers;
+mod combinations;
+mod merge_rows;
+mod merges;
 mod precisions;
 mod refused;
 mod sets;

@@ -1,11 +1,15 @@
 //! Views of a set under the type of its column, which its values fit.
-ghost use Rattle.std.specs.Prelude.{◌≡◌, IfOk, OnOk, OnErr, IsOk, IsTrue};
+ghost use Rattle.std.specs.Prelude.{◌≡◌, IfOk, IfErr, OnOk, OnErr, IsOk, IsTrue, alloc_error};
+ghost use Rattle.vortex_stats.specs.declared.error.StatsError.TheVariants.{Memory};
+ghost use Rattle.vortex_stats.specs.Merges.{merged_ordered, merged_unordered};
+ghost use Rattle.vortex_stats.specs.Combined.{combined, Combines};
+ghost use Rattle.std.specs.Borrow.{sem};
 ghost use Rattle.vortex_base.specs.Values.{is_value};
 ghost use Rattle.vortex_stats.specs.Precision.{is_present, precision_map, IfPresent};
 ghost use Rattle.vortex_stats.specs.Scalars.{scalar_of};
 ghost use Rattle.vortex_stats.specs.Reading.{IsReadFrom};
 ghost use Rattle.vortex_stats.specs.Entries.{entry_value, entries_fit, value_fits, has_entry};
-ghost use Rattle.vortex_stats.specs.TypedStats.{typed_value, with_value, without_value, AreFitting};
+ghost use Rattle.vortex_stats.specs.TypedStats.{typed_value, with_value, without_value, with_values, AreFitting};
 
 use crate::error::StatsError;
 use crate::precision::Precision;
@@ -203,6 +207,53 @@ impl<'a> MutTypedStatsSetRef<'a> {
             Some(expected) => reading::read_precision(self.values.find(stat), expected),
             None => Ok(Precision::Absent),
         }
+    }
+}
+
+#[tactic(auto, using(crate::proofs::Fitting::fitting))]
+impl<'a> MutTypedStatsSetRef<'a> {
+    ghost use Rattle.vortex_stats.specs.MutTypedStats.{typed_stats, rests_if_refused};
+
+    /// The statistics of the array of this set followed by the array of the other, which is viewed under
+    /// the same type. `Memory` if a growth or a clone is refused, and then the set that was borrowed is
+    /// as it was.
+    pub fn merge_ordered(self, other: &TypedStatsSetRef<'_>) -> Result<Self, StatsError>
+        requires { other.now.dtype ≡ (typed_stats self).dtype }
+        ensures merged { IfOk result (λ view. typed_stats view ≡ with_values (merged_ordered (typed_stats self.entry).values other.now.values) (typed_stats self.entry)) }
+        ensures same_set { IfOk result (λ view. view.values.ghost_name ≡ self.entry.values.ghost_name) }
+        ensures* unchanged { sem 𝓛 (rests_if_refused self.entry result) }
+        ensures memory { IfErr result (λ e. e ≡ Memory alloc_error) }
+    {
+        let MutTypedStatsSetRef { values, dtype } = self;
+        values.append(other.values(), &dtype)?;
+        Ok(MutTypedStatsSetRef { values, dtype })
+    }
+
+    /// The statistics of any arrangement of the rows of both arrays; the other set is viewed under the
+    /// same type. `Memory` if a growth or a clone is refused, and then the set that was borrowed is as
+    /// it was.
+    pub fn merge_unordered(self, other: &TypedStatsSetRef<'_>) -> Result<Self, StatsError>
+        requires { other.now.dtype ≡ (typed_stats self).dtype }
+        ensures merged { IfOk result (λ view. typed_stats view ≡ with_values (merged_unordered (typed_stats self.entry).values other.now.values) (typed_stats self.entry)) }
+        ensures same_set { IfOk result (λ view. view.values.ghost_name ≡ self.entry.values.ghost_name) }
+        ensures* unchanged { sem 𝓛 (rests_if_refused self.entry result) }
+        ensures memory { IfErr result (λ e. e ≡ Memory alloc_error) }
+    {
+        let MutTypedStatsSetRef { values, dtype } = self;
+        values.mix(other.values(), &dtype)?;
+        Ok(MutTypedStatsSetRef { values, dtype })
+    }
+
+    /// Combines what another set, viewed under the same type, tells of the same array. `Conflict` if two
+    /// values of a statistic contradict each other, and then the other set's earlier entries stay
+    /// combined; `Memory` if a growth or a clone is refused, and then the set stays as it was.
+    pub fn combine_sets(&mut self, other: &TypedStatsSetRef<'_>) -> Result<(), StatsError>
+        requires { other.now.dtype ≡ (typed_stats self.old).dtype }
+        ensures combined { Combines (combined (typed_stats self.old).values other.now.values) (typed_stats self.old).values (typed_stats self.new).values result }
+        ensures same_type { (typed_stats self.new).dtype ≡ (typed_stats self.old).dtype }
+        ensures same_set { self.new.values.ghost_name ≡ self.old.values.ghost_name }
+    {
+        self.values.combine_sets(other.values(), &self.dtype)
     }
 }
 

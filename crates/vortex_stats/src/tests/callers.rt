@@ -1,7 +1,10 @@
 //! Callers that know a set by its list alone.
-ghost use Rattle.std.specs.Prelude.{◌≡◌, IfOk, IsTrue, length, map};
+ghost use Rattle.std.specs.Prelude.{◌≡◌, IfOk, OnOk, OnErr, IsTrue, length, map};
+ghost use Rattle.vortex_stats.specs.Merges.{merged_ordered, merged_unordered};
+ghost use Rattle.vortex_stats.specs.Combined.{combined, Combines};
 ghost use Rattle.vortex_stats.specs.Entries.{entries_fit, without_entry};
 
+use crate::error::StatsError;
 use crate::precision::Precision;
 use crate::stat::Stat;
 use crate::stats_set::StatsSet;
@@ -58,4 +61,50 @@ pub fn cleared_through_view(set: &mut StatsSet, dtype: &DType, stat: Stat)
 {
     let mut view = set.as_mut_typed_ref(dtype);
     view.clear(stat);
+}
+
+/// What is merged through a view is merged into the set, and a refusal leaves the set as it was.
+pub fn merged_through_view(
+    set: &mut StatsSet,
+    other: &StatsSet,
+    dtype: &DType,
+) -> Result<(), StatsError>
+    requires own_fits { IsTrue (entries_fit set.old dtype.now) }
+    requires other_fits { IsTrue (entries_fit other.now dtype.now) }
+    ensures merged { OnOk result (set.new ≡ merged_ordered set.old other.now) }
+    ensures refused { OnErr result (set.new ≡ set.old) }
+{
+    let view = set.as_mut_typed_ref(dtype);
+    let _merged = view.merge_ordered(&other.as_typed_ref(dtype))?;
+    Ok(())
+}
+
+/// The same where the order of the rows isn't known.
+pub fn mixed_through_view(
+    set: &mut StatsSet,
+    other: &StatsSet,
+    dtype: &DType,
+) -> Result<(), StatsError>
+    requires own_fits { IsTrue (entries_fit set.old dtype.now) }
+    requires other_fits { IsTrue (entries_fit other.now dtype.now) }
+    ensures merged { OnOk result (set.new ≡ merged_unordered set.old other.now) }
+    ensures refused { OnErr result (set.new ≡ set.old) }
+{
+    let view = set.as_mut_typed_ref(dtype);
+    let _merged = view.merge_unordered(&other.as_typed_ref(dtype))?;
+    Ok(())
+}
+
+/// What is combined through a view is combined in the set.
+pub fn combined_through_view(
+    set: &mut StatsSet,
+    other: &StatsSet,
+    dtype: &DType,
+) -> Result<(), StatsError>
+    requires own_fits { IsTrue (entries_fit set.old dtype.now) }
+    requires other_fits { IsTrue (entries_fit other.now dtype.now) }
+    ensures { Combines (combined set.old other.now) set.old set.new result }
+{
+    let mut view = set.as_mut_typed_ref(dtype);
+    view.combine_sets(&other.as_typed_ref(dtype))
 }

@@ -1,0 +1,6 @@
+use Rattle.std.proofs.Common.{sym}
+use Rattle.vortex_stats.proofs.Revisions.{merged_ordered-by_steps}
+use Rattle.vortex_stats.proofs.laws.merges_go_step_by_step.Goals as goal
+
+pub returns : goal.returns
+returns c = λ own other. sym (merged_ordered-by_steps own other)

@@ -1,6 +1,0 @@
-use Rattle.vortex_stats.proofs.MergedFits.{merged_ordered-fits}
-use Rattle.vortex_stats.proofs.stats_set.StatsSet.merge_ordered.Goals as goal
-
-pub returns-in-Ok-clause-fits : goal.returns-in-Ok-clause-fits
-returns-in-Ok-clause-fits c =
-    rw c.in-Ok.ensures.merged (merged_ordered-fits c.args.dtype.now c.args.self c.args.other.now c.requires.own_fits c.requires.other_fits)
