@@ -191,7 +191,7 @@ all_changed-made c v own p none m =
     let first = revised IsConstant c.is_constant own in
     made_in_turn v own
     ((IsSorted, c.is_sorted) ∷ (IsStrictSorted, c.is_strict_sorted) ∷ (Max, c.max) ∷ (Min, c.min) ∷ (Sum, c.sum) ∷ (NullCount, c.null_count)
-        ∷ (UncompressedSizeInBytes, c.uncompressed_size_in_bytes) ∷ (NaNCount, Cleared) ∷ [])
+    ∷ (UncompressedSizeInBytes, c.uncompressed_size_in_bytes) ∷ (NaNCount, Cleared) ∷ [])
     1 first p (lit≤ tt)
     (refl, m.is_sorted, (refl, m.is_strict_sorted, (refl, m.max, (refl, m.min, (refl, m.sum, (refl, m.null_count, (refl, m.uncompressed_size_in_bytes, (refl, sym none, tt))))))))
     (agrees_on IsConstant c.is_constant own own (λ t h. refl))

@@ -102,7 +102,9 @@ fn met_value(
         Stat::Min => combine_values::<stat::Min>(own, other),
         Stat::Sum => combine_values::<stat::Sum>(own, other),
         Stat::NullCount => combine_values::<stat::NullCount>(own, other),
-        Stat::UncompressedSizeInBytes => combine_values::<stat::UncompressedSizeInBytes>(own, other),
+        Stat::UncompressedSizeInBytes => combine_values::<stat::UncompressedSizeInBytes>(
+            own, other,
+        ),
         Stat::NaNCount => combine_values::<stat::NaNCount>(own, other),
     }
 }

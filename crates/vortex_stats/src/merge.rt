@@ -123,7 +123,9 @@ fn at_seam(
 fn is_sorted_value(own: &[Entry], other: &[Entry]) -> Option<Precision<ScalarValue>>
     ensures { result ≡ merged_value stats.IsSorted own.now other.now }
 {
-    if is_exactly(true, find(own, Stat::IsSorted)) && is_exactly(true, find(other, Stat::IsSorted)) {
+    if is_exactly(true, find(own, Stat::IsSorted))
+        && is_exactly(true, find(other, Stat::IsSorted))
+    {
         at_seam(find(own, Stat::Max), find(other, Stat::Min), false)
     } else {
         None
@@ -134,7 +136,9 @@ fn is_sorted_value(own: &[Entry], other: &[Entry]) -> Option<Precision<ScalarVal
 fn is_strict_sorted_value(own: &[Entry], other: &[Entry]) -> Option<Precision<ScalarValue>>
     ensures { result ≡ merged_value stats.IsStrictSorted own.now other.now }
 {
-    if is_exactly(true, find(own, Stat::IsStrictSorted)) && is_exactly(true, find(other, Stat::IsStrictSorted)) {
+    if is_exactly(true, find(own, Stat::IsStrictSorted))
+        && is_exactly(true, find(other, Stat::IsStrictSorted))
+    {
         at_seam(find(own, Stat::Max), find(other, Stat::Min), true)
     } else {
         None
@@ -183,20 +187,16 @@ fn sum_of(own: &ScalarValue, other: &ScalarValue) -> Option<Precision<ScalarValu
     ensures { result ≡ sum_added own.now other.now }
 {
     match (own, other) {
-        (
-            ScalarValue::Primitive(PValue::I64(m)),
-            ScalarValue::Primitive(PValue::I64(n)),
-        ) => match m.checked_add(*n) {
-            Some(sum) => Some(Precision::Exact(ScalarValue::from(sum))),
-            None => None,
-        },
-        (
-            ScalarValue::Primitive(PValue::U64(m)),
-            ScalarValue::Primitive(PValue::U64(n)),
-        ) => match m.checked_add(*n) {
-            Some(sum) => Some(Precision::Exact(ScalarValue::from(sum))),
-            None => None,
-        },
+        (ScalarValue::Primitive(PValue::I64(m)), ScalarValue::Primitive(PValue::I64(n))) =>
+            match m.checked_add(*n) {
+                Some(sum) => Some(Precision::Exact(ScalarValue::from(sum))),
+                None => None,
+            },
+        (ScalarValue::Primitive(PValue::U64(m)), ScalarValue::Primitive(PValue::U64(n))) =>
+            match m.checked_add(*n) {
+                Some(sum) => Some(Precision::Exact(ScalarValue::from(sum))),
+                None => None,
+            },
         _ => None,
     }
 }
@@ -212,23 +212,31 @@ fn sum_value(own: &[Entry], other: &[Entry]) -> Option<Precision<ScalarValue>>
 }
 
 /// The sum of two counts, where it stays below 2 ^ 64.
-fn sum_of_counts(own: &ScalarValue, other: &ScalarValue, is_exact: bool) -> Option<Precision<ScalarValue>>
+fn sum_of_counts(
+    own: &ScalarValue,
+    other: &ScalarValue,
+    is_exact: bool,
+) -> Option<Precision<ScalarValue>>
     ensures { result ≡ count_added (λ v. if is_exact then precise.Exact v else precise.Inexact v) own.now other.now }
 {
     match (own, other) {
-        (
-            ScalarValue::Primitive(PValue::U64(m)),
-            ScalarValue::Primitive(PValue::U64(n)),
-        ) => {
+        (ScalarValue::Primitive(PValue::U64(m)), ScalarValue::Primitive(PValue::U64(n))) => {
             let sum = ScalarValue::from(m.checked_add(*n)?);
-            Some(if is_exact { Precision::Exact(sum) } else { Precision::Inexact(sum) })
+            Some(if is_exact {
+                Precision::Exact(sum)
+            } else {
+                Precision::Inexact(sum)
+            })
         }
         _ => None,
     }
 }
 
 /// NullCount and UncompressedSizeInBytes: the sum, exact of two exact ones.
-fn count_value(own: Precision<&ScalarValue>, other: Precision<&ScalarValue>) -> Option<Precision<ScalarValue>>
+fn count_value(
+    own: Precision<&ScalarValue>,
+    other: Precision<&ScalarValue>,
+) -> Option<Precision<ScalarValue>>
     ensures { result ≡ count_merged (precision_map (λ v. v.now) own.entry) (precision_map (λ v. v.now) other.entry) }
 {
     match own.zip(other) {
@@ -262,7 +270,10 @@ fn ordered_changes(own: &[Entry], other: &[Entry]) -> Result<Changes, AllocError
         max: max_change(own, other)?,
         min: min_change(own, other)?,
         sum: Change::of(sum_value(own, other)),
-        null_count: Change::of(count_value(find(own, Stat::NullCount), find(other, Stat::NullCount))),
+        null_count: Change::of(count_value(
+            find(own, Stat::NullCount),
+            find(other, Stat::NullCount),
+        )),
         uncompressed_size_in_bytes: Change::of(count_value(
             find(own, Stat::UncompressedSizeInBytes),
             find(other, Stat::UncompressedSizeInBytes),
@@ -321,7 +332,11 @@ fn change_all(entries: &mut StatsArray, changes: Changes) -> Result<(), AllocErr
     change_entry(entries, Stat::Min, changes.min);
     change_entry(entries, Stat::Sum, changes.sum);
     change_entry(entries, Stat::NullCount, changes.null_count);
-    change_entry(entries, Stat::UncompressedSizeInBytes, changes.uncompressed_size_in_bytes);
+    change_entry(
+        entries,
+        Stat::UncompressedSizeInBytes,
+        changes.uncompressed_size_in_bytes,
+    );
     entries::remove(entries, Stat::NaNCount);
     Ok(())
 }

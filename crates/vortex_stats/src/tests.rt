@@ -9,6 +9,7 @@ mod merge_rows;
 mod merges;
 mod precisions;
 mod refused;
+mod refused_merges;
 mod sets;
 mod stats;
 mod views;

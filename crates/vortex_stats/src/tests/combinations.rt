@@ -70,9 +70,23 @@ fn truths(rt: HostRuntime) -> Result<(), Fail> {
     assert!(rt; combines(alloc, holds(), constant(inexact(false)), holds(), None)?);
     let fails = || constant(exact(false));
     assert!(rt; combines(alloc, fails(), constant(inexact(false)), fails(), None)?);
-    assert!(rt; combines(alloc, fails(), constant(inexact(true)), constant(inexact(false)), None)?);
-    let first = || [(Stat::IsConstant, exact(true)), (Stat::IsSorted, exact(true))];
-    let other = [(Stat::IsConstant, exact(false)), (Stat::IsSorted, exact(true))];
+    assert!(rt;
+        combines(
+            alloc,
+            fails(),
+            constant(inexact(true)),
+            constant(inexact(false)),
+            None
+        )?
+    );
+    let first = || [
+        (Stat::IsConstant, exact(true)),
+        (Stat::IsSorted, exact(true)),
+    ];
+    let other = [
+        (Stat::IsConstant, exact(false)),
+        (Stat::IsSorted, exact(true)),
+    ];
     assert!(rt; combines(alloc, first(), other, first(), Some(Stat::IsConstant))?);
     Ok(())
 }
@@ -83,10 +97,34 @@ fn bounds(rt: HostRuntime) -> Result<(), Fail> {
     let max = |value: Precision<ScalarValue>| [(Stat::Max, value)];
     assert!(rt; combines(alloc, max(exact(5)), max(inexact(7)), max(exact(5)), None)?);
     assert!(rt; combines(alloc, max(inexact(7)), max(exact(5)), max(exact(5)), None)?);
-    assert!(rt; combines(alloc, max(inexact(5)), max(exact(7)), max(inexact(5)), Some(Stat::Max))?);
-    assert!(rt; combines(alloc, max(inexact(7)), max(inexact(5)), max(inexact(5)), None)?);
+    assert!(rt;
+        combines(
+            alloc,
+            max(inexact(5)),
+            max(exact(7)),
+            max(inexact(5)),
+            Some(Stat::Max)
+        )?
+    );
+    assert!(rt;
+        combines(
+            alloc,
+            max(inexact(7)),
+            max(inexact(5)),
+            max(inexact(5)),
+            None
+        )?
+    );
     let sum = |value: Precision<ScalarValue>| [(Stat::Sum, value)];
-    assert!(rt; combines(alloc, sum(exact(1i64)), sum(exact(2i64)), sum(exact(1i64)), Some(Stat::Sum))?);
+    assert!(rt;
+        combines(
+            alloc,
+            sum(exact(1i64)),
+            sum(exact(2i64)),
+            sum(exact(1i64)),
+            Some(Stat::Sum)
+        )?
+    );
     Ok(())
 }
 

@@ -52,7 +52,7 @@ fn strict_order_at_the_seam()
 /// Without an order of the rows nothing is known of their order.
 fn unordered_merge()
     ensures { let set = (stats.Min, Exact (i32 1)) ∷ (stats.Max, Exact (i32 10000)) ∷ (stats.NullCount, Exact (u64 2)) ∷ (stats.UncompressedSizeInBytes, Exact (u64 25)) ∷ (stats.IsConstant, fails) ∷ (stats.IsSorted, holds) ∷ (stats.IsStrictSorted, holds) ∷ [] in
-      merged_unordered set set ≡ (stats.Min, Exact (i32 1)) ∷ (stats.Max, Exact (i32 10000)) ∷ (stats.NullCount, Exact (u64 4)) ∷ (stats.UncompressedSizeInBytes, Exact (u64 50)) ∷ (stats.IsConstant, fails) ∷ [] }
+        merged_unordered set set ≡ (stats.Min, Exact (i32 1)) ∷ (stats.Max, Exact (i32 10000)) ∷ (stats.NullCount, Exact (u64 4)) ∷ (stats.UncompressedSizeInBytes, Exact (u64 50)) ∷ (stats.IsConstant, fails) ∷ [] }
 {}
 
 /// A conflict leaves the earlier entries combined.

@@ -96,8 +96,22 @@ fn overflowing_sums(rt: HostRuntime) -> Result<(), Fail> {
     let all = || [(Stat::Sum, exact(u64::MAX))];
     assert!(rt; merges_under(alloc, &U8, all(), [(Stat::Sum, exact(1u64))], [])?);
     assert!(rt; merges_under(alloc, &U8, all(), [(Stat::Sum, exact(0u64))], all())?);
-    assert!(rt; merges(alloc, [(Stat::Sum, exact(37i64))], [(Stat::Sum, exact(42i64))], [(Stat::Sum, exact(79i64))])?);
-    assert!(rt; merges(alloc, [(Stat::Sum, exact(37i64))], [(Stat::Sum, inexact(42i64))], [])?);
+    assert!(rt;
+        merges(
+            alloc,
+            [(Stat::Sum, exact(37i64))],
+            [(Stat::Sum, exact(42i64))],
+            [(Stat::Sum, exact(79i64))]
+        )?
+    );
+    assert!(rt;
+        merges(
+            alloc,
+            [(Stat::Sum, exact(37i64))],
+            [(Stat::Sum, inexact(42i64))],
+            []
+        )?
+    );
     Ok(())
 }
 
@@ -105,10 +119,38 @@ fn overflowing_sums(rt: HostRuntime) -> Result<(), Fail> {
 fn overflowing_counts(rt: HostRuntime) -> Result<(), Fail> {
     let alloc = rt.alloc();
     for stat in [Stat::NullCount, Stat::UncompressedSizeInBytes] {
-        assert!(rt; merges(alloc, [(stat, inexact(u64::MAX))], [(stat, exact(1u64))], [])?);
-        assert!(rt; merges(alloc, [(stat, exact(u64::MAX))], [(stat, exact(0u64))], [(stat, exact(u64::MAX))])?);
-        assert!(rt; merges(alloc, [(stat, exact(3u64))], [(stat, inexact(4u64))], [(stat, inexact(7u64))])?);
-        assert!(rt; merges(alloc, [(stat, inexact(3u64))], [(stat, exact(4u64))], [(stat, inexact(7u64))])?);
+        assert!(rt;
+            merges(
+                alloc,
+                [(stat, inexact(u64::MAX))],
+                [(stat, exact(1u64))],
+                []
+            )?
+        );
+        assert!(rt;
+            merges(
+                alloc,
+                [(stat, exact(u64::MAX))],
+                [(stat, exact(0u64))],
+                [(stat, exact(u64::MAX))]
+            )?
+        );
+        assert!(rt;
+            merges(
+                alloc,
+                [(stat, exact(3u64))],
+                [(stat, inexact(4u64))],
+                [(stat, inexact(7u64))]
+            )?
+        );
+        assert!(rt;
+            merges(
+                alloc,
+                [(stat, inexact(3u64))],
+                [(stat, exact(4u64))],
+                [(stat, inexact(7u64))]
+            )?
+        );
         assert!(rt; merges(alloc, [(stat, exact(3u64))], [], [])?);
         assert!(rt; merges(alloc, [], [(stat, exact(3u64))], [])?);
     }
@@ -122,8 +164,22 @@ fn constants_that_differ(rt: HostRuntime) -> Result<(), Fail> {
         [(Stat::Min, min), (Stat::IsConstant, is_constant)]
     };
     let first = || constant(exact(42), exact(true));
-    assert!(rt; merges(alloc, first(), constant(inexact(42), exact(true)), [(Stat::Min, exact(42))])?);
-    assert!(rt; merges(alloc, first(), constant(exact(7), exact(true)), constant(exact(7), exact(false)))?);
+    assert!(rt;
+        merges(
+            alloc,
+            first(),
+            constant(inexact(42), exact(true)),
+            [(Stat::Min, exact(42))]
+        )?
+    );
+    assert!(rt;
+        merges(
+            alloc,
+            first(),
+            constant(exact(7), exact(true)),
+            constant(exact(7), exact(false))
+        )?
+    );
     assert!(rt; merges(alloc, first(), first(), first())?);
     let varied = || constant(exact(42), exact(false));
     assert!(rt; merges(alloc, varied(), first(), varied())?);
@@ -180,7 +236,14 @@ fn strict_order_at_the_seam(rt: HostRuntime) -> Result<(), Fail> {
     let kept = || [(Stat::IsStrictSorted, exact(true))];
     let lost = || [(Stat::IsStrictSorted, inexact(false))];
     let first = || strict(Stat::Max, exact(1));
-    assert!(rt; merges(alloc, strict(Stat::Max, exact(2)), strict(Stat::Min, exact(1)), lost())?);
+    assert!(rt;
+        merges(
+            alloc,
+            strict(Stat::Max, exact(2)),
+            strict(Stat::Min, exact(1)),
+            lost()
+        )?
+    );
     assert!(rt; merges(alloc, first(), strict(Stat::Min, exact(1)), lost())?);
     assert!(rt; merges(alloc, first(), strict(Stat::Min, inexact(2)), kept())?);
     assert!(rt; merges(alloc, first(), strict(Stat::Min, exact(2)), kept())?);

@@ -39,5 +39,5 @@ returns-in_default c =
     let other_absent : is_absent other ≡ false = absent_map (λ v. v.now) c.as_ref-other.result ∙ sym c.is_absent.ensures ∙ c.if-is_absent.false in
     record {
       step = met_kept c.args.entry.now.0 (entry_value c.args.entry.now.0 c.args.work.now) c.args.entry.now.1 own other c.args.work.now c.find-own.ensures c.as_ref-other.ensures own_absent other_absent
-          (c.in_ok-value.ensures ∙ ap Ok c.in_default.is)
+          (c.in_ok-value.ensures ∙ ap Ok c.in_default.is);
     }

@@ -10,7 +10,7 @@ returns-in-Some c =
     let at : position (is_entry_of c.args.stat) es ≡ Some c.in-Some.i = ap (position (is_entry_of c.args.stat)) (sym c.as_slice.ensures) ∙ sym c.in-Some.ensures in
     rw (c.write_at.ensures, c.as_mut_slice.ensures.value)
     (set_refilled es c.in-Some.i (c.args.stat, c.args.value) ∙ sym (with_entry-from_place c.args.stat c.args.value es c.in-Some.i at)
-        ∙ sym (ap (λ b. cond b (with_entry c.args.stat c.args.value es) es) (has_entry-from_place c.args.stat c.args.value es c.in-Some.i at)))
+    ∙ sym (ap (λ b. cond b (with_entry c.args.stat c.args.value es) es) (has_entry-from_place c.args.stat c.args.value es c.in-Some.i at)))
 
 pub returns-in_default : goal.returns-in_default
 returns-in_default c =
