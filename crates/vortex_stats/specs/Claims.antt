@@ -6,6 +6,7 @@ use Rattle.vortex_base.specs.declared.pvalue.PValue.TheVariants as number
 use Rattle.vortex_base.specs.declared.scalar_value.ScalarValue.{ScalarValue}
 use Rattle.vortex_base.specs.declared.scalar_value.ScalarValue.TheVariants as value
 use Rattle.vortex_base.specs.Columns.{ColumnData}
+pub use Rattle.vortex_base.specs.Columns.{appended}
 use Rattle.vortex_base.specs.Scalars.{optional_value_eq}
 use Rattle.vortex_base.specs.Values.{value_cmp, whole}
 use Rattle.vortex_stats.specs.declared.stat.Stat.{Stat}
@@ -112,10 +113,6 @@ pub record IsTrueOf (entries : List (Stat × Precision ScalarValue)) (column : C
   pub claims : (s : Stat) → Claims s (entry_value s entries) column
 
 -- ---- columns made of columns
-
--- the values of one column after those of another, with the sizes added
-abbrev pub appended : ColumnData → ColumnData → ColumnData
-appended c d = record { dtype = c.dtype; values = c.values ++ d.values; size = c.size + d.size }
 
 -- the same type and size, and the same optional values in another order
 pub record IsReordered (c d : ColumnData) : Type 0 where
