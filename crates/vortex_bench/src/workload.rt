@@ -1,0 +1,65 @@
+// The workloads.
+use std::alloc::{AllocError, Global};
+use vortex_base::bound;
+use vortex_base::chunk::Chunk;
+use vortex_base::column::Column;
+use vortex_base::dtype::DType;
+use vortex_base::error::BaseError;
+use vortex_base::evaluate::evaluate;
+use vortex_base::like::LikeOptions;
+use vortex_base::nullability::Nullability;
+use vortex_base::ptype::PType;
+use vortex_base::scalar_value::ScalarValue;
+use vortex_base::scope::Scope;
+
+const NUMBER: DType = DType::Primitive(PType::I64, Nullability::NonNullable);
+
+const TEXTS: u32 = 100;
+
+const LETTERS: u32 = 20_000;
+
+const ROWS: i64 = 1_000_000;
+
+/// How many of some texts of `a` alone match patterns that end in another letter: none.
+pub fn count_like(alloc: Global) -> Result<usize, AllocError> {
+    let mut text = String::new(alloc);
+    for _ in 0..LETTERS {
+        text.push_str("a")?;
+    }
+    let options = LikeOptions {
+        negated: false,
+        case_insensitive: false,
+    };
+    let matched = (0..TEXTS).filter(|_| options.matches(text.as_str(), "%a%a%a%a%b"));
+    Ok(matched.count())
+}
+
+// The numbers from 0 on, or as far below 0.
+fn numbers(alloc: Global, is_ascending: bool) -> Result<Column, BaseError> {
+    let mut values = Vec::new(alloc);
+    for n in 0..ROWS {
+        let value = if is_ascending { n } else { n.wrapping_neg() };
+        values.push(Some(ScalarValue::from(value)))?;
+    }
+    Column::try_new(NUMBER, values, 0)
+}
+
+/// On how many rows the first of two columns is above the second.
+pub fn count_evaluated(alloc: Global) -> Result<usize, BaseError> {
+    let first = (String::from_str(alloc, "a")?, NUMBER);
+    let second = (String::from_str(alloc, "b")?, NUMBER);
+    let scope = Scope::try_new(vec![in alloc; first, second]?)?;
+    let columns = vec![in alloc; numbers(alloc, true)?, numbers(alloc, false)?]?;
+    let chunk = Chunk::try_new(scope, columns)?;
+    let left = bound::col(alloc, 0, NUMBER)?;
+    let right = bound::col(alloc, 1, NUMBER)?;
+    let predicate = bound::gt(alloc, left, right)?;
+    let mut selected = Vec::new(alloc);
+    for row in 0..chunk.rows() {
+        let value = evaluate(&predicate, &chunk.row(row), chunk.rows() as u64)?;
+        if matches!(value, Some(ScalarValue::Bool(true))) {
+            selected.push(row)?;
+        }
+    }
+    Ok(selected.len())
+}
