@@ -44,7 +44,8 @@ fn combine_values<'a, S: StatType<&'a ScalarValue>>(
     own: Precision<&'a ScalarValue>,
     other: Precision<&'a ScalarValue>,
 ) -> Result<Option<Precision<ScalarValue>>, StatsError>
-    ensures { IsAnswerOrMemory (meeting S.STAT (option_map (intersection_map (precision_map (λ v. v.now))) (S.Bound.intersection own.entry other.entry))) result }
+    ensures { IsAnswerOrMemory (meeting S.STAT (option_map (intersection_map (precision_map (λ v. v.now)))
+        (S.Bound.intersection own.entry other.entry))) result }
 {
     match combine::<&'a ScalarValue, S>(own, other)? {
         Some(value) => Ok(Some(value.cloned()?)),
@@ -72,7 +73,10 @@ fn combine_truths<S: StatType<bool>>(
 ) -> Result<Option<Precision<ScalarValue>>, StatsError>
     requires own_truth { IfPresent own (λ v. IsTrue (is_value v.now (types.Bool NonNullable))) }
     requires other_truth { IfPresent other (λ v. IsTrue (is_value v.now (types.Bool NonNullable))) }
-    ensures { IsAnswerOrMemory (meeting S.STAT (option_map (intersection_map (precision_map scalars.Bool)) (S.Bound.intersection (truth_value (precision_map (λ v. v.now) own.entry)) (truth_value (precision_map (λ v. v.now) other.entry))))) result }
+    ensures { let own_truth = truth_value (precision_map (λ v. v.now) own.entry) in
+        let other_truth = truth_value (precision_map (λ v. v.now) other.entry) in
+        IsAnswerOrMemory (meeting S.STAT (option_map (intersection_map (precision_map scalars.Bool))
+        (S.Bound.intersection own_truth other_truth))) result }
 {
     match combine::<bool, S>(truth_of(own), truth_of(other))? {
         Some(Precision::Exact(holds)) => Ok(Some(Precision::Exact(ScalarValue::Bool(holds)))),
@@ -91,7 +95,8 @@ fn met_value(
 ) -> Result<Option<Precision<ScalarValue>>, StatsError>
     requires own_fits { IsTrue (value_fits stat dtype.now (precision_map (λ v. v.now) own)) }
     requires other_fits { IsTrue (value_fits stat dtype.now (precision_map (λ v. v.now) other)) }
-    ensures { IsAnswerOrMemory (meeting stat (intersection_of stat (precision_map (λ v. v.now) own.entry) (precision_map (λ v. v.now) other.entry))) result }
+    ensures { IsAnswerOrMemory (meeting stat (intersection_of stat (precision_map (λ v. v.now) own.entry)
+        (precision_map (λ v. v.now) other.entry))) result }
 {
     let _ = dtype;
     match stat {

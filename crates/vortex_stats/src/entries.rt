@@ -71,7 +71,8 @@ pub(crate) fn put(
 
 /// The statistic's entry, if there is one, has this value from here on.
 pub(crate) fn replace(entries: &mut StatsArray, stat: Stat, value: Precision<ScalarValue>)
-    ensures { entries.new.items ≡ (if has_entry stat entries.old.items then with_entry stat value entries.old.items else entries.old.items) }
+    ensures { let old = entries.old.items in
+        entries.new.items ≡ (if has_entry stat old then with_entry stat value old else old) }
 {
     if let Some(i) = place(entries.as_slice(), stat) {
         write_at(entries.as_mut_slice(), i, (stat, value));

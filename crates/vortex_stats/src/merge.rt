@@ -111,7 +111,9 @@ fn at_seam(
     min: Precision<&ScalarValue>,
     is_strict: bool,
 ) -> Option<Precision<ScalarValue>>
-    ensures { result ≡ at_seam (if is_strict then is_below else is_at_most) (present_value (precision_map (λ v. v.now) max.entry)) (present_value (precision_map (λ v. v.now) min.entry)) }
+    ensures { result ≡ at_seam (if is_strict then is_below else is_at_most)
+        (present_value (precision_map (λ v. v.now) max.entry))
+        (present_value (precision_map (λ v. v.now) min.entry)) }
 {
     match (max.into_inner(), min.into_inner()) {
         (Some(max), Some(min)) => Some(seam(may_precede(max, min, is_strict))),
@@ -150,7 +152,8 @@ fn bound_change(
     own: Precision<&ScalarValue>,
     bound: Precision<&ScalarValue>,
 ) -> Result<Change, AllocError>
-    ensures { IfOk result (λ c. made c (precision_map (λ v. v.now) own.entry) ≡ Some (precision_map (λ v. v.now) bound.entry)) }
+    ensures { IfOk result (λ c. made c (precision_map (λ v. v.now) own.entry)
+        ≡ Some (precision_map (λ v. v.now) bound.entry)) }
 {
     if bound == own {
         return Ok(Change::Kept);
@@ -160,7 +163,8 @@ fn bound_change(
 
 /// Max: the union of two upper bounds.
 fn max_change(own: &[Entry], other: &[Entry]) -> Result<Change, AllocError>
-    ensures { IfOk result (λ c. made c (entry_value stats.Max own.now) ≡ merged_value stats.Max own.now other.now) }
+    ensures { IfOk result (λ c. made c (entry_value stats.Max own.now)
+        ≡ merged_value stats.Max own.now other.now) }
 {
     let value = find(own, Stat::Max);
     let first = UpperBound::lift(value);
@@ -172,7 +176,8 @@ fn max_change(own: &[Entry], other: &[Entry]) -> Result<Change, AllocError>
 
 /// Min: the union of two lower bounds.
 fn min_change(own: &[Entry], other: &[Entry]) -> Result<Change, AllocError>
-    ensures { IfOk result (λ c. made c (entry_value stats.Min own.now) ≡ merged_value stats.Min own.now other.now) }
+    ensures { IfOk result (λ c. made c (entry_value stats.Min own.now)
+        ≡ merged_value stats.Min own.now other.now) }
 {
     let value = find(own, Stat::Min);
     let first = LowerBound::lift(value);
@@ -217,7 +222,8 @@ fn sum_of_counts(
     other: &ScalarValue,
     is_exact: bool,
 ) -> Option<Precision<ScalarValue>>
-    ensures { result ≡ count_added (λ v. if is_exact then precise.Exact v else precise.Inexact v) own.now other.now }
+    ensures { result ≡ count_added (λ v. if is_exact then precise.Exact v else precise.Inexact v)
+        own.now other.now }
 {
     match (own, other) {
         (ScalarValue::Primitive(PValue::U64(m)), ScalarValue::Primitive(PValue::U64(n))) => {
@@ -237,7 +243,8 @@ fn count_value(
     own: Precision<&ScalarValue>,
     other: Precision<&ScalarValue>,
 ) -> Option<Precision<ScalarValue>>
-    ensures { result ≡ count_merged (precision_map (λ v. v.now) own.entry) (precision_map (λ v. v.now) other.entry) }
+    ensures { result ≡ count_merged (precision_map (λ v. v.now) own.entry)
+        (precision_map (λ v. v.now) other.entry) }
 {
     match own.zip(other) {
         Precision::Exact((m, n)) => sum_of_counts(m, n, true),

@@ -219,7 +219,9 @@ impl<'a> MutTypedStatsSetRef<'a> {
     /// as it was.
     pub fn merge_ordered(self, other: &TypedStatsSetRef<'_>) -> Result<Self, StatsError>
         requires { other.now.dtype ≡ (typed_stats self).dtype }
-        ensures merged { IfOk result (λ view. typed_stats view ≡ with_values (merged_ordered (typed_stats self.entry).values other.now.values) (typed_stats self.entry)) }
+        ensures merged { let own = typed_stats self.entry in
+            IfOk result (λ view. typed_stats view
+            ≡ with_values (merged_ordered own.values other.now.values) own) }
         ensures same_set { IfOk result (λ view. view.values.ghost_name ≡ self.entry.values.ghost_name) }
         ensures* unchanged { sem 𝓛 (rests_if_refused self.entry result) }
         ensures memory { IfErr result (λ e. e ≡ Memory alloc_error) }
@@ -234,7 +236,9 @@ impl<'a> MutTypedStatsSetRef<'a> {
     /// it was.
     pub fn merge_unordered(self, other: &TypedStatsSetRef<'_>) -> Result<Self, StatsError>
         requires { other.now.dtype ≡ (typed_stats self).dtype }
-        ensures merged { IfOk result (λ view. typed_stats view ≡ with_values (merged_unordered (typed_stats self.entry).values other.now.values) (typed_stats self.entry)) }
+        ensures merged { let own = typed_stats self.entry in
+            IfOk result (λ view. typed_stats view
+            ≡ with_values (merged_unordered own.values other.now.values) own) }
         ensures same_set { IfOk result (λ view. view.values.ghost_name ≡ self.entry.values.ghost_name) }
         ensures* unchanged { sem 𝓛 (rests_if_refused self.entry result) }
         ensures memory { IfErr result (λ e. e ≡ Memory alloc_error) }
@@ -249,7 +253,8 @@ impl<'a> MutTypedStatsSetRef<'a> {
     /// combined; `Memory` if a growth or a clone is refused, and then the set stays as it was.
     pub fn combine_sets(&mut self, other: &TypedStatsSetRef<'_>) -> Result<(), StatsError>
         requires { other.now.dtype ≡ (typed_stats self.old).dtype }
-        ensures combined { Combines (combined (typed_stats self.old).values other.now.values) (typed_stats self.old).values (typed_stats self.new).values result }
+        ensures combined { let old = (typed_stats self.old).values in
+            Combines (combined old other.now.values) old (typed_stats self.new).values result }
         ensures same_type { (typed_stats self.new).dtype ≡ (typed_stats self.old).dtype }
         ensures same_set { self.new.values.ghost_name ≡ self.old.values.ghost_name }
     {
