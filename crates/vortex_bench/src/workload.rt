@@ -1,4 +1,6 @@
 // The workloads.
+ghost use Rattle.std.specs.Prelude.{◌≤◌, IfOk};
+
 use std::alloc::{AllocError, Global};
 use vortex_base::bound;
 use vortex_base::chunk::Chunk;
@@ -21,7 +23,9 @@ const LETTERS: u32 = 20_000;
 const ROWS: i64 = 1_000_000;
 
 /// How many of some texts of `a` alone match patterns that end in another letter: none.
-pub fn count_like(alloc: Global) -> Result<usize, AllocError> {
+pub fn count_like(alloc: Global) -> Result<usize, AllocError>
+    ensures { IfOk result (λ n. n ≤ TEXTS) }
+{
     let mut text = String::new(alloc);
     for _ in 0..LETTERS {
         text.push_str("a")?;
