@@ -104,9 +104,10 @@ pub(crate) fn append_all(columns: &mut [Column], others: &mut [Column]) -> Resul
     ensures emptied { OnOk result (others.new ≡ map emptied others.old) }
     ensures refused { OnErr result ((columns.new ≡ columns.old) × (others.new ≡ others.old)) }
 {
-    let (Some((column, columns)), Some((other, others))) =
-        (columns.split_first_mut(), others.split_first_mut())
-    else {
+    let (Some((column, columns)), Some((other, others))) = (
+        columns.split_first_mut(),
+        others.split_first_mut(),
+    ) else {
         return Ok(());
     };
     column.values.reserve(other.values.len())?;
@@ -114,4 +115,3 @@ pub(crate) fn append_all(columns: &mut [Column], others: &mut [Column]) -> Resul
     column.size += other.size;
     column.values.append(&mut other.values)
 }
-

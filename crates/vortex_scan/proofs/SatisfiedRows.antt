@@ -45,8 +45,8 @@ pub row_satisfied : (literal : ℤ) (rows : List (Option ℤ)) (chunk : ChunkDat
     → is_true value ≡ is_above literal (get_or rows row None)
 row_satisfied literal rows chunk row n value is within answers =
     let P : ChunkData → Type 0 = λ k. row < row_count k.columns
-        → Answers (can_evaluate (predicate_of literal) (row_of row k.columns)) (meaning (predicate_of literal) (row_of row k.columns) n) (Ok value)
-        → is_true value ≡ is_above literal (get_or rows row None) in
+    → Answers (can_evaluate (predicate_of literal) (row_of row k.columns)) (meaning (predicate_of literal) (row_of row k.columns) n) (Ok value)
+    → is_true value ≡ is_above literal (get_or rows row None) in
     subst P (sym is) (λ w h. ap is_true h ∙ satisfies_row literal rows row n None (omega (arith, length-map rows row_value))) within answers
 
 -- the places that are left where a row passes the test
