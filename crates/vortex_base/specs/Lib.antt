@@ -16,6 +16,7 @@ pub mod Node
 pub mod NodeFalls
 pub mod Orders
 pub mod Parts
+pub mod Prefix
 pub mod Reading
 pub mod ScalarFns
 pub mod Scalars

@@ -129,6 +129,19 @@ has_placeholder e = some_node is_placeholder e
 abbrev pub has_row_count : {C : Type 0} → Tree C → Bool
 has_row_count e = some_node is_row_count e
 
+-- a column stands outside the input of every placeholder
+abbrev pub has_bare_column : {C : Type 0} → Tree C → Bool
+has_bare_column (column c) = true
+has_bare_column (literal c) = false
+has_bare_column (binary o l r) = has_bare_column l || has_bare_column r
+has_bare_column (between o x l u) = has_bare_column x || (has_bare_column l || has_bare_column u)
+has_bare_column (is_null x) = has_bare_column x
+has_bare_column (is_not_null x) = has_bare_column x
+has_bare_column (not x) = has_bare_column x
+has_bare_column (like o x p) = has_bare_column x || has_bare_column p
+has_bare_column (stat f x) = false
+has_bare_column row_count = false
+
 -- no placeholder and no row count
 abbrev pub is_plain : {C : Type 0} → Tree C → Bool
 is_plain e = not_b (has_placeholder e) && not_b (has_row_count e)

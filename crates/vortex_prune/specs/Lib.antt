@@ -1,1 +1,10 @@
+pub mod Binders
+pub mod Binding
+pub mod Facts
+pub mod HookFaults
+pub mod Lawful
 pub mod Part
+pub mod PartAnswers
+pub mod Proof
+pub mod Rewriting
+pub mod StatValues

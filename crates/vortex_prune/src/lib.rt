@@ -1,4 +1,6 @@
 //! Parts of columns with their statistics, and what is pruned by them.
 #![tactic(auto)]
 
+mod built;
+pub mod hook_fault;
 pub mod part;

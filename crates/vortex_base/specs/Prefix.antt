@@ -1,0 +1,32 @@
+-- The texts that a pattern of LIKE can match: its literal characters up to the first wildcard, and the first text above all that begin so.
+use Rattle.std.specs.Prelude.{ℕ, ◌+◌, Bool, true, false, not, ◌&&◌, ◌==◌, List, [], ◌∷◌, Option, Some, None, if◌then◌else◌}
+use Rattle.vortex_base.specs.declared.like.Item.{Item}
+use Rattle.vortex_base.specs.declared.like.Item.TheVariants.{Char, AnyChar, AnyRun}
+
+-- the literal characters before the first wildcard
+abbrev pub literal_prefix : List Item → List ℕ
+literal_prefix [] = []
+literal_prefix (Char c ∷ is) = c ∷ literal_prefix is
+literal_prefix (AnyChar ∷ is) = []
+literal_prefix (AnyRun ∷ is) = []
+
+-- no wildcard is among the items
+abbrev pub is_exact : List Item → Bool
+is_exact [] = true
+is_exact (Char c ∷ is) = is_exact is
+is_exact (AnyChar ∷ is) = false
+is_exact (AnyRun ∷ is) = false
+
+-- the number after the character's is a character's: no surrogate follows, and it is not the last
+abbrev pub has_next : ℕ → Bool
+has_next c = not (c == 55295) && not (c == 1114111)
+
+-- the character before a successor of what follows it, or the next character in its place
+abbrev pub next_after : ℕ → Option (List ℕ) → Option (List ℕ)
+next_after c (Some ds) = Some (c ∷ ds)
+next_after c None = if has_next c then Some ((c + 1) ∷ []) else None
+
+-- the last character that has a next one is replaced by that, and what follows it is dropped
+abbrev pub successor : List ℕ → Option (List ℕ)
+successor [] = None
+successor (c ∷ cs) = next_after c (successor cs)
