@@ -5,17 +5,14 @@ use Rattle.std.proofs.lemmas.List.{length-append, length-map}
 use Rattle.std.specs.List.{list_all}
 use Rattle.vortex_base.proofs.AppendLemmas.{same_type, both_fit}
 use Rattle.vortex_base.specs.Columns.{ChunkData, ColumnData, IsChunk, all_appended, all_long, appended, appended_chunk, can_append, emptied, emptied_chunk, has_shape, has_types, is_column, row_count, sizes_fit}
-use Rattle.vortex_base.specs.Exact.{both_true}
+use Rattle.vortex_base.specs.Exact.{both_hold, both_true}
 use Rattle.vortex_base.specs.Scalars.{is_optional_value}
 use Rattle.vortex_base.specs.Scopes.{Named, is_scope}
 use Rattle.vortex_base.specs.Types.{dtype_eq, dtype_eq_is_exact}
 use Rattle.vortex_base.specs.declared.dtype.DType.{DType}
 
-both_hold : (a b : Bool) → a ≡ true → b ≡ true → (a && b) ≡ true
-both_hold a b p q = rw (p, q) refl
-
-equal_lengths : (m n : ℕ) → (m == n) ≡ true → m ≡ n
-equal_lengths m n h = grind (arith, nat_tests)
+pub equal_numbers : (m n : ℕ) → (m == n) ≡ true → m ≡ n
+equal_numbers m n h = grind (arith, nat_tests)
 
 tests_equal : (m n : ℕ) → m ≡ n → (m == n) ≡ true
 tests_equal m n h = grind (arith, nat_tests)
@@ -50,8 +47,8 @@ all_long-all_appended m n (c ∷ cs) [] h p q = cc
 all_long-all_appended m n (c ∷ cs) (d ∷ ds) h p q =
     let cp = both_true _ _ p in
     let dq = both_true _ _ q in
-    let cm = equal_lengths (length c.values) m cp.0 in
-    let dn = equal_lengths (length d.values) n dq.0 in
+    let cm = equal_numbers (length c.values) m cp.0 in
+    let dn = equal_numbers (length d.values) n dq.0 in
     let sum : length (c.values ++ d.values) ≡ m + n = omega (arith, length-append c.values d.values) in
     both_hold _ _ (tests_equal (length (c.values ++ d.values)) (m + n) sum) (all_long-all_appended m n cs ds (both_true _ _ h).1 cp.1 dq.1)
 

@@ -44,7 +44,7 @@ struct Characters<'a> {
 
 /// One part of a pattern.
 #[derive(Clone, Copy)]
-enum Item {
+pub enum Item {
     Char(char),
     AnyChar,
     AnyRun,

@@ -3,16 +3,13 @@ use Rattle.std.proofs.Common.{◌≡◌, ◌&&◌, Bool, true, List, [], ◌∷�
 use Rattle.vortex_base.proofs.AppendLemmas.{same_type}
 use Rattle.vortex_base.proofs.ChunkLemmas.{IsChunk-appended, chunks_may_append}
 use Rattle.vortex_base.specs.Columns.{ChunkData, ColumnData, IsChunk, all_appended, appended_chunk, can_append, sizes_fit}
-use Rattle.vortex_base.specs.Exact.{both_true}
+use Rattle.vortex_base.specs.Exact.{both_hold, both_true}
 use Rattle.vortex_base.specs.declared.dtype.DType.{DType}
 use Rattle.vortex_prune.specs.Part.{AreTrueSets, Entries, IsPart, IsTruePart, PartData, joined, merged_sets, sets_fit}
 use Rattle.vortex_stats.proofs.MergedFits.{merged_ordered-fits}
 use Rattle.vortex_stats.proofs.MergedTruth.{merged_ordered_is_true}
 use Rattle.vortex_stats.specs.Entries.{entries_fit}
 use Rattle.vortex_stats.specs.Merges.{merged_ordered}
-
-both_hold : (a b : Bool) → a ≡ true → b ≡ true → (a && b) ≡ true
-both_hold a b p q = rw (p, q) refl
 
 merged_fit : (cs ds : List ColumnData) (xs ys : List Entries) → can_append cs ds ≡ true → sets_fit cs xs ≡ true → sets_fit ds ys ≡ true → sets_fit (all_appended cs ds) (merged_sets xs ys) ≡ true
 merged_fit [] [] [] [] h p q = refl

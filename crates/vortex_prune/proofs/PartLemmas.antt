@@ -5,6 +5,7 @@ use Rattle.std.proofs.lemmas.List.{drop_all, drop_more}
 use Rattle.std.proofs.lemmas.Option.{get_or_from_slice_get, slice_get-get_or, slice_get_read}
 use Rattle.std.proofs.lemmas.Bool.Decides.{nat_tests}
 use lib.Pointwise.{pointwise_long}
+use Rattle.vortex_base.proofs.ChunkLemmas.{equal_numbers}
 use Rattle.vortex_base.specs.Columns.{ChunkData, ColumnData, IsChunk, has_types, sizes_fit}
 use Rattle.vortex_base.specs.Exact.{both_true}
 use Rattle.vortex_base.specs.Scopes.{Named}
@@ -14,12 +15,9 @@ use Rattle.vortex_prune.specs.Part.{Entries, IsPart, PartData, merged_sets, sets
 use Rattle.vortex_stats.specs.Entries.{entries_fit}
 use Rattle.vortex_stats.specs.Merges.{merged_ordered}
 
-equal_lengths : (m n : ℕ) → (m == n) ≡ true → m ≡ n
-equal_lengths m n h = grind (arith, nat_tests)
-
 -- a chunk has as many columns as names
 pub scope_long : (k : ChunkData) → IsChunk k → length k.scope ≡ length k.columns
-scope_long k h = equal_lengths (length k.scope) (length k.columns) (both_true _ _ (both_true _ _ (both_true _ _ h).1).0).0
+scope_long k h = equal_numbers (length k.scope) (length k.columns) (both_true _ _ (both_true _ _ (both_true _ _ h).1).0).0
 
 -- a part has a set for each column
 pub stats_within : (p : PartData) (i : ℕ) → IsPart p → i < length p.chunk.scope → i < length p.stats

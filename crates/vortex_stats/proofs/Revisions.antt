@@ -1,6 +1,7 @@
 -- Entries after each statistic in turn, by number, got a new value or none.
 use Rattle.std.proofs.Common.{◌≡◌, ℕ, suc, ◌+◌, ◌≤◌, Bool, true, false, cond, not, ◌||◌, List, [], ◌∷◌, Option, Some, None, refl, sym, ap, subst, ◌∙◌, arith, lit≤}
 use Rattle.std.proofs.lemmas.Bool.Decides.{nat_tests}
+use Rattle.std.proofs.lemmas.Cmp.{nat_eq_equiv}
 use Rattle.std.specs.Prelude.{IsTrue, IsSome, IfOk, OnOk, OnErr, Result, Ok, Err, ◌==◌, ⊤}
 use Rattle.std.specs.Option.{is_some}
 use Rattle.std.specs.List.{filter}
@@ -21,33 +22,10 @@ use Rattle.vortex_stats.specs.Changes.{made, changed, all_changed, MakesAll}
 use Rattle.vortex_stats.specs.declared.merge.Changes.{Changes}
 use Rattle.vortex_stats.specs.LowerBound.{lower_union}
 use Rattle.vortex_stats.specs.UpperBound.{upper_union}
+use Rattle.vortex_stats.proofs.Lookups.{entry_value-with_other, entry_value-without_other}
 use Rattle.vortex_stats.proofs.Places.{distinct_with_entry, distinct_filter}
 
 module _ {V : Type 0} where
-  with_step : (s t : Stat) (p : Precision V) (e : Stat × Precision V) (es : List (Stat × Precision V)) → stat_eq s t ≡ false
-      → entry_value t (with_entry s p es) ≡ entry_value t es → (b : Bool) → is_entry_of s e ≡ b
-      → entry_value t (cond b ((s, p) ∷ es) (e ∷ with_entry s p es)) ≡ cond (is_entry_of t e) e.1 (entry_value t es)
-  with_step s t p e es n ih true h =
-      ap (λ b. cond b p (entry_value t es)) n
-      ∙ sym (ap (λ u. cond (stat_eq u t) e.1 (entry_value t es)) (same_from_stat_eq e.0 s h) ∙ ap (λ b. cond b e.1 (entry_value t es)) n)
-  with_step s t p e es n ih false h = ap (λ v. cond (is_entry_of t e) e.1 v) ih
-
-  -- another statistic keeps its value
-  value-with_entry : (s t : Stat) (p : Precision V) (es : List (Stat × Precision V)) → stat_eq s t ≡ false → entry_value t (with_entry s p es) ≡ entry_value t es
-  value-with_entry s t p [] n = ap (λ b. cond b p Absent) n
-  value-with_entry s t p (e ∷ es) n = with_step s t p e es n (value-with_entry s t p es n) (is_entry_of s e) refl
-
-  without_step : (s t : Stat) (e : Stat × Precision V) (es : List (Stat × Precision V)) → stat_eq s t ≡ false
-      → entry_value t (without_entry s es) ≡ entry_value t es → (b : Bool) → is_entry_of s e ≡ b
-      → entry_value t (cond (not b) (e ∷ without_entry s es) (without_entry s es)) ≡ cond (is_entry_of t e) e.1 (entry_value t es)
-  without_step s t e es n ih true h =
-      ih ∙ sym (ap (λ u. cond (stat_eq u t) e.1 (entry_value t es)) (same_from_stat_eq e.0 s h) ∙ ap (λ b. cond b e.1 (entry_value t es)) n)
-  without_step s t e es n ih false h = ap (λ v. cond (is_entry_of t e) e.1 v) ih
-
-  value-without_entry : (s t : Stat) (es : List (Stat × Precision V)) → stat_eq s t ≡ false → entry_value t (without_entry s es) ≡ entry_value t es
-  value-without_entry s t [] n = refl
-  value-without_entry s t (e ∷ es) n = without_step s t e es n (value-without_entry s t es n) (is_entry_of s e) refl
-
   has_step : (b : Bool) (v w : Precision V) (c : Bool) → (IsTrue (is_present w) → c ≡ true) → IsTrue (is_present (cond b v w)) → (b || c) ≡ true
   has_step true v w c f h = refl
   has_step false v w c f h = f h
@@ -82,8 +60,8 @@ changed-made s (Set new) own es h e =
 changed-made s Cleared own es h e = refl
 
 value-revised : (s t : Stat) (o : Option (Precision ScalarValue)) (es : List (Stat × Precision ScalarValue)) → stat_eq s t ≡ false → entry_value t (revised s o es) ≡ entry_value t es
-value-revised s t (Some p) es n = value-with_entry s t p es n
-value-revised s t None es n = value-without_entry s t es n
+value-revised s t (Some p) es n = entry_value-with_other s t p es n
+value-revised s t None es n = entry_value-without_other s t es (nat_eq_equiv.symm (stat_number t) (stat_number s) ∙ n)
 
 pub distinct_revised : (s : Stat) (o : Option (Precision ScalarValue)) (es : List (Stat × Precision ScalarValue)) → AreDistinct es → AreDistinct (revised s o es)
 distinct_revised s (Some p) es d = distinct_with_entry s p es d
