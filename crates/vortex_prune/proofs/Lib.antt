@@ -1,2 +1,4 @@
 pub mod JoinLemmas
 pub mod PartLemmas
+pub mod RewritingRows
+pub mod StatRows
