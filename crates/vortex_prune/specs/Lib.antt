@@ -1,5 +1,6 @@
 pub mod Binders
 pub mod Binding
+pub mod Complete
 pub mod Facts
 pub mod HookFaults
 pub mod Lawful
@@ -7,4 +8,5 @@ pub mod Part
 pub mod PartAnswers
 pub mod Proof
 pub mod Rewriting
+pub mod Scanning
 pub mod StatValues
