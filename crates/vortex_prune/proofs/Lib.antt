@@ -1,4 +1,5 @@
 pub mod JoinLemmas
 pub mod PartLemmas
 pub mod RewritingRows
+pub mod SelectLemmas
 pub mod StatRows

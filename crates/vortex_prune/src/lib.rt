@@ -4,3 +4,4 @@
 mod built;
 pub mod hook_fault;
 pub mod part;
+mod select;
