@@ -1,4 +1,6 @@
 pub mod JoinLemmas
+pub mod LikeRows
+pub mod OverParts
 pub mod PartLemmas
 pub mod RowRules
 pub mod TextOrder
