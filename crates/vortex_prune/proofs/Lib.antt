@@ -2,7 +2,9 @@ pub mod JoinLemmas
 pub mod LikeRows
 pub mod OverParts
 pub mod PartLemmas
+pub mod RowFacts
 pub mod RowRules
+pub mod SoundRules
 pub mod TextOrder
 pub mod TruthLogic
 pub mod ValueTests
