@@ -1,5 +1,13 @@
 pub mod JoinLemmas
+pub mod LikeRows
+pub mod OverParts
 pub mod PartLemmas
 pub mod RewritingRows
+pub mod RowFacts
+pub mod RowRules
 pub mod SelectLemmas
+pub mod SoundRules
 pub mod StatRows
+pub mod TextOrder
+pub mod TruthLogic
+pub mod ValueTests
