@@ -1,5 +1,6 @@
 pub mod JoinLemmas
 pub mod LikeRows
+pub mod Lossless
 pub mod OverParts
 pub mod PartLemmas
 pub mod RewritingRows
