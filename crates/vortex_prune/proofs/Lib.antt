@@ -1,3 +1,4 @@
+pub mod HonestStats
 pub mod JoinLemmas
 pub mod LikeRows
 pub mod OverParts
@@ -5,6 +6,7 @@ pub mod PartLemmas
 pub mod RowFacts
 pub mod RowRules
 pub mod SoundRules
+pub mod StatTypes
 pub mod TextOrder
 pub mod TruthLogic
 pub mod ValueTests
