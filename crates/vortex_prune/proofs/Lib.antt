@@ -1,3 +1,4 @@
+pub mod HonestParts
 pub mod HonestStats
 pub mod JoinLemmas
 pub mod LikeRows

@@ -3,6 +3,7 @@ pub mod Binding
 pub mod Facts
 pub mod HookFaults
 pub mod Lawful
+pub mod Laws
 pub mod Part
 pub mod PartAnswers
 pub mod Proof

@@ -3,4 +3,5 @@
 
 mod built;
 pub mod hook_fault;
+pub mod laws;
 pub mod part;
