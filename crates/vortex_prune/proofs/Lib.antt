@@ -1,3 +1,5 @@
+pub mod HonestParts
+pub mod HonestStats
 pub mod JoinLemmas
 pub mod LikeRows
 pub mod Lossless
@@ -9,6 +11,7 @@ pub mod RowRules
 pub mod SelectLemmas
 pub mod SoundRules
 pub mod StatRows
+pub mod StatTypes
 pub mod TextOrder
 pub mod TruthLogic
 pub mod ValueTests
