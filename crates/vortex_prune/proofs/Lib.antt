@@ -1,4 +1,9 @@
+pub mod Interval
 pub mod JoinLemmas
 pub mod PartLemmas
 pub mod RewritingRows
+pub mod RowRules
 pub mod StatRows
+pub mod TextOrder
+pub mod TruthLogic
+pub mod ValueTests
