@@ -1,3 +1,4 @@
+pub mod Choices
 pub mod Interval
 pub mod JoinLemmas
 pub mod PartLemmas
