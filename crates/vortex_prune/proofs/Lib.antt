@@ -1,6 +1,7 @@
 pub mod Choices
 pub mod Interval
 pub mod JoinLemmas
+pub mod Operands
 pub mod PartLemmas
 pub mod RewritingRows
 pub mod RowRules
