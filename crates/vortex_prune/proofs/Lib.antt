@@ -1,4 +1,5 @@
 pub mod Choices
+pub mod Decided
 pub mod Interval
 pub mod JoinLemmas
 pub mod Operands
