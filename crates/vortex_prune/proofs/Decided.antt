@@ -157,8 +157,7 @@ module _ (box : Box) (A : Assignment) (m n : ℕ) where
             let front : Agree h f (columns_of x) = combined_front f g (columns_of x) (columns_of y) distinct in
             let back : Agree h g (columns_of y) = combined_back f g (columns_of y) in
             let ex = chosen_agreed h f m n x (all_front (λ c. c.index < m) (columns_of x) (columns_of y) inside) front ∙ rx.1 in
-            let ey = chosen_agreed h g m n y (all_back (λ c. c.index < m) (columns_of x) (columns_of y) inside) back ∙ ry.1 in
-            (
+            let ey = chosen_agreed h g m n y (all_back (λ c. c.index < m) (columns_of x) (columns_of y) inside) back ∙ ry.1 in (
               h,
               all_joined (IsBetween box h) (columns_of x) (columns_of y) (between_agreed box h f (columns_of x) front rx.0) (between_agreed box h g (columns_of y) back ry.0),
               satisfied_as (row_with h m) w.x w.y ex ey ∙ w.holds,

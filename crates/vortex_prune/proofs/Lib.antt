@@ -1,4 +1,5 @@
 pub mod Choices
+pub mod Completeness
 pub mod Decided
 pub mod Interval
 pub mod JoinLemmas

@@ -52,7 +52,7 @@ module _ (c : Place) (v : ScalarValue) (h : is_value v c.dtype ≡ true) where
 
 -- ---- the types of operands
 
-if_ok : (b : Bool) (t : DType) (e : BaseError) → is_ok (if b then Ok t else Err e) ≡ true → b ≡ true
+pub if_ok : (b : Bool) (t : DType) (e : BaseError) → is_ok (if b then Ok t else Err e) ≡ true → b ≡ true
 if_ok true t e h = refl
 if_ok false t e h = cc
 
@@ -62,7 +62,7 @@ operand_type (column c) = c.dtype
 operand_type (literal c) = c.dtype
 operand_type e = dtype.Null
 
-if_typed : (b : Bool) (t : DType) (e : BaseError) → is_ok (if b then Ok t else Err e) ≡ true → (if b then Ok t else Err e) ≡ Ok t
+pub if_typed : (b : Bool) (t : DType) (e : BaseError) → is_ok (if b then Ok t else Err e) ≡ true → (if b then Ok t else Err e) ≡ Ok t
 if_typed true t e h = refl
 if_typed false t e h = cc
 
