@@ -8,7 +8,9 @@ use vortex_base::error::BaseError;
 use vortex_stats::error::StatsError;
 
 // What a constructor made of operands that fit; `Memory` is the one refusal that is left.
-pub(crate) fn built(made: Result<BoundExpression, BaseError>) -> Result<BoundExpression, StatsError>
+pub(crate) fn built(
+    made: Result<BoundExpression, BaseError>,
+) -> Result<BoundExpression, StatsError>
     requires { IfErr made (λ fault. fault ≡ Memory alloc_error) }
     ensures value { IfOk result (λ e. made ≡ Ok e) }
     ensures memory { IfErr result (λ fault. fault ≡ refusal.Memory alloc_error) }
