@@ -1,8 +1,13 @@
+pub mod Choices
+pub mod Completeness
+pub mod Decided
 pub mod HonestParts
 pub mod HonestStats
+pub mod Interval
 pub mod JoinLemmas
 pub mod LikeRows
 pub mod Lossless
+pub mod Operands
 pub mod OverParts
 pub mod PartLemmas
 pub mod RewritingRows
