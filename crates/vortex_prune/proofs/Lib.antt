@@ -1,2 +1,3 @@
 pub mod JoinLemmas
 pub mod PartLemmas
+pub mod StatFits

@@ -1,3 +1,4 @@
+pub mod Answers
 pub mod Binders
 pub mod Binding
 pub mod Facts
