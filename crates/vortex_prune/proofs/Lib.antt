@@ -1,3 +1,4 @@
 pub mod JoinLemmas
 pub mod PartLemmas
 pub mod StatFits
+pub mod BoundTypes

@@ -1,9 +1,11 @@
 //! Parts of columns with their statistics, and what is pruned by them.
 #![tactic(auto)]
 
+pub mod binding;
 pub mod bound;
 mod built;
 pub mod hook_fault;
 pub mod part;
 pub mod placeholder;
+pub mod stat_binder;
 pub mod stat_fn;
