@@ -2,3 +2,4 @@ pub mod JoinLemmas
 pub mod PartLemmas
 pub mod StatFits
 pub mod BoundTypes
+pub mod BoundValues

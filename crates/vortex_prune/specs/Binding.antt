@@ -1,9 +1,10 @@
 -- What binding makes of an expression.
-use Rattle.std.specs.Prelude.{◌≡◌, ◌⊎◌, ℕ, Bool, false, Option, Some, None, Result, Ok, IsTrue, ⊤}
+use Rattle.std.specs.Prelude.{◌≡◌, ◌⊎◌, ℕ, Bool, false, List, [], Option, Some, None, Result, Ok, IsTrue, ⊤}
 use Rattle.vortex_base.specs.declared.aggregate.AggregateFnRef.{AggregateFnRef}
 use Rattle.vortex_base.specs.declared.dtype.DType.{DType}
 use Rattle.vortex_base.specs.declared.error.BaseError.{BaseError}
-use Rattle.vortex_base.specs.Tree.{Tree, Place, column, literal, binary, between, is_null, is_not_null, not, like, stat, row_count}
+use Rattle.vortex_base.specs.Scalars.{Constant}
+use Rattle.vortex_base.specs.Tree.{Tree, Place, column, literal, binary, between, is_null, is_not_null, not, like, stat, row_count, has_bare_column}
 use Rattle.vortex_base.specs.Types.{as_nullable, eq_ignore_nullability}
 use Rattle.vortex_base.specs.Typing.{type_of, with_type}
 use Rattle.vortex_stats.specs.declared.error.BinderFault.TheVariants.{Own, WrongType}
@@ -72,3 +73,11 @@ IsBindRefusal can_fault HasWrong e = ⊥
 abbrev pub binder_error : HookFault → StatsError
 binder_error (fault.Memory e) = Memory e
 binder_error (fault.Own k) = Binder (Own k)
+
+-- it is so over each row of statistics and each row count over which the binder is faithful
+abbrev pub WhereFaithful : (is_faithful_over : List Constant → ℕ → Bool) → (List Constant → ℕ → Type 0) → Type 0
+WhereFaithful is_faithful_over P = (row : List Constant) (n : ℕ) → IsTrue (is_faithful_over row n) → P row n
+
+-- no column of the expression outside its placeholders has a value on the row: there is none, or the row is empty
+abbrev pub HasNoColumnOn : Tree Place → List Constant → Type 0
+HasNoColumnOn e row = (has_bare_column e ≡ false) ⊎ (row ≡ [])

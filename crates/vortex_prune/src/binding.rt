@@ -1,9 +1,14 @@
 //! Binding: each placeholder of an expression is replaced by what a binder answers to it.
-ghost use Rattle.std.specs.Prelude.{◌≡◌, Ok, Err, IfOk, IfErr, MatchResult};
-ghost use Rattle.vortex_base.specs.Tree.{stat};
+ghost use Rattle.std.specs.Prelude.{◌≡◌, false, Ok, Err, IfOk, IfErr, IsTrue, MatchResult};
+ghost use Rattle.vortex_base.specs.Fitting.{fits_row};
+ghost use Rattle.vortex_base.specs.Meaning.{meaning};
+ghost use Rattle.vortex_base.specs.Tree.{stat, has_bare_column, has_placeholder};
 ghost use Rattle.vortex_base.specs.Typing.{type_of};
 ghost use Rattle.vortex_prune.specs.Binding as spec;
-ghost use Rattle.vortex_prune.specs.Binding.{IsBinding, IsBindRefusal, IsReplacement, IsWrong, Replaces, SomeMet};
+ghost use Rattle.vortex_prune.specs.Binding.{IsBinding, IsBindRefusal, IsReplacement, IsWrong, Replaces, SomeMet, HasNoColumnOn, WhereFaithful};
+ghost use Rattle.vortex_prune.specs.Proof.{value_under};
+ghost use Rattle.vortex_stats.specs.declared.error.StatsError.TheVariants as fault;
+ghost use Rattle.vortex_stats.specs.declared.error.BinderFault.TheVariants as binder_fault;
 
 use crate::built::built;
 use crate::hook_fault::HookFault;
@@ -67,8 +72,8 @@ fn replaced<B: StatBinder>(
     }
 }
 
-// The same of an expression that is kept.
-pub(crate) fn bound_stats<B: StatBinder>(
+// The expression with its placeholders replaced.
+fn bound_stats<B: StatBinder>(
     alloc: Global,
     e: &BoundExpression,
     binder: &B,
@@ -104,4 +109,55 @@ pub(crate) fn bound_stats<B: StatBinder>(
         Parts::Stat(aggregate, input) => replaced(alloc, input, aggregate, dtype, binder),
         Parts::RowCount => built(bound::row_count(alloc)),
     }
+}
+
+// What `bind_stats` answers, of an expression that is kept.
+pub(crate) fn bind_stats_of<B: StatBinder>(
+    alloc: Global,
+    e: &BoundExpression,
+    binder: &B,
+) -> Result<BoundExpression, StatsError>
+    ensures bound { IfOk result (IsBinding (Replaces (B.answer binder.now) (B.is_missing binder.now)) e.now) }
+    ensures typed { IfOk result (λ r. spec.base_type r ≡ spec.base_type e.now) }
+    ensures free { IfOk result (λ r. WhereFaithful (B.is_faithful_over binder.now)
+        (λ row n. has_placeholder r ≡ false)) }
+    ensures fits { IfOk result (λ r. WhereFaithful (B.is_faithful_over binder.now)
+        (λ row n. has_bare_column e.now ≡ false → IsTrue (fits_row r row))) }
+    ensures value { IfOk result (λ r. WhereFaithful (B.is_faithful_over binder.now)
+        (λ row n. HasNoColumnOn e.now row → meaning r row n ≡ value_under (B.value binder.now row n) n e.now)) }
+    ensures refusal { IfErr result (IsBindRefusal (B.can_fault binder.now)
+        (SomeMet (IsWrong (B.answer binder.now) (B.is_missing binder.now)) e.now)) }
+    ensures right_types { WhereFaithful (B.is_faithful_over binder.now)
+        (λ row n. IfErr result (λ f. ¬ (f ≡ fault.Binder binder_fault.WrongType))) }
+{
+    let _typed = e.dtype();
+    bound_stats(alloc, e, binder)
+}
+
+/// The expression with each placeholder replaced by the binder's answer, or, where that is `None`, by
+/// what stands for a missing one. Placeholders are met from the top and from the left; one inside
+/// the input of another is not met, nor is one in an answer. Everything else is kept, and nothing is
+/// reduced.
+///
+/// `Binder` if the binder faults, or what it answers has not the placeholder's type, nullability
+/// aside.
+pub fn bind_stats<B: StatBinder>(
+    alloc: Global,
+    e: BoundExpression,
+    binder: &B,
+) -> Result<BoundExpression, StatsError>
+    ensures bound { IfOk result (IsBinding (Replaces (B.answer binder.now) (B.is_missing binder.now)) e) }
+    ensures typed { IfOk result (λ r. spec.base_type r ≡ spec.base_type e) }
+    ensures free { IfOk result (λ r. WhereFaithful (B.is_faithful_over binder.now)
+        (λ row n. has_placeholder r ≡ false)) }
+    ensures fits { IfOk result (λ r. WhereFaithful (B.is_faithful_over binder.now)
+        (λ row n. has_bare_column e ≡ false → IsTrue (fits_row r row))) }
+    ensures value { IfOk result (λ r. WhereFaithful (B.is_faithful_over binder.now)
+        (λ row n. HasNoColumnOn e row → meaning r row n ≡ value_under (B.value binder.now row n) n e)) }
+    ensures refusal { IfErr result (IsBindRefusal (B.can_fault binder.now)
+        (SomeMet (IsWrong (B.answer binder.now) (B.is_missing binder.now)) e)) }
+    ensures right_types { WhereFaithful (B.is_faithful_over binder.now)
+        (λ row n. IfErr result (λ f. ¬ (f ≡ fault.Binder binder_fault.WrongType))) }
+{
+    bind_stats_of(alloc, &e, binder)
 }
