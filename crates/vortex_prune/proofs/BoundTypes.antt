@@ -18,6 +18,7 @@ use Rattle.vortex_base.specs.Types.{as_nullable, dtype_eq, dtype_eq_is_exact, eq
 use Rattle.vortex_base.specs.Typing.{are_comparable, between_type, binary_type, comparison_type, connective_type, is_bool, is_state, is_utf8, like_type, null_test_type, not_type, truth_type, type_if, type_of, with_type, with_types}
 use Rattle.vortex_stats.specs.declared.error.StatsError.{StatsError}
 use Rattle.vortex_prune.specs.Binding.{IsBinding, base_type}
+use Rattle.vortex_prune.specs.StateTypes.{as_nullable-again}
 
 -- the type, with null, if there is one
 abbrev base : Result DType BaseError → Result DType BaseError
@@ -25,14 +26,6 @@ base r = with_type (λ t. Ok (as_nullable t)) r
 
 abbrev truth : DType
 truth = dtype.Bool Nullable
-
-pub as_nullable-again : (t : DType) → as_nullable (as_nullable t) ≡ as_nullable t
-as_nullable-again dtype.Null = refl
-as_nullable-again (dtype.Bool n) = refl
-as_nullable-again (dtype.Primitive p n) = refl
-as_nullable-again (dtype.Utf8 n) = refl
-as_nullable-again (dtype.Binary n) = refl
-as_nullable-again (dtype.MinMaxState e n) = refl
 
 is_state-as_nullable : (t : DType) → is_state (as_nullable t) ≡ is_state t
 is_state-as_nullable dtype.Null = refl

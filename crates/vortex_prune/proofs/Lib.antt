@@ -3,3 +3,4 @@ pub mod PartLemmas
 pub mod StatFits
 pub mod BoundTypes
 pub mod BoundValues
+pub mod PartLiterals

@@ -6,6 +6,9 @@ pub mod HookFaults
 pub mod Lawful
 pub mod Part
 pub mod PartAnswers
+pub mod PartBinder
+pub mod PartFaithful
 pub mod Proof
 pub mod Rewriting
 pub mod StatValues
+pub mod StateTypes

@@ -9,3 +9,4 @@ pub mod part;
 pub mod placeholder;
 pub mod stat_binder;
 pub mod stat_fn;
+pub mod stats_binder;
