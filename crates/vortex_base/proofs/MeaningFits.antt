@@ -22,14 +22,14 @@ use Rattle.vortex_base.specs.Tree.{Tree, Place, column, literal, binary, between
 use Rattle.vortex_base.specs.Typing.{type_of, with_type, with_types, type_if, truth_type, binary_type, between_type, not_type, like_type, row_count_type}
 use Rattle.vortex_base.specs.Meaning.{meaning, truth_value, MeaningFits}
 
-is_value-as_nullable : (v : ScalarValue) (t : DType) → is_value v (as_nullable t) ≡ is_value v t
+pub is_value-as_nullable : (v : ScalarValue) (t : DType) → is_value v (as_nullable t) ≡ is_value v t
 is_value-as_nullable (value.Bool b) (dtype.Bool n) = refl
 is_value-as_nullable (value.Primitive p) (dtype.Primitive q n) = refl
 is_value-as_nullable (value.Utf8 s) (dtype.Utf8 n) = refl
 is_value-as_nullable (value.Binary s) (dtype.Binary n) = refl
 is_value-as_nullable v t = refl
 
-null_fits : (t : DType) → is_nullable (as_nullable t) ≡ true
+pub null_fits : (t : DType) → is_nullable (as_nullable t) ≡ true
 null_fits dtype.Null = refl
 null_fits (dtype.Bool n) = refl
 null_fits (dtype.Primitive p n) = refl

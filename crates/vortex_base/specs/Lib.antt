@@ -18,6 +18,7 @@ pub mod Orders
 pub mod Parts
 pub mod Prefix
 pub mod Reading
+pub mod Repeated
 pub mod ScalarFns
 pub mod Scalars
 pub mod Scopes

@@ -10,6 +10,7 @@ pub mod bytes;
 pub mod chunk;
 mod cloning;
 pub mod column;
+pub mod constant_array;
 pub mod dtype;
 pub mod element;
 mod equality;

@@ -1,3 +1,5 @@
+pub mod BoundTypes
+pub mod BoundValues
 pub mod Choices
 pub mod Completeness
 pub mod Decided
@@ -10,11 +12,13 @@ pub mod Lossless
 pub mod Operands
 pub mod OverParts
 pub mod PartLemmas
+pub mod PartLiterals
 pub mod RewritingRows
 pub mod RowFacts
 pub mod RowRules
 pub mod SelectLemmas
 pub mod SoundRules
+pub mod StatFits
 pub mod StatRows
 pub mod StatTypes
 pub mod TextOrder

@@ -1,3 +1,4 @@
+pub mod Answers
 pub mod Binders
 pub mod Binding
 pub mod Complete
@@ -7,7 +8,10 @@ pub mod Lawful
 pub mod Laws
 pub mod Part
 pub mod PartAnswers
+pub mod PartBinder
+pub mod PartFaithful
 pub mod Proof
 pub mod Rewriting
 pub mod Scanning
 pub mod StatValues
+pub mod StateTypes

@@ -1,0 +1,19 @@
+-- What a call that takes memory answers.
+use Rattle.std.specs.Prelude.{◌≡◌, Result, Ok, Err, MatchResult, alloc_error}
+use Rattle.vortex_base.specs.declared.error.BaseError.{BaseError}
+use Rattle.vortex_stats.specs.declared.error.StatsError.{StatsError}
+use Rattle.vortex_stats.specs.declared.error.StatsError.TheVariants.{Memory, Unsupported}
+
+-- this value, unless memory was refused
+abbrev pub Makes : {B : Type 0} → B → Result B StatsError → Type 0
+Makes v r = MatchResult r (λ w. w ≡ v) (λ f. f ≡ Memory alloc_error)
+
+-- what is typed, and Unsupported where the table has no type
+abbrev pub supported : {A : Type 0} → Result A BaseError → Result A StatsError
+supported (Ok a) = Ok a
+supported (Err f) = Err Unsupported
+
+-- the value that is made of a type, unless memory was refused, and Unsupported where the table has no type
+abbrev pub IfSupported : {A B : Type 0} → Result A BaseError → (A → B) → Result B StatsError → Type 0
+IfSupported (Ok a) make r = Makes (make a) r
+IfSupported (Err f) make r = r ≡ Err Unsupported

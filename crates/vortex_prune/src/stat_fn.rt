@@ -1,0 +1,232 @@
+//! The function that a placeholder applies: what a set of statistics answers to it.
+ghost use Rattle.std.specs.Prelude.{◌≡◌, codes, false, IfOk, IsTrue};
+ghost use Rattle.vortex_base.specs.Typing.{stat_type};
+ghost use Rattle.vortex_stats.specs.Entries.{entries_fit};
+ghost use Rattle.vortex_prune.specs.Answers.{IfSupported, supported};
+ghost use Rattle.vortex_prune.specs.StatValues as values;
+
+use std::alloc::AllocError;
+use std::hash::Hash;
+use std::marker::Model;
+use vortex_base::aggregate::AggregateFnRef;
+use vortex_base::constant_array::ConstantArray;
+use vortex_base::dtype::DType;
+use vortex_base::pvalue::PValue;
+use vortex_base::scalar::Scalar;
+use vortex_base::scalar_fn::ScalarFnId;
+use vortex_base::scalar_value::ScalarValue;
+use vortex_stats::error::StatsError;
+use vortex_stats::precision::Precision;
+use vortex_stats::stat::Stat;
+use vortex_stats::stats_set::StatsSet;
+
+/// What a placeholder asks for.
+#[derive(Clone, Copy, Debug, PartialEq, Eq, Hash)]
+pub struct StatOptions {
+    aggregate_fn: AggregateFnRef,
+}
+
+impl Model for StatOptions {
+    ghost use Rattle.vortex_base.specs.declared.aggregate.AggregateFnRef.{AggregateFnRef};
+
+    ghost Value = { AggregateFnRef };
+
+    ghost view = { λ o. o.aggregate_fn };
+
+    ghost inverse = { λ f. record { aggregate_fn = f } };
+}
+
+impl StatOptions {
+    /// The options of a placeholder for this aggregate.
+    pub fn new(aggregate_fn: AggregateFnRef) -> StatOptions
+        ensures { result ≡ aggregate_fn }
+    {
+        StatOptions { aggregate_fn }
+    }
+
+    /// The aggregate.
+    pub fn aggregate_fn(&self) -> AggregateFnRef
+        ensures { result ≡ self.now }
+    {
+        self.aggregate_fn
+    }
+}
+
+/// Equal options hash alike.
+pub fn equal_options_hash_alike()
+    ensures { (a b : StatOptions) → IsTrue (⟦<StatOptions as PartialEq>⟧.eq a b)
+        → ⟦<StatOptions as Hash>⟧.hash_input a ≡ ⟦<StatOptions as Hash>⟧.hash_input b }
+{}
+
+/// The function of a placeholder. It has one child, the input, whose values it does not read: it
+/// answers from the statistics of the input.
+#[derive(Clone, Copy)]
+pub struct StatFn;
+
+impl StatFn {
+    /// The function's id.
+    pub fn id() -> ScalarFnId
+        ensures { result ≡ ScalarFnId.Stat }
+    {
+        ScalarFnId::Stat
+    }
+
+    /// The number of children.
+    pub fn arity(_options: &StatOptions) -> usize
+        ensures { result ≡ 1 }
+    {
+        1
+    }
+
+    /// The name of a child, of which there is one, at 0.
+    pub fn child_name(_options: &StatOptions, index: usize) -> &'static str
+        requires { index ≡ 0 }
+        ensures { result.now ≡ codes "input" }
+    {
+        prove!(index == 0);
+        "input"
+    }
+
+    /// Whether a null input makes the answer null.
+    pub fn is_strict(_options: &StatOptions) -> bool
+        ensures { result ≡ false }
+    {
+        false
+    }
+
+    /// The type of the answer over an input of this type: that of the aggregate's state, with null.
+    /// `Unsupported` where the aggregate does not support the type.
+    pub fn return_dtype(options: &StatOptions, dtype: &DType) -> Result<DType, StatsError>
+        ensures { result ≡ supported (stat_type options.now dtype.now) }
+    {
+        answer_dtype(options.aggregate_fn, dtype)
+    }
+
+    /// What a set of statistics, which `StatsSet::fits` tells to fit the type, answers for a column of
+    /// this type: one value, or null where it tells none, for each of the rows. `Unsupported` where
+    /// the aggregate does not support the type.
+    pub fn execute(
+        options: &StatOptions,
+        stats: &StatsSet,
+        dtype: &DType,
+        rows: u64,
+    ) -> Result<ConstantArray, StatsError>
+        requires { IsTrue (entries_fit stats.now dtype.now) }
+        ensures { let v = values.stat_value options.now stats.now rows in
+            IfSupported (stat_type options.now dtype.now)
+            (λ t. record { scalar = record { dtype = t; value = v }; len = rows }) result }
+    {
+        let scalar = scalar_of(options.aggregate_fn, stats, dtype, rows)?;
+        Ok(ConstantArray::new(scalar, rows))
+    }
+}
+
+fn answer_dtype(aggregate: AggregateFnRef, dtype: &DType) -> Result<DType, StatsError>
+    ensures { result ≡ supported (stat_type aggregate dtype.now) }
+{
+    match aggregate.state_dtype(dtype) {
+        Some(state) => Ok(state.as_nullable()),
+        None => Err(StatsError::Unsupported),
+    }
+}
+
+// What the set answers, with the answer's type.
+pub(crate) fn scalar_of(
+    aggregate: AggregateFnRef,
+    stats: &StatsSet,
+    dtype: &DType,
+    rows: u64,
+) -> Result<Scalar, StatsError>
+    requires { IsTrue (entries_fit stats.now dtype.now) }
+    ensures { let v = values.stat_value aggregate stats.now rows in
+        IfSupported (stat_type aggregate dtype.now) (λ t. record { dtype = t; value = v }) result }
+{
+    let answer = answer_dtype(aggregate, dtype)?;
+    let value = stat_value(aggregate, stats, rows)?;
+    match Scalar::try_new(answer, value) {
+        Ok(scalar) => Ok(scalar),
+        Err(_) => unreachable!(),
+    }
+}
+
+fn stat_value(
+    aggregate: AggregateFnRef,
+    stats: &StatsSet,
+    rows: u64,
+) -> Result<Option<ScalarValue>, AllocError>
+    ensures { IfOk result (λ v. v ≡ values.stat_value aggregate stats.now rows) }
+{
+    Ok(match aggregate {
+        AggregateFnRef::Max => stats.get(Stat::Max)?.into_inner(),
+        AggregateFnRef::Min => stats.get(Stat::Min)?.into_inner(),
+        AggregateFnRef::Sum => stats.get(Stat::Sum)?.as_exact(),
+        AggregateFnRef::NullCount => null_count_value(stats.get(Stat::NullCount)?),
+        AggregateFnRef::UncompressedSizeInBytes => {
+            stats.get(Stat::UncompressedSizeInBytes)?.as_exact()
+        }
+        AggregateFnRef::AllNull => all_null_value(stats.get(Stat::NullCount)?, rows),
+        AggregateFnRef::AllNonNull => all_non_null_value(stats.get(Stat::NullCount)?),
+        AggregateFnRef::MinMax | AggregateFnRef::NanCount => None,
+    })
+}
+
+fn count_of(value: &ScalarValue) -> Option<u64>
+    ensures { result ≡ values.count_of value.now }
+{
+    match value {
+        ScalarValue::Primitive(PValue::U64(count)) => Some(*count),
+        _ => None,
+    }
+}
+
+// Whether every value is null. An inexact count bounds the nulls from above, so it tells only where it
+// is below the number of rows.
+fn all_null_value(count: Precision<ScalarValue>, rows: u64) -> Option<ScalarValue>
+    ensures { result ≡ values.all_null_value count rows }
+{
+    match count {
+        Precision::Exact(v) => Some(ScalarValue::Bool(count_of(&v)? == rows)),
+        Precision::Inexact(v) => {
+            if count_of(&v)? < rows {
+                Some(ScalarValue::Bool(false))
+            } else {
+                None
+            }
+        }
+        Precision::Absent => None,
+    }
+}
+
+// Whether no value is null. An inexact count tells only where it is 0.
+fn all_non_null_value(count: Precision<ScalarValue>) -> Option<ScalarValue>
+    ensures { result ≡ values.all_non_null_value count }
+{
+    match count {
+        Precision::Exact(v) => Some(ScalarValue::Bool(count_of(&v)? == 0)),
+        Precision::Inexact(v) => {
+            if count_of(&v)? == 0 {
+                Some(ScalarValue::Bool(true))
+            } else {
+                None
+            }
+        }
+        Precision::Absent => None,
+    }
+}
+
+// An exact count. An inexact one tells only where it is 0.
+fn null_count_value(count: Precision<ScalarValue>) -> Option<ScalarValue>
+    ensures { result ≡ values.null_count_value count }
+{
+    match count {
+        Precision::Exact(v) => Some(v),
+        Precision::Inexact(v) => {
+            if count_of(&v)? == 0 {
+                Some(ScalarValue::from(0u64))
+            } else {
+                None
+            }
+        }
+        Precision::Absent => None,
+    }
+}
