@@ -33,11 +33,12 @@ use Rattle.vortex_prune.proofs.Operands.{IsInterval, if_ok, if_typed, operand, o
 use Rattle.vortex_prune.proofs.PartLemmas.{own_set_fits}
 use Rattle.vortex_prune.proofs.TruthLogic.{clash}
 use Rattle.vortex_prune.proofs.ValueTests.{value_le, le_refl}
-use Rattle.vortex_prune.specs.Complete.{Box, FalsifiersAreComplete, IsBoxOf, IsInOrder, IsKnownBy, IsSatisfiable, are_closed, are_distinct, are_in_order, columns_of, is_closed_end, is_operand, is_range, is_simple, is_truth}
+use Rattle.vortex_prune.specs.Complete.{Box, FalsifiersAreComplete, IsBoxOf, IsInOrder, IsKnownBy, IsSatisfiable, SkippingIsComplete, are_closed, are_distinct, are_in_order, columns_of, is_closed_end, is_operand, is_range, is_simple, is_truth}
 use Rattle.vortex_prune.specs.Part.{Entries, IsPart, PartData}
 use Rattle.vortex_prune.specs.PartAnswers.{column_value, part_values}
 use Rattle.vortex_prune.specs.Proof.{Assignment, proves}
 use Rattle.vortex_prune.specs.Rewriting.{falsifier}
+use Rattle.vortex_prune.specs.Scanning.{is_skipped}
 use Rattle.vortex_stats.proofs.Fitting.{entry_value-fits}
 use Rattle.vortex_stats.specs.Claims.{AtMost}
 use Rattle.vortex_stats.specs.Entries.{entry_value, is_value_of, value_fits}
@@ -266,3 +267,8 @@ pub falsifiers_are_complete : FalsifiersAreComplete
 falsifiers_are_complete p t part box typed bool is_part fits once is_box order =
     let h = and_parts (is_simple p) (are_distinct (columns_of p)) once in
     falsifiers_complete part box is_part p (ap is_ok typed) h.0 h.1 fits is_box order
+
+pub skipping_is_complete : SkippingIsComplete
+skipping_is_complete p t part box typed bool is_part fits once is_box order =
+    let c = falsifiers_are_complete p t part box typed bool is_part fits once is_box order in
+    subst (λ o. IsTrue (is_skipped o part (part_values part)) ↔ ¬ IsSatisfiable p box (rows_of part.chunk.columns)) (sym c.1) c.2

@@ -1,4 +1,5 @@
 pub mod Choices
+pub mod CompleteRows
 pub mod Completeness
 pub mod Decided
 pub mod Interval
