@@ -1,5 +1,5 @@
 -- Worked rows of predicates that bounds decide, found by computation alone.
-use Rattle.std.specs.Prelude.{◌≡◌, ◌==◌, ℕ, Bool, true, false, if◌then◌else◌, List, [], ◌∷◌, Option, Some, None, Ok, pos, codes, refl}
+use Rattle.std.specs.Prelude.{◌≡◌, ◌==◌, ℕ, Bool, true, false, if◌then◌else◌, [], ◌∷◌, Some, None, pos, codes, refl}
 use Rattle.vortex_base.specs.declared.between.BetweenOptions.{BetweenOptions}
 use Rattle.vortex_base.specs.declared.between.StrictComparison.TheVariants.{Strict, NonStrict}
 use Rattle.vortex_base.specs.declared.dtype.DType.{DType}

@@ -8,6 +8,7 @@ pub mod Operands
 pub mod PartLemmas
 pub mod RewritingRows
 pub mod RowRules
+pub mod SkippedParts
 pub mod StatRows
 pub mod TextOrder
 pub mod TruthLogic

@@ -1,5 +1,5 @@
 -- Which predicates the bounds of their columns decide: read-once predicates, over a box of values.
-use Rattle.std.specs.Prelude.{◌≡◌, ◌↔◌, ◌==◌, ℕ, Bool, true, false, not as not_b, ◌&&◌, ◌||◌, List, [], ◌∷◌, ◌++◌, Option, Some, None, Ok, IsTrue, MatchOption, slice_get}
+use Rattle.std.specs.Prelude.{◌≡◌, ◌↔◌, ◌==◌, ℕ, Bool, true, false, not as not_b, ◌&&◌, ◌||◌, List, [], ◌∷◌, ◌++◌, Option, Some, Ok, IsTrue, MatchOption, slice_get, map, Contains}
 use Rattle.std.specs.List.{AllByRecursion}
 use Rattle.std.specs.Option.{is_some}
 use Rattle.std.specs.Ordering.{is_gt}
@@ -26,7 +26,7 @@ use Rattle.vortex_prune.specs.Part.{Entries, IsPart, PartData}
 use Rattle.vortex_prune.specs.PartAnswers.{part_values}
 use Rattle.vortex_prune.specs.Proof.{proves}
 use Rattle.vortex_prune.specs.Rewriting.{falsifier}
-use Rattle.vortex_prune.specs.Scanning.{is_skipped}
+use Rattle.vortex_prune.specs.Scanning.{Answered, is_skipped, skipped_parts}
 
 -- ---- read-once predicates
 
@@ -148,3 +148,14 @@ SkippingIsComplete =
     (p : Tree Place) (t : DType) (part : PartData) (box : Box) → type_of p ≡ Ok t → IsTrue (is_bool t) → IsPart part → IsTrue (fits_scope p part.chunk.scope) →
     IsTrue (is_read_once p) → IsBoxOf part p box → IsInOrder p box →
     IsTrue (is_skipped (falsifier [] p) part (part_values part)) ↔ ¬ IsSatisfiable p box (rows_of part.chunk.columns)
+
+-- the parts, each with the answers of its own statistics
+abbrev pub by_own_statistics : List PartData → List Answered
+by_own_statistics parts = map (λ part. (part, part_values part)) parts
+
+-- in a scan by built-in rules and each part's own statistics, a part's place is among the skipped ones exactly if no choice within its box satisfies the predicate
+abbrev pub ScansSkipExactly : Type 0
+ScansSkipExactly =
+    (p : Tree Place) (t : DType) (parts : List PartData) (i : ℕ) (part : PartData) (box : Box) → type_of p ≡ Ok t → IsTrue (is_bool t) →
+    slice_get parts i ≡ Some part → IsPart part → IsTrue (fits_scope p part.chunk.scope) → IsTrue (is_read_once p) → IsBoxOf part p box → IsInOrder p box →
+    Contains (skipped_parts (falsifier [] p) (by_own_statistics parts)) i ↔ ¬ IsSatisfiable p box (rows_of part.chunk.columns)
