@@ -10,7 +10,7 @@ use Rattle.vortex_base.specs.Tree.{Tree, Place, all_columns, column, literal, bi
 use Rattle.vortex_base.specs.Fitting.{is_of_type, is_cell_of, RowsFit}
 
 -- a test that passes wherever another does passes at all columns where that one does
-weaker : {C : Type 0} (p q : C → Bool) → ((c : C) → p c ≡ true → q c ≡ true) → (e : Tree C) → all_columns p e ≡ true → all_columns q e ≡ true
+pub weaker : {C : Type 0} (p q : C → Bool) → ((c : C) → p c ≡ true → q c ≡ true) → (e : Tree C) → all_columns p e ≡ true → all_columns q e ≡ true
 weaker p q w (column c) h = w c h
 weaker p q w (literal c) h = refl
 weaker p q w (binary o l r) h =

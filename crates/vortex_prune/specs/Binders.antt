@@ -24,4 +24,3 @@ pub record IsFaithful (answer : AggregateFnRef → Tree Place → Option (Tree P
   pub unknown : (f : AggregateFnRef) (x : Tree Place) (t : DType) → type_of (stat f x) ≡ Ok t → answer f x ≡ None → value f x ≡ None
   pub missing : (t : DType) (r : Tree Place) → IsMissing t r → IsAnswerOf t r
   pub null : (t : DType) (r : Tree Place) → IsMissing t r → meaning r row n ≡ None
-

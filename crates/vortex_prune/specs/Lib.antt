@@ -4,6 +4,7 @@ pub mod Complete
 pub mod Facts
 pub mod HookFaults
 pub mod Lawful
+pub mod Laws
 pub mod Part
 pub mod PartAnswers
 pub mod Proof

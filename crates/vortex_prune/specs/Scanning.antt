@@ -1,5 +1,5 @@
 -- What a scan has to select and to skip.
-use Rattle.std.specs.Prelude.{ℕ, Bool, false, List, [], Option, None, Some, map, filter, if◌then◌else◌}
+use Rattle.std.specs.Prelude.{ℕ, Bool, false, List, [], ◌∷◌, Option, None, Some, map, filter, if◌then◌else◌}
 use Rattle.std.specs.List.{enumerate_from, flat_map, range_with_len}
 use Rattle.vortex_base.specs.Columns.{ChunkData, row_of, row_count as rows_of}
 use Rattle.vortex_base.specs.Meaning.{satisfies}
@@ -14,6 +14,10 @@ satisfying p k = filter (λ i. satisfies p (row_of i k.columns) (rows_of k.colum
 -- the same as pairs, for the part at a place
 abbrev pub satisfying_rows : Tree Place → ℕ → ChunkData → List (ℕ × ℕ)
 satisfying_rows p place k = map (λ i. (place, i)) (satisfying p k)
+
+-- one row as a pair, if it satisfies
+abbrev pub row_if : Bool → (place row : ℕ) → List (ℕ × ℕ)
+row_if satisfied place row = if satisfied then (place, row) ∷ [] else []
 
 -- the full scan: every row that satisfies the predicate, as part and row, ascending
 abbrev pub full : Tree Place → List PartData → List (ℕ × ℕ)

@@ -1,16 +1,13 @@
-//! Typed nodes over operands that are known to fit.
+//! Nodes over operands that are known to fit.
 ghost use Rattle.std.specs.Prelude.{◌≡◌, Ok, IfOk, IfErr, alloc_error};
 ghost use Rattle.vortex_base.specs.declared.error.BaseError.TheVariants.{Memory};
 ghost use Rattle.vortex_stats.specs.declared.error.StatsError.TheVariants as refusal;
 
-use vortex_base::bound_expression::BoundExpression;
 use vortex_base::error::BaseError;
 use vortex_stats::error::StatsError;
 
 // What a constructor made of operands that fit; `Memory` is the one refusal that is left.
-pub(crate) fn built(
-    made: Result<BoundExpression, BaseError>,
-) -> Result<BoundExpression, StatsError>
+pub(crate) fn built<T>(made: Result<T, BaseError>) -> Result<T, StatsError>
     requires { IfErr made (λ fault. fault ≡ Memory alloc_error) }
     ensures value { IfOk result (λ e. made ≡ Ok e) }
     ensures memory { IfErr result (λ fault. fault ≡ refusal.Memory alloc_error) }

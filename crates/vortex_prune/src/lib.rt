@@ -3,4 +3,6 @@
 
 mod built;
 pub mod hook_fault;
+pub mod laws;
 pub mod part;
+mod select;

@@ -1,0 +1,5 @@
+use Rattle.vortex_prune.proofs.SoundRules.{falsifiers_sound}
+use Rattle.vortex_prune.proofs.laws.falsifiers_are_sound.Goals as goal
+
+pub returns : goal.returns
+returns c = falsifiers_sound

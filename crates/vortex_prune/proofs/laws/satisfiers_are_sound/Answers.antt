@@ -1,0 +1,5 @@
+use Rattle.vortex_prune.proofs.SoundRules.{satisfiers_sound}
+use Rattle.vortex_prune.proofs.laws.satisfiers_are_sound.Goals as goal
+
+pub returns : goal.returns
+returns c = satisfiers_sound

@@ -1,0 +1,5 @@
+use Rattle.vortex_prune.proofs.HonestParts.{part_is_honest}
+use Rattle.vortex_prune.proofs.laws.statistics_are_honest.Goals as goal
+
+pub returns : goal.returns
+returns c = part_is_honest
