@@ -1,5 +1,5 @@
 -- Choices of a value for each column: the rows they make, what depends on them, and how two are combined.
-use Rattle.std.proofs.Common.{◌≡◌, ◌<◌, ◌+◌, ℕ, Bool, true, false, not as not_b, ◌&&◌, ◌||◌, List, [], ◌∷◌, ◌++◌, Option, Some, map, length, option_map, refl, sym, ap, ap₂, ◌∙◌, subst, if◌then◌else◌, arith}
+use Rattle.std.proofs.Common.{◌≡◌, ◌<◌, ◌+◌, ℕ, Bool, true, false, not as not_b, ◌&&◌, ◌||◌, List, [], ◌∷◌, ◌++◌, Some, map, length, option_map, refl, sym, ap, ap₂, ◌∙◌, if◌then◌else◌, arith}
 use Rattle.std.specs.Prelude.{◌==◌, is_none, slice_get}
 use Rattle.std.specs.List.{AllByRecursion, range_with_len}
 use Rattle.std.proofs.lemmas.Bool.{not-true, and_parts, eq-eqb}

@@ -1,19 +1,19 @@
 -- The falsifiers of read-once predicates are complete over known boxes in order.
-use Rattle.std.proofs.Common.{◌≡◌, ◌<◌, ◌↔◌, ℕ, zero, suc, Bool, true, false, not as not_b, ◌&&◌, List, [], ◌∷◌, ◌++◌, length, Option, Some, None, Result, Ok, Err, refl, sym, ap, ◌∙◌, subst, subst₂, if◌then◌else◌}
+use Rattle.std.proofs.Common.{◌≡◌, ◌<◌, ◌↔◌, ℕ, zero, suc, Bool, true, false, not as not_b, ◌&&◌, List, [], ◌∷◌, ◌++◌, length, Option, Some, None, refl, sym, ap, ◌∙◌, subst, subst₂, if◌then◌else◌}
 use Rattle.std.specs.Prelude.{IsTrue, MatchOption, is_ok, slice_get}
 use Rattle.std.specs.List.{AllByRecursion}
 use Rattle.std.proofs.lemmas.Bool.{and_parts}
 use Rattle.std.proofs.lemmas.Option.{same_Some, none-some, slice_get_within}
 use Rattle.vortex_base.proofs.PlacedTypes.{with_types-ok}
-use Rattle.vortex_base.specs.Columns.{ColumnData, ChunkData, IsChunk, has_types, row_count as rows_of}
+use Rattle.vortex_base.specs.Columns.{ColumnData, has_types, row_count as rows_of}
 use Rattle.vortex_base.specs.Exact.{both_true}
 use Rattle.vortex_base.specs.Fitting.{fits_scope, is_of_type}
 use Rattle.vortex_base.specs.Meaning.{is_true}
 use Rattle.vortex_base.specs.Scalars.{Constant, is_optional_value}
 use Rattle.vortex_base.specs.Scopes.{Named}
 use Rattle.vortex_base.specs.Tree.{Tree, Place, column, literal, binary, between, is_null, is_not_null, not, like, stat, row_count, all_columns, is_column}
-use Rattle.vortex_base.specs.Types.{as_nullable, dtype_eq, dtype_eq_is_exact, eq_ignore_nullability}
-use Rattle.vortex_base.specs.Typing.{are_comparable, between_type, comparison_type, connective_type, is_state, type_of, with_types}
+use Rattle.vortex_base.specs.Types.{as_nullable, dtype_eq_is_exact, eq_ignore_nullability}
+use Rattle.vortex_base.specs.Typing.{are_comparable, between_type, comparison_type, connective_type, type_of, with_types}
 use Rattle.vortex_base.specs.Values.{is_value}
 use Rattle.vortex_base.specs.declared.aggregate.AggregateFnRef.TheVariants as aggregate
 use Rattle.vortex_base.specs.declared.between.BetweenOptions.{BetweenOptions}
@@ -21,23 +21,23 @@ use Rattle.vortex_base.specs.declared.between.StrictComparison.{StrictComparison
 use Rattle.vortex_base.specs.declared.between.StrictComparison.TheVariants.{Strict, NonStrict}
 use Rattle.vortex_base.specs.declared.dtype.DType.{DType}
 use Rattle.vortex_base.specs.declared.dtype.DType.TheVariants as dtype
-use Rattle.vortex_base.specs.declared.error.BaseError.{BaseError}
 use Rattle.vortex_base.specs.declared.operator.Operator.{Operator}
 use Rattle.vortex_base.specs.declared.operator.Operator.TheVariants.{Eq, NotEq, Gt, Gte, Lt, Lte, And, Or}
 use Rattle.vortex_base.specs.declared.scalar_value.ScalarValue.{ScalarValue}
 use Rattle.vortex_base.specs.declared.scalar_value.ScalarValue.TheVariants as value
-use Rattle.vortex_prune.proofs.Choices.{AreInside, IsBetween, all_back, all_front, all_joined, all_map, all_map_both, distinct_back, distinct_front, row_with, row_within}
+use Rattle.vortex_prune.proofs.Choices.{AreInside, IsBetween, all_back, all_front, all_joined, all_map, distinct_back, distinct_front, row_with, row_within}
 use Rattle.vortex_prune.proofs.Decided.{Decided, and_decided, comparison_decided, or_decided, range_decided, truth_decided}
 use Rattle.vortex_prune.proofs.Interval.{is_comparison}
 use Rattle.vortex_prune.proofs.Operands.{IsInterval, if_ok, if_typed, operand, operand_type, same_operands, same_values}
 use Rattle.vortex_prune.proofs.PartLemmas.{own_set_fits}
 use Rattle.vortex_prune.proofs.TruthLogic.{clash}
 use Rattle.vortex_prune.proofs.ValueTests.{value_le, le_refl}
-use Rattle.vortex_prune.specs.Complete.{Box, FalsifiersAreComplete, IsBoxOf, IsInOrder, IsKnownBy, IsSatisfiable, are_closed, are_distinct, are_in_order, columns_of, is_closed_end, is_operand, is_range, is_simple, is_truth}
+use Rattle.vortex_prune.specs.Complete.{Box, FalsifiersAreComplete, IsBoxOf, IsInOrder, IsKnownBy, IsSatisfiable, SkippingIsComplete, are_closed, are_distinct, are_in_order, columns_of, is_closed_end, is_operand, is_range, is_simple, is_truth}
 use Rattle.vortex_prune.specs.Part.{Entries, IsPart, PartData}
 use Rattle.vortex_prune.specs.PartAnswers.{column_value, part_values}
 use Rattle.vortex_prune.specs.Proof.{Assignment, proves}
 use Rattle.vortex_prune.specs.Rewriting.{falsifier}
+use Rattle.vortex_prune.specs.Scanning.{is_skipped}
 use Rattle.vortex_stats.proofs.Fitting.{entry_value-fits}
 use Rattle.vortex_stats.specs.Claims.{AtMost}
 use Rattle.vortex_stats.specs.Entries.{entry_value, is_value_of, value_fits}
@@ -266,3 +266,8 @@ pub falsifiers_are_complete : FalsifiersAreComplete
 falsifiers_are_complete p t part box typed bool is_part fits once is_box order =
     let h = and_parts (is_simple p) (are_distinct (columns_of p)) once in
     falsifiers_complete part box is_part p (ap is_ok typed) h.0 h.1 fits is_box order
+
+pub skipping_is_complete : SkippingIsComplete
+skipping_is_complete p t part box typed bool is_part fits once is_box order =
+    let c = falsifiers_are_complete p t part box typed bool is_part fits once is_box order in
+    subst (λ o. IsTrue (is_skipped o part (part_values part)) ↔ ¬ IsSatisfiable p box (rows_of part.chunk.columns)) (sym c.1) c.2

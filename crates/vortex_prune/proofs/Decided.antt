@@ -1,11 +1,10 @@
 -- A read-once predicate over a known box in order: either its falsifier is true and no row within the box satisfies it, or one does.
-use Rattle.std.proofs.Common.{◌≡◌, ◌<◌, ℕ, Bool, true, false, not as not_b, ◌&&◌, ◌||◌, List, [], ◌∷◌, ◌++◌, Option, Some, None, Result, Ok, Err, refl, sym, ap, ap₂, ◌∙◌, subst, ◌⊎◌, inl, inr, ⊎_elim, if◌then◌else◌, option_to_list}
+use Rattle.std.proofs.Common.{◌≡◌, ◌<◌, ℕ, Bool, true, false, not as not_b, ◌&&◌, ◌||◌, List, [], ◌∷◌, ◌++◌, Option, Some, refl, sym, ap, ap₂, ◌∙◌, ◌⊎◌, inl, inr, ⊎_elim, option_to_list}
 use Rattle.std.specs.Prelude.{slice_get}
 use Rattle.std.specs.List.{AllByRecursion}
 use Rattle.std.proofs.lemmas.Bool.{not-true, not-false, and_parts, and_cases, and_left, and_right, or_cases}
 use Rattle.vortex_base.specs.declared.between.BetweenOptions.{BetweenOptions}
-use Rattle.vortex_base.specs.declared.between.StrictComparison.{StrictComparison}
-use Rattle.vortex_base.specs.declared.between.StrictComparison.TheVariants.{Strict, NonStrict}
+use Rattle.vortex_base.specs.declared.between.StrictComparison.TheVariants.{NonStrict}
 use Rattle.vortex_base.specs.declared.aggregate.AggregateFnRef.TheVariants.{Max, Min}
 use Rattle.vortex_base.specs.declared.dtype.DType.{DType}
 use Rattle.vortex_base.specs.declared.operator.Operator.{Operator}
@@ -14,7 +13,7 @@ use Rattle.vortex_base.specs.declared.scalar_value.ScalarValue.{ScalarValue}
 use Rattle.vortex_base.specs.declared.scalar_value.ScalarValue.TheVariants as value
 use Rattle.vortex_base.specs.Columns.{cell_value}
 use Rattle.vortex_base.specs.Meaning.{applied, both, compared, either, is_true, meaning, satisfies, truth, truth_value, within}
-use Rattle.vortex_base.specs.Scalars.{Constant, is_optional_value}
+use Rattle.vortex_base.specs.Scalars.{Constant}
 use Rattle.vortex_base.specs.Tree.{Tree, Place, column, literal, binary, between, stat, has_bare_column}
 use Rattle.vortex_base.specs.Types.{eq_ignore_nullability}
 use Rattle.vortex_base.specs.Values.{is_value}

@@ -1,5 +1,5 @@
 -- Two intervals of values, and the six comparisons between values of them.
-use Rattle.std.proofs.Common.{◌≡◌, Bool, true, false, not, ◌&&◌, ◌||◌, ◌⊎◌, inl, inr, refl, sym, ap, ◌∙◌, ⊎_elim}
+use Rattle.std.proofs.Common.{◌≡◌, Bool, true, false, not, ◌&&◌, ◌||◌, refl, sym, ap, ◌∙◌, ⊎_elim}
 use Rattle.std.proofs.lemmas.Bool.{not-false, and_parts, or_cases, and_left, and_right, and_cases}
 use Rattle.vortex_base.specs.Meaning.{holds}
 use Rattle.vortex_base.specs.Values.{value_cmp}

@@ -1,6 +1,7 @@
 pub mod BoundTypes
 pub mod BoundValues
 pub mod Choices
+pub mod CompleteRows
 pub mod Completeness
 pub mod Decided
 pub mod HonestParts
@@ -17,6 +18,7 @@ pub mod RewritingRows
 pub mod RowFacts
 pub mod RowRules
 pub mod SelectLemmas
+pub mod SkippedParts
 pub mod SoundRules
 pub mod StatFits
 pub mod StatRows

@@ -1,21 +1,20 @@
 -- The operands of comparisons, columns and literals, as intervals of values.
-use Rattle.std.proofs.Common.{◌≡◌, ◌<◌, ℕ, Bool, true, false, not as not_b, ◌&&◌, List, [], ◌∷◌, ◌++◌, Option, Some, None, Result, Ok, Err, refl, sym, ap, ◌∙◌, subst, subst₂, if◌then◌else◌}
-use Rattle.std.specs.Prelude.{is_ok, IsOk}
+use Rattle.std.proofs.Common.{◌≡◌, ◌<◌, ℕ, Bool, true, false, not as not_b, List, Option, Some, None, Ok, Err, refl, sym, ap, ◌∙◌, subst, subst₂, if◌then◌else◌}
+use Rattle.std.specs.Prelude.{is_ok}
 use Rattle.std.specs.List.{AllByRecursion}
 use Rattle.std.specs.Option.{is_some}
-use Rattle.std.proofs.lemmas.Bool.{and_parts, not-false}
+use Rattle.std.proofs.lemmas.Bool.{and_parts}
 use Rattle.vortex_base.specs.declared.aggregate.AggregateFnRef.TheVariants.{Max, Min}
 use Rattle.vortex_base.specs.declared.dtype.DType.{DType}
 use Rattle.vortex_base.specs.declared.dtype.DType.TheVariants as dtype
 use Rattle.vortex_base.specs.declared.error.BaseError.{BaseError}
-use Rattle.vortex_base.specs.declared.error.BaseError.TheVariants.{TypeFault}
 use Rattle.vortex_base.specs.declared.scalar_value.ScalarValue.{ScalarValue}
 use Rattle.vortex_base.specs.declared.scalar_value.ScalarValue.TheVariants as value
 use Rattle.vortex_base.specs.Meaning.{meaning}
 use Rattle.vortex_base.specs.Scalars.{Constant, is_optional_value}
 use Rattle.vortex_base.specs.Tree.{Tree, Place, column, literal, binary, between, is_null, is_not_null, not, like, stat, row_count, has_bare_column}
 use Rattle.vortex_base.specs.Types.{as_nullable, dtype_eq_is_exact, eq_ignore_nullability}
-use Rattle.vortex_base.specs.Typing.{comparison_type, is_state, stat_type, type_if, type_of, with_types}
+use Rattle.vortex_base.specs.Typing.{comparison_type, stat_type, type_of, with_types}
 use Rattle.vortex_base.specs.Values.{is_value}
 use Rattle.vortex_prune.proofs.Choices.{IsBetween, row_with, cell_with}
 use Rattle.vortex_prune.proofs.ValueTests.{value_le, le_refl, le_antisym}

@@ -1,5 +1,5 @@
 -- Which predicates the bounds of their columns decide: read-once predicates, over a box of values.
-use Rattle.std.specs.Prelude.{◌≡◌, ◌↔◌, ◌==◌, ℕ, Bool, true, false, not as not_b, ◌&&◌, ◌||◌, List, [], ◌∷◌, ◌++◌, Option, Some, None, Ok, IsTrue, MatchOption, slice_get}
+use Rattle.std.specs.Prelude.{◌≡◌, ◌↔◌, ◌==◌, ℕ, Bool, true, false, not as not_b, ◌&&◌, ◌||◌, List, [], ◌∷◌, ◌++◌, Option, Some, Ok, IsTrue, MatchOption, slice_get, map, Contains}
 use Rattle.std.specs.List.{AllByRecursion}
 use Rattle.std.specs.Option.{is_some}
 use Rattle.std.specs.Ordering.{is_gt}
@@ -26,6 +26,7 @@ use Rattle.vortex_prune.specs.Part.{Entries, IsPart, PartData}
 use Rattle.vortex_prune.specs.PartAnswers.{part_values}
 use Rattle.vortex_prune.specs.Proof.{proves}
 use Rattle.vortex_prune.specs.Rewriting.{falsifier}
+use Rattle.vortex_prune.specs.Scanning.{Answered, is_skipped, skipped_parts}
 
 -- ---- read-once predicates
 
@@ -132,7 +133,7 @@ pub record IsWithin (box : Box) (row : List Constant) (c : Place) : Type 0 where
 abbrev pub IsSatisfiable : Tree Place → Box → (n : ℕ) → Type 0
 IsSatisfiable p box n = (row : List Constant) × AllByRecursion (IsWithin box row) (columns_of p) × IsTrue (satisfies p row n)
 
--- ---- the theorem
+-- ---- the theorems
 
 -- a read-once predicate has a falsifier, and that is true over a known box in order exactly if no choice within the box satisfies the predicate
 abbrev pub FalsifiersAreComplete : Type 0
@@ -140,3 +141,21 @@ FalsifiersAreComplete =
     (p : Tree Place) (t : DType) (part : PartData) (box : Box) → type_of p ≡ Ok t → IsTrue (is_bool t) → IsPart part → IsTrue (fits_scope p part.chunk.scope) →
     IsTrue (is_read_once p) → IsBoxOf part p box → IsInOrder p box →
     (e : Tree Place) × (falsifier [] p ≡ Some e) × (IsTrue (proves e (part_values part) (rows_of part.chunk.columns)) ↔ ¬ IsSatisfiable p box (rows_of part.chunk.columns))
+
+-- a part is skipped under a read-once predicate, by its own statistics, exactly if no choice within its box satisfies the predicate
+abbrev pub SkippingIsComplete : Type 0
+SkippingIsComplete =
+    (p : Tree Place) (t : DType) (part : PartData) (box : Box) → type_of p ≡ Ok t → IsTrue (is_bool t) → IsPart part → IsTrue (fits_scope p part.chunk.scope) →
+    IsTrue (is_read_once p) → IsBoxOf part p box → IsInOrder p box →
+    IsTrue (is_skipped (falsifier [] p) part (part_values part)) ↔ ¬ IsSatisfiable p box (rows_of part.chunk.columns)
+
+-- the parts, each with the answers of its own statistics
+abbrev pub by_own_statistics : List PartData → List Answered
+by_own_statistics parts = map (λ part. (part, part_values part)) parts
+
+-- in a scan by built-in rules and each part's own statistics, a part's place is among the skipped ones exactly if no choice within its box satisfies the predicate
+abbrev pub ScansSkipExactly : Type 0
+ScansSkipExactly =
+    (p : Tree Place) (t : DType) (parts : List PartData) (i : ℕ) (part : PartData) (box : Box) → type_of p ≡ Ok t → IsTrue (is_bool t) →
+    slice_get parts i ≡ Some part → IsPart part → IsTrue (fits_scope p part.chunk.scope) → IsTrue (is_read_once p) → IsBoxOf part p box → IsInOrder p box →
+    Contains (skipped_parts (falsifier [] p) (by_own_statistics parts)) i ↔ ¬ IsSatisfiable p box (rows_of part.chunk.columns)
