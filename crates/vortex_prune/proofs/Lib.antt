@@ -14,6 +14,7 @@ pub mod Operands
 pub mod OverParts
 pub mod PartLemmas
 pub mod PartLiterals
+pub mod ProofLemmas
 pub mod RewritingRows
 pub mod RowFacts
 pub mod RowRules

@@ -16,7 +16,7 @@ use Rattle.vortex_base.specs.declared.error.BaseError.TheVariants.{Memory}
 use Rattle.vortex_base.specs.declared.scalar_value.ScalarValue.{ScalarValue}
 use Rattle.vortex_base.specs.Tree.{Tree, Place, has_placeholder, is_plain}
 
-none_held : (b : Bool) → not b ≡ true → b ≡ false
+pub none_held : (b : Bool) → not b ≡ true → b ≡ false
 none_held true h = cc
 none_held false h = refl
 

@@ -12,6 +12,7 @@ pub mod PartBinder
 pub mod PartFaithful
 pub mod Proof
 pub mod Rewriting
+pub mod ScanRefusals
 pub mod Scanning
 pub mod StatValues
 pub mod StateTypes

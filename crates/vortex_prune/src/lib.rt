@@ -9,6 +9,7 @@ pub mod laws;
 pub mod part;
 pub mod placeholder;
 mod select;
+mod skipping;
 pub mod stat_binder;
 pub mod stat_fn;
 pub mod stats_binder;

@@ -1,0 +1,22 @@
+-- Which refusals the proof of one part, and a whole scan, may come to.
+use Rattle.std.specs.Prelude.{◌≡◌, ℕ, Bool, true, false, List, [], ◌∷◌, Option, Some, None, IsTrue, ⊤, ◌⊎◌, ◌||◌}
+use Rattle.vortex_base.specs.Scalars.{Constant}
+use Rattle.vortex_base.specs.Tree.{Tree, Place, has_bare_column}
+use Rattle.vortex_stats.specs.declared.error.BinderFault.TheVariants.{Own, WrongType}
+use Rattle.vortex_stats.specs.declared.error.StatsError.{StatsError}
+use Rattle.vortex_stats.specs.declared.error.StatsError.TheVariants.{Memory, Binder, OpenProof}
+
+-- the refusals that a binder's answers to a proof may come to: of memory, the binder's own faults by the numbers that it names, an answer of a wrong type, and a proof that is left open
+abbrev pub IsProofRefusal : (can_fault : ℕ → Bool) → StatsError → Type 0
+IsProofRefusal can_fault (Memory e) = ⊤
+IsProofRefusal can_fault (Binder (Own k)) = IsTrue (can_fault k)
+IsProofRefusal can_fault (Binder WrongType) = ⊤
+IsProofRefusal can_fault OpenProof = ⊤
+IsProofRefusal can_fault e = ⊥
+
+-- those that are left where the binder is faithful: none of a wrong type, and a proof is left open only by a column of its own outside its placeholders
+abbrev pub IsFaithfulRefusal : (can_fault : ℕ → Bool) → (proof : Tree Place) → StatsError → Type 0
+IsFaithfulRefusal can_fault e (Memory x) = ⊤
+IsFaithfulRefusal can_fault e (Binder (Own k)) = IsTrue (can_fault k)
+IsFaithfulRefusal can_fault e OpenProof = has_bare_column e ≡ true
+IsFaithfulRefusal can_fault e x = ⊥

@@ -1,0 +1,39 @@
+//! Whether a part is skipped: its proof is bound to what its binder answers, and evaluated.
+ghost use Rattle.std.specs.Prelude.{◌≡◌, [], IfOk, IfErr, IsTrue};
+ghost use Rattle.vortex_base.specs.Columns.{row_count};
+ghost use Rattle.vortex_prune.specs.Proof.{proves};
+ghost use Rattle.vortex_prune.specs.ScanRefusals.{IsProofRefusal, IsFaithfulRefusal};
+
+use crate::binding::bind_stats_of;
+use crate::built::built;
+use crate::part::Part;
+use crate::select::is_true;
+use crate::stat_binder::StatBinder;
+use std::alloc::Global;
+use vortex_base::bound_expression::BoundExpression;
+use vortex_base::evaluate::evaluate;
+use vortex_base::row::Row;
+use vortex_stats::error::StatsError;
+
+// Whether a proof is true of a part. `OpenProof` if what is bound still holds a placeholder or a
+// column.
+pub(crate) fn is_proved<B: StatBinder>(
+    alloc: Global,
+    proof: &BoundExpression,
+    part: &Part,
+    binder: &B,
+) -> Result<bool, StatsError>
+    ensures value { let n = row_count part.now.chunk.columns in
+        IfOk result (λ b. IsTrue (B.is_faithful_over binder.now [] n) → b ≡ proves proof.now (B.value binder.now [] n) n) }
+    ensures refusal { IfErr result (IsProofRefusal (B.can_fault binder.now)) }
+    ensures faithful { let n = row_count part.now.chunk.columns in
+        IfErr result (λ f. IsTrue (B.is_faithful_over binder.now [] n) → IsFaithfulRefusal (B.can_fault binder.now) proof.now f) }
+{
+    let bound = bind_stats_of(alloc, proof, binder)?;
+    if !bound.is_closed() {
+        return Err(StatsError::OpenProof);
+    }
+    let rows = part.chunk().rows() as u64;
+    let value = built(evaluate(&bound, &Row::empty(), rows))?;
+    Ok(is_true(&value))
+}
