@@ -14,9 +14,14 @@ IsProofRefusal can_fault (Binder WrongType) = ⊤
 IsProofRefusal can_fault OpenProof = ⊤
 IsProofRefusal can_fault e = ⊥
 
+-- a proof, if there is one, has a column outside its placeholders
+abbrev pub is_open : Option (Tree Place) → Bool
+is_open None = false
+is_open (Some e) = has_bare_column e
+
 -- those that are left where the binder is faithful: none of a wrong type, and a proof is left open only by a column of its own outside its placeholders
-abbrev pub IsFaithfulRefusal : (can_fault : ℕ → Bool) → (proof : Tree Place) → StatsError → Type 0
+abbrev pub IsFaithfulRefusal : (can_fault : ℕ → Bool) → (proof : Option (Tree Place)) → StatsError → Type 0
 IsFaithfulRefusal can_fault e (Memory x) = ⊤
 IsFaithfulRefusal can_fault e (Binder (Own k)) = IsTrue (can_fault k)
-IsFaithfulRefusal can_fault e OpenProof = has_bare_column e ≡ true
+IsFaithfulRefusal can_fault e OpenProof = is_open e ≡ true
 IsFaithfulRefusal can_fault e x = ⊥

@@ -1,9 +1,11 @@
 -- What a scan has to select and to skip.
-use Rattle.std.specs.Prelude.{ℕ, Bool, false, List, [], ◌∷◌, Option, None, Some, map, filter, if◌then◌else◌}
+use Rattle.std.specs.Prelude.{ℕ, Bool, false, ◌||◌, List, [], ◌∷◌, Option, None, Some, IsTrue, map, filter, if◌then◌else◌, ⊤}
 use Rattle.std.specs.List.{enumerate_from, flat_map, range_with_len}
 use Rattle.vortex_base.specs.Columns.{ChunkData, row_of, row_count as rows_of}
 use Rattle.vortex_base.specs.Meaning.{satisfies}
+use Rattle.vortex_base.specs.Scalars.{Constant}
 use Rattle.vortex_base.specs.Tree.{Tree, Place}
+use Rattle.vortex_prune.specs.Facts.{IsHonest}
 use Rattle.vortex_prune.specs.Part.{PartData}
 use Rattle.vortex_prune.specs.Proof.{Assignment, proves}
 
@@ -32,6 +34,10 @@ is_skipped (Some e) part A = proves e A (rows_of part.chunk.columns)
 abbrev pub Answered : Type 0
 Answered = PartData × Assignment
 
+-- the place of a part, if it is skipped
+abbrev pub place_if : Bool → (place : ℕ) → List ℕ
+place_if skipped place = if skipped then place ∷ [] else []
+
 -- the places of the parts that are skipped, ascending
 abbrev pub skipped_parts : Option (Tree Place) → List Answered → List ℕ
 skipped_parts proof parts = map (λ e. e.0) (filter (λ e. is_skipped proof e.1.0 e.1.1) (enumerate_from 0 parts))
@@ -43,3 +49,26 @@ kept_rows proof p place part = if is_skipped proof part.0 part.1 then [] else sa
 -- the rows that are selected whatever the statistics claim: the satisfying rows of the parts that aren't skipped
 abbrev pub selected_rows : Option (Tree Place) → Tree Place → List Answered → List (ℕ × ℕ)
 selected_rows proof p parts = flat_map (λ e. kept_rows proof p e.0 e.1) (enumerate_from 0 parts)
+
+-- ---- parts with their binders
+
+module _ {S : Type 0} where
+  -- each part with the answers that its binder names over the row with no columns and the part's row count
+  abbrev pub answered : (value : S → List Constant → ℕ → Assignment) → List PartData → List S → List Answered
+  answered value (part ∷ parts) (binder ∷ binders) = (part, value binder [] (rows_of part.chunk.columns)) ∷ answered value parts binders
+  answered value parts binders = []
+
+  -- each binder is faithful there
+  abbrev pub AreFaithful : (is_faithful_over : S → List Constant → ℕ → Bool) → List PartData → List S → Type 0
+  AreFaithful is_faithful_over (part ∷ parts) (binder ∷ binders) = IsTrue (is_faithful_over binder [] (rows_of part.chunk.columns)) × AreFaithful is_faithful_over parts binders
+  AreFaithful is_faithful_over parts binders = ⊤
+
+  -- and the values that it names there are facts of the part
+  abbrev pub AreHonest : (value : S → List Constant → ℕ → Assignment) → List PartData → List S → Type 0
+  AreHonest value (part ∷ parts) (binder ∷ binders) = IsHonest (value binder [] (rows_of part.chunk.columns)) part.chunk.columns × AreHonest value parts binders
+  AreHonest value parts binders = ⊤
+
+  -- some binder names the fault
+  abbrev pub any_binder : (can_fault : S → ℕ → Bool) → List S → ℕ → Bool
+  any_binder can_fault [] k = false
+  any_binder can_fault (binder ∷ binders) k = can_fault binder k || any_binder can_fault binders k

@@ -6,6 +6,7 @@ pub mod bound;
 mod built;
 pub mod hook_fault;
 pub mod laws;
+pub mod outcome;
 pub mod part;
 pub mod placeholder;
 mod select;

@@ -1,7 +1,8 @@
 //! Whether a part is skipped: its proof is bound to what its binder answers, and evaluated.
-ghost use Rattle.std.specs.Prelude.{◌≡◌, [], IfOk, IfErr, IsTrue};
+ghost use Rattle.std.specs.Prelude.{◌≡◌, [], IfOk, IfErr, IsTrue, Some, option_copied};
 ghost use Rattle.vortex_base.specs.Columns.{row_count};
 ghost use Rattle.vortex_prune.specs.Proof.{proves};
+ghost use Rattle.vortex_prune.specs.Scanning.{is_skipped};
 ghost use Rattle.vortex_prune.specs.ScanRefusals.{IsProofRefusal, IsFaithfulRefusal};
 
 use crate::binding::bind_stats_of;
@@ -27,7 +28,7 @@ pub(crate) fn is_proved<B: StatBinder>(
         IfOk result (λ b. IsTrue (B.is_faithful_over binder.now [] n) → b ≡ proves proof.now (B.value binder.now [] n) n) }
     ensures refusal { IfErr result (IsProofRefusal (B.can_fault binder.now)) }
     ensures faithful { let n = row_count part.now.chunk.columns in
-        IfErr result (λ f. IsTrue (B.is_faithful_over binder.now [] n) → IsFaithfulRefusal (B.can_fault binder.now) proof.now f) }
+        IfErr result (λ f. IsTrue (B.is_faithful_over binder.now [] n) → IsFaithfulRefusal (B.can_fault binder.now) (Some proof.now) f) }
 {
     let bound = bind_stats_of(alloc, proof, binder)?;
     if !bound.is_closed() {
@@ -36,4 +37,23 @@ pub(crate) fn is_proved<B: StatBinder>(
     let rows = part.chunk().rows() as u64;
     let value = built(evaluate(&bound, &Row::empty(), rows))?;
     Ok(is_true(&value))
+}
+
+// Whether a part is skipped: there is a proof, and it is true of the part.
+pub(crate) fn is_skipped<B: StatBinder>(
+    alloc: Global,
+    proof: Option<&BoundExpression>,
+    part: &Part,
+    binder: &B,
+) -> Result<bool, StatsError>
+    ensures value { let n = row_count part.now.chunk.columns in
+        IfOk result (λ b. IsTrue (B.is_faithful_over binder.now [] n) → b ≡ is_skipped (option_copied proof.entry) part.now (B.value binder.now [] n)) }
+    ensures refusal { IfErr result (IsProofRefusal (B.can_fault binder.now)) }
+    ensures faithful { let n = row_count part.now.chunk.columns in
+        IfErr result (λ f. IsTrue (B.is_faithful_over binder.now [] n) → IsFaithfulRefusal (B.can_fault binder.now) (option_copied proof.entry) f) }
+{
+    match proof {
+        None => Ok(false),
+        Some(proof) => is_proved(alloc, proof, part, binder),
+    }
 }

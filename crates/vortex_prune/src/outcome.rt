@@ -1,0 +1,53 @@
+//! What a scan found.
+ghost use Rattle.std.specs.Prelude.{◌≡◌, ◌++◌, [], IfErr, IsTrue, OnOk, option_copied};
+ghost use Rattle.vortex_base.specs.Columns.{row_count};
+ghost use Rattle.vortex_base.specs.Fitting.{fits_scope};
+ghost use Rattle.vortex_base.specs.Tree.{is_plain};
+ghost use Rattle.vortex_prune.specs.Scanning.{is_skipped, kept_rows, place_if};
+ghost use Rattle.vortex_prune.specs.ScanRefusals.{IsProofRefusal, IsFaithfulRefusal};
+
+use crate::part::Part;
+use crate::select::select;
+use crate::skipping::is_skipped;
+use crate::stat_binder::StatBinder;
+use std::alloc::Global;
+use vortex_base::bound_expression::BoundExpression;
+use vortex_stats::error::StatsError;
+
+/// What a scan found. Parts and rows count from 0.
+#[derive(Debug, PartialEq, Eq, Drop)]
+pub struct Scan {
+    /// The rows that satisfy the predicate, each as its part and its place there, ascending.
+    pub selected: Vec<(usize, usize)>,
+    /// The parts that were left out unread, ascending.
+    pub skipped: Vec<usize>,
+}
+
+impl Scan {
+    // Looks at the part at a place: it is skipped, or its satisfying rows are selected.
+    pub(crate) fn visit<B: StatBinder>(
+        &mut self,
+        alloc: Global,
+        place: usize,
+        part: &Part,
+        binder: &B,
+        predicate: &BoundExpression,
+        proof: Option<&BoundExpression>,
+    ) -> Result<(), StatsError>
+        requires plain { IsTrue (is_plain predicate.now) }
+        requires fits { IsTrue (fits_scope predicate.now part.now.chunk.scope) }
+        ensures skipped { let n = row_count part.now.chunk.columns in
+            OnOk result (IsTrue (B.is_faithful_over binder.now [] n) → self.new.skipped.items ≡ self.old.skipped.items ++ place_if (is_skipped (option_copied proof.entry) part.now (B.value binder.now [] n)) place) }
+        ensures selected { let n = row_count part.now.chunk.columns in
+            OnOk result (IsTrue (B.is_faithful_over binder.now [] n) → self.new.selected.items ≡ self.old.selected.items ++ kept_rows (option_copied proof.entry) predicate.now place (part.now, B.value binder.now [] n)) }
+        ensures refusal { IfErr result (IsProofRefusal (B.can_fault binder.now)) }
+        ensures faithful { let n = row_count part.now.chunk.columns in
+            IfErr result (λ f. IsTrue (B.is_faithful_over binder.now [] n) → IsFaithfulRefusal (B.can_fault binder.now) (option_copied proof.entry) f) }
+    {
+        if is_skipped(alloc, proof, part, binder)? {
+            self.skipped.push(place)?;
+            return Ok(());
+        }
+        select(&mut self.selected, place, part.chunk(), predicate)
+    }
+}
