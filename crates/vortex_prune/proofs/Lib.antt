@@ -18,6 +18,7 @@ pub mod ProofLemmas
 pub mod RewritingRows
 pub mod RowFacts
 pub mod RowRules
+pub mod ScanLemmas
 pub mod SelectLemmas
 pub mod SkippedParts
 pub mod SoundRules

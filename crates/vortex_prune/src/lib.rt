@@ -9,6 +9,7 @@ pub mod laws;
 pub mod outcome;
 pub mod part;
 pub mod placeholder;
+mod scan;
 mod select;
 mod skipping;
 pub mod stat_binder;

@@ -1,0 +1,160 @@
+-- What a scan has found after some parts, from what it had found before the last of them.
+use Rattle.std.proofs.Common.{◌≡◌, ◌<◌, ◌≤◌, ◌+◌, ◌||◌, ℕ, zero, suc, Bool, true, false, List, [], ◌∷◌, ◌++◌, Option, Some, IsTrue, cond, map, length, get_or, take, refl, sym, ap, subst, take_all, ◌∙◌, append_assoc, append-nil, arith}
+use Rattle.std.specs.List.{enumerate_from, filter, flat_map}
+use Rattle.std.specs.Prelude.{slice_get}
+use Rattle.vortex_base.specs.Columns.{row_count as rows_of}
+use Rattle.vortex_base.specs.Scalars.{Constant}
+use Rattle.vortex_base.specs.Tree.{Place, Tree}
+use Rattle.vortex_prune.specs.Part.{PartData}
+use Rattle.vortex_prune.specs.Proof.{Assignment}
+use Rattle.vortex_prune.specs.ScanRefusals.{IsFaithfulRefusal, IsProofRefusal, is_open}
+use Rattle.vortex_prune.specs.Scanning.{Answered, AreFaithful, answered, any_binder, is_skipped, kept_rows, place_if, selected_rows, skipped_parts}
+use Rattle.vortex_stats.specs.declared.error.BinderFault.TheVariants.{Own, WrongType}
+use Rattle.vortex_stats.specs.declared.error.StatsError.{StatsError}
+use Rattle.vortex_stats.specs.declared.error.StatsError.TheVariants as fault
+
+-- ---- lists made of the elements of a list and their places
+
+or_left : (a b : Bool) → a ≡ true → (a || b) ≡ true
+or_left true b h = refl
+or_left false b h = absurd cc
+
+or_right : (a b : Bool) → b ≡ true → (a || b) ≡ true
+or_right true b h = refl
+or_right false b h = h
+
+module _ {X Y : Type 0} (f : ℕ → X → List Y) where
+  abbrev collected : ℕ → List X → List Y
+  collected m xs = flat_map (λ e. f e.0 e.1) (enumerate_from m xs)
+
+  one_more : (m n k : ℕ) (xs : List X) (d : X) → m + n ≡ k → n < length xs → collected m (take (suc n) xs) ≡ collected m (take n xs) ++ f k (get_or xs n d)
+  one_more m n k [] d e h = absurd (omega arith)
+  one_more m zero k (x ∷ xs) d e h = append-nil (f m x) ∙ ap (λ i. f i x) (omega (arith, e))
+  one_more m (suc n) k (x ∷ xs) d e h =
+      ap (λ l. f m x ++ l) (one_more (m + 1) n k xs d (omega (arith, e)) (omega arith)) ∙ sym (append_assoc (f m x) (collected (m + 1) (take n xs)) (f k (get_or xs n d)))
+
+  pub collected_more : (n : ℕ) (xs : List X) (d : X) → n < length xs → collected 0 (take (n + 1) xs) ≡ collected 0 (take n xs) ++ f n (get_or xs n d)
+  collected_more n xs d h =
+      let next : n + 1 ≡ suc n = omega arith in
+      ap (λ k. collected 0 (take k xs)) next ∙ one_more 0 n n xs d (omega arith) h
+
+module _ {X : Type 0} (test : X → Bool) where
+  listed_if : (b : Bool) (m : ℕ) (x : X) (rest : List (ℕ × X)) → map (λ e. e.0) (cond b ((m, x) ∷ rest) rest) ≡ place_if b m ++ map (λ e. e.0) rest
+  listed_if true m x rest = refl
+  listed_if false m x rest = refl
+
+  passing_collected : (m : ℕ) (xs : List X) → map (λ e. e.0) (filter (λ e. test e.1) (enumerate_from m xs)) ≡ flat_map (λ e. place_if (test e.1) e.0) (enumerate_from m xs)
+  passing_collected m [] = refl
+  passing_collected m (x ∷ xs) = listed_if (test x) m x (filter (λ e. test e.1) (enumerate_from (m + 1) xs)) ∙ ap (λ l. place_if (test x) m ++ l) (passing_collected (m + 1) xs)
+
+pub skipped_more : (proof : Option (Tree Place)) (parts : List Answered) (n : ℕ) (d : Answered) → n < length parts
+    → skipped_parts proof (take (n + 1) parts) ≡ skipped_parts proof (take n parts) ++ place_if (is_skipped proof (get_or parts n d).0 (get_or parts n d).1) n
+skipped_more proof parts n d h =
+    passing_collected (λ e. is_skipped proof e.0 e.1) 0 (take (n + 1) parts)
+    ∙ collected_more (λ i e. place_if (is_skipped proof e.0 e.1) i) n parts d h
+    ∙ ap (λ l. l ++ place_if (is_skipped proof (get_or parts n d).0 (get_or parts n d).1) n) (sym (passing_collected (λ e. is_skipped proof e.0 e.1) 0 (take n parts)))
+
+pub selected_more : (proof : Option (Tree Place)) (p : Tree Place) (parts : List Answered) (n : ℕ) (d : Answered) → n < length parts
+    → selected_rows proof p (take (n + 1) parts) ≡ selected_rows proof p (take n parts) ++ kept_rows proof p n (get_or parts n d)
+selected_more proof p parts n d h = collected_more (λ i e. kept_rows proof p i e) n parts d h
+
+-- ---- parts with their binders
+
+module _ {S : Type 0} where
+  pub answered_long : (value : S → List Constant → ℕ → Assignment) (parts : List PartData) (binders : List S) → length binders ≡ length parts → length (answered value parts binders) ≡ length parts
+  answered_long value [] binders h = refl
+  answered_long value (p ∷ parts) [] h = absurd (omega (arith, h))
+  answered_long value (p ∷ parts) (b ∷ binders) h = ap suc (answered_long value parts binders (omega (arith, h)))
+
+  pub answered_at : (value : S → List Constant → ℕ → Assignment) (parts : List PartData) (binders : List S) (n : ℕ) (p : PartData) (b : S) → length binders ≡ length parts → n < length parts
+      → (d : Answered) → get_or (answered value parts binders) n d ≡ (get_or parts n p, value (get_or binders n b) [] (rows_of (get_or parts n p).chunk.columns))
+  answered_at value [] binders n p b long h d = absurd (omega arith)
+  answered_at value (q ∷ parts) [] n p b long h d = absurd (omega (arith, long))
+  answered_at value (q ∷ parts) (c ∷ binders) zero p b long h d = refl
+  answered_at value (q ∷ parts) (c ∷ binders) (suc n) p b long h d = answered_at value parts binders n p b (omega (arith, long)) (omega arith) d
+
+  pub faithful_at : (is_faithful_over : S → List Constant → ℕ → Bool) (parts : List PartData) (binders : List S) (n : ℕ) (p : PartData) (b : S) → length binders ≡ length parts → n < length parts
+      → AreFaithful is_faithful_over parts binders → IsTrue (is_faithful_over (get_or binders n b) [] (rows_of (get_or parts n p).chunk.columns))
+  faithful_at over [] binders n p b long h f = absurd (omega arith)
+  faithful_at over (q ∷ parts) [] n p b long h f = absurd (omega (arith, long))
+  faithful_at over (q ∷ parts) (c ∷ binders) zero p b long h f = f.0
+  faithful_at over (q ∷ parts) (c ∷ binders) (suc n) p b long h f = faithful_at over parts binders n p b (omega (arith, long)) (omega arith) f.1
+
+  any_at : (can_fault : S → ℕ → Bool) (binders : List S) (n : ℕ) (b : S) (k : ℕ) → n < length binders → can_fault (get_or binders n b) k ≡ true → any_binder can_fault binders k ≡ true
+  any_at can_fault [] n b k h t = absurd (omega arith)
+  any_at can_fault (c ∷ binders) zero b k h t = or_left (can_fault c k) (any_binder can_fault binders k) t
+  any_at can_fault (c ∷ binders) (suc n) b k h t = or_right (can_fault c k) (any_binder can_fault binders k) (any_at can_fault binders n b k (omega arith) t)
+
+  -- what one binder may refuse, the scan may
+  pub refusal_at : (can_fault : S → ℕ → Bool) (binders : List S) (n : ℕ) (b : S) (f : StatsError) → n < length binders → IsProofRefusal (can_fault (get_or binders n b)) f → IsProofRefusal (any_binder can_fault binders) f
+  refusal_at can_fault binders n b (fault.Memory e) h r = tt
+  refusal_at can_fault binders n b fault.NotPredicate h r = r
+  refusal_at can_fault binders n b fault.Mismatch h r = r
+  refusal_at can_fault binders n b fault.Unsupported h r = r
+  refusal_at can_fault binders n b (fault.Conflict s) h r = r
+  refusal_at can_fault binders n b (fault.Binder (Own k)) h r = any_at can_fault binders n b k h r
+  refusal_at can_fault binders n b (fault.Binder WrongType) h r = tt
+  refusal_at can_fault binders n b (fault.Rule x) h r = r
+  refusal_at can_fault binders n b fault.OpenProof h r = tt
+  refusal_at can_fault binders n b fault.TooLarge h r = r
+
+  pub faithful_refusal_at : (can_fault : S → ℕ → Bool) (binders : List S) (n : ℕ) (b : S) (proof : Option (Tree Place)) (f : StatsError) → n < length binders
+      → IsFaithfulRefusal (can_fault (get_or binders n b)) proof f → IsFaithfulRefusal (any_binder can_fault binders) proof f
+  faithful_refusal_at can_fault binders n b proof (fault.Memory e) h r = tt
+  faithful_refusal_at can_fault binders n b proof fault.NotPredicate h r = r
+  faithful_refusal_at can_fault binders n b proof fault.Mismatch h r = r
+  faithful_refusal_at can_fault binders n b proof fault.Unsupported h r = r
+  faithful_refusal_at can_fault binders n b proof (fault.Conflict s) h r = r
+  faithful_refusal_at can_fault binders n b proof (fault.Binder (Own k)) h r = any_at can_fault binders n b k h r
+  faithful_refusal_at can_fault binders n b proof (fault.Binder WrongType) h r = r
+  faithful_refusal_at can_fault binders n b proof (fault.Rule x) h r = r
+  faithful_refusal_at can_fault binders n b proof fault.OpenProof h r = r
+  faithful_refusal_at can_fault binders n b proof fault.TooLarge h r = r
+
+  -- the same of the binder that was read there
+  pub refusal_in : (can_fault : S → ℕ → Bool) (binders : List S) (n : ℕ) (b : S) (f : StatsError) → n < length binders → b ≡ get_or binders n b → IsProofRefusal (can_fault b) f → IsProofRefusal (any_binder can_fault binders) f
+  refusal_in can_fault binders n b f h is r = refusal_at can_fault binders n b f h (subst (λ c. IsProofRefusal (can_fault c) f) is r)
+
+  pub faithful_refusal_in : (over : S → List Constant → ℕ → Bool) (can_fault : S → ℕ → Bool) (parts : List PartData) (binders : List S) (n : ℕ) (part : PartData) (b : S) (proof : Option (Tree Place)) (f : StatsError)
+      → length binders ≡ length parts → n < length parts → part ≡ get_or parts n part → b ≡ get_or binders n b
+      → (IsTrue (over b [] (rows_of part.chunk.columns)) → IsFaithfulRefusal (can_fault b) proof f) → AreFaithful over parts binders → IsFaithfulRefusal (any_binder can_fault binders) proof f
+  faithful_refusal_in over can_fault parts binders n part b proof f long h is is_b r faithful =
+      let here = faithful_at over parts binders n part b long h faithful in
+      let own : IsTrue (over b [] (rows_of part.chunk.columns)) = subst (λ c. IsTrue (over c [] (rows_of part.chunk.columns))) (sym is_b) (subst (λ q. IsTrue (over (get_or binders n b) [] (rows_of q.chunk.columns))) (sym is) here) in
+      faithful_refusal_at can_fault binders n b proof f (omega (arith, long, h)) (subst (λ c. IsFaithfulRefusal (can_fault c) proof f) is_b (r own))
+
+  -- the part that was read there, with its binder's answers
+  pub answered_in : (value : S → List Constant → ℕ → Assignment) (parts : List PartData) (binders : List S) (n : ℕ) (part : PartData) (b : S) (d : Answered) → length binders ≡ length parts → n < length parts
+      → part ≡ get_or parts n part → b ≡ get_or binders n b → (part, value b [] (rows_of part.chunk.columns)) ≡ get_or (answered value parts binders) n d
+  answered_in value parts binders n part b d long h is is_b =
+      ap (λ q. (q, value b [] (rows_of q.chunk.columns))) is ∙ ap (λ c. (get_or parts n part, value c [] (rows_of (get_or parts n part).chunk.columns))) is_b ∙ sym (answered_at value parts binders n part b long h d)
+
+  pub faithful_in : (over : S → List Constant → ℕ → Bool) (parts : List PartData) (binders : List S) (n : ℕ) (part : PartData) (b : S) → length binders ≡ length parts → n < length parts
+      → part ≡ get_or parts n part → b ≡ get_or binders n b → AreFaithful over parts binders → IsTrue (over b [] (rows_of part.chunk.columns))
+  faithful_in over parts binders n part b long h is is_b faithful =
+      subst (λ c. IsTrue (over c [] (rows_of part.chunk.columns))) (sym is_b) (subst (λ q. IsTrue (over (get_or binders n b) [] (rows_of q.chunk.columns))) (sym is) (faithful_at over parts binders n part b long h faithful))
+
+  -- one more part was looked at
+  pub skipped_in : (value : S → List Constant → ℕ → Assignment) (proof : Option (Tree Place)) (parts : List PartData) (binders : List S) (n : ℕ) (part : PartData) (b : S) (xs : List ℕ) → length binders ≡ length parts → n < length parts
+      → part ≡ get_or parts n part → b ≡ get_or binders n b → xs ≡ skipped_parts proof (take n (answered value parts binders))
+      → xs ++ place_if (is_skipped proof part (value b [] (rows_of part.chunk.columns))) n ≡ skipped_parts proof (take (n + 1) (answered value parts binders))
+  skipped_in value proof parts binders n part b xs long h is is_b e =
+      let d : Answered = (part, value b [] (rows_of part.chunk.columns)) in
+      let own = answered_in value parts binders n part b d long h is is_b in
+      ap (λ l. l ++ place_if (is_skipped proof part (value b [] (rows_of part.chunk.columns))) n) e
+      ∙ ap (λ (q : Answered). skipped_parts proof (take n (answered value parts binders)) ++ place_if (is_skipped proof q.0 q.1) n) own
+      ∙ sym (skipped_more proof (answered value parts binders) n d (omega (arith, answered_long value parts binders long, h)))
+
+  pub selected_in : (value : S → List Constant → ℕ → Assignment) (proof : Option (Tree Place)) (p : Tree Place) (parts : List PartData) (binders : List S) (n : ℕ) (part : PartData) (b : S) (xs : List (ℕ × ℕ)) → length binders ≡ length parts → n < length parts
+      → part ≡ get_or parts n part → b ≡ get_or binders n b → xs ≡ selected_rows proof p (take n (answered value parts binders))
+      → xs ++ kept_rows proof p n (part, value b [] (rows_of part.chunk.columns)) ≡ selected_rows proof p (take (n + 1) (answered value parts binders))
+  selected_in value proof p parts binders n part b xs long h is is_b e =
+      let d : Answered = (part, value b [] (rows_of part.chunk.columns)) in
+      let own = answered_in value parts binders n part b d long h is is_b in
+      ap (λ l. l ++ kept_rows proof p n (part, value b [] (rows_of part.chunk.columns))) e
+      ∙ ap (λ (q : Answered). selected_rows proof p (take n (answered value parts binders)) ++ kept_rows proof p n q) own
+      ∙ sym (selected_more proof p (answered value parts binders) n d (omega (arith, answered_long value parts binders long, h)))
+
+  -- all parts were looked at
+  pub all_taken : (value : S → List Constant → ℕ → Assignment) (parts : List PartData) (binders : List S) (n : ℕ) → length binders ≡ length parts → length parts ≤ n → take n (answered value parts binders) ≡ answered value parts binders
+  all_taken value parts binders n long h = take_all n (answered value parts binders) (omega (arith, answered_long value parts binders long, h))
