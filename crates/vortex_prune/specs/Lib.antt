@@ -1,10 +1,15 @@
 pub mod Binders
 pub mod Binding
+pub mod BuiltIn
 pub mod Facts
 pub mod HookFaults
 pub mod Lawful
+pub mod Own
 pub mod Part
 pub mod PartAnswers
+pub mod Predicates
 pub mod Proof
 pub mod Rewriting
+pub mod RuleRefusals
+pub mod Sides
 pub mod StatValues
