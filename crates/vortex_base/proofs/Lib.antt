@@ -4,6 +4,7 @@ pub mod LikeStops
 pub mod MapLemmas
 pub mod MeaningFits
 pub mod OrderLemmas
+pub mod PatternLemmas
 pub mod PlacedFits
 pub mod PlacedTypes
 pub mod RowLemmas

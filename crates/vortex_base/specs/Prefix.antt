@@ -1,5 +1,5 @@
 -- The texts that a pattern of LIKE can match: its literal characters up to the first wildcard, and the first text above all that begin so.
-use Rattle.std.specs.Prelude.{ℕ, ◌+◌, Bool, true, false, not, ◌&&◌, ◌==◌, List, [], ◌∷◌, Option, Some, None, if◌then◌else◌}
+use Rattle.std.specs.Prelude.{ℕ, ◌+◌, Bool, true, false, not, ◌&&◌, ◌==◌, List, [], ◌∷◌, Option, Some, None, encode_utf8_all, if◌then◌else◌}
 use Rattle.vortex_base.specs.declared.like.Item.{Item}
 use Rattle.vortex_base.specs.declared.like.Item.TheVariants.{Char, AnyChar, AnyRun}
 
@@ -30,3 +30,15 @@ next_after c None = if has_next c then Some ((c + 1) ∷ []) else None
 abbrev pub successor : List ℕ → Option (List ℕ)
 successor [] = None
 successor (c ∷ cs) = next_after c (successor cs)
+
+-- a pattern as far as it bounds the texts that it matches: its literal characters before the first wildcard, by their bytes, and whether it has none
+pub record PatternData : Type 0 where
+  pub prefix : List ℕ
+  pub is_exact : Bool
+
+abbrev pub pattern_of : List Item → PatternData
+pattern_of is = record { prefix = encode_utf8_all (literal_prefix is); is_exact = is_exact is }
+
+-- the one text that the pattern matches, where it has no wildcard
+abbrev pub exact_text : PatternData → Option (List ℕ)
+exact_text p = if p.is_exact then Some p.prefix else None

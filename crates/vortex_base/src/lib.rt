@@ -22,6 +22,7 @@ pub mod from_scalar;
 mod holds;
 pub mod laws;
 pub mod like;
+pub mod like_pattern;
 pub mod nullability;
 pub mod operator;
 pub mod parts;

@@ -37,7 +37,7 @@ impl LikeOptions {
 /// The characters that are left of a text, as they are compared: where case is ignored, ASCII
 /// letters are lowered.
 #[derive(Clone, Copy)]
-struct Characters<'a> {
+pub(crate) struct Characters<'a> {
     text: &'a str,
     ignore_case: bool,
 }
@@ -67,6 +67,15 @@ fn split_char(text: &str) -> Option<(char, &str)>
 }
 
 impl<'a> Characters<'a> {
+    pub(crate) fn as_written(text: &'a str) -> Characters<'a>
+        ensures { characters result ≡ chars text.now }
+    {
+        Characters {
+            text,
+            ignore_case: false,
+        }
+    }
+
     fn split_first(self) -> Option<(char, Characters<'a>)>
         ensures { MatchOption result (characters self.entry ≡ [])
             (λ p. characters self.entry ≡ p.0 ∷ characters p.1) }
@@ -82,7 +91,7 @@ impl<'a> Characters<'a> {
     }
 }
 
-fn next_item<'a>(pattern: Characters<'a>) -> Option<(Item, Characters<'a>)>
+pub(crate) fn next_item<'a>(pattern: Characters<'a>) -> Option<(Item, Characters<'a>)>
     ensures items { MatchOption result (items (characters pattern.entry) ≡ [])
         (λ p. items (characters pattern.entry) ≡ p.0 ∷ items (characters p.1)) }
     ensures shorter { IfSome result (λ p. length (characters p.1) < length (characters pattern.entry)) }

@@ -1,0 +1,124 @@
+//! The engine: it rewrites a predicate into a proof, node by node.
+ghost use Rattle.std.specs.Prelude.{◌≡◌, ◌+◌, ◌-◌, ◌^◌, min, IfErr, IfOk, IsOk, alloc_error};
+ghost use Rattle.vortex_base.specs.Tree as tree;
+ghost use Rattle.vortex_base.specs.Typing.{type_of};
+ghost use Rattle.vortex_stats.specs.declared.error.StatsError.TheVariants.{Memory};
+ghost use Rattle.vortex_prune.specs.Own.{own_rules};
+ghost use Rattle.vortex_prune.specs.Rewriting.{falsifier as falsifier_of, halves as halves_of, node as node_of, satisfier as satisfier_of, visits as visits_of};
+ghost use Rattle.vortex_prune.specs.RuleRefusals.{IsRefusal};
+ghost use Rattle.vortex_prune.specs.Sides.{proof_of};
+
+use crate::ask::ask_own;
+use crate::extremes::{both_joined, either_joined};
+use crate::join::join;
+use crate::proof::Proof;
+use crate::rule::StatsRewriteRule;
+use crate::rules::Rules;
+use crate::side::Side;
+use crate::table::{at_most_one, table_falsifiers, table_satisfiers};
+use std::alloc::Global;
+use vortex_base::between::BetweenOptions;
+use vortex_base::bound_expression::BoundExpression;
+use vortex_base::operator::Operator;
+use vortex_base::parts::Parts;
+use vortex_stats::error::StatsError;
+
+/// The proof at one node: the built-in ones and then those of the user's rules, joined.
+fn node(
+    alloc: Global,
+    side: Side,
+    rules: &Rules,
+    e: &BoundExpression,
+    built_in: Vec<Proof>,
+) -> Result<Option<Proof>, StatsError>
+    ensures answer { IfOk result (λ o. o ≡ node_of (proof_of side)
+        (own_rules ⟦<dyn StatsRewriteRule as StatsRewriteRule>⟧ rules.now.own.items) e.now built_in.items) }
+    ensures refusal { IfErr result (IsRefusal (proof_of side)
+        (own_rules ⟦<dyn StatsRewriteRule as StatsRewriteRule>⟧ rules.now.own.items)) }
+{
+    let mut proofs = built_in;
+    ask_own(alloc, side, rules, e, &mut proofs)?;
+    join(alloc, proofs)
+}
+
+/// The AND of the two comparisons that a BETWEEN stands for.
+fn halves(
+    alloc: Global,
+    options: BetweenOptions,
+    x: &BoundExpression,
+    lower: &BoundExpression,
+    upper: &BoundExpression,
+) -> Result<BoundExpression, StatsError>
+    requires { IsOk (type_of (tree.between options x.now lower.now upper.now)) }
+    ensures value { IfOk result (λ e. e ≡ halves_of options x.now lower.now upper.now) }
+    ensures memory { IfErr result (λ fault. fault ≡ Memory alloc_error) }
+{
+    let low = Proof::binary(
+        alloc,
+        options.lower_strict.to_operator(),
+        lower.try_clone()?,
+        x.try_clone()?,
+    )?;
+    let high = Proof::binary(
+        alloc,
+        options.upper_strict.to_operator(),
+        x.try_clone()?,
+        upper.try_clone()?,
+    )?;
+    Ok(Proof::join(alloc, Operator::And, low, high)?.into_expression())
+}
+
+/// The proof that no row satisfies an expression, if there is one. Each call is a turn, and is
+/// counted as it begins.
+pub(crate) fn rewrite_node(
+    alloc: Global,
+    rules: &Rules,
+    e: &BoundExpression,
+    visits: &mut u64,
+) -> Result<Option<Proof>, StatsError>
+    ensures answer { IfOk result (λ o. o ≡ falsifier_of
+        (own_rules ⟦<dyn StatsRewriteRule as StatsRewriteRule>⟧ rules.now.own.items) e.now) }
+    ensures visits { IfOk result (λ _. visits.new ≡ min (visits.old + visits_of e.now) (2 ^ 64 - 1)) }
+    ensures refusal { IfErr result (IsRefusal (proof_of Side.Falsify)
+        (own_rules ⟦<dyn StatsRewriteRule as StatsRewriteRule>⟧ rules.now.own.items)) }
+{
+    *visits = visits.saturating_add(1);
+    let _typed = e.dtype();
+    match e.parts() {
+        Parts::Binary(operator, left, right) => match operator {
+            Operator::And => {
+                let left = rewrite_node(alloc, rules, left, visits)?;
+                let right = rewrite_node(alloc, rules, right, visits)?;
+                let joined = either_joined(alloc, Operator::Or, left, right)?;
+                node(alloc, Side::Falsify, rules, e, at_most_one(alloc, joined)?)
+            }
+            Operator::Or => {
+                let left = rewrite_node(alloc, rules, left, visits)?;
+                let right = rewrite_node(alloc, rules, right, visits)?;
+                let joined = both_joined(alloc, Operator::And, left, right)?;
+                node(alloc, Side::Falsify, rules, e, at_most_one(alloc, joined)?)
+            }
+            _ => node(alloc, Side::Falsify, rules, e, table_falsifiers(alloc, e)?),
+        },
+        Parts::Between(options, x, lower, upper) => {
+            let halves = halves(alloc, options, x, lower, upper)?;
+            let proof = rewrite_node(alloc, rules, &halves, visits)?;
+            node(alloc, Side::Falsify, rules, e, at_most_one(alloc, proof)?)
+        }
+        _ => node(alloc, Side::Falsify, rules, e, table_falsifiers(alloc, e)?),
+    }
+}
+
+/// The proof that every row satisfies an expression, if there is one.
+pub(crate) fn satisfy_node(
+    alloc: Global,
+    rules: &Rules,
+    e: &BoundExpression,
+) -> Result<Option<Proof>, StatsError>
+    ensures answer { IfOk result (λ o. o ≡ satisfier_of
+        (own_rules ⟦<dyn StatsRewriteRule as StatsRewriteRule>⟧ rules.now.own.items) e.now) }
+    ensures refusal { IfErr result (IsRefusal (proof_of Side.Satisfy)
+        (own_rules ⟦<dyn StatsRewriteRule as StatsRewriteRule>⟧ rules.now.own.items)) }
+{
+    node(alloc, Side::Satisfy, rules, e, table_satisfiers(alloc, e)?)
+}
