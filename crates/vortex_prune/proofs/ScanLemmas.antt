@@ -1,11 +1,13 @@
 -- What a scan has found after some parts, from what it had found before the last of them.
-use Rattle.std.proofs.Common.{◌≡◌, ◌<◌, ◌≤◌, ◌+◌, ◌||◌, ℕ, zero, suc, Bool, true, false, List, [], ◌∷◌, ◌++◌, Option, Some, IsTrue, cond, map, length, get_or, take, refl, sym, ap, subst, take_all, ◌∙◌, append_assoc, append-nil, arith}
+use Rattle.std.proofs.Common.{◌≡◌, ◌<◌, ◌≤◌, ◌+◌, ◌||◌, ℕ, zero, suc, Bool, true, false, List, [], ◌∷◌, ◌++◌, Option, Some, IsTrue, cond, map, length, get_or, take, refl, sym, ap, subst, take_all, ◌∙◌, append_assoc, append-nil, inl, inr, arith}
+use Rattle.std.proofs.Math.Nat.{eq-or-lt_of_le}
+use Rattle.std.proofs.lemmas.Option.{same_Some, slice_get_read, slice_get_within}
 use Rattle.std.specs.List.{enumerate_from, filter, flat_map}
 use Rattle.std.specs.Prelude.{slice_get}
 use Rattle.vortex_base.specs.Columns.{row_count as rows_of}
 use Rattle.vortex_base.specs.Scalars.{Constant}
 use Rattle.vortex_base.specs.Tree.{Place, Tree}
-use Rattle.vortex_prune.specs.Part.{PartData}
+use Rattle.vortex_prune.specs.Part.{AreParts, IsPart, PartData}
 use Rattle.vortex_prune.specs.Proof.{Assignment}
 use Rattle.vortex_prune.specs.ScanRefusals.{IsFaithfulRefusal, IsProofRefusal, is_open}
 use Rattle.vortex_prune.specs.Scanning.{Answered, AreFaithful, answered, any_binder, is_skipped, kept_rows, place_if, selected_rows, skipped_parts}
@@ -57,6 +59,22 @@ skipped_more proof parts n d h =
 pub selected_more : (proof : Option (Tree Place)) (p : Tree Place) (parts : List Answered) (n : ℕ) (d : Answered) → n < length parts
     → selected_rows proof p (take (n + 1) parts) ≡ selected_rows proof p (take n parts) ++ kept_rows proof p n (get_or parts n d)
 selected_more proof p parts n d h = collected_more (λ i e. kept_rows proof p i e) n parts d h
+
+-- ---- the parts that were looked at are parts
+
+abbrev pub AreBelow : ℕ → List PartData → Type 0
+AreBelow n parts = (i : ℕ) (part : PartData) → i < n → slice_get parts i ≡ Some part → IsPart part
+
+pub below_more : (n : ℕ) (parts : List PartData) (part : PartData) → n < length parts → part ≡ get_or parts n part → IsPart part → AreBelow n parts → AreBelow (n + 1) parts
+below_more n parts part h is own below i other less there =
+    let place : i ≤ n = omega (arith, less) in
+    elim (eq-or-lt_of_le place) [
+      | inl here ↦ (let read : Some part ≡ Some other = sym (slice_get_read parts (length parts) n part refl h is) ∙ ap (slice_get parts) (sym here) ∙ there in subst IsPart (same_Some part other read) own)
+      | inr before ↦ below i other before there
+    ]
+
+pub all_below : (n : ℕ) (parts : List PartData) → length parts ≤ n → AreBelow n parts → AreParts parts
+all_below n parts h below i part there = below i part (omega (arith, slice_get_within parts i part there, h)) there
 
 -- ---- parts with their binders
 

@@ -1,5 +1,5 @@
 -- Parts: the columns of some rows, with a set of statistics for each.
-use Rattle.std.specs.Prelude.{◌≡◌, Bool, true, false, List, [], ◌∷◌, IsTrue, Result, Ok, Err, MatchResult, alloc_error, ⊤}
+use Rattle.std.specs.Prelude.{◌≡◌, ℕ, Some, slice_get, Bool, true, false, List, [], ◌∷◌, IsTrue, Result, Ok, Err, MatchResult, alloc_error, ⊤}
 use lib.Pointwise.{pointwise}
 use Rattle.vortex_base.specs.declared.scalar_value.ScalarValue.{ScalarValue}
 use Rattle.vortex_base.specs.Columns.{ChunkData, ColumnData, IsChunk, appended_chunk, sizes_fit}
@@ -26,6 +26,10 @@ sets_fit cs ss = pointwise (λ c es. entries_fit es c.dtype) cs ss
 
 abbrev pub IsPart : PartData → Type 0
 IsPart p = IsChunk p.chunk × IsTrue (sets_fit p.chunk.columns p.stats)
+
+-- each of a list of parts
+abbrev pub AreParts : List PartData → Type 0
+AreParts parts = (i : ℕ) (part : PartData) → slice_get parts i ≡ Some part → IsPart part
 
 -- each set is true of the column beside it
 abbrev pub AreTrueSets : List ColumnData → List Entries → Type 0

@@ -3,6 +3,7 @@ ghost use Rattle.std.specs.Prelude.{◌≡◌, ◌++◌, [], IfErr, IsTrue, OnOk
 ghost use Rattle.vortex_base.specs.Columns.{row_count};
 ghost use Rattle.vortex_base.specs.Fitting.{fits_scope};
 ghost use Rattle.vortex_base.specs.Tree.{is_plain};
+ghost use Rattle.vortex_prune.specs.Part.{IsPart};
 ghost use Rattle.vortex_prune.specs.Scanning.{is_skipped, kept_rows, place_if};
 ghost use Rattle.vortex_prune.specs.ScanRefusals.{IsProofRefusal, IsFaithfulRefusal};
 
@@ -40,14 +41,16 @@ impl Scan {
             OnOk result (IsTrue (B.is_faithful_over binder.now [] n) → self.new.skipped.items ≡ self.old.skipped.items ++ place_if (is_skipped (option_copied proof.entry) part.now (B.value binder.now [] n)) place) }
         ensures selected { let n = row_count part.now.chunk.columns in
             OnOk result (IsTrue (B.is_faithful_over binder.now [] n) → self.new.selected.items ≡ self.old.selected.items ++ kept_rows (option_copied proof.entry) predicate.now place (part.now, B.value binder.now [] n)) }
+        ensures is_part { IsPart part.now }
         ensures refusal { IfErr result (IsProofRefusal (B.can_fault binder.now)) }
         ensures faithful { let n = row_count part.now.chunk.columns in
             IfErr result (λ f. IsTrue (B.is_faithful_over binder.now [] n) → IsFaithfulRefusal (B.can_fault binder.now) (option_copied proof.entry) f) }
     {
+        let chunk = part.chunk();
         if is_skipped(alloc, proof, part, binder)? {
             self.skipped.push(place)?;
             return Ok(());
         }
-        select(&mut self.selected, place, part.chunk(), predicate)
+        select(&mut self.selected, place, chunk, predicate)
     }
 }

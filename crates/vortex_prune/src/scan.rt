@@ -2,6 +2,7 @@
 ghost use Rattle.std.specs.Prelude.{◌≡◌, All, IfErr, IfOk, IsTrue, length, option_copied};
 ghost use Rattle.vortex_base.specs.Fitting.{fits_scope};
 ghost use Rattle.vortex_base.specs.Tree.{is_plain};
+ghost use Rattle.vortex_prune.specs.Part.{AreParts};
 ghost use Rattle.vortex_prune.specs.Scanning.{AreFaithful, answered, any_binder, selected_rows, skipped_parts};
 ghost use Rattle.vortex_prune.specs.ScanRefusals.{IsProofRefusal, IsFaithfulRefusal};
 
@@ -27,6 +28,7 @@ fn scan_by<B: StatBinder>(
         → scan.skipped.items ≡ skipped_parts (option_copied proof.entry) (answered B.value parts.now binders.now)) }
     ensures selected { IfOk result (λ scan. AreFaithful B.is_faithful_over parts.now binders.now
         → scan.selected.items ≡ selected_rows (option_copied proof.entry) predicate.now (answered B.value parts.now binders.now)) }
+    ensures parts { IfOk result (λ _. AreParts parts.now) }
     ensures refusal { IfErr result (IsProofRefusal (any_binder B.can_fault binders.now)) }
     ensures faithful { IfErr result (λ f. AreFaithful B.is_faithful_over parts.now binders.now
         → IsFaithfulRefusal (any_binder B.can_fault binders.now) (option_copied proof.entry) f) }

@@ -1,6 +1,6 @@
 use Rattle.std.proofs.Common.{ap, arith, ◌∙◌}
 use Rattle.std.proofs.lemmas.Result.{err_from_is_err_and}
-use Rattle.vortex_prune.proofs.ScanLemmas.{all_taken, faithful_in, faithful_refusal_in, refusal_in, selected_in, skipped_in}
+use Rattle.vortex_prune.proofs.ScanLemmas.{all_below, all_taken, below_more, faithful_in, faithful_refusal_in, refusal_in, selected_in, skipped_in}
 use Rattle.vortex_prune.specs.Scanning.{answered, selected_rows, skipped_parts}
 use Rattle.std.specs.Prelude.{option_copied}
 use Rattle.vortex_prune.proofs.scan.scan_by.Goals as goal
@@ -19,6 +19,7 @@ returns-in_err-visit-clause-faithful g c =
 
 pub loop-place-preserved : goal.loop-place-preserved
 loop-place-preserved g c = record {
+  parts = below_more c.loop-place.place c.args.parts.now _ c.loop-place-test.true c.index-parts-place.is c.in_ok-visit.ensures.is_part c.loop-place.invariant.parts;
   skipped = λ faithful.
       c.in_ok-visit.ensures.skipped (faithful_in g.B.StatBinder.is_faithful_over c.args.parts.now c.args.binders.now c.loop-place.place _ _ c.requires.binders c.loop-place-test.true c.index-parts-place.is c.index-binders-place.is faithful)
       ∙ skipped_in g.B.StatBinder.value (option_copied c.args.proof) c.args.parts.now c.args.binders.now c.loop-place.place _ _ _ c.requires.binders c.loop-place-test.true c.index-parts-place.is c.index-binders-place.is (c.loop-place.invariant.skipped faithful);
@@ -36,3 +37,6 @@ pub returns-clause-selected : goal.returns-clause-selected
 returns-clause-selected g c = λ faithful.
     c.loop-place.invariant.selected faithful
     ∙ ap (selected_rows (option_copied c.args.proof) c.args.predicate.now) (all_taken g.B.StatBinder.value c.args.parts.now c.args.binders.now c.loop-place.place c.requires.binders (omega (arith, c.loop-place-test.false)))
+
+pub returns-clause-parts : goal.returns-clause-parts
+returns-clause-parts g c = all_below c.loop-place.place c.args.parts.now (omega (arith, c.loop-place-test.false)) c.loop-place.invariant.parts
