@@ -33,3 +33,4 @@ pub mod StatTypes
 pub mod TextOrder
 pub mod TruthLogic
 pub mod ValueTests
+pub mod WholeScan

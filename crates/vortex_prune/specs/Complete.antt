@@ -159,3 +159,9 @@ ScansSkipExactly =
     (p : Tree Place) (t : DType) (parts : List PartData) (i : ℕ) (part : PartData) (box : Box) → type_of p ≡ Ok t → IsTrue (is_bool t) →
     slice_get parts i ≡ Some part → IsPart part → IsTrue (fits_scope p part.chunk.scope) → IsTrue (is_read_once p) → IsBoxOf part p box → IsInOrder p box →
     Contains (skipped_parts (falsifier [] p) (by_own_statistics parts)) i ↔ ¬ IsSatisfiable p box (rows_of part.chunk.columns)
+
+-- the skipped places are those of the parts for which no choice within the box satisfies the predicate, wherever the box is known and in order
+abbrev pub SkipsExactly : Tree Place → List PartData → (skipped : List ℕ) → Type 0
+SkipsExactly p parts skipped =
+    (i : ℕ) (part : PartData) (box : Box) → slice_get parts i ≡ Some part → IsBoxOf part p box → IsInOrder p box →
+    Contains skipped i ↔ ¬ IsSatisfiable p box (rows_of part.chunk.columns)

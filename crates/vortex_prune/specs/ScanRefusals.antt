@@ -2,6 +2,8 @@
 use Rattle.std.specs.Prelude.{◌≡◌, ℕ, Bool, true, false, List, [], ◌∷◌, Option, Some, None, IsTrue, ⊤, ◌⊎◌, ◌||◌}
 use Rattle.vortex_base.specs.Scalars.{Constant}
 use Rattle.vortex_base.specs.Tree.{Tree, Place, has_bare_column}
+use Rattle.vortex_prune.specs.Lawful.{OwnRule}
+use Rattle.vortex_prune.specs.RuleRefusals.{IsRefusal}
 use Rattle.vortex_stats.specs.declared.error.BinderFault.TheVariants.{Own, WrongType}
 use Rattle.vortex_stats.specs.declared.error.StatsError.{StatsError}
 use Rattle.vortex_stats.specs.declared.error.StatsError.TheVariants.{Memory, Binder, OpenProof}
@@ -25,3 +27,11 @@ IsFaithfulRefusal can_fault e (Memory x) = ⊤
 IsFaithfulRefusal can_fault e (Binder (Own k)) = IsTrue (can_fault k)
 IsFaithfulRefusal can_fault e OpenProof = is_open e ≡ true
 IsFaithfulRefusal can_fault e x = ⊥
+
+-- what a scan of a predicate may be refused for: what its rules cause, and what its binders do
+abbrev pub IsScanRefusal : List OwnRule → (can_fault : ℕ → Bool) → StatsError → Type 0
+IsScanRefusal rules can_fault f = IsRefusal (λ rule. rule.falsifier) rules f ⊎ IsProofRefusal can_fault f
+
+-- the same where the binders are faithful
+abbrev pub IsFaithfulScanRefusal : List OwnRule → (can_fault : ℕ → Bool) → (proof : Option (Tree Place)) → StatsError → Type 0
+IsFaithfulScanRefusal rules can_fault proof f = IsRefusal (λ rule. rule.falsifier) rules f ⊎ IsFaithfulRefusal can_fault proof f

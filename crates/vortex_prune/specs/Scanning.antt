@@ -1,5 +1,5 @@
 -- What a scan has to select and to skip.
-use Rattle.std.specs.Prelude.{ℕ, Bool, false, ◌||◌, List, [], ◌∷◌, Option, None, Some, IsTrue, map, filter, if◌then◌else◌, ⊤}
+use Rattle.std.specs.Prelude.{◌≡◌, ℕ, Bool, false, ◌||◌, List, [], ◌∷◌, Option, None, Some, IsTrue, map, filter, if◌then◌else◌, ⊤}
 use Rattle.std.specs.List.{enumerate_from, flat_map, range_with_len}
 use Rattle.vortex_base.specs.Columns.{ChunkData, row_of, row_count as rows_of}
 use Rattle.vortex_base.specs.Meaning.{satisfies}
@@ -7,6 +7,7 @@ use Rattle.vortex_base.specs.Scalars.{Constant}
 use Rattle.vortex_base.specs.Tree.{Tree, Place}
 use Rattle.vortex_prune.specs.Facts.{IsHonest}
 use Rattle.vortex_prune.specs.Part.{PartData}
+use Rattle.vortex_prune.specs.PartAnswers.{part_values}
 use Rattle.vortex_prune.specs.Proof.{Assignment, proves}
 
 -- the rows of a chunk that satisfy the predicate, by their places, ascending
@@ -67,6 +68,11 @@ module _ {S : Type 0} where
   abbrev pub AreHonest : (value : S → List Constant → ℕ → Assignment) → List PartData → List S → Type 0
   AreHonest value (part ∷ parts) (binder ∷ binders) = IsHonest (value binder [] (rows_of part.chunk.columns)) part.chunk.columns × AreHonest value parts binders
   AreHonest value parts binders = ⊤
+
+  -- each binder names what the part's own statistics answer
+  abbrev pub AreByStatistics : (value : S → List Constant → ℕ → Assignment) → List PartData → List S → Type 0
+  AreByStatistics value (part ∷ parts) (binder ∷ binders) = (value binder [] (rows_of part.chunk.columns) ≡ part_values part) × AreByStatistics value parts binders
+  AreByStatistics value parts binders = ⊤
 
   -- some binder names the fault
   abbrev pub any_binder : (can_fault : S → ℕ → Bool) → List S → ℕ → Bool

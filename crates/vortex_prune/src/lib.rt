@@ -18,7 +18,7 @@ mod proof;
 pub mod rewrite;
 pub mod rule;
 pub mod rules;
-mod scan;
+pub mod scan;
 mod select;
 mod side;
 mod skipping;

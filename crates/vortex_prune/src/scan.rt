@@ -1,13 +1,21 @@
 //! Scans: which rows of which parts a predicate selects, and which parts it needn't look at.
-ghost use Rattle.std.specs.Prelude.{◌≡◌, All, IfErr, IfOk, IsTrue, length, option_copied};
+ghost use Rattle.std.specs.Prelude.{◌≡◌, [], false, All, Err, IfErr, IfOk, IsTrue, length, option_copied};
 ghost use Rattle.vortex_base.specs.Fitting.{fits_scope};
 ghost use Rattle.vortex_base.specs.Tree.{is_plain};
 ghost use Rattle.vortex_prune.specs.Part.{AreParts};
-ghost use Rattle.vortex_prune.specs.Scanning.{AreFaithful, answered, any_binder, selected_rows, skipped_parts};
-ghost use Rattle.vortex_prune.specs.ScanRefusals.{IsProofRefusal, IsFaithfulRefusal};
+ghost use Rattle.vortex_prune.specs.Scanning.{AreByStatistics, AreFaithful, AreHonest, answered, full, any_binder, selected_rows, skipped_parts};
+ghost use Rattle.vortex_prune.specs.ScanRefusals.{IsFaithfulRefusal, IsFaithfulScanRefusal, IsProofRefusal, IsScanRefusal};
+ghost use Rattle.vortex_prune.specs.Complete.{SkipsExactly, is_read_once};
+ghost use Rattle.vortex_prune.specs.Own.{own_rules};
+ghost use Rattle.vortex_prune.specs.Predicates.{is_predicate};
+ghost use Rattle.vortex_prune.specs.Rewriting.{falsifier as falsifier_of};
+ghost use Rattle.vortex_stats.specs.declared.error.StatsError.TheVariants.{NotPredicate};
 
 use crate::outcome::Scan;
 use crate::part::Part;
+use crate::rewrite::falsify;
+use crate::rule::StatsRewriteRule;
+use crate::rules::Rules;
 use crate::stat_binder::StatBinder;
 use std::alloc::Global;
 use vortex_base::bound_expression::BoundExpression;
@@ -41,4 +49,76 @@ fn scan_by<B: StatBinder>(
         scan.visit(alloc, place, &parts[place], &binders[place], predicate, proof)?;
     }
     Ok(scan)
+}
+
+// The scan by the falsifier of the predicate.
+fn scan_rules<B: StatBinder>(
+    alloc: Global,
+    parts: &[Part],
+    binders: &[B],
+    predicate: &BoundExpression,
+    rules: &Rules,
+) -> Result<Scan, StatsError>
+    requires binders { length binders.now ≡ length parts.now }
+    requires plain { IsTrue (is_plain predicate.now) }
+    requires fits { All (λ part. IsTrue (fits_scope predicate.now part.chunk.scope)) parts.now }
+    ensures skipped { IfOk result (λ scan. AreFaithful B.is_faithful_over parts.now binders.now
+        → scan.skipped.items ≡ skipped_parts (falsifier_of (own_rules ⟦<dyn StatsRewriteRule as StatsRewriteRule>⟧ rules.now.own.items) predicate.now) (answered B.value parts.now binders.now)) }
+    ensures kept { IfOk result (λ scan. AreFaithful B.is_faithful_over parts.now binders.now
+        → scan.selected.items ≡ selected_rows (falsifier_of (own_rules ⟦<dyn StatsRewriteRule as StatsRewriteRule>⟧ rules.now.own.items) predicate.now) predicate.now (answered B.value parts.now binders.now)) }
+    ensures parts { IfOk result (λ _. AreParts parts.now) }
+    ensures predicate { IfOk result (λ _. IsTrue (is_predicate predicate.now)) }
+    ensures not_predicate { is_predicate predicate.now ≡ false → result ≡ Err NotPredicate }
+    ensures refusal { IsTrue (is_predicate predicate.now)
+        → IfErr result (IsScanRefusal (own_rules ⟦<dyn StatsRewriteRule as StatsRewriteRule>⟧ rules.now.own.items) (any_binder B.can_fault binders.now)) }
+    ensures faithful { IsTrue (is_predicate predicate.now) → AreFaithful B.is_faithful_over parts.now binders.now
+        → IfErr result (IsFaithfulScanRefusal (own_rules ⟦<dyn StatsRewriteRule as StatsRewriteRule>⟧ rules.now.own.items) (any_binder B.can_fault binders.now)
+            (falsifier_of (own_rules ⟦<dyn StatsRewriteRule as StatsRewriteRule>⟧ rules.now.own.items) predicate.now)) }
+{
+    let proof = falsify(alloc, predicate, rules)?;
+    scan_by(alloc, parts, binders, predicate, proof.as_ref())
+}
+
+/// Selects the rows of the parts that satisfy a predicate, and leaves out unread each part whose
+/// falsifier is true by what its binder answers. The predicate is rewritten once; then each part's
+/// binder is asked, in order. With no falsifier no binder is asked and no part is left out.
+///
+/// The caller knows that there is one binder a part, that the predicate is plain
+/// (`BoundExpression::is_plain`) and fits the scope of each part (`BoundExpression::fits_scope`).
+///
+/// `NotPredicate` if the predicate isn't of type Bool, also where there are no parts. `Rule` if a
+/// rule of the user failed or proved by an expression that isn't of type Bool, `Binder` if a binder
+/// failed or answered by another type than its placeholder's, `OpenProof` if a bound proof still
+/// holds a placeholder or a column.
+pub fn scan<B: StatBinder>(
+    alloc: Global,
+    parts: &[Part],
+    binders: &[B],
+    predicate: &BoundExpression,
+    rules: &Rules,
+) -> Result<Scan, StatsError>
+    requires binders { length binders.now ≡ length parts.now }
+    requires plain { IsTrue (is_plain predicate.now) }
+    requires fits { All (λ part. IsTrue (fits_scope predicate.now part.chunk.scope)) parts.now }
+    // With honest binders no wanted row is lost, whichever lawful rules took part.
+    ensures selected { IfOk result (λ scan. AreFaithful B.is_faithful_over parts.now binders.now → AreHonest B.value parts.now binders.now
+        → scan.selected.items ≡ full predicate.now parts.now) }
+    // With faithful binders a part is skipped exactly if the falsifier is true of it.
+    ensures skipped { IfOk result (λ scan. AreFaithful B.is_faithful_over parts.now binders.now
+        → scan.skipped.items ≡ skipped_parts (falsifier_of (own_rules ⟦<dyn StatsRewriteRule as StatsRewriteRule>⟧ rules.now.own.items) predicate.now) (answered B.value parts.now binders.now)) }
+    // Whether or not they are honest, the satisfying rows of the other parts are selected.
+    ensures kept { IfOk result (λ scan. AreFaithful B.is_faithful_over parts.now binders.now
+        → scan.selected.items ≡ selected_rows (falsifier_of (own_rules ⟦<dyn StatsRewriteRule as StatsRewriteRule>⟧ rules.now.own.items) predicate.now) predicate.now (answered B.value parts.now binders.now)) }
+    // By built-in rules and the parts' own statistics, a read-once predicate skips a part exactly if
+    // no values within its bounds satisfy it.
+    ensures complete { IfOk result (λ scan. rules.now.own.items ≡ [] → AreFaithful B.is_faithful_over parts.now binders.now → AreByStatistics B.value parts.now binders.now
+        → IsTrue (is_read_once predicate.now) → SkipsExactly predicate.now parts.now scan.skipped.items) }
+    ensures not_predicate { is_predicate predicate.now ≡ false → result ≡ Err NotPredicate }
+    ensures refusal { IsTrue (is_predicate predicate.now)
+        → IfErr result (IsScanRefusal (own_rules ⟦<dyn StatsRewriteRule as StatsRewriteRule>⟧ rules.now.own.items) (any_binder B.can_fault binders.now)) }
+    ensures faithful { IsTrue (is_predicate predicate.now) → AreFaithful B.is_faithful_over parts.now binders.now
+        → IfErr result (IsFaithfulScanRefusal (own_rules ⟦<dyn StatsRewriteRule as StatsRewriteRule>⟧ rules.now.own.items) (any_binder B.can_fault binders.now)
+            (falsifier_of (own_rules ⟦<dyn StatsRewriteRule as StatsRewriteRule>⟧ rules.now.own.items) predicate.now)) }
+{
+    scan_rules(alloc, parts, binders, predicate, rules)
 }
