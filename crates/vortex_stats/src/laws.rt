@@ -1,7 +1,9 @@
 //! Laws of the definitions, as functions whose contracts state them.
 ghost use Rattle.vortex_stats.specs.Bound.{IsTightIntersection};
-ghost use Rattle.vortex_stats.specs.UpperBound.{upper_allows, upper_intersection};
-ghost use Rattle.vortex_stats.specs.LowerBound.{lower_allows, lower_intersection};
+ghost use Rattle.vortex_stats.specs.Order.{greater, lesser};
+ghost use Rattle.vortex_stats.specs.UpperBound.{upper_allows, upper_union, upper_intersection};
+ghost use Rattle.vortex_stats.specs.LowerBound.{lower_allows, lower_union, lower_intersection};
+ghost use Rattle.vortex_stats.specs.Tightest.{IsTightestUnion};
 ghost use Rattle.std.specs.Prelude.{◌≡◌, ℕ, IsTrue, List};
 ghost use Rattle.std.specs.Ordering.{nat_cmp};
 ghost use Rattle.vortex_base.specs.declared.dtype.DType.{DType};
@@ -27,6 +29,14 @@ pub fn upper_intersection_is_tight<T: Ord>()
 /// and is Empty exactly where that is nothing.
 pub fn lower_intersection_is_tight<T: Ord>()
     ensures { IsTightIntersection (lower_allows T.cmp) (lower_intersection T.cmp) }
+{}
+
+/// The union of two present bounds is the tightest bound that there is: what it allows, every bound
+/// allows that allows the picks of what the operands allow, taken among that value and the
+/// operands' own.
+pub fn union_is_tightest<T: Ord>()
+    ensures upper { IsTightestUnion (upper_allows T.cmp) (greater T.cmp) (upper_union T.cmp) }
+    ensures lower { IsTightestUnion (lower_allows T.cmp) (lesser T.cmp) (lower_union T.cmp) }
 {}
 
 /// A statistic is told by its number, and by its aggregate where it has one.
