@@ -20,3 +20,4 @@ pub mod UnorderedTruth
 pub mod ClaimRows
 pub mod Combining
 pub mod Tightness
+pub mod Groupings
