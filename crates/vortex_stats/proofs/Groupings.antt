@@ -1,6 +1,6 @@
 -- The union of many present bounds is their greatest value, exact where an exact bound has it, whatever their grouping and order.
 use Rattle.std.proofs.Common.{◌≡◌, zero, suc, refl, inl, inr, sym, ◌∙◌, ap, subst, ⊎_elim, arith}
-use Rattle.std.specs.Prelude.{Bool, Option, Some, None, List, [], ◌∷◌, ◌++◌, MatchOption, ◌⊎◌, if◌then◌else◌, IsTrue, All, Contains, IsPermutation}
+use Rattle.std.specs.Prelude.{Option, Some, None, List, [], ◌∷◌, ◌++◌, MatchOption, ◌⊎◌, if◌then◌else◌, IsTrue, Contains, IsPermutation}
 use mathlib.Core.Bool.{true≢false}
 use Rattle.std.specs.declared.cmp.Ordering.{Ordering}
 use Rattle.std.specs.declared.cmp.Ordering.TheVariants.{Less, Equal, Greater}
@@ -14,7 +14,7 @@ use Rattle.vortex_stats.specs.Precision.{is_present}
 use Rattle.vortex_stats.specs.Order.{AtMost, AtMost-refl, AtMost-trans, AtMost-of_equal, AtMost-of_less, AtMost-of_greater, equal-of_both, greater_not, reversed_total}
 use Rattle.vortex_stats.specs.UpperBound.{upper_union}
 use Rattle.vortex_stats.specs.LowerBound.{lower_union}
-use Rattle.vortex_stats.specs.Tightest.{BoundTree, leaf, fork, leaves, ArePresent, union_of_two, tree_union, HasValue, HasExact, IsGreatest, IsLeast, IsGreatestOf, IsLeastOf, AreAlike, AnswersAlike}
+use Rattle.vortex_stats.specs.Tightest.{BoundTree, leaf, fork, leaves, ArePresent, union_of_two, tree_union, HasValue, HasExact, IsGreatest, IsGreatestOf, IsLeastOf, AreAlike, AnswersAlike}
 
 only_one : {X : Type 0} (x y : X) → Contains (x ∷ []) y → x ≡ y
 only_one x y (zero, l, e) = e

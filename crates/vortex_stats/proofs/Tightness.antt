@@ -12,7 +12,7 @@ use Rattle.vortex_stats.specs.Precision.{is_present}
 use Rattle.vortex_stats.specs.Order.{greater, lesser, AtMost, AtMost-refl, AtMost-trans, AtMost-of_equal, AtMost-of_less, AtMost-of_greater, equal-of_both, greater-least, greater_not, less_not_equal, reversed_total}
 use Rattle.vortex_stats.specs.UpperBound.{upper_allows, upper_union}
 use Rattle.vortex_stats.specs.LowerBound.{lower_allows, lower_union}
-use Rattle.vortex_stats.specs.Tightest.{IsAmong, AllowsPicks, IsTightestAt, IsTightestUnion}
+use Rattle.vortex_stats.specs.Tightest.{IsTightestAt, IsTightestUnion}
 
 module _ {T : Type 0} {R : T → T → Ordering} (o : IsTotalOrder R) where
   -- what compares equal to a value that is allowed is allowed
