@@ -19,3 +19,5 @@ pub mod KeptTruth
 pub mod UnorderedTruth
 pub mod ClaimRows
 pub mod Combining
+pub mod Tightness
+pub mod Groupings

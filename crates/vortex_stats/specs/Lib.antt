@@ -6,6 +6,7 @@ pub mod Bound
 pub mod UpperBound
 pub mod LowerBound
 pub mod PointBound
+pub mod Tightest
 pub mod Scalars
 pub mod Bitset
 pub mod Entries

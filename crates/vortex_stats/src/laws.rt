@@ -1,8 +1,11 @@
 //! Laws of the definitions, as functions whose contracts state them.
 ghost use Rattle.vortex_stats.specs.Bound.{IsTightIntersection};
-ghost use Rattle.vortex_stats.specs.UpperBound.{upper_allows, upper_intersection};
-ghost use Rattle.vortex_stats.specs.LowerBound.{lower_allows, lower_intersection};
-ghost use Rattle.std.specs.Prelude.{◌≡◌, ℕ, IsTrue, List};
+ghost use Rattle.vortex_stats.specs.Order.{greater, lesser};
+ghost use Rattle.vortex_stats.specs.UpperBound.{upper_allows, upper_union, upper_intersection};
+ghost use Rattle.vortex_stats.specs.LowerBound.{lower_allows, lower_union, lower_intersection};
+ghost use Rattle.vortex_stats.specs.Tightest.{IsTightestUnion, BoundTree, leaves, ArePresent, tree_union};
+ghost use Rattle.vortex_stats.specs.Tightest.{IsGreatestOf, IsLeastOf, AnswersAlike};
+ghost use Rattle.std.specs.Prelude.{◌≡◌, ℕ, IsTrue, IsPermutation, List, MatchOption};
 ghost use Rattle.std.specs.Ordering.{nat_cmp};
 ghost use Rattle.vortex_base.specs.declared.dtype.DType.{DType};
 ghost use Rattle.vortex_stats.specs.declared.stat.Stat.{Stat};
@@ -27,6 +30,30 @@ pub fn upper_intersection_is_tight<T: Ord>()
 /// and is Empty exactly where that is nothing.
 pub fn lower_intersection_is_tight<T: Ord>()
     ensures { IsTightIntersection (lower_allows T.cmp) (lower_intersection T.cmp) }
+{}
+
+/// The union of two present bounds is the tightest bound that there is: what it allows, every bound
+/// allows that allows the picks of what the operands allow, taken among that value and the
+/// operands' own.
+pub fn union_is_tightest<T: Ord>()
+    ensures upper { IsTightestUnion (upper_allows T.cmp) (greater T.cmp) (upper_union T.cmp) }
+    ensures lower { IsTightestUnion (lower_allows T.cmp) (lesser T.cmp) (lower_union T.cmp) }
+{}
+
+/// The union of many present bounds is there in whatever grouping and order: of upper bounds it has
+/// the greatest value and of lower bounds the least, and it is exact exactly if an exact one of the
+/// bounds has that value. Values that compare equal count as one.
+pub fn unions_agree<T: Ord>()
+    ensures greatest { (t : BoundTree T) → ArePresent (leaves t)
+        → MatchOption (tree_union (upper_union T.cmp) t) ⊥ (IsGreatestOf T.cmp (leaves t)) }
+    ensures least { (t : BoundTree T) → ArePresent (leaves t)
+        → MatchOption (tree_union (lower_union T.cmp) t) ⊥ (IsLeastOf T.cmp (leaves t)) }
+    ensures upper { (s t : BoundTree T) → ArePresent (leaves s)
+        → IsPermutation (leaves s) (leaves t)
+        → AnswersAlike T.cmp (tree_union (upper_union T.cmp) s) (tree_union (upper_union T.cmp) t) }
+    ensures lower { (s t : BoundTree T) → ArePresent (leaves s)
+        → IsPermutation (leaves s) (leaves t)
+        → AnswersAlike T.cmp (tree_union (lower_union T.cmp) s) (tree_union (lower_union T.cmp) t) }
 {}
 
 /// A statistic is told by its number, and by its aggregate where it has one.

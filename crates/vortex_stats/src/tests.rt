@@ -12,4 +12,5 @@ mod refused;
 mod refused_merges;
 mod sets;
 mod stats;
+mod unions;
 mod views;
