@@ -1,7 +1,12 @@
 // Binders that know a count of nulls or nothing, and binders that fault.
-ghost use Rattle.std.specs.Prelude.{◌≡◌, ◌==◌, ℕ, false, Some, None, refl, sym};
+ghost use Rattle.std.specs.Prelude.{◌≡◌, ◌==◌, ◌&&◌, ⊤, false, Some, None, refl, if◌then◌else◌};
+ghost use Rattle.std.proofs.Common.{sym};
 ghost use mathlib.Core.Bool.{true≢false};
-ghost use Rattle.vortex_base.specs.Tree.{column, literal};
+ghost use Rattle.vortex_base.specs.declared.aggregate.AggregateFnRef.TheVariants as aggregate;
+ghost use Rattle.vortex_base.specs.declared.dtype.DType.TheVariants as dtype;
+ghost use Rattle.vortex_base.specs.declared.nullability.Nullability.TheVariants.{NonNullable};
+ghost use Rattle.vortex_base.specs.declared.ptype.PType.TheVariants as ptype;
+ghost use Rattle.vortex_base.specs.Tree.{column};
 ghost use Rattle.vortex_prune.specs.PartBinder.{IsNullOf};
 
 use super::*;
@@ -43,8 +48,8 @@ struct NullCounts {
 }
 
 impl StatBinder for NullCounts {
-    ghost answer = { λ b f x t. if (b.are_known && (⟦<AggregateFnRef as PartialEq>⟧.eq f AggregateFnRef.NullCount))
-        then Some (column (record { index = 1; dtype = U64 })) else None };
+    ghost answer = { λ b f x t. if (b.are_known && (⟦<AggregateFnRef as PartialEq>⟧.eq f aggregate.NullCount))
+        then Some (column (record { index = 1; dtype = dtype.Primitive ptype.U64 NonNullable })) else None };
 
     ghost is_missing = { λ b. IsNullOf };
 
