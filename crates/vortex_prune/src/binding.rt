@@ -161,3 +161,6 @@ pub fn bind_stats<B: StatBinder>(
 {
     bind_stats_of(alloc, &e, binder)
 }
+
+#[cfg(test)]
+mod tests;

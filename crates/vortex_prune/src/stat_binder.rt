@@ -61,13 +61,22 @@ pub trait StatBinder {
     }
 }
 
+// What a constructor made of operands that fit, for a binder.
+pub(crate) fn hooked<T>(made: Result<T, BaseError>) -> Result<T, HookFault>
+    requires { IfErr made (λ f. f ≡ base.Memory alloc_error) }
+    ensures value { IfOk result (λ v. made ≡ Ok v) }
+    ensures memory { IfErr result (λ f. f ≡ fault.Memory alloc_error) }
+{
+    match made {
+        Ok(value) => Ok(value),
+        Err(BaseError::Memory(refused)) => Err(HookFault::Memory(refused)),
+        Err(_) => unreachable!(),
+    }
+}
+
 // A literal, for a binder.
 pub(crate) fn literal(alloc: Global, value: Scalar) -> Result<BoundExpression, HookFault>
     ensures { MatchResult result (λ e. e ≡ literal value) (λ f. f ≡ fault.Memory alloc_error) }
 {
-    match bound::lit(alloc, value) {
-        Ok(e) => Ok(e),
-        Err(BaseError::Memory(refused)) => Err(HookFault::Memory(refused)),
-        Err(_) => unreachable!(),
-    }
+    hooked(bound::lit(alloc, value))
 }

@@ -230,3 +230,6 @@ fn null_count_value(count: Precision<ScalarValue>) -> Option<ScalarValue>
         Precision::Absent => None,
     }
 }
+
+#[cfg(test)]
+mod tests;

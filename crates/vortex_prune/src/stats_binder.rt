@@ -110,3 +110,6 @@ impl<'a> StatBinder for StatsBinder<'a> {
         }
     }
 }
+
+#[cfg(test)]
+mod tests;
