@@ -46,7 +46,14 @@ fn scan_by<B: StatBinder>(
         skipped: Vec::new(alloc),
     };
     for place in 0..parts.len() {
-        scan.visit(alloc, place, &parts[place], &binders[place], predicate, proof)?;
+        scan.visit(
+            alloc,
+            place,
+            &parts[place],
+            &binders[place],
+            predicate,
+            proof,
+        )?;
     }
     Ok(scan)
 }
@@ -73,7 +80,7 @@ fn scan_rules<B: StatBinder>(
         → IfErr result (IsScanRefusal (own_rules ⟦<dyn StatsRewriteRule as StatsRewriteRule>⟧ rules.now.own.items) (any_binder B.can_fault binders.now)) }
     ensures faithful { IsTrue (is_predicate predicate.now) → AreFaithful B.is_faithful_over parts.now binders.now
         → IfErr result (IsFaithfulScanRefusal (own_rules ⟦<dyn StatsRewriteRule as StatsRewriteRule>⟧ rules.now.own.items) (any_binder B.can_fault binders.now)
-            (falsifier_of (own_rules ⟦<dyn StatsRewriteRule as StatsRewriteRule>⟧ rules.now.own.items) predicate.now)) }
+        (falsifier_of (own_rules ⟦<dyn StatsRewriteRule as StatsRewriteRule>⟧ rules.now.own.items) predicate.now)) }
 {
     let proof = falsify(alloc, predicate, rules)?;
     scan_by(alloc, parts, binders, predicate, proof.as_ref())
@@ -118,7 +125,10 @@ pub fn scan<B: StatBinder>(
         → IfErr result (IsScanRefusal (own_rules ⟦<dyn StatsRewriteRule as StatsRewriteRule>⟧ rules.now.own.items) (any_binder B.can_fault binders.now)) }
     ensures faithful { IsTrue (is_predicate predicate.now) → AreFaithful B.is_faithful_over parts.now binders.now
         → IfErr result (IsFaithfulScanRefusal (own_rules ⟦<dyn StatsRewriteRule as StatsRewriteRule>⟧ rules.now.own.items) (any_binder B.can_fault binders.now)
-            (falsifier_of (own_rules ⟦<dyn StatsRewriteRule as StatsRewriteRule>⟧ rules.now.own.items) predicate.now)) }
+        (falsifier_of (own_rules ⟦<dyn StatsRewriteRule as StatsRewriteRule>⟧ rules.now.own.items) predicate.now)) }
 {
     scan_rules(alloc, parts, binders, predicate, rules)
 }
+
+#[cfg(test)]
+mod tests;
