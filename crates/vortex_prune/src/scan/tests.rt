@@ -1,4 +1,8 @@
 // Scans over parts of one column of numbers, row by row.
+ghost use Rattle.std.specs.Bool.{OnTrue};
+ghost use Rattle.std.specs.Prelude.{◌≡◌, All, IfOk, IsTrue};
+ghost use Rattle.vortex_base.specs.Fitting.{fits_scope};
+
 use super::*;
 use crate::stats_binder::StatsBinder;
 use std::alloc::AllocError;
@@ -27,24 +31,30 @@ fn number(value: i32) -> ScalarValue {
     ScalarValue::from(value)
 }
 
-// A part of one column `a`, with these statistics of it.
-fn part<const N: usize, const M: usize>(
-    alloc: Global,
-    rows: [Option<i32>; N],
-    entries: [(Stat, Precision<ScalarValue>); M],
-) -> Result<Part, Fail> {
+// The values of a column of these numbers.
+fn values(alloc: Global, rows: &[Option<i32>]) -> Result<Vec<Option<ScalarValue>>, AllocError> {
     let mut values = Vec::new(alloc);
     for row in rows {
-        values.push(row.map(number))?;
+        match row {
+            Some(value) => values.push(Some(number(*value)))?,
+            None => values.push(None)?,
+        }
     }
-    let column = Column::try_new(NUMBER, values, 0)?;
+    Ok(values)
+}
+
+// A part of one column `a`, with these statistics of it.
+fn part<const N: usize>(
+    alloc: Global,
+    rows: &[Option<i32>],
+    entries: [(Stat, Precision<ScalarValue>); N],
+) -> Result<Part, Fail> {
+    let column = Column::try_new(NUMBER, values(alloc, rows)?, 0)?;
     let name = String::from_str(alloc, "a")?;
     let scope = Scope::try_new(vec![in alloc; (name, NUMBER)]?)?;
     let chunk = Chunk::try_new(scope, vec![in alloc; column]?)?;
     let mut set = StatsSet::new(alloc);
-    for (stat, value) in entries {
-        set.set(stat, value)?;
-    }
+    set.try_extend(Vec::from_array(alloc, entries)?.into_iter())?;
     match Part::try_new(chunk, vec![in alloc; set]?) {
         Ok(part) => Ok(part),
         Err(refused) => Err(Fail::from(refused.error)),
@@ -96,26 +106,43 @@ fn range(
     )
 }
 
-// The scan of the parts by the built-in rules and their own statistics.
-fn scanned(alloc: Global, parts: &[Part], predicate: &BoundExpression) -> Result<Scan, StatsError> {
+// The binder of each part's own statistics.
+fn binders_of<'a>(alloc: Global, parts: &'a [Part]) -> Result<Vec<StatsBinder<'a>>, AllocError>
+    ensures { IfOk result (λ binders. binders.items ≡ parts.entry.now) }
+{
     let mut binders = Vec::new(alloc);
     for part in parts {
-        if !predicate.fits_scope(part.chunk().scope()) {
-            return Err(StatsError::Mismatch);
-        }
         binders.push(StatsBinder::new(part))?;
     }
-    if !predicate.is_plain() {
+    Ok(binders)
+}
+
+// Whether the predicate fits the scope of each part.
+fn all_fit(parts: &[Part], predicate: &BoundExpression) -> bool
+    ensures { OnTrue result (All (λ part. IsTrue (fits_scope predicate.now part.chunk.scope)) parts.now) }
+{
+    for part in parts {
+        if !predicate.fits_scope(part.chunk().scope()) {
+            return false;
+        }
+    }
+    true
+}
+
+// The scan of the parts by the built-in rules and their own statistics.
+fn scanned(alloc: Global, parts: &[Part], predicate: &BoundExpression) -> Result<Scan, StatsError> {
+    if !predicate.is_plain() || !all_fit(parts, predicate) {
         return Err(StatsError::Mismatch);
     }
+    let binders = binders_of(alloc, parts)?;
     scan(alloc, parts, &binders, predicate, &Rules::builtin(alloc))
 }
 
 // Whether the one part is skipped, and else how many rows it gives.
-fn looked_at<const N: usize, const M: usize>(
+fn looked_at<const N: usize>(
     alloc: Global,
-    rows: [Option<i32>; N],
-    entries: [(Stat, Precision<ScalarValue>); M],
+    rows: &[Option<i32>],
+    entries: [(Stat, Precision<ScalarValue>); N],
     predicate: &BoundExpression,
 ) -> Result<(bool, usize), Fail> {
     let parts = vec![in alloc; part(alloc, rows, entries)?]?;
@@ -127,8 +154,8 @@ fn looked_at<const N: usize, const M: usize>(
 fn one_part_is_skipped(rt: HostRuntime) -> Result<(), Fail> {
     let alloc = rt.alloc();
     let mut parts = Vec::new(alloc);
-    parts.push(part(alloc, [Some(1), Some(5), Some(10)], bounds(1, 10))?)?;
-    parts.push(part(alloc, [Some(8), None, Some(20)], bounds(8, 25))?)?;
+    parts.push(part(alloc, &[Some(1), Some(5), Some(10)], bounds(1, 10))?)?;
+    parts.push(part(alloc, &[Some(8), None, Some(20)], bounds(8, 25))?)?;
     let found = scanned(alloc, &parts, &compare(alloc, Operator::Gt, 10)?)?;
     assert!(rt; found.skipped.as_slice() == [0].as_slice());
     assert!(rt; found.selected.as_slice() == [(1, 2)].as_slice());
@@ -144,7 +171,7 @@ fn a_repeated_column_is_kept(rt: HostRuntime) -> Result<(), Fail> {
     let above = compare(alloc, Operator::Gt, 10)?;
     let both = bound::and(alloc, above, compare(alloc, Operator::Lt, 5)?)?;
     assert_eq!(rt;
-        looked_at(alloc, [Some(3)], bounds(0, 20), &both)?,
+        looked_at(alloc, &[Some(3)], bounds(0, 20), &both)?,
         (false, 0)
     );
     Ok(())
@@ -155,21 +182,21 @@ fn ranges(rt: HostRuntime) -> Result<(), Fail> {
     let alloc = rt.alloc();
     let crossed = range(alloc, StrictComparison::NonStrict, 50, 10)?;
     assert_eq!(rt;
-        looked_at(alloc, [Some(3)], bounds(0, 60), &crossed)?,
+        looked_at(alloc, &[Some(3)], bounds(0, 60), &crossed)?,
         (false, 0)
     );
     let neighbours = range(alloc, StrictComparison::Strict, 3, 4)?;
     assert_eq!(rt;
-        looked_at(alloc, [Some(3)], bounds(0, 10), &neighbours)?,
+        looked_at(alloc, &[Some(3)], bounds(0, 10), &neighbours)?,
         (false, 0)
     );
     let closed = range(alloc, StrictComparison::NonStrict, 10, 50)?;
     assert_eq!(rt;
-        looked_at(alloc, [Some(51)], bounds(51, 60), &closed)?,
+        looked_at(alloc, &[Some(51)], bounds(51, 60), &closed)?,
         (true, 0)
     );
     assert_eq!(rt;
-        looked_at(alloc, [Some(50)], bounds(50, 60), &closed)?,
+        looked_at(alloc, &[Some(50)], bounds(50, 60), &closed)?,
         (false, 1)
     );
     Ok(())
@@ -180,16 +207,19 @@ fn null_tests(rt: HostRuntime) -> Result<(), Fail> {
     let alloc = rt.alloc();
     let is_value = bound::is_not_null(alloc, a(alloc)?)?;
     assert_eq!(rt;
-        looked_at(alloc, [None, Some(2), None], nulls(3), &is_value)?,
+        looked_at(alloc, &[None, Some(2), None], nulls(3), &is_value)?,
         (false, 1)
     );
     assert_eq!(rt;
-        looked_at(alloc, [None, Some(2), None], nulls(2), &is_value)?,
+        looked_at(alloc, &[None, Some(2), None], nulls(2), &is_value)?,
         (false, 1)
     );
     let is_null = bound::is_null(alloc, a(alloc)?)?;
-    assert_eq!(rt; looked_at(alloc, [], nulls(0), &is_null)?, (true, 0));
-    assert_eq!(rt; looked_at(alloc, [Some(1)], nulls(0), &is_null)?, (true, 0));
+    assert_eq!(rt; looked_at(alloc, &[], nulls(0), &is_null)?, (true, 0));
+    assert_eq!(rt;
+        looked_at(alloc, &[Some(1)], nulls(0), &is_null)?,
+        (true, 0)
+    );
     Ok(())
 }
 
@@ -199,7 +229,7 @@ fn a_comparison_with_null_proves_nothing(rt: HostRuntime) -> Result<(), Fail> {
     let null = bound::lit(alloc, Scalar::null(NUMBER))?;
     let predicate = bound::eq(alloc, a(alloc)?, null)?;
     assert_eq!(rt;
-        looked_at(alloc, [Some(1), None], bounds(1, 1), &predicate)?,
+        looked_at(alloc, &[Some(1), None], bounds(1, 1), &predicate)?,
         (false, 0)
     );
     Ok(())
@@ -221,8 +251,8 @@ fn without_parts(rt: HostRuntime) -> Result<(), Fail> {
 fn without_statistics(rt: HostRuntime) -> Result<(), Fail> {
     let alloc = rt.alloc();
     let above = compare(alloc, Operator::Gt, 10)?;
-    assert_eq!(rt; looked_at(alloc, [Some(11)], [], &above)?, (false, 1));
+    assert_eq!(rt; looked_at(alloc, &[Some(11)], [], &above)?, (false, 1));
     let absent = [(Stat::Max, Precision::Absent)];
-    assert_eq!(rt; looked_at(alloc, [Some(11)], absent, &above)?, (false, 1));
+    assert_eq!(rt; looked_at(alloc, &[Some(11)], absent, &above)?, (false, 1));
     Ok(())
 }
