@@ -10,6 +10,7 @@ pub mod PartAnswers
 pub mod Predicates
 pub mod Proof
 pub mod Rewriting
+pub mod RuleExamples
 pub mod RuleRefusals
 pub mod Sides
 pub mod StatValues
