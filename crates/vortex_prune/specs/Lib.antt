@@ -15,6 +15,7 @@ pub mod PartFaithful
 pub mod Predicates
 pub mod Proof
 pub mod Rewriting
+pub mod RuleExamples
 pub mod RuleRefusals
 pub mod ScanRefusals
 pub mod Scanning

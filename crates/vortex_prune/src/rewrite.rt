@@ -86,3 +86,6 @@ pub fn satisfy(
     let proof = satisfy_node(alloc, rules, predicate)?;
     Ok(into_expression(proof))
 }
+
+#[cfg(test)]
+mod tests;

@@ -1,0 +1,99 @@
+-- The proofs of the rules that the tests box, and that these are lawful.
+use Rattle.std.specs.Prelude.{◌≡◌, ℕ, Bool, true, false, Option, Some, None, IsTrue, refl}
+use Rattle.std.proofs.Common.{sym, subst, ap, ◌∙◌}
+use Rattle.vortex_base.specs.declared.scalar_value.ScalarValue.{ScalarValue}
+use Rattle.vortex_base.specs.declared.scalar_value.ScalarValue.TheVariants as value
+use Rattle.vortex_base.specs.Meaning.{is_true, opposite, truth, truth_value}
+use Rattle.vortex_base.specs.Tree.{Tree, Place, column, literal, binary, between, is_null, is_not_null, not, like, stat, row_count}
+use Rattle.vortex_prune.specs.Lawful.{IsLawful, IsSoundFalsifier, IsSoundSatisfier}
+use Rattle.vortex_prune.specs.Proof.{Assignment, proves}
+use Rattle.vortex_prune.specs.Rewriting.{bool_literal, count_literal}
+
+-- no proof
+abbrev pub no_proof : Tree Place → Option (Tree Place)
+no_proof p = None
+
+pub no_proof_is_lawful : IsLawful no_proof no_proof
+no_proof_is_lawful = record { falsifies = λ p e h. absurd cc; satisfies = λ p e h. absurd cc }
+
+-- proofs that are never true
+abbrev pub false_proof : Tree Place → Option (Tree Place)
+false_proof p = Some (bool_literal false)
+
+abbrev pub number_proof : Tree Place → Option (Tree Place)
+number_proof p = Some (count_literal 7)
+
+never_false : (e : Tree Place) (A : Assignment) (n : ℕ) → Some (bool_literal false) ≡ Some e → IsTrue (proves e A n) → ⊥
+never_false e A n h t =
+    let same : e ≡ bool_literal false = cc in
+    let told : false ≡ true = subst (λ (x : Tree Place). IsTrue (proves x A n)) same t in
+    cc
+
+never_number : (e : Tree Place) (A : Assignment) (n : ℕ) → Some (count_literal 7) ≡ Some e → IsTrue (proves e A n) → ⊥
+never_number e A n h t =
+    let same : e ≡ count_literal 7 = cc in
+    let told : false ≡ true = subst (λ (x : Tree Place). IsTrue (proves x A n)) same t in
+    cc
+
+pub false_proof_is_lawful : IsLawful false_proof false_proof
+false_proof_is_lawful = record {
+  falsifies = λ p e h k A chunk over honest t. absurd (never_false e A _ h t);
+  satisfies = λ p e h k A chunk over honest t. absurd (never_false e A _ h t);
+}
+
+pub number_proof_is_lawful : IsLawful number_proof number_proof
+number_proof_is_lawful = record {
+  falsifies = λ p e h k A chunk over honest t. absurd (never_number e A _ h t);
+  satisfies = λ p e h k A chunk over honest t. absurd (never_number e A _ h t);
+}
+
+-- the answer, where the value is this truth
+abbrev pub at_truth : (of answer : Bool) → Option ScalarValue → Option (Tree Place)
+at_truth true answer (Some (value.Bool true)) = Some (bool_literal answer)
+at_truth true answer v = None
+at_truth false answer (Some (value.Bool false)) = Some (bool_literal answer)
+at_truth false answer v = None
+
+abbrev pub at_literal : (of answer : Bool) → Tree Place → Option (Tree Place)
+at_literal of answer (literal c) = at_truth of answer c.value
+at_literal of answer e = None
+
+-- the answer, at NOT of a literal that is this truth
+abbrev pub at_opposite : (of answer : Bool) → Tree Place → Option (Tree Place)
+at_opposite of answer (not x) = at_literal of answer x
+at_opposite of answer e = None
+
+of_true : (answer : Bool) (v : Option ScalarValue) (e : Tree Place) → at_truth true answer v ≡ Some e → is_true (truth_value (opposite (truth v))) ≡ false
+of_true answer (Some (value.Bool true)) e h = refl
+of_true answer (Some (value.Bool false)) e h = cc
+of_true answer (Some (value.Primitive p)) e h = cc
+of_true answer (Some (value.Utf8 bs)) e h = cc
+of_true answer (Some (value.Binary bs)) e h = cc
+of_true answer None e h = cc
+
+of_false : (answer : Bool) (v : Option ScalarValue) (e : Tree Place) → at_truth false answer v ≡ Some e → is_true (truth_value (opposite (truth v))) ≡ true
+of_false answer (Some (value.Bool true)) e h = cc
+of_false answer (Some (value.Bool false)) e h = refl
+of_false answer (Some (value.Primitive p)) e h = cc
+of_false answer (Some (value.Utf8 bs)) e h = cc
+of_false answer (Some (value.Binary bs)) e h = cc
+of_false answer None e h = cc
+
+inner_falsifies : (answer : Bool) (x e : Tree Place) → at_literal true answer x ≡ Some e → IsSoundFalsifier (not x) e
+inner_falsifies answer (literal c) e h k A chunk over honest t i within = of_true answer c.value e h
+inner_falsifies answer x e h k A chunk over honest t i within = cc
+
+inner_satisfies : (answer : Bool) (x e : Tree Place) → at_literal false answer x ≡ Some e → IsSoundSatisfier (not x) e
+inner_satisfies answer (literal c) e h k A chunk over honest t i within = of_false answer c.value e h
+inner_satisfies answer x e h k A chunk over honest t i within = cc
+
+opposite_falsifies : (answer : Bool) (p e : Tree Place) → at_opposite true answer p ≡ Some e → IsSoundFalsifier p e
+opposite_falsifies answer (not x) e h = inner_falsifies answer x e h
+opposite_falsifies answer p e h = absurd cc
+
+opposite_satisfies : (answer : Bool) (p e : Tree Place) → at_opposite false answer p ≡ Some e → IsSoundSatisfier p e
+opposite_satisfies answer (not x) e h = inner_satisfies answer x e h
+opposite_satisfies answer p e h = absurd cc
+
+pub opposite_is_lawful : (answer : Bool) → IsLawful (at_opposite true answer) (at_opposite false answer)
+opposite_is_lawful answer = record { falsifies = opposite_falsifies answer; satisfies = opposite_satisfies answer }

@@ -1,0 +1,339 @@
+// Rules of a user, boxed and asked.
+ghost use Rattle.std.specs.Prelude.{◌≡◌, Bool, true, false, MatchResult, Some, None, if◌then◌else◌};
+ghost use Rattle.vortex_prune.specs.HookFaults.{IsHookFault};
+ghost use Rattle.vortex_prune.specs.RuleExamples.{at_opposite};
+ghost use Rattle.vortex_prune.specs.Rewriting.{bool_literal, count_literal as count_literal_of};
+
+use super::*;
+use crate::hook_fault::HookFault;
+use crate::nodes::{count_literal, literal};
+use crate::rule::{StatsRewriteRule, StatsRewriteRuleRef};
+use vortex_base::parts::Parts;
+use vortex_base::scalar_fn::ScalarFnId;
+use vortex_stats::error::RuleFault;
+
+fn truth_answer(alloc: Global, truth: bool) -> Result<Option<BoundExpression>, HookFault>
+    ensures { MatchResult result (λ o. o ≡ Some (bool_literal truth)) (IsHookFault (λ k. false)) }
+{
+    let dtype = DType::Bool(Nullability::NonNullable);
+    match literal(alloc, dtype, ScalarValue::from(truth)) {
+        Ok(e) => Ok(Some(e)),
+        Err(StatsError::Memory(refused)) => Err(HookFault::Memory(refused)),
+        Err(_) => unreachable!(),
+    }
+}
+
+fn number_answer(alloc: Global) -> Result<Option<BoundExpression>, HookFault>
+    ensures { MatchResult result (λ o. o ≡ Some (count_literal_of 7)) (IsHookFault (λ k. false)) }
+{
+    match count_literal(alloc, 7) {
+        Ok(e) => Ok(Some(e)),
+        Err(StatsError::Memory(refused)) => Err(HookFault::Memory(refused)),
+        Err(_) => unreachable!(),
+    }
+}
+
+fn is_not_of(e: &BoundExpression, truth: bool) -> bool
+    ensures { (answer : Bool) → at_opposite truth answer e.now
+        ≡ (if result then Some (bool_literal answer) else None) }
+{
+    match e.parts() {
+        Parts::Not(x) => match x.parts() {
+            Parts::Literal(value) => match value.value() {
+                Some(ScalarValue::Bool(b)) => *b == truth,
+                _ => false,
+            },
+            _ => false,
+        },
+        _ => false,
+    }
+}
+
+// Answers a literal for NOT TRUE, which no row satisfies, and for NOT FALSE, which every row does.
+#[derive(Drop)]
+struct Opposite {
+    answer: bool,
+}
+
+impl StatsRewriteRule for Opposite {
+    ghost use Rattle.std.specs.Prelude.{true, false};
+    ghost use Rattle.vortex_base.specs.declared.scalar_fn.ScalarFnId.TheVariants as function;
+    ghost use Rattle.vortex_prune.specs.RuleExamples.{at_opposite, opposite_is_lawful};
+
+    ghost id = { λ s. function.Not };
+
+    ghost falsifier = { λ s. at_opposite true s.answer };
+
+    ghost satisfier = { λ s. at_opposite false s.answer };
+
+    ghost can_fault = { λ s k. false };
+
+    ghost is_lawful = { λ s. opposite_is_lawful s.answer };
+
+    fn scalar_fn_id(&self) -> ScalarFnId {
+        ScalarFnId::Not
+    }
+
+    fn falsify(
+        &self,
+        alloc: Global,
+        expression: &BoundExpression,
+    ) -> Result<Option<BoundExpression>, HookFault> {
+        if is_not_of(expression, true) {
+            truth_answer(alloc, self.answer)
+        } else {
+            Ok(None)
+        }
+    }
+
+    fn satisfy(
+        &self,
+        alloc: Global,
+        expression: &BoundExpression,
+    ) -> Result<Option<BoundExpression>, HookFault> {
+        if is_not_of(expression, false) {
+            truth_answer(alloc, self.answer)
+        } else {
+            Ok(None)
+        }
+    }
+}
+
+// Answers a literal that is false at each node of its function.
+#[derive(Drop)]
+struct Unsure {
+    function: ScalarFnId,
+}
+
+impl StatsRewriteRule for Unsure {
+    ghost use Rattle.std.specs.Prelude.{false};
+    ghost use Rattle.vortex_prune.specs.RuleExamples.{false_proof, false_proof_is_lawful};
+
+    ghost id = { λ s. s.function };
+
+    ghost falsifier = { λ s. false_proof };
+
+    ghost satisfier = { λ s. false_proof };
+
+    ghost can_fault = { λ s k. false };
+
+    ghost is_lawful = { λ s. false_proof_is_lawful };
+
+    fn scalar_fn_id(&self) -> ScalarFnId {
+        self.function
+    }
+
+    fn falsify(
+        &self,
+        alloc: Global,
+        _expression: &BoundExpression,
+    ) -> Result<Option<BoundExpression>, HookFault> {
+        truth_answer(alloc, false)
+    }
+
+    fn satisfy(
+        &self,
+        alloc: Global,
+        _expression: &BoundExpression,
+    ) -> Result<Option<BoundExpression>, HookFault> {
+        truth_answer(alloc, false)
+    }
+}
+
+// Answers a number, which is no proof.
+#[derive(Drop)]
+struct Number {
+    function: ScalarFnId,
+}
+
+impl StatsRewriteRule for Number {
+    ghost use Rattle.std.specs.Prelude.{false};
+    ghost use Rattle.vortex_prune.specs.RuleExamples.{number_proof, number_proof_is_lawful};
+
+    ghost id = { λ s. s.function };
+
+    ghost falsifier = { λ s. number_proof };
+
+    ghost satisfier = { λ s. number_proof };
+
+    ghost can_fault = { λ s k. false };
+
+    ghost is_lawful = { λ s. number_proof_is_lawful };
+
+    fn scalar_fn_id(&self) -> ScalarFnId {
+        self.function
+    }
+
+    fn falsify(
+        &self,
+        alloc: Global,
+        _expression: &BoundExpression,
+    ) -> Result<Option<BoundExpression>, HookFault> {
+        number_answer(alloc)
+    }
+
+    fn satisfy(
+        &self,
+        alloc: Global,
+        _expression: &BoundExpression,
+    ) -> Result<Option<BoundExpression>, HookFault> {
+        number_answer(alloc)
+    }
+}
+
+// Fails at each node of its function.
+#[derive(Drop)]
+struct Faulty {
+    function: ScalarFnId,
+    fault: u32,
+}
+
+impl StatsRewriteRule for Faulty {
+    ghost use Rattle.std.specs.Prelude.{◌==◌};
+    ghost use Rattle.vortex_prune.specs.RuleExamples.{no_proof, no_proof_is_lawful};
+
+    ghost id = { λ s. s.function };
+
+    ghost falsifier = { λ s. no_proof };
+
+    ghost satisfier = { λ s. no_proof };
+
+    ghost can_fault = { λ s k. k == s.fault };
+
+    ghost is_lawful = { λ s. no_proof_is_lawful };
+
+    fn scalar_fn_id(&self) -> ScalarFnId {
+        self.function
+    }
+
+    fn falsify(
+        &self,
+        _alloc: Global,
+        _expression: &BoundExpression,
+    ) -> Result<Option<BoundExpression>, HookFault> {
+        Err(HookFault::Own(self.fault))
+    }
+
+    fn satisfy(
+        &self,
+        _alloc: Global,
+        _expression: &BoundExpression,
+    ) -> Result<Option<BoundExpression>, HookFault> {
+        Err(HookFault::Own(self.fault))
+    }
+}
+
+fn fault_of(answer: Result<Option<BoundExpression>, StatsError>) -> Option<u32> {
+    match answer {
+        Err(StatsError::Rule(RuleFault::Own(fault))) => Some(fault),
+        _ => None,
+    }
+}
+
+fn is_not_bool(answer: Result<Option<BoundExpression>, StatsError>) -> bool {
+    matches!(answer, Err(StatsError::Rule(RuleFault::NotBool)))
+}
+
+#[test]
+fn proofs_of_two_rules_are_joined(rt: HostRuntime) -> Result<(), Fail> {
+    let alloc = rt.alloc();
+    let mut own: Vec<StatsRewriteRuleRef> = Vec::new(alloc);
+    own.push(Box::new(alloc, Opposite { answer: false })?)?;
+    own.push(Box::new(alloc, Opposite { answer: true })?)?;
+    let rules = Rules::with_own(own);
+    let both = bound::or(alloc, truth(alloc, false)?, truth(alloc, true)?)?;
+    let not_true = bound::not(alloc, truth(alloc, true)?)?;
+    expect_proof(&rt, falsify(alloc, &not_true, &rules)?, both.try_clone()?)?;
+    expect_none(&rt, satisfy(alloc, &not_true, &rules)?)?;
+    let not_false = bound::not(alloc, truth(alloc, false)?)?;
+    expect_proof(&rt, satisfy(alloc, &not_false, &rules)?, both)?;
+    expect_none(&rt, falsify(alloc, &not_false, &rules)?)
+}
+
+#[test]
+fn without_a_rule_of_its_own_not_has_no_proof(rt: HostRuntime) -> Result<(), Fail> {
+    let alloc = rt.alloc();
+    let rules = Rules::builtin(alloc);
+    let not_true = bound::not(alloc, truth(alloc, true)?)?;
+    expect_none(&rt, falsify(alloc, &not_true, &rules)?)?;
+    let not_false = bound::not(alloc, truth(alloc, false)?)?;
+    expect_none(&rt, satisfy(alloc, &not_false, &rules)?)
+}
+
+#[test]
+fn own_proofs_follow_the_built_in_ones(rt: HostRuntime) -> Result<(), Fail> {
+    let alloc = rt.alloc();
+    let mut own: Vec<StatsRewriteRuleRef> = Vec::new(alloc);
+    let function = ScalarFnId::IsNull;
+    own.push(Box::new(alloc, Unsure { function })?)?;
+    let rules = Rules::with_own(own);
+    let tests = bound::or(alloc, no_nulls(alloc)?, all_non_null(alloc)?)?;
+    let expected = bound::or(alloc, tests, truth(alloc, false)?)?;
+    let e = bound::is_null(alloc, a(alloc)?)?;
+    expect_proof(&rt, falsify(alloc, &e, &rules)?, expected)
+}
+
+#[test]
+fn rules_are_asked_at_connectives_too(rt: HostRuntime) -> Result<(), Fail> {
+    let alloc = rt.alloc();
+    let mut own: Vec<StatsRewriteRuleRef> = Vec::new(alloc);
+    let function = ScalarFnId::Binary;
+    own.push(Box::new(alloc, Unsure { function })?)?;
+    let rules = Rules::with_own(own);
+    let above = bound::gt(alloc, a(alloc)?, int(alloc, 10)?)?;
+    let e = bound::or(alloc, above, truth(alloc, false)?)?;
+    let left = bound::lt_eq(alloc, max_a(alloc)?, int(alloc, 10)?)?;
+    let left = bound::or(alloc, left, truth(alloc, false)?)?;
+    let sides = bound::and(alloc, left, truth(alloc, true)?)?;
+    let expected = bound::or(alloc, sides, truth(alloc, false)?)?;
+    expect_proof(&rt, falsify(alloc, &e, &rules)?, expected)?;
+    expect_proof(&rt, satisfy(alloc, &e, &rules)?, truth(alloc, false)?)
+}
+
+#[test]
+fn rules_are_asked_within_a_between(rt: HostRuntime) -> Result<(), Fail> {
+    let alloc = rt.alloc();
+    let mut own: Vec<StatsRewriteRuleRef> = Vec::new(alloc);
+    let function = ScalarFnId::Binary;
+    own.push(Box::new(alloc, Unsure { function })?)?;
+    let rules = Rules::with_own(own);
+    let low = bound::gt(alloc, int(alloc, 10)?, max_a(alloc)?)?;
+    let low = bound::or(alloc, low, truth(alloc, false)?)?;
+    let high = bound::gt(alloc, min_a(alloc)?, int(alloc, 50)?)?;
+    let high = bound::or(alloc, high, truth(alloc, false)?)?;
+    let sides = bound::or(alloc, low, high)?;
+    let expected = bound::or(alloc, sides, truth(alloc, false)?)?;
+    let e = closed_range(alloc, 10, 50)?;
+    expect_proof(&rt, falsify(alloc, &e, &rules)?, expected)
+}
+
+#[test]
+fn the_first_fault_ends_the_call(rt: HostRuntime) -> Result<(), Fail> {
+    let alloc = rt.alloc();
+    let mut own: Vec<StatsRewriteRuleRef> = Vec::new(alloc);
+    let function = ScalarFnId::IsNull;
+    own.push(Box::new(alloc, Faulty { function, fault: 4 })?)?;
+    let function = ScalarFnId::Not;
+    own.push(Box::new(alloc, Faulty { function, fault: 3 })?)?;
+    let rules = Rules::with_own(own);
+    let not_true = bound::not(alloc, truth(alloc, true)?)?;
+    let null = bound::is_null(alloc, a(alloc)?)?;
+    assert_eq!(rt; fault_of(satisfy(alloc, &null, &rules)), Some(4));
+    let e = bound::and(alloc, not_true, null)?;
+    assert_eq!(rt; fault_of(falsify(alloc, &e, &rules)), Some(3));
+    expect_none(&rt, satisfy(alloc, &e, &rules)?)
+}
+
+#[test]
+fn a_proof_has_to_be_a_truth(rt: HostRuntime) -> Result<(), Fail> {
+    let alloc = rt.alloc();
+    let mut own: Vec<StatsRewriteRuleRef> = Vec::new(alloc);
+    let function = ScalarFnId::Not;
+    own.push(Box::new(alloc, Number { function })?)?;
+    let rules = Rules::with_own(own);
+    let e = bound::not(alloc, truth(alloc, true)?)?;
+    assert!(rt; is_not_bool(falsify(alloc, &e, &rules)));
+    assert!(rt; is_not_bool(satisfy(alloc, &e, &rules)));
+    let other = truth(alloc, true)?;
+    expect_proof(&rt, falsify(alloc, &other, &rules)?, truth(alloc, false)?)
+}
