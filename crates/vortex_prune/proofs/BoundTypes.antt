@@ -1,20 +1,20 @@
 -- A node keeps its type, nullability aside, where its children do.
-use Rattle.std.proofs.Common.{◌≡◌, ◌&&◌, ◌||◌, not, Bool, true, false, cond, refl, sym, ap, ap₂, subst, ◌∙◌}
+use Rattle.std.proofs.Common.{◌≡◌, ◌&&◌, ◌||◌, not, Bool, true, false, refl, sym, ap, ap₂, subst, ◌∙◌}
 use Rattle.std.specs.Prelude.{Result, Ok, Err, IfOk, MatchResult, alloc_error, ⊤}
 use Rattle.vortex_base.specs.declared.aggregate.AggregateFnRef.{AggregateFnRef}
 use Rattle.vortex_base.specs.declared.between.BetweenOptions.{BetweenOptions}
 use Rattle.vortex_base.specs.declared.dtype.DType.{DType}
 use Rattle.vortex_base.specs.declared.dtype.DType.TheVariants as dtype
 use Rattle.vortex_base.specs.declared.error.BaseError.{BaseError}
-use Rattle.vortex_base.specs.declared.error.BaseError.TheVariants.{Memory, TypeFault}
+use Rattle.vortex_base.specs.declared.error.BaseError.TheVariants.{Memory}
 use Rattle.vortex_base.specs.declared.like.LikeOptions.{LikeOptions}
-use Rattle.vortex_base.specs.declared.nullability.Nullability.TheVariants.{Nullable, NonNullable}
+use Rattle.vortex_base.specs.declared.nullability.Nullability.TheVariants.{Nullable}
 use Rattle.vortex_base.specs.declared.operator.Operator.{Operator}
 use Rattle.vortex_base.specs.declared.operator.Operator.TheVariants as operator
 use Rattle.vortex_base.specs.Answer.{Answers, Builds, Makes}
 use Rattle.vortex_base.specs.Tree as tree
 use Rattle.vortex_base.specs.Tree.{Tree, Place}
-use Rattle.vortex_base.specs.Types.{as_nullable, dtype_eq, dtype_eq_is_exact, eq_ignore_nullability, is_nullable}
+use Rattle.vortex_base.specs.Types.{as_nullable, dtype_eq, is_nullable}
 use Rattle.vortex_base.specs.Typing.{are_comparable, between_type, binary_type, comparison_type, connective_type, is_bool, is_state, is_utf8, like_type, null_test_type, not_type, truth_type, type_if, type_of, with_type, with_types}
 use Rattle.vortex_stats.specs.declared.error.StatsError.{StatsError}
 use Rattle.vortex_prune.specs.Binding.{IsBinding, base_type}

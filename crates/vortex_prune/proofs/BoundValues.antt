@@ -1,6 +1,6 @@
 -- What a bound expression is worth over a row of statistics over which the binder is faithful.
 use Rattle.std.proofs.Common.{◌≡◌, ℕ, Bool, true, false, ◌&&◌, ◌||◌, List, [], Option, Some, None, refl, sym, ap, ap₂, subst, ◌∙◌, inl, inr}
-use Rattle.std.specs.Prelude.{◌⊎◌, IsOk, IsTrue, Result, Ok, Err, IfErr, IfOk, is_none, not as not_b, slice_get}
+use Rattle.std.specs.Prelude.{◌⊎◌, IsOk, Result, Ok, Err, IfErr, IfOk, is_none, not as not_b, slice_get}
 use mathlib.Core.Bool.{true≢false}
 use Rattle.vortex_base.specs.declared.aggregate.AggregateFnRef.{AggregateFnRef}
 use Rattle.vortex_base.specs.declared.dtype.DType.{DType}
@@ -8,12 +8,12 @@ use Rattle.vortex_base.specs.declared.error.BaseError.{BaseError}
 use Rattle.vortex_base.specs.declared.scalar_value.ScalarValue.{ScalarValue}
 use Rattle.vortex_base.specs.declared.scalar_value.ScalarValue.TheVariants as value
 use Rattle.vortex_base.specs.Columns.{cell_value}
-use Rattle.vortex_base.specs.Exact.{both_hold, both_true}
+use Rattle.vortex_base.specs.Exact.{both_true}
 use Rattle.vortex_base.specs.Fitting.{fits_row}
 use Rattle.vortex_base.specs.Meaning.{applied, liked, meaning, opposite, truth, truth_value, within}
 use Rattle.vortex_base.specs.Scalars.{Constant}
-use Rattle.vortex_base.specs.Tree.{Tree, Place, column, literal, binary, between, is_null, is_not_null, not, like, stat, row_count, all_columns, has_bare_column, has_column, has_placeholder, is_closed}
-use Rattle.vortex_base.specs.Types.{as_nullable, dtype_eq_is_exact, eq_ignore_nullability}
+use Rattle.vortex_base.specs.Tree.{Tree, Place, column, literal, binary, between, is_null, is_not_null, not, like, stat, row_count, has_bare_column, has_column, has_placeholder, is_closed}
+use Rattle.vortex_base.specs.Types.{as_nullable, dtype_eq_is_exact}
 use Rattle.vortex_base.specs.Typing.{between_type, binary_type, like_type, not_type, null_test_type, type_of}
 use Rattle.vortex_base.proofs.PlacedTypes.{with_type-ok, with_types-ok, with_three-ok}
 use Rattle.vortex_stats.specs.declared.error.BinderFault.TheVariants.{WrongType}

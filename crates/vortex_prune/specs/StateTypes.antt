@@ -1,11 +1,10 @@
 -- The type of a placeholder, which the nullability of its input does not change.
-use Rattle.std.specs.Prelude.{◌≡◌, refl, Option}
+use Rattle.std.specs.Prelude.{◌≡◌, refl}
 use Rattle.std.proofs.Common.{sym, ap, ap₂, ◌∙◌}
 use Rattle.vortex_base.specs.declared.aggregate.AggregateFnRef.{AggregateFnRef}
 use Rattle.vortex_base.specs.declared.aggregate.AggregateFnRef.TheVariants as aggregate
 use Rattle.vortex_base.specs.declared.dtype.DType.{DType}
 use Rattle.vortex_base.specs.declared.dtype.DType.TheVariants as dtype
-use Rattle.vortex_base.specs.declared.element.Element.{Element}
 use Rattle.vortex_base.specs.declared.nullability.Nullability.TheVariants.{Nullable}
 use Rattle.vortex_base.specs.Types.{as_nullable}
 use Rattle.vortex_base.specs.Typing.{element_of, of_element, placeholder_type, state_dtype, stat_type, sum_type}

@@ -1,6 +1,4 @@
-use Rattle.std.proofs.Common.{◌≡◌, sym}
-use Rattle.vortex_base.specs.Typing.{stat_type}
-use Rattle.vortex_prune.specs.Answers.{supported}
+use Rattle.std.proofs.Common.{sym}
 use Rattle.vortex_prune.proofs.StatFits.{constant-supported, made-constant_of}
 use Rattle.vortex_prune.proofs.stat_fn.scalar_of.Goals as goal
 

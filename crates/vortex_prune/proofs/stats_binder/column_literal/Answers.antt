@@ -1,6 +1,6 @@
-use Rattle.std.proofs.Common.{◌≡◌, ap, ◌∙◌, sym}
+use Rattle.std.proofs.Common.{ap, ◌∙◌}
 use Rattle.vortex_base.specs.Columns.{ChunkData, row_count}
-use Rattle.std.specs.Prelude.{Some, slice_get}
+use Rattle.std.specs.Prelude.{slice_get}
 use Rattle.vortex_prune.specs.PartBinder as spec
 use Rattle.vortex_prune.proofs.PartLiterals.{literal_known, set_fits_type}
 use Rattle.vortex_prune.proofs.stats_binder.column_literal.Goals as goal
