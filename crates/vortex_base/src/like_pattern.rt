@@ -58,7 +58,7 @@ impl LikePattern {
         ensures { option_copied result ≡ exact_text self.now }
     {
         if self.is_exact {
-            Some(self.prefix.as_str())
+            Some(self.prefix())
         } else {
             None
         }

@@ -1,5 +1,5 @@
 -- The proofs of LIKE, read off the bytes of the pattern's literal beginning.
-use Rattle.std.proofs.Common.{◌≡◌, ℕ, Bool, true, false, List, Option, Some, None, Result, Ok, Err, IfOk, refl, sym, ap, subst, ◌∙◌, option_map}
+use Rattle.std.proofs.Common.{◌≡◌, ℕ, Bool, true, false, List, Option, Some, None, Result, IfOk, refl, sym, ap, ◌∙◌, option_map}
 use Rattle.std.specs.Prelude.{encode_utf8_all, if◌then◌else◌}
 use Rattle.std.specs.Str.{chars, IsUtf8}
 use Rattle.std.proofs.lemmas.Result.{IfOk-weaker}

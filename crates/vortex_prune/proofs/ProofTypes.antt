@@ -1,15 +1,13 @@
 -- The operands of proofs fit: what is made of the parts of a typed predicate has a type.
-use Rattle.std.proofs.Common.{◌≡◌, ◌⊎◌, ℕ, Bool, true, false, not, ◌&&◌, List, Option, Some, None, Result, Ok, Err, IsOk, IsTrue, IfErr, refl, sym, ap, subst, ◌∙◌}
+use Rattle.std.proofs.Common.{◌≡◌, Bool, true, false, not, ◌&&◌, Option, Some, None, Result, Ok, Err, IsOk, IsTrue, IfErr, refl, sym, ap, subst, ◌∙◌}
 use Rattle.std.specs.Prelude.{alloc_error, is_none, if◌then◌else◌}
 use Rattle.std.specs.Result.{is_ok}
-use Rattle.vortex_base.proofs.PlacedTypes.{with_type-ok}
 use Rattle.vortex_base.specs.Answer.{Answers, Builds}
 use Rattle.vortex_base.specs.Between.{to_operator}
 use Rattle.vortex_base.specs.Exact.{both_true, both_hold}
-use Rattle.vortex_base.specs.Scalars.{Constant}
 use Rattle.vortex_base.specs.Tree.{Tree, Place, column, literal, binary, between, is_null, is_not_null, not as negation, like, stat, row_count}
-use Rattle.vortex_base.specs.Types.{allows_null, is_nullable, as_nullable, dtype_eq, dtype_eq_is_exact, eq_ignore_nullability}
-use Rattle.vortex_base.specs.Typing.{element_of, of_element, state_dtype, placeholder_type, stat_type, is_bool, is_utf8, is_state, truth_type, type_if, are_comparable, comparison_type, connective_type, binary_type, between_type, like_type, with_type, with_types, type_of}
+use Rattle.vortex_base.specs.Types.{as_nullable, dtype_eq_is_exact}
+use Rattle.vortex_base.specs.Typing.{element_of, of_element, state_dtype, placeholder_type, stat_type, is_bool, is_utf8, is_state, truth_type, type_if, are_comparable, comparison_type, binary_type, between_type, like_type, with_type, with_types, type_of}
 use Rattle.vortex_base.specs.declared.aggregate.AggregateFnRef.{AggregateFnRef}
 use Rattle.vortex_base.specs.declared.aggregate.AggregateFnRef.TheVariants as aggregate
 use Rattle.vortex_base.specs.declared.between.BetweenOptions.{BetweenOptions}
@@ -27,7 +25,7 @@ use Rattle.vortex_base.specs.declared.operator.Operator.{Operator}
 use Rattle.vortex_base.specs.declared.operator.Operator.TheVariants.{Eq, NotEq, Gt, Gte, Lt, Lte, And, Or}
 use Rattle.vortex_base.specs.declared.ptype.PType.TheVariants.{U64}
 use Rattle.vortex_prune.specs.Predicates.{has_type, is_predicate, is_text, is_connective, is_extreme}
-use Rattle.vortex_prune.specs.Rewriting.{placeholder, extreme, null_count_of, count_literal, halves}
+use Rattle.vortex_prune.specs.Rewriting.{placeholder, extreme, null_count_of, count_literal}
 
 -- ---- refusals of constructors
 

@@ -1,5 +1,5 @@
 -- The built-in proofs of one node, and the functions that the built-in rules are for.
-use Rattle.std.specs.Prelude.{ℕ, Bool, true, false, not as not_b, List, [], Option, Some, None, option_to_list, if◌then◌else◌}
+use Rattle.std.specs.Prelude.{ℕ, List, [], Option, Some, None, option_to_list}
 use Rattle.std.specs.Str.{chars}
 use Rattle.vortex_base.specs.declared.dtype.DType.TheVariants as dtype
 use Rattle.vortex_base.specs.declared.nullability.Nullability.TheVariants.{NonNullable}
@@ -39,11 +39,6 @@ table_satisfiers (not x) = []
 table_satisfiers (like o x p) = []
 table_satisfiers (stat f x) = []
 table_satisfiers row_count = []
-
--- the truth that a literal is
-abbrev pub truth_in : Option ScalarValue → Option Bool
-truth_in (Some (value.Bool b)) = Some b
-truth_in v = None
 
 abbrev pub text_of : Option ScalarValue → Option (List ℕ)
 text_of (Some (value.Utf8 bs)) = Some bs

@@ -1,5 +1,5 @@
 -- Which expressions are of type Bool, and which operators are connectives of such.
-use Rattle.std.specs.Prelude.{Bool, true, false, not as not_b, Result, Ok, Err}
+use Rattle.std.specs.Prelude.{Bool, true, false, Result, Ok, Err}
 use Rattle.vortex_base.specs.declared.aggregate.AggregateFnRef.{AggregateFnRef}
 use Rattle.vortex_base.specs.declared.aggregate.AggregateFnRef.TheVariants.{Max, Min, Sum, NullCount, NanCount, UncompressedSizeInBytes, AllNull, AllNonNull, MinMax}
 use Rattle.vortex_base.specs.declared.dtype.DType.{DType}

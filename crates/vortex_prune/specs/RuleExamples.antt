@@ -1,10 +1,10 @@
 -- The proofs of the rules that the tests box, and that these are lawful.
 use Rattle.std.specs.Prelude.{◌≡◌, ℕ, Bool, true, false, Option, Some, None, IsTrue, refl}
-use Rattle.std.proofs.Common.{sym, subst, ap, ◌∙◌}
+use Rattle.std.proofs.Common.{subst}
 use Rattle.vortex_base.specs.declared.scalar_value.ScalarValue.{ScalarValue}
 use Rattle.vortex_base.specs.declared.scalar_value.ScalarValue.TheVariants as value
 use Rattle.vortex_base.specs.Meaning.{is_true, opposite, truth, truth_value}
-use Rattle.vortex_base.specs.Tree.{Tree, Place, column, literal, binary, between, is_null, is_not_null, not, like, stat, row_count}
+use Rattle.vortex_base.specs.Tree.{Tree, Place, literal, not}
 use Rattle.vortex_prune.specs.Lawful.{IsLawful, IsSoundFalsifier, IsSoundSatisfier}
 use Rattle.vortex_prune.specs.Proof.{Assignment, proves}
 use Rattle.vortex_prune.specs.Rewriting.{bool_literal, count_literal}

@@ -1,4 +1,4 @@
-use Rattle.std.proofs.Common.{ap, ◌∙◌, sym, option_to_list}
+use Rattle.std.proofs.Common.{ap, ◌∙◌, option_to_list}
 use Rattle.std.proofs.lemmas.Result.{err_from_is_err_and}
 use Rattle.vortex_prune.proofs.RuleBoxes.{own_more, refusal_in}
 use Rattle.vortex_prune.specs.Sides.{proof_of}

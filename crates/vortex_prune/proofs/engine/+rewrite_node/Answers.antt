@@ -1,4 +1,4 @@
-use Rattle.std.proofs.Common.{◌≡◌, false, rules, arith}
+use Rattle.std.proofs.Common.{◌≡◌, false, rules}
 use Rattle.vortex_prune.specs.Own.{own_rules}
 use Rattle.vortex_prune.specs.Rewriting.{visits}
 use Rattle.vortex_prune.proofs.NodeProofs.{is_rewritten, others_plain, plain_visits, table_answer}

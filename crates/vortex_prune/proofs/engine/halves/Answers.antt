@@ -1,4 +1,3 @@
-use Rattle.std.proofs.Common.{◌≡◌}
 use Rattle.vortex_prune.proofs.ProofTypes.{lower_compares, upper_compares}
 use Rattle.vortex_prune.proofs.engine.halves.Goals as goal
 

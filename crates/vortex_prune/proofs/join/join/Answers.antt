@@ -1,4 +1,4 @@
-use Rattle.std.proofs.Common.{◌≡◌, ◌<◌, length, arith, ◌∙◌}
+use Rattle.std.proofs.Common.{◌<◌, length, arith, ◌∙◌}
 use Rattle.vortex_prune.proofs.JoinRounds.{shorter, join_again, popped}
 use Rattle.vortex_prune.proofs.join.join.Goals as goal
 

@@ -1,4 +1,4 @@
-use Rattle.std.proofs.Common.{◌≡◌, List, ℕ, Option, Some, None, ap, sym, ◌∙◌, option_map}
+use Rattle.std.proofs.Common.{◌≡◌, Some, None, ap, sym, ◌∙◌, option_map}
 use Rattle.std.specs.Prelude.{encode_utf8_all, option_copied, string_bytes}
 use Rattle.std.specs.Str.{chars}
 use Rattle.vortex_base.specs.Like.{items}

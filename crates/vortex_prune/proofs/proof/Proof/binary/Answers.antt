@@ -1,6 +1,6 @@
-use Rattle.std.proofs.Common.{◌≡◌, Ok, subst, sym, ◌∙◌}
+use Rattle.std.proofs.Common.{subst, sym}
 use Rattle.std.specs.Prelude.{IsTrue}
-use Rattle.vortex_base.specs.Tree.{Tree, Place, binary}
+use Rattle.vortex_base.specs.Tree.{binary}
 use Rattle.vortex_prune.proofs.ProofTypes.{fits_or_memory, binary_is_predicate, made_is}
 use Rattle.vortex_prune.specs.Predicates.{is_predicate}
 use Rattle.vortex_prune.proofs.proof.Proof.binary.Goals as goal
