@@ -25,6 +25,7 @@ pub mod RowRules
 pub mod RuleBoxes
 pub mod ScanLemmas
 pub mod SelectLemmas
+pub mod ShutProofs
 pub mod SkippedParts
 pub mod SoundRules
 pub mod StatFits

@@ -35,3 +35,8 @@ IsScanRefusal rules can_fault f = IsRefusal (λ rule. rule.falsifier) rules f �
 -- the same where the binders are faithful
 abbrev pub IsFaithfulScanRefusal : List OwnRule → (can_fault : ℕ → Bool) → (proof : Option (Tree Place)) → StatsError → Type 0
 IsFaithfulScanRefusal rules can_fault proof f = IsRefusal (λ rule. rule.falsifier) rules f ⊎ IsFaithfulRefusal can_fault proof f
+
+-- memory was refused
+abbrev pub IsMemory : StatsError → Type 0
+IsMemory (Memory e) = ⊤
+IsMemory e = ⊥

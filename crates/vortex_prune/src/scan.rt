@@ -1,10 +1,10 @@
 //! Scans: which rows of which parts a predicate selects, and which parts it needn't look at.
-ghost use Rattle.std.specs.Prelude.{◌≡◌, [], false, All, Err, IfErr, IfOk, IsTrue, length, option_copied};
+ghost use Rattle.std.specs.Prelude.{◌≡◌, ℕ, [], false, All, Err, IfErr, IfOk, IsTrue, length, option_copied};
 ghost use Rattle.vortex_base.specs.Fitting.{fits_scope};
 ghost use Rattle.vortex_base.specs.Tree.{is_plain};
 ghost use Rattle.vortex_prune.specs.Part.{AreParts};
 ghost use Rattle.vortex_prune.specs.Scanning.{AreByStatistics, AreFaithful, AreHonest, answered, full, any_binder, selected_rows, skipped_parts};
-ghost use Rattle.vortex_prune.specs.ScanRefusals.{IsFaithfulRefusal, IsFaithfulScanRefusal, IsProofRefusal, IsScanRefusal};
+ghost use Rattle.vortex_prune.specs.ScanRefusals.{IsFaithfulRefusal, IsFaithfulScanRefusal, IsMemory, IsProofRefusal, IsScanRefusal};
 ghost use Rattle.vortex_prune.specs.Complete.{SkipsExactly, is_read_once};
 ghost use Rattle.vortex_prune.specs.Own.{own_rules};
 ghost use Rattle.vortex_prune.specs.Predicates.{is_predicate};
@@ -120,6 +120,10 @@ pub fn scan<B: StatBinder>(
     // no values within its bounds satisfy it.
     ensures complete { IfOk result (λ scan. rules.now.own.items ≡ [] → AreFaithful B.is_faithful_over parts.now binders.now → AreByStatistics B.value parts.now binders.now
         → IsTrue (is_read_once predicate.now) → SkipsExactly predicate.now parts.now scan.skipped.items) }
+    // By built-in rules, and binders that are faithful and name no fault of their own, as those of the
+    // parts' own statistics, a predicate is refused for memory alone.
+    ensures memory { IsTrue (is_predicate predicate.now) → rules.now.own.items ≡ [] → AreFaithful B.is_faithful_over parts.now binders.now
+        → ((k : ℕ) → any_binder B.can_fault binders.now k ≡ false) → IfErr result IsMemory }
     ensures not_predicate { is_predicate predicate.now ≡ false → result ≡ Err NotPredicate }
     ensures refusal { IsTrue (is_predicate predicate.now)
         → IfErr result (IsScanRefusal (own_rules ⟦<dyn StatsRewriteRule as StatsRewriteRule>⟧ rules.now.own.items) (any_binder B.can_fault binders.now)) }

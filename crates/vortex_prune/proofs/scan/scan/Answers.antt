@@ -1,4 +1,5 @@
 use Rattle.std.proofs.Common.{[], ap, map, ◌∙◌}
+use Rattle.vortex_prune.proofs.ShutProofs.{refused_for_memory}
 use Rattle.vortex_prune.proofs.WholeScan.{kept_is_full, of_three, skips_exactly}
 use Rattle.vortex_prune.specs.Own.{own_rules, own_rule}
 use Rattle.vortex_prune.specs.Rewriting.{falsifier}
@@ -21,3 +22,8 @@ returns-clause-complete g c =
     skips_exactly g.B.StatBinder.value c.args.predicate.now c.args.parts.now c.args.binders.now scan.skipped.items c.requires.binders predicate c.requires.fits parts own once
     (skipped faithful ∙ ap (λ bs. skipped_parts (falsifier (own_rules (λ i. (g.dyn-1.0.entry i).1) bs) c.args.predicate.now) (answered g.B.StatBinder.value c.args.parts.now c.args.binders.now)) none))
     c.scan_rules.ensures.skipped c.scan_rules.ensures.parts c.scan_rules.ensures.predicate
+
+pub returns-clause-memory : goal.returns-clause-memory
+returns-clause-memory g c = λ predicate none faithful quiet.
+    refused_for_memory (own_rules (λ i. (g.dyn-1.0.entry i).1) c.args.rules.now.own.items) _ c.args.predicate.now c.scan_rules.result (ap (map (own_rule (λ i. (g.dyn-1.0.entry i).1))) none) quiet
+    (c.scan_rules.ensures.faithful predicate faithful)
