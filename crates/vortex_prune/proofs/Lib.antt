@@ -14,6 +14,7 @@ pub mod Lossless
 pub mod NodeProofs
 pub mod Operands
 pub mod OverParts
+pub mod OwnBinders
 pub mod PartLemmas
 pub mod PartLiterals
 pub mod PatternProofs

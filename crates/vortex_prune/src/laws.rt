@@ -1,6 +1,14 @@
 //! Laws of pruning, in the words of its definitions. The functions carry them by their contracts.
+ghost use Rattle.std.specs.Prelude.{◌≡◌, ℕ, List, false};
+ghost use Rattle.std.specs.List.{AllByRecursion};
+ghost use Rattle.vortex_prune.specs.Complete.{FalsifiersAreComplete};
 ghost use Rattle.vortex_prune.specs.Laws.{StatisticsAreHonest};
 ghost use Rattle.vortex_prune.specs.Laws.{FalsifiersAreSound, SatisfiersAreSound};
+ghost use Rattle.vortex_prune.specs.Part.{IsPart, IsTruePart, PartData};
+ghost use Rattle.vortex_prune.specs.Scanning.{AreByStatistics, AreFaithful, AreHonest, any_binder};
+
+use crate::stat_binder::StatBinder;
+use crate::stats_binder::StatsBinder;
 
 /// What the statistics of a part answer to placeholders are facts of its columns, where they are
 /// true of them.
@@ -18,4 +26,20 @@ pub fn falsifiers_are_sound()
 /// took part in it.
 pub fn satisfiers_are_sound()
     ensures { SatisfiersAreSound }
+{}
+
+/// Over columns whose least and greatest values are known and in order, the falsifier of a read-once
+/// predicate is there, and true exactly if no values within them satisfy the predicate.
+pub fn falsifiers_are_complete()
+    ensures { FalsifiersAreComplete }
+{}
+
+/// The binders of the parts' own statistics meet what a scan asks of its binders: they are faithful,
+/// answer by those statistics and name no fault, and they are honest where the statistics are true.
+pub fn own_binders_are_honest<'a>()
+    ensures faithful { (parts : List PartData) → AreFaithful ⟦<StatsBinder<'a> as StatBinder>⟧.is_faithful_over parts parts }
+    ensures own { (parts : List PartData) → AreByStatistics ⟦<StatsBinder<'a> as StatBinder>⟧.value parts parts }
+    ensures honest { (parts : List PartData) → AllByRecursion IsPart parts → AllByRecursion IsTruePart parts
+        → AreHonest ⟦<StatsBinder<'a> as StatBinder>⟧.value parts parts }
+    ensures quiet { (parts : List PartData) (k : ℕ) → any_binder ⟦<StatsBinder<'a> as StatBinder>⟧.can_fault parts k ≡ false }
 {}
