@@ -10,6 +10,7 @@ pub mod Fitting
 pub mod Like
 pub mod LikeSearch
 pub mod Meaning
+pub mod Neighbours
 pub mod NamedNode
 pub mod NamedNodeFalls
 pub mod Node

@@ -143,6 +143,45 @@ range_kept : skips range (bounds 50 60) [] ≡ false
 unfolding node joined
 range_kept = refl
 
+-- ---- strict and crossed ends
+
+abbrev open_ends : BetweenOptions
+open_ends = record { lower_strict = Strict; upper_strict = Strict }
+
+abbrev neighbours : Tree Place
+neighbours = between open_ends a (lit 3) (lit 4)
+
+neighbours_read_once : is_read_once neighbours ≡ true
+neighbours_read_once = refl
+
+neighbours_skipped : skips neighbours (bounds 0 9) [] ≡ true
+unfolding node joined
+neighbours_skipped = refl
+
+abbrev crossed : Tree Place
+crossed = between closed_ends a (lit 50) (lit 10)
+
+crossed_read_once : is_read_once crossed ≡ true
+crossed_read_once = refl
+
+crossed_skipped : skips crossed (bounds 0 60) [] ≡ true
+unfolding node joined
+crossed_skipped = refl
+
+abbrev one_number : Tree Place
+one_number = between open_ends a (lit 3) (lit 5)
+
+one_number_read_once : is_read_once one_number ≡ true
+one_number_read_once = refl
+
+one_number_kept : skips one_number (bounds 4 4) [] ≡ false
+unfolding node joined
+one_number_kept = refl
+
+one_number_skipped : skips one_number (bounds 5 9) [] ≡ true
+unfolding node joined
+one_number_skipped = refl
+
 -- ---- a high value that a comparison just misses
 
 abbrev above_ten : Tree Place
@@ -167,11 +206,11 @@ column_with_itself = refl
 null_operand : is_read_once (binary Eq a (literal (record { dtype = i64_type; value = None }))) ≡ false
 null_operand = refl
 
-open_range : is_read_once (between (record { lower_strict = Strict; upper_strict = NonStrict }) a (lit 3) (lit 4)) ≡ false
-open_range = refl
+truths_between : is_read_once (between open_ends (column (record { index = 0; dtype = dtype.Bool NonNullable })) (bool_literal false) (bool_literal true)) ≡ false
+truths_between = refl
 
-crossed_range : is_read_once (between closed_ends a (lit 50) (lit 10)) ≡ false
-crossed_range = refl
+null_between : is_read_once (between closed_ends a (lit 50) (literal (record { dtype = i64_type; value = None }))) ≡ false
+null_between = refl
 
 negation : is_read_once (not less) ≡ false
 negation = refl

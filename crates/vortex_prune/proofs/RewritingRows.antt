@@ -1,22 +1,20 @@
 -- Worked rows of rewriting, found by computation alone.
-use Rattle.std.specs.Prelude.{◌≡◌, ℕ, true, false, List, [], ◌∷◌, Option, Some, None, pos, codes, refl}
+use Rattle.std.specs.Prelude.{◌≡◌, ℕ, true, false, List, [], ◌∷◌, Some, None, ℤ, pos, negsuc, codes, refl}
 use Rattle.std.specs.Str.{chars}
 use Rattle.vortex_base.specs.declared.aggregate.AggregateFnRef.TheVariants.{Max, Min, NullCount, AllNull, AllNonNull}
 use Rattle.vortex_base.specs.declared.between.BetweenOptions.{BetweenOptions}
 use Rattle.vortex_base.specs.declared.between.StrictComparison.TheVariants.{Strict, NonStrict}
 use Rattle.vortex_base.specs.declared.dtype.DType.{DType}
 use Rattle.vortex_base.specs.declared.dtype.DType.TheVariants as dtype
-use Rattle.vortex_base.specs.declared.like.LikeOptions.{LikeOptions}
 use Rattle.vortex_base.specs.declared.nullability.Nullability.TheVariants.{Nullable, NonNullable}
 use Rattle.vortex_base.specs.declared.operator.Operator.TheVariants.{Eq, NotEq, Gt, Gte, Lt, Lte, And, Or}
 use Rattle.vortex_base.specs.declared.ptype.PType.TheVariants as ptype
 use Rattle.vortex_base.specs.declared.pvalue.PValue.TheVariants as number
-use Rattle.vortex_base.specs.declared.scalar_value.ScalarValue.{ScalarValue}
 use Rattle.vortex_base.specs.declared.scalar_value.ScalarValue.TheVariants as value
 use Rattle.vortex_base.specs.Like.{plain}
 use Rattle.vortex_base.specs.Prefix.{successor}
 use Rattle.vortex_base.specs.Tree.{Tree, Place, column, literal, binary, between, is_null, is_not_null, not, like, stat, row_count}
-use Rattle.vortex_prune.specs.Rewriting.{bool_literal, count_literal, text_literal, joined, node, falsifier, satisfier, visits}
+use Rattle.vortex_prune.specs.Rewriting.{bool_literal, count_literal, joined, node, falsifier, satisfier, visits}
 
 abbrev i32_type : DType
 i32_type = dtype.Primitive ptype.I32 Nullable
@@ -42,6 +40,27 @@ text bs = literal (record { dtype = dtype.Utf8 NonNullable; value = Some (value.
 abbrev open_ends : BetweenOptions
 open_ends = record { lower_strict = Strict; upper_strict = Strict }
 
+abbrev lower_end : BetweenOptions
+lower_end = record { lower_strict = Strict; upper_strict = NonStrict }
+
+abbrev upper_end : BetweenOptions
+upper_end = record { lower_strict = NonStrict; upper_strict = Strict }
+
+abbrev small : Tree Place
+small = column (record { index = 3; dtype = dtype.Primitive ptype.I8 Nullable })
+
+abbrev byte : ℤ → Tree Place
+byte z = literal (record { dtype = dtype.Primitive ptype.I8 NonNullable; value = Some (value.Primitive (number.I8 z)) })
+
+abbrev counted : Tree Place
+counted = column (record { index = 4; dtype = dtype.Primitive ptype.U8 NonNullable })
+
+abbrev count : ℕ → Tree Place
+count n = literal (record { dtype = dtype.Primitive ptype.U8 NonNullable; value = Some (value.Primitive (number.U8 n)) })
+
+abbrev truth : Tree Place
+truth = column (record { index = 5; dtype = dtype.Bool NonNullable })
+
 abbrev closed_ends : BetweenOptions
 closed_ends = record { lower_strict = NonStrict; upper_strict = NonStrict }
 
@@ -59,13 +78,57 @@ closed_range : falsifier [] (between closed_ends a (num 10) (num 50)) ≡ Some (
 unfolding node joined
 closed_range = refl
 
-crossed_range : falsifier [] (between closed_ends a (num 50) (num 10)) ≡ Some (binary Or (binary Gt (num 50) (stat Max a)) (binary Gt (stat Min a) (num 10)))
+crossed_range : falsifier [] (between closed_ends a (num 50) (num 10)) ≡ Some (bool_literal true)
 unfolding node joined
 crossed_range = refl
 
-open_range : falsifier [] (between open_ends a (num 3) (num 4)) ≡ Some (binary Or (binary Gte (num 3) (stat Max a)) (binary Gte (stat Min a) (num 4)))
+open_range : falsifier [] (between open_ends a (num 3) (num 4)) ≡ Some (bool_literal true)
 unfolding node joined
 open_range = refl
+
+one_between : falsifier [] (between open_ends a (num 3) (num 5)) ≡ Some (binary Or (binary Gt (num 4) (stat Max a)) (binary Gt (stat Min a) (num 4)))
+unfolding node joined
+one_between = refl
+
+lower_open : falsifier [] (between lower_end a (num 3) (num 10)) ≡ Some (binary Or (binary Gt (num 4) (stat Max a)) (binary Gt (stat Min a) (num 10)))
+unfolding node joined
+lower_open = refl
+
+above_greatest : falsifier [] (between lower_end small (byte (pos 127)) (byte (pos 127))) ≡ Some (bool_literal true)
+unfolding node joined
+above_greatest = refl
+
+below_least : falsifier [] (between upper_end small (byte (negsuc 127)) (byte (negsuc 127))) ≡ Some (bool_literal true)
+unfolding node joined
+below_least = refl
+
+all_but_the_ends : falsifier [] (between open_ends small (byte (negsuc 127)) (byte (pos 127))) ≡ Some (binary Or (binary Gt (byte (negsuc 126)) (stat Max small)) (binary Gt (stat Min small) (byte (pos 126))))
+unfolding node joined
+all_but_the_ends = refl
+
+below_zero : falsifier [] (between upper_end counted (count 0) (count 0)) ≡ Some (bool_literal true)
+unfolding node joined
+below_zero = refl
+
+equal_texts : falsifier [] (between lower_end s (text (codes "b")) (text (codes "b"))) ≡ Some (bool_literal true)
+unfolding node joined
+equal_texts = refl
+
+equal_closed_texts : falsifier [] (between closed_ends s (text (codes "b")) (text (codes "b"))) ≡ Some (binary Or (binary Gt (text (codes "b")) (stat Max s)) (binary Gt (stat Min s) (text (codes "b"))))
+unfolding node joined
+equal_closed_texts = refl
+
+open_texts : falsifier [] (between lower_end s (text (codes "a")) (text (codes "c"))) ≡ Some (binary Or (binary Gte (text (codes "a")) (stat Max s)) (binary Gt (stat Min s) (text (codes "c"))))
+unfolding node joined
+open_texts = refl
+
+open_truths : falsifier [] (between open_ends truth (bool_literal false) (bool_literal true)) ≡ Some (binary Or (binary Gte (bool_literal false) (stat Max truth)) (binary Gte (stat Min truth) (bool_literal true)))
+unfolding node joined
+open_truths = refl
+
+null_end : falsifier [] (between open_ends a null_num (num 4)) ≡ Some (binary Or (binary Gte null_num (stat Max a)) (binary Gte (stat Min a) (num 4)))
+unfolding node joined
+null_end = refl
 
 one_side : falsifier [] (binary And (not (bool_literal true)) (binary Lt a (num 5))) ≡ Some (binary Gte (stat Min a) (num 5))
 unfolding node joined
@@ -172,5 +235,8 @@ chain (ℕ.suc n) = binary Or (chain n) (binary Eq a (num n))
 chain_of_sixteen : visits (chain 15) ≡ 31
 chain_of_sixteen = refl
 
-one_range : visits (between open_ends a (num 3) (num 4)) ≡ 4
+one_range : visits (between open_ends a (num 3) (num 5)) ≡ 4
 one_range = refl
+
+empty_range : visits (between open_ends a (num 3) (num 4)) ≡ 1
+empty_range = refl

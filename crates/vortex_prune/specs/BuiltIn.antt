@@ -1,17 +1,24 @@
 -- The built-in proofs of one node, and the functions that the built-in rules are for.
-use Rattle.std.specs.Prelude.{ℕ, List, [], Option, Some, None, option_to_list}
+use Rattle.std.specs.Prelude.{ℕ, List, [], Option, Some, None, option_to_list, if◌then◌else◌}
+use Rattle.std.specs.Ordering.{is_gt}
 use Rattle.std.specs.Str.{chars}
+use Rattle.vortex_base.specs.declared.between.BetweenOptions.{BetweenOptions}
+use Rattle.vortex_base.specs.declared.between.StrictComparison.{StrictComparison}
+use Rattle.vortex_base.specs.declared.between.StrictComparison.TheVariants.{Strict, NonStrict}
 use Rattle.vortex_base.specs.declared.dtype.DType.TheVariants as dtype
 use Rattle.vortex_base.specs.declared.nullability.Nullability.TheVariants.{NonNullable}
 use Rattle.vortex_base.specs.declared.operator.Operator.{Operator}
 use Rattle.vortex_base.specs.declared.operator.Operator.TheVariants.{Or, Lt}
+use Rattle.vortex_base.specs.declared.pvalue.PValue.{PValue}
 use Rattle.vortex_base.specs.declared.scalar_fn.ScalarFnId.{ScalarFnId}
 use Rattle.vortex_base.specs.declared.scalar_fn.ScalarFnId.TheVariants as function
 use Rattle.vortex_base.specs.declared.scalar_value.ScalarValue.{ScalarValue}
 use Rattle.vortex_base.specs.declared.scalar_value.ScalarValue.TheVariants as value
 use Rattle.vortex_base.specs.Like.{items}
+use Rattle.vortex_base.specs.Neighbours.{next_number, prev_number}
+use Rattle.vortex_base.specs.Orders.{pvalue_cmp}
 use Rattle.vortex_base.specs.Tree.{Tree, Place, column, literal, binary, between, is_null, is_not_null, not, like, stat, row_count}
-use Rattle.vortex_prune.specs.Rewriting.{both_of, min_of, max_of, comparison_falsifier, literal_falsifier, literal_satisfier, none_null, every_null, like_falsifier, items_falsifier}
+use Rattle.vortex_prune.specs.Rewriting.{Ends, both_of, min_of, max_of, comparison_falsifier, literal_falsifier, literal_satisfier, none_null, every_null, like_falsifier, items_falsifier}
 use Rattle.vortex_prune.specs.declared.rules.BuiltinRule.{BuiltinRule}
 use Rattle.vortex_prune.specs.declared.rules.BuiltinRule.TheVariants as rule
 
@@ -61,6 +68,24 @@ beyond x o above below = both_of (binary Or) (both_of (binary o) (min_of x) (Som
 abbrev pub text_falsifier : Tree Place → Option (List ℕ) → Option (Tree Place)
 text_falsifier x None = None
 text_falsifier x (Some bs) = items_falsifier x (items (chars bs))
+
+-- the neighbours that strict ends stand for, if their types have them
+abbrev pub raised_end : StrictComparison → PValue → Option PValue
+raised_end Strict p = next_number p
+raised_end NonStrict p = Some p
+
+abbrev pub lowered_end : StrictComparison → PValue → Option PValue
+lowered_end Strict p = prev_number p
+lowered_end NonStrict p = Some p
+
+abbrev pub ordered_ends : Option PValue → Option PValue → Option (PValue × PValue)
+ordered_ends (Some p) (Some q) = if is_gt (pvalue_cmp p q) then None else Some (p, q)
+ordered_ends (Some p) None = None
+ordered_ends None q = None
+
+-- the parts of ends
+abbrev pub ends_from : BetweenOptions × Tree Place × Tree Place → Ends
+ends_from e = record { options = e.0; lower = e.1; upper = e.2 }
 
 abbrev pub function_of : BuiltinRule → ScalarFnId
 function_of rule.LiteralStatsRewrite = function.Literal

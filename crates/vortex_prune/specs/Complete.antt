@@ -2,11 +2,9 @@
 use Rattle.std.specs.Prelude.{◌≡◌, ◌↔◌, ◌==◌, ℕ, Bool, true, false, not as not_b, ◌&&◌, ◌||◌, List, [], ◌∷◌, ◌++◌, Option, Some, Ok, IsTrue, MatchOption, slice_get, map, Contains}
 use Rattle.std.specs.List.{AllByRecursion}
 use Rattle.std.specs.Option.{is_some}
-use Rattle.std.specs.Ordering.{is_gt}
 use Rattle.vortex_base.specs.declared.between.BetweenOptions.{BetweenOptions}
-use Rattle.vortex_base.specs.declared.between.StrictComparison.{StrictComparison}
-use Rattle.vortex_base.specs.declared.between.StrictComparison.TheVariants.{Strict, NonStrict}
 use Rattle.vortex_base.specs.declared.dtype.DType.{DType}
+use Rattle.vortex_base.specs.declared.dtype.DType.TheVariants as dtype
 use Rattle.vortex_base.specs.declared.operator.Operator.{Operator}
 use Rattle.vortex_base.specs.declared.operator.Operator.TheVariants.{And, Or}
 use Rattle.vortex_base.specs.declared.scalar_value.ScalarValue.{ScalarValue}
@@ -15,9 +13,9 @@ use Rattle.vortex_base.specs.Columns.{cell_value, row_count as rows_of}
 use Rattle.vortex_base.specs.Fitting.{fits_scope}
 use Rattle.vortex_base.specs.Meaning.{satisfies}
 use Rattle.vortex_base.specs.Scalars.{Constant}
-use Rattle.vortex_base.specs.Tree.{Tree, Place, column, literal, binary, between, is_null, is_not_null, not, like, stat, row_count, is_column}
+use Rattle.vortex_base.specs.Tree.{Tree, Place, column, literal, binary, between, is_null, is_not_null, not, like, stat, row_count}
 use Rattle.vortex_base.specs.Typing.{is_bool, type_of}
-use Rattle.vortex_base.specs.Values.{is_value, value_cmp}
+use Rattle.vortex_base.specs.Values.{is_value}
 use Rattle.vortex_stats.specs.Claims.{AtMost}
 use Rattle.vortex_stats.specs.Entries.{entry_value}
 use Rattle.vortex_stats.specs.Precision.{present_value}
@@ -25,7 +23,7 @@ use Rattle.vortex_stats.specs.declared.stat.Stat.TheVariants.{Max, Min}
 use Rattle.vortex_prune.specs.Part.{Entries, IsPart, PartData}
 use Rattle.vortex_prune.specs.PartAnswers.{part_values}
 use Rattle.vortex_prune.specs.Proof.{proves}
-use Rattle.vortex_prune.specs.Rewriting.{falsifier}
+use Rattle.vortex_prune.specs.Rewriting.{falsifier, is_closed_end}
 use Rattle.vortex_prune.specs.Scanning.{Answered, is_skipped, skipped_parts}
 
 -- ---- read-once predicates
@@ -63,22 +61,19 @@ abbrev pub is_truth : Option ScalarValue → Bool
 is_truth (Some (value.Bool b)) = true
 is_truth v = false
 
--- two values, the first at most the second
-abbrev pub are_in_order : Option ScalarValue → Option ScalarValue → Bool
-are_in_order (Some v) (Some w) = not_b (is_gt (value_cmp v w))
-are_in_order v w = false
+-- a type of whole numbers
+abbrev pub is_number_type : DType → Bool
+is_number_type (dtype.Primitive p n) = true
+is_number_type t = false
 
--- two literals, the first at most the second
-abbrev pub is_range : Tree Place → Tree Place → Bool
-is_range (literal c) (literal d) = are_in_order c.value d.value
-is_range l u = false
+-- one end at least lets its own value through
+abbrev pub has_closed_end : BetweenOptions → Bool
+has_closed_end o = is_closed_end o.lower_strict || is_closed_end o.upper_strict
 
-abbrev pub is_closed_end : StrictComparison → Bool
-is_closed_end Strict = false
-is_closed_end NonStrict = true
-
-abbrev pub are_closed : BetweenOptions → Bool
-are_closed o = is_closed_end o.lower_strict && is_closed_end o.upper_strict
+-- a column between two literals that aren't null; both ends may be strict only for whole numbers
+abbrev pub is_range : BetweenOptions → (x lower upper : Tree Place) → Bool
+is_range o (column c) (literal d) (literal e) = (is_number_type c.dtype || has_closed_end o) && (is_some d.value && is_some e.value)
+is_range o x l u = false
 
 -- a connective of such predicates, or a comparison of operands
 abbrev pub is_simple_binary : Operator → (sides operands : Bool) → Bool
@@ -86,12 +81,12 @@ is_simple_binary And sides operands = sides
 is_simple_binary Or sides operands = sides
 is_simple_binary o sides operands = operands
 
--- a tree of AND and OR over comparisons of columns and literals, truths, and closed ranges of a column
+-- a tree of AND and OR over comparisons of columns and literals, truths, and ranges of a column
 abbrev pub is_simple : Tree Place → Bool
 is_simple (column c) = false
 is_simple (literal c) = is_truth c.value
 is_simple (binary o l r) = is_simple_binary o (is_simple l && is_simple r) (is_operand l && is_operand r)
-is_simple (between o x l u) = are_closed o && (is_column x && is_range l u)
+is_simple (between o x l u) = is_range o x l u
 is_simple (is_null x) = false
 is_simple (is_not_null x) = false
 is_simple (not x) = false

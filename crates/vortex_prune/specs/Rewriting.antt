@@ -1,11 +1,15 @@
 -- The tables of rewriting: which proof the built-in rules have for a predicate, and how the proofs of a user's rules join them.
-use Rattle.std.specs.Prelude.{ℕ, zero, suc, ◌+◌, Bool, true, false, not as not_b, List, [], ◌∷◌, ◌++◌, length, Option, Some, None, option_to_list, is_none, encode_utf8_all, if◌then◌else◌}
+use Rattle.std.specs.Prelude.{ℕ, zero, suc, ◌+◌, ℤ, pos, ◌+ℤ◌, ◌-ℤ◌, int_le, ◌&&◌, Bool, true, false, not as not_b, List, [], ◌∷◌, ◌++◌, length, Option, Some, None, option_to_list, is_none, encode_utf8_all, if◌then◌else◌}
 use Rattle.std.specs.List.{filter_map}
+use Rattle.std.specs.Ordering.{is_eq, is_gt}
 use Rattle.std.specs.Result.{is_ok}
 use Rattle.std.specs.Str.{chars}
 use Rattle.vortex_base.specs.declared.aggregate.AggregateFnRef.{AggregateFnRef}
 use Rattle.vortex_base.specs.declared.aggregate.AggregateFnRef.TheVariants.{Max, Min, NullCount, AllNull, AllNonNull}
+use Rattle.std.specs.declared.cmp.Ordering.{Ordering}
 use Rattle.vortex_base.specs.declared.between.BetweenOptions.{BetweenOptions}
+use Rattle.vortex_base.specs.declared.between.StrictComparison.{StrictComparison}
+use Rattle.vortex_base.specs.declared.between.StrictComparison.TheVariants.{Strict, NonStrict}
 use Rattle.vortex_base.specs.declared.dtype.DType.TheVariants as dtype
 use Rattle.vortex_base.specs.declared.like.Item.{Item}
 use Rattle.vortex_base.specs.declared.like.LikeOptions.{LikeOptions}
@@ -13,6 +17,7 @@ use Rattle.vortex_base.specs.declared.nullability.Nullability.TheVariants.{NonNu
 use Rattle.vortex_base.specs.declared.operator.Operator.{Operator}
 use Rattle.vortex_base.specs.declared.operator.Operator.TheVariants.{Eq, NotEq, Gt, Gte, Lt, Lte, And, Or}
 use Rattle.vortex_base.specs.declared.ptype.PType.TheVariants as ptype
+use Rattle.vortex_base.specs.declared.pvalue.PValue.{PValue}
 use Rattle.vortex_base.specs.declared.pvalue.PValue.TheVariants as number
 use Rattle.vortex_base.specs.declared.scalar_fn.ScalarFnId.{ScalarFnId}
 use Rattle.vortex_base.specs.declared.scalar_value.ScalarValue.{ScalarValue}
@@ -20,10 +25,12 @@ use Rattle.vortex_base.specs.declared.scalar_value.ScalarValue.TheVariants as va
 use Rattle.vortex_base.specs.contracts.scalar_fn.ScalarFnIdPartialEq.TheImpl as functions
 use Rattle.vortex_base.specs.Between.{to_operator}
 use Rattle.vortex_base.specs.Like.{items}
+use Rattle.vortex_base.specs.Neighbours.{resized}
 use Rattle.vortex_base.specs.Prefix.{literal_prefix, is_exact, successor}
 use Rattle.vortex_base.specs.Scalars.{Constant}
 use Rattle.vortex_base.specs.Tree.{Tree, Place, column, literal, binary, between, is_null, is_not_null, not, like, stat, row_count, scalar_fn_of}
 use Rattle.vortex_base.specs.Typing.{type_of}
+use Rattle.vortex_base.specs.Values.{number_of, value_cmp}
 use Rattle.vortex_prune.specs.Lawful.{OwnRule}
 
 -- ---- the parts of proofs
@@ -156,6 +163,64 @@ own_proofs prove rules p = filter_map (asked prove p) rules
 unfoldable pub node : (OwnRule → Tree Place → Option (Tree Place)) → List OwnRule → Tree Place → List (Tree Place) → Option (Tree Place)
 node prove rules p built_in = joined (built_in ++ own_proofs prove rules p)
 
+-- ---- the ends of a BETWEEN
+
+-- the least whole number that a lower end lets through, and the greatest that an upper one does
+abbrev pub low_size : StrictComparison → PValue → ℤ
+low_size Strict p = number_of p +ℤ pos 1
+low_size NonStrict p = number_of p
+
+abbrev pub high_size : StrictComparison → PValue → ℤ
+high_size Strict p = number_of p -ℤ pos 1
+high_size NonStrict p = number_of p
+
+-- the ends by which a BETWEEN is rewritten
+pub record Ends : Type 0 where
+  pub options : BetweenOptions
+  pub lower : Tree Place
+  pub upper : Tree Place
+
+abbrev pub is_closed_end : StrictComparison → Bool
+is_closed_end Strict = false
+is_closed_end NonStrict = true
+
+abbrev pub are_closed : BetweenOptions → Bool
+are_closed o = is_closed_end o.lower_strict && is_closed_end o.upper_strict
+
+abbrev pub closed : BetweenOptions
+closed = record { lower_strict = NonStrict; upper_strict = NonStrict }
+
+-- the literal of a constant's type that is a number
+abbrev pub number_literal : Constant → PValue → Tree Place
+number_literal c p = literal (record { dtype = c.dtype; value = Some (value.Primitive p) })
+
+-- none if no whole number lies between
+abbrev pub number_ends : BetweenOptions → (c d : Constant) → (p q : PValue) → Option Ends
+number_ends o c d p q =
+    if int_le (low_size o.lower_strict p) (high_size o.upper_strict q) then Some (record {
+      options = closed;
+      lower = number_literal c (resized p (low_size o.lower_strict p));
+      upper = number_literal d (resized q (high_size o.upper_strict q));
+    })
+    else None
+
+-- the order of the lower end and the upper one leaves no value between
+abbrev pub is_crossed : BetweenOptions → Ordering → Bool
+is_crossed o order = if is_eq order then not_b (are_closed o) else is_gt order
+
+abbrev pub value_ends : BetweenOptions → (c d : Constant) → (v w : ScalarValue) → Option Ends
+value_ends o c d (value.Primitive p) (value.Primitive q) = number_ends o c d p q
+value_ends o c d v w = if is_crossed o (value_cmp v w) then None else Some (record { options = o; lower = literal c; upper = literal d })
+
+abbrev pub literal_ends : BetweenOptions → (c d : Constant) → (v w : Option ScalarValue) → Option Ends
+literal_ends o c d (Some v) (Some w) = value_ends o c d v w
+literal_ends o c d v w = Some (record { options = o; lower = literal c; upper = literal d })
+
+-- the ends of a BETWEEN by which it is rewritten; none if they are literals between which no value lies
+abbrev pub ends : BetweenOptions → (lower upper : Tree Place) → Option Ends
+ends o (literal c) (literal d) = literal_ends o c d c.value d.value
+ends o l u = Some (record { options = o; lower = l; upper = u })
+
 -- ---- falsifiers
 
 abbrev pub falsified : List OwnRule → Tree Place → List (Tree Place) → Option (Tree Place)
@@ -178,12 +243,17 @@ halves_node rules o x l u =
     (binary_node rules (to_operator o.lower_strict) l x None None)
     (binary_node rules (to_operator o.upper_strict) x u None None)
 
+-- the falsifier of the AND for a BETWEEN's ends; without ends it's always false
+abbrev pub ends_node : List OwnRule → (x : Tree Place) → Option Ends → Option (Tree Place)
+ends_node rules x None = Some (bool_literal true)
+ends_node rules x (Some e) = halves_node rules e.options x e.lower e.upper
+
 -- the proof that no row satisfies a predicate, if there is one
 abbrev pub falsifier : List OwnRule → Tree Place → Option (Tree Place)
 falsifier rules (column c) = None
 falsifier rules (literal c) = falsified rules (literal c) (option_to_list (literal_falsifier c.value))
 falsifier rules (binary o l r) = binary_node rules o l r (falsifier rules l) (falsifier rules r)
-falsifier rules (between o x l u) = falsified rules (between o x l u) (option_to_list (halves_node rules o x l u))
+falsifier rules (between o x l u) = falsified rules (between o x l u) (option_to_list (ends_node rules x (ends o l u)))
 falsifier rules (is_null x) = falsified rules (is_null x) (none_null x)
 falsifier rules (is_not_null x) = falsified rules (is_not_null x) (every_null x)
 falsifier rules (not x) = falsified rules (not x) []
@@ -216,12 +286,16 @@ binary_visits And l r = 1 + (l + r)
 binary_visits Or l r = 1 + (l + r)
 binary_visits o l r = 1
 
--- a BETWEEN takes a turn for itself, the AND and the two comparisons
+-- a BETWEEN takes a turn for itself and, if it's rewritten, for the AND and the two comparisons
+abbrev pub ends_visits : Option Ends → ℕ
+ends_visits None = 1
+ends_visits (Some e) = 4
+
 abbrev pub visits : Tree Place → ℕ
 visits (column c) = 1
 visits (literal c) = 1
 visits (binary o l r) = binary_visits o (visits l) (visits r)
-visits (between o x l u) = 4
+visits (between o x l u) = ends_visits (ends o l u)
 visits (is_null x) = 1
 visits (is_not_null x) = 1
 visits (not x) = 1
