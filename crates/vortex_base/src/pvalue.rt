@@ -1,5 +1,6 @@
 //! Whole numbers with their types.
 ghost use Rattle.std.specs.Prelude.{◌≡◌, IsTrue};
+ghost use Rattle.vortex_base.specs.Neighbours.{next_number, prev_number};
 ghost use Rattle.vortex_base.specs.Values.{ptype_of, in_range};
 
 use crate::ptype::PType;
@@ -33,6 +34,38 @@ impl PValue {
             PValue::I16(_) => PType::I16,
             PValue::I32(_) => PType::I32,
             PValue::I64(_) => PType::I64,
+        }
+    }
+
+    /// The number one above, of the same type; `None` at the greatest of the type.
+    pub fn next(self) -> Option<PValue>
+        ensures { result ≡ next_number self }
+    {
+        match self {
+            PValue::U8(n) => Some(PValue::U8(n.checked_add(1)?)),
+            PValue::U16(n) => Some(PValue::U16(n.checked_add(1)?)),
+            PValue::U32(n) => Some(PValue::U32(n.checked_add(1)?)),
+            PValue::U64(n) => Some(PValue::U64(n.checked_add(1)?)),
+            PValue::I8(n) => Some(PValue::I8(n.checked_add(1)?)),
+            PValue::I16(n) => Some(PValue::I16(n.checked_add(1)?)),
+            PValue::I32(n) => Some(PValue::I32(n.checked_add(1)?)),
+            PValue::I64(n) => Some(PValue::I64(n.checked_add(1)?)),
+        }
+    }
+
+    /// The number one below, of the same type; `None` at the least of the type.
+    pub fn prev(self) -> Option<PValue>
+        ensures { result ≡ prev_number self }
+    {
+        match self {
+            PValue::U8(n) => Some(PValue::U8(n.checked_sub(1)?)),
+            PValue::U16(n) => Some(PValue::U16(n.checked_sub(1)?)),
+            PValue::U32(n) => Some(PValue::U32(n.checked_sub(1)?)),
+            PValue::U64(n) => Some(PValue::U64(n.checked_sub(1)?)),
+            PValue::I8(n) => Some(PValue::I8(n.checked_sub(1)?)),
+            PValue::I16(n) => Some(PValue::I16(n.checked_sub(1)?)),
+            PValue::I32(n) => Some(PValue::I32(n.checked_sub(1)?)),
+            PValue::I64(n) => Some(PValue::I64(n.checked_sub(1)?)),
         }
     }
 }
