@@ -1,20 +1,29 @@
 -- The falsifiers of read-once predicates are complete over known boxes in order.
-use Rattle.std.proofs.Common.{◌≡◌, ◌<◌, ◌↔◌, ℕ, zero, suc, Bool, true, false, not as not_b, ◌&&◌, List, [], ◌∷◌, ◌++◌, length, Option, Some, None, refl, sym, ap, ◌∙◌, subst, subst₂, if◌then◌else◌}
+use Rattle.std.proofs.Common.{◌≡◌, ◌<◌, ◌↔◌, ◌||◌, ◌⊎◌, inl, inr, ⊎_elim, int_le, ℕ, zero, suc, Bool, true, false, not as not_b, ◌&&◌, List, [], ◌∷◌, ◌++◌, length, Option, Some, None, refl, sym, ap, ◌∙◌, subst, subst₂, if◌then◌else◌}
 use Rattle.std.specs.Prelude.{IsTrue, MatchOption, is_ok, slice_get}
 use Rattle.std.specs.List.{AllByRecursion}
+use Rattle.std.specs.Option.{is_some}
+use Rattle.std.specs.declared.cmp.Ordering.{Ordering}
+use Rattle.std.specs.declared.cmp.Ordering.TheVariants.{Less, Equal, Greater}
+use Rattle.vortex_base.specs.Between.{to_operator}
+use Rattle.vortex_base.specs.declared.pvalue.PValue.{PValue}
+use Rattle.vortex_prune.proofs.MovedEnds.{IsMoved, Rewritten, are_numbers, rewritten}
+use Rattle.vortex_prune.proofs.NumberEnds.{ends_ordered, high_end, low_end}
+use Rattle.vortex_prune.proofs.OverParts.{comparable_ends, halves_typed}
+use Rattle.vortex_prune.proofs.Ranges.{Halved, halved, moved_decided, never_decided}
 use Rattle.std.proofs.lemmas.Bool.{and_parts}
 use Rattle.std.proofs.lemmas.Option.{same_Some, none-some, slice_get_within}
 use Rattle.vortex_base.proofs.PlacedTypes.{with_types-ok}
 use Rattle.vortex_base.specs.Columns.{ColumnData, has_types, row_count as rows_of}
 use Rattle.vortex_base.specs.Exact.{both_true}
 use Rattle.vortex_base.specs.Fitting.{fits_scope, is_of_type}
-use Rattle.vortex_base.specs.Meaning.{is_true}
+use Rattle.vortex_base.specs.Meaning.{holds, is_true}
 use Rattle.vortex_base.specs.Scalars.{Constant, is_optional_value}
 use Rattle.vortex_base.specs.Scopes.{Named}
-use Rattle.vortex_base.specs.Tree.{Tree, Place, column, literal, binary, between, is_null, is_not_null, not, like, stat, row_count, all_columns, is_column}
+use Rattle.vortex_base.specs.Tree.{Tree, Place, column, literal, binary, between, is_null, is_not_null, not, like, stat, row_count, all_columns}
 use Rattle.vortex_base.specs.Types.{as_nullable, dtype_eq_is_exact, eq_ignore_nullability}
-use Rattle.vortex_base.specs.Typing.{are_comparable, between_type, comparison_type, connective_type, type_of, with_types}
-use Rattle.vortex_base.specs.Values.{is_value}
+use Rattle.vortex_base.specs.Typing.{between_type, binary_type, comparison_type, connective_type, type_of, with_types}
+use Rattle.vortex_base.specs.Values.{is_value, value_cmp}
 use Rattle.vortex_base.specs.declared.aggregate.AggregateFnRef.TheVariants as aggregate
 use Rattle.vortex_base.specs.declared.between.BetweenOptions.{BetweenOptions}
 use Rattle.vortex_base.specs.declared.between.StrictComparison.{StrictComparison}
@@ -26,17 +35,17 @@ use Rattle.vortex_base.specs.declared.operator.Operator.TheVariants.{Eq, NotEq, 
 use Rattle.vortex_base.specs.declared.scalar_value.ScalarValue.{ScalarValue}
 use Rattle.vortex_base.specs.declared.scalar_value.ScalarValue.TheVariants as value
 use Rattle.vortex_prune.proofs.Choices.{AreInside, IsBetween, all_back, all_front, all_joined, all_map, distinct_back, distinct_front, row_with, row_within}
-use Rattle.vortex_prune.proofs.Decided.{Decided, and_decided, comparison_decided, or_decided, range_decided, truth_decided}
+use Rattle.vortex_prune.proofs.Decided.{Decided, and_decided, comparison_decided, or_decided, truth_decided}
 use Rattle.vortex_prune.proofs.Interval.{is_comparison}
-use Rattle.vortex_prune.proofs.Operands.{IsInterval, if_ok, if_typed, operand, operand_type, same_operands, same_values}
+use Rattle.vortex_prune.proofs.Operands.{IsInterval, if_ok, if_typed, operand, operand_type, same_operands, same_values, some_value}
 use Rattle.vortex_prune.proofs.PartLemmas.{own_set_fits}
 use Rattle.vortex_prune.proofs.TruthLogic.{clash}
-use Rattle.vortex_prune.proofs.ValueTests.{value_le, le_refl}
-use Rattle.vortex_prune.specs.Complete.{Box, FalsifiersAreComplete, IsBoxOf, IsInOrder, IsKnownBy, IsSatisfiable, SkippingIsComplete, are_closed, are_distinct, are_in_order, columns_of, is_closed_end, is_operand, is_range, is_simple, is_truth}
+use Rattle.vortex_prune.proofs.ValueTests.{le_refl}
+use Rattle.vortex_prune.specs.Complete.{Box, FalsifiersAreComplete, IsBoxOf, IsInOrder, IsKnownBy, IsSatisfiable, SkippingIsComplete, are_distinct, columns_of, has_closed_end, is_number_type, is_operand, is_range, is_simple, is_truth}
 use Rattle.vortex_prune.specs.Part.{Entries, IsPart, PartData}
 use Rattle.vortex_prune.specs.PartAnswers.{column_value, part_values}
 use Rattle.vortex_prune.specs.Proof.{Assignment, proves}
-use Rattle.vortex_prune.specs.Rewriting.{falsifier}
+use Rattle.vortex_prune.specs.Rewriting.{closed, ends, falsifier, high_size, is_crossed, literal_ends, low_size, number_literal}
 use Rattle.vortex_prune.specs.Scanning.{is_skipped}
 use Rattle.vortex_stats.proofs.Fitting.{entry_value-fits}
 use Rattle.vortex_stats.specs.Claims.{AtMost}
@@ -57,30 +66,29 @@ truth_is (Some (value.Primitive p)) h = cc
 truth_is (Some (value.Utf8 bs)) h = cc
 truth_is (Some (value.Binary bs)) h = cc
 
--- the ends of a range
-record Ends (a b : Option ScalarValue) : Type 0 where
-  lower : ScalarValue
-  upper : ScalarValue
-  lower_is : a ≡ Some lower
-  upper_is : b ≡ Some upper
-  order : value_le lower upper ≡ true
+-- ends that didn't cross meet both comparisons
+meets : (s t : StrictComparison) (r : Ordering) → is_crossed (record { lower_strict = s; upper_strict = t }) r ≡ false → (holds (to_operator s) r ≡ true) × (holds (to_operator t) r ≡ true)
+meets s t Less h = (less s, less t)
+  where
+    less : (s : StrictComparison) → holds (to_operator s) Less ≡ true
+    less Strict = refl
+    less NonStrict = refl
+meets NonStrict NonStrict Equal h = (refl, refl)
+meets NonStrict Strict Equal h = cc
+meets Strict t Equal h = cc
+meets s t Greater h = cc
 
-ends_of : (a b : Option ScalarValue) → are_in_order a b ≡ true → Ends a b
-ends_of (Some v) (Some w) h = record { lower = v; upper = w; lower_is = refl; upper_is = refl; order = h }
-ends_of (Some v) None h = cc
-ends_of None b h = cc
+is_number : ScalarValue → Bool
+is_number (value.Primitive p) = true
+is_number v = false
 
-closed_end : (s : StrictComparison) → is_closed_end s ≡ true → s ≡ NonStrict
-closed_end Strict h = cc
-closed_end NonStrict h = refl
-
-abbrev closed_ends : BetweenOptions
-closed_ends = record { lower_strict = NonStrict; upper_strict = NonStrict }
-
-closed : (o : BetweenOptions) → are_closed o ≡ true → o ≡ closed_ends
-closed o h =
-    let k = and_parts (is_closed_end o.lower_strict) (is_closed_end o.upper_strict) h in
-    λ i. record { lower_strict = closed_end o.lower_strict k.0 i; upper_strict = closed_end o.upper_strict k.1 i }
+number_kind : (v : ScalarValue) (t : DType) → is_value v t ≡ true → is_number v ≡ is_number_type t
+unfolding is_number
+number_kind (value.Bool b) (dtype.Bool n) h = refl
+number_kind (value.Primitive p) (dtype.Primitive q n) h = refl
+number_kind (value.Utf8 bs) (dtype.Utf8 n) h = refl
+number_kind (value.Binary bs) (dtype.Binary n) h = refl
+number_kind v t h = cc
 
 -- what a test of columns tells of each
 each_column : (test : Place → Bool) (p : Tree Place) → all_columns test p ≡ true → AllByRecursion (λ c. test c ≡ true) (columns_of p)
@@ -130,26 +138,91 @@ module _ (box : Box) (A : Assignment) (m n : ℕ) where
         (operand box A m n y h.1 t.1 (all_back (IsInterval box A m n) (columns_of x) (columns_of y) known))
         o k (same_operands x y h.0 h.1 t.0 t.1 ok) (all_inside (columns_of x ++ columns_of y) known) distinct
 
-  -- a closed range, whatever its constants are called
-  module _ (c : Place) (d e : Constant) (known : IsInterval box A m n c) (ok : is_ok (with_types (between_type c.dtype) (type_of (literal d)) (type_of (literal e))) ≡ true) where
-    lower_fits : (l : ScalarValue) → d.value ≡ Some l → is_value l c.dtype ≡ true
-    lower_fits l is =
-        let t = with_types-ok (between_type c.dtype) (type_of (literal d)) (type_of (literal e)) ok in
-        let fit : is_optional_value d.value d.dtype ≡ true = if_ok _ _ _ t.0 in
-        let typed : is_ok (between_type c.dtype d.dtype e.dtype) ≡ true =
-        subst₂ (λ a b. is_ok (with_types (between_type c.dtype) a b) ≡ true) (if_typed (is_optional_value d.value d.dtype) d.dtype _ t.0) (if_typed (is_optional_value e.value e.dtype) e.dtype _ t.1) ok in
-        let comparable = (and_parts (are_comparable c.dtype d.dtype) (are_comparable c.dtype e.dtype) (if_ok _ _ _ typed)).0 in
-        same_values l c.dtype d.dtype (and_parts (eq_ignore_nullability c.dtype d.dtype) _ comparable).0 ∙ subst (λ o. is_optional_value o d.dtype ≡ true) is fit
+    at_end : (s : StrictComparison) → (is_operand x && is_operand y) ≡ true → is_ok (with_types (binary_type (to_operator s)) (type_of x) (type_of y)) ≡ true → Decided box A m n (binary (to_operator s) x y)
+    at_end Strict simple ok = comparison Lt refl simple ok
+    at_end NonStrict simple ok = comparison Lte refl simple ok
 
-    ranged : Ends d.value e.value → Decided box A m n (between closed_ends (column c) (literal d) (literal e))
-    ranged ends =
-        subst₂ (λ a b. Decided box A m n (between closed_ends (column c) (literal (record { dtype = d.dtype; value = a })) (literal (record { dtype = e.dtype; value = b })))) (sym ends.lower_is) (sym ends.upper_is)
-        (range_decided box A m n c d.dtype e.dtype ends.lower ends.upper known (lower_fits ends.lower ends.lower_is) ends.order)
+  -- a column between two literals
+  module _ (c : Place) (known : Known (c ∷ [])) where
+    abbrev range_of : BetweenOptions → (d e : Constant) → Tree Place
+    range_of o d e = between o (column c) (literal d) (literal e)
 
-    range : (o : BetweenOptions) → (are_closed o && are_in_order d.value e.value) ≡ true → Decided box A m n (between o (column c) (literal d) (literal e))
-    range o h =
-        let k = and_parts (are_closed o) (are_in_order d.value e.value) h in
-        subst (λ o. Decided box A m n (between o (column c) (literal d) (literal e))) (sym (closed o k.0)) (ranged (ends_of d.value e.value k.1))
+    module _ (o : BetweenOptions) (d e : Constant) (ok : is_ok (type_of (between o (column c) (literal d) (literal e))) ≡ true) where
+      ends_fit : (l u : ScalarValue) → d.value ≡ Some l → e.value ≡ Some u → (is_value l c.dtype ≡ true) × (is_value u c.dtype ≡ true)
+      ends_fit l u l_is u_is =
+          let t = with_types-ok (between_type c.dtype) (type_of (literal d)) (type_of (literal e)) ok in
+          let low_fit : is_optional_value d.value d.dtype ≡ true = if_ok _ _ _ t.0 in
+          let high_fit : is_optional_value e.value e.dtype ≡ true = if_ok _ _ _ t.1 in
+          let typed : is_ok (between_type c.dtype d.dtype e.dtype) ≡ true =
+          subst₂ (λ a b. is_ok (with_types (between_type c.dtype) a b) ≡ true) (if_typed (is_optional_value d.value d.dtype) d.dtype _ t.0) (if_typed (is_optional_value e.value e.dtype) e.dtype _ t.1) ok in
+          let comparable = comparable_ends c.dtype d.dtype e.dtype typed in (
+            same_values l c.dtype d.dtype (and_parts (eq_ignore_nullability c.dtype d.dtype) _ comparable.0).0 ∙ subst (λ v. is_optional_value v d.dtype ≡ true) l_is low_fit,
+            same_values u c.dtype e.dtype (and_parts (eq_ignore_nullability c.dtype e.dtype) _ comparable.1).0 ∙ subst (λ v. is_optional_value v e.dtype ≡ true) u_is high_fit,
+          )
+
+      range_halved : (l u : ScalarValue) → d.value ≡ Some l → e.value ≡ Some u → holds (to_operator o.lower_strict) (value_cmp l u) ≡ true → holds (to_operator o.upper_strict) (value_cmp l u) ≡ true
+          → has_closed_end o ≡ true → Halved box A m n c known.0 o d e
+      range_halved l u l_is u_is low high one =
+          let fit = ends_fit l u l_is u_is in
+          let sides = halves_typed o.lower_strict o.upper_strict (type_of (column c)) (type_of (literal d)) (type_of (literal e)) ok in
+          let t = with_types-ok connective_type (with_types (binary_type (to_operator o.lower_strict)) (type_of (literal d)) (type_of (column c))) (with_types (binary_type (to_operator o.upper_strict)) (type_of (column c)) (type_of (literal e))) sides in
+          halved box A m n c known.0 o d e l u l_is u_is fit.0 fit.1 low high one
+          (at_end (literal d) (column c) known refl o.lower_strict (ap (λ v. is_some v && true) l_is) t.0)
+          (at_end (column c) (literal e) known refl o.upper_strict (ap is_some u_is) t.1)
+
+    module _ (o : BetweenOptions) (d e : Constant) (ok : is_ok (type_of (between o (column c) (literal d) (literal e))) ≡ true) (shape : (is_number_type c.dtype || has_closed_end o) ≡ true) where
+      -- without ends, and by its own
+      never : ends o (literal d) (literal e) ≡ None → Decided box A m n (range_of o d e)
+      never is = never_decided box A m n c known.0 o d e is (subst (Rewritten o (column c) (literal d) (literal e)) is (rewritten o (column c) (literal d) (literal e) ok))
+
+      moved : (q : BetweenOptions) (a b : Constant) (l u : ScalarValue) → a.value ≡ Some l → b.value ≡ Some u → ends o (literal d) (literal e) ≡ Some (record { options = q; lower = literal a; upper = literal b })
+          → holds (to_operator q.lower_strict) (value_cmp l u) ≡ true → holds (to_operator q.upper_strict) (value_cmp l u) ≡ true → has_closed_end q ≡ true → Decided box A m n (range_of o d e)
+      moved q a b l u l_is u_is is low high one =
+          let same : IsMoved o (column c) (literal d) (literal e) (record { options = q; lower = literal a; upper = literal b }) =
+          subst (Rewritten o (column c) (literal d) (literal e)) is (rewritten o (column c) (literal d) (literal e) ok) in
+          moved_decided box A m n c known.0 o q d e a b is same (range_halved q a b (ap is_ok same.typed ∙ ok) l u l_is u_is low high one)
+
+      module _ (p q : PValue) (p_is : d.value ≡ Some (value.Primitive p)) (q_is : e.value ≡ Some (value.Primitive q)) where
+        numbers : (t : Bool) → int_le (low_size o.lower_strict p) (high_size o.upper_strict q) ≡ t → Decided box A m n (range_of o d e)
+        numbers true h =
+            let k = are_numbers o (column c) d e p q ok p_is q_is in
+            let order = ends_ordered o.lower_strict o.upper_strict p q k.same k.p_in k.q_in h in
+            let low = value.Primitive (low_end o.lower_strict p) in
+            let high = value.Primitive (high_end o.upper_strict q) in
+            moved closed (record { dtype = d.dtype; value = Some low }) (record { dtype = e.dtype; value = Some high }) low high refl refl
+            ((λ i. literal_ends o d e (p_is i) (q_is i)) ∙ ap (λ (t : Bool). if t then Some (record { options = closed; lower = number_literal d (low_end o.lower_strict p); upper = number_literal e (high_end o.upper_strict q) }) else None) h)
+            order order refl
+        numbers false h =
+            never ((λ i. literal_ends o d e (p_is i) (q_is i)) ∙ ap (λ (t : Bool). if t then Some (record { options = closed; lower = number_literal d (low_end o.lower_strict p); upper = number_literal e (high_end o.upper_strict q) }) else None) h)
+
+      module _ (l u : ScalarValue) (l_is : d.value ≡ Some l) (u_is : e.value ≡ Some u) (plain : literal_ends o d e (Some l) (Some u) ≡ (if is_crossed o (value_cmp l u) then None else Some (record { options = o; lower = literal d; upper = literal e }))) where
+        values : is_number_type c.dtype ≡ false → (t : Bool) → is_crossed o (value_cmp l u) ≡ t → Decided box A m n (range_of o d e)
+        values none true h = never ((λ i. literal_ends o d e (l_is i) (u_is i)) ∙ plain ∙ ap (λ (t : Bool). if t then None else Some (record { options = o; lower = literal d; upper = literal e })) h)
+        values none false h =
+            let k = meets o.lower_strict o.upper_strict (value_cmp l u) h in
+            moved o d e l u l_is u_is
+            ((λ i. literal_ends o d e (l_is i) (u_is i)) ∙ plain ∙ ap (λ (t : Bool). if t then None else Some (record { options = o; lower = literal d; upper = literal e })) h)
+            k.0 k.1 (ap (λ b. b || has_closed_end o) (sym none) ∙ shape)
+
+      -- the value isn't a number, so the column's type isn't one of numbers
+      no_numbers : (l u : ScalarValue) → d.value ≡ Some l → e.value ≡ Some u → (v : ScalarValue) → (v ≡ l) ⊎ (v ≡ u) → is_number v ≡ false → is_number_type c.dtype ≡ false
+      no_numbers l u l_is u_is v at h =
+          let fit = ends_fit o d e ok l u l_is u_is in
+          ⊎_elim (λ same. sym (number_kind l c.dtype fit.0) ∙ ap is_number (sym same) ∙ h) (λ same. sym (number_kind u c.dtype fit.1) ∙ ap is_number (sym same) ∙ h) at
+
+      of_values : (l u : ScalarValue) → d.value ≡ Some l → e.value ≡ Some u → Decided box A m n (range_of o d e)
+      unfolding is_number
+      of_values (value.Primitive p) (value.Primitive q) a b = numbers p q a b (int_le (low_size o.lower_strict p) (high_size o.upper_strict q)) refl
+      of_values (value.Primitive p) u a b = values (value.Primitive p) u a b refl (no_numbers (value.Primitive p) u a b u (inr refl) refl) (is_crossed o (value_cmp (value.Primitive p) u)) refl
+      of_values l u a b = values l u a b refl (no_numbers l u a b l (inl refl) refl) (is_crossed o (value_cmp l u)) refl
+
+    range : (o : BetweenOptions) (d e : Constant) → is_ok (type_of (between o (column c) (literal d) (literal e))) ≡ true → is_range o (column c) (literal d) (literal e) ≡ true → Decided box A m n (range_of o d e)
+    range o d e ok simple =
+        let k = and_parts (is_number_type c.dtype || has_closed_end o) (is_some d.value && is_some e.value) simple in
+        let some = and_parts (is_some d.value) (is_some e.value) k.1 in
+        let l = some_value d.value some.0 in
+        let u = some_value e.value some.1 in
+        of_values o d e ok k.0 l.0 u.0 l.1 u.1
 
   decided : (p : Tree Place) → is_simple p ≡ true → are_distinct (columns_of p) ≡ true → is_ok (type_of p) ≡ true → Known (columns_of p) → Decided box A m n p
   decided (column c) simple distinct ok known = cc
@@ -176,8 +249,8 @@ module _ (box : Box) (A : Assignment) (m n : ℕ) where
       (decided x h.0 (distinct_front (columns_of x) (columns_of y) distinct) t.0 known_x)
       (decided y h.1 (distinct_back (columns_of x) (columns_of y) distinct) t.1 known_y)
       (all_inside (columns_of x ++ columns_of y) known) distinct (low_between (columns_of x) known_x) (low_between (columns_of y) known_y)
-  decided (between o (column c) (literal d) (literal e)) simple distinct ok known = range c d e known.0 ok o simple
-  decided (between o x l u) simple distinct ok known = let h = (and_parts (are_closed o) (is_column x && is_range l u) simple).1 in cc
+  decided (between o (column c) (literal d) (literal e)) simple distinct ok known = range c known o d e ok simple
+  decided (between o x l u) simple distinct ok known = cc
   decided (is_null x) simple distinct ok known = cc
   decided (is_not_null x) simple distinct ok known = cc
   decided (not x) simple distinct ok known = cc

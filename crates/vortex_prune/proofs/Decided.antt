@@ -1,34 +1,28 @@
 -- A read-once predicate over a known box in order: either its falsifier is true and no row within the box satisfies it, or one does.
 use Rattle.std.proofs.Common.{◌≡◌, ◌<◌, ℕ, Bool, true, false, not as not_b, ◌&&◌, ◌||◌, List, [], ◌∷◌, ◌++◌, Option, Some, refl, sym, ap, ap₂, ◌∙◌, ◌⊎◌, inl, inr, ⊎_elim, option_to_list}
-use Rattle.std.specs.Prelude.{slice_get}
 use Rattle.std.specs.List.{AllByRecursion}
 use Rattle.std.proofs.lemmas.Bool.{not-true, not-false, and_parts, and_cases, and_left, and_right, or_cases}
-use Rattle.vortex_base.specs.declared.between.BetweenOptions.{BetweenOptions}
-use Rattle.vortex_base.specs.declared.between.StrictComparison.TheVariants.{NonStrict}
-use Rattle.vortex_base.specs.declared.aggregate.AggregateFnRef.TheVariants.{Max, Min}
 use Rattle.vortex_base.specs.declared.dtype.DType.{DType}
 use Rattle.vortex_base.specs.declared.operator.Operator.{Operator}
 use Rattle.vortex_base.specs.declared.operator.Operator.TheVariants.{Eq, NotEq, Gt, Gte, Lt, Lte, And, Or}
 use Rattle.vortex_base.specs.declared.scalar_value.ScalarValue.{ScalarValue}
 use Rattle.vortex_base.specs.declared.scalar_value.ScalarValue.TheVariants as value
-use Rattle.vortex_base.specs.Columns.{cell_value}
-use Rattle.vortex_base.specs.Meaning.{applied, both, compared, either, is_true, meaning, satisfies, truth, truth_value, within}
+use Rattle.vortex_base.specs.Meaning.{applied, both, compared, either, is_true, meaning, satisfies, truth, truth_value}
 use Rattle.vortex_base.specs.Scalars.{Constant}
-use Rattle.vortex_base.specs.Tree.{Tree, Place, column, literal, binary, between, stat, has_bare_column}
+use Rattle.vortex_base.specs.Tree.{Tree, Place, literal, binary, has_bare_column}
 use Rattle.vortex_base.specs.Types.{eq_ignore_nullability}
 use Rattle.vortex_base.specs.Values.{is_value}
-use Rattle.vortex_prune.proofs.Choices.{Agree, AreInside, Choice, IsBetween, all_back, all_front, all_joined, between_agreed, chosen_agreed, combined, combined_back, cell_with, combined_front, row_with, satisfies_agreed}
-use Rattle.vortex_prune.proofs.Interval.{Found, apart, find, is_comparison, neither, not_gt, refute, test}
-use Rattle.vortex_prune.proofs.Operands.{IsInterval, Operand, max_is, min_is, same_values}
-use Rattle.vortex_prune.proofs.TruthLogic.{clash, refuted, true_and, true_or}
-use Rattle.vortex_prune.proofs.ValueTests.{value_le, le_refl, le_total, le_trans, gt_le}
+use Rattle.vortex_prune.proofs.Choices.{Agree, AreInside, Choice, IsBetween, all_back, all_front, all_joined, between_agreed, chosen_agreed, combined, combined_back, combined_front, row_with, satisfies_agreed}
+use Rattle.vortex_prune.proofs.Interval.{Found, apart, find, is_comparison, neither, refute, test}
+use Rattle.vortex_prune.proofs.Operands.{Operand, same_values}
+use Rattle.vortex_prune.proofs.TruthLogic.{clash, true_and, true_or}
 use Rattle.vortex_prune.specs.Complete.{Box, IsWithin, are_distinct, columns_of}
 use Rattle.vortex_prune.specs.Proof.{Assignment, value_under}
 use Rattle.vortex_prune.specs.Rewriting.{binary_node, bool_literal, both_of, comparison_falsifier, either_of, falsified, falsifier, joined, node}
 
 -- ---- with no rules of a user, a node has the one proof that is built in
 
-one_proof : (p e : Tree Place) → falsified [] p (e ∷ []) ≡ Some e
+pub one_proof : (p e : Tree Place) → falsified [] p (e ∷ []) ≡ Some e
 unfolding node joined
 one_proof p e = refl
 
@@ -42,7 +36,7 @@ comparison_node Lte l r f g k = refl
 comparison_node And l r f g k = cc
 comparison_node Or l r f g k = cc
 
-comparison_applied : (o : Operator) (a b : Option ScalarValue) → is_comparison o ≡ true → applied o a b ≡ compared o a b
+pub comparison_applied : (o : Operator) (a b : Option ScalarValue) → is_comparison o ≡ true → applied o a b ≡ compared o a b
 comparison_applied Eq a b k = refl
 comparison_applied NotEq a b k = refl
 comparison_applied Gt a b k = refl
@@ -54,7 +48,7 @@ comparison_applied Or a b k = cc
 
 -- ---- connectives of truths that are known
 
-either_known : (s t : Bool) → either (Some s) (Some t) ≡ Some (s || t)
+pub either_known : (s t : Bool) → either (Some s) (Some t) ≡ Some (s || t)
 either_known true t = refl
 either_known false t = refl
 
@@ -265,70 +259,3 @@ module _ (box : Box) (A : Assignment) (m n : ℕ) where
     refutes = λ h row within. not-true b h;
     finds = λ h. (box.low, tt, not-false b h);
   }
-
-  -- ---- closed ranges
-
-  abbrev closed_ends : BetweenOptions
-  closed_ends = record { lower_strict = NonStrict; upper_strict = NonStrict }
-
-  module _ (c : Place) (s t : DType) (l u : ScalarValue) (known : IsInterval box A m n c) (l_fits : is_value l c.dtype ≡ true) (l_u : value_le l u ≡ true) where
-    abbrev lower : Tree Place
-    lower = literal (record { dtype = s; value = Some l })
-
-    abbrev upper : Tree Place
-    upper = literal (record { dtype = t; value = Some u })
-
-    abbrev range : Tree Place
-    range = between closed_ends (column c) lower upper
-
-    abbrev outside : Tree Place
-    outside = binary Or (binary Gt lower (stat Max (column c))) (binary Gt (stat Min (column c)) upper)
-
-    satisfied_between : (row : List Constant) (v : ScalarValue) → cell_value (slice_get row c.index) ≡ Some v → satisfies range row n ≡ (value_le l v && value_le v u)
-    satisfied_between row v is = (λ i. is_true (truth_value (within closed_ends (is i) (Some l) (Some u)))) ∙ both_true (value_le l v) (value_le v u)
-
-    -- the greater of the low value and the lower end
-    greater : (b : Bool) → value_le l (box.low c.index) ≡ b → value_le l (box.high c.index) ≡ true → value_le (box.low c.index) u ≡ true → Choosable range
-    greater true e l_high low_u = (
-      box.low,
-      (record { of_type = known.low; above_low = le_refl (box.low c.index); below_high = known.order }, tt),
-      satisfied_between (row_with box.low m) (box.low c.index) (cell_with box.low m c.index known.inside) ∙ ap₂ ◌&&◌ e low_u,
-    )
-    greater false e l_high low_u = (
-      (λ i. l),
-      (record { of_type = l_fits; above_low = le_total l (box.low c.index) e; below_high = l_high }, tt),
-      satisfied_between (row_with (λ i. l) m) l (cell_with (λ i. l) m c.index known.inside) ∙ ap₂ ◌&&◌ (le_refl l) l_u,
-    )
-
-    range_refuted : (row : List Constant) → IsWithin box row c → (test Gt l (box.high c.index) || test Gt (box.low c.index) u) ≡ true → satisfies range row n ≡ false
-    range_refuted row w h =
-        let low = box.low c.index in
-        let high = box.high c.index in
-        let v = w.chosen in
-        satisfied_between row v w.cell
-        ∙ ⊎_elim
-        (λ k. and_left (value_le l v) (value_le v u) (refuted (value_le l v) (λ e. clash (le_trans l v high e (ap not_b w.below_high)) (gt_le l high k))))
-        (λ k. and_right (value_le l v) (value_le v u) (refuted (value_le v u) (λ e. clash (le_trans low v u (ap not_b w.above_low) e) (gt_le low u k))))
-        (or_cases (test Gt l high) (test Gt low u) h)
-
-    range_proof : falsifier [] range ≡ Some outside
-    unfolding node joined
-    range_proof = λ i.
-        falsified [] range (option_to_list (falsified [] (binary And (binary Lte lower (column c)) (binary Lte (column c) upper)) (option_to_list (either_of (binary Or)
-        (falsified [] (binary Lte lower (column c)) (option_to_list (both_of (binary Gt) (Some lower) (max_is c (box.low c.index) known.low i))))
-        (falsified [] (binary Lte (column c) upper) (option_to_list (both_of (binary Gt) (min_is c (box.low c.index) known.low i) (Some upper))))))))
-
-    pub range_decided : Decided range
-    range_decided = record {
-      proof = outside;
-      proof_is = range_proof;
-      closed = refl;
-      says = test Gt l (box.high c.index) || test Gt (box.low c.index) u;
-      proof_told =
-          (λ i. truth_value (either (truth (truth_value (compared Gt (Some l) (known.max_told i)))) (truth (truth_value (compared Gt (known.min_told i) (Some u))))))
-          ∙ ap truth_value (either_known (test Gt l (box.high c.index)) (test Gt (box.low c.index) u));
-      refutes = λ h row within. range_refuted row within.0 h;
-      finds = λ h.
-          let k = neither (test Gt l (box.high c.index)) (test Gt (box.low c.index) u) h in
-          greater (value_le l (box.low c.index)) refl (not_gt l (box.high c.index) k.0) (not_gt (box.low c.index) u k.1);
-    }

@@ -4,6 +4,7 @@ pub mod Choices
 pub mod CompleteRows
 pub mod Completeness
 pub mod Decided
+pub mod EndsCode
 pub mod HonestParts
 pub mod HonestStats
 pub mod Interval
@@ -11,7 +12,9 @@ pub mod JoinLemmas
 pub mod JoinRounds
 pub mod LikeRows
 pub mod Lossless
+pub mod MovedEnds
 pub mod NodeProofs
+pub mod NumberEnds
 pub mod Operands
 pub mod OverParts
 pub mod OwnBinders
@@ -20,6 +23,7 @@ pub mod PartLiterals
 pub mod PatternProofs
 pub mod ProofLemmas
 pub mod ProofTypes
+pub mod Ranges
 pub mod RewritingRows
 pub mod RowFacts
 pub mod RowRules

@@ -1,9 +1,13 @@
 -- The proofs at one node, from the tables.
-use Rattle.std.proofs.Common.{◌≡◌, ℕ, Bool, true, false, List, [], ◌∷◌, ◌++◌, Option, None, Result, Ok, Err, IfOk, refl, sym, ap, ◌∙◌}
+use Rattle.std.proofs.Common.{◌≡◌, ℕ, ◌+◌, min, arith, Some, option_map, option_to_list, Bool, true, false, List, [], ◌∷◌, ◌++◌, Option, None, Result, Ok, Err, IfOk, refl, sym, ap, ◌∙◌}
 use denote.Bor.{Bor}
 use Rattle.vortex_base.specs.Parts.{whole}
 use Rattle.vortex_base.specs.Tree.{Tree, Place, column, literal, binary, between, is_null, is_not_null, not, like, stat, row_count}
+use Rattle.std.proofs.lemmas.Option.{same_Some}
+use Rattle.vortex_base.specs.Between.{to_operator}
 use Rattle.vortex_base.specs.declared.between.BetweenOptions.{BetweenOptions}
+use Rattle.vortex_base.specs.declared.between.StrictComparison.{StrictComparison}
+use Rattle.vortex_base.specs.declared.between.StrictComparison.TheVariants.{Strict, NonStrict}
 use Rattle.vortex_base.specs.declared.operator.Operator.{Operator}
 use Rattle.vortex_base.specs.declared.operator.Operator.TheVariants.{Eq, NotEq, Gt, Gte, Lt, Lte, And, Or}
 use Rattle.vortex_base.specs.declared.parts.Parts.{Parts}
@@ -11,7 +15,7 @@ use Rattle.vortex_base.specs.declared.parts.Parts.TheVariants as parts
 use Rattle.vortex_prune.specs.BuiltIn.{table_falsifiers, table_satisfiers}
 use Rattle.vortex_prune.specs.Lawful.{OwnRule}
 use Rattle.vortex_prune.specs.Predicates.{is_connective}
-use Rattle.vortex_prune.specs.Rewriting.{asked, own_proofs, joined, node, binary_visits, falsified, falsifier, satisfied, satisfier, visits}
+use Rattle.vortex_prune.specs.Rewriting.{Ends, asked, binary_node, bool_literal, ends, ends_node, ends_visits, halves, halves_node, own_proofs, joined, node, binary_visits, falsified, falsifier, satisfied, satisfier, visits}
 
 module _ (prove : OwnRule → Tree Place → Option (Tree Place)) where
   -- no rule is asked at a column
@@ -143,3 +147,70 @@ pub node_answer : {E : Type 0} (prove : OwnRule → Tree Place → Option (Tree 
     → proofs ≡ built_in ++ own_proofs prove rules p → IfOk r (λ o. o ≡ joined proofs) → IfOk r (λ o. o ≡ node prove rules p built_in)
 unfolding node
 node_answer prove rules p built_in proofs r e = answer_along r (joined proofs) (joined (built_in ++ own_proofs prove rules p)) (ap joined e)
+
+-- ---- a BETWEEN
+
+module _ (rules : List OwnRule) (o : BetweenOptions) (x l u : Tree Place) where
+  abbrev and_of : Ends → Tree Place
+  and_of e = halves e.options x e.lower e.upper
+
+  ends_none : (es : Option Ends) → None ≡ option_map and_of es → Some (bool_literal true) ≡ ends_node rules x es
+  ends_none None h = refl
+  ends_none (Some e) h = cc
+
+  end_node : (s : StrictComparison) (l r : Tree Place) (f g : Option (Tree Place)) → binary_node rules (to_operator s) l r f g ≡ binary_node rules (to_operator s) l r None None
+  end_node Strict l r f g = refl
+  end_node NonStrict l r f g = refl
+
+  halves_are : (e : Ends) → falsifier rules (and_of e) ≡ halves_node rules e.options x e.lower e.upper
+  halves_are e = λ i. binary_node rules And (binary (to_operator e.options.lower_strict) e.lower x) (binary (to_operator e.options.upper_strict) x e.upper)
+      (end_node e.options.lower_strict e.lower x (falsifier rules e.lower) (falsifier rules x) i) (end_node e.options.upper_strict x e.upper (falsifier rules x) (falsifier rules e.upper) i)
+
+  ends_some : (h : Tree Place) (es : Option Ends) → Some h ≡ option_map and_of es → falsifier rules h ≡ ends_node rules x es
+  ends_some h None e = cc
+  ends_some h (Some f) e = ap (falsifier rules) (same_Some _ _ e) ∙ halves_are f
+
+  end_visits : (s : StrictComparison) (m n : ℕ) → binary_visits (to_operator s) m n ≡ 1
+  end_visits Strict m n = refl
+  end_visits NonStrict m n = refl
+
+  and_visits : (e : Ends) → visits (and_of e) ≡ 3
+  and_visits e = λ i. 1 + (end_visits e.options.lower_strict (visits e.lower) (visits x) i + end_visits e.options.upper_strict (visits x) (visits e.upper) i)
+
+  visits_some : (h : Tree Place) (es : Option Ends) → Some h ≡ option_map and_of es → (ends_visits es ≡ 4) × (visits h ≡ 3)
+  visits_some h None e = cc
+  visits_some h (Some f) e = (refl, ap visits (same_Some _ _ e) ∙ and_visits f)
+
+  visits_none : (es : Option Ends) → None ≡ option_map and_of es → ends_visits es ≡ 1
+  visits_none None e = refl
+  visits_none (Some f) e = cc
+
+  module _ (p : Tree Place) (p_is : p ≡ between o x l u) where
+    pub between_answer : {E : Type 0} (proof : Option (Tree Place)) (built_in : List (Tree Place)) (r : Result (Option (Tree Place)) E) → proof ≡ ends_node rules x (ends o l u) → built_in ≡ option_to_list proof
+        → IfOk r (λ a. a ≡ falsified rules p built_in) → IfOk r (λ a. a ≡ falsifier rules p)
+    between_answer proof built_in r h k =
+        answer_along r (falsified rules p built_in) (falsifier rules p)
+        ((λ i. falsified rules (p_is i) ((k ∙ ap option_to_list h) i)) ∙ sym (ap (falsifier rules) p_is))
+
+    pub empty_node : None ≡ option_map and_of (ends o l u) → Some (bool_literal true) ≡ ends_node rules x (ends o l u)
+    empty_node h = ends_none (ends o l u) h
+
+    pub moved_node : (h : Tree Place) → Some h ≡ option_map and_of (ends o l u) → falsifier rules h ≡ ends_node rules x (ends o l u)
+    moved_node h e = ends_some h (ends o l u) e
+
+    pub empty_visits : None ≡ option_map and_of (ends o l u) → visits p ≡ 1
+    empty_visits h = ap visits p_is ∙ visits_none (ends o l u) h
+
+    pub moved_visits : (h : Tree Place) → Some h ≡ option_map and_of (ends o l u) → (visits p ≡ 4) × (visits h ≡ 3)
+    moved_visits h e = let k = visits_some h (ends o l u) e in (ap visits p_is ∙ k.0, k.1)
+
+pub always_ok : {X E : Type 0} (r : Result X E) (P : Type 0) → P → IfOk r (λ x. P)
+always_ok (Ok x) P h = h
+always_ok (Err e) P h = tt
+
+-- a BETWEEN's turns are its own and those of the AND
+pub empty_turns : (old turned now e most : ℕ) → turned ≡ min (old + 1) most → now ≡ turned → e ≡ 1 → now ≡ min (old + e) most
+empty_turns old turned now e most h k l = omega arith
+
+pub moved_turns : (old turned now a e most : ℕ) → turned ≡ min (old + 1) most → now ≡ min (turned + a) most → a ≡ 3 → e ≡ 4 → now ≡ min (old + e) most
+moved_turns old turned now a e most h k l m = omega arith

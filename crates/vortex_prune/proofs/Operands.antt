@@ -85,7 +85,7 @@ same_operands x y hx hy tx ty ok =
     let typed = subst₂ (λ a b. is_ok (with_types comparison_type a b) ≡ true) (operand_typed x hx tx) (operand_typed y hy ty) ok in
     (and_parts _ _ (if_ok _ _ _ typed)).0
 
-some_value : (o : Option ScalarValue) → is_some o ≡ true → (v : ScalarValue) × (o ≡ Some v)
+pub some_value : (o : Option ScalarValue) → is_some o ≡ true → (v : ScalarValue) × (o ≡ Some v)
 some_value (Some v) h = (v, refl)
 some_value None h = cc
 

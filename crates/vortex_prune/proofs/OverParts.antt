@@ -1,19 +1,19 @@
 -- The parts of an expression over a chunk are over it, and its texts are UTF-8.
-use Rattle.std.proofs.Common.{◌≡◌, ℕ, Bool, true, false, not, ◌&&◌, ◌||◌, List, Option, Some, None, refl, sym, ap, ◌∙◌, subst, arith}
-use Rattle.std.specs.Prelude.{⊤, ◌<◌, ◌^◌, Result, Ok, Err, IsOk, IsTrue, is_none, if◌then◌else◌, option_map, slice_get}
+use Rattle.std.proofs.Common.{◌≡◌, ℕ, Bool, true, false, not, ◌&&◌, ◌||◌, Option, Some, None, refl, sym, ap, ◌∙◌, arith}
+use Rattle.std.specs.Prelude.{◌<◌, Result, Ok, Err, IsOk, if◌then◌else◌, option_map, slice_get}
 use Rattle.std.proofs.lemmas.Bool.{and_parts}
 use Rattle.std.proofs.lemmas.Option.{slice_get-map}
 use Rattle.vortex_base.proofs.MeaningFits.{meaning-fits}
-use Rattle.vortex_base.proofs.PlacedTypes.{with_type-ok, with_types-ok, with_three-ok}
+use Rattle.vortex_base.proofs.PlacedTypes.{with_types-ok}
 use Rattle.vortex_base.proofs.RowLemmas.{row_of-IsRow}
 use Rattle.vortex_base.specs.Between.{to_operator}
 use Rattle.vortex_base.specs.Columns.{ChunkData, ColumnData, IsChunk, row_count as rows_of, row_of, value_at}
 use Rattle.vortex_base.specs.Exact.{both_hold}
 use Rattle.vortex_base.specs.Fitting.{is_cell_of}
 use Rattle.vortex_base.specs.Meaning.{meaning, truth_value}
-use Rattle.vortex_base.specs.Scalars.{Constant, is_optional_value}
+use Rattle.vortex_base.specs.Scalars.{is_optional_value}
 use Rattle.vortex_base.specs.Tree.{Tree, Place, column, literal, binary, between, is_null, is_not_null, not as not_tree, like, stat, row_count, has_placeholder}
-use Rattle.vortex_base.specs.Types.{as_nullable, dtype_eq, dtype_eq_is_exact, eq_ignore_nullability, is_nullable}
+use Rattle.vortex_base.specs.Types.{as_nullable, dtype_eq_is_exact, eq_ignore_nullability, is_nullable}
 use Rattle.vortex_base.specs.Typing.{are_comparable, between_type, binary_type, connective_type, is_state, like_type, truth_type, type_if, type_of, with_type, with_types}
 use Rattle.vortex_base.specs.declared.between.BetweenOptions.{BetweenOptions}
 use Rattle.vortex_base.specs.declared.between.StrictComparison.{StrictComparison}
@@ -24,7 +24,6 @@ use Rattle.vortex_base.specs.declared.error.BaseError.{BaseError}
 use Rattle.vortex_base.specs.declared.error.BaseError.TheVariants.{Mismatch}
 use Rattle.vortex_base.specs.declared.like.LikeOptions.{LikeOptions}
 use Rattle.vortex_base.specs.declared.operator.Operator.{Operator}
-use Rattle.vortex_base.specs.declared.operator.Operator.TheVariants.{And}
 use Rattle.vortex_base.specs.declared.scalar_value.ScalarValue.{ScalarValue}
 use Rattle.vortex_base.specs.declared.scalar_value.ScalarValue.TheVariants as value
 use Rattle.vortex_prune.proofs.LikeRows.{IsText}
@@ -90,10 +89,10 @@ passed : (b : Bool) (t : DType) → IsOk (type_if b t) → b ≡ true
 passed true t h = refl
 passed false t h = cc
 
-comparable_ends : (x l u : DType) → IsOk (between_type x l u) → (are_comparable x l ≡ true) × (are_comparable x u ≡ true)
+pub comparable_ends : (x l u : DType) → IsOk (between_type x l u) → (are_comparable x l ≡ true) × (are_comparable x u ≡ true)
 comparable_ends x l u h = and_parts (are_comparable x l) (are_comparable x u) (passed (are_comparable x l && are_comparable x u) (truth_type (is_nullable x || (is_nullable l || is_nullable u))) h)
 
-halves_typed : (s t : StrictComparison) (x l u : Result DType BaseError) → IsOk (with_type (λ a. with_types (between_type a) l u) x)
+pub halves_typed : (s t : StrictComparison) (x l u : Result DType BaseError) → IsOk (with_type (λ a. with_types (between_type a) l u) x)
     → IsOk (with_types connective_type (with_types (binary_type (to_operator s)) l x) (with_types (binary_type (to_operator t)) x u))
 halves_typed s t (Ok x) (Ok l) (Ok u) h =
     let c = comparable_ends x l u h in

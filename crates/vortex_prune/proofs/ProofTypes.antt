@@ -272,6 +272,19 @@ ends_alike x l u (Ok r) (Ok s) (Err t) e f g h = absurd cc
 ends_alike x l u (Ok r) (Err s) c e f g h = absurd cc
 ends_alike x l u (Err r) b c e f g h = absurd cc
 
+-- the ends of a BETWEEN compare
+pub ends_compare : (o : BetweenOptions) (x l u : Tree Place) → IsOk (type_of (between o x l u)) → IsOk (type_of (binary Eq l u))
+ends_compare o x l u h =
+    let k = ends_alike x l u (type_of x) (type_of l) (type_of u) refl refl refl h in
+    alike_compare Eq l u refl (record {
+      left_type = k.0.left_type;
+      right_type = k.1.right_type;
+      left = k.0.left;
+      right = k.1.right;
+      same = k.0.same ∙ ap as_nullable (ok_same (type_of x) k.0.right_type k.1.left_type k.0.right k.1.left) ∙ k.1.same;
+      value = k.0.value;
+    })
+
 range_operator : (s : StrictComparison) → is_connective (to_operator s) ≡ false
 range_operator Strict = refl
 range_operator NonStrict = refl

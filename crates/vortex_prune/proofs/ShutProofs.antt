@@ -1,7 +1,7 @@
 -- The falsifiers of the built-in rules have no column outside their placeholders.
-use Rattle.std.proofs.Common.{◌≡◌, ◌||◌, ℕ, zero, suc, Bool, true, false, cond, List, [], ◌∷◌, ◌++◌, Option, Some, None, length, IfErr, Ok, Err, Result, refl, sym, ap, subst, append-nil, ◌∙◌, ⊎_elim}
-use Rattle.std.specs.List.{AllByRecursion, filter_map}
-use Rattle.std.specs.Prelude.{option_to_list, is_none}
+use Rattle.std.proofs.Common.{◌≡◌, ◌||◌, ℕ, zero, suc, Bool, true, false, cond, List, [], ◌∷◌, Option, Some, None, length, IfErr, Ok, Err, Result, refl, sym, subst, append-nil, ◌∙◌, ⊎_elim}
+use Rattle.std.specs.List.{AllByRecursion}
+use Rattle.std.specs.Prelude.{option_to_list}
 use Rattle.std.specs.Result.{is_ok}
 use Rattle.std.specs.Str.{chars}
 use Rattle.vortex_base.specs.Between.{to_operator}
@@ -10,16 +10,15 @@ use Rattle.vortex_base.specs.Prefix.{is_exact, literal_prefix, successor}
 use Rattle.vortex_base.specs.Tree.{Tree, Place, column, literal, binary, between, is_null, is_not_null, not, like, stat, row_count, has_bare_column}
 use Rattle.vortex_base.specs.Typing.{type_of}
 use Rattle.vortex_base.specs.declared.aggregate.AggregateFnRef.{AggregateFnRef}
-use Rattle.vortex_base.specs.declared.aggregate.AggregateFnRef.TheVariants.{Max, Min, NullCount, AllNull, AllNonNull}
+use Rattle.vortex_base.specs.declared.aggregate.AggregateFnRef.TheVariants.{Max, Min}
 use Rattle.vortex_base.specs.declared.between.BetweenOptions.{BetweenOptions}
-use Rattle.vortex_base.specs.declared.like.Item.{Item}
 use Rattle.vortex_base.specs.declared.like.LikeOptions.{LikeOptions}
 use Rattle.vortex_base.specs.declared.operator.Operator.{Operator}
 use Rattle.vortex_base.specs.declared.operator.Operator.TheVariants.{Eq, NotEq, Gt, Gte, Lt, Lte, And, Or}
 use Rattle.vortex_base.specs.declared.scalar_value.ScalarValue.{ScalarValue}
 use Rattle.vortex_base.specs.declared.scalar_value.ScalarValue.TheVariants as value
 use Rattle.vortex_prune.specs.Lawful.{OwnRule}
-use Rattle.vortex_prune.specs.Rewriting.{asked, binary_node, both_of, bool_literal, comparison_falsifier, count_literal, either_of, every_null, extreme, falsified, falsifier, halves_node, items_falsifier, joined, like_falsifier, literal_falsifier, max_of, min_of, node, none_null, null_count_of, other_than, outside, own_proofs, pattern_falsifier, placeholder, round, rounds, text_literal}
+use Rattle.vortex_prune.specs.Rewriting.{Ends, binary_node, both_of, comparison_falsifier, either_of, ends, ends_node, every_null, extreme, falsified, falsifier, halves_node, items_falsifier, joined, like_falsifier, literal_falsifier, max_of, min_of, node, none_null, null_count_of, other_than, outside, pattern_falsifier, placeholder, round, rounds, text_literal}
 use Rattle.vortex_prune.specs.RuleRefusals.{IsRuleFault}
 use Rattle.vortex_prune.specs.ScanRefusals.{IsFaithfulScanRefusal, IsMemory, is_open}
 use Rattle.vortex_stats.specs.declared.error.BinderFault.TheVariants as binder_fault
@@ -186,11 +185,15 @@ halves_shut o x l u =
     (binary_node [] (to_operator o.lower_strict) l x None None) (binary_node [] (to_operator o.upper_strict) x u None None)
     (binary_shut (to_operator o.lower_strict) l x None None refl refl) (binary_shut (to_operator o.upper_strict) x u None None refl refl)
 
+ends_shut : (x : Tree Place) (es : Option Ends) → AreShut (ends_node [] x es)
+ends_shut x None = refl
+ends_shut x (Some e) = halves_shut e.options x e.lower e.upper
+
 pub built_in_is_shut : (p : Tree Place) → is_open (falsifier [] p) ≡ false
 built_in_is_shut (column c) = refl
 built_in_is_shut (literal c) = one_shut (literal c) (literal_falsifier c.value) (literal_shut c.value)
 built_in_is_shut (binary o l r) = binary_shut o l r (falsifier [] l) (falsifier [] r) (built_in_is_shut l) (built_in_is_shut r)
-built_in_is_shut (between o x l u) = one_shut (between o x l u) (halves_node [] o x l u) (halves_shut o x l u)
+built_in_is_shut (between o x l u) = one_shut (between o x l u) (ends_node [] x (ends o l u)) (ends_shut x (ends o l u))
 built_in_is_shut (is_null x) = node_shut (is_null x) (none_null x) (none_null_shut x)
 built_in_is_shut (is_not_null x) = node_shut (is_not_null x) (every_null x) (every_null_shut x)
 built_in_is_shut (not x) = node_shut (not x) [] tt

@@ -1,33 +1,27 @@
 -- The falsifiers and the satisfiers of predicates are right, with any rules of a user that are.
-use Rattle.std.proofs.Common.{◌≡◌, ℕ, ◌<◌, Bool, true, false, not, ◌&&◌, ◌||◌, ◌⊎◌, inl, inr, ⊎_elim, List, [], Option, Some, None, refl, sym, ap, ap₂, ◌∙◌, option_to_list}
+use Rattle.std.proofs.Common.{◌≡◌, ℕ, ◌<◌, true, false, not, ◌||◌, ◌⊎◌, inl, inr, ⊎_elim, List, [], Option, Some, None, refl, sym, ap, ap₂, ◌∙◌, option_to_list}
 use Rattle.std.specs.List.{AllByRecursion}
 use Rattle.std.proofs.lemmas.Bool.{and_left, and_right}
 use Rattle.std.proofs.lemmas.Option.{same_Some, none-some}
 use Rattle.vortex_base.specs.Between.{to_operator}
 use Rattle.vortex_base.specs.Columns.{ChunkData, IsChunk, row_count as rows_of, row_of}
-use Rattle.vortex_base.specs.Meaning.{applied, both as both_truths, compared, is_true, meaning, satisfies, truth_value}
+use Rattle.vortex_base.specs.Meaning.{meaning, satisfies}
 use Rattle.vortex_base.specs.Scalars.{Constant}
 use Rattle.vortex_base.specs.Tree.{Tree, Place, column, literal, binary, between, is_null, is_not_null, not as not_tree, like, stat, row_count}
 use Rattle.vortex_base.specs.declared.between.BetweenOptions.{BetweenOptions}
-use Rattle.vortex_base.specs.declared.between.StrictComparison.{StrictComparison}
-use Rattle.vortex_base.specs.declared.between.StrictComparison.TheVariants.{Strict, NonStrict}
 use Rattle.vortex_base.specs.declared.operator.Operator.{Operator}
 use Rattle.vortex_base.specs.declared.operator.Operator.TheVariants.{Eq, NotEq, Gt, Gte, Lt, Lte, And, Or}
-use Rattle.vortex_base.specs.declared.scalar_value.ScalarValue.{ScalarValue}
 use Rattle.vortex_prune.proofs.LikeRows.{like_right}
+use Rattle.vortex_prune.proofs.MovedEnds.{Rewritten, between_is, rewritten}
 use Rattle.vortex_prune.proofs.OverParts.{binary_parts, halves_over, like_text_over, means_text}
 use Rattle.vortex_prune.proofs.RowFacts.{right_at}
 use Rattle.vortex_prune.proofs.RowRules.{IsRight, comparison_right, every_null_right, literal_false, literal_true, none_null_right}
-use Rattle.vortex_prune.proofs.TruthLogic.{Gives, all_option, node_gives, proves_and, proves_or, proves_value, true_and, true_or, truth_back}
+use Rattle.vortex_prune.proofs.TruthLogic.{Gives, all_option, node_gives, proves_and, proves_or, proves_value, true_and, true_or}
 use Rattle.vortex_prune.specs.Facts.{IsHonest}
 use Rattle.vortex_prune.specs.Lawful.{IsOver, IsSoundFalsifier, IsSoundSatisfier, OwnRule}
 use Rattle.vortex_prune.specs.Proof.{Assignment, proves}
-use Rattle.vortex_prune.specs.Rewriting.{binary_node, both_of, comparison_falsifier, either_of, every_null, falsified, falsifier, halves, halves_node, like_falsifier, literal_falsifier, literal_satisfier, none_null, satisfied, satisfier}
-
--- at each end of a BETWEEN the operator is a comparison
-end_compares : (s : StrictComparison) (a b : Option ScalarValue) → applied (to_operator s) a b ≡ compared (to_operator s) a b
-end_compares Strict a b = refl
-end_compares NonStrict a b = refl
+use Rattle.std.specs.Prelude.{is_ok}
+use Rattle.vortex_prune.specs.Rewriting.{Ends, binary_node, both_of, comparison_falsifier, either_of, ends, ends_node, every_null, falsified, falsifier, halves, halves_node, like_falsifier, literal_falsifier, literal_satisfier, none_null, satisfied, satisfier}
 
 module _ (row : List Constant) (n : ℕ) where
   and_false : (x y : Tree Place) → (satisfies x row n ≡ false) ⊎ (satisfies y row n ≡ false) → satisfies (binary And x y) row n ≡ false
@@ -35,13 +29,6 @@ module _ (row : List Constant) (n : ℕ) where
 
   or_false : (x y : Tree Place) → satisfies x row n ≡ false → satisfies y row n ≡ false → satisfies (binary Or x y) row n ≡ false
   or_false x y h k = true_or (meaning x row n) (meaning y row n) ∙ ap₂ ◌||◌ h k
-
-  -- a BETWEEN is the AND of its two comparisons
-  between_is : (o : BetweenOptions) (x l u : Tree Place) → satisfies (halves o x l u) row n ≡ satisfies (between o x l u) row n
-  between_is o x l u =
-      ap₂ (λ s t. is_true (truth_value (both_truths s t)))
-      (truth_back (applied (to_operator o.lower_strict) (meaning l row n) (meaning x row n)) ∙ end_compares o.lower_strict (meaning l row n) (meaning x row n))
-      (truth_back (applied (to_operator o.upper_strict) (meaning x row n) (meaning u row n)) ∙ end_compares o.upper_strict (meaning x row n) (meaning u row n))
 
 module _ (k : ChunkData) (A : Assignment) (chunk : IsChunk k) (honest : IsHonest A k.columns) (i : ℕ) (here : i < rows_of k.columns) where
   abbrev row : List Constant
@@ -117,6 +104,14 @@ module _ (k : ChunkData) (A : Assignment) (chunk : IsChunk k) (honest : IsHonest
       (binary_right rules (to_operator o.lower_strict) l x None None parts.0 (none_right l) (none_right x))
       (binary_right rules (to_operator o.upper_strict) x u None None parts.1 (none_right x) (none_right u))
 
+  -- by its ends a BETWEEN means the same, and without ends no row satisfies it
+  ends_right : (rules : List OwnRule) (o : BetweenOptions) (x l u : Tree Place) → IsOver (between o x l u) k → (es : Option Ends) → Rewritten o x l u es → IsRightFor (between o x l u) (ends_node rules x es)
+  ends_right rules o x l u over None never = λ e is t. never row n
+  ends_right rules o x l u over (Some f) moved =
+      let inner : IsOver (between f.options x f.lower f.upper) k = record { typed = ap is_ok moved.typed ∙ over.typed; over = moved.over k.columns ∙ over.over } in
+      λ e is t. sym (moved.same row n) ∙ sym (between_is row n f.options x f.lower f.upper)
+      ∙ halves_right rules f.options x f.lower f.upper (halves_over f.options x f.lower f.upper k inner) e is t
+
   falsifier_right : (rules : List OwnRule) (p : Tree Place) → IsOver p k → IsRightFor p (falsifier rules p)
   falsifier_right rules (column c) over = none_right (column c)
   falsifier_right rules (literal c) over = node_right rules (literal c) over (option_to_list (literal_falsifier c.value)) (literal_false A n c.value)
@@ -124,8 +119,7 @@ module _ (k : ChunkData) (A : Assignment) (chunk : IsChunk k) (honest : IsHonest
       let parts = binary_parts o x y k over in
       binary_right rules o x y (falsifier rules x) (falsifier rules y) over (falsifier_right rules x parts.0) (falsifier_right rules y parts.1)
   falsifier_right rules (between o x l u) over =
-      option_right rules (between o x l u) over (halves_node rules o x l u)
-      (λ e is t. sym (between_is row n o x l u) ∙ halves_right rules o x l u (halves_over o x l u k over) e is t)
+      option_right rules (between o x l u) over (ends_node rules x (ends o l u)) (ends_right rules o x l u over (ends o l u) (rewritten o x l u over.typed))
   falsifier_right rules (is_null x) over =
       node_right rules (is_null x) over (none_null x) (none_null_right A row n right (satisfies (is_null x) row n ≡ false) x (λ h. h))
   falsifier_right rules (is_not_null x) over =

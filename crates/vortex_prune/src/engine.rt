@@ -1,14 +1,15 @@
 //! The engine: it rewrites a predicate into a proof, node by node.
-ghost use Rattle.std.specs.Prelude.{◌≡◌, ◌+◌, ◌-◌, ◌^◌, min, IfErr, IfOk, IsOk, alloc_error};
+ghost use Rattle.std.specs.Prelude.{◌≡◌, ◌+◌, ◌-◌, ◌^◌, min, IfErr, IfOk, IsOk, alloc_error, option_map};
 ghost use Rattle.vortex_base.specs.Tree as tree;
 ghost use Rattle.vortex_base.specs.Typing.{type_of};
 ghost use Rattle.vortex_stats.specs.declared.error.StatsError.TheVariants.{Memory};
 ghost use Rattle.vortex_prune.specs.Own.{own_rules};
-ghost use Rattle.vortex_prune.specs.Rewriting.{falsifier as falsifier_of, halves as halves_of, node as node_of, satisfier as satisfier_of, visits as visits_of};
+ghost use Rattle.vortex_prune.specs.Rewriting.{ends as ends_of, falsifier as falsifier_of, halves as halves_of, node as node_of, satisfier as satisfier_of, visits as visits_of};
 ghost use Rattle.vortex_prune.specs.RuleRefusals.{IsRefusal};
 ghost use Rattle.vortex_prune.specs.Sides.{proof_of};
 
 use crate::ask::ask_own;
+use crate::ends::ends;
 use crate::extremes::{both_joined, either_joined};
 use crate::join::join;
 use crate::proof::Proof;
@@ -42,7 +43,7 @@ fn node(
 }
 
 /// The AND of the two comparisons that a BETWEEN stands for.
-fn halves(
+fn both_halves(
     alloc: Global,
     options: BetweenOptions,
     x: &BoundExpression,
@@ -66,6 +67,28 @@ fn halves(
         upper.try_clone()?,
     )?;
     Ok(Proof::join(alloc, Operator::And, low, high)?.into_expression())
+}
+
+/// The AND of the two comparisons that a BETWEEN stands for, at its moved ends; none, if its ends are
+/// literals between which no value lies.
+fn halves(
+    alloc: Global,
+    options: BetweenOptions,
+    x: &BoundExpression,
+    lower: &BoundExpression,
+    upper: &BoundExpression,
+) -> Result<Option<BoundExpression>, StatsError>
+    requires { IsOk (type_of (tree.between options x.now lower.now upper.now)) }
+    ensures value { IfOk result (λ o. o ≡ option_map (λ e. halves_of e.options x.now e.lower e.upper)
+        (ends_of options lower.now upper.now)) }
+    ensures memory { IfErr result (λ fault. fault ≡ Memory alloc_error) }
+{
+    match ends(alloc, options, lower, upper)? {
+        None => Ok(None),
+        Some((options, lower, upper)) => {
+            Ok(Some(both_halves(alloc, options, x, &lower, &upper)?))
+        }
+    }
 }
 
 /// The proof that no row satisfies an expression, if there is one. Each call is a turn, and is
@@ -102,7 +125,10 @@ pub(crate) fn rewrite_node(
         },
         Parts::Between(options, x, lower, upper) => {
             let halves = halves(alloc, options, x, lower, upper)?;
-            let proof = rewrite_node(alloc, rules, &halves, visits)?;
+            let proof = match halves {
+                None => Some(Proof::truth(alloc, true)?),
+                Some(halves) => rewrite_node(alloc, rules, &halves, visits)?,
+            };
             node(alloc, Side::Falsify, rules, e, at_most_one(alloc, proof)?)
         }
         _ => node(alloc, Side::Falsify, rules, e, table_falsifiers(alloc, e)?),

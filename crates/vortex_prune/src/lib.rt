@@ -5,6 +5,7 @@ mod ask;
 pub mod binding;
 pub mod bound;
 mod built;
+mod ends;
 mod engine;
 mod extremes;
 pub mod hook_fault;

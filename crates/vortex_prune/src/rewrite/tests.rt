@@ -251,10 +251,13 @@ fn ranges_are_two_comparisons(rt: HostRuntime) -> Result<(), Fail> {
     let high = bound::gt(alloc, min_a(alloc)?, int(alloc, 50)?)?;
     let e = closed_range(alloc, 10, 50)?;
     expect_falsifier(&rt, alloc, e, bound::or(alloc, low, high)?)?;
-    let low = bound::gt_eq(alloc, int(alloc, 3)?, max_a(alloc)?)?;
-    let high = bound::gt_eq(alloc, min_a(alloc)?, int(alloc, 4)?)?;
+    let low = bound::gt(alloc, int(alloc, 4)?, max_a(alloc)?)?;
+    let high = bound::gt(alloc, min_a(alloc)?, int(alloc, 9)?)?;
+    let e = range(alloc, 3, 10, StrictComparison::Strict)?;
+    expect_falsifier(&rt, alloc, e, bound::or(alloc, low, high)?)?;
     let e = range(alloc, 3, 4, StrictComparison::Strict)?;
-    expect_falsifier(&rt, alloc, e, bound::or(alloc, low, high)?)
+    expect_falsifier(&rt, alloc, e, truth(alloc, true)?)?;
+    expect_falsifier(&rt, alloc, closed_range(alloc, 50, 10)?, truth(alloc, true)?)
 }
 
 #[test]

@@ -183,12 +183,12 @@ fn ranges(rt: HostRuntime) -> Result<(), Fail> {
     let crossed = range(alloc, StrictComparison::NonStrict, 50, 10)?;
     assert_eq!(rt;
         looked_at(alloc, &[Some(3)], bounds(0, 60), &crossed)?,
-        (false, 0)
+        (true, 0)
     );
     let neighbours = range(alloc, StrictComparison::Strict, 3, 4)?;
     assert_eq!(rt;
         looked_at(alloc, &[Some(3)], bounds(0, 10), &neighbours)?,
-        (false, 0)
+        (true, 0)
     );
     let closed = range(alloc, StrictComparison::NonStrict, 10, 50)?;
     assert_eq!(rt;

@@ -1,8 +1,13 @@
-use Rattle.vortex_prune.proofs.ProofTypes.{lower_compares, upper_compares}
+use Rattle.std.proofs.Common.{sym, ap, ◌∙◌, option_map}
+use Rattle.vortex_prune.proofs.MovedEnds.{moved_typed}
+use Rattle.vortex_prune.proofs.ProofTypes.{ends_compare}
+use Rattle.vortex_prune.specs.BuiltIn.{ends_from}
 use Rattle.vortex_prune.proofs.engine.halves.Goals as goal
 
-pub binary-requires : goal.binary-requires
-binary-requires c = lower_compares c.args.options c.args.x.now c.args.lower.now c.args.upper.now _ _ _ c.to_operator.ensures c.in_ok-try_clone.ensures c.in_ok-try_clone-2.ensures c.requires
+pub ends-requires : goal.ends-requires
+ends-requires c = ends_compare c.args.options c.args.x.now c.args.lower.now c.args.upper.now c.requires
 
-pub binary-requires-2 : goal.binary-requires-2
-binary-requires-2 c = upper_compares c.args.options c.args.x.now c.args.lower.now c.args.upper.now _ _ _ c.to_operator-2.ensures c.in_ok-try_clone-3.ensures c.in_ok-try_clone-4.ensures c.requires
+pub both_halves-requires : goal.both_halves-requires
+both_halves-requires c =
+    moved_typed c.args.options c.args.x.now c.args.lower.now c.args.upper.now (record { options = c.in-Some.options; lower = c.in-Some.lower; upper = c.in-Some.upper }) c.requires
+    (sym c.in_ok-ends.ensures.value ∙ ap (option_map ends_from) c.in-Some.is)
