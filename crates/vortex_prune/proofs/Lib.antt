@@ -5,6 +5,7 @@ pub mod CompleteRows
 pub mod Completeness
 pub mod Decided
 pub mod EndsCode
+pub mod EndsRows
 pub mod HonestParts
 pub mod HonestStats
 pub mod Interval

@@ -94,7 +94,10 @@ fn number_ends(
 {
     let low_type = lower.0.dtype();
     let high_type = upper.0.dtype();
-    match ordered(raised(options.lower_strict, lower.1), lowered(options.upper_strict, upper.1)) {
+    match ordered(
+        raised(options.lower_strict, lower.1),
+        lowered(options.upper_strict, upper.1),
+    ) {
         None => Ok(None),
         Some((low, high)) => {
             let closed = BetweenOptions {

@@ -15,6 +15,7 @@ use vortex_base::scalar::Scalar;
 use vortex_base::scalar_value::ScalarValue;
 use vortex_base::text::Text;
 
+mod ends;
 mod own;
 
 const I32: DType = DType::Primitive(PType::I32, Nullability::NonNullable);
@@ -238,10 +239,8 @@ fn crossed_ends(rt: HostRuntime) -> Result<(), Fail> {
     let high = bound::gt_eq(alloc, min_a(alloc)?, int(alloc, 5)?)?;
     let e = bound::and(alloc, above, below)?;
     expect_falsifier(&rt, alloc, e, bound::or(alloc, low, high)?)?;
-    let low = bound::gt(alloc, int(alloc, 50)?, max_a(alloc)?)?;
-    let high = bound::gt(alloc, min_a(alloc)?, int(alloc, 10)?)?;
     let e = closed_range(alloc, 50, 10)?;
-    expect_falsifier(&rt, alloc, e, bound::or(alloc, low, high)?)
+    expect_falsifier(&rt, alloc, e, truth(alloc, true)?)
 }
 
 #[test]
@@ -256,8 +255,7 @@ fn ranges_are_two_comparisons(rt: HostRuntime) -> Result<(), Fail> {
     let e = range(alloc, 3, 10, StrictComparison::Strict)?;
     expect_falsifier(&rt, alloc, e, bound::or(alloc, low, high)?)?;
     let e = range(alloc, 3, 4, StrictComparison::Strict)?;
-    expect_falsifier(&rt, alloc, e, truth(alloc, true)?)?;
-    expect_falsifier(&rt, alloc, closed_range(alloc, 50, 10)?, truth(alloc, true)?)
+    expect_falsifier(&rt, alloc, e, truth(alloc, true)?)
 }
 
 #[test]

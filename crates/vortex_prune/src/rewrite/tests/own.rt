@@ -304,7 +304,27 @@ fn rules_are_asked_within_a_between(rt: HostRuntime) -> Result<(), Fail> {
     let sides = bound::or(alloc, low, high)?;
     let expected = bound::or(alloc, sides, truth(alloc, false)?)?;
     let e = closed_range(alloc, 10, 50)?;
+    expect_proof(&rt, falsify(alloc, &e, &rules)?, expected.try_clone()?)?;
+    // Strict ends are moved first, and the rules are asked at the comparisons as they then stand.
+    let e = range(alloc, 9, 51, StrictComparison::Strict)?;
     expect_proof(&rt, falsify(alloc, &e, &rules)?, expected)
+}
+
+#[test]
+fn an_empty_between_is_asked_for_itself_alone(rt: HostRuntime) -> Result<(), Fail> {
+    let alloc = rt.alloc();
+    let mut own: Vec<StatsRewriteRuleRef> = Vec::new(alloc);
+    let function = ScalarFnId::Binary;
+    own.push(Box::new(alloc, Faulty { function, fault: 3 })?)?;
+    let function = ScalarFnId::Between;
+    own.push(Box::new(alloc, Unsure { function })?)?;
+    let rules = Rules::with_own(own);
+    let expected = bound::or(alloc, truth(alloc, true)?, truth(alloc, false)?)?;
+    let e = range(alloc, 3, 4, StrictComparison::Strict)?;
+    expect_proof(&rt, falsify(alloc, &e, &rules)?, expected)?;
+    let e = range(alloc, 3, 5, StrictComparison::Strict)?;
+    assert_eq!(rt; fault_of(falsify(alloc, &e, &rules)), Some(3));
+    Ok(())
 }
 
 #[test]
