@@ -27,35 +27,29 @@ fn number_type(number: PValue) -> DType {
     DType::Primitive(number.ptype(), Nullability::NonNullable)
 }
 
-fn number(alloc: Global, number: PValue) -> Result<BoundExpression, BaseError> {
-    let value = Some(ScalarValue::Primitive(number));
-    bound::lit(alloc, Scalar::try_new(number_type(number), value)?)
+fn number(alloc: Global, number: PValue) -> Built {
+    lit(alloc, number_type(number), ScalarValue::Primitive(number))
 }
 
 // A column of numbers of this one's type.
-fn column(alloc: Global, like: PValue) -> Result<BoundExpression, BaseError> {
-    bound::col(alloc, 0, number_type(like).as_nullable())
+fn column(alloc: Global, like: PValue) -> Built {
+    col(alloc, 0, number_type(like).as_nullable())
 }
 
-fn numbers_between(
-    alloc: Global,
-    lower: PValue,
-    upper: PValue,
-    options: BetweenOptions,
-) -> Result<BoundExpression, BaseError> {
+fn numbers_between(alloc: Global, lower: PValue, upper: PValue, options: BetweenOptions) -> Built {
     let (low, high) = (number(alloc, lower)?, number(alloc, upper)?);
-    bound::between(alloc, column(alloc, lower)?, low, high, options)
+    between(alloc, column(alloc, lower)?, low, high, options)
 }
 
 // That all numbers lie below one, or above another.
-fn beyond(alloc: Global, low: PValue, high: PValue) -> Result<BoundExpression, BaseError> {
-    let below = bound::gt(alloc, number(alloc, low)?, max(alloc, column(alloc, low)?)?)?;
-    let above = bound::gt(
+fn beyond(alloc: Global, low: PValue, high: PValue) -> Built {
+    let below = gt(alloc, number(alloc, low)?, max(alloc, column(alloc, low)?)?)?;
+    let above = gt(
         alloc,
         min(alloc, column(alloc, low)?)?,
         number(alloc, high)?,
     )?;
-    bound::or(alloc, below, above)
+    or(alloc, below, above)
 }
 
 // No number of the type lies above its greatest or below its least, and those between the two are
@@ -149,13 +143,8 @@ fn one_strict_end_moves_alone(rt: HostRuntime) -> Result<(), Fail> {
     )
 }
 
-fn texts_between(
-    alloc: Global,
-    lower: &str,
-    upper: &str,
-    options: BetweenOptions,
-) -> Result<BoundExpression, BaseError> {
-    bound::between(
+fn texts_between(alloc: Global, lower: &str, upper: &str, options: BetweenOptions) -> Built {
+    between(
         alloc,
         s(alloc)?,
         text(alloc, lower)?,
@@ -171,53 +160,48 @@ fn ends_of_texts_stay(rt: HostRuntime) -> Result<(), Fail> {
     expect_falsifier(&rt, alloc, point, truth(alloc, true)?)?;
     let crossed = texts_between(alloc, "c", "a", CLOSED)?;
     expect_falsifier(&rt, alloc, crossed, truth(alloc, true)?)?;
-    let below = bound::gt_eq(alloc, text(alloc, "a")?, max(alloc, s(alloc)?)?)?;
-    let above = bound::gt(alloc, min(alloc, s(alloc)?)?, text(alloc, "c")?)?;
+    let below = gt_eq(alloc, text(alloc, "a")?, max(alloc, s(alloc)?)?)?;
+    let above = gt(alloc, min(alloc, s(alloc)?)?, text(alloc, "c")?)?;
     let e = texts_between(alloc, "a", "c", OPEN_BELOW)?;
-    expect_falsifier(&rt, alloc, e, bound::or(alloc, below, above)?)
+    expect_falsifier(&rt, alloc, e, or(alloc, below, above)?)
 }
 
-fn bytes(alloc: Global, byte: u8) -> Result<BoundExpression, BaseError> {
+fn bytes(alloc: Global, byte: u8) -> Built {
     let value = ScalarValue::Binary(Bytes::new(vec![in alloc; byte]?));
-    let dtype = DType::Binary(Nullability::NonNullable);
-    bound::lit(alloc, Scalar::try_new(dtype, Some(value))?)
+    lit(alloc, DType::Binary(Nullability::NonNullable), value)
 }
 
 #[test]
 fn ends_of_bytes_stay(rt: HostRuntime) -> Result<(), Fail> {
     let alloc = rt.alloc();
-    let column = bound::col(alloc, 0, DType::Binary(Nullability::Nullable))?;
-    let below = bound::gt_eq(alloc, bytes(alloc, 0)?, max(alloc, column.try_clone()?)?)?;
-    let above = bound::gt_eq(alloc, min(alloc, column.try_clone()?)?, bytes(alloc, 1)?)?;
-    let expected = bound::or(alloc, below, above)?;
-    let neighbours = bound::between(
+    let column = col(alloc, 0, DType::Binary(Nullability::Nullable))?;
+    let below = gt_eq(alloc, bytes(alloc, 0)?, max(alloc, copy(&column)?)?)?;
+    let above = gt_eq(alloc, min(alloc, copy(&column)?)?, bytes(alloc, 1)?)?;
+    let expected = or(alloc, below, above)?;
+    let neighbours = between(
         alloc,
-        column.try_clone()?,
+        copy(&column)?,
         bytes(alloc, 0)?,
         bytes(alloc, 1)?,
         OPEN,
     )?;
     expect_falsifier(&rt, alloc, neighbours, expected)?;
-    let crossed = bound::between(alloc, column, bytes(alloc, 1)?, bytes(alloc, 0)?, CLOSED)?;
+    let crossed = between(alloc, column, bytes(alloc, 1)?, bytes(alloc, 0)?, CLOSED)?;
     expect_falsifier(&rt, alloc, crossed, truth(alloc, true)?)
 }
 
 #[test]
 fn ends_of_truths_stay(rt: HostRuntime) -> Result<(), Fail> {
     let alloc = rt.alloc();
-    let column = bound::col(alloc, 0, BOOL)?;
-    let below = bound::gt_eq(
-        alloc,
-        truth(alloc, false)?,
-        max(alloc, column.try_clone()?)?,
-    )?;
-    let above = bound::gt_eq(alloc, min(alloc, column.try_clone()?)?, truth(alloc, true)?)?;
-    let expected = bound::or(alloc, below, above)?;
+    let column = col(alloc, 0, BOOL)?;
+    let below = gt_eq(alloc, truth(alloc, false)?, max(alloc, copy(&column)?)?)?;
+    let above = gt_eq(alloc, min(alloc, copy(&column)?)?, truth(alloc, true)?)?;
+    let expected = or(alloc, below, above)?;
     let (no, yes) = (truth(alloc, false)?, truth(alloc, true)?);
-    let e = bound::between(alloc, column.try_clone()?, no, yes, OPEN)?;
+    let e = between(alloc, copy(&column)?, no, yes, OPEN)?;
     expect_falsifier(&rt, alloc, e, expected)?;
     let (no, yes) = (truth(alloc, false)?, truth(alloc, true)?);
-    let crossed = bound::between(alloc, bound::not(alloc, column)?, yes, no, CLOSED)?;
+    let crossed = between(alloc, not(alloc, column)?, yes, no, CLOSED)?;
     expect_falsifier(&rt, alloc, crossed, truth(alloc, true)?)
 }
 
@@ -226,11 +210,11 @@ fn an_empty_range_is_one_visit(rt: HostRuntime) -> Result<(), Fail> {
     let alloc = rt.alloc();
     let rules = Rules::builtin(alloc);
     let empty = numbers_between(alloc, PValue::I32(3), PValue::I32(4), OPEN)?;
-    let (proof, visits) = falsify_counted(alloc, &empty, &rules)?;
+    let (proof, visits) = counted(alloc, &empty, &rules)?;
     assert_eq!(rt; visits, 1);
     expect_proof(&rt, proof, truth(alloc, true)?)?;
     let moved = numbers_between(alloc, PValue::I32(3), PValue::I32(5), OPEN)?;
-    let (proof, visits) = falsify_counted(alloc, &moved, &rules)?;
+    let (proof, visits) = counted(alloc, &moved, &rules)?;
     assert_eq!(rt; visits, 4);
     expect_proof(&rt, proof, beyond(alloc, PValue::I32(4), PValue::I32(4))?)
 }
