@@ -3,10 +3,16 @@ pub mod ChunkLemmas
 pub mod LikeStops
 pub mod MapLemmas
 pub mod MeaningFits
+pub mod MeaningRows
+pub mod MeaningTyped
+pub mod NumberRows
 pub mod OrderLemmas
 pub mod PatternLemmas
 pub mod PlacedFits
 pub mod PlacedTypes
+pub mod PrefixRows
 pub mod RowLemmas
 pub mod RowsFit
 pub mod ScopeLemmas
+pub mod TreeRows
+pub mod TypingRows

@@ -6,8 +6,9 @@ ghost use Rattle.vortex_base.specs.Examples.{ScopeExamples, ChunkExamples};
 ghost use Rattle.vortex_base.specs.ExpressionExamples.{LikeExamples, TypingExamples};
 ghost use Rattle.vortex_base.specs.ExpressionExamples.{AggregateExamples, BindingExamples};
 ghost use Rattle.vortex_base.specs.ExpressionExamples.{MeaningExamples};
-ghost use Rattle.vortex_base.specs.Fitting.{RowsFit};
-ghost use Rattle.vortex_base.specs.Meaning.{MeaningFits};
+ghost use Rattle.vortex_base.specs.Fitting.{RowsFit, RowsMatch};
+ghost use Rattle.vortex_base.specs.Meaning.{MeaningFits, MeaningIsTyped};
+ghost use Rattle.vortex_base.specs.Meaning.{NullOnlyWhereNullable};
 ghost use Rattle.vortex_base.specs.Orders.{ValuesAreOrdered, NumbersAreOrdered, pvalue_cmp};
 ghost use Rattle.vortex_base.specs.Values.{value_cmp};
 
@@ -100,7 +101,16 @@ pub fn meaning_fits(expression: &BoundExpression, row: &Row<'_>, row_count: u64)
     ensures { MeaningFits expression.now row.now row_count }
 {}
 
-/// An expression that fits the scope of a chunk fits each of its rows.
+/// On a row that has the very types of an expression's columns, its value is of the expression's
+/// type, and null only where that type has null.
+pub fn meaning_is_typed(expression: &BoundExpression, row: &Row<'_>, row_count: u64)
+    ensures typed { MeaningIsTyped expression.now row.now row_count }
+    ensures null { NullOnlyWhereNullable expression.now row.now row_count }
+{}
+
+/// An expression that fits the scope of a chunk fits each of its rows, which have the very types of
+/// its columns.
 pub fn rows_fit(expression: &BoundExpression, chunk: &Chunk, i: usize)
-    ensures { RowsFit expression.now chunk.now i }
+    ensures fit { RowsFit expression.now chunk.now i }
+    ensures matched { RowsMatch expression.now chunk.now i }
 {}
