@@ -115,13 +115,13 @@ not_row = refl
 
 -- a placeholder may lack its answer, whatever its input
 placeholder_row : map (λ f. type_of (stat f (of_type i32_type)))
-      (aggregate.Min ∷ aggregate.Max ∷ aggregate.MinMax ∷ aggregate.Sum ∷ aggregate.NullCount ∷ aggregate.UncompressedSizeInBytes ∷ aggregate.AllNull ∷ aggregate.AllNonNull ∷ [])
+    (aggregate.Min ∷ aggregate.Max ∷ aggregate.MinMax ∷ aggregate.Sum ∷ aggregate.NullCount ∷ aggregate.UncompressedSizeInBytes ∷ aggregate.AllNull ∷ aggregate.AllNonNull ∷ [])
     ≡ Ok i32_or_null ∷ Ok i32_or_null ∷ Ok state_type ∷ Ok (dtype.Primitive ptype.I64 Nullable) ∷ Ok (dtype.Primitive ptype.U64 Nullable) ∷ Ok (dtype.Primitive ptype.U64 Nullable)
-      ∷ truth_or_null ∷ truth_or_null ∷ []
+    ∷ truth_or_null ∷ truth_or_null ∷ []
 placeholder_row = refl
 
 -- a literal has its own type, if its value may stand under it
 literal_row : map type_of (literal (record { dtype = bool_type; value = Some (value.Bool true) }) ∷ literal (record { dtype = bool_or_null; value = None })
-      ∷ literal (record { dtype = bool_type; value = None }) ∷ literal (record { dtype = i32_type; value = Some (value.Bool true) }) ∷ [])
+    ∷ literal (record { dtype = bool_type; value = None }) ∷ literal (record { dtype = i32_type; value = Some (value.Bool true) }) ∷ [])
     ≡ plain_truth ∷ truth_or_null ∷ Err Mismatch ∷ Err Mismatch ∷ []
 literal_row = refl

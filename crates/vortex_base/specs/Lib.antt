@@ -9,6 +9,7 @@ pub mod ExpressionExamples
 pub mod Fitting
 pub mod Like
 pub mod LikeSearch
+pub mod Made
 pub mod Meaning
 pub mod Neighbours
 pub mod NamedNode
@@ -20,6 +21,7 @@ pub mod Parts
 pub mod Prefix
 pub mod Reading
 pub mod Repeated
+pub mod RowTest
 pub mod ScalarFns
 pub mod Scalars
 pub mod Scopes

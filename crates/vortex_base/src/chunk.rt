@@ -2,6 +2,7 @@
 ghost use Rattle.std.specs.Prelude.{◌≡◌, ◌<◌, IsTrue, OnErr, OnOk, length, map, slice_get, Some};
 ghost use Rattle.std.specs.Bool.{OnTrue};
 ghost use Rattle.std.specs.List.{list_all};
+ghost use Rattle.vortex_base.specs.Made.{Makes};
 ghost use Rattle.vortex_base.specs.Columns as spec;
 
 use crate::column::{Column, append_all};
@@ -113,14 +114,16 @@ impl Chunk {
         Row::of_columns(&self.columns, i)
     }
 
-    /// Moves the rows of another chunk of the same scope behind this one's, and adds the declared sizes. The other is left without
-    /// rows. Where memory is refused, both are as they were.
-    pub fn append(&mut self, other: &mut Chunk) -> Result<(), AllocError>
+    /// Moves the rows of another chunk of the same scope behind this one's, and adds the declared
+    /// sizes. The other is left without rows, at a declared size of 0. Where memory is refused, both
+    /// are as they were.
+    pub fn append(&mut self, other: &mut Chunk) -> Result<(), BaseError>
         requires scope { self.old.scope ≡ other.old.scope }
         requires sizes { IsTrue (spec.sizes_fit self.old.columns other.old.columns) }
         ensures appended { OnOk result (self.new ≡ spec.appended_chunk self.old other.old) }
         ensures emptied { OnOk result (other.new ≡ spec.emptied_chunk other.old) }
         ensures refused { OnErr result ((self.new ≡ self.old) × (other.new ≡ other.old)) }
+        ensures memory { Makes tt result }
     {
         append_columns(&mut self.columns, &mut other.columns)?;
         self.rows = row_count(&self.columns);

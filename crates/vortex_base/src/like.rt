@@ -8,8 +8,8 @@ ghost use Rattle.std.specs.Str.{chars};
 ghost use Rattle.vortex_base.specs.Like.{items, like, some_end, like_text};
 ghost use Rattle.vortex_base.specs.LikeSearch.{characters, reached, stop};
 
-/// How a text is compared with a pattern.
-#[derive(Clone, Copy, Debug, PartialEq, Eq)]
+/// How a text is compared with a pattern. The default regards case and is not negated.
+#[derive(Clone, Copy, Debug, Default, PartialEq, Eq)]
 pub struct LikeOptions {
     /// The answer is turned round.
     pub negated: bool,
