@@ -14,5 +14,7 @@ pub mod PrefixRows
 pub mod RowLemmas
 pub mod RowsFit
 pub mod ScopeLemmas
+pub mod Successors
+pub mod TextOrder
 pub mod TreeRows
 pub mod TypingRows

@@ -64,8 +64,8 @@ impl BoundExpression {
         }
     }
 
-    /// Whether a column stands outside the input of every placeholder, so that the value depends on a
-    /// row even where each placeholder is bound.
+    /// Whether a column stands outside the input of every placeholder, so that the expression needs
+    /// a row even where each placeholder is bound.
     pub fn has_bare_column(&self) -> bool
         ensures { result ≡ tree.has_bare_column self.now }
     {

@@ -1,6 +1,7 @@
 //! Laws of this layer, in the words of its definitions. The functions carry them by their
 //! contracts.
 ghost use Rattle.std.specs.Prelude.{◌≡◌, ◌↔◌, IfOk, IsTrue};
+ghost use Rattle.std.specs.Str.{chars};
 ghost use Rattle.vortex_base.specs.Examples.{TypeExamples, ValueExamples, OrderExamples};
 ghost use Rattle.vortex_base.specs.Examples.{ScopeExamples, ChunkExamples};
 ghost use Rattle.vortex_base.specs.ExpressionExamples.{LikeExamples, TypingExamples};
@@ -10,6 +11,7 @@ ghost use Rattle.vortex_base.specs.Fitting.{RowsFit, RowsMatch};
 ghost use Rattle.vortex_base.specs.Meaning.{MeaningFits, MeaningIsTyped};
 ghost use Rattle.vortex_base.specs.Meaning.{NullOnlyWhereNullable};
 ghost use Rattle.vortex_base.specs.Orders.{ValuesAreOrdered, NumbersAreOrdered, pvalue_cmp};
+ghost use Rattle.vortex_base.specs.Prefix.{AreBelowSuccessor};
 ghost use Rattle.vortex_base.specs.Values.{value_cmp};
 
 use crate::bound_expression::BoundExpression;
@@ -47,6 +49,11 @@ pub fn numbers_compare(left: PValue, right: PValue) -> (Ordering, bool)
 {
     (left.cmp(&right), left == right)
 }
+
+/// Each text that begins with a text is below that text's successor, where it has one.
+pub fn texts_are_below_successors(beginning: &str)
+    ensures { AreBelowSuccessor (chars beginning.now) }
+{}
 
 /// A clone in generic code equals its source, where the type's clones do.
 pub fn clone_of<T: Clone>(source: &T) -> Result<T, AllocError>

@@ -94,7 +94,8 @@ impl<'a> Characters<'a> {
 pub(crate) fn next_item<'a>(pattern: Characters<'a>) -> Option<(Item, Characters<'a>)>
     ensures items { MatchOption result (items (characters pattern.entry) ≡ [])
         (λ p. items (characters pattern.entry) ≡ p.0 ∷ items (characters p.1)) }
-    ensures shorter { IfSome result (λ p. length (characters p.1) < length (characters pattern.entry)) }
+    ensures shorter { IfSome result
+        (λ p. length (characters p.1) < length (characters pattern.entry)) }
 {
     let (first, rest) = pattern.split_first()?;
     match first {

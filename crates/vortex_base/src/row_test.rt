@@ -1,8 +1,8 @@
 //! Whether a row satisfies an expression: its truth there, with no value made on the way.
 //!
-//! The truth that is asked for turns round at NOT, so that AND and OR stop at the first operand that
-//! decides. What a column or a literal lends is compared where it stands; the arms for other operands
-//! are functions of their own, which keeps the walk's frame small.
+//! The truth that is asked for turns round at NOT, so that AND and OR stop at the first operand
+//! that decides. What a column or a literal lends is compared where it stands; the arms for other
+//! operands are functions of their own, which keeps the walk's frame small.
 ghost use Rattle.std.specs.Prelude.{◌≡◌, is_none, option_copied};
 ghost use Rattle.vortex_base.specs.Meaning as spec;
 ghost use Rattle.vortex_base.specs.Meaning.{meaning};
@@ -213,8 +213,9 @@ impl BoundExpression {
         }
     }
 
-    /// Whether the expression is true on a row: not false, not null and no other value. A placeholder
-    /// and a column outside the row count as null. It takes no memory and is never refused.
+    /// Whether the expression is true on a row: not false, not null and no other value. A
+    /// placeholder and a column outside the row count as null. It takes no memory and is never
+    /// refused.
     pub fn is_satisfied(&self, row: &Row<'_>, row_count: u64) -> bool
         ensures { result ≡ spec.satisfies self.now row.now row_count }
     {
