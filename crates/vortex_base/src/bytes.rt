@@ -124,6 +124,7 @@ mod tests {
         assert_eq!(rt; bytes.as_slice(), [0, 255].as_slice());
         assert_eq!(rt; bytes.try_clone()?.as_slice(), [0, 255].as_slice());
         assert_eq!(rt; laws::clone_of_bytes(&bytes)?, bytes);
+        assert_eq!(rt; bytes.into_vec().as_slice(), [0, 255].as_slice());
         Ok(())
     }
 }

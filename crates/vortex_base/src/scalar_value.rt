@@ -149,11 +149,11 @@ mod tests {
     use std::test::Fail;
 
     fn text(alloc: Global, text: &str) -> Result<ScalarValue, AllocError> {
-        Ok(ScalarValue::Utf8(Text::new(String::from_str(alloc, text)?)))
+        Ok(ScalarValue::from(Text::new(String::from_str(alloc, text)?)))
     }
 
     fn bytes(alloc: Global, bytes: &[u8]) -> Result<ScalarValue, AllocError> {
-        Ok(ScalarValue::Binary(Bytes::new(Vec::from_slice(alloc, bytes)?)))
+        Ok(ScalarValue::from(Bytes::new(Vec::from_slice(alloc, bytes)?)))
     }
 
     // Truths and numbers in ascending order.

@@ -126,6 +126,7 @@ mod tests {
         assert_eq!(rt; text.as_str(), "é");
         assert_eq!(rt; text.try_clone()?.as_str(), "é");
         assert_eq!(rt; laws::clone_of_text(&text)?, text);
+        assert_eq!(rt; text.into_string().as_str(), "é");
         Ok(())
     }
 }

@@ -112,6 +112,20 @@ fn patterns_and_null_tests(rt: HostRuntime) -> Result<(), Fail> {
 }
 
 #[test]
+fn only_true_satisfies(rt: HostRuntime) -> Result<(), Fail> {
+    let alloc = rt.alloc();
+    let row = Row::empty();
+    let above = bound::gt(alloc, int(alloc, 2)?, int(alloc, 1)?)?;
+    let either = bound::or(alloc, truth(alloc, None)?, above)?;
+    assert!(rt; either.is_satisfied(&row, 0));
+    let both = bound::and(alloc, truth(alloc, None)?, either)?;
+    assert!(rt; !both.is_satisfied(&row, 0));
+    assert!(rt; !bound::not(alloc, both)?.is_satisfied(&row, 0));
+    assert!(rt; !bound::row_count(alloc)?.is_satisfied(&row, 1));
+    Ok(())
+}
+
+#[test]
 fn the_row_count_is_handed_in(rt: HostRuntime) -> Result<(), Fail> {
     let rows = bound::row_count(rt.alloc())?;
     let value = evaluate(&rows, &Row::empty(), 3)?;

@@ -13,6 +13,11 @@ const IGNORING_CASE: LikeOptions = LikeOptions {
 };
 
 #[test]
+fn the_default_is_plain(rt: HostRuntime) {
+    assert_eq!(rt; LikeOptions::default(), PLAIN);
+}
+
+#[test]
 fn runs_and_single_characters(rt: HostRuntime) {
     assert!(rt; PLAIN.matches("axxbc", "a%b_"));
     assert!(rt; PLAIN.matches("aab", "%ab"));
