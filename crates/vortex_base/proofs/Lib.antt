@@ -1,5 +1,6 @@
 pub mod AppendLemmas
 pub mod ChunkLemmas
+pub mod ChunkRows
 pub mod LikeStops
 pub mod MapLemmas
 pub mod MeaningFits

@@ -46,7 +46,7 @@ fn is_wanted_value(wanted: bool, value: Option<&ScalarValue>) -> bool
 impl BoundExpression {
     #[inline]
     fn leaf_on<'a>(&'a self, row: &'a Row<'_>, _row_count: u64) -> Leaf<'a>
-        ensures { Lends result (meaning self.entry.now row.entry.now _row_count) }
+        ensures { Lends result self.entry.now row.entry.now _row_count }
     {
         match &*self.node {
             Node::Column(place) => Leaf::Of(row.value(*place)),
