@@ -1,3 +1,4 @@
+-- Lemmas, and worked rows of the definitions.
 pub mod AppendLemmas
 pub mod ChunkLemmas
 pub mod ChunkRows

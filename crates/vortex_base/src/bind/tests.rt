@@ -1,3 +1,4 @@
+//! Tests of binding.
 use super::*;
 use crate::aggregate::AggregateFnRef;
 use crate::between::{BetweenOptions, StrictComparison};

@@ -1,3 +1,4 @@
+//! Tests of typed expressions as trees.
 use super::*;
 use crate::between::StrictComparison;
 use crate::bound;

@@ -1,3 +1,4 @@
+//! Tests of evaluation.
 use super::*;
 use crate::aggregate::AggregateFnRef;
 use crate::between::StrictComparison;

@@ -1,3 +1,4 @@
+//! Tests of LIKE.
 use super::*;
 use std::alloc::{AllocError, Global};
 use std::test::Fail;
