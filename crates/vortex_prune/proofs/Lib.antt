@@ -37,7 +37,6 @@ pub mod SoundRules
 pub mod StatFits
 pub mod StatRows
 pub mod StatTypes
-pub mod TextOrder
 pub mod TruthLogic
 pub mod ValueTests
 pub mod WholeScan

@@ -86,7 +86,7 @@ fn bound_stats<B: StatBinder>(
     let dtype = e.dtype();
     match e.parts() {
         Parts::Column(place, _) => built(bound::col(alloc, place, dtype)),
-        Parts::Literal(value) => built(bound::lit(alloc, value.try_clone()?)),
+        Parts::Literal(value) => built(bound::lit(alloc, built(value.try_clone())?)),
         Parts::Binary(operator, left, right) => {
             let left = bound_stats(alloc, left, binder)?;
             let right = bound_stats(alloc, right, binder)?;

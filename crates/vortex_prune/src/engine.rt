@@ -9,6 +9,7 @@ ghost use Rattle.vortex_prune.specs.RuleRefusals.{IsRefusal};
 ghost use Rattle.vortex_prune.specs.Sides.{proof_of};
 
 use crate::ask::ask_own;
+use crate::built::cloned;
 use crate::ends::ends;
 use crate::extremes::{both_joined, either_joined};
 use crate::join::join;
@@ -57,14 +58,14 @@ fn both_halves(
     let low = Proof::binary(
         alloc,
         options.lower_strict.to_operator(),
-        lower.try_clone()?,
-        x.try_clone()?,
+        cloned(lower)?,
+        cloned(x)?,
     )?;
     let high = Proof::binary(
         alloc,
         options.upper_strict.to_operator(),
-        x.try_clone()?,
-        upper.try_clone()?,
+        cloned(x)?,
+        cloned(upper)?,
     )?;
     Ok(Proof::join(alloc, Operator::And, low, high)?.into_expression())
 }

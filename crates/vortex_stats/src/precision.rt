@@ -272,7 +272,7 @@ fn typed_clone(value: &ScalarValue, dtype: DType) -> Result<Scalar, StatsError>
     if !value.fits(&dtype) {
         return Err(StatsError::Mismatch);
     }
-    typed(value.try_clone()?, dtype)
+    typed(value.clone()?, dtype)
 }
 
 impl<T: Clone> Precision<&T> {

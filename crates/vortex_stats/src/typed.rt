@@ -127,7 +127,7 @@ fn scalar_of_clone(value: &ScalarValue, dtype: DType) -> Result<Scalar, AllocErr
     requires { IsTrue (is_value value.now dtype) }
     ensures { IfOk result (λ s. s ≡ scalar_of value.now dtype) }
 {
-    match Scalar::try_new(dtype, Some(value.try_clone()?)) {
+    match Scalar::try_new(dtype, Some(value.clone()?)) {
         Ok(scalar) => Ok(scalar),
         Err(_) => unreachable!(),
     }

@@ -115,8 +115,8 @@ fn append(left: Part, right: Part, stats: Vec<StatsSet>) -> Result<Part, JoinRef
     } = right;
     match chunk.append(&mut other) {
         Ok(()) => Ok(Part { chunk, stats }),
-        Err(refused) => Err(JoinRefused {
-            error: StatsError::Memory(refused),
+        Err(_) => Err(JoinRefused {
+            error: StatsError::Memory(AllocError),
             left: Part {
                 chunk,
                 stats: left_stats,
