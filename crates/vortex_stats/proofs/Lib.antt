@@ -24,3 +24,4 @@ pub mod Combining
 pub mod CombinedChanges
 pub mod Tightness
 pub mod Groupings
+pub mod Kit

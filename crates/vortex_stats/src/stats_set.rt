@@ -1,5 +1,5 @@
 //! Sets of statistics.
-ghost use Rattle.std.specs.Prelude.{◌≡◌, ◌==◌, ◌∷◌, [], slice_set, IfOk, IsOk, IsOkAnd, OnErr, IsTrue, length};
+ghost use Rattle.std.specs.Prelude.{◌≡◌, ◌≤◌, ◌==◌, ◌∷◌, [], slice_set, IfOk, IsOk, IsOkAnd, OnErr, IsTrue, length};
 ghost use Rattle.std.specs.List.{list_any};
 ghost use Rattle.std.specs.Iterator.{YieldsFirst, YieldsFirstRef, item_count, IsFinite};
 ghost use Rattle.vortex_stats.specs.Reading.{IsPreciselyReadAs};
@@ -182,6 +182,7 @@ impl StatsSet {
     pub fn iter(&self) -> StatsSetIter<'_>
         ensures entries { result ≡ self.now }
         ensures distinct { AreDistinct self.now }
+        ensures few { length self.now ≤ 9 }
     {
         StatsSetIter {
             slots: &self.slots,
