@@ -201,19 +201,6 @@ mod tests {
         Ok(())
     }
 
-    #[test]
-    fn take_the_rows_of_another(rt: HostRuntime) -> Result<(), Fail> {
-        let mut chunk = two_rows(rt.alloc())?;
-        let mut other = two_rows(rt.alloc())?;
-        chunk.append(&mut other)?;
-        assert_eq!(rt; chunk.rows(), 4);
-        assert_eq!(rt; chunk.column(0).size(), 32);
-        assert!(rt; chunk.row(2).value(0) == Some(&ScalarValue::from(7i64)));
-        assert_eq!(rt; other.rows(), 0);
-        assert_eq!(rt; other.column(0).size(), 0);
-        Ok(())
-    }
-
     fn refusal(alloc: Global, columns: Vec<Column>) -> Result<Option<BaseError>, BaseError> {
         Ok(Chunk::try_new(scope(alloc)?, columns).err())
     }
