@@ -1,5 +1,7 @@
+pub mod AskedNodes
 pub mod BoundTypes
 pub mod BoundValues
+pub mod CauseLemmas
 pub mod Choices
 pub mod CompleteRows
 pub mod Completeness
