@@ -1,6 +1,7 @@
 pub mod AskedNodes
 pub mod BoundTypes
 pub mod BoundValues
+pub mod BuiltInOrder
 pub mod CauseLemmas
 pub mod Choices
 pub mod CompleteRows
@@ -41,4 +42,5 @@ pub mod StatTypes
 pub mod TextOrder
 pub mod TruthLogic
 pub mod ValueTests
+pub mod VisitRows
 pub mod WholeScan

@@ -26,7 +26,7 @@ use Rattle.vortex_prune.specs.Scanning.{Answered, AreByStatistics, AreHonest, an
 abbrev Fits : Tree Place → PartData → Type 0
 Fits p part = IsTrue (fits_scope p part.chunk.scope)
 
-parts_by_recursion : (parts : List PartData) → AreParts parts → AllByRecursion IsPart parts
+pub parts_by_recursion : (parts : List PartData) → AreParts parts → AllByRecursion IsPart parts
 parts_by_recursion [] h = tt
 parts_by_recursion (p ∷ parts) h = (h 0 p refl, parts_by_recursion parts (λ i part e. h (suc i) part e))
 

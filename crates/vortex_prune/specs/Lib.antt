@@ -2,6 +2,7 @@ pub mod Answers
 pub mod Binders
 pub mod Binding
 pub mod BuiltIn
+pub mod BuiltInRules
 pub mod Causes
 pub mod Complete
 pub mod Facts

@@ -3,6 +3,9 @@ use Rattle.std.specs.Prelude.{◌≡◌, ℕ, zero, suc, Bool, true, false, List
 use Rattle.std.proofs.Common.{ap, subst, sym, ◌∙◌}
 use Rattle.vortex_base.proofs.RowLemmas.{row_of-IsRow}
 use Rattle.vortex_base.specs.declared.dtype.DType.{DType}
+use Rattle.vortex_base.specs.declared.dtype.DType.TheVariants as dtype
+use Rattle.vortex_base.specs.declared.nullability.Nullability.TheVariants.{Nullable}
+use Rattle.vortex_base.specs.declared.ptype.PType.TheVariants.{I32}
 use Rattle.vortex_base.specs.declared.scalar_value.ScalarValue.{ScalarValue}
 use Rattle.vortex_base.specs.declared.scalar_value.ScalarValue.TheVariants as value
 use Rattle.vortex_base.specs.Columns.{ColumnData, cell_value, has_types, is_row, row_of, value_at}
@@ -53,6 +56,22 @@ pub number_proof_is_lawful : IsLawful number_proof number_proof
 number_proof_is_lawful = record {
   falsifies = λ p e h k A chunk over honest t. absurd (never_number e A _ h t);
   satisfies = λ p e h k A chunk over honest t. absurd (never_number e A _ h t);
+}
+
+-- a proof with a column outside its placeholders
+abbrev pub open_proof : Tree Place → Option (Tree Place)
+open_proof p = Some (is_null (column (record { index = 0; dtype = dtype.Primitive I32 Nullable })))
+
+never_open : (e : Tree Place) (A : Assignment) (n : ℕ) → Some (is_null (column (record { index = 0; dtype = dtype.Primitive I32 Nullable }))) ≡ Some e → IsTrue (proves e A n) → ⊥
+never_open e A n h t =
+    let same : e ≡ is_null (column (record { index = 0; dtype = dtype.Primitive I32 Nullable })) = cc in
+    let told : false ≡ true = subst (λ (x : Tree Place). IsTrue (proves x A n)) same t in
+    cc
+
+pub open_proof_is_lawful : IsLawful open_proof no_proof
+open_proof_is_lawful = record {
+  falsifies = λ p e h k A chunk over honest t. absurd (never_open e A _ h t);
+  satisfies = λ p e h. absurd cc;
 }
 
 -- the answer, where the value is this truth
