@@ -1,5 +1,5 @@
 -- What rules may cause at some nodes they may cause at more of them, and which nodes a predicate has more than its parts.
-use Rattle.std.proofs.Common.{◌≡◌, ◌<◌, ℕ, zero, suc, List, [], ◌∷◌, ◌++◌, Option, Some, None, get_or, length, map, refl, sym, ap, ap₂, subst, ◌∙◌, arith, option_map}
+use Rattle.std.proofs.Common.{◌≡◌, zero, suc, List, [], ◌∷◌, ◌++◌, Option, Some, None, refl, sym, ap, ap₂, subst, ◌∙◌, arith, option_map}
 use Rattle.std.specs.Prelude.{Contains}
 use Rattle.std.proofs.lemmas.List.Elements.{Contains-append_left, Contains-append_right}
 use Rattle.vortex_base.specs.Between.{to_operator}
@@ -7,12 +7,11 @@ use Rattle.vortex_base.specs.Tree.{Tree, Place, column, literal, binary, between
 use Rattle.vortex_base.specs.declared.between.BetweenOptions.{BetweenOptions}
 use Rattle.vortex_base.specs.declared.between.StrictComparison.{StrictComparison}
 use Rattle.vortex_base.specs.declared.between.StrictComparison.TheVariants.{Strict, NonStrict}
-use Rattle.vortex_base.specs.declared.operator.Operator.{Operator}
 use Rattle.vortex_base.specs.declared.operator.Operator.TheVariants.{And, Or}
 use Rattle.vortex_prune.proofs.CauseLemmas.{BringAbout}
 use Rattle.vortex_prune.specs.Lawful.{OwnRule}
 use Rattle.vortex_prune.specs.Rewriting.{Ends, ends, halves}
-use Rattle.vortex_prune.specs.RuleRefusals.{SomeAsked, rule_causes}
+use Rattle.vortex_prune.specs.RuleRefusals.{rule_causes}
 use Rattle.vortex_prune.specs.Visited.{halves_visited, visited}
 
 -- ---- more rules, and more nodes

@@ -1,12 +1,11 @@
 -- The proofs at a node are those of the built-in rules in their order.
-use Rattle.std.proofs.Common.{◌≡◌, false, List, [], ◌∷◌, Option, Some, None, option_to_list, refl, sym, ap}
+use Rattle.std.proofs.Common.{◌≡◌, false, List, [], Option, Some, None, option_to_list, refl, ap}
 use Rattle.std.specs.List.{cons_option, filter_map}
-use Rattle.vortex_base.specs.declared.operator.Operator.{Operator}
 use Rattle.vortex_base.specs.declared.operator.Operator.TheVariants.{Eq, NotEq, Gt, Gte, Lt, Lte, And, Or}
 use Rattle.vortex_base.specs.declared.scalar_fn.ScalarFnId.{ScalarFnId}
 use Rattle.vortex_base.specs.Tree.{Tree, Place, column, literal, binary, between, is_null, is_not_null, not, like, stat, row_count, scalar_fn_of}
 use Rattle.vortex_prune.specs.BuiltIn.{function_of}
-use Rattle.vortex_prune.specs.BuiltInRules.{built_in_rules, falsifier_by, of_sides, satisfier_by}
+use Rattle.vortex_prune.specs.BuiltInRules.{built_in_rules, falsifier_by, satisfier_by}
 use Rattle.vortex_prune.specs.Lawful.{OwnRule}
 use Rattle.vortex_prune.specs.Rewriting.{both_of, comparison_falsifier, either_of, ends, ends_node, falsified, falsifier, is_function, like_falsifier, literal_falsifier, literal_satisfier, node, satisfied, satisfier}
 use Rattle.vortex_prune.specs.declared.rules.BuiltinRule.{BuiltinRule}

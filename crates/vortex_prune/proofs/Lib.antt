@@ -9,6 +9,7 @@ pub mod Completeness
 pub mod Decided
 pub mod EndsCode
 pub mod HonestParts
+pub mod HonestRows
 pub mod HonestStats
 pub mod Interval
 pub mod JoinLemmas

@@ -1,12 +1,11 @@
 -- Parts that are skipped by a true proof have no row that the predicate selects, so no row is lost.
-use Rattle.std.proofs.Common.{◌≡◌, ◌<◌, ◌+◌, ℕ, zero, suc, Bool, true, false, not, List, [], ◌∷◌, ◌++◌, Option, Some, None, IsTrue, IsOk, cond, map, refl, sym, ap, ◌∙◌, arith, inl, inr}
-use Rattle.std.proofs.lemmas.Bool.{cases_Bool}
+use Rattle.std.proofs.Common.{◌≡◌, ◌<◌, ◌+◌, ℕ, zero, suc, Bool, true, false, List, [], ◌∷◌, ◌++◌, Option, Some, None, IsTrue, IsOk, cond, map, refl, sym, ap, ◌∙◌, arith}
 use Rattle.std.specs.List.{AllByRecursion, enumerate_from, filter, flat_map, range_with_len}
 use Rattle.vortex_base.specs.Columns.{ChunkData, IsChunk, row_of, row_count as rows_of}
 use Rattle.vortex_base.specs.Exact.{both_hold, both_true}
 use Rattle.vortex_base.specs.Fitting.{fits_scope}
 use Rattle.vortex_base.specs.Meaning.{satisfies}
-use Rattle.vortex_base.specs.Tree.{Place, Tree, has_placeholder, is_plain}
+use Rattle.vortex_base.specs.Tree.{Place, Tree, is_plain}
 use Rattle.vortex_base.specs.Typing.{type_of}
 use Rattle.vortex_prune.proofs.SoundRules.{falsifiers_sound}
 use Rattle.vortex_prune.specs.Facts.{IsHonest}

@@ -1,5 +1,5 @@
 -- What the rules of a user may cause, at the nodes where they are asked.
-use Rattle.std.specs.Prelude.{◌≡◌, ℕ, false, List, Option, Contains, IsSomeAnd, IsTrue}
+use Rattle.std.specs.Prelude.{◌≡◌, false, List, Option, Contains, IsSomeAnd, IsTrue}
 use Rattle.vortex_base.specs.Tree.{Tree, Place, scalar_fn_of}
 use Rattle.vortex_prune.specs.Causes.{Causes, no_causes}
 use Rattle.vortex_prune.specs.Lawful.{OwnRule}

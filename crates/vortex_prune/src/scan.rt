@@ -34,9 +34,11 @@ fn scan_by<B: StatBinder>(
     requires plain { IsTrue (is_plain predicate.now) }
     requires fits { All (λ part. IsTrue (fits_scope predicate.now part.chunk.scope)) parts.now }
     ensures skipped { IfOk result (λ scan. AreFaithful B.is_faithful_over parts.now binders.now
-        → scan.skipped.items ≡ skipped_parts (option_copied proof.entry) (answered B.value parts.now binders.now)) }
+        → scan.skipped.items ≡ skipped_parts (option_copied proof.entry)
+        (answered B.value parts.now binders.now)) }
     ensures selected { IfOk result (λ scan. AreFaithful B.is_faithful_over parts.now binders.now
-        → scan.selected.items ≡ selected_rows (option_copied proof.entry) predicate.now (answered B.value parts.now binders.now)) }
+        → scan.selected.items ≡ selected_rows (option_copied proof.entry) predicate.now
+        (answered B.value parts.now binders.now)) }
     ensures parts { IfOk result (λ _. AreParts parts.now) }
     ensures closed { IfOk result (λ _. AreClosed B.answer B.is_missing
         (option_copied proof.entry) binders.now) }
@@ -121,7 +123,8 @@ pub fn scan<B: StatBinder>(
     requires plain { IsTrue (is_plain predicate.now) }
     requires fits { All (λ part. IsTrue (fits_scope predicate.now part.chunk.scope)) parts.now }
     // With honest binders no wanted row is lost, whichever lawful rules took part.
-    ensures selected { IfOk result (λ scan. AreFaithful B.is_faithful_over parts.now binders.now → AreHonest B.value parts.now binders.now
+    ensures selected { IfOk result (λ scan. AreFaithful B.is_faithful_over parts.now binders.now
+        → AreHonest B.value parts.now binders.now
         → scan.selected.items ≡ full predicate.now parts.now) }
     // With faithful binders a part is skipped exactly if the falsifier is true of it.
     ensures skipped { let own = own_rules ⟦<dyn StatsRewriteRule as StatsRewriteRule>⟧ rules.now.own.items in
@@ -133,18 +136,25 @@ pub fn scan<B: StatBinder>(
         IfOk result (λ scan. AreFaithful B.is_faithful_over parts.now binders.now
         → scan.selected.items ≡ selected_rows (falsifier_of own predicate.now) predicate.now
         (answered B.value parts.now binders.now)) }
+    // What was looked at are parts, as `own_binders_are_honest` asks.
     ensures parts { IfOk result (λ _. AreParts parts.now) }
     // By built-in rules and the parts' own statistics, a read-once predicate skips a part exactly if
     // no values within its bounds satisfy it.
-    ensures complete { IfOk result (λ scan. rules.now.own.items ≡ [] → AreFaithful B.is_faithful_over parts.now binders.now → AreByStatistics B.value parts.now binders.now
-        → IsTrue (is_read_once predicate.now) → SkipsExactly predicate.now parts.now scan.skipped.items) }
+    ensures complete { IfOk result (λ scan. rules.now.own.items ≡ []
+        → AreFaithful B.is_faithful_over parts.now binders.now
+        → AreByStatistics B.value parts.now binders.now
+        → IsTrue (is_read_once predicate.now)
+        → SkipsExactly predicate.now parts.now scan.skipped.items) }
     // By built-in rules, and binders that are faithful and name no fault of their own, as those of the
     // parts' own statistics, a predicate is refused for memory alone.
-    ensures memory { IsTrue (is_predicate predicate.now) → rules.now.own.items ≡ [] → AreFaithful B.is_faithful_over parts.now binders.now
+    ensures memory { IsTrue (is_predicate predicate.now) → rules.now.own.items ≡ []
+        → AreFaithful B.is_faithful_over parts.now binders.now
         → ((k : ℕ) → any_binder B.can_fault binders.now k ≡ false) → IfErr result IsMemory }
     ensures not_predicate { is_predicate predicate.now ≡ false → result ≡ Err NotPredicate }
+    // Where there is a falsifier, each binder has bound it to a closed expression.
     ensures closed { let own = own_rules ⟦<dyn StatsRewriteRule as StatsRewriteRule>⟧ rules.now.own.items in
         IfOk result (λ _. AreClosed B.answer B.is_missing (falsifier_of own predicate.now) binders.now) }
+    // A refusal has its cause: a rule asked at a visited node, or a binder asked for the falsifier.
     ensures refusal { let own = own_rules ⟦<dyn StatsRewriteRule as StatsRewriteRule>⟧ rules.now.own.items in
         let causes = scan_causes B.answer B.is_missing B.can_fault own predicate.now binders.now in
         IsTrue (is_predicate predicate.now) → IfErr result (IsRefusal causes) }

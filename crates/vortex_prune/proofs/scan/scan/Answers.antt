@@ -1,4 +1,4 @@
-use Rattle.std.proofs.Common.{[], ap, map, ◌∙◌}
+use Rattle.std.proofs.Common.{ap, map, ◌∙◌}
 use Rattle.vortex_prune.proofs.ShutProofs.{refused_for_memory}
 use Rattle.vortex_prune.proofs.WholeScan.{kept_is_full, of_three, skips_exactly}
 use Rattle.vortex_prune.specs.Own.{own_rules, own_rule}

@@ -3,7 +3,6 @@ ghost use Rattle.std.specs.Prelude.{◌≡◌, All, IfErr, IfOk, IsTrue};
 ghost use Rattle.std.specs.List.{AllByRecursion};
 ghost use Rattle.vortex_base.specs.Fitting.{fits_scope};
 ghost use Rattle.vortex_base.specs.Tree.{is_plain};
-ghost use Rattle.vortex_prune.specs.Complete.{SkipsExactly, is_read_once};
 ghost use Rattle.vortex_prune.specs.Part.{IsTruePart};
 ghost use Rattle.vortex_prune.specs.Predicates.{is_predicate};
 ghost use Rattle.vortex_prune.specs.ScanRefusals.{IsMemory};
@@ -22,8 +21,6 @@ fn scan_by_statistics(
     requires fits { All (λ part. IsTrue (fits_scope predicate.now part.chunk.scope)) parts.now }
     ensures full { IfOk result (λ scan. AllByRecursion IsTruePart parts.now
         → scan.selected.items ≡ full predicate.now parts.now) }
-    ensures complete { IfOk result (λ scan. IsTrue (is_read_once predicate.now)
-        → SkipsExactly predicate.now parts.now scan.skipped.items) }
     ensures memory { IsTrue (is_predicate predicate.now) → IfErr result IsMemory }
 {
     own_binders_are_honest();

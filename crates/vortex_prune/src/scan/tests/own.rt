@@ -1,5 +1,5 @@
 // Scans by rules and binders of a user, and what they are refused for.
-ghost use Rattle.std.specs.Prelude.{◌≡◌, false, true, ⊤, MatchResult, Some, None, refl, if◌then◌else◌};
+ghost use Rattle.std.specs.Prelude.{◌≡◌, false, true, ⊤, MatchResult, Some, None, if◌then◌else◌};
 ghost use Rattle.std.proofs.Common.{sym};
 ghost use mathlib.Core.Bool.{true≢false};
 ghost use Rattle.vortex_prune.specs.HookFaults.{IsHookFault};

@@ -19,10 +19,7 @@ fn pair(alloc: Global, low: (i32, i32), high: (i32, i32)) -> Result<Vec<Part>, F
     }
 }
 
-fn set_of(
-    alloc: Global,
-    entries: [(Stat, Precision<ScalarValue>); 2],
-) -> Result<StatsSet, Fail> {
+fn set_of(alloc: Global, entries: [(Stat, Precision<ScalarValue>); 2]) -> Result<StatsSet, Fail> {
     let mut set = StatsSet::new(alloc);
     set.try_extend(Vec::from_array(alloc, entries)?.into_iter())?;
     Ok(set)
