@@ -1,5 +1,8 @@
+pub mod AskedNodes
 pub mod BoundTypes
 pub mod BoundValues
+pub mod BuiltInOrder
+pub mod CauseLemmas
 pub mod Choices
 pub mod CompleteRows
 pub mod Completeness
@@ -7,6 +10,7 @@ pub mod Decided
 pub mod EndsCode
 pub mod EndsRows
 pub mod HonestParts
+pub mod HonestRows
 pub mod HonestStats
 pub mod Interval
 pub mod JoinLemmas
@@ -39,4 +43,5 @@ pub mod StatRows
 pub mod StatTypes
 pub mod TruthLogic
 pub mod ValueTests
+pub mod VisitRows
 pub mod WholeScan
