@@ -33,11 +33,10 @@ for kind in parts rows wide; do
     fi
 done
 
-# Layers by themselves: LIKE on texts that tempt a search to go back, a million evaluated comparisons, and a million
-# calls of a set of statistics.
+# The base layer by itself: LIKE on texts that tempt a search to go back, and a million evaluated comparisons.
 layer="$here/../crates/vortex_bench/out/vortex_bench"
 [ -x "$layer" ] || (cd "$here/../crates/vortex_bench" && echo like | rt run > /dev/null 2>&1)
-for work in like evaluate set get merge; do
+for work in like evaluate; do
     echo "$work" > "$here/data/$work.txt"
     echo "$work: $(best "$layer" "$here/data/$work.txt" "$here/data/layer.out") ms"
 done
