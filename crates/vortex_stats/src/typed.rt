@@ -12,7 +12,7 @@ ghost use Rattle.vortex_stats.specs.Entries.{entry_value, entries_fit, value_fit
 ghost use Rattle.vortex_stats.specs.TypedStats.{typed_value, with_value, without_value, with_values, AreFitting};
 
 use crate::error::StatsError;
-use crate::precision::Precision;
+use crate::precision::{Precision, copy_of};
 use crate::provider::StatsProvider;
 use crate::reading;
 use crate::stat::Stat;
@@ -127,7 +127,7 @@ fn scalar_of_clone(value: &ScalarValue, dtype: DType) -> Result<Scalar, AllocErr
     requires { IsTrue (is_value value.now dtype) }
     ensures { IfOk result (λ s. s ≡ scalar_of value.now dtype) }
 {
-    match Scalar::try_new(dtype, Some(value.clone()?)) {
+    match Scalar::try_new(dtype, Some(copy_of(value)?)) {
         Ok(scalar) => Ok(scalar),
         Err(_) => unreachable!(),
     }
