@@ -1,6 +1,6 @@
 //! Nodes and scalars for the tests, by calls without a contract: a test compares what it builds and
 //! reasons of nothing, so its proof stays short.
-use std::alloc::{AllocError, Global};
+use std::alloc::Global;
 use vortex_base::aggregate::AggregateFnRef;
 use vortex_base::between::BetweenOptions;
 use vortex_base::bound;
@@ -27,7 +27,7 @@ pub fn null_of(alloc: Global, dtype: DType) -> Built {
     bound::lit(alloc, Scalar::try_new(dtype.as_nullable(), None)?)
 }
 
-pub fn copy(x: &BoundExpression) -> Result<BoundExpression, AllocError> {
+pub fn copy(x: &BoundExpression) -> Built {
     x.try_clone()
 }
 
