@@ -1,11 +1,13 @@
 //! Sets of statistics.
-ghost use Rattle.std.specs.Prelude.{◌≡◌, ◌≤◌, ◌==◌, ◌∷◌, [], slice_set, IfOk, IsOk, IsOkAnd, OnErr, IsTrue, length};
+ghost use Rattle.std.specs.Prelude.{◌≡◌, ◌≤◌, ◌==◌, ◌∷◌, [], slice_set, IfErr, IfOk, IsOk, IsOkAnd, OnErr};
+ghost use Rattle.std.specs.Prelude.{IsTrue, alloc_error, length};
 ghost use Rattle.std.specs.List.{list_any};
 ghost use Rattle.std.specs.Iterator.{YieldsFirst, YieldsFirstRef, item_count, IsFinite};
 ghost use Rattle.vortex_stats.specs.Reading.{IsPreciselyReadAs};
 ghost use Rattle.vortex_stats.specs.Precision.{is_present, precision_map};
 ghost use Rattle.vortex_stats.specs.Stat.{stat_eq, stat_number};
 ghost use Rattle.vortex_stats.specs.Slots.{slot_of, IsOwn};
+ghost use Rattle.vortex_stats.specs.declared.error.StatsError.TheVariants.{Memory};
 ghost use Rattle.vortex_stats.specs.Entries.{entry_value, with_entry, without_entry, retained_entries};
 ghost use Rattle.vortex_stats.specs.Entries.{value_fits, entries_fit, AreDistinct, SetsAll};
 ghost use Rattle.vortex_stats.specs.Entries.{is_value_of as value_is_of};
@@ -15,7 +17,7 @@ use crate::precision::Precision;
 use crate::reading;
 use crate::stat::Stat;
 use smallvec::SmallVec;
-use std::alloc::{AllocError, Global};
+use std::alloc::Global;
 use std::marker::Model;
 use vortex_base::dtype::DType;
 use vortex_base::from_scalar::FromScalar;
@@ -99,7 +101,7 @@ impl StatsSet {
     }
 
     /// Sets the statistic's value: a present one keeps its place, a new one goes last.
-    pub fn set(&mut self, stat: Stat, value: Precision<ScalarValue>) -> Result<(), AllocError>
+    pub fn set(&mut self, stat: Stat, value: Precision<ScalarValue>) -> Result<(), StatsError>
         ensures set { self.new ≡ with_entry stat value self.old }
         ensures answered { IsOk result }
     {
@@ -144,11 +146,12 @@ impl StatsSet {
     }
 
     /// A clone of the statistic's value, and Absent where there is no entry.
-    pub fn get(&self, stat: Stat) -> Result<Precision<ScalarValue>, AllocError>
+    pub fn get(&self, stat: Stat) -> Result<Precision<ScalarValue>, StatsError>
         ensures value { IfOk result (λ value. value ≡ entry_value stat self.now) }
         ensures refused { OnErr result (IsTrue (is_present (entry_value stat self.now))) }
+        ensures memory { IfErr result (λ error. error ≡ Memory alloc_error) }
     {
-        self.find(stat).cloned()
+        Ok(self.find(stat).cloned()?)
     }
 
     /// The statistic's value, read under this type, and Absent where there is no entry. `Mismatch` if
@@ -194,7 +197,7 @@ impl StatsSet {
     pub fn try_extend<I: Iterator<Item = (Stat, Precision<ScalarValue>)> + Drop>(
         &mut self,
         items: I,
-    ) -> Result<(), AllocError>
+    ) -> Result<(), StatsError>
         requires can { I.can_next items }
         requires ends { IsFinite (I.remaining items) }
         ensures all { SetsAll I.next_gives items self.old self.new }
@@ -223,8 +226,9 @@ impl StatsSet {
     }
 
     /// An equal set, with the same allocator.
-    pub fn try_clone(&self) -> Result<Self, AllocError>
-        ensures { IfOk result (λ set. set ≡ self.now) }
+    pub fn try_clone(&self) -> Result<Self, StatsError>
+        ensures value { IfOk result (λ set. set ≡ self.now) }
+        ensures memory { IfErr result (λ error. error ≡ Memory alloc_error) }
     {
         let mut set = StatsSet::new(self.allocator());
         for entry in self.iter() {

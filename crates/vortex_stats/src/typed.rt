@@ -180,7 +180,7 @@ impl<'a> MutTypedStatsSetRef<'a> {
 
     /// Sets the statistic's value, which fits, as `StatsSet::value_fits` tells: a present one keeps its
     /// place, a new one goes last.
-    pub fn set(&mut self, stat: Stat, value: Precision<ScalarValue>) -> Result<(), AllocError>
+    pub fn set(&mut self, stat: Stat, value: Precision<ScalarValue>) -> Result<(), StatsError>
         requires { IsTrue (value_fits stat (typed_stats self.old).dtype value) }
         ensures set { typed_stats self.new ≡ with_value stat value (typed_stats self.old) }
         ensures answered { IsOk result }
