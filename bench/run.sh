@@ -33,10 +33,11 @@ for kind in parts rows wide; do
     fi
 done
 
-# The base layer by itself: LIKE on texts that tempt a search to go back, and a million evaluated comparisons.
+# Layers by themselves: LIKE on texts that tempt a search to go back, a million evaluated comparisons, and a million
+# calls of a set of statistics.
 layer="$here/../crates/vortex_bench/out/vortex_bench"
 [ -x "$layer" ] || (cd "$here/../crates/vortex_bench" && echo like | rt run > /dev/null 2>&1)
-for work in like evaluate; do
+for work in like evaluate set get merge; do
     echo "$work" > "$here/data/$work.txt"
     echo "$work: $(best "$layer" "$here/data/$work.txt" "$here/data/layer.out") ms"
 done

@@ -1,4 +1,5 @@
-// Work for timing the base layer: LIKE on a text that tempts a search to go back, and the evaluation of comparisons.
+// Work for timing the layers: LIKE on a text that tempts a search to go back, the evaluation of comparisons, and the
+// calls of a set of statistics.
 #![tactic(auto)]
 
 mod workload;
@@ -14,6 +15,9 @@ fn main(rt: HostRuntime) -> Result<()> {
     let count = match name.as_str().trim() {
         "like" => workload::count_like(alloc)?,
         "evaluate" => workload::count_evaluated(alloc)?,
+        "set" => workload::set_often(alloc)?,
+        "get" => workload::get_often(alloc)?,
+        "merge" => workload::merge_often(alloc)?,
         _ => 0,
     };
     println!(rt; "{count}")?;

@@ -13,6 +13,10 @@ use vortex_base::nullability::Nullability;
 use vortex_base::ptype::PType;
 use vortex_base::scalar_value::ScalarValue;
 use vortex_base::scope::Scope;
+use vortex_stats::error::StatsError;
+use vortex_stats::precision::Precision;
+use vortex_stats::stat::Stat;
+use vortex_stats::stats_set::StatsSet;
 
 const NUMBER: DType = DType::Primitive(PType::I64, Nullability::NonNullable);
 
@@ -66,4 +70,48 @@ pub fn count_evaluated(alloc: Global) -> Result<usize, BaseError> {
         }
     }
     Ok(selected.len())
+}
+
+// The statistics of a column of numbers.
+fn number_set(alloc: Global, least: i64, most: i64) -> Result<StatsSet, StatsError> {
+    let mut set = StatsSet::of(alloc, Stat::Min, Precision::Exact(ScalarValue::from(least)));
+    set.set(Stat::Max, Precision::Exact(ScalarValue::from(most)))?;
+    set.set(Stat::NullCount, Precision::Exact(ScalarValue::from(0u64)))?;
+    Ok(set)
+}
+
+/// The length of a set whose values were written a million times.
+pub fn set_often(alloc: Global) -> Result<usize, StatsError> {
+    let mut set = number_set(alloc, 0, 1)?;
+    for n in 0..ROWS {
+        set.set(Stat::NullCount, Precision::Exact(ScalarValue::from(n)))?;
+    }
+    Ok(set.len())
+}
+
+/// The length of a set that was asked a million times for a value that is there and one that isn't.
+pub fn get_often(alloc: Global) -> Result<usize, StatsError> {
+    let set = number_set(alloc, 0, 1)?;
+    for _ in 0..ROWS {
+        if set.get(Stat::NullCount)?.is_absent() || set.get(Stat::Sum)?.is_exact() {
+            return Ok(0);
+        }
+    }
+    Ok(set.len())
+}
+
+/// The length of a set into which another was merged a million times.
+pub fn merge_often(alloc: Global) -> Result<usize, StatsError> {
+    let mut set = number_set(alloc, 0, 1)?;
+    let other = number_set(alloc, -1, 1)?;
+    for _ in 0..ROWS {
+        if !set.fits(&NUMBER) || !other.fits(&NUMBER) {
+            return Ok(0);
+        }
+        match set.merge_ordered(&other, &NUMBER) {
+            Ok(merged) => set = merged,
+            Err(refused) => return Err(refused.error),
+        }
+    }
+    Ok(set.len())
 }
