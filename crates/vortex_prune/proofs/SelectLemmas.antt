@@ -1,27 +1,17 @@
--- A plain predicate over a chunk's scope has a meaning on each row, and the rows that satisfy it are found one by one.
+-- The rows that satisfy a predicate are found one by one; what is refused for memory alone.
 use Rattle.std.proofs.Common.{◌≡◌, ℕ, Bool, true, false, not, Ok, Result, IsTrue, IfErr, Err, List, [], ◌∷◌, ◌++◌, Option, alloc_error, append_assoc, append-nil, arith, cond, map, refl, subst, sym, ap, ◌∙◌, ◌+◌, zero, suc}
 use Rattle.std.specs.List.{filter, range_with_len}
 use Rattle.std.proofs.lemmas.List.{map-append, map-id}
 use Rattle.std.proofs.lemmas.List.Elements.{filter-append}
 use Rattle.std.proofs.lemmas.List.FromFn.{map-range_with_len_more}
-use Rattle.vortex_base.proofs.RowsFit.{rows-fit}
-use Rattle.vortex_base.specs.Answer.{Answers, Makes}
-use Rattle.vortex_base.specs.Columns.{ChunkData, IsChunk, row_of}
-use Rattle.vortex_base.specs.Exact.{both_true}
-use Rattle.vortex_base.specs.Fitting.{fits_scope}
-use Rattle.vortex_base.specs.Meaning.{can_evaluate, meaning}
+use Rattle.vortex_base.specs.Answer.{Makes}
 use Rattle.vortex_prune.specs.Scanning.{row_if}
 use Rattle.vortex_base.specs.declared.error.BaseError.{BaseError}
 use Rattle.vortex_base.specs.declared.error.BaseError.TheVariants.{Memory}
-use Rattle.vortex_base.specs.declared.scalar_value.ScalarValue.{ScalarValue}
-use Rattle.vortex_base.specs.Tree.{Tree, Place, has_placeholder, is_plain}
 
 pub none_held : (b : Bool) → not b ≡ true → b ≡ false
 none_held true h = cc
 none_held false h = refl
-
-pub can_read : (p : Tree Place) (k : ChunkData) (i : ℕ) → IsChunk k → IsTrue (is_plain p) → IsTrue (fits_scope p k.scope) → can_evaluate p (row_of i k.columns) ≡ Ok tt
-can_read p k i chunk plain fits = rw (none_held (has_placeholder p) (both_true _ _ plain).0, rows-fit p k i chunk fits) refl
 
 -- what makes a value is refused for memory alone
 pub memory_alone : {A : Type 0} (v : A) (r : Result A BaseError) → Makes v r → IfErr r (λ fault. fault ≡ Memory alloc_error)
@@ -31,11 +21,6 @@ memory_alone v (Err f) m = m
 -- and what it answers is the value
 pub made_value : {A : Type 0} (v x : A) (r : Result A BaseError) → Makes v r → r ≡ Ok x → x ≡ v
 made_value v x r m e = subst (λ s. Makes v s) e m
-
--- so the predicate is evaluated, unless memory is refused
-pub evaluates : (p : Tree Place) (k : ChunkData) (i n : ℕ) (r : Result (Option ScalarValue) BaseError) → IsChunk k → IsTrue (is_plain p) → IsTrue (fits_scope p k.scope)
-    → Answers (can_evaluate p (row_of i k.columns)) (meaning p (row_of i k.columns) n) r → Makes (meaning p (row_of i k.columns) n) r
-evaluates p k i n r chunk plain fits h = rw (can_read p k i chunk plain fits) at h
 
 -- ---- the rows below a place that pass a test, as pairs for the part at a place
 

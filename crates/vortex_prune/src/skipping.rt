@@ -1,6 +1,7 @@
 //! Whether a part is skipped: its proof is bound to what its binder answers, and evaluated.
 ghost use Rattle.std.specs.Prelude.{◌≡◌, [], true, IfOk, IfErr, IsTrue, Some, option_copied};
 ghost use Rattle.vortex_base.specs.Columns.{row_count};
+ghost use Rattle.vortex_base.specs.Meaning.{is_true as value_is_true};
 ghost use Rattle.vortex_prune.specs.Proof.{proves};
 ghost use Rattle.vortex_prune.specs.Scanning.{is_skipped};
 ghost use Rattle.vortex_prune.specs.Binding.{IsBoundTo};
@@ -10,13 +11,20 @@ ghost use Rattle.vortex_prune.specs.ScanRefusals.{IsClosed, if_faithful, proof_c
 use crate::binding::bind_stats_of;
 use crate::built::built;
 use crate::part::Part;
-use crate::select::is_true;
 use crate::stat_binder::StatBinder;
 use std::alloc::Global;
 use vortex_base::bound_expression::BoundExpression;
 use vortex_base::evaluate::evaluate;
 use vortex_base::row::Row;
+use vortex_base::scalar_value::ScalarValue;
 use vortex_stats::error::StatsError;
+
+// Whether a value is true. False, null and a value of another kind aren't.
+fn is_true(value: &Option<ScalarValue>) -> bool
+    ensures { result ≡ value_is_true value.now }
+{
+    matches!(value, Some(ScalarValue::Bool(true)))
+}
 
 // Whether a proof is true of a part. `OpenProof` if what is bound still holds a placeholder or a
 // column.
