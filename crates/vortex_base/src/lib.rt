@@ -34,5 +34,7 @@ pub mod scalar;
 pub mod scalar_fn;
 pub mod scalar_value;
 pub mod scope;
+#[cfg(test)]
+mod testing;
 pub mod text;
 mod typing;

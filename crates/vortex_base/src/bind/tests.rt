@@ -2,13 +2,13 @@
 use super::*;
 use crate::aggregate::AggregateFnRef;
 use crate::between::{BetweenOptions, StrictComparison};
-use crate::evaluate::evaluate;
 use crate::like::LikeOptions;
 use crate::nullability::Nullability;
 use crate::ptype::PType;
 use crate::row::Row;
 use crate::scalar::Scalar;
 use crate::scalar_value::ScalarValue;
+use crate::testing::{bind, copy, evaluated, named, placed};
 use crate::text::Text;
 use std::process::Abort;
 use std::test::Fail;
@@ -22,31 +22,31 @@ fn scope_of_a(alloc: Global) -> Result<Scope, BaseError> {
 
 fn long(alloc: Global, value: i64) -> Result<Expression, BaseError> {
     let dtype = DType::Primitive(PType::I64, Nullability::NonNullable);
-    Expression::lit(
+    named::lit(
         alloc,
         Scalar::try_new(dtype, Some(ScalarValue::from(value)))?,
     )
 }
 
 fn int(alloc: Global, value: i32) -> Result<Expression, BaseError> {
-    Expression::lit(alloc, Scalar::try_new(I32, Some(ScalarValue::from(value)))?)
+    named::lit(alloc, Scalar::try_new(I32, Some(ScalarValue::from(value)))?)
 }
 
 // `a = 1i64`, whose sides have two widths
 fn of_two_widths(alloc: Global) -> Result<Expression, BaseError> {
-    let a = Expression::col(alloc, "a")?;
-    Expression::eq(alloc, a, long(alloc, 1)?)
+    let a = named::col(alloc, "a")?;
+    named::eq(alloc, a, long(alloc, 1)?)
 }
 
 #[test]
 fn a_known_column_is_placed(rt: HostRuntime) -> Result<(), Fail> {
     let alloc = rt.alloc();
-    let a = Expression::col(alloc, "a")?;
-    let above = Expression::gt(alloc, a, int(alloc, 4)?)?;
-    let bound = above.bind(alloc, &scope_of_a(alloc)?)?;
+    let a = named::col(alloc, "a")?;
+    let above = named::gt(alloc, a, int(alloc, 4)?)?;
+    let bound = bind(above, alloc, &scope_of_a(alloc)?)?;
     let four = Scalar::try_new(I32, Some(ScalarValue::from(4i32)))?;
     let four = bound::lit(alloc, four)?;
-    let expected = bound::gt(alloc, bound::col(alloc, 0, I32)?, four)?;
+    let expected = placed::gt(alloc, placed::col(alloc, 0, I32)?, four)?;
     assert!(rt; bound == expected);
     Ok(())
 }
@@ -57,17 +57,17 @@ fn expect_bound(
     expression: Expression,
     expected: &BoundExpression,
 ) -> Result<(), Fail> {
-    let bound = expression.bind(alloc, &scope_of_a(alloc)?)?;
+    let bound = bind(expression, alloc, &scope_of_a(alloc)?)?;
     assert!(rt; bound == *expected);
     Ok(())
 }
 
 fn a(alloc: Global) -> Result<Expression, BaseError> {
-    Expression::col(alloc, "a")
+    named::col(alloc, "a")
 }
 
 fn placed_a(alloc: Global) -> Result<BoundExpression, BaseError> {
-    bound::col(alloc, 0, I32)
+    placed::col(alloc, 0, I32)
 }
 
 fn placed_int(alloc: Global, value: i32) -> Result<BoundExpression, BaseError> {
@@ -77,17 +77,17 @@ fn placed_int(alloc: Global, value: i32) -> Result<BoundExpression, BaseError> {
 #[test]
 fn comparisons_stay_what_they_are(rt: HostRuntime) -> Result<(), Fail> {
     let alloc = rt.alloc();
-    let expected = bound::not_eq(alloc, placed_a(alloc)?, placed_int(alloc, 4)?)?;
-    let differ = Expression::not_eq(alloc, a(alloc)?, int(alloc, 4)?)?;
+    let expected = placed::not_eq(alloc, placed_a(alloc)?, placed_int(alloc, 4)?)?;
+    let differ = named::not_eq(alloc, a(alloc)?, int(alloc, 4)?)?;
     expect_bound(&rt, alloc, differ, &expected)?;
-    let expected = bound::gt_eq(alloc, placed_a(alloc)?, placed_int(alloc, 4)?)?;
-    let at_least = Expression::gt_eq(alloc, a(alloc)?, int(alloc, 4)?)?;
+    let expected = placed::gt_eq(alloc, placed_a(alloc)?, placed_int(alloc, 4)?)?;
+    let at_least = named::gt_eq(alloc, a(alloc)?, int(alloc, 4)?)?;
     expect_bound(&rt, alloc, at_least, &expected)?;
-    let expected = bound::lt(alloc, placed_a(alloc)?, placed_int(alloc, 4)?)?;
-    let below = Expression::lt(alloc, a(alloc)?, int(alloc, 4)?)?;
+    let expected = placed::lt(alloc, placed_a(alloc)?, placed_int(alloc, 4)?)?;
+    let below = named::lt(alloc, a(alloc)?, int(alloc, 4)?)?;
     expect_bound(&rt, alloc, below, &expected)?;
-    let expected = bound::lt_eq(alloc, placed_a(alloc)?, placed_int(alloc, 4)?)?;
-    let at_most = Expression::lt_eq(alloc, a(alloc)?, int(alloc, 4)?)?;
+    let expected = placed::lt_eq(alloc, placed_a(alloc)?, placed_int(alloc, 4)?)?;
+    let at_most = named::lt_eq(alloc, a(alloc)?, int(alloc, 4)?)?;
     expect_bound(&rt, alloc, at_most, &expected)
 }
 
@@ -99,21 +99,21 @@ fn ranges_and_null_tests_stay_what_they_are(rt: HostRuntime) -> Result<(), Fail>
         upper_strict: StrictComparison::NonStrict,
     };
     let (low, high) = (placed_int(alloc, 1)?, placed_int(alloc, 5)?);
-    let expected = bound::between(alloc, placed_a(alloc)?, low, high, options)?;
+    let expected = placed::between(alloc, placed_a(alloc)?, low, high, options)?;
     let (low, high) = (int(alloc, 1)?, int(alloc, 5)?);
-    let range = Expression::between(alloc, a(alloc)?, low, high, options)?;
+    let range = named::between(alloc, a(alloc)?, low, high, options)?;
     expect_bound(&rt, alloc, range, &expected)?;
-    let expected = bound::is_null(alloc, placed_a(alloc)?)?;
-    let is_null = Expression::is_null(alloc, a(alloc)?)?;
+    let expected = placed::is_null(alloc, placed_a(alloc)?)?;
+    let is_null = named::is_null(alloc, a(alloc)?)?;
     expect_bound(&rt, alloc, is_null, &expected)?;
-    let expected = bound::is_not_null(alloc, placed_a(alloc)?)?;
-    let is_not_null = Expression::is_not_null(alloc, a(alloc)?)?;
+    let expected = placed::is_not_null(alloc, placed_a(alloc)?)?;
+    let is_not_null = named::is_not_null(alloc, a(alloc)?)?;
     expect_bound(&rt, alloc, is_not_null, &expected)?;
     expect_bound(
         &rt,
         alloc,
-        Expression::row_count(alloc)?,
-        &bound::row_count(alloc)?,
+        named::row_count(alloc)?,
+        &placed::row_count(alloc)?,
     )
 }
 
@@ -127,26 +127,26 @@ fn patterns_stay_what_they_are(rt: HostRuntime) -> Result<(), Fail> {
     let alloc = rt.alloc();
     let placed_text = bound::lit(alloc, text(alloc, "ab")?)?;
     let placed_pattern = bound::lit(alloc, text(alloc, "a%")?)?;
-    let expected = bound::like(alloc, placed_text.try_clone()?, placed_pattern.try_clone()?)?;
-    let named_text = Expression::lit(alloc, text(alloc, "ab")?)?;
-    let named_pattern = Expression::lit(alloc, text(alloc, "a%")?)?;
-    let like = Expression::like(alloc, named_text, named_pattern)?;
+    let expected = placed::like(alloc, copy(&placed_text)?, copy(&placed_pattern)?)?;
+    let named_text = named::lit(alloc, text(alloc, "ab")?)?;
+    let named_pattern = named::lit(alloc, text(alloc, "a%")?)?;
+    let like = named::like(alloc, named_text, named_pattern)?;
     expect_bound(&rt, alloc, like, &expected)?;
     let options = LikeOptions {
         negated: true,
         case_insensitive: true,
     };
-    let expected = bound::like_with(alloc, placed_text, placed_pattern, options)?;
-    let named_text = Expression::lit(alloc, text(alloc, "ab")?)?;
-    let named_pattern = Expression::lit(alloc, text(alloc, "a%")?)?;
-    let not_like = Expression::like_with(alloc, named_text, named_pattern, options)?;
+    let expected = placed::like_with(alloc, placed_text, placed_pattern, options)?;
+    let named_text = named::lit(alloc, text(alloc, "ab")?)?;
+    let named_pattern = named::lit(alloc, text(alloc, "a%")?)?;
+    let not_like = named::like_with(alloc, named_text, named_pattern, options)?;
     expect_bound(&rt, alloc, not_like, &expected)
 }
 
 #[test]
 fn widths_that_differ_are_a_type_fault(rt: HostRuntime) -> Result<(), Fail> {
     let alloc = rt.alloc();
-    let bound = of_two_widths(alloc)?.bind(alloc, &scope_of_a(alloc)?);
+    let bound = bind(of_two_widths(alloc)?, alloc, &scope_of_a(alloc)?);
     assert!(rt; matches!(bound, Err(BaseError::TypeFault)));
     Ok(())
 }
@@ -154,9 +154,9 @@ fn widths_that_differ_are_a_type_fault(rt: HostRuntime) -> Result<(), Fail> {
 #[test]
 fn the_left_child_is_faulted_first(rt: HostRuntime) -> Result<(), Fail> {
     let alloc = rt.alloc();
-    let z = Expression::col(alloc, "z")?;
-    let both = Expression::and(alloc, z, of_two_widths(alloc)?)?;
-    let bound = both.bind(alloc, &scope_of_a(alloc)?);
+    let z = named::col(alloc, "z")?;
+    let both = named::and(alloc, z, of_two_widths(alloc)?)?;
+    let bound = bind(both, alloc, &scope_of_a(alloc)?);
     assert!(rt; matches!(bound, Err(BaseError::UnknownColumn)));
     Ok(())
 }
@@ -164,10 +164,10 @@ fn the_left_child_is_faulted_first(rt: HostRuntime) -> Result<(), Fail> {
 #[test]
 fn a_child_is_faulted_before_its_parent(rt: HostRuntime) -> Result<(), Fail> {
     let alloc = rt.alloc();
-    let a = Expression::col(alloc, "a")?;
-    let z = Expression::col(alloc, "z")?;
-    let both = Expression::or(alloc, a, z)?;
-    let bound = both.bind(alloc, &scope_of_a(alloc)?);
+    let a = named::col(alloc, "a")?;
+    let z = named::col(alloc, "z")?;
+    let both = named::or(alloc, a, z)?;
+    let bound = bind(both, alloc, &scope_of_a(alloc)?);
     assert!(rt; matches!(bound, Err(BaseError::UnknownColumn)));
     Ok(())
 }
@@ -175,9 +175,9 @@ fn a_child_is_faulted_before_its_parent(rt: HostRuntime) -> Result<(), Fail> {
 #[test]
 fn an_aggregate_may_not_support_its_input(rt: HostRuntime) -> Result<(), Fail> {
     let alloc = rt.alloc();
-    let a = Expression::col(alloc, "a")?;
-    let count = Expression::new_stat(alloc, a, AggregateFnRef::NanCount)?;
-    let bound = count.bind(alloc, &scope_of_a(alloc)?);
+    let a = named::col(alloc, "a")?;
+    let count = named::new_stat(alloc, a, AggregateFnRef::NanCount)?;
+    let bound = bind(count, alloc, &scope_of_a(alloc)?);
     assert!(rt; matches!(bound, Err(BaseError::Unsupported)));
     Ok(())
 }
@@ -185,9 +185,9 @@ fn an_aggregate_may_not_support_its_input(rt: HostRuntime) -> Result<(), Fail> {
 fn deep_truth(alloc: Global) -> Result<Expression, BaseError> {
     let dtype = DType::Bool(Nullability::NonNullable);
     let truth = Scalar::try_new(dtype, Some(ScalarValue::from(true)))?;
-    let mut deep = Expression::lit(alloc, truth)?;
+    let mut deep = named::lit(alloc, truth)?;
     for _ in 0..4094 {
-        deep = Expression::not(alloc, deep)?;
+        deep = named::not(alloc, deep)?;
     }
     Ok(deep)
 }
@@ -196,12 +196,12 @@ fn deep_truth(alloc: Global) -> Result<Expression, BaseError> {
 #[test]
 fn deep_expressions_fit_the_stack(rt: HostRuntime) -> Result<(), Fail> {
     let alloc = rt.alloc();
-    let bound = deep_truth(alloc)?.bind(alloc, &scope_of_a(alloc)?)?;
+    let bound = bind(deep_truth(alloc)?, alloc, &scope_of_a(alloc)?)?;
     assert!(rt; bound.is_plain() && bound.is_closed());
-    let copy = bound.try_clone()?;
+    let copy = copy(&bound)?;
     assert!(rt; copy == bound);
     drop(bound);
-    let value = evaluate(&copy, &Row::empty(), 0)?;
+    let value = evaluated(&copy, &Row::empty(), 0)?;
     assert_eq!(rt; value, Some(ScalarValue::from(true)));
     Ok(())
 }
@@ -218,16 +218,16 @@ fn binding_is_refused_for_memory_alone(rt: HostRuntime) {
     let Ok(scope) = scope_of_a(alloc) else {
         return;
     };
-    let Ok(a) = Expression::col(alloc, "a") else {
+    let Ok(a) = named::col(alloc, "a") else {
         return;
     };
     let Ok(four) = int(alloc, 4) else {
         return;
     };
-    let Ok(above) = Expression::gt(alloc, a, four) else {
+    let Ok(above) = named::gt(alloc, a, four) else {
         return;
     };
-    match above.bind(alloc, &scope) {
+    match bind(above, alloc, &scope) {
         Ok(bound) => assert_eq!(rt; bound.child_count(), 2),
         refused => assert!(rt; is_memory(refused)),
     }

@@ -6,6 +6,7 @@ use crate::expr_kind::ExprKind;
 use crate::nullability::Nullability;
 use crate::ptype::PType;
 use crate::scalar_value::ScalarValue;
+use crate::testing::placed;
 use std::test::Fail;
 
 const BOOL: DType = DType::Bool(Nullability::NonNullable);
@@ -37,30 +38,30 @@ fn joined(
     left: DType,
     right: DType,
 ) -> Result<DType, BaseError> {
-    let left = col(alloc, 0, left)?;
-    let right = col(alloc, 1, right)?;
+    let left = placed::col(alloc, 0, left)?;
+    let right = placed::col(alloc, 1, right)?;
     Ok(binary(alloc, operator, left, right)?.dtype())
 }
 
 fn ranged(alloc: Global, x: DType, lower: DType, upper: DType) -> Result<DType, BaseError> {
-    let x = col(alloc, 0, x)?;
-    let lower = col(alloc, 1, lower)?;
-    let upper = col(alloc, 2, upper)?;
-    Ok(between(alloc, x, lower, upper, CLOSED)?.dtype())
+    let x = placed::col(alloc, 0, x)?;
+    let lower = placed::col(alloc, 1, lower)?;
+    let upper = placed::col(alloc, 2, upper)?;
+    Ok(placed::between(alloc, x, lower, upper, CLOSED)?.dtype())
 }
 
 fn patterned(alloc: Global, text: DType, pattern: DType) -> Result<DType, BaseError> {
-    let text = col(alloc, 0, text)?;
-    let pattern = col(alloc, 1, pattern)?;
-    Ok(like(alloc, text, pattern)?.dtype())
+    let text = placed::col(alloc, 0, text)?;
+    let pattern = placed::col(alloc, 1, pattern)?;
+    Ok(placed::like(alloc, text, pattern)?.dtype())
 }
 
 fn negated(alloc: Global, x: DType) -> Result<DType, BaseError> {
-    Ok(not(alloc, col(alloc, 0, x)?)?.dtype())
+    Ok(placed::not(alloc, placed::col(alloc, 0, x)?)?.dtype())
 }
 
 fn asked(alloc: Global, input: DType, aggregate: AggregateFnRef) -> Result<DType, BaseError> {
-    Ok(new_stat(alloc, col(alloc, 0, input)?, aggregate)?.dtype())
+    Ok(placed::new_stat(alloc, placed::col(alloc, 0, input)?, aggregate)?.dtype())
 }
 
 fn is_type_fault(answer: Result<DType, BaseError>) -> bool {
@@ -128,10 +129,16 @@ fn negations_and_patterns(rt: HostRuntime) -> Result<(), Fail> {
 #[test]
 fn null_tests_and_row_counts_are_never_null(rt: HostRuntime) -> Result<(), Fail> {
     let alloc = rt.alloc();
-    assert_eq!(rt; is_null(alloc, col(alloc, 0, I32_OR_NULL)?)?.dtype(), BOOL);
-    assert_eq!(rt; is_not_null(alloc, col(alloc, 0, STATE)?)?.dtype(), BOOL);
+    assert_eq!(rt;
+        placed::is_null(alloc, placed::col(alloc, 0, I32_OR_NULL)?)?.dtype(),
+        BOOL
+    );
+    assert_eq!(rt;
+        placed::is_not_null(alloc, placed::col(alloc, 0, STATE)?)?.dtype(),
+        BOOL
+    );
     let u64 = DType::Primitive(PType::U64, Nullability::NonNullable);
-    assert_eq!(rt; row_count(alloc)?.dtype(), u64);
+    assert_eq!(rt; placed::row_count(alloc)?.dtype(), u64);
     Ok(())
 }
 
@@ -165,20 +172,19 @@ fn signed_sums_are_signed(rt: HostRuntime) {
 }
 
 fn five(alloc: Global) -> Result<BoundExpression, BaseError> {
-    let five = Scalar::try_new(I32, Some(ScalarValue::from(5i32)))?;
-    lit(alloc, five)
+    placed::lit(alloc, I32, Some(ScalarValue::from(5i32)))
 }
 
 #[test]
 fn each_comparison_has_its_operator(rt: HostRuntime) -> Result<(), Fail> {
     let alloc = rt.alloc();
     let kinds = [
-        eq(alloc, five(alloc)?, five(alloc)?)?.kind(),
-        not_eq(alloc, five(alloc)?, five(alloc)?)?.kind(),
-        gt(alloc, five(alloc)?, five(alloc)?)?.kind(),
-        gt_eq(alloc, five(alloc)?, five(alloc)?)?.kind(),
-        lt(alloc, five(alloc)?, five(alloc)?)?.kind(),
-        lt_eq(alloc, five(alloc)?, five(alloc)?)?.kind(),
+        placed::eq(alloc, five(alloc)?, five(alloc)?)?.kind(),
+        placed::not_eq(alloc, five(alloc)?, five(alloc)?)?.kind(),
+        placed::gt(alloc, five(alloc)?, five(alloc)?)?.kind(),
+        placed::gt_eq(alloc, five(alloc)?, five(alloc)?)?.kind(),
+        placed::lt(alloc, five(alloc)?, five(alloc)?)?.kind(),
+        placed::lt_eq(alloc, five(alloc)?, five(alloc)?)?.kind(),
     ];
     assert!(rt;
         kinds
@@ -197,9 +203,17 @@ fn each_comparison_has_its_operator(rt: HostRuntime) -> Result<(), Fail> {
 #[test]
 fn each_connective_has_its_operator(rt: HostRuntime) -> Result<(), Fail> {
     let alloc = rt.alloc();
-    let both = and(alloc, col(alloc, 0, BOOL)?, col(alloc, 1, BOOL)?)?;
+    let both = placed::and(
+        alloc,
+        placed::col(alloc, 0, BOOL)?,
+        placed::col(alloc, 1, BOOL)?,
+    )?;
     assert!(rt; both.kind() == ExprKind::Binary(Operator::And));
-    let either = or(alloc, col(alloc, 0, BOOL)?, col(alloc, 1, BOOL)?)?;
+    let either = placed::or(
+        alloc,
+        placed::col(alloc, 0, BOOL)?,
+        placed::col(alloc, 1, BOOL)?,
+    )?;
     assert!(rt; either.kind() == ExprKind::Binary(Operator::Or));
     Ok(())
 }

@@ -1,13 +1,13 @@
 //! Tests of typed expressions as trees.
 use super::*;
 use crate::between::StrictComparison;
-use crate::bound;
 use crate::error::BaseError;
 use crate::nullability::Nullability;
 use crate::parts::Parts;
 use crate::ptype::PType;
 use crate::scalar_value::ScalarValue;
 use crate::scope::Scope;
+use crate::testing::{copy, placed};
 use std::alloc::Global;
 use std::test::Fail;
 
@@ -21,14 +21,13 @@ const HALF_OPEN: BetweenOptions = BetweenOptions {
 };
 
 fn int(alloc: Global, value: i32) -> Result<BoundExpression, BaseError> {
-    let value = Scalar::try_new(I32, Some(ScalarValue::from(value)))?;
-    bound::lit(alloc, value)
+    placed::lit(alloc, I32, Some(ScalarValue::from(value)))
 }
 
 // `1 < a <= 5`
 fn range(alloc: Global) -> Result<BoundExpression, BaseError> {
-    let a = bound::col(alloc, 0, I32)?;
-    bound::between(alloc, a, int(alloc, 1)?, int(alloc, 5)?, HALF_OPEN)
+    let a = placed::col(alloc, 0, I32)?;
+    placed::between(alloc, a, int(alloc, 1)?, int(alloc, 5)?, HALF_OPEN)
 }
 
 #[test]
@@ -47,7 +46,7 @@ fn lend_their_literals(rt: HostRuntime) -> Result<(), Fail> {
     let five = int(rt.alloc(), 5)?;
     let value = Scalar::try_new(I32, Some(ScalarValue::from(5i32)))?;
     assert!(rt; five.literal() == Some(&value));
-    let column = bound::col(rt.alloc(), 0, I32)?;
+    let column = placed::col(rt.alloc(), 0, I32)?;
     assert!(rt; column.literal().is_none());
     assert!(rt; column.scalar_fn_id().is_none());
     Ok(())
@@ -55,7 +54,7 @@ fn lend_their_literals(rt: HostRuntime) -> Result<(), Fail> {
 
 #[test]
 fn come_apart_by_their_top(rt: HostRuntime) -> Result<(), Fail> {
-    let is_null = bound::is_null(rt.alloc(), range(rt.alloc())?)?;
+    let is_null = placed::is_null(rt.alloc(), range(rt.alloc())?)?;
     let Parts::IsNull(x) = is_null.parts() else {
         return Err(Fail::from("not a null test"));
     };
@@ -67,12 +66,12 @@ fn come_apart_by_their_top(rt: HostRuntime) -> Result<(), Fail> {
 fn are_equal_if_they_are_one_tree(rt: HostRuntime) -> Result<(), Fail> {
     let alloc = rt.alloc();
     let range = range(alloc)?;
-    let copy = range.try_clone()?;
+    let copy = copy(&range)?;
     assert!(rt; copy == range);
     assert!(rt; int(alloc, 1)? != int(alloc, 5)?);
-    let a = bound::col(alloc, 0, I32)?;
-    assert!(rt; a != bound::col(alloc, 1, I32)?);
-    assert!(rt; a != bound::col(alloc, 0, I32_OR_NULL)?);
+    let a = placed::col(alloc, 0, I32)?;
+    assert!(rt; a != placed::col(alloc, 1, I32)?);
+    assert!(rt; a != placed::col(alloc, 0, I32_OR_NULL)?);
     Ok(())
 }
 
@@ -86,8 +85,8 @@ fn fit_a_scope_by_place_and_type(rt: HostRuntime) -> Result<(), Fail> {
     let alloc = rt.alloc();
     let scope = scope_of_a(alloc)?;
     assert!(rt; range(alloc)?.fits_scope(&scope));
-    assert!(rt; !bound::col(alloc, 1, I32)?.fits_scope(&scope));
-    assert!(rt; !bound::col(alloc, 0, I32_OR_NULL)?.fits_scope(&scope));
+    assert!(rt; !placed::col(alloc, 1, I32)?.fits_scope(&scope));
+    assert!(rt; !placed::col(alloc, 0, I32_OR_NULL)?.fits_scope(&scope));
     Ok(())
 }
 
@@ -96,9 +95,9 @@ fn tell_what_they_hold(rt: HostRuntime) -> Result<(), Fail> {
     let alloc = rt.alloc();
     let range = range(alloc)?;
     assert!(rt; range.is_plain() && !range.is_closed() && range.has_bare_column());
-    let rows = bound::row_count(alloc)?;
+    let rows = placed::row_count(alloc)?;
     assert!(rt; !rows.is_plain() && rows.is_closed());
-    let greatest = bound::new_stat(alloc, range, AggregateFnRef::Max)?;
+    let greatest = placed::new_stat(alloc, range, AggregateFnRef::Max)?;
     assert!(rt; !greatest.is_plain() && !greatest.is_closed() && !greatest.has_bare_column());
     Ok(())
 }
@@ -106,26 +105,29 @@ fn tell_what_they_hold(rt: HostRuntime) -> Result<(), Fail> {
 #[test]
 fn copies_are_equal(rt: HostRuntime) -> Result<(), Fail> {
     let alloc = rt.alloc();
-    let is_null = bound::is_null(alloc, range(alloc)?)?;
-    assert!(rt; is_null.try_clone()? == is_null);
-    let is_not_null = bound::is_not_null(alloc, is_null)?;
-    assert!(rt; is_not_null.try_clone()? == is_not_null);
-    let opposite = bound::not(alloc, is_not_null)?;
-    assert!(rt; opposite.try_clone()? == opposite);
-    let greatest = bound::new_stat(alloc, opposite, AggregateFnRef::Max)?;
-    assert!(rt; greatest.try_clone()? == greatest);
-    let text = bound::col(alloc, 0, DType::Utf8(Nullability::Nullable))?;
-    let pattern = text.try_clone()?;
-    let like = bound::like(alloc, text, pattern)?;
-    assert!(rt; like.try_clone()? == like);
-    let rows = bound::row_count(alloc)?;
-    assert!(rt; rows.try_clone()? == rows);
+    let is_null = placed::is_null(alloc, range(alloc)?)?;
+    assert!(rt; copy(&is_null)? == is_null);
+    let is_not_null = placed::is_not_null(alloc, is_null)?;
+    assert!(rt; copy(&is_not_null)? == is_not_null);
+    let opposite = placed::not(alloc, is_not_null)?;
+    assert!(rt; copy(&opposite)? == opposite);
+    let greatest = placed::new_stat(alloc, opposite, AggregateFnRef::Max)?;
+    assert!(rt; copy(&greatest)? == greatest);
+    let text = placed::col(alloc, 0, DType::Utf8(Nullability::Nullable))?;
+    let pattern = copy(&text)?;
+    let like = placed::like(alloc, text, pattern)?;
+    assert!(rt; copy(&like)? == like);
+    let rows = placed::row_count(alloc)?;
+    assert!(rt; copy(&rows)? == rows);
     Ok(())
 }
 
 #[test]
 fn print_their_nodes(rt: HostRuntime) -> Result<(), Fail> {
-    let rows = bound::not(rt.alloc(), bound::is_null(rt.alloc(), int(rt.alloc(), 1)?)?)?;
+    let rows = placed::not(
+        rt.alloc(),
+        placed::is_null(rt.alloc(), int(rt.alloc(), 1)?)?,
+    )?;
     let printed = format!(in rt.alloc(); "{rows:?}")?;
     assert!(rt; printed.as_str().contains("IsNull"));
     Ok(())

@@ -2,14 +2,13 @@
 use super::*;
 use crate::aggregate::AggregateFnRef;
 use crate::between::StrictComparison;
-use crate::bound;
 use crate::chunk::Chunk;
 use crate::column::Column;
 use crate::dtype::DType;
 use crate::nullability::Nullability;
 use crate::ptype::PType;
-use crate::scalar::Scalar;
 use crate::scope::Scope;
+use crate::testing::{evaluated, placed};
 use crate::text::Text;
 use std::alloc::Global;
 use std::test::Fail;
@@ -25,20 +24,20 @@ fn truth(alloc: Global, value: Option<bool>) -> Result<BoundExpression, BaseErro
         Some(value) => Some(ScalarValue::Bool(value)),
         None => None,
     };
-    bound::lit(alloc, Scalar::try_new(BOOL_OR_NULL, value)?)
+    placed::lit(alloc, BOOL_OR_NULL, value)
 }
 
 fn int(alloc: Global, value: i32) -> Result<BoundExpression, BaseError> {
-    bound::lit(alloc, Scalar::try_new(I32, Some(ScalarValue::from(value)))?)
+    placed::lit(alloc, I32, Some(ScalarValue::from(value)))
 }
 
 fn text(alloc: Global, value: &str) -> Result<BoundExpression, BaseError> {
     let value = ScalarValue::Utf8(Text::new(String::from_str(alloc, value)?));
-    bound::lit(alloc, Scalar::try_new(UTF8, Some(value))?)
+    placed::lit(alloc, UTF8, Some(value))
 }
 
 fn on_nothing(expression: BoundExpression) -> Result<Option<bool>, BaseError> {
-    match evaluate(&expression, &Row::empty(), 3)? {
+    match evaluated(&expression, &Row::empty(), 3)? {
         Some(ScalarValue::Bool(value)) => Ok(Some(value)),
         _ => Ok(None),
     }
@@ -47,11 +46,11 @@ fn on_nothing(expression: BoundExpression) -> Result<Option<bool>, BaseError> {
 #[test]
 fn connectives_have_three_values(rt: HostRuntime) -> Result<(), Fail> {
     let alloc = rt.alloc();
-    let both = bound::and(alloc, truth(alloc, None)?, truth(alloc, Some(false))?)?;
+    let both = placed::and(alloc, truth(alloc, None)?, truth(alloc, Some(false))?)?;
     assert_eq!(rt; on_nothing(both)?, Some(false));
-    let either = bound::or(alloc, truth(alloc, None)?, truth(alloc, Some(false))?)?;
+    let either = placed::or(alloc, truth(alloc, None)?, truth(alloc, Some(false))?)?;
     assert_eq!(rt; on_nothing(either)?, None);
-    let opposite = bound::not(alloc, truth(alloc, None)?)?;
+    let opposite = placed::not(alloc, truth(alloc, None)?)?;
     assert_eq!(rt; on_nothing(opposite)?, None);
     Ok(())
 }
@@ -59,11 +58,11 @@ fn connectives_have_three_values(rt: HostRuntime) -> Result<(), Fail> {
 #[test]
 fn comparisons_follow_the_order_of_values(rt: HostRuntime) -> Result<(), Fail> {
     let alloc = rt.alloc();
-    let less = bound::lt(alloc, int(alloc, -1)?, int(alloc, 1)?)?;
+    let less = placed::lt(alloc, int(alloc, -1)?, int(alloc, 1)?)?;
     assert_eq!(rt; on_nothing(less)?, Some(true));
-    let at_least = bound::gt_eq(alloc, text(alloc, "b")?, text(alloc, "ab")?)?;
+    let at_least = placed::gt_eq(alloc, text(alloc, "b")?, text(alloc, "ab")?)?;
     assert_eq!(rt; on_nothing(at_least)?, Some(true));
-    let differ = bound::not_eq(alloc, text(alloc, "a")?, text(alloc, "a")?)?;
+    let differ = placed::not_eq(alloc, text(alloc, "a")?, text(alloc, "a")?)?;
     assert_eq!(rt; on_nothing(differ)?, Some(false));
     Ok(())
 }
@@ -75,7 +74,7 @@ fn open_ends_are_left_out(rt: HostRuntime) -> Result<(), Fail> {
         lower_strict: StrictComparison::NonStrict,
         upper_strict: StrictComparison::Strict,
     };
-    let at_lower = bound::between(
+    let at_lower = placed::between(
         alloc,
         int(alloc, 1)?,
         int(alloc, 1)?,
@@ -83,7 +82,7 @@ fn open_ends_are_left_out(rt: HostRuntime) -> Result<(), Fail> {
         options,
     )?;
     assert_eq!(rt; on_nothing(at_lower)?, Some(true));
-    let at_upper = bound::between(
+    let at_upper = placed::between(
         alloc,
         int(alloc, 5)?,
         int(alloc, 1)?,
@@ -97,17 +96,17 @@ fn open_ends_are_left_out(rt: HostRuntime) -> Result<(), Fail> {
 #[test]
 fn patterns_and_null_tests(rt: HostRuntime) -> Result<(), Fail> {
     let alloc = rt.alloc();
-    let plain = bound::like(alloc, text(alloc, "axxbc")?, text(alloc, "a%b_")?)?;
+    let plain = placed::like(alloc, text(alloc, "axxbc")?, text(alloc, "a%b_")?)?;
     assert_eq!(rt; on_nothing(plain)?, Some(true));
     let ignoring_case = LikeOptions {
         negated: false,
         case_insensitive: true,
     };
-    let e = bound::like_with(alloc, text(alloc, "é")?, text(alloc, "É")?, ignoring_case)?;
+    let e = placed::like_with(alloc, text(alloc, "é")?, text(alloc, "É")?, ignoring_case)?;
     assert_eq!(rt; on_nothing(e)?, Some(false));
-    let is_null = bound::is_null(alloc, truth(alloc, None)?)?;
+    let is_null = placed::is_null(alloc, truth(alloc, None)?)?;
     assert_eq!(rt; on_nothing(is_null)?, Some(true));
-    let is_not_null = bound::is_not_null(alloc, int(alloc, 1)?)?;
+    let is_not_null = placed::is_not_null(alloc, int(alloc, 1)?)?;
     assert_eq!(rt; on_nothing(is_not_null)?, Some(true));
     Ok(())
 }
@@ -116,28 +115,28 @@ fn patterns_and_null_tests(rt: HostRuntime) -> Result<(), Fail> {
 fn only_true_satisfies(rt: HostRuntime) -> Result<(), Fail> {
     let alloc = rt.alloc();
     let row = Row::empty();
-    let above = bound::gt(alloc, int(alloc, 2)?, int(alloc, 1)?)?;
-    let either = bound::or(alloc, truth(alloc, None)?, above)?;
+    let above = placed::gt(alloc, int(alloc, 2)?, int(alloc, 1)?)?;
+    let either = placed::or(alloc, truth(alloc, None)?, above)?;
     assert!(rt; either.is_satisfied(&row, 0));
-    let both = bound::and(alloc, truth(alloc, None)?, either)?;
+    let both = placed::and(alloc, truth(alloc, None)?, either)?;
     assert!(rt; !both.is_satisfied(&row, 0));
-    assert!(rt; !bound::not(alloc, both)?.is_satisfied(&row, 0));
-    assert!(rt; !bound::row_count(alloc)?.is_satisfied(&row, 1));
+    assert!(rt; !placed::not(alloc, both)?.is_satisfied(&row, 0));
+    assert!(rt; !placed::row_count(alloc)?.is_satisfied(&row, 1));
     Ok(())
 }
 
 #[test]
 fn the_row_count_is_handed_in(rt: HostRuntime) -> Result<(), Fail> {
-    let rows = bound::row_count(rt.alloc())?;
-    let value = evaluate(&rows, &Row::empty(), 3)?;
+    let rows = placed::row_count(rt.alloc())?;
+    let value = evaluated(&rows, &Row::empty(), 3)?;
     assert_eq!(rt; value, Some(ScalarValue::from(3u64)));
     Ok(())
 }
 
 #[test]
 fn a_column_needs_its_row(rt: HostRuntime) -> Result<(), Fail> {
-    let a = bound::col(rt.alloc(), 0, I32)?;
-    let value = evaluate(&a, &Row::empty(), 0);
+    let a = placed::col(rt.alloc(), 0, I32)?;
+    let value = evaluated(&a, &Row::empty(), 0);
     assert!(rt; matches!(value, Err(BaseError::RowShape)));
     Ok(())
 }
@@ -145,10 +144,10 @@ fn a_column_needs_its_row(rt: HostRuntime) -> Result<(), Fail> {
 #[test]
 fn placeholders_are_refused_first(rt: HostRuntime) -> Result<(), Fail> {
     let alloc = rt.alloc();
-    let a = bound::col(alloc, 0, I32)?;
-    let greatest = bound::new_stat(alloc, bound::col(alloc, 0, I32)?, AggregateFnRef::Max)?;
-    let equal = bound::eq(alloc, greatest, a)?;
-    let value = evaluate(&equal, &Row::empty(), 0);
+    let a = placed::col(alloc, 0, I32)?;
+    let greatest = placed::new_stat(alloc, placed::col(alloc, 0, I32)?, AggregateFnRef::Max)?;
+    let equal = placed::eq(alloc, greatest, a)?;
+    let value = evaluated(&equal, &Row::empty(), 0);
     assert!(rt; matches!(value, Err(BaseError::Placeholder)));
     Ok(())
 }
@@ -168,11 +167,16 @@ fn columns_are_read_at_the_row(rt: HostRuntime) -> Result<(), Fail> {
     let alloc = rt.alloc();
     let chunk = texts(alloc)?;
     assert_eq!(rt; chunk.rows(), 2);
-    let column = bound::col(alloc, 0, DType::Utf8(Nullability::Nullable))?;
+    let column = placed::col(alloc, 0, DType::Utf8(Nullability::Nullable))?;
     let y = ScalarValue::Utf8(Text::new(String::from_str(alloc, "y")?));
-    assert_eq!(rt; evaluate(&column, &chunk.row(1), 2)?, Some(y));
-    let other = bound::col(alloc, 0, I32)?;
-    assert!(rt; matches!(evaluate(&other, &chunk.row(0), 2), Err(BaseError::RowShape)));
+    assert_eq!(rt; evaluated(&column, &chunk.row(1), 2)?, Some(y));
+    let other = placed::col(alloc, 0, I32)?;
+    assert!(rt;
+        matches!(
+            evaluated(&other, &chunk.row(0), 2),
+            Err(BaseError::RowShape)
+        )
+    );
     Ok(())
 }
 
@@ -183,7 +187,7 @@ fn texts_are_refused_for_memory_alone(rt: HostRuntime) {
     let Ok(x) = text(rt.alloc(), "x") else {
         return;
     };
-    match evaluate(&x, &Row::empty(), 0) {
+    match evaluated(&x, &Row::empty(), 0) {
         Ok(value) => assert!(rt; value.is_some()),
         Err(refused) => assert!(rt; matches!(refused, BaseError::Memory(_))),
     }

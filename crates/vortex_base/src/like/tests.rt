@@ -13,6 +13,15 @@ const IGNORING_CASE: LikeOptions = LikeOptions {
     case_insensitive: true,
 };
 
+// Without a contract, since a test only compares.
+fn is_like(text: &str, pattern: &str) -> bool {
+    PLAIN.matches(text, pattern)
+}
+
+fn is_ilike(text: &str, pattern: &str) -> bool {
+    IGNORING_CASE.matches(text, pattern)
+}
+
 #[test]
 fn the_default_is_plain(rt: HostRuntime) {
     assert_eq!(rt; LikeOptions::default(), PLAIN);
@@ -20,54 +29,54 @@ fn the_default_is_plain(rt: HostRuntime) {
 
 #[test]
 fn runs_and_single_characters(rt: HostRuntime) {
-    assert!(rt; PLAIN.matches("axxbc", "a%b_"));
-    assert!(rt; PLAIN.matches("aab", "%ab"));
-    assert!(rt; PLAIN.matches("mississippi", "m%iss%ip%i"));
-    assert!(rt; !PLAIN.matches("mississippi", "m%iss%ip%ip"));
-    assert!(rt; !PLAIN.matches("ab", "a_b"));
-    assert!(rt; PLAIN.matches("abc", "%_%_%_%"));
-    assert!(rt; !PLAIN.matches("ab", "%_%_%_%"));
+    assert!(rt; is_like("axxbc", "a%b_"));
+    assert!(rt; is_like("aab", "%ab"));
+    assert!(rt; is_like("mississippi", "m%iss%ip%i"));
+    assert!(rt; !is_like("mississippi", "m%iss%ip%ip"));
+    assert!(rt; !is_like("ab", "a_b"));
+    assert!(rt; is_like("abc", "%_%_%_%"));
+    assert!(rt; !is_like("ab", "%_%_%_%"));
 }
 
 #[test]
 fn the_whole_text_is_matched(rt: HostRuntime) {
-    assert!(rt; PLAIN.matches("", ""));
-    assert!(rt; PLAIN.matches("", "%"));
-    assert!(rt; !PLAIN.matches("", "_"));
-    assert!(rt; !PLAIN.matches("a", ""));
-    assert!(rt; !PLAIN.matches("abc", "ab"));
-    assert!(rt; !PLAIN.matches("abc", "bc"));
+    assert!(rt; is_like("", ""));
+    assert!(rt; is_like("", "%"));
+    assert!(rt; !is_like("", "_"));
+    assert!(rt; !is_like("a", ""));
+    assert!(rt; !is_like("abc", "ab"));
+    assert!(rt; !is_like("abc", "bc"));
 }
 
 #[test]
 fn escapes_make_the_next_character_literal(rt: HostRuntime) {
-    assert!(rt; PLAIN.matches("%", "\\%"));
-    assert!(rt; !PLAIN.matches("x", "\\%"));
-    assert!(rt; PLAIN.matches("_", "\\_"));
-    assert!(rt; !PLAIN.matches("x", "\\_"));
-    assert!(rt; PLAIN.matches("\\", "\\\\"));
-    assert!(rt; PLAIN.matches("a\\", "a\\"));
-    assert!(rt; !PLAIN.matches("a", "a\\"));
-    assert!(rt; PLAIN.matches("é", "\\é"));
+    assert!(rt; is_like("%", "\\%"));
+    assert!(rt; !is_like("x", "\\%"));
+    assert!(rt; is_like("_", "\\_"));
+    assert!(rt; !is_like("x", "\\_"));
+    assert!(rt; is_like("\\", "\\\\"));
+    assert!(rt; is_like("a\\", "a\\"));
+    assert!(rt; !is_like("a", "a\\"));
+    assert!(rt; is_like("é", "\\é"));
 }
 
 #[test]
 fn characters_may_have_several_bytes(rt: HostRuntime) {
-    assert!(rt; PLAIN.matches("é", "_"));
-    assert!(rt; !PLAIN.matches("é", "__"));
-    assert!(rt; PLAIN.matches("a😀b", "a_b"));
-    assert!(rt; PLAIN.matches("日本語", "%本_"));
-    assert!(rt; !PLAIN.matches("日本語", "日_"));
+    assert!(rt; is_like("é", "_"));
+    assert!(rt; !is_like("é", "__"));
+    assert!(rt; is_like("a😀b", "a_b"));
+    assert!(rt; is_like("日本語", "%本_"));
+    assert!(rt; !is_like("日本語", "日_"));
 }
 
 #[test]
 fn case_of_ascii_letters_alone_is_ignored(rt: HostRuntime) {
-    assert!(rt; IGNORING_CASE.matches("prefix", "PRE%"));
-    assert!(rt; IGNORING_CASE.matches("PREFIX", "pre%"));
-    assert!(rt; !PLAIN.matches("prefix", "PRE%"));
-    assert!(rt; !IGNORING_CASE.matches("é", "É"));
-    assert!(rt; IGNORING_CASE.matches("éA", "éa"));
-    assert!(rt; !IGNORING_CASE.matches("[", "{"));
+    assert!(rt; is_ilike("prefix", "PRE%"));
+    assert!(rt; is_ilike("PREFIX", "pre%"));
+    assert!(rt; !is_like("prefix", "PRE%"));
+    assert!(rt; !is_ilike("é", "É"));
+    assert!(rt; is_ilike("éA", "éa"));
+    assert!(rt; !is_ilike("[", "{"));
 }
 
 #[test]
@@ -91,7 +100,7 @@ fn text_of_a(alloc: Global, length: usize) -> Result<String, AllocError> {
 #[test]
 fn many_runs_end_at_once(rt: HostRuntime) -> Result<(), Fail> {
     let text = text_of_a(rt.alloc(), 5000)?;
-    assert!(rt; PLAIN.matches(text.as_str(), "%a%a%a%a"));
-    assert!(rt; !PLAIN.matches(text.as_str(), "%a%a%a%a%a%a%a%a%b"));
+    assert!(rt; is_like(text.as_str(), "%a%a%a%a"));
+    assert!(rt; !is_like(text.as_str(), "%a%a%a%a%a%a%a%a%b"));
     Ok(())
 }
