@@ -1,0 +1,10 @@
+//! Texts that name parts of columns, their statistics and a predicate, and what a scan of them prints.
+#![tactic(auto)]
+
+mod expression;
+mod form;
+mod line_error;
+mod names;
+mod number;
+mod value;
+mod word;
