@@ -1,3 +1,5 @@
+pub mod ColumnLemmas
+pub mod FirstLine
 pub mod Found
 pub mod NameRows
 pub mod NumberLemmas

@@ -21,3 +21,8 @@ Changes (Err e) read new = Fails e read
 infixl 10 ◌>>=◌
 abbrev pub ◌>>=◌ : {A B : Type 0} → Option A → (A → Option B) → Option B
 o >>= f = option_and_then f o
+
+-- a call left one part of what is to be read, and returned the other
+abbrev pub GivesAndChanges : {X Y Z : Type 0} → (X → Y) → Result X LineError → Option (Z × Y) → Z → Type 0
+GivesAndChanges view (Ok x) read new = read ≡ Some (new, view x)
+GivesAndChanges view (Err e) read new = Fails e read

@@ -1,7 +1,10 @@
+pub mod Columns
 pub mod Expressions
 pub mod Fails
 pub mod Names
 pub mod Numbers
 pub mod QuotedSteps
+pub mod Statistics
+pub mod Streams
 pub mod Values
 pub mod Words

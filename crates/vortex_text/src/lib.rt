@@ -4,7 +4,11 @@
 mod expression;
 mod form;
 mod line_error;
+mod lines;
 mod names;
 mod number;
+mod open_column;
+mod statistic;
+mod streams;
 mod value;
 mod word;
