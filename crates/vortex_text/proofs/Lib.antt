@@ -1,7 +1,10 @@
+pub mod BadRows
 pub mod ColumnLemmas
 pub mod FirstLine
 pub mod Found
+pub mod TextRows
 pub mod NameRows
+pub mod NamedLines
 pub mod NumberLemmas
 pub mod NumberRows
 pub mod Steps

@@ -4,10 +4,13 @@
 mod expression;
 mod form;
 mod line_error;
+mod line_kind;
 mod lines;
 mod names;
+pub mod naming;
 mod number;
 mod open_column;
+mod printing;
 mod statistic;
 mod streams;
 mod value;
