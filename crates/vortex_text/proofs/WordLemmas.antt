@@ -139,3 +139,10 @@ has_word (b ∷ bs) some no_space = elim (cases_Bool (b == 34)) [
 pub begins_quoted : (text : List ℕ) → 0 < length text → get_or text 0 0 ≡ 34 → plain_word (words text) ≡ None
 begins_quoted [] some quote = absurd (omega arith)
 begins_quoted (b ∷ bs) some quote = rw quote (no_plain bs (quoted []) refl)
+
+counted : (ws : List Token) → no_word ws ≡ None → 0 < length ws
+counted [] none = cc
+counted (w ∷ ws) none = omega arith
+
+pub some_words : (text : List ℕ) → 0 < length text → (get_or text 0 0 == 32) ≡ false → 0 < length (words text)
+some_words text some no_space = counted (words text) (has_word text some no_space)

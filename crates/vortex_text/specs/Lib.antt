@@ -5,6 +5,7 @@ pub mod Lines
 pub mod Names
 pub mod Naming
 pub mod Numbers
+pub mod OpenParts
 pub mod Printing
 pub mod Program
 pub mod QuotedSteps

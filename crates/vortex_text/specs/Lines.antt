@@ -9,11 +9,11 @@ use Rattle.vortex_stats.specs.Stat.{stat_dtype}
 use Rattle.vortex_text.specs.Expressions.{expression_of}
 use Rattle.vortex_text.specs.Fails.{◌>>=◌}
 use Rattle.vortex_text.specs.Names.{is_name, type_of}
-use Rattle.vortex_text.specs.Numbers.{natural_of}
+use Rattle.vortex_text.specs.Numbers.{in_64_bits, natural_of}
 use Rattle.vortex_text.specs.Rows.{empty_part, joined_at, with_row, with_statistic}
 use Rattle.vortex_text.specs.Statistics.{precision_of, stat_of}
 use Rattle.vortex_text.specs.Values.{value_of}
-use Rattle.vortex_text.specs.Words.{Token, first_word, no_word, plain_word, words}
+use Rattle.vortex_text.specs.Words.{Token, first_word, no_word, plain_word, word_limit, words}
 use Rattle.vortex_text.specs.declared.line_kind.LineKind.{LineKind}
 use Rattle.vortex_text.specs.declared.line_kind.LineKind.TheVariants as kind
 
@@ -41,10 +41,6 @@ has_part (p ∷ ps) = true
 
 abbrev pub when : {X : Type 0} → Bool → X → Option X
 when b x = if b then Some x else None
-
--- the longest predicate, in words
-abbrev pub word_limit : ℕ
-word_limit = 4096
 
 -- the kind of line that a word begins
 abbrev pub kind_of : List ℕ → Option LineKind
@@ -103,7 +99,8 @@ abbrev pub read_join : Reading → List Token → Option Reading
 read_join r ws = do
   place ← plain_word ws
   none ← no_word place.1
-  i ← natural_of place.0
+  n ← natural_of place.0
+  i ← in_64_bits n
   parts ← joined_at i (parts_of r)
   Some (record r { ended = parts; current = None })
 

@@ -75,3 +75,7 @@ plain_word ws = None
 abbrev pub no_word : List Token → Option (Unit {0})
 no_word [] = Some tt
 no_word ws = None
+
+-- the most words that a predicate may have
+abbrev pub word_limit : ℕ
+word_limit = 4096

@@ -10,6 +10,7 @@ mod names;
 pub mod naming;
 mod number;
 mod open_column;
+mod open_part;
 mod printing;
 mod statistic;
 mod streams;

@@ -1,6 +1,9 @@
 //! The lines of a text.
 ghost use Rattle.std.specs.Prelude.{◌≡◌, ◌<◌, ◌∷◌, length, position, ◌==◌};
+ghost use Rattle.std.specs.Str.{is_utf8};
 ghost use Rattle.std.specs.Str.Lines.{lines, strip_carriage_return};
+
+use std::str;
 
 // Where the first line feed stands.
 fn line_feed(text: &[u8]) -> Option<usize>
@@ -28,5 +31,15 @@ pub fn next_line(text: &[u8]) -> (&[u8], &[u8])
     match line_feed(text) {
         Some(end) => (without_return(&text[..end]), &text[end + 1..]),
         None => (text, &[]),
+    }
+}
+
+/// Whether a line is UTF-8.
+pub fn is_utf8(line: &[u8]) -> bool
+    ensures { result ≡ is_utf8 line.now }
+{
+    match str::from_utf8(line) {
+        Ok(_) => true,
+        Err(_) => false,
     }
 }

@@ -15,8 +15,8 @@ fn with_digit(number: u64, digit: u8) -> Option<u64>
     number.checked_mul(10)?.checked_add(u64::from(digit - b'0'))
 }
 
-// The number that digits write, as far as 64 bits hold it.
-fn natural_of(digits: &[u8]) -> Option<u64>
+/// The number that digits write, as far as 64 bits hold it.
+pub fn natural_of(digits: &[u8]) -> Option<u64>
     ensures { result ≡ option_and_then in_64_bits (natural_of digits.now) }
 {
     if digits.is_empty() {

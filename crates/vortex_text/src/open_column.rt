@@ -1,5 +1,5 @@
 //! A column of a part that still takes rows.
-ghost use Rattle.std.specs.Prelude.{◌≡◌, OnOk, length};
+ghost use Rattle.std.specs.Prelude.{◌≡◌, [], IfOk, OnOk};
 ghost use Rattle.vortex_text.specs.Columns.{taken, with_value, with_values};
 ghost use Rattle.vortex_text.specs.Fails.{Changes, GivesAndChanges};
 ghost use Rattle.vortex_text.specs.Words.{words};
@@ -9,6 +9,7 @@ use crate::value::optional_value_of;
 use crate::word::{first_word, no_word};
 use std::alloc::{AllocError, Global};
 use std::marker::Model;
+use vortex_base::column::Column;
 use vortex_base::dtype::DType;
 use vortex_base::scalar_value::ScalarValue;
 
@@ -28,6 +29,24 @@ impl Model for OpenColumn {
 }
 
 impl OpenColumn {
+    /// A column with no values yet.
+    pub fn new(alloc: Global, dtype: DType) -> OpenColumn
+        ensures { result ≡ record { dtype = dtype; values = []; size = 0 } }
+    {
+        OpenColumn {
+            dtype,
+            values: Vec::new(alloc),
+        }
+    }
+
+    /// The column, which takes no more values.
+    pub fn close(self) -> Result<Column, LineError>
+        ensures { IfOk result (λ column. column ≡ self) }
+    {
+        let OpenColumn { dtype, values } = self;
+        Ok(Column::try_new(dtype, values, 0)?)
+    }
+
     // Adds a value.
     fn push(&mut self, value: Option<ScalarValue>) -> Result<(), AllocError>
         ensures { OnOk result (self.new ≡ with_value value self.old) }

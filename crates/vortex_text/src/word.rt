@@ -1,8 +1,9 @@
 //! The words of a line, some of them between quotes.
-ghost use Rattle.std.specs.Prelude.{◌≡◌, ◌<◌, ◌≤◌, ◌==◌, ◌∷◌, ℕ, List, Option, false, IfOk, IfSome, length, option_map, position, slice_index};
+ghost use Rattle.std.specs.Prelude.{◌≡◌, ◌+◌, ◌<◌, ◌≤◌, ◌==◌, ◌∷◌, ℕ, List, Option, false, IfErr, IfOk, IfSome, IsErrOf, length, nat_le, option_map, position, slice_index};
 ghost use Rattle.vortex_text.specs.Fails.{Gives};
 ghost use Rattle.vortex_text.specs.QuotedSteps.{Closes, step_of};
-ghost use Rattle.vortex_text.specs.Words.{Plain, first_word, no_word, plain_word, token_of, words};
+ghost use Rattle.vortex_text.specs.declared.line_error.LineError.TheVariants.{Memory};
+ghost use Rattle.vortex_text.specs.Words.{word_limit, Plain, first_word, no_word, plain_word, token_of, words};
 
 use crate::line_error::LineError;
 use std::alloc::Global;
@@ -86,6 +87,7 @@ fn split_word(text: &[u8]) -> (&[u8], &[u8])
 /// The first word of a line, and the line after it. There has to be one.
 pub fn first_word(alloc: Global, line: &[u8]) -> Result<(Word<'_>, &[u8]), LineError>
     ensures word { Gives (λ x. (token_of x.0, words x.1.now)) result (first_word (words line.now)) }
+    ensures broken { IsErrOf result LineError.Bad → length (words line.now) ≤ 1 }
     ensures fewer { IfOk result (λ x. length (words x.1.now) < length (words line.now)) }
 {
     let text = skip_spaces(line);
@@ -127,4 +129,43 @@ pub fn no_word(line: &[u8]) -> Result<(), LineError>
     } else {
         Err(LineError::Bad)
     }
+}
+
+/// The most words that a predicate may have.
+const WORD_LIMIT: usize = 4096;
+
+// The line after its first word, whether or not that is a broken one.
+fn skip_word(alloc: Global, line: &[u8]) -> Result<&[u8], LineError>
+    requires some { 0 < length line.now }
+    requires at_word { (slice_index line.now 0 == 32) ≡ false }
+    ensures one { IfOk result (λ rest. length (words rest.now) + 1 ≡ length (words line.now)) }
+    ensures next { IfOk result (λ rest. (slice_index rest.now 0 == 32) ≡ false) }
+    ensures memory { IfErr result (λ e. e ≡ Memory) }
+{
+    let rest = match first_word(alloc, line) {
+        Ok((_, rest)) => rest,
+        Err(LineError::Bad) => return Ok(&[]),
+        Err(LineError::Memory) => return Err(LineError::Memory),
+    };
+    Ok(skip_spaces(rest))
+}
+
+/// Whether a line has no more words than a predicate may have.
+pub fn is_short(alloc: Global, line: &[u8]) -> Result<bool, LineError>
+    ensures short { IfOk result (λ short. short ≡ nat_le (length (words line.now)) word_limit) }
+    ensures memory { IfErr result (λ e. e ≡ Memory) }
+{
+    let mut rest = skip_spaces(line);
+    let mut count = 0;
+    'words: while !rest.is_empty() {
+        if count == WORD_LIMIT {
+            return Ok(false);
+        }
+        let Ok(after) = skip_word(alloc, rest) else {
+            return Err(LineError::Memory);
+        };
+        rest = after;
+        count += 1;
+    }
+    Ok(true)
 }
