@@ -1,5 +1,6 @@
 pub mod BadRows
 pub mod ColumnLemmas
+pub mod ExpressionFits
 pub mod FirstLine
 pub mod Found
 pub mod TextRows
@@ -7,6 +8,7 @@ pub mod NameRows
 pub mod NamedLines
 pub mod NumberLemmas
 pub mod NumberRows
+pub mod StartLemmas
 pub mod Steps
 pub mod Typed
 pub mod WordLemmas

@@ -12,6 +12,7 @@ mod number;
 mod open_column;
 mod open_part;
 mod printing;
+mod starts;
 mod statistic;
 mod streams;
 mod value;
