@@ -98,7 +98,7 @@ literal_fits : (c : Constant) (t : DType) (fits : Bool) → is_optional_value c.
 literal_fits c t true e h = ap (λ s. is_optional_value c.value (as_nullable s)) (sym (same_ok _ t h)) ∙ weakened c.value c.dtype e
 literal_fits c t false e h = cc
 
-count_fits : (n : ℕ) → n < 2 ^ 64 → in_range (number.U64 n) ≡ true
+pub count_fits : (n : ℕ) → n < 2 ^ 64 → in_range (number.U64 n) ≡ true
 count_fits n h =
     let low : nat_le 0 n ≡ true = grind (arith, nat_tests) in
     let high : nat_le n 18446744073709551615 ≡ true = grind (arith, nat_tests) in

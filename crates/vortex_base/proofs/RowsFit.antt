@@ -7,7 +7,7 @@ use Rattle.vortex_base.specs.Types.{as_nullable, dtype_eq, dtype_eq_is_exact, eq
 use Rattle.vortex_base.specs.Scopes.{Named}
 use Rattle.vortex_base.specs.Columns.{ColumnData, ChunkData, has_types, row_of}
 use Rattle.vortex_base.specs.Tree.{Tree, Place, all_columns, column, literal, binary, between, is_null, is_not_null, not, like, stat, row_count}
-use Rattle.vortex_base.specs.Fitting.{is_of_type, is_cell_of, RowsFit}
+use Rattle.vortex_base.specs.Fitting.{is_of_type, is_cell_of, is_cell_of_type, RowsFit, RowsMatch}
 
 -- a test that passes wherever another does passes at all columns where that one does
 pub weaker : {C : Type 0} (p q : C → Bool) → ((c : C) → p c ≡ true → q c ≡ true) → (e : Tree C) → all_columns p e ≡ true → all_columns q e ≡ true
@@ -46,5 +46,22 @@ rows-fit e k i chunk h =
     let typed = (both_true _ _ (both_true _ _ (both_true _ _ chunk).1).1).0 in
     weaker (λ c. is_of_type c.dtype (slice_get k.scope c.index)) (λ c. is_cell_of c.dtype (slice_get (row_of i k.columns) c.index))
     (λ c. column_fits k.scope k.columns i c.index c.dtype typed)
+    e
+    h
+
+column_matches : (ss : List Named) (cs : List ColumnData) (i j : ℕ) (t : DType) → has_types ss cs ≡ true → is_of_type t (slice_get ss j) ≡ true → is_cell_of_type t (slice_get (row_of i cs) j) ≡ true
+column_matches [] cs i j t h k = cc
+column_matches (s ∷ ss) [] i j t h k = cc
+column_matches (s ∷ ss) (c ∷ cs) i zero t h k =
+    let p : s.1 ≡ c.dtype = (dtype_eq_is_exact s.1 c.dtype).0 (both_true _ _ h).0 in
+    let q : s.1 ≡ t = (dtype_eq_is_exact s.1 t).0 k in
+    (dtype_eq_is_exact c.dtype t).1 (sym p ∙ q)
+column_matches (s ∷ ss) (c ∷ cs) i (suc j) t h k = column_matches ss cs i j t (both_true _ _ h).1 k
+
+pub rows-match : (e : Tree Place) (k : ChunkData) (i : ℕ) → RowsMatch e k i
+rows-match e k i chunk h =
+    let typed = (both_true _ _ (both_true _ _ (both_true _ _ chunk).1).1).0 in
+    weaker (λ c. is_of_type c.dtype (slice_get k.scope c.index)) (λ c. is_cell_of_type c.dtype (slice_get (row_of i k.columns) c.index))
+    (λ c. column_matches k.scope k.columns i c.index c.dtype typed)
     e
     h

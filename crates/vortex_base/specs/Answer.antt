@@ -1,13 +1,9 @@
--- What a call that takes memory answers.
-use Rattle.std.specs.Prelude.{◌≡◌, Result, Ok, Err, MatchResult, alloc_error}
+-- What a call that checks first and then takes memory answers.
+use Rattle.std.specs.Prelude.{◌≡◌, Result, Ok, Err}
 use Rattle.vortex_base.specs.declared.error.BaseError.{BaseError}
-use Rattle.vortex_base.specs.declared.error.BaseError.TheVariants.{Memory}
 use Rattle.vortex_base.specs.Tree.{Tree, Place}
 use Rattle.vortex_base.specs.Typing.{type_of}
-
--- this value, unless memory was refused
-abbrev pub Makes : {B : Type 0} → B → Result B BaseError → Type 0
-Makes v r = MatchResult r (λ w. w ≡ v) (λ f. f ≡ Memory alloc_error)
+pub use Rattle.vortex_base.specs.Made.{Makes}
 
 -- the check's fault, or else this value, unless memory was refused
 abbrev pub Answers : {A B : Type 0} → Result A BaseError → B → Result B BaseError → Type 0

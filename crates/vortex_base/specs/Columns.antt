@@ -56,9 +56,9 @@ has_types ss cs = pointwise (λ s c. dtype_eq s.1 c.dtype) ss cs
 abbrev pub appended : ColumnData → ColumnData → ColumnData
 appended c d = record { dtype = c.dtype; values = c.values ++ d.values; size = c.size + d.size }
 
--- a column that has lost its values
+-- a column that has lost its values, and with them its size
 abbrev pub emptied : ColumnData → ColumnData
-emptied c = record { dtype = c.dtype; values = []; size = c.size }
+emptied c = record { dtype = c.dtype; values = []; size = 0 }
 
 -- each column with the values of the one beside it after its own
 abbrev pub all_appended : List ColumnData → List ColumnData → List ColumnData

@@ -25,6 +25,19 @@ is_cell_of t (Some c) = eq_ignore_nullability c.dtype t
 abbrev pub fits_row : Tree Place → List Constant → Bool
 fits_row e row = all_columns (λ c. is_cell_of c.dtype (slice_get row c.index)) e
 
+-- the cell has this very type
+abbrev pub is_cell_of_type : DType → Option Constant → Bool
+is_cell_of_type t None = false
+is_cell_of_type t (Some c) = dtype_eq c.dtype t
+
+-- each column has its place in the row, and its very type there
+abbrev pub matches_row : Tree Place → List Constant → Bool
+matches_row e row = all_columns (λ c. is_cell_of_type c.dtype (slice_get row c.index)) e
+
 -- an expression that fits the scope of a chunk fits its rows
 abbrev pub RowsFit : Tree Place → ChunkData → ℕ → Type 0
 RowsFit e k i = IsChunk k → IsTrue (fits_scope e k.scope) → IsTrue (fits_row e (row_of i k.columns))
+
+-- and matches them
+abbrev pub RowsMatch : Tree Place → ChunkData → ℕ → Type 0
+RowsMatch e k i = IsChunk k → IsTrue (fits_scope e k.scope) → IsTrue (matches_row e (row_of i k.columns))

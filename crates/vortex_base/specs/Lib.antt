@@ -1,3 +1,4 @@
+-- The definitions that the contracts cite.
 pub mod Answer
 pub mod Between
 pub mod Binding
@@ -9,6 +10,7 @@ pub mod ExpressionExamples
 pub mod Fitting
 pub mod Like
 pub mod LikeSearch
+pub mod Made
 pub mod Meaning
 pub mod Neighbours
 pub mod NamedNode
@@ -20,6 +22,7 @@ pub mod Parts
 pub mod Prefix
 pub mod Reading
 pub mod Repeated
+pub mod RowTest
 pub mod ScalarFns
 pub mod Scalars
 pub mod Scopes

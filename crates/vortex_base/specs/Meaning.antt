@@ -13,14 +13,14 @@ use Rattle.vortex_base.specs.declared.operator.Operator.TheVariants as operator
 use Rattle.vortex_base.specs.declared.between.BetweenOptions.{BetweenOptions}
 use Rattle.vortex_base.specs.declared.like.LikeOptions.{LikeOptions}
 use Rattle.vortex_base.specs.Values.{value_cmp}
-use Rattle.vortex_base.specs.Types.{as_nullable}
+use Rattle.vortex_base.specs.Types.{as_nullable, is_nullable}
 use Rattle.vortex_base.specs.Scalars.{Constant, is_optional_value}
 use Rattle.vortex_base.specs.Columns.{cell_value, IsRow}
 use Rattle.vortex_base.specs.Between.{to_operator}
 use Rattle.vortex_base.specs.Like.{matches}
 use Rattle.vortex_base.specs.Tree.{Tree, Place, column, literal, binary, between, is_null, is_not_null, not, like, stat, row_count, has_placeholder}
 use Rattle.vortex_base.specs.Typing.{type_of}
-use Rattle.vortex_base.specs.Fitting.{fits_row}
+use Rattle.vortex_base.specs.Fitting.{fits_row, matches_row}
 
 -- ---- truths of three values, None being null
 
@@ -127,3 +127,10 @@ is_long v = false
 -- an expression that has a type means a value of it or null, on every row that holds values of their types and that it fits
 abbrev pub MeaningFits : Tree Place → (row : List Constant) → (n : ℕ) → Type 0
 MeaningFits e row n = (t : DType) → type_of e ≡ Ok t → IsRow row → IsTrue (fits_row e row) → n < 2 ^ 64 → IsTrue (is_optional_value (meaning e row n) (as_nullable t))
+
+-- an expression that has a type means a value of that very type on every row that it matches, and null only where the type has null
+abbrev pub MeaningIsTyped : Tree Place → (row : List Constant) → (n : ℕ) → Type 0
+MeaningIsTyped e row n = (t : DType) → type_of e ≡ Ok t → IsRow row → IsTrue (matches_row e row) → n < 2 ^ 64 → IsTrue (is_optional_value (meaning e row n) t)
+
+abbrev pub NullOnlyWhereNullable : Tree Place → (row : List Constant) → (n : ℕ) → Type 0
+NullOnlyWhereNullable e row n = (t : DType) → type_of e ≡ Ok t → IsRow row → IsTrue (matches_row e row) → n < 2 ^ 64 → meaning e row n ≡ None → IsTrue (is_nullable t)

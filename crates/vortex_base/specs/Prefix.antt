@@ -1,5 +1,8 @@
--- The texts that a pattern of LIKE can match: its literal characters up to the first wildcard, and the first text above all that begin so.
-use Rattle.std.specs.Prelude.{ℕ, ◌+◌, Bool, true, false, not, ◌&&◌, ◌==◌, List, [], ◌∷◌, Option, Some, None, encode_utf8_all, if◌then◌else◌}
+-- The texts that a pattern of LIKE can match: its literal characters up to the first wildcard, and a text above all that begin so.
+use Rattle.std.specs.Prelude.{◌≡◌, ℕ, ◌+◌, Bool, true, false, not, ◌&&◌, ◌==◌, List, [], ◌∷◌, ◌++◌, Option, Some, None, encode_utf8_all, if◌then◌else◌}
+use Rattle.std.specs.declared.cmp.Ordering.TheVariants.{Less}
+use Rattle.std.specs.Ordering.{nat_cmp}
+use Rattle.std.specs.Cmp.Lexicographic.{slice_cmp}
 use Rattle.vortex_base.specs.declared.like.Item.{Item}
 use Rattle.vortex_base.specs.declared.like.Item.TheVariants.{Char, AnyChar, AnyRun}
 
@@ -26,10 +29,14 @@ abbrev pub next_after : ℕ → Option (List ℕ) → Option (List ℕ)
 next_after c (Some ds) = Some (c ∷ ds)
 next_after c None = if has_next c then Some ((c + 1) ∷ []) else None
 
--- the last character that has a next one is replaced by that, and what follows it is dropped
+-- the longest beginning whose last character has a next one, with that character raised: the least of the texts that raising a character so gives
 abbrev pub successor : List ℕ → Option (List ℕ)
 successor [] = None
 successor (c ∷ cs) = next_after c (successor cs)
+
+-- every text that begins with these characters is below their successor, if they have one; texts are compared by their bytes
+abbrev pub AreBelowSuccessor : List ℕ → Type 0
+AreBelowSuccessor beginning = (above rest : List ℕ) → successor beginning ≡ Some above → slice_cmp nat_cmp (encode_utf8_all (beginning ++ rest)) (encode_utf8_all above) ≡ Less
 
 -- a pattern as far as it bounds the texts that it matches: its literal characters before the first wildcard, by their bytes, and whether it has none
 pub record PatternData : Type 0 where

@@ -193,11 +193,7 @@ pub fn like(
 ) -> Result<BoundExpression, BaseError>
     ensures { Builds (tree.like plain text pattern) result }
 {
-    let options = LikeOptions {
-        negated: false,
-        case_insensitive: false,
-    };
-    like_with(alloc, text, pattern, options)
+    like_with(alloc, text, pattern, LikeOptions::default())
 }
 
 /// Whether a text matches a pattern, as the options say.

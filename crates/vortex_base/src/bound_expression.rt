@@ -16,6 +16,7 @@ use std::marker::Model;
 /// A typed expression over the columns of a row, given by their places. Each node stores its type,
 /// and that is what the typing table gives from the types of its children.
 #[cycle(expression)]
+#[derive(Debug)]
 pub struct BoundExpression {
     pub(crate) dtype: DType,
     pub(crate) node: Box<Node>,
@@ -23,7 +24,7 @@ pub struct BoundExpression {
 
 /// A node with its children.
 #[cycle(expression)]
-#[derive(Drop)]
+#[derive(Debug, Drop)]
 pub(crate) enum Node {
     Column(usize),
     Literal(Scalar),

@@ -1,5 +1,6 @@
 //! Byte strings, seen as the list of their bytes.
 ghost use Rattle.std.specs.Prelude.{◌≡◌, ◌==◌, IfOk};
+ghost use Rattle.vortex_base.specs.Made.{Makes};
 ghost use Rattle.std.specs.Ordering.{nat_cmp, as_partial_cmp};
 ghost use Rattle.std.specs.Cmp.Lexicographic.{slice_cmp};
 ghost use Rattle.std.specs.Cmp.Rules.{comparing};
@@ -7,6 +8,7 @@ ghost use Rattle.std.specs.Cmp.{partial_order_from_own_ties};
 ghost use Rattle.std.proofs.Common.{rules};
 ghost use lib.Pointwise.{pointwise};
 
+use crate::error::BaseError;
 use std::alloc::AllocError;
 use std::cmp::Ordering;
 use std::marker::Model;
@@ -47,12 +49,17 @@ impl Bytes {
     }
 
     /// A copy, by the bytes' allocator.
-    pub fn try_clone(&self) -> Result<Bytes, AllocError>
-        ensures { IfOk result (λ b. b ≡ self.now) }
+    pub fn try_clone(&self) -> Result<Bytes, BaseError>
+        ensures { Makes self.now result }
     {
-        Ok(Bytes {
-            bytes: self.bytes.clone()?,
-        })
+        Ok(self.clone()?)
+    }
+
+    /// The vector itself.
+    pub fn into_vec(self) -> Vec<u8>
+        ensures { result.items ≡ self }
+    {
+        self.bytes
     }
 }
 
@@ -60,7 +67,9 @@ impl Clone for Bytes {
     ghost is_clone = { λ s t. t ≡ s };
 
     fn clone(&self) -> Result<Bytes, AllocError> {
-        self.try_clone()
+        Ok(Bytes {
+            bytes: self.bytes.clone()?,
+        })
     }
 }
 
@@ -95,7 +104,8 @@ impl Ord for Bytes {
 impl PartialOrd for Bytes {
     ghost partial_cmp = { as_partial_cmp (slice_cmp nat_cmp) };
 
-    ghost laws = { partial_order_from_own_ties (Prim.search (comparing, rules)) (Prim.search (comparing, rules)) };
+    ghost laws = { partial_order_from_own_ties
+        (Prim.search (comparing, rules)) (Prim.search (comparing, rules)) };
 
     fn partial_cmp(&self, other: &Bytes) -> Option<Ordering> {
         Some(self.cmp(other))
@@ -114,6 +124,7 @@ mod tests {
         assert_eq!(rt; bytes.as_slice(), [0, 255].as_slice());
         assert_eq!(rt; bytes.try_clone()?.as_slice(), [0, 255].as_slice());
         assert_eq!(rt; laws::clone_of_bytes(&bytes)?, bytes);
+        assert_eq!(rt; bytes.into_vec().as_slice(), [0, 255].as_slice());
         Ok(())
     }
 }

@@ -1,15 +1,15 @@
 //! Copies of typed expressions.
-ghost use Rattle.std.specs.Prelude.{◌≡◌, IfOk};
+ghost use Rattle.vortex_base.specs.Made.{Makes};
 ghost use Rattle.vortex_base.specs.Node.{tree};
 
 use crate::bound_expression::{BoundExpression, Node};
-use std::alloc::AllocError;
+use crate::error::BaseError;
 
 impl BoundExpression {
     /// A copy of the whole tree, by the allocators that its nodes hold.
     #[cycle(copies)]
-    pub fn try_clone(&self) -> Result<BoundExpression, AllocError>
-        ensures { IfOk result (λ e. e ≡ self.now) }
+    pub fn try_clone(&self) -> Result<BoundExpression, BaseError>
+        ensures { Makes self.now result }
     {
         let alloc = *Box::allocator(&self.node);
         let node = Box::new(alloc, cloned(&self.node)?)?;
@@ -21,8 +21,8 @@ impl BoundExpression {
 }
 
 #[cycle(copies)]
-fn cloned(node: &Node) -> Result<Node, AllocError>
-    ensures { IfOk result (λ n. n ≡ node.now) }
+fn cloned(node: &Node) -> Result<Node, BaseError>
+    ensures { Makes node.now result }
 {
     Ok(match node {
         Node::Column(place) => Node::Column(*place),

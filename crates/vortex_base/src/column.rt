@@ -96,8 +96,8 @@ impl Column {
     }
 }
 
-/// Moves the values of each other column behind those of the column beside it, and adds the sizes. All room is made first, so
-/// that nothing has moved where memory is refused.
+/// Moves the values of each other column behind those of the column beside it, and with them its
+/// size. All room is made first, so that nothing has moved where memory is refused.
 pub(crate) fn append_all(columns: &mut [Column], others: &mut [Column]) -> Result<(), AllocError>
     requires { IsTrue (can_append columns.old others.old) }
     ensures appended { OnOk result (columns.new ≡ all_appended columns.old others.old) }
@@ -113,5 +113,6 @@ pub(crate) fn append_all(columns: &mut [Column], others: &mut [Column]) -> Resul
     column.values.reserve(other.values.len())?;
     append_all(columns, others)?;
     column.size += other.size;
+    other.size = 0;
     column.values.append(&mut other.values)
 }

@@ -21,12 +21,12 @@ use std::cmp::Ordering;
 /// A value that the row or a literal lends, or that the evaluation made. What it makes is never a
 /// text or bytes, so no node but the answer's own is copied.
 #[derive(Drop)]
-enum Evaluated<'a> {
+pub(crate) enum Evaluated<'a> {
     Lent(&'a ScalarValue),
     Made(ScalarValue),
 }
 
-fn lent<'a>(value: &'a Option<Evaluated<'_>>) -> Option<&'a ScalarValue>
+pub(crate) fn lent<'a>(value: &'a Option<Evaluated<'_>>) -> Option<&'a ScalarValue>
     ensures { option_copied result ≡ option_map evaluated value.now }
 {
     match value {
@@ -52,7 +52,7 @@ fn owned(value: &ScalarValue) -> Result<ScalarValue, AllocError>
     match value {
         ScalarValue::Bool(truth) => Ok(ScalarValue::Bool(*truth)),
         ScalarValue::Primitive(number) => Ok(ScalarValue::Primitive(*number)),
-        ScalarValue::Utf8(_) | ScalarValue::Binary(_) => value.try_clone(),
+        ScalarValue::Utf8(_) | ScalarValue::Binary(_) => value.clone(),
     }
 }
 
@@ -123,7 +123,11 @@ fn holds(operator: Operator, order: Ordering) -> bool
     }
 }
 
-fn compared(operator: Operator, a: Option<&ScalarValue>, b: Option<&ScalarValue>) -> Option<bool>
+pub(crate) fn compared(
+    operator: Operator,
+    a: Option<&ScalarValue>,
+    b: Option<&ScalarValue>,
+) -> Option<bool>
     ensures { result ≡ spec.compared operator (option_copied a.entry) (option_copied b.entry) }
 {
     match (a, b) {
@@ -142,7 +146,7 @@ fn applied(operator: Operator, a: Option<&ScalarValue>, b: Option<&ScalarValue>)
     }
 }
 
-fn within(
+pub(crate) fn within(
     options: BetweenOptions,
     x: Option<&ScalarValue>,
     lower: Option<&ScalarValue>,
@@ -167,7 +171,7 @@ fn is_like(options: LikeOptions, text: &ScalarValue, pattern: &ScalarValue) -> b
     }
 }
 
-fn liked(
+pub(crate) fn liked(
     options: LikeOptions,
     text: Option<&ScalarValue>,
     pattern: Option<&ScalarValue>,
@@ -181,7 +185,7 @@ fn liked(
 }
 
 impl BoundExpression {
-    fn value_on<'a>(&'a self, row: &'a Row<'_>, row_count: u64) -> Option<Evaluated<'a>>
+    pub(crate) fn value_on<'a>(&'a self, row: &'a Row<'_>, row_count: u64) -> Option<Evaluated<'a>>
         ensures { option_map evaluated result ≡ meaning self.entry.now row.entry.now row_count }
     {
         match &*self.node {

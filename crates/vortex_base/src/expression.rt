@@ -17,13 +17,14 @@ use std::marker::Model;
 /// An expression whose columns are given by their names. It has no type until it is bound to a
 /// scope.
 #[cycle(named_expression)]
+#[derive(Debug)]
 pub struct Expression {
     pub(crate) node: Box<NamedNode>,
 }
 
 /// A node with its children.
 #[cycle(named_expression)]
-#[derive(Drop)]
+#[derive(Debug, Drop)]
 pub(crate) enum NamedNode {
     Column(String),
     Literal(Scalar),
@@ -220,11 +221,7 @@ impl Expression {
     ) -> Result<Expression, BaseError>
         ensures { Makes (tree.like plain text pattern) result }
     {
-        let options = LikeOptions {
-            negated: false,
-            case_insensitive: false,
-        };
-        of_node(alloc, NamedNode::Like(options, text, pattern))
+        Expression::like_with(alloc, text, pattern, LikeOptions::default())
     }
 
     /// Whether a text matches a pattern, as the options say.

@@ -60,7 +60,8 @@ fn whole(number: PValue) -> i128
 
 /// The whole number that the scalar holds.
 fn whole_of(scalar: &Scalar) -> Result<i128, BaseError>
-    ensures { IsReading (λ v. IsNumberAnd v (λ _. ⊤)) (λ v z. IsNumberAnd v (λ x. x ≡ z)) false scalar.now.value result }
+    ensures { IsReading (λ v. IsNumberAnd v (λ _. ⊤)) (λ v z. IsNumberAnd v (λ x. x ≡ z))
+        false scalar.now.value result }
 {
     match scalar.value() {
         Some(ScalarValue::Primitive(number)) => Ok(whole(*number)),

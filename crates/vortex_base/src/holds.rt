@@ -64,6 +64,24 @@ impl BoundExpression {
         }
     }
 
+    /// Whether a column stands outside the input of every placeholder, so that the expression needs
+    /// a row even where each placeholder is bound.
+    pub fn has_bare_column(&self) -> bool
+        ensures { result ≡ tree.has_bare_column self.now }
+    {
+        match &*self.node {
+            Node::Column(_) => true,
+            Node::Literal(_) | Node::Stat(_, _) | Node::RowCount => false,
+            Node::IsNull(x) | Node::IsNotNull(x) | Node::Not(x) => x.has_bare_column(),
+            Node::Binary(_, left, right) | Node::Like(_, left, right) => {
+                left.has_bare_column() || right.has_bare_column()
+            }
+            Node::Between(_, x, lower, upper) => {
+                x.has_bare_column() || lower.has_bare_column() || upper.has_bare_column()
+            }
+        }
+    }
+
     /// Whether the expression holds no placeholder and no row count.
     pub fn is_plain(&self) -> bool
         ensures { result ≡ tree.is_plain self.now }

@@ -1,14 +1,17 @@
 //! Laws of this layer, in the words of its definitions. The functions carry them by their
 //! contracts.
 ghost use Rattle.std.specs.Prelude.{◌≡◌, ◌↔◌, IfOk, IsTrue};
+ghost use Rattle.std.specs.Str.{chars};
 ghost use Rattle.vortex_base.specs.Examples.{TypeExamples, ValueExamples, OrderExamples};
 ghost use Rattle.vortex_base.specs.Examples.{ScopeExamples, ChunkExamples};
 ghost use Rattle.vortex_base.specs.ExpressionExamples.{LikeExamples, TypingExamples};
 ghost use Rattle.vortex_base.specs.ExpressionExamples.{AggregateExamples, BindingExamples};
 ghost use Rattle.vortex_base.specs.ExpressionExamples.{MeaningExamples};
-ghost use Rattle.vortex_base.specs.Fitting.{RowsFit};
-ghost use Rattle.vortex_base.specs.Meaning.{MeaningFits};
+ghost use Rattle.vortex_base.specs.Fitting.{RowsFit, RowsMatch};
+ghost use Rattle.vortex_base.specs.Meaning.{MeaningFits, MeaningIsTyped};
+ghost use Rattle.vortex_base.specs.Meaning.{NullOnlyWhereNullable};
 ghost use Rattle.vortex_base.specs.Orders.{ValuesAreOrdered, NumbersAreOrdered, pvalue_cmp};
+ghost use Rattle.vortex_base.specs.Prefix.{AreBelowSuccessor};
 ghost use Rattle.vortex_base.specs.Values.{value_cmp};
 
 use crate::bound_expression::BoundExpression;
@@ -46,6 +49,11 @@ pub fn numbers_compare(left: PValue, right: PValue) -> (Ordering, bool)
 {
     (left.cmp(&right), left == right)
 }
+
+/// Each text that begins with a text is below that text's successor, where it has one.
+pub fn texts_are_below_successors(beginning: &str)
+    ensures { AreBelowSuccessor (chars beginning.now) }
+{}
 
 /// A clone in generic code equals its source, where the type's clones do.
 pub fn clone_of<T: Clone>(source: &T) -> Result<T, AllocError>
@@ -100,7 +108,16 @@ pub fn meaning_fits(expression: &BoundExpression, row: &Row<'_>, row_count: u64)
     ensures { MeaningFits expression.now row.now row_count }
 {}
 
-/// An expression that fits the scope of a chunk fits each of its rows.
+/// On a row that has the very types of an expression's columns, its value is of the expression's
+/// type, and null only where that type has null.
+pub fn meaning_is_typed(expression: &BoundExpression, row: &Row<'_>, row_count: u64)
+    ensures typed { MeaningIsTyped expression.now row.now row_count }
+    ensures null { NullOnlyWhereNullable expression.now row.now row_count }
+{}
+
+/// An expression that fits the scope of a chunk fits each of its rows, which have the very types of
+/// its columns.
 pub fn rows_fit(expression: &BoundExpression, chunk: &Chunk, i: usize)
-    ensures { RowsFit expression.now chunk.now i }
+    ensures fit { RowsFit expression.now chunk.now i }
+    ensures matched { RowsMatch expression.now chunk.now i }
 {}

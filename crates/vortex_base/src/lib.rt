@@ -29,6 +29,7 @@ pub mod parts;
 pub mod ptype;
 pub mod pvalue;
 pub mod row;
+mod row_test;
 pub mod scalar;
 pub mod scalar_fn;
 pub mod scalar_value;

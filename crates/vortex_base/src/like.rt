@@ -8,8 +8,8 @@ ghost use Rattle.std.specs.Str.{chars};
 ghost use Rattle.vortex_base.specs.Like.{items, like, some_end, like_text};
 ghost use Rattle.vortex_base.specs.LikeSearch.{characters, reached, stop};
 
-/// How a text is compared with a pattern.
-#[derive(Clone, Copy, Debug, PartialEq, Eq)]
+/// How a text is compared with a pattern. The default regards case and is not negated.
+#[derive(Clone, Copy, Debug, Default, PartialEq, Eq)]
 pub struct LikeOptions {
     /// The answer is turned round.
     pub negated: bool,
@@ -94,7 +94,8 @@ impl<'a> Characters<'a> {
 pub(crate) fn next_item<'a>(pattern: Characters<'a>) -> Option<(Item, Characters<'a>)>
     ensures items { MatchOption result (items (characters pattern.entry) ≡ [])
         (λ p. items (characters pattern.entry) ≡ p.0 ∷ items (characters p.1)) }
-    ensures shorter { IfSome result (λ p. length (characters p.1) < length (characters pattern.entry)) }
+    ensures shorter { IfSome result
+        (λ p. length (characters p.1) < length (characters pattern.entry)) }
 {
     let (first, rest) = pattern.split_first()?;
     match first {

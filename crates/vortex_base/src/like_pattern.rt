@@ -1,5 +1,4 @@
-//! What a pattern of LIKE says of the texts that it matches, and the first text above all with a
-//! beginning.
+//! What a pattern of LIKE says of the texts that it matches, and a text above all with a beginning.
 ghost use Rattle.std.specs.Prelude.{◌≡◌, ◌++◌, ◌∷◌, ◌+◌, ◌<◌, [], length, IfOk, IfSome, MatchOption, true, false};
 ghost use Rattle.std.specs.Prelude.{encode_utf8_all, option_copied, option_map, string_bytes};
 ghost use Rattle.std.specs.Str.{chars, IsUtf8};
@@ -82,7 +81,8 @@ fn next_char(c: char) -> Option<char>
 }
 
 fn split_last_char(text: &str) -> Option<(char, &str)>
-    ensures split { MatchOption result (chars text.now ≡ []) (λ p. chars text.now ≡ chars p.1.now ++ p.0 ∷ []) }
+    ensures split { MatchOption result (chars text.now ≡ [])
+        (λ p. chars text.now ≡ chars p.1.now ++ p.0 ∷ []) }
     ensures utf8 { IfSome result (λ p. IsUtf8 p.1.now) }
     ensures shorter { IfSome result (λ p. length p.1.now < length text.now) }
 {
@@ -93,10 +93,13 @@ fn split_last_char(text: &str) -> Option<(char, &str)>
     }
 }
 
-/// The first text above all that begin with this one: the last character that has a next one is
-/// replaced by that, and what follows it is dropped. `None` where no character has one.
+/// A text above each that begins with this one: its longest beginning whose last character has a
+/// next one, with that character raised by one. Raising an earlier character gives a greater text.
+/// `None` where no character has a next one, as U+D7FF, which no character but a surrogate follows,
+/// and U+10FFFF have none.
 pub fn successor(alloc: Global, text: &str) -> Result<Option<String>, AllocError>
-    ensures { IfOk result (λ s. option_map string_bytes s ≡ option_map encode_utf8_all (successor_of (chars text.now))) }
+    ensures { IfOk result (λ s. option_map string_bytes s
+        ≡ option_map encode_utf8_all (successor_of (chars text.now))) }
 {
     let mut rest = text;
     while let Some((last, before)) = split_last_char(rest) {

@@ -1,6 +1,7 @@
 //! Values or null, with their types.
-ghost use Rattle.std.specs.Prelude.{◌≡◌, ◌↔◌, IfOk, IsTrue, IsNone, option_copied};
+ghost use Rattle.std.specs.Prelude.{◌≡◌, ◌↔◌, IsTrue, IsNone, option_copied};
 ghost use Rattle.std.specs.Cmp.{partial_equiv_from_equiv};
+ghost use Rattle.vortex_base.specs.Made.{Makes};
 ghost use Rattle.vortex_base.specs.Exact.{exact_equivalence};
 ghost use Rattle.vortex_base.specs.Types.{is_nullable};
 ghost use Rattle.vortex_base.specs.Scalars.{constant_eq, constant_eq_is_exact, constant_of, null_of, IsConstant};
@@ -8,7 +9,6 @@ ghost use Rattle.vortex_base.specs.Scalars.{constant_eq, constant_eq_is_exact, c
 use crate::dtype::DType;
 use crate::error::BaseError;
 use crate::scalar_value::ScalarValue;
-use std::alloc::AllocError;
 use std::marker::Model;
 
 /// A value of a type, or null where the type has null.
@@ -85,8 +85,8 @@ impl Scalar {
     }
 
     /// A copy, by the allocator that the value holds.
-    pub fn try_clone(&self) -> Result<Scalar, AllocError>
-        ensures { IfOk result (λ s. s ≡ self.now) }
+    pub fn try_clone(&self) -> Result<Scalar, BaseError>
+        ensures { Makes self.now result }
     {
         let value = match &self.value {
             None => None,

@@ -1,14 +1,15 @@
 //! The values of columns that are not null, and their one total order.
-ghost use Rattle.std.specs.Prelude.{◌≡◌, IfOk};
+ghost use Rattle.std.specs.Prelude.{◌≡◌};
+ghost use Rattle.vortex_base.specs.Made.{Makes};
 ghost use Rattle.vortex_base.specs.Values.{is_value};
 ghost use Rattle.vortex_base.specs.declared.pvalue.PValue.TheVariants as number;
 ghost use Rattle.vortex_base.specs.declared.scalar_value.ScalarValue.TheVariants as value;
 
 use crate::bytes::Bytes;
 use crate::dtype::DType;
+use crate::error::BaseError;
 use crate::pvalue::PValue;
 use crate::text::Text;
-use std::alloc::AllocError;
 
 /// A value other than null. Values are ordered by kind, in the order of the variants, and then
 /// false before true, numbers by `PValue`'s order, and texts and bytes by their bytes.
@@ -22,10 +23,10 @@ pub enum ScalarValue {
 
 impl ScalarValue {
     /// A copy, by the allocator that the value holds.
-    pub fn try_clone(&self) -> Result<ScalarValue, AllocError>
-        ensures { IfOk result (λ v. v ≡ self.now) }
+    pub fn try_clone(&self) -> Result<ScalarValue, BaseError>
+        ensures { Makes self.now result }
     {
-        self.clone()
+        Ok(self.clone()?)
     }
 
     /// Whether this is a value of the type: of its kind and, for a number, of its `PType`.
@@ -45,6 +46,22 @@ impl ScalarValue {
             (ScalarValue::Binary(_), DType::Binary(_)) => true,
             _ => false,
         }
+    }
+}
+
+impl From<Text> for ScalarValue {
+    ghost from_gives = { λ t v. v ≡ value.Utf8 t };
+
+    fn from(value: Text) -> ScalarValue {
+        ScalarValue::Utf8(value)
+    }
+}
+
+impl From<Bytes> for ScalarValue {
+    ghost from_gives = { λ b v. v ≡ value.Binary b };
+
+    fn from(value: Bytes) -> ScalarValue {
+        ScalarValue::Binary(value)
     }
 }
 
@@ -126,17 +143,17 @@ mod tests {
     use crate::laws;
     use crate::nullability::Nullability;
     use crate::ptype::PType;
-    use std::alloc::Global;
+    use std::alloc::{AllocError, Global};
     use std::cmp::Ordering;
     use std::process::Abort;
     use std::test::Fail;
 
     fn text(alloc: Global, text: &str) -> Result<ScalarValue, AllocError> {
-        Ok(ScalarValue::Utf8(Text::new(String::from_str(alloc, text)?)))
+        Ok(ScalarValue::from(Text::new(String::from_str(alloc, text)?)))
     }
 
     fn bytes(alloc: Global, bytes: &[u8]) -> Result<ScalarValue, AllocError> {
-        Ok(ScalarValue::Binary(Bytes::new(Vec::from_slice(alloc, bytes)?)))
+        Ok(ScalarValue::from(Bytes::new(Vec::from_slice(alloc, bytes)?)))
     }
 
     // Truths and numbers in ascending order.

@@ -89,7 +89,8 @@ fn has_types(names: &[(String, DType)], columns: &[Column]) -> bool
 }
 
 fn is_same(left: &[(String, DType)], right: &[(String, DType)]) -> bool
-    ensures { result ≡ scopes.scope_eq (scopes.named_columns left.now) (scopes.named_columns right.now) }
+    ensures { result
+        ≡ scopes.scope_eq (scopes.named_columns left.now) (scopes.named_columns right.now) }
 {
     left == right
 }
@@ -157,7 +158,8 @@ impl Scope {
 impl PartialEq for Scope {
     ghost eq = { scopes.scope_eq };
 
-    ghost laws = { partial_equiv_from_equiv (exact_equivalence scopes.scope_eq scopes.scope_eq_is_exact) };
+    ghost laws = { partial_equiv_from_equiv
+        (exact_equivalence scopes.scope_eq scopes.scope_eq_is_exact) };
 
     fn eq(&self, other: &Scope) -> bool
         ensures value { result ≡ scopes.scope_eq self.now other.now }

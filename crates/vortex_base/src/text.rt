@@ -1,5 +1,6 @@
 //! Texts, seen as the list of their bytes.
 ghost use Rattle.std.specs.Prelude.{◌≡◌, ◌==◌, IfOk, string_bytes, IsTrue};
+ghost use Rattle.vortex_base.specs.Made.{Makes};
 ghost use Rattle.std.specs.Str.{is_utf8};
 ghost use Rattle.std.specs.Ordering.{nat_cmp, as_partial_cmp};
 ghost use Rattle.std.specs.Cmp.Lexicographic.{slice_cmp};
@@ -8,6 +9,7 @@ ghost use Rattle.std.specs.Cmp.{partial_order_from_own_ties};
 ghost use Rattle.std.proofs.Common.{rules};
 ghost use lib.Pointwise.{pointwise};
 
+use crate::error::BaseError;
 use std::alloc::AllocError;
 use std::cmp::Ordering;
 use std::marker::Model;
@@ -49,12 +51,17 @@ impl Text {
     }
 
     /// A copy, by the text's allocator.
-    pub fn try_clone(&self) -> Result<Text, AllocError>
-        ensures { IfOk result (λ t. t ≡ self.now) }
+    pub fn try_clone(&self) -> Result<Text, BaseError>
+        ensures { Makes self.now result }
     {
-        Ok(Text {
-            text: self.text.clone()?,
-        })
+        Ok(self.clone()?)
+    }
+
+    /// The string itself.
+    pub fn into_string(self) -> String
+        ensures { string_bytes result ≡ self }
+    {
+        self.text
     }
 }
 
@@ -62,7 +69,9 @@ impl Clone for Text {
     ghost is_clone = { λ s t. t ≡ s };
 
     fn clone(&self) -> Result<Text, AllocError> {
-        self.try_clone()
+        Ok(Text {
+            text: self.text.clone()?,
+        })
     }
 }
 
@@ -97,7 +106,8 @@ impl Ord for Text {
 impl PartialOrd for Text {
     ghost partial_cmp = { as_partial_cmp (slice_cmp nat_cmp) };
 
-    ghost laws = { partial_order_from_own_ties (Prim.search (comparing, rules)) (Prim.search (comparing, rules)) };
+    ghost laws = { partial_order_from_own_ties
+        (Prim.search (comparing, rules)) (Prim.search (comparing, rules)) };
 
     fn partial_cmp(&self, other: &Text) -> Option<Ordering> {
         Some(self.cmp(other))
@@ -116,6 +126,7 @@ mod tests {
         assert_eq!(rt; text.as_str(), "é");
         assert_eq!(rt; text.try_clone()?.as_str(), "é");
         assert_eq!(rt; laws::clone_of_text(&text)?, text);
+        assert_eq!(rt; text.into_string().as_str(), "é");
         Ok(())
     }
 }

@@ -20,7 +20,8 @@ use Rattle.vortex_stats.specs.declared.error.BinderFault.TheVariants.{WrongType}
 use Rattle.vortex_stats.specs.declared.error.StatsError.{StatsError}
 use Rattle.vortex_stats.specs.declared.error.StatsError.TheVariants.{Binder}
 use Rattle.vortex_prune.specs.Binders.{BinderAnswer, IsAnswerOf, IsFaithful}
-use Rattle.vortex_prune.specs.Binding.{HasNoColumnOn, IsBinding, IsBindRefusal, IsReplacement, IsWrong, Replaces, SomeMet}
+use Rattle.vortex_prune.specs.Binding.{HasNoColumnOn, IsBinding, IsReplacement, IsWrong, Replaces, SomeMet, binding_causes}
+use Rattle.vortex_prune.specs.Causes.{IsRefusal}
 use Rattle.vortex_prune.specs.Proof.{Assignment, value_under}
 
 abbrev Table : Type 0
@@ -48,7 +49,7 @@ module _ (answer : BinderAnswer) (IsMissing : DType → Tree Place → Type 0) (
   of_placeholder : (f : AggregateFnRef) (x r : Tree Place) → IsOk (type_of (stat f x)) → Replaces answer IsMissing f x r → (t : DType) × IsAnswerOf t row r × (meaning r row n ≡ A f x)
   of_placeholder f x r h k =
       let t = there (type_of (stat f x)) h in
-      (t.0, replacement_is_answer f x t.0 r (answer f x t.0) t.1 refl (k t.0 t.1), replacement_is_named f x t.0 r (answer f x t.0) t.1 refl (k t.0 t.1))
+      (t.0, replacement_is_answer f x t.0 r (answer f x t.0) t.1 refl (k.0 t.0 t.1), replacement_is_named f x t.0 r (answer f x t.0) t.1 refl (k.0 t.0 t.1))
 
   not_wrong : (f : AggregateFnRef) (x : Tree Place) → IsWrong answer IsMissing f x → ⊥
   not_wrong f x w =
@@ -71,10 +72,10 @@ module _ (answer : BinderAnswer) (IsMissing : DType → Tree Place → Type 0) (
   none_wrong (stat f x) h = not_wrong f x h
   none_wrong row_count h = h
 
-  refused : (can_fault : ℕ → Bool) (e : Tree Place) (f : StatsError) → IsBindRefusal can_fault (SomeMet (IsWrong answer IsMissing) e) f → ¬ (f ≡ Binder WrongType)
-  refused can_fault e f h k = none_wrong e (subst (IsBindRefusal can_fault (SomeMet (IsWrong answer IsMissing) e)) k h)
+  refused : (can_fault : ℕ → Bool) (e : Tree Place) (f : StatsError) → IsRefusal (binding_causes answer IsMissing can_fault e) f → ¬ (f ≡ Binder WrongType)
+  refused can_fault e f h k = none_wrong e (subst (IsRefusal (binding_causes answer IsMissing can_fault e)) k h)
 
-  pub not_wrong_type : (can_fault : ℕ → Bool) (e : Tree Place) (r : Result (Tree Place) StatsError) → IfErr r (IsBindRefusal can_fault (SomeMet (IsWrong answer IsMissing) e)) → IfErr r (λ f. ¬ (f ≡ Binder WrongType))
+  pub not_wrong_type : (can_fault : ℕ → Bool) (e : Tree Place) (r : Result (Tree Place) StatsError) → IfErr r (IsRefusal (binding_causes answer IsMissing can_fault e)) → IfErr r (λ f. ¬ (f ≡ Binder WrongType))
   not_wrong_type can_fault e (Ok r) h = tt
   not_wrong_type can_fault e (Err f) h = refused can_fault e f h
 

@@ -1,11 +1,16 @@
+pub mod AskedNodes
 pub mod BoundTypes
 pub mod BoundValues
+pub mod BuiltInOrder
+pub mod CauseLemmas
 pub mod Choices
 pub mod CompleteRows
 pub mod Completeness
 pub mod Decided
 pub mod EndsCode
+pub mod EndsRows
 pub mod HonestParts
+pub mod HonestRows
 pub mod HonestStats
 pub mod Interval
 pub mod JoinLemmas
@@ -36,7 +41,7 @@ pub mod SoundRules
 pub mod StatFits
 pub mod StatRows
 pub mod StatTypes
-pub mod TextOrder
 pub mod TruthLogic
 pub mod ValueTests
+pub mod VisitRows
 pub mod WholeScan

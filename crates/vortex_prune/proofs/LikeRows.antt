@@ -1,5 +1,5 @@
 -- What a matching pattern says of a text, and the proofs of LIKE at one row.
-use Rattle.std.proofs.Common.{◌≡◌, ℕ, ◌+◌, Bool, true, false, not, ⊎_elim, List, [], ◌∷◌, ◌++◌, Option, Some, None, refl, sym, ap, ap₂, ◌∙◌, subst, arith, Less, if◌then◌else◌, append-nil}
+use Rattle.std.proofs.Common.{◌≡◌, ℕ, ◌+◌, Bool, true, false, not, ⊎_elim, List, [], ◌∷◌, ◌++◌, Option, Some, None, refl, sym, ap, ap₂, ◌∙◌, subst, Less, if◌then◌else◌, append-nil}
 use Rattle.std.specs.Prelude.{⊤, ◌==◌, encode_utf8_all}
 use Rattle.std.specs.Ordering.{is_gt, ordering_reverse}
 use Rattle.std.specs.Str.{chars, is_utf8}
@@ -9,7 +9,7 @@ use Rattle.std.proofs.lemmas.Str.{encodes-append, encodes-chars, IsUtf8-from_is_
 use Rattle.vortex_base.proofs.OrderLemmas.{value_cmp-total}
 use Rattle.vortex_base.specs.Like.{items, like, like_text}
 use Rattle.vortex_base.specs.Meaning.{is_like, is_true, meaning, satisfies, truth_value, unless_null}
-use Rattle.vortex_base.specs.Prefix.{has_next, is_exact, literal_prefix, next_after, successor}
+use Rattle.vortex_base.specs.Prefix.{is_exact, literal_prefix, successor}
 use Rattle.vortex_base.specs.Scalars.{Constant}
 use Rattle.vortex_base.specs.Tree.{Tree, Place, binary, literal, like as like_tree}
 use Rattle.vortex_base.specs.declared.like.Item.{Item}
@@ -19,12 +19,12 @@ use Rattle.vortex_base.specs.declared.operator.Operator.TheVariants.{Gt, Gte, Lt
 use Rattle.vortex_base.specs.declared.scalar_value.ScalarValue.{ScalarValue}
 use Rattle.vortex_base.specs.declared.scalar_value.ScalarValue.TheVariants as value
 use Rattle.vortex_prune.proofs.RowRules.{Bounds, IsNotAbove, IsNotBelow, IsRight, is, lower, upper}
-use Rattle.vortex_prune.proofs.TextOrder.{bytes_cmp, same_front, encode_less}
+use Rattle.vortex_base.proofs.Successors.{below_successor}
+use Rattle.vortex_base.proofs.TextOrder.{bytes_cmp, same_front}
 use Rattle.vortex_prune.proofs.TruthLogic.{both_some, clash, refuted, true_or}
 use Rattle.vortex_prune.proofs.ValueTests.{value_le, le_refl, le_trans, gt_le, gte_le, lt_le}
 use Rattle.vortex_prune.specs.Proof.{Assignment, value_under}
 use Rattle.vortex_prune.specs.Rewriting.{both_of, items_falsifier, like_falsifier, max_of, min_of, other_than, outside, pattern_falsifier, text_literal}
-use lib.Utf8.{encode}
 
 -- ---- patterns
 
@@ -61,24 +61,6 @@ beginning_le p rest =
     empty_le : (bs : List ℕ) → not (is_gt (bytes_cmp [] bs)) ≡ true
     empty_le [] = refl
     empty_le (b ∷ bs) = refl
-
--- a text is below the successor of its beginning
-below_successor : (p q rest : List ℕ) → successor p ≡ Some q → bytes_cmp (encode_utf8_all (p ++ rest)) (encode_utf8_all q) ≡ Less
-below_successor [] q rest h = absurd (none-some q h)
-below_successor (c ∷ cs) q rest h = go (λ ds e. below_successor cs ds rest e) (successor cs) refl h
-  where
-    last : (b : Bool) → (if b then Some ((c + 1) ∷ []) else None) ≡ Some q → bytes_cmp (encode c ++ encode_utf8_all (cs ++ rest)) (encode_utf8_all q) ≡ Less
-    last true k =
-        subst (λ s. bytes_cmp (encode c ++ encode_utf8_all (cs ++ rest)) (encode_utf8_all s) ≡ Less) (same_Some _ _ k)
-        (encode_less c (c + 1) (encode_utf8_all (cs ++ rest)) [] (omega arith))
-    last false k = absurd (none-some q k)
-
-    go : ((ds : List ℕ) → successor cs ≡ Some ds → bytes_cmp (encode_utf8_all (cs ++ rest)) (encode_utf8_all ds) ≡ Less)
-        → (o : Option (List ℕ)) → successor cs ≡ o → next_after c o ≡ Some q → bytes_cmp (encode c ++ encode_utf8_all (cs ++ rest)) (encode_utf8_all q) ≡ Less
-    go ih (Some ds) e k =
-        subst (λ s. bytes_cmp (encode c ++ encode_utf8_all (cs ++ rest)) (encode_utf8_all s) ≡ Less) (same_Some _ _ k)
-        (same_front (encode c) (encode_utf8_all (cs ++ rest)) (encode_utf8_all ds) ∙ ih ds e)
-    go ih None e k = last (has_next c) k
 
 -- ---- at a row
 

@@ -1,18 +1,14 @@
 -- Parts that are skipped by a true proof have no row that the predicate selects, so no row is lost.
-use Rattle.std.proofs.Common.{◌≡◌, ◌<◌, ◌+◌, ℕ, zero, suc, Bool, true, false, not, List, [], ◌∷◌, ◌++◌, Option, Some, None, IsTrue, IsOk, cond, map, refl, sym, ap, ◌∙◌, arith, inl, inr}
-use Rattle.std.proofs.lemmas.Bool.{cases_Bool}
+use Rattle.std.proofs.Common.{◌≡◌, ◌<◌, ◌+◌, ℕ, zero, suc, Bool, true, false, List, [], ◌∷◌, ◌++◌, Option, Some, None, IsTrue, IsOk, cond, map, refl, sym, ap, ◌∙◌, arith}
 use Rattle.std.specs.List.{AllByRecursion, enumerate_from, filter, flat_map, range_with_len}
-use Rattle.std.specs.Prelude.{slice_get}
-use Rattle.vortex_base.proofs.RowsFit.{rows-fit, weaker}
-use Rattle.vortex_base.specs.Columns.{ChunkData, ColumnData, IsChunk, row_of, row_count as rows_of}
+use Rattle.vortex_base.specs.Columns.{ChunkData, IsChunk, row_of, row_count as rows_of}
 use Rattle.vortex_base.specs.Exact.{both_hold, both_true}
-use Rattle.vortex_base.specs.Fitting.{fits_scope, is_cell_of}
+use Rattle.vortex_base.specs.Fitting.{fits_scope}
 use Rattle.vortex_base.specs.Meaning.{satisfies}
-use Rattle.vortex_base.specs.Tree.{Place, Tree, has_placeholder, is_plain}
+use Rattle.vortex_base.specs.Tree.{Place, Tree, is_plain}
 use Rattle.vortex_base.specs.Typing.{type_of}
-use Rattle.vortex_base.specs.declared.dtype.DType.{DType}
 use Rattle.vortex_prune.proofs.SoundRules.{falsifiers_sound}
-use Rattle.vortex_prune.specs.Facts.{IsHonest, is_column_of, suits}
+use Rattle.vortex_prune.specs.Facts.{IsHonest}
 use Rattle.vortex_prune.specs.Lawful.{IsOver, OwnRule}
 use Rattle.vortex_prune.specs.Part.{PartData}
 use Rattle.vortex_prune.specs.Proof.{Assignment}
@@ -21,18 +17,8 @@ use Rattle.vortex_prune.specs.Scanning.{Answered, full, is_skipped, kept_rows, s
 
 -- ---- a plain predicate over the scope of a chunk is over the chunk
 
-cell_column : (t : DType) (cs : List ColumnData) (i j : ℕ) → is_cell_of t (slice_get (row_of i cs) j) ≡ true → is_column_of t (slice_get cs j) ≡ true
-cell_column t [] i j h = cc
-cell_column t (c ∷ cs) i zero h = h
-cell_column t (c ∷ cs) i (suc j) h = cell_column t cs i j h
-
-pub is_over_chunk : (p : Tree Place) (k : ChunkData) → IsChunk k → IsOk (type_of p) → IsTrue (is_plain p) → IsTrue (fits_scope p k.scope) → IsOver p k
-is_over_chunk p k chunk typed plain fits = record {
-  typed = typed;
-  over = both_hold _ _ (both_true _ _ plain).0
-      (weaker (λ c. is_cell_of c.dtype (slice_get (row_of 0 k.columns) c.index)) (λ c. is_column_of c.dtype (slice_get k.columns c.index))
-      (λ c. cell_column c.dtype k.columns 0 c.index) p (rows-fit p k 0 chunk fits));
-}
+pub is_over_chunk : (p : Tree Place) (k : ChunkData) → IsOk (type_of p) → IsTrue (is_plain p) → IsTrue (fits_scope p k.scope) → IsOver p k
+is_over_chunk p k typed plain fits = record { typed = typed; over = both_hold _ _ (both_true _ _ plain).0 fits }
 
 -- ---- a skipped part has no row to select
 
@@ -57,7 +43,7 @@ module _ (rules : List OwnRule) (p : Tree Place) (typed : IsOk (type_of p)) (pla
       → (b : Bool) → is_skipped proof part.0 part.1 ≡ b → cond b [] (satisfying_rows p place part.0.chunk) ≡ satisfying_rows p place part.0.chunk
   kept_by None place part is a true h = cc
   kept_by (Some e) place part is a true h =
-      sym (ap (map {B = ℕ × ℕ} (λ i. (place, i))) (none_selected rules p e part.0 part.1 a.chunk (is_over_chunk p part.0.chunk a.chunk typed plain a.fits) a.honest is h))
+      sym (ap (map {B = ℕ × ℕ} (λ i. (place, i))) (none_selected rules p e part.0 part.1 a.chunk (is_over_chunk p part.0.chunk typed plain a.fits) a.honest is h))
   kept_by proof place part is a false h = refl
 
   kept_all : (proof : Option (Tree Place)) (place : ℕ) (parts : List Answered) → falsifier rules p ≡ proof → AllByRecursion (IsAnswered p) parts

@@ -8,7 +8,6 @@ use Rattle.std.specs.declared.cmp.Ordering.TheVariants.{Less, Equal, Greater}
 use Rattle.vortex_base.proofs.OrderLemmas.{value_cmp-ties}
 use Rattle.vortex_base.proofs.PlacedTypes.{with_three-ok}
 use Rattle.vortex_base.specs.Between.{to_operator}
-use Rattle.vortex_base.specs.Columns.{ColumnData}
 use Rattle.vortex_base.specs.Meaning.{applied, both, compared, holds, is_true, meaning, satisfies, truth_value, within}
 use Rattle.vortex_base.specs.Scalars.{Constant, is_optional_value}
 use Rattle.vortex_base.specs.Tree.{Tree, Place, literal, between}
@@ -30,7 +29,8 @@ use Rattle.vortex_prune.proofs.Operands.{if_ok, same_values}
 use Rattle.vortex_prune.proofs.OverParts.{comparable_ends}
 use Rattle.vortex_prune.proofs.TruthLogic.{clash, refuted, truth_back}
 use Rattle.vortex_prune.proofs.ValueTests.{value_le, le_refl, le_total, le_trans, lt_le}
-use Rattle.vortex_prune.specs.Facts.{is_over}
+use Rattle.vortex_base.specs.Scopes.{Named}
+use Rattle.vortex_prune.specs.Lawful.{is_of_scope}
 use Rattle.vortex_prune.specs.Rewriting.{Ends, are_closed, closed, ends, halves, high_size, is_crossed, literal_ends, low_size, number_literal, value_ends}
 
 -- ---- what a BETWEEN tests
@@ -147,7 +147,7 @@ of_type p q (dtype.MinMaxState e n) same fits h = cc
 -- by these ends it means the same
 pub record IsMoved (o : BetweenOptions) (x l u : Tree Place) (e : Ends) : Type 0 where
   pub typed : type_of (between e.options x e.lower e.upper) ≡ type_of (between o x l u)
-  pub over : (cs : List ColumnData) → is_over (between e.options x e.lower e.upper) cs ≡ is_over (between o x l u) cs
+  pub over : (scope : List Named) → is_of_scope (between e.options x e.lower e.upper) scope ≡ is_of_scope (between o x l u) scope
   pub same : (row : List Constant) (n : ℕ) → satisfies (between e.options x e.lower e.upper) row n ≡ satisfies (between o x l u) row n
 
 -- without ends no row satisfies it

@@ -1,15 +1,15 @@
 -- The parts of an expression over a chunk are over it, and its texts are UTF-8.
 use Rattle.std.proofs.Common.{◌≡◌, ℕ, Bool, true, false, not, ◌&&◌, ◌||◌, Option, Some, None, refl, sym, ap, ◌∙◌, arith}
-use Rattle.std.specs.Prelude.{◌<◌, Result, Ok, Err, IsOk, if◌then◌else◌, option_map, slice_get}
+use Rattle.std.specs.Prelude.{◌<◌, Result, Ok, Err, IsOk, if◌then◌else◌}
 use Rattle.std.proofs.lemmas.Bool.{and_parts}
-use Rattle.std.proofs.lemmas.Option.{slice_get-map}
 use Rattle.vortex_base.proofs.MeaningFits.{meaning-fits}
 use Rattle.vortex_base.proofs.PlacedTypes.{with_types-ok}
 use Rattle.vortex_base.proofs.RowLemmas.{row_of-IsRow}
+use Rattle.vortex_base.proofs.RowsFit.{rows-fit}
 use Rattle.vortex_base.specs.Between.{to_operator}
-use Rattle.vortex_base.specs.Columns.{ChunkData, ColumnData, IsChunk, row_count as rows_of, row_of, value_at}
+use Rattle.vortex_base.specs.Columns.{ChunkData, IsChunk, row_count as rows_of, row_of}
 use Rattle.vortex_base.specs.Exact.{both_hold}
-use Rattle.vortex_base.specs.Fitting.{is_cell_of}
+use Rattle.vortex_base.specs.Fitting.{fits_scope}
 use Rattle.vortex_base.specs.Meaning.{meaning, truth_value}
 use Rattle.vortex_base.specs.Scalars.{is_optional_value}
 use Rattle.vortex_base.specs.Tree.{Tree, Place, column, literal, binary, between, is_null, is_not_null, not as not_tree, like, stat, row_count, has_placeholder}
@@ -27,7 +27,6 @@ use Rattle.vortex_base.specs.declared.operator.Operator.{Operator}
 use Rattle.vortex_base.specs.declared.scalar_value.ScalarValue.{ScalarValue}
 use Rattle.vortex_base.specs.declared.scalar_value.ScalarValue.TheVariants as value
 use Rattle.vortex_prune.proofs.LikeRows.{IsText}
-use Rattle.vortex_prune.specs.Facts.{is_column_of, suits}
 use Rattle.vortex_prune.specs.Lawful.{IsOver}
 use Rattle.vortex_prune.specs.Rewriting.{halves}
 
@@ -42,14 +41,14 @@ two_parts false false false d h = cc
 
 pub binary_parts : (o : Operator) (x y : Tree Place) (k : ChunkData) → IsOver (binary o x y) k → IsOver x k × IsOver y k
 binary_parts o x y k h =
-    let over = two_parts (has_placeholder x) (has_placeholder y) (suits x k.columns) (suits y k.columns) h.over in
+    let over = two_parts (has_placeholder x) (has_placeholder y) (fits_scope x k.scope) (fits_scope y k.scope) h.over in
     let typed = with_types-ok (binary_type o) (type_of x) (type_of y) h.typed in
     (record { typed = typed.0; over = over.0 }, record { typed = typed.1; over = over.1 })
 
 -- an expression over a chunk is so without the pattern
 pub like_text_over : (o : LikeOptions) (x y : Tree Place) (k : ChunkData) → IsOver (like o x y) k → IsOver x k
 like_text_over o x y k h =
-    let over = two_parts (has_placeholder x) (has_placeholder y) (suits x k.columns) (suits y k.columns) h.over in
+    let over = two_parts (has_placeholder x) (has_placeholder y) (fits_scope x k.scope) (fits_scope y k.scope) h.over in
     let typed = with_types-ok like_type (type_of x) (type_of y) h.typed in
     record { typed = typed.0; over = over.0 }
 
@@ -104,7 +103,7 @@ halves_typed s t (Ok x) (Ok l) (Err e) h = cc
 pub halves_over : (o : BetweenOptions) (x l u : Tree Place) (k : ChunkData) → IsOver (between o x l u) k → IsOver (halves o x l u) k
 halves_over o x l u k h = record {
   typed = halves_typed o.lower_strict o.upper_strict (type_of x) (type_of l) (type_of u) h.typed;
-  over = three_parts (has_placeholder x) (has_placeholder l) (has_placeholder u) (suits x k.columns) (suits l k.columns) (suits u k.columns) h.over;
+  over = three_parts (has_placeholder x) (has_placeholder l) (has_placeholder u) (fits_scope x k.scope) (fits_scope l k.scope) (fits_scope u k.scope) h.over;
 }
 
 -- ---- texts
@@ -132,17 +131,10 @@ literal_fits : (b : Bool) (t : DType) → IsOk (if b then ok t else Err Mismatch
 literal_fits true t h = refl
 literal_fits false t h = cc
 
--- a column of a type is, in a row, a cell of it
-cell_of : (t : DType) (i : ℕ) (o : Option ColumnData) → is_column_of t o ≡ true → is_cell_of t (option_map (λ c. record { dtype = c.dtype; value = value_at (slice_get c.values i) }) o) ≡ true
-cell_of t i None h = cc
-cell_of t i (Some c) h = h
-
-column_text : (c : Place) (k : ChunkData) (i : ℕ) → IsChunk k → i < rows_of k.columns → suits (column c) k.columns ≡ true → IsText (meaning (column c) (row_of i k.columns) 0)
+column_text : (c : Place) (k : ChunkData) (i : ℕ) → IsChunk k → i < rows_of k.columns → fits_scope (column c) k.scope ≡ true → IsText (meaning (column c) (row_of i k.columns) 0)
 column_text c k i chunk here h =
     fitting_text (meaning (column c) (row_of i k.columns) 0) (as_nullable c.dtype)
-    (meaning-fits (column c) (row_of i k.columns) 0 c.dtype refl (row_of-IsRow k i chunk here)
-    (ap (is_cell_of c.dtype) (slice_get-map (λ d. record { dtype = d.dtype; value = value_at (slice_get d.values i) }) k.columns c.index) ∙ cell_of c.dtype i (slice_get k.columns c.index) h)
-    (omega arith))
+    (meaning-fits (column c) (row_of i k.columns) 0 c.dtype refl (row_of-IsRow k i chunk here) (rows-fit (column c) k i chunk h) (omega arith))
 
 -- on each row of a chunk, an expression over it that means a text means one in UTF-8
 pub means_text : (x : Tree Place) (k : ChunkData) (i : ℕ) → IsChunk k → i < rows_of k.columns → IsOver x k → IsText (meaning x (row_of i k.columns) (rows_of k.columns))

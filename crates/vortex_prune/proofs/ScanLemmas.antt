@@ -1,19 +1,21 @@
 -- What a scan has found after some parts, from what it had found before the last of them.
 use Rattle.std.proofs.Common.{◌≡◌, ◌<◌, ◌≤◌, ◌+◌, ◌||◌, ℕ, zero, suc, Bool, true, false, List, [], ◌∷◌, ◌++◌, Option, Some, IsTrue, cond, map, length, get_or, take, refl, sym, ap, subst, take_all, ◌∙◌, append_assoc, append-nil, inl, inr, arith}
 use Rattle.std.proofs.Math.Nat.{eq-or-lt_of_le}
-use Rattle.std.proofs.lemmas.Option.{same_Some, slice_get_read, slice_get_within}
-use Rattle.std.specs.List.{enumerate_from, filter, flat_map}
+use Rattle.std.proofs.lemmas.Option.{same_Some, slice_get_read, slice_get_within, slice_get-get_or}
+use Rattle.std.specs.List.{All, enumerate_from, filter, flat_map}
 use Rattle.std.specs.Prelude.{slice_get}
 use Rattle.vortex_base.specs.Columns.{row_count as rows_of}
 use Rattle.vortex_base.specs.Scalars.{Constant}
 use Rattle.vortex_base.specs.Tree.{Place, Tree}
 use Rattle.vortex_prune.specs.Part.{AreParts, IsPart, PartData}
 use Rattle.vortex_prune.specs.Proof.{Assignment}
-use Rattle.vortex_prune.specs.ScanRefusals.{IsFaithfulRefusal, IsProofRefusal, is_open}
+use Rattle.vortex_prune.specs.Binders.{BinderAnswer}
+use Rattle.vortex_prune.specs.Causes.{IsRefusal}
+use Rattle.vortex_prune.specs.ScanRefusals.{binder_causes, if_faithful, proof_causes}
+use Rattle.vortex_prune.proofs.CauseLemmas.{refusal-more}
+use Rattle.vortex_base.specs.declared.dtype.DType.{DType}
 use Rattle.vortex_prune.specs.Scanning.{Answered, AreFaithful, answered, any_binder, is_skipped, kept_rows, place_if, selected_rows, skipped_parts}
-use Rattle.vortex_stats.specs.declared.error.BinderFault.TheVariants.{Own, WrongType}
 use Rattle.vortex_stats.specs.declared.error.StatsError.{StatsError}
-use Rattle.vortex_stats.specs.declared.error.StatsError.TheVariants as fault
 
 -- ---- lists made of the elements of a list and their places
 
@@ -73,6 +75,28 @@ below_more n parts part h is own below i other less there =
       | inr before ↦ below i other before there
     ]
 
+-- ---- what is so of each element that was looked at
+
+abbrev pub HoldsBelow : {X : Type 0} → (X → Type 0) → ℕ → List X → Type 0
+HoldsBelow {X} P n xs = (k : ℕ) (d : X) → k < n → P (get_or xs k d)
+
+-- within a list what stands past its end doesn't matter
+same_element : {X : Type 0} (xs : List X) (n : ℕ) (a b : X) → n < length xs → get_or xs n a ≡ get_or xs n b
+same_element xs n a b h = same_Some _ _ (sym (slice_get-get_or xs n a h) ∙ slice_get-get_or xs n b h)
+
+pub holds_more : {X : Type 0} (P : X → Type 0) (n : ℕ) (xs : List X) (x : X) → n < length xs → x ≡ get_or xs n x → P x → HoldsBelow P n xs → HoldsBelow P (n + 1) xs
+holds_more P n xs x h is own below k d less =
+    let place : k ≤ n = omega (arith, less) in
+    elim (eq-or-lt_of_le place) [
+      | inl here ↦ subst P (is ∙ same_element xs n x d h ∙ ap (λ i. get_or xs i d) (sym here)) own
+      | inr before ↦ below k d before
+    ]
+
+pub holds_all : {X : Type 0} (P : X → Type 0) (n : ℕ) (xs : List X) → length xs ≤ n → HoldsBelow P n xs → All P xs
+holds_all P n xs h below k d less = below k d (omega (arith, less, h))
+
+-- ---- the parts
+
 pub all_below : (n : ℕ) (parts : List PartData) → length parts ≤ n → AreBelow n parts → AreParts parts
 all_below n parts h below i part there = below i part (omega (arith, slice_get_within parts i part there, h)) there
 
@@ -98,48 +122,38 @@ module _ {S : Type 0} where
   faithful_at over (q ∷ parts) (c ∷ binders) zero p b long h f = f.0
   faithful_at over (q ∷ parts) (c ∷ binders) (suc n) p b long h f = faithful_at over parts binders n p b (omega (arith, long)) (omega arith) f.1
 
-  any_at : (can_fault : S → ℕ → Bool) (binders : List S) (n : ℕ) (b : S) (k : ℕ) → n < length binders → can_fault (get_or binders n b) k ≡ true → any_binder can_fault binders k ≡ true
+  pub any_at : (can_fault : S → ℕ → Bool) (binders : List S) (n : ℕ) (b : S) (k : ℕ) → n < length binders → can_fault (get_or binders n b) k ≡ true → any_binder can_fault binders k ≡ true
   any_at can_fault [] n b k h t = absurd (omega arith)
   any_at can_fault (c ∷ binders) zero b k h t = or_left (can_fault c k) (any_binder can_fault binders k) t
   any_at can_fault (c ∷ binders) (suc n) b k h t = or_right (can_fault c k) (any_binder can_fault binders k) (any_at can_fault binders n b k (omega arith) t)
 
-  -- what one binder may refuse, the scan may
-  pub refusal_at : (can_fault : S → ℕ → Bool) (binders : List S) (n : ℕ) (b : S) (f : StatsError) → n < length binders → IsProofRefusal (can_fault (get_or binders n b)) f → IsProofRefusal (any_binder can_fault binders) f
-  refusal_at can_fault binders n b (fault.Memory e) h r = tt
-  refusal_at can_fault binders n b fault.NotPredicate h r = r
-  refusal_at can_fault binders n b fault.Mismatch h r = r
-  refusal_at can_fault binders n b fault.Unsupported h r = r
-  refusal_at can_fault binders n b (fault.Conflict s) h r = r
-  refusal_at can_fault binders n b (fault.Binder (Own k)) h r = any_at can_fault binders n b k h r
-  refusal_at can_fault binders n b (fault.Binder WrongType) h r = tt
-  refusal_at can_fault binders n b (fault.Rule x) h r = r
-  refusal_at can_fault binders n b fault.OpenProof h r = tt
-  refusal_at can_fault binders n b fault.TooLarge h r = r
+  -- what one binder may cause, the list may
+  module _ (answer : S → BinderAnswer) (IsMissing : S → DType → Tree Place → Type 0) (can_fault : S → ℕ → Bool) (proof : Option (Tree Place)) where
+    pub refusal_in : (binders : List S) (n : ℕ) (b : S) (f : StatsError) → n < length binders → b ≡ get_or binders n b
+        → IsRefusal (proof_causes (answer b) (IsMissing b) (can_fault b) proof) f → IsRefusal (binder_causes answer IsMissing can_fault proof binders) f
+    refusal_in binders n b f h is r =
+        refusal-more _ (binder_causes answer IsMissing can_fault proof binders) f (record {
+          rule = λ k x. x;
+          not_bool = λ x. x;
+          binder = λ k x. (n, b, h, sym is, x);
+          wrong_type = λ x. (n, b, h, sym is, x);
+          open_proof = λ x. (n, b, h, sym is, x);
+        }) r
 
-  pub faithful_refusal_at : (can_fault : S → ℕ → Bool) (binders : List S) (n : ℕ) (b : S) (proof : Option (Tree Place)) (f : StatsError) → n < length binders
-      → IsFaithfulRefusal (can_fault (get_or binders n b)) proof f → IsFaithfulRefusal (any_binder can_fault binders) proof f
-  faithful_refusal_at can_fault binders n b proof (fault.Memory e) h r = tt
-  faithful_refusal_at can_fault binders n b proof fault.NotPredicate h r = r
-  faithful_refusal_at can_fault binders n b proof fault.Mismatch h r = r
-  faithful_refusal_at can_fault binders n b proof fault.Unsupported h r = r
-  faithful_refusal_at can_fault binders n b proof (fault.Conflict s) h r = r
-  faithful_refusal_at can_fault binders n b proof (fault.Binder (Own k)) h r = any_at can_fault binders n b k h r
-  faithful_refusal_at can_fault binders n b proof (fault.Binder WrongType) h r = r
-  faithful_refusal_at can_fault binders n b proof (fault.Rule x) h r = r
-  faithful_refusal_at can_fault binders n b proof fault.OpenProof h r = r
-  faithful_refusal_at can_fault binders n b proof fault.TooLarge h r = r
-
-  -- the same of the binder that was read there
-  pub refusal_in : (can_fault : S → ℕ → Bool) (binders : List S) (n : ℕ) (b : S) (f : StatsError) → n < length binders → b ≡ get_or binders n b → IsProofRefusal (can_fault b) f → IsProofRefusal (any_binder can_fault binders) f
-  refusal_in can_fault binders n b f h is r = refusal_at can_fault binders n b f h (subst (λ c. IsProofRefusal (can_fault c) f) is r)
-
-  pub faithful_refusal_in : (over : S → List Constant → ℕ → Bool) (can_fault : S → ℕ → Bool) (parts : List PartData) (binders : List S) (n : ℕ) (part : PartData) (b : S) (proof : Option (Tree Place)) (f : StatsError)
-      → length binders ≡ length parts → n < length parts → part ≡ get_or parts n part → b ≡ get_or binders n b
-      → (IsTrue (over b [] (rows_of part.chunk.columns)) → IsFaithfulRefusal (can_fault b) proof f) → AreFaithful over parts binders → IsFaithfulRefusal (any_binder can_fault binders) proof f
-  faithful_refusal_in over can_fault parts binders n part b proof f long h is is_b r faithful =
-      let here = faithful_at over parts binders n part b long h faithful in
-      let own : IsTrue (over b [] (rows_of part.chunk.columns)) = subst (λ c. IsTrue (over c [] (rows_of part.chunk.columns))) (sym is_b) (subst (λ q. IsTrue (over (get_or binders n b) [] (rows_of q.chunk.columns))) (sym is) here) in
-      faithful_refusal_at can_fault binders n b proof f (omega (arith, long, h)) (subst (λ c. IsFaithfulRefusal (can_fault c) proof f) is_b (r own))
+    pub faithful_refusal_in : (over : S → List Constant → ℕ → Bool) (parts : List PartData) (binders : List S) (n : ℕ) (part : PartData) (b : S) (f : StatsError)
+        → length binders ≡ length parts → n < length parts → part ≡ get_or parts n part → b ≡ get_or binders n b
+        → (IsTrue (over b [] (rows_of part.chunk.columns)) → IsRefusal (if_faithful proof (proof_causes (answer b) (IsMissing b) (can_fault b) proof)) f)
+        → AreFaithful over parts binders → IsRefusal (if_faithful proof (binder_causes answer IsMissing can_fault proof binders)) f
+    faithful_refusal_in over parts binders n part b f long h is is_b r faithful =
+        let here = faithful_at over parts binders n part b long h faithful in
+        let own : IsTrue (over b [] (rows_of part.chunk.columns)) = subst (λ c. IsTrue (over c [] (rows_of part.chunk.columns))) (sym is_b) (subst (λ q. IsTrue (over (get_or binders n b) [] (rows_of q.chunk.columns))) (sym is) here) in
+        refusal-more _ (if_faithful proof (binder_causes answer IsMissing can_fault proof binders)) f (record {
+          rule = λ k x. x;
+          not_bool = λ x. x;
+          binder = λ k x. (n, b, omega (arith, long, h), sym is_b, x);
+          wrong_type = λ x. x;
+          open_proof = λ x. x;
+        }) (r own)
 
   -- the part that was read there, with its binder's answers
   pub answered_in : (value : S → List Constant → ℕ → Assignment) (parts : List PartData) (binders : List S) (n : ℕ) (part : PartData) (b : S) (d : Answered) → length binders ≡ length parts → n < length parts

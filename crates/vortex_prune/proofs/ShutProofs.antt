@@ -1,7 +1,7 @@
 -- The falsifiers of the built-in rules have no column outside their placeholders.
-use Rattle.std.proofs.Common.{◌≡◌, ◌||◌, ℕ, zero, suc, Bool, true, false, cond, List, [], ◌∷◌, Option, Some, None, length, IfErr, Ok, Err, Result, refl, sym, subst, append-nil, ◌∙◌, ⊎_elim}
+use Rattle.std.proofs.Common.{◌≡◌, ◌||◌, ℕ, zero, suc, Bool, true, false, cond, List, [], ◌∷◌, Option, Some, None, length, IfErr, Ok, Err, Result, get_or, refl, sym, ap, subst, append-nil, ◌∙◌, arith}
 use Rattle.std.specs.List.{AllByRecursion}
-use Rattle.std.specs.Prelude.{option_to_list}
+use Rattle.std.specs.Prelude.{Contains, option_to_list}
 use Rattle.std.specs.Result.{is_ok}
 use Rattle.std.specs.Str.{chars}
 use Rattle.vortex_base.specs.Between.{to_operator}
@@ -19,10 +19,14 @@ use Rattle.vortex_base.specs.declared.scalar_value.ScalarValue.{ScalarValue}
 use Rattle.vortex_base.specs.declared.scalar_value.ScalarValue.TheVariants as value
 use Rattle.vortex_prune.specs.Lawful.{OwnRule}
 use Rattle.vortex_prune.specs.Rewriting.{Ends, binary_node, both_of, comparison_falsifier, either_of, ends, ends_node, every_null, extreme, falsified, falsifier, halves_node, items_falsifier, joined, like_falsifier, literal_falsifier, max_of, min_of, node, none_null, null_count_of, other_than, outside, pattern_falsifier, placeholder, round, rounds, text_literal}
-use Rattle.vortex_prune.specs.RuleRefusals.{IsRuleFault}
-use Rattle.vortex_prune.specs.ScanRefusals.{IsFaithfulScanRefusal, IsMemory, is_open}
+use Rattle.vortex_base.specs.declared.dtype.DType.{DType}
+use Rattle.vortex_prune.proofs.CauseLemmas.{met-const, some-const}
+use Rattle.vortex_prune.proofs.ScanLemmas.{any_at}
+use Rattle.vortex_prune.specs.Binders.{BinderAnswer}
+use Rattle.vortex_prune.specs.Causes.{IsRefusal}
+use Rattle.vortex_prune.specs.ScanRefusals.{IsMemory, if_faithful, is_open, scan_causes}
+use Rattle.vortex_prune.specs.Scanning.{any_binder}
 use Rattle.vortex_stats.specs.declared.error.BinderFault.TheVariants as binder_fault
-use Rattle.vortex_stats.specs.declared.error.RuleFault.{RuleFault}
 use Rattle.vortex_stats.specs.declared.error.RuleFault.TheVariants as rule_fault
 use Rattle.vortex_stats.specs.declared.error.StatsError.{StatsError}
 use Rattle.vortex_stats.specs.declared.error.StatsError.TheVariants as fault
@@ -203,25 +207,30 @@ built_in_is_shut row_count = node_shut row_count [] tt
 
 -- ---- refusals by built-in rules and binders that name no fault
 
-rule_fault_none : (f : RuleFault) → IsRuleFault (λ rule. rule.falsifier) [] f → ⊥
-rule_fault_none (rule_fault.Own k) h = absurd cc
-rule_fault_none rule_fault.NotBool h = h
+no_element : {X : Type 0} (x : X) → Contains [] x → ⊥
+no_element x h = absurd (omega (arith, h.1))
 
-memory_alone : (can_fault : ℕ → Bool) (proof : Option (Tree Place)) (f : StatsError) → is_open proof ≡ false → ((k : ℕ) → can_fault k ≡ false) → IsFaithfulScanRefusal [] can_fault proof f → IsMemory f
-memory_alone can_fault proof (fault.Memory e) shut quiet h = tt
-memory_alone can_fault proof fault.NotPredicate shut quiet h = ⊎_elim (λ x. x) (λ x. x) h
-memory_alone can_fault proof fault.Mismatch shut quiet h = ⊎_elim (λ x. x) (λ x. x) h
-memory_alone can_fault proof fault.Unsupported shut quiet h = ⊎_elim (λ x. x) (λ x. x) h
-memory_alone can_fault proof (fault.Conflict s) shut quiet h = ⊎_elim (λ x. x) (λ x. x) h
-memory_alone can_fault proof (fault.Binder (binder_fault.Own k)) shut quiet h = ⊎_elim (λ x. x) (λ x. absurd (true≢false (sym x ∙ quiet k))) h
-memory_alone can_fault proof (fault.Binder binder_fault.WrongType) shut quiet h = ⊎_elim (λ x. x) (λ x. x) h
-memory_alone can_fault proof (fault.Rule r) shut quiet h = ⊎_elim (λ x. rule_fault_none r x) (λ x. x) h
-memory_alone can_fault proof fault.OpenProof shut quiet h = ⊎_elim (λ x. x) (λ x. absurd (true≢false (sym x ∙ shut))) h
-memory_alone can_fault proof fault.TooLarge shut quiet h = ⊎_elim (λ x. x) (λ x. x) h
+module _ {S : Type 0} (answer : S → BinderAnswer) (IsMissing : S → DType → Tree Place → Type 0) (can_fault : S → ℕ → Bool) (p : Tree Place) (binders : List S) where
+  memory_alone : (f : StatsError) → ((k : ℕ) → any_binder can_fault binders k ≡ false)
+      → IsRefusal (if_faithful (falsifier [] p) (scan_causes answer IsMissing can_fault [] p binders)) f → IsMemory f
+  memory_alone (fault.Memory e) quiet h = tt
+  memory_alone fault.NotPredicate quiet h = h
+  memory_alone fault.Mismatch quiet h = h
+  memory_alone fault.Unsupported quiet h = h
+  memory_alone (fault.Conflict s) quiet h = h
+  memory_alone (fault.Binder (binder_fault.Own k)) quiet h =
+      let named : can_fault h.1 k ≡ true = some-const (falsifier [] p) _ _ (λ e m. met-const _ e m) h.4 in
+      let read : can_fault (get_or binders h.0 h.1) k ≡ true = ap (λ b. can_fault b k) h.3 ∙ named in
+      absurd (true≢false (sym (any_at can_fault binders h.0 h.1 k h.2 read) ∙ quiet k))
+  memory_alone (fault.Binder binder_fault.WrongType) quiet h = h
+  memory_alone (fault.Rule (rule_fault.Own k)) quiet h = no_element h.1 h.3
+  memory_alone (fault.Rule rule_fault.NotBool) quiet h = no_element h.1 h.3
+  memory_alone fault.OpenProof quiet h = absurd (true≢false (sym h ∙ built_in_is_shut p))
+  memory_alone fault.TooLarge quiet h = h
 
--- such a scan is refused for memory alone
-pub refused_for_memory : {X : Type 0} (rules : List OwnRule) (can_fault : ℕ → Bool) (p : Tree Place) (r : Result X StatsError) → rules ≡ [] → ((k : ℕ) → can_fault k ≡ false)
-    → IfErr r (IsFaithfulScanRefusal rules can_fault (falsifier rules p)) → IfErr r IsMemory
-refused_for_memory rules can_fault p (Ok x) none quiet h = tt
-refused_for_memory rules can_fault p (Err f) none quiet h =
-    memory_alone can_fault (falsifier [] p) f (built_in_is_shut p) quiet (subst (λ rs. IsFaithfulScanRefusal rs can_fault (falsifier rs p) f) none h)
+  -- such a scan is refused for memory alone
+  pub refused_for_memory : {X : Type 0} (rules : List OwnRule) (r : Result X StatsError) → rules ≡ [] → ((k : ℕ) → any_binder can_fault binders k ≡ false)
+      → IfErr r (IsRefusal (if_faithful (falsifier rules p) (scan_causes answer IsMissing can_fault rules p binders))) → IfErr r IsMemory
+  refused_for_memory rules (Ok x) none quiet h = tt
+  refused_for_memory rules (Err f) none quiet h =
+      memory_alone f quiet (subst (λ rs. IsRefusal (if_faithful (falsifier rs p) (scan_causes answer IsMissing can_fault rs p binders)) f) none h)

@@ -108,7 +108,7 @@ module _ (k : ChunkData) (A : Assignment) (chunk : IsChunk k) (honest : IsHonest
   ends_right : (rules : List OwnRule) (o : BetweenOptions) (x l u : Tree Place) → IsOver (between o x l u) k → (es : Option Ends) → Rewritten o x l u es → IsRightFor (between o x l u) (ends_node rules x es)
   ends_right rules o x l u over None never = λ e is t. never row n
   ends_right rules o x l u over (Some f) moved =
-      let inner : IsOver (between f.options x f.lower f.upper) k = record { typed = ap is_ok moved.typed ∙ over.typed; over = moved.over k.columns ∙ over.over } in
+      let inner : IsOver (between f.options x f.lower f.upper) k = record { typed = ap is_ok moved.typed ∙ over.typed; over = moved.over k.scope ∙ over.over } in
       λ e is t. sym (moved.same row n) ∙ sym (between_is row n f.options x f.lower f.upper)
       ∙ halves_right rules f.options x f.lower f.upper (halves_over f.options x f.lower f.upper k inner) e is t
 

@@ -1,5 +1,5 @@
 -- A scan with honest binders selects what the full scan does, and one by the parts' own statistics skips exactly what they rule out.
-use Rattle.std.proofs.Common.{◌≡◌, ◌↔◌, ℕ, zero, suc, Bool, true, false, List, [], ◌∷◌, Ok, Err, Option, Some, Result, IsTrue, IsOk, IfOk, All, map, length, refl, sym, ap, subst, ◌∙◌, arith}
+use Rattle.std.proofs.Common.{◌≡◌, ◌↔◌, ℕ, zero, suc, true, List, [], ◌∷◌, Ok, Err, Some, Result, IsTrue, IsOk, IfOk, All, map, length, refl, sym, ap, subst, ◌∙◌, arith}
 use Rattle.std.specs.List.{AllByRecursion}
 use Rattle.std.specs.Prelude.{Contains, slice_get}
 use Rattle.std.proofs.lemmas.List.Elements.{recursion_from_All}
@@ -14,19 +14,19 @@ use Rattle.vortex_base.specs.declared.error.BaseError.{BaseError}
 use Rattle.vortex_prune.proofs.BoundValues.{has_a_type}
 use Rattle.vortex_prune.proofs.Lossless.{IsAnswered, selected_full}
 use Rattle.vortex_prune.proofs.SkippedParts.{scans_skip_exactly}
-use Rattle.vortex_prune.specs.Complete.{Box, IsBoxOf, IsInOrder, IsSatisfiable, SkipsExactly, by_own_statistics, is_read_once}
+use Rattle.vortex_prune.specs.Complete.{IsSatisfiable, SkipsExactly, by_own_statistics, is_read_once}
 use Rattle.vortex_prune.specs.Lawful.{OwnRule}
 use Rattle.vortex_prune.specs.Part.{AreParts, IsPart, PartData}
 use Rattle.vortex_prune.specs.PartAnswers.{part_values}
 use Rattle.vortex_prune.specs.Predicates.{has_type, is_predicate}
 use Rattle.vortex_prune.specs.Proof.{Assignment}
 use Rattle.vortex_prune.specs.Rewriting.{falsifier}
-use Rattle.vortex_prune.specs.Scanning.{Answered, AreByStatistics, AreHonest, answered, full, selected_rows, skipped_parts}
+use Rattle.vortex_prune.specs.Scanning.{AreByStatistics, AreHonest, answered, full, selected_rows, skipped_parts}
 
 abbrev Fits : Tree Place → PartData → Type 0
 Fits p part = IsTrue (fits_scope p part.chunk.scope)
 
-parts_by_recursion : (parts : List PartData) → AreParts parts → AllByRecursion IsPart parts
+pub parts_by_recursion : (parts : List PartData) → AreParts parts → AllByRecursion IsPart parts
 parts_by_recursion [] h = tt
 parts_by_recursion (p ∷ parts) h = (h 0 p refl, parts_by_recursion parts (λ i part e. h (suc i) part e))
 

@@ -1,18 +1,19 @@
 -- What binding makes of an expression.
-use Rattle.std.specs.Prelude.{◌≡◌, ◌⊎◌, ℕ, Bool, false, List, [], Option, Some, None, Result, Ok, IsTrue, ⊤}
+use Rattle.std.specs.Prelude.{◌≡◌, ◌⊎◌, ℕ, Bool, false, List, [], Option, Some, None, Result, Ok, IsTrue}
 use Rattle.vortex_base.specs.declared.aggregate.AggregateFnRef.{AggregateFnRef}
 use Rattle.vortex_base.specs.declared.dtype.DType.{DType}
 use Rattle.vortex_base.specs.declared.error.BaseError.{BaseError}
 use Rattle.vortex_base.specs.Scalars.{Constant}
-use Rattle.vortex_base.specs.Tree.{Tree, Place, column, literal, binary, between, is_null, is_not_null, not, like, stat, row_count, has_bare_column}
+use Rattle.vortex_base.specs.Tree.{Tree, Place, column, literal, binary, between, is_null, is_not_null, not, like, stat, row_count, has_bare_column, is_closed}
 use Rattle.vortex_base.specs.Types.{as_nullable, eq_ignore_nullability}
 use Rattle.vortex_base.specs.Typing.{type_of, with_type}
-use Rattle.vortex_stats.specs.declared.error.BinderFault.TheVariants.{Own, WrongType}
+use Rattle.vortex_stats.specs.declared.error.BinderFault.TheVariants.{Own}
 use Rattle.vortex_stats.specs.declared.error.StatsError.{StatsError}
 use Rattle.vortex_stats.specs.declared.error.StatsError.TheVariants.{Memory, Binder}
 use Rattle.vortex_prune.specs.declared.hook_fault.HookFault.{HookFault}
 use Rattle.vortex_prune.specs.declared.hook_fault.HookFault.TheVariants as fault
 use Rattle.vortex_prune.specs.Binders.{BinderAnswer}
+use Rattle.vortex_prune.specs.Causes.{Causes, no_causes}
 
 -- the type, null being made one of its values
 abbrev pub base_type : Tree Place → Result DType BaseError
@@ -24,9 +25,9 @@ IsReplacement None IsMissing r = IsMissing r
 IsReplacement (Some a) IsMissing r = r ≡ a
 
 module _ (answer : BinderAnswer) (IsMissing : DType → Tree Place → Type 0) where
-  -- what may stand for a placeholder
+  -- what may stand for a placeholder: the answer to it, or else what may stand for a missing one, of the placeholder's type, nullability aside
   abbrev pub Replaces : AggregateFnRef → Tree Place → Tree Place → Type 0
-  Replaces f x r = (t : DType) → type_of (stat f x) ≡ Ok t → IsReplacement (answer f x t) (IsMissing t) r
+  Replaces f x r = ((t : DType) → type_of (stat f x) ≡ Ok t → IsReplacement (answer f x t) (IsMissing t) r) × (base_type r ≡ base_type (stat f x))
 
   -- the answer to a placeholder, or what may stand for a missing one, is of another type, nullability aside
   abbrev pub IsWrong : AggregateFnRef → Tree Place → Type 0
@@ -62,12 +63,21 @@ module _ (P : AggregateFnRef → Tree Place → Type 0) where
   SomeMet (stat f x) = P f x
   SomeMet row_count = ⊥
 
--- memory was refused, the binder faulted with a number that it names, or there is an answer of a wrong type
-abbrev pub IsBindRefusal : (can_fault : ℕ → Bool) → (HasWrong : Type 0) → StatsError → Type 0
-IsBindRefusal can_fault HasWrong (Memory e) = ⊤
-IsBindRefusal can_fault HasWrong (Binder (Own k)) = IsTrue (can_fault k)
-IsBindRefusal can_fault HasWrong (Binder WrongType) = HasWrong
-IsBindRefusal can_fault HasWrong e = ⊥
+-- what a binder may cause that is asked once: a fault that it names
+abbrev pub hook_causes : (can_fault : ℕ → Bool) → Causes
+hook_causes can_fault = record no_causes { binder = λ k. IsTrue (can_fault k) }
+
+module _ (answer : BinderAnswer) (IsMissing : DType → Tree Place → Type 0) where
+  -- what binding an expression may cause: at a placeholder that is met the binder faults with a number that it names, or answers by a wrong type
+  abbrev pub binding_causes : (can_fault : ℕ → Bool) → Tree Place → Causes
+  binding_causes can_fault e = record no_causes {
+    binder = λ k. SomeMet (λ f x. IsTrue (can_fault k)) e;
+    wrong_type = SomeMet (IsWrong answer IsMissing) e;
+  }
+
+  -- the expression is bound to one that is closed, or to one that isn't
+  abbrev pub IsBoundTo : Tree Place → (closed : Bool) → Type 0
+  IsBoundTo e closed = (r : Tree Place) × IsBinding (Replaces answer IsMissing) e r × (is_closed r ≡ closed)
 
 -- a fault of a binder, as binding tells it
 abbrev pub binder_error : HookFault → StatsError

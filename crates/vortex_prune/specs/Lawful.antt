@@ -1,17 +1,23 @@
 -- What the rules of a user have to keep, and such a rule as plain data.
-use Rattle.std.specs.Prelude.{◌≡◌, ◌<◌, ℕ, Bool, true, false, Option, Some, IsOk, IsTrue}
+use Rattle.std.specs.Prelude.{◌≡◌, ◌<◌, ℕ, Bool, true, false, not as not_b, ◌&&◌, List, Option, Some, IsOk, IsTrue}
 use Rattle.vortex_base.specs.declared.scalar_fn.ScalarFnId.{ScalarFnId}
 use Rattle.vortex_base.specs.Columns.{ChunkData, IsChunk, row_of, row_count as rows_of}
+use Rattle.vortex_base.specs.Fitting.{fits_scope}
 use Rattle.vortex_base.specs.Meaning.{satisfies}
-use Rattle.vortex_base.specs.Tree.{Tree, Place}
+use Rattle.vortex_base.specs.Scopes.{Named}
+use Rattle.vortex_base.specs.Tree.{Tree, Place, has_placeholder}
 use Rattle.vortex_base.specs.Typing.{type_of}
-use Rattle.vortex_prune.specs.Facts.{IsHonest, is_over}
+use Rattle.vortex_prune.specs.Facts.{IsHonest}
 use Rattle.vortex_prune.specs.Proof.{Assignment, proves}
 
--- the expression has a type and no placeholder, and its columns are the chunk's, nullability aside
+-- the expression has no placeholder, and each column's place and type are the scope's
+abbrev pub is_of_scope : Tree Place → List Named → Bool
+is_of_scope p scope = not_b (has_placeholder p) && fits_scope p scope
+
+-- the expression has a type, and can be read on the chunk's rows: its columns are those of the chunk's scope, of the very types
 pub record IsOver (p : Tree Place) (k : ChunkData) : Type 0 where
   pub typed : IsOk (type_of p)
-  pub over : IsTrue (is_over p k.columns)
+  pub over : IsTrue (is_of_scope p k.scope)
 
 abbrev pub NoRowSatisfies : Tree Place → ChunkData → Type 0
 NoRowSatisfies p k = (i : ℕ) → i < rows_of k.columns → satisfies p (row_of i k.columns) (rows_of k.columns) ≡ false

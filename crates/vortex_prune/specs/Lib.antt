@@ -2,6 +2,8 @@ pub mod Answers
 pub mod Binders
 pub mod Binding
 pub mod BuiltIn
+pub mod BuiltInRules
+pub mod Causes
 pub mod Complete
 pub mod Facts
 pub mod HookFaults
@@ -22,3 +24,4 @@ pub mod Scanning
 pub mod Sides
 pub mod StatValues
 pub mod StateTypes
+pub mod Visited

@@ -1,40 +1,58 @@
--- Which refusals the proof of one part, and a whole scan, may come to.
-use Rattle.std.specs.Prelude.{◌≡◌, ℕ, Bool, true, false, List, [], ◌∷◌, Option, Some, None, IsTrue, ⊤, ◌⊎◌, ◌||◌}
-use Rattle.vortex_base.specs.Scalars.{Constant}
+-- What may cause the refusal of a scan, and what an answered one has bound.
+use Rattle.std.specs.Prelude.{◌≡◌, ℕ, Bool, true, false, All, Any, List, Option, Some, None, IfSome, IsSomeAnd, IsTrue, ⊤}
+use Rattle.vortex_base.specs.declared.dtype.DType.{DType}
 use Rattle.vortex_base.specs.Tree.{Tree, Place, has_bare_column}
+use Rattle.vortex_prune.specs.Binders.{BinderAnswer}
+use Rattle.vortex_prune.specs.Binding.{IsBoundTo, IsWrong, SomeMet}
+use Rattle.vortex_prune.specs.Causes.{Causes, no_causes}
 use Rattle.vortex_prune.specs.Lawful.{OwnRule}
-use Rattle.vortex_prune.specs.RuleRefusals.{IsRefusal}
-use Rattle.vortex_stats.specs.declared.error.BinderFault.TheVariants.{Own, WrongType}
+use Rattle.vortex_prune.specs.Rewriting.{falsifier}
+use Rattle.vortex_prune.specs.RuleRefusals.{rule_causes}
+use Rattle.vortex_prune.specs.Visited.{visited}
 use Rattle.vortex_stats.specs.declared.error.StatsError.{StatsError}
-use Rattle.vortex_stats.specs.declared.error.StatsError.TheVariants.{Memory, Binder, OpenProof}
+use Rattle.vortex_stats.specs.declared.error.StatsError.TheVariants.{Memory}
 
--- the refusals that a binder's answers to a proof may come to: of memory, the binder's own faults by the numbers that it names, an answer of a wrong type, and a proof that is left open
-abbrev pub IsProofRefusal : (can_fault : ℕ → Bool) → StatsError → Type 0
-IsProofRefusal can_fault (Memory e) = ⊤
-IsProofRefusal can_fault (Binder (Own k)) = IsTrue (can_fault k)
-IsProofRefusal can_fault (Binder WrongType) = ⊤
-IsProofRefusal can_fault OpenProof = ⊤
-IsProofRefusal can_fault e = ⊥
+module _ (answer : BinderAnswer) (IsMissing : DType → Tree Place → Type 0) where
+  -- the binder binds the proof, if there is one, to a closed expression
+  abbrev pub IsClosed : (proof : Option (Tree Place)) → Type 0
+  IsClosed proof = IfSome proof (λ e. IsBoundTo answer IsMissing e true)
 
--- a proof, if there is one, has a column outside its placeholders
+  -- what one binder may cause that is asked for a proof, if there is one: what it does in binding it, and that it leaves it open
+  abbrev pub proof_causes : (can_fault : ℕ → Bool) → (proof : Option (Tree Place)) → Causes
+  proof_causes can_fault proof = record no_causes {
+    binder = λ k. IsSomeAnd proof (SomeMet (λ f x. IsTrue (can_fault k)));
+    wrong_type = IsSomeAnd proof (SomeMet (IsWrong answer IsMissing));
+    open_proof = IsSomeAnd proof (λ e. IsBoundTo answer IsMissing e false);
+  }
+
+module _ {S : Type 0} (answer : S → BinderAnswer) (IsMissing : S → DType → Tree Place → Type 0) where
+  -- each binder does so
+  abbrev pub AreClosed : (proof : Option (Tree Place)) → List S → Type 0
+  AreClosed proof binders = All (λ b. IsClosed (answer b) (IsMissing b) proof) binders
+
+  -- what some of the binders may cause
+  abbrev pub binder_causes : (can_fault : S → ℕ → Bool) → (proof : Option (Tree Place)) → List S → Causes
+  binder_causes can_fault proof binders = record no_causes {
+    binder = λ k. Any (λ b. (proof_causes (answer b) (IsMissing b) (can_fault b) proof).binder k) binders;
+    wrong_type = Any (λ b. (proof_causes (answer b) (IsMissing b) (can_fault b) proof).wrong_type) binders;
+    open_proof = Any (λ b. (proof_causes (answer b) (IsMissing b) (can_fault b) proof).open_proof) binders;
+  }
+
+  -- what a scan may be refused for: what its rules cause at the nodes that are visited, and what its binders do that are asked for the falsifier
+  abbrev pub scan_causes : (can_fault : S → ℕ → Bool) → List OwnRule → Tree Place → List S → Causes
+  scan_causes can_fault rules p binders = record (binder_causes can_fault (falsifier rules p) binders) {
+    rule = (rule_causes (λ rule. rule.falsifier) rules (visited p)).rule;
+    not_bool = (rule_causes (λ rule. rule.falsifier) rules (visited p)).not_bool;
+  }
+
+-- the proof, if there is one, has a column outside its placeholders
 abbrev pub is_open : Option (Tree Place) → Bool
 is_open None = false
 is_open (Some e) = has_bare_column e
 
--- those that are left where the binder is faithful: none of a wrong type, and a proof is left open only by a column of its own outside its placeholders
-abbrev pub IsFaithfulRefusal : (can_fault : ℕ → Bool) → (proof : Option (Tree Place)) → StatsError → Type 0
-IsFaithfulRefusal can_fault e (Memory x) = ⊤
-IsFaithfulRefusal can_fault e (Binder (Own k)) = IsTrue (can_fault k)
-IsFaithfulRefusal can_fault e OpenProof = is_open e ≡ true
-IsFaithfulRefusal can_fault e x = ⊥
-
--- what a scan of a predicate may be refused for: what its rules cause, and what its binders do
-abbrev pub IsScanRefusal : List OwnRule → (can_fault : ℕ → Bool) → StatsError → Type 0
-IsScanRefusal rules can_fault f = IsRefusal (λ rule. rule.falsifier) rules f ⊎ IsProofRefusal can_fault f
-
--- the same where the binders are faithful
-abbrev pub IsFaithfulScanRefusal : List OwnRule → (can_fault : ℕ → Bool) → (proof : Option (Tree Place)) → StatsError → Type 0
-IsFaithfulScanRefusal rules can_fault proof f = IsRefusal (λ rule. rule.falsifier) rules f ⊎ IsFaithfulRefusal can_fault proof f
+-- those causes that are left where the binders are faithful: none answers by a wrong type, and a proof is left open only by a column of its own outside its placeholders
+abbrev pub if_faithful : (proof : Option (Tree Place)) → Causes → Causes
+if_faithful proof causes = record causes { wrong_type = ⊥; open_proof = is_open proof ≡ true }
 
 -- memory was refused
 abbrev pub IsMemory : StatsError → Type 0

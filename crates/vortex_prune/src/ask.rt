@@ -4,7 +4,8 @@ ghost use Rattle.vortex_base.specs.Tree.{scalar_fn_of};
 ghost use Rattle.vortex_prune.specs.HookFaults.{IsHookFault};
 ghost use Rattle.vortex_prune.specs.Own.{own_rule, own_rules};
 ghost use Rattle.vortex_prune.specs.Rewriting.{asked, is_function, own_proofs};
-ghost use Rattle.vortex_prune.specs.RuleRefusals.{IsRefusal};
+ghost use Rattle.vortex_prune.specs.Causes.{IsRefusal};
+ghost use Rattle.vortex_prune.specs.RuleRefusals.{rule_causes};
 ghost use Rattle.vortex_prune.specs.Sides.{proof_of};
 
 use crate::hook_fault::HookFault;
@@ -79,7 +80,7 @@ fn ask_rule(
 ) -> Result<Option<Proof>, StatsError>
     ensures { let own = own_rule ⟦<dyn StatsRewriteRule as StatsRewriteRule>⟧ rule.now in
         MatchResult result (λ o. o ≡ asked (proof_of side) e.now own)
-        (IsRefusal (proof_of side) (own ∷ [])) }
+        (IsRefusal (rule_causes (proof_of side) (own ∷ []) (e.now ∷ []))) }
 {
     if !is_for(rule, e) {
         return Ok(None);
@@ -105,8 +106,8 @@ pub(crate) fn ask_own(
 ) -> Result<(), StatsError>
     ensures proofs { IfOk result (λ _. proofs.new.items ≡ proofs.old.items ++ own_proofs (proof_of side)
         (own_rules ⟦<dyn StatsRewriteRule as StatsRewriteRule>⟧ rules.now.own.items) e.now) }
-    ensures refusal { IfErr result (IsRefusal (proof_of side)
-        (own_rules ⟦<dyn StatsRewriteRule as StatsRewriteRule>⟧ rules.now.own.items)) }
+    ensures refusal { let own = own_rules ⟦<dyn StatsRewriteRule as StatsRewriteRule>⟧ rules.now.own.items in
+        IfErr result (IsRefusal (rule_causes (proof_of side) own (e.now ∷ []))) }
 {
     for rule in &rules.own {
         let proof = ask_rule(alloc, side, rule, e)?;

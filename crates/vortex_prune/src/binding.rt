@@ -5,7 +5,8 @@ ghost use Rattle.vortex_base.specs.Meaning.{meaning};
 ghost use Rattle.vortex_base.specs.Tree.{stat, has_bare_column, has_placeholder};
 ghost use Rattle.vortex_base.specs.Typing.{type_of};
 ghost use Rattle.vortex_prune.specs.Binding as spec;
-ghost use Rattle.vortex_prune.specs.Binding.{IsBinding, IsBindRefusal, IsReplacement, IsWrong, Replaces, SomeMet, HasNoColumnOn, WhereFaithful};
+ghost use Rattle.vortex_prune.specs.Binding.{IsBinding, IsReplacement, Replaces, HasNoColumnOn, WhereFaithful, binding_causes, hook_causes};
+ghost use Rattle.vortex_prune.specs.Causes.{IsRefusal};
 ghost use Rattle.vortex_prune.specs.Proof.{value_under};
 ghost use Rattle.vortex_stats.specs.declared.error.StatsError.TheVariants as fault;
 ghost use Rattle.vortex_stats.specs.declared.error.BinderFault.TheVariants as binder_fault;
@@ -42,7 +43,7 @@ fn answered<B: StatBinder>(
 ) -> Result<BoundExpression, StatsError>
     ensures answer { IfOk result (IsReplacement (B.answer binder.now aggregate input.now dtype)
         (B.is_missing binder.now dtype)) }
-    ensures refusal { IfErr result (IsBindRefusal (B.can_fault binder.now) ⊥) }
+    ensures refusal { IfErr result (IsRefusal (hook_causes (B.can_fault binder.now))) }
 {
     match told(binder.bind_aggregate(alloc, input, &aggregate, &dtype))? {
         Some(answer) => Ok(answer),
@@ -61,8 +62,8 @@ fn replaced<B: StatBinder>(
     requires { type_of (stat aggregate input.now) ≡ Ok dtype }
     ensures replaces { IfOk result (Replaces (B.answer binder.now) (B.is_missing binder.now) aggregate input.now) }
     ensures typed { IfOk result (λ r. spec.base_type r ≡ spec.base_type (stat aggregate input.now)) }
-    ensures refusal { IfErr result (IsBindRefusal (B.can_fault binder.now)
-        (IsWrong (B.answer binder.now) (B.is_missing binder.now) aggregate input.now)) }
+    ensures refusal { IfErr result (IsRefusal (binding_causes (B.answer binder.now)
+        (B.is_missing binder.now) (B.can_fault binder.now) (stat aggregate input.now))) }
 {
     let answer = answered(alloc, input, aggregate, dtype, binder)?;
     if answer.dtype().eq_ignore_nullability(&dtype) {
@@ -80,13 +81,13 @@ fn bound_stats<B: StatBinder>(
 ) -> Result<BoundExpression, StatsError>
     ensures bound { IfOk result (IsBinding (Replaces (B.answer binder.now) (B.is_missing binder.now)) e.now) }
     ensures typed { IfOk result (λ r. spec.base_type r ≡ spec.base_type e.now) }
-    ensures refusal { IfErr result (IsBindRefusal (B.can_fault binder.now)
-        (SomeMet (IsWrong (B.answer binder.now) (B.is_missing binder.now)) e.now)) }
+    ensures refusal { IfErr result (IsRefusal (binding_causes (B.answer binder.now)
+        (B.is_missing binder.now) (B.can_fault binder.now) e.now)) }
 {
     let dtype = e.dtype();
     match e.parts() {
         Parts::Column(place, _) => built(bound::col(alloc, place, dtype)),
-        Parts::Literal(value) => built(bound::lit(alloc, value.try_clone()?)),
+        Parts::Literal(value) => built(bound::lit(alloc, built(value.try_clone())?)),
         Parts::Binary(operator, left, right) => {
             let left = bound_stats(alloc, left, binder)?;
             let right = bound_stats(alloc, right, binder)?;
@@ -125,8 +126,8 @@ pub(crate) fn bind_stats_of<B: StatBinder>(
         (λ row n. has_bare_column e.now ≡ false → IsTrue (fits_row r row))) }
     ensures value { IfOk result (λ r. WhereFaithful (B.is_faithful_over binder.now)
         (λ row n. HasNoColumnOn e.now row → meaning r row n ≡ value_under (B.value binder.now row n) n e.now)) }
-    ensures refusal { IfErr result (IsBindRefusal (B.can_fault binder.now)
-        (SomeMet (IsWrong (B.answer binder.now) (B.is_missing binder.now)) e.now)) }
+    ensures refusal { IfErr result (IsRefusal (binding_causes (B.answer binder.now)
+        (B.is_missing binder.now) (B.can_fault binder.now) e.now)) }
     ensures right_types { WhereFaithful (B.is_faithful_over binder.now)
         (λ row n. IfErr result (λ f. ¬ (f ≡ fault.Binder binder_fault.WrongType))) }
 {
@@ -154,8 +155,8 @@ pub fn bind_stats<B: StatBinder>(
         (λ row n. has_bare_column e ≡ false → IsTrue (fits_row r row))) }
     ensures value { IfOk result (λ r. WhereFaithful (B.is_faithful_over binder.now)
         (λ row n. HasNoColumnOn e row → meaning r row n ≡ value_under (B.value binder.now row n) n e)) }
-    ensures refusal { IfErr result (IsBindRefusal (B.can_fault binder.now)
-        (SomeMet (IsWrong (B.answer binder.now) (B.is_missing binder.now)) e)) }
+    ensures refusal { IfErr result (IsRefusal (binding_causes (B.answer binder.now)
+        (B.is_missing binder.now) (B.can_fault binder.now) e)) }
     ensures right_types { WhereFaithful (B.is_faithful_over binder.now)
         (λ row n. IfErr result (λ f. ¬ (f ≡ fault.Binder binder_fault.WrongType))) }
 {

@@ -3,6 +3,7 @@ ghost use Rattle.std.specs.Prelude.{◌≡◌, Ok, IfOk, IfErr, alloc_error};
 ghost use Rattle.vortex_base.specs.declared.error.BaseError.TheVariants.{Memory};
 ghost use Rattle.vortex_stats.specs.declared.error.StatsError.TheVariants as refusal;
 
+use vortex_base::bound_expression::BoundExpression;
 use vortex_base::error::BaseError;
 use vortex_stats::error::StatsError;
 
@@ -17,4 +18,12 @@ pub(crate) fn built<T>(made: Result<T, BaseError>) -> Result<T, StatsError>
         Err(BaseError::Memory(refused)) => Err(StatsError::Memory(refused)),
         Err(_) => unreachable!(),
     }
+}
+
+/// A copy of an expression, by the allocators that its nodes hold.
+pub(crate) fn cloned(e: &BoundExpression) -> Result<BoundExpression, StatsError>
+    ensures value { IfOk result (λ copy. copy ≡ e.now) }
+    ensures memory { IfErr result (λ fault. fault ≡ refusal.Memory alloc_error) }
+{
+    built(e.try_clone())
 }

@@ -9,6 +9,7 @@ ghost use Rattle.vortex_stats.specs.declared.error.StatsError.TheVariants.{Memor
 ghost use Rattle.vortex_prune.specs.BuiltIn.{ends_from, ordered_ends, raised_end, lowered_end};
 ghost use Rattle.vortex_prune.specs.Rewriting.{ends as ends_of, is_closed_end, is_crossed as is_crossed_by, number_ends as number_ends_of};
 
+use crate::built::cloned;
 use crate::nodes::literal;
 use std::alloc::Global;
 use std::cmp::Ordering;
@@ -94,7 +95,10 @@ fn number_ends(
 {
     let low_type = lower.0.dtype();
     let high_type = upper.0.dtype();
-    match ordered(raised(options.lower_strict, lower.1), lowered(options.upper_strict, upper.1)) {
+    match ordered(
+        raised(options.lower_strict, lower.1),
+        lowered(options.upper_strict, upper.1),
+    ) {
         None => Ok(None),
         Some((low, high)) => {
             let closed = BetweenOptions {
@@ -116,7 +120,7 @@ fn as_they_stand(
     ensures value { IfOk result (λ o. option_map ends_from o ≡ Some (ends_from (options, lower.now, upper.now))) }
     ensures memory { IfErr result (λ fault. fault ≡ Memory alloc_error) }
 {
-    Ok(Some((options, lower.try_clone()?, upper.try_clone()?)))
+    Ok(Some((options, cloned(lower)?, cloned(upper)?)))
 }
 
 /// The ends by which a BETWEEN is rewritten; none if they are literals between which no value lies.

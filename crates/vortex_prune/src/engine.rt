@@ -1,14 +1,17 @@
 //! The engine: it rewrites a predicate into a proof, node by node.
-ghost use Rattle.std.specs.Prelude.{◌≡◌, ◌+◌, ◌-◌, ◌^◌, min, IfErr, IfOk, IsOk, alloc_error, option_map};
+ghost use Rattle.std.specs.Prelude.{◌≡◌, ◌+◌, ◌-◌, ◌^◌, ◌∷◌, [], min, IfErr, IfOk, IsOk, alloc_error, option_map};
 ghost use Rattle.vortex_base.specs.Tree as tree;
 ghost use Rattle.vortex_base.specs.Typing.{type_of};
 ghost use Rattle.vortex_stats.specs.declared.error.StatsError.TheVariants.{Memory};
+ghost use Rattle.vortex_prune.specs.Causes.{IsRefusal};
 ghost use Rattle.vortex_prune.specs.Own.{own_rules};
 ghost use Rattle.vortex_prune.specs.Rewriting.{ends as ends_of, falsifier as falsifier_of, halves as halves_of, node as node_of, satisfier as satisfier_of, visits as visits_of};
-ghost use Rattle.vortex_prune.specs.RuleRefusals.{IsRefusal};
+ghost use Rattle.vortex_prune.specs.RuleRefusals.{rule_causes};
 ghost use Rattle.vortex_prune.specs.Sides.{proof_of};
+ghost use Rattle.vortex_prune.specs.Visited.{visited};
 
 use crate::ask::ask_own;
+use crate::built::cloned;
 use crate::ends::ends;
 use crate::extremes::{both_joined, either_joined};
 use crate::join::join;
@@ -32,10 +35,10 @@ fn node(
     e: &BoundExpression,
     built_in: Vec<Proof>,
 ) -> Result<Option<Proof>, StatsError>
-    ensures answer { IfOk result (λ o. o ≡ node_of (proof_of side)
-        (own_rules ⟦<dyn StatsRewriteRule as StatsRewriteRule>⟧ rules.now.own.items) e.now built_in.items) }
-    ensures refusal { IfErr result (IsRefusal (proof_of side)
-        (own_rules ⟦<dyn StatsRewriteRule as StatsRewriteRule>⟧ rules.now.own.items)) }
+    ensures answer { let own = own_rules ⟦<dyn StatsRewriteRule as StatsRewriteRule>⟧ rules.now.own.items in
+        IfOk result (λ o. o ≡ node_of (proof_of side) own e.now built_in.items) }
+    ensures refusal { let own = own_rules ⟦<dyn StatsRewriteRule as StatsRewriteRule>⟧ rules.now.own.items in
+        IfErr result (IsRefusal (rule_causes (proof_of side) own (e.now ∷ []))) }
 {
     let mut proofs = built_in;
     ask_own(alloc, side, rules, e, &mut proofs)?;
@@ -57,14 +60,14 @@ fn both_halves(
     let low = Proof::binary(
         alloc,
         options.lower_strict.to_operator(),
-        lower.try_clone()?,
-        x.try_clone()?,
+        cloned(lower)?,
+        cloned(x)?,
     )?;
     let high = Proof::binary(
         alloc,
         options.upper_strict.to_operator(),
-        x.try_clone()?,
-        upper.try_clone()?,
+        cloned(x)?,
+        cloned(upper)?,
     )?;
     Ok(Proof::join(alloc, Operator::And, low, high)?.into_expression())
 }
@@ -99,11 +102,11 @@ pub(crate) fn rewrite_node(
     e: &BoundExpression,
     visits: &mut u64,
 ) -> Result<Option<Proof>, StatsError>
-    ensures answer { IfOk result (λ o. o ≡ falsifier_of
-        (own_rules ⟦<dyn StatsRewriteRule as StatsRewriteRule>⟧ rules.now.own.items) e.now) }
+    ensures answer { let own = own_rules ⟦<dyn StatsRewriteRule as StatsRewriteRule>⟧ rules.now.own.items in
+        IfOk result (λ o. o ≡ falsifier_of own e.now) }
     ensures visits { IfOk result (λ _. visits.new ≡ min (visits.old + visits_of e.now) (2 ^ 64 - 1)) }
-    ensures refusal { IfErr result (IsRefusal (proof_of Side.Falsify)
-        (own_rules ⟦<dyn StatsRewriteRule as StatsRewriteRule>⟧ rules.now.own.items)) }
+    ensures refusal { let own = own_rules ⟦<dyn StatsRewriteRule as StatsRewriteRule>⟧ rules.now.own.items in
+        IfErr result (IsRefusal (rule_causes (proof_of Side.Falsify) own (visited e.now))) }
 {
     *visits = visits.saturating_add(1);
     let _typed = e.dtype();
@@ -141,10 +144,10 @@ pub(crate) fn satisfy_node(
     rules: &Rules,
     e: &BoundExpression,
 ) -> Result<Option<Proof>, StatsError>
-    ensures answer { IfOk result (λ o. o ≡ satisfier_of
-        (own_rules ⟦<dyn StatsRewriteRule as StatsRewriteRule>⟧ rules.now.own.items) e.now) }
-    ensures refusal { IfErr result (IsRefusal (proof_of Side.Satisfy)
-        (own_rules ⟦<dyn StatsRewriteRule as StatsRewriteRule>⟧ rules.now.own.items)) }
+    ensures answer { let own = own_rules ⟦<dyn StatsRewriteRule as StatsRewriteRule>⟧ rules.now.own.items in
+        IfOk result (λ o. o ≡ satisfier_of own e.now) }
+    ensures refusal { let own = own_rules ⟦<dyn StatsRewriteRule as StatsRewriteRule>⟧ rules.now.own.items in
+        IfErr result (IsRefusal (rule_causes (proof_of Side.Satisfy) own (e.now ∷ []))) }
 {
     node(alloc, Side::Satisfy, rules, e, table_satisfiers(alloc, e)?)
 }

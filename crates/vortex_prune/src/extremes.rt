@@ -6,6 +6,7 @@ ghost use Rattle.vortex_stats.specs.declared.error.StatsError.TheVariants.{Memor
 ghost use Rattle.vortex_prune.specs.Predicates.{is_connective, is_extreme};
 ghost use Rattle.vortex_prune.specs.Rewriting.{both_of, comparison_falsifier, either_of, extreme as extreme_of, placeholder as placeholder_of};
 
+use crate::built::cloned;
 use crate::nodes::stat;
 use crate::proof::Proof;
 use std::alloc::Global;
@@ -38,7 +39,7 @@ fn extreme(
     ensures memory { IfErr result (λ fault. fault ≡ Memory alloc_error) }
 {
     match x.literal() {
-        Some(_) => Ok(Some(x.try_clone()?)),
+        Some(_) => Ok(Some(cloned(x)?)),
         None => placeholder(alloc, aggregate, x),
     }
 }

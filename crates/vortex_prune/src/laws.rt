@@ -1,10 +1,11 @@
 //! Laws of pruning, in the words of its definitions. The functions carry them by their contracts.
 ghost use Rattle.std.specs.Prelude.{◌≡◌, ℕ, List, false};
 ghost use Rattle.std.specs.List.{AllByRecursion};
+ghost use Rattle.vortex_prune.specs.BuiltInRules.{ProofsAreInOrder, RulesAreOfFunctions};
 ghost use Rattle.vortex_prune.specs.Complete.{FalsifiersAreComplete};
 ghost use Rattle.vortex_prune.specs.Laws.{StatisticsAreHonest};
 ghost use Rattle.vortex_prune.specs.Laws.{FalsifiersAreSound, SatisfiersAreSound};
-ghost use Rattle.vortex_prune.specs.Part.{IsPart, IsTruePart, PartData};
+ghost use Rattle.vortex_prune.specs.Part.{AreParts, IsTruePart, PartData};
 ghost use Rattle.vortex_prune.specs.Scanning.{AreByStatistics, AreFaithful, AreHonest, any_binder};
 
 use crate::stat_binder::StatBinder;
@@ -28,6 +29,13 @@ pub fn satisfiers_are_sound()
     ensures { SatisfiersAreSound }
 {}
 
+/// At each node of a function the proofs of the built-in rules stand in the order of `BuiltinRule`,
+/// before those of the user's rules; and none of them proves anything of another function's node.
+pub fn built_in_rules_are_in_order()
+    ensures order { ProofsAreInOrder }
+    ensures functions { RulesAreOfFunctions }
+{}
+
 /// Over columns whose least and greatest values are known and in order, the falsifier of a read-once
 /// predicate is there, and true exactly if no values within them satisfy the predicate.
 pub fn falsifiers_are_complete()
@@ -39,7 +47,7 @@ pub fn falsifiers_are_complete()
 pub fn own_binders_are_honest<'a>()
     ensures faithful { (parts : List PartData) → AreFaithful ⟦<StatsBinder<'a> as StatBinder>⟧.is_faithful_over parts parts }
     ensures own { (parts : List PartData) → AreByStatistics ⟦<StatsBinder<'a> as StatBinder>⟧.value parts parts }
-    ensures honest { (parts : List PartData) → AllByRecursion IsPart parts → AllByRecursion IsTruePart parts
+    ensures honest { (parts : List PartData) → AreParts parts → AllByRecursion IsTruePart parts
         → AreHonest ⟦<StatsBinder<'a> as StatBinder>⟧.value parts parts }
     ensures quiet { (parts : List PartData) (k : ℕ) → any_binder ⟦<StatsBinder<'a> as StatBinder>⟧.can_fault parts k ≡ false }
 {}

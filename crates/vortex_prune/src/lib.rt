@@ -27,4 +27,6 @@ pub mod stat_binder;
 pub mod stat_fn;
 pub mod stats_binder;
 mod table;
+#[cfg(test)]
+mod testing;
 mod text_proofs;

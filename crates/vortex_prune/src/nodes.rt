@@ -8,7 +8,7 @@ ghost use Rattle.vortex_prune.specs.BuiltIn.{bytes_literal};
 ghost use Rattle.vortex_prune.specs.Predicates.{is_text};
 ghost use Rattle.vortex_prune.specs.Rewriting.{count_literal as count_literal_of, null_count_of};
 
-use crate::built::built;
+use crate::built::{built, cloned};
 use std::alloc::Global;
 use vortex_base::aggregate::AggregateFnRef;
 use vortex_base::bound;
@@ -71,7 +71,7 @@ pub(crate) fn stat(
     ensures value { IfOk result (λ e. e ≡ tree.stat aggregate x.now) }
     ensures memory { IfErr result (λ fault. fault ≡ Memory alloc_error) }
 {
-    let input = x.try_clone()?;
+    let input = cloned(x)?;
     built(bound::new_stat(alloc, input, aggregate))
 }
 

@@ -1,11 +1,12 @@
 //! What a scan found.
-ghost use Rattle.std.specs.Prelude.{◌≡◌, ◌++◌, [], IfErr, IsTrue, OnOk, option_copied};
+ghost use Rattle.std.specs.Prelude.{◌≡◌, ◌++◌, [], IfErr, IfOk, IsTrue, OnOk, option_copied};
 ghost use Rattle.vortex_base.specs.Columns.{row_count};
 ghost use Rattle.vortex_base.specs.Fitting.{fits_scope};
 ghost use Rattle.vortex_base.specs.Tree.{is_plain};
 ghost use Rattle.vortex_prune.specs.Part.{IsPart};
 ghost use Rattle.vortex_prune.specs.Scanning.{is_skipped, kept_rows, place_if};
-ghost use Rattle.vortex_prune.specs.ScanRefusals.{IsProofRefusal, IsFaithfulRefusal};
+ghost use Rattle.vortex_prune.specs.Causes.{IsRefusal};
+ghost use Rattle.vortex_prune.specs.ScanRefusals.{IsClosed, if_faithful, proof_causes};
 
 use crate::part::Part;
 use crate::select::select;
@@ -42,9 +43,14 @@ impl Scan {
         ensures selected { let n = row_count part.now.chunk.columns in
             OnOk result (IsTrue (B.is_faithful_over binder.now [] n) → self.new.selected.items ≡ self.old.selected.items ++ kept_rows (option_copied proof.entry) predicate.now place (part.now, B.value binder.now [] n)) }
         ensures is_part { IsPart part.now }
-        ensures refusal { IfErr result (IsProofRefusal (B.can_fault binder.now)) }
+        ensures closed { IfOk result (λ _. IsClosed (B.answer binder.now) (B.is_missing binder.now)
+            (option_copied proof.entry)) }
+        ensures refusal { IfErr result (IsRefusal (proof_causes (B.answer binder.now)
+            (B.is_missing binder.now) (B.can_fault binder.now) (option_copied proof.entry))) }
         ensures faithful { let n = row_count part.now.chunk.columns in
-            IfErr result (λ f. IsTrue (B.is_faithful_over binder.now [] n) → IsFaithfulRefusal (B.can_fault binder.now) (option_copied proof.entry) f) }
+            let causes = proof_causes (B.answer binder.now) (B.is_missing binder.now) (B.can_fault binder.now) in
+            IfErr result (λ f. IsTrue (B.is_faithful_over binder.now [] n)
+            → IsRefusal (if_faithful (option_copied proof.entry) (causes (option_copied proof.entry))) f) }
     {
         let chunk = part.chunk();
         if is_skipped(alloc, proof, part, binder)? {

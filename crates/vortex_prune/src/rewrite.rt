@@ -1,10 +1,12 @@
 //! Predicates rewritten into proofs over statistics.
-ghost use Rattle.std.specs.Prelude.{◌≡◌, ◌-◌, ◌^◌, min, Err, IfErr, IfOk, IfSome, IsTrue, false};
+ghost use Rattle.std.specs.Prelude.{◌≡◌, ◌-◌, ◌^◌, ◌∷◌, [], min, Err, IfErr, IfOk, IfSome, IsTrue, false};
 ghost use Rattle.vortex_stats.specs.declared.error.StatsError.TheVariants.{NotPredicate};
+ghost use Rattle.vortex_prune.specs.Causes.{IsRefusal};
 ghost use Rattle.vortex_prune.specs.Own.{own_rules};
 ghost use Rattle.vortex_prune.specs.Predicates.{is_predicate};
 ghost use Rattle.vortex_prune.specs.Rewriting.{falsifier as falsifier_of, satisfier as satisfier_of, visits as visits_of};
-ghost use Rattle.vortex_prune.specs.RuleRefusals.{IsRefusal};
+ghost use Rattle.vortex_prune.specs.RuleRefusals.{rule_causes};
+ghost use Rattle.vortex_prune.specs.Visited.{visited};
 
 use crate::engine::{rewrite_node, satisfy_node};
 use crate::proof::{Proof, is_truth};
@@ -33,11 +35,12 @@ pub fn falsify(
     rules: &Rules,
 ) -> Result<Option<BoundExpression>, StatsError>
     ensures not_predicate { is_predicate predicate.now ≡ false → result ≡ Err NotPredicate }
-    ensures answer { IfOk result (λ proof. proof ≡ falsifier_of
-        (own_rules ⟦<dyn StatsRewriteRule as StatsRewriteRule>⟧ rules.now.own.items) predicate.now) }
+    ensures answer { let own = own_rules ⟦<dyn StatsRewriteRule as StatsRewriteRule>⟧ rules.now.own.items in
+        IfOk result (λ proof. proof ≡ falsifier_of own predicate.now) }
     ensures truth { IfOk result (λ proof. IfSome proof (λ e. IsTrue (is_predicate e))) }
-    ensures refusal { IsTrue (is_predicate predicate.now) → IfErr result (IsRefusal (λ rule. rule.falsifier)
-        (own_rules ⟦<dyn StatsRewriteRule as StatsRewriteRule>⟧ rules.now.own.items)) }
+    ensures refusal { let own = own_rules ⟦<dyn StatsRewriteRule as StatsRewriteRule>⟧ rules.now.own.items in
+        IsTrue (is_predicate predicate.now) → IfErr result (IsRefusal
+        (rule_causes (λ rule. rule.falsifier) own (visited predicate.now))) }
 {
     let (proof, _visits) = falsify_counted(alloc, predicate, rules)?;
     Ok(proof)
@@ -51,12 +54,13 @@ pub fn falsify_counted(
     rules: &Rules,
 ) -> Result<(Option<BoundExpression>, u64), StatsError>
     ensures not_predicate { is_predicate predicate.now ≡ false → result ≡ Err NotPredicate }
-    ensures answer { IfOk result (λ r. r.0 ≡ falsifier_of
-        (own_rules ⟦<dyn StatsRewriteRule as StatsRewriteRule>⟧ rules.now.own.items) predicate.now) }
+    ensures answer { let own = own_rules ⟦<dyn StatsRewriteRule as StatsRewriteRule>⟧ rules.now.own.items in
+        IfOk result (λ r. r.0 ≡ falsifier_of own predicate.now) }
     ensures visits { IfOk result (λ r. r.1 ≡ min (visits_of predicate.now) (2 ^ 64 - 1)) }
     ensures truth { IfOk result (λ r. IfSome r.0 (λ e. IsTrue (is_predicate e))) }
-    ensures refusal { IsTrue (is_predicate predicate.now) → IfErr result (IsRefusal (λ rule. rule.falsifier)
-        (own_rules ⟦<dyn StatsRewriteRule as StatsRewriteRule>⟧ rules.now.own.items)) }
+    ensures refusal { let own = own_rules ⟦<dyn StatsRewriteRule as StatsRewriteRule>⟧ rules.now.own.items in
+        IsTrue (is_predicate predicate.now) → IfErr result (IsRefusal
+        (rule_causes (λ rule. rule.falsifier) own (visited predicate.now))) }
 {
     if !is_truth(predicate) {
         return Err(StatsError::NotPredicate);
@@ -74,11 +78,12 @@ pub fn satisfy(
     rules: &Rules,
 ) -> Result<Option<BoundExpression>, StatsError>
     ensures not_predicate { is_predicate predicate.now ≡ false → result ≡ Err NotPredicate }
-    ensures answer { IfOk result (λ proof. proof ≡ satisfier_of
-        (own_rules ⟦<dyn StatsRewriteRule as StatsRewriteRule>⟧ rules.now.own.items) predicate.now) }
+    ensures answer { let own = own_rules ⟦<dyn StatsRewriteRule as StatsRewriteRule>⟧ rules.now.own.items in
+        IfOk result (λ proof. proof ≡ satisfier_of own predicate.now) }
     ensures truth { IfOk result (λ proof. IfSome proof (λ e. IsTrue (is_predicate e))) }
-    ensures refusal { IsTrue (is_predicate predicate.now) → IfErr result (IsRefusal (λ rule. rule.satisfier)
-        (own_rules ⟦<dyn StatsRewriteRule as StatsRewriteRule>⟧ rules.now.own.items)) }
+    ensures refusal { let own = own_rules ⟦<dyn StatsRewriteRule as StatsRewriteRule>⟧ rules.now.own.items in
+        IsTrue (is_predicate predicate.now) → IfErr result (IsRefusal
+        (rule_causes (λ rule. rule.satisfier) own (predicate.now ∷ []))) }
 {
     if !is_truth(predicate) {
         return Err(StatsError::NotPredicate);

@@ -4,7 +4,8 @@ ghost use Rattle.vortex_base.specs.Fitting.{fits_scope};
 ghost use Rattle.vortex_base.specs.Tree.{is_plain};
 ghost use Rattle.vortex_prune.specs.Part.{AreParts};
 ghost use Rattle.vortex_prune.specs.Scanning.{AreByStatistics, AreFaithful, AreHonest, answered, full, any_binder, selected_rows, skipped_parts};
-ghost use Rattle.vortex_prune.specs.ScanRefusals.{IsFaithfulRefusal, IsFaithfulScanRefusal, IsMemory, IsProofRefusal, IsScanRefusal};
+ghost use Rattle.vortex_prune.specs.Causes.{IsRefusal};
+ghost use Rattle.vortex_prune.specs.ScanRefusals.{AreClosed, IsMemory, binder_causes, if_faithful, scan_causes};
 ghost use Rattle.vortex_prune.specs.Complete.{SkipsExactly, is_read_once};
 ghost use Rattle.vortex_prune.specs.Own.{own_rules};
 ghost use Rattle.vortex_prune.specs.Predicates.{is_predicate};
@@ -33,13 +34,19 @@ fn scan_by<B: StatBinder>(
     requires plain { IsTrue (is_plain predicate.now) }
     requires fits { All (λ part. IsTrue (fits_scope predicate.now part.chunk.scope)) parts.now }
     ensures skipped { IfOk result (λ scan. AreFaithful B.is_faithful_over parts.now binders.now
-        → scan.skipped.items ≡ skipped_parts (option_copied proof.entry) (answered B.value parts.now binders.now)) }
+        → scan.skipped.items ≡ skipped_parts (option_copied proof.entry)
+        (answered B.value parts.now binders.now)) }
     ensures selected { IfOk result (λ scan. AreFaithful B.is_faithful_over parts.now binders.now
-        → scan.selected.items ≡ selected_rows (option_copied proof.entry) predicate.now (answered B.value parts.now binders.now)) }
+        → scan.selected.items ≡ selected_rows (option_copied proof.entry) predicate.now
+        (answered B.value parts.now binders.now)) }
     ensures parts { IfOk result (λ _. AreParts parts.now) }
-    ensures refusal { IfErr result (IsProofRefusal (any_binder B.can_fault binders.now)) }
-    ensures faithful { IfErr result (λ f. AreFaithful B.is_faithful_over parts.now binders.now
-        → IsFaithfulRefusal (any_binder B.can_fault binders.now) (option_copied proof.entry) f) }
+    ensures closed { IfOk result (λ _. AreClosed B.answer B.is_missing
+        (option_copied proof.entry) binders.now) }
+    ensures refusal { let causes = binder_causes B.answer B.is_missing B.can_fault in
+        IfErr result (IsRefusal (causes (option_copied proof.entry) binders.now)) }
+    ensures faithful { let causes = binder_causes B.answer B.is_missing B.can_fault in
+        IfErr result (λ f. AreFaithful B.is_faithful_over parts.now binders.now → IsRefusal
+        (if_faithful (option_copied proof.entry) (causes (option_copied proof.entry) binders.now)) f) }
 {
     let mut scan = Scan {
         selected: Vec::new(alloc),
@@ -69,18 +76,26 @@ fn scan_rules<B: StatBinder>(
     requires binders { length binders.now ≡ length parts.now }
     requires plain { IsTrue (is_plain predicate.now) }
     requires fits { All (λ part. IsTrue (fits_scope predicate.now part.chunk.scope)) parts.now }
-    ensures skipped { IfOk result (λ scan. AreFaithful B.is_faithful_over parts.now binders.now
-        → scan.skipped.items ≡ skipped_parts (falsifier_of (own_rules ⟦<dyn StatsRewriteRule as StatsRewriteRule>⟧ rules.now.own.items) predicate.now) (answered B.value parts.now binders.now)) }
-    ensures kept { IfOk result (λ scan. AreFaithful B.is_faithful_over parts.now binders.now
-        → scan.selected.items ≡ selected_rows (falsifier_of (own_rules ⟦<dyn StatsRewriteRule as StatsRewriteRule>⟧ rules.now.own.items) predicate.now) predicate.now (answered B.value parts.now binders.now)) }
+    ensures skipped { let own = own_rules ⟦<dyn StatsRewriteRule as StatsRewriteRule>⟧ rules.now.own.items in
+        IfOk result (λ scan. AreFaithful B.is_faithful_over parts.now binders.now
+        → scan.skipped.items ≡ skipped_parts (falsifier_of own predicate.now)
+        (answered B.value parts.now binders.now)) }
+    ensures kept { let own = own_rules ⟦<dyn StatsRewriteRule as StatsRewriteRule>⟧ rules.now.own.items in
+        IfOk result (λ scan. AreFaithful B.is_faithful_over parts.now binders.now
+        → scan.selected.items ≡ selected_rows (falsifier_of own predicate.now) predicate.now
+        (answered B.value parts.now binders.now)) }
     ensures parts { IfOk result (λ _. AreParts parts.now) }
     ensures predicate { IfOk result (λ _. IsTrue (is_predicate predicate.now)) }
     ensures not_predicate { is_predicate predicate.now ≡ false → result ≡ Err NotPredicate }
-    ensures refusal { IsTrue (is_predicate predicate.now)
-        → IfErr result (IsScanRefusal (own_rules ⟦<dyn StatsRewriteRule as StatsRewriteRule>⟧ rules.now.own.items) (any_binder B.can_fault binders.now)) }
-    ensures faithful { IsTrue (is_predicate predicate.now) → AreFaithful B.is_faithful_over parts.now binders.now
-        → IfErr result (IsFaithfulScanRefusal (own_rules ⟦<dyn StatsRewriteRule as StatsRewriteRule>⟧ rules.now.own.items) (any_binder B.can_fault binders.now)
-        (falsifier_of (own_rules ⟦<dyn StatsRewriteRule as StatsRewriteRule>⟧ rules.now.own.items) predicate.now)) }
+    ensures closed { let own = own_rules ⟦<dyn StatsRewriteRule as StatsRewriteRule>⟧ rules.now.own.items in
+        IfOk result (λ _. AreClosed B.answer B.is_missing (falsifier_of own predicate.now) binders.now) }
+    ensures refusal { let own = own_rules ⟦<dyn StatsRewriteRule as StatsRewriteRule>⟧ rules.now.own.items in
+        let causes = scan_causes B.answer B.is_missing B.can_fault own predicate.now binders.now in
+        IsTrue (is_predicate predicate.now) → IfErr result (IsRefusal causes) }
+    ensures faithful { let own = own_rules ⟦<dyn StatsRewriteRule as StatsRewriteRule>⟧ rules.now.own.items in
+        let causes = scan_causes B.answer B.is_missing B.can_fault own predicate.now binders.now in
+        IsTrue (is_predicate predicate.now) → AreFaithful B.is_faithful_over parts.now binders.now
+        → IfErr result (IsRefusal (if_faithful (falsifier_of own predicate.now) causes)) }
 {
     let proof = falsify(alloc, predicate, rules)?;
     scan_by(alloc, parts, binders, predicate, proof.as_ref())
@@ -108,28 +123,45 @@ pub fn scan<B: StatBinder>(
     requires plain { IsTrue (is_plain predicate.now) }
     requires fits { All (λ part. IsTrue (fits_scope predicate.now part.chunk.scope)) parts.now }
     // With honest binders no wanted row is lost, whichever lawful rules took part.
-    ensures selected { IfOk result (λ scan. AreFaithful B.is_faithful_over parts.now binders.now → AreHonest B.value parts.now binders.now
+    ensures selected { IfOk result (λ scan. AreFaithful B.is_faithful_over parts.now binders.now
+        → AreHonest B.value parts.now binders.now
         → scan.selected.items ≡ full predicate.now parts.now) }
     // With faithful binders a part is skipped exactly if the falsifier is true of it.
-    ensures skipped { IfOk result (λ scan. AreFaithful B.is_faithful_over parts.now binders.now
-        → scan.skipped.items ≡ skipped_parts (falsifier_of (own_rules ⟦<dyn StatsRewriteRule as StatsRewriteRule>⟧ rules.now.own.items) predicate.now) (answered B.value parts.now binders.now)) }
+    ensures skipped { let own = own_rules ⟦<dyn StatsRewriteRule as StatsRewriteRule>⟧ rules.now.own.items in
+        IfOk result (λ scan. AreFaithful B.is_faithful_over parts.now binders.now
+        → scan.skipped.items ≡ skipped_parts (falsifier_of own predicate.now)
+        (answered B.value parts.now binders.now)) }
     // Whether or not they are honest, the satisfying rows of the other parts are selected.
-    ensures kept { IfOk result (λ scan. AreFaithful B.is_faithful_over parts.now binders.now
-        → scan.selected.items ≡ selected_rows (falsifier_of (own_rules ⟦<dyn StatsRewriteRule as StatsRewriteRule>⟧ rules.now.own.items) predicate.now) predicate.now (answered B.value parts.now binders.now)) }
+    ensures kept { let own = own_rules ⟦<dyn StatsRewriteRule as StatsRewriteRule>⟧ rules.now.own.items in
+        IfOk result (λ scan. AreFaithful B.is_faithful_over parts.now binders.now
+        → scan.selected.items ≡ selected_rows (falsifier_of own predicate.now) predicate.now
+        (answered B.value parts.now binders.now)) }
+    // What was looked at are parts, as `own_binders_are_honest` asks.
+    ensures parts { IfOk result (λ _. AreParts parts.now) }
     // By built-in rules and the parts' own statistics, a read-once predicate skips a part exactly if
     // no values within its bounds satisfy it.
-    ensures complete { IfOk result (λ scan. rules.now.own.items ≡ [] → AreFaithful B.is_faithful_over parts.now binders.now → AreByStatistics B.value parts.now binders.now
-        → IsTrue (is_read_once predicate.now) → SkipsExactly predicate.now parts.now scan.skipped.items) }
+    ensures complete { IfOk result (λ scan. rules.now.own.items ≡ []
+        → AreFaithful B.is_faithful_over parts.now binders.now
+        → AreByStatistics B.value parts.now binders.now
+        → IsTrue (is_read_once predicate.now)
+        → SkipsExactly predicate.now parts.now scan.skipped.items) }
     // By built-in rules, and binders that are faithful and name no fault of their own, as those of the
     // parts' own statistics, a predicate is refused for memory alone.
-    ensures memory { IsTrue (is_predicate predicate.now) → rules.now.own.items ≡ [] → AreFaithful B.is_faithful_over parts.now binders.now
+    ensures memory { IsTrue (is_predicate predicate.now) → rules.now.own.items ≡ []
+        → AreFaithful B.is_faithful_over parts.now binders.now
         → ((k : ℕ) → any_binder B.can_fault binders.now k ≡ false) → IfErr result IsMemory }
     ensures not_predicate { is_predicate predicate.now ≡ false → result ≡ Err NotPredicate }
-    ensures refusal { IsTrue (is_predicate predicate.now)
-        → IfErr result (IsScanRefusal (own_rules ⟦<dyn StatsRewriteRule as StatsRewriteRule>⟧ rules.now.own.items) (any_binder B.can_fault binders.now)) }
-    ensures faithful { IsTrue (is_predicate predicate.now) → AreFaithful B.is_faithful_over parts.now binders.now
-        → IfErr result (IsFaithfulScanRefusal (own_rules ⟦<dyn StatsRewriteRule as StatsRewriteRule>⟧ rules.now.own.items) (any_binder B.can_fault binders.now)
-        (falsifier_of (own_rules ⟦<dyn StatsRewriteRule as StatsRewriteRule>⟧ rules.now.own.items) predicate.now)) }
+    // Where there is a falsifier, each binder has bound it to a closed expression.
+    ensures closed { let own = own_rules ⟦<dyn StatsRewriteRule as StatsRewriteRule>⟧ rules.now.own.items in
+        IfOk result (λ _. AreClosed B.answer B.is_missing (falsifier_of own predicate.now) binders.now) }
+    // A refusal has its cause: a rule asked at a visited node, or a binder asked for the falsifier.
+    ensures refusal { let own = own_rules ⟦<dyn StatsRewriteRule as StatsRewriteRule>⟧ rules.now.own.items in
+        let causes = scan_causes B.answer B.is_missing B.can_fault own predicate.now binders.now in
+        IsTrue (is_predicate predicate.now) → IfErr result (IsRefusal causes) }
+    ensures faithful { let own = own_rules ⟦<dyn StatsRewriteRule as StatsRewriteRule>⟧ rules.now.own.items in
+        let causes = scan_causes B.answer B.is_missing B.can_fault own predicate.now binders.now in
+        IsTrue (is_predicate predicate.now) → AreFaithful B.is_faithful_over parts.now binders.now
+        → IfErr result (IsRefusal (if_faithful (falsifier_of own predicate.now) causes)) }
 {
     scan_rules(alloc, parts, binders, predicate, rules)
 }

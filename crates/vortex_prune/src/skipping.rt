@@ -1,9 +1,11 @@
 //! Whether a part is skipped: its proof is bound to what its binder answers, and evaluated.
-ghost use Rattle.std.specs.Prelude.{◌≡◌, [], IfOk, IfErr, IsTrue, Some, option_copied};
+ghost use Rattle.std.specs.Prelude.{◌≡◌, [], true, IfOk, IfErr, IsTrue, Some, option_copied};
 ghost use Rattle.vortex_base.specs.Columns.{row_count};
 ghost use Rattle.vortex_prune.specs.Proof.{proves};
 ghost use Rattle.vortex_prune.specs.Scanning.{is_skipped};
-ghost use Rattle.vortex_prune.specs.ScanRefusals.{IsProofRefusal, IsFaithfulRefusal};
+ghost use Rattle.vortex_prune.specs.Binding.{IsBoundTo};
+ghost use Rattle.vortex_prune.specs.Causes.{IsRefusal};
+ghost use Rattle.vortex_prune.specs.ScanRefusals.{IsClosed, if_faithful, proof_causes};
 
 use crate::binding::bind_stats_of;
 use crate::built::built;
@@ -26,9 +28,13 @@ pub(crate) fn is_proved<B: StatBinder>(
 ) -> Result<bool, StatsError>
     ensures value { let n = row_count part.now.chunk.columns in
         IfOk result (λ b. IsTrue (B.is_faithful_over binder.now [] n) → b ≡ proves proof.now (B.value binder.now [] n) n) }
-    ensures refusal { IfErr result (IsProofRefusal (B.can_fault binder.now)) }
+    ensures closed { IfOk result (λ _. IsBoundTo (B.answer binder.now) (B.is_missing binder.now) proof.now true) }
+    ensures refusal { IfErr result (IsRefusal (proof_causes (B.answer binder.now)
+        (B.is_missing binder.now) (B.can_fault binder.now) (Some proof.now))) }
     ensures faithful { let n = row_count part.now.chunk.columns in
-        IfErr result (λ f. IsTrue (B.is_faithful_over binder.now [] n) → IsFaithfulRefusal (B.can_fault binder.now) (Some proof.now) f) }
+        let causes = proof_causes (B.answer binder.now) (B.is_missing binder.now) (B.can_fault binder.now) in
+        IfErr result (λ f. IsTrue (B.is_faithful_over binder.now [] n)
+        → IsRefusal (if_faithful (Some proof.now) (causes (Some proof.now))) f) }
 {
     let bound = bind_stats_of(alloc, proof, binder)?;
     if !bound.is_closed() {
@@ -48,9 +54,14 @@ pub(crate) fn is_skipped<B: StatBinder>(
 ) -> Result<bool, StatsError>
     ensures value { let n = row_count part.now.chunk.columns in
         IfOk result (λ b. IsTrue (B.is_faithful_over binder.now [] n) → b ≡ is_skipped (option_copied proof.entry) part.now (B.value binder.now [] n)) }
-    ensures refusal { IfErr result (IsProofRefusal (B.can_fault binder.now)) }
+    ensures closed { IfOk result (λ _. IsClosed (B.answer binder.now) (B.is_missing binder.now)
+        (option_copied proof.entry)) }
+    ensures refusal { IfErr result (IsRefusal (proof_causes (B.answer binder.now)
+        (B.is_missing binder.now) (B.can_fault binder.now) (option_copied proof.entry))) }
     ensures faithful { let n = row_count part.now.chunk.columns in
-        IfErr result (λ f. IsTrue (B.is_faithful_over binder.now [] n) → IsFaithfulRefusal (B.can_fault binder.now) (option_copied proof.entry) f) }
+        let causes = proof_causes (B.answer binder.now) (B.is_missing binder.now) (B.can_fault binder.now) in
+        IfErr result (λ f. IsTrue (B.is_faithful_over binder.now [] n)
+        → IsRefusal (if_faithful (option_copied proof.entry) (causes (option_copied proof.entry))) f) }
 {
     match proof {
         None => Ok(false),

@@ -1,11 +1,11 @@
 //! The function that a placeholder applies: what a set of statistics answers to it.
-ghost use Rattle.std.specs.Prelude.{◌≡◌, codes, false, IfOk, IsTrue};
+ghost use Rattle.std.specs.Prelude.{◌≡◌, alloc_error, codes, false, IfErr, IfOk, IsTrue};
 ghost use Rattle.vortex_base.specs.Typing.{stat_type};
 ghost use Rattle.vortex_stats.specs.Entries.{entries_fit};
+ghost use Rattle.vortex_stats.specs.declared.error.StatsError.TheVariants.{Memory};
 ghost use Rattle.vortex_prune.specs.Answers.{IfSupported, supported};
 ghost use Rattle.vortex_prune.specs.StatValues as values;
 
-use std::alloc::AllocError;
 use std::hash::Hash;
 use std::marker::Model;
 use vortex_base::aggregate::AggregateFnRef;
@@ -153,8 +153,9 @@ fn stat_value(
     aggregate: AggregateFnRef,
     stats: &StatsSet,
     rows: u64,
-) -> Result<Option<ScalarValue>, AllocError>
-    ensures { IfOk result (λ v. v ≡ values.stat_value aggregate stats.now rows) }
+) -> Result<Option<ScalarValue>, StatsError>
+    ensures value { IfOk result (λ v. v ≡ values.stat_value aggregate stats.now rows) }
+    ensures memory { IfErr result (λ error. error ≡ Memory alloc_error) }
 {
     Ok(match aggregate {
         AggregateFnRef::Max => stats.get(Stat::Max)?.into_inner(),

@@ -19,7 +19,9 @@ use Rattle.vortex_stats.specs.declared.stat.Stat.{Stat}
 use Rattle.vortex_stats.specs.declared.stat.Stat.TheVariants.{IsConstant, IsSorted, IsStrictSorted, Max, Min, Sum, NullCount, UncompressedSizeInBytes, NaNCount}
 use Rattle.vortex_stats.specs.Bound.{intersection_map}
 use Rattle.vortex_stats.specs.Combined.{intersection_of, met, combined_by, combined_entry, or_conflict, combined}
-use Rattle.vortex_stats.specs.CombineSteps.{truth_value, meeting, IsStep}
+use Rattle.vortex_stats.specs.CombineSteps.{truth_value, meeting, IsChange}
+use Rattle.vortex_stats.specs.Changes.{changed}
+use Rattle.vortex_stats.specs.declared.merge.Change.{Change}
 use Rattle.vortex_stats.specs.Entries.{entry_value, is_value_of, value_fits, entries_fit, with_entry}
 use Rattle.vortex_stats.specs.LowerBound.{lower_intersection}
 use Rattle.vortex_stats.specs.PointBound.{point_intersection}
@@ -74,36 +76,34 @@ kept_step (Some (Value v)) s es h = absurd (cc)
 kept_step (Some Empty) s es h = absurd (cc)
 kept_step None s es h = refl
 
-refused_step : (m : Option (IntersectionResult (Precision ScalarValue))) (s : Stat) (es : List (Stat × Precision ScalarValue)) (e : StatsError)
-    → IsAnswerOrMemory (meeting s m) (Err e) → IsStep (met s m es) s es es (Err e)
-refused_step m s es (errors.Memory e) h = tt
-refused_step (Some (Value v)) s es (errors.Conflict t) h = absurd (cc)
-refused_step (Some Empty) s es (errors.Conflict t) h = let e : t ≡ s = cc in (refl, e, refl)
-refused_step None s es (errors.Conflict t) h = absurd (cc)
-refused_step (Some (Value v)) s es e h = cc
-refused_step (Some Empty) s es e h = cc
-refused_step None s es e h = cc
+refused_by : (m : Option (IntersectionResult (Precision ScalarValue))) (s : Stat) (p q : Precision ScalarValue)
+    → ((es : List (Stat × Precision ScalarValue)) → combined_by s p q es ≡ met s m es) → (e : StatsError) → IsAnswerOrMemory (meeting s m) (Err e) → IsChange s p q (Err e)
+refused_by m s p q f (errors.Memory e) h = tt
+refused_by (Some (Value v)) s p q f (errors.Conflict t) h = absurd (cc)
+refused_by (Some Empty) s p q f (errors.Conflict t) h = let e : t ≡ s = cc in (f, e)
+refused_by None s p q f (errors.Conflict t) h = absurd (cc)
+refused_by (Some (Value v)) s p q f e h = cc
+refused_by (Some Empty) s p q f e h = cc
+refused_by None s p q f e h = cc
 
-module _ (s : Stat) (p q own other : Precision ScalarValue) (es : List (Stat × Precision ScalarValue)) (a : own ≡ p) (b : other ≡ q) (h : is_absent own ≡ false) (k : is_absent other ≡ false) where
-  met_at : combined_by s p q es ≡ met s (intersection_of s own other) es
-  met_at =
-      met_case s p q es (ap is_absent (sym a) ∙ h) (ap is_absent (sym b) ∙ k)
-      ∙ ap (λ x. met s (intersection_of s x q) es) (sym a) ∙ ap (λ y. met s (intersection_of s own y) es) (sym b)
+module _ (s : Stat) (own other q : Precision ScalarValue) (b : other ≡ q) (h : is_absent own ≡ false) (k : is_absent other ≡ false) where
+  met_at : (es : List (Stat × Precision ScalarValue)) → combined_by s own q es ≡ met s (intersection_of s own other) es
+  met_at es = met_case s own q es h (ap is_absent (sym b) ∙ k) ∙ ap (λ y. met s (intersection_of s own y) es) (sym b)
 
-  pub met_written : (r : Precision ScalarValue) → meeting s (intersection_of s own other) ≡ Ok (Some r) → combined_by s p q es ≡ Some (with_entry s r es)
-  met_written r m = met_at ∙ written_step (intersection_of s own other) s es r m
+  pub met_written : (r : Precision ScalarValue) → meeting s (intersection_of s own other) ≡ Ok (Some r)
+      → (es : List (Stat × Precision ScalarValue)) → combined_by s own q es ≡ Some (with_entry s r es)
+  met_written r m es = met_at es ∙ written_step (intersection_of s own other) s es r m
 
-  pub met_kept : meeting s (intersection_of s own other) ≡ Ok None → combined_by s p q es ≡ Some es
-  met_kept m = met_at ∙ kept_step (intersection_of s own other) s es m
+  pub met_kept : meeting s (intersection_of s own other) ≡ Ok None → (es : List (Stat × Precision ScalarValue)) → combined_by s own q es ≡ Some es
+  met_kept m es = met_at es ∙ kept_step (intersection_of s own other) s es m
 
-  pub met_refused : (e : StatsError) → IsAnswerOrMemory (meeting s (intersection_of s own other)) (Err e) → IsStep (combined_by s p q es) s es es (Err e)
-  met_refused e m = subst (λ o. IsStep o s es es (Err e)) (sym met_at) (refused_step (intersection_of s own other) s es e m)
+  pub met_refused : (e : StatsError) → IsAnswerOrMemory (meeting s (intersection_of s own other)) (Err e) → IsChange s own q (Err e)
+  met_refused e m = refused_by (intersection_of s own other) s own q met_at e m
 
 -- a refusal that is handed on
-pub refused_with : (o : Option (List (Stat × Precision ScalarValue))) (s : Stat) (es : List (Stat × Precision ScalarValue)) (r : Result (Unit {0}) StatsError) (x : StatsError)
-    → IsErrAnd r (λ e. e ≡ x) → IsStep o s es es (Err x) → IsStep o s es es r
-refused_with o s es (Ok u) x h k = absurd h
-refused_with o s es (Err e) x h k = subst (λ y. IsStep o s es es (Err y)) (sym h) k
+pub refused_with : (s : Stat) (p q : Precision ScalarValue) (r : Result Change StatsError) (x : StatsError) → IsErrAnd r (λ e. e ≡ x) → IsChange s p q (Err x) → IsChange s p q r
+refused_with s p q (Ok c) x h k = absurd h
+refused_with s p q (Err e) x h k = subst (λ y. IsChange s p q (Err y)) (sym h) k
 
 -- the steps that are left, after one
 pub combined-step : (es new : List (Stat × Precision ScalarValue)) (e : Stat × Precision ScalarValue) (rest : List (Stat × Precision ScalarValue))

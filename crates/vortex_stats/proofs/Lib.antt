@@ -6,6 +6,8 @@ pub mod DerivedOrder
 pub mod Revisions
 pub mod ValueOrder
 pub mod Lookups
+pub mod SlotLemmas
+pub mod Retained
 pub mod Extremes
 pub mod Counts
 pub mod Sums
@@ -19,5 +21,7 @@ pub mod KeptTruth
 pub mod UnorderedTruth
 pub mod ClaimRows
 pub mod Combining
+pub mod CombinedChanges
 pub mod Tightness
 pub mod Groupings
+pub mod Kit

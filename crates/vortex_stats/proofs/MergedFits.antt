@@ -177,9 +177,3 @@ merged_ordered-fits t own other h k = all_revised-fits t (λ s. merged_value s o
 
 pub merged_unordered-fits : (t : DType) (own other : List (Stat × Precision ScalarValue)) → entries_fit own t ≡ true → entries_fit other t ≡ true → entries_fit (merged_unordered own other) t ≡ true
 merged_unordered-fits t own other h k = all_revised-fits t (λ s. unordered_value s own other) own (unordered_value-fits t own other h k) h
-
--- a list that was either merged or left as it was
-pub fits-written : {E : Type 0} (r : Result (Unit {0}) E) (t : DType) (merged own new : List (Stat × Precision ScalarValue)) → entries_fit merged t ≡ true → entries_fit own t ≡ true
-    → OnOk r (new ≡ merged) → OnErr r (new ≡ own) → entries_fit new t ≡ true
-fits-written (Ok u) t merged own new f g h k = subst (λ es. entries_fit es t ≡ true) (sym h) f
-fits-written (Err x) t merged own new f g h k = subst (λ es. entries_fit es t ≡ true) (sym k) g

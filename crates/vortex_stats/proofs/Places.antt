@@ -1,6 +1,8 @@
 -- Entries by the place that `position` gives.
-use Rattle.std.proofs.Common.{◌≡◌, ℕ, zero, suc, ◌+◌, ◌<◌, Bool, true, false, cond, ◌||◌, List, [], ◌∷◌, ◌++◌, length, get_or, set, Option, Some, None, refl, sym, ap, subst, ◌∙◌, arith}
+use Rattle.std.proofs.Common.{◌≡◌, ℕ, zero, suc, ◌+◌, ◌<◌, Bool, true, false, cond, ◌||◌, List, [], ◌∷◌, ◌++◌, length, get_or, set, append_assoc, Option, Some, None, refl, sym, ap, subst, ◌∙◌, arith}
 use Rattle.std.proofs.lemmas.Grind.{common_steps}
+use Rattle.std.proofs.lemmas.List.{append-nil}
+use Rattle.std.specs.Prelude.{⊤}
 use Rattle.std.specs.List.{position, position_from, filter, refill}
 use Rattle.std.specs.List.Retain.{RetainsInTurn}
 use Rattle.std.proofs.lemmas.List.Quantifiers.{position-Some}
@@ -31,6 +33,18 @@ filter_step false b c f h = f h
 filter_step_out : (a b c : Bool) → (c ≡ false → b ≡ false) → (a || c) ≡ false → b ≡ false
 filter_step_out true b c f h = absurd (true≢false h)
 filter_step_out false b c f h = f h
+
+new_step : (a b c d : Bool) → (b ≡ false → d ≡ false → c ≡ false) → (a || b) ≡ false → d ≡ false → (a || c) ≡ false
+new_step true b c d f h k = absurd (true≢false h)
+new_step false b c d f h k = f h k
+
+or_left_false : (a b : Bool) → (a || b) ≡ false → a ≡ false
+or_left_false true b h = absurd (true≢false h)
+or_left_false false b h = refl
+
+or_right_false : (a b : Bool) → (a || b) ≡ false → b ≡ false
+or_right_false true b h = absurd (true≢false h)
+or_right_false false b h = h
 
 module _ {V : Type 0} where
   none_from : (s : Stat) (es : List (Stat × Precision V)) (i : ℕ) → position_from (is_entry_of s) i es ≡ None → has_entry s es ≡ false
@@ -157,3 +171,32 @@ module _ {V : Type 0} where
   pub with_entries-snoc : (items : List (Stat × Precision V)) (x : Stat × Precision V) (es : List (Stat × Precision V)) → with_entries (items ++ x ∷ []) es ≡ with_entry x.0 x.1 (with_entries items es)
   with_entries-snoc [] x es = refl
   with_entries-snoc (y ∷ items) x es = with_entries-snoc items x (with_entry y.0 y.1 es)
+
+  no_entry-append : (s : Stat) (xs ys : List (Stat × Precision V)) → has_entry s xs ≡ false → has_entry s ys ≡ false → has_entry s (xs ++ ys) ≡ false
+  no_entry-append s [] ys h k = k
+  no_entry-append s (x ∷ xs) ys h k = new_step (is_entry_of s x) (has_entry s xs) (has_entry s (xs ++ ys)) (has_entry s ys) (no_entry-append s xs ys) h k
+
+  -- no entry of the one list is one of a statistic of the other
+  abbrev Misses : List (Stat × Precision V) → List (Stat × Precision V) → Type 0
+  Misses xs [] = ⊤
+  Misses xs (y ∷ ys) = (has_entry y.0 xs ≡ false) × Misses xs ys
+
+  misses_nothing : (ys : List (Stat × Precision V)) → Misses [] ys
+  misses_nothing [] = tt
+  misses_nothing (y ∷ ys) = (refl, misses_nothing ys)
+
+  misses_last : (xs ys : List (Stat × Precision V)) (x : Stat × Precision V) → Misses xs ys → has_entry x.0 ys ≡ false → Misses (xs ++ x ∷ []) ys
+  misses_last xs [] x m h = tt
+  misses_last xs (y ∷ ys) x m h = (
+    no_entry-append y.0 xs (x ∷ []) m.0 (ap (λ b. b || false) (eq_back y.0 x.0 (or_left_false (stat_eq y.0 x.0) (has_entry x.0 ys) h))),
+    misses_last xs ys x m.1 (or_right_false (stat_eq y.0 x.0) (has_entry x.0 ys) h),
+  )
+
+  with_entries-after : (ys xs : List (Stat × Precision V)) → AreDistinct ys → Misses xs ys → with_entries ys xs ≡ xs ++ ys
+  with_entries-after [] xs d m = sym (append-nil xs)
+  with_entries-after (y ∷ ys) xs d m =
+      ap (with_entries ys) (with_entry-none y.0 y.1 xs m.0) ∙ with_entries-after ys (xs ++ y ∷ []) d.1 (misses_last xs ys y m.1 d.0) ∙ append_assoc xs (y ∷ []) ys
+
+  -- distinct entries that are set one by one make their own list
+  pub with_entries-distinct : (es : List (Stat × Precision V)) → AreDistinct es → with_entries es [] ≡ es
+  with_entries-distinct es d = with_entries-after es [] d (misses_nothing es)

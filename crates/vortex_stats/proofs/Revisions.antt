@@ -26,15 +26,6 @@ use Rattle.vortex_stats.proofs.Lookups.{entry_value-with_other, entry_value-with
 use Rattle.vortex_stats.proofs.Places.{distinct_with_entry, distinct_filter}
 
 module _ {V : Type 0} where
-  has_step : (b : Bool) (v w : Precision V) (c : Bool) → (IsTrue (is_present w) → c ≡ true) → IsTrue (is_present (cond b v w)) → (b || c) ≡ true
-  has_step true v w c f h = refl
-  has_step false v w c f h = f h
-
-  -- a present value has an entry
-  pub has_entry-present : (s : Stat) (es : List (Stat × Precision V)) → IsTrue (is_present (entry_value s es)) → has_entry s es ≡ true
-  has_entry-present s [] h = absurd (true≢false (sym h))
-  has_entry-present s (e ∷ es) h = has_step (is_entry_of s e) e.1 (entry_value s es) (has_entry s es) (has_entry-present s es) h
-
   same_step : (s : Stat) (p : Precision V) (e : Stat × Precision V) (es : List (Stat × Precision V)) → (entry_value s es ≡ p → with_entry s p es ≡ es)
       → (b : Bool) → is_entry_of s e ≡ b → cond b e.1 (entry_value s es) ≡ p → cond b ((s, p) ∷ es) (e ∷ with_entry s p es) ≡ e ∷ es
   same_step s p e es ih true h k = ap (λ u. (u, p) ∷ es) (sym (same_from_stat_eq e.0 s h)) ∙ ap (λ q. (e.0, q) ∷ es) (sym k)
@@ -55,17 +46,12 @@ makes-same (Err x) p q o u e f h = tt
 pub changed-made : (s : Stat) (c : Change) (own : Precision ScalarValue) (es : List (Stat × Precision ScalarValue)) → (IsSome (made c own) → IsTrue (is_present own))
     → entry_value s es ≡ own → changed s c es ≡ revised s (made c own) es
 changed-made s Kept own es h e = sym (with_entry-same s own es (h refl) e)
-changed-made s (Set new) own es h e =
-    ap (λ b. cond b (with_entry s new es) es) (has_entry-present s es (subst (λ p. IsTrue (is_present p)) (sym e) (h refl)))
+changed-made s (Set new) own es h e = refl
 changed-made s Cleared own es h e = refl
 
 value-revised : (s t : Stat) (o : Option (Precision ScalarValue)) (es : List (Stat × Precision ScalarValue)) → stat_eq s t ≡ false → entry_value t (revised s o es) ≡ entry_value t es
 value-revised s t (Some p) es n = entry_value-with_other s t p es n
 value-revised s t None es n = entry_value-without_other s t es (nat_eq_equiv.symm (stat_number t) (stat_number s) ∙ n)
-
-pub distinct_revised : (s : Stat) (o : Option (Precision ScalarValue)) (es : List (Stat × Precision ScalarValue)) → AreDistinct es → AreDistinct (revised s o es)
-distinct_revised s (Some p) es d = distinct_with_entry s p es d
-distinct_revised s None es d = distinct_filter _ es d
 
 -- ---- statistics by number
 
@@ -124,14 +110,6 @@ pub merged_ordered-by_steps : (own other : List (Stat × Precision ScalarValue))
 merged_ordered-by_steps own other =
     in_turn own other (IsConstant ∷ IsSorted ∷ IsStrictSorted ∷ Max ∷ Min ∷ Sum ∷ NullCount ∷ UncompressedSizeInBytes ∷ NaNCount ∷ []) 0 own
     (refl, (refl, (refl, (refl, (refl, (refl, (refl, (refl, (refl, tt))))))))) (λ t h. refl)
-
-distinct-in_turn : (v : Stat → Option (Precision ScalarValue)) (ss : List Stat) (es : List (Stat × Precision ScalarValue)) → AreDistinct es → AreDistinct (revised_in_turn v es ss)
-distinct-in_turn v [] es d = d
-distinct-in_turn v (s ∷ ss) es d = distinct-in_turn v ss (revised s (v s) es) (distinct_revised s (v s) es d)
-
-pub distinct-all_revised : (v : Stat → Option (Precision ScalarValue)) (es : List (Stat × Precision ScalarValue)) → AreDistinct es → AreDistinct (all_revised v es)
-distinct-all_revised v es d =
-    distinct-in_turn v (IsConstant ∷ IsSorted ∷ IsStrictSorted ∷ Max ∷ Min ∷ Sum ∷ NullCount ∷ UncompressedSizeInBytes ∷ NaNCount ∷ []) es d
 
 -- ---- the changes of a merge
 
@@ -206,15 +184,3 @@ unordered-needs_own own other Sum l h = merged-needs_own own other Sum l h
 unordered-needs_own own other NullCount l h = merged-needs_own own other NullCount l h
 unordered-needs_own own other UncompressedSizeInBytes l h = merged-needs_own own other UncompressedSizeInBytes l h
 unordered-needs_own own other NaNCount l h = absurd (true≢false (sym h))
-
--- a write of all changes, which may be refused
-pub merged-written : {E : Type 0} (r : Result (Unit {0}) E) (c : Changes) (v : Stat → Option (Precision ScalarValue)) (own new : List (Stat × Precision ScalarValue))
-    → NeedsOwn v own → v NaNCount ≡ None → MakesAll c v own → OnOk r (new ≡ all_changed c own) → OnOk r (new ≡ all_revised v own)
-merged-written (Ok u) c v own new p none m h = h ∙ all_changed-made c v own p none m
-merged-written (Err x) c v own new p none m h = tt
-
--- a list that was either revised or left as it was
-pub distinct-written : {E : Type 0} (r : Result (Unit {0}) E) (v : Stat → Option (Precision ScalarValue)) (own new : List (Stat × Precision ScalarValue))
-    → AreDistinct own → OnOk r (new ≡ all_revised v own) → OnErr r (new ≡ own) → AreDistinct new
-distinct-written (Ok u) v own new d h k = subst AreDistinct (sym h) (distinct-all_revised v own d)
-distinct-written (Err x) v own new d h k = subst AreDistinct (sym k) d

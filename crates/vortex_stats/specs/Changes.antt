@@ -1,5 +1,5 @@
 -- What becomes of each entry in a merge, once the new values are known.
-use Rattle.std.specs.Prelude.{◌≡◌, List, Option, Some, None, if◌then◌else◌}
+use Rattle.std.specs.Prelude.{◌≡◌, List, [], ◌∷◌, Option, Some, None}
 use Rattle.vortex_base.specs.declared.scalar_value.ScalarValue.{ScalarValue}
 use Rattle.vortex_stats.specs.declared.merge.Change.{Change}
 use Rattle.vortex_stats.specs.declared.merge.Change.TheVariants.{Kept, Set, Cleared}
@@ -7,7 +7,7 @@ use Rattle.vortex_stats.specs.declared.merge.Changes.{Changes}
 use Rattle.vortex_stats.specs.declared.precision.Precision.{Precision}
 use Rattle.vortex_stats.specs.declared.stat.Stat.{Stat}
 use Rattle.vortex_stats.specs.declared.stat.Stat.TheVariants.{IsConstant, IsSorted, IsStrictSorted, Max, Min, Sum, NullCount, UncompressedSizeInBytes, NaNCount}
-use Rattle.vortex_stats.specs.Entries.{has_entry, entry_value, with_entry, without_entry}
+use Rattle.vortex_stats.specs.Entries.{entry_value, with_entry, without_entry}
 use Rattle.vortex_stats.specs.Merges.{revised}
 
 -- the value that the change makes of the own one; None clears the entry
@@ -16,13 +16,18 @@ made Kept own = Some own
 made (Set new) own = Some new
 made Cleared own = None
 
--- the entries after the change of the statistic's entry; none is added
+-- the entries after the change of the statistic's entry
 abbrev pub changed : Stat → Change → List (Stat × Precision ScalarValue) → List (Stat × Precision ScalarValue)
 changed s Kept es = es
-changed s (Set new) es = if has_entry s es then with_entry s new es else es
+changed s (Set new) es = with_entry s new es
 changed s Cleared es = without_entry s es
 
--- the entries after all changes, by number; of IsConstant alone an entry may be added
+-- the entries after each change of a list in turn
+abbrev pub changed_by : List (Stat × Change) → List (Stat × Precision ScalarValue) → List (Stat × Precision ScalarValue)
+changed_by [] es = es
+changed_by (x ∷ xs) es = changed_by xs (changed x.0 x.1 es)
+
+-- the entries after all changes, by number
 abbrev pub all_changed : Changes → List (Stat × Precision ScalarValue) → List (Stat × Precision ScalarValue)
 all_changed c es =
     changed NaNCount Cleared (changed UncompressedSizeInBytes c.uncompressed_size_in_bytes (changed NullCount c.null_count

@@ -1,7 +1,7 @@
 -- Lists of entries: a statistic and its value with a precision.
 use Rattle.std.specs.Prelude.{◌≡◌, Bool, true, false, not, ◌||◌, List, [], ◌∷◌, Option, Some, None, if◌then◌else◌, ⊤}
 use Rattle.std.specs.List.{filter, list_any, list_all}
-use Rattle.std.specs.Iterator.{Drains, Yields}
+use Rattle.std.specs.Iterator.{Drains}
 use Rattle.vortex_base.specs.declared.dtype.DType.{DType}
 use Rattle.vortex_base.specs.declared.scalar_value.ScalarValue.{ScalarValue}
 use Rattle.vortex_base.specs.Values.{is_value}
@@ -56,10 +56,6 @@ module _ {S V : Type 0} (steps : S → Option (Stat × Precision V) → S → Ty
   -- each item was set, in order
   abbrev pub SetsAll : S → List (Stat × Precision V) → List (Stat × Precision V) → Type 0
   SetsAll s old new = (items : List (Stat × Precision V)) × Drains steps s items × (new ≡ with_entries items old)
-
-  -- the first items were set, in order
-  abbrev pub SetsFirst : S → List (Stat × Precision V) → List (Stat × Precision V) → Type 0
-  SetsFirst s old new = (items : List (Stat × Precision V)) × (t : S) × Yields steps s items t × (new ≡ with_entries items old)
 
 -- a value of the type, if there is one
 abbrev pub is_value_of : Option DType → ScalarValue → Bool

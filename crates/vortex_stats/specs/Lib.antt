@@ -10,6 +10,7 @@ pub mod Tightest
 pub mod Scalars
 pub mod Bitset
 pub mod Entries
+pub mod Slots
 pub mod TypedStats
 pub mod Reading
 pub mod MutTypedStats

@@ -1,9 +1,11 @@
 //! Sets of statistics as bytes.
-ghost use Rattle.std.specs.Prelude.{◌≡◌, ◌≤◌, IfOk};
+ghost use Rattle.std.specs.Prelude.{◌≡◌, ◌≤◌, IfErr, IfOk, alloc_error};
 ghost use Rattle.vortex_stats.specs.Stat.{stat_number};
+ghost use Rattle.vortex_stats.specs.declared.error.StatsError.TheVariants.{Memory};
 ghost use Rattle.vortex_stats.specs.Bitset.{is_set, stats_in, IsBitsetOf};
 ghost use Rattle.vortex_stats.specs.Bitset.{bit, is_listed, number_of, low_bits, high_bits};
 
+use crate::error::StatsError;
 use crate::stat::Stat;
 use std::alloc::{AllocError, Global};
 
@@ -18,12 +20,14 @@ pub fn as_stat_bitset_bytes(alloc: Global, stats: &[Stat]) -> Result<Vec<u8>, Al
 
 /// The statistics whose numbers are set in the bytes, ascending. Bytes may be missing, and numbers
 /// that are no statistic's are passed over.
-pub fn stats_from_bitset_bytes(alloc: Global, bytes: &[u8]) -> Result<Vec<Stat>, AllocError>
-    ensures { IfOk result (λ stats. stats.items ≡ stats_in bytes.now) }
+pub fn stats_from_bitset_bytes(alloc: Global, bytes: &[u8]) -> Result<Vec<Stat>, StatsError>
+    ensures value { IfOk result (λ stats. stats.items ≡ stats_in bytes.now) }
+    ensures memory { IfErr result (λ error. error ≡ Memory alloc_error) }
 {
-    Stat::all()
+    let stats: Vec<Stat> = Stat::all()
         .filter(|stat| is_set_in(bytes, *stat))
-        .collect(alloc)
+        .collect(alloc)?;
+    Ok(stats)
 }
 
 /// Whether the statistic's number is set in the bytes.

@@ -1,11 +1,13 @@
 //! Upper and lower bounds over values with a total order.
-ghost use Rattle.std.specs.Prelude.{◌≡◌, IfOk, OnErr};
+ghost use Rattle.std.specs.Prelude.{◌≡◌, IfErr, IfOk, OnErr, alloc_error};
 ghost use Rattle.vortex_stats.specs.Precision.{is_exact, is_exactly, IsPresentAnd};
 ghost use Rattle.vortex_stats.specs.Bound.{ClonesEqual, IsOkOrElse, IsValueAnd};
 ghost use Rattle.vortex_stats.specs.UpperBound.{upper_compared};
 ghost use Rattle.vortex_stats.specs.LowerBound.{lower_compared};
+ghost use Rattle.vortex_stats.specs.declared.error.StatsError.TheVariants.{Memory};
 
 use crate::chosen;
+use crate::error::StatsError;
 use crate::precision::Precision;
 use crate::stat_bound::StatBound;
 use std::alloc::AllocError;
@@ -38,10 +40,11 @@ impl<T> IntersectionResult<T> {
 
 impl<T: Clone> IntersectionResult<T> {
     /// An equal result.
-    pub fn try_clone(&self) -> Result<Self, AllocError>
+    pub fn try_clone(&self) -> Result<Self, StatsError>
         requires { ClonesEqual T.is_clone }
         ensures value { IfOk result (λ r. r ≡ self.now) }
         ensures refused { OnErr result (IsValueAnd self.now (λ v. ¬ (T.is_infallible v))) }
+        ensures memory { IfErr result (λ error. error ≡ Memory alloc_error) }
     {
         match self {
             IntersectionResult::Value(v) => Ok(IntersectionResult::Value(v.clone()?)),
@@ -150,10 +153,11 @@ impl<T: Ord> UpperBound<T> {
 
 impl<T: Clone> UpperBound<T> {
     /// An equal bound.
-    pub fn try_clone(&self) -> Result<Self, AllocError>
+    pub fn try_clone(&self) -> Result<Self, StatsError>
         requires { ClonesEqual T.is_clone }
         ensures value { IfOk result (λ r. r ≡ self.now) }
         ensures refused { OnErr result (IsPresentAnd self.now (λ v. ¬ (T.is_infallible v))) }
+        ensures memory { IfErr result (λ error. error ≡ Memory alloc_error) }
     {
         Ok(UpperBound(self.0.as_ref().cloned()?))
     }
@@ -268,10 +272,11 @@ impl<T: Ord> LowerBound<T> {
 
 impl<T: Clone> LowerBound<T> {
     /// An equal bound.
-    pub fn try_clone(&self) -> Result<Self, AllocError>
+    pub fn try_clone(&self) -> Result<Self, StatsError>
         requires { ClonesEqual T.is_clone }
         ensures value { IfOk result (λ r. r ≡ self.now) }
         ensures refused { OnErr result (IsPresentAnd self.now (λ v. ¬ (T.is_infallible v))) }
+        ensures memory { IfErr result (λ error. error ≡ Memory alloc_error) }
     {
         Ok(LowerBound(self.0.as_ref().cloned()?))
     }

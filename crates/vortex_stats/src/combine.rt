@@ -8,16 +8,19 @@ ghost use Rattle.vortex_base.specs.Values.{is_value};
 ghost use Rattle.vortex_stats.specs.Bound.{ClonesEqual, intersection_map};
 ghost use Rattle.vortex_stats.specs.Precision.{precision_map, IfPresent};
 ghost use Rattle.vortex_stats.specs.Scalars.{IsAnswerOrMemory};
-ghost use Rattle.vortex_stats.specs.Entries.{entries_fit, value_fits};
-ghost use Rattle.vortex_stats.specs.Combined.{intersection_of, combined_entry, combined, Combines};
-ghost use Rattle.vortex_stats.specs.CombineSteps.{truth_value, meeting, IsStep};
+ghost use Rattle.vortex_stats.specs.Entries.{entries_fit, value_fits, AreDistinct};
+ghost use Rattle.vortex_stats.specs.Changes.{changed_by};
+ghost use Rattle.vortex_stats.specs.Combined.{intersection_of, combined, Combines};
+ghost use Rattle.vortex_stats.specs.CombineSteps.{truth_value, meeting, IsChange};
 
 use crate::bound::IntersectionResult;
 use crate::error::StatsError;
+use crate::merge::{self, Change};
 use crate::precision::Precision;
 use crate::stat::{self, Stat};
 use crate::stat_bound::{StatBound, StatType};
 use crate::stats_set::StatsSet;
+use smallvec::SmallVec;
 use vortex_base::dtype::DType;
 use vortex_base::scalar_value::ScalarValue;
 
@@ -114,58 +117,69 @@ fn met_value(
     }
 }
 
-/// Combines one entry of the other set.
-fn combine_entry(
-    work: &mut StatsSet,
+/// What an entry of the other set makes of the own value. One value is cloned at most.
+fn entry_change(
+    own: Precision<&ScalarValue>,
     dtype: &DType,
     entry: &(Stat, Precision<ScalarValue>),
-) -> Result<(), StatsError>
-    requires work_fits { IsTrue (entries_fit work.old dtype.now) }
+) -> Result<Change, StatsError>
+    requires own_fits { IsTrue (value_fits entry.now.0 dtype.now (precision_map (λ v. v.now) own)) }
     requires entry_fits { IsTrue (value_fits entry.now.0 dtype.now entry.now.1) }
-    ensures step { IsStep (combined_entry work.old entry.now) entry.now.0 work.old work.new result }
+    ensures change { IsChange entry.now.0 (precision_map (λ v. v.now) own.entry) entry.now.1 result }
 {
-    let stat = entry.0;
-    let own = work.find(stat);
     let other = entry.1.as_ref();
     if other.is_absent() {
-        if own.is_absent() {
-            work.clear(stat);
-        }
-        return Ok(());
+        return Ok(if own.is_absent() {
+            Change::Cleared
+        } else {
+            Change::Kept
+        });
     }
     if own.is_absent() {
-        work.set(stat, other.cloned()?)?;
-        return Ok(());
+        return Ok(Change::Set(other.cloned()?));
     }
-    if let Some(value) = met_value(stat, dtype, own, other)? {
-        work.set(stat, value)?;
+    match met_value(entry.0, dtype, own, other)? {
+        Some(value) => Ok(Change::Set(value)),
+        None => Ok(Change::Kept),
     }
-    Ok(())
+}
+
+/// A change of each of some entries.
+type EntryChanges = SmallVec<(Stat, Change), 9>;
+
+/// Makes each change in turn.
+fn change_each(set: &mut StatsSet, changes: EntryChanges)
+    ensures { set.new ≡ changed_by changes.items set.old }
+{
+    for change in changes {
+        merge::change_entry(set, change.0, change.1);
+    }
 }
 
 impl StatsSet {
     /// Combines what another set tells of the same array. Both sets fit the type of the column, as
     /// `fits` tells. `Conflict` if two values of a statistic contradict each other, and then the other
-    /// set's earlier entries stay combined; `Memory` if a growth or a clone is refused, and then the set
+    /// set's earlier entries stay combined; `Memory` if a clone of a value is refused, and then the set
     /// stays as it was. `Memory` may come where a conflict would have come later.
     pub fn combine_sets(&mut self, other: &Self, dtype: &DType) -> Result<(), StatsError>
         requires own_fits { IsTrue (entries_fit self.old dtype.now) }
         requires other_fits { IsTrue (entries_fit other.now dtype.now) }
         ensures combined { Combines (combined self.old other.now) self.old self.new result }
         ensures fits { IsTrue (entries_fit self.new dtype.now) }
+        ensures distinct { AreDistinct other.now }
     {
-        let mut work = self.try_clone()?;
+        let mut changes: EntryChanges = SmallVec::new(self.allocator());
         for entry in other.iter() {
-            match combine_entry(&mut work, dtype, entry) {
-                Ok(()) => {}
+            match entry_change(self.find(entry.0), dtype, entry) {
+                Ok(change) => changes.push_reserved((entry.0, change)),
                 Err(StatsError::Conflict(stat)) => {
-                    *self = work;
+                    change_each(self, changes);
                     return Err(StatsError::Conflict(stat));
                 }
                 Err(refused) => return Err(refused),
             }
         }
-        *self = work;
+        change_each(self, changes);
         Ok(())
     }
 }

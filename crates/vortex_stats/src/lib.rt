@@ -9,7 +9,6 @@ pub mod bitset;
 pub mod bound;
 mod chosen;
 mod combine;
-mod entries;
 pub mod error;
 pub mod laws;
 mod merge;

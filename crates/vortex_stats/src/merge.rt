@@ -1,7 +1,7 @@
 //! Merges: the statistics of one array followed by another, from the statistics of both.
 //!
-//! A merge first finds what becomes of each entry, and clones there. Then it writes: the one write that
-//! may add an entry goes first, and no other takes memory. So a refused merge has changed nothing.
+//! A merge first finds what becomes of each entry, and clones there. Then it writes, which takes no
+//! memory. So a refused merge has changed nothing.
 ghost use Rattle.std.specs.Prelude.{◌≡◌, true, false, if◌then◌else◌, IfOk, IfErr, OnOk, OnErr, IsTrue, Some, alloc_error};
 ghost use Rattle.vortex_stats.specs.declared.error.StatsError.TheVariants.{Memory};
 ghost use Rattle.vortex_stats.specs.declared.precision.Precision.TheVariants as precise;
@@ -12,7 +12,6 @@ ghost use Rattle.vortex_stats.specs.Merges.{truth, is_exactly, seam, at_seam, is
 ghost use Rattle.vortex_stats.specs.Changes.{made, changed, all_changed, MakesAll};
 
 use crate::bound::{LowerBound, UpperBound};
-use crate::entries::{self, StatsArray, find};
 use crate::error::StatsError;
 use crate::precision::Precision;
 use crate::stat::Stat;
@@ -23,12 +22,11 @@ use vortex_base::dtype::DType;
 use vortex_base::pvalue::PValue;
 use vortex_base::scalar_value::ScalarValue;
 
-type Entry = (Stat, Precision<ScalarValue>);
-
 /// What becomes of an entry.
-#[derive(Drop)]
+#[derive(Default, Drop)]
 pub(crate) enum Change {
     /// It stays as it is.
+    #[default]
     Kept,
     /// It has this value from here on.
     Set(Precision<ScalarValue>),
@@ -66,18 +64,18 @@ fn is_exactly(holds: bool, value: Precision<&ScalarValue>) -> bool
 
 /// IsConstant: false if either side is exactly false; of two that are exactly true whether the exact
 /// minima are equal.
-fn is_constant_value(own: &[Entry], other: &[Entry]) -> Option<Precision<ScalarValue>>
+fn is_constant_value(own: &StatsSet, other: &StatsSet) -> Option<Precision<ScalarValue>>
     ensures { result ≡ merged_value stats.IsConstant own.now other.now }
 {
-    let first = find(own, Stat::IsConstant);
-    let second = find(other, Stat::IsConstant);
+    let first = own.find(Stat::IsConstant);
+    let second = other.find(Stat::IsConstant);
     if is_exactly(false, first) || is_exactly(false, second) {
         return Some(truth(false));
     }
     if !is_exactly(true, first) || !is_exactly(true, second) {
         return None;
     }
-    match (find(own, Stat::Min), find(other, Stat::Min)) {
+    match (own.find(Stat::Min), other.find(Stat::Min)) {
         (Precision::Exact(x), Precision::Exact(y)) => Some(truth(x.cmp(y).is_eq())),
         _ => None,
     }
@@ -122,26 +120,24 @@ fn at_seam(
 }
 
 /// IsSorted: whether the first side's greatest value is at most the other's least.
-fn is_sorted_value(own: &[Entry], other: &[Entry]) -> Option<Precision<ScalarValue>>
+fn is_sorted_value(own: &StatsSet, other: &StatsSet) -> Option<Precision<ScalarValue>>
     ensures { result ≡ merged_value stats.IsSorted own.now other.now }
 {
-    if is_exactly(true, find(own, Stat::IsSorted))
-        && is_exactly(true, find(other, Stat::IsSorted))
-    {
-        at_seam(find(own, Stat::Max), find(other, Stat::Min), false)
+    if is_exactly(true, own.find(Stat::IsSorted)) && is_exactly(true, other.find(Stat::IsSorted)) {
+        at_seam(own.find(Stat::Max), other.find(Stat::Min), false)
     } else {
         None
     }
 }
 
 /// IsStrictSorted: whether the first side's greatest value is below the other's least.
-fn is_strict_sorted_value(own: &[Entry], other: &[Entry]) -> Option<Precision<ScalarValue>>
+fn is_strict_sorted_value(own: &StatsSet, other: &StatsSet) -> Option<Precision<ScalarValue>>
     ensures { result ≡ merged_value stats.IsStrictSorted own.now other.now }
 {
-    if is_exactly(true, find(own, Stat::IsStrictSorted))
-        && is_exactly(true, find(other, Stat::IsStrictSorted))
+    if is_exactly(true, own.find(Stat::IsStrictSorted))
+        && is_exactly(true, other.find(Stat::IsStrictSorted))
     {
-        at_seam(find(own, Stat::Max), find(other, Stat::Min), true)
+        at_seam(own.find(Stat::Max), other.find(Stat::Min), true)
     } else {
         None
     }
@@ -162,26 +158,26 @@ fn bound_change(
 }
 
 /// Max: the union of two upper bounds.
-fn max_change(own: &[Entry], other: &[Entry]) -> Result<Change, AllocError>
+fn max_change(own: &StatsSet, other: &StatsSet) -> Result<Change, AllocError>
     ensures { IfOk result (λ c. made c (entry_value stats.Max own.now)
         ≡ merged_value stats.Max own.now other.now) }
 {
-    let value = find(own, Stat::Max);
+    let value = own.find(Stat::Max);
     let first = UpperBound::lift(value);
-    match first.union(&UpperBound::lift(find(other, Stat::Max)))? {
+    match first.union(&UpperBound::lift(other.find(Stat::Max)))? {
         Some(bound) => bound_change(value, bound.into_value()),
         None => Ok(Change::Cleared),
     }
 }
 
 /// Min: the union of two lower bounds.
-fn min_change(own: &[Entry], other: &[Entry]) -> Result<Change, AllocError>
+fn min_change(own: &StatsSet, other: &StatsSet) -> Result<Change, AllocError>
     ensures { IfOk result (λ c. made c (entry_value stats.Min own.now)
         ≡ merged_value stats.Min own.now other.now) }
 {
-    let value = find(own, Stat::Min);
+    let value = own.find(Stat::Min);
     let first = LowerBound::lift(value);
-    match first.union(&LowerBound::lift(find(other, Stat::Min)))? {
+    match first.union(&LowerBound::lift(other.find(Stat::Min)))? {
         Some(bound) => bound_change(value, bound.into_value()),
         None => Ok(Change::Cleared),
     }
@@ -207,10 +203,10 @@ fn sum_of(own: &ScalarValue, other: &ScalarValue) -> Option<Precision<ScalarValu
 }
 
 /// Sum: of two exact ones.
-fn sum_value(own: &[Entry], other: &[Entry]) -> Option<Precision<ScalarValue>>
+fn sum_value(own: &StatsSet, other: &StatsSet) -> Option<Precision<ScalarValue>>
     ensures { result ≡ merged_value stats.Sum own.now other.now }
 {
-    match (find(own, Stat::Sum), find(other, Stat::Sum)) {
+    match (own.find(Stat::Sum), other.find(Stat::Sum)) {
         (Precision::Exact(m), Precision::Exact(n)) => sum_of(m, n),
         _ => None,
     }
@@ -267,7 +263,7 @@ pub(crate) struct Changes {
 }
 
 /// What becomes of each entry where the rows of the other side follow.
-fn ordered_changes(own: &[Entry], other: &[Entry]) -> Result<Changes, AllocError>
+fn ordered_changes(own: &StatsSet, other: &StatsSet) -> Result<Changes, AllocError>
     ensures { IfOk result (λ c. MakesAll c (λ s. merged_value s own.now other.now) own.now) }
 {
     Ok(Changes {
@@ -277,19 +273,16 @@ fn ordered_changes(own: &[Entry], other: &[Entry]) -> Result<Changes, AllocError
         max: max_change(own, other)?,
         min: min_change(own, other)?,
         sum: Change::of(sum_value(own, other)),
-        null_count: Change::of(count_value(
-            find(own, Stat::NullCount),
-            find(other, Stat::NullCount),
-        )),
+        null_count: Change::of(count_value(own.find(Stat::NullCount), other.find(Stat::NullCount))),
         uncompressed_size_in_bytes: Change::of(count_value(
-            find(own, Stat::UncompressedSizeInBytes),
-            find(other, Stat::UncompressedSizeInBytes),
+            own.find(Stat::UncompressedSizeInBytes),
+            other.find(Stat::UncompressedSizeInBytes),
         )),
     })
 }
 
 /// What becomes of each entry where the order of the rows isn't known.
-fn unordered_changes(own: &[Entry], other: &[Entry]) -> Result<Changes, AllocError>
+fn unordered_changes(own: &StatsSet, other: &StatsSet) -> Result<Changes, AllocError>
     ensures { IfOk result (λ c. MakesAll c (λ s. unordered_value s own.now other.now) own.now) }
 {
     let mut changes = ordered_changes(own, other)?;
@@ -298,54 +291,44 @@ fn unordered_changes(own: &[Entry], other: &[Entry]) -> Result<Changes, AllocErr
     Ok(changes)
 }
 
-/// Writes the one value that a merge may add, and nothing where memory is refused.
-fn place(
-    entries: &mut StatsArray,
-    stat: Stat,
-    value: Option<Precision<ScalarValue>>,
-) -> Result<(), AllocError>
-    ensures written { OnOk result (entries.new.items ≡ revised stat value entries.old.items) }
-    ensures refused { OnErr result (entries.new ≡ entries.old) }
+/// The statistic has this value from here on, or no entry.
+fn revise(set: &mut StatsSet, stat: Stat, value: Option<Precision<ScalarValue>>)
+    ensures { set.new ≡ revised stat value set.old }
 {
     match value {
-        Some(value) => entries::put(entries, stat, value),
-        None => {
-            entries::remove(entries, stat);
-            Ok(())
-        }
+        Some(value) => set.put(stat, value),
+        None => set.clear(stat),
     }
 }
 
-/// Changes the statistic's entry, which takes no memory.
-fn change_entry(entries: &mut StatsArray, stat: Stat, change: Change)
-    ensures { entries.new.items ≡ changed stat change entries.old.items }
+/// Changes the statistic's entry.
+pub(crate) fn change_entry(set: &mut StatsSet, stat: Stat, change: Change)
+    ensures { set.new ≡ changed stat change set.old }
 {
     match change {
         Change::Kept => {}
-        Change::Set(value) => entries::replace(entries, stat, value),
-        Change::Cleared => entries::remove(entries, stat),
+        Change::Set(value) => set.put(stat, value),
+        Change::Cleared => set.clear(stat),
     }
 }
 
-/// Changes all entries. Where memory is refused nothing has changed.
-fn change_all(entries: &mut StatsArray, changes: Changes) -> Result<(), AllocError>
-    ensures written { OnOk result (entries.new.items ≡ all_changed changes entries.old.items) }
-    ensures refused { OnErr result (entries.new ≡ entries.old) }
+/// Changes all entries.
+fn change_all(set: &mut StatsSet, changes: Changes)
+    ensures { set.new ≡ all_changed changes set.old }
 {
-    place(entries, Stat::IsConstant, changes.is_constant)?;
-    change_entry(entries, Stat::IsSorted, changes.is_sorted);
-    change_entry(entries, Stat::IsStrictSorted, changes.is_strict_sorted);
-    change_entry(entries, Stat::Max, changes.max);
-    change_entry(entries, Stat::Min, changes.min);
-    change_entry(entries, Stat::Sum, changes.sum);
-    change_entry(entries, Stat::NullCount, changes.null_count);
+    revise(set, Stat::IsConstant, changes.is_constant);
+    change_entry(set, Stat::IsSorted, changes.is_sorted);
+    change_entry(set, Stat::IsStrictSorted, changes.is_strict_sorted);
+    change_entry(set, Stat::Max, changes.max);
+    change_entry(set, Stat::Min, changes.min);
+    change_entry(set, Stat::Sum, changes.sum);
+    change_entry(set, Stat::NullCount, changes.null_count);
     change_entry(
-        entries,
+        set,
         Stat::UncompressedSizeInBytes,
         changes.uncompressed_size_in_bytes,
     );
-    entries::remove(entries, Stat::NaNCount);
-    Ok(())
+    set.clear(Stat::NaNCount);
 }
 
 impl StatsSet {
@@ -358,8 +341,9 @@ impl StatsSet {
         ensures fits { IsTrue (entries_fit self.new dtype.now) }
     {
         let _ = dtype;
-        let changes = ordered_changes(self.entries.as_slice(), other.entries.as_slice())?;
-        change_all(&mut self.entries, changes)
+        let changes = ordered_changes(self, other)?;
+        change_all(self, changes);
+        Ok(())
     }
 
     /// The unordered merge in place. Where memory is refused, the set stays as it was.
@@ -371,12 +355,13 @@ impl StatsSet {
         ensures fits { IsTrue (entries_fit self.new dtype.now) }
     {
         let _ = dtype;
-        let changes = unordered_changes(self.entries.as_slice(), other.entries.as_slice())?;
-        change_all(&mut self.entries, changes)
+        let changes = unordered_changes(self, other)?;
+        change_all(self, changes);
+        Ok(())
     }
 
     /// The statistics of the array of this set followed by the array of the other. Both sets fit the
-    /// type of the column, as `fits` tells. `Memory` if a growth or a clone is refused, and then this
+    /// type of the column, as `fits` tells. `Memory` if a clone of a value is refused, and then this
     /// set is handed back as it was.
     pub fn merge_ordered(mut self, other: &Self, dtype: &DType) -> Result<StatsSet, MergeRefused>
         requires own_fits { IsTrue (entries_fit self dtype.now) }
@@ -396,7 +381,7 @@ impl StatsSet {
     }
 
     /// The statistics of any arrangement of the rows of both arrays. Both sets fit the type of the
-    /// column, as `fits` tells. `Memory` if a growth or a clone is refused, and then this set is handed
+    /// column, as `fits` tells. `Memory` if a clone of a value is refused, and then this set is handed
     /// back as it was.
     pub fn merge_unordered(mut self, other: &Self, dtype: &DType) -> Result<StatsSet, MergeRefused>
         requires own_fits { IsTrue (entries_fit self dtype.now) }

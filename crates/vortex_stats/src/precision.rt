@@ -265,6 +265,16 @@ pub(crate) fn typed(value: ScalarValue, dtype: DType) -> Result<Scalar, StatsErr
     }
 }
 
+/// A copy of a value, by the value's allocator.
+pub(crate) fn copy_of(value: &ScalarValue) -> Result<ScalarValue, AllocError>
+    ensures { IfOk result (λ copy. copy ≡ value.now) }
+{
+    match value.try_clone() {
+        Ok(copy) => Ok(copy),
+        Err(_) => Err(AllocError),
+    }
+}
+
 /// The scalar of a clone of a value and its type.
 fn typed_clone(value: &ScalarValue, dtype: DType) -> Result<Scalar, StatsError>
     ensures { IsAnswerOrMemory (checked_scalar value.now dtype) result }
@@ -272,7 +282,7 @@ fn typed_clone(value: &ScalarValue, dtype: DType) -> Result<Scalar, StatsError>
     if !value.fits(&dtype) {
         return Err(StatsError::Mismatch);
     }
-    typed(value.try_clone()?, dtype)
+    typed(copy_of(value)?, dtype)
 }
 
 impl<T: Clone> Precision<&T> {

@@ -30,7 +30,7 @@ fn read_value<T: FromScalar>(value: &ScalarValue, dtype: DType) -> Result<T, Sta
     if !value.fits(&dtype) {
         return Err(StatsError::Mismatch);
     }
-    let scalar = precision::typed(value.try_clone()?, dtype)?;
+    let scalar = precision::typed(precision::copy_of(value)?, dtype)?;
     match T::from_scalar(&scalar) {
         Ok(read) => Ok(read),
         Err(BaseError::Memory(refused)) => Err(StatsError::Memory(refused)),

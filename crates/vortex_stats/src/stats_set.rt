@@ -1,30 +1,42 @@
 //! Sets of statistics.
-ghost use Rattle.std.specs.Prelude.{◌≡◌, ◌==◌, ◌∷◌, [], Ok, IfOk, IfErr, IsOk, alloc_error, OnOk, OnErr, IsTrue, length};
+ghost use Rattle.std.specs.Prelude.{◌≡◌, ◌≤◌, ◌==◌, ◌∷◌, [], slice_set, IfErr, IfOk, IsOk, IsOkAnd, OnErr};
+ghost use Rattle.std.specs.Prelude.{IsTrue, alloc_error, length};
+ghost use Rattle.std.specs.List.{list_any};
 ghost use Rattle.std.specs.Iterator.{YieldsFirst, YieldsFirstRef, item_count, IsFinite};
-ghost use Rattle.vortex_stats.specs.declared.error.StatsError.TheVariants.{Memory};
 ghost use Rattle.vortex_stats.specs.Reading.{IsPreciselyReadAs};
 ghost use Rattle.vortex_stats.specs.Precision.{is_present, precision_map};
-ghost use Rattle.vortex_stats.specs.Entries.{entry_value, with_entry, without_entry, retained_entries, has_entry};
-ghost use Rattle.vortex_stats.specs.Entries.{value_fits, entries_fit, AreDistinct, SetsAll, SetsFirst};
+ghost use Rattle.vortex_stats.specs.Stat.{stat_eq, stat_number};
+ghost use Rattle.vortex_stats.specs.Slots.{slot_of, IsOwn};
+ghost use Rattle.vortex_stats.specs.declared.error.StatsError.TheVariants.{Memory};
+ghost use Rattle.vortex_stats.specs.Entries.{entry_value, with_entry, without_entry, retained_entries};
+ghost use Rattle.vortex_stats.specs.Entries.{value_fits, entries_fit, AreDistinct, SetsAll};
 ghost use Rattle.vortex_stats.specs.Entries.{is_value_of as value_is_of};
 
-pub use crate::entries::StatsArray;
 use crate::error::StatsError;
 use crate::precision::Precision;
+use crate::reading;
 use crate::stat::Stat;
-use crate::{entries, reading};
 use smallvec::SmallVec;
-use std::alloc::{AllocError, Global};
+use std::alloc::Global;
 use std::marker::Model;
 use vortex_base::dtype::DType;
 use vortex_base::from_scalar::FromScalar;
 use vortex_base::scalar_value::ScalarValue;
 
+/// The entries that make a set: up to four stand in the value itself.
+pub type StatsArray = SmallVec<Entry, 4>;
+
+/// A statistic and its value.
+type Entry = (Stat, Precision<ScalarValue>);
+
 /// The statistics of one column: a list of entries, a statistic and its value each, no two of one
 /// statistic. An entry may hold Absent, and then it still counts.
 #[derive(Debug, Drop)]
 pub struct StatsSet {
-    pub(crate) entries: StatsArray,
+    // Slot k is empty or holds the entry of the statistic with number k.
+    slots: [Option<Entry>; 9],
+    // The statistics of the filled slots. There are nine at most, so they all stand in place.
+    order: SmallVec<Stat, 9>,
 }
 
 impl Model for StatsSet {
@@ -32,23 +44,23 @@ impl Model for StatsSet {
     ghost use Rattle.vortex_base.specs.declared.scalar_value.ScalarValue.{ScalarValue};
     ghost use Rattle.vortex_stats.specs.declared.stat.Stat.{Stat};
     ghost use Rattle.vortex_stats.specs.declared.precision.Precision.{Precision};
-    ghost use Rattle.vortex_stats.specs.Entries.{AreDistinct};
+    ghost use Rattle.vortex_stats.specs.Slots.{slot_entries, IsSound};
 
     ghost Value = { List (Stat × Precision ScalarValue) };
 
-    ghost view = { λ s. s.entries.items };
+    ghost view = { λ s. slot_entries s.slots s.order.items };
 
-    ghost invariant = { λ s. AreDistinct s.entries.items };
+    ghost invariant = { λ s. IsSound s.slots s.order.items s.order.capacity };
 }
 
-#[tactic(auto, using(crate::proofs::Places::distinct))]
 impl StatsSet {
     /// A set with no entry.
     pub fn new(alloc: Global) -> Self
         ensures { result ≡ [] }
     {
         StatsSet {
-            entries: SmallVec::new(alloc),
+            slots: [None, None, None, None, None, None, None, None, None],
+            order: SmallVec::new(alloc),
         }
     }
 
@@ -56,17 +68,21 @@ impl StatsSet {
     pub fn of(alloc: Global, stat: Stat, value: Precision<ScalarValue>) -> Self
         ensures { result ≡ (stat, value) ∷ [] }
     {
-        let mut entries: StatsArray = SmallVec::new(alloc);
-        entries.push_reserved((stat, value));
-        StatsSet { entries }
+        let mut set = StatsSet::new(alloc);
+        set.put(stat, value);
+        set
     }
 
     /// The set of these entries. The caller knows that no two are of one statistic.
-    pub fn new_unchecked(_alloc: Global, entries: StatsArray) -> Self
+    pub fn new_unchecked(alloc: Global, entries: StatsArray) -> Self
         requires { AreDistinct entries.items }
         ensures { result ≡ entries.items }
     {
-        StatsSet { entries }
+        let mut set = StatsSet::new(alloc);
+        for entry in entries {
+            set.put(entry.0, entry.1);
+        }
+        set
     }
 
     /// The number of entries, Absent ones too.
@@ -74,46 +90,68 @@ impl StatsSet {
         ensures value { result ≡ length self.now }
         ensures distinct { AreDistinct self.now }
     {
-        self.entries.len()
+        self.order.len()
     }
 
     /// Whether there is no entry.
     pub fn is_empty(&self) -> bool
         ensures { result ≡ (length self.now == 0) }
     {
-        self.entries.is_empty()
+        self.len() == 0
     }
 
-    /// Sets the statistic's value: a present one keeps its place, a new one goes last. Where memory is
-    /// refused, the set stays as it was.
-    pub fn set(&mut self, stat: Stat, value: Precision<ScalarValue>) -> Result<(), AllocError>
-        ensures set { OnOk result (self.new ≡ with_entry stat value self.old) }
-        ensures refused { OnErr result (self.new ≡ self.old) }
-        ensures succeeds { IsTrue (has_entry stat self.old) → IsOk result }
+    /// Sets the statistic's value: a present one keeps its place, a new one goes last.
+    pub fn set(&mut self, stat: Stat, value: Precision<ScalarValue>) -> Result<(), StatsError>
+        ensures set { self.new ≡ with_entry stat value self.old }
+        ensures answered { IsOk result }
     {
-        entries::put(&mut self.entries, stat, value)
+        self.put(stat, value);
+        Ok(())
+    }
+
+    /// Sets the statistic's value: a present one keeps its place, a new one goes last.
+    pub(crate) fn put(&mut self, stat: Stat, value: Precision<ScalarValue>)
+        ensures { self.new ≡ with_entry stat value self.old }
+    {
+        let place = stat.number() as usize;
+        if self.slots[place].is_none() {
+            self.order.push_reserved(stat);
+            self.slots[place] = Some((stat, value));
+            return;
+        }
+        self.slots[place] = Some((stat, value));
     }
 
     /// Removes the statistic's entry, if there is one. The others keep their order.
     pub fn clear(&mut self, stat: Stat)
         ensures { self.new ≡ without_entry stat self.old }
     {
-        entries::remove(&mut self.entries, stat);
+        let place = stat.number() as usize;
+        if self.slots[place].is_none() {
+            return;
+        }
+        self.order.retain(|listed| !is_same(*listed, stat));
+        self.slots[place] = None;
     }
 
     /// Removes the entries of all other statistics. Those that stay keep their order.
     pub fn retain_only(&mut self, stats: &[Stat])
         ensures { self.new ≡ retained_entries stats.now self.old }
     {
-        entries::keep_only(&mut self.entries, stats);
+        for stat in Stat::all() {
+            if !is_among(stats, stat) {
+                self.clear(stat);
+            }
+        }
     }
 
     /// A clone of the statistic's value, and Absent where there is no entry.
-    pub fn get(&self, stat: Stat) -> Result<Precision<ScalarValue>, AllocError>
+    pub fn get(&self, stat: Stat) -> Result<Precision<ScalarValue>, StatsError>
         ensures value { IfOk result (λ value. value ≡ entry_value stat self.now) }
         ensures refused { OnErr result (IsTrue (is_present (entry_value stat self.now))) }
+        ensures memory { IfErr result (λ error. error ≡ Memory alloc_error) }
     {
-        self.find(stat).cloned()
+        Ok(self.find(stat).cloned()?)
     }
 
     /// The statistic's value, read under this type, and Absent where there is no entry. `Mismatch` if
@@ -132,63 +170,71 @@ impl StatsSet {
     pub(crate) fn find(&self, stat: Stat) -> Precision<&ScalarValue>
         ensures { precision_map (λ v. v.now) result ≡ entry_value stat self.now }
     {
-        entries::find(self.entries.as_slice(), stat)
+        match &self.slots[stat.number() as usize] {
+            Some(entry) => entry.1.as_ref(),
+            None => Precision::Absent,
+        }
+    }
+
+    /// The allocator.
+    pub(crate) fn allocator(&self) -> Global {
+        *self.order.allocator()
     }
 
     /// The entries in order.
     pub fn iter(&self) -> StatsSetIter<'_>
         ensures entries { result ≡ self.now }
         ensures distinct { AreDistinct self.now }
+        ensures few { length self.now ≤ 9 }
     {
         StatsSetIter {
-            rest: self.entries.as_slice(),
+            slots: &self.slots,
+            order: self.order.as_slice(),
         }
     }
 
-    /// Sets each item in order. Where memory is refused, the items set so far stay.
+    /// Sets each item in order.
     pub fn try_extend<I: Iterator<Item = (Stat, Precision<ScalarValue>)> + Drop>(
         &mut self,
         items: I,
-    ) -> Result<(), AllocError>
+    ) -> Result<(), StatsError>
         requires can { I.can_next items }
         requires ends { IsFinite (I.remaining items) }
-        ensures all { OnOk result (SetsAll I.next_gives items self.old self.new) }
-        ensures refused { OnErr result (SetsFirst I.next_gives items self.old self.new) }
+        ensures all { SetsAll I.next_gives items self.old self.new }
+        ensures answered { IsOk result }
     {
         for item in items {
-            self.set(item.0, item.1)?;
+            self.put(item.0, item.1);
         }
         Ok(())
     }
 
-    /// The set that setting each item in order makes. Where memory is refused, the set of the items so
-    /// far is handed back.
+    /// The set that setting each item in order makes.
     pub fn try_from_iter<I: Iterator<Item = (Stat, Precision<ScalarValue>)> + Drop>(
         alloc: Global,
         items: I,
     ) -> Result<Self, MergeRefused>
         requires can { I.can_next items }
         requires ends { IsFinite (I.remaining items) }
-        ensures all { IfOk result (λ set. SetsAll I.next_gives items [] set) }
-        ensures refused { IfErr result (λ r. SetsFirst I.next_gives items [] r.set) }
-        ensures memory { IfErr result (λ r. r.error ≡ Memory alloc_error) }
+        ensures { IsOkAnd result (λ set. SetsAll I.next_gives items [] set) }
     {
         let mut set = StatsSet::new(alloc);
-        match set.try_extend(items) {
-            Ok(()) => Ok(set),
-            Err(refused) => Err(MergeRefused {
-                error: StatsError::Memory(refused),
-                set,
-            }),
+        for item in items {
+            set.put(item.0, item.1);
         }
+        Ok(set)
     }
 
     /// An equal set, with the same allocator.
-    pub fn try_clone(&self) -> Result<Self, AllocError>
-        ensures { IfOk result (λ set. set ≡ self.now) }
+    pub fn try_clone(&self) -> Result<Self, StatsError>
+        ensures value { IfOk result (λ set. set ≡ self.now) }
+        ensures memory { IfErr result (λ error. error ≡ Memory alloc_error) }
     {
-        let entries = self.entries.clone()?;
-        Ok(StatsSet { entries })
+        let mut set = StatsSet::new(self.allocator());
+        for entry in self.iter() {
+            set.put(entry.0, entry.1.as_ref().cloned()?);
+        }
+        Ok(set)
     }
 
     /// Whether the value, if present, is one of the statistic's type in a column of this type.
@@ -205,9 +251,7 @@ impl StatsSet {
     pub fn fits(&self, dtype: &DType) -> bool
         ensures { result ≡ entries_fit self.now dtype.now }
     {
-        self.entries
-            .as_slice()
-            .iter()
+        self.iter()
             .all(|entry| StatsSet::value_fits(entry.0, dtype, &entry.1))
     }
 }
@@ -231,10 +275,38 @@ fn is_value_of(value: &ScalarValue, expected: Option<DType>) -> bool
     }
 }
 
+/// Whether both are the same statistic.
+fn is_same(a: Stat, b: Stat) -> bool
+    ensures { result ≡ stat_eq a b }
+{
+    a.number() == b.number()
+}
+
+/// Whether the statistic is one of the list.
+fn is_among(stats: &[Stat], stat: Stat) -> bool
+    ensures { result ≡ list_any (stat_eq stat) stats.now }
+{
+    stats.iter().any(|listed| is_same(stat, *listed))
+}
+
+/// The statistic's entry, whose slot is empty from here on.
+fn taken(slots: &mut [Option<Entry>], stat: Stat) -> Entry
+    requires nine { length slots.old ≡ 9 }
+    requires own { IsOwn (slot_of slots.old stat) stat }
+    ensures taken { slot_of slots.old stat ≡ Some result }
+    ensures emptied { slots.new ≡ slice_set slots.old (stat_number stat) None }
+{
+    match slots[stat.number() as usize].take() {
+        Some(entry) => entry,
+        None => unreachable!(),
+    }
+}
+
 /// The entries of a set that are left, in order.
 #[derive(Drop)]
 pub struct StatsSetIter<'a> {
-    rest: &'a [(Stat, Precision<ScalarValue>)],
+    slots: &'a [Option<Entry>],
+    order: &'a [Stat],
 }
 
 impl<'a> Model for StatsSetIter<'a> {
@@ -242,10 +314,13 @@ impl<'a> Model for StatsSetIter<'a> {
     ghost use Rattle.vortex_base.specs.declared.scalar_value.ScalarValue.{ScalarValue};
     ghost use Rattle.vortex_stats.specs.declared.stat.Stat.{Stat};
     ghost use Rattle.vortex_stats.specs.declared.precision.Precision.{Precision};
+    ghost use Rattle.vortex_stats.specs.Slots.{slot_entries, AreLeft};
 
     ghost Value = { List (Stat × Precision ScalarValue) };
 
-    ghost view = { λ s. s.rest.now };
+    ghost view = { λ s. slot_entries s.slots.now s.order.now };
+
+    ghost invariant = { λ s. AreLeft s.slots.now s.order.now };
 }
 
 impl<'a> Iterator for StatsSetIter<'a> {
@@ -256,16 +331,19 @@ impl<'a> Iterator for StatsSetIter<'a> {
     ghost remaining = { item_count (λ s. s) };
 
     fn next(&mut self) -> Option<&'a (Stat, Precision<ScalarValue>)> {
-        let (first, rest) = self.rest.split_first()?;
-        self.rest = rest;
-        Some(first)
+        let (first, others) = self.order.split_first()?;
+        let slots = self.slots;
+        let place = first.number() as usize;
+        self.order = others;
+        slots[place].as_ref()
     }
 }
 
 /// The entries of a set that are left, by value and in order.
 #[derive(Drop)]
 pub struct StatsSetIntoIter {
-    rest: smallvec::IntoIter<(Stat, Precision<ScalarValue>), 4>,
+    slots: [Option<Entry>; 9],
+    order: smallvec::IntoIter<Stat, 9>,
 }
 
 impl Model for StatsSetIntoIter {
@@ -273,10 +351,13 @@ impl Model for StatsSetIntoIter {
     ghost use Rattle.vortex_base.specs.declared.scalar_value.ScalarValue.{ScalarValue};
     ghost use Rattle.vortex_stats.specs.declared.stat.Stat.{Stat};
     ghost use Rattle.vortex_stats.specs.declared.precision.Precision.{Precision};
+    ghost use Rattle.vortex_stats.specs.Slots.{slot_entries, AreLeft};
 
     ghost Value = { List (Stat × Precision ScalarValue) };
 
-    ghost view = { λ s. s.rest };
+    ghost view = { λ s. slot_entries s.slots s.order };
+
+    ghost invariant = { λ s. AreLeft s.slots s.order };
 }
 
 impl Iterator for StatsSetIntoIter {
@@ -287,7 +368,8 @@ impl Iterator for StatsSetIntoIter {
     ghost remaining = { item_count (λ s. s) };
 
     fn next(&mut self) -> Option<(Stat, Precision<ScalarValue>)> {
-        self.rest.next()
+        let first = self.order.next()?;
+        Some(taken(&mut self.slots, first))
     }
 }
 
@@ -300,7 +382,8 @@ impl IntoIterator for StatsSet {
 
     fn into_iter(self) -> StatsSetIntoIter {
         StatsSetIntoIter {
-            rest: self.entries.into_iter(),
+            slots: self.slots,
+            order: self.order.into_iter(),
         }
     }
 }

@@ -1,5 +1,5 @@
 //! Views of a set under the type of its column, which its values fit.
-ghost use Rattle.std.specs.Prelude.{◌≡◌, IfOk, IfErr, OnOk, OnErr, IsOk, IsTrue, alloc_error};
+ghost use Rattle.std.specs.Prelude.{◌≡◌, IfOk, IfErr, OnErr, IsOk, IsTrue, alloc_error};
 ghost use Rattle.vortex_stats.specs.declared.error.StatsError.TheVariants.{Memory};
 ghost use Rattle.vortex_stats.specs.Merges.{merged_ordered, merged_unordered};
 ghost use Rattle.vortex_stats.specs.Combined.{combined, Combines};
@@ -8,11 +8,11 @@ ghost use Rattle.vortex_base.specs.Values.{is_value};
 ghost use Rattle.vortex_stats.specs.Precision.{is_present, precision_map, IfPresent};
 ghost use Rattle.vortex_stats.specs.Scalars.{scalar_of};
 ghost use Rattle.vortex_stats.specs.Reading.{IsReadFrom};
-ghost use Rattle.vortex_stats.specs.Entries.{entry_value, entries_fit, value_fits, has_entry};
+ghost use Rattle.vortex_stats.specs.Entries.{entry_value, entries_fit, value_fits, AreDistinct};
 ghost use Rattle.vortex_stats.specs.TypedStats.{typed_value, with_value, without_value, with_values, AreFitting};
 
 use crate::error::StatsError;
-use crate::precision::Precision;
+use crate::precision::{Precision, copy_of};
 use crate::provider::StatsProvider;
 use crate::reading;
 use crate::stat::Stat;
@@ -127,7 +127,7 @@ fn scalar_of_clone(value: &ScalarValue, dtype: DType) -> Result<Scalar, AllocErr
     requires { IsTrue (is_value value.now dtype) }
     ensures { IfOk result (λ s. s ≡ scalar_of value.now dtype) }
 {
-    match Scalar::try_new(dtype, Some(value.try_clone()?)) {
+    match Scalar::try_new(dtype, Some(copy_of(value)?)) {
         Ok(scalar) => Ok(scalar),
         Err(_) => unreachable!(),
     }
@@ -179,12 +179,11 @@ impl<'a> MutTypedStatsSetRef<'a> {
     }
 
     /// Sets the statistic's value, which fits, as `StatsSet::value_fits` tells: a present one keeps its
-    /// place, a new one goes last. Where memory is refused, the set stays as it was.
-    pub fn set(&mut self, stat: Stat, value: Precision<ScalarValue>) -> Result<(), AllocError>
+    /// place, a new one goes last.
+    pub fn set(&mut self, stat: Stat, value: Precision<ScalarValue>) -> Result<(), StatsError>
         requires { IsTrue (value_fits stat (typed_stats self.old).dtype value) }
-        ensures set { OnOk result (typed_stats self.new ≡ with_value stat value (typed_stats self.old)) }
-        ensures refused { OnErr result (typed_stats self.new ≡ typed_stats self.old) }
-        ensures succeeds { IsTrue (has_entry stat (typed_stats self.old).values) → IsOk result }
+        ensures set { typed_stats self.new ≡ with_value stat value (typed_stats self.old) }
+        ensures answered { IsOk result }
         ensures same_set { self.new.values.ghost_name ≡ self.old.values.ghost_name }
     {
         self.values.set(stat, value)
@@ -215,7 +214,7 @@ impl<'a> MutTypedStatsSetRef<'a> {
     ghost use Rattle.vortex_stats.specs.MutTypedStats.{typed_stats, rests_if_refused};
 
     /// The statistics of the array of this set followed by the array of the other, which is viewed under
-    /// the same type. `Memory` if a growth or a clone is refused, and then the set that was borrowed is
+    /// the same type. `Memory` if a clone of a value is refused, and then the set that was borrowed is
     /// as it was.
     pub fn merge_ordered(self, other: &TypedStatsSetRef<'_>) -> Result<Self, StatsError>
         requires { other.now.dtype ≡ (typed_stats self).dtype }
@@ -232,7 +231,7 @@ impl<'a> MutTypedStatsSetRef<'a> {
     }
 
     /// The statistics of any arrangement of the rows of both arrays; the other set is viewed under the
-    /// same type. `Memory` if a growth or a clone is refused, and then the set that was borrowed is as
+    /// same type. `Memory` if a clone of a value is refused, and then the set that was borrowed is as
     /// it was.
     pub fn merge_unordered(self, other: &TypedStatsSetRef<'_>) -> Result<Self, StatsError>
         requires { other.now.dtype ≡ (typed_stats self).dtype }
@@ -250,11 +249,12 @@ impl<'a> MutTypedStatsSetRef<'a> {
 
     /// Combines what another set, viewed under the same type, tells of the same array. `Conflict` if two
     /// values of a statistic contradict each other, and then the other set's earlier entries stay
-    /// combined; `Memory` if a growth or a clone is refused, and then the set stays as it was.
+    /// combined; `Memory` if a clone of a value is refused, and then the set stays as it was.
     pub fn combine_sets(&mut self, other: &TypedStatsSetRef<'_>) -> Result<(), StatsError>
         requires { other.now.dtype ≡ (typed_stats self.old).dtype }
         ensures combined { let old = (typed_stats self.old).values in
             Combines (combined old other.now.values) old (typed_stats self.new).values result }
+        ensures distinct { AreDistinct other.now.values }
         ensures same_type { (typed_stats self.new).dtype ≡ (typed_stats self.old).dtype }
         ensures same_set { self.new.values.ghost_name ≡ self.old.values.ghost_name }
     {

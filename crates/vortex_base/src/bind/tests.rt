@@ -1,11 +1,16 @@
+//! Tests of binding.
 use super::*;
 use crate::aggregate::AggregateFnRef;
+use crate::between::{BetweenOptions, StrictComparison};
 use crate::evaluate::evaluate;
+use crate::like::LikeOptions;
 use crate::nullability::Nullability;
 use crate::ptype::PType;
 use crate::row::Row;
 use crate::scalar::Scalar;
 use crate::scalar_value::ScalarValue;
+use crate::text::Text;
+use std::process::Abort;
 use std::test::Fail;
 
 const I32: DType = DType::Primitive(PType::I32, Nullability::NonNullable);
@@ -44,6 +49,98 @@ fn a_known_column_is_placed(rt: HostRuntime) -> Result<(), Fail> {
     let expected = bound::gt(alloc, bound::col(alloc, 0, I32)?, four)?;
     assert!(rt; bound == expected);
     Ok(())
+}
+
+fn expect_bound(
+    rt: &impl Abort,
+    alloc: Global,
+    expression: Expression,
+    expected: &BoundExpression,
+) -> Result<(), Fail> {
+    let bound = expression.bind(alloc, &scope_of_a(alloc)?)?;
+    assert!(rt; bound == *expected);
+    Ok(())
+}
+
+fn a(alloc: Global) -> Result<Expression, BaseError> {
+    Expression::col(alloc, "a")
+}
+
+fn placed_a(alloc: Global) -> Result<BoundExpression, BaseError> {
+    bound::col(alloc, 0, I32)
+}
+
+fn placed_int(alloc: Global, value: i32) -> Result<BoundExpression, BaseError> {
+    int(alloc, value)?.bind(alloc, &scope_of_a(alloc)?)
+}
+
+#[test]
+fn comparisons_stay_what_they_are(rt: HostRuntime) -> Result<(), Fail> {
+    let alloc = rt.alloc();
+    let expected = bound::not_eq(alloc, placed_a(alloc)?, placed_int(alloc, 4)?)?;
+    let differ = Expression::not_eq(alloc, a(alloc)?, int(alloc, 4)?)?;
+    expect_bound(&rt, alloc, differ, &expected)?;
+    let expected = bound::gt_eq(alloc, placed_a(alloc)?, placed_int(alloc, 4)?)?;
+    let at_least = Expression::gt_eq(alloc, a(alloc)?, int(alloc, 4)?)?;
+    expect_bound(&rt, alloc, at_least, &expected)?;
+    let expected = bound::lt(alloc, placed_a(alloc)?, placed_int(alloc, 4)?)?;
+    let below = Expression::lt(alloc, a(alloc)?, int(alloc, 4)?)?;
+    expect_bound(&rt, alloc, below, &expected)?;
+    let expected = bound::lt_eq(alloc, placed_a(alloc)?, placed_int(alloc, 4)?)?;
+    let at_most = Expression::lt_eq(alloc, a(alloc)?, int(alloc, 4)?)?;
+    expect_bound(&rt, alloc, at_most, &expected)
+}
+
+#[test]
+fn ranges_and_null_tests_stay_what_they_are(rt: HostRuntime) -> Result<(), Fail> {
+    let alloc = rt.alloc();
+    let options = BetweenOptions {
+        lower_strict: StrictComparison::Strict,
+        upper_strict: StrictComparison::NonStrict,
+    };
+    let (low, high) = (placed_int(alloc, 1)?, placed_int(alloc, 5)?);
+    let expected = bound::between(alloc, placed_a(alloc)?, low, high, options)?;
+    let (low, high) = (int(alloc, 1)?, int(alloc, 5)?);
+    let range = Expression::between(alloc, a(alloc)?, low, high, options)?;
+    expect_bound(&rt, alloc, range, &expected)?;
+    let expected = bound::is_null(alloc, placed_a(alloc)?)?;
+    let is_null = Expression::is_null(alloc, a(alloc)?)?;
+    expect_bound(&rt, alloc, is_null, &expected)?;
+    let expected = bound::is_not_null(alloc, placed_a(alloc)?)?;
+    let is_not_null = Expression::is_not_null(alloc, a(alloc)?)?;
+    expect_bound(&rt, alloc, is_not_null, &expected)?;
+    expect_bound(
+        &rt,
+        alloc,
+        Expression::row_count(alloc)?,
+        &bound::row_count(alloc)?,
+    )
+}
+
+fn text(alloc: Global, value: &str) -> Result<Scalar, BaseError> {
+    let value = ScalarValue::from(Text::new(String::from_str(alloc, value)?));
+    Scalar::try_new(DType::Utf8(Nullability::NonNullable), Some(value))
+}
+
+#[test]
+fn patterns_stay_what_they_are(rt: HostRuntime) -> Result<(), Fail> {
+    let alloc = rt.alloc();
+    let placed_text = bound::lit(alloc, text(alloc, "ab")?)?;
+    let placed_pattern = bound::lit(alloc, text(alloc, "a%")?)?;
+    let expected = bound::like(alloc, placed_text.try_clone()?, placed_pattern.try_clone()?)?;
+    let named_text = Expression::lit(alloc, text(alloc, "ab")?)?;
+    let named_pattern = Expression::lit(alloc, text(alloc, "a%")?)?;
+    let like = Expression::like(alloc, named_text, named_pattern)?;
+    expect_bound(&rt, alloc, like, &expected)?;
+    let options = LikeOptions {
+        negated: true,
+        case_insensitive: true,
+    };
+    let expected = bound::like_with(alloc, placed_text, placed_pattern, options)?;
+    let named_text = Expression::lit(alloc, text(alloc, "ab")?)?;
+    let named_pattern = Expression::lit(alloc, text(alloc, "a%")?)?;
+    let not_like = Expression::like_with(alloc, named_text, named_pattern, options)?;
+    expect_bound(&rt, alloc, not_like, &expected)
 }
 
 #[test]

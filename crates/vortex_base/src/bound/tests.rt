@@ -1,3 +1,4 @@
+//! Tests of the constructors of typed expressions.
 use super::*;
 use crate::between::StrictComparison;
 use crate::element::Element;

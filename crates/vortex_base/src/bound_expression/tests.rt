@@ -1,3 +1,4 @@
+//! Tests of typed expressions as trees.
 use super::*;
 use crate::between::StrictComparison;
 use crate::bound;
@@ -94,11 +95,39 @@ fn fit_a_scope_by_place_and_type(rt: HostRuntime) -> Result<(), Fail> {
 fn tell_what_they_hold(rt: HostRuntime) -> Result<(), Fail> {
     let alloc = rt.alloc();
     let range = range(alloc)?;
-    assert!(rt; range.is_plain() && !range.is_closed());
+    assert!(rt; range.is_plain() && !range.is_closed() && range.has_bare_column());
     let rows = bound::row_count(alloc)?;
     assert!(rt; !rows.is_plain() && rows.is_closed());
     let greatest = bound::new_stat(alloc, range, AggregateFnRef::Max)?;
-    assert!(rt; !greatest.is_plain() && !greatest.is_closed());
+    assert!(rt; !greatest.is_plain() && !greatest.is_closed() && !greatest.has_bare_column());
+    Ok(())
+}
+
+#[test]
+fn copies_are_equal(rt: HostRuntime) -> Result<(), Fail> {
+    let alloc = rt.alloc();
+    let is_null = bound::is_null(alloc, range(alloc)?)?;
+    assert!(rt; is_null.try_clone()? == is_null);
+    let is_not_null = bound::is_not_null(alloc, is_null)?;
+    assert!(rt; is_not_null.try_clone()? == is_not_null);
+    let opposite = bound::not(alloc, is_not_null)?;
+    assert!(rt; opposite.try_clone()? == opposite);
+    let greatest = bound::new_stat(alloc, opposite, AggregateFnRef::Max)?;
+    assert!(rt; greatest.try_clone()? == greatest);
+    let text = bound::col(alloc, 0, DType::Utf8(Nullability::Nullable))?;
+    let pattern = text.try_clone()?;
+    let like = bound::like(alloc, text, pattern)?;
+    assert!(rt; like.try_clone()? == like);
+    let rows = bound::row_count(alloc)?;
+    assert!(rt; rows.try_clone()? == rows);
+    Ok(())
+}
+
+#[test]
+fn print_their_nodes(rt: HostRuntime) -> Result<(), Fail> {
+    let rows = bound::not(rt.alloc(), bound::is_null(rt.alloc(), int(rt.alloc(), 1)?)?)?;
+    let printed = format!(in rt.alloc(); "{rows:?}")?;
+    assert!(rt; printed.as_str().contains("IsNull"));
     Ok(())
 }
 

@@ -1,3 +1,4 @@
+//! Tests of evaluation.
 use super::*;
 use crate::aggregate::AggregateFnRef;
 use crate::between::StrictComparison;
@@ -108,6 +109,20 @@ fn patterns_and_null_tests(rt: HostRuntime) -> Result<(), Fail> {
     assert_eq!(rt; on_nothing(is_null)?, Some(true));
     let is_not_null = bound::is_not_null(alloc, int(alloc, 1)?)?;
     assert_eq!(rt; on_nothing(is_not_null)?, Some(true));
+    Ok(())
+}
+
+#[test]
+fn only_true_satisfies(rt: HostRuntime) -> Result<(), Fail> {
+    let alloc = rt.alloc();
+    let row = Row::empty();
+    let above = bound::gt(alloc, int(alloc, 2)?, int(alloc, 1)?)?;
+    let either = bound::or(alloc, truth(alloc, None)?, above)?;
+    assert!(rt; either.is_satisfied(&row, 0));
+    let both = bound::and(alloc, truth(alloc, None)?, either)?;
+    assert!(rt; !both.is_satisfied(&row, 0));
+    assert!(rt; !bound::not(alloc, both)?.is_satisfied(&row, 0));
+    assert!(rt; !bound::row_count(alloc)?.is_satisfied(&row, 1));
     Ok(())
 }
 

@@ -1,3 +1,4 @@
+//! Tests of LIKE.
 use super::*;
 use std::alloc::{AllocError, Global};
 use std::test::Fail;
@@ -11,6 +12,11 @@ const IGNORING_CASE: LikeOptions = LikeOptions {
     negated: false,
     case_insensitive: true,
 };
+
+#[test]
+fn the_default_is_plain(rt: HostRuntime) {
+    assert_eq!(rt; LikeOptions::default(), PLAIN);
+}
 
 #[test]
 fn runs_and_single_characters(rt: HostRuntime) {

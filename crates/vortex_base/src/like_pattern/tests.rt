@@ -1,3 +1,4 @@
+//! Tests of the beginnings of patterns, and of successors.
 use super::*;
 use std::process::Abort;
 use std::test::Fail;

@@ -34,11 +34,12 @@ fn sizes_fit(left: &Chunk, right: &Chunk) -> bool
 }
 
 // The set of one column of the joined part. The sets that it is made of stay as they are.
-fn merged_set(left: &Part, right: &Part, i: usize) -> Result<StatsSet, AllocError>
+fn merged_set(left: &Part, right: &Part, i: usize) -> Result<StatsSet, StatsError>
     requires scope { left.now.chunk.scope ≡ right.now.chunk.scope }
     requires within { i < length left.now.chunk.scope }
-    ensures merged { IfOk result (λ set. (a b : Entries) → slice_get left.now.stats i ≡ Some a → slice_get right.now.stats i ≡ Some b
-        → set ≡ merged_ordered a b) }
+    ensures merged { IfOk result (λ set. (a b : Entries) → slice_get left.now.stats i ≡ Some a
+        → slice_get right.now.stats i ≡ Some b → set ≡ merged_ordered a b) }
+    ensures memory { IfErr result (λ error. error ≡ Memory alloc_error) }
     ensures left_part { IsPart left.now }
     ensures right_part { IsPart right.now }
 {
@@ -47,14 +48,15 @@ fn merged_set(left: &Part, right: &Part, i: usize) -> Result<StatsSet, AllocErro
     let own = left.stats(i).try_clone()?;
     match own.merge_ordered(other, &dtype) {
         Ok(set) => Ok(set),
-        Err(_) => Err(AllocError),
+        Err(refused) => Err(refused.error),
     }
 }
 
 // The sets of the joined part's columns.
-fn merged_sets(alloc: Global, left: &Part, right: &Part) -> Result<Vec<StatsSet>, AllocError>
+fn merged_sets(alloc: Global, left: &Part, right: &Part) -> Result<Vec<StatsSet>, StatsError>
     requires { left.now.chunk.scope ≡ right.now.chunk.scope }
-    ensures { IfOk result (λ sets. sets.items ≡ merged_sets left.now.stats right.now.stats) }
+    ensures merged { IfOk result (λ sets. sets.items ≡ merged_sets left.now.stats right.now.stats) }
+    ensures memory { IfErr result (λ error. error ≡ Memory alloc_error) }
 {
     let mut sets = Vec::new(alloc);
     for i in 0..left.chunk().scope().len() {
@@ -86,10 +88,7 @@ impl Part {
         }
         let stats = match merged_sets(alloc, &left, &right) {
             Ok(stats) => stats,
-            Err(refused) => {
-                let error = StatsError::Memory(refused);
-                return Err(JoinRefused { error, left, right });
-            }
+            Err(error) => return Err(JoinRefused { error, left, right }),
         };
         append(left, right, stats)
     }
@@ -115,8 +114,8 @@ fn append(left: Part, right: Part, stats: Vec<StatsSet>) -> Result<Part, JoinRef
     } = right;
     match chunk.append(&mut other) {
         Ok(()) => Ok(Part { chunk, stats }),
-        Err(refused) => Err(JoinRefused {
-            error: StatsError::Memory(refused),
+        Err(_) => Err(JoinRefused {
+            error: StatsError::Memory(AllocError),
             left: Part {
                 chunk,
                 stats: left_stats,

@@ -45,7 +45,7 @@ fn chunk(
 fn set(
     alloc: Global,
     entries: [(Stat, Precision<ScalarValue>); 2],
-) -> Result<StatsSet, AllocError> {
+) -> Result<StatsSet, StatsError> {
     let mut set = StatsSet::new(alloc);
     for (stat, value) in entries {
         set.set(stat, value)?;
@@ -58,7 +58,7 @@ fn number_part(
     alloc: Global,
     is_first: bool,
     size: u64,
-) -> Result<Result<Part, PartRefused>, BaseError> {
+) -> Result<Result<Part, PartRefused>, Fail> {
     let (values, bounds) = if is_first {
         (
             vec![in alloc; Some(number(1)), Some(number(5)), Some(number(10))]?,
@@ -80,7 +80,7 @@ fn number_part(
     Ok(Part::try_new(chunk, vec![in alloc; set(alloc, bounds)?]?))
 }
 
-fn text_part(alloc: Global, value: &str) -> Result<Result<Part, PartRefused>, BaseError> {
+fn text_part(alloc: Global, value: &str) -> Result<Result<Part, PartRefused>, Fail> {
     let values = vec![in alloc; Some(text(alloc, value)?)]?;
     let bounds = [
         (Stat::Min, Precision::Exact(text(alloc, value)?)),
@@ -104,7 +104,7 @@ fn numbers(alloc: Global, part: &Part) -> Result<Vec<Option<i64>>, AllocError> {
 }
 
 // A statistic of the first column.
-fn statistic(part: &Part, stat: Stat) -> Result<Precision<ScalarValue>, AllocError> {
+fn statistic(part: &Part, stat: Stat) -> Result<Precision<ScalarValue>, StatsError> {
     if part.chunk().scope().len() == 0 {
         return Ok(Precision::Absent);
     }

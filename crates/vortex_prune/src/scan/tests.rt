@@ -256,3 +256,7 @@ fn without_statistics(rt: HostRuntime) -> Result<(), Fail> {
     assert_eq!(rt; looked_at(alloc, &[Some(11)], absent, &above)?, (false, 1));
     Ok(())
 }
+
+mod callers;
+mod own;
+mod table;

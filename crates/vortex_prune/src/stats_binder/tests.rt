@@ -35,7 +35,7 @@ fn chunk(alloc: Global) -> Result<Chunk, BaseError> {
 }
 
 // Its statistics: at most 20, and one null.
-fn part(alloc: Global) -> Result<Option<Part>, BaseError> {
+fn part(alloc: Global) -> Result<Option<Part>, Fail> {
     let twenty = Precision::Inexact(ScalarValue::from(20i32));
     let mut set = StatsSet::of(alloc, Stat::Max, twenty);
     set.set(Stat::NullCount, Precision::Exact(ScalarValue::from(1u64)))?;

@@ -1,3 +1,4 @@
+// Sets of statistics as bytes, written and read.
 use crate::bitset::{as_stat_bitset_bytes, stats_from_bitset_bytes};
 use crate::stat::{PRUNING_STATS, Stat};
 use std::test::Fail;

@@ -1,3 +1,4 @@
+// Worked rows of unions, intersections and comparisons of bounds, and clones that refuse.
 use crate::bound::{IntersectionResult, LowerBound, UpperBound};
 use crate::precision::Precision;
 use crate::stat_bound::StatBound;

@@ -1,15 +1,21 @@
 //! Callers that know a set by its list alone.
-ghost use Rattle.std.specs.Prelude.{◌≡◌, IfOk, OnOk, OnErr, IsTrue, length, map};
+ghost use Rattle.std.specs.Prelude.{◌≡◌, ◌⊎◌, IfOk, IfErr, OnOk, OnErr, IsTrue, length, map, alloc_error};
+ghost use Rattle.vortex_base.specs.Columns.{ColumnData};
+ghost use Rattle.vortex_base.specs.Values.{is_value};
+ghost use Rattle.vortex_stats.specs.declared.error.StatsError.TheVariants.{Memory};
+ghost use Rattle.vortex_stats.specs.Claims.{IsTrueOf};
 ghost use Rattle.vortex_stats.specs.Merges.{merged_ordered, merged_unordered};
 ghost use Rattle.vortex_stats.specs.Combined.{combined, Combines};
-ghost use Rattle.vortex_stats.specs.Entries.{entries_fit, without_entry};
+ghost use Rattle.vortex_stats.specs.Entries.{entries_fit, value_fits, with_entry, without_entry};
 
 use crate::error::StatsError;
+use crate::laws::truth::{combinations_stay_true, true_sets_agree};
 use crate::precision::Precision;
 use crate::stat::Stat;
 use crate::stats_set::StatsSet;
 use std::alloc::{AllocError, Global};
 use vortex_base::dtype::DType;
+use vortex_base::scalar::Scalar;
 use vortex_base::scalar_value::ScalarValue;
 
 /// A `for` over a set by value goes over the list.
@@ -107,4 +113,68 @@ pub fn combined_through_view(
 {
     let mut view = set.as_mut_typed_ref(dtype);
     view.combine_sets(&other.as_typed_ref(dtype))
+}
+
+/// What is set through a view is set in the set, whatever the call answers.
+pub fn set_through_view(
+    set: &mut StatsSet,
+    dtype: &DType,
+    stat: Stat,
+    value: Precision<ScalarValue>,
+)
+    requires own_fits { IsTrue (entries_fit set.old dtype.now) }
+    requires value_fits { IsTrue (value_fits stat dtype.now value) }
+    ensures { set.new ≡ with_entry stat value set.old }
+{
+    let mut view = set.as_mut_typed_ref(dtype);
+    let _answered = view.set(stat, value).is_ok();
+}
+
+/// A refused merge hands back the set as it was.
+pub fn merged_or_own(set: StatsSet, other: &StatsSet, dtype: &DType) -> StatsSet
+    requires own_fits { IsTrue (entries_fit set dtype.now) }
+    requires other_fits { IsTrue (entries_fit other.now dtype.now) }
+    ensures { (result ≡ merged_ordered set other.now) ⊎ (result ≡ set) }
+{
+    match set.merge_ordered(other, dtype) {
+        Ok(merged) => merged,
+        Err(refused) => refused.set,
+    }
+}
+
+/// A combination that is refused for memory leaves the set as it was.
+pub fn is_out_of_memory(set: &mut StatsSet, other: &StatsSet, dtype: &DType) -> bool
+    requires own_fits { IsTrue (entries_fit set.old dtype.now) }
+    requires other_fits { IsTrue (entries_fit other.now dtype.now) }
+    ensures { IsTrue result → set.new ≡ set.old }
+{
+    match set.combine_sets(other, dtype) {
+        Err(StatsError::Memory(_)) => true,
+        _ => false,
+    }
+}
+
+/// Sets that are true of one column combine to one that is true of it, or memory was refused.
+pub fn combined_of_one_column(
+    set: &mut StatsSet,
+    other: &StatsSet,
+    dtype: &DType,
+) -> Result<(), StatsError>
+    requires own_fits { IsTrue (entries_fit set.old dtype.now) }
+    requires other_fits { IsTrue (entries_fit other.now dtype.now) }
+    ensures truth { (c : ColumnData) → IsTrueOf set.old c → IsTrueOf other.now c
+        → OnOk result (IsTrueOf set.new c) }
+    ensures agreement { (c : ColumnData) → IsTrueOf set.old c → IsTrueOf other.now c
+        → IfErr result (λ e. e ≡ Memory alloc_error) }
+{
+    true_sets_agree();
+    combinations_stay_true();
+    set.combine_sets(other, dtype)
+}
+
+/// A scalar is refused for memory only where the value is one of the type.
+pub fn scalar_of_value(value: &ScalarValue, dtype: DType) -> Result<Precision<Scalar>, StatsError>
+    ensures { IfErr result (λ e. e ≡ Memory alloc_error → IsTrue (is_value value.now dtype)) }
+{
+    Precision::Exact(value).into_scalar(dtype)
 }

@@ -15,6 +15,14 @@ fn overflowing_sums()
     ensures small { merged_ordered ((stats.Sum, Exact (i64 37)) ∷ []) ((stats.Sum, Exact (i64 42)) ∷ []) ≡ (stats.Sum, Exact (i64 79)) ∷ [] }
 {}
 
+/// Counts add up, and the sum is exact if both are.
+fn counts()
+    ensures exact { merged_ordered ((stats.NullCount, Exact (u64 1)) ∷ []) ((stats.NullCount, Exact (u64 2)) ∷ []) ≡ (stats.NullCount, Exact (u64 3)) ∷ [] }
+    ensures other_inexact { merged_ordered ((stats.NullCount, Exact (u64 1)) ∷ []) ((stats.NullCount, Inexact (u64 2)) ∷ []) ≡ (stats.NullCount, Inexact (u64 3)) ∷ [] }
+    ensures own_inexact { merged_ordered ((stats.UncompressedSizeInBytes, Inexact (u64 1)) ∷ []) ((stats.UncompressedSizeInBytes, Exact (u64 2)) ∷ []) ≡ (stats.UncompressedSizeInBytes, Inexact (u64 3)) ∷ [] }
+    ensures inexact { merged_ordered ((stats.NullCount, Inexact (u64 1)) ∷ []) ((stats.NullCount, Inexact (u64 2)) ∷ []) ≡ (stats.NullCount, Inexact (u64 3)) ∷ [] }
+{}
+
 /// Constants are compared by their exact minima.
 fn constants_that_differ()
     ensures inexact_min { merged_ordered ((stats.Min, Exact (i32 42)) ∷ (stats.IsConstant, holds) ∷ []) ((stats.Min, Inexact (i32 42)) ∷ (stats.IsConstant, holds) ∷ []) ≡ (stats.Min, Exact (i32 42)) ∷ [] }

@@ -38,7 +38,7 @@ pub fn text(alloc: Global, first: &str) -> Result<Precision<ScalarValue>, AllocE
 }
 
 /// The set of these entries, in order.
-pub fn set_of<const N: usize>(alloc: Global, entries: [Entry; N]) -> Result<StatsSet, AllocError> {
+pub fn set_of<const N: usize>(alloc: Global, entries: [Entry; N]) -> Result<StatsSet, StatsError> {
     let mut set = StatsSet::new(alloc);
     set.try_extend(Vec::from_array(alloc, entries)?.into_iter())?;
     Ok(set)
@@ -49,7 +49,7 @@ pub fn has_entries<const N: usize>(
     alloc: Global,
     set: StatsSet,
     entries: [Entry; N],
-) -> Result<bool, AllocError> {
+) -> Result<bool, StatsError> {
     let expected = Vec::from_array(alloc, entries)?;
     let entries = collected(alloc, set)?;
     Ok(entries.as_slice() == expected.as_slice())
@@ -257,7 +257,7 @@ fn strict_order_at_the_seam(rt: HostRuntime) -> Result<(), Fail> {
 }
 
 /// A set with every statistic but the sum.
-fn full(alloc: Global) -> Result<StatsSet, AllocError> {
+fn full(alloc: Global) -> Result<StatsSet, StatsError> {
     set_of(
         alloc,
         [

@@ -1,3 +1,4 @@
+// Worked rows of values with a precision.
 use crate::error::StatsError;
 use crate::precision::Precision;
 use crate::stat::{IsConstant, Max, Min, Sum};

@@ -6,7 +6,7 @@ use crate::error::StatsError;
 use crate::precision::Precision;
 use crate::stat::Stat;
 use crate::stats_set::StatsSet;
-use std::alloc::{AllocError, Global};
+use std::alloc::Global;
 use std::process::Abort;
 use vortex_base::dtype::DType;
 use vortex_base::nullability::Nullability;
@@ -14,7 +14,7 @@ use vortex_base::nullability::Nullability;
 const UTF8: DType = DType::Utf8(Nullability::NonNullable);
 
 /// All statistics of a text column but IsConstant, which a merge with `varied` adds.
-fn texts(alloc: Global, min: &str, max: &str) -> Result<StatsSet, AllocError> {
+fn texts(alloc: Global, min: &str, max: &str) -> Result<StatsSet, StatsError> {
     set_of(
         alloc,
         [
@@ -29,7 +29,7 @@ fn texts(alloc: Global, min: &str, max: &str) -> Result<StatsSet, AllocError> {
 }
 
 /// The same, and not constant.
-fn varied(alloc: Global, min: &str, max: &str) -> Result<StatsSet, AllocError> {
+fn varied(alloc: Global, min: &str, max: &str) -> Result<StatsSet, StatsError> {
     let mut set = texts(alloc, min, max)?;
     set.set(Stat::IsConstant, exact(false))?;
     Ok(set)
@@ -130,12 +130,12 @@ fn merges_through_a_view(rt: HostRuntime) {
 }
 
 /// The first entry, which every set has.
-fn min_of(alloc: Global, min: &str) -> Result<StatsSet, AllocError> {
+fn min_of(alloc: Global, min: &str) -> Result<StatsSet, StatsError> {
     Ok(StatsSet::of(alloc, Stat::Min, text(alloc, min)?))
 }
 
 /// A maximum, and then a minimum.
-fn max_and_min(alloc: Global, max: &str, min: &str) -> Result<StatsSet, AllocError> {
+fn max_and_min(alloc: Global, max: &str, min: &str) -> Result<StatsSet, StatsError> {
     set_of(
         alloc,
         [

@@ -1,10 +1,11 @@
+// Worked rows of sets: writes, look-ups, readings and iterators.
 use super::callers::{collected, counted, entries_of, statistics_of};
 use crate::error::StatsError;
 use crate::precision::Precision;
 use crate::stat::Stat;
 use crate::stats_set::{StatsArray, StatsSet};
 use smallvec::SmallVec;
-use std::alloc::{AllocError, Global};
+use std::alloc::Global;
 use std::test::Fail;
 use vortex_base::dtype::DType;
 use vortex_base::nullability::Nullability;
@@ -25,7 +26,7 @@ fn inexact(n: i32) -> Precision<ScalarValue> {
 }
 
 /// Max and then Min.
-fn max_and_min(alloc: Global, max: i32, min: i32) -> Result<StatsSet, AllocError> {
+fn max_and_min(alloc: Global, max: i32, min: i32) -> Result<StatsSet, StatsError> {
     let mut set = StatsSet::of(alloc, Stat::Max, exact(max));
     set.set(Stat::Min, exact(min))?;
     Ok(set)

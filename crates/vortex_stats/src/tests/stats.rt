@@ -1,3 +1,4 @@
+// The table of statistics, their numbers, names and types.
 use crate::error::{BinderFault, RuleFault, StatsError};
 use crate::stat::Stat;
 use std::alloc::AllocError;

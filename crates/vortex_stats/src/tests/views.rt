@@ -1,3 +1,4 @@
+// Sets read and written through typed views.
 use super::callers::cleared_through_view;
 use crate::error::StatsError;
 use crate::precision::Precision;

@@ -1,5 +1,8 @@
-use Rattle.vortex_base.proofs.RowsFit.{rows-fit}
+use Rattle.vortex_base.proofs.RowsFit.{rows-fit, rows-match}
 use Rattle.vortex_base.proofs.laws.rows_fit.Goals as goal
 
-pub returns : goal.returns
-returns c = rows-fit c.args.expression.now c.args.chunk.now c.args.i
+pub returns-clause-fit : goal.returns-clause-fit
+returns-clause-fit c = rows-fit c.args.expression.now c.args.chunk.now c.args.i
+
+pub returns-clause-matched : goal.returns-clause-matched
+returns-clause-matched c = rows-match c.args.expression.now c.args.chunk.now c.args.i

@@ -1,4 +1,4 @@
-use Rattle.std.proofs.Common.{ap, ◌∙◌, option_to_list}
+use Rattle.std.proofs.Common.{ap, ◌∙◌, option_to_list, [], ◌∷◌}
 use Rattle.std.proofs.lemmas.Result.{err_from_is_err_and}
 use Rattle.vortex_prune.proofs.RuleBoxes.{own_more, refusal_in}
 use Rattle.vortex_prune.specs.Sides.{proof_of}
@@ -8,7 +8,7 @@ pub returns-in_err-proof-clause-refusal : goal.returns-in_err-proof-clause-refus
 returns-in_err-proof-clause-refusal g c =
     let p = err_from_is_err_and c.from_residual.result c.from_residual.ensures.1 in
     rw (p.1, p.2)
-    (refusal_in (λ i. (g.dyn-1.0.entry i).1) (proof_of c.args.side) _ _ _ _ _ c.loop-rule-test.true c.rule-item.is c.deref-rule-items.ensures.value c.in_err-proof.ensures)
+    (refusal_in (λ i. (g.dyn-1.0.entry i).1) (proof_of c.args.side) (c.args.e.now ∷ []) _ _ _ _ _ c.loop-rule-test.true c.rule-item.is c.deref-rule-items.ensures.value c.in_err-proof.ensures)
 
 pub loop-rule-preserved : goal.loop-rule-preserved
 loop-rule-preserved g c =

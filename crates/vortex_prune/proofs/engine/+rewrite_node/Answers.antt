@@ -1,6 +1,10 @@
 use Rattle.std.proofs.Common.{◌≡◌, Some, false, rules, ap, sym, ◌∙◌}
 use Rattle.vortex_base.specs.Parts.{whole}
-use Rattle.vortex_base.specs.Tree.{between}
+use Rattle.std.proofs.lemmas.Result.{err_from_is_err_and}
+use Rattle.vortex_base.specs.Tree.{between, binary}
+use Rattle.vortex_base.specs.declared.operator.Operator.TheVariants.{And, Or}
+use Rattle.vortex_prune.proofs.AskedNodes.{at_and_left, at_and_right, at_halves, at_node, at_or_left, at_or_right}
+use Rattle.vortex_prune.proofs.CauseLemmas.{answer-more, refusal-more}
 use Rattle.vortex_prune.specs.Own.{own_rules}
 use Rattle.vortex_prune.specs.Rewriting.{ends, ends_node, visits}
 use Rattle.vortex_prune.proofs.NodeProofs.{always_ok, between_answer, empty_node, empty_turns, empty_visits, is_rewritten, moved_node, moved_turns, moved_visits, others_plain, plain_visits, table_answer}
@@ -42,3 +46,59 @@ returns-in_ok-at_most_one-in-Between-clause-visits g t c =
           let k = moved_visits rs c.in-Between.options c.in-Between.x.now c.in-Between.lower.now c.in-Between.upper.now c.args.e.now p_is w.in-Some.halves (sym w.in-Some.is ∙ halves_is) in
           moved_turns c.args.visits.now c.saturating_add.result c.match-halves.visits (visits w.in-Some.halves) (visits c.args.e.now) 18446744073709551615 c.saturating_add.ensures (w.visits-is ∙ w.in_ok-proof-in-Some.ensures.visits) k.1 k.0
     ])
+
+pub returns-in_err-left-in-And-clause-refusal : goal.returns-in_err-left-in-And-clause-refusal
+returns-in_err-left-in-And-clause-refusal g t c =
+    let l = c.in-Binary.left.now in
+    let r = c.in-Binary.right.now in
+    let is : c.args.e.now ≡ binary And l r = c.parts.ensures ∙ ap whole c.in-Binary.is ∙ ap (λ o. binary o l r) c.in-And.is in
+    let p = err_from_is_err_and c.from_residual.result c.from_residual.ensures.1 in
+    rw (p.1, p.2) (refusal-more _ _ _ (at_and_left (λ rule. rule.falsifier) (own_rules (λ i. (g.dyn-1.0.entry i).1) c.args.rules.now.own.items) c.args.e.now l r is) c.in_err-left-in-And.ensures.refusal)
+
+pub returns-in_err-right-in-And-clause-refusal : goal.returns-in_err-right-in-And-clause-refusal
+returns-in_err-right-in-And-clause-refusal g t c =
+    let l = c.in-Binary.left.now in
+    let r = c.in-Binary.right.now in
+    let is : c.args.e.now ≡ binary And l r = c.parts.ensures ∙ ap whole c.in-Binary.is ∙ ap (λ o. binary o l r) c.in-And.is in
+    let p = err_from_is_err_and c.from_residual-in_err-right-in-And.result c.from_residual-in_err-right-in-And.ensures.1 in
+    rw (p.1, p.2) (refusal-more _ _ _ (at_and_right (λ rule. rule.falsifier) (own_rules (λ i. (g.dyn-1.0.entry i).1) c.args.rules.now.own.items) c.args.e.now l r is) c.in_err-right-in-And.ensures.refusal)
+
+pub returns-in_err-left-in-Or-clause-refusal : goal.returns-in_err-left-in-Or-clause-refusal
+returns-in_err-left-in-Or-clause-refusal g t c =
+    let l = c.in-Binary.left.now in
+    let r = c.in-Binary.right.now in
+    let is : c.args.e.now ≡ binary Or l r = c.parts.ensures ∙ ap whole c.in-Binary.is ∙ ap (λ o. binary o l r) c.in-Or.is in
+    let p = err_from_is_err_and c.from_residual-in_err-left-in-Or.result c.from_residual-in_err-left-in-Or.ensures.1 in
+    rw (p.1, p.2) (refusal-more _ _ _ (at_or_left (λ rule. rule.falsifier) (own_rules (λ i. (g.dyn-1.0.entry i).1) c.args.rules.now.own.items) c.args.e.now l r is) c.in_err-left-in-Or.ensures.refusal)
+
+pub returns-in_err-right-in-Or-clause-refusal : goal.returns-in_err-right-in-Or-clause-refusal
+returns-in_err-right-in-Or-clause-refusal g t c =
+    let l = c.in-Binary.left.now in
+    let r = c.in-Binary.right.now in
+    let is : c.args.e.now ≡ binary Or l r = c.parts.ensures ∙ ap whole c.in-Binary.is ∙ ap (λ o. binary o l r) c.in-Or.is in
+    let p = err_from_is_err_and c.from_residual-in_err-right-in-Or.result c.from_residual-in_err-right-in-Or.ensures.1 in
+    rw (p.1, p.2) (refusal-more _ _ _ (at_or_right (λ rule. rule.falsifier) (own_rules (λ i. (g.dyn-1.0.entry i).1) c.args.rules.now.own.items) c.args.e.now l r is) c.in_err-right-in-Or.ensures.refusal)
+
+pub returns-in_err-proof-in-Some-clause-refusal : goal.returns-in_err-proof-in-Some-clause-refusal
+returns-in_err-proof-in-Some-clause-refusal g t c =
+    let p_is : c.args.e.now ≡ between c.in-Between.options c.in-Between.x.now c.in-Between.lower.now c.in-Between.upper.now = c.parts.ensures ∙ ap whole c.in-Between.is in
+    let p = err_from_is_err_and c.from_residual-in_err-proof-in-Some.result c.from_residual-in_err-proof-in-Some.ensures.1 in
+    rw (p.1, p.2)
+    (refusal-more _ _ _
+    (at_halves (λ rule. rule.falsifier) (own_rules (λ i. (g.dyn-1.0.entry i).1) c.args.rules.now.own.items) c.args.e.now c.in-Between.options c.in-Between.x.now c.in-Between.lower.now c.in-Between.upper.now c.in-Some.halves p_is (sym c.in-Some.is ∙ c.in_ok-halves-in-Between.ensures.value))
+    c.in_err-proof-in-Some.ensures.refusal)
+
+pub returns-in_ok-at_most_one-in-And-clause-refusal : goal.returns-in_ok-at_most_one-in-And-clause-refusal
+returns-in_ok-at_most_one-in-And-clause-refusal g t c = answer-more _ _ _ (at_node (λ rule. rule.falsifier) (own_rules (λ i. (g.dyn-1.0.entry i).1) c.args.rules.now.own.items) c.args.e.now) c.node.ensures.refusal
+
+pub returns-in_ok-at_most_one-in-Or-clause-refusal : goal.returns-in_ok-at_most_one-in-Or-clause-refusal
+returns-in_ok-at_most_one-in-Or-clause-refusal g t c = answer-more _ _ _ (at_node (λ rule. rule.falsifier) (own_rules (λ i. (g.dyn-1.0.entry i).1) c.args.rules.now.own.items) c.args.e.now) c.node-in-Or.ensures.refusal
+
+pub returns-in_ok-table_falsifiers-in_default-operator-clause-refusal : goal.returns-in_ok-table_falsifiers-in_default-operator-clause-refusal
+returns-in_ok-table_falsifiers-in_default-operator-clause-refusal g t c = answer-more _ _ _ (at_node (λ rule. rule.falsifier) (own_rules (λ i. (g.dyn-1.0.entry i).1) c.args.rules.now.own.items) c.args.e.now) c.node-in_default-operator.ensures.refusal
+
+pub returns-in_ok-at_most_one-in-Between-clause-refusal : goal.returns-in_ok-at_most_one-in-Between-clause-refusal
+returns-in_ok-at_most_one-in-Between-clause-refusal g t c = answer-more _ _ _ (at_node (λ rule. rule.falsifier) (own_rules (λ i. (g.dyn-1.0.entry i).1) c.args.rules.now.own.items) c.args.e.now) c.node-in-Between.ensures.refusal
+
+pub returns-in_ok-table_falsifiers-in_default-clause-refusal : goal.returns-in_ok-table_falsifiers-in_default-clause-refusal
+returns-in_ok-table_falsifiers-in_default-clause-refusal g t c = answer-more _ _ _ (at_node (λ rule. rule.falsifier) (own_rules (λ i. (g.dyn-1.0.entry i).1) c.args.rules.now.own.items) c.args.e.now) c.node-in_default.ensures.refusal

@@ -1,3 +1,4 @@
+use Rattle.vortex_prune.proofs.WholeScan.{parts_by_recursion}
 use Rattle.vortex_prune.proofs.OwnBinders.{own_faithful, own_honest, own_quiet, own_statistics}
 use Rattle.vortex_prune.proofs.laws.own_binders_are_honest.Goals as goal
 
@@ -8,7 +9,7 @@ pub returns-clause-own : goal.returns-clause-own
 returns-clause-own c = own_statistics
 
 pub returns-clause-honest : goal.returns-clause-honest
-returns-clause-honest c = own_honest
+returns-clause-honest c = λ parts are. own_honest parts (parts_by_recursion parts are)
 
 pub returns-clause-quiet : goal.returns-clause-quiet
 returns-clause-quiet c = own_quiet

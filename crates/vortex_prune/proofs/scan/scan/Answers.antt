@@ -1,4 +1,4 @@
-use Rattle.std.proofs.Common.{[], ap, map, ◌∙◌}
+use Rattle.std.proofs.Common.{ap, map, ◌∙◌}
 use Rattle.vortex_prune.proofs.ShutProofs.{refused_for_memory}
 use Rattle.vortex_prune.proofs.WholeScan.{kept_is_full, of_three, skips_exactly}
 use Rattle.vortex_prune.specs.Own.{own_rules, own_rule}
@@ -25,5 +25,5 @@ returns-clause-complete g c =
 
 pub returns-clause-memory : goal.returns-clause-memory
 returns-clause-memory g c = λ predicate none faithful quiet.
-    refused_for_memory (own_rules (λ i. (g.dyn-1.0.entry i).1) c.args.rules.now.own.items) _ c.args.predicate.now c.scan_rules.result (ap (map (own_rule (λ i. (g.dyn-1.0.entry i).1))) none) quiet
+    refused_for_memory g.B.StatBinder.answer g.B.StatBinder.is_missing g.B.StatBinder.can_fault c.args.predicate.now c.args.binders.now (own_rules (λ i. (g.dyn-1.0.entry i).1) c.args.rules.now.own.items) c.scan_rules.result (ap (map (own_rule (λ i. (g.dyn-1.0.entry i).1))) none) quiet
     (c.scan_rules.ensures.faithful predicate faithful)

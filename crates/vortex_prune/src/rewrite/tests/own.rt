@@ -241,23 +241,23 @@ fn proofs_of_two_rules_are_joined(rt: HostRuntime) -> Result<(), Fail> {
     own.push(Box::new(alloc, Opposite { answer: false })?)?;
     own.push(Box::new(alloc, Opposite { answer: true })?)?;
     let rules = Rules::with_own(own);
-    let both = bound::or(alloc, truth(alloc, false)?, truth(alloc, true)?)?;
-    let not_true = bound::not(alloc, truth(alloc, true)?)?;
-    expect_proof(&rt, falsify(alloc, &not_true, &rules)?, both.try_clone()?)?;
-    expect_none(&rt, satisfy(alloc, &not_true, &rules)?)?;
-    let not_false = bound::not(alloc, truth(alloc, false)?)?;
-    expect_proof(&rt, satisfy(alloc, &not_false, &rules)?, both)?;
-    expect_none(&rt, falsify(alloc, &not_false, &rules)?)
+    let both = or(alloc, truth(alloc, false)?, truth(alloc, true)?)?;
+    let not_true = not(alloc, truth(alloc, true)?)?;
+    expect_proof(&rt, falsified(alloc, &not_true, &rules)?, copy(&both)?)?;
+    expect_none(&rt, satisfied(alloc, &not_true, &rules)?)?;
+    let not_false = not(alloc, truth(alloc, false)?)?;
+    expect_proof(&rt, satisfied(alloc, &not_false, &rules)?, both)?;
+    expect_none(&rt, falsified(alloc, &not_false, &rules)?)
 }
 
 #[test]
 fn without_a_rule_of_its_own_not_has_no_proof(rt: HostRuntime) -> Result<(), Fail> {
     let alloc = rt.alloc();
     let rules = Rules::builtin(alloc);
-    let not_true = bound::not(alloc, truth(alloc, true)?)?;
-    expect_none(&rt, falsify(alloc, &not_true, &rules)?)?;
-    let not_false = bound::not(alloc, truth(alloc, false)?)?;
-    expect_none(&rt, satisfy(alloc, &not_false, &rules)?)
+    let not_true = not(alloc, truth(alloc, true)?)?;
+    expect_none(&rt, falsified(alloc, &not_true, &rules)?)?;
+    let not_false = not(alloc, truth(alloc, false)?)?;
+    expect_none(&rt, satisfied(alloc, &not_false, &rules)?)
 }
 
 #[test]
@@ -267,10 +267,10 @@ fn own_proofs_follow_the_built_in_ones(rt: HostRuntime) -> Result<(), Fail> {
     let function = ScalarFnId::IsNull;
     own.push(Box::new(alloc, Unsure { function })?)?;
     let rules = Rules::with_own(own);
-    let tests = bound::or(alloc, no_nulls(alloc)?, all_non_null(alloc)?)?;
-    let expected = bound::or(alloc, tests, truth(alloc, false)?)?;
-    let e = bound::is_null(alloc, a(alloc)?)?;
-    expect_proof(&rt, falsify(alloc, &e, &rules)?, expected)
+    let tests = or(alloc, no_nulls(alloc)?, all_non_null(alloc)?)?;
+    let expected = or(alloc, tests, truth(alloc, false)?)?;
+    let e = is_null(alloc, a(alloc)?)?;
+    expect_proof(&rt, falsified(alloc, &e, &rules)?, expected)
 }
 
 #[test]
@@ -280,14 +280,14 @@ fn rules_are_asked_at_connectives_too(rt: HostRuntime) -> Result<(), Fail> {
     let function = ScalarFnId::Binary;
     own.push(Box::new(alloc, Unsure { function })?)?;
     let rules = Rules::with_own(own);
-    let above = bound::gt(alloc, a(alloc)?, int(alloc, 10)?)?;
-    let e = bound::or(alloc, above, truth(alloc, false)?)?;
-    let left = bound::lt_eq(alloc, max_a(alloc)?, int(alloc, 10)?)?;
-    let left = bound::or(alloc, left, truth(alloc, false)?)?;
-    let sides = bound::and(alloc, left, truth(alloc, true)?)?;
-    let expected = bound::or(alloc, sides, truth(alloc, false)?)?;
-    expect_proof(&rt, falsify(alloc, &e, &rules)?, expected)?;
-    expect_proof(&rt, satisfy(alloc, &e, &rules)?, truth(alloc, false)?)
+    let above = gt(alloc, a(alloc)?, int(alloc, 10)?)?;
+    let e = or(alloc, above, truth(alloc, false)?)?;
+    let left = lt_eq(alloc, max_a(alloc)?, int(alloc, 10)?)?;
+    let left = or(alloc, left, truth(alloc, false)?)?;
+    let sides = and(alloc, left, truth(alloc, true)?)?;
+    let expected = or(alloc, sides, truth(alloc, false)?)?;
+    expect_proof(&rt, falsified(alloc, &e, &rules)?, expected)?;
+    expect_proof(&rt, satisfied(alloc, &e, &rules)?, truth(alloc, false)?)
 }
 
 #[test]
@@ -297,14 +297,34 @@ fn rules_are_asked_within_a_between(rt: HostRuntime) -> Result<(), Fail> {
     let function = ScalarFnId::Binary;
     own.push(Box::new(alloc, Unsure { function })?)?;
     let rules = Rules::with_own(own);
-    let low = bound::gt(alloc, int(alloc, 10)?, max_a(alloc)?)?;
-    let low = bound::or(alloc, low, truth(alloc, false)?)?;
-    let high = bound::gt(alloc, min_a(alloc)?, int(alloc, 50)?)?;
-    let high = bound::or(alloc, high, truth(alloc, false)?)?;
-    let sides = bound::or(alloc, low, high)?;
-    let expected = bound::or(alloc, sides, truth(alloc, false)?)?;
+    let low = gt(alloc, int(alloc, 10)?, max_a(alloc)?)?;
+    let low = or(alloc, low, truth(alloc, false)?)?;
+    let high = gt(alloc, min_a(alloc)?, int(alloc, 50)?)?;
+    let high = or(alloc, high, truth(alloc, false)?)?;
+    let sides = or(alloc, low, high)?;
+    let expected = or(alloc, sides, truth(alloc, false)?)?;
     let e = closed_range(alloc, 10, 50)?;
-    expect_proof(&rt, falsify(alloc, &e, &rules)?, expected)
+    expect_proof(&rt, falsified(alloc, &e, &rules)?, copy(&expected)?)?;
+    // Strict ends are moved first, and the rules are asked at the comparisons as they then stand.
+    let e = range(alloc, 9, 51, StrictComparison::Strict)?;
+    expect_proof(&rt, falsified(alloc, &e, &rules)?, expected)
+}
+
+#[test]
+fn an_empty_between_is_asked_for_itself_alone(rt: HostRuntime) -> Result<(), Fail> {
+    let alloc = rt.alloc();
+    let mut own: Vec<StatsRewriteRuleRef> = Vec::new(alloc);
+    let function = ScalarFnId::Binary;
+    own.push(Box::new(alloc, Faulty { function, fault: 3 })?)?;
+    let function = ScalarFnId::Between;
+    own.push(Box::new(alloc, Unsure { function })?)?;
+    let rules = Rules::with_own(own);
+    let expected = or(alloc, truth(alloc, true)?, truth(alloc, false)?)?;
+    let e = range(alloc, 3, 4, StrictComparison::Strict)?;
+    expect_proof(&rt, falsified(alloc, &e, &rules)?, expected)?;
+    let e = range(alloc, 3, 5, StrictComparison::Strict)?;
+    assert_eq!(rt; fault_of(falsified(alloc, &e, &rules)), Some(3));
+    Ok(())
 }
 
 #[test]
@@ -316,12 +336,12 @@ fn the_first_fault_ends_the_call(rt: HostRuntime) -> Result<(), Fail> {
     let function = ScalarFnId::Not;
     own.push(Box::new(alloc, Faulty { function, fault: 3 })?)?;
     let rules = Rules::with_own(own);
-    let not_true = bound::not(alloc, truth(alloc, true)?)?;
-    let null = bound::is_null(alloc, a(alloc)?)?;
-    assert_eq!(rt; fault_of(satisfy(alloc, &null, &rules)), Some(4));
-    let e = bound::and(alloc, not_true, null)?;
-    assert_eq!(rt; fault_of(falsify(alloc, &e, &rules)), Some(3));
-    expect_none(&rt, satisfy(alloc, &e, &rules)?)
+    let not_true = not(alloc, truth(alloc, true)?)?;
+    let null = is_null(alloc, a(alloc)?)?;
+    assert_eq!(rt; fault_of(satisfied(alloc, &null, &rules)), Some(4));
+    let e = and(alloc, not_true, null)?;
+    assert_eq!(rt; fault_of(falsified(alloc, &e, &rules)), Some(3));
+    expect_none(&rt, satisfied(alloc, &e, &rules)?)
 }
 
 #[test]
@@ -331,9 +351,9 @@ fn a_proof_has_to_be_a_truth(rt: HostRuntime) -> Result<(), Fail> {
     let function = ScalarFnId::Not;
     own.push(Box::new(alloc, Number { function })?)?;
     let rules = Rules::with_own(own);
-    let e = bound::not(alloc, truth(alloc, true)?)?;
-    assert!(rt; is_not_bool(falsify(alloc, &e, &rules)));
-    assert!(rt; is_not_bool(satisfy(alloc, &e, &rules)));
+    let e = not(alloc, truth(alloc, true)?)?;
+    assert!(rt; is_not_bool(falsified(alloc, &e, &rules)));
+    assert!(rt; is_not_bool(satisfied(alloc, &e, &rules)));
     let other = truth(alloc, true)?;
-    expect_proof(&rt, falsify(alloc, &other, &rules)?, truth(alloc, false)?)
+    expect_proof(&rt, falsified(alloc, &other, &rules)?, truth(alloc, false)?)
 }

@@ -1,20 +1,16 @@
-use Rattle.std.proofs.Common.{rules, ◌≡◌, OnOk, OnErr, refl, ap}
+use Rattle.std.proofs.Common.{◌≡◌, true, refl, sym, subst, ◌∙◌}
+use Rattle.vortex_stats.specs.Entries.{entries_fit}
 use Rattle.vortex_stats.specs.Merges.{merged_value, merged_ordered}
-use Rattle.vortex_stats.proofs.Revisions.{merged-written, distinct-written, merged-needs_own}
-use Rattle.vortex_stats.proofs.MergedFits.{fits-written, merged_ordered-fits}
+use Rattle.vortex_stats.proofs.Revisions.{all_changed-made, merged-needs_own}
+use Rattle.vortex_stats.proofs.MergedFits.{merged_ordered-fits}
 use Rattle.vortex_stats.proofs.stats_set.StatsSet.append.Goals as goal
 
 pub returns-clause-merged : goal.returns-clause-merged
 returns-clause-merged c =
-    merged-written c.change_all.result c.in_ok-changes.changes (λ s. merged_value s c.args.self.now c.args.other.now) c.args.self.now c.change_all.new.entries.items
-    (merged-needs_own c.args.self.now c.args.other.now) refl (search rules) (search rules)
-
-pub invariant_of-self : goal.invariant_of-self
-invariant_of-self c =
-    distinct-written c.change_all.result (λ s. merged_value s c.args.self.now c.args.other.now) c.args.self.now c.change_all.new.entries.items
-    (search rules) (returns-clause-merged c) (search rules)
+    c.change_all.ensures
+    ∙ all_changed-made c.in_ok-changes.changes (λ s. merged_value s c.args.self.now c.args.other.now) c.args.self.now (merged-needs_own c.args.self.now c.args.other.now) refl c.in_ok-changes.ensures
 
 pub returns-clause-fits : goal.returns-clause-fits
 returns-clause-fits c =
-    fits-written c.change_all.result c.args.dtype.now (merged_ordered c.args.self.now c.args.other.now) c.args.self.now c.change_all.new.entries.items
-    (merged_ordered-fits c.args.dtype.now c.args.self.now c.args.other.now c.requires.own_fits c.requires.other_fits) c.requires.own_fits (returns-clause-merged c) (search rules)
+    subst (λ es. entries_fit es c.args.dtype.now ≡ true) (sym (returns-clause-merged c))
+    (merged_ordered-fits c.args.dtype.now c.args.self.now c.args.other.now c.requires.own_fits c.requires.other_fits)

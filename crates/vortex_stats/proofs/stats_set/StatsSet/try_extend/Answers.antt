@@ -6,7 +6,7 @@ use Rattle.vortex_stats.proofs.stats_set.StatsSet.try_extend.Goals as goal
 
 pub loop-item-preserved : goal.loop-item-preserved
 loop-item-preserved g c =
-    c.in_ok-set.ensures.set ∙ ap (λ es. with_entry c.in-Some.item.0 c.in-Some.item.1 es) c.loop-item.invariant
+    c.put.ensures ∙ ap (λ es. with_entry c.in-Some.item.0 c.in-Some.item.1 es) c.loop-item.invariant
     ∙ sym (with_entries-snoc c.loop-item.yielded c.in-Some.item c.args.self.now)
 
 pub returns-clause-all : goal.returns-clause-all

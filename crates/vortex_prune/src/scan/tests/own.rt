@@ -1,0 +1,282 @@
+// Scans by rules and binders of a user, and what they are refused for.
+ghost use Rattle.std.specs.Prelude.{◌≡◌, false, true, ⊤, MatchResult, Some, None, if◌then◌else◌};
+ghost use Rattle.std.proofs.Common.{sym};
+ghost use mathlib.Core.Bool.{true≢false};
+ghost use Rattle.vortex_prune.specs.HookFaults.{IsHookFault};
+ghost use Rattle.vortex_prune.specs.Rewriting.{bool_literal};
+ghost use Rattle.vortex_prune.specs.RuleExamples.{at_null_test};
+
+use super::*;
+use crate::hook_fault::HookFault;
+use crate::nodes::literal;
+use crate::rule::{StatsRewriteRule, StatsRewriteRuleRef};
+use crate::stat_binder::{StatBinder, hooked};
+use vortex_base::aggregate::AggregateFnRef;
+use vortex_base::parts::Parts;
+use vortex_base::scalar_fn::ScalarFnId;
+use vortex_stats::error::{BinderFault, RuleFault};
+
+const BOOL: DType = DType::Bool(Nullability::NonNullable);
+
+fn truth_answer(alloc: Global) -> Result<Option<BoundExpression>, HookFault>
+    ensures { MatchResult result (λ o. o ≡ Some (bool_literal true)) (IsHookFault (λ k. false)) }
+{
+    match literal(alloc, BOOL, ScalarValue::from(true)) {
+        Ok(e) => Ok(Some(e)),
+        Err(StatsError::Memory(refused)) => Err(HookFault::Memory(refused)),
+        Err(_) => unreachable!(),
+    }
+}
+
+// Whether it is IS NULL of a column whose type has no null.
+fn is_test_of_values(e: &BoundExpression) -> bool
+    ensures { at_null_test e.now ≡ (if result then Some (bool_literal true) else None) }
+{
+    match e.parts() {
+        Parts::IsNull(x) => match x.parts() {
+            Parts::Column(_, dtype) => !dtype.is_nullable(),
+            _ => false,
+        },
+        _ => false,
+    }
+}
+
+// Proves that no row is null, of a column whose type has no null.
+#[derive(Drop)]
+struct Declared;
+
+impl StatsRewriteRule for Declared {
+    ghost use Rattle.std.specs.Prelude.{false};
+    ghost use Rattle.vortex_base.specs.declared.scalar_fn.ScalarFnId.TheVariants as function;
+    ghost use Rattle.vortex_prune.specs.RuleExamples.{at_null_test, no_proof, null_test_is_lawful};
+
+    ghost id = { λ s. function.IsNull };
+
+    ghost falsifier = { λ s. at_null_test };
+
+    ghost satisfier = { λ s. no_proof };
+
+    ghost can_fault = { λ s k. false };
+
+    ghost is_lawful = { λ s. null_test_is_lawful };
+
+    fn scalar_fn_id(&self) -> ScalarFnId {
+        ScalarFnId::IsNull
+    }
+
+    fn falsify(
+        &self,
+        alloc: Global,
+        expression: &BoundExpression,
+    ) -> Result<Option<BoundExpression>, HookFault> {
+        if is_test_of_values(expression) {
+            truth_answer(alloc)
+        } else {
+            Ok(None)
+        }
+    }
+
+    fn satisfy(
+        &self,
+        _alloc: Global,
+        _expression: &BoundExpression,
+    ) -> Result<Option<BoundExpression>, HookFault> {
+        Ok(None)
+    }
+}
+
+// Proves by a column outside its placeholders.
+#[derive(Drop)]
+struct Open;
+
+impl StatsRewriteRule for Open {
+    ghost use Rattle.std.specs.Prelude.{false};
+    ghost use Rattle.vortex_base.specs.declared.scalar_fn.ScalarFnId.TheVariants as function;
+    ghost use Rattle.vortex_prune.specs.RuleExamples.{no_proof, open_proof, open_proof_is_lawful};
+
+    ghost id = { λ s. function.Not };
+
+    ghost falsifier = { λ s. open_proof };
+
+    ghost satisfier = { λ s. no_proof };
+
+    ghost can_fault = { λ s k. false };
+
+    ghost is_lawful = { λ s. open_proof_is_lawful };
+
+    fn scalar_fn_id(&self) -> ScalarFnId {
+        ScalarFnId::Not
+    }
+
+    fn falsify(
+        &self,
+        alloc: Global,
+        _expression: &BoundExpression,
+    ) -> Result<Option<BoundExpression>, HookFault> {
+        let column = hooked(bound::col(alloc, 0, NUMBER))?;
+        Ok(Some(hooked(bound::is_null(alloc, column))?))
+    }
+
+    fn satisfy(
+        &self,
+        _alloc: Global,
+        _expression: &BoundExpression,
+    ) -> Result<Option<BoundExpression>, HookFault> {
+        Ok(None)
+    }
+}
+
+// Faults wherever it is asked.
+#[derive(Drop)]
+struct Faulty;
+
+impl StatsRewriteRule for Faulty {
+    ghost use Rattle.std.specs.Prelude.{◌==◌};
+    ghost use Rattle.vortex_base.specs.declared.scalar_fn.ScalarFnId.TheVariants as function;
+    ghost use Rattle.vortex_prune.specs.RuleExamples.{no_proof, no_proof_is_lawful};
+
+    ghost id = { λ s. function.IsNotNull };
+
+    ghost falsifier = { λ s. no_proof };
+
+    ghost satisfier = { λ s. no_proof };
+
+    ghost can_fault = { λ s k. k == 3 };
+
+    ghost is_lawful = { λ s. no_proof_is_lawful };
+
+    fn scalar_fn_id(&self) -> ScalarFnId {
+        ScalarFnId::IsNotNull
+    }
+
+    fn falsify(
+        &self,
+        _alloc: Global,
+        _expression: &BoundExpression,
+    ) -> Result<Option<BoundExpression>, HookFault> {
+        Err(HookFault::Own(3))
+    }
+
+    fn satisfy(
+        &self,
+        _alloc: Global,
+        _expression: &BoundExpression,
+    ) -> Result<Option<BoundExpression>, HookFault> {
+        Err(HookFault::Own(3))
+    }
+}
+
+// Answers a truth to each placeholder.
+#[derive(Drop)]
+struct Truths;
+
+impl StatBinder for Truths {
+    ghost answer = { λ b f x t. Some (bool_literal true) };
+
+    ghost is_missing = { λ b t r. ⊤ };
+
+    ghost allows_null = { λ b t. tt };
+
+    ghost can_fault = { λ b k. false };
+
+    ghost value = { λ b row n f x. None };
+
+    ghost is_faithful_over = { λ b row n. false };
+
+    ghost is_faithful = { λ b row n h. absurd (true≢false (sym h)) };
+
+    fn bind_aggregate(
+        &self,
+        alloc: Global,
+        _input: &BoundExpression,
+        _aggregate: &AggregateFnRef,
+        _stat_dtype: &DType,
+    ) -> Result<Option<BoundExpression>, HookFault> {
+        truth_answer(alloc)
+    }
+}
+
+// The scan by these rules and binders.
+fn scanned_with<B: StatBinder>(
+    alloc: Global,
+    parts: &[Part],
+    binders: &[B],
+    predicate: &BoundExpression,
+    rules: &Rules,
+) -> Result<Scan, StatsError> {
+    if binders.len() != parts.len() || !predicate.is_plain() || !all_fit(parts, predicate) {
+        return Err(StatsError::Mismatch);
+    }
+    scan(alloc, parts, binders, predicate, rules)
+}
+
+#[test]
+fn a_rule_may_rest_on_a_type(rt: HostRuntime) -> Result<(), Fail> {
+    let alloc = rt.alloc();
+    let mut own: Vec<StatsRewriteRuleRef> = Vec::new(alloc);
+    own.push(Box::new(alloc, Declared)?)?;
+    let rules = Rules::with_own(own);
+    let values = vec![in alloc; Some(number(1))]?;
+    let column = Column::try_new(LITERAL, values, 0)?;
+    let scope = vec![in alloc; (String::from_str(alloc, "a")?, LITERAL)]?;
+    let chunk = Chunk::try_new(Scope::try_new(scope)?, vec![in alloc; column]?)?;
+    let parts = match Part::try_new(chunk, vec![in alloc; StatsSet::new(alloc)]?) {
+        Ok(part) => vec![in alloc; part]?,
+        Err(refused) => return Err(Fail::from(refused.error)),
+    };
+    let is_null = bound::is_null(alloc, bound::col(alloc, 0, LITERAL)?)?;
+    let binders = binders_of(alloc, &parts)?;
+    let found = scanned_with(alloc, &parts, &binders, &is_null, &rules)?;
+    assert!(rt; found.skipped.as_slice() == [0].as_slice());
+    let found = scanned(alloc, &parts, &is_null)?;
+    assert!(rt; found.skipped.is_empty());
+    assert!(rt; found.selected.is_empty());
+    Ok(())
+}
+
+#[test]
+fn an_open_proof_is_refused_at_a_part(rt: HostRuntime) -> Result<(), Fail> {
+    let alloc = rt.alloc();
+    let mut own: Vec<StatsRewriteRuleRef> = Vec::new(alloc);
+    own.push(Box::new(alloc, Open)?)?;
+    let rules = Rules::with_own(own);
+    let opposite = bound::not(alloc, compare(alloc, Operator::Gt, 10)?)?;
+    let none: Vec<Part> = Vec::new(alloc);
+    let binders = binders_of(alloc, &none)?;
+    let found = scanned_with(alloc, &none, &binders, &opposite, &rules)?;
+    assert!(rt; found.skipped.is_empty());
+    let parts = vec![in alloc; part(alloc, &[Some(1)], bounds(1, 1))?]?;
+    let binders = binders_of(alloc, &parts)?;
+    let refused = scanned_with(alloc, &parts, &binders, &opposite, &rules);
+    assert!(rt; matches!(refused, Err(StatsError::OpenProof)));
+    Ok(())
+}
+
+#[test]
+fn an_own_fault_ends_the_scan(rt: HostRuntime) -> Result<(), Fail> {
+    let alloc = rt.alloc();
+    let mut own: Vec<StatsRewriteRuleRef> = Vec::new(alloc);
+    own.push(Box::new(alloc, Faulty)?)?;
+    let rules = Rules::with_own(own);
+    let parts = vec![in alloc; part(alloc, &[Some(1)], bounds(1, 1))?]?;
+    let binders = binders_of(alloc, &parts)?;
+    let is_value = bound::is_not_null(alloc, a(alloc)?)?;
+    let refused = scanned_with(alloc, &parts, &binders, &is_value, &rules);
+    assert!(rt; matches!(refused, Err(StatsError::Rule(RuleFault::Own(3)))));
+    let above = compare(alloc, Operator::Gt, 10)?;
+    let found = scanned_with(alloc, &parts, &binders, &above, &rules)?;
+    assert!(rt; found.skipped.as_slice() == [0].as_slice());
+    Ok(())
+}
+
+#[test]
+fn an_answer_of_another_type_is_refused(rt: HostRuntime) -> Result<(), Fail> {
+    let alloc = rt.alloc();
+    let rules = Rules::builtin(alloc);
+    let parts = vec![in alloc; part(alloc, &[Some(1)], bounds(1, 1))?]?;
+    let binders = vec![in alloc; Truths]?;
+    let above = compare(alloc, Operator::Gt, 10)?;
+    let refused = scanned_with(alloc, &parts, &binders, &above, &rules);
+    assert!(rt; matches!(refused, Err(StatsError::Binder(BinderFault::WrongType))));
+    Ok(())
+}

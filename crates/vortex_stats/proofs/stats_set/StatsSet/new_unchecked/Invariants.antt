@@ -1,0 +1,7 @@
+use Rattle.std.proofs.Common.{◌≡◌}
+use Rattle.vortex_stats.specs.Entries.{with_entries}
+use Rattle.vortex_stats.proofs.stats_set.StatsSet.new_unchecked.Given as goal
+
+-- setting what is left makes the entries
+abbrev pub invariant-loop-entry : goal.invariant-loop-entry
+invariant-loop-entry l = with_entries l.entry-iterator l.set ≡ l.fn.entries.items
