@@ -40,11 +40,14 @@ impl OpenColumn {
     }
 
     /// The column, which takes no more values.
-    pub fn close(self) -> Result<Column, LineError>
+    pub fn close(self) -> Result<Column, AllocError>
         ensures { IfOk result (λ column. column ≡ self) }
     {
         let OpenColumn { dtype, values } = self;
-        Ok(Column::try_new(dtype, values, 0)?)
+        match Column::try_new(dtype, values, 0) {
+            Ok(column) => Ok(column),
+            Err(_) => Err(AllocError),
+        }
     }
 
     // Adds a value.

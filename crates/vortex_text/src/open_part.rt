@@ -1,10 +1,9 @@
 //! A part that still takes rows and statistics.
-ghost use Rattle.std.specs.Prelude.{◌≡◌, ◌++◌, IfOk, OnOk, slice_get};
+ghost use Rattle.std.specs.Prelude.{◌≡◌, ◌++◌, IfOk, slice_get};
 ghost use Rattle.vortex_base.specs.Scopes.{Named};
 ghost use Rattle.vortex_text.specs.Columns.{set_at};
 ghost use Rattle.vortex_text.specs.OpenParts.{open_data};
 
-use crate::line_error::LineError;
 use crate::open_column::OpenColumn;
 use std::alloc::{AllocError, Global};
 use vortex_base::chunk::Chunk;
@@ -29,17 +28,16 @@ pub fn set_statistic(
     place: usize,
     stat: Stat,
     value: Precision<ScalarValue>,
-) -> Result<(), AllocError>
-    ensures { OnOk result (sets.new ≡ set_at place stat value sets.old (slice_get sets.old place)) }
+)
+    ensures { sets.new ≡ set_at place stat value sets.old (slice_get sets.old place) }
 {
-    if place >= sets.len() {
-        return Ok(());
+    if place < sets.len() {
+        let set = &mut sets[place];
+        let _ = set.set(stat, value);
     }
-    let set = &mut sets[place];
-    set.set(stat, value)
 }
 
-fn close_columns(alloc: Global, columns: Vec<OpenColumn>) -> Result<Vec<Column>, LineError>
+fn close_columns(alloc: Global, columns: Vec<OpenColumn>) -> Result<Vec<Column>, AllocError>
     ensures { IfOk result (λ closed. closed.items ≡ columns.items) }
 {
     let mut closed = Vec::with_capacity(alloc, columns.len())?;
@@ -51,14 +49,16 @@ fn close_columns(alloc: Global, columns: Vec<OpenColumn>) -> Result<Vec<Column>,
 
 impl OpenPart {
     /// The part, which takes no more rows.
-    pub fn close(self, alloc: Global, scope: Scope) -> Result<Part, LineError>
+    pub fn close(self, alloc: Global, scope: Scope) -> Result<Part, AllocError>
         ensures { IfOk result (λ part. part ≡ open_data scope self) }
     {
         let columns = close_columns(alloc, self.columns)?;
-        let chunk = Chunk::try_new(scope, columns)?;
+        let Ok(chunk) = Chunk::try_new(scope, columns) else {
+            return Err(AllocError);
+        };
         match Part::try_new(chunk, self.stats) {
             Ok(part) => Ok(part),
-            Err(_) => Err(LineError::Memory),
+            Err(_) => Err(AllocError),
         }
     }
 }
