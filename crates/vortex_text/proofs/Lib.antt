@@ -1,13 +1,17 @@
 pub mod BadRows
 pub mod ColumnLemmas
+pub mod DraftLemmas
 pub mod ExpressionFits
 pub mod FirstLine
 pub mod Found
+pub mod JoinLemmas
 pub mod TextRows
 pub mod NameRows
 pub mod NamedLines
 pub mod NumberLemmas
 pub mod NumberRows
+pub mod QueryLemmas
+pub mod Refusals
 pub mod StartLemmas
 pub mod Steps
 pub mod Typed

@@ -1,7 +1,8 @@
--- What a scope is made of.
+-- What a scope and a chunk are made of.
 use Rattle.std.proofs.Common.{◌≡◌, List, Ok, inl, inr}
 use Rattle.std.specs.List.{list_any}
 use Rattle.std.proofs.lemmas.Bool.{cases_Bool}
+use Rattle.vortex_base.specs.Columns.{ChunkData, ColumnData, chunk_of, has_shape, has_types}
 use Rattle.vortex_base.specs.Scopes.{Named, has_duplicate, is_empty, is_state, scope_of}
 
 -- the scope of columns is the columns
@@ -15,4 +16,14 @@ scope_is cs s h = elim (cases_Bool (is_empty cs)) [
       | inr none ↦ (let e = rw (some, once, none) at h in cc)
     ])
   ])
+]
+
+-- the chunk of a scope and columns is those
+pub chunk_is : (ss : List Named) (cs : List ColumnData) (k : ChunkData) → chunk_of ss cs ≡ Ok k → k ≡ record { scope = ss; columns = cs }
+chunk_is ss cs k h = elim (cases_Bool (has_shape ss cs)) [
+  | inl shape ↦ (elim (cases_Bool (has_types ss cs)) [
+    | inl types ↦ (let e = rw (shape, types) at h in cc)
+    | inr other ↦ (let e = rw (shape, other) at h in cc)
+  ])
+  | inr other ↦ (let e = rw other at h in cc)
 ]

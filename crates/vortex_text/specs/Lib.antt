@@ -1,4 +1,5 @@
 pub mod Columns
+pub mod Drafts
 pub mod Expressions
 pub mod Fails
 pub mod Lines

@@ -1,19 +1,20 @@
 -- What the lines of a text say, one after another.
 use Rattle.std.specs.Prelude.{ℕ, Bool, true, false, nat_le, List, [], ◌∷◌, ◌++◌, Option, None, Some, codes, is_some, length, if◌then◌else◌}
 use Rattle.std.specs.Str.{bytes_eq, is_utf8}
-use Rattle.vortex_base.specs.Binding.{find_column}
 use Rattle.vortex_base.specs.Scopes.{Named, is_empty, place_of}
 use Rattle.vortex_base.specs.Tree.{Tree, Place}
+use Rattle.vortex_base.specs.declared.dtype.DType.{DType}
+use Rattle.vortex_base.specs.declared.scalar_value.ScalarValue.{ScalarValue}
 use Rattle.vortex_prune.specs.Part.{PartData}
-use Rattle.vortex_stats.specs.Stat.{stat_dtype}
+use Rattle.vortex_stats.specs.declared.precision.Precision.{Precision}
+use Rattle.vortex_stats.specs.declared.stat.Stat.{Stat}
 use Rattle.vortex_text.specs.Expressions.{expression_of}
 use Rattle.vortex_text.specs.Fails.{◌>>=◌}
 use Rattle.vortex_text.specs.Names.{is_name, type_of}
 use Rattle.vortex_text.specs.Numbers.{in_64_bits, natural_of}
 use Rattle.vortex_text.specs.Rows.{empty_part, joined_at, with_row, with_statistic}
-use Rattle.vortex_text.specs.Statistics.{precision_of, stat_of}
-use Rattle.vortex_text.specs.Values.{value_of}
-use Rattle.vortex_text.specs.Words.{Token, first_word, no_word, plain_word, word_limit, words}
+use Rattle.vortex_text.specs.Statistics.{claimed, claimed_value}
+use Rattle.vortex_text.specs.Words.{Token, no_word, plain_word, word_limit, words}
 use Rattle.vortex_text.specs.declared.line_kind.LineKind.{LineKind}
 use Rattle.vortex_text.specs.declared.line_kind.LineKind.TheVariants as kind
 
@@ -56,14 +57,18 @@ kind_of word =
 abbrev pub is_new : List Named → List ℕ → Bool
 is_new scope name = if is_name name then (if is_some (place_of name scope) then false else true) else false
 
--- `column NAME TYPE`: the next column, before the first part
+-- one more column, before the first part
+abbrev pub with_column : Reading → List ℕ → DType → Option Reading
+with_column r name t = when (if has_part (parts_of r) then false else is_new r.scope name) (record r { scope = r.scope ++ (name, t) ∷ [] })
+
+-- `column NAME TYPE`: the next column
 abbrev pub read_column : Reading → List Token → Option Reading
 read_column r ws = do
   name ← plain_word ws
   type ← plain_word name.1
   none ← no_word type.1
   t ← type_of type.0
-  when (if has_part (parts_of r) then false else is_new r.scope name.0) (record r { scope = r.scope ++ (name.0, t) ∷ [] })
+  with_column r name.0 t
 
 -- `part`: begins a part, once there is a column
 abbrev pub read_part : Reading → List Token → Option Reading
@@ -71,21 +76,18 @@ read_part r ws = do
   none ← no_word ws
   when (if is_empty r.scope then false else true) (record { scope = r.scope; ended = parts_of r; current = Some (empty_part r.scope); predicate = r.predicate })
 
+-- the statistic of the column at a place of the current part
+abbrev pub with_claim : Reading → ℕ → Stat → Precision ScalarValue → Option Reading
+with_claim r i s p = do
+  part ← r.current
+  Some (record r { current = Some (with_statistic i s p part) })
+
 -- `stat NAME STAT exact VALUE`, `.. inexact VALUE`: a statistic of the current part
 abbrev pub read_stat : Reading → List Token → Option Reading
 read_stat r ws = do
-  name ← plain_word ws
-  column ← find_column r.scope name.0
-  stat ← plain_word name.1
-  s ← stat_of stat.0
-  t ← stat_dtype s column.dtype
-  precision ← plain_word stat.1
-  value ← first_word precision.1
-  v ← value_of t value.0
-  p ← precision_of precision.0 v
-  none ← no_word value.1
-  part ← r.current
-  Some (record r { current = Some (with_statistic column.index s p part) })
+  claim ← claimed r.scope ws
+  p ← claimed_value claim.0.2 claim.1
+  with_claim r claim.0.0 claim.0.1 p
 
 -- `row V ..`: a row of the current part
 abbrev pub read_row : Reading → List Token → Option Reading

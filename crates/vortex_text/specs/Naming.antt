@@ -3,6 +3,8 @@ use Rattle.std.specs.Prelude.{◌≡◌, ◌+◌, ℕ, List, [], ◌∷◌, ◌+
 use Rattle.std.specs.Str.Lines.{lines}
 use Rattle.vortex_base.specs.Tree.{Tree, Place}
 use Rattle.vortex_prune.specs.Part.{PartData}
+use Rattle.vortex_text.specs.declared.naming.InputError.{InputError}
+use Rattle.vortex_text.specs.declared.naming.InputError.TheVariants as errors
 use Rattle.vortex_text.specs.Lines.{Reading, nothing_read, parts_of, read_line}
 
 -- parts and a predicate over their rows
@@ -46,3 +48,9 @@ named_from n r (line ∷ more) = go_on n (read_line r line) (λ next. named_from
 -- the parts and the predicate that a text names, or the number of its first bad line
 abbrev pub named : List ℕ → Result Query ℕ
 named text = named_from 1 nothing_read (lines text)
+
+-- what a call returned is what the text names; memory may be refused
+abbrev pub IsNamed : {X : Type 0} → (X → Query) → Result X InputError → Result Query ℕ → Type 0
+IsNamed view (Ok x) says = says ≡ Ok (view x)
+IsNamed view (Err errors.Memory) says = ⊤
+IsNamed view (Err (errors.BadLine n)) says = says ≡ Err n

@@ -1,12 +1,13 @@
 -- What the program answers to its input.
-use Rattle.std.specs.Prelude.{◌≡◌, ◌≤◌, ◌<◌, ◌⊎◌, ℕ, List, [], ◌∷◌, ◌++◌, Option, Result, Ok, Err, codes, length, map, if◌then◌else◌}
+use Rattle.std.specs.Prelude.{◌≡◌, ◌≤◌, ◌<◌, ◌⊎◌, ℕ, List, [], ◌∷◌, ◌++◌, Option, Result, Ok, Err, IsTrue, codes, length, map, if◌then◌else◌}
 use Rattle.std.specs.Io.KnownBytes.{Appends}
+use Rattle.std.specs.List.{AllByRecursion}
 use Rattle.vortex_base.specs.Tree.{Tree, Place}
-use Rattle.vortex_prune.specs.Part.{PartData}
+use Rattle.vortex_prune.specs.Part.{IsTruePart, PartData}
 use Rattle.vortex_prune.specs.PartAnswers.{part_values}
 use Rattle.vortex_prune.specs.Predicates.{is_predicate}
 use Rattle.vortex_prune.specs.Rewriting.{falsifier}
-use Rattle.vortex_prune.specs.Scanning.{Answered, selected_rows, skipped_parts}
+use Rattle.vortex_prune.specs.Scanning.{Answered, full, selected_rows, skipped_parts}
 use Rattle.vortex_text.specs.declared.streams.TheConstants.{INPUT_LIMIT}
 use Rattle.vortex_text.specs.Naming.{Query, named}
 use Rattle.vortex_text.specs.Printing.{bad_text, scan_text}
@@ -47,3 +48,12 @@ IsReason input word =
 -- Such a word was written, or a front of it where a write failed. Or the reply was cut off, since a write failed.
 abbrev pub Stops : List ℕ → Option (List ℕ) → Option (List ℕ) → Type 0
 Stops input old new = ((word : List ℕ) × IsReason input word × AppendsFront old new word) ⊎ AppendsProperFront old new (reply_to input).1
+
+-- where all statistics of the parts that a text names are true, these bytes tell the rows of the full scan
+abbrev pub IsFullScan : List ℕ → List ℕ → Type 0
+IsFullScan text printed = (parts : List PartData) (predicate : Tree Place) → named text ≡ Ok (parts, predicate) → IsTrue (is_predicate predicate)
+    → AllByRecursion IsTruePart parts → printed ≡ scan_text (skipped predicate parts) (full predicate parts)
+
+-- and such bytes were written
+abbrev pub WritesFullScan : List ℕ → Option (List ℕ) → Option (List ℕ) → Type 0
+WritesFullScan text old new = (printed : List ℕ) × Appends old new printed × IsFullScan text printed

@@ -1,8 +1,10 @@
 //! Texts that name parts of columns, their statistics and a predicate, and what a scan of them prints.
 #![tactic(auto)]
 
+mod draft;
 mod expression;
 mod form;
+mod joining;
 mod line_error;
 mod line_kind;
 mod lines;
@@ -12,6 +14,8 @@ mod number;
 mod open_column;
 mod open_part;
 mod printing;
+pub mod program;
+mod query;
 mod starts;
 mod statistic;
 mod streams;

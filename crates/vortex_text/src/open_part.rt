@@ -23,12 +23,7 @@ pub struct OpenPart {
 }
 
 /// Sets a statistic of the column at a place.
-pub fn set_statistic(
-    sets: &mut [StatsSet],
-    place: usize,
-    stat: Stat,
-    value: Precision<ScalarValue>,
-)
+pub fn set_statistic(sets: &mut [StatsSet], place: usize, stat: Stat, value: Precision<ScalarValue>)
     ensures { sets.new ≡ set_at place stat value sets.old (slice_get sets.old place) }
 {
     if place < sets.len() {
