@@ -1,0 +1,53 @@
+-- Steps of the lines of a text.
+use Rattle.std.proofs.Common.{◌≡◌, ◌<◌, ℕ, true, false, List, [], ◌∷◌, ◌++◌, Option, None, Some, String, is_some, length, option_map, refl, arith}
+use Rattle.std.specs.declared.alloc.Global.{Global}
+use Rattle.vortex_base.specs.Scopes.{named_columns}
+use Rattle.vortex_base.specs.Tree.{Tree, Place}
+use Rattle.vortex_base.specs.declared.dtype.DType.{DType}
+use Rattle.vortex_prune.specs.Part.{PartData}
+use Rattle.vortex_text.proofs.ColumnLemmas.{fails_on}
+use Rattle.vortex_text.specs.Fails.{Fails}
+use Rattle.vortex_text.specs.Lines.{Reading, and_current, has_part, is_new, kind_of, read_kind, read_words, with_column}
+use Rattle.vortex_text.specs.OpenParts.{open_data}
+use Rattle.vortex_text.specs.Words.{Token, plain_word}
+use Rattle.vortex_text.specs.declared.line_error.LineError.{LineError}
+use Rattle.vortex_text.specs.declared.line_kind.LineKind.{LineKind}
+use Rattle.vortex_text.specs.declared.open_part.OpenPart.{OpenPart}
+
+has_last : (parts : List PartData) (part : PartData) → has_part (parts ++ part ∷ []) ≡ true
+has_last [] part = refl
+has_last (p ∷ ps) part = refl
+
+-- a column before the first part
+pub column_added : (cs new : List (String Global × DType)) (ended : List PartData) (current : Option OpenPart) (predicate : Option (Tree Place)) (name : List ℕ) (t : DType)
+    → has_part (and_current ended (option_map (open_data (named_columns cs)) current)) ≡ false → is_new (named_columns cs) name ≡ true
+    → named_columns new ≡ named_columns cs ++ (name, t) ∷ []
+    → with_column (record { scope = named_columns cs; ended = ended; current = option_map (open_data (named_columns cs)) current; predicate = predicate }) name t
+    ≡ Some (record { scope = named_columns new; ended = ended; current = option_map (open_data (named_columns new)) current; predicate = predicate })
+column_added cs new ended None predicate name t none is_new more = rw (none, is_new, more) refl
+column_added cs new ended (Some part) predicate name t none is_new more =
+    let has = has_last ended (open_data (named_columns cs) part) in cc
+
+-- no line with words after the predicate
+pub stops_after : (r : Reading) (ws : List Token) → 0 < length ws → is_some r.predicate ≡ true → read_words r ws ≡ None
+stops_after r [] some h = absurd (omega arith)
+stops_after r (w ∷ ws) some h = rw h refl
+
+no_first : (r : Reading) (ws : List Token) → 0 < length ws → is_some r.predicate ≡ false → plain_word ws ≡ None → read_words r ws ≡ None
+no_first r [] some h none = absurd (omega arith)
+no_first r (w ∷ ws) some h none = rw (h, none) refl
+
+-- the first word is none without quotes
+pub fails_first : (e : LineError) (r : Reading) (ws : List Token) → 0 < length ws → is_some r.predicate ≡ false → Fails e (plain_word ws) → Fails e (read_words r ws)
+fails_first e r ws some h fails = fails_on e (plain_word ws) (read_words r ws) (no_first r ws some h) fails
+
+-- the first word says no kind
+pub no_kind : (r : Reading) (ws rest : List Token) (name : List ℕ) → is_some r.predicate ≡ false → plain_word ws ≡ Some (name, rest) → kind_of name ≡ None → read_words r ws ≡ None
+no_kind r [] rest name h plain none = cc
+no_kind r (w ∷ ws) rest name h plain none = rw (h, plain, none) refl
+
+-- the first word says the kind
+pub by_kind : (r : Reading) (ws rest : List Token) (name : List ℕ) (k : LineKind) → is_some r.predicate ≡ false → plain_word ws ≡ Some (name, rest) → kind_of name ≡ Some k
+    → read_words r ws ≡ read_kind k r rest
+by_kind r [] rest name k h plain kind = cc
+by_kind r (w ∷ ws) rest name k h plain kind = rw (h, plain, kind) refl

@@ -1,0 +1,17 @@
+use Rattle.std.proofs.Common.{Some, String, ap, sym, ◌∙◌}
+use Rattle.std.proofs.lemmas.List.{length-map}
+use Rattle.vortex_base.proofs.ScopeLemmas.{column_at}
+use Rattle.std.specs.declared.alloc.Global.{Global}
+use Rattle.vortex_base.specs.Scopes.{named}
+use Rattle.vortex_base.specs.declared.dtype.DType.{DType}
+use Rattle.vortex_text.proofs.Found.{found_none, found_some}
+use Rattle.vortex_text.proofs.expression.find_column.Goals as goal
+
+pub returns-in-None : goal.returns-in-None
+returns-in-None c = sym (found_none c.args.columns.now c.args.name.now c.place_of.result c.place_of.ensures.value c.in-None.is)
+
+pub returns-in-Some : goal.returns-in-Some
+returns-in-Some c =
+    ap (λ (x : String Global × DType). Some (record { index = c.in-Some.place; dtype = x.1 })) (sym c.index-columns-place.is) ∙
+    sym (found_some c.args.columns.now c.args.name.now c.place_of.result c.in-Some.place c.index-columns-place.result c.place_of.ensures.value c.in-Some.is
+    (column_at c.args.columns.now c.in-Some.place c.index-columns-place.result (rw (length-map c.args.columns.now named) c.in-Some.ensures.in_range) c.index-columns-place.is))

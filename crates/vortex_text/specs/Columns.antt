@@ -1,0 +1,40 @@
+-- The columns of a part and their sets, as lines add to them.
+use Rattle.std.specs.Prelude.{ℕ, List, [], ◌∷◌, ◌++◌, Option, Some, None, option_map, slice_set}
+use Rattle.vortex_base.specs.Columns.{ColumnData}
+use Rattle.vortex_base.specs.declared.scalar_value.ScalarValue.{ScalarValue}
+use Rattle.vortex_stats.specs.Entries.{with_entry}
+use Rattle.vortex_stats.specs.declared.precision.Precision.{Precision}
+use Rattle.vortex_stats.specs.declared.stat.Stat.{Stat}
+use Rattle.vortex_text.specs.Fails.{◌>>=◌}
+use Rattle.vortex_text.specs.Values.{optional_value_of}
+use Rattle.vortex_text.specs.Words.{Token, first_word, no_word}
+
+-- the column with one more value
+abbrev pub with_value : Option ScalarValue → ColumnData → ColumnData
+with_value v c = record { dtype = c.dtype; values = c.values ++ v ∷ []; size = c.size }
+
+-- the column with the value of the first word, and the words after it
+abbrev pub taken : ColumnData → List Token → Option (ColumnData × List Token)
+taken c ws = do
+  word ← first_word ws
+  v ← optional_value_of c.dtype word.0
+  Some (with_value v c, word.1)
+
+-- each column with the value of its word, of which there are as many as columns
+abbrev pub with_values : List ColumnData → List Token → Option (List ColumnData)
+with_values [] ws = do
+  none ← no_word ws
+  Some []
+with_values (c ∷ cs) ws = do
+  longer ← taken c ws
+  more ← with_values cs longer.1
+  Some (longer.0 ∷ more)
+
+-- a set of statistics, as the list of its entries
+abbrev pub Entries : Type 0
+Entries = List (Stat × Precision ScalarValue)
+
+-- the sets with this value of the statistic in the one at a place, if there is one
+abbrev pub set_at : ℕ → Stat → Precision ScalarValue → List Entries → Option Entries → List Entries
+set_at i s p sets None = sets
+set_at i s p sets (Some set) = slice_set sets i (with_entry s p set)

@@ -1,0 +1,17 @@
+pub mod Columns
+pub mod Drafts
+pub mod Expressions
+pub mod Fails
+pub mod Lines
+pub mod Names
+pub mod Naming
+pub mod Numbers
+pub mod OpenParts
+pub mod Printing
+pub mod Program
+pub mod QuotedSteps
+pub mod Rows
+pub mod Statistics
+pub mod Streams
+pub mod Values
+pub mod Words

@@ -1,0 +1,19 @@
+-- What is printed.
+use Rattle.std.specs.Prelude.{ℕ, List, [], ◌∷◌, ◌++◌, codes, decimal}
+use Rattle.std.specs.List.{flat_map}
+
+-- a part's number, behind a space
+abbrev pub part_text : ℕ → List ℕ
+part_text part = 32 ∷ decimal part
+
+-- a row, as its part and its place there, behind a space
+abbrev pub row_text : ℕ × ℕ → List ℕ
+row_text row = 32 ∷ decimal row.0 ++ 58 ∷ decimal row.1
+
+-- what is printed of a scan
+abbrev pub scan_text : List ℕ → List (ℕ × ℕ) → List ℕ
+scan_text skipped selected = codes "skipped" ++ flat_map part_text skipped ++ 10 ∷ codes "rows" ++ flat_map row_text selected ++ 10 ∷ []
+
+-- what is printed of a bad line
+abbrev pub bad_text : ℕ → List ℕ
+bad_text line = codes "line " ++ (decimal line ++ (codes ": bad" ++ 10 ∷ []))

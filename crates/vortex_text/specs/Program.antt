@@ -1,0 +1,59 @@
+-- What the program answers to its input.
+use Rattle.std.specs.Prelude.{◌≡◌, ◌≤◌, ◌<◌, ◌⊎◌, ℕ, List, [], ◌∷◌, ◌++◌, Option, Result, Ok, Err, IsTrue, codes, length, map, if◌then◌else◌}
+use Rattle.std.specs.Io.KnownBytes.{Appends}
+use Rattle.std.specs.List.{AllByRecursion}
+use Rattle.vortex_base.specs.Tree.{Tree, Place}
+use Rattle.vortex_prune.specs.Part.{IsTruePart, PartData}
+use Rattle.vortex_prune.specs.PartAnswers.{part_values}
+use Rattle.vortex_prune.specs.Predicates.{is_predicate}
+use Rattle.vortex_prune.specs.Rewriting.{falsifier}
+use Rattle.vortex_prune.specs.Scanning.{Answered, full, selected_rows, skipped_parts}
+use Rattle.vortex_text.specs.declared.streams.TheConstants.{INPUT_LIMIT}
+use Rattle.vortex_text.specs.Naming.{Query, named}
+use Rattle.vortex_text.specs.Printing.{bad_text, scan_text}
+use Rattle.vortex_text.specs.Streams.{AppendsFront, AppendsProperFront}
+
+-- a part with what its own statistics answer
+abbrev pub by_statistics : PartData → Answered
+by_statistics part = (part, part_values part)
+
+-- the parts that are skipped: those that the falsifier of the predicate is true of
+abbrev pub skipped : Tree Place → List PartData → List ℕ
+skipped predicate parts = skipped_parts (falsifier [] predicate) (map by_statistics parts)
+
+-- the rows that satisfy the predicate, of the other parts
+abbrev pub selected : Tree Place → List PartData → List (ℕ × ℕ)
+selected predicate parts = selected_rows (falsifier [] predicate) predicate (map by_statistics parts)
+
+-- the status and what is printed: 0 with the scan, 1 where the predicate isn't of type Bool, 2 with the bad line
+abbrev pub reply : Result Query ℕ → ℕ × List ℕ
+reply (Ok x) = if is_predicate x.1 then (0, scan_text (skipped x.1 x.0) (selected x.1 x.0)) else (1, codes "predicate" ++ 10 ∷ [])
+reply (Err line) = (2, bad_text line)
+
+-- the reply to a text
+abbrev pub reply_to : List ℕ → ℕ × List ℕ
+reply_to text = reply (named text)
+
+-- the input is within the limit, and the whole reply to it was written
+pub record Answers (input : List ℕ) (status : ℕ) (old new : Option (List ℕ)) : Type 0 where
+  pub short : length input ≤ INPUT_LIMIT
+  pub same_status : status ≡ (reply_to input).0
+  pub written : Appends old new (reply_to input).1
+
+-- a word that says why there is no answer; `input` only past the limit
+abbrev pub IsReason : List ℕ → List ℕ → Type 0
+IsReason input word =
+    (word ≡ codes "memory" ++ 10 ∷ []) ⊎ (word ≡ codes "read" ++ 10 ∷ []) ⊎ ((INPUT_LIMIT < length input) × (word ≡ codes "input" ++ 10 ∷ []))
+
+-- Such a word was written, or a front of it where a write failed. Or the reply was cut off, since a write failed.
+abbrev pub Stops : List ℕ → Option (List ℕ) → Option (List ℕ) → Type 0
+Stops input old new = ((word : List ℕ) × IsReason input word × AppendsFront old new word) ⊎ AppendsProperFront old new (reply_to input).1
+
+-- where all statistics of the parts that a text names are true, these bytes tell the rows of the full scan
+abbrev pub IsFullScan : List ℕ → List ℕ → Type 0
+IsFullScan text printed = (parts : List PartData) (predicate : Tree Place) → named text ≡ Ok (parts, predicate) → IsTrue (is_predicate predicate)
+    → AllByRecursion IsTruePart parts → printed ≡ scan_text (skipped predicate parts) (full predicate parts)
+
+-- and such bytes were written
+abbrev pub WritesFullScan : List ℕ → Option (List ℕ) → Option (List ℕ) → Type 0
+WritesFullScan text old new = (printed : List ℕ) × Appends old new printed × IsFullScan text printed

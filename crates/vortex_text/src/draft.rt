@@ -1,0 +1,242 @@
+//! What the lines of a text say, line by line.
+ghost use Rattle.std.specs.Prelude.{◌≡◌, IfOk, OnOk, MatchOption, None, Some};
+ghost use Rattle.vortex_base.specs.Scopes.{named_columns};
+ghost use Rattle.vortex_text.specs.Drafts.{reading_of};
+ghost use Rattle.vortex_text.specs.Fails.{Changes};
+ghost use Rattle.vortex_text.specs.Lines.{has_part, is_new, nothing_read, parts_of};
+ghost use Rattle.vortex_text.specs.Lines.{read_column, read_join, read_kind, read_line, read_part};
+ghost use Rattle.vortex_text.specs.Lines.{read_row, read_stat, read_where, read_words, with_column};
+ghost use Rattle.vortex_text.specs.Words.{words};
+
+use crate::expression::{find_column, read_expression};
+use crate::joining::join_at;
+use crate::line_error::LineError;
+use crate::line_kind::{LineKind, kind_of};
+use crate::lines::is_utf8;
+use crate::names::{is_name, type_of};
+use crate::number::natural_of;
+use crate::open_column::push_row;
+use crate::open_part::{OpenPart, set_statistic};
+use crate::starts::{empty_part, scope_of};
+use crate::statistic::{read_claim, read_claimed};
+use crate::word::{is_short, no_word, plain_word, skip_spaces};
+use std::alloc::{AllocError, Global};
+use std::str;
+use vortex_base::bound_expression::BoundExpression;
+use vortex_base::dtype::DType;
+use vortex_prune::part::Part;
+
+/// What the lines so far say.
+#[derive(Drop)]
+pub struct Draft {
+    columns: Vec<(String, DType)>,
+    ended: Vec<Part>,
+    current: Option<OpenPart>,
+    predicate: Option<BoundExpression>,
+}
+
+impl Draft {
+    /// Nothing read yet.
+    pub fn new(alloc: Global) -> Draft
+        ensures { reading_of result ≡ nothing_read }
+    {
+        Draft {
+            columns: Vec::new(alloc),
+            ended: Vec::new(alloc),
+            current: None,
+            predicate: None,
+        }
+    }
+
+    // Whether there is a part.
+    fn has_part(&self) -> bool
+        ensures { result ≡ has_part (parts_of (reading_of self.now)) }
+    {
+        match &self.current {
+            Some(_) => true,
+            None => !self.ended.is_empty(),
+        }
+    }
+
+    // Whether a word may name the next column.
+    fn is_new(&self, name: &[u8]) -> bool
+        ensures { result ≡ is_new (named_columns self.now.columns.items) name.now }
+    {
+        is_name(name) && find_column(&self.columns, name).is_none()
+    }
+
+    // The current part takes no more rows.
+    fn end_part(&mut self, alloc: Global) -> Result<(), AllocError>
+        ensures { OnOk result (reading_of self.new ≡ record (reading_of self.old) { ended = parts_of (reading_of self.old); current = None }) }
+    {
+        let Some(part) = self.current.take() else {
+            return Ok(());
+        };
+        let scope = scope_of(alloc, &self.columns)?;
+        let part = part.close(alloc, scope)?;
+        self.ended.push(part)?;
+        Ok(())
+    }
+
+    // Adds a column.
+    fn add_column(&mut self, alloc: Global, name: &[u8], dtype: DType) -> Result<(), LineError>
+        ensures { Changes result (with_column (reading_of self.old) name.now dtype) (reading_of self.new) }
+    {
+        if self.has_part() || !self.is_new(name) {
+            return Err(LineError::Bad);
+        }
+        let Ok(name) = str::from_utf8(name) else {
+            return Err(LineError::Memory);
+        };
+        let name = String::from_str(alloc, name)?;
+        self.columns.push((name, dtype))?;
+        Ok(())
+    }
+
+    // `column NAME TYPE`
+    fn read_column(&mut self, alloc: Global, line: &[u8]) -> Result<(), LineError>
+        ensures { Changes result (read_column (reading_of self.old) (words line.now)) (reading_of self.new) }
+    {
+        let (name, rest) = plain_word(line)?;
+        let (kind, rest) = plain_word(rest)?;
+        no_word(rest)?;
+        let Some(dtype) = type_of(kind) else {
+            return Err(LineError::Bad);
+        };
+        self.add_column(alloc, name, dtype)
+    }
+
+    // `part`
+    fn read_part(&mut self, alloc: Global, line: &[u8]) -> Result<(), LineError>
+        ensures { Changes result (read_part (reading_of self.old) (words line.now)) (reading_of self.new) }
+    {
+        no_word(line)?;
+        if self.columns.is_empty() {
+            return Err(LineError::Bad);
+        }
+        let part = empty_part(alloc, &self.columns)?;
+        self.end_part(alloc)?;
+        self.current = Some(part);
+        Ok(())
+    }
+
+    // `stat NAME STAT PRECISION VALUE`
+    fn read_stat(&mut self, alloc: Global, line: &[u8]) -> Result<(), LineError>
+        ensures { Changes result (read_stat (reading_of self.old) (words line.now)) (reading_of self.new) }
+    {
+        let (claim, rest) = read_claim(&self.columns, line)?;
+        let value = read_claimed(alloc, claim.dtype, rest)?;
+        let Some(mut part) = self.current.take() else {
+            return Err(LineError::Bad);
+        };
+        set_statistic(&mut part.stats, claim.place, claim.stat, value);
+        self.current = Some(part);
+        Ok(())
+    }
+
+    // `row VALUE ..`
+    fn read_row(&mut self, alloc: Global, line: &[u8]) -> Result<(), LineError>
+        ensures { Changes result (read_row (reading_of self.old) (words line.now)) (reading_of self.new) }
+    {
+        let Some(mut part) = self.current.take() else {
+            return Err(LineError::Bad);
+        };
+        push_row(alloc, &mut part.columns, line)?;
+        self.current = Some(part);
+        Ok(())
+    }
+
+    // `join N`
+    fn read_join(&mut self, alloc: Global, line: &[u8]) -> Result<(), LineError>
+        ensures { Changes result (read_join (reading_of self.old) (words line.now)) (reading_of self.new) }
+    {
+        let (place, rest) = plain_word(line)?;
+        no_word(rest)?;
+        let Some(place) = natural_of(place) else {
+            return Err(LineError::Bad);
+        };
+        self.end_part(alloc)?;
+        join_at(alloc, &mut self.ended, place as usize)
+    }
+
+    // `where EXPR`
+    fn read_where(&mut self, alloc: Global, line: &[u8]) -> Result<(), LineError>
+        ensures { Changes result (read_where (reading_of self.old) (words line.now)) (reading_of self.new) }
+    {
+        if !is_short(alloc, line)? {
+            return Err(LineError::Bad);
+        }
+        let (predicate, rest) = read_expression(alloc, &self.columns, line)?;
+        no_word(rest)?;
+        if self.columns.is_empty() {
+            return Err(LineError::Bad);
+        }
+        self.predicate = Some(predicate);
+        Ok(())
+    }
+
+    // The words of a line behind the first, which says its kind.
+    fn read_kind(&mut self, alloc: Global, kind: LineKind, line: &[u8]) -> Result<(), LineError>
+        ensures { Changes result (read_kind kind (reading_of self.old) (words line.now)) (reading_of self.new) }
+    {
+        match kind {
+            LineKind::Row => self.read_row(alloc, line),
+            LineKind::Stat => self.read_stat(alloc, line),
+            LineKind::Part => self.read_part(alloc, line),
+            LineKind::Join => self.read_join(alloc, line),
+            LineKind::Column => self.read_column(alloc, line),
+            LineKind::Where => self.read_where(alloc, line),
+        }
+    }
+
+    // The words of one line.
+    fn read_words(&mut self, alloc: Global, line: &[u8]) -> Result<(), LineError>
+        ensures { Changes result (read_words (reading_of self.old) (words line.now)) (reading_of self.new) }
+    {
+        if skip_spaces(line).is_empty() {
+            return Ok(());
+        }
+        if self.predicate.is_some() {
+            return Err(LineError::Bad);
+        }
+        let (first, rest) = match plain_word(line) {
+            Ok(found) => found,
+            Err(e) => return Err(e),
+        };
+        let Some(kind) = kind_of(first) else {
+            return Err(LineError::Bad);
+        };
+        self.read_kind(alloc, kind, rest)
+    }
+
+    /// Reads one line. A line that isn't UTF-8 is bad.
+    pub fn read_line(&mut self, alloc: Global, line: &[u8]) -> Result<(), LineError>
+        ensures { Changes result (read_line (reading_of self.old) line.now) (reading_of self.new) }
+    {
+        if !is_utf8(line) {
+            return Err(LineError::Bad);
+        }
+        self.read_words(alloc, line)
+    }
+
+    /// All the parts and the predicate, if there is one.
+    pub fn into_query(
+        self,
+        alloc: Global,
+    ) -> Result<Option<(Vec<Part>, BoundExpression)>, AllocError>
+        ensures { IfOk result (λ o. MatchOption o (self.predicate ≡ None)
+            (λ x. (self.predicate ≡ Some x.1) × (x.0.items ≡ parts_of (reading_of self)))) }
+    {
+        let mut draft = self;
+        draft.end_part(alloc)?;
+        let Draft {
+            ended,
+            predicate,
+            ..
+        } = draft;
+        match predicate {
+            Some(predicate) => Ok(Some((ended, predicate))),
+            None => Ok(None),
+        }
+    }
+}

@@ -1,0 +1,23 @@
+//! Texts that name parts of columns, their statistics and a predicate, and what a scan of them prints.
+#![tactic(auto)]
+
+mod draft;
+mod expression;
+mod form;
+mod joining;
+mod line_error;
+mod line_kind;
+mod lines;
+mod names;
+pub mod naming;
+mod number;
+mod open_column;
+mod open_part;
+mod printing;
+pub mod program;
+mod query;
+mod starts;
+mod statistic;
+mod streams;
+mod value;
+mod word;

@@ -1,0 +1,54 @@
+//! What a whole text names.
+ghost use Rattle.std.specs.Prelude.{◌≡◌, ◌↔◌, ℕ, List, Ok, Err};
+ghost use Rattle.vortex_base.specs.Tree.{Tree, Place};
+ghost use Rattle.vortex_prune.specs.Part.{PartData};
+ghost use Rattle.vortex_text.specs.Naming.{IsFirstBad, IsNamed, NamesQuery, named};
+
+use crate::draft::Draft;
+use crate::line_error::LineError;
+use crate::lines::next_line;
+use std::alloc::{AllocError, Global};
+use vortex_base::bound_expression::BoundExpression;
+use vortex_prune::part::Part;
+
+/// Why a text was not read.
+#[derive(Debug, Drop)]
+pub enum InputError {
+    /// A growth was refused.
+    Memory,
+    /// The first bad line, counted from 1. Where no line is bad and there is no predicate, it is
+    /// the line after the last.
+    BadLine(usize),
+}
+
+/// The parts and the predicate that a text names.
+pub fn read_input(alloc: Global, text: &[u8]) -> Result<(Vec<Part>, BoundExpression), InputError>
+    ensures { IsNamed (λ x. (x.0.items, x.1)) result (named text.now) }
+{
+    let mut draft = Draft::new(alloc);
+    let mut rest = text;
+    let mut number = 1;
+    while !rest.is_empty() {
+        let (line, next) = next_line(rest);
+        match draft.read_line(alloc, line) {
+            Ok(()) => {}
+            Err(LineError::Memory) => return Err(InputError::Memory),
+            Err(LineError::Bad) => return Err(InputError::BadLine(number)),
+        }
+        number += 1;
+        rest = next;
+    }
+    match draft.into_query(alloc) {
+        Ok(Some(query)) => Ok(query),
+        Ok(None) => Err(InputError::BadLine(number)),
+        Err(AllocError) => Err(InputError::Memory),
+    }
+}
+
+/// The law of what a text names, over all its lines at once: parts and a predicate exactly if every
+/// line is fine after those before it and there is a predicate, and else the first bad line.
+pub fn what_texts_name()
+    ensures query { (text : List ℕ) (parts : List PartData) (predicate : Tree Place)
+        → (named text ≡ Ok (parts, predicate)) ↔ NamesQuery text parts predicate }
+    ensures bad { (text : List ℕ) (n : ℕ) → (named text ≡ Err n) ↔ IsFirstBad text n }
+{}

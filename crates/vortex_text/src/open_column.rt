@@ -1,0 +1,84 @@
+//! A column of a part that still takes rows.
+ghost use Rattle.std.specs.Prelude.{◌≡◌, [], IfOk, OnOk};
+ghost use Rattle.vortex_text.specs.Columns.{taken, with_value, with_values};
+ghost use Rattle.vortex_text.specs.Fails.{Changes, GivesAndChanges};
+ghost use Rattle.vortex_text.specs.Words.{words};
+
+use crate::line_error::LineError;
+use crate::value::optional_value_of;
+use crate::word::{first_word, no_word};
+use std::alloc::{AllocError, Global};
+use std::marker::Model;
+use vortex_base::column::Column;
+use vortex_base::dtype::DType;
+use vortex_base::scalar_value::ScalarValue;
+
+/// The values of a column so far. Its declared size is 0.
+#[derive(Debug, Drop)]
+pub struct OpenColumn {
+    dtype: DType,
+    values: Vec<Option<ScalarValue>>,
+}
+
+impl Model for OpenColumn {
+    ghost use Rattle.vortex_base.specs.Columns.{ColumnData};
+
+    ghost Value = { ColumnData };
+
+    ghost view = { λ c. record { dtype = c.dtype; values = c.values.items; size = 0 } };
+}
+
+impl OpenColumn {
+    /// A column with no values yet.
+    pub fn new(alloc: Global, dtype: DType) -> OpenColumn
+        ensures { result ≡ record { dtype = dtype; values = []; size = 0 } }
+    {
+        OpenColumn {
+            dtype,
+            values: Vec::new(alloc),
+        }
+    }
+
+    /// The column, which takes no more values.
+    pub fn close(self) -> Result<Column, AllocError>
+        ensures { IfOk result (λ column. column ≡ self) }
+    {
+        let OpenColumn { dtype, values } = self;
+        match Column::try_new(dtype, values, 0) {
+            Ok(column) => Ok(column),
+            Err(_) => Err(AllocError),
+        }
+    }
+
+    // Adds a value.
+    fn push(&mut self, value: Option<ScalarValue>) -> Result<(), AllocError>
+        ensures { OnOk result (self.new ≡ with_value value self.old) }
+    {
+        self.values.push(value)?;
+        Ok(())
+    }
+
+    // Adds the value of the first word of a line. The rest of the line comes back.
+    fn take<'a>(&mut self, alloc: Global, line: &'a [u8]) -> Result<&'a [u8], LineError>
+        ensures { GivesAndChanges (λ rest. words rest.now) result (taken self.old (words line.now)) self.new }
+    {
+        let (word, rest) = first_word(alloc, line)?;
+        let value = optional_value_of(alloc, self.dtype, word)?;
+        self.push(value)?;
+        Ok(rest)
+    }
+}
+
+/// Adds a row: to each column the value of its word.
+pub fn push_row(alloc: Global, columns: &mut [OpenColumn], line: &[u8]) -> Result<(), LineError>
+    ensures { Changes result (with_values columns.old (words line.now)) columns.new }
+{
+    let mut rest = line;
+    for column in columns.iter_mut() {
+        rest = match column.take(alloc, rest) {
+            Ok(after) => after,
+            Err(e) => return Err(e),
+        };
+    }
+    no_word(rest)
+}

@@ -1,0 +1,44 @@
+//! What is printed.
+ghost use Rattle.std.specs.Prelude.{◌≡◌, ◌++◌, ◌∷◌, IfOk, OnOk, string_bytes, ℕ};
+ghost use Rattle.std.specs.List.{flat_map};
+ghost use Rattle.vortex_text.specs.Printing.{bad_text, part_text, row_text, scan_text};
+
+use std::alloc::{AllocError, Global};
+use vortex_prune::outcome::Scan;
+
+fn print_parts(text: &mut String, parts: &[usize]) -> Result<(), AllocError>
+    ensures { OnOk result (string_bytes text.new ≡ string_bytes text.old ++ flat_map part_text parts.now) }
+{
+    for part in parts {
+        write!(text, " {part}")?;
+    }
+    Ok(())
+}
+
+fn print_rows(text: &mut String, rows: &[(usize, usize)]) -> Result<(), AllocError>
+    ensures { OnOk result (string_bytes text.new ≡ string_bytes text.old ++ flat_map row_text rows.now) }
+{
+    for (part, row) in rows {
+        write!(text, " {part}:{row}")?;
+    }
+    Ok(())
+}
+
+/// The lines of a scan.
+pub fn print_scan(alloc: Global, scan: &Scan) -> Result<String, AllocError>
+    ensures { IfOk result (λ text. string_bytes text ≡ scan_text scan.now.skipped.items scan.now.selected.items) }
+{
+    let mut text = String::from_str(alloc, "skipped")?;
+    print_parts(&mut text, &scan.skipped)?;
+    text.push_str("\nrows")?;
+    print_rows(&mut text, &scan.selected)?;
+    text.push_str("\n")?;
+    Ok(text)
+}
+
+/// The line that says which line is bad.
+pub fn print_bad(alloc: Global, line: usize) -> Result<String, AllocError>
+    ensures { IfOk result (λ text. string_bytes text ≡ bad_text line) }
+{
+    format!(in alloc; "line {line}: bad\n")
+}

@@ -1,0 +1,51 @@
+//! The scope and the empty parts of the columns of a text.
+ghost use Rattle.std.specs.Prelude.{◌≡◌, IfOk};
+ghost use Rattle.vortex_base.specs.Scopes.{named_columns};
+ghost use Rattle.vortex_text.specs.OpenParts.{open_data};
+ghost use Rattle.vortex_text.specs.Rows.{empty_part};
+
+use crate::open_column::OpenColumn;
+use crate::open_part::OpenPart;
+use std::alloc::{AllocError, Global};
+use vortex_base::dtype::DType;
+use vortex_base::scope::Scope;
+use vortex_stats::stats_set::StatsSet;
+
+// The columns again.
+fn named(alloc: Global, columns: &[(String, DType)]) -> Result<Vec<(String, DType)>, AllocError>
+    ensures { IfOk result (λ named. named_columns named.items ≡ named_columns columns.now) }
+{
+    let mut named = Vec::with_capacity(alloc, columns.len())?;
+    for column in columns {
+        let name = column.0.clone()?;
+        named.push((name, column.1))?;
+    }
+    Ok(named)
+}
+
+/// The scope of the columns.
+pub fn scope_of(alloc: Global, columns: &[(String, DType)]) -> Result<Scope, AllocError>
+    ensures { IfOk result (λ scope. scope ≡ named_columns columns.now) }
+{
+    let named = named(alloc, columns)?;
+    match Scope::try_new(named) {
+        Ok(scope) => Ok(scope),
+        Err(_) => Err(AllocError),
+    }
+}
+
+/// A part of these columns that has no rows yet.
+pub fn empty_part(alloc: Global, columns: &[(String, DType)]) -> Result<OpenPart, AllocError>
+    ensures { IfOk result (λ part. open_data (named_columns columns.now) part ≡ empty_part (named_columns columns.now)) }
+{
+    let mut open = Vec::with_capacity(alloc, columns.len())?;
+    let mut stats = Vec::with_capacity(alloc, columns.len())?;
+    for column in columns {
+        open.push(OpenColumn::new(alloc, column.1))?;
+        stats.push(StatsSet::new(alloc))?;
+    }
+    Ok(OpenPart {
+        columns: open,
+        stats,
+    })
+}
