@@ -113,6 +113,20 @@ fn no_predicate(rt: HostRuntime) -> Result<(), Fail> {
     expect_answer(&rt, rt.alloc(), "column a i64\n", 2, "line 2: bad\n")
 }
 
+// A predicate of as many words as one may have, and of one more.
+#[test]
+fn deep_predicates(rt: HostRuntime) -> Result<(), Fail> {
+    let alloc = rt.alloc();
+    let mut text = String::from_str(alloc, "column a bool?\npart\nrow true\nwhere ")?;
+    for _ in 0..4094 {
+        text.push_str("not ")?;
+    }
+    let longer = format!(in alloc; "{text}not col a\n")?;
+    text.push_str("col a\n")?;
+    expect_answer(&rt, alloc, text.as_str(), 0, "skipped\nrows 0:0\n")?;
+    expect_answer(&rt, alloc, longer.as_str(), 2, "line 4: bad\n")
+}
+
 #[test]
 fn a_slow_reader(rt: HostRuntime) -> Result<(), Fail> {
     let mut reader = Slow {
