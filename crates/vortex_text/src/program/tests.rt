@@ -1,0 +1,170 @@
+//! The program's answers to whole inputs, over readers and writers that are slow or fail.
+use super::*;
+use std::io;
+use std::io::ErrorKind;
+use std::process::Abort;
+use std::test::Fail;
+
+const FIRST_RUN: &str =
+    "column a i64?\npart\nstat a min exact 1\nstat a max exact 10\nrow 1\nrow 5\nrow 10\npart\nstat a min exact 8\nstat a max inexact 25\nrow 8\nrow null\nrow 20\nwhere gt col a lit i64 10\n";
+
+const FIRST_ANSWER: &str = "skipped 0\nrows 1:2\n";
+
+// Gives some bytes, so many a read, and then ends or fails.
+#[derive(Drop)]
+struct Slow<'a> {
+    bytes: &'a [u8],
+    step: usize,
+    fails: bool,
+}
+
+impl Read for Slow<'_> {
+    fn read(&mut self, buf: &mut [u8]) -> io::Result<usize> {
+        let count = self.bytes.len().min(buf.len()).min(self.step);
+        if count == 0 && self.fails {
+            return Err(io::Error::from(ErrorKind::Interrupted));
+        }
+        buf[..count].copy_from_slice(&self.bytes[..count]);
+        self.bytes = &self.bytes[count..];
+        Ok(count)
+    }
+}
+
+// Takes one byte a write into a fixed place, and fails once so many are taken.
+#[derive(Drop)]
+struct OneByte {
+    bytes: [u8; 32],
+    len: usize,
+    room: usize,
+}
+
+impl OneByte {
+    fn new(room: usize) -> OneByte {
+        OneByte {
+            bytes: [0; 32],
+            len: 0,
+            room,
+        }
+    }
+
+    fn written(&self) -> &[u8] {
+        self.bytes.get(..self.len).unwrap_or(&[])
+    }
+}
+
+impl Write for OneByte {
+    fn write(&mut self, buf: &[u8]) -> io::Result<usize> {
+        match (buf.first(), self.bytes.get_mut(self.len)) {
+            (Some(byte), Some(place)) if self.len < self.room => {
+                *place = *byte;
+                self.len += 1;
+                Ok(1)
+            }
+            _ => Err(io::Error::from(ErrorKind::Interrupted)),
+        }
+    }
+
+    fn flush(&mut self) -> io::Result<()> {
+        Ok(())
+    }
+}
+
+// A run of the text has this status and prints this.
+fn expect_answer(
+    rt: &impl Abort,
+    alloc: Global,
+    text: &str,
+    status: u8,
+    want: &str,
+) -> Result<(), Fail> {
+    let mut reader = text.as_bytes();
+    let mut written = Vec::new(alloc);
+    assert_eq!(rt; run(alloc, &mut reader, &mut written), status, "{want}");
+    assert_eq!(rt; written.as_slice(), want.as_bytes());
+    Ok(())
+}
+
+#[test]
+fn the_first_run(rt: HostRuntime) -> Result<(), Fail> {
+    expect_answer(&rt, rt.alloc(), FIRST_RUN, 0, FIRST_ANSWER)
+}
+
+#[test]
+fn joined_parts_of_two_columns(rt: HostRuntime) -> Result<(), Fail> {
+    let text =
+        "column s utf8\ncolumn n u8?\npart\nrow \"an \\\"a\\\"\" 3\npart\nrow \"b\" null\njoin 0\npart\nstat s min exact \"c\"\nrow \"c\" 7\nwhere or eq col s lit utf8 \"b\" lt col n lit u8 4\n";
+    expect_answer(&rt, rt.alloc(), text, 0, "skipped\nrows 0:0 0:1\n")
+}
+
+#[test]
+fn a_predicate_of_another_type(rt: HostRuntime) -> Result<(), Fail> {
+    let text = "column a i64\npart\nrow 1\nwhere col a\n";
+    expect_answer(&rt, rt.alloc(), text, 1, "predicate\n")
+}
+
+#[test]
+fn a_bad_line(rt: HostRuntime) -> Result<(), Fail> {
+    let text = "column a i64\npart\nrow 1\nrow 1 2\nx\n";
+    expect_answer(&rt, rt.alloc(), text, 2, "line 4: bad\n")
+}
+
+#[test]
+fn no_predicate(rt: HostRuntime) -> Result<(), Fail> {
+    expect_answer(&rt, rt.alloc(), "column a i64\n", 2, "line 2: bad\n")
+}
+
+// A predicate of as many words as one may have, and of one more.
+#[test]
+fn deep_predicates(rt: HostRuntime) -> Result<(), Fail> {
+    let alloc = rt.alloc();
+    let mut text = String::from_str(alloc, "column a bool?\npart\nrow true\nwhere ")?;
+    for _ in 0..4094 {
+        text.push_str("not ")?;
+    }
+    let longer = format!(in alloc; "{text}not col a\n")?;
+    text.push_str("col a\n")?;
+    expect_answer(&rt, alloc, text.as_str(), 0, "skipped\nrows 0:0\n")?;
+    expect_answer(&rt, alloc, longer.as_str(), 2, "line 4: bad\n")
+}
+
+#[test]
+fn a_slow_reader(rt: HostRuntime) -> Result<(), Fail> {
+    let mut reader = Slow {
+        bytes: FIRST_RUN.as_bytes(),
+        step: 1,
+        fails: false,
+    };
+    let mut written = Vec::new(rt.alloc());
+    assert_eq!(rt; run(rt.alloc(), &mut reader, &mut written), 0);
+    assert_eq!(rt; written.as_slice(), FIRST_ANSWER.as_bytes());
+    Ok(())
+}
+
+#[test]
+fn a_failing_reader(rt: HostRuntime) -> Result<(), Fail> {
+    let mut reader = Slow {
+        bytes: FIRST_RUN.as_bytes(),
+        step: 7,
+        fails: true,
+    };
+    let mut written = Vec::new(rt.alloc());
+    assert_eq!(rt; run(rt.alloc(), &mut reader, &mut written), 1);
+    assert_eq!(rt; written.as_slice(), b"read\n".as_slice());
+    Ok(())
+}
+
+#[test]
+fn a_slow_writer(rt: HostRuntime) -> Result<(), Fail> {
+    let mut writer = OneByte::new(19);
+    assert_eq!(rt; run(rt.alloc(), &mut FIRST_RUN.as_bytes(), &mut writer), 0);
+    assert_eq!(rt; writer.written(), FIRST_ANSWER.as_bytes());
+    Ok(())
+}
+
+#[test]
+fn a_failing_writer(rt: HostRuntime) -> Result<(), Fail> {
+    let mut writer = OneByte::new(7);
+    assert_eq!(rt; run(rt.alloc(), &mut FIRST_RUN.as_bytes(), &mut writer), 1);
+    assert_eq!(rt; writer.written(), b"skipped".as_slice());
+    Ok(())
+}
