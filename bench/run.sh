@@ -8,7 +8,7 @@ program="$here/../crates/vortex_scan/out/vortex_scan"
 [ -x "$program" ] || "$here/../scan" < "$here/../examples/first-run.txt" > /dev/null
 mkdir -p "$here/data"
 plain="$here/data/plain"
-if command -v rustc > /dev/null; then rustc -O "$here/plain/main.rs" -o "$plain"; else plain=""; fi
+if command -v rustc > /dev/null; then rustc --edition 2021 -O "$here/plain/main.rs" -o "$plain"; else plain=""; fi
 
 # the least time of some runs, in milliseconds
 best() {

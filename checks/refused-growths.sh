@@ -6,7 +6,9 @@ top="$(cd "$(dirname "$0")/.." && pwd)"
 input="$top/examples/first-run.txt"
 cd "$top/crates/vortex_scan" || exit 1
 answer="$(cat stdout)"
-for count in $(seq 1 200); do
+count=0
+while true; do
+    count=$((count + 1))
     said="$(rt try --fail-alloc "$count" < "$input" 2> /dev/null)"
     status=$?
     case "$status $said" in
@@ -15,5 +17,3 @@ for count in $(seq 1 200); do
         *) echo "refused-growths: at growth $count status $status, printed: $said" >&2; exit 1 ;;
     esac
 done
-echo "refused-growths: no run met no refusal" >&2
-exit 1
