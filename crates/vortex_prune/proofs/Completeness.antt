@@ -47,7 +47,7 @@ use Rattle.vortex_prune.specs.PartAnswers.{column_value, part_values}
 use Rattle.vortex_prune.specs.Proof.{Assignment, proves}
 use Rattle.vortex_prune.specs.Rewriting.{closed, ends, falsifier, high_size, is_crossed, literal_ends, low_size, number_literal}
 use Rattle.vortex_prune.specs.Scanning.{is_skipped}
-use Rattle.vortex_stats.proofs.Fitting.{entry_value-fits}
+use Rattle.vortex_stats.proofs.Kit.{entry_value-fits}
 use Rattle.vortex_stats.specs.Claims.{AtMost}
 use Rattle.vortex_stats.specs.Entries.{entry_value, is_value_of, value_fits}
 use Rattle.vortex_stats.specs.Precision.{present_value}

@@ -18,7 +18,7 @@ use Rattle.vortex_base.specs.declared.dtype.DType.{DType}
 use Rattle.vortex_base.specs.declared.dtype.DType.TheVariants as dtype
 use Rattle.vortex_base.specs.declared.scalar_value.ScalarValue.{ScalarValue}
 use Rattle.vortex_base.specs.declared.scalar_value.ScalarValue.TheVariants as value
-use Rattle.vortex_stats.proofs.Fitting.{entry_value-fits}
+use Rattle.vortex_stats.proofs.Kit.{entry_value-fits}
 use Rattle.vortex_stats.specs.Claims.{ClaimsCount, ClaimsMax, ClaimsMin, ClaimsSum, IsTrueOf, null_count, present, sum_of, count_value}
 use Rattle.vortex_stats.specs.Entries.{entry_value, is_value_of, value_fits}
 use Rattle.vortex_stats.specs.Precision.{present_value}

@@ -6,8 +6,7 @@ use Rattle.vortex_base.specs.Columns.{ChunkData, ColumnData, IsChunk, all_append
 use Rattle.vortex_base.specs.Exact.{both_hold, both_true}
 use Rattle.vortex_base.specs.declared.dtype.DType.{DType}
 use Rattle.vortex_prune.specs.Part.{AreTrueSets, Entries, IsPart, IsTruePart, PartData, joined, merged_sets, sets_fit}
-use Rattle.vortex_stats.proofs.MergedFits.{merged_ordered-fits}
-use Rattle.vortex_stats.proofs.MergedTruth.{merged_ordered_is_true}
+use Rattle.vortex_stats.proofs.Kit.{merged_ordered-fits, merged_ordered_is_true}
 use Rattle.vortex_stats.specs.Entries.{entries_fit}
 use Rattle.vortex_stats.specs.Merges.{merged_ordered}
 

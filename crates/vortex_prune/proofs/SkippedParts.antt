@@ -10,7 +10,7 @@ use Rattle.vortex_prune.specs.Complete.{ScansSkipExactly, by_own_statistics}
 use Rattle.vortex_prune.specs.PartAnswers.{part_values}
 use Rattle.vortex_prune.specs.Rewriting.{falsifier}
 use Rattle.vortex_prune.specs.Scanning.{Answered, is_skipped, skipped_parts}
-use Rattle.vortex_stats.proofs.Ascending.{contains_first, contains_later}
+use Rattle.vortex_stats.proofs.Kit.{contains_first, contains_later}
 
 module _ {X : Type 0} (test : X → Bool) where
   -- the places, from n on, of the elements that pass the test

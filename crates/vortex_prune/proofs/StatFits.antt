@@ -25,7 +25,7 @@ use Rattle.vortex_stats.specs.Claims.{count_value}
 use Rattle.vortex_stats.specs.Entries.{entry_value, entries_fit, is_value_of, value_fits}
 use Rattle.vortex_stats.specs.Precision.{present_value}
 use Rattle.vortex_stats.specs.Stat.{AreAlike, extreme_dtype, stat_dtype, stats_agree, sum_dtype}
-use Rattle.vortex_stats.proofs.Fitting.{entry_value-fits}
+use Rattle.vortex_stats.proofs.Kit.{entry_value-fits}
 use Rattle.vortex_prune.specs.Answers.{IfSupported, supported}
 use Rattle.vortex_prune.specs.Part.{Entries}
 use Rattle.vortex_prune.specs.StatValues.{count_of, of_count, all_null_value, all_non_null_value, null_count_value, exact_value, stat_value}

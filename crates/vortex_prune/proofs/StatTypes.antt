@@ -18,7 +18,7 @@ use Rattle.vortex_base.specs.declared.nullability.Nullability.TheVariants.{NonNu
 use Rattle.vortex_base.specs.declared.ptype.PType.TheVariants as ptype
 use Rattle.vortex_base.specs.declared.scalar_value.ScalarValue.{ScalarValue}
 use Rattle.vortex_base.specs.declared.scalar_value.ScalarValue.TheVariants as value
-use Rattle.vortex_stats.proofs.Fitting.{entry_value-fits}
+use Rattle.vortex_stats.proofs.Kit.{entry_value-fits}
 use Rattle.vortex_stats.specs.Claims.{IsTrueOf, count_value}
 use Rattle.vortex_stats.specs.Entries.{entry_value, entries_fit, is_value_of, value_fits}
 use Rattle.vortex_stats.specs.Precision.{present_value}

@@ -339,9 +339,12 @@ fn the_first_fault_ends_the_call(rt: HostRuntime) -> Result<(), Fail> {
     let not_true = not(alloc, truth(alloc, true)?)?;
     let null = is_null(alloc, a(alloc)?)?;
     assert_eq!(rt; fault_of(satisfied(alloc, &null, &rules)), Some(4));
-    let e = and(alloc, not_true, null)?;
+    let e = and(alloc, copy(&not_true)?, copy(&null)?)?;
     assert_eq!(rt; fault_of(falsified(alloc, &e, &rules)), Some(3));
-    expect_none(&rt, satisfied(alloc, &e, &rules)?)
+    expect_none(&rt, satisfied(alloc, &e, &rules)?)?;
+    let e = or(alloc, null, not_true)?;
+    assert_eq!(rt; fault_of(falsified(alloc, &e, &rules)), Some(4));
+    Ok(())
 }
 
 #[test]
