@@ -56,6 +56,18 @@ impl Column {
         })
     }
 
+    /// The column of values that are known to fit the type, as their reader has tested each.
+    pub fn new_unchecked(dtype: DType, values: Vec<Option<ScalarValue>>, size: u64) -> Column
+        requires { IsTrue (all_fit dtype values.items) }
+        ensures { result ≡ record { dtype = dtype; values = values.items; size = size } }
+    {
+        Column {
+            dtype,
+            values,
+            size,
+        }
+    }
+
     pub fn dtype(&self) -> DType
         ensures value { result ≡ self.now.dtype }
         ensures is_column { IsColumn self.now }

@@ -96,6 +96,14 @@ fn is_same(left: &[(String, DType)], right: &[(String, DType)]) -> bool
 }
 
 impl Scope {
+    /// The scope of columns whose names are known to be distinct, with no test of their names.
+    pub fn new_unchecked(columns: Vec<(String, DType)>) -> Scope
+        requires { scopes.IsScope (scopes.named_columns columns.items) }
+        ensures { result ≡ scopes.named_columns columns.items }
+    {
+        Scope { columns }
+    }
+
     /// The scope of these columns. Of several faults the first of these is answered: `EmptyScope`
     /// if there is no column, `DuplicateColumn` if a name stands twice, `TypeFault` if a type is a
     /// `MinMaxState`.
