@@ -1,22 +1,5 @@
 -- Lemmas, and worked rows of the definitions.
-pub mod AppendLemmas
-pub mod ChunkLemmas
-pub mod ChunkRows
-pub mod LikeStops
-pub mod MapLemmas
-pub mod MeaningFits
-pub mod MeaningRows
-pub mod MeaningTyped
-pub mod NumberRows
-pub mod OrderLemmas
-pub mod PatternLemmas
-pub mod PlacedFits
-pub mod PlacedTypes
-pub mod PrefixRows
-pub mod RowLemmas
-pub mod RowsFit
-pub mod ScopeLemmas
-pub mod Successors
-pub mod TextOrder
-pub mod TreeRows
-pub mod TypingRows
+pub mod Data
+pub mod Meanings
+pub mod Patterns
+pub mod WorkedRows

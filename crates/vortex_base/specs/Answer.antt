@@ -1,8 +1,8 @@
 -- What a call that checks first and then takes memory answers.
 use Rattle.std.specs.Prelude.{◌≡◌, Result, Ok, Err}
 use Rattle.vortex_base.specs.declared.error.BaseError.{BaseError}
-use Rattle.vortex_base.specs.Tree.{Tree, Place}
-use Rattle.vortex_base.specs.Typing.{type_of}
+use Rattle.vortex_base.specs.Trees.Tree.{Tree, Place}
+use Rattle.vortex_base.specs.Meanings.Typing.{type_of}
 pub use Rattle.vortex_base.specs.Made.{Makes}
 
 -- the check's fault, or else this value, unless memory was refused

@@ -4,7 +4,7 @@ use Rattle.vortex_base.specs.declared.error.BaseError.{BaseError}
 use Rattle.vortex_base.specs.declared.error.BaseError.TheVariants.{Memory, Mismatch}
 use Rattle.vortex_base.specs.declared.scalar_value.ScalarValue.{ScalarValue}
 use Rattle.vortex_base.specs.declared.scalar_value.ScalarValue.TheVariants as value
-use Rattle.vortex_base.specs.Values.{number_of}
+use Rattle.vortex_base.specs.Data.Values.{number_of}
 
 -- a truth that has P
 abbrev pub IsBoolAnd : ScalarValue → (Bool → Type 0) → Type 0

@@ -1,11 +1,9 @@
 //! The aggregates that a placeholder can ask for, and the types of their states.
 ghost use Rattle.std.specs.Prelude.{◌≡◌};
-ghost use Rattle.vortex_base.specs.Typing as table;
+ghost use Rattle.vortex_base.specs.Meanings.Typing as table;
 
 use crate::dtype::DType;
-use crate::element::Element;
-use crate::nullability::Nullability;
-use crate::ptype::PType;
+use crate::types::{Element, Nullability, PType};
 
 /// An aggregate of the values of an input.
 #[derive(Clone, Copy, Debug, PartialEq, Eq, Hash)]
@@ -31,7 +29,7 @@ pub enum AggregateFnRef {
 }
 
 impl AggregateFnRef {
-    ghost use Rattle.vortex_base.specs.Typing.{state_dtype};
+    ghost use Rattle.vortex_base.specs.Meanings.Typing.{state_dtype};
 
     /// The type of the aggregate's state over an input of this type, or `None` where it does not
     /// support the type.

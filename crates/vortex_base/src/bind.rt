@@ -1,8 +1,8 @@
 //! Binding an expression to a scope.
 ghost use Rattle.std.specs.Prelude.{◌≡◌, IfOk, IsOk, IsTrue, option_map};
 ghost use Rattle.vortex_base.specs.Answer.{Gives, Makes};
-ghost use Rattle.vortex_base.specs.Binding as binding;
-ghost use Rattle.vortex_base.specs.Fitting.{fits_scope};
+ghost use Rattle.vortex_base.specs.Meanings.Binding as binding;
+ghost use Rattle.vortex_base.specs.Meanings.Fitting.{fits_scope};
 
 use crate::bound_expression::BoundExpression;
 use crate::dtype::DType;

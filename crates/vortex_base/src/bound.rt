@@ -3,18 +3,17 @@
 //! Each answers `TypeFault`, or `Unsupported` for a placeholder, exactly where the typing table has
 //! no type for the node, and drops what it was given where it refuses.
 ghost use Rattle.std.specs.Prelude.{◌≡◌};
-ghost use Rattle.vortex_base.specs.Tree as tree;
-ghost use Rattle.vortex_base.specs.Like.{plain};
+ghost use Rattle.vortex_base.specs.Trees.Tree as tree;
+ghost use Rattle.vortex_base.specs.Patterns.Like.{plain};
 ghost use Rattle.vortex_base.specs.Answer.{Builds, Makes};
 
 use crate::aggregate::AggregateFnRef;
-use crate::between::BetweenOptions;
 use crate::bound_expression::{BoundExpression, Node};
 use crate::dtype::DType;
 use crate::error::BaseError;
 use crate::like::LikeOptions;
-use crate::operator::Operator;
 use crate::scalar::Scalar;
+use crate::types::{BetweenOptions, Operator};
 use crate::typing;
 use std::alloc::Global;
 

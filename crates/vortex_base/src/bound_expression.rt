@@ -1,16 +1,19 @@
 //! Typed expressions.
 ghost use Rattle.std.specs.Prelude.{◌≡◌, ◌<◌, length, Some, Ok, slice_get, option_copied};
-ghost use Rattle.vortex_base.specs.Tree.{children, kind_of, literal_of, scalar_fn_of};
-ghost use Rattle.vortex_base.specs.Typing.{type_of};
+ghost use Rattle.vortex_base.specs.Trees.Tree.{children, kind_of, literal_of, scalar_fn_of};
+ghost use Rattle.vortex_base.specs.Meanings.Typing.{type_of};
+
+mod cloning;
+mod equality;
+mod holds;
+pub mod parts;
+mod row_test;
 
 use crate::aggregate::AggregateFnRef;
-use crate::between::BetweenOptions;
 use crate::dtype::DType;
-use crate::expr_kind::ExprKind;
 use crate::like::LikeOptions;
-use crate::operator::Operator;
 use crate::scalar::Scalar;
-use crate::scalar_fn::ScalarFnId;
+use crate::types::{BetweenOptions, ExprKind, Operator, ScalarFnId};
 use std::marker::Model;
 
 /// A typed expression over the columns of a row, given by their places. Each node stores its type,
@@ -47,17 +50,17 @@ impl Drop for BoundExpression {
 }
 
 impl Model for BoundExpression {
-    ghost use Rattle.vortex_base.specs.Tree.{Tree, Place};
-    ghost use Rattle.vortex_base.specs.TreeCode.{tree_code, place_code};
+    ghost use Rattle.vortex_base.specs.Trees.Tree.{Tree, Place};
+    ghost use Rattle.vortex_base.specs.Trees.TreeCode.{tree_code, place_code};
 
     ghost Value = { Tree Place };
 
     ghost coded = { tree_code place_code };
 
     ghost use Rattle.std.specs.Prelude.{◌≡◌, Ok};
-    ghost use Rattle.vortex_base.specs.Tree.{node_count};
-    ghost use Rattle.vortex_base.specs.Typing.{type_of};
-    ghost use Rattle.vortex_base.specs.Node.{tree};
+    ghost use Rattle.vortex_base.specs.Trees.Tree.{node_count};
+    ghost use Rattle.vortex_base.specs.Meanings.Typing.{type_of};
+    ghost use Rattle.vortex_base.specs.Trees.Node.{tree};
 
     ghost view = { λ a. tree a.dtype a.node.value };
 
@@ -65,7 +68,7 @@ impl Model for BoundExpression {
 
     ghost size = { node_count };
 
-    ghost use Rattle.vortex_base.specs.NodeFalls.{depth_le-node_count};
+    ghost use Rattle.vortex_base.specs.Trees.NodeFalls.{depth_le-node_count};
 
     ghost size_decreases = { λ a h. depth_le-node_count a.dtype a.node.value };
 }

@@ -3,7 +3,7 @@ ghost use Rattle.std.specs.Prelude.{◌≡◌, ◌<◌, IsTrue, OnErr, OnOk, len
 ghost use Rattle.std.specs.Bool.{OnTrue};
 ghost use Rattle.std.specs.List.{list_all};
 ghost use Rattle.vortex_base.specs.Made.{Makes};
-ghost use Rattle.vortex_base.specs.Columns as spec;
+ghost use Rattle.vortex_base.specs.Data.Columns as spec;
 
 use crate::column::{Column, append_all};
 use crate::error::BaseError;
@@ -22,7 +22,7 @@ pub struct Chunk {
 
 impl Model for Chunk {
     ghost use Rattle.std.specs.Prelude.{◌≡◌};
-    ghost use Rattle.vortex_base.specs.Columns.{ChunkData, row_count, IsChunk};
+    ghost use Rattle.vortex_base.specs.Data.Columns.{ChunkData, row_count, IsChunk};
 
     ghost Value = { ChunkData };
 
@@ -138,9 +138,8 @@ impl Chunk {
 mod tests {
     use super::*;
     use crate::dtype::DType;
-    use crate::nullability::Nullability;
-    use crate::ptype::PType;
     use crate::scalar_value::ScalarValue;
+    use crate::types::{Nullability, PType};
     use std::alloc::Global;
     use std::test::Fail;
 

@@ -1,6 +1,6 @@
 //! The values of a column.
 ghost use Rattle.std.specs.Prelude.{◌≡◌, ◌<◌, IsTrue, OnErr, OnOk, length, map, slice_get, Some, option_copied};
-ghost use Rattle.vortex_base.specs.Columns.{all_appended, all_fit, can_append, column_of, emptied, value_at, IsColumn};
+ghost use Rattle.vortex_base.specs.Data.Columns.{all_appended, all_fit, can_append, column_of, emptied, value_at, IsColumn};
 
 use crate::dtype::DType;
 use crate::error::BaseError;
@@ -18,7 +18,7 @@ pub struct Column {
 
 impl Model for Column {
     ghost use Rattle.std.specs.Prelude.{IsTrue};
-    ghost use Rattle.vortex_base.specs.Columns.{ColumnData, all_fit};
+    ghost use Rattle.vortex_base.specs.Data.Columns.{ColumnData, all_fit};
 
     ghost Value = { ColumnData };
 

@@ -12,7 +12,7 @@ pub struct ConstantArray {
 }
 
 impl Model for ConstantArray {
-    ghost use Rattle.vortex_base.specs.Repeated.{Repeated};
+    ghost use Rattle.vortex_base.specs.Data.Repeated.{Repeated};
 
     ghost Value = { Repeated };
 
@@ -49,9 +49,8 @@ mod tests {
     use super::*;
     use crate::dtype::DType;
     use crate::error::BaseError;
-    use crate::nullability::Nullability;
-    use crate::ptype::PType;
     use crate::scalar_value::ScalarValue;
+    use crate::types::{Nullability, PType};
     use std::test::Fail;
 
     const I64: DType = DType::Primitive(PType::I64, Nullability::Nullable);

@@ -1,10 +1,8 @@
 //! The types of columns, values and expressions.
 ghost use Rattle.std.specs.Prelude.{◌≡◌};
-ghost use Rattle.vortex_base.specs.Types as types;
+ghost use Rattle.vortex_base.specs.Data.Types as types;
 
-use crate::element::Element;
-use crate::nullability::Nullability;
-use crate::ptype::PType;
+use crate::types::{Element, Nullability, PType};
 
 /// A type: the kind of its values, and whether null is one of them.
 #[derive(Clone, Copy, Debug, PartialEq, Eq)]

@@ -1,20 +1,19 @@
 //! The value of an expression on a row.
 ghost use Rattle.std.specs.Prelude.{◌≡◌, IfOk, IsTrue, OnErr, alloc_error};
 ghost use Rattle.std.specs.Prelude.{option_copied, option_map};
-ghost use Rattle.vortex_base.specs.Meaning as spec;
-ghost use Rattle.vortex_base.specs.Meaning.{can_evaluate, meaning};
-ghost use Rattle.vortex_base.specs.Evaluated.{evaluated};
+ghost use Rattle.vortex_base.specs.Meanings.Meaning as spec;
+ghost use Rattle.vortex_base.specs.Meanings.Meaning.{can_evaluate, meaning};
+ghost use Rattle.vortex_base.specs.Meanings.Evaluated.{evaluated};
 ghost use Rattle.vortex_base.specs.Answer.{Answers, Makes};
-ghost use Rattle.vortex_base.specs.Values.{value_cmp};
+ghost use Rattle.vortex_base.specs.Data.Values.{value_cmp};
 
-use crate::between::BetweenOptions;
 use crate::bound_expression::{BoundExpression, Node};
 use crate::error::BaseError;
 use crate::like::LikeOptions;
-use crate::operator::Operator;
 use crate::pvalue::PValue;
 use crate::row::Row;
 use crate::scalar_value::ScalarValue;
+use crate::types::{BetweenOptions, Operator};
 use std::alloc::AllocError;
 use std::cmp::Ordering;
 

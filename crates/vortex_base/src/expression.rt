@@ -1,16 +1,15 @@
 //! Expressions over named columns, before they are bound to a scope.
 ghost use Rattle.std.specs.Prelude.{◌≡◌};
-ghost use Rattle.vortex_base.specs.Tree as tree;
-ghost use Rattle.vortex_base.specs.Like.{plain};
+ghost use Rattle.vortex_base.specs.Trees.Tree as tree;
+ghost use Rattle.vortex_base.specs.Patterns.Like.{plain};
 ghost use Rattle.vortex_base.specs.Answer.{Makes};
-ghost use Rattle.vortex_base.specs.NamedNode.{named_tree};
+ghost use Rattle.vortex_base.specs.Trees.NamedNode.{named_tree};
 
 use crate::aggregate::AggregateFnRef;
-use crate::between::BetweenOptions;
 use crate::error::BaseError;
 use crate::like::LikeOptions;
-use crate::operator::Operator;
 use crate::scalar::Scalar;
+use crate::types::{BetweenOptions, Operator};
 use std::alloc::Global;
 use std::marker::Model;
 
@@ -48,22 +47,22 @@ impl Drop for Expression {
 
 impl Model for Expression {
     ghost use Rattle.std.specs.Coded.{coded_list, coded_ℕ};
-    ghost use Rattle.vortex_base.specs.Tree.{Tree};
-    ghost use Rattle.vortex_base.specs.TreeCode.{tree_code};
-    ghost use Rattle.vortex_base.specs.Binding.{Name};
+    ghost use Rattle.vortex_base.specs.Trees.Tree.{Tree};
+    ghost use Rattle.vortex_base.specs.Trees.TreeCode.{tree_code};
+    ghost use Rattle.vortex_base.specs.Meanings.Binding.{Name};
 
     ghost Value = { Tree Name };
 
     ghost coded = { tree_code (coded_list coded_ℕ) };
 
-    ghost use Rattle.vortex_base.specs.Tree.{node_count};
-    ghost use Rattle.vortex_base.specs.NamedNode.{named_tree};
+    ghost use Rattle.vortex_base.specs.Trees.Tree.{node_count};
+    ghost use Rattle.vortex_base.specs.Trees.NamedNode.{named_tree};
 
     ghost view = { λ a. named_tree a.node.value };
 
     ghost size = { node_count };
 
-    ghost use Rattle.vortex_base.specs.NamedNodeFalls.{depth_le-named_node_count};
+    ghost use Rattle.vortex_base.specs.Trees.NamedNodeFalls.{depth_le-named_node_count};
 
     ghost size_decreases = { λ a h. depth_le-named_node_count a.node.value };
 }

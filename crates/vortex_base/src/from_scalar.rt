@@ -1,7 +1,7 @@
 //! Rust's own values, read out of scalars.
 ghost use Rattle.std.specs.Prelude.{◌≡◌, IfOk, IsErr, true, false, pos, string_bytes, ⊤, FitsSigned};
 ghost use Rattle.std.specs.Int.{w8, w16, w32, w64, FitsUnsigned};
-ghost use Rattle.vortex_base.specs.Values.{number_of};
+ghost use Rattle.vortex_base.specs.Data.Values.{number_of};
 ghost use Rattle.vortex_base.specs.Reading.{IsReading, IsBoolAnd, IsNumberAnd, IsTextAnd, AreBytesAnd};
 
 use crate::error::BaseError;
@@ -224,9 +224,8 @@ mod tests {
     use super::*;
     use crate::bytes::Bytes;
     use crate::dtype::DType;
-    use crate::nullability::Nullability;
-    use crate::ptype::PType;
     use crate::text::Text;
+    use crate::types::{Nullability, PType};
     use std::test::Fail;
 
     const I32: DType = DType::Primitive(PType::I32, Nullability::Nullable);

@@ -2,17 +2,17 @@
 //! contracts.
 ghost use Rattle.std.specs.Prelude.{◌≡◌, ◌↔◌, IfOk, IsTrue};
 ghost use Rattle.std.specs.Str.{chars};
-ghost use Rattle.vortex_base.specs.Examples.{TypeExamples, ValueExamples, OrderExamples};
-ghost use Rattle.vortex_base.specs.Examples.{ScopeExamples, ChunkExamples};
-ghost use Rattle.vortex_base.specs.ExpressionExamples.{LikeExamples, TypingExamples};
-ghost use Rattle.vortex_base.specs.ExpressionExamples.{AggregateExamples, BindingExamples};
-ghost use Rattle.vortex_base.specs.ExpressionExamples.{MeaningExamples};
-ghost use Rattle.vortex_base.specs.Fitting.{RowsFit, RowsMatch};
-ghost use Rattle.vortex_base.specs.Meaning.{MeaningFits, MeaningIsTyped};
-ghost use Rattle.vortex_base.specs.Meaning.{NullOnlyWhereNullable};
-ghost use Rattle.vortex_base.specs.Orders.{ValuesAreOrdered, NumbersAreOrdered, pvalue_cmp};
-ghost use Rattle.vortex_base.specs.Prefix.{AreBelowSuccessor};
-ghost use Rattle.vortex_base.specs.Values.{value_cmp};
+ghost use Rattle.vortex_base.specs.Worked.Examples.{TypeExamples, ValueExamples, OrderExamples};
+ghost use Rattle.vortex_base.specs.Worked.Examples.{ScopeExamples, ChunkExamples};
+ghost use Rattle.vortex_base.specs.Worked.ExpressionExamples.{LikeExamples, TypingExamples};
+ghost use Rattle.vortex_base.specs.Worked.ExpressionExamples.{AggregateExamples, BindingExamples};
+ghost use Rattle.vortex_base.specs.Worked.ExpressionExamples.{MeaningExamples};
+ghost use Rattle.vortex_base.specs.Meanings.Fitting.{RowsFit, RowsMatch};
+ghost use Rattle.vortex_base.specs.Meanings.Meaning.{MeaningFits, MeaningIsTyped};
+ghost use Rattle.vortex_base.specs.Meanings.Meaning.{NullOnlyWhereNullable};
+ghost use Rattle.vortex_base.specs.Data.Orders.{ValuesAreOrdered, NumbersAreOrdered, pvalue_cmp};
+ghost use Rattle.vortex_base.specs.Patterns.Prefix.{AreBelowSuccessor};
+ghost use Rattle.vortex_base.specs.Data.Values.{value_cmp};
 
 use crate::bound_expression::BoundExpression;
 use crate::bytes::Bytes;

@@ -5,8 +5,8 @@
 //! as the pattern has characters times the text's.
 ghost use Rattle.std.specs.Prelude.{◌≡◌, ◌<◌, ◌∷◌, [], length, MatchOption, IfSome};
 ghost use Rattle.std.specs.Str.{chars};
-ghost use Rattle.vortex_base.specs.Like.{items, like, some_end, like_text};
-ghost use Rattle.vortex_base.specs.LikeSearch.{characters, reached, stop};
+ghost use Rattle.vortex_base.specs.Patterns.Like.{items, like, some_end, like_text};
+ghost use Rattle.vortex_base.specs.Patterns.LikeSearch.{characters, reached, stop};
 
 /// How a text is compared with a pattern. The default regards case and is not negated.
 #[derive(Clone, Copy, Debug, Default, PartialEq, Eq)]
@@ -18,7 +18,7 @@ pub struct LikeOptions {
 }
 
 impl LikeOptions {
-    ghost use Rattle.vortex_base.specs.Like.{matches};
+    ghost use Rattle.vortex_base.specs.Patterns.Like.{matches};
 
     /// Whether the whole text matches the pattern or, where negated, doesn't.
     pub fn matches(&self, text: &str, pattern: &str) -> bool

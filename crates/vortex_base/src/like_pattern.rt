@@ -3,8 +3,8 @@ ghost use Rattle.std.specs.Prelude.{◌≡◌, ◌++◌, ◌∷◌, ◌+◌, ◌
 ghost use Rattle.std.specs.Prelude.{encode_utf8_all, option_copied, option_map, string_bytes};
 ghost use Rattle.std.specs.Str.{chars, IsUtf8};
 ghost use Rattle.vortex_base.specs.Answer.{Makes};
-ghost use Rattle.vortex_base.specs.Like.{items};
-ghost use Rattle.vortex_base.specs.Prefix.{exact_text, has_next, pattern_of, successor as successor_of};
+ghost use Rattle.vortex_base.specs.Patterns.Like.{items};
+ghost use Rattle.vortex_base.specs.Patterns.Prefix.{exact_text, has_next, pattern_of, successor as successor_of};
 
 use crate::error::BaseError;
 use crate::like::{Characters, Item, next_item};
@@ -20,7 +20,7 @@ pub struct LikePattern {
 
 impl Model for LikePattern {
     ghost use Rattle.std.specs.Prelude.{string_bytes};
-    ghost use Rattle.vortex_base.specs.Prefix.{PatternData};
+    ghost use Rattle.vortex_base.specs.Patterns.Prefix.{PatternData};
 
     ghost Value = { PatternData };
 

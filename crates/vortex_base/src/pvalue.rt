@@ -1,9 +1,9 @@
 //! Whole numbers with their types.
 ghost use Rattle.std.specs.Prelude.{◌≡◌, IsTrue};
-ghost use Rattle.vortex_base.specs.Neighbours.{next_number, prev_number};
-ghost use Rattle.vortex_base.specs.Values.{ptype_of, in_range};
+ghost use Rattle.vortex_base.specs.Data.Neighbours.{next_number, prev_number};
+ghost use Rattle.vortex_base.specs.Data.Values.{ptype_of, in_range};
 
-use crate::ptype::PType;
+use crate::types::PType;
 
 /// A whole number of one of the eight types. Numbers are ordered by type, in the order of the
 /// variants, and then by size.

@@ -1,6 +1,6 @@
 //! The rows on which expressions have a meaning.
 ghost use Rattle.std.specs.Prelude.{◌≡◌, length, slice_get, option_copied, option_map, []};
-ghost use Rattle.vortex_base.specs.Columns.{row_of, cell_value, IsRow};
+ghost use Rattle.vortex_base.specs.Data.Columns.{row_of, cell_value, IsRow};
 
 use crate::column::Column;
 use crate::dtype::DType;
@@ -16,8 +16,8 @@ pub struct Row<'a> {
 
 impl<'a> Model for Row<'a> {
     ghost use Rattle.std.specs.Prelude.{List};
-    ghost use Rattle.vortex_base.specs.Scalars.{Constant};
-    ghost use Rattle.vortex_base.specs.Columns.{row_of, IsRow};
+    ghost use Rattle.vortex_base.specs.Data.Scalars.{Constant};
+    ghost use Rattle.vortex_base.specs.Data.Columns.{row_of, IsRow};
 
     ghost Value = { List Constant };
 

@@ -2,9 +2,9 @@
 ghost use Rattle.std.specs.Prelude.{◌≡◌, ◌↔◌, IsTrue, IsNone, option_copied};
 ghost use Rattle.std.specs.Cmp.{partial_equiv_from_equiv};
 ghost use Rattle.vortex_base.specs.Made.{Makes};
-ghost use Rattle.vortex_base.specs.Exact.{exact_equivalence};
-ghost use Rattle.vortex_base.specs.Types.{is_nullable};
-ghost use Rattle.vortex_base.specs.Scalars.{constant_eq, constant_eq_is_exact, constant_of, null_of, IsConstant};
+ghost use Rattle.vortex_base.specs.Data.Exact.{exact_equivalence};
+ghost use Rattle.vortex_base.specs.Data.Types.{is_nullable};
+ghost use Rattle.vortex_base.specs.Data.Scalars.{constant_eq, constant_eq_is_exact, constant_of, null_of, IsConstant};
 
 use crate::dtype::DType;
 use crate::error::BaseError;
@@ -20,7 +20,7 @@ pub struct Scalar {
 
 impl Model for Scalar {
     ghost use Rattle.std.specs.Prelude.{IsTrue};
-    ghost use Rattle.vortex_base.specs.Scalars.{Constant, is_optional_value};
+    ghost use Rattle.vortex_base.specs.Data.Scalars.{Constant, is_optional_value};
 
     ghost Value = { Constant };
 
@@ -119,9 +119,8 @@ impl Eq for Scalar {
 #[cfg(test)]
 mod tests {
     use super::*;
-    use crate::nullability::Nullability;
-    use crate::ptype::PType;
     use crate::text::Text;
+    use crate::types::{Nullability, PType};
     use std::test::Fail;
 
     #[test]

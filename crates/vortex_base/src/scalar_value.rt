@@ -1,7 +1,7 @@
 //! The values of columns that are not null, and their one total order.
 ghost use Rattle.std.specs.Prelude.{◌≡◌};
 ghost use Rattle.vortex_base.specs.Made.{Makes};
-ghost use Rattle.vortex_base.specs.Values.{is_value};
+ghost use Rattle.vortex_base.specs.Data.Values.{is_value};
 ghost use Rattle.vortex_base.specs.declared.pvalue.PValue.TheVariants as number;
 ghost use Rattle.vortex_base.specs.declared.scalar_value.ScalarValue.TheVariants as value;
 
@@ -141,8 +141,7 @@ impl From<i64> for ScalarValue {
 mod tests {
     use super::*;
     use crate::laws;
-    use crate::nullability::Nullability;
-    use crate::ptype::PType;
+    use crate::types::{Nullability, PType};
     use std::alloc::{AllocError, Global};
     use std::cmp::Ordering;
     use std::process::Abort;

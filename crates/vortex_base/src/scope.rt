@@ -3,10 +3,10 @@ ghost use Rattle.std.specs.Prelude.{◌≡◌, ◌↔◌, ◌<◌, IfSome, IsTru
 ghost use Rattle.std.specs.Prelude.{length, position, slice_get};
 ghost use Rattle.std.specs.Cmp.{partial_equiv_from_equiv};
 ghost use Rattle.std.specs.List.{list_all, list_any, zip};
-ghost use Rattle.vortex_base.specs.Columns as columns_spec;
-ghost use Rattle.vortex_base.specs.Exact.{exact_equivalence};
-ghost use Rattle.vortex_base.specs.Scopes as scopes;
-ghost use Rattle.vortex_base.specs.Types.{dtype_eq};
+ghost use Rattle.vortex_base.specs.Data.Columns as columns_spec;
+ghost use Rattle.vortex_base.specs.Data.Exact.{exact_equivalence};
+ghost use Rattle.vortex_base.specs.Data.Scopes as scopes;
+ghost use Rattle.vortex_base.specs.Data.Types.{dtype_eq};
 
 use crate::column::Column;
 use crate::dtype::DType;
@@ -21,7 +21,7 @@ pub struct Scope {
 
 impl Model for Scope {
     ghost use Rattle.std.specs.Prelude.{List};
-    ghost use Rattle.vortex_base.specs.Scopes.{Named, IsScope, named_columns};
+    ghost use Rattle.vortex_base.specs.Data.Scopes.{Named, IsScope, named_columns};
 
     ghost Value = { List Named };
 
@@ -59,7 +59,7 @@ fn is_empty(columns: &[(String, DType)]) -> bool
 }
 
 fn has_state(columns: &[(String, DType)]) -> bool
-    ensures { result ≡ list_any (λ c. scopes.is_state (scopes.named c)) columns.now }
+    ensures { result ≡ list_any (λ c. scopes.is_state_column (scopes.named c)) columns.now }
 {
     columns
         .iter()
@@ -184,8 +184,7 @@ impl Eq for Scope {
 #[cfg(test)]
 mod tests {
     use super::*;
-    use crate::element::Element;
-    use crate::nullability::Nullability;
+    use crate::types::{Element, Nullability};
     use std::alloc::{AllocError, Global};
     use std::test::Fail;
 

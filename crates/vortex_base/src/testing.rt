@@ -29,12 +29,11 @@ pub fn evaluated(
 /// Expressions over names.
 pub mod named {
     use crate::aggregate::AggregateFnRef;
-    use crate::between::BetweenOptions;
     use crate::error::BaseError;
     use crate::expression::Expression;
     use crate::like::LikeOptions;
-    use crate::operator::Operator;
     use crate::scalar::Scalar;
+    use crate::types::{BetweenOptions, Operator};
     use std::alloc::Global;
 
     pub type Built = Result<Expression, BaseError>;
@@ -127,13 +126,13 @@ pub mod named {
 pub mod placed {
     use super::Built;
     use crate::aggregate::AggregateFnRef;
-    use crate::between::BetweenOptions;
     use crate::bound;
     use crate::bound_expression::BoundExpression;
     use crate::dtype::DType;
     use crate::like::LikeOptions;
     use crate::scalar::Scalar;
     use crate::scalar_value::ScalarValue;
+    use crate::types::BetweenOptions;
     use std::alloc::Global;
 
     pub fn col(alloc: Global, place: usize, dtype: DType) -> Built {

@@ -1,13 +1,11 @@
 //! The typing table: the type of a node from those of its children.
 ghost use Rattle.std.specs.Prelude.{◌≡◌};
-ghost use Rattle.vortex_base.specs.Typing as table;
+ghost use Rattle.vortex_base.specs.Meanings.Typing as table;
 
 use crate::aggregate::AggregateFnRef;
 use crate::dtype::DType;
 use crate::error::BaseError;
-use crate::nullability::Nullability;
-use crate::operator::Operator;
-use crate::ptype::PType;
+use crate::types::{Nullability, Operator, PType};
 
 /// The type of the row count.
 pub(crate) const ROW_COUNT: DType = DType::Primitive(PType::U64, Nullability::NonNullable);

@@ -1,11 +1,11 @@
 -- What makes pruning right, over the definitions alone.
 use Rattle.std.specs.Prelude.{◌≡◌, Some, List}
-use Rattle.vortex_base.specs.Tree.{Tree, Place}
-use Rattle.vortex_prune.specs.Facts.{IsHonest}
-use Rattle.vortex_prune.specs.Lawful.{IsSoundFalsifier, IsSoundSatisfier, OwnRule}
+use Rattle.vortex_base.specs.Trees.Tree.{Tree, Place}
+use Rattle.vortex_prune.specs.Binding.Facts.{IsHonest}
+use Rattle.vortex_prune.specs.Rewriting.Lawful.{IsSoundFalsifier, IsSoundSatisfier, OwnRule}
 use Rattle.vortex_prune.specs.Part.{IsPart, IsTruePart, PartData}
-use Rattle.vortex_prune.specs.PartAnswers.{part_values}
-use Rattle.vortex_prune.specs.Rewriting.{falsifier, satisfier}
+use Rattle.vortex_prune.specs.Binding.PartAnswers.{part_values}
+use Rattle.vortex_prune.specs.Rewriting.Falsifiers.{falsifier, satisfier}
 
 -- what the true statistics of a part answer to placeholders are facts of its columns
 abbrev pub StatisticsAreHonest : Type 0

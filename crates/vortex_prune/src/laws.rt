@@ -1,15 +1,15 @@
 //! Laws of pruning, in the words of its definitions. The functions carry them by their contracts.
 ghost use Rattle.std.specs.Prelude.{◌≡◌, ℕ, List, false};
 ghost use Rattle.std.specs.List.{AllByRecursion};
-ghost use Rattle.vortex_prune.specs.BuiltInRules.{ProofsAreInOrder, RulesAreOfFunctions};
-ghost use Rattle.vortex_prune.specs.Complete.{FalsifiersAreComplete};
+ghost use Rattle.vortex_prune.specs.Rewriting.BuiltInRules.{ProofsAreInOrder, RulesAreOfFunctions};
+ghost use Rattle.vortex_prune.specs.Scanning.Complete.{FalsifiersAreComplete};
 ghost use Rattle.vortex_prune.specs.Laws.{StatisticsAreHonest};
 ghost use Rattle.vortex_prune.specs.Laws.{FalsifiersAreSound, SatisfiersAreSound};
 ghost use Rattle.vortex_prune.specs.Part.{AreParts, IsTruePart, PartData};
-ghost use Rattle.vortex_prune.specs.Scanning.{AreByStatistics, AreFaithful, AreHonest, any_binder};
+ghost use Rattle.vortex_prune.specs.Scanning.Selection.{AreByStatistics, AreFaithful, AreHonest, any_binder};
 
-use crate::stat_binder::StatBinder;
-use crate::stats_binder::StatsBinder;
+use crate::bind::stat_binder::StatBinder;
+use crate::bind::stats_binder::StatsBinder;
 
 /// What the statistics of a part answer to placeholders are facts of its columns, where they are
 /// true of them.

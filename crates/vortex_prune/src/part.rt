@@ -1,6 +1,6 @@
 //! Parts: chunks of rows, each with the statistics of its columns.
 ghost use Rattle.std.specs.Prelude.{◌≡◌, ◌<◌, IfErr, IfOk, IsOk, IsTrue, length, slice_get, Some};
-ghost use Rattle.vortex_base.specs.Columns.{IsChunk};
+ghost use Rattle.vortex_base.specs.Data.Columns.{IsChunk};
 ghost use Rattle.vortex_stats.specs.declared.error.StatsError.TheVariants.{Mismatch};
 ghost use Rattle.vortex_prune.specs.Part.{IsPart, sets_fit};
 

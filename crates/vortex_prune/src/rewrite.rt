@@ -1,17 +1,27 @@
 //! Predicates rewritten into proofs over statistics.
 ghost use Rattle.std.specs.Prelude.{◌≡◌, ◌-◌, ◌^◌, ◌∷◌, [], min, Err, IfErr, IfOk, IfSome, IsTrue, false};
 ghost use Rattle.vortex_stats.specs.declared.error.StatsError.TheVariants.{NotPredicate};
-ghost use Rattle.vortex_prune.specs.Causes.{IsRefusal};
-ghost use Rattle.vortex_prune.specs.Own.{own_rules};
-ghost use Rattle.vortex_prune.specs.Predicates.{is_predicate};
-ghost use Rattle.vortex_prune.specs.Rewriting.{falsifier as falsifier_of, satisfier as satisfier_of, visits as visits_of};
-ghost use Rattle.vortex_prune.specs.RuleRefusals.{rule_causes};
-ghost use Rattle.vortex_prune.specs.Visited.{visited};
+ghost use Rattle.vortex_prune.specs.Scanning.Causes.{IsRefusal};
+ghost use Rattle.vortex_prune.specs.Rewriting.Own.{own_rules};
+ghost use Rattle.vortex_prune.specs.Rewriting.Predicates.{is_predicate};
+ghost use Rattle.vortex_prune.specs.Rewriting.Falsifiers.{falsifier as falsifier_of, satisfier as satisfier_of, visits as visits_of};
+ghost use Rattle.vortex_prune.specs.Rewriting.RuleRefusals.{rule_causes};
+ghost use Rattle.vortex_prune.specs.Rewriting.Visited.{visited};
 
-use crate::engine::{rewrite_node, satisfy_node};
-use crate::proof::{Proof, is_truth};
-use crate::rule::StatsRewriteRule;
-use crate::rules::Rules;
+mod builtins;
+mod engine;
+mod nodes;
+pub(crate) mod proof;
+mod reduce;
+pub mod rule;
+pub mod rules;
+mod side;
+mod user_rules;
+
+use crate::rewrite::engine::{rewrite_node, satisfy_node};
+use crate::rewrite::proof::{Proof, is_truth};
+use crate::rewrite::rule::StatsRewriteRule;
+use crate::rewrite::rules::Rules;
 use std::alloc::Global;
 use vortex_base::bound_expression::BoundExpression;
 use vortex_stats::error::StatsError;

@@ -1,23 +1,27 @@
 //! Scans: which rows of which parts a predicate selects, and which parts it needn't look at.
 ghost use Rattle.std.specs.Prelude.{◌≡◌, ℕ, [], false, All, Err, IfErr, IfOk, IsTrue, length, option_copied};
-ghost use Rattle.vortex_base.specs.Fitting.{fits_scope};
-ghost use Rattle.vortex_base.specs.Tree.{is_plain};
+ghost use Rattle.vortex_base.specs.Meanings.Fitting.{fits_scope};
+ghost use Rattle.vortex_base.specs.Trees.Tree.{is_plain};
 ghost use Rattle.vortex_prune.specs.Part.{AreParts};
-ghost use Rattle.vortex_prune.specs.Scanning.{AreByStatistics, AreFaithful, AreHonest, answered, full, any_binder, selected_rows, skipped_parts};
-ghost use Rattle.vortex_prune.specs.Causes.{IsRefusal};
-ghost use Rattle.vortex_prune.specs.ScanRefusals.{AreClosed, IsMemory, binder_causes, if_faithful, scan_causes};
-ghost use Rattle.vortex_prune.specs.Complete.{SkipsExactly, is_read_once};
-ghost use Rattle.vortex_prune.specs.Own.{own_rules};
-ghost use Rattle.vortex_prune.specs.Predicates.{is_predicate};
-ghost use Rattle.vortex_prune.specs.Rewriting.{falsifier as falsifier_of};
+ghost use Rattle.vortex_prune.specs.Scanning.Selection.{AreByStatistics, AreFaithful, AreHonest, answered, full, any_binder, selected_rows, skipped_parts};
+ghost use Rattle.vortex_prune.specs.Scanning.Causes.{IsRefusal};
+ghost use Rattle.vortex_prune.specs.Scanning.ScanRefusals.{AreClosed, IsMemory, binder_causes, if_faithful, scan_causes};
+ghost use Rattle.vortex_prune.specs.Scanning.Complete.{SkipsExactly, is_read_once};
+ghost use Rattle.vortex_prune.specs.Rewriting.Own.{own_rules};
+ghost use Rattle.vortex_prune.specs.Rewriting.Predicates.{is_predicate};
+ghost use Rattle.vortex_prune.specs.Rewriting.Falsifiers.{falsifier as falsifier_of};
 ghost use Rattle.vortex_stats.specs.declared.error.StatsError.TheVariants.{NotPredicate};
 
-use crate::outcome::Scan;
+pub mod outcome;
+mod select;
+mod skip;
+
+use crate::bind::stat_binder::StatBinder;
 use crate::part::Part;
 use crate::rewrite::falsify;
-use crate::rule::StatsRewriteRule;
-use crate::rules::Rules;
-use crate::stat_binder::StatBinder;
+use crate::rewrite::rule::StatsRewriteRule;
+use crate::rewrite::rules::Rules;
+use crate::scan::outcome::Scan;
 use std::alloc::Global;
 use vortex_base::bound_expression::BoundExpression;
 use vortex_stats::error::StatsError;

@@ -1,10 +1,10 @@
 //! The function that a placeholder applies: what a set of statistics answers to it.
 ghost use Rattle.std.specs.Prelude.{◌≡◌, alloc_error, codes, false, IfErr, IfOk, IsTrue};
-ghost use Rattle.vortex_base.specs.Typing.{stat_type};
-ghost use Rattle.vortex_stats.specs.Entries.{entries_fit};
+ghost use Rattle.vortex_base.specs.Meanings.Typing.{stat_type};
+ghost use Rattle.vortex_stats.specs.Sets.Entries.{entries_fit};
 ghost use Rattle.vortex_stats.specs.declared.error.StatsError.TheVariants.{Memory};
 ghost use Rattle.vortex_prune.specs.Answers.{IfSupported, supported};
-ghost use Rattle.vortex_prune.specs.StatValues as values;
+ghost use Rattle.vortex_prune.specs.Binding.StatValues as values;
 
 use std::hash::Hash;
 use std::marker::Model;
@@ -13,8 +13,8 @@ use vortex_base::constant_array::ConstantArray;
 use vortex_base::dtype::DType;
 use vortex_base::pvalue::PValue;
 use vortex_base::scalar::Scalar;
-use vortex_base::scalar_fn::ScalarFnId;
 use vortex_base::scalar_value::ScalarValue;
+use vortex_base::types::ScalarFnId;
 use vortex_stats::error::StatsError;
 use vortex_stats::precision::Precision;
 use vortex_stats::stat::Stat;

@@ -2,15 +2,14 @@
 //! reasons of nothing, so its proof stays short.
 use std::alloc::Global;
 use vortex_base::aggregate::AggregateFnRef;
-use vortex_base::between::BetweenOptions;
 use vortex_base::bound;
 use vortex_base::bound_expression::BoundExpression;
 use vortex_base::dtype::DType;
 use vortex_base::error::BaseError;
 use vortex_base::like::LikeOptions;
-use vortex_base::operator::Operator;
 use vortex_base::scalar::Scalar;
 use vortex_base::scalar_value::ScalarValue;
+use vortex_base::types::{BetweenOptions, Operator};
 
 pub type Built = Result<BoundExpression, BaseError>;
 

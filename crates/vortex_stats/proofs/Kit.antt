@@ -1,8 +1,8 @@
 -- The lemmas of this crate that proofs of other crates may cite; the other files are its own.
 -- What is read of a set that fits its column fits the statistic.
-pub use Rattle.vortex_stats.proofs.Fitting.{entry_value-fits}
+pub use Rattle.vortex_stats.proofs.Sets.Fitting.{entry_value-fits}
 -- A merge of sets that fit fits, and one of sets that are true of two columns is true of the appended column.
-pub use Rattle.vortex_stats.proofs.MergedFits.{merged_ordered-fits}
-pub use Rattle.vortex_stats.proofs.MergedTruth.{merged_ordered_is_true}
+pub use Rattle.vortex_stats.proofs.Merging.MergedFits.{merged_ordered-fits}
+pub use Rattle.vortex_stats.proofs.Truth.MergedTruth.{merged_ordered_is_true}
 -- What a list contains at its front and behind it.
-pub use Rattle.vortex_stats.proofs.Ascending.{contains_first, contains_later}
+pub use Rattle.vortex_stats.proofs.Bounds.Ascending.{contains_first, contains_later}

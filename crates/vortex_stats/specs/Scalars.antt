@@ -2,8 +2,8 @@
 use Rattle.std.specs.Prelude.{◌≡◌, Some, Result, Ok, Err, IsOk, if◌then◌else◌}
 use Rattle.vortex_base.specs.declared.dtype.DType.{DType}
 use Rattle.vortex_base.specs.declared.scalar_value.ScalarValue.{ScalarValue}
-use Rattle.vortex_base.specs.Scalars.{Constant}
-use Rattle.vortex_base.specs.Values.{is_value}
+use Rattle.vortex_base.specs.Data.Scalars.{Constant}
+use Rattle.vortex_base.specs.Data.Values.{is_value}
 use Rattle.vortex_stats.specs.declared.precision.Precision.{Precision}
 use Rattle.vortex_stats.specs.declared.precision.Precision.TheVariants.{Exact, Inexact, Absent}
 use Rattle.vortex_stats.specs.declared.error.StatsError.{StatsError}

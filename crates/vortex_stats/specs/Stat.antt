@@ -6,11 +6,11 @@ use Rattle.vortex_base.specs.declared.aggregate.AggregateFnRef.{AggregateFnRef}
 use Rattle.vortex_base.specs.declared.aggregate.AggregateFnRef.TheVariants as aggregate
 use Rattle.vortex_base.specs.declared.dtype.DType.{DType}
 use Rattle.vortex_base.specs.declared.dtype.DType.TheVariants as dtype
-use Rattle.vortex_base.specs.declared.nullability.Nullability.TheVariants.{Nullable, NonNullable}
-use Rattle.vortex_base.specs.declared.ptype.PType.{PType}
-use Rattle.vortex_base.specs.declared.ptype.PType.TheVariants as ptype
-use Rattle.vortex_base.specs.Types.{as_nullable}
-use Rattle.vortex_base.specs.Typing.{state_dtype}
+use Rattle.vortex_base.specs.declared.types.Nullability.TheVariants.{Nullable, NonNullable}
+use Rattle.vortex_base.specs.declared.types.PType.{PType}
+use Rattle.vortex_base.specs.declared.types.PType.TheVariants as ptype
+use Rattle.vortex_base.specs.Data.Types.{as_nullable}
+use Rattle.vortex_base.specs.Meanings.Typing.{state_dtype}
 use Rattle.vortex_stats.specs.declared.stat.Stat.{Stat}
 use Rattle.vortex_stats.specs.declared.stat.Stat.TheVariants.{IsConstant, IsSorted, IsStrictSorted, Max, Min, Sum, NullCount, UncompressedSizeInBytes, NaNCount}
 

@@ -2,8 +2,8 @@
 ghost use Rattle.std.specs.Prelude.{◌≡◌, ◌≤◌, IfErr, IfOk, alloc_error};
 ghost use Rattle.vortex_stats.specs.Stat.{stat_number};
 ghost use Rattle.vortex_stats.specs.declared.error.StatsError.TheVariants.{Memory};
-ghost use Rattle.vortex_stats.specs.Bitset.{is_set, stats_in, IsBitsetOf};
-ghost use Rattle.vortex_stats.specs.Bitset.{bit, is_listed, number_of, low_bits, high_bits};
+ghost use Rattle.vortex_stats.specs.Sets.Bitset.{is_set, stats_in, IsBitsetOf};
+ghost use Rattle.vortex_stats.specs.Sets.Bitset.{bit, is_listed, number_of, low_bits, high_bits};
 
 use crate::error::StatsError;
 use crate::stat::Stat;

@@ -1,9 +1,9 @@
 //! Upper and lower bounds over values with a total order.
 ghost use Rattle.std.specs.Prelude.{◌≡◌, IfErr, IfOk, OnErr, alloc_error};
 ghost use Rattle.vortex_stats.specs.Precision.{is_exact, is_exactly, IsPresentAnd};
-ghost use Rattle.vortex_stats.specs.Bound.{ClonesEqual, IsOkOrElse, IsValueAnd};
-ghost use Rattle.vortex_stats.specs.UpperBound.{upper_compared};
-ghost use Rattle.vortex_stats.specs.LowerBound.{lower_compared};
+ghost use Rattle.vortex_stats.specs.Bounds.Bound.{ClonesEqual, IsOkOrElse, IsValueAnd};
+ghost use Rattle.vortex_stats.specs.Bounds.UpperBound.{upper_compared};
+ghost use Rattle.vortex_stats.specs.Bounds.LowerBound.{lower_compared};
 ghost use Rattle.vortex_stats.specs.declared.error.StatsError.TheVariants.{Memory};
 
 use crate::chosen;
@@ -68,7 +68,7 @@ impl<T> Model for UpperBound<T> {
 }
 
 impl<T: Ord + Clone> StatBound<T> for UpperBound<T> {
-    ghost use Rattle.vortex_stats.specs.UpperBound.{
+    ghost use Rattle.vortex_stats.specs.Bounds.UpperBound.{
       upper_allows,
       greater,
       upper_union,
@@ -178,7 +178,7 @@ impl<T> Model for LowerBound<T> {
 }
 
 impl<T: Ord + Clone> StatBound<T> for LowerBound<T> {
-    ghost use Rattle.vortex_stats.specs.LowerBound.{
+    ghost use Rattle.vortex_stats.specs.Bounds.LowerBound.{
       lower_allows,
       lesser,
       lower_union,

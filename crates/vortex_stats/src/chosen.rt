@@ -4,11 +4,11 @@ ghost use Rattle.std.specs.Prelude.{◌≡◌, Some};
 ghost use Rattle.std.specs.Option.{option_map};
 ghost use Rattle.std.specs.Ordering.{is_lt};
 ghost use Rattle.vortex_stats.specs.Precision.{precision_map};
-ghost use Rattle.vortex_stats.specs.Order.{greater as greater_of, lesser as lesser_of};
-ghost use Rattle.vortex_stats.specs.Bound.{intersection_map};
-ghost use Rattle.vortex_stats.specs.UpperBound.{upper_union, upper_intersection};
-ghost use Rattle.vortex_stats.specs.LowerBound.{lower_union, lower_intersection};
-ghost use Rattle.vortex_stats.specs.PointBound.{point_union, point_intersection};
+ghost use Rattle.vortex_stats.specs.Bounds.Order.{greater as greater_of, lesser as lesser_of};
+ghost use Rattle.vortex_stats.specs.Bounds.Bound.{intersection_map};
+ghost use Rattle.vortex_stats.specs.Bounds.UpperBound.{upper_union, upper_intersection};
+ghost use Rattle.vortex_stats.specs.Bounds.LowerBound.{lower_union, lower_intersection};
+ghost use Rattle.vortex_stats.specs.Bounds.PointBound.{point_union, point_intersection};
 
 use crate::bound::IntersectionResult;
 use crate::precision::Precision;

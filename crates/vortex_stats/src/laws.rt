@@ -1,19 +1,19 @@
 //! Laws of the definitions, as functions whose contracts state them.
-ghost use Rattle.vortex_stats.specs.Bound.{IsTightIntersection};
-ghost use Rattle.vortex_stats.specs.Order.{greater, lesser};
-ghost use Rattle.vortex_stats.specs.UpperBound.{upper_allows, upper_union, upper_intersection};
-ghost use Rattle.vortex_stats.specs.LowerBound.{lower_allows, lower_union, lower_intersection};
-ghost use Rattle.vortex_stats.specs.Tightest.{IsTightestUnion, BoundTree, leaves, ArePresent, tree_union};
-ghost use Rattle.vortex_stats.specs.Tightest.{IsGreatestOf, IsLeastOf, AnswersAlike};
+ghost use Rattle.vortex_stats.specs.Bounds.Bound.{IsTightIntersection};
+ghost use Rattle.vortex_stats.specs.Bounds.Order.{greater, lesser};
+ghost use Rattle.vortex_stats.specs.Bounds.UpperBound.{upper_allows, upper_union, upper_intersection};
+ghost use Rattle.vortex_stats.specs.Bounds.LowerBound.{lower_allows, lower_union, lower_intersection};
+ghost use Rattle.vortex_stats.specs.Bounds.Tightest.{IsTightestUnion, BoundTree, leaves, ArePresent, tree_union};
+ghost use Rattle.vortex_stats.specs.Bounds.Tightest.{IsGreatestOf, IsLeastOf, AnswersAlike};
 ghost use Rattle.std.specs.Prelude.{◌≡◌, ℕ, IsTrue, IsPermutation, List, MatchOption};
 ghost use Rattle.std.specs.Ordering.{nat_cmp};
 ghost use Rattle.vortex_base.specs.declared.dtype.DType.{DType};
 ghost use Rattle.vortex_stats.specs.declared.stat.Stat.{Stat};
 ghost use Rattle.vortex_stats.specs.Stat.{stat_number, stat_eq, pruning_stats, IsTold, IsColumnType, AgreesWithAggregate};
-ghost use Rattle.vortex_stats.specs.Bitset.{IsBitsetOf, stats_in, distinct_ascending};
+ghost use Rattle.vortex_stats.specs.Sets.Bitset.{IsBitsetOf, stats_in, distinct_ascending};
 ghost use Rattle.vortex_base.specs.declared.scalar_value.ScalarValue.{ScalarValue};
 ghost use Rattle.vortex_stats.specs.declared.precision.Precision.{Precision};
-ghost use Rattle.vortex_stats.specs.Merges.{merged_ordered, merged_by_steps};
+ghost use Rattle.vortex_stats.specs.Merging.Merges.{merged_ordered, merged_by_steps};
 
 pub mod truth;
 

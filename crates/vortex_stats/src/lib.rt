@@ -21,3 +21,10 @@ pub mod stats_set;
 #[cfg(test)]
 mod tests;
 pub mod typed;
+
+pub use bound::{IntersectionResult, LowerBound, UpperBound};
+pub use error::{BinderFault, RuleFault, StatsError};
+pub use precision::Precision;
+pub use provider::StatsProvider;
+pub use stat::Stat;
+pub use stats_set::StatsSet;

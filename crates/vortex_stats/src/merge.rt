@@ -7,9 +7,9 @@ ghost use Rattle.vortex_stats.specs.declared.error.StatsError.TheVariants.{Memor
 ghost use Rattle.vortex_stats.specs.declared.precision.Precision.TheVariants as precise;
 ghost use Rattle.vortex_stats.specs.declared.stat.Stat.TheVariants as stats;
 ghost use Rattle.vortex_stats.specs.Precision.{precision_map, present_value};
-ghost use Rattle.vortex_stats.specs.Entries.{entry_value, entries_fit};
-ghost use Rattle.vortex_stats.specs.Merges.{truth, is_exactly, seam, at_seam, is_below, is_at_most, sum_added, count_added, count_merged, merged_value, unordered_value, revised, merged_ordered, merged_unordered};
-ghost use Rattle.vortex_stats.specs.Changes.{made, changed, all_changed, MakesAll};
+ghost use Rattle.vortex_stats.specs.Sets.Entries.{entry_value, entries_fit};
+ghost use Rattle.vortex_stats.specs.Merging.Merges.{truth, is_exactly, seam, at_seam, is_below, is_at_most, sum_added, count_added, count_merged, merged_value, unordered_value, revised, merged_ordered, merged_unordered};
+ghost use Rattle.vortex_stats.specs.Sets.Changes.{made, changed, all_changed, MakesAll};
 
 use crate::bound::{LowerBound, UpperBound};
 use crate::error::StatsError;

@@ -3,9 +3,9 @@ ghost use Rattle.std.specs.Prelude.{◌≡◌, Ok, Err, IfOk, OnErr, if◌then�
 ghost use Rattle.std.specs.Option.{option_map};
 ghost use Rattle.vortex_stats.specs.declared.precision.Precision.{Precision};
 ghost use Rattle.vortex_stats.specs.declared.error.StatsError.TheVariants.{Mismatch};
-ghost use Rattle.vortex_stats.specs.Bound.{ClonesEqual};
+ghost use Rattle.vortex_stats.specs.Bounds.Bound.{ClonesEqual};
 ghost use Rattle.vortex_stats.specs.Scalars.{precise_scalar, checked_scalar, IsAnswerOrMemory};
-ghost use Rattle.vortex_base.specs.Values.{is_value};
+ghost use Rattle.vortex_base.specs.Data.Values.{is_value};
 ghost use Rattle.vortex_stats.specs.Precision.{
   is_exact,
   is_absent,

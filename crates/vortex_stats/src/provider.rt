@@ -1,8 +1,8 @@
 //! What gives statistics under their types.
 ghost use Rattle.std.specs.Prelude.{◌≡◌, ◌==◌, IfOk, OnErr, IsTrue, length};
 ghost use Rattle.vortex_stats.specs.Precision.{is_present};
-ghost use Rattle.vortex_stats.specs.Entries.{entry_value};
-ghost use Rattle.vortex_stats.specs.TypedStats.{TypedStats, typed_value};
+ghost use Rattle.vortex_stats.specs.Sets.Entries.{entry_value};
+ghost use Rattle.vortex_stats.specs.Sets.TypedStats.{TypedStats, typed_value};
 
 use crate::precision::Precision;
 use crate::stat::Stat;

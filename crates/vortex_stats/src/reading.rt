@@ -1,6 +1,6 @@
 //! Rust's own values, read out of the values of a set.
 ghost use Rattle.vortex_stats.specs.Precision.{precision_map};
-ghost use Rattle.vortex_stats.specs.Reading.{IsReadAs, IsPreciselyReadAs};
+ghost use Rattle.vortex_stats.specs.Sets.Reading.{IsReadAs, IsPreciselyReadAs};
 
 use crate::error::StatsError;
 use crate::precision::{self, Precision};

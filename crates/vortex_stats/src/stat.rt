@@ -22,8 +22,7 @@ use std::fmt;
 use std::marker::Model;
 use vortex_base::aggregate::AggregateFnRef;
 use vortex_base::dtype::DType;
-use vortex_base::nullability::Nullability;
-use vortex_base::ptype::PType;
+use vortex_base::types::{Nullability, PType};
 
 /// A kind of statistic of a column. Each has a number, and they are ordered by it.
 #[derive(Debug, Clone, Copy, PartialEq, Eq, PartialOrd, Ord, Hash)]

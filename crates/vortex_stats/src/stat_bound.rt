@@ -4,8 +4,8 @@ ghost use Rattle.std.specs.Option.{option_map, option_copied};
 ghost use Rattle.vortex_stats.specs.declared.precision.Precision.{Precision};
 ghost use Rattle.vortex_stats.specs.declared.bound.IntersectionResult.{IntersectionResult};
 ghost use Rattle.vortex_stats.specs.Precision.{exact_value};
-ghost use Rattle.vortex_stats.specs.Bound.{ClonesEqual, TiesAllowed, IsUnion, IsIntersection};
-ghost use Rattle.vortex_stats.specs.Bound.{intersection_map, HoldsFallible, IntersectionHoldsFallible};
+ghost use Rattle.vortex_stats.specs.Bounds.Bound.{ClonesEqual, TiesAllowed, IsUnion, IsIntersection};
+ghost use Rattle.vortex_stats.specs.Bounds.Bound.{intersection_map, HoldsFallible, IntersectionHoldsFallible};
 
 use crate::bound::IntersectionResult;
 use crate::chosen;
@@ -68,7 +68,7 @@ pub trait StatBound<T: Ord + Clone>: Sized + Drop {
 
 /// A value with a precision is a bound that knows nothing of an inexact value.
 impl<T: Ord + Clone> StatBound<T> for Precision<T> {
-    ghost use Rattle.vortex_stats.specs.PointBound.{
+    ghost use Rattle.vortex_stats.specs.Bounds.PointBound.{
       point_allows,
       lesser,
       point_union,

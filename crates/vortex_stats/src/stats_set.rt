@@ -3,14 +3,14 @@ ghost use Rattle.std.specs.Prelude.{◌≡◌, ◌≤◌, ◌==◌, ◌∷◌, [
 ghost use Rattle.std.specs.Prelude.{IsTrue, alloc_error, length};
 ghost use Rattle.std.specs.List.{list_any};
 ghost use Rattle.std.specs.Iterator.{YieldsFirst, YieldsFirstRef, item_count, IsFinite};
-ghost use Rattle.vortex_stats.specs.Reading.{IsPreciselyReadAs};
+ghost use Rattle.vortex_stats.specs.Sets.Reading.{IsPreciselyReadAs};
 ghost use Rattle.vortex_stats.specs.Precision.{is_present, precision_map};
 ghost use Rattle.vortex_stats.specs.Stat.{stat_eq, stat_number};
-ghost use Rattle.vortex_stats.specs.Slots.{slot_of, IsOwn};
+ghost use Rattle.vortex_stats.specs.Sets.Slots.{slot_of, IsOwn};
 ghost use Rattle.vortex_stats.specs.declared.error.StatsError.TheVariants.{Memory};
-ghost use Rattle.vortex_stats.specs.Entries.{entry_value, with_entry, without_entry, retained_entries};
-ghost use Rattle.vortex_stats.specs.Entries.{value_fits, entries_fit, AreDistinct, SetsAll};
-ghost use Rattle.vortex_stats.specs.Entries.{is_value_of as value_is_of};
+ghost use Rattle.vortex_stats.specs.Sets.Entries.{entry_value, with_entry, without_entry, retained_entries};
+ghost use Rattle.vortex_stats.specs.Sets.Entries.{value_fits, entries_fit, AreDistinct, SetsAll};
+ghost use Rattle.vortex_stats.specs.Sets.Entries.{is_value_of as value_is_of};
 
 use crate::error::StatsError;
 use crate::precision::Precision;
@@ -44,7 +44,7 @@ impl Model for StatsSet {
     ghost use Rattle.vortex_base.specs.declared.scalar_value.ScalarValue.{ScalarValue};
     ghost use Rattle.vortex_stats.specs.declared.stat.Stat.{Stat};
     ghost use Rattle.vortex_stats.specs.declared.precision.Precision.{Precision};
-    ghost use Rattle.vortex_stats.specs.Slots.{slot_entries, IsSound};
+    ghost use Rattle.vortex_stats.specs.Sets.Slots.{slot_entries, IsSound};
 
     ghost Value = { List (Stat × Precision ScalarValue) };
 
@@ -314,7 +314,7 @@ impl<'a> Model for StatsSetIter<'a> {
     ghost use Rattle.vortex_base.specs.declared.scalar_value.ScalarValue.{ScalarValue};
     ghost use Rattle.vortex_stats.specs.declared.stat.Stat.{Stat};
     ghost use Rattle.vortex_stats.specs.declared.precision.Precision.{Precision};
-    ghost use Rattle.vortex_stats.specs.Slots.{slot_entries, AreLeft};
+    ghost use Rattle.vortex_stats.specs.Sets.Slots.{slot_entries, AreLeft};
 
     ghost Value = { List (Stat × Precision ScalarValue) };
 
@@ -351,7 +351,7 @@ impl Model for StatsSetIntoIter {
     ghost use Rattle.vortex_base.specs.declared.scalar_value.ScalarValue.{ScalarValue};
     ghost use Rattle.vortex_stats.specs.declared.stat.Stat.{Stat};
     ghost use Rattle.vortex_stats.specs.declared.precision.Precision.{Precision};
-    ghost use Rattle.vortex_stats.specs.Slots.{slot_entries, AreLeft};
+    ghost use Rattle.vortex_stats.specs.Sets.Slots.{slot_entries, AreLeft};
 
     ghost Value = { List (Stat × Precision ScalarValue) };
 

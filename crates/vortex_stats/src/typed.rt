@@ -1,15 +1,15 @@
 //! Views of a set under the type of its column, which its values fit.
 ghost use Rattle.std.specs.Prelude.{◌≡◌, IfOk, IfErr, OnErr, IsOk, IsTrue, alloc_error};
 ghost use Rattle.vortex_stats.specs.declared.error.StatsError.TheVariants.{Memory};
-ghost use Rattle.vortex_stats.specs.Merges.{merged_ordered, merged_unordered};
-ghost use Rattle.vortex_stats.specs.Combined.{combined, Combines};
+ghost use Rattle.vortex_stats.specs.Merging.Merges.{merged_ordered, merged_unordered};
+ghost use Rattle.vortex_stats.specs.Merging.Combined.{combined, Combines};
 ghost use Rattle.std.specs.Borrow.{sem};
-ghost use Rattle.vortex_base.specs.Values.{is_value};
+ghost use Rattle.vortex_base.specs.Data.Values.{is_value};
 ghost use Rattle.vortex_stats.specs.Precision.{is_present, precision_map, IfPresent};
 ghost use Rattle.vortex_stats.specs.Scalars.{scalar_of};
-ghost use Rattle.vortex_stats.specs.Reading.{IsReadFrom};
-ghost use Rattle.vortex_stats.specs.Entries.{entry_value, entries_fit, value_fits, AreDistinct};
-ghost use Rattle.vortex_stats.specs.TypedStats.{typed_value, with_value, without_value, with_values, AreFitting};
+ghost use Rattle.vortex_stats.specs.Sets.Reading.{IsReadFrom};
+ghost use Rattle.vortex_stats.specs.Sets.Entries.{entry_value, entries_fit, value_fits, AreDistinct};
+ghost use Rattle.vortex_stats.specs.Sets.TypedStats.{typed_value, with_value, without_value, with_values, AreFitting};
 
 use crate::error::StatsError;
 use crate::precision::{Precision, copy_of};
@@ -32,7 +32,7 @@ pub struct TypedStatsSetRef<'a> {
 }
 
 impl<'a> Model for TypedStatsSetRef<'a> {
-    ghost use Rattle.vortex_stats.specs.TypedStats.{TypedStats, AreFitting};
+    ghost use Rattle.vortex_stats.specs.Sets.TypedStats.{TypedStats, AreFitting};
 
     ghost Value = { TypedStats };
 
@@ -142,7 +142,7 @@ pub struct MutTypedStatsSetRef<'a> {
 }
 
 impl StatsSet {
-    ghost use Rattle.vortex_stats.specs.MutTypedStats.{typed_stats};
+    ghost use Rattle.vortex_stats.specs.Sets.MutTypedStats.{typed_stats};
 
     /// A view of the set under the type of its column, which the set fits, as `fits` tells, and keeps
     /// fitting at each write.
@@ -160,7 +160,7 @@ impl StatsSet {
 
 #[tactic(auto, using(crate::proofs::Fitting::fitting))]
 impl<'a> MutTypedStatsSetRef<'a> {
-    ghost use Rattle.vortex_stats.specs.MutTypedStats.{typed_stats};
+    ghost use Rattle.vortex_stats.specs.Sets.MutTypedStats.{typed_stats};
 
     /// The set.
     pub fn values(&self) -> &StatsSet
@@ -211,7 +211,7 @@ impl<'a> MutTypedStatsSetRef<'a> {
 
 #[tactic(auto, using(crate::proofs::Fitting::fitting))]
 impl<'a> MutTypedStatsSetRef<'a> {
-    ghost use Rattle.vortex_stats.specs.MutTypedStats.{typed_stats, rests_if_refused};
+    ghost use Rattle.vortex_stats.specs.Sets.MutTypedStats.{typed_stats, rests_if_refused};
 
     /// The statistics of the array of this set followed by the array of the other, which is viewed under
     /// the same type. `Memory` if a clone of a value is refused, and then the set that was borrowed is
@@ -263,7 +263,7 @@ impl<'a> MutTypedStatsSetRef<'a> {
 }
 
 impl<'a> StatsProvider for MutTypedStatsSetRef<'a> {
-    ghost use Rattle.vortex_stats.specs.MutTypedStats.{typed_stats};
+    ghost use Rattle.vortex_stats.specs.Sets.MutTypedStats.{typed_stats};
 
     ghost typed = { typed_stats };
 

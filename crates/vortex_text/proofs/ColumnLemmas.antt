@@ -1,7 +1,7 @@
 -- Columns that take the words of a row, one after another.
 use Rattle.std.proofs.Common.{◌≡◌, ◌<◌, ◌≤◌, ◌+◌, ℕ, zero, suc, List, [], ◌∷◌, ◌++◌, Option, None, Some, Result, Ok, Err, option_map, option_and_then, length, set, get_or, take, drop, refl, ap, sym, ◌∙◌, append_assoc, append-nil, add-one, drop-cons, arith}
 use Rattle.std.proofs.lemmas.List.{drop_all, take_all, take_more_set}
-use Rattle.vortex_base.specs.Columns.{ColumnData}
+use Rattle.vortex_base.specs.Data.Columns.{ColumnData}
 use Rattle.vortex_text.specs.Columns.{taken, with_values}
 use Rattle.vortex_text.specs.Fails.{Changes, Fails, Gives}
 use Rattle.vortex_text.specs.Words.{Token, no_word}

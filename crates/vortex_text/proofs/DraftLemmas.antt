@@ -1,8 +1,8 @@
 -- Steps of the lines of a text.
 use Rattle.std.proofs.Common.{◌≡◌, ◌<◌, ℕ, true, false, List, [], ◌∷◌, ◌++◌, Option, None, Some, String, is_some, length, option_map, refl, arith}
 use Rattle.std.specs.declared.alloc.Global.{Global}
-use Rattle.vortex_base.specs.Scopes.{named_columns}
-use Rattle.vortex_base.specs.Tree.{Tree, Place}
+use Rattle.vortex_base.specs.Data.Scopes.{named_columns}
+use Rattle.vortex_base.specs.Trees.Tree.{Tree, Place}
 use Rattle.vortex_base.specs.declared.dtype.DType.{DType}
 use Rattle.vortex_prune.specs.Part.{PartData}
 use Rattle.vortex_text.proofs.ColumnLemmas.{fails_on}

@@ -2,9 +2,9 @@
 use Rattle.std.proofs.Common.{◌≡◌, ◌<◌, ℕ, List, Option, None, Some, String, length, position, slice_get, refl, ap, sym, ◌∙◌}
 use Rattle.std.specs.declared.alloc.Global.{Global}
 use Rattle.std.proofs.lemmas.List.{length-map}
-use Rattle.vortex_base.proofs.MapLemmas.{position-map}
-use Rattle.vortex_base.specs.Binding.{find_column, found}
-use Rattle.vortex_base.specs.Scopes.{is_named, named, named_columns}
+use Rattle.vortex_base.proofs.Data.MapLemmas.{position-map}
+use Rattle.vortex_base.specs.Meanings.Binding.{find_column, found}
+use Rattle.vortex_base.specs.Data.Scopes.{is_named, named, named_columns}
 use Rattle.vortex_base.specs.declared.dtype.DType.{DType}
 
 pub found_none : (cs : List (String Global × DType)) (name : List ℕ) (o : Option ℕ) → o ≡ position (λ c. is_named name (named c)) cs → o ≡ None

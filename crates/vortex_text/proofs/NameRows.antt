@@ -1,8 +1,8 @@
 -- Worked rows: names and types, computed.
 use Rattle.std.proofs.Common.{◌≡◌, true, false, None, Some, codes, refl}
 use Rattle.vortex_base.specs.declared.dtype.DType.TheVariants as dtype
-use Rattle.vortex_base.specs.declared.nullability.Nullability.TheVariants.{Nullable, NonNullable}
-use Rattle.vortex_base.specs.declared.ptype.PType.TheVariants as ptype
+use Rattle.vortex_base.specs.declared.types.Nullability.TheVariants.{Nullable, NonNullable}
+use Rattle.vortex_base.specs.declared.types.PType.TheVariants as ptype
 use Rattle.vortex_text.specs.Names.{is_name, type_of}
 
 name_by_letters : is_name (codes "_a9") ≡ true

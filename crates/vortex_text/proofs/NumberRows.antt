@@ -1,6 +1,6 @@
 -- Worked rows: numbers and bytes, computed.
 use Rattle.std.proofs.Common.{◌≡◌, pos, negsuc, None, Some, [], ◌∷◌, codes, refl}
-use Rattle.vortex_base.specs.declared.ptype.PType.TheVariants as ptype
+use Rattle.vortex_base.specs.declared.types.PType.TheVariants as ptype
 use Rattle.vortex_base.specs.declared.pvalue.PValue.TheVariants as number
 use Rattle.vortex_text.specs.Numbers.{bytes_of, number_of}
 

@@ -1,8 +1,8 @@
 -- The answers of the parts' own statistics, and what a text's reply is made of.
 use Rattle.std.proofs.Common.{◌≡◌, ℕ, List, [], ◌∷◌, map, refl, ap}
 use Rattle.vortex_prune.specs.Part.{PartData}
-use Rattle.vortex_prune.specs.PartAnswers.{part_values}
-use Rattle.vortex_prune.specs.Scanning.{answered}
+use Rattle.vortex_prune.specs.Binding.PartAnswers.{part_values}
+use Rattle.vortex_prune.specs.Scanning.Selection.{answered}
 use Rattle.vortex_text.specs.Program.{by_statistics}
 
 pub own_answered : (parts : List PartData) → answered (λ (part : PartData) row n. part_values part) parts parts ≡ map by_statistics parts

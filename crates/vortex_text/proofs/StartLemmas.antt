@@ -2,8 +2,8 @@
 use Rattle.std.proofs.Common.{◌≡◌, List, Ok, inl, inr}
 use Rattle.std.specs.List.{list_any}
 use Rattle.std.proofs.lemmas.Bool.{cases_Bool}
-use Rattle.vortex_base.specs.Columns.{ChunkData, ColumnData, chunk_of, has_shape, has_types}
-use Rattle.vortex_base.specs.Scopes.{Named, has_duplicate, is_empty, is_state, scope_of}
+use Rattle.vortex_base.specs.Data.Columns.{ChunkData, ColumnData, chunk_of, has_shape, has_types}
+use Rattle.vortex_base.specs.Data.Scopes.{Named, has_duplicate, is_empty, is_state_column, scope_of}
 
 -- the scope of columns is the columns
 pub scope_is : (cs s : List Named) → scope_of cs ≡ Ok s → s ≡ cs
@@ -11,7 +11,7 @@ scope_is cs s h = elim (cases_Bool (is_empty cs)) [
   | inl empty ↦ (let e = rw empty at h in cc)
   | inr some ↦ (elim (cases_Bool (has_duplicate cs)) [
     | inl twice ↦ (let e = rw (some, twice) at h in cc)
-    | inr once ↦ (elim (cases_Bool (list_any is_state cs)) [
+    | inr once ↦ (elim (cases_Bool (list_any is_state_column cs)) [
       | inl state ↦ (let e = rw (some, once, state) at h in cc)
       | inr none ↦ (let e = rw (some, once, none) at h in cc)
     ])

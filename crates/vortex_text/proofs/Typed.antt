@@ -1,8 +1,8 @@
 -- What a fault of the layer below says of a line.
 use Rattle.std.proofs.Common.{◌≡◌, None, Result, Ok, Err, refl, ap, sym}
 use Rattle.vortex_base.specs.Answer.{Answers, Builds}
-use Rattle.vortex_base.specs.Tree.{Tree, Place}
-use Rattle.vortex_base.specs.Typing.{type_of}
+use Rattle.vortex_base.specs.Trees.Tree.{Tree, Place}
+use Rattle.vortex_base.specs.Meanings.Typing.{type_of}
 use Rattle.vortex_base.specs.declared.dtype.DType.{DType}
 use Rattle.vortex_base.specs.declared.error.BaseError.{BaseError}
 use Rattle.vortex_base.specs.declared.error.BaseError.TheVariants as fault

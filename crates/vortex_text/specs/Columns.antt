@@ -1,8 +1,8 @@
 -- The columns of a part and their sets, as lines add to them.
 use Rattle.std.specs.Prelude.{ℕ, List, [], ◌∷◌, ◌++◌, Option, Some, None, option_map, slice_set}
-use Rattle.vortex_base.specs.Columns.{ColumnData}
+use Rattle.vortex_base.specs.Data.Columns.{ColumnData}
 use Rattle.vortex_base.specs.declared.scalar_value.ScalarValue.{ScalarValue}
-use Rattle.vortex_stats.specs.Entries.{with_entry}
+use Rattle.vortex_stats.specs.Sets.Entries.{with_entry}
 use Rattle.vortex_stats.specs.declared.precision.Precision.{Precision}
 use Rattle.vortex_stats.specs.declared.stat.Stat.{Stat}
 use Rattle.vortex_text.specs.Fails.{◌>>=◌}

@@ -1,6 +1,6 @@
 -- What lines say, as it is held.
 use Rattle.std.specs.Prelude.{option_map}
-use Rattle.vortex_base.specs.Scopes.{named_columns}
+use Rattle.vortex_base.specs.Data.Scopes.{named_columns}
 use Rattle.vortex_text.specs.Lines.{Reading}
 use Rattle.vortex_text.specs.OpenParts.{open_data}
 use Rattle.vortex_text.specs.declared.draft.Draft.{Draft}

@@ -1,8 +1,8 @@
 -- What the lines of a text say, one after another.
 use Rattle.std.specs.Prelude.{ℕ, Bool, true, false, nat_le, List, [], ◌∷◌, ◌++◌, Option, None, Some, codes, is_some, length, if◌then◌else◌}
 use Rattle.std.specs.Str.{bytes_eq, is_utf8}
-use Rattle.vortex_base.specs.Scopes.{Named, is_empty, place_of}
-use Rattle.vortex_base.specs.Tree.{Tree, Place}
+use Rattle.vortex_base.specs.Data.Scopes.{Named, is_empty, place_of}
+use Rattle.vortex_base.specs.Trees.Tree.{Tree, Place}
 use Rattle.vortex_base.specs.declared.dtype.DType.{DType}
 use Rattle.vortex_base.specs.declared.scalar_value.ScalarValue.{ScalarValue}
 use Rattle.vortex_prune.specs.Part.{PartData}

@@ -5,10 +5,10 @@ use Rattle.std.specs.List.{list_all}
 use Rattle.std.specs.Str.{bytes_eq}
 use Rattle.vortex_base.specs.declared.dtype.DType.{DType}
 use Rattle.vortex_base.specs.declared.dtype.DType.TheVariants as dtype
-use Rattle.vortex_base.specs.declared.nullability.Nullability.{Nullability}
-use Rattle.vortex_base.specs.declared.nullability.Nullability.TheVariants.{Nullable, NonNullable}
-use Rattle.vortex_base.specs.declared.ptype.PType.{PType}
-use Rattle.vortex_base.specs.declared.ptype.PType.TheVariants as ptype
+use Rattle.vortex_base.specs.declared.types.Nullability.{Nullability}
+use Rattle.vortex_base.specs.declared.types.Nullability.TheVariants.{Nullable, NonNullable}
+use Rattle.vortex_base.specs.declared.types.PType.{PType}
+use Rattle.vortex_base.specs.declared.types.PType.TheVariants as ptype
 
 -- begins a name: a letter or an underscore
 abbrev pub begins_name : ℕ → Bool

@@ -1,6 +1,6 @@
 -- Parts that still take rows, as they are held.
 use Rattle.std.specs.Prelude.{List}
-use Rattle.vortex_base.specs.Scopes.{Named}
+use Rattle.vortex_base.specs.Data.Scopes.{Named}
 use Rattle.vortex_prune.specs.Part.{PartData}
 use Rattle.vortex_text.specs.declared.open_part.OpenPart.{OpenPart}
 

@@ -2,12 +2,12 @@
 use Rattle.std.specs.Prelude.{◌≡◌, ◌≤◌, ◌<◌, ◌⊎◌, ℕ, List, [], ◌∷◌, ◌++◌, Option, Result, Ok, Err, IsTrue, codes, length, map, if◌then◌else◌}
 use Rattle.std.specs.Io.KnownBytes.{Appends}
 use Rattle.std.specs.List.{AllByRecursion}
-use Rattle.vortex_base.specs.Tree.{Tree, Place}
+use Rattle.vortex_base.specs.Trees.Tree.{Tree, Place}
 use Rattle.vortex_prune.specs.Part.{IsTruePart, PartData}
-use Rattle.vortex_prune.specs.PartAnswers.{part_values}
-use Rattle.vortex_prune.specs.Predicates.{is_predicate}
-use Rattle.vortex_prune.specs.Rewriting.{falsifier}
-use Rattle.vortex_prune.specs.Scanning.{Answered, full, selected_rows, skipped_parts}
+use Rattle.vortex_prune.specs.Binding.PartAnswers.{part_values}
+use Rattle.vortex_prune.specs.Rewriting.Predicates.{is_predicate}
+use Rattle.vortex_prune.specs.Rewriting.Falsifiers.{falsifier}
+use Rattle.vortex_prune.specs.Scanning.Selection.{Answered, full, selected_rows, skipped_parts}
 use Rattle.vortex_text.specs.declared.streams.TheConstants.{INPUT_LIMIT}
 use Rattle.vortex_text.specs.Naming.{Query, named}
 use Rattle.vortex_text.specs.Printing.{bad_text, scan_text}

@@ -1,7 +1,7 @@
 -- The parts that lines make: rows, statistics and joins.
 use Rattle.std.specs.Prelude.{ℕ, ◌+◌, List, [], ◌∷◌, ◌++◌, Option, Some, None, map, take, drop, slice_get}
-use Rattle.vortex_base.specs.Columns.{ColumnData}
-use Rattle.vortex_base.specs.Scopes.{Named}
+use Rattle.vortex_base.specs.Data.Columns.{ColumnData}
+use Rattle.vortex_base.specs.Data.Scopes.{Named}
 use Rattle.vortex_base.specs.declared.scalar_value.ScalarValue.{ScalarValue}
 use Rattle.vortex_prune.specs.Part.{PartData, joined}
 use Rattle.vortex_stats.specs.declared.precision.Precision.{Precision}

@@ -1,6 +1,6 @@
 //! What the lines of a text say, line by line.
 ghost use Rattle.std.specs.Prelude.{◌≡◌, IfOk, OnOk, MatchOption, None, Some};
-ghost use Rattle.vortex_base.specs.Scopes.{named_columns};
+ghost use Rattle.vortex_base.specs.Data.Scopes.{named_columns};
 ghost use Rattle.vortex_text.specs.Drafts.{reading_of};
 ghost use Rattle.vortex_text.specs.Fails.{Changes};
 ghost use Rattle.vortex_text.specs.Lines.{has_part, is_new, nothing_read, parts_of};

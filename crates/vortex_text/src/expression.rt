@@ -1,8 +1,8 @@
 //! Expressions in prefix form.
 ghost use Rattle.std.specs.Prelude.{◌≡◌, ◌<◌, ◌≤◌, ℕ, IfOk, IfSome, length, option_map, position};
-ghost use Rattle.vortex_base.specs.Binding.{find_column};
-ghost use Rattle.vortex_base.specs.Scopes.{is_named, named, named_columns};
-ghost use Rattle.vortex_base.specs.Tree as tree;
+ghost use Rattle.vortex_base.specs.Meanings.Binding.{find_column};
+ghost use Rattle.vortex_base.specs.Data.Scopes.{is_named, named, named_columns};
+ghost use Rattle.vortex_base.specs.Trees.Tree as tree;
 ghost use Rattle.vortex_text.specs.Expressions as spec;
 ghost use Rattle.vortex_text.specs.Fails.{Gives};
 ghost use Rattle.vortex_text.specs.Words.{words};
@@ -13,15 +13,14 @@ use crate::names::type_of;
 use crate::value::optional_value_of;
 use crate::word::{first_word, no_word, plain_word};
 use std::alloc::Global;
-use vortex_base::between::BetweenOptions;
 use vortex_base::bound;
 use vortex_base::bound_expression::BoundExpression;
 use vortex_base::dtype::DType;
 use vortex_base::error::BaseError;
 use vortex_base::like::LikeOptions;
-use vortex_base::operator::Operator;
 use vortex_base::scalar::Scalar;
 use vortex_base::scalar_value::ScalarValue;
+use vortex_base::types::{BetweenOptions, Operator};
 
 impl From<BaseError> for LineError {
     ghost from_gives = { λ e r. r ≡ spec.line_error_of e };

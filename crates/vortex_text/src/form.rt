@@ -3,9 +3,8 @@ ghost use Rattle.std.specs.Prelude.{◌≡◌};
 ghost use Rattle.vortex_text.specs.Expressions.{form_of, like_of, operator_of, strictness_of};
 
 use crate::names::is;
-use vortex_base::between::StrictComparison;
 use vortex_base::like::LikeOptions;
-use vortex_base::operator::Operator;
+use vortex_base::types::{Operator, StrictComparison};
 
 /// What stands behind the first word of an expression.
 #[derive(Clone, Copy, Debug)]

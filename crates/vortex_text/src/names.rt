@@ -5,8 +5,7 @@ ghost use Rattle.std.specs.Str.{bytes_eq};
 ghost use Rattle.vortex_text.specs.Names.{begins_name, continues_name, is_name, kind_of, ptype_of, type_of};
 
 use vortex_base::dtype::DType;
-use vortex_base::nullability::Nullability;
-use vortex_base::ptype::PType;
+use vortex_base::types::{Nullability, PType};
 
 /// The longest name of a column, in bytes.
 const NAME_LIMIT: usize = 64;

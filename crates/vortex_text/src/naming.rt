@@ -1,6 +1,6 @@
 //! What a whole text names.
 ghost use Rattle.std.specs.Prelude.{◌≡◌, ◌↔◌, ℕ, List, Ok, Err};
-ghost use Rattle.vortex_base.specs.Tree.{Tree, Place};
+ghost use Rattle.vortex_base.specs.Trees.Tree.{Tree, Place};
 ghost use Rattle.vortex_prune.specs.Part.{PartData};
 ghost use Rattle.vortex_text.specs.Naming.{IsFirstBad, IsNamed, NamesQuery, named};
 

@@ -2,8 +2,8 @@
 ghost use Rattle.std.specs.Prelude.{◌≡◌, true, option_and_then};
 ghost use Rattle.vortex_text.specs.Numbers.{in_64_bits, in_64_bits_signed, natural_of, number_of, whole_of, with_digit};
 
-use vortex_base::ptype::PType;
 use vortex_base::pvalue::PValue;
+use vortex_base::types::PType;
 
 // A number with one more digit behind it, as far as 64 bits hold it.
 fn with_digit(number: u64, digit: u8) -> Option<u64>

@@ -21,7 +21,7 @@ pub struct OpenColumn {
 }
 
 impl Model for OpenColumn {
-    ghost use Rattle.vortex_base.specs.Columns.{ColumnData};
+    ghost use Rattle.vortex_base.specs.Data.Columns.{ColumnData};
 
     ghost Value = { ColumnData };
 

@@ -1,6 +1,6 @@
 //! A part that still takes rows and statistics.
 ghost use Rattle.std.specs.Prelude.{◌≡◌, ◌++◌, IfOk, slice_get};
-ghost use Rattle.vortex_base.specs.Scopes.{Named};
+ghost use Rattle.vortex_base.specs.Data.Scopes.{Named};
 ghost use Rattle.vortex_text.specs.Columns.{set_at};
 ghost use Rattle.vortex_text.specs.OpenParts.{open_data};
 

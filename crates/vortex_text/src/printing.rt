@@ -4,7 +4,7 @@ ghost use Rattle.std.specs.List.{flat_map};
 ghost use Rattle.vortex_text.specs.Printing.{bad_text, part_text, row_text, scan_text};
 
 use std::alloc::{AllocError, Global};
-use vortex_prune::outcome::Scan;
+use vortex_prune::scan::outcome::Scan;
 
 fn print_parts(text: &mut String, parts: &[usize]) -> Result<(), AllocError>
     ensures { OnOk result (string_bytes text.new ≡ string_bytes text.old ++ flat_map part_text parts.now) }

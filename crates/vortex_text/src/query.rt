@@ -2,19 +2,19 @@
 ghost use Rattle.std.specs.Prelude.{◌≡◌, All, IfOk, IfSome, IsTrue, is_some};
 ghost use Rattle.std.specs.Bool.{OnTrue};
 ghost use Rattle.std.specs.List.{AllByRecursion};
-ghost use Rattle.vortex_base.specs.Fitting.{fits_scope};
+ghost use Rattle.vortex_base.specs.Meanings.Fitting.{fits_scope};
 ghost use Rattle.vortex_prune.specs.Part.{IsTruePart};
-ghost use Rattle.vortex_prune.specs.Predicates.{is_predicate};
-ghost use Rattle.vortex_prune.specs.Scanning.{full};
+ghost use Rattle.vortex_prune.specs.Rewriting.Predicates.{is_predicate};
+ghost use Rattle.vortex_prune.specs.Scanning.Selection.{full};
 ghost use Rattle.vortex_text.specs.Program.{selected, skipped};
 
 use std::alloc::{AllocError, Global};
 use vortex_base::bound_expression::BoundExpression;
-use vortex_prune::outcome::Scan;
+use vortex_prune::bind::stats_binder::StatsBinder;
 use vortex_prune::part::Part;
-use vortex_prune::rules::Rules;
+use vortex_prune::rewrite::rules::Rules;
+use vortex_prune::scan::outcome::Scan;
 use vortex_prune::scan::scan;
-use vortex_prune::stats_binder::StatsBinder;
 use vortex_stats::error::StatsError;
 
 // The binder of each part's own statistics.

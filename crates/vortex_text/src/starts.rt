@@ -1,6 +1,6 @@
 //! The scope and the empty parts of the columns of a text.
 ghost use Rattle.std.specs.Prelude.{◌≡◌, IfOk};
-ghost use Rattle.vortex_base.specs.Scopes.{named_columns};
+ghost use Rattle.vortex_base.specs.Data.Scopes.{named_columns};
 ghost use Rattle.vortex_text.specs.OpenParts.{open_data};
 ghost use Rattle.vortex_text.specs.Rows.{empty_part};
 

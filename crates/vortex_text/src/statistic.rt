@@ -1,6 +1,6 @@
 //! The words of a `stat` line.
 ghost use Rattle.std.specs.Prelude.{◌≡◌};
-ghost use Rattle.vortex_base.specs.Scopes.{named_columns};
+ghost use Rattle.vortex_base.specs.Data.Scopes.{named_columns};
 ghost use Rattle.vortex_text.specs.Fails.{Gives};
 ghost use Rattle.vortex_text.specs.Statistics.{claimed, claimed_value, precision_of, stat_of, truth_stat_of};
 ghost use Rattle.vortex_text.specs.Words.{words};

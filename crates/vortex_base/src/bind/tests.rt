@@ -1,15 +1,13 @@
 //! Tests of binding.
 use super::*;
 use crate::aggregate::AggregateFnRef;
-use crate::between::{BetweenOptions, StrictComparison};
 use crate::like::LikeOptions;
-use crate::nullability::Nullability;
-use crate::ptype::PType;
 use crate::row::Row;
 use crate::scalar::Scalar;
 use crate::scalar_value::ScalarValue;
 use crate::testing::{bind, copy, evaluated, named, placed};
 use crate::text::Text;
+use crate::types::{BetweenOptions, Nullability, PType, StrictComparison};
 use std::process::Abort;
 use std::test::Fail;
 

@@ -1,12 +1,8 @@
 //! Tests of the constructors of typed expressions.
 use super::*;
-use crate::between::StrictComparison;
-use crate::element::Element;
-use crate::expr_kind::ExprKind;
-use crate::nullability::Nullability;
-use crate::ptype::PType;
 use crate::scalar_value::ScalarValue;
 use crate::testing::placed;
+use crate::types::{Element, ExprKind, Nullability, PType, StrictComparison};
 use std::test::Fail;
 
 const BOOL: DType = DType::Bool(Nullability::NonNullable);

@@ -1,13 +1,11 @@
 //! Tests of typed expressions as trees.
 use super::*;
-use crate::between::StrictComparison;
+use crate::bound_expression::parts::Parts;
 use crate::error::BaseError;
-use crate::nullability::Nullability;
-use crate::parts::Parts;
-use crate::ptype::PType;
 use crate::scalar_value::ScalarValue;
 use crate::scope::Scope;
 use crate::testing::{copy, placed};
+use crate::types::{Nullability, PType, StrictComparison};
 use std::alloc::Global;
 use std::test::Fail;
 

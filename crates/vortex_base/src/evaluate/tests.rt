@@ -1,15 +1,13 @@
 //! Tests of evaluation.
 use super::*;
 use crate::aggregate::AggregateFnRef;
-use crate::between::StrictComparison;
 use crate::chunk::Chunk;
 use crate::column::Column;
 use crate::dtype::DType;
-use crate::nullability::Nullability;
-use crate::ptype::PType;
 use crate::scope::Scope;
 use crate::testing::{evaluated, placed};
 use crate::text::Text;
+use crate::types::{Nullability, PType, StrictComparison};
 use std::alloc::Global;
 use std::test::Fail;
 

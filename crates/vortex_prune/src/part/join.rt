@@ -1,10 +1,10 @@
 //! Parts joined to one.
 ghost use Rattle.std.specs.Prelude.{◌≡◌, ◌+◌, ◌<◌, ◌^◌, IfErr, IfOk, IsTrue, OnOk, alloc_error, length, nat_lt, slice_get, Some};
 ghost use Rattle.std.specs.Bool.{MatchBool};
-ghost use Rattle.vortex_base.specs.Columns.{sizes_fit};
+ghost use Rattle.vortex_base.specs.Data.Columns.{sizes_fit};
 ghost use Rattle.vortex_prune.specs.Part.{Entries, IsPart, IsTruePart, joined, merged_sets, sets_fit};
-ghost use Rattle.vortex_stats.specs.Entries.{entries_fit};
-ghost use Rattle.vortex_stats.specs.Merges.{merged_ordered};
+ghost use Rattle.vortex_stats.specs.Sets.Entries.{entries_fit};
+ghost use Rattle.vortex_stats.specs.Merging.Merges.{merged_ordered};
 ghost use Rattle.vortex_stats.specs.declared.error.StatsError.TheVariants.{Memory, TooLarge};
 
 use crate::part::{JoinRefused, Part};

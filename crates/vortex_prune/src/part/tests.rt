@@ -6,12 +6,11 @@ use std::test::Fail;
 use vortex_base::column::Column;
 use vortex_base::dtype::DType;
 use vortex_base::error::BaseError;
-use vortex_base::nullability::Nullability;
-use vortex_base::ptype::PType;
 use vortex_base::pvalue::PValue;
 use vortex_base::scalar_value::ScalarValue;
 use vortex_base::scope::Scope;
 use vortex_base::text::Text;
+use vortex_base::types::{Nullability, PType};
 use vortex_stats::precision::Precision;
 use vortex_stats::stat::Stat;
 

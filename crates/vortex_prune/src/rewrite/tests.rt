@@ -4,13 +4,11 @@ use crate::testing::*;
 use std::process::Abort;
 use std::test::Fail;
 use vortex_base::aggregate::AggregateFnRef;
-use vortex_base::between::{BetweenOptions, StrictComparison};
 use vortex_base::dtype::DType;
 use vortex_base::like::LikeOptions;
-use vortex_base::nullability::Nullability;
-use vortex_base::ptype::PType;
 use vortex_base::scalar_value::ScalarValue;
 use vortex_base::text::Text;
+use vortex_base::types::{BetweenOptions, Nullability, PType, StrictComparison};
 
 mod ends;
 mod own;

@@ -1,24 +1,21 @@
 // Scans over parts of one column of numbers, row by row.
 ghost use Rattle.std.specs.Bool.{OnTrue};
 ghost use Rattle.std.specs.Prelude.{◌≡◌, All, IfOk, IsTrue};
-ghost use Rattle.vortex_base.specs.Fitting.{fits_scope};
+ghost use Rattle.vortex_base.specs.Meanings.Fitting.{fits_scope};
 
 use super::*;
-use crate::stats_binder::StatsBinder;
+use crate::bind::stats_binder::StatsBinder;
 use std::alloc::AllocError;
 use std::test::Fail;
-use vortex_base::between::{BetweenOptions, StrictComparison};
 use vortex_base::bound;
 use vortex_base::chunk::Chunk;
 use vortex_base::column::Column;
 use vortex_base::dtype::DType;
 use vortex_base::error::BaseError;
-use vortex_base::nullability::Nullability;
-use vortex_base::operator::Operator;
-use vortex_base::ptype::PType;
 use vortex_base::scalar::Scalar;
 use vortex_base::scalar_value::ScalarValue;
 use vortex_base::scope::Scope;
+use vortex_base::types::{BetweenOptions, Nullability, Operator, PType, StrictComparison};
 use vortex_stats::precision::Precision;
 use vortex_stats::stat::Stat;
 use vortex_stats::stats_set::StatsSet;

@@ -2,8 +2,7 @@
 use super::*;
 use std::alloc::Global;
 use std::test::Fail;
-use vortex_base::nullability::Nullability;
-use vortex_base::ptype::PType;
+use vortex_base::types::{Nullability, PType};
 
 const I32: DType = DType::Primitive(PType::I32, Nullability::NonNullable);
 

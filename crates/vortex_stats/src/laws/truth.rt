@@ -2,14 +2,14 @@
 //! each claims what holds of the column's values and size.
 ghost use Rattle.std.specs.Prelude.{◌≡◌, ◌↔◌, List, false, None, Contains, IsTrue};
 ghost use Rattle.vortex_base.specs.declared.scalar_value.ScalarValue.{ScalarValue};
-ghost use Rattle.vortex_base.specs.Columns.{ColumnData};
+ghost use Rattle.vortex_base.specs.Data.Columns.{ColumnData};
 ghost use Rattle.vortex_stats.specs.declared.precision.Precision.{Precision};
 ghost use Rattle.vortex_stats.specs.declared.stat.Stat.{Stat};
 ghost use Rattle.vortex_stats.specs.declared.stat.Stat.TheVariants.{IsSorted, IsStrictSorted};
-ghost use Rattle.vortex_stats.specs.Claims.{Claims, IsTrueOf, IsReordered, appended};
-ghost use Rattle.vortex_stats.specs.Combined.{combined};
-ghost use Rattle.vortex_stats.specs.Entries.{AreDistinct, entries_fit, has_entry, entry_value, with_entry, without_entry, retained_entries};
-ghost use Rattle.vortex_stats.specs.Merges.{merged_ordered, merged_unordered};
+ghost use Rattle.vortex_stats.specs.Sets.Claims.{Claims, IsTrueOf, IsReordered, appended};
+ghost use Rattle.vortex_stats.specs.Merging.Combined.{combined};
+ghost use Rattle.vortex_stats.specs.Sets.Entries.{AreDistinct, entries_fit, has_entry, entry_value, with_entry, without_entry, retained_entries};
+ghost use Rattle.vortex_stats.specs.Merging.Merges.{merged_ordered, merged_unordered};
 ghost use Rattle.vortex_stats.specs.Precision.{inexact_of};
 
 /// A set whose values are of their statistics' types is true of a column exactly if each of its

@@ -1,12 +1,12 @@
 //! Callers that know a set by its list alone.
 ghost use Rattle.std.specs.Prelude.{◌≡◌, ◌⊎◌, IfOk, IfErr, OnOk, OnErr, IsTrue, length, map, alloc_error};
-ghost use Rattle.vortex_base.specs.Columns.{ColumnData};
-ghost use Rattle.vortex_base.specs.Values.{is_value};
+ghost use Rattle.vortex_base.specs.Data.Columns.{ColumnData};
+ghost use Rattle.vortex_base.specs.Data.Values.{is_value};
 ghost use Rattle.vortex_stats.specs.declared.error.StatsError.TheVariants.{Memory};
-ghost use Rattle.vortex_stats.specs.Claims.{IsTrueOf};
-ghost use Rattle.vortex_stats.specs.Merges.{merged_ordered, merged_unordered};
-ghost use Rattle.vortex_stats.specs.Combined.{combined, Combines};
-ghost use Rattle.vortex_stats.specs.Entries.{entries_fit, value_fits, with_entry, without_entry};
+ghost use Rattle.vortex_stats.specs.Sets.Claims.{IsTrueOf};
+ghost use Rattle.vortex_stats.specs.Merging.Merges.{merged_ordered, merged_unordered};
+ghost use Rattle.vortex_stats.specs.Merging.Combined.{combined, Combines};
+ghost use Rattle.vortex_stats.specs.Sets.Entries.{entries_fit, value_fits, with_entry, without_entry};
 
 use crate::error::StatsError;
 use crate::laws::truth::{combinations_stay_true, true_sets_agree};

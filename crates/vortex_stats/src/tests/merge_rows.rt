@@ -4,9 +4,9 @@ ghost use Rattle.vortex_base.specs.declared.pvalue.PValue.TheVariants as number;
 ghost use Rattle.vortex_base.specs.declared.scalar_value.ScalarValue.TheVariants as value;
 ghost use Rattle.vortex_stats.specs.declared.precision.Precision.TheVariants.{Exact, Inexact, Absent};
 ghost use Rattle.vortex_stats.specs.declared.stat.Stat.TheVariants as stats;
-ghost use Rattle.vortex_stats.specs.Merges.{merged_ordered, merged_unordered, merged_by_steps};
-ghost use Rattle.vortex_stats.specs.Combined.{combined};
-ghost use Rattle.vortex_stats.specs.MergeRows.{i32, i64, u64, holds, fails, unknown};
+ghost use Rattle.vortex_stats.specs.Merging.Merges.{merged_ordered, merged_unordered, merged_by_steps};
+ghost use Rattle.vortex_stats.specs.Merging.Combined.{combined};
+ghost use Rattle.vortex_stats.specs.Merging.MergeRows.{i32, i64, u64, holds, fails, unknown};
 
 /// Sums and counts that leave their type, and sums that stay.
 fn overflowing_sums()

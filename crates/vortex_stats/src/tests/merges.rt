@@ -7,10 +7,9 @@ use crate::stats_set::StatsSet;
 use std::alloc::{AllocError, Global};
 use std::test::Fail;
 use vortex_base::dtype::DType;
-use vortex_base::nullability::Nullability;
-use vortex_base::ptype::PType;
 use vortex_base::scalar_value::ScalarValue;
 use vortex_base::text::Text;
+use vortex_base::types::{Nullability, PType};
 
 type Entry = (Stat, Precision<ScalarValue>);
 

@@ -5,11 +5,10 @@ use crate::stat::{IsConstant, Max, Min, Sum};
 use crate::stat_bound::StatBound;
 use std::test::Fail;
 use vortex_base::dtype::DType;
-use vortex_base::nullability::Nullability;
-use vortex_base::ptype::PType;
 use vortex_base::scalar::Scalar;
 use vortex_base::scalar_value::ScalarValue;
 use vortex_base::text::Text;
+use vortex_base::types::{Nullability, PType};
 
 const CASES: [Precision<u8>; 3] = [
     Precision::Exact(7),

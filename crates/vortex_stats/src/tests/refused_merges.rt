@@ -9,7 +9,7 @@ use crate::stats_set::StatsSet;
 use std::alloc::Global;
 use std::process::Abort;
 use vortex_base::dtype::DType;
-use vortex_base::nullability::Nullability;
+use vortex_base::types::Nullability;
 
 const UTF8: DType = DType::Utf8(Nullability::NonNullable);
 

@@ -8,10 +8,9 @@ use smallvec::SmallVec;
 use std::alloc::Global;
 use std::test::Fail;
 use vortex_base::dtype::DType;
-use vortex_base::nullability::Nullability;
-use vortex_base::ptype::PType;
 use vortex_base::scalar_value::ScalarValue;
 use vortex_base::text::Text;
+use vortex_base::types::{Nullability, PType};
 
 const I32: DType = DType::Primitive(PType::I32, Nullability::NonNullable);
 

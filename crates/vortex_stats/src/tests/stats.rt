@@ -5,8 +5,7 @@ use std::alloc::AllocError;
 use std::test::Fail;
 use vortex_base::aggregate::AggregateFnRef;
 use vortex_base::dtype::DType;
-use vortex_base::nullability::Nullability;
-use vortex_base::ptype::PType;
+use vortex_base::types::{Nullability, PType};
 
 const NAMES: [&str; 9] = [
     "is_constant",

@@ -3,10 +3,10 @@
 ghost use Rattle.std.specs.Prelude.{◌≡◌, [], ◌∷◌, Some, None};
 ghost use Rattle.std.specs.Ordering.{nat_cmp};
 ghost use Rattle.vortex_stats.specs.declared.precision.Precision.TheVariants.{Exact, Inexact, Absent};
-ghost use Rattle.vortex_stats.specs.Order.{greater, lesser};
-ghost use Rattle.vortex_stats.specs.UpperBound.{upper_allows, upper_union};
-ghost use Rattle.vortex_stats.specs.LowerBound.{lower_allows, lower_union};
-ghost use Rattle.vortex_stats.specs.Tightest.{leaf, fork, tree_union, IsTightestAt, IsGreatestOf, IsLeastOf};
+ghost use Rattle.vortex_stats.specs.Bounds.Order.{greater, lesser};
+ghost use Rattle.vortex_stats.specs.Bounds.UpperBound.{upper_allows, upper_union};
+ghost use Rattle.vortex_stats.specs.Bounds.LowerBound.{lower_allows, lower_union};
+ghost use Rattle.vortex_stats.specs.Bounds.Tightest.{leaf, fork, tree_union, IsTightestAt, IsGreatestOf, IsLeastOf};
 
 /// Three upper bounds in several groupings and orders: the greatest value is exact where an exact
 /// bound has it, whatever the others are.

@@ -7,10 +7,9 @@ use crate::stat::Stat;
 use crate::stats_set::StatsSet;
 use std::test::Fail;
 use vortex_base::dtype::DType;
-use vortex_base::nullability::Nullability;
-use vortex_base::ptype::PType;
 use vortex_base::scalar::Scalar;
 use vortex_base::scalar_value::ScalarValue;
+use vortex_base::types::{Nullability, PType};
 
 const I32: DType = DType::Primitive(PType::I32, Nullability::Nullable);
 

@@ -1,5 +1,5 @@
 use Rattle.std.proofs.Common.{◌∷◌, ap, is_ok, sym, ◌∙◌}
-use Rattle.vortex_base.proofs.AppendLemmas.{appended_fit}
+use Rattle.vortex_base.proofs.Data.AppendLemmas.{appended_fit}
 use Rattle.vortex_base.specs.contracts.column.Column.{the_view}
 use Rattle.vortex_base.proofs.column.+append_all.Goals as goal
 

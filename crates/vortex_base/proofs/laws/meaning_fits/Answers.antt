@@ -1,4 +1,4 @@
-use Rattle.vortex_base.proofs.MeaningFits.{meaning-fits}
+use Rattle.vortex_base.proofs.Meanings.MeaningFits.{meaning-fits}
 use Rattle.vortex_base.proofs.laws.meaning_fits.Goals as goal
 
 pub returns : goal.returns

@@ -1,4 +1,4 @@
-use Rattle.vortex_base.proofs.MeaningTyped.{meaning-typed, null-where-nullable}
+use Rattle.vortex_base.proofs.Meanings.MeaningTyped.{meaning-typed, null-where-nullable}
 use Rattle.vortex_base.proofs.laws.meaning_is_typed.Goals as goal
 
 pub returns-clause-typed : goal.returns-clause-typed

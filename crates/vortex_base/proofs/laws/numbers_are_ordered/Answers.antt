@@ -1,4 +1,4 @@
-use Rattle.vortex_base.proofs.OrderLemmas.{pvalue_cmp-total, pvalue_cmp-ties}
+use Rattle.vortex_base.proofs.Data.OrderLemmas.{pvalue_cmp-total, pvalue_cmp-ties}
 use Rattle.vortex_base.proofs.laws.numbers_are_ordered.Goals as goal
 
 pub returns : goal.returns

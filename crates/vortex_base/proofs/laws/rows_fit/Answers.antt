@@ -1,4 +1,4 @@
-use Rattle.vortex_base.proofs.RowsFit.{rows-fit, rows-match}
+use Rattle.vortex_base.proofs.Data.RowsFit.{rows-fit, rows-match}
 use Rattle.vortex_base.proofs.laws.rows_fit.Goals as goal
 
 pub returns-clause-fit : goal.returns-clause-fit

@@ -1,4 +1,4 @@
-use Rattle.vortex_base.proofs.OrderLemmas.{value_cmp-total, value_cmp-ties}
+use Rattle.vortex_base.proofs.Data.OrderLemmas.{value_cmp-total, value_cmp-ties}
 use Rattle.vortex_base.proofs.laws.values_are_ordered.Goals as goal
 
 pub returns : goal.returns

@@ -1,7 +1,7 @@
 use Rattle.std.proofs.Common.{sym, ◌∙◌, ap}
-use Rattle.vortex_base.specs.Like.{items}
-use Rattle.vortex_base.specs.LikeSearch.{characters}
-use Rattle.vortex_base.proofs.LikeStops.{like-stop, outcome}
+use Rattle.vortex_base.specs.Patterns.Like.{items}
+use Rattle.vortex_base.specs.Patterns.LikeSearch.{characters}
+use Rattle.vortex_base.proofs.Patterns.LikeStops.{like-stop, outcome}
 use Rattle.vortex_base.proofs.like.is_match.Goals as goal
 
 pub returns-in-Mismatch : goal.returns-in-Mismatch

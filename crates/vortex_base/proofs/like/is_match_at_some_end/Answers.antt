@@ -1,7 +1,7 @@
 use Rattle.std.proofs.Common.{◌≡◌, ◌∷◌, [], sym, ◌∙◌, ap, arith}
-use Rattle.vortex_base.specs.Like.{items, like, some_end}
-use Rattle.vortex_base.specs.LikeSearch.{characters, stop, Mismatch}
-use Rattle.vortex_base.proofs.LikeStops.{some_end-at_run, some_end-at_whole, some_end-at_mismatch, some_end-at_end, length-at_run}
+use Rattle.vortex_base.specs.Patterns.Like.{items, like, some_end}
+use Rattle.vortex_base.specs.Patterns.LikeSearch.{characters, stop, Mismatch}
+use Rattle.vortex_base.proofs.Patterns.LikeStops.{some_end-at_run, some_end-at_whole, some_end-at_mismatch, some_end-at_end, length-at_run}
 use Rattle.vortex_base.proofs.like.is_match_at_some_end.Goals as goal
 
 pub returns-in-Whole : goal.returns-in-Whole

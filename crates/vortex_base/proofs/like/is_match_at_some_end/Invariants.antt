@@ -1,6 +1,6 @@
 use Rattle.std.proofs.Common.{◌≡◌, ◌+◌, length}
-use Rattle.vortex_base.specs.Like.{items, like, some_end}
-use Rattle.vortex_base.specs.LikeSearch.{characters}
+use Rattle.vortex_base.specs.Patterns.Like.{items, like, some_end}
+use Rattle.vortex_base.specs.Patterns.LikeSearch.{characters}
 use Rattle.vortex_base.proofs.like.is_match_at_some_end.Given as goal
 
 -- whether what is left matches at some end tells whether the whole does

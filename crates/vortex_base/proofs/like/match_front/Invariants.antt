@@ -1,6 +1,6 @@
 use Rattle.std.proofs.Common.{◌≡◌, length}
-use Rattle.vortex_base.specs.Like.{items}
-use Rattle.vortex_base.specs.LikeSearch.{characters, stop}
+use Rattle.vortex_base.specs.Patterns.Like.{items}
+use Rattle.vortex_base.specs.Patterns.LikeSearch.{characters, stop}
 use Rattle.vortex_base.proofs.like.match_front.Given as goal
 
 -- the stop is that of what is left

@@ -2,8 +2,8 @@ use Rattle.std.proofs.Common.{◌≡◌, ◌++◌, ◌+◌, ◌∷◌, [], Some,
 use Rattle.std.specs.Prelude.{encode_utf8_all, string_bytes, option_map}
 use Rattle.std.specs.Char.{encode_utf8}
 use Rattle.std.specs.Str.{chars}
-use Rattle.vortex_base.specs.Prefix.{successor}
-use Rattle.vortex_base.proofs.PatternLemmas.{raised_text, successor_passes, successor_raises}
+use Rattle.vortex_base.specs.Patterns.Prefix.{successor}
+use Rattle.vortex_base.proofs.Patterns.PatternLemmas.{raised_text, successor_passes, successor_raises}
 use Rattle.vortex_base.proofs.like_pattern.successor.Goals as goal
 
 pub returns-in-Some-next_char : goal.returns-in-Some-next_char

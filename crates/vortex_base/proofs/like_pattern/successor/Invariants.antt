@@ -2,7 +2,7 @@ use denote.Shadow.{shadow}
 use denote.Text.{Utf8}
 use Rattle.std.proofs.Common.{◌≡◌, length}
 use Rattle.std.specs.Str.{chars}
-use Rattle.vortex_base.specs.Prefix.{successor}
+use Rattle.vortex_base.specs.Patterns.Prefix.{successor}
 use Rattle.vortex_base.proofs.like_pattern.successor.Given as goal
 
 -- what was passed has no successor

@@ -1,5 +1,5 @@
 use Rattle.std.proofs.Common.{◌∙◌}
-use Rattle.vortex_base.proofs.ScopeLemmas.{duplicate_here, duplicate_later}
+use Rattle.vortex_base.proofs.Data.ScopeLemmas.{duplicate_here, duplicate_later}
 use Rattle.vortex_base.proofs.scope.has_duplicate.Goals as goal
 
 pub returns-then-contains : goal.returns-then-contains

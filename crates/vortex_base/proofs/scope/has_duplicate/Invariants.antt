@@ -1,5 +1,5 @@
 use Rattle.std.proofs.Common.{◌≡◌, length}
-use Rattle.vortex_base.specs.Scopes.{named_columns, has_duplicate}
+use Rattle.vortex_base.specs.Data.Scopes.{named_columns, has_duplicate}
 use Rattle.vortex_base.proofs.scope.has_duplicate.Given as goal
 
 abbrev pub invariant-columns : goal.invariant-columns

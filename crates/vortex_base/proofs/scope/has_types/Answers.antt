@@ -1,8 +1,8 @@
 use Rattle.std.proofs.Common.{◌∙◌}
-use Rattle.vortex_base.specs.Types.{dtype_eq}
-use Rattle.vortex_base.specs.Scopes.{Named, named}
-use Rattle.vortex_base.specs.Columns.{ColumnData}
-use Rattle.vortex_base.proofs.MapLemmas.{list_all-zip}
+use Rattle.vortex_base.specs.Data.Types.{dtype_eq}
+use Rattle.vortex_base.specs.Data.Scopes.{Named, named}
+use Rattle.vortex_base.specs.Data.Columns.{ColumnData}
+use Rattle.vortex_base.proofs.Data.MapLemmas.{list_all-zip}
 use Rattle.vortex_base.proofs.scope.has_types.Goals as goal
 
 pub returns-then-names-columns : goal.returns-then-names-columns

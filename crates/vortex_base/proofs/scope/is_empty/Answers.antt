@@ -1,4 +1,4 @@
-use Rattle.vortex_base.proofs.ScopeLemmas.{none_is_empty, some_is_not_empty}
+use Rattle.vortex_base.proofs.Data.ScopeLemmas.{none_is_empty, some_is_not_empty}
 use Rattle.vortex_base.proofs.scope.is_empty.Goals as goal
 
 pub returns-in-None : goal.returns-in-None

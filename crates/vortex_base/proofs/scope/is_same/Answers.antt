@@ -1,5 +1,5 @@
 use Rattle.std.proofs.Common.{sym, ◌∙◌}
-use Rattle.vortex_base.specs.Scopes.{named, named_eq}
+use Rattle.vortex_base.specs.Data.Scopes.{named, named_eq}
 use Rattle.std.specs.Cmp.Derive.Mapped.{pointwise-map}
 use Rattle.vortex_base.proofs.scope.is_same.Goals as goal
 

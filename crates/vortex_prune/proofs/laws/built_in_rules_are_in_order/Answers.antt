@@ -1,4 +1,4 @@
-use Rattle.vortex_prune.proofs.BuiltInOrder.{falsifiers_in_order, of_function, satisfiers_in_order}
+use Rattle.vortex_prune.proofs.Rewriting.BuiltInOrder.{falsifiers_in_order, of_function, satisfiers_in_order}
 use Rattle.vortex_prune.proofs.laws.built_in_rules_are_in_order.Goals as goal
 
 pub returns-clause-order : goal.returns-clause-order

@@ -1,5 +1,5 @@
-use Rattle.vortex_prune.proofs.WholeScan.{parts_by_recursion}
-use Rattle.vortex_prune.proofs.OwnBinders.{own_faithful, own_honest, own_quiet, own_statistics}
+use Rattle.vortex_prune.proofs.Scanning.WholeScan.{parts_by_recursion}
+use Rattle.vortex_prune.proofs.Honesty.OwnBinders.{own_faithful, own_honest, own_quiet, own_statistics}
 use Rattle.vortex_prune.proofs.laws.own_binders_are_honest.Goals as goal
 
 pub returns-clause-faithful : goal.returns-clause-faithful

@@ -1,9 +1,9 @@
 use Rattle.std.proofs.Common.{ap, map, ◌∙◌}
-use Rattle.vortex_prune.proofs.ShutProofs.{refused_for_memory}
-use Rattle.vortex_prune.proofs.WholeScan.{kept_is_full, of_three, skips_exactly}
-use Rattle.vortex_prune.specs.Own.{own_rules, own_rule}
-use Rattle.vortex_prune.specs.Rewriting.{falsifier}
-use Rattle.vortex_prune.specs.Scanning.{answered, skipped_parts}
+use Rattle.vortex_prune.proofs.Rewriting.ShutProofs.{refused_for_memory}
+use Rattle.vortex_prune.proofs.Scanning.WholeScan.{kept_is_full, of_three, skips_exactly}
+use Rattle.vortex_prune.specs.Rewriting.Own.{own_rules, own_rule}
+use Rattle.vortex_prune.specs.Rewriting.Falsifiers.{falsifier}
+use Rattle.vortex_prune.specs.Scanning.Selection.{answered, skipped_parts}
 use Rattle.vortex_prune.proofs.scan.scan.Goals as goal
 
 pub returns-clause-selected : goal.returns-clause-selected

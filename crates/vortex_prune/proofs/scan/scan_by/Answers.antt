@@ -1,8 +1,8 @@
 use Rattle.std.proofs.Common.{ap, arith, ◌∙◌}
 use Rattle.std.proofs.lemmas.Result.{err_from_is_err_and}
-use Rattle.vortex_prune.proofs.ScanLemmas.{all_below, all_taken, below_more, faithful_in, faithful_refusal_in, holds_all, holds_more, refusal_in, selected_in, skipped_in}
-use Rattle.vortex_prune.specs.ScanRefusals.{IsClosed}
-use Rattle.vortex_prune.specs.Scanning.{selected_rows, skipped_parts}
+use Rattle.vortex_prune.proofs.Scanning.ScanLemmas.{all_below, all_taken, below_more, faithful_in, faithful_refusal_in, holds_all, holds_more, refusal_in, selected_in, skipped_in}
+use Rattle.vortex_prune.specs.Scanning.ScanRefusals.{IsClosed}
+use Rattle.vortex_prune.specs.Scanning.Selection.{selected_rows, skipped_parts}
 use Rattle.std.specs.Prelude.{option_copied}
 use Rattle.vortex_prune.proofs.scan.scan_by.Goals as goal
 

@@ -1,8 +1,8 @@
 use Rattle.std.proofs.Common.{◌≡◌, take}
-use Rattle.vortex_prune.specs.ScanRefusals.{IsClosed}
-use Rattle.vortex_prune.specs.Scanning.{AreFaithful, answered, selected_rows, skipped_parts}
+use Rattle.vortex_prune.specs.Scanning.ScanRefusals.{IsClosed}
+use Rattle.vortex_prune.specs.Scanning.Selection.{AreFaithful, answered, selected_rows, skipped_parts}
 use Rattle.std.specs.Prelude.{option_copied}
-use Rattle.vortex_prune.proofs.ScanLemmas.{AreBelow, HoldsBelow}
+use Rattle.vortex_prune.proofs.Scanning.ScanLemmas.{AreBelow, HoldsBelow}
 use Rattle.vortex_prune.proofs.scan.scan_by.Given as goal
 
 -- what was found is what there is to find in the parts before this one

@@ -1,9 +1,9 @@
 use Rattle.std.proofs.Common.{◌≡◌, IfOk, Option, subst, ◌∙◌}
 use Rattle.std.specs.Prelude.{option_copied}
-use Rattle.vortex_base.specs.Tree.{Place, Tree}
-use Rattle.vortex_prune.specs.Own.{own_rules}
-use Rattle.vortex_prune.specs.Rewriting.{falsifier}
-use Rattle.vortex_prune.specs.ScanRefusals.{AreClosed}
+use Rattle.vortex_base.specs.Trees.Tree.{Place, Tree}
+use Rattle.vortex_prune.specs.Rewriting.Own.{own_rules}
+use Rattle.vortex_prune.specs.Rewriting.Falsifiers.{falsifier}
+use Rattle.vortex_prune.specs.Scanning.ScanRefusals.{AreClosed}
 use Rattle.vortex_prune.proofs.scan.scan_rules.Goals as goal
 
 pub returns-clause-closed : goal.returns-clause-closed

@@ -1,5 +1,5 @@
 use Rattle.std.proofs.Common.{sym}
-use Rattle.vortex_prune.proofs.StatFits.{constant-supported, made-constant_of}
+use Rattle.vortex_prune.proofs.Honesty.StatFits.{constant-supported, made-constant_of}
 use Rattle.vortex_prune.proofs.stat_fn.scalar_of.Goals as goal
 
 pub unreachable-requires : goal.unreachable-requires

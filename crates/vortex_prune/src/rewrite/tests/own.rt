@@ -1,15 +1,15 @@
 // Rules of a user, boxed and asked.
 ghost use Rattle.std.specs.Prelude.{◌≡◌, Bool, true, false, MatchResult, Some, None, if◌then◌else◌};
-ghost use Rattle.vortex_prune.specs.HookFaults.{IsHookFault};
-ghost use Rattle.vortex_prune.specs.RuleExamples.{at_opposite};
-ghost use Rattle.vortex_prune.specs.Rewriting.{bool_literal, count_literal as count_literal_of};
+ghost use Rattle.vortex_prune.specs.Binding.HookFaults.{IsHookFault};
+ghost use Rattle.vortex_prune.specs.Rewriting.RuleExamples.{at_opposite};
+ghost use Rattle.vortex_prune.specs.Rewriting.Falsifiers.{bool_literal, count_literal as count_literal_of};
 
 use super::*;
 use crate::hook_fault::HookFault;
-use crate::nodes::{count_literal, literal};
-use crate::rule::{StatsRewriteRule, StatsRewriteRuleRef};
-use vortex_base::parts::Parts;
-use vortex_base::scalar_fn::ScalarFnId;
+use crate::rewrite::nodes::{count_literal, literal};
+use crate::rewrite::rule::{StatsRewriteRule, StatsRewriteRuleRef};
+use vortex_base::bound_expression::parts::Parts;
+use vortex_base::types::ScalarFnId;
 use vortex_stats::error::RuleFault;
 
 fn truth_answer(alloc: Global, truth: bool) -> Result<Option<BoundExpression>, HookFault>
@@ -57,8 +57,8 @@ struct Opposite {
 
 impl StatsRewriteRule for Opposite {
     ghost use Rattle.std.specs.Prelude.{true, false};
-    ghost use Rattle.vortex_base.specs.declared.scalar_fn.ScalarFnId.TheVariants as function;
-    ghost use Rattle.vortex_prune.specs.RuleExamples.{at_opposite, opposite_is_lawful};
+    ghost use Rattle.vortex_base.specs.declared.types.ScalarFnId.TheVariants as function;
+    ghost use Rattle.vortex_prune.specs.Rewriting.RuleExamples.{at_opposite, opposite_is_lawful};
 
     ghost id = { λ s. function.Not };
 
@@ -107,7 +107,7 @@ struct Unsure {
 
 impl StatsRewriteRule for Unsure {
     ghost use Rattle.std.specs.Prelude.{false};
-    ghost use Rattle.vortex_prune.specs.RuleExamples.{false_proof, false_proof_is_lawful};
+    ghost use Rattle.vortex_prune.specs.Rewriting.RuleExamples.{false_proof, false_proof_is_lawful};
 
     ghost id = { λ s. s.function };
 
@@ -148,7 +148,7 @@ struct Number {
 
 impl StatsRewriteRule for Number {
     ghost use Rattle.std.specs.Prelude.{false};
-    ghost use Rattle.vortex_prune.specs.RuleExamples.{number_proof, number_proof_is_lawful};
+    ghost use Rattle.vortex_prune.specs.Rewriting.RuleExamples.{number_proof, number_proof_is_lawful};
 
     ghost id = { λ s. s.function };
 
@@ -190,7 +190,7 @@ struct Faulty {
 
 impl StatsRewriteRule for Faulty {
     ghost use Rattle.std.specs.Prelude.{◌==◌};
-    ghost use Rattle.vortex_prune.specs.RuleExamples.{no_proof, no_proof_is_lawful};
+    ghost use Rattle.vortex_prune.specs.Rewriting.RuleExamples.{no_proof, no_proof_is_lawful};
 
     ghost id = { λ s. s.function };
 

@@ -1,12 +1,12 @@
 // A caller that makes the binders of its parts, and has by the contracts what it scans for.
 ghost use Rattle.std.specs.Prelude.{◌≡◌, All, IfErr, IfOk, IsTrue};
 ghost use Rattle.std.specs.List.{AllByRecursion};
-ghost use Rattle.vortex_base.specs.Fitting.{fits_scope};
-ghost use Rattle.vortex_base.specs.Tree.{is_plain};
+ghost use Rattle.vortex_base.specs.Meanings.Fitting.{fits_scope};
+ghost use Rattle.vortex_base.specs.Trees.Tree.{is_plain};
 ghost use Rattle.vortex_prune.specs.Part.{IsTruePart};
-ghost use Rattle.vortex_prune.specs.Predicates.{is_predicate};
-ghost use Rattle.vortex_prune.specs.ScanRefusals.{IsMemory};
-ghost use Rattle.vortex_prune.specs.Scanning.{full};
+ghost use Rattle.vortex_prune.specs.Rewriting.Predicates.{is_predicate};
+ghost use Rattle.vortex_prune.specs.Scanning.ScanRefusals.{IsMemory};
+ghost use Rattle.vortex_prune.specs.Scanning.Selection.{full};
 
 use super::*;
 use crate::laws::own_binders_are_honest;

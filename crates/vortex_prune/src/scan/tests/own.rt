@@ -2,18 +2,18 @@
 ghost use Rattle.std.specs.Prelude.{◌≡◌, false, true, ⊤, MatchResult, Some, None, if◌then◌else◌};
 ghost use Rattle.std.proofs.Common.{sym};
 ghost use mathlib.Core.Bool.{true≢false};
-ghost use Rattle.vortex_prune.specs.HookFaults.{IsHookFault};
-ghost use Rattle.vortex_prune.specs.Rewriting.{bool_literal};
-ghost use Rattle.vortex_prune.specs.RuleExamples.{at_null_test};
+ghost use Rattle.vortex_prune.specs.Binding.HookFaults.{IsHookFault};
+ghost use Rattle.vortex_prune.specs.Rewriting.Falsifiers.{bool_literal};
+ghost use Rattle.vortex_prune.specs.Rewriting.RuleExamples.{at_null_test};
 
 use super::*;
+use crate::bind::stat_binder::{StatBinder, hooked};
 use crate::hook_fault::HookFault;
-use crate::nodes::literal;
-use crate::rule::{StatsRewriteRule, StatsRewriteRuleRef};
-use crate::stat_binder::{StatBinder, hooked};
+use crate::rewrite::nodes::literal;
+use crate::rewrite::rule::{StatsRewriteRule, StatsRewriteRuleRef};
 use vortex_base::aggregate::AggregateFnRef;
-use vortex_base::parts::Parts;
-use vortex_base::scalar_fn::ScalarFnId;
+use vortex_base::bound_expression::parts::Parts;
+use vortex_base::types::ScalarFnId;
 use vortex_stats::error::{BinderFault, RuleFault};
 
 const BOOL: DType = DType::Bool(Nullability::NonNullable);
@@ -47,8 +47,8 @@ struct Declared;
 
 impl StatsRewriteRule for Declared {
     ghost use Rattle.std.specs.Prelude.{false};
-    ghost use Rattle.vortex_base.specs.declared.scalar_fn.ScalarFnId.TheVariants as function;
-    ghost use Rattle.vortex_prune.specs.RuleExamples.{at_null_test, no_proof, null_test_is_lawful};
+    ghost use Rattle.vortex_base.specs.declared.types.ScalarFnId.TheVariants as function;
+    ghost use Rattle.vortex_prune.specs.Rewriting.RuleExamples.{at_null_test, no_proof, null_test_is_lawful};
 
     ghost id = { λ s. function.IsNull };
 
@@ -91,8 +91,8 @@ struct Open;
 
 impl StatsRewriteRule for Open {
     ghost use Rattle.std.specs.Prelude.{false};
-    ghost use Rattle.vortex_base.specs.declared.scalar_fn.ScalarFnId.TheVariants as function;
-    ghost use Rattle.vortex_prune.specs.RuleExamples.{no_proof, open_proof, open_proof_is_lawful};
+    ghost use Rattle.vortex_base.specs.declared.types.ScalarFnId.TheVariants as function;
+    ghost use Rattle.vortex_prune.specs.Rewriting.RuleExamples.{no_proof, open_proof, open_proof_is_lawful};
 
     ghost id = { λ s. function.Not };
 
@@ -132,8 +132,8 @@ struct Faulty;
 
 impl StatsRewriteRule for Faulty {
     ghost use Rattle.std.specs.Prelude.{◌==◌};
-    ghost use Rattle.vortex_base.specs.declared.scalar_fn.ScalarFnId.TheVariants as function;
-    ghost use Rattle.vortex_prune.specs.RuleExamples.{no_proof, no_proof_is_lawful};
+    ghost use Rattle.vortex_base.specs.declared.types.ScalarFnId.TheVariants as function;
+    ghost use Rattle.vortex_prune.specs.Rewriting.RuleExamples.{no_proof, no_proof_is_lawful};
 
     ghost id = { λ s. function.IsNotNull };
 

@@ -1,5 +1,5 @@
 use Rattle.std.proofs.Common.{◌≡◌}
-use Rattle.vortex_stats.specs.Changes.{changed_by}
+use Rattle.vortex_stats.specs.Sets.Changes.{changed_by}
 use Rattle.vortex_stats.proofs.combine.change_each.Given as goal
 
 -- making what is left comes to the same

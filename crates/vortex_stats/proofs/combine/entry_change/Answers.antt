@@ -1,6 +1,6 @@
 use Rattle.std.proofs.Common.{◌≡◌, Ok, false, refl, sym, ap, ◌∙◌}
 use Rattle.vortex_stats.specs.Precision.{precision_map, is_absent}
-use Rattle.vortex_stats.proofs.Combining.{absent_map, met_written, met_kept, met_refused, refused_with}
+use Rattle.vortex_stats.proofs.Merging.Combining.{absent_map, met_written, met_kept, met_refused, refused_with}
 use Rattle.vortex_stats.proofs.combine.entry_change.Goals as goal
 
 pub returns-in_err-value : goal.returns-in_err-value

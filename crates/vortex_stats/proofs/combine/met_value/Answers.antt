@@ -2,13 +2,13 @@ use Rattle.std.proofs.Common.{◌≡◌, true, sym, subst}
 use Rattle.std.specs.Prelude.{IsTrue}
 use Rattle.vortex_stats.specs.declared.stat.Stat.{Stat}
 use Rattle.vortex_stats.specs.declared.stat.Stat.TheVariants as stats
-use Rattle.vortex_stats.specs.Combined.{intersection_of}
-use Rattle.vortex_stats.specs.CombineSteps.{meeting}
-use Rattle.vortex_stats.specs.Entries.{value_fits}
+use Rattle.vortex_stats.specs.Merging.Combined.{intersection_of}
+use Rattle.vortex_stats.specs.Merging.CombineSteps.{meeting}
+use Rattle.vortex_stats.specs.Sets.Entries.{value_fits}
 use Rattle.vortex_stats.specs.Precision.{precision_map}
 use Rattle.vortex_stats.specs.Scalars.{IsAnswerOrMemory}
-use Rattle.vortex_stats.proofs.Combining.{point_intersection-truths}
-use Rattle.vortex_stats.proofs.DerivedOrder.{upper_intersection-read, lower_intersection-read, point_intersection-read}
+use Rattle.vortex_stats.proofs.Merging.Combining.{point_intersection-truths}
+use Rattle.vortex_stats.proofs.Bounds.DerivedOrder.{upper_intersection-read, lower_intersection-read, point_intersection-read}
 use Rattle.vortex_stats.proofs.combine.met_value.Goals as goal
 
 pub returns-in-IsConstant : goal.returns-in-IsConstant

@@ -1,5 +1,5 @@
 use Rattle.std.proofs.Common.{sym}
-use Rattle.vortex_stats.proofs.Revisions.{merged_ordered-by_steps}
+use Rattle.vortex_stats.proofs.Sets.Revisions.{merged_ordered-by_steps}
 use Rattle.vortex_stats.proofs.laws.merges_go_step_by_step.Goals as goal
 
 pub returns : goal.returns

@@ -1,4 +1,4 @@
-use Rattle.vortex_stats.proofs.Tightness.{upper_union-tightest, lower_union-tightest}
+use Rattle.vortex_stats.proofs.Bounds.Tightness.{upper_union-tightest, lower_union-tightest}
 use Rattle.vortex_stats.proofs.laws.union_is_tightest.Goals as goal
 
 pub returns : goal.returns

@@ -1,4 +1,4 @@
-use Rattle.vortex_stats.proofs.Groupings.{upper_union-greatest, lower_union-least, upper_unions-agree, lower_unions-agree}
+use Rattle.vortex_stats.proofs.Merging.Groupings.{upper_union-greatest, lower_union-least, upper_unions-agree, lower_unions-agree}
 use Rattle.vortex_stats.proofs.laws.unions_agree.Goals as goal
 
 pub returns : goal.returns

@@ -1,4 +1,4 @@
-use Rattle.vortex_stats.specs.UpperBound.{upper_intersection-tight}
+use Rattle.vortex_stats.specs.Bounds.UpperBound.{upper_intersection-tight}
 use Rattle.vortex_stats.proofs.laws.upper_intersection_is_tight.Goals as goal
 
 pub returns : goal.returns

@@ -1,12 +1,12 @@
 use Rattle.std.proofs.Common.{◌≡◌, Some, sym, ap, ◌∙◌}
 use Rattle.std.specs.Option.{option_map}
-use Rattle.vortex_base.specs.Values.{value_cmp}
+use Rattle.vortex_base.specs.Data.Values.{value_cmp}
 use Rattle.vortex_stats.specs.declared.stat.Stat.TheVariants as stats
-use Rattle.vortex_stats.specs.Entries.{entry_value}
+use Rattle.vortex_stats.specs.Sets.Entries.{entry_value}
 use Rattle.vortex_stats.specs.Precision.{precision_map}
-use Rattle.vortex_stats.specs.UpperBound.{upper_union}
-use Rattle.vortex_stats.proofs.DerivedOrder.{derived_cmp, upper_union-read}
-use Rattle.vortex_stats.proofs.Revisions.{makes-same}
+use Rattle.vortex_stats.specs.Bounds.UpperBound.{upper_union}
+use Rattle.vortex_stats.proofs.Bounds.DerivedOrder.{derived_cmp, upper_union-read}
+use Rattle.vortex_stats.proofs.Sets.Revisions.{makes-same}
 use Rattle.vortex_stats.proofs.merge.max_change.Goals as goal
 
 pub returns-in-Some : goal.returns-in-Some

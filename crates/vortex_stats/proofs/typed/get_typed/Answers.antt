@@ -1,5 +1,5 @@
 use Rattle.std.proofs.Common.{sym}
-use Rattle.vortex_stats.proofs.Fitting.{found_is_value}
+use Rattle.vortex_stats.proofs.Sets.Fitting.{found_is_value}
 use Rattle.vortex_stats.proofs.typed.get_typed.Goals as goal
 
 pub scalar_of_found-requires : goal.scalar_of_found-requires

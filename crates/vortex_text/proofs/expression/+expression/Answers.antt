@@ -1,5 +1,5 @@
 use Rattle.std.proofs.Common.{Some, sym, ap, ◌∙◌}
-use Rattle.vortex_base.specs.Scopes.{named_columns}
+use Rattle.vortex_base.specs.Data.Scopes.{named_columns}
 use Rattle.vortex_text.proofs.Steps.{by_form}
 use Rattle.vortex_text.specs.Words.{words}
 use Rattle.vortex_text.specs.declared.form.Form.TheVariants as form

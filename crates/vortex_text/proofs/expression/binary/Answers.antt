@@ -1,4 +1,4 @@
-use Rattle.vortex_base.specs.Tree.{binary}
+use Rattle.vortex_base.specs.Trees.Tree.{binary}
 use Rattle.vortex_text.proofs.Typed.{built_fault}
 use Rattle.vortex_text.proofs.expression.binary.Goals as goal
 

@@ -1,8 +1,8 @@
 use Rattle.std.proofs.Common.{Some, String, ap, sym, ◌∙◌}
 use Rattle.std.proofs.lemmas.List.{length-map}
-use Rattle.vortex_base.proofs.ScopeLemmas.{column_at}
+use Rattle.vortex_base.proofs.Data.ScopeLemmas.{column_at}
 use Rattle.std.specs.declared.alloc.Global.{Global}
-use Rattle.vortex_base.specs.Scopes.{named}
+use Rattle.vortex_base.specs.Data.Scopes.{named}
 use Rattle.vortex_base.specs.declared.dtype.DType.{DType}
 use Rattle.vortex_text.proofs.Found.{found_none, found_some}
 use Rattle.vortex_text.proofs.expression.find_column.Goals as goal

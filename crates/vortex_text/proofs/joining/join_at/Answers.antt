@@ -1,7 +1,7 @@
 use Rattle.std.proofs.Common.{◌≡◌, ◌+◌, ◌<◌, Some, IsTrue, length, get_or, ap, sym, ◌∙◌, arith}
 use Rattle.std.specs.List.{insert, remove}
 use Rattle.std.proofs.lemmas.Grind.{common_steps}
-use Rattle.vortex_base.specs.Scopes.{scope_eq_is_exact}
+use Rattle.vortex_base.specs.Data.Scopes.{scope_eq_is_exact}
 use Rattle.vortex_text.proofs.JoinLemmas.{joined_in_place}
 use Rattle.vortex_text.proofs.joining.join_at.Goals as goal
 

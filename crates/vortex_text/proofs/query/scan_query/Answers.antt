@@ -1,8 +1,8 @@
 use Rattle.std.proofs.Common.{◌≡◌, [], ap, ◌∙◌}
-use Rattle.vortex_prune.proofs.OwnBinders.{own_faithful, own_honest}
-use Rattle.vortex_prune.proofs.WholeScan.{parts_by_recursion}
-use Rattle.vortex_prune.specs.Rewriting.{falsifier}
-use Rattle.vortex_prune.specs.Scanning.{selected_rows, skipped_parts}
+use Rattle.vortex_prune.proofs.Honesty.OwnBinders.{own_faithful, own_honest}
+use Rattle.vortex_prune.proofs.Scanning.WholeScan.{parts_by_recursion}
+use Rattle.vortex_prune.specs.Rewriting.Falsifiers.{falsifier}
+use Rattle.vortex_prune.specs.Scanning.Selection.{selected_rows, skipped_parts}
 use Rattle.vortex_text.proofs.QueryLemmas.{own_answered}
 use Rattle.vortex_text.proofs.query.scan_query.Goals as goal
 

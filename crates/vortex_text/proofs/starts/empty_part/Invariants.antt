@@ -1,5 +1,5 @@
 use Rattle.std.proofs.Common.{◌≡◌, map, take}
-use Rattle.vortex_base.specs.Scopes.{named_columns}
+use Rattle.vortex_base.specs.Data.Scopes.{named_columns}
 use Rattle.vortex_text.specs.Rows.{empty_column, no_entries}
 use Rattle.vortex_text.proofs.starts.empty_part.Given as goal
 

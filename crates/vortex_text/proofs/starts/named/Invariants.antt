@@ -1,5 +1,5 @@
 use Rattle.std.proofs.Common.{◌≡◌, take}
-use Rattle.vortex_base.specs.Scopes.{named_columns}
+use Rattle.vortex_base.specs.Data.Scopes.{named_columns}
 use Rattle.vortex_text.proofs.starts.named.Given as goal
 
 -- the columns so far

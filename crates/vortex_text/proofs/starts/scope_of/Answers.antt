@@ -1,5 +1,5 @@
 use Rattle.std.proofs.Common.{sym, ◌∙◌}
-use Rattle.vortex_base.specs.Scopes.{named_columns}
+use Rattle.vortex_base.specs.Data.Scopes.{named_columns}
 use Rattle.vortex_text.proofs.StartLemmas.{scope_is}
 use Rattle.vortex_text.proofs.starts.scope_of.Goals as goal
 

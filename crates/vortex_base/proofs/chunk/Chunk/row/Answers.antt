@@ -1,4 +1,4 @@
-use Rattle.vortex_base.proofs.RowLemmas.{row_of-IsRow}
+use Rattle.vortex_base.proofs.Data.RowLemmas.{row_of-IsRow}
 use Rattle.vortex_base.proofs.chunk.Chunk.row.Goals as goal
 
 pub of_columns-requires : goal.of_columns-requires

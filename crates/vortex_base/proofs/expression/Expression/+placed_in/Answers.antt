@@ -1,5 +1,5 @@
-use Rattle.vortex_base.specs.Tree as tree
-use Rattle.vortex_base.proofs.PlacedTypes.{makes-placed_in}
+use Rattle.vortex_base.specs.Trees.Tree as tree
+use Rattle.vortex_base.proofs.Meanings.PlacedTypes.{makes-placed_in}
 use Rattle.vortex_base.proofs.expression.Expression.+placed_in.Goals as goal
 
 pub returns-in_ok-right-in-Binary : goal.returns-in_ok-right-in-Binary

@@ -1,6 +1,6 @@
 use Rattle.std.proofs.Common.{sym, ap}
 use Rattle.std.specs.Prelude.{is_ok}
-use Rattle.vortex_base.proofs.PlacedFits.{makes-fits}
+use Rattle.vortex_base.proofs.Meanings.PlacedFits.{makes-fits}
 use Rattle.vortex_base.proofs.expression.Expression.bind.Goals as goal
 
 pub returns-clause-fits : goal.returns-clause-fits

@@ -1,8 +1,8 @@
 use Rattle.std.proofs.Common.{◌≡◌, ◌++◌, length, string_bytes}
 use Rattle.std.specs.Prelude.{encode_utf8_all}
-use Rattle.vortex_base.specs.Like.{items}
-use Rattle.vortex_base.specs.LikeSearch.{characters}
-use Rattle.vortex_base.specs.Prefix.{is_exact, literal_prefix}
+use Rattle.vortex_base.specs.Patterns.Like.{items}
+use Rattle.vortex_base.specs.Patterns.LikeSearch.{characters}
+use Rattle.vortex_base.specs.Patterns.Prefix.{is_exact, literal_prefix}
 use Rattle.vortex_base.proofs.like_pattern.LikePattern.try_read.Given as goal
 
 -- the prefix so far and what is left to read make the whole

@@ -1,7 +1,7 @@
 use Rattle.std.proofs.Common.{ap}
 use Rattle.std.specs.Prelude.{option_map}
-use Rattle.vortex_base.specs.Scopes.{Named}
-use Rattle.vortex_base.proofs.ScopeLemmas.{column_at}
+use Rattle.vortex_base.specs.Data.Scopes.{Named}
+use Rattle.vortex_base.proofs.Data.ScopeLemmas.{column_at}
 use Rattle.vortex_base.proofs.scope.Scope.dtype.Goals as goal
 
 pub returns : goal.returns

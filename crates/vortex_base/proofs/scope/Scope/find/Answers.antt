@@ -1,6 +1,6 @@
 use Rattle.std.proofs.lemmas.List.{length-map}
-use Rattle.vortex_base.specs.Scopes.{is_named, named}
-use Rattle.vortex_base.proofs.MapLemmas.{position-map}
+use Rattle.vortex_base.specs.Data.Scopes.{is_named, named}
+use Rattle.vortex_base.proofs.Data.MapLemmas.{position-map}
 use Rattle.vortex_base.proofs.scope.Scope.find.Goals as goal
 
 pub returns-clause-value : goal.returns-clause-value

@@ -1,5 +1,5 @@
 use Rattle.std.proofs.Common.{sym}
-use Rattle.vortex_base.proofs.ScopeLemmas.{faultless_scope, state_fault}
+use Rattle.vortex_base.proofs.Data.ScopeLemmas.{faultless_scope, state_fault}
 use Rattle.vortex_base.proofs.scope.Scope.try_new.Goals as goal
 
 pub returns-then-has_state : goal.returns-then-has_state

@@ -1,5 +1,5 @@
 use Rattle.std.proofs.Common.{◌≡◌}
-use Rattle.vortex_base.specs.Scopes.{scope_eq, scope_eq_is_exact}
+use Rattle.vortex_base.specs.Data.Scopes.{scope_eq, scope_eq_is_exact}
 use Rattle.vortex_base.proofs.scope.ScopePartialEq.eq.Goals as goal
 
 pub returns-clause-same : goal.returns-clause-same

@@ -1,5 +1,5 @@
 use Rattle.std.proofs.Common.{sym, ◌∙◌}
-use Rattle.vortex_prune.proofs.JoinLemmas.{truth_of_join}
+use Rattle.vortex_prune.proofs.Scanning.JoinLemmas.{truth_of_join}
 use Rattle.vortex_prune.specs.contracts.part.Part.{the_view}
 use Rattle.vortex_prune.proofs.part.Part.join.Goals as goal
 

@@ -1,4 +1,4 @@
-use Rattle.vortex_prune.proofs.PartLemmas.{stats_there}
+use Rattle.vortex_prune.proofs.Honesty.PartLemmas.{stats_there}
 use Rattle.vortex_prune.specs.contracts.part.Part.{the_view}
 use Rattle.vortex_prune.proofs.part.Part.stats.Goals as goal
 

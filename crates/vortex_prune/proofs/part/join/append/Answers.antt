@@ -1,4 +1,4 @@
-use Rattle.vortex_prune.proofs.JoinLemmas.{seen_is_part}
+use Rattle.vortex_prune.proofs.Scanning.JoinLemmas.{seen_is_part}
 use Rattle.vortex_prune.specs.contracts.part.Part.{the_view}
 use Rattle.vortex_prune.proofs.part.join.append.Goals as goal
 

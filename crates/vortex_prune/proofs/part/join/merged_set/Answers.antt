@@ -1,4 +1,4 @@
-use Rattle.vortex_prune.proofs.PartLemmas.{other_set_fits, own_set_fits}
+use Rattle.vortex_prune.proofs.Honesty.PartLemmas.{other_set_fits, own_set_fits}
 use Rattle.vortex_prune.proofs.part.join.merged_set.Goals as goal
 
 pub merge_ordered-requires-clause-own_fits : goal.merge_ordered-requires-clause-own_fits

@@ -1,5 +1,5 @@
 use Rattle.std.proofs.Common.{◌≡◌, ◌<◌, refl, ap, length, sym, arith}
-use Rattle.vortex_prune.proofs.PartLemmas.{sets_pushed, stats_within}
+use Rattle.vortex_prune.proofs.Honesty.PartLemmas.{sets_pushed, stats_within}
 use Rattle.vortex_prune.proofs.part.join.merged_sets.Goals as goal
 
 pub loop-i-preserved : goal.loop-i-preserved

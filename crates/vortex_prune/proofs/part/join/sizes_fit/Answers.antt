@@ -1,5 +1,5 @@
 use Rattle.std.proofs.Common.{sym, ◌∙◌}
-use Rattle.vortex_prune.proofs.PartLemmas.{sizes_go_on, sizes_stop}
+use Rattle.vortex_prune.proofs.Honesty.PartLemmas.{sizes_go_on, sizes_stop}
 use Rattle.vortex_prune.proofs.part.join.sizes_fit.Goals as goal
 
 pub returns-then-not-fit_together : goal.returns-then-not-fit_together

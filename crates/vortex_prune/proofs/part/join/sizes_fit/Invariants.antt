@@ -1,5 +1,5 @@
 use Rattle.std.proofs.Common.{◌≡◌, drop}
-use Rattle.vortex_base.specs.Columns.{sizes_fit}
+use Rattle.vortex_base.specs.Data.Columns.{sizes_fit}
 use Rattle.vortex_prune.proofs.part.join.sizes_fit.Given as goal
 
 -- the sizes so far fit, so the rest decides

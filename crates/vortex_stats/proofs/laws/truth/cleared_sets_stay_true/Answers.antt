@@ -1,4 +1,4 @@
-use Rattle.vortex_stats.proofs.KeptTruth.{without_entry_is_true}
+use Rattle.vortex_stats.proofs.Truth.KeptTruth.{without_entry_is_true}
 use Rattle.vortex_stats.proofs.laws.truth.cleared_sets_stay_true.Goals as goal
 
 pub returns : goal.returns

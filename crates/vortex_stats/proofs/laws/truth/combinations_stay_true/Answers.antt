@@ -1,4 +1,4 @@
-use Rattle.vortex_stats.proofs.CombinedTruth.{combined_is_true}
+use Rattle.vortex_stats.proofs.Truth.CombinedTruth.{combined_is_true}
 use Rattle.vortex_stats.proofs.laws.truth.combinations_stay_true.Goals as goal
 
 pub returns : goal.returns

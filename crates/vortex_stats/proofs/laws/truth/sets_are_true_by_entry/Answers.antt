@@ -1,4 +1,4 @@
-use Rattle.vortex_stats.proofs.EntryClaims.{true_by_entry}
+use Rattle.vortex_stats.proofs.Truth.EntryClaims.{true_by_entry}
 use Rattle.vortex_stats.proofs.laws.truth.sets_are_true_by_entry.Goals as goal
 
 pub returns : goal.returns

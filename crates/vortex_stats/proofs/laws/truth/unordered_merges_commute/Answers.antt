@@ -1,4 +1,4 @@
-use Rattle.vortex_stats.proofs.UnorderedTruth.{merged_unordered-same_value, merged_unordered-same_entry}
+use Rattle.vortex_stats.proofs.Truth.UnorderedTruth.{merged_unordered-same_value, merged_unordered-same_entry}
 use Rattle.vortex_stats.proofs.laws.truth.unordered_merges_commute.Goals as goal
 
 pub returns : goal.returns

@@ -1,8 +1,8 @@
 use Rattle.std.proofs.Common.{◌≡◌, true, refl, sym, subst, ◌∙◌}
-use Rattle.vortex_stats.specs.Entries.{entries_fit}
-use Rattle.vortex_stats.specs.Merges.{merged_value, merged_ordered}
-use Rattle.vortex_stats.proofs.Revisions.{all_changed-made, merged-needs_own}
-use Rattle.vortex_stats.proofs.MergedFits.{merged_ordered-fits}
+use Rattle.vortex_stats.specs.Sets.Entries.{entries_fit}
+use Rattle.vortex_stats.specs.Merging.Merges.{merged_value, merged_ordered}
+use Rattle.vortex_stats.proofs.Sets.Revisions.{all_changed-made, merged-needs_own}
+use Rattle.vortex_stats.proofs.Merging.MergedFits.{merged_ordered-fits}
 use Rattle.vortex_stats.proofs.stats_set.StatsSet.append.Goals as goal
 
 pub returns-clause-merged : goal.returns-clause-merged

@@ -1,9 +1,9 @@
 use Rattle.std.proofs.Common.{◌≡◌, List, rules, false, not, sym, ap, ◌∙◌, is_some}
 use Rattle.std.specs.List.{filter}
-use Rattle.vortex_stats.specs.Entries.{has_entry}
+use Rattle.vortex_stats.specs.Sets.Entries.{has_entry}
 use Rattle.vortex_stats.specs.Stat.{stat_eq}
-use Rattle.vortex_stats.proofs.Places.{filtered-from_retain}
-use Rattle.vortex_stats.proofs.SlotLemmas.{slot_read, has_entry-slots, without_entry-none, removed, sound_without}
+use Rattle.vortex_stats.proofs.Sets.Places.{filtered-from_retain}
+use Rattle.vortex_stats.proofs.Sets.SlotLemmas.{slot_read, has_entry-slots, without_entry-none, removed, sound_without}
 use Rattle.vortex_stats.proofs.stats_set.StatsSet.clear.Goals as goal
 
 pub returns-then-is_none : goal.returns-then-is_none

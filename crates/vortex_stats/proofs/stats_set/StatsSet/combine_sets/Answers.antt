@@ -1,13 +1,13 @@
 use Rattle.std.proofs.Common.{◌≡◌, List, ◌∷◌, [], ◌++◌, true, refl, sym, ap, subst, ◌∙◌, arith, length, length-append, Some}
-use Rattle.vortex_stats.specs.Changes.{changed, changed_by}
-use Rattle.vortex_stats.specs.Combined.{combined, combined_entry}
-use Rattle.vortex_stats.specs.CombineSteps.{AgreeOn}
-use Rattle.vortex_stats.specs.Entries.{entries_fit, value_fits, AreDistinct}
+use Rattle.vortex_stats.specs.Sets.Changes.{changed, changed_by}
+use Rattle.vortex_stats.specs.Merging.Combined.{combined, combined_entry}
+use Rattle.vortex_stats.specs.Merging.CombineSteps.{AgreeOn}
+use Rattle.vortex_stats.specs.Sets.Entries.{entries_fit, value_fits, AreDistinct}
 use Rattle.vortex_stats.specs.Precision.{precision_map}
-use Rattle.vortex_stats.proofs.Fitting.{front_fits, rest_fits, entry_value-fits}
-use Rattle.vortex_stats.proofs.Combining.{combined-step, combined_entry-fits}
-use Rattle.vortex_stats.proofs.CombinedChanges.{changed_by-last, agree_with_itself, agree_after, combined-by_change}
-use Rattle.vortex_stats.proofs.SlotLemmas.{length-distinct}
+use Rattle.vortex_stats.proofs.Sets.Fitting.{front_fits, rest_fits, entry_value-fits}
+use Rattle.vortex_stats.proofs.Merging.Combining.{combined-step, combined_entry-fits}
+use Rattle.vortex_stats.proofs.Merging.CombinedChanges.{changed_by-last, agree_with_itself, agree_after, combined-by_change}
+use Rattle.vortex_stats.proofs.Sets.SlotLemmas.{length-distinct}
 use Rattle.vortex_stats.proofs.stats_set.StatsSet.combine_sets.Goals as goal
 
 pub loop-entry-init : goal.loop-entry-init

@@ -1,9 +1,9 @@
 use Rattle.std.proofs.Common.{◌≡◌, ◌+◌, ◌≤◌, length}
 use Rattle.std.specs.Prelude.{IsTrue}
-use Rattle.vortex_stats.specs.Changes.{changed_by}
-use Rattle.vortex_stats.specs.Combined.{combined}
-use Rattle.vortex_stats.specs.CombineSteps.{AgreeOn}
-use Rattle.vortex_stats.specs.Entries.{entries_fit, AreDistinct}
+use Rattle.vortex_stats.specs.Sets.Changes.{changed_by}
+use Rattle.vortex_stats.specs.Merging.Combined.{combined}
+use Rattle.vortex_stats.specs.Merging.CombineSteps.{AgreeOn}
+use Rattle.vortex_stats.specs.Sets.Entries.{entries_fit, AreDistinct}
 use Rattle.vortex_stats.proofs.stats_set.StatsSet.combine_sets.Given as goal
 
 -- the set is as it was; combining what is left with the changed entries comes to the same, and the changes touch no statistic that is left

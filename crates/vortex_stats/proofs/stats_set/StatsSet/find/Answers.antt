@@ -1,7 +1,7 @@
 use Rattle.std.proofs.Common.{◌≡◌, sym, ap, ◌∙◌}
-use Rattle.vortex_stats.specs.Entries.{entry_value}
-use Rattle.vortex_stats.specs.Slots.{value_in}
-use Rattle.vortex_stats.proofs.SlotLemmas.{entry_value-slots, slot_read}
+use Rattle.vortex_stats.specs.Sets.Entries.{entry_value}
+use Rattle.vortex_stats.specs.Sets.Slots.{value_in}
+use Rattle.vortex_stats.proofs.Sets.SlotLemmas.{entry_value-slots, slot_read}
 use Rattle.vortex_stats.proofs.stats_set.StatsSet.find.Goals as goal
 
 pub returns-in-Some : goal.returns-in-Some

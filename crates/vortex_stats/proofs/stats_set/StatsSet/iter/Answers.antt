@@ -1,6 +1,6 @@
 use Rattle.std.proofs.Common.{◌≡◌, ◌≤◌, sym, subst, length}
-use Rattle.vortex_stats.specs.Slots.{slot_entries}
-use Rattle.vortex_stats.proofs.SlotLemmas.{all_left, length-distinct}
+use Rattle.vortex_stats.specs.Sets.Slots.{slot_entries}
+use Rattle.vortex_stats.proofs.Sets.SlotLemmas.{all_left, length-distinct}
 use Rattle.vortex_stats.proofs.stats_set.StatsSet.iter.Goals as goal
 
 pub invariant_of-result : goal.invariant_of-result

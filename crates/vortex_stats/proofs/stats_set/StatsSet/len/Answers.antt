@@ -1,5 +1,5 @@
 use Rattle.std.proofs.Common.{◌≡◌, sym, ap, ◌∙◌, length}
-use Rattle.vortex_stats.proofs.SlotLemmas.{length_slots}
+use Rattle.vortex_stats.proofs.Sets.SlotLemmas.{length_slots}
 use Rattle.vortex_stats.proofs.stats_set.StatsSet.len.Goals as goal
 
 pub returns-clause-value : goal.returns-clause-value

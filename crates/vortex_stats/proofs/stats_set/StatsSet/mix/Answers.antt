@@ -1,8 +1,8 @@
 use Rattle.std.proofs.Common.{◌≡◌, true, refl, sym, subst, ◌∙◌}
-use Rattle.vortex_stats.specs.Entries.{entries_fit}
-use Rattle.vortex_stats.specs.Merges.{unordered_value, merged_unordered}
-use Rattle.vortex_stats.proofs.Revisions.{all_changed-made, unordered-needs_own}
-use Rattle.vortex_stats.proofs.MergedFits.{merged_unordered-fits}
+use Rattle.vortex_stats.specs.Sets.Entries.{entries_fit}
+use Rattle.vortex_stats.specs.Merging.Merges.{unordered_value, merged_unordered}
+use Rattle.vortex_stats.proofs.Sets.Revisions.{all_changed-made, unordered-needs_own}
+use Rattle.vortex_stats.proofs.Merging.MergedFits.{merged_unordered-fits}
 use Rattle.vortex_stats.proofs.stats_set.StatsSet.mix.Goals as goal
 
 pub returns-clause-merged : goal.returns-clause-merged

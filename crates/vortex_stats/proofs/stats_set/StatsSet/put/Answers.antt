@@ -1,7 +1,7 @@
 use Rattle.std.proofs.Common.{◌≡◌, List, [], ◌∷◌, ◌++◌, true, false, sym, ap, ◌∙◌, is_some, arith}
-use Rattle.vortex_stats.specs.Entries.{has_entry}
-use Rattle.vortex_stats.specs.Slots.{slot_entries}
-use Rattle.vortex_stats.proofs.SlotLemmas.{slot_read, has_entry-slots, room, written_in_place, written_last, sound_with}
+use Rattle.vortex_stats.specs.Sets.Entries.{has_entry}
+use Rattle.vortex_stats.specs.Sets.Slots.{slot_entries}
+use Rattle.vortex_stats.proofs.Sets.SlotLemmas.{slot_read, has_entry-slots, room, written_in_place, written_last, sound_with}
 use Rattle.vortex_stats.proofs.stats_set.StatsSet.put.Goals as goal
 
 pub push_reserved-requires : goal.push_reserved-requires

@@ -1,6 +1,6 @@
 use Rattle.std.proofs.Common.{◌≡◌, ◌++◌}
 use Rattle.vortex_stats.specs.Stat.{all_stats}
-use Rattle.vortex_stats.proofs.Retained.{retained_so_far}
+use Rattle.vortex_stats.proofs.Sets.Retained.{retained_so_far}
 use Rattle.vortex_stats.proofs.stats_set.StatsSet.retain_only.Given as goal
 
 -- of the statistics so far those that are no part of the list have no entry

@@ -1,5 +1,5 @@
 use Rattle.std.proofs.Common.{◌≡◌}
-use Rattle.vortex_stats.specs.Entries.{with_entries}
+use Rattle.vortex_stats.specs.Sets.Entries.{with_entries}
 use Rattle.vortex_stats.proofs.stats_set.StatsSet.try_clone.Given as goal
 
 -- setting what is left makes the set

@@ -1,7 +1,7 @@
 use Rattle.std.proofs.Common.{ap, sym, subst, ◌∙◌, []}
 use Rattle.std.specs.Iterator.{Yields}
-use Rattle.vortex_stats.specs.Entries.{with_entry}
-use Rattle.vortex_stats.proofs.Places.{with_entries-snoc}
+use Rattle.vortex_stats.specs.Sets.Entries.{with_entry}
+use Rattle.vortex_stats.proofs.Sets.Places.{with_entries-snoc}
 use Rattle.vortex_stats.proofs.stats_set.StatsSet.try_from_iter.Goals as goal
 
 pub loop-item-preserved : goal.loop-item-preserved

@@ -1,5 +1,5 @@
 use Rattle.std.proofs.Common.{◌≡◌, sym}
-use Rattle.vortex_stats.proofs.SlotLemmas.{all_left}
+use Rattle.vortex_stats.proofs.Sets.SlotLemmas.{all_left}
 use Rattle.vortex_stats.proofs.stats_set.StatsSetIntoIterator.into_iter.Goals as goal
 
 pub invariant_of-result : goal.invariant_of-result

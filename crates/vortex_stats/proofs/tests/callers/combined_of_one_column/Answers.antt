@@ -1,13 +1,13 @@
 use Rattle.std.proofs.Common.{◌≡◌, List, Option, Some, None, Result, Ok, Err, refl, sym, subst, ◌∙◌}
 use Rattle.std.specs.Prelude.{OnOk, IfErr, alloc_error}
 use Rattle.vortex_base.specs.declared.scalar_value.ScalarValue.{ScalarValue}
-use Rattle.vortex_base.specs.Columns.{ColumnData}
+use Rattle.vortex_base.specs.Data.Columns.{ColumnData}
 use Rattle.vortex_stats.specs.declared.error.StatsError.{StatsError}
 use Rattle.vortex_stats.specs.declared.error.StatsError.TheVariants as errors
 use Rattle.vortex_stats.specs.declared.precision.Precision.{Precision}
 use Rattle.vortex_stats.specs.declared.stat.Stat.{Stat}
-use Rattle.vortex_stats.specs.Claims.{IsTrueOf}
-use Rattle.vortex_stats.specs.Combined.{Outcome, combined, Combines}
+use Rattle.vortex_stats.specs.Sets.Claims.{IsTrueOf}
+use Rattle.vortex_stats.specs.Merging.Combined.{Outcome, combined, Combines}
 use Rattle.vortex_stats.proofs.tests.callers.combined_of_one_column.Goals as goal
 
 true_where_combined : (r : Result (Unit {0}) StatsError) (o : Outcome) (old new : List (Stat × Precision ScalarValue)) (c : ColumnData) → Combines o old new r → IsTrueOf o.entries c → OnOk r (IsTrueOf new c)

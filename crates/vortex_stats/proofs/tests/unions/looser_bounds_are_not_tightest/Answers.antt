@@ -1,8 +1,8 @@
 use Rattle.std.proofs.Common.{refl}
 use Rattle.std.proofs.lemmas.Cmp.{nat_cmp_total}
 use Rattle.vortex_stats.specs.declared.precision.Precision.TheVariants.{Exact, Inexact}
-use Rattle.vortex_stats.specs.UpperBound.{upper_union-law}
-use Rattle.vortex_stats.specs.LowerBound.{lower_union-law}
+use Rattle.vortex_stats.specs.Bounds.UpperBound.{upper_union-law}
+use Rattle.vortex_stats.specs.Bounds.LowerBound.{lower_union-law}
 use Rattle.vortex_stats.proofs.tests.unions.looser_bounds_are_not_tightest.Goals as goal
 
 -- the union itself allows the picks, and not the value that the looser bound allows

@@ -1,5 +1,5 @@
 use Rattle.std.proofs.Common.{ap, sym, ◌∙◌}
-use Rattle.vortex_base.specs.Columns.{ChunkData}
+use Rattle.vortex_base.specs.Data.Columns.{ChunkData}
 use Rattle.vortex_prune.specs.Part.{PartData}
 use Rattle.vortex_text.proofs.StartLemmas.{chunk_is}
 use Rattle.vortex_text.proofs.open_part.OpenPart.close.Goals as goal

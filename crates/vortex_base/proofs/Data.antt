@@ -1,0 +1,9 @@
+-- On values, columns and scopes.
+pub mod AppendLemmas
+pub mod ChunkLemmas
+pub mod MapLemmas
+pub mod OrderLemmas
+pub mod RowLemmas
+pub mod RowsFit
+pub mod ScopeLemmas
+pub mod TextOrder

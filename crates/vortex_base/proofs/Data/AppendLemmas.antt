@@ -1,0 +1,26 @@
+-- The values of two columns of one type fit it together.
+use Rattle.std.proofs.Common.{◌≡◌, ◌&&◌, Bool, true, false, cond, List, [], ◌∷◌, ◌++◌, Option, refl, sym, ap, subst, ◌∙◌}
+use Rattle.std.proofs.lemmas.List.Folds.{list_all-append}
+use Rattle.vortex_base.specs.Data.Columns.{ColumnData, all_fit, can_append}
+use Rattle.vortex_base.specs.Data.Exact.{both_true}
+use Rattle.vortex_base.specs.Data.Scalars.{is_optional_value}
+use Rattle.vortex_base.specs.Data.Types.{dtype_eq_is_exact}
+use Rattle.vortex_base.specs.declared.dtype.DType.{DType}
+use Rattle.vortex_base.specs.declared.scalar_value.ScalarValue.{ScalarValue}
+
+-- two columns that may be appended are of one type
+pub same_type : (c d : ColumnData) (cs ds : List ColumnData) → can_append (c ∷ cs) (d ∷ ds) ≡ true → c.dtype ≡ d.dtype
+same_type c d cs ds h = (dtype_eq_is_exact c.dtype d.dtype).0 (both_true _ _ (both_true _ _ h).0).0
+
+pub both_fit : (t : DType) (xs ys : List (Option ScalarValue)) → all_fit t xs ≡ true → all_fit t ys ≡ true → all_fit t (xs ++ ys) ≡ true
+both_fit t xs ys p q = list_all-append (λ v. is_optional_value v t) xs ys ∙ rw (p, q) refl
+
+-- the values of both, and those of the first alone, fit the first's type
+pub appended_fit : (c d : ColumnData) (cs ds all others : List ColumnData) (items : List (Option ScalarValue)) (b : Bool) → all ≡ c ∷ cs → others ≡ d ∷ ds → can_append all others ≡ true
+    → all_fit c.dtype c.values ≡ true → all_fit d.dtype d.values ≡ true → items ≡ cond b (c.values ++ d.values) c.values → all_fit c.dtype items ≡ true
+appended_fit c d cs ds all others items b is-all is-others can p q is =
+    let t : d.dtype ≡ c.dtype = sym (same_type c d cs ds (rw (is-all, is-others) at can)) in
+    let r : all_fit c.dtype d.values ≡ true = subst (λ (s : DType). all_fit s d.values ≡ true) t q in
+    let whole : all_fit c.dtype (cond b (c.values ++ d.values) c.values) ≡ true =
+    elim b as (λ x. all_fit c.dtype (cond x (c.values ++ d.values) c.values) ≡ true) [ true ↦ both_fit c.dtype c.values d.values p r | false ↦ p ] in
+    ap (all_fit c.dtype) is ∙ whole

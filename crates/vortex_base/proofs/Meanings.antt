@@ -1,0 +1,5 @@
+-- On what expressions mean, and their types.
+pub mod MeaningFits
+pub mod MeaningTyped
+pub mod PlacedFits
+pub mod PlacedTypes

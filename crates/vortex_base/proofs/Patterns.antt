@@ -1,0 +1,4 @@
+-- On patterns of LIKE.
+pub mod LikeStops
+pub mod PatternLemmas
+pub mod Successors

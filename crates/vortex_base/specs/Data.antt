@@ -1,0 +1,10 @@
+-- Types, values, columns and scopes.
+pub mod Columns
+pub mod Exact
+pub mod Neighbours
+pub mod Orders
+pub mod Repeated
+pub mod Scalars
+pub mod Scopes
+pub mod Types
+pub mod Values

@@ -1,0 +1,4 @@
+-- Patterns of LIKE.
+pub mod Like
+pub mod LikeSearch
+pub mod Prefix

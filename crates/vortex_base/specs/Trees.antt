@@ -1,0 +1,11 @@
+-- Expressions as trees.
+pub mod Between
+pub mod NamedNode
+pub mod NamedNodeFalls
+pub mod Node
+pub mod NodeFalls
+pub mod Parts
+pub mod ScalarFns
+pub mod Tree
+pub mod TreeCode
+pub mod TreeEq

@@ -1,0 +1,4 @@
+-- On bound expressions.
+pub mod BoundTypes
+pub mod BoundValues
+pub mod ProofLemmas

@@ -1,0 +1,8 @@
+-- True statistics answer honestly.
+pub mod HonestParts
+pub mod HonestStats
+pub mod OwnBinders
+pub mod PartLemmas
+pub mod PartLiterals
+pub mod StatFits
+pub mod StatTypes

@@ -1,0 +1,56 @@
+-- What is refused for some causes is refused for causes that they bring about.
+use Rattle.std.proofs.Common.{ℕ, Option, Some, None, Result, Ok, Err, IfErr, inl, inr}
+use Rattle.std.specs.Prelude.{IsSomeAnd}
+use Rattle.vortex_base.specs.Trees.Tree.{Tree, Place, column, literal, binary, between, is_null, is_not_null, not, like, stat, row_count}
+use Rattle.vortex_prune.specs.Binding.BoundTo.{SomeMet}
+use Rattle.vortex_prune.specs.Scanning.Causes.{Causes, IsRefusal}
+use Rattle.vortex_stats.specs.declared.error.BinderFault.TheVariants as binder_fault
+use Rattle.vortex_stats.specs.declared.error.RuleFault.TheVariants as rule_fault
+use Rattle.vortex_stats.specs.declared.error.StatsError.{StatsError}
+use Rattle.vortex_stats.specs.declared.error.StatsError.TheVariants as fault
+
+-- each cause of the one is, or brings about, that cause of the other
+pub record BringAbout (c d : Causes) : Type 0 where
+  pub rule : (k : ℕ) → c.rule k → d.rule k
+  pub not_bool : c.not_bool → d.not_bool
+  pub binder : (k : ℕ) → c.binder k → d.binder k
+  pub wrong_type : c.wrong_type → d.wrong_type
+  pub open_proof : c.open_proof → d.open_proof
+
+pub refusal-more : (c d : Causes) (f : StatsError) → BringAbout c d → IsRefusal c f → IsRefusal d f
+refusal-more c d (fault.Memory e) m h = tt
+refusal-more c d fault.NotPredicate m h = h
+refusal-more c d fault.Mismatch m h = h
+refusal-more c d fault.Unsupported m h = h
+refusal-more c d (fault.Conflict s) m h = h
+refusal-more c d (fault.Binder (binder_fault.Own k)) m h = m.binder k h
+refusal-more c d (fault.Binder binder_fault.WrongType) m h = m.wrong_type h
+refusal-more c d (fault.Rule (rule_fault.Own k)) m h = m.rule k h
+refusal-more c d (fault.Rule rule_fault.NotBool) m h = m.not_bool h
+refusal-more c d fault.OpenProof m h = m.open_proof h
+refusal-more c d fault.TooLarge m h = h
+
+pub answer-more : {X : Type 0} (c d : Causes) (r : Result X StatsError) → BringAbout c d → IfErr r (IsRefusal c) → IfErr r (IsRefusal d)
+answer-more c d (Ok x) m h = tt
+answer-more c d (Err f) m h = refusal-more c d f m h
+
+-- what is so of a placeholder that is met, whichever it is, is so
+pub met-const : (P : Type 0) (e : Tree Place) → SomeMet (λ f x. P) e → P
+met-const P (column c) h = absurd h
+met-const P (literal c) h = absurd h
+met-const P (binary o l r) (inl h) = met-const P l h
+met-const P (binary o l r) (inr h) = met-const P r h
+met-const P (between o x l u) (inl h) = met-const P x h
+met-const P (between o x l u) (inr (inl h)) = met-const P l h
+met-const P (between o x l u) (inr (inr h)) = met-const P u h
+met-const P (is_null x) h = met-const P x h
+met-const P (is_not_null x) h = met-const P x h
+met-const P (not x) h = met-const P x h
+met-const P (like o x p) (inl h) = met-const P x h
+met-const P (like o x p) (inr h) = met-const P p h
+met-const P (stat f x) h = h
+met-const P row_count h = absurd h
+
+pub some-const : {X : Type 0} (o : Option X) (P : X → Type 0) (Q : Type 0) → ((x : X) → P x → Q) → IsSomeAnd o P → Q
+some-const None P Q f h = absurd h
+some-const (Some x) P Q f h = f x h

@@ -1,0 +1,49 @@
+-- What a list of boxed rules proves, rule by rule; and what one of them may refuse, the list may.
+use Rattle.std.proofs.Common.{◌≡◌, ℕ, zero, suc, ◌+◌, ◌<◌, List, [], ◌∷◌, ◌++◌, append_assoc, length, get_or, take, Option, Some, None, option_to_list, subst, sym, ap, ◌∙◌, refl, arith}
+use Rattle.std.specs.List.{cons_option, filter_map}
+use Rattle.std.proofs.lemmas.List.{map_more}
+use Rattle.std.proofs.lemmas.List.Elements.{filter_map-append}
+use Rattle.std.specs.Prelude.{Contains}
+use Rattle.std.specs.declared.alloc.Global.{Global}
+use Rattle.std.specs.declared.dyn_box.DynBox.{DynBox}
+use Rattle.vortex_base.specs.Trees.Tree.{Tree, Place}
+use Rattle.vortex_stats.specs.declared.error.StatsError.{StatsError}
+use Rattle.vortex_prune.proofs.Rewriting.AskedNodes.{only, rules-more}
+use Rattle.vortex_prune.proofs.Rewriting.CauseLemmas.{refusal-more}
+use Rattle.vortex_prune.specs.Scanning.Causes.{IsRefusal}
+use Rattle.vortex_prune.specs.Rewriting.Lawful.{OwnRule}
+use Rattle.vortex_prune.specs.Rewriting.Own.{own_rule, own_rules}
+use Rattle.vortex_prune.specs.Rewriting.Falsifiers.{asked, own_proofs}
+use Rattle.vortex_prune.specs.Rewriting.RuleRefusals.{rule_causes}
+use Rattle.vortex_prune.specs.declared.rewrite.rule.StatsRewriteRule.{Ghosts}
+
+one_or_none : (o : Option (Tree Place)) → cons_option o [] ≡ option_to_list o
+one_or_none None = refl
+one_or_none (Some p) = refl
+
+module _ {I : Type 0} {D : I → Type 0} (M : (i : I) → Ghosts (D i)) (prove : OwnRule → Tree Place → Option (Tree Place)) where
+  pub own_more : (p : Tree Place) (bs : List (DynBox I Global D)) (i : ℕ) (b : DynBox I Global D) (olds news step : List (Tree Place)) → i < length bs → b ≡ get_or bs i b
+      → news ≡ olds ++ own_proofs prove (own_rules M (take i bs)) p → step ≡ option_to_list (asked prove p (own_rule M b)) → news ++ step ≡ olds ++ own_proofs prove (own_rules M (take (i + 1) bs)) p
+  own_more p bs i b olds news step h is e s =
+      let last : step ≡ filter_map (asked prove p) (own_rule M (get_or bs i b) ∷ []) = s ∙ ap (λ r. option_to_list (asked prove p (own_rule M r))) is ∙ sym (one_or_none (asked prove p (own_rule M (get_or bs i b)))) in
+      ap (λ (n : List (Tree Place)). n ++ step) e ∙
+      (ap (λ (x : List (Tree Place)). (olds ++ own_proofs prove (own_rules M (take i bs)) p) ++ x) last ∙
+      (append_assoc olds (own_proofs prove (own_rules M (take i bs)) p) (filter_map (asked prove p) (own_rule M (get_or bs i b) ∷ [])) ∙
+      ap (λ (x : List (Tree Place)). olds ++ x)
+      (sym (filter_map-append (asked prove p) (own_rules M (take i bs)) (own_rule M (get_or bs i b) ∷ [])) ∙
+      ap (filter_map (asked prove p)) (sym (map_more (own_rule M) bs i b h)))))
+
+  -- a rule of the list is among those that it is read as
+  read_at : (bs : List (DynBox I Global D)) (i : ℕ) (d : DynBox I Global D) (rule : OwnRule) → i < length bs → own_rule M (get_or bs i d) ≡ rule → Contains (own_rules M bs) rule
+  read_at [] i d rule h e = absurd (omega arith)
+  read_at (b ∷ bs) zero d rule h e = (0, omega arith, e)
+  read_at (b ∷ bs) (suc i) d rule h e = let r = read_at bs i d rule (omega arith) e in (suc r.0, omega (arith, r.1), r.2)
+
+  -- what one rule may cause, the list may
+  pub refusal_in : (nodes : List (Tree Place)) (bs cs : List (DynBox I Global D)) (i : ℕ) (b : DynBox I Global D) (f : StatsError) → i < length bs → b ≡ get_or bs i b → bs ≡ cs
+      → IsRefusal (rule_causes prove (own_rule M b ∷ []) nodes) f → IsRefusal (rule_causes prove (own_rules M cs) nodes) f
+  refusal_in nodes bs cs i b f h is same r =
+      subst (λ xs. IsRefusal (rule_causes prove (own_rules M xs) nodes) f) same
+      (refusal-more _ (rule_causes prove (own_rules M bs) nodes) f
+      (rules-more prove (own_rule M b ∷ []) (own_rules M bs) nodes (λ rule held. read_at bs i b rule h (ap (own_rule M) (sym is) ∙ only (own_rule M b) rule held)))
+      r)

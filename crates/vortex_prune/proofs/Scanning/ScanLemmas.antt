@@ -1,0 +1,192 @@
+-- What a scan has found after some parts, from what it had found before the last of them.
+use Rattle.std.proofs.Common.{◌≡◌, ◌<◌, ◌≤◌, ◌+◌, ◌||◌, ℕ, zero, suc, Bool, true, false, List, [], ◌∷◌, ◌++◌, Option, Some, IsTrue, cond, map, length, get_or, take, refl, sym, ap, subst, take_all, ◌∙◌, append_assoc, append-nil, inl, inr, arith}
+use Rattle.std.proofs.Math.Nat.{eq-or-lt_of_le}
+use Rattle.std.proofs.lemmas.Option.{same_Some, slice_get_read, slice_get_within, slice_get-get_or}
+use Rattle.std.specs.List.{All, enumerate_from, filter, flat_map}
+use Rattle.std.specs.Prelude.{slice_get}
+use Rattle.vortex_base.specs.Data.Columns.{row_count as rows_of}
+use Rattle.vortex_base.specs.Data.Scalars.{Constant}
+use Rattle.vortex_base.specs.Trees.Tree.{Place, Tree}
+use Rattle.vortex_prune.specs.Part.{AreParts, IsPart, PartData}
+use Rattle.vortex_prune.specs.Rewriting.Proof.{Assignment}
+use Rattle.vortex_prune.specs.Binding.Binders.{BinderAnswer}
+use Rattle.vortex_prune.specs.Scanning.Causes.{IsRefusal}
+use Rattle.vortex_prune.specs.Scanning.ScanRefusals.{binder_causes, if_faithful, proof_causes}
+use Rattle.vortex_prune.proofs.Rewriting.CauseLemmas.{refusal-more}
+use Rattle.vortex_base.specs.declared.dtype.DType.{DType}
+use Rattle.vortex_prune.specs.Scanning.Selection.{Answered, AreFaithful, answered, any_binder, is_skipped, kept_rows, place_if, selected_rows, skipped_parts}
+use Rattle.vortex_stats.specs.declared.error.StatsError.{StatsError}
+
+-- ---- lists made of the elements of a list and their places
+
+or_left : (a b : Bool) → a ≡ true → (a || b) ≡ true
+or_left true b h = refl
+or_left false b h = absurd cc
+
+or_right : (a b : Bool) → b ≡ true → (a || b) ≡ true
+or_right true b h = refl
+or_right false b h = h
+
+module _ {X Y : Type 0} (f : ℕ → X → List Y) where
+  abbrev collected : ℕ → List X → List Y
+  collected m xs = flat_map (λ e. f e.0 e.1) (enumerate_from m xs)
+
+  one_more : (m n k : ℕ) (xs : List X) (d : X) → m + n ≡ k → n < length xs → collected m (take (suc n) xs) ≡ collected m (take n xs) ++ f k (get_or xs n d)
+  one_more m n k [] d e h = absurd (omega arith)
+  one_more m zero k (x ∷ xs) d e h = append-nil (f m x) ∙ ap (λ i. f i x) (omega (arith, e))
+  one_more m (suc n) k (x ∷ xs) d e h =
+      ap (λ l. f m x ++ l) (one_more (m + 1) n k xs d (omega (arith, e)) (omega arith)) ∙ sym (append_assoc (f m x) (collected (m + 1) (take n xs)) (f k (get_or xs n d)))
+
+  pub collected_more : (n : ℕ) (xs : List X) (d : X) → n < length xs → collected 0 (take (n + 1) xs) ≡ collected 0 (take n xs) ++ f n (get_or xs n d)
+  collected_more n xs d h =
+      let next : n + 1 ≡ suc n = omega arith in
+      ap (λ k. collected 0 (take k xs)) next ∙ one_more 0 n n xs d (omega arith) h
+
+module _ {X : Type 0} (test : X → Bool) where
+  listed_if : (b : Bool) (m : ℕ) (x : X) (rest : List (ℕ × X)) → map (λ e. e.0) (cond b ((m, x) ∷ rest) rest) ≡ place_if b m ++ map (λ e. e.0) rest
+  listed_if true m x rest = refl
+  listed_if false m x rest = refl
+
+  passing_collected : (m : ℕ) (xs : List X) → map (λ e. e.0) (filter (λ e. test e.1) (enumerate_from m xs)) ≡ flat_map (λ e. place_if (test e.1) e.0) (enumerate_from m xs)
+  passing_collected m [] = refl
+  passing_collected m (x ∷ xs) = listed_if (test x) m x (filter (λ e. test e.1) (enumerate_from (m + 1) xs)) ∙ ap (λ l. place_if (test x) m ++ l) (passing_collected (m + 1) xs)
+
+pub skipped_more : (proof : Option (Tree Place)) (parts : List Answered) (n : ℕ) (d : Answered) → n < length parts
+    → skipped_parts proof (take (n + 1) parts) ≡ skipped_parts proof (take n parts) ++ place_if (is_skipped proof (get_or parts n d).0 (get_or parts n d).1) n
+skipped_more proof parts n d h =
+    passing_collected (λ e. is_skipped proof e.0 e.1) 0 (take (n + 1) parts)
+    ∙ collected_more (λ i e. place_if (is_skipped proof e.0 e.1) i) n parts d h
+    ∙ ap (λ l. l ++ place_if (is_skipped proof (get_or parts n d).0 (get_or parts n d).1) n) (sym (passing_collected (λ e. is_skipped proof e.0 e.1) 0 (take n parts)))
+
+pub selected_more : (proof : Option (Tree Place)) (p : Tree Place) (parts : List Answered) (n : ℕ) (d : Answered) → n < length parts
+    → selected_rows proof p (take (n + 1) parts) ≡ selected_rows proof p (take n parts) ++ kept_rows proof p n (get_or parts n d)
+selected_more proof p parts n d h = collected_more (λ i e. kept_rows proof p i e) n parts d h
+
+-- ---- the parts that were looked at are parts
+
+abbrev pub AreBelow : ℕ → List PartData → Type 0
+AreBelow n parts = (i : ℕ) (part : PartData) → i < n → slice_get parts i ≡ Some part → IsPart part
+
+pub below_more : (n : ℕ) (parts : List PartData) (part : PartData) → n < length parts → part ≡ get_or parts n part → IsPart part → AreBelow n parts → AreBelow (n + 1) parts
+below_more n parts part h is own below i other less there =
+    let place : i ≤ n = omega (arith, less) in
+    elim (eq-or-lt_of_le place) [
+      | inl here ↦ (let read : Some part ≡ Some other = sym (slice_get_read parts (length parts) n part refl h is) ∙ ap (slice_get parts) (sym here) ∙ there in subst IsPart (same_Some part other read) own)
+      | inr before ↦ below i other before there
+    ]
+
+-- ---- what is so of each element that was looked at
+
+abbrev pub HoldsBelow : {X : Type 0} → (X → Type 0) → ℕ → List X → Type 0
+HoldsBelow {X} P n xs = (k : ℕ) (d : X) → k < n → P (get_or xs k d)
+
+-- within a list what stands past its end doesn't matter
+same_element : {X : Type 0} (xs : List X) (n : ℕ) (a b : X) → n < length xs → get_or xs n a ≡ get_or xs n b
+same_element xs n a b h = same_Some _ _ (sym (slice_get-get_or xs n a h) ∙ slice_get-get_or xs n b h)
+
+pub holds_more : {X : Type 0} (P : X → Type 0) (n : ℕ) (xs : List X) (x : X) → n < length xs → x ≡ get_or xs n x → P x → HoldsBelow P n xs → HoldsBelow P (n + 1) xs
+holds_more P n xs x h is own below k d less =
+    let place : k ≤ n = omega (arith, less) in
+    elim (eq-or-lt_of_le place) [
+      | inl here ↦ subst P (is ∙ same_element xs n x d h ∙ ap (λ i. get_or xs i d) (sym here)) own
+      | inr before ↦ below k d before
+    ]
+
+pub holds_all : {X : Type 0} (P : X → Type 0) (n : ℕ) (xs : List X) → length xs ≤ n → HoldsBelow P n xs → All P xs
+holds_all P n xs h below k d less = below k d (omega (arith, less, h))
+
+-- ---- the parts
+
+pub all_below : (n : ℕ) (parts : List PartData) → length parts ≤ n → AreBelow n parts → AreParts parts
+all_below n parts h below i part there = below i part (omega (arith, slice_get_within parts i part there, h)) there
+
+-- ---- parts with their binders
+
+module _ {S : Type 0} where
+  pub answered_long : (value : S → List Constant → ℕ → Assignment) (parts : List PartData) (binders : List S) → length binders ≡ length parts → length (answered value parts binders) ≡ length parts
+  answered_long value [] binders h = refl
+  answered_long value (p ∷ parts) [] h = absurd (omega (arith, h))
+  answered_long value (p ∷ parts) (b ∷ binders) h = ap suc (answered_long value parts binders (omega (arith, h)))
+
+  pub answered_at : (value : S → List Constant → ℕ → Assignment) (parts : List PartData) (binders : List S) (n : ℕ) (p : PartData) (b : S) → length binders ≡ length parts → n < length parts
+      → (d : Answered) → get_or (answered value parts binders) n d ≡ (get_or parts n p, value (get_or binders n b) [] (rows_of (get_or parts n p).chunk.columns))
+  answered_at value [] binders n p b long h d = absurd (omega arith)
+  answered_at value (q ∷ parts) [] n p b long h d = absurd (omega (arith, long))
+  answered_at value (q ∷ parts) (c ∷ binders) zero p b long h d = refl
+  answered_at value (q ∷ parts) (c ∷ binders) (suc n) p b long h d = answered_at value parts binders n p b (omega (arith, long)) (omega arith) d
+
+  pub faithful_at : (is_faithful_over : S → List Constant → ℕ → Bool) (parts : List PartData) (binders : List S) (n : ℕ) (p : PartData) (b : S) → length binders ≡ length parts → n < length parts
+      → AreFaithful is_faithful_over parts binders → IsTrue (is_faithful_over (get_or binders n b) [] (rows_of (get_or parts n p).chunk.columns))
+  faithful_at over [] binders n p b long h f = absurd (omega arith)
+  faithful_at over (q ∷ parts) [] n p b long h f = absurd (omega (arith, long))
+  faithful_at over (q ∷ parts) (c ∷ binders) zero p b long h f = f.0
+  faithful_at over (q ∷ parts) (c ∷ binders) (suc n) p b long h f = faithful_at over parts binders n p b (omega (arith, long)) (omega arith) f.1
+
+  pub any_at : (can_fault : S → ℕ → Bool) (binders : List S) (n : ℕ) (b : S) (k : ℕ) → n < length binders → can_fault (get_or binders n b) k ≡ true → any_binder can_fault binders k ≡ true
+  any_at can_fault [] n b k h t = absurd (omega arith)
+  any_at can_fault (c ∷ binders) zero b k h t = or_left (can_fault c k) (any_binder can_fault binders k) t
+  any_at can_fault (c ∷ binders) (suc n) b k h t = or_right (can_fault c k) (any_binder can_fault binders k) (any_at can_fault binders n b k (omega arith) t)
+
+  -- what one binder may cause, the list may
+  module _ (answer : S → BinderAnswer) (IsMissing : S → DType → Tree Place → Type 0) (can_fault : S → ℕ → Bool) (proof : Option (Tree Place)) where
+    pub refusal_in : (binders : List S) (n : ℕ) (b : S) (f : StatsError) → n < length binders → b ≡ get_or binders n b
+        → IsRefusal (proof_causes (answer b) (IsMissing b) (can_fault b) proof) f → IsRefusal (binder_causes answer IsMissing can_fault proof binders) f
+    refusal_in binders n b f h is r =
+        refusal-more _ (binder_causes answer IsMissing can_fault proof binders) f (record {
+          rule = λ k x. x;
+          not_bool = λ x. x;
+          binder = λ k x. (n, b, h, sym is, x);
+          wrong_type = λ x. (n, b, h, sym is, x);
+          open_proof = λ x. (n, b, h, sym is, x);
+        }) r
+
+    pub faithful_refusal_in : (over : S → List Constant → ℕ → Bool) (parts : List PartData) (binders : List S) (n : ℕ) (part : PartData) (b : S) (f : StatsError)
+        → length binders ≡ length parts → n < length parts → part ≡ get_or parts n part → b ≡ get_or binders n b
+        → (IsTrue (over b [] (rows_of part.chunk.columns)) → IsRefusal (if_faithful proof (proof_causes (answer b) (IsMissing b) (can_fault b) proof)) f)
+        → AreFaithful over parts binders → IsRefusal (if_faithful proof (binder_causes answer IsMissing can_fault proof binders)) f
+    faithful_refusal_in over parts binders n part b f long h is is_b r faithful =
+        let here = faithful_at over parts binders n part b long h faithful in
+        let own : IsTrue (over b [] (rows_of part.chunk.columns)) = subst (λ c. IsTrue (over c [] (rows_of part.chunk.columns))) (sym is_b) (subst (λ q. IsTrue (over (get_or binders n b) [] (rows_of q.chunk.columns))) (sym is) here) in
+        refusal-more _ (if_faithful proof (binder_causes answer IsMissing can_fault proof binders)) f (record {
+          rule = λ k x. x;
+          not_bool = λ x. x;
+          binder = λ k x. (n, b, omega (arith, long, h), sym is_b, x);
+          wrong_type = λ x. x;
+          open_proof = λ x. x;
+        }) (r own)
+
+  -- the part that was read there, with its binder's answers
+  pub answered_in : (value : S → List Constant → ℕ → Assignment) (parts : List PartData) (binders : List S) (n : ℕ) (part : PartData) (b : S) (d : Answered) → length binders ≡ length parts → n < length parts
+      → part ≡ get_or parts n part → b ≡ get_or binders n b → (part, value b [] (rows_of part.chunk.columns)) ≡ get_or (answered value parts binders) n d
+  answered_in value parts binders n part b d long h is is_b =
+      ap (λ q. (q, value b [] (rows_of q.chunk.columns))) is ∙ ap (λ c. (get_or parts n part, value c [] (rows_of (get_or parts n part).chunk.columns))) is_b ∙ sym (answered_at value parts binders n part b long h d)
+
+  pub faithful_in : (over : S → List Constant → ℕ → Bool) (parts : List PartData) (binders : List S) (n : ℕ) (part : PartData) (b : S) → length binders ≡ length parts → n < length parts
+      → part ≡ get_or parts n part → b ≡ get_or binders n b → AreFaithful over parts binders → IsTrue (over b [] (rows_of part.chunk.columns))
+  faithful_in over parts binders n part b long h is is_b faithful =
+      subst (λ c. IsTrue (over c [] (rows_of part.chunk.columns))) (sym is_b) (subst (λ q. IsTrue (over (get_or binders n b) [] (rows_of q.chunk.columns))) (sym is) (faithful_at over parts binders n part b long h faithful))
+
+  -- one more part was looked at
+  pub skipped_in : (value : S → List Constant → ℕ → Assignment) (proof : Option (Tree Place)) (parts : List PartData) (binders : List S) (n : ℕ) (part : PartData) (b : S) (xs : List ℕ) → length binders ≡ length parts → n < length parts
+      → part ≡ get_or parts n part → b ≡ get_or binders n b → xs ≡ skipped_parts proof (take n (answered value parts binders))
+      → xs ++ place_if (is_skipped proof part (value b [] (rows_of part.chunk.columns))) n ≡ skipped_parts proof (take (n + 1) (answered value parts binders))
+  skipped_in value proof parts binders n part b xs long h is is_b e =
+      let d : Answered = (part, value b [] (rows_of part.chunk.columns)) in
+      let own = answered_in value parts binders n part b d long h is is_b in
+      ap (λ l. l ++ place_if (is_skipped proof part (value b [] (rows_of part.chunk.columns))) n) e
+      ∙ ap (λ (q : Answered). skipped_parts proof (take n (answered value parts binders)) ++ place_if (is_skipped proof q.0 q.1) n) own
+      ∙ sym (skipped_more proof (answered value parts binders) n d (omega (arith, answered_long value parts binders long, h)))
+
+  pub selected_in : (value : S → List Constant → ℕ → Assignment) (proof : Option (Tree Place)) (p : Tree Place) (parts : List PartData) (binders : List S) (n : ℕ) (part : PartData) (b : S) (xs : List (ℕ × ℕ)) → length binders ≡ length parts → n < length parts
+      → part ≡ get_or parts n part → b ≡ get_or binders n b → xs ≡ selected_rows proof p (take n (answered value parts binders))
+      → xs ++ kept_rows proof p n (part, value b [] (rows_of part.chunk.columns)) ≡ selected_rows proof p (take (n + 1) (answered value parts binders))
+  selected_in value proof p parts binders n part b xs long h is is_b e =
+      let d : Answered = (part, value b [] (rows_of part.chunk.columns)) in
+      let own = answered_in value parts binders n part b d long h is is_b in
+      ap (λ l. l ++ kept_rows proof p n (part, value b [] (rows_of part.chunk.columns))) e
+      ∙ ap (λ (q : Answered). selected_rows proof p (take n (answered value parts binders)) ++ kept_rows proof p n q) own
+      ∙ sym (selected_more proof p (answered value parts binders) n d (omega (arith, answered_long value parts binders long, h)))
+
+  -- all parts were looked at
+  pub all_taken : (value : S → List Constant → ℕ → Assignment) (parts : List PartData) (binders : List S) (n : ℕ) → length binders ≡ length parts → length parts ≤ n → take n (answered value parts binders) ≡ answered value parts binders
+  all_taken value parts binders n long h = take_all n (answered value parts binders) (omega (arith, answered_long value parts binders long, h))

@@ -1,0 +1,7 @@
+-- Worked rows, found by computation alone.
+pub mod CompleteRows
+pub mod EndsRows
+pub mod HonestRows
+pub mod RewritingRows
+pub mod StatRows
+pub mod VisitRows

@@ -1,0 +1,51 @@
+-- The type of a placeholder, which the nullability of its input does not change.
+use Rattle.std.specs.Prelude.{◌≡◌, refl}
+use Rattle.std.proofs.Common.{sym, ap, ap₂, ◌∙◌}
+use Rattle.vortex_base.specs.declared.aggregate.AggregateFnRef.{AggregateFnRef}
+use Rattle.vortex_base.specs.declared.aggregate.AggregateFnRef.TheVariants as aggregate
+use Rattle.vortex_base.specs.declared.dtype.DType.{DType}
+use Rattle.vortex_base.specs.declared.dtype.DType.TheVariants as dtype
+use Rattle.vortex_base.specs.declared.types.Nullability.TheVariants.{Nullable}
+use Rattle.vortex_base.specs.Data.Types.{as_nullable}
+use Rattle.vortex_base.specs.Meanings.Typing.{element_of, of_element, placeholder_type, state_dtype, stat_type, sum_type}
+
+pub as_nullable-again : (t : DType) → as_nullable (as_nullable t) ≡ as_nullable t
+as_nullable-again dtype.Null = refl
+as_nullable-again (dtype.Bool n) = refl
+as_nullable-again (dtype.Primitive p n) = refl
+as_nullable-again (dtype.Utf8 n) = refl
+as_nullable-again (dtype.Binary n) = refl
+as_nullable-again (dtype.MinMaxState e n) = refl
+
+element_of-as_nullable : (t : DType) → element_of (as_nullable t) ≡ element_of t
+element_of-as_nullable dtype.Null = refl
+element_of-as_nullable (dtype.Bool n) = refl
+element_of-as_nullable (dtype.Primitive p n) = refl
+element_of-as_nullable (dtype.Utf8 n) = refl
+element_of-as_nullable (dtype.Binary n) = refl
+element_of-as_nullable (dtype.MinMaxState e n) = refl
+
+sum_type-as_nullable : (t : DType) → sum_type (as_nullable t) ≡ sum_type t
+sum_type-as_nullable dtype.Null = refl
+sum_type-as_nullable (dtype.Bool n) = refl
+sum_type-as_nullable (dtype.Primitive p n) = refl
+sum_type-as_nullable (dtype.Utf8 n) = refl
+sum_type-as_nullable (dtype.Binary n) = refl
+sum_type-as_nullable (dtype.MinMaxState e n) = refl
+
+extreme-as_nullable : (t : DType) → of_element (element_of (as_nullable t)) (λ e. as_nullable (as_nullable t)) ≡ of_element (element_of t) (λ e. as_nullable t)
+extreme-as_nullable t = ap₂ (λ e u. of_element e (λ _. u)) (element_of-as_nullable t) (as_nullable-again t)
+
+state_dtype-as_nullable : (f : AggregateFnRef) (t : DType) → state_dtype f (as_nullable t) ≡ state_dtype f t
+state_dtype-as_nullable aggregate.Max t = extreme-as_nullable t
+state_dtype-as_nullable aggregate.Min t = extreme-as_nullable t
+state_dtype-as_nullable aggregate.MinMax t = ap (λ e. of_element e (λ x. dtype.MinMaxState x Nullable)) (element_of-as_nullable t)
+state_dtype-as_nullable aggregate.Sum t = sum_type-as_nullable t
+state_dtype-as_nullable aggregate.NullCount t = refl
+state_dtype-as_nullable aggregate.UncompressedSizeInBytes t = refl
+state_dtype-as_nullable aggregate.AllNull t = refl
+state_dtype-as_nullable aggregate.AllNonNull t = refl
+state_dtype-as_nullable aggregate.NanCount t = refl
+
+pub same_stat_type : (f : AggregateFnRef) (s t : DType) → as_nullable s ≡ as_nullable t → stat_type f s ≡ stat_type f t
+same_stat_type f s t e = ap placeholder_type (sym (state_dtype-as_nullable f s) ∙ ap (state_dtype f) e ∙ state_dtype-as_nullable f t)

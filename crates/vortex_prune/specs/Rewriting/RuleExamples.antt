@@ -1,0 +1,171 @@
+-- The proofs of the rules that the tests box, and that these are lawful.
+use Rattle.std.specs.Prelude.{◌≡◌, ℕ, zero, suc, Bool, true, false, List, [], ◌∷◌, Option, Some, None, IsTrue, is_none, if◌then◌else◌, slice_get, refl}
+use Rattle.std.proofs.Common.{ap, subst, sym, ◌∙◌}
+use Rattle.vortex_base.proofs.Data.RowLemmas.{row_of-IsRow}
+use Rattle.vortex_base.specs.declared.dtype.DType.{DType}
+use Rattle.vortex_base.specs.declared.dtype.DType.TheVariants as dtype
+use Rattle.vortex_base.specs.declared.types.Nullability.TheVariants.{Nullable}
+use Rattle.vortex_base.specs.declared.types.PType.TheVariants.{I32}
+use Rattle.vortex_base.specs.declared.scalar_value.ScalarValue.{ScalarValue}
+use Rattle.vortex_base.specs.declared.scalar_value.ScalarValue.TheVariants as value
+use Rattle.vortex_base.specs.Data.Columns.{ColumnData, cell_value, has_types, is_row, row_of, value_at}
+use Rattle.vortex_base.specs.Data.Exact.{both_true}
+use Rattle.vortex_base.specs.Meanings.Fitting.{is_of_type}
+use Rattle.vortex_base.specs.Meanings.Meaning.{is_true, opposite, truth, truth_value}
+use Rattle.vortex_base.specs.Data.Scalars.{is_optional_value}
+use Rattle.vortex_base.specs.Data.Scopes.{Named}
+use Rattle.vortex_base.specs.Trees.Tree.{Tree, Place, column, is_null, literal, not}
+use Rattle.vortex_base.specs.Data.Types.{dtype_eq_is_exact, is_nullable}
+use Rattle.vortex_prune.specs.Rewriting.Lawful.{IsLawful, IsSoundFalsifier, IsSoundSatisfier}
+use Rattle.vortex_prune.specs.Rewriting.Proof.{Assignment, proves}
+use Rattle.vortex_prune.specs.Rewriting.Falsifiers.{bool_literal, count_literal}
+
+-- no proof
+abbrev pub no_proof : Tree Place → Option (Tree Place)
+no_proof p = None
+
+pub no_proof_is_lawful : IsLawful no_proof no_proof
+no_proof_is_lawful = record { falsifies = λ p e h. absurd cc; satisfies = λ p e h. absurd cc }
+
+-- proofs that are never true
+abbrev pub false_proof : Tree Place → Option (Tree Place)
+false_proof p = Some (bool_literal false)
+
+abbrev pub number_proof : Tree Place → Option (Tree Place)
+number_proof p = Some (count_literal 7)
+
+never_false : (e : Tree Place) (A : Assignment) (n : ℕ) → Some (bool_literal false) ≡ Some e → IsTrue (proves e A n) → ⊥
+never_false e A n h t =
+    let same : e ≡ bool_literal false = cc in
+    let told : false ≡ true = subst (λ (x : Tree Place). IsTrue (proves x A n)) same t in
+    cc
+
+never_number : (e : Tree Place) (A : Assignment) (n : ℕ) → Some (count_literal 7) ≡ Some e → IsTrue (proves e A n) → ⊥
+never_number e A n h t =
+    let same : e ≡ count_literal 7 = cc in
+    let told : false ≡ true = subst (λ (x : Tree Place). IsTrue (proves x A n)) same t in
+    cc
+
+pub false_proof_is_lawful : IsLawful false_proof false_proof
+false_proof_is_lawful = record {
+  falsifies = λ p e h k A chunk over honest t. absurd (never_false e A _ h t);
+  satisfies = λ p e h k A chunk over honest t. absurd (never_false e A _ h t);
+}
+
+pub number_proof_is_lawful : IsLawful number_proof number_proof
+number_proof_is_lawful = record {
+  falsifies = λ p e h k A chunk over honest t. absurd (never_number e A _ h t);
+  satisfies = λ p e h k A chunk over honest t. absurd (never_number e A _ h t);
+}
+
+-- a proof with a column outside its placeholders
+abbrev pub open_proof : Tree Place → Option (Tree Place)
+open_proof p = Some (is_null (column (record { index = 0; dtype = dtype.Primitive I32 Nullable })))
+
+never_open : (e : Tree Place) (A : Assignment) (n : ℕ) → Some (is_null (column (record { index = 0; dtype = dtype.Primitive I32 Nullable }))) ≡ Some e → IsTrue (proves e A n) → ⊥
+never_open e A n h t =
+    let same : e ≡ is_null (column (record { index = 0; dtype = dtype.Primitive I32 Nullable })) = cc in
+    let told : false ≡ true = subst (λ (x : Tree Place). IsTrue (proves x A n)) same t in
+    cc
+
+pub open_proof_is_lawful : IsLawful open_proof no_proof
+open_proof_is_lawful = record {
+  falsifies = λ p e h k A chunk over honest t. absurd (never_open e A _ h t);
+  satisfies = λ p e h. absurd cc;
+}
+
+-- the answer, where the value is this truth
+abbrev pub at_truth : (of answer : Bool) → Option ScalarValue → Option (Tree Place)
+at_truth true answer (Some (value.Bool true)) = Some (bool_literal answer)
+at_truth true answer v = None
+at_truth false answer (Some (value.Bool false)) = Some (bool_literal answer)
+at_truth false answer v = None
+
+abbrev pub at_literal : (of answer : Bool) → Tree Place → Option (Tree Place)
+at_literal of answer (literal c) = at_truth of answer c.value
+at_literal of answer e = None
+
+-- the answer, at NOT of a literal that is this truth
+abbrev pub at_opposite : (of answer : Bool) → Tree Place → Option (Tree Place)
+at_opposite of answer (not x) = at_literal of answer x
+at_opposite of answer e = None
+
+of_true : (answer : Bool) (v : Option ScalarValue) (e : Tree Place) → at_truth true answer v ≡ Some e → is_true (truth_value (opposite (truth v))) ≡ false
+of_true answer (Some (value.Bool true)) e h = refl
+of_true answer (Some (value.Bool false)) e h = cc
+of_true answer (Some (value.Primitive p)) e h = cc
+of_true answer (Some (value.Utf8 bs)) e h = cc
+of_true answer (Some (value.Binary bs)) e h = cc
+of_true answer None e h = cc
+
+of_false : (answer : Bool) (v : Option ScalarValue) (e : Tree Place) → at_truth false answer v ≡ Some e → is_true (truth_value (opposite (truth v))) ≡ true
+of_false answer (Some (value.Bool true)) e h = cc
+of_false answer (Some (value.Bool false)) e h = refl
+of_false answer (Some (value.Primitive p)) e h = cc
+of_false answer (Some (value.Utf8 bs)) e h = cc
+of_false answer (Some (value.Binary bs)) e h = cc
+of_false answer None e h = cc
+
+inner_falsifies : (answer : Bool) (x e : Tree Place) → at_literal true answer x ≡ Some e → IsSoundFalsifier (not x) e
+inner_falsifies answer (literal c) e h k A chunk over honest t i within = of_true answer c.value e h
+inner_falsifies answer x e h k A chunk over honest t i within = cc
+
+inner_satisfies : (answer : Bool) (x e : Tree Place) → at_literal false answer x ≡ Some e → IsSoundSatisfier (not x) e
+inner_satisfies answer (literal c) e h k A chunk over honest t i within = of_false answer c.value e h
+inner_satisfies answer x e h k A chunk over honest t i within = cc
+
+opposite_falsifies : (answer : Bool) (p e : Tree Place) → at_opposite true answer p ≡ Some e → IsSoundFalsifier p e
+opposite_falsifies answer (not x) e h = inner_falsifies answer x e h
+opposite_falsifies answer p e h = absurd cc
+
+opposite_satisfies : (answer : Bool) (p e : Tree Place) → at_opposite false answer p ≡ Some e → IsSoundSatisfier p e
+opposite_satisfies answer (not x) e h = inner_satisfies answer x e h
+opposite_satisfies answer p e h = absurd cc
+
+pub opposite_is_lawful : (answer : Bool) → IsLawful (at_opposite true answer) (at_opposite false answer)
+opposite_is_lawful answer = record { falsifies = opposite_falsifies answer; satisfies = opposite_satisfies answer }
+
+-- ---- a rule that rests on the type that a column is declared of
+
+-- of a column that has no null no row is null
+abbrev pub at_column : Tree Place → Option (Tree Place)
+at_column (column c) = if is_nullable c.dtype then None else Some (bool_literal true)
+at_column e = None
+
+abbrev pub at_null_test : Tree Place → Option (Tree Place)
+at_null_test (is_null x) = at_column x
+at_null_test e = None
+
+no_null : (v : Option ScalarValue) (s t : DType) → is_nullable t ≡ false → s ≡ t → is_optional_value v s ≡ true → is_none v ≡ false
+no_null None s t h e k = let own : is_nullable s ≡ is_nullable t = ap is_nullable e in cc
+no_null (Some v) s t h e k = refl
+
+-- in a row of columns of the scope's types, a place whose type has no null holds a value
+no_null_at : (t : DType) (ss : List Named) (cs : List ColumnData) (i j : ℕ) → is_nullable t ≡ false → has_types ss cs ≡ true → is_row (row_of i cs) ≡ true → is_of_type t (slice_get ss j) ≡ true
+    → is_none (cell_value (slice_get (row_of i cs) j)) ≡ false
+no_null_at t [] cs i j h typed row k = absurd cc
+no_null_at t (s ∷ ss) [] i j h typed row k = absurd cc
+no_null_at t (s ∷ ss) (c ∷ cs) i zero h typed row k =
+    let same : c.dtype ≡ t = sym ((dtype_eq_is_exact s.1 c.dtype).0 (both_true _ _ typed).0) ∙ (dtype_eq_is_exact s.1 t).0 k in
+    no_null (value_at (slice_get c.values i)) c.dtype t h same (both_true _ _ row).0
+no_null_at t (s ∷ ss) (c ∷ cs) i (suc j) h typed row k = no_null_at t ss cs i j h (both_true _ _ typed).1 (both_true _ _ row).1 k
+
+column_falsifies : (c : Place) (e : Tree Place) → is_nullable c.dtype ≡ false → IsSoundFalsifier (is_null (column c)) e
+column_falsifies c e h k A chunk over honest t i within =
+    let typed = (both_true _ _ (both_true _ _ (both_true _ _ chunk).1).1).0 in
+    no_null_at c.dtype k.scope k.columns i c.index h typed (row_of-IsRow k i chunk within) over.over
+
+declared_falsifies : (c : Place) (e : Tree Place) (b : Bool) → is_nullable c.dtype ≡ b → (if b then None else Some (bool_literal true)) ≡ Some e → IsSoundFalsifier (is_null (column c)) e
+declared_falsifies c e true h is = absurd cc
+declared_falsifies c e false h is = column_falsifies c e h
+
+test_falsifies : (x e : Tree Place) → at_column x ≡ Some e → IsSoundFalsifier (is_null x) e
+test_falsifies (column c) e h = declared_falsifies c e (is_nullable c.dtype) refl h
+test_falsifies x e h = absurd cc
+
+null_test_falsifies : (p e : Tree Place) → at_null_test p ≡ Some e → IsSoundFalsifier p e
+null_test_falsifies (is_null x) e h = test_falsifies x e h
+null_test_falsifies p e h = absurd cc
+
+pub null_test_is_lawful : IsLawful at_null_test no_proof
+null_test_is_lawful = record { falsifies = null_test_falsifies; satisfies = λ p e h. absurd cc }

@@ -1,0 +1,206 @@
+// Binders that know a count of nulls or nothing, and binders that fault.
+ghost use Rattle.std.specs.Prelude.{◌≡◌, ◌==◌, ◌&&◌, ⊤, false, Some, None, refl, if◌then◌else◌};
+ghost use Rattle.std.proofs.Common.{sym};
+ghost use mathlib.Core.Bool.{true≢false};
+ghost use Rattle.vortex_base.specs.declared.aggregate.AggregateFnRef.TheVariants as aggregate;
+ghost use Rattle.vortex_base.specs.declared.dtype.DType.TheVariants as dtype;
+ghost use Rattle.vortex_base.specs.declared.types.Nullability.TheVariants.{NonNullable};
+ghost use Rattle.vortex_base.specs.declared.types.PType.TheVariants as ptype;
+ghost use Rattle.vortex_base.specs.Trees.Tree.{column};
+ghost use Rattle.vortex_prune.specs.Binding.PartBinder.{IsNullOf};
+
+use super::*;
+use crate::bind::stat_binder::{hooked, literal};
+use crate::expr::bound as placed;
+use std::test::Fail;
+use vortex_base::error::BaseError;
+use vortex_base::scalar::Scalar;
+use vortex_base::scalar_value::ScalarValue;
+use vortex_base::types::{Nullability, PType};
+
+const I32: DType = DType::Primitive(PType::I32, Nullability::NonNullable);
+
+const U64: DType = DType::Primitive(PType::U64, Nullability::NonNullable);
+
+const BOOL: DType = DType::Bool(Nullability::NonNullable);
+
+const BOOL_OR_NULL: DType = DType::Bool(Nullability::Nullable);
+
+// The column `a` of a table of rows.
+fn a(alloc: Global) -> Result<BoundExpression, BaseError> {
+    bound::col(alloc, 0, I32)
+}
+
+fn truth(alloc: Global, value: bool) -> Result<BoundExpression, BaseError> {
+    let scalar = Scalar::try_new(BOOL, Some(ScalarValue::Bool(value)))?;
+    bound::lit(alloc, scalar)
+}
+
+fn null(alloc: Global) -> Result<BoundExpression, BaseError> {
+    bound::lit(alloc, Scalar::null(BOOL_OR_NULL))
+}
+
+// Answers the count of nulls of any input by the second column of a table of statistics, if it knows
+// that, and nothing else.
+struct NullCounts {
+    are_known: bool,
+}
+
+impl StatBinder for NullCounts {
+    ghost answer = { λ b f x t. if (b.are_known && (⟦<AggregateFnRef as PartialEq>⟧.eq f aggregate.NullCount))
+        then Some (column (record { index = 1; dtype = dtype.Primitive ptype.U64 NonNullable })) else None };
+
+    ghost is_missing = { λ b. IsNullOf };
+
+    ghost allows_null = { λ b t. refl };
+
+    ghost can_fault = { λ b k. false };
+
+    ghost value = { λ b row n f x. None };
+
+    ghost is_faithful_over = { λ b row n. false };
+
+    ghost is_faithful = { λ b row n h. absurd (true≢false (sym h)) };
+
+    fn bind_aggregate(
+        &self,
+        alloc: Global,
+        _input: &BoundExpression,
+        aggregate: &AggregateFnRef,
+        _stat_dtype: &DType,
+    ) -> Result<Option<BoundExpression>, HookFault> {
+        if self.are_known && *aggregate == AggregateFnRef::NullCount {
+            Ok(Some(hooked(bound::col(alloc, 1, U64))?))
+        } else {
+            Ok(None)
+        }
+    }
+}
+
+// Faults at each placeholder.
+struct Faulty;
+
+impl StatBinder for Faulty {
+    ghost answer = { λ b f x t. None };
+
+    ghost is_missing = { λ b. IsNullOf };
+
+    ghost allows_null = { λ b t. refl };
+
+    ghost can_fault = { λ b k. k == 7 };
+
+    ghost value = { λ b row n f x. None };
+
+    ghost is_faithful_over = { λ b row n. false };
+
+    ghost is_faithful = { λ b row n h. absurd (true≢false (sym h)) };
+
+    fn bind_aggregate(
+        &self,
+        _alloc: Global,
+        _input: &BoundExpression,
+        _aggregate: &AggregateFnRef,
+        _stat_dtype: &DType,
+    ) -> Result<Option<BoundExpression>, HookFault> {
+        Err(HookFault::Own(7))
+    }
+}
+
+// Knows nothing, and answers a count for what is missing.
+struct Counting;
+
+impl StatBinder for Counting {
+    ghost answer = { λ b f x t. None };
+
+    ghost is_missing = { λ b t r. ⊤ };
+
+    ghost allows_null = { λ b t. tt };
+
+    ghost can_fault = { λ b k. false };
+
+    ghost value = { λ b row n f x. None };
+
+    ghost is_faithful_over = { λ b row n. false };
+
+    ghost is_faithful = { λ b row n h. absurd (true≢false (sym h)) };
+
+    fn bind_aggregate(
+        &self,
+        _alloc: Global,
+        _input: &BoundExpression,
+        _aggregate: &AggregateFnRef,
+        _stat_dtype: &DType,
+    ) -> Result<Option<BoundExpression>, HookFault> {
+        Ok(None)
+    }
+
+    fn missing_stat(&self, alloc: Global, _dtype: DType) -> Result<BoundExpression, HookFault> {
+        literal(alloc, Scalar::null(U64.as_nullable()))
+    }
+}
+
+const KNOWN: NullCounts = NullCounts { are_known: true };
+
+const UNKNOWN: NullCounts = NullCounts { are_known: false };
+
+#[test]
+fn a_count_of_nulls_is_a_column(rt: HostRuntime) -> Result<(), Fail> {
+    let alloc = rt.alloc();
+    let count = placed::null_count(alloc, a(alloc)?)?;
+    assert!(rt; bind_stats(alloc, count, &KNOWN)? == bound::col(alloc, 1, U64)?);
+    Ok(())
+}
+
+#[test]
+fn a_truth_is_not_derived_from_a_count(rt: HostRuntime) -> Result<(), Fail> {
+    let alloc = rt.alloc();
+    let all_null = placed::all_null(alloc, a(alloc)?)?;
+    assert!(rt; bind_stats(alloc, all_null, &KNOWN)? == null(alloc)?);
+    Ok(())
+}
+
+#[test]
+fn nothing_is_reduced(rt: HostRuntime) -> Result<(), Fail> {
+    let alloc = rt.alloc();
+    let all_null = placed::all_null(alloc, a(alloc)?)?;
+    let both = bound::and(alloc, truth(alloc, false)?, all_null)?;
+    let kept = bound::and(alloc, truth(alloc, false)?, null(alloc)?)?;
+    assert!(rt; bind_stats(alloc, both, &UNKNOWN)? == kept);
+    let all_null = placed::all_null(alloc, a(alloc)?)?;
+    let either = bound::or(alloc, truth(alloc, true)?, all_null)?;
+    let kept = bound::or(alloc, truth(alloc, true)?, null(alloc)?)?;
+    assert!(rt; bind_stats(alloc, either, &UNKNOWN)? == kept);
+    Ok(())
+}
+
+#[test]
+fn what_holds_no_placeholder_is_kept(rt: HostRuntime) -> Result<(), Fail> {
+    let alloc = rt.alloc();
+    let is_null = bound::is_null(alloc, a(alloc)?)?;
+    let kept = is_null.try_clone()?;
+    assert!(rt; bind_stats(alloc, is_null, &Faulty)? == kept);
+    let count = bound::row_count(alloc)?;
+    assert!(rt; bind_stats(alloc, count, &Faulty)? == bound::row_count(alloc)?);
+    Ok(())
+}
+
+#[test]
+fn an_inner_placeholder_is_not_met(rt: HostRuntime) -> Result<(), Fail> {
+    let alloc = rt.alloc();
+    let inner = placed::stat(alloc, a(alloc)?, AggregateFnRef::Max)?;
+    let outer = placed::null_count(alloc, inner)?;
+    assert!(rt; bind_stats(alloc, outer, &KNOWN)? == bound::col(alloc, 1, U64)?);
+    Ok(())
+}
+
+#[test]
+fn faults_are_the_binders(rt: HostRuntime) -> Result<(), Fail> {
+    let alloc = rt.alloc();
+    let own = bind_stats(alloc, placed::all_null(alloc, a(alloc)?)?, &Faulty);
+    assert!(rt; matches!(own, Err(StatsError::Binder(BinderFault::Own(7)))));
+    let wrong = bind_stats(alloc, placed::all_null(alloc, a(alloc)?)?, &Counting);
+    assert!(rt; matches!(wrong, Err(StatsError::Binder(BinderFault::WrongType))));
+    let right = bind_stats(alloc, placed::null_count(alloc, a(alloc)?)?, &Counting)?;
+    assert_eq!(rt; right.dtype(), U64.as_nullable());
+    Ok(())
+}

@@ -1,0 +1,135 @@
+//! The least and the greatest values of operands, and how they compare.
+ghost use Rattle.std.specs.Prelude.{◌≡◌, IfErr, IfOk, IsOk, IsTrue, alloc_error, false};
+ghost use Rattle.vortex_base.specs.Trees.Tree as tree;
+ghost use Rattle.vortex_base.specs.Meanings.Typing.{type_of};
+ghost use Rattle.vortex_stats.specs.declared.error.StatsError.TheVariants.{Memory};
+ghost use Rattle.vortex_prune.specs.Rewriting.Predicates.{is_connective, is_extreme};
+ghost use Rattle.vortex_prune.specs.Rewriting.Falsifiers.{both_of, comparison_falsifier, either_of, extreme as extreme_of, placeholder as placeholder_of};
+
+use crate::built::cloned;
+use crate::rewrite::nodes::stat;
+use crate::rewrite::proof::Proof;
+use std::alloc::Global;
+use vortex_base::aggregate::AggregateFnRef;
+use vortex_base::bound_expression::BoundExpression;
+use vortex_base::types::Operator;
+use vortex_stats::error::StatsError;
+
+fn placeholder(
+    alloc: Global,
+    aggregate: AggregateFnRef,
+    x: &BoundExpression,
+) -> Result<Option<BoundExpression>, StatsError>
+    ensures value { IfOk result (λ o. o ≡ placeholder_of aggregate x.now) }
+    ensures memory { IfErr result (λ fault. fault ≡ Memory alloc_error) }
+{
+    match aggregate.state_dtype(&x.dtype()) {
+        None => Ok(None),
+        Some(_) => Ok(Some(stat(alloc, aggregate, x)?)),
+    }
+}
+
+/// The least or the greatest value of an operand: of a literal the literal itself.
+fn extreme(
+    alloc: Global,
+    aggregate: AggregateFnRef,
+    x: &BoundExpression,
+) -> Result<Option<BoundExpression>, StatsError>
+    ensures value { IfOk result (λ o. o ≡ extreme_of aggregate x.now) }
+    ensures memory { IfErr result (λ fault. fault ≡ Memory alloc_error) }
+{
+    match x.literal() {
+        Some(_) => Ok(Some(cloned(x)?)),
+        None => placeholder(alloc, aggregate, x),
+    }
+}
+
+/// The comparison of an extreme of one operand with an extreme of another, where both are there.
+pub(crate) fn compared(
+    alloc: Global,
+    operator: Operator,
+    left: (AggregateFnRef, &BoundExpression),
+    right: (AggregateFnRef, &BoundExpression),
+) -> Result<Option<Proof>, StatsError>
+    requires comparison { is_connective operator ≡ false }
+    requires left_extreme { IsTrue (is_extreme left.0) }
+    requires right_extreme { IsTrue (is_extreme right.0) }
+    requires comparable { IsOk (type_of (tree.binary Operator.Eq left.1.now right.1.now)) }
+    ensures value { IfOk result (λ o. o ≡ both_of (tree.binary operator)
+        (extreme_of left.entry.0 left.entry.1.now) (extreme_of right.entry.0 right.entry.1.now)) }
+    ensures memory { IfErr result (λ fault. fault ≡ Memory alloc_error) }
+{
+    let low = extreme(alloc, left.0, left.1)?;
+    let high = extreme(alloc, right.0, right.1)?;
+    match (low, high) {
+        (Some(low), Some(high)) => Ok(Some(Proof::binary(alloc, operator, low, high)?)),
+        _ => Ok(None),
+    }
+}
+
+/// Two proofs joined by AND or OR, where both are there.
+pub(crate) fn both_joined(
+    alloc: Global,
+    connective: Operator,
+    left: Option<Proof>,
+    right: Option<Proof>,
+) -> Result<Option<Proof>, StatsError>
+    requires { IsTrue (is_connective connective) }
+    ensures value { IfOk result (λ o. o ≡ both_of (tree.binary connective) left right) }
+    ensures memory { IfErr result (λ fault. fault ≡ Memory alloc_error) }
+{
+    match (left, right) {
+        (Some(left), Some(right)) => Ok(Some(Proof::connect(alloc, connective, left, right)?)),
+        _ => Ok(None),
+    }
+}
+
+/// Two proofs joined by AND or OR, and the one that is there where only one is.
+pub(crate) fn either_joined(
+    alloc: Global,
+    connective: Operator,
+    left: Option<Proof>,
+    right: Option<Proof>,
+) -> Result<Option<Proof>, StatsError>
+    requires { IsTrue (is_connective connective) }
+    ensures value { IfOk result (λ o. o ≡ either_of (tree.binary connective) left right) }
+    ensures memory { IfErr result (λ fault. fault ≡ Memory alloc_error) }
+{
+    match (left, right) {
+        (Some(left), Some(right)) => Ok(Some(Proof::connect(alloc, connective, left, right)?)),
+        (Some(left), None) => Ok(Some(left)),
+        (None, right) => Ok(right),
+    }
+}
+
+/// The built-in proof that no row satisfies a comparison, and none for a connective.
+pub(crate) fn comparison_proof(
+    alloc: Global,
+    operator: Operator,
+    left: &BoundExpression,
+    right: &BoundExpression,
+) -> Result<Option<Proof>, StatsError>
+    requires { IsOk (type_of (tree.binary operator left.now right.now)) }
+    ensures value { IfOk result (λ o. o ≡ comparison_falsifier operator left.now right.now) }
+    ensures memory { IfErr result (λ fault. fault ≡ Memory alloc_error) }
+{
+    let (min_left, max_left) = ((AggregateFnRef::Min, left), (AggregateFnRef::Max, left));
+    let (min_right, max_right) = ((AggregateFnRef::Min, right), (AggregateFnRef::Max, right));
+    match operator {
+        Operator::Eq => {
+            let above = compared(alloc, Operator::Gt, min_left, max_right)?;
+            let below = compared(alloc, Operator::Gt, min_right, max_left)?;
+            both_joined(alloc, Operator::Or, above, below)
+        }
+        Operator::NotEq => {
+            let low = compared(alloc, Operator::Eq, min_left, max_right)?;
+            let high = compared(alloc, Operator::Eq, max_left, min_right)?;
+            both_joined(alloc, Operator::And, low, high)
+        }
+        Operator::Gt => compared(alloc, Operator::Lte, max_left, min_right),
+        Operator::Gte => compared(alloc, Operator::Lt, max_left, min_right),
+        Operator::Lt => compared(alloc, Operator::Gte, min_left, max_right),
+        Operator::Lte => compared(alloc, Operator::Gt, min_left, max_right),
+        Operator::And | Operator::Or => Ok(None),
+    }
+}

@@ -1,0 +1,152 @@
+//! The engine: it rewrites a predicate into a proof, node by node.
+ghost use Rattle.std.specs.Prelude.{◌≡◌, ◌+◌, ◌-◌, ◌^◌, ◌∷◌, [], min, IfErr, IfOk, IsOk, alloc_error, option_map};
+ghost use Rattle.vortex_base.specs.Trees.Tree as tree;
+ghost use Rattle.vortex_base.specs.Meanings.Typing.{type_of};
+ghost use Rattle.vortex_stats.specs.declared.error.StatsError.TheVariants.{Memory};
+ghost use Rattle.vortex_prune.specs.Scanning.Causes.{IsRefusal};
+ghost use Rattle.vortex_prune.specs.Rewriting.Own.{own_rules};
+ghost use Rattle.vortex_prune.specs.Rewriting.Falsifiers.{ends as ends_of, falsifier as falsifier_of, halves as halves_of, node as node_of, satisfier as satisfier_of, visits as visits_of};
+ghost use Rattle.vortex_prune.specs.Rewriting.RuleRefusals.{rule_causes};
+ghost use Rattle.vortex_prune.specs.Rewriting.Sides.{proof_of};
+ghost use Rattle.vortex_prune.specs.Rewriting.Visited.{visited};
+
+use crate::built::cloned;
+use crate::rewrite::builtins::between::ends;
+use crate::rewrite::builtins::comparison::{both_joined, either_joined};
+use crate::rewrite::builtins::{at_most_one, table_falsifiers, table_satisfiers};
+use crate::rewrite::proof::Proof;
+use crate::rewrite::reduce::reduce_balanced;
+use crate::rewrite::rule::StatsRewriteRule;
+use crate::rewrite::rules::Rules;
+use crate::rewrite::side::Side;
+use crate::rewrite::user_rules::ask_own;
+use std::alloc::Global;
+use vortex_base::bound_expression::BoundExpression;
+use vortex_base::bound_expression::parts::Parts;
+use vortex_base::types::{BetweenOptions, Operator};
+use vortex_stats::error::StatsError;
+
+/// The proof at one node: the built-in ones and then those of the user's rules, joined.
+fn node(
+    alloc: Global,
+    side: Side,
+    rules: &Rules,
+    e: &BoundExpression,
+    built_in: Vec<Proof>,
+) -> Result<Option<Proof>, StatsError>
+    ensures answer { let own = own_rules ⟦<dyn StatsRewriteRule as StatsRewriteRule>⟧ rules.now.own.items in
+        IfOk result (λ o. o ≡ node_of (proof_of side) own e.now built_in.items) }
+    ensures refusal { let own = own_rules ⟦<dyn StatsRewriteRule as StatsRewriteRule>⟧ rules.now.own.items in
+        IfErr result (IsRefusal (rule_causes (proof_of side) own (e.now ∷ []))) }
+{
+    let mut proofs = built_in;
+    ask_own(alloc, side, rules, e, &mut proofs)?;
+    reduce_balanced(alloc, proofs)
+}
+
+/// The AND of the two comparisons that a BETWEEN stands for.
+fn both_halves(
+    alloc: Global,
+    options: BetweenOptions,
+    x: &BoundExpression,
+    lower: &BoundExpression,
+    upper: &BoundExpression,
+) -> Result<BoundExpression, StatsError>
+    requires { IsOk (type_of (tree.between options x.now lower.now upper.now)) }
+    ensures value { IfOk result (λ e. e ≡ halves_of options x.now lower.now upper.now) }
+    ensures memory { IfErr result (λ fault. fault ≡ Memory alloc_error) }
+{
+    let low = Proof::binary(
+        alloc,
+        options.lower_strict.to_operator(),
+        cloned(lower)?,
+        cloned(x)?,
+    )?;
+    let high = Proof::binary(
+        alloc,
+        options.upper_strict.to_operator(),
+        cloned(x)?,
+        cloned(upper)?,
+    )?;
+    Ok(Proof::connect(alloc, Operator::And, low, high)?.into_expression())
+}
+
+/// The AND of the two comparisons that a BETWEEN stands for, at its moved ends; none, if its ends are
+/// literals between which no value lies.
+fn halves(
+    alloc: Global,
+    options: BetweenOptions,
+    x: &BoundExpression,
+    lower: &BoundExpression,
+    upper: &BoundExpression,
+) -> Result<Option<BoundExpression>, StatsError>
+    requires { IsOk (type_of (tree.between options x.now lower.now upper.now)) }
+    ensures value { IfOk result (λ o. o ≡ option_map (λ e. halves_of e.options x.now e.lower e.upper)
+        (ends_of options lower.now upper.now)) }
+    ensures memory { IfErr result (λ fault. fault ≡ Memory alloc_error) }
+{
+    match ends(alloc, options, lower, upper)? {
+        None => Ok(None),
+        Some((options, lower, upper)) => {
+            Ok(Some(both_halves(alloc, options, x, &lower, &upper)?))
+        }
+    }
+}
+
+/// The proof that no row satisfies an expression, if there is one. Each call is a turn, and is
+/// counted as it begins.
+pub(crate) fn rewrite_node(
+    alloc: Global,
+    rules: &Rules,
+    e: &BoundExpression,
+    visits: &mut u64,
+) -> Result<Option<Proof>, StatsError>
+    ensures answer { let own = own_rules ⟦<dyn StatsRewriteRule as StatsRewriteRule>⟧ rules.now.own.items in
+        IfOk result (λ o. o ≡ falsifier_of own e.now) }
+    ensures visits { IfOk result (λ _. visits.new ≡ min (visits.old + visits_of e.now) (2 ^ 64 - 1)) }
+    ensures refusal { let own = own_rules ⟦<dyn StatsRewriteRule as StatsRewriteRule>⟧ rules.now.own.items in
+        IfErr result (IsRefusal (rule_causes (proof_of Side.Falsify) own (visited e.now))) }
+{
+    *visits = visits.saturating_add(1);
+    let _typed = e.dtype();
+    match e.parts() {
+        Parts::Binary(operator, left, right) => match operator {
+            Operator::And => {
+                let left = rewrite_node(alloc, rules, left, visits)?;
+                let right = rewrite_node(alloc, rules, right, visits)?;
+                let joined = either_joined(alloc, Operator::Or, left, right)?;
+                node(alloc, Side::Falsify, rules, e, at_most_one(alloc, joined)?)
+            }
+            Operator::Or => {
+                let left = rewrite_node(alloc, rules, left, visits)?;
+                let right = rewrite_node(alloc, rules, right, visits)?;
+                let joined = both_joined(alloc, Operator::And, left, right)?;
+                node(alloc, Side::Falsify, rules, e, at_most_one(alloc, joined)?)
+            }
+            _ => node(alloc, Side::Falsify, rules, e, table_falsifiers(alloc, e)?),
+        },
+        Parts::Between(options, x, lower, upper) => {
+            let halves = halves(alloc, options, x, lower, upper)?;
+            let proof = match halves {
+                None => Some(Proof::truth(alloc, true)?),
+                Some(halves) => rewrite_node(alloc, rules, &halves, visits)?,
+            };
+            node(alloc, Side::Falsify, rules, e, at_most_one(alloc, proof)?)
+        }
+        _ => node(alloc, Side::Falsify, rules, e, table_falsifiers(alloc, e)?),
+    }
+}
+
+/// The proof that every row satisfies an expression, if there is one.
+pub(crate) fn satisfy_node(
+    alloc: Global,
+    rules: &Rules,
+    e: &BoundExpression,
+) -> Result<Option<Proof>, StatsError>
+    ensures answer { let own = own_rules ⟦<dyn StatsRewriteRule as StatsRewriteRule>⟧ rules.now.own.items in
+        IfOk result (λ o. o ≡ satisfier_of own e.now) }
+    ensures refusal { let own = own_rules ⟦<dyn StatsRewriteRule as StatsRewriteRule>⟧ rules.now.own.items in
+        IfErr result (IsRefusal (rule_causes (proof_of Side.Satisfy) own (e.now ∷ []))) }
+{
+    node(alloc, Side::Satisfy, rules, e, table_satisfiers(alloc, e)?)
+}

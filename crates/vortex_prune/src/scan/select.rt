@@ -1,0 +1,47 @@
+//! The rows of one part that a predicate selects.
+ghost use Rattle.std.specs.Prelude.{◌≡◌, ◌<◌, ◌++◌, IfErr, OnOk, alloc_error};
+ghost use Rattle.vortex_base.specs.Data.Columns.{row_of, row_count};
+ghost use Rattle.vortex_base.specs.Meanings.Meaning.{satisfies};
+ghost use Rattle.vortex_prune.specs.Scanning.Selection.{row_if, satisfying_rows};
+ghost use Rattle.vortex_stats.specs.declared.error.StatsError.TheVariants.{Memory};
+
+use vortex_base::bound_expression::BoundExpression;
+use vortex_base::chunk::Chunk;
+use vortex_stats::error::StatsError;
+
+// Adds a row of the part at a place, if it satisfies the predicate.
+fn select_row(
+    selected: &mut Vec<(usize, usize)>,
+    place: usize,
+    chunk: &Chunk,
+    row: usize,
+    predicate: &BoundExpression,
+) -> Result<(), StatsError>
+    requires { row < row_count chunk.now.columns }
+    ensures selected { let satisfied =
+        satisfies predicate.now (row_of row chunk.now.columns) (row_count chunk.now.columns) in
+        OnOk result (selected.new.items ≡ selected.old.items ++ row_if satisfied place row) }
+    ensures memory { IfErr result (λ fault. fault ≡ Memory alloc_error) }
+{
+    if !predicate.is_satisfied(&chunk.row(row), chunk.rows() as u64) {
+        return Ok(());
+    }
+    Ok(selected.push((place, row))?)
+}
+
+// Adds the satisfying rows of the part at a place.
+pub(crate) fn select(
+    selected: &mut Vec<(usize, usize)>,
+    place: usize,
+    chunk: &Chunk,
+    predicate: &BoundExpression,
+) -> Result<(), StatsError>
+    ensures selected { OnOk result (selected.new.items
+        ≡ selected.old.items ++ satisfying_rows predicate.now place chunk.now) }
+    ensures memory { IfErr result (λ fault. fault ≡ Memory alloc_error) }
+{
+    for row in 0..chunk.rows() {
+        select_row(selected, place, chunk, row, predicate)?;
+    }
+    Ok(())
+}

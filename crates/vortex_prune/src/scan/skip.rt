@@ -1,0 +1,78 @@
+//! Whether a part is skipped: its proof is bound to what its binder answers, and evaluated.
+ghost use Rattle.std.specs.Prelude.{◌≡◌, [], true, IfOk, IfErr, IsTrue, Some, option_copied};
+ghost use Rattle.vortex_base.specs.Data.Columns.{row_count};
+ghost use Rattle.vortex_base.specs.Meanings.Meaning.{is_true as value_is_true};
+ghost use Rattle.vortex_prune.specs.Rewriting.Proof.{proves};
+ghost use Rattle.vortex_prune.specs.Scanning.Selection.{is_skipped};
+ghost use Rattle.vortex_prune.specs.Binding.BoundTo.{IsBoundTo};
+ghost use Rattle.vortex_prune.specs.Scanning.Causes.{IsRefusal};
+ghost use Rattle.vortex_prune.specs.Scanning.ScanRefusals.{IsClosed, if_faithful, proof_causes};
+
+use crate::bind::bind_stats_of;
+use crate::bind::stat_binder::StatBinder;
+use crate::built::built;
+use crate::part::Part;
+use std::alloc::Global;
+use vortex_base::bound_expression::BoundExpression;
+use vortex_base::evaluate::evaluate;
+use vortex_base::row::Row;
+use vortex_base::scalar_value::ScalarValue;
+use vortex_stats::error::StatsError;
+
+// Whether a value is true. False, null and a value of another kind aren't.
+fn is_true(value: &Option<ScalarValue>) -> bool
+    ensures { result ≡ value_is_true value.now }
+{
+    matches!(value, Some(ScalarValue::Bool(true)))
+}
+
+// Whether a proof is true of a part. `OpenProof` if what is bound still holds a placeholder or a
+// column.
+pub(crate) fn is_proved<B: StatBinder>(
+    alloc: Global,
+    proof: &BoundExpression,
+    part: &Part,
+    binder: &B,
+) -> Result<bool, StatsError>
+    ensures value { let n = row_count part.now.chunk.columns in
+        IfOk result (λ b. IsTrue (B.is_faithful_over binder.now [] n) → b ≡ proves proof.now (B.value binder.now [] n) n) }
+    ensures closed { IfOk result (λ _. IsBoundTo (B.answer binder.now) (B.is_missing binder.now) proof.now true) }
+    ensures refusal { IfErr result (IsRefusal (proof_causes (B.answer binder.now)
+        (B.is_missing binder.now) (B.can_fault binder.now) (Some proof.now))) }
+    ensures faithful { let n = row_count part.now.chunk.columns in
+        let causes = proof_causes (B.answer binder.now) (B.is_missing binder.now) (B.can_fault binder.now) in
+        IfErr result (λ f. IsTrue (B.is_faithful_over binder.now [] n)
+        → IsRefusal (if_faithful (Some proof.now) (causes (Some proof.now))) f) }
+{
+    let bound = bind_stats_of(alloc, proof, binder)?;
+    if !bound.is_closed() {
+        return Err(StatsError::OpenProof);
+    }
+    let rows = part.chunk().rows() as u64;
+    let value = built(evaluate(&bound, &Row::empty(), rows))?;
+    Ok(is_true(&value))
+}
+
+// Whether a part is skipped: there is a proof, and it is true of the part.
+pub(crate) fn is_skipped<B: StatBinder>(
+    alloc: Global,
+    proof: Option<&BoundExpression>,
+    part: &Part,
+    binder: &B,
+) -> Result<bool, StatsError>
+    ensures value { let n = row_count part.now.chunk.columns in
+        IfOk result (λ b. IsTrue (B.is_faithful_over binder.now [] n) → b ≡ is_skipped (option_copied proof.entry) part.now (B.value binder.now [] n)) }
+    ensures closed { IfOk result (λ _. IsClosed (B.answer binder.now) (B.is_missing binder.now)
+        (option_copied proof.entry)) }
+    ensures refusal { IfErr result (IsRefusal (proof_causes (B.answer binder.now)
+        (B.is_missing binder.now) (B.can_fault binder.now) (option_copied proof.entry))) }
+    ensures faithful { let n = row_count part.now.chunk.columns in
+        let causes = proof_causes (B.answer binder.now) (B.is_missing binder.now) (B.can_fault binder.now) in
+        IfErr result (λ f. IsTrue (B.is_faithful_over binder.now [] n)
+        → IsRefusal (if_faithful (option_copied proof.entry) (causes (option_copied proof.entry))) f) }
+{
+    match proof {
+        None => Ok(false),
+        Some(proof) => is_proved(alloc, proof, part, binder),
+    }
+}
