@@ -1,4 +1,4 @@
-//! The small types that the rest speaks of: what a type may hold, operators, and the kinds of a node.
+//! The small types: nullability, number types, operators, functions, and the kinds of a node.
 ghost use Rattle.std.specs.Prelude.{◌≡◌, codes};
 
 use crate::aggregate::AggregateFnRef;

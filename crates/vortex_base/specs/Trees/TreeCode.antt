@@ -10,8 +10,8 @@ use Rattle.vortex_base.specs.declared.types.Operator.{Operator}
 use Rattle.vortex_base.specs.declared.types.BetweenOptions.{BetweenOptions}
 use Rattle.vortex_base.specs.declared.like.LikeOptions.{LikeOptions}
 use Rattle.vortex_base.specs.declared.aggregate.AggregateFnRef.{AggregateFnRef}
-use Rattle.vortex_base.specs.contracts.operator.Operator as operator
-use Rattle.vortex_base.specs.contracts.between.BetweenOptions as between_options
+use Rattle.vortex_base.specs.contracts.types.Operator as operator
+use Rattle.vortex_base.specs.contracts.types.BetweenOptions as between_options
 use Rattle.vortex_base.specs.contracts.like.LikeOptions as like_options
 use Rattle.vortex_base.specs.contracts.aggregate.AggregateFnRef as aggregate
 use Rattle.vortex_base.specs.Trees.Tree.{Tree, Place, column, literal, binary, between, is_null, is_not_null, not, like, stat, row_count}

@@ -8,8 +8,8 @@ use Rattle.vortex_base.specs.declared.types.Operator.{Operator}
 use Rattle.vortex_base.specs.declared.types.BetweenOptions.{BetweenOptions}
 use Rattle.vortex_base.specs.declared.like.LikeOptions.{LikeOptions}
 use Rattle.vortex_base.specs.declared.aggregate.AggregateFnRef.{AggregateFnRef}
-use Rattle.vortex_base.specs.contracts.operator.OperatorPartialEq.TheImpl as operators
-use Rattle.vortex_base.specs.contracts.between.BetweenOptionsPartialEq.TheImpl as between_options
+use Rattle.vortex_base.specs.contracts.types.OperatorPartialEq.TheImpl as operators
+use Rattle.vortex_base.specs.contracts.types.BetweenOptionsPartialEq.TheImpl as between_options
 use Rattle.vortex_base.specs.contracts.like.LikeOptionsPartialEq.TheImpl as like_options
 use Rattle.vortex_base.specs.contracts.aggregate.AggregateFnRefPartialEq.TheImpl as aggregates
 use Rattle.vortex_base.specs.Trees.Tree.{Tree, Place, column, literal, binary, between, is_null, is_not_null, not, like, stat, row_count}

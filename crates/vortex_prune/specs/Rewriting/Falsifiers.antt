@@ -22,7 +22,7 @@ use Rattle.vortex_base.specs.declared.pvalue.PValue.TheVariants as number
 use Rattle.vortex_base.specs.declared.types.ScalarFnId.{ScalarFnId}
 use Rattle.vortex_base.specs.declared.scalar_value.ScalarValue.{ScalarValue}
 use Rattle.vortex_base.specs.declared.scalar_value.ScalarValue.TheVariants as value
-use Rattle.vortex_base.specs.contracts.scalar_fn.ScalarFnIdPartialEq.TheImpl as functions
+use Rattle.vortex_base.specs.contracts.types.ScalarFnIdPartialEq.TheImpl as functions
 use Rattle.vortex_base.specs.Trees.Between.{to_operator}
 use Rattle.vortex_base.specs.Patterns.Like.{items}
 use Rattle.vortex_base.specs.Data.Neighbours.{resized}
