@@ -102,6 +102,3 @@ impl Expression {
         }
     }
 }
-
-#[cfg(test)]
-mod tests;

@@ -233,6 +233,3 @@ pub fn row_count(alloc: Global) -> Result<BoundExpression, BaseError>
         node,
     })
 }
-
-#[cfg(test)]
-mod tests;

@@ -162,6 +162,3 @@ impl BoundExpression {
         }
     }
 }
-
-#[cfg(test)]
-mod tests;

@@ -43,30 +43,3 @@ impl ConstantArray {
         self.len
     }
 }
-
-#[cfg(test)]
-mod tests {
-    use super::*;
-    use crate::dtype::DType;
-    use crate::error::BaseError;
-    use crate::scalar_value::ScalarValue;
-    use crate::types::{Nullability, PType};
-    use std::test::Fail;
-
-    const I64: DType = DType::Primitive(PType::I64, Nullability::Nullable);
-
-    fn six() -> Result<Scalar, BaseError> {
-        Scalar::try_new(I64, Some(ScalarValue::from(6i64)))
-    }
-
-    #[test]
-    fn hold_one_value_at_each_place(rt: HostRuntime) -> Result<(), Fail> {
-        let array = ConstantArray::new(six()?, 3);
-        assert_eq!(rt; *array.scalar(), six()?);
-        assert_eq!(rt; array.len(), 3);
-        assert_eq!(rt; array, ConstantArray::new(six()?, 3));
-        assert!(rt; array != ConstantArray::new(six()?, 4));
-        assert!(rt; array != ConstantArray::new(Scalar::null(I64), 3));
-        Ok(())
-    }
-}

@@ -244,6 +244,3 @@ pub fn evaluate(
         None => Ok(None),
     }
 }
-
-#[cfg(test)]
-mod tests;

@@ -22,8 +22,6 @@ pub mod row;
 pub mod scalar;
 pub mod scalar_value;
 pub mod scope;
-#[cfg(test)]
-mod testing;
 pub mod text;
 pub mod types;
 mod typing;

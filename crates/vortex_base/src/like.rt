@@ -159,6 +159,3 @@ fn is_match_at_some_end<'a>(mut pattern: Characters<'a>, mut text: Characters<'a
         }
     }
 }
-
-#[cfg(test)]
-mod tests;

@@ -112,6 +112,3 @@ pub fn successor(alloc: Global, text: &str) -> Result<Option<String>, AllocError
     }
     Ok(None)
 }
-
-#[cfg(test)]
-mod tests;

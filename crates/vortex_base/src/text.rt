@@ -113,20 +113,3 @@ impl PartialOrd for Text {
         Some(self.cmp(other))
     }
 }
-
-#[cfg(test)]
-mod tests {
-    use super::*;
-    use crate::laws;
-    use std::test::Fail;
-
-    #[test]
-    fn lends_what_it_was_made_of(rt: HostRuntime) -> Result<(), Fail> {
-        let text = Text::new(String::from_str(rt.alloc(), "é")?);
-        assert_eq!(rt; text.as_str(), "é");
-        assert_eq!(rt; text.try_clone()?.as_str(), "é");
-        assert_eq!(rt; laws::clone_of_text(&text)?, text);
-        assert_eq!(rt; text.into_string().as_str(), "é");
-        Ok(())
-    }
-}

@@ -1,12 +1,7 @@
-//! Expressions for the tests, by calls without a contract: a test compares what it builds and reasons
-//! of nothing, so its proof stays short.
-use crate::bound_expression::BoundExpression;
-use crate::error::BaseError;
-use crate::expression::Expression;
-use crate::row::Row;
-use crate::scalar_value::ScalarValue;
-use crate::scope::Scope;
+//! Expressions for the tests, by calls without a contract: a test compares what it builds and
+//! reasons of nothing, so its proof stays short.
 use std::alloc::Global;
+use vortex_base::{BaseError, BoundExpression, Expression, Row, ScalarValue, Scope};
 
 pub type Built = Result<BoundExpression, BaseError>;
 
@@ -23,18 +18,15 @@ pub fn evaluated(
     row: &Row<'_>,
     rows: u64,
 ) -> Result<Option<ScalarValue>, BaseError> {
-    crate::evaluate::evaluate(x, row, rows)
+    vortex_base::evaluate::evaluate(x, row, rows)
 }
 
 /// Expressions over names.
 pub mod named {
-    use crate::aggregate::AggregateFnRef;
-    use crate::error::BaseError;
-    use crate::expression::Expression;
-    use crate::like::LikeOptions;
-    use crate::scalar::Scalar;
-    use crate::types::{BetweenOptions, Operator};
     use std::alloc::Global;
+    use vortex_base::{
+        AggregateFnRef, BaseError, BetweenOptions, Expression, LikeOptions, Operator, Scalar,
+    };
 
     pub type Built = Result<Expression, BaseError>;
 
@@ -125,15 +117,11 @@ pub mod named {
 /// Typed expressions.
 pub mod placed {
     use super::Built;
-    use crate::aggregate::AggregateFnRef;
-    use crate::bound;
-    use crate::bound_expression::BoundExpression;
-    use crate::dtype::DType;
-    use crate::like::LikeOptions;
-    use crate::scalar::Scalar;
-    use crate::scalar_value::ScalarValue;
-    use crate::types::BetweenOptions;
     use std::alloc::Global;
+    use vortex_base::{
+        AggregateFnRef, BetweenOptions, BoundExpression, DType, LikeOptions, Scalar, ScalarValue,
+        bound,
+    };
 
     pub fn col(alloc: Global, place: usize, dtype: DType) -> Built {
         bound::col(alloc, place, dtype)

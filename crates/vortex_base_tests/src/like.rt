@@ -1,7 +1,7 @@
 //! Tests of LIKE.
-use super::*;
 use std::alloc::{AllocError, Global};
 use std::test::Fail;
+use vortex_base::LikeOptions;
 
 const PLAIN: LikeOptions = LikeOptions {
     negated: false,

@@ -1,7 +1,9 @@
 //! Tests of the beginnings of patterns, and of successors.
-use super::*;
+use std::alloc::Global;
 use std::process::Abort;
 use std::test::Fail;
+use vortex_base::LikePattern;
+use vortex_base::like_pattern::successor;
 
 // What a pattern reads as.
 fn expect_reading(

@@ -1,9 +1,12 @@
 //! Tests of the constructors of typed expressions.
-use super::*;
-use crate::scalar_value::ScalarValue;
 use crate::testing::placed;
-use crate::types::{Element, ExprKind, Nullability, PType, StrictComparison};
+use std::alloc::Global;
 use std::test::Fail;
+use vortex_base::bound::binary;
+use vortex_base::types::{
+    BetweenOptions, Element, ExprKind, Nullability, Operator, PType, StrictComparison,
+};
+use vortex_base::{AggregateFnRef, BaseError, BoundExpression, DType, ScalarValue};
 
 const BOOL: DType = DType::Bool(Nullability::NonNullable);
 

@@ -1,15 +1,11 @@
 //! Tests of evaluation.
-use super::*;
-use crate::aggregate::AggregateFnRef;
-use crate::chunk::Chunk;
-use crate::column::Column;
-use crate::dtype::DType;
-use crate::scope::Scope;
 use crate::testing::{evaluated, placed};
-use crate::text::Text;
-use crate::types::{Nullability, PType, StrictComparison};
 use std::alloc::Global;
 use std::test::Fail;
+use vortex_base::{
+    AggregateFnRef, BaseError, BetweenOptions, BoundExpression, Chunk, Column, DType, LikeOptions,
+    Nullability, PType, Row, ScalarValue, Scope, StrictComparison, Text,
+};
 
 const I32: DType = DType::Primitive(PType::I32, Nullability::NonNullable);
 

@@ -1,13 +1,13 @@
 //! Tests of typed expressions as trees.
-use super::*;
-use crate::bound_expression::parts::Parts;
-use crate::error::BaseError;
-use crate::scalar_value::ScalarValue;
-use crate::scope::Scope;
 use crate::testing::{copy, placed};
-use crate::types::{Nullability, PType, StrictComparison};
 use std::alloc::Global;
 use std::test::Fail;
+use vortex_base::types::{
+    BetweenOptions, ExprKind, Nullability, Operator, PType, ScalarFnId, StrictComparison,
+};
+use vortex_base::{
+    AggregateFnRef, BaseError, BoundExpression, DType, Parts, Scalar, ScalarValue, Scope,
+};
 
 const I32: DType = DType::Primitive(PType::I32, Nullability::NonNullable);
 

@@ -1,15 +1,12 @@
 //! Tests of binding.
-use super::*;
-use crate::aggregate::AggregateFnRef;
-use crate::like::LikeOptions;
-use crate::row::Row;
-use crate::scalar::Scalar;
-use crate::scalar_value::ScalarValue;
 use crate::testing::{bind, copy, evaluated, named, placed};
-use crate::text::Text;
-use crate::types::{BetweenOptions, Nullability, PType, StrictComparison};
+use std::alloc::Global;
 use std::process::Abort;
 use std::test::Fail;
+use vortex_base::{
+    AggregateFnRef, BaseError, BetweenOptions, BoundExpression, DType, Expression, LikeOptions,
+    Nullability, PType, Row, Scalar, ScalarValue, Scope, StrictComparison, Text, bound,
+};
 
 const I32: DType = DType::Primitive(PType::I32, Nullability::NonNullable);
 
