@@ -1,7 +1,6 @@
 -- On a row with the very types of an expression's columns, its value is of the expression's type, and null only where that has null.
 use Rattle.std.proofs.Common.{◌≡◌, ◌<◌, ◌^◌, ℕ, zero, suc, Bool, true, false, ◌||◌, ◌&&◌, List, [], ◌∷◌, ◌⊎◌, ⊎_elim, inl, inr, refl, sym, ◌∙◌, ap, cond}
 use Rattle.std.specs.Prelude.{Option, Some, None, Result, Ok, Err, slice_get, is_none, not as not_b}
-use Rattle.vortex_base.specs.declared.types.Nullability.TheVariants.{Nullable, NonNullable}
 use Rattle.vortex_base.specs.declared.dtype.DType.{DType}
 use Rattle.vortex_base.specs.declared.dtype.DType.TheVariants as dtype
 use Rattle.vortex_base.specs.declared.pvalue.PValue.TheVariants as number
@@ -16,7 +15,6 @@ use Rattle.vortex_base.specs.declared.like.LikeOptions.{LikeOptions}
 use Rattle.vortex_base.specs.Trees.Between.{to_operator}
 use Rattle.vortex_base.specs.Data.Exact.{both_true}
 use Rattle.vortex_base.specs.Data.Types.{dtype_eq_is_exact, is_nullable}
-use Rattle.vortex_base.specs.Data.Values.{is_value, in_range}
 use Rattle.vortex_base.specs.Data.Scalars.{Constant, is_optional_value}
 use Rattle.vortex_base.specs.Data.Columns.{cell_value, is_row}
 use Rattle.vortex_base.specs.Meanings.Fitting.{is_cell_of_type, matches_row}

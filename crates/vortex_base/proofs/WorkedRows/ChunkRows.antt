@@ -1,6 +1,6 @@
 -- Worked rows of chunks that take one another's rows.
 use Rattle.std.proofs.Common.{refl}
-use Rattle.std.specs.Prelude.{◌≡◌, ℕ, ◌^◌, ◌-◌, Bool, true, false, List, [], ◌∷◌, Option, Some, None, map}
+use Rattle.std.specs.Prelude.{◌≡◌, ℕ, ◌^◌, ◌-◌, true, false, List, [], ◌∷◌, Option, Some, None, map}
 use Rattle.vortex_base.specs.declared.scalar_value.ScalarValue.{ScalarValue}
 use Rattle.vortex_base.specs.Data.Columns.{ChunkData, ColumnData, all_appended, appended_chunk, can_append, emptied_chunk, row_count, row_of, sizes_fit}
 use Rattle.vortex_base.specs.Worked.Examples.{column_a, i32_or_null, i32_type, i32_value, of_bools, of_numbers}

@@ -1,8 +1,8 @@
 -- Worked rows of the beginnings of patterns and of the texts above those that begin so.
 use Rattle.std.proofs.Common.{refl}
-use Rattle.std.specs.Prelude.{◌≡◌, ℕ, true, false, List, [], ◌∷◌, Option, Some, None, codes, map}
+use Rattle.std.specs.Prelude.{◌≡◌, ℕ, true, false, List, [], ◌∷◌, Some, None, codes, map}
 use Rattle.vortex_base.specs.Patterns.Like.{items}
-use Rattle.vortex_base.specs.Patterns.Prefix.{PatternData, exact_text, literal_prefix, pattern_of, is_exact, successor}
+use Rattle.vortex_base.specs.Patterns.Prefix.{exact_text, literal_prefix, pattern_of, is_exact, successor}
 
 -- without wildcards; a run, one character, both; an escaped run; a last lone escape
 abbrev patterns : List (List ℕ)

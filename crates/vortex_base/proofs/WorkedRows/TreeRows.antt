@@ -1,9 +1,9 @@
 -- Worked rows of what a tree holds, with one subtree at each place of each node.
 use Rattle.std.proofs.Common.{refl}
-use Rattle.std.specs.Prelude.{◌≡◌, ℕ, Bool, true, false, List, [], ◌∷◌, Option, Some, None, map, length, not as not_b}
+use Rattle.std.specs.Prelude.{◌≡◌, Bool, true, false, List, [], ◌∷◌, map, length, not as not_b}
 use Rattle.vortex_base.specs.declared.types.Operator.TheVariants as operator
 use Rattle.vortex_base.specs.declared.aggregate.AggregateFnRef.TheVariants as aggregate
-use Rattle.vortex_base.specs.Worked.Examples.{column_a, i32_type, i32_or_null}
+use Rattle.vortex_base.specs.Worked.Examples.{column_a, i32_or_null}
 use Rattle.vortex_base.specs.Worked.ExpressionExamples.{a_at_0, closed_ends, int, of_type, row_of_5, u64_type}
 use Rattle.vortex_base.specs.Meanings.Fitting.{fits_row, fits_scope}
 use Rattle.vortex_base.specs.Patterns.Like.{plain}

@@ -1,4 +1,4 @@
-use Rattle.std.proofs.Common.{sym, ◌∙◌}
+use Rattle.std.proofs.Common.{sym}
 use Rattle.vortex_base.proofs.Data.ChunkLemmas.{IsChunk-appended, IsChunk-emptied, row_count_emptied, seen_may_append}
 use Rattle.vortex_base.specs.contracts.chunk.Chunk.{the_view}
 use Rattle.vortex_base.proofs.chunk.Chunk.append.Goals as goal
