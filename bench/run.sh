@@ -34,10 +34,11 @@ for kind in parts rows wide; do
 done
 
 # Layers by themselves: LIKE on texts that tempt a search to go back, a million evaluated comparisons, and a million
-# calls of a set of statistics.
+# calls of a set of statistics. Then ten scans of 200,000 parts of one column, and of 2,000 parts of 30 columns, by a
+# binder for each part and by one for their table; the time to make parts and table alone stands beside them.
 layer="$here/../crates/vortex_bench/out/vortex_bench"
 [ -x "$layer" ] || (cd "$here/../crates/vortex_bench" && echo like | rt run > /dev/null 2>&1)
-for work in like evaluate set get merge; do
+for work in like evaluate set get merge narrow_table narrow_binders narrow_zones wide_table wide_binders wide_zones; do
     echo "$work" > "$here/data/$work.txt"
     echo "$work: $(best "$layer" "$here/data/$work.txt" "$here/data/layer.out") ms"
 done

@@ -1,7 +1,8 @@
-// Work for timing the layers: LIKE on a text that tempts a search to go back, the evaluation of comparisons, and the
-// calls of a set of statistics.
+// Work for timing the layers: LIKE on a text that tempts a search to go back, the evaluation of comparisons, the calls of
+// a set of statistics, and scans of many small parts.
 #![tactic(auto)]
 
+mod scans;
 mod workload;
 
 use anyhow::Result;
@@ -18,6 +19,12 @@ fn main(rt: HostRuntime) -> Result<()> {
         "set" => workload::set_often(alloc)?,
         "get" => workload::get_often(alloc)?,
         "merge" => workload::merge_often(alloc)?,
+        "narrow_table" => scans::only_tabled(alloc, scans::NARROW)?,
+        "narrow_binders" => scans::scanned_by_binders(alloc, scans::NARROW)?,
+        "narrow_zones" => scans::scanned_by_table(alloc, scans::NARROW)?,
+        "wide_table" => scans::only_tabled(alloc, scans::WIDE)?,
+        "wide_binders" => scans::scanned_by_binders(alloc, scans::WIDE)?,
+        "wide_zones" => scans::scanned_by_table(alloc, scans::WIDE)?,
         _ => 0,
     };
     println!(rt; "{count}")?;

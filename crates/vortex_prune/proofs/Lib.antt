@@ -5,3 +5,4 @@ pub mod Rewriting
 pub mod Scanning
 pub mod Soundness
 pub mod WorkedRows
+pub mod ZoneMaps

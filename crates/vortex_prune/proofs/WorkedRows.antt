@@ -5,3 +5,4 @@ pub mod HonestRows
 pub mod RewritingRows
 pub mod StatRows
 pub mod VisitRows
+pub mod ZoneTableRows

@@ -8,3 +8,4 @@ pub mod PartBinder
 pub mod PartFaithful
 pub mod StatValues
 pub mod StateTypes
+pub mod ZoneFaithful

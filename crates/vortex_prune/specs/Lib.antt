@@ -4,3 +4,4 @@ pub mod Laws
 pub mod Part
 pub mod Rewriting
 pub mod Scanning
+pub mod Zones

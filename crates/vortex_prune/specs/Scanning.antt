@@ -3,3 +3,4 @@ pub mod Causes
 pub mod Complete
 pub mod ScanRefusals
 pub mod Selection
+pub mod ZoneScans

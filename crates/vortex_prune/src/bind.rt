@@ -13,6 +13,7 @@ ghost use Rattle.vortex_stats.specs.declared.error.BinderFault.TheVariants as bi
 
 pub mod stat_binder;
 pub mod stats_binder;
+pub mod zone_binder;
 
 use crate::bind::stat_binder::StatBinder;
 use crate::built::built;

@@ -12,12 +12,15 @@ pub mod scan;
 pub mod stat_fn;
 #[cfg(test)]
 mod testing;
+pub mod zones;
 
 pub use bind::stat_binder::StatBinder;
 pub use bind::stats_binder::StatsBinder;
+pub use bind::zone_binder::ZoneBinder;
 pub use hook_fault::HookFault;
 pub use part::{JoinRefused, Part, PartRefused};
 pub use rewrite::rule::{StatsRewriteRule, StatsRewriteRuleRef};
 pub use rewrite::rules::{BuiltinRule, Rules};
 pub use scan::outcome::Scan;
 pub use stat_fn::{StatFn, StatOptions};
+pub use zones::{Zones, ZonesRefused};

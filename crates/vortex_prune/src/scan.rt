@@ -15,6 +15,7 @@ ghost use Rattle.vortex_stats.specs.declared.error.StatsError.TheVariants.{NotPr
 pub mod outcome;
 mod select;
 mod skip;
+pub mod zones;
 
 use crate::bind::stat_binder::StatBinder;
 use crate::part::Part;

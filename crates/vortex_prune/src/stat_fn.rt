@@ -149,7 +149,7 @@ pub(crate) fn scalar_of(
     }
 }
 
-fn stat_value(
+pub(crate) fn stat_value(
     aggregate: AggregateFnRef,
     stats: &StatsSet,
     rows: u64,

@@ -1,6 +1,18 @@
-//! Nodes and scalars for the tests, by calls without a contract: a test compares what it builds and
-//! reasons of nothing, so its proof stays short.
-use std::alloc::Global;
+//! Nodes, scalars, tables and scans for the tests, by calls without a contract: a test compares what
+//! it builds and reasons of nothing, so its proof stays short.
+ghost use Rattle.std.specs.Bool.{OnTrue};
+ghost use Rattle.std.specs.Prelude.{◌≡◌, All, IfOk, IsTrue};
+ghost use Rattle.vortex_base.specs.Meanings.Fitting.{fits_scope};
+ghost use Rattle.vortex_prune.specs.Zones.{HaveScope};
+
+use crate::bind::stats_binder::StatsBinder;
+use crate::part::Part;
+use crate::rewrite::rules::Rules;
+use crate::scan::outcome::Scan;
+use crate::scan::scan;
+use crate::scan::zones::scan_zones;
+use crate::zones::Zones;
+use std::alloc::{AllocError, Global};
 use vortex_base::aggregate::AggregateFnRef;
 use vortex_base::bound;
 use vortex_base::bound_expression::BoundExpression;
@@ -9,7 +21,9 @@ use vortex_base::error::BaseError;
 use vortex_base::like::LikeOptions;
 use vortex_base::scalar::Scalar;
 use vortex_base::scalar_value::ScalarValue;
+use vortex_base::scope::Scope;
 use vortex_base::types::{BetweenOptions, Operator};
+use vortex_stats::error::StatsError;
 
 pub type Built = Result<BoundExpression, BaseError>;
 
@@ -103,4 +117,91 @@ pub fn stat(alloc: Global, x: BoundExpression, aggregate: AggregateFnRef) -> Bui
 
 pub fn row_count(alloc: Global) -> Built {
     bound::row_count(alloc)
+}
+
+/// Whether each part has the scope.
+pub fn all_scoped(scope: &Scope, parts: &[Part]) -> bool
+    ensures { OnTrue result (HaveScope scope.now parts.now) }
+{
+    for part in parts {
+        if *part.chunk().scope() != *scope {
+            return false;
+        }
+    }
+    true
+}
+
+/// The parts with their table, and `Mismatch` where one hasn't this scope.
+pub fn zones_of(alloc: Global, scope: Scope, parts: Vec<Part>) -> Result<Zones, StatsError> {
+    if !all_scoped(&scope, &parts) {
+        return Err(StatsError::Mismatch);
+    }
+    match Zones::try_new(alloc, scope, parts) {
+        Ok(zones) => Ok(zones),
+        Err(refused) => Err(refused.error),
+    }
+}
+
+/// The binder of each part's own statistics.
+pub fn binders_of<'a>(alloc: Global, parts: &'a [Part]) -> Result<Vec<StatsBinder<'a>>, AllocError>
+    ensures { IfOk result (λ binders. binders.items ≡ parts.entry.now) }
+{
+    let mut binders = Vec::new(alloc);
+    for part in parts {
+        binders.push(StatsBinder::new(part))?;
+    }
+    Ok(binders)
+}
+
+/// Whether the predicate fits the scope of each part.
+pub fn all_fit(parts: &[Part], predicate: &BoundExpression) -> bool
+    ensures { OnTrue result (All (λ part. IsTrue (fits_scope predicate.now part.chunk.scope)) parts.now) }
+{
+    for part in parts {
+        if !predicate.fits_scope(part.chunk().scope()) {
+            return false;
+        }
+    }
+    true
+}
+
+// What two scans found or refused alike; `Mismatch` where they differ.
+fn agreed(
+    one: Result<Scan, StatsError>,
+    other: Result<Scan, StatsError>,
+) -> Result<Scan, StatsError> {
+    match (one, other) {
+        (Ok(found), Ok(same)) => {
+            if found == same {
+                Ok(found)
+            } else {
+                Err(StatsError::Mismatch)
+            }
+        }
+        (Err(StatsError::Memory(refused)), _) => Err(StatsError::Memory(refused)),
+        (_, Err(StatsError::Memory(refused))) => Err(StatsError::Memory(refused)),
+        (Err(StatsError::NotPredicate), Err(StatsError::NotPredicate)) => {
+            Err(StatsError::NotPredicate)
+        }
+        (Err(StatsError::OpenProof), Err(StatsError::OpenProof)) => Err(StatsError::OpenProof),
+        (Err(StatsError::Rule(_)), Err(StatsError::Rule(fault))) => Err(StatsError::Rule(fault)),
+        _ => Err(StatsError::Mismatch),
+    }
+}
+
+/// The scan of the parts by these rules and their own statistics: with a binder for each part, and
+/// with one for their table. `Mismatch` where the two differ.
+pub fn both_scans(
+    alloc: Global,
+    zones: &Zones,
+    predicate: &BoundExpression,
+    rules: &Rules,
+) -> Result<Scan, StatsError> {
+    let parts = zones.parts();
+    if !predicate.is_plain() || !predicate.fits_scope(zones.scope()) || !all_fit(parts, predicate) {
+        return Err(StatsError::Mismatch);
+    }
+    let binders = binders_of(alloc, parts)?;
+    let found = scan(alloc, parts, &binders, predicate, rules);
+    agreed(found, scan_zones(alloc, zones, predicate, rules))
 }

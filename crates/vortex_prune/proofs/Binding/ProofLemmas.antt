@@ -37,11 +37,17 @@ fits_none (like o x p) h = let w = or_false (has_column x) (has_column p) h in b
 fits_none (stat f x) h = fits_none x h
 fits_none row_count h = refl
 
--- its value, unless memory is refused
-pub closed_value : (e : Tree Place) (n : ℕ) (r : Result (Option ScalarValue) BaseError) → is_closed e ≡ true → Answers (can_evaluate e []) (meaning e [] n) r → Makes (meaning e [] n) r
-closed_value e n r h a =
-    let w = both_true (not_b (has_placeholder e)) (not_b (has_column e)) h in
-    rw (none_held (has_placeholder e) w.0, fits_none e (none_held (has_column e) w.1)) at a
+-- so it can be evaluated there
+pub closed_free : (e : Tree Place) → is_closed e ≡ true → has_placeholder e ≡ false
+closed_free e h = none_held (has_placeholder e) (both_true (not_b (has_placeholder e)) (not_b (has_column e)) h).0
+
+pub closed_fits : (e : Tree Place) (row : List Constant) → is_closed e ≡ true → row ≡ [] → fits_row e row ≡ true
+closed_fits e row h is = ap (fits_row e) is ∙ fits_none e (none_held (has_column e) (both_true (not_b (has_placeholder e)) (not_b (has_column e)) h).1)
+
+-- the value of an expression on a row that it can be evaluated on, unless memory is refused
+pub row_value : (e : Tree Place) (row : List Constant) (n : ℕ) (r : Result (Option ScalarValue) BaseError) → has_placeholder e ≡ false → fits_row e row ≡ true
+    → Answers (can_evaluate e row) (meaning e row n) r → Makes (meaning e row n) r
+row_value e row n r free fits a = rw (free, fits) at a
 
 -- ---- a column outside the placeholders of a proof stays when the proof is bound
 
@@ -80,9 +86,8 @@ module _ (R : AggregateFnRef → Tree Place → Tree Place → Type 0) where
       elim (cases_Bool (has_bare_column e)) [ inl bare ↦ (let held = bare_stays e r b bare in cc) | inr free ↦ free ]
 
   -- the truth of a closed answer is that of the proof
-  pub closed_proves : (e r : Tree Place) (A : Assignment) (n : ℕ) (v : Option ScalarValue) → IsBinding R e r → is_closed r ≡ true → meaning r [] n ≡ value_under A n e → v ≡ meaning r [] n → is_true v ≡ proves e A n
-  closed_proves e r A n v b h same is =
-      ap is_true (is ∙ same) ∙ sym (ap (λ t. is_true (cond t None (value_under A n e))) (no_bare e r b h))
+  pub closed_proves : (e r : Tree Place) (A : Assignment) (n : ℕ) → IsBinding R e r → is_closed r ≡ true → meaning r [] n ≡ value_under A n e → is_true (meaning r [] n) ≡ proves e A n
+  closed_proves e r A n b h same = ap is_true same ∙ sym (ap (λ t. is_true (cond t None (value_under A n e))) (no_bare e r b h))
 
 -- an answer that holds no placeholder and fits the row with no columns is closed, so one that is left open comes of a column of the proof
 pub open_is_bare : (e r : Tree Place) → has_placeholder r ≡ false → (has_bare_column e ≡ false → IsTrue (fits_row r [])) → is_closed r ≡ false → has_bare_column e ≡ true

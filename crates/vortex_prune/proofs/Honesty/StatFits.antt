@@ -43,7 +43,7 @@ same_ok : (s t : DType) → ok s ≡ ok t → s ≡ t
 same_ok s t h = cc
 
 -- null may stand under a placeholder's type
-placeholder_null : (o : Option DType) (u : DType) → placeholder_type o ≡ Ok u → is_nullable u ≡ true
+pub placeholder_null : (o : Option DType) (u : DType) → placeholder_type o ≡ Ok u → is_nullable u ≡ true
 placeholder_null None u e = cc
 placeholder_null (Some t) u e = ap is_nullable (sym (same_ok (as_nullable t) u e)) ∙ null_fits t
 

@@ -207,7 +207,7 @@ built_in_is_shut row_count = node_shut row_count [] tt
 
 -- ---- refusals by built-in rules and binders that name no fault
 
-no_element : {X : Type 0} (x : X) → Contains [] x → ⊥
+pub no_element : {X : Type 0} (x : X) → Contains [] x → ⊥
 no_element x h = absurd (omega (arith, h.1))
 
 module _ {S : Type 0} (answer : S → BinderAnswer) (IsMissing : S → DType → Tree Place → Type 0) (can_fault : S → ℕ → Bool) (p : Tree Place) (binders : List S) where

@@ -30,7 +30,7 @@ pub parts_by_recursion : (parts : List PartData) → AreParts parts → AllByRec
 parts_by_recursion [] h = tt
 parts_by_recursion (p ∷ parts) h = (h 0 p refl, parts_by_recursion parts (λ i part e. h (suc i) part e))
 
-all_at : (P : PartData → Type 0) (parts : List PartData) (i : ℕ) (part : PartData) → AllByRecursion P parts → slice_get parts i ≡ Some part → P part
+pub all_at : (P : PartData → Type 0) (parts : List PartData) (i : ℕ) (part : PartData) → AllByRecursion P parts → slice_get parts i ≡ Some part → P part
 all_at P [] i part h e = absurd cc
 all_at P (q ∷ parts) zero part h e = subst P (same_Some q part e) h.0
 all_at P (q ∷ parts) (suc i) part h e = all_at P parts i part h.1 e

@@ -32,7 +32,7 @@ typed_literal c s true e h = cc
 typed_literal c s false e h = cc
 
 -- a literal of the type asked for
-literal_is_answer : (c : Constant) (t : DType) (row : List Constant) (r : Tree Place) → r ≡ literal c → as_nullable c.dtype ≡ as_nullable t → IsAnswerOf t row r
+pub literal_is_answer : (c : Constant) (t : DType) (row : List Constant) (r : Tree Place) → r ≡ literal c → as_nullable c.dtype ≡ as_nullable t → IsAnswerOf t row r
 literal_is_answer c t row r e h = record {
   typed = λ s k. ap as_nullable (sym (typed_literal c s (is_optional_value c.value c.dtype) refl (ap type_of (sym e) ∙ k))) ∙ h;
   free = ap has_placeholder e;

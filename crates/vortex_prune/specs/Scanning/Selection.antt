@@ -43,9 +43,13 @@ place_if skipped place = if skipped then place ∷ [] else []
 abbrev pub skipped_parts : Option (Tree Place) → List Answered → List ℕ
 skipped_parts proof parts = map (λ e. e.0) (filter (λ e. is_skipped proof e.1.0 e.1.1) (enumerate_from 0 parts))
 
+-- the satisfying rows of the part at a place, unless it is skipped
+abbrev pub rows_unless : (skipped : Bool) → Tree Place → (place : ℕ) → ChunkData → List (ℕ × ℕ)
+rows_unless skipped p place k = if skipped then [] else satisfying_rows p place k
+
 -- the satisfying rows of a part that isn't skipped
 abbrev pub kept_rows : Option (Tree Place) → Tree Place → ℕ → Answered → List (ℕ × ℕ)
-kept_rows proof p place part = if is_skipped proof part.0 part.1 then [] else satisfying_rows p place part.0.chunk
+kept_rows proof p place part = rows_unless (is_skipped proof part.0 part.1) p place part.0.chunk
 
 -- the rows that are selected whatever the statistics claim: the satisfying rows of the parts that aren't skipped
 abbrev pub selected_rows : Option (Tree Place) → Tree Place → List Answered → List (ℕ × ℕ)

@@ -1,12 +1,13 @@
 //! What a scan found.
-ghost use Rattle.std.specs.Prelude.{◌≡◌, ◌++◌, [], IfErr, IfOk, IsTrue, OnOk, option_copied};
+ghost use Rattle.std.specs.Prelude.{◌≡◌, ◌++◌, [], IfErr, IfOk, IsTrue, OnOk, alloc_error, option_copied};
 ghost use Rattle.vortex_base.specs.Data.Columns.{row_count};
 ghost use Rattle.vortex_base.specs.Meanings.Fitting.{fits_scope};
 ghost use Rattle.vortex_base.specs.Trees.Tree.{is_plain};
 ghost use Rattle.vortex_prune.specs.Part.{IsPart};
-ghost use Rattle.vortex_prune.specs.Scanning.Selection.{is_skipped, kept_rows, place_if};
+ghost use Rattle.vortex_prune.specs.Scanning.Selection.{is_skipped, kept_rows, place_if, rows_unless};
 ghost use Rattle.vortex_prune.specs.Scanning.Causes.{IsRefusal};
 ghost use Rattle.vortex_prune.specs.Scanning.ScanRefusals.{IsClosed, if_faithful, proof_causes};
+ghost use Rattle.vortex_stats.specs.declared.error.StatsError.TheVariants.{Memory};
 
 use crate::bind::stat_binder::StatBinder;
 use crate::part::Part;
@@ -52,8 +53,30 @@ impl Scan {
             IfErr result (λ f. IsTrue (B.is_faithful_over binder.now [] n)
             → IsRefusal (if_faithful (option_copied proof.entry) (causes (option_copied proof.entry))) f) }
     {
+        let _chunk = part.chunk();
+        let skipped = is_skipped(alloc, proof, part, binder)?;
+        self.record(place, part, skipped, predicate)
+    }
+
+    // Records a part: it was skipped, or its satisfying rows are selected.
+    pub(crate) fn record(
+        &mut self,
+        place: usize,
+        part: &Part,
+        skipped: bool,
+        predicate: &BoundExpression,
+    ) -> Result<(), StatsError>
+        requires plain { IsTrue (is_plain predicate.now) }
+        requires fits { IsTrue (fits_scope predicate.now part.now.chunk.scope) }
+        ensures skipped { OnOk result
+            (self.new.skipped.items ≡ self.old.skipped.items ++ place_if skipped place) }
+        ensures selected { let found = rows_unless skipped predicate.now place part.now.chunk in
+            OnOk result (self.new.selected.items ≡ self.old.selected.items ++ found) }
+        ensures is_part { IsPart part.now }
+        ensures memory { IfErr result (λ f. f ≡ Memory alloc_error) }
+    {
         let chunk = part.chunk();
-        if is_skipped(alloc, proof, part, binder)? {
+        if skipped {
             self.skipped.push(place)?;
             return Ok(());
         }

@@ -1,12 +1,15 @@
 //! Whether a part is skipped: its proof is bound to what its binder answers, and evaluated.
-ghost use Rattle.std.specs.Prelude.{◌≡◌, [], true, IfOk, IfErr, IsTrue, Some, option_copied};
+ghost use Rattle.std.specs.Prelude.{◌≡◌, [], false, true, IfOk, IfErr, IsTrue, Some, alloc_error, option_copied};
 ghost use Rattle.vortex_base.specs.Data.Columns.{row_count};
-ghost use Rattle.vortex_base.specs.Meanings.Meaning.{is_true as value_is_true};
+ghost use Rattle.vortex_base.specs.Meanings.Fitting.{fits_row};
+ghost use Rattle.vortex_base.specs.Meanings.Meaning.{is_true as value_is_true, meaning};
+ghost use Rattle.vortex_base.specs.Trees.Tree.{has_placeholder};
 ghost use Rattle.vortex_prune.specs.Rewriting.Proof.{proves};
 ghost use Rattle.vortex_prune.specs.Scanning.Selection.{is_skipped};
 ghost use Rattle.vortex_prune.specs.Binding.BoundTo.{IsBoundTo};
 ghost use Rattle.vortex_prune.specs.Scanning.Causes.{IsRefusal};
 ghost use Rattle.vortex_prune.specs.Scanning.ScanRefusals.{IsClosed, if_faithful, proof_causes};
+ghost use Rattle.vortex_stats.specs.declared.error.StatsError.TheVariants.{Memory};
 
 use crate::bind::bind_stats_of;
 use crate::bind::stat_binder::StatBinder;
@@ -24,6 +27,21 @@ fn is_true(value: &Option<ScalarValue>) -> bool
     ensures { result ≡ value_is_true value.now }
 {
     matches!(value, Some(ScalarValue::Bool(true)))
+}
+
+// Whether what a proof was bound to is true on a row of statistics.
+pub(crate) fn is_true_on(
+    bound: &BoundExpression,
+    row: &Row<'_>,
+    rows: u64,
+) -> Result<bool, StatsError>
+    requires free { has_placeholder bound.now ≡ false }
+    requires fits { IsTrue (fits_row bound.now row.now) }
+    ensures value { IfOk result (λ b. b ≡ value_is_true (meaning bound.now row.now rows)) }
+    ensures memory { IfErr result (λ f. f ≡ Memory alloc_error) }
+{
+    let value = built(evaluate(bound, row, rows))?;
+    Ok(is_true(&value))
 }
 
 // Whether a proof is true of a part. `OpenProof` if what is bound still holds a placeholder or a
@@ -49,8 +67,7 @@ pub(crate) fn is_proved<B: StatBinder>(
         return Err(StatsError::OpenProof);
     }
     let rows = part.chunk().rows() as u64;
-    let value = built(evaluate(&bound, &Row::empty(), rows))?;
-    Ok(is_true(&value))
+    is_true_on(&bound, &Row::empty(), rows)
 }
 
 // Whether a part is skipped: there is a proof, and it is true of the part.

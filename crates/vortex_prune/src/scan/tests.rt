@@ -1,10 +1,7 @@
-// Scans over parts of one column of numbers, row by row.
-ghost use Rattle.std.specs.Bool.{OnTrue};
-ghost use Rattle.std.specs.Prelude.{◌≡◌, All, IfOk, IsTrue};
-ghost use Rattle.vortex_base.specs.Meanings.Fitting.{fits_scope};
-
+// Scans over parts of one column of numbers, row by row: by their binders, and by their table.
 use super::*;
-use crate::bind::stats_binder::StatsBinder;
+use crate::testing::{all_fit, binders_of, both_scans, zones_of};
+use crate::zones::Zones;
 use std::alloc::AllocError;
 use std::test::Fail;
 use vortex_base::bound;
@@ -40,6 +37,17 @@ fn values(alloc: Global, rows: &[Option<i32>]) -> Result<Vec<Option<ScalarValue>
     Ok(values)
 }
 
+// The scope of one column `a`.
+fn scope(alloc: Global) -> Result<Scope, Fail> {
+    let name = String::from_str(alloc, "a")?;
+    Ok(Scope::try_new(vec![in alloc; (name, NUMBER)]?)?)
+}
+
+// The parts of that scope with their table.
+fn tabled(alloc: Global, parts: Vec<Part>) -> Result<Zones, Fail> {
+    Ok(zones_of(alloc, scope(alloc)?, parts)?)
+}
+
 // A part of one column `a`, with these statistics of it.
 fn part<const N: usize>(
     alloc: Global,
@@ -47,9 +55,7 @@ fn part<const N: usize>(
     entries: [(Stat, Precision<ScalarValue>); N],
 ) -> Result<Part, Fail> {
     let column = Column::try_new(NUMBER, values(alloc, rows)?, 0)?;
-    let name = String::from_str(alloc, "a")?;
-    let scope = Scope::try_new(vec![in alloc; (name, NUMBER)]?)?;
-    let chunk = Chunk::try_new(scope, vec![in alloc; column]?)?;
+    let chunk = Chunk::try_new(scope(alloc)?, vec![in alloc; column]?)?;
     let mut set = StatsSet::new(alloc);
     set.try_extend(Vec::from_array(alloc, entries)?.into_iter())?;
     match Part::try_new(chunk, vec![in alloc; set]?) {
@@ -103,36 +109,9 @@ fn range(
     )
 }
 
-// The binder of each part's own statistics.
-fn binders_of<'a>(alloc: Global, parts: &'a [Part]) -> Result<Vec<StatsBinder<'a>>, AllocError>
-    ensures { IfOk result (λ binders. binders.items ≡ parts.entry.now) }
-{
-    let mut binders = Vec::new(alloc);
-    for part in parts {
-        binders.push(StatsBinder::new(part))?;
-    }
-    Ok(binders)
-}
-
-// Whether the predicate fits the scope of each part.
-fn all_fit(parts: &[Part], predicate: &BoundExpression) -> bool
-    ensures { OnTrue result (All (λ part. IsTrue (fits_scope predicate.now part.chunk.scope)) parts.now) }
-{
-    for part in parts {
-        if !predicate.fits_scope(part.chunk().scope()) {
-            return false;
-        }
-    }
-    true
-}
-
-// The scan of the parts by the built-in rules and their own statistics.
-fn scanned(alloc: Global, parts: &[Part], predicate: &BoundExpression) -> Result<Scan, StatsError> {
-    if !predicate.is_plain() || !all_fit(parts, predicate) {
-        return Err(StatsError::Mismatch);
-    }
-    let binders = binders_of(alloc, parts)?;
-    scan(alloc, parts, &binders, predicate, &Rules::builtin(alloc))
+// The scan of the parts by the built-in rules and their own statistics, in both ways.
+fn scanned(alloc: Global, zones: &Zones, predicate: &BoundExpression) -> Result<Scan, StatsError> {
+    both_scans(alloc, zones, predicate, &Rules::builtin(alloc))
 }
 
 // Whether the one part is skipped, and else how many rows it gives.
@@ -142,8 +121,8 @@ fn looked_at<const N: usize>(
     entries: [(Stat, Precision<ScalarValue>); N],
     predicate: &BoundExpression,
 ) -> Result<(bool, usize), Fail> {
-    let parts = vec![in alloc; part(alloc, rows, entries)?]?;
-    let found = scanned(alloc, &parts, predicate)?;
+    let zones = tabled(alloc, vec![in alloc; part(alloc, rows, entries)?]?)?;
+    let found = scanned(alloc, &zones, predicate)?;
     Ok((found.skipped.len() == 1, found.selected.len()))
 }
 
@@ -153,6 +132,7 @@ fn one_part_is_skipped(rt: HostRuntime) -> Result<(), Fail> {
     let mut parts = Vec::new(alloc);
     parts.push(part(alloc, &[Some(1), Some(5), Some(10)], bounds(1, 10))?)?;
     parts.push(part(alloc, &[Some(8), None, Some(20)], bounds(8, 25))?)?;
+    let parts = tabled(alloc, parts)?;
     let found = scanned(alloc, &parts, &compare(alloc, Operator::Gt, 10)?)?;
     assert!(rt; found.skipped.as_slice() == [0].as_slice());
     assert!(rt; found.selected.as_slice() == [(1, 2)].as_slice());
@@ -235,7 +215,7 @@ fn a_comparison_with_null_proves_nothing(rt: HostRuntime) -> Result<(), Fail> {
 #[test]
 fn without_parts(rt: HostRuntime) -> Result<(), Fail> {
     let alloc = rt.alloc();
-    let parts: Vec<Part> = Vec::new(alloc);
+    let parts = tabled(alloc, Vec::new(alloc))?;
     let found = scanned(alloc, &parts, &compare(alloc, Operator::Gt, 10)?)?;
     assert!(rt; found.skipped.is_empty());
     assert!(rt; found.selected.is_empty());

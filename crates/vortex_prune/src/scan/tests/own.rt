@@ -210,6 +210,12 @@ fn scanned_with<B: StatBinder>(
     scan(alloc, parts, binders, predicate, rules)
 }
 
+// The scope of one column `a` without nulls.
+fn plain_scope(alloc: Global) -> Result<Scope, Fail> {
+    let name = String::from_str(alloc, "a")?;
+    Ok(Scope::try_new(vec![in alloc; (name, LITERAL)]?)?)
+}
+
 #[test]
 fn a_rule_may_rest_on_a_type(rt: HostRuntime) -> Result<(), Fail> {
     let alloc = rt.alloc();
@@ -218,17 +224,16 @@ fn a_rule_may_rest_on_a_type(rt: HostRuntime) -> Result<(), Fail> {
     let rules = Rules::with_own(own);
     let values = vec![in alloc; Some(number(1))]?;
     let column = Column::try_new(LITERAL, values, 0)?;
-    let scope = vec![in alloc; (String::from_str(alloc, "a")?, LITERAL)]?;
-    let chunk = Chunk::try_new(Scope::try_new(scope)?, vec![in alloc; column]?)?;
+    let chunk = Chunk::try_new(plain_scope(alloc)?, vec![in alloc; column]?)?;
     let parts = match Part::try_new(chunk, vec![in alloc; StatsSet::new(alloc)]?) {
         Ok(part) => vec![in alloc; part]?,
         Err(refused) => return Err(Fail::from(refused.error)),
     };
     let is_null = bound::is_null(alloc, bound::col(alloc, 0, LITERAL)?)?;
-    let binders = binders_of(alloc, &parts)?;
-    let found = scanned_with(alloc, &parts, &binders, &is_null, &rules)?;
+    let table = zones_of(alloc, plain_scope(alloc)?, parts)?;
+    let found = both_scans(alloc, &table, &is_null, &rules)?;
     assert!(rt; found.skipped.as_slice() == [0].as_slice());
-    let found = scanned(alloc, &parts, &is_null)?;
+    let found = scanned(alloc, &table, &is_null)?;
     assert!(rt; found.skipped.is_empty());
     assert!(rt; found.selected.is_empty());
     Ok(())
@@ -241,13 +246,14 @@ fn an_open_proof_is_refused_at_a_part(rt: HostRuntime) -> Result<(), Fail> {
     own.push(Box::new(alloc, Open)?)?;
     let rules = Rules::with_own(own);
     let opposite = bound::not(alloc, compare(alloc, Operator::Gt, 10)?)?;
-    let none: Vec<Part> = Vec::new(alloc);
-    let binders = binders_of(alloc, &none)?;
-    let found = scanned_with(alloc, &none, &binders, &opposite, &rules)?;
-    assert!(rt; found.skipped.is_empty());
-    let parts = vec![in alloc; part(alloc, &[Some(1)], bounds(1, 1))?]?;
-    let binders = binders_of(alloc, &parts)?;
-    let refused = scanned_with(alloc, &parts, &binders, &opposite, &rules);
+    let none = tabled(alloc, Vec::new(alloc))?;
+    let found = both_scans(alloc, &none, &opposite, &rules)?;
+    assert!(rt; found.skipped.is_empty() && found.selected.is_empty());
+    let parts = tabled(
+        alloc,
+        vec![in alloc; part(alloc, &[Some(1)], bounds(1, 1))?]?,
+    )?;
+    let refused = both_scans(alloc, &parts, &opposite, &rules);
     assert!(rt; matches!(refused, Err(StatsError::OpenProof)));
     Ok(())
 }
@@ -258,13 +264,15 @@ fn an_own_fault_ends_the_scan(rt: HostRuntime) -> Result<(), Fail> {
     let mut own: Vec<StatsRewriteRuleRef> = Vec::new(alloc);
     own.push(Box::new(alloc, Faulty)?)?;
     let rules = Rules::with_own(own);
-    let parts = vec![in alloc; part(alloc, &[Some(1)], bounds(1, 1))?]?;
-    let binders = binders_of(alloc, &parts)?;
+    let parts = tabled(
+        alloc,
+        vec![in alloc; part(alloc, &[Some(1)], bounds(1, 1))?]?,
+    )?;
     let is_value = bound::is_not_null(alloc, a(alloc)?)?;
-    let refused = scanned_with(alloc, &parts, &binders, &is_value, &rules);
+    let refused = both_scans(alloc, &parts, &is_value, &rules);
     assert!(rt; matches!(refused, Err(StatsError::Rule(RuleFault::Own(3)))));
     let above = compare(alloc, Operator::Gt, 10)?;
-    let found = scanned_with(alloc, &parts, &binders, &above, &rules)?;
+    let found = both_scans(alloc, &parts, &above, &rules)?;
     assert!(rt; found.skipped.as_slice() == [0].as_slice());
     Ok(())
 }

@@ -1,20 +1,24 @@
 // Read-once predicates over two columns of bounds: which parts they skip.
 use super::*;
 
-// A part of one row of the columns `a` and `b`, whose least and greatest values are these.
-fn pair(alloc: Global, low: (i32, i32), high: (i32, i32)) -> Result<Vec<Part>, Fail> {
-    let mut columns = Vec::new(alloc);
-    columns.push(Column::try_new(NUMBER, values(alloc, &[Some(low.0)])?, 0)?)?;
-    columns.push(Column::try_new(NUMBER, values(alloc, &[Some(low.1)])?, 0)?)?;
+fn pair_scope(alloc: Global) -> Result<Scope, Fail> {
     let mut scope = Vec::new(alloc);
     scope.push((String::from_str(alloc, "a")?, NUMBER))?;
     scope.push((String::from_str(alloc, "b")?, NUMBER))?;
-    let chunk = Chunk::try_new(Scope::try_new(scope)?, columns)?;
+    Ok(Scope::try_new(scope)?)
+}
+
+// The table of a part of one row of the columns `a` and `b`, whose least and greatest values are these.
+fn pair(alloc: Global, low: (i32, i32), high: (i32, i32)) -> Result<Zones, Fail> {
+    let mut columns = Vec::new(alloc);
+    columns.push(Column::try_new(NUMBER, values(alloc, &[Some(low.0)])?, 0)?)?;
+    columns.push(Column::try_new(NUMBER, values(alloc, &[Some(low.1)])?, 0)?)?;
+    let chunk = Chunk::try_new(pair_scope(alloc)?, columns)?;
     let mut sets = Vec::new(alloc);
     sets.push(set_of(alloc, bounds(low.0, high.0))?)?;
     sets.push(set_of(alloc, bounds(low.1, high.1))?)?;
     match Part::try_new(chunk, sets) {
-        Ok(part) => Ok(vec![in alloc; part]?),
+        Ok(part) => Ok(zones_of(alloc, pair_scope(alloc)?, vec![in alloc; part]?)?),
         Err(refused) => Err(Fail::from(refused.error)),
     }
 }
@@ -29,8 +33,8 @@ fn b(alloc: Global) -> Result<BoundExpression, BaseError> {
     bound::col(alloc, 1, NUMBER)
 }
 
-fn is_skipped(alloc: Global, parts: &[Part], p: &BoundExpression) -> Result<bool, StatsError> {
-    Ok(!scanned(alloc, parts, p)?.skipped.is_empty())
+fn is_skipped(alloc: Global, table: &Zones, p: &BoundExpression) -> Result<bool, StatsError> {
+    Ok(!scanned(alloc, table, p)?.skipped.is_empty())
 }
 
 #[test]

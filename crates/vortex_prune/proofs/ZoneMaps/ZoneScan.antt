@@ -1,0 +1,123 @@
+-- A scan by a table of zones finds what one by each part's own statistics does.
+use Rattle.std.proofs.Common.{◌≡◌, ◌<◌, ◌≤◌, ◌+◌, ◌++◌, All, ℕ, zero, suc, Bool, true, false, not, List, [], ◌∷◌, Option, Some, None, arith, get_or, inl, length, map, refl, subst, sym, ap, take, ◌∙◌}
+use Rattle.std.specs.Prelude.{Err, IfOk, Ok, Result, if◌then◌else◌, slice_get, IsTrue}
+use Rattle.std.proofs.lemmas.List.{length-map}
+use Rattle.std.proofs.lemmas.Option.{same_Some, slice_get_read, slice_get_within}
+use Rattle.vortex_base.specs.Meanings.Fitting.{fits_row, fits_scope}
+use Rattle.vortex_base.specs.Data.Scalars.{Constant}
+use Rattle.vortex_base.specs.Data.Columns.{ChunkData, IsChunk, row_count as rows_of, row_of}
+use Rattle.vortex_base.specs.Data.Exact.{both_true}
+use Rattle.vortex_base.specs.Meanings.Meaning.{is_true, meaning}
+use Rattle.vortex_base.specs.Data.Scopes.{Named, is_empty}
+use Rattle.vortex_base.specs.Trees.Tree.{Place, Tree, has_bare_column, has_placeholder}
+use Rattle.vortex_prune.proofs.Scanning.ScanLemmas.{all_taken, selected_in, skipped_in}
+use Rattle.vortex_prune.proofs.Scanning.WholeScan.{all_at}
+use Rattle.std.proofs.lemmas.List.Elements.{recursion_from_All}
+use Rattle.vortex_prune.proofs.ZoneMaps.ZoneRows.{row_is_zone_row, values_same}
+use Rattle.vortex_prune.specs.declared.scan.outcome.Scan.{Scan}
+use Rattle.vortex_stats.specs.declared.error.StatsError.{StatsError}
+use Rattle.vortex_prune.specs.Binding.BoundTo.{HasNoColumnOn, WhereFaithful}
+use Rattle.vortex_prune.specs.Part.{IsPart, PartData}
+use Rattle.vortex_prune.specs.Binding.PartAnswers.{part_values}
+use Rattle.vortex_prune.specs.Rewriting.Proof.{Assignment, proves, value_under}
+use Rattle.vortex_prune.specs.Scanning.Selection.{is_skipped, place_if, rows_unless, selected_rows, skipped_parts}
+use Rattle.vortex_prune.specs.Scanning.ZoneScans.{CanTell, TellsAs, own_answers, zone_truth}
+use Rattle.vortex_prune.specs.Zones.{HaveScope, Head, ZonesData, heads, is_zone_row, named_head, zone_column, zone_columns, zone_table, zone_values}
+
+-- ---- one more part was looked at
+
+pub skipped_on : (proof : Option (Tree Place)) (parts : List PartData) (n : ℕ) (part : PartData) (b : Bool) (xs new : List ℕ) → n < length parts → part ≡ get_or parts n part → b ≡ is_skipped proof part (part_values part)
+    → new ≡ xs ++ place_if b n → xs ≡ skipped_parts proof (take n (own_answers parts)) → new ≡ skipped_parts proof (take (n + 1) (own_answers parts))
+skipped_on proof parts n part b xs new h is told pushed before =
+    pushed ∙ ap (λ t. xs ++ place_if t n) told ∙ skipped_in (λ (p : PartData) row k. part_values p) proof parts parts n part part xs refl h is is before
+
+pub selected_on : (proof : Option (Tree Place)) (p : Tree Place) (parts : List PartData) (n : ℕ) (part : PartData) (b : Bool) (xs new : List (ℕ × ℕ)) → n < length parts → part ≡ get_or parts n part → b ≡ is_skipped proof part (part_values part)
+    → new ≡ xs ++ rows_unless b p n part.chunk → xs ≡ selected_rows proof p (take n (own_answers parts)) → new ≡ selected_rows proof p (take (n + 1) (own_answers parts))
+selected_on proof p parts n part b xs new h is told pushed before =
+    pushed ∙ ap (λ t. xs ++ rows_unless t p n part.chunk) told ∙ selected_in (λ (q : PartData) row k. part_values q) proof p parts parts n part part xs refl h is is before
+
+pub own_taken : (parts : List PartData) (n : ℕ) → length parts ≤ n → take n (own_answers parts) ≡ own_answers parts
+own_taken parts n h = all_taken (λ (p : PartData) row k. part_values p) parts parts n refl h
+
+-- ---- the table has a row for each part
+
+rows_if : (parts : List PartData) (hs : List Head) → is_empty (map named_head hs) ≡ false → rows_of (map (zone_column parts) hs) ≡ length parts
+rows_if parts [] h = absurd cc
+rows_if parts (x ∷ hs) h = length-map parts _
+
+not_false : (b : Bool) → not b ≡ true → b ≡ false
+not_false true h = cc
+not_false false h = refl
+
+pub table_rows : (z : ZonesData) (table : ChunkData) → IsChunk table → table ≡ zone_table z → rows_of table.columns ≡ length z.parts
+table_rows z table is same =
+    let some = not_false (is_empty table.scope) (both_true _ _ (both_true _ _ is).0).0 in
+    ap (λ (k : ChunkData). rows_of k.columns) same ∙ rows_if z.parts (heads z.scope) (sym (ap (λ (k : ChunkData). is_empty k.scope) same) ∙ some)
+
+-- ---- a bound proof tells on each row what the proof does of the part
+
+-- on each row the value is that under the part's statistics
+
+tells_as : (z : ZonesData) (e b : Tree Place) → HaveScope z.scope z.parts → has_bare_column e ≡ false
+    → ((r n : ℕ) → meaning b (row_of r (zone_columns z)) n ≡ value_under (zone_values z.scope (row_of r (zone_columns z))) n e) → TellsAs (Some b) (Some e) z
+tells_as z e b scoped free value r part at is =
+    let n = rows_of part.chunk.columns in
+    let scope = all_at (λ q. q.chunk.scope ≡ z.scope) z.parts r part (recursion_from_All (λ q. q.chunk.scope ≡ z.scope) z.parts scoped) at in
+    ap is_true (value r n ∙ ap (λ (a : Assignment). value_under a n e) (values_same z r part at scope is))
+    ∙ sym (ap (λ t. is_true (if t then None else value_under (part_values part) n e)) free)
+
+-- it was bound by a binder over the table
+module _ (z s : ZonesData) (same : s ≡ z) (e : Tree Place) where
+  faithful_row : (r : ℕ) → IsTrue (is_zone_row s.scope (row_of r (zone_columns z)))
+  faithful_row r = ap (λ (t : ZonesData). is_zone_row t.scope (row_of r (zone_columns z))) same ∙ row_is_zone_row z r
+
+  pub bound_can_tell : (r : Result (Tree Place) StatsError) → has_bare_column e ≡ false
+      → IfOk r (λ b. WhereFaithful (λ row n. is_zone_row s.scope row) (λ row n. has_placeholder b ≡ false))
+      → IfOk r (λ b. WhereFaithful (λ row n. is_zone_row s.scope row) (λ row n. has_bare_column e ≡ false → IsTrue (fits_row b row))) → IfOk r (λ b. CanTell (Some b) z)
+  bound_can_tell (Ok b) shut free fits = (free (row_of 0 (zone_columns z)) 0 (faithful_row 0), λ r. fits (row_of r (zone_columns z)) 0 (faithful_row r) shut)
+  bound_can_tell (Err f) shut free fits = tt
+
+  pub bound_tells : (r : Result (Tree Place) StatsError) → has_bare_column e ≡ false → HaveScope z.scope z.parts
+      → IfOk r (λ b. WhereFaithful (λ row n. is_zone_row s.scope row) (λ row n. HasNoColumnOn e row → meaning b row n ≡ value_under (zone_values s.scope row) n e)) → IfOk r (λ b. TellsAs (Some b) (Some e) z)
+  bound_tells (Ok b) shut scoped value =
+      tells_as z e b scoped shut (λ r n. value (row_of r (zone_columns z)) n (faithful_row r) (inl shut) ∙ ap (λ (t : ZonesData). value_under (zone_values t.scope (row_of r (zone_columns z))) n e) same)
+  bound_tells (Err f) shut scoped value = tt
+
+pub tells_none : (z : ZonesData) → TellsAs None None z
+tells_none z r part at is = refl
+
+pub tells_nothing : (z : ZonesData) (bound proof : Option (Tree Place)) → length z.parts ≡ 0 → TellsAs bound proof z
+tells_nothing z bound proof h r part at is = absurd (omega (arith, h, slice_get_within z.parts r part at))
+
+pub told_in : (bound proof : Option (Tree Place)) (z : ZonesData) (ps : List PartData) (n k : ℕ) (part : PartData) (b : Bool) → ps ≡ z.parts → TellsAs bound proof z → n < length ps → part ≡ get_or ps n part → IsPart part → k ≡ rows_of part.chunk.columns
+    → b ≡ zone_truth bound z n k → b ≡ is_skipped proof part (part_values part)
+told_in bound proof z ps n k part b same tells h is own rows e =
+    e ∙ ap (zone_truth bound z n) rows ∙ tells n part (sym (ap (λ l. slice_get l n) same) ∙ slice_get_read ps (length ps) n part refl h is) own
+
+pub can_fit : (o : Option (Tree Place)) (b : Tree Place) (z : ZonesData) (r : ℕ) (row : List Constant) → CanTell o z → o ≡ Some b → row ≡ row_of r (zone_columns z) → IsTrue (fits_row b row)
+can_fit None b z r row can is at = absurd cc
+can_fit (Some e) b z r row can is at = ap (fits_row b) at ∙ ap (λ x. fits_row x (row_of r (zone_columns z))) (sym (same_Some e b is)) ∙ can.1 r
+
+-- ---- the answer of a scan by a bound proof is that by the falsifier
+
+module _ (bound told proof other : Option (Tree Place)) (z : ZonesData) (is : told ≡ bound) (tells : TellsAs bound proof z) (same : proof ≡ other) where
+  tells_other : TellsAs told other z
+  tells_other = subst (λ (o : Option (Tree Place)). TellsAs o other z) (sym is) (subst (λ (o : Option (Tree Place)). TellsAs bound o z) same tells)
+
+  pub skipped_by : (r : Result Scan StatsError) → IfOk r (λ scan. (q : Option (Tree Place)) → TellsAs told q z → scan.skipped.items ≡ skipped_parts q (own_answers z.parts)) → IfOk r (λ scan. scan.skipped.items ≡ skipped_parts other (own_answers z.parts))
+  skipped_by (Ok scan) h = h other tells_other
+  skipped_by (Err f) h = tt
+
+  pub selected_by : (p : Tree Place) (r : Result Scan StatsError) → IfOk r (λ scan. (q : Option (Tree Place)) → TellsAs told q z → scan.selected.items ≡ selected_rows q p (own_answers z.parts)) → IfOk r (λ scan. scan.selected.items ≡ selected_rows other p (own_answers z.parts))
+  selected_by p (Ok scan) h = h other tells_other
+  selected_by p (Err f) h = tt
+
+-- ---- the predicate fits the scope of each part
+
+pub fits_each : (p : Tree Place) (scope : List Named) (parts : List PartData) → HaveScope scope parts → IsTrue (fits_scope p scope) → All (λ part. IsTrue (fits_scope p part.chunk.scope)) parts
+fits_each p scope parts have fits k d less = ap (fits_scope p) (have k d less) ∙ fits
+
+-- what follows from two things that are so of an answer is so of it
+pub of_two : {X E : Type 0} (r : Result X E) (P Q T : X → Type 0) → ((x : X) → P x → Q x → T x) → IfOk r P → IfOk r Q → IfOk r T
+of_two (Ok x) P Q T f p q = f x p q
+of_two (Err e) P Q T f p q = tt

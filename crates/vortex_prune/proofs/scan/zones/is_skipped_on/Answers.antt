@@ -1,0 +1,15 @@
+use Rattle.std.proofs.Common.{◌≡◌, ap, arith, length, ◌∙◌}
+use Rattle.std.specs.Prelude.{option_copied}
+use Rattle.vortex_base.specs.Data.Columns.{ChunkData, row_of}
+use Rattle.vortex_prune.proofs.ZoneMaps.ZoneScan.{can_fit, table_rows}
+use Rattle.vortex_prune.proofs.scan.zones.is_skipped_on.Goals as goal
+
+pub row-requires : goal.row-requires
+row-requires c =
+    let rows = table_rows c.args.zones.now c.table-table.result.now c.rows-rows.ensures.is_chunk c.table-table.ensures in
+    omega (arith, rows, c.requires.within)
+
+pub is_true_on-requires-clause-fits : goal.is_true_on-requires-clause-fits
+is_true_on-requires-clause-fits c =
+    can_fit (option_copied c.args.bound) c.in-Some.bound.now c.args.zones.now c.args.place c.row.result c.requires.tells (ap option_copied c.in-Some.is)
+    (c.row.ensures.value ∙ ap (λ (k : ChunkData). row_of c.args.place k.columns) c.table-table.ensures)

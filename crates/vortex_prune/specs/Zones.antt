@@ -1,0 +1,159 @@
+-- A table of zones: the statistics of parts of one scope, as one row a part.
+use Rattle.std.specs.Prelude.{◌≡◌, ℕ, zero, suc, ◌+◌, Bool, true, false, List, [], ◌∷◌, ◌++◌, Option, Some, None, Result, Ok, Err, length, map, codes, position, option_map, All, slice_get, if◌then◌else◌}
+use Rattle.std.specs.List.{filter}
+use lib.Pointwise.{pointwise}
+use Rattle.vortex_base.specs.declared.aggregate.AggregateFnRef.{AggregateFnRef}
+use Rattle.vortex_base.specs.declared.aggregate.AggregateFnRef.TheVariants.{Max, Min, Sum, NullCount, NanCount, UncompressedSizeInBytes, AllNull, AllNonNull, MinMax}
+use Rattle.vortex_base.specs.declared.dtype.DType.{DType}
+use Rattle.vortex_base.specs.declared.dtype.DType.TheVariants as dtype
+use Rattle.vortex_base.specs.declared.error.BaseError.{BaseError}
+use Rattle.vortex_base.specs.declared.scalar_value.ScalarValue.{ScalarValue}
+use Rattle.vortex_base.specs.Data.Columns.{ChunkData, ColumnData, cell_value, row_count as rows_of}
+use Rattle.vortex_base.specs.Data.Scalars.{Constant}
+use Rattle.vortex_base.specs.Data.Scopes.{Named}
+use Rattle.vortex_base.specs.Trees.Tree.{column}
+use Rattle.vortex_base.specs.Trees.TreeEq.{aggregate_eq}
+use Rattle.vortex_base.specs.Data.Types.{dtype_eq, eq_ignore_nullability}
+use Rattle.vortex_base.specs.Meanings.Typing.{stat_type}
+use Rattle.vortex_prune.specs.Binding.Binders.{BinderAnswer}
+use Rattle.vortex_prune.specs.Part.{AreParts, Entries, PartData}
+use Rattle.vortex_prune.specs.Rewriting.Proof.{Assignment}
+use Rattle.vortex_prune.specs.Binding.StatValues.{stat_value}
+
+-- parts of one scope
+pub record ZonesData : Type 0 where
+  pub scope : List Named
+  pub parts : List PartData
+
+-- ---- the columns of the table
+
+-- the aggregates of a table, in its order
+abbrev pub aggregates : List AggregateFnRef
+aggregates = Max ∷ Min ∷ Sum ∷ NullCount ∷ UncompressedSizeInBytes ∷ AllNull ∷ AllNonNull ∷ []
+
+-- what follows a column's name in that of its column of the table for an aggregate
+abbrev pub suffix : AggregateFnRef → List ℕ
+suffix Max = codes "#0"
+suffix Min = codes "#1"
+suffix Sum = codes "#2"
+suffix NullCount = codes "#3"
+suffix UncompressedSizeInBytes = codes "#4"
+suffix AllNull = codes "#5"
+suffix AllNonNull = codes "#6"
+suffix MinMax = []
+suffix NanCount = []
+
+abbrev pub is_typed : Result DType BaseError → Bool
+is_typed (Ok t) = true
+is_typed (Err f) = false
+
+-- those that support a type
+abbrev pub supporting : DType → List AggregateFnRef
+supporting t = filter (λ f. is_typed (stat_type f t)) aggregates
+
+abbrev pub type_or_null : Result DType BaseError → DType
+type_or_null (Ok t) = t
+type_or_null (Err f) = dtype.Null
+
+-- the type of the column for an aggregate that supports the type: its state's, made nullable
+abbrev pub zone_type : AggregateFnRef → DType → DType
+zone_type f t = type_or_null (stat_type f t)
+
+-- a column of the table without its values: the place of the column that it tells of, and the aggregate
+pub record Head : Type 0 where
+  pub source : ℕ
+  pub aggregate : AggregateFnRef
+  pub name : List ℕ
+  pub dtype : DType
+
+abbrev pub head : ℕ → Named → AggregateFnRef → Head
+head i c f = record { source = i; aggregate = f; name = c.0 ++ suffix f; dtype = zone_type f c.1 }
+
+abbrev pub heads_from : ℕ → List Named → List Head
+heads_from i [] = []
+heads_from i (c ∷ cs) = map (head i c) (supporting c.1) ++ heads_from (i + 1) cs
+
+-- for each column of the scope in order, those for the aggregates that support it
+abbrev pub heads : List Named → List Head
+heads cs = heads_from 0 cs
+
+abbrev pub named_head : Head → Named
+named_head h = (h.name, h.dtype)
+
+-- the head, if the aggregate supports the type
+abbrev pub head_if : Bool → Head → List Head
+head_if b h = if b then h ∷ [] else []
+
+-- where the columns of the table that tell of each column of the scope start
+abbrev pub starts_from : ℕ → List Named → List ℕ
+starts_from n [] = []
+starts_from n (c ∷ cs) = n ∷ starts_from (n + length (supporting c.1)) cs
+
+-- the head tells of a column of the scope that its aggregate supports
+abbrev pub TellsOf : List Named → Head → Type 0
+TellsOf scope h = (c : Named) × (slice_get scope h.source ≡ Some c) × (stat_type h.aggregate c.1 ≡ Ok h.dtype)
+
+-- it tells so of the scope of each of the parts
+abbrev pub EachTells : List PartData → Head → Type 0
+EachTells parts h = (i : ℕ) (part : PartData) → slice_get parts i ≡ Some part → TellsOf part.chunk.scope h
+
+-- ---- its values
+
+abbrev pub set_value : AggregateFnRef → Option Entries → (n : ℕ) → Option ScalarValue
+set_value f None n = None
+set_value f (Some es) n = stat_value f es n
+
+-- what a part's set of a column tells, by the part's row count
+abbrev pub zone_value : AggregateFnRef → ℕ → PartData → Option ScalarValue
+zone_value f i p = set_value f (slice_get p.stats i) (rows_of p.chunk.columns)
+
+abbrev pub zone_column : List PartData → Head → ColumnData
+zone_column parts h = record { dtype = h.dtype; values = map (zone_value h.aggregate h.source) parts; size = 0 }
+
+abbrev pub zone_columns : ZonesData → List ColumnData
+zone_columns z = map (zone_column z.parts) (heads z.scope)
+
+-- the table: one row a part, in order
+abbrev pub zone_table : ZonesData → ChunkData
+zone_table z = record { scope = map named_head (heads z.scope); columns = zone_columns z }
+
+-- ---- its binder
+
+-- the place of an aggregate among those that support the type
+abbrev pub offset : AggregateFnRef → DType → Option ℕ
+offset f t = position (aggregate_eq f) (supporting t)
+
+-- the place in the table of the column for an aggregate of the column at a place of the scope, if that has this type, nullability aside
+abbrev pub zone_place : List Named → ℕ → AggregateFnRef → DType → Option ℕ
+zone_place [] i f t = None
+zone_place (c ∷ cs) zero f t = if eq_ignore_nullability c.1 t then offset f c.1 else None
+zone_place (c ∷ cs) (suc i) f t = option_map (λ k. length (supporting c.1) + k) (zone_place cs i f t)
+
+-- the reference to that column; of an input that is no column nothing is known
+abbrev pub zone_answer : List Named → BinderAnswer
+zone_answer scope f (column c) t = option_map (λ k. column (record { index = k; dtype = zone_type f c.dtype })) (zone_place scope c.index f c.dtype)
+zone_answer scope f x t = None
+
+abbrev pub cell_at : List Constant → Option ℕ → Option ScalarValue
+cell_at row None = None
+cell_at row (Some k) = cell_value (slice_get row k)
+
+-- what stands there in a row
+abbrev pub zone_values : List Named → List Constant → Assignment
+zone_values scope row f (column c) = cell_at row (zone_place scope c.index f c.dtype)
+zone_values scope row f x = None
+
+-- the row has the types of the table's columns
+abbrev pub is_zone_row : List Named → List Constant → Bool
+is_zone_row scope row = pointwise (λ h c. dtype_eq h.dtype c.dtype) (heads scope) row
+
+-- the parts have this scope
+abbrev pub HaveScope : List Named → List PartData → Type 0
+HaveScope scope parts = All (λ part. part.chunk.scope ≡ scope) parts
+
+-- what is kept of parts of one scope: their table, and where the columns start that tell of each column of the scope
+pub record AreZones (z : ZonesData) (table : ChunkData) (starts : List ℕ) : Type 0 where
+  pub scoped : HaveScope z.scope z.parts
+  pub are_parts : AreParts z.parts
+  pub tabled : table ≡ zone_table z
+  pub started : starts ≡ starts_from 0 z.scope

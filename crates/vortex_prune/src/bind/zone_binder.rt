@@ -1,0 +1,88 @@
+//! The binder over the rows of a table of zones.
+ghost use Rattle.std.specs.Prelude.{◌≡◌, ℕ, IsTrue, Some, slice_get};
+ghost use Rattle.vortex_base.specs.Data.Columns.{row_of};
+ghost use Rattle.vortex_prune.specs.Binding.Binders.{IsHonestOver};
+ghost use Rattle.vortex_prune.specs.Part.{IsTruePart, PartData};
+ghost use Rattle.vortex_prune.specs.Zones.{zone_table};
+
+use crate::bind::stat_binder::{StatBinder, hooked};
+use crate::hook_fault::HookFault;
+use crate::zones::Zones;
+use std::alloc::Global;
+use std::marker::Model;
+use vortex_base::aggregate::AggregateFnRef;
+use vortex_base::bound;
+use vortex_base::bound_expression::BoundExpression;
+use vortex_base::bound_expression::parts::Parts;
+use vortex_base::dtype::DType;
+
+/// Binds the placeholders of a proof to the columns of a table of zones, so that one bound proof is
+/// evaluated on the row of each part.
+#[derive(Drop)]
+pub struct ZoneBinder<'a> {
+    zones: &'a Zones,
+}
+
+impl<'a> Model for ZoneBinder<'a> {
+    ghost use Rattle.vortex_prune.specs.Zones.{ZonesData};
+
+    ghost Value = { ZonesData };
+
+    ghost view = { λ b. b.zones.now };
+}
+
+impl<'a> ZoneBinder<'a> {
+    /// The binder of a table. It answers by a reference to a column of the table, where a
+    /// `StatsBinder` of a part would answer by a literal.
+    pub fn new(zones: &'a Zones) -> ZoneBinder<'a>
+        ensures zones { result ≡ zones.now }
+        // It is faithful over each row of the table, with each row count.
+        ensures faithful { (r n : ℕ) → let row = row_of r (zone_table zones.now).columns in
+            IsTrue (⟦<ZoneBinder<'a> as StatBinder>⟧.is_faithful_over result row n) }
+        // It is honest for a part whose statistics are true, and the part's row.
+        ensures honest { (r : ℕ) (part : PartData) → slice_get zones.now.parts r ≡ Some part
+            → IsTruePart part → let row = row_of r (zone_table zones.now).columns in
+            IsHonestOver (⟦<ZoneBinder<'a> as StatBinder>⟧.is_faithful_over result)
+            (⟦<ZoneBinder<'a> as StatBinder>⟧.value result) row part.chunk }
+    {
+        let _parts = zones.parts();
+        ZoneBinder { zones }
+    }
+}
+
+impl<'a> StatBinder for ZoneBinder<'a> {
+    ghost use Rattle.std.specs.Prelude.{false, refl};
+    ghost use Rattle.vortex_prune.specs.Binding.PartBinder.{IsNullOf};
+    ghost use Rattle.vortex_prune.specs.Binding.ZoneFaithful.{zone_is_faithful};
+    ghost use Rattle.vortex_prune.specs.Zones.{is_zone_row, zone_answer, zone_values};
+
+    ghost answer = { λ z. zone_answer z.scope };
+
+    ghost is_missing = { λ z. IsNullOf };
+
+    ghost allows_null = { λ z t. refl };
+
+    ghost can_fault = { λ z k. false };
+
+    ghost value = { λ z row n. zone_values z.scope row };
+
+    ghost is_faithful_over = { λ z row n. is_zone_row z.scope row };
+
+    ghost is_faithful = { λ z row n h. zone_is_faithful z.scope row n h };
+
+    fn bind_aggregate(
+        &self,
+        alloc: Global,
+        input: &BoundExpression,
+        aggregate: &AggregateFnRef,
+        _stat_dtype: &DType,
+    ) -> Result<Option<BoundExpression>, HookFault> {
+        match input.parts() {
+            Parts::Column(place, dtype) => match self.zones.place_of(place, *aggregate, dtype) {
+                None => Ok(None),
+                Some((at, dtype)) => Ok(Some(hooked(bound::col(alloc, at, dtype))?)),
+            },
+            _ => Ok(None),
+        }
+    }
+}

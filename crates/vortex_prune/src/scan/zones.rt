@@ -1,0 +1,221 @@
+//! Scans over a table of zones: the proof is bound once, for all parts.
+ghost use Rattle.std.specs.Prelude.{◌≡◌, ◌<◌, Option, [], Err, IfErr, IfOk, IsTrue};
+ghost use Rattle.std.specs.Prelude.{Some, alloc_error, false, length, option_copied};
+ghost use Rattle.std.specs.List.{AllByRecursion};
+ghost use Rattle.vortex_base.specs.Meanings.Fitting.{fits_scope};
+ghost use Rattle.vortex_base.specs.Trees.Tree.{Place, Tree, has_bare_column, is_plain};
+ghost use Rattle.vortex_prune.specs.Scanning.Causes.{IsRefusal};
+ghost use Rattle.vortex_prune.specs.Scanning.Complete.{SkipsExactly, is_read_once};
+ghost use Rattle.vortex_prune.specs.Rewriting.Own.{own_rules};
+ghost use Rattle.vortex_prune.specs.Part.{AreParts, IsTruePart};
+ghost use Rattle.vortex_prune.specs.Rewriting.Predicates.{is_predicate};
+ghost use Rattle.vortex_prune.specs.Rewriting.Falsifiers.{falsifier as falsifier_of};
+ghost use Rattle.vortex_prune.specs.Scanning.ScanRefusals.{IsMemory};
+ghost use Rattle.vortex_prune.specs.Scanning.Selection.{answered, full, selected_rows, skipped_parts};
+ghost use Rattle.vortex_prune.specs.Scanning.ZoneScans.{CanTell, TellsAs, is_left_open, open_causes};
+ghost use Rattle.vortex_prune.specs.Scanning.ZoneScans.{own_answers, zone_causes, zone_truth};
+ghost use Rattle.vortex_prune.specs.Zones.{HaveScope};
+ghost use Rattle.vortex_stats.specs.declared.error.StatsError.TheVariants.{Memory, NotPredicate};
+
+use crate::bind::bind_stats_of;
+use crate::bind::stat_binder::StatBinder;
+use crate::bind::stats_binder::StatsBinder;
+use crate::bind::zone_binder::ZoneBinder;
+use crate::rewrite::falsify;
+use crate::rewrite::rule::StatsRewriteRule;
+use crate::rewrite::rules::Rules;
+use crate::scan::outcome::Scan;
+use crate::scan::skip::is_true_on;
+use crate::zones::Zones;
+use std::alloc::Global;
+use vortex_base::bound_expression::BoundExpression;
+use vortex_stats::error::StatsError;
+
+// A proof bound to the table. `OpenProof` if it has a column outside its placeholders, which would
+// be read in the table.
+fn bound_proof(
+    alloc: Global,
+    zones: &Zones,
+    proof: &BoundExpression,
+) -> Result<BoundExpression, StatsError>
+    ensures can_tell { IfOk result (λ b. CanTell (Some b) zones.now) }
+    ensures tells { IfOk result (λ b. TellsAs (Some b) (Some proof.now) zones.now) }
+    ensures shut { IfOk result (λ _. has_bare_column proof.now ≡ false) }
+    ensures refusal { let causes = open_causes (Some proof.now) zones.now.parts in
+        0 < length zones.now.parts → IfErr result (IsRefusal causes) }
+{
+    if proof.has_bare_column() {
+        return Err(StatsError::OpenProof);
+    }
+    let _parts = zones.parts();
+    let binder = ZoneBinder::new(zones);
+    bind_stats_of(alloc, proof, &binder)
+}
+
+// The same of a proof, if there is one and a part to be proved by it; else nothing is bound.
+fn bound_once(
+    alloc: Global,
+    zones: &Zones,
+    proof: Option<&BoundExpression>,
+) -> Result<Option<BoundExpression>, StatsError>
+    ensures can_tell { IfOk result (λ b. CanTell b zones.now) }
+    ensures tells { IfOk result (λ b. TellsAs b (option_copied proof.entry) zones.now) }
+    ensures shut { let left_open = is_left_open (option_copied proof.entry) zones.now.parts in
+        IfOk result (λ _. left_open ≡ false) }
+    ensures refusal { let causes = open_causes (option_copied proof.entry) zones.now.parts in
+        IfErr result (IsRefusal causes) }
+{
+    match proof {
+        Some(proof) if !zones.parts().is_empty() => Ok(Some(bound_proof(alloc, zones, proof)?)),
+        _ => Ok(None),
+    }
+}
+
+// Whether a bound proof, if there is one, is true on the table's row of a part.
+fn is_skipped_on(
+    zones: &Zones,
+    place: usize,
+    bound: Option<&BoundExpression>,
+    rows: u64,
+) -> Result<bool, StatsError>
+    requires within { place < length zones.now.parts }
+    requires tells { CanTell (option_copied bound) zones.now }
+    ensures value { let truth = zone_truth (option_copied bound.entry) zones.now place rows in
+        IfOk result (λ b. b ≡ truth) }
+    ensures memory { IfErr result (λ f. f ≡ Memory alloc_error) }
+{
+    match bound {
+        None => Ok(false),
+        Some(bound) => {
+            let table = zones.table();
+            let _rows = table.rows();
+            is_true_on(bound, &table.row(place), rows)
+        }
+    }
+}
+
+// The scan by a bound proof, if there is one.
+fn scan_bound(
+    alloc: Global,
+    zones: &Zones,
+    predicate: &BoundExpression,
+    bound: Option<&BoundExpression>,
+) -> Result<Scan, StatsError>
+    requires plain { IsTrue (is_plain predicate.now) }
+    requires fits { IsTrue (fits_scope predicate.now zones.now.scope) }
+    requires tells { CanTell (option_copied bound) zones.now }
+    ensures skipped { IfOk result (λ scan. (proof : Option (Tree Place))
+        → TellsAs (option_copied bound.entry) proof zones.now
+        → scan.skipped.items ≡ skipped_parts proof (own_answers zones.now.parts)) }
+    ensures selected { IfOk result (λ scan. (proof : Option (Tree Place))
+        → TellsAs (option_copied bound.entry) proof zones.now
+        → scan.selected.items ≡ selected_rows proof predicate.now (own_answers zones.now.parts)) }
+    ensures memory { IfErr result (λ f. f ≡ Memory alloc_error) }
+{
+    let mut scan = Scan {
+        selected: Vec::new(alloc),
+        skipped: Vec::new(alloc),
+    };
+    let parts = zones.parts();
+    for place in 0..parts.len() {
+        let part = &parts[place];
+        let rows = part.chunk().rows() as u64;
+        let skipped = is_skipped_on(zones, place, bound, rows)?;
+        scan.record(place, part, skipped, predicate)?;
+    }
+    Ok(scan)
+}
+
+// The scan by the falsifier of the predicate.
+fn scan_rules(
+    alloc: Global,
+    zones: &Zones,
+    predicate: &BoundExpression,
+    rules: &Rules,
+) -> Result<Scan, StatsError>
+    requires plain { IsTrue (is_plain predicate.now) }
+    requires fits { IsTrue (fits_scope predicate.now zones.now.scope) }
+    ensures skipped { let M = ⟦<dyn StatsRewriteRule as StatsRewriteRule>⟧ in
+        let proof = falsifier_of (own_rules M rules.now.own.items) predicate.now in
+        let places = skipped_parts proof (own_answers zones.now.parts) in
+        IfOk result (λ scan. scan.skipped.items ≡ places) }
+    ensures kept { let M = ⟦<dyn StatsRewriteRule as StatsRewriteRule>⟧ in
+        let proof = falsifier_of (own_rules M rules.now.own.items) predicate.now in
+        let rows = selected_rows proof predicate.now (own_answers zones.now.parts) in
+        IfOk result (λ scan. scan.selected.items ≡ rows) }
+    ensures parts { AreParts zones.now.parts }
+    ensures scoped { HaveScope zones.now.scope zones.now.parts }
+    ensures predicate { IfOk result (λ _. IsTrue (is_predicate predicate.now)) }
+    ensures not_predicate { is_predicate predicate.now ≡ false → result ≡ Err NotPredicate }
+    ensures closed { let M = ⟦<dyn StatsRewriteRule as StatsRewriteRule>⟧ in
+        let proof = falsifier_of (own_rules M rules.now.own.items) predicate.now in
+        IfOk result (λ _. is_left_open proof zones.now.parts ≡ false) }
+    ensures refusal { let M = ⟦<dyn StatsRewriteRule as StatsRewriteRule>⟧ in
+        let causes = zone_causes (own_rules M rules.now.own.items) predicate.now zones.now.parts in
+        IsTrue (is_predicate predicate.now) → IfErr result (IsRefusal causes) }
+{
+    let _parts = zones.parts();
+    let proof = falsify(alloc, predicate, rules)?;
+    let bound = bound_once(alloc, zones, proof.as_ref())?;
+    scan_bound(alloc, zones, predicate, bound.as_ref())
+}
+
+/// Selects the rows of the parts that satisfy a predicate, and leaves out unread each part whose
+/// falsifier is true by its row of the table: what `scan` finds in these parts with a `StatsBinder`
+/// each. The predicate is rewritten once and its falsifier bound once; then each part costs one
+/// evaluation on a row. With no falsifier or no part nothing is bound.
+///
+/// The caller knows that the predicate is plain (`BoundExpression::is_plain`) and fits the scope
+/// (`BoundExpression::fits_scope`).
+///
+/// `NotPredicate` if the predicate isn't of type Bool, also where there are no parts. `Rule` if a
+/// rule of the user failed or proved by an expression that isn't of type Bool, `OpenProof` if a
+/// falsifier that is about to be bound has a column outside its placeholders, which would be read
+/// in the table.
+pub fn scan_zones<'a>(
+    alloc: Global,
+    zones: &'a Zones,
+    predicate: &BoundExpression,
+    rules: &Rules,
+) -> Result<Scan, StatsError>
+    requires plain { IsTrue (is_plain predicate.now) }
+    requires fits { IsTrue (fits_scope predicate.now zones.now.scope) }
+    // Where the statistics are true no wanted row is lost, whichever lawful rules took part.
+    ensures selected { IfOk result (λ scan. AllByRecursion IsTruePart zones.now.parts
+        → scan.selected.items ≡ full predicate.now zones.now.parts) }
+    // A part is skipped exactly if the falsifier is true of it, as in the scan of these parts by
+    // the binders of their own statistics.
+    ensures skipped { let M = ⟦<dyn StatsRewriteRule as StatsRewriteRule>⟧ in
+        let values = ⟦<StatsBinder<'a> as StatBinder>⟧.value in
+        let proof = falsifier_of (own_rules M rules.now.own.items) predicate.now in
+        let answers = answered values zones.now.parts zones.now.parts in
+        IfOk result (λ scan. scan.skipped.items ≡ skipped_parts proof answers) }
+    // Whether or not the statistics are true, the satisfying rows of the other parts are selected.
+    ensures kept { let M = ⟦<dyn StatsRewriteRule as StatsRewriteRule>⟧ in
+        let values = ⟦<StatsBinder<'a> as StatBinder>⟧.value in
+        let proof = falsifier_of (own_rules M rules.now.own.items) predicate.now in
+        let answers = answered values zones.now.parts zones.now.parts in
+        IfOk result (λ scan. scan.selected.items ≡ selected_rows proof predicate.now answers) }
+    // By built-in rules a read-once predicate skips a part exactly if no values within its bounds
+    // satisfy it.
+    ensures complete { IfOk result (λ scan. rules.now.own.items ≡ []
+        → IsTrue (is_read_once predicate.now)
+        → SkipsExactly predicate.now zones.now.parts scan.skipped.items) }
+    // By built-in rules a predicate is refused for memory alone.
+    ensures memory { IsTrue (is_predicate predicate.now) → rules.now.own.items ≡ []
+        → IfErr result IsMemory }
+    ensures not_predicate { is_predicate predicate.now ≡ false → result ≡ Err NotPredicate }
+    // No falsifier that has a column outside its placeholders was bound.
+    ensures closed { let M = ⟦<dyn StatsRewriteRule as StatsRewriteRule>⟧ in
+        let proof = falsifier_of (own_rules M rules.now.own.items) predicate.now in
+        IfOk result (λ _. is_left_open proof zones.now.parts ≡ false) }
+    // A refusal has its cause: a rule asked at a visited node, or such a falsifier and a part.
+    ensures refusal { let M = ⟦<dyn StatsRewriteRule as StatsRewriteRule>⟧ in
+        let causes = zone_causes (own_rules M rules.now.own.items) predicate.now zones.now.parts in
+        IsTrue (is_predicate predicate.now) → IfErr result (IsRefusal causes) }
+{
+    scan_rules(alloc, zones, predicate, rules)
+}
+
+#[cfg(test)]
+mod tests;
