@@ -11,7 +11,7 @@ use std::alloc::{AllocError, Global};
 
 /// The statistics of the list as two bytes: bit k of byte j, counted from the least, stands for the
 /// number 8j + k.
-#[tactic(auto, using(crate::proofs::Bits::bitset_of_items))]
+#[tactic(auto, using(crate::proofs::Sets::Bits::bitset_of_items))]
 pub fn as_stat_bitset_bytes(alloc: Global, stats: &[Stat]) -> Result<Vec<u8>, AllocError>
     ensures { IfOk result (λ bytes. IsBitsetOf stats.now bytes.items) }
 {

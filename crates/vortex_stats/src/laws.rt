@@ -87,7 +87,7 @@ pub fn equal_statistics_hash_alike()
 {}
 
 /// Bytes that hold a list of statistics are read back as those statistics, each once and ascending.
-#[tactic(auto, using(crate::specs::Bitset::stats_in_written))]
+#[tactic(auto, using(crate::specs::Sets::Bitset::stats_in_written))]
 pub fn bitsets_are_read_back()
     ensures { (stats : List Stat) (bytes : List ℕ) → IsBitsetOf stats bytes
         → stats_in bytes ≡ distinct_ascending stats }

@@ -158,7 +158,7 @@ impl StatsSet {
     }
 }
 
-#[tactic(auto, using(crate::proofs::Fitting::fitting))]
+#[tactic(auto, using(crate::proofs::Sets::Fitting::fitting))]
 impl<'a> MutTypedStatsSetRef<'a> {
     ghost use Rattle.vortex_stats.specs.Sets.MutTypedStats.{typed_stats};
 
@@ -209,7 +209,7 @@ impl<'a> MutTypedStatsSetRef<'a> {
     }
 }
 
-#[tactic(auto, using(crate::proofs::Fitting::fitting))]
+#[tactic(auto, using(crate::proofs::Sets::Fitting::fitting))]
 impl<'a> MutTypedStatsSetRef<'a> {
     ghost use Rattle.vortex_stats.specs.Sets.MutTypedStats.{typed_stats, rests_if_refused};
 

@@ -4,8 +4,8 @@ ghost use Rattle.vortex_stats.specs.declared.error.StatsError.TheVariants.{Memor
 ghost use Rattle.vortex_prune.specs.Rewriting.BuiltIn.{table_falsifiers as falsifiers_of, table_satisfiers as satisfiers_of};
 ghost use Rattle.vortex_prune.specs.Rewriting.Falsifiers.{every_null, literal_falsifier, literal_satisfier, none_null};
 
-mod between;
-mod comparison;
+pub(crate) mod between;
+pub(crate) mod comparison;
 mod like;
 
 use crate::rewrite::builtins::comparison::comparison_proof;
