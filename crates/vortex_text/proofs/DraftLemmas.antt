@@ -14,7 +14,7 @@ use Rattle.vortex_text.specs.declared.line_error.LineError.{LineError}
 use Rattle.vortex_text.specs.declared.line_kind.LineKind.{LineKind}
 use Rattle.vortex_text.specs.declared.open_part.OpenPart.{OpenPart}
 
-has_last : (parts : List PartData) (part : PartData) → has_part (parts ++ part ∷ []) ≡ true
+pub has_last : (parts : List PartData) (part : PartData) → has_part (parts ++ part ∷ []) ≡ true
 has_last [] part = refl
 has_last (p ∷ ps) part = refl
 

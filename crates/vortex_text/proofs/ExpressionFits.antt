@@ -29,6 +29,10 @@ pub step_of : {A B : Type 0} (o : Option A) (f : A → Option B) (y : B) → opt
 step_of None f y h = cc
 step_of (Some x) f y h = record { at = x; made = refl; then = h }
 
+-- what two steps made is one
+pub one_made : {X : Type 0} (x y : X) → Some x ≡ Some y → x ≡ y
+one_made x y h = cc
+
 -- what is known of an expression that was read
 pub record Fits (scope : List Named) (e : Tree Place) : Type 0 where
   pub no_placeholder : has_placeholder e ≡ false
@@ -75,7 +79,7 @@ at_place scope i (Some c) p at h =
     let P : Place → Type 0 = λ q. is_of_type q.dtype (slice_get scope q.index) ≡ true in
     subst P same (rw at ((dtype_eq_is_exact c.1 c.1).1 refl))
 
-found_place : (scope : List Named) (o : Option ℕ) (p : Place) → found scope o ≡ Some p → is_of_type p.dtype (slice_get scope p.index) ≡ true
+pub found_place : (scope : List Named) (o : Option ℕ) (p : Place) → found scope o ≡ Some p → is_of_type p.dtype (slice_get scope p.index) ≡ true
 found_place scope None p h = cc
 found_place scope (Some i) p h = at_place scope i (slice_get scope i) p refl h
 

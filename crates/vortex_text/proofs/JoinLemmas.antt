@@ -1,10 +1,13 @@
 -- Two neighbours of a list that become one.
-use Rattle.std.proofs.Common.{◌≡◌, ◌+◌, ◌<◌, ◌≤◌, ℕ, suc, List, ◌∷◌, ◌++◌, Option, None, Some, option_and_then, length, get_or, take, drop, refl, ap, sym, ◌∙◌, arith}
+use Rattle.std.proofs.Common.{◌≡◌, ◌+◌, ◌<◌, ◌≤◌, ℕ, suc, List, ◌∷◌, ◌++◌, Option, None, Some, option_and_then, length, get_or, take, drop, true, refl, ap, sym, ◌∙◌, subst, arith}
 use Rattle.std.specs.List.{insert, remove, slice_get}
 use Rattle.std.proofs.lemmas.List.{drop_at, length-take-le, take-append-le, take-take, take_at}
 use Rattle.std.proofs.lemmas.List.Edits.{get_or-remove_below}
 use Rattle.std.proofs.lemmas.Option.{slice_get_past, slice_get_read}
+use Rattle.vortex_base.specs.Data.Columns.{sizes_fit}
 use Rattle.vortex_prune.specs.Part.{PartData, joined}
+use Rattle.vortex_text.proofs.PartFits.{unsized_fit}
+use Rattle.vortex_text.specs.Fitting.{AreNeighbours, IsPartOf}
 use Rattle.vortex_text.specs.Rows.{joined_at}
 
 module _ {X : Type 0} where
@@ -51,3 +54,18 @@ none_second i parts (Some left) none = ap (λ o. option_and_then (λ (r : PartDa
 -- there is no part behind
 pub nothing_to_join : (i : ℕ) (parts : List PartData) → length parts ≤ i + 1 → joined_at i parts ≡ None
 nothing_to_join i parts past = none_second i parts (slice_get parts i) (slice_get_past parts (i + 1) past)
+
+-- two parts of one scope, whose sizes add up
+pub record MayJoin (left right : PartData) : Type 0 where
+  pub scope : left.chunk.scope ≡ right.chunk.scope
+  pub sizes : sizes_fit left.chunk.columns right.chunk.columns ≡ true
+
+-- neighbours may be joined
+pub neighbours_may_join : (i : ℕ) (parts : List PartData) (left right : PartData) → AreNeighbours parts → i + 1 < length parts
+    → right ≡ get_or parts (i + 1) right → left ≡ get_or (remove parts (i + 1)) i left → MayJoin left right
+neighbours_may_join i parts left right (scope, all) within second first =
+    let P : PartData → Type 0 = IsPartOf scope in
+    let own : left ≡ get_or parts i left = first ∙ get_or-remove_below parts (i + 1) left i (omega arith) within in
+    let l : P left = subst P (sym own) (all i left (omega arith)) in
+    let r : P right = subst P (sym second) (all (i + 1) right within) in
+    record { scope = l.same_scope ∙ sym r.same_scope; sizes = unsized_fit left.chunk.columns right.chunk.columns l.unsized r.unsized }

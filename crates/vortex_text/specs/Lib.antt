@@ -2,6 +2,7 @@ pub mod Columns
 pub mod Drafts
 pub mod Expressions
 pub mod Fails
+pub mod Fitting
 pub mod Lines
 pub mod Names
 pub mod Naming

@@ -1,8 +1,9 @@
 //! What the lines of a text say, line by line.
-ghost use Rattle.std.specs.Prelude.{◌≡◌, IfOk, OnOk, MatchOption, None, Some};
+ghost use Rattle.std.specs.Prelude.{◌≡◌, IfOk, IfSome, OnOk, MatchOption, None, Some};
 ghost use Rattle.vortex_base.specs.Data.Scopes.{named_columns};
 ghost use Rattle.vortex_text.specs.Drafts.{reading_of};
 ghost use Rattle.vortex_text.specs.Fails.{Changes};
+ghost use Rattle.vortex_text.specs.Fitting.{FitsTogether, IsQuery};
 ghost use Rattle.vortex_text.specs.Lines.{has_part, is_new, nothing_read, parts_of};
 ghost use Rattle.vortex_text.specs.Lines.{read_column, read_join, read_kind, read_line, read_part};
 ghost use Rattle.vortex_text.specs.Lines.{read_row, read_stat, read_where, read_words, with_column};
@@ -67,7 +68,10 @@ impl Draft {
 
     // The current part takes no more rows.
     fn end_part(&mut self, alloc: Global) -> Result<(), AllocError>
-        ensures { OnOk result (reading_of self.new ≡ record (reading_of self.old) { ended = parts_of (reading_of self.old); current = None }) }
+        requires { FitsTogether (reading_of self.old) }
+        ensures { let old = reading_of self.old in
+            let ended = record old { ended = parts_of old; current = None } in
+            OnOk result (reading_of self.new ≡ ended) }
     {
         let Some(part) = self.current.take() else {
             return Ok(());
@@ -80,13 +84,14 @@ impl Draft {
 
     // Adds a column.
     fn add_column(&mut self, alloc: Global, name: &[u8], dtype: DType) -> Result<(), LineError>
-        ensures { Changes result (with_column (reading_of self.old) name.now dtype) (reading_of self.new) }
+        ensures { let old = reading_of self.old in
+            Changes result (with_column old name.now dtype) (reading_of self.new) }
     {
         if self.has_part() || !self.is_new(name) {
             return Err(LineError::Bad);
         }
         let Ok(name) = str::from_utf8(name) else {
-            return Err(LineError::Memory);
+            unreachable!()
         };
         let name = String::from_str(alloc, name)?;
         self.columns.push((name, dtype))?;
@@ -95,7 +100,8 @@ impl Draft {
 
     // `column NAME TYPE`
     fn read_column(&mut self, alloc: Global, line: &[u8]) -> Result<(), LineError>
-        ensures { Changes result (read_column (reading_of self.old) (words line.now)) (reading_of self.new) }
+        ensures { let old = reading_of self.old in
+            Changes result (read_column old (words line.now)) (reading_of self.new) }
     {
         let (name, rest) = plain_word(line)?;
         let (kind, rest) = plain_word(rest)?;
@@ -108,7 +114,9 @@ impl Draft {
 
     // `part`
     fn read_part(&mut self, alloc: Global, line: &[u8]) -> Result<(), LineError>
-        ensures { Changes result (read_part (reading_of self.old) (words line.now)) (reading_of self.new) }
+        requires { FitsTogether (reading_of self.old) }
+        ensures { let old = reading_of self.old in
+            Changes result (read_part old (words line.now)) (reading_of self.new) }
     {
         no_word(line)?;
         if self.columns.is_empty() {
@@ -122,7 +130,8 @@ impl Draft {
 
     // `stat NAME STAT PRECISION VALUE`
     fn read_stat(&mut self, alloc: Global, line: &[u8]) -> Result<(), LineError>
-        ensures { Changes result (read_stat (reading_of self.old) (words line.now)) (reading_of self.new) }
+        ensures { let old = reading_of self.old in
+            Changes result (read_stat old (words line.now)) (reading_of self.new) }
     {
         let (claim, rest) = read_claim(&self.columns, line)?;
         let value = read_claimed(alloc, claim.dtype, rest)?;
@@ -136,7 +145,8 @@ impl Draft {
 
     // `row VALUE ..`
     fn read_row(&mut self, alloc: Global, line: &[u8]) -> Result<(), LineError>
-        ensures { Changes result (read_row (reading_of self.old) (words line.now)) (reading_of self.new) }
+        ensures { let old = reading_of self.old in
+            Changes result (read_row old (words line.now)) (reading_of self.new) }
     {
         let Some(mut part) = self.current.take() else {
             return Err(LineError::Bad);
@@ -148,7 +158,9 @@ impl Draft {
 
     // `join N`
     fn read_join(&mut self, alloc: Global, line: &[u8]) -> Result<(), LineError>
-        ensures { Changes result (read_join (reading_of self.old) (words line.now)) (reading_of self.new) }
+        requires { FitsTogether (reading_of self.old) }
+        ensures { let old = reading_of self.old in
+            Changes result (read_join old (words line.now)) (reading_of self.new) }
     {
         let (place, rest) = plain_word(line)?;
         no_word(rest)?;
@@ -161,7 +173,8 @@ impl Draft {
 
     // `where EXPR`
     fn read_where(&mut self, alloc: Global, line: &[u8]) -> Result<(), LineError>
-        ensures { Changes result (read_where (reading_of self.old) (words line.now)) (reading_of self.new) }
+        ensures { let old = reading_of self.old in
+            Changes result (read_where old (words line.now)) (reading_of self.new) }
     {
         if !is_short(alloc, line)? {
             return Err(LineError::Bad);
@@ -177,7 +190,9 @@ impl Draft {
 
     // The words of a line behind the first, which says its kind.
     fn read_kind(&mut self, alloc: Global, kind: LineKind, line: &[u8]) -> Result<(), LineError>
-        ensures { Changes result (read_kind kind (reading_of self.old) (words line.now)) (reading_of self.new) }
+        requires { FitsTogether (reading_of self.old) }
+        ensures { let old = reading_of self.old in
+            Changes result (read_kind kind old (words line.now)) (reading_of self.new) }
     {
         match kind {
             LineKind::Row => self.read_row(alloc, line),
@@ -191,7 +206,9 @@ impl Draft {
 
     // The words of one line.
     fn read_words(&mut self, alloc: Global, line: &[u8]) -> Result<(), LineError>
-        ensures { Changes result (read_words (reading_of self.old) (words line.now)) (reading_of self.new) }
+        requires { FitsTogether (reading_of self.old) }
+        ensures { let old = reading_of self.old in
+            Changes result (read_words old (words line.now)) (reading_of self.new) }
     {
         if skip_spaces(line).is_empty() {
             return Ok(());
@@ -211,7 +228,10 @@ impl Draft {
 
     /// Reads one line. A line that isn't UTF-8 is bad.
     pub fn read_line(&mut self, alloc: Global, line: &[u8]) -> Result<(), LineError>
-        ensures { Changes result (read_line (reading_of self.old) line.now) (reading_of self.new) }
+        requires { FitsTogether (reading_of self.old) }
+        ensures read { let old = reading_of self.old in
+            Changes result (read_line old line.now) (reading_of self.new) }
+        ensures fits { OnOk result (FitsTogether (reading_of self.new)) }
     {
         if !is_utf8(line) {
             return Err(LineError::Bad);
@@ -224,8 +244,11 @@ impl Draft {
         self,
         alloc: Global,
     ) -> Result<Option<(Vec<Part>, BoundExpression)>, AllocError>
-        ensures { IfOk result (λ o. MatchOption o (self.predicate ≡ None)
-            (λ x. (self.predicate ≡ Some x.1) × (x.0.items ≡ parts_of (reading_of self)))) }
+        requires { FitsTogether (reading_of self) }
+        ensures query { let read = reading_of self in
+            IfOk result (λ o. MatchOption o (read.predicate ≡ None)
+            (λ x. (read.predicate ≡ Some x.1) × (x.0.items ≡ parts_of read))) }
+        ensures fits { IfOk result (λ o. IfSome o (λ x. IsQuery x.0.items x.1)) }
     {
         let mut draft = self;
         draft.end_part(alloc)?;

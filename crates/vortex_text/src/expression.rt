@@ -114,7 +114,8 @@ fn read_column<'a>(
     columns: &[(String, DType)],
     line: &'a [u8],
 ) -> Result<(BoundExpression, &'a [u8]), LineError>
-    ensures read { Gives (λ x. (x.0, words x.1.now)) result (spec.read_column (named_columns columns.now) (words line.now)) }
+    ensures read { Gives (λ x. (x.0, words x.1.now)) result
+        (spec.read_column (named_columns columns.now) (words line.now)) }
     ensures fewer { IfOk result (λ x. length (words x.1.now) < length (words line.now)) }
 {
     let (name, rest) = plain_word(line)?;
@@ -129,7 +130,8 @@ fn literal(
     dtype: DType,
     value: Option<ScalarValue>,
 ) -> Result<BoundExpression, LineError>
-    ensures { Gives (λ e. e) result (spec.typed (tree.literal (record { dtype = dtype; value = value }))) }
+    ensures { Gives (λ e. e) result
+        (spec.typed (tree.literal (record { dtype = dtype; value = value }))) }
 {
     let scalar = Scalar::try_new(dtype, value)?;
     Ok(bound::lit(alloc, scalar)?)
@@ -177,8 +179,10 @@ fn read_binary<'a>(
     operator: Operator,
     line: &'a [u8],
 ) -> Result<(BoundExpression, &'a [u8]), LineError>
-    ensures read { (most : ℕ) → length (words line.now) ≤ most → Gives (λ x. (x.0, words x.1.now)) result
-        (spec.read_two (spec.expression_within (named_columns columns.now) most) (tree.binary operator) (words line.now)) }
+    ensures read { (most : ℕ) → length (words line.now) ≤ most
+        → Gives (λ x. (x.0, words x.1.now)) result
+        (spec.read_two (spec.expression_within (named_columns columns.now) most)
+        (tree.binary operator) (words line.now)) }
     ensures fewer { IfOk result (λ x. length (words x.1.now) < length (words line.now)) }
 {
     let (left, rest) = read_expression(alloc, columns, line)?;
@@ -194,8 +198,10 @@ fn read_like<'a>(
     options: LikeOptions,
     line: &'a [u8],
 ) -> Result<(BoundExpression, &'a [u8]), LineError>
-    ensures read { (most : ℕ) → length (words line.now) ≤ most → Gives (λ x. (x.0, words x.1.now)) result
-        (spec.read_two (spec.expression_within (named_columns columns.now) most) (tree.like options) (words line.now)) }
+    ensures read { (most : ℕ) → length (words line.now) ≤ most
+        → Gives (λ x. (x.0, words x.1.now)) result
+        (spec.read_two (spec.expression_within (named_columns columns.now) most)
+        (tree.like options) (words line.now)) }
     ensures fewer { IfOk result (λ x. length (words x.1.now) < length (words line.now)) }
 {
     let (text, rest) = read_expression(alloc, columns, line)?;
@@ -210,8 +216,10 @@ fn read_between<'a>(
     columns: &[(String, DType)],
     line: &'a [u8],
 ) -> Result<(BoundExpression, &'a [u8]), LineError>
-    ensures read { (most : ℕ) → length (words line.now) ≤ most → Gives (λ x. (x.0, words x.1.now)) result
-        (spec.read_between (spec.expression_within (named_columns columns.now) most) (words line.now)) }
+    ensures read { (most : ℕ) → length (words line.now) ≤ most
+        → Gives (λ x. (x.0, words x.1.now)) result
+        (spec.read_between (spec.expression_within (named_columns columns.now) most)
+        (words line.now)) }
     ensures fewer { IfOk result (λ x. length (words x.1.now) < length (words line.now)) }
 {
     let (options, rest) = read_options(line)?;
@@ -228,8 +236,10 @@ fn read_not<'a>(
     columns: &[(String, DType)],
     line: &'a [u8],
 ) -> Result<(BoundExpression, &'a [u8]), LineError>
-    ensures read { (most : ℕ) → length (words line.now) ≤ most → Gives (λ x. (x.0, words x.1.now)) result
-        (spec.read_one (spec.expression_within (named_columns columns.now) most) tree.not (words line.now)) }
+    ensures read { (most : ℕ) → length (words line.now) ≤ most
+        → Gives (λ x. (x.0, words x.1.now)) result
+        (spec.read_one (spec.expression_within (named_columns columns.now) most)
+        tree.not (words line.now)) }
     ensures fewer { IfOk result (λ x. length (words x.1.now) < length (words line.now)) }
 {
     let (x, rest) = read_expression(alloc, columns, line)?;
@@ -243,8 +253,10 @@ fn read_is_null<'a>(
     columns: &[(String, DType)],
     line: &'a [u8],
 ) -> Result<(BoundExpression, &'a [u8]), LineError>
-    ensures read { (most : ℕ) → length (words line.now) ≤ most → Gives (λ x. (x.0, words x.1.now)) result
-        (spec.read_one (spec.expression_within (named_columns columns.now) most) tree.is_null (words line.now)) }
+    ensures read { (most : ℕ) → length (words line.now) ≤ most
+        → Gives (λ x. (x.0, words x.1.now)) result
+        (spec.read_one (spec.expression_within (named_columns columns.now) most)
+        tree.is_null (words line.now)) }
     ensures fewer { IfOk result (λ x. length (words x.1.now) < length (words line.now)) }
 {
     let (x, rest) = read_expression(alloc, columns, line)?;
@@ -258,8 +270,10 @@ fn read_is_not_null<'a>(
     columns: &[(String, DType)],
     line: &'a [u8],
 ) -> Result<(BoundExpression, &'a [u8]), LineError>
-    ensures read { (most : ℕ) → length (words line.now) ≤ most → Gives (λ x. (x.0, words x.1.now)) result
-        (spec.read_one (spec.expression_within (named_columns columns.now) most) tree.is_not_null (words line.now)) }
+    ensures read { (most : ℕ) → length (words line.now) ≤ most
+        → Gives (λ x. (x.0, words x.1.now)) result
+        (spec.read_one (spec.expression_within (named_columns columns.now) most)
+        tree.is_not_null (words line.now)) }
     ensures fewer { IfOk result (λ x. length (words x.1.now) < length (words line.now)) }
 {
     let (x, rest) = read_expression(alloc, columns, line)?;
@@ -274,7 +288,8 @@ pub fn read_expression<'a>(
     columns: &[(String, DType)],
     line: &'a [u8],
 ) -> Result<(BoundExpression, &'a [u8]), LineError>
-    ensures read { (most : ℕ) → length (words line.now) ≤ most → Gives (λ x. (x.0, words x.1.now)) result
+    ensures read { (most : ℕ) → length (words line.now) ≤ most
+        → Gives (λ x. (x.0, words x.1.now)) result
         (spec.expression_within (named_columns columns.now) most (words line.now)) }
     ensures fewer { IfOk result (λ x. length (words x.1.now) < length (words line.now)) }
 {

@@ -1,4 +1,4 @@
-//! Texts that name parts of columns, their statistics and a predicate, and what a scan of them prints.
+//! Texts that name parts of columns, their statistics and a predicate, and what their scan prints.
 #![tactic(auto)]
 
 mod draft;

@@ -1,7 +1,8 @@
 //! What a whole text names.
-ghost use Rattle.std.specs.Prelude.{◌≡◌, ◌↔◌, ℕ, List, Ok, Err};
+ghost use Rattle.std.specs.Prelude.{◌≡◌, ◌↔◌, ℕ, List, IfOk, Ok, Err};
 ghost use Rattle.vortex_base.specs.Trees.Tree.{Tree, Place};
 ghost use Rattle.vortex_prune.specs.Part.{PartData};
+ghost use Rattle.vortex_text.specs.Fitting.{IsQuery};
 ghost use Rattle.vortex_text.specs.Naming.{IsFirstBad, IsNamed, NamesQuery, named};
 
 use crate::draft::Draft;
@@ -23,7 +24,8 @@ pub enum InputError {
 
 /// The parts and the predicate that a text names.
 pub fn read_input(alloc: Global, text: &[u8]) -> Result<(Vec<Part>, BoundExpression), InputError>
-    ensures { IsNamed (λ x. (x.0.items, x.1)) result (named text.now) }
+    ensures named { IsNamed (λ x. (x.0.items, x.1)) result (named text.now) }
+    ensures fits { IfOk result (λ x. IsQuery x.0.items x.1) }
 {
     let mut draft = Draft::new(alloc);
     let mut rest = text;
@@ -51,4 +53,7 @@ pub fn what_texts_name()
     ensures query { (text : List ℕ) (parts : List PartData) (predicate : Tree Place)
         → (named text ≡ Ok (parts, predicate)) ↔ NamesQuery text parts predicate }
     ensures bad { (text : List ℕ) (n : ℕ) → (named text ≡ Err n) ↔ IsFirstBad text n }
+    // Named parts are parts of one scope, and the predicate is one over it.
+    ensures fits { (text : List ℕ) (parts : List PartData) (predicate : Tree Place)
+        → named text ≡ Ok (parts, predicate) → IsQuery parts predicate }
 {}

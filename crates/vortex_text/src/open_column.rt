@@ -1,5 +1,6 @@
 //! A column of a part that still takes rows.
-ghost use Rattle.std.specs.Prelude.{◌≡◌, [], IfOk, OnOk};
+ghost use Rattle.std.specs.Prelude.{◌≡◌, [], OnOk};
+ghost use Rattle.vortex_base.specs.Data.Columns.{IsColumn};
 ghost use Rattle.vortex_text.specs.Columns.{taken, with_value, with_values};
 ghost use Rattle.vortex_text.specs.Fails.{Changes, GivesAndChanges};
 ghost use Rattle.vortex_text.specs.Words.{words};
@@ -40,14 +41,12 @@ impl OpenColumn {
     }
 
     /// The column, which takes no more values.
-    pub fn close(self) -> Result<Column, AllocError>
-        ensures { IfOk result (λ column. column ≡ self) }
+    pub fn close(self) -> Column
+        requires { IsColumn self }
+        ensures { result ≡ self }
     {
         let OpenColumn { dtype, values } = self;
-        match Column::try_new(dtype, values, 0) {
-            Ok(column) => Ok(column),
-            Err(_) => Err(AllocError),
-        }
+        Column::new_unchecked(dtype, values, 0)
     }
 
     // Adds a value.
@@ -60,7 +59,8 @@ impl OpenColumn {
 
     // Adds the value of the first word of a line. The rest of the line comes back.
     fn take<'a>(&mut self, alloc: Global, line: &'a [u8]) -> Result<&'a [u8], LineError>
-        ensures { GivesAndChanges (λ rest. words rest.now) result (taken self.old (words line.now)) self.new }
+        ensures { GivesAndChanges (λ rest. words rest.now) result
+            (taken self.old (words line.now)) self.new }
     {
         let (word, rest) = first_word(alloc, line)?;
         let value = optional_value_of(alloc, self.dtype, word)?;

@@ -1,6 +1,7 @@
 //! A part that still takes rows and statistics.
-ghost use Rattle.std.specs.Prelude.{◌≡◌, ◌++◌, IfOk, slice_get};
-ghost use Rattle.vortex_base.specs.Data.Scopes.{Named};
+ghost use Rattle.std.specs.Prelude.{◌≡◌, All, IfOk, slice_get};
+ghost use Rattle.vortex_base.specs.Data.Columns.{IsColumn};
+ghost use Rattle.vortex_prune.specs.Part.{IsPart};
 ghost use Rattle.vortex_text.specs.Columns.{set_at};
 ghost use Rattle.vortex_text.specs.OpenParts.{open_data};
 
@@ -33,11 +34,12 @@ pub fn set_statistic(sets: &mut [StatsSet], place: usize, stat: Stat, value: Pre
 }
 
 fn close_columns(alloc: Global, columns: Vec<OpenColumn>) -> Result<Vec<Column>, AllocError>
+    requires { All IsColumn columns.items }
     ensures { IfOk result (λ closed. closed.items ≡ columns.items) }
 {
     let mut closed = Vec::with_capacity(alloc, columns.len())?;
     for column in columns {
-        closed.push(column.close()?)?;
+        closed.push(column.close())?;
     }
     Ok(closed)
 }
@@ -45,15 +47,16 @@ fn close_columns(alloc: Global, columns: Vec<OpenColumn>) -> Result<Vec<Column>,
 impl OpenPart {
     /// The part, which takes no more rows.
     pub fn close(self, alloc: Global, scope: Scope) -> Result<Part, AllocError>
+        requires { IsPart (open_data scope self) }
         ensures { IfOk result (λ part. part ≡ open_data scope self) }
     {
         let columns = close_columns(alloc, self.columns)?;
         let Ok(chunk) = Chunk::try_new(scope, columns) else {
-            return Err(AllocError);
+            unreachable!()
         };
         match Part::try_new(chunk, self.stats) {
             Ok(part) => Ok(part),
-            Err(_) => Err(AllocError),
+            Err(_) => unreachable!(),
         }
     }
 }

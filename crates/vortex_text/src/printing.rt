@@ -7,7 +7,8 @@ use std::alloc::{AllocError, Global};
 use vortex_prune::scan::outcome::Scan;
 
 fn print_parts(text: &mut String, parts: &[usize]) -> Result<(), AllocError>
-    ensures { OnOk result (string_bytes text.new ≡ string_bytes text.old ++ flat_map part_text parts.now) }
+    ensures { OnOk result
+        (string_bytes text.new ≡ string_bytes text.old ++ flat_map part_text parts.now) }
 {
     for part in parts {
         write!(text, " {part}")?;
@@ -16,7 +17,8 @@ fn print_parts(text: &mut String, parts: &[usize]) -> Result<(), AllocError>
 }
 
 fn print_rows(text: &mut String, rows: &[(usize, usize)]) -> Result<(), AllocError>
-    ensures { OnOk result (string_bytes text.new ≡ string_bytes text.old ++ flat_map row_text rows.now) }
+    ensures { OnOk result
+        (string_bytes text.new ≡ string_bytes text.old ++ flat_map row_text rows.now) }
 {
     for (part, row) in rows {
         write!(text, " {part}:{row}")?;
@@ -26,7 +28,8 @@ fn print_rows(text: &mut String, rows: &[(usize, usize)]) -> Result<(), AllocErr
 
 /// The lines of a scan.
 pub fn print_scan(alloc: Global, scan: &Scan) -> Result<String, AllocError>
-    ensures { IfOk result (λ text. string_bytes text ≡ scan_text scan.now.skipped.items scan.now.selected.items) }
+    ensures { IfOk result (λ text.
+        string_bytes text ≡ scan_text scan.now.skipped.items scan.now.selected.items) }
 {
     let mut text = String::from_str(alloc, "skipped")?;
     print_parts(&mut text, &scan.skipped)?;

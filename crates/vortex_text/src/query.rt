@@ -1,11 +1,10 @@
 //! The scan of the parts that a text names.
-ghost use Rattle.std.specs.Prelude.{◌≡◌, All, IfOk, IfSome, IsTrue, is_some};
-ghost use Rattle.std.specs.Bool.{OnTrue};
+ghost use Rattle.std.specs.Prelude.{◌≡◌, IfOk, IfSome, is_some};
 ghost use Rattle.std.specs.List.{AllByRecursion};
-ghost use Rattle.vortex_base.specs.Meanings.Fitting.{fits_scope};
 ghost use Rattle.vortex_prune.specs.Part.{IsTruePart};
 ghost use Rattle.vortex_prune.specs.Rewriting.Predicates.{is_predicate};
 ghost use Rattle.vortex_prune.specs.Scanning.Selection.{full};
+ghost use Rattle.vortex_text.specs.Fitting.{IsQuery};
 ghost use Rattle.vortex_text.specs.Program.{selected, skipped};
 
 use std::alloc::{AllocError, Global};
@@ -28,24 +27,13 @@ fn binders_of<'a>(alloc: Global, parts: &'a [Part]) -> Result<Vec<StatsBinder<'a
     Ok(binders)
 }
 
-// Whether the predicate fits the scope of each part.
-fn all_fit(parts: &[Part], predicate: &BoundExpression) -> bool
-    ensures { OnTrue result (All (λ part. IsTrue (fits_scope predicate.now part.chunk.scope)) parts.now) }
-{
-    for part in parts {
-        if !predicate.fits_scope(part.chunk().scope()) {
-            return false;
-        }
-    }
-    true
-}
-
 /// The scan of the parts by their own statistics, or none where the predicate isn't of type Bool.
 pub fn scan_query(
     alloc: Global,
     parts: &[Part],
     predicate: &BoundExpression,
 ) -> Result<Option<Scan>, AllocError>
+    requires { IsQuery parts.now predicate.now }
     ensures kind { IfOk result (λ o. is_some o ≡ is_predicate predicate.now) }
     ensures skipped { IfOk result (λ o. IfSome o
         (λ s. s.skipped.items ≡ skipped predicate.now parts.now)) }
@@ -55,14 +43,14 @@ pub fn scan_query(
     ensures lossless { IfOk result (λ o. IfSome o (λ s. AllByRecursion IsTruePart parts.now
         → s.selected.items ≡ full predicate.now parts.now)) }
 {
-    if !predicate.is_plain() || !all_fit(parts, predicate) {
-        return Err(AllocError);
-    }
     let binders = binders_of(alloc, parts)?;
     let rules = Rules::builtin(alloc);
     match scan(alloc, parts, &binders, predicate, &rules) {
         Ok(found) => Ok(Some(found)),
-        Err(StatsError::NotPredicate) => Ok(None),
-        Err(_) => Err(AllocError),
+        Err(fault) => match fault {
+            StatsError::NotPredicate => Ok(None),
+            StatsError::Memory(refused) => Err(refused),
+            _ => unreachable!(),
+        },
     }
 }

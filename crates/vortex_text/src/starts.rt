@@ -1,6 +1,6 @@
 //! The scope and the empty parts of the columns of a text.
 ghost use Rattle.std.specs.Prelude.{◌≡◌, IfOk};
-ghost use Rattle.vortex_base.specs.Data.Scopes.{named_columns};
+ghost use Rattle.vortex_base.specs.Data.Scopes.{IsScope, named_columns};
 ghost use Rattle.vortex_text.specs.OpenParts.{open_data};
 ghost use Rattle.vortex_text.specs.Rows.{empty_part};
 
@@ -25,18 +25,17 @@ fn named(alloc: Global, columns: &[(String, DType)]) -> Result<Vec<(String, DTyp
 
 /// The scope of the columns.
 pub fn scope_of(alloc: Global, columns: &[(String, DType)]) -> Result<Scope, AllocError>
+    requires { IsScope (named_columns columns.now) }
     ensures { IfOk result (λ scope. scope ≡ named_columns columns.now) }
 {
     let named = named(alloc, columns)?;
-    match Scope::try_new(named) {
-        Ok(scope) => Ok(scope),
-        Err(_) => Err(AllocError),
-    }
+    Ok(Scope::new_unchecked(named))
 }
 
 /// A part of these columns that has no rows yet.
 pub fn empty_part(alloc: Global, columns: &[(String, DType)]) -> Result<OpenPart, AllocError>
-    ensures { IfOk result (λ part. open_data (named_columns columns.now) part ≡ empty_part (named_columns columns.now)) }
+    ensures { IfOk result (λ part.
+        open_data (named_columns columns.now) part ≡ empty_part (named_columns columns.now)) }
 {
     let mut open = Vec::with_capacity(alloc, columns.len())?;
     let mut stats = Vec::with_capacity(alloc, columns.len())?;

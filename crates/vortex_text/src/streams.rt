@@ -35,10 +35,12 @@ impl From<AllocError> for ReadError {
 /// Reads the whole input. No read is tried again.
 pub fn read_all<R: Read>(alloc: Global, reader: &mut R) -> Result<Vec<u8>, ReadError>
     // The bytes are all that the reader had, and they are within the limit.
-    ensures whole { IfOk result (λ input. IfSome (R.remaining reader.old) (λ bytes. input.items ≡ bytes)) }
+    ensures whole { IfOk result (λ input.
+        IfSome (R.remaining reader.old) (λ bytes. input.items ≡ bytes)) }
     ensures short { IfOk result (λ input. vec_len input ≤ INPUT_LIMIT) }
     ensures end { OnOk result (IsAtEnd (R.remaining reader.new)) }
-    ensures too_long { IsErrOf result ReadError.TooLong → IfSome (R.remaining reader.old) (λ bytes. INPUT_LIMIT < length bytes) }
+    ensures too_long { IsErrOf result ReadError.TooLong
+        → IfSome (R.remaining reader.old) (λ bytes. INPUT_LIMIT < length bytes) }
 {
     let mut input = Vec::new(alloc);
     let mut chunk = [0u8; CHUNK];
@@ -56,8 +58,10 @@ pub fn read_all<R: Read>(alloc: Global, reader: &mut R) -> Result<Vec<u8>, ReadE
 
 /// Writes all the bytes, or stops at the first write that fails or takes nothing. No write is tried again.
 pub fn write_out<W: Write>(writer: &mut W, bytes: &[u8]) -> bool
-    ensures whole { IsTrue result → Appends (W.contents writer.old) (W.contents writer.new) bytes.now }
-    ensures cut { OnFalse result (AppendsProperFront (W.contents writer.old) (W.contents writer.new) bytes.now) }
+    ensures whole { IsTrue result
+        → Appends (W.contents writer.old) (W.contents writer.new) bytes.now }
+    ensures cut { OnFalse result
+        (AppendsProperFront (W.contents writer.old) (W.contents writer.new) bytes.now) }
 {
     let mut rest = bytes;
     while !rest.is_empty() {

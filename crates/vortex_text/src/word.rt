@@ -19,7 +19,8 @@ pub enum Word<'a> {
 
 // The next byte of a text between quotes, or none at the quote that closes it, and what follows.
 fn step_of(bytes: &[u8]) -> Option<(Option<u8>, &[u8])>
-    ensures step { option_map {U = Option ℕ × List ℕ} (λ x. (x.0, x.1.now)) result ≡ step_of bytes.now }
+    ensures step { option_map {U = Option ℕ × List ℕ} (λ x. (x.0, x.1.now)) result
+        ≡ step_of bytes.now }
     ensures shorter { IfSome result (λ x. length x.1.now < length bytes.now) }
 {
     match bytes {

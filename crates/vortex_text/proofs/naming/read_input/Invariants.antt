@@ -1,6 +1,7 @@
 use Rattle.std.proofs.Common.{◌≡◌, ◌+◌, ◌≤◌, length}
 use Rattle.std.specs.Str.Lines.{lines}
 use Rattle.vortex_text.specs.Drafts.{reading_of}
+use Rattle.vortex_text.specs.Fitting.{FitsTogether}
 use Rattle.vortex_text.specs.Naming.{named, named_from}
 use Rattle.vortex_text.proofs.naming.read_input.Given as goal
 
@@ -8,6 +9,7 @@ use Rattle.vortex_text.proofs.naming.read_input.Given as goal
 abbrev pub invariant-loop-rest : goal.invariant-loop-rest
 invariant-loop-rest l = record {
   named_so_far : named_from l.number (reading_of l.draft) (lines l.rest) ≡ named l.text;
+  fits : FitsTogether (reading_of l.draft);
   few : l.number + length l.rest ≤ length l.text + 1;
 }
 

@@ -1,0 +1,8 @@
+use Rattle.std.proofs.Common.{sym, ◌∙◌}
+use Rattle.vortex_base.specs.Data.Scopes.{named_columns}
+use Rattle.vortex_text.proofs.ScopeFits.{new_is_text}
+use Rattle.vortex_text.proofs.draft.Draft.add_column.Goals as goal
+
+pub unreachable-requires : goal.unreachable-requires
+unreachable-requires c =
+    c.in_default.ensures.cases.0 (new_is_text (named_columns c.args.self.now.columns.items) c.args.name.now (sym c.if-not-is_new.ensures))
