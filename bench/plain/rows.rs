@@ -63,6 +63,9 @@ fn truths(e: &Node, part: &Part) -> Vec<Truth> {
         Op::Between(lower, upper, operands) => {
             let by = |strict: bool| if strict { Comparison::Lt } else { Comparison::Le };
             let [x, l, u] = &**operands;
+            if !matches!(x.op, Op::Column(_)) {
+                return (0..rows).map(|row| truth_at(e, part, row)).collect();
+            }
             joined(compared(by(*lower), l, x, part), &compared(by(*upper), x, u, part), both)
         }
         Op::Like { negated, ignores_case, pattern, sides } => {
@@ -117,9 +120,9 @@ fn truth_at(e: &Node, part: &Part, row: usize) -> Truth {
         Op::IsNotNull(x) => of(!is_null(x, part, row)),
         Op::Compare(by, sides) => compared_at(*by, &sides[0], &sides[1], part, row),
         Op::Between(lower, upper, operands) => {
-            let by = |strict: bool| if strict { Comparison::Lt } else { Comparison::Le };
-            let [x, l, u] = &**operands;
-            both(compared_at(by(*lower), l, x, part, row), compared_at(by(*upper), x, u, part, row))
+            let by = |strict: bool| test(if strict { Comparison::Lt } else { Comparison::Le });
+            let [x, l, u] = operands.each_ref().map(|e| scalar(e, part, row));
+            both(scalars_compared(by(*lower), &l, &x), scalars_compared(by(*upper), &x, &u))
         }
         Op::Like { negated, ignores_case, pattern, sides } => {
             let truth = liked(*ignores_case, pattern.as_ref(), sides, part, row);
@@ -188,10 +191,14 @@ fn against(by: Comparison, place: usize, value: &Value, part: &Part) -> Vec<Trut
 }
 
 fn compared_at(by: Comparison, left: &Node, right: &Node, part: &Part, row: usize) -> Truth {
-    if is_null(left, part, row) || is_null(right, part, row) {
-        return Null;
+    scalars_compared(test(by), &scalar(left, part, row), &scalar(right, part, row))
+}
+
+fn scalars_compared(test: fn(Ordering) -> bool, left: &Option<Scalar>, right: &Option<Scalar>) -> Truth {
+    match (left, right) {
+        (Some(left), Some(right)) => of(test(left.cmp(right))),
+        _ => Null,
     }
-    of(test(by)(scalar(left, part, row).cmp(&scalar(right, part, row))))
 }
 
 /// A value on a row, borrowed; its kind is that of the operand it is compared with.
@@ -202,11 +209,14 @@ enum Scalar<'a> {
     Bytes(&'a [u8]),
 }
 
-fn scalar<'a>(e: &'a Node, part: &'a Part, row: usize) -> Scalar<'a> {
-    match &e.op {
-        Op::Literal(Some(Value::Bool(b))) => Scalar::Bool(*b),
-        Op::Literal(Some(Value::Number(n))) => Scalar::Number(*n),
-        Op::Literal(Some(Value::Bytes(bytes))) => Scalar::Bytes(bytes),
+fn scalar<'a>(e: &'a Node, part: &'a Part, row: usize) -> Option<Scalar<'a>> {
+    Some(match &e.op {
+        Op::Literal(value) => match value.as_ref()? {
+            Value::Bool(b) => Scalar::Bool(*b),
+            Value::Number(n) => Scalar::Number(*n),
+            Value::Bytes(bytes) => Scalar::Bytes(bytes),
+        },
+        Op::Column(place) if part.columns[*place].nulls[row] => return None,
         Op::Column(place) => match &part.columns[*place].cells {
             Cells::Bool(values) => Scalar::Bool(values[row]),
             Cells::Signed(values) => Scalar::Number(values[row].into()),
@@ -214,6 +224,9 @@ fn scalar<'a>(e: &'a Node, part: &'a Part, row: usize) -> Scalar<'a> {
             Cells::Bytes { .. } => Scalar::Bytes(part.columns[*place].bytes(row)),
             Cells::Null => unreachable!("a null"),
         },
-        _ => Scalar::Bool(truth_at(e, part, row) == Yes),
-    }
+        _ => match truth_at(e, part, row) {
+            Null => return None,
+            truth => Scalar::Bool(truth == Yes),
+        },
+    })
 }

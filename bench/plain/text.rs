@@ -284,7 +284,7 @@ impl Draft {
     fn join(&mut self, mut words: Words) -> Option<()> {
         let place = whole_number(words.plain()?, Kind::Unsigned(64))?;
         words.end()?;
-        let place = usize::try_from(place).ok().filter(|place| *place + 1 < self.parts.len())?;
+        let place = usize::try_from(place).ok().filter(|place| *place < self.parts.len().saturating_sub(1))?;
         let other = self.parts.remove(place + 1);
         self.parts[place].join(other);
         self.is_closed = true;

@@ -6,7 +6,9 @@ use std::process::Abort;
 use std::test::Fail;
 
 const FIRST_RUN: &str =
-    "column a i64?\npart\nstat a min exact 1\nstat a max exact 10\nrow 1\nrow 5\nrow 10\npart\nstat a min exact 8\nstat a max inexact 25\nrow 8\nrow null\nrow 20\nwhere gt col a lit i64 10\n";
+    "column a i64?\npart\nstat a min exact 1\nstat a max exact 10\nrow 1\nrow 5\nrow 10\n\
+        part\nstat a min exact 8\nstat a max inexact 25\nrow 8\nrow null\nrow 20\n\
+        where gt col a lit i64 10\n";
 
 const FIRST_ANSWER: &str = "skipped 0\nrows 1:2\n";
 
@@ -69,6 +71,21 @@ impl Write for OneByte {
     }
 }
 
+// A run of the bytes has this status and prints this.
+fn expect_reply(
+    rt: &impl Abort,
+    alloc: Global,
+    input: &[u8],
+    status: u8,
+    want: &str,
+) -> Result<(), Fail> {
+    let mut reader = input;
+    let mut written = Vec::new(alloc);
+    assert_eq!(rt; run(alloc, &mut reader, &mut written), status, "{want}");
+    assert_eq!(rt; written.as_slice(), want.as_bytes(), "{want}");
+    Ok(())
+}
+
 // A run of the text has this status and prints this.
 fn expect_answer(
     rt: &impl Abort,
@@ -77,10 +94,54 @@ fn expect_answer(
     status: u8,
     want: &str,
 ) -> Result<(), Fail> {
-    let mut reader = text.as_bytes();
-    let mut written = Vec::new(alloc);
-    assert_eq!(rt; run(alloc, &mut reader, &mut written), status, "{want}");
-    assert_eq!(rt; written.as_slice(), want.as_bytes());
+    expect_reply(rt, alloc, text.as_bytes(), status, want)
+}
+
+// The status with which a text is printed.
+fn status_of(printed: &str) -> u8 {
+    if printed.starts_with("skipped") {
+        return 0;
+    }
+    if printed.starts_with("line ") {
+        return 2;
+    }
+    1
+}
+
+// The text in which ` / ` stands for a line feed, with one at its end.
+fn push_lines(text: &mut String, lines: &str) -> Result<(), Fail> {
+    for line in lines.split(" / ") {
+        text.push_str(line)?;
+        text.push_str("\n")?;
+    }
+    Ok(())
+}
+
+// The cases are the ends of inputs that begin with this front. Each goes up to `=>`, behind which
+// stands what a run of it prints; ` / ` stands for a line feed.
+fn expect_each(rt: &impl Abort, alloc: Global, front: &str, cases: &str) -> Result<(), Fail> {
+    let mut text = String::from_str(alloc, front)?;
+    for line in cases.lines() {
+        let Some((end, printed)) = line.trim().split_once(" => ") else {
+            if !line.trim().is_empty() {
+                push_lines(&mut text, line.trim())?;
+            }
+            continue;
+        };
+        push_lines(&mut text, end)?;
+        let mut want = String::new(alloc);
+        push_lines(&mut want, printed)?;
+        let mut reader = text.as_bytes();
+        let mut written = Vec::new(alloc);
+        assert_eq!(rt;
+            run(alloc, &mut reader, &mut written),
+            status_of(printed),
+            "{text}"
+        );
+        assert_eq!(rt; written.as_slice(), want.as_bytes(), "{text}");
+        text = String::from_str(alloc, front)?;
+    }
+    assert_eq!(rt; text.as_str(), front, "a case without its answer");
     Ok(())
 }
 
@@ -91,8 +152,9 @@ fn the_first_run(rt: HostRuntime) -> Result<(), Fail> {
 
 #[test]
 fn joined_parts_of_two_columns(rt: HostRuntime) -> Result<(), Fail> {
-    let text =
-        "column s utf8\ncolumn n u8?\npart\nrow \"an \\\"a\\\"\" 3\npart\nrow \"b\" null\njoin 0\npart\nstat s min exact \"c\"\nrow \"c\" 7\nwhere or eq col s lit utf8 \"b\" lt col n lit u8 4\n";
+    let text = "column s utf8\ncolumn n u8?\npart\nrow \"an \\\"a\\\"\" 3\npart\nrow \"b\" null\n\
+            join 0\npart\nstat s min exact \"c\"\nrow \"c\" 7\n\
+            where or eq col s lit utf8 \"b\" lt col n lit u8 4\n";
     expect_answer(&rt, rt.alloc(), text, 0, "skipped\nrows 0:0 0:1\n")
 }
 
@@ -111,20 +173,6 @@ fn a_bad_line(rt: HostRuntime) -> Result<(), Fail> {
 #[test]
 fn no_predicate(rt: HostRuntime) -> Result<(), Fail> {
     expect_answer(&rt, rt.alloc(), "column a i64\n", 2, "line 2: bad\n")
-}
-
-// A predicate of as many words as one may have, and of one more.
-#[test]
-fn deep_predicates(rt: HostRuntime) -> Result<(), Fail> {
-    let alloc = rt.alloc();
-    let mut text = String::from_str(alloc, "column a bool?\npart\nrow true\nwhere ")?;
-    for _ in 0..4094 {
-        text.push_str("not ")?;
-    }
-    let longer = format!(in alloc; "{text}not col a\n")?;
-    text.push_str("col a\n")?;
-    expect_answer(&rt, alloc, text.as_str(), 0, "skipped\nrows 0:0\n")?;
-    expect_answer(&rt, alloc, longer.as_str(), 2, "line 4: bad\n")
 }
 
 #[test]
@@ -161,10 +209,52 @@ fn a_slow_writer(rt: HostRuntime) -> Result<(), Fail> {
     Ok(())
 }
 
+// A reader without an end, which fails once its bytes are past the limit.
+#[derive(Drop)]
+struct Endless {
+    reads: usize,
+}
+
+impl Read for Endless {
+    fn read(&mut self, buf: &mut [u8]) -> io::Result<usize> {
+        if self.reads > 257 {
+            return Err(io::Error::from(ErrorKind::Interrupted));
+        }
+        self.reads += 1;
+        Ok(buf.len())
+    }
+}
+
+// No read comes after the one that goes past the limit.
 #[test]
-fn a_failing_writer(rt: HostRuntime) -> Result<(), Fail> {
-    let mut writer = OneByte::new(7);
-    assert_eq!(rt; run(rt.alloc(), &mut FIRST_RUN.as_bytes(), &mut writer), 1);
-    assert_eq!(rt; writer.written(), b"skipped".as_slice());
+fn an_endless_reader(rt: HostRuntime) -> Result<(), Fail> {
+    let mut written = Vec::new(rt.alloc());
+    assert_eq!(rt; run(rt.alloc(), &mut Endless { reads: 0 }, &mut written), 1);
+    assert_eq!(rt; written.as_slice(), b"input\n".as_slice());
     Ok(())
 }
+
+// A run into a writer that fails once so many bytes are taken, which are these.
+fn expect_cut(rt: &impl Abort, alloc: Global, room: usize, taken: &[u8]) -> Result<(), Fail> {
+    let mut writer = OneByte::new(room);
+    assert_eq!(rt; run(alloc, &mut FIRST_RUN.as_bytes(), &mut writer), 1);
+    assert_eq!(rt; writer.written(), taken);
+    Ok(())
+}
+
+#[test]
+fn a_failing_writer(rt: HostRuntime) -> Result<(), Fail> {
+    expect_cut(&rt, rt.alloc(), 0, b"".as_slice())?;
+    expect_cut(&rt, rt.alloc(), 1, b"s".as_slice())?;
+    expect_cut(&rt, rt.alloc(), 7, b"skipped".as_slice())
+}
+
+mod bad_lines;
+mod deep;
+mod joined_parts;
+mod nulls;
+mod ranges;
+mod skipping;
+mod text_lines;
+mod typed_values;
+mod worked;

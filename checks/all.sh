@@ -1,0 +1,41 @@
+#!/usr/bin/env bash
+# Runs every check that the gate doesn't run, and prints one line for each.
+# usage: checks/all.sh        proves and builds the program first if it isn't built yet
+set -u
+cd "$(dirname "$0")/.." || exit 1
+log="$(mktemp)"
+trap 'rm -f "$log"' EXIT
+passed=0
+failed=0
+
+# Runs a command, and tells the last line that it prints. Of one that fails more is told.
+check() {
+    local name="$1" start="$SECONDS"
+    shift
+    if "$@" > "$log" 2>&1; then
+        passed=$((passed + 1))
+        echo "passed: $name, $((SECONDS - start)) s: $(tail -n 1 "$log")"
+    else
+        failed=$((failed + 1))
+        echo "failed: $name, $((SECONDS - start)) s"
+        tail -n 20 "$log" | cut -c -300 | sed 's/^/    /'
+    fi
+}
+
+# Builds the program anew if anything has changed, so that the checks below run what stands here.
+first_example() {
+    ./scan < examples/first-run.txt > "$log.first" && cmp "$log.first" examples/first-run.out
+    local status=$?
+    rm -f "$log.first"
+    return "$status"
+}
+
+check "layout" checks/layout.sh
+check "program" first_example
+check "examples" examples/compare.sh
+check "random inputs" checks/random-inputs.py
+check "hostile inputs" checks/hostile-input.py
+check "refused growths of the first run" checks/refused-growths.sh
+check "refused growths of tests" checks/refused-growths-of-tests.sh vortex_stats 1 24
+echo "$passed passed, $failed failed"
+[ "$failed" -eq 0 ]

@@ -1,0 +1,77 @@
+# The built program and the plain one of bench/plain, run on the same bytes: what checks that compare them share.
+import os
+import socket
+import subprocess
+import sys
+from concurrent.futures import ThreadPoolExecutor
+
+TOP = os.path.dirname(os.path.dirname(os.path.abspath(__file__)))
+PROGRAM = os.environ.get("PROGRAM", os.path.join(TOP, "crates/vortex_scan/out/vortex_scan"))
+PLAIN = os.path.join(TOP, "bench/data/plain")
+# How many runs go on side by side.
+WORKERS = 2
+
+
+def build():
+    """Builds both programs; the proved one only where it isn't there yet."""
+    if not os.access(PROGRAM, os.X_OK):
+        with open(os.path.join(TOP, "examples/first-run.txt"), "rb") as first:
+            subprocess.run([os.path.join(TOP, "scan")], stdin=first, stdout=subprocess.DEVNULL, check=True)
+    os.makedirs(os.path.dirname(PLAIN), exist_ok=True)
+    main = os.path.join(TOP, "bench/plain/main.rs")
+    subprocess.run(["rustc", "--edition", "2021", "-O", main, "-o", PLAIN], check=True)
+
+
+def answer(program, data, seconds):
+    """The status and what is printed, or that no answer came in time."""
+    try:
+        run = subprocess.run([program], input=data, stdout=subprocess.PIPE, stderr=subprocess.DEVNULL, timeout=seconds)
+    except subprocess.TimeoutExpired:
+        return f"no answer in {seconds} s"
+    return run.returncode, run.stdout
+
+
+def answer_byte_by_byte(program, data, seconds):
+    """The answer where each read gives one byte: standard input is a socket of packets of one byte each."""
+    near, far = socket.socketpair(socket.AF_UNIX, socket.SOCK_SEQPACKET)
+    with subprocess.Popen([program], stdin=far, stdout=subprocess.PIPE, stderr=subprocess.DEVNULL) as run:
+        far.close()
+        try:
+            for byte in data:
+                near.send(bytes([byte]))
+        except BrokenPipeError:
+            pass
+        near.close()
+        try:
+            printed, _ = run.communicate(timeout=seconds)
+        except subprocess.TimeoutExpired:
+            run.kill()
+            return f"no answer in {seconds} s"
+        return run.returncode, printed
+
+
+def shown(said):
+    text = repr(said)
+    return text if len(text) <= 200 else text[:200] + " .."
+
+
+def differs(name, data, seconds, answer_of=answer):
+    """What the two programs answer to an input, if it isn't the same or isn't an answer."""
+    ours, theirs = answer_of(PROGRAM, data, seconds), answer(PLAIN, data, seconds)
+    if ours == theirs and ours[0] in (0, 1, 2):
+        return None
+    told = f"{name}: {shown(ours)}, plain Rust {shown(theirs)}"
+    return f"{told}, input {data!r}" if len(data) <= 2000 else told
+
+
+def faults_of(inputs, seconds, answer_of=answer):
+    """Compares both programs on named inputs: how they differ, and how many inputs there were."""
+    inputs = list(inputs)
+    with ThreadPoolExecutor(WORKERS) as pool:
+        told = list(pool.map(lambda it: differs(*it, seconds, answer_of), inputs))
+    return [fault for fault in told if fault], len(inputs)
+
+
+def end(passed, failed):
+    print(f"{passed} passed, {failed} failed")
+    sys.exit(failed > 0)

@@ -1,0 +1,169 @@
+#!/usr/bin/env python3
+# Compares the built program with the plain one on hostile inputs: cut and spoilt ones, very long ones, very deep ones.
+# Each check prints one line. Each answer has to come within the seconds that its check allows.
+# usage: checks/hostile-input.py
+import os
+import resource
+import subprocess
+import time
+
+from both import PROGRAM, TOP, answer_byte_by_byte, build, end, faults_of
+
+LIMIT = 16_777_216
+STACK = 8 << 20
+SPOILERS = [b'"', b"\\", b"\0", b"\n", b"\r", b" ", b"\xff", b"7"]
+
+
+def every_line():
+    """An input of 40 lines with every line and operator of the language."""
+    with open(os.path.join(TOP, "examples/every-line.txt"), "rb") as file:
+        return file.read()
+
+
+def prefixes():
+    whole = every_line()
+    return [(f"the first {size} bytes", whole[:size]) for size in range(len(whole) + 1)]
+
+
+def replaced_bytes():
+    whole = every_line()
+    return [(f"byte {at} is {byte!r}", whole[:at] + byte + whole[at + 1:]) for at in range(len(whole)) for byte in SPOILERS]
+
+
+def long_numbers():
+    """Numbers of 10,000 digits: many zeros in front, or too large."""
+    front = b"column a i64\ncolumn d u8\npart\n"
+    fine, large = b"0" * 9_999 + b"7", b"9" * 10_000
+    where = b"where eq col a lit i64 7\n"
+    for name, number in (("with zeros in front", fine), ("too large", large)):
+        yield f"a row {name}", front + b"row " + number + b" 0\n" + where
+        yield f"a row below zero {name}", front + b"row -" + number + b" 0\n" + where
+        yield f"a row of a small type {name}", front + b"row 7 " + number + b"\n" + where
+        yield f"a statistic {name}", front + b"stat a max exact " + number + b"\n" + where
+        yield f"a count {name}", front + b"stat a null_count inexact " + number + b"\n" + where
+        yield f"a literal {name}", front + b"row 7 7\nwhere eq col a lit i64 " + number + b"\n"
+        yield f"a join {name}", front + b"part\njoin " + number + b"\n" + where
+
+
+def long_lines():
+    """A line of 16 million bytes without a word's end, and what else a line can be long in."""
+    size = 16_000_000
+    yield "one plain word", b"a" * size
+    yield "one quoted word without its end", b"column s utf8\npart\nrow \"" + b"a" * size
+    yield "one quoted word", b"column s utf8\npart\nrow \"" + b"a" * size + b"\"\nwhere like col s lit utf8 \"a%\"\n"
+    yield "one quoted word of escapes", b"column s utf8\npart\nrow \"" + b"\\\\" * (size // 2) + b"\"\nwhere like col s lit utf8 \"_%\"\n"
+    yield "one quoted word in the predicate", b"column s utf8\npart\nrow \"b\"\nwhere lt col s lit utf8 \"" + b"a" * size + b"\"\n"
+    yield "one number", b"column a u8\npart\nrow " + b"0" * size + b"\nwhere eq col a lit u8 0\n"
+    yield "one word of digits of bytes", b"column x binary\npart\nrow x" + b"0" * size + b"\nwhere gt col x lit binary x\n"
+    yield "one name", b"column " + b"a" * size + b" i64\n"
+    yield "spaces alone", b" " * size + b"\ncolumn t bool\nwhere col t\n"
+    yield "spaces between words", b"column t bool\npart\nrow" + b" " * size + b"true\nwhere col t\n"
+    yield "words of a predicate", b"column t bool\nwhere" + b" not" * (size // 4) + b" col t\n"
+    yield "words of a row", b"column t bool\npart\nrow" + b" true" * (size // 5) + b"\nwhere col t\n"
+    yield "empty lines", b"\n" * size + b"column t bool\nwhere col t\n"
+
+
+def deep_predicates():
+    """Predicates of 4,096 words in each shape, and of one level more."""
+    front = b"column t bool?\npart\nstat t max exact true\nrow true\nrow null\nrow false\npart\nstat t max exact false\nrow false\nwhere "
+    shapes = [("not", b"not ", b"col t", b"", 4094), ("null tests", b"isnull ", b"col t", b"", 4094),
+              ("not around a comparison", b"not ", b"eq col t lit bool true", b"", 4090),
+              ("AND at the left", b"and ", b"col t", b" col t", 1364), ("AND at the right", b"and col t ", b"col t", b"", 1364),
+              ("OR at the left", b"or ", b"col t", b" lit bool false", 1023), ("OR at the right", b"or lit bool false ", b"col t", b"", 1023),
+              ("comparisons at the left", b"eq ", b"col t", b" lit bool true", 1023), ("comparisons at the right", b"eq col t ", b"col t", b"", 1364),
+              ("ANDs of comparisons at the left", b"and ", b"eq col t lit bool true", b" eq col t lit bool true", 584),
+              ("BETWEEN in its operand", b"between <= <= ", b"col t", b" col t lit bool true", 511),
+              ("BETWEEN in its lower end", b"between <= < lit bool false ", b"col t", b" lit bool true", 454),
+              ("BETWEEN in its upper end", b"between < <= col t lit bool false ", b"col t", b"", 511)]
+    for name, before, middle, behind, times in shapes:
+        yield name, front + before * times + middle + behind * times + b"\n"
+        yield name + ", a level more", front + before * (times + 1) + middle + behind * (times + 1) + b"\n"
+
+
+def escapes():
+    """A backslash before every byte in a quoted word, and texts of the two escapes in many orders."""
+    front = b"column s utf8\npart\nrow "
+    where = b"\nwhere like col s lit utf8 \"%\\\\_%\"\n"
+    for byte in range(256):
+        yield f"a backslash before {byte}", front + b'"\\' + bytes([byte]) + b'"' + where
+    for number in range(256):
+        text = b"".join([b'\\"', b"\\\\", b"a", b" "][number >> 2 * place & 3] for place in range(4))
+        yield f"escapes {number}", front + b'"' + text + b'"' + where
+
+
+def many_columns():
+    count = 65_535
+    names = b"".join(b"column c%d u8\n" % place for place in range(count))
+    row = b"row" + b" 7" * count + b"\n"
+    yield "65,535 columns", names + b"part\nstat c65534 max exact 7\n" + row + b"part\n" + row + b"where eq col c65534 lit u8 7\n"
+    yield "65,535 columns and a name used before", names + b"column c0 u8\n"
+
+
+def many_parts():
+    count = 1_000_000
+    yield "a million parts", b"column a i64\n" + b"part\n" * count + b"where eq col a lit i64 7\n"
+    yield "a million rows", b"column a i64\npart\n" + b"row 7\n" * count + b"where eq col a lit i64 7\n"
+    yield "a million statistics", b"column a i64\npart\n" + b"stat a max exact 7\n" * (count * 4 // 5) + b"where gt col a lit i64 7\n"
+    yield "parts joined one after the other", b"column a i64\npart\nrow 7\n" + b"part\njoin 0\n" * count + b"where eq col a lit i64 7\n"
+
+
+def limits():
+    front = b"column a i64\npart\nrow 7\nwhere eq col a lit i64 7\n"
+    yield "16,777,216 bytes", front + b"\n" * (LIMIT - len(front))
+    yield "16,777,217 bytes", front + b"\n" * (LIMIT + 1 - len(front))
+    yield "17,000,000 bytes, bad from the first", b"x\n" * 8_500_000
+
+
+def streams():
+    """What the program does where its input or its output fails: how that differs from what it has to do."""
+    whole = every_line()
+    full, closed = open("/dev/full", "wb"), "exec \"$0\" >&-"
+    runs = [("an input that is a folder", [PROGRAM], {"stdin": os.open("/", os.O_RDONLY), "stdout": subprocess.PIPE}, (1, b"read\n")),
+            ("an input that is closed", ["sh", "-c", "exec \"$0\" <&-", PROGRAM], {"stdout": subprocess.PIPE}, (1, b"read\n")),
+            ("no input", [PROGRAM], {"stdin": subprocess.DEVNULL, "stdout": subprocess.PIPE}, (2, b"line 1: bad\n")),
+            ("an output that is full", [PROGRAM], {"input": whole, "stdout": full}, (1, None)),
+            ("an output that is closed", ["sh", "-c", closed, PROGRAM], {"input": whole}, (1, None))]
+    faults = []
+    for name, command, given, wanted in runs:
+        run = subprocess.run(command, stderr=subprocess.DEVNULL, timeout=20, **given)
+        if (run.returncode, run.stdout) != wanted:
+            faults.append(f"{name}: {run.returncode} {run.stdout!r}")
+    return faults, len(runs)
+
+
+def compared(inputs, seconds):
+    return lambda: faults_of(inputs(), seconds)
+
+
+# Each check by its name; it gives what is wrong, and how many inputs there were.
+CHECKS = [("every prefix of an input of 40 lines", compared(prefixes, 20)),
+          ("every byte of it replaced by eight others", compared(replaced_bytes, 20)),
+          ("prefixes of it read one byte a read", lambda: faults_of(prefixes()[::3], 20, answer_byte_by_byte)),
+          ("numbers of 10,000 digits", compared(long_numbers, 20)),
+          ("lines of 16 million bytes", compared(long_lines, 60)),
+          ("deep predicates on 8 MiB of stack", compared(deep_predicates, 20)),
+          ("escapes", compared(escapes, 20)),
+          ("65,535 columns", compared(many_columns, 120)),
+          ("a million parts, rows and statistics", compared(many_parts, 60)),
+          ("inputs at the limit", compared(limits, 60)),
+          ("inputs and outputs that fail", streams)]
+
+
+def main():
+    build()
+    hard = resource.getrlimit(resource.RLIMIT_STACK)[1]
+    resource.setrlimit(resource.RLIMIT_STACK, (STACK if hard == resource.RLIM_INFINITY else min(STACK, hard), hard))
+    failed = 0
+    for name, check in CHECKS:
+        start = time.monotonic()
+        faults, count = check()
+        failed += bool(faults)
+        said = "failed" if faults else "passed"
+        print(f"{said}: {name}, {count} inputs, {time.monotonic() - start:.1f} s", flush=True)
+        for fault in faults[:20]:
+            print(f"  {fault}", flush=True)
+    end(len(CHECKS) - failed, failed)
+
+
+if __name__ == "__main__":
+    main()

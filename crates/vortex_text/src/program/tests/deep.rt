@@ -1,0 +1,69 @@
+// Predicates of as many words as one may have, nested in each way.
+use super::*;
+
+// Words, so many times.
+fn push_words(text: &mut String, words: &str, times: usize) -> Result<(), Fail> {
+    for _ in 0..times {
+        text.push_str(words)?;
+    }
+    Ok(())
+}
+
+// An input of one row whose predicate is `col t` between so many times these words and those.
+fn nested(alloc: Global, front: &str, behind: &str, times: usize) -> Result<String, Fail> {
+    let mut text = String::from_str(alloc, "column t bool?\npart\nrow true\nwhere ")?;
+    push_words(&mut text, front, times)?;
+    text.push_str("col t")?;
+    push_words(&mut text, behind, times)?;
+    text.push_str("\n")?;
+    Ok(text)
+}
+
+// The predicate of so many levels selects the row, and one of a level more has too many words.
+fn expect_nested(
+    rt: &impl Abort,
+    alloc: Global,
+    front: &str,
+    behind: &str,
+    times: usize,
+) -> Result<(), Fail> {
+    let deepest = nested(alloc, front, behind, times)?;
+    expect_answer(rt, alloc, deepest.as_str(), 0, "skipped\nrows 0:0\n")?;
+    let deeper = nested(alloc, front, behind, times.saturating_add(1))?;
+    expect_answer(rt, alloc, deeper.as_str(), 2, "line 4: bad\n")
+}
+
+#[test]
+fn nested_in_not(rt: HostRuntime) -> Result<(), Fail> {
+    expect_nested(&rt, rt.alloc(), "not ", "", 4094)
+}
+
+#[test]
+fn nested_at_the_left(rt: HostRuntime) -> Result<(), Fail> {
+    expect_nested(&rt, rt.alloc(), "and ", " col t", 1364)?;
+    expect_nested(&rt, rt.alloc(), "or ", " lit bool false", 1023)
+}
+
+#[test]
+fn nested_at_the_right(rt: HostRuntime) -> Result<(), Fail> {
+    expect_nested(&rt, rt.alloc(), "and col t ", "", 1364)?;
+    expect_nested(&rt, rt.alloc(), "or lit bool false ", "", 1023)
+}
+
+#[test]
+fn nested_in_between(rt: HostRuntime) -> Result<(), Fail> {
+    expect_nested(
+        &rt,
+        rt.alloc(),
+        "between <= <= ",
+        " col t lit bool true",
+        511,
+    )?;
+    expect_nested(
+        &rt,
+        rt.alloc(),
+        "between <= <= col t lit bool false ",
+        "",
+        511,
+    )
+}
