@@ -7,7 +7,7 @@ use Rattle.std.specs.Str.{bytes_eq, is_utf8}
 use Rattle.vortex_base.specs.Meanings.Binding.{find_column}
 use Rattle.vortex_base.specs.Data.Columns.{ColumnData}
 use Rattle.vortex_base.specs.Meanings.Fitting.{is_of_type}
-use Rattle.vortex_base.specs.Data.Scopes.{Named, has_duplicate, is_empty, is_state, place_of}
+use Rattle.vortex_base.specs.Data.Scopes.{Named, has_duplicate, is_empty, is_state_column, place_of}
 use Rattle.vortex_base.specs.Trees.Tree.{Tree, Place}
 use Rattle.vortex_base.specs.Data.Types.{dtype_eq, dtype_eq_is_exact}
 use Rattle.vortex_base.specs.Data.Values.{is_value}
@@ -68,7 +68,7 @@ no_predicate : (scope : List Named) (o : Option (Tree Place)) → is_some o ≡ 
 no_predicate scope None h = tt
 no_predicate scope (Some e) h = cc
 
-column_added_fits : (r s : Reading) (name : List ℕ) (t : DType) → FitsTogether r → is_some r.predicate ≡ false → is_state (name, t) ≡ false → with_column r name t ≡ Some s → FitsTogether s
+column_added_fits : (r s : Reading) (name : List ℕ) (t : DType) → FitsTogether r → is_some r.predicate ≡ false → is_state_column (name, t) ≡ false → with_column r name t ≡ Some s → FitsTogether s
 column_added_fits r s name t h open_yet storable read =
     let next : Reading = record r { scope = r.scope ++ (name, t) ∷ [] } in
     let made = chosen (if has_part (parts_of r) then false else is_new r.scope name) next s read in
@@ -237,7 +237,7 @@ where_line_fits r s ws h read =
       storable = h.storable;
       ended = h.ended;
       current = h.current;
-      predicate = record { plain = fits.0; fits = fits.1 };
+      predicate = record { plain = fits.0; fits = fits.1; scoped = (second_holds (is_empty r.scope) true made.0).0 };
     })
 
 -- ---- a line of any kind

@@ -6,7 +6,7 @@ use Rattle.std.proofs.lemmas.Option.{get_or_from_slice_get, slice_get_within}
 use Rattle.std.specs.List.{AllZip, list_all, list_any}
 use Rattle.vortex_base.specs.Data.Columns.{ChunkData, ColumnData, IsChunk, all_appended, all_long, appended_chunk, has_shape, has_types, is_column, row_count, sizes_fit}
 use Rattle.vortex_base.specs.Data.Exact.{both_hold, both_true}
-use Rattle.vortex_base.specs.Data.Scopes.{IsScope, Named, has_duplicate, is_empty, is_scope, is_state}
+use Rattle.vortex_base.specs.Data.Scopes.{IsScope, Named, has_duplicate, is_empty, is_scope, is_state_column}
 use Rattle.vortex_base.specs.Data.Types.{dtype_eq, dtype_eq_is_exact}
 use Rattle.vortex_base.specs.declared.dtype.DType.{DType}
 use Rattle.vortex_base.specs.declared.scalar_value.ScalarValue.{ScalarValue}
@@ -56,7 +56,7 @@ of_shape scope own cs ss same p = record {
 
 -- ---- a part begins
 
-scope_made : (scope : List Named) → has_duplicate scope ≡ false → list_any is_state scope ≡ false → is_empty scope ≡ false → is_scope scope ≡ true
+pub scope_made : (scope : List Named) → has_duplicate scope ≡ false → list_any is_state_column scope ≡ false → is_empty scope ≡ false → is_scope scope ≡ true
 scope_made scope distinct storable some = rw (some, distinct, storable) refl
 
 empty_count : (scope : List Named) → length (map empty_column scope) ≡ length scope
@@ -93,7 +93,7 @@ tests_equal m n h = grind (arith, nat_tests)
 equal_numbers : (m n : ℕ) → (m == n) ≡ true → m ≡ n
 equal_numbers m n h = grind (arith, nat_tests)
 
-pub empty_is_part : (scope : List Named) → has_duplicate scope ≡ false → list_any is_state scope ≡ false → is_empty scope ≡ false → IsPartOf scope (empty_part scope)
+pub empty_is_part : (scope : List Named) → has_duplicate scope ≡ false → list_any is_state_column scope ≡ false → is_empty scope ≡ false → IsPartOf scope (empty_part scope)
 empty_is_part scope distinct storable some = of_shape scope scope (map empty_column scope) (map no_entries scope) refl (record {
   scope_is = scope_made scope distinct storable some;
   count = tests_equal (length scope) (length (map empty_column scope)) (sym (empty_count scope));

@@ -8,7 +8,7 @@ use Rattle.std.proofs.lemmas.Str.{IsUtf8-from_ascii}
 use Rattle.std.specs.List.{list_all, list_any, position_or_len}
 use Rattle.std.specs.Str.{bytes_eq}
 use Rattle.vortex_base.specs.Data.Exact.{both_true}
-use Rattle.vortex_base.specs.Data.Scopes.{Named, bytes_eq_is_exact, has_duplicate, is_named, is_state, place_of}
+use Rattle.vortex_base.specs.Data.Scopes.{Named, bytes_eq_is_exact, has_duplicate, is_named, is_state_column, place_of}
 use Rattle.vortex_base.specs.declared.dtype.DType.{DType}
 use Rattle.vortex_base.specs.declared.dtype.DType.TheVariants as dtype
 use Rattle.vortex_base.specs.declared.types.Nullability.{Nullability}
@@ -20,29 +20,29 @@ use Rattle.vortex_text.specs.Names.{begins_name, continues_name, is_name, kind_o
 
 -- ---- the types that words name
 
-kind_storable : (name word : List ℕ) (n : Nullability) (t : DType) → kind_of word n ≡ Some t → is_state (name, t) ≡ false
+kind_storable : (name word : List ℕ) (n : Nullability) (t : DType) → kind_of word n ≡ Some t → is_state_column (name, t) ≡ false
 kind_storable name word n t h = elim (cases_Bool (bytes_eq word (codes "bool"))) [
-  | inl bool ↦ (let same : dtype.Bool n ≡ t = (let e = rw bool at h in cc) in ap (λ u. is_state (name, u)) (sym same))
+  | inl bool ↦ (let same : dtype.Bool n ≡ t = (let e = rw bool at h in cc) in ap (λ u. is_state_column (name, u)) (sym same))
   | inr no_bool ↦ (elim (cases_Bool (bytes_eq word (codes "utf8"))) [
-    | inl text ↦ (let same : dtype.Utf8 n ≡ t = (let e = rw (no_bool, text) at h in cc) in ap (λ u. is_state (name, u)) (sym same))
+    | inl text ↦ (let same : dtype.Utf8 n ≡ t = (let e = rw (no_bool, text) at h in cc) in ap (λ u. is_state_column (name, u)) (sym same))
     | inr no_text ↦ (elim (cases_Bool (bytes_eq word (codes "binary"))) [
-      | inl bytes ↦ (let same : dtype.Binary n ≡ t = (let e = rw (no_bool, no_text, bytes) at h in cc) in ap (λ u. is_state (name, u)) (sym same))
-      | inr no_bytes ↦ (let m = mapped (λ p. dtype.Primitive p n) (ptype_of word) t (rw (no_bool, no_text, no_bytes) at h) in ap (λ u. is_state (name, u)) (sym m.same))
+      | inl bytes ↦ (let same : dtype.Binary n ≡ t = (let e = rw (no_bool, no_text, bytes) at h in cc) in ap (λ u. is_state_column (name, u)) (sym same))
+      | inr no_bytes ↦ (let m = mapped (λ p. dtype.Primitive p n) (ptype_of word) t (rw (no_bool, no_text, no_bytes) at h) in ap (λ u. is_state_column (name, u)) (sym m.same))
     ])
   ])
 ]
 
-pub type_storable : (name word : List ℕ) (t : DType) → type_of word ≡ Some t → is_state (name, t) ≡ false
+pub type_storable : (name word : List ℕ) (t : DType) → type_of word ≡ Some t → is_state_column (name, t) ≡ false
 type_storable name word t h = elim (cases_Bool (bytes_eq word (codes "null"))) [
-  | inl null ↦ (let same : dtype.Null ≡ t = (let e = rw null at h in cc) in ap (λ u. is_state (name, u)) (sym same))
+  | inl null ↦ (let same : dtype.Null ≡ t = (let e = rw null at h in cc) in ap (λ u. is_state_column (name, u)) (sym same))
   | inr other ↦ (elim (cases_Bool (slice_index word (length word - 1) == 63)) [
     | inl mark ↦ kind_storable name (take (length word - 1) word) Nullable t (rw (other, mark) at h)
     | inr none ↦ kind_storable name word NonNullable t (rw (other, none) at h)
   ])
 ]
 
-pub storable_more : (scope : List Named) (name : List ℕ) (t : DType) → list_any is_state scope ≡ false → is_state (name, t) ≡ false → list_any is_state (scope ++ (name, t) ∷ []) ≡ false
-storable_more scope name t h one = list_any-append is_state scope ((name, t) ∷ []) ∙ rw (h, one) refl
+pub storable_more : (scope : List Named) (name : List ℕ) (t : DType) → list_any is_state_column scope ≡ false → is_state_column (name, t) ≡ false → list_any is_state_column (scope ++ (name, t) ∷ []) ≡ false
+storable_more scope name t h one = list_any-append is_state_column scope ((name, t) ∷ []) ∙ rw (h, one) refl
 
 -- ---- new names
 

@@ -3,7 +3,7 @@ ghost use Rattle.std.specs.Prelude.{◌≡◌, IfOk, IfSome, OnOk, MatchOption, 
 ghost use Rattle.vortex_base.specs.Data.Scopes.{named_columns};
 ghost use Rattle.vortex_text.specs.Drafts.{reading_of};
 ghost use Rattle.vortex_text.specs.Fails.{Changes};
-ghost use Rattle.vortex_text.specs.Fitting.{FitsTogether, IsQuery};
+ghost use Rattle.vortex_text.specs.Fitting.{FitsTogether, IsQueryOver};
 ghost use Rattle.vortex_text.specs.Lines.{has_part, is_new, nothing_read, parts_of};
 ghost use Rattle.vortex_text.specs.Lines.{read_column, read_join, read_kind, read_line, read_part};
 ghost use Rattle.vortex_text.specs.Lines.{read_row, read_stat, read_where, read_words, with_column};
@@ -18,6 +18,7 @@ use crate::names::{is_name, type_of};
 use crate::number::natural_of;
 use crate::open_column::push_row;
 use crate::open_part::{OpenPart, set_statistic};
+use crate::query::Query;
 use crate::starts::{empty_part, scope_of};
 use crate::statistic::{read_claim, read_claimed};
 use crate::word::{is_short, no_word, plain_word, skip_spaces};
@@ -25,6 +26,7 @@ use std::alloc::{AllocError, Global};
 use std::str;
 use vortex_base::bound_expression::BoundExpression;
 use vortex_base::dtype::DType;
+use vortex_base::scope::Scope;
 use vortex_prune::part::Part;
 
 /// What the lines so far say.
@@ -240,25 +242,28 @@ impl Draft {
     }
 
     /// All the parts and the predicate, if there is one.
-    pub fn into_query(
-        self,
-        alloc: Global,
-    ) -> Result<Option<(Vec<Part>, BoundExpression)>, AllocError>
+    pub fn into_query(self, alloc: Global) -> Result<Option<Query>, AllocError>
         requires { FitsTogether (reading_of self) }
         ensures query { let read = reading_of self in
             IfOk result (λ o. MatchOption o (read.predicate ≡ None)
-            (λ x. (read.predicate ≡ Some x.1) × (x.0.items ≡ parts_of read))) }
-        ensures fits { IfOk result (λ o. IfSome o (λ x. IsQuery x.0.items x.1)) }
+            (λ q. (read.predicate ≡ Some q.predicate) × (q.parts.items ≡ parts_of read))) }
+        ensures fits { IfOk result (λ o. IfSome o
+            (λ q. IsQueryOver q.scope q.parts.items q.predicate)) }
     {
         let mut draft = self;
         draft.end_part(alloc)?;
         let Draft {
+            columns,
             ended,
             predicate,
             ..
         } = draft;
         match predicate {
-            Some(predicate) => Ok(Some((ended, predicate))),
+            Some(predicate) => Ok(Some(Query {
+                scope: Scope::new_unchecked(columns),
+                parts: ended,
+                predicate,
+            })),
             None => Ok(None),
         }
     }

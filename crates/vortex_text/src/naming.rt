@@ -2,15 +2,14 @@
 ghost use Rattle.std.specs.Prelude.{◌≡◌, ◌↔◌, ℕ, List, IfOk, Ok, Err};
 ghost use Rattle.vortex_base.specs.Trees.Tree.{Tree, Place};
 ghost use Rattle.vortex_prune.specs.Part.{PartData};
-ghost use Rattle.vortex_text.specs.Fitting.{IsQuery};
+ghost use Rattle.vortex_text.specs.Fitting.{IsQuery, IsQueryOver};
 ghost use Rattle.vortex_text.specs.Naming.{IsFirstBad, IsNamed, NamesQuery, named};
 
 use crate::draft::Draft;
 use crate::line_error::LineError;
 use crate::lines::next_line;
+use crate::query::Query;
 use std::alloc::{AllocError, Global};
-use vortex_base::bound_expression::BoundExpression;
-use vortex_prune::part::Part;
 
 /// Why a text was not read.
 #[derive(Debug, Drop)]
@@ -22,10 +21,10 @@ pub enum InputError {
     BadLine(usize),
 }
 
-/// The parts and the predicate that a text names.
-pub fn read_input(alloc: Global, text: &[u8]) -> Result<(Vec<Part>, BoundExpression), InputError>
-    ensures named { IsNamed (λ x. (x.0.items, x.1)) result (named text.now) }
-    ensures fits { IfOk result (λ x. IsQuery x.0.items x.1) }
+/// The parts and the predicate that a text names, with their scope.
+pub fn read_input(alloc: Global, text: &[u8]) -> Result<Query, InputError>
+    ensures named { IsNamed (λ q. (q.parts.items, q.predicate)) result (named text.now) }
+    ensures fits { IfOk result (λ q. IsQueryOver q.scope q.parts.items q.predicate) }
 {
     let mut draft = Draft::new(alloc);
     let mut rest = text;

@@ -18,7 +18,7 @@ fn reply_to(alloc: Global, text: &[u8]) -> Result<(u8, String), AllocError>
     ensures lossless { IfOk result (λ x. IsFullScan text.now (string_bytes x.1)) }
 {
     match read_input(alloc, text) {
-        Ok((parts, predicate)) => match scan_query(alloc, &parts, &predicate)? {
+        Ok(query) => match scan_query(alloc, query)? {
             Some(scan) => Ok((0, print_scan(alloc, &scan)?)),
             None => Ok((1, String::from_str(alloc, "predicate\n")?)),
         },

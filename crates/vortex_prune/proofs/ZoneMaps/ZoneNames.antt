@@ -11,7 +11,7 @@ use lib.Pointwise.{pointwise}
 use Rattle.vortex_base.specs.Data.Columns.{ChunkData, ColumnData, all_fit, all_long, chunk_of, column_of, has_shape, has_types, row_count as rows_of}
 use Rattle.vortex_base.specs.Data.Exact.{both_hold, both_true}
 use Rattle.vortex_base.specs.Data.Scalars.{is_optional_value}
-use Rattle.vortex_base.specs.Data.Scopes.{IsScope, Named, bytes_eq_is_exact, has_duplicate, is_empty, is_named, is_scope, is_state, scope_of}
+use Rattle.vortex_base.specs.Data.Scopes.{IsScope, Named, bytes_eq_is_exact, has_duplicate, is_empty, is_named, is_scope, is_state_column, scope_of}
 use Rattle.vortex_base.specs.Data.Types.{dtype_eq, dtype_eq_is_exact}
 use Rattle.vortex_base.specs.Meanings.Typing.{stat_type}
 use Rattle.vortex_base.specs.declared.aggregate.AggregateFnRef.{AggregateFnRef}
@@ -123,7 +123,7 @@ distinct m (c ∷ cs) h =
     ap has_duplicate (names_split m c cs)
     ∙ group_distinct m c (supporting c.1) (names_from (m + 1) cs) (all_short c.1) (none_repeated c.1) (λ f short. none_named (m + 1) cs c.0 f short (first_false _ _ h)) (distinct (m + 1) cs (second_false _ _ h))
 
-group_states : (m : ℕ) (n : List ℕ) (t : DType) → list_any is_state (group m (n, t) (supporting t)) ≡ false
+group_states : (m : ℕ) (n : List ℕ) (t : DType) → list_any is_state_column (group m (n, t) (supporting t)) ≡ false
 group_states m n dtype.Null = refl
 group_states m n (dtype.Bool k) = refl
 group_states m n (dtype.Primitive p k) = refl
@@ -131,11 +131,11 @@ group_states m n (dtype.Utf8 k) = refl
 group_states m n (dtype.Binary k) = refl
 group_states m n (dtype.MinMaxState e k) = refl
 
-no_states : (m : ℕ) (cs : List Named) → list_any is_state (names_from m cs) ≡ false
+no_states : (m : ℕ) (cs : List Named) → list_any is_state_column (names_from m cs) ≡ false
 no_states m [] = refl
 no_states m (c ∷ cs) =
-    ap (list_any is_state) (names_split m c cs)
-    ∙ list_any-append is_state (group m c (supporting c.1)) (names_from (m + 1) cs)
+    ap (list_any is_state_column) (names_split m c cs)
+    ∙ list_any-append is_state_column (group m c (supporting c.1)) (names_from (m + 1) cs)
     ∙ both_false _ _ (group_states m c.0 c.1) (no_states (m + 1) cs)
 
 group_some : (m : ℕ) (n : List ℕ) (t : DType) (ys : List Named) → is_empty (group m (n, t) (supporting t) ++ ys) ≡ false
