@@ -1,11 +1,11 @@
 -- An expression that is read fits its scope, and holds no placeholder and no row count.
-use Rattle.std.proofs.Common.{◌≡◌, ◌&&◌, ◌||◌, ℕ, zero, suc, Bool, true, false, List, Option, None, Some, option_and_then, is_ok, length, slice_get, refl, ap, sym, ◌∙◌, subst, inl, inr}
+use Rattle.std.proofs.Common.{◌≡◌, ◌||◌, ℕ, zero, suc, Bool, true, false, List, Option, None, Some, option_and_then, is_ok, length, slice_get, refl, ap, subst, inl, inr}
 use Rattle.std.proofs.lemmas.Bool.{and_from, cases_Bool}
 use Rattle.vortex_base.specs.Meanings.Binding.{find_column, found, place_at}
 use Rattle.vortex_base.specs.Meanings.Fitting.{fits_scope, is_of_type}
 use Rattle.vortex_base.specs.Data.Scopes.{Named, place_of}
 use Rattle.vortex_base.specs.Trees.Tree.{Tree, Place, column, literal, binary, between, is_null, is_not_null, not as negated, like, has_placeholder, has_row_count, is_plain}
-use Rattle.vortex_base.specs.Data.Types.{dtype_eq, dtype_eq_is_exact}
+use Rattle.vortex_base.specs.Data.Types.{dtype_eq_is_exact}
 use Rattle.vortex_base.specs.Meanings.Typing.{type_of}
 use Rattle.vortex_base.specs.declared.types.BetweenOptions.{BetweenOptions}
 use Rattle.vortex_base.specs.declared.dtype.DType.{DType}

@@ -1,7 +1,6 @@
 -- The column of a name, among columns as they are held.
-use Rattle.std.proofs.Common.{◌≡◌, ◌<◌, ℕ, List, Option, None, Some, String, length, position, slice_get, refl, ap, sym, ◌∙◌}
+use Rattle.std.proofs.Common.{◌≡◌, ℕ, List, Option, None, Some, String, position, slice_get, refl, ap, sym, ◌∙◌}
 use Rattle.std.specs.declared.alloc.Global.{Global}
-use Rattle.std.proofs.lemmas.List.{length-map}
 use Rattle.vortex_base.proofs.Data.MapLemmas.{position-map}
 use Rattle.vortex_base.specs.Meanings.Binding.{find_column, found}
 use Rattle.vortex_base.specs.Data.Scopes.{is_named, named, named_columns}

@@ -2,14 +2,13 @@
 use Rattle.std.proofs.Common.{◌≡◌, ℕ, Bool, true, false, List, [], ◌∷◌, ◌++◌, Option, None, Some, All, IfSome, OnOk, Result, Ok, Err, is_some, codes, nat_le, option_and_then, length, slice_get, if◌then◌else◌, refl, ap, sym, ◌∙◌, subst, inl, inr}
 use Rattle.std.proofs.lemmas.Bool.{cases_Bool}
 use Rattle.std.proofs.lemmas.List.Elements.{All-append, All-cons, All-nil}
-use Rattle.std.specs.List.{list_any}
 use Rattle.std.specs.Str.{bytes_eq, is_utf8}
 use Rattle.vortex_base.specs.Meanings.Binding.{find_column}
 use Rattle.vortex_base.specs.Data.Columns.{ColumnData}
 use Rattle.vortex_base.specs.Meanings.Fitting.{is_of_type}
-use Rattle.vortex_base.specs.Data.Scopes.{Named, has_duplicate, is_empty, is_state_column, place_of}
+use Rattle.vortex_base.specs.Data.Scopes.{Named, is_empty, is_state_column, place_of}
 use Rattle.vortex_base.specs.Trees.Tree.{Tree, Place}
-use Rattle.vortex_base.specs.Data.Types.{dtype_eq, dtype_eq_is_exact}
+use Rattle.vortex_base.specs.Data.Types.{dtype_eq_is_exact}
 use Rattle.vortex_base.specs.Data.Values.{is_value}
 use Rattle.vortex_base.specs.declared.dtype.DType.{DType}
 use Rattle.vortex_base.specs.declared.scalar_value.ScalarValue.{ScalarValue}

@@ -1,17 +1,16 @@
 -- What lines do to parts keeps them parts of their scope.
-use Rattle.std.proofs.Common.{◌≡◌, ◌<◌, ◌+◌, ◌^◌, ◌&&◌, ◌||◌, ◌==◌, ℕ, zero, suc, Bool, true, false, not, nat_lt, List, [], ◌∷◌, ◌++◌, Option, None, Some, All, map, option_and_then, length, slice_get, get_or, set, take, drop, refl, ap, sym, ◌∙◌, subst, arith}
+use Rattle.std.proofs.Common.{◌≡◌, ◌+◌, ◌^◌, ◌==◌, ℕ, zero, suc, true, false, nat_lt, List, [], ◌∷◌, ◌++◌, Option, None, Some, All, map, option_and_then, length, slice_get, set, take, drop, refl, ap, sym, ◌∙◌, subst, arith}
 use Rattle.std.proofs.lemmas.Bool.Decides.{nat_tests}
 use Rattle.std.proofs.lemmas.List.Elements.{All-append, All-cons, All-drop, All-take}
 use Rattle.std.proofs.lemmas.Option.{get_or_from_slice_get, slice_get_within}
 use Rattle.std.specs.List.{AllZip, list_all, list_any}
-use Rattle.vortex_base.specs.Data.Columns.{ChunkData, ColumnData, IsChunk, all_appended, all_long, appended_chunk, has_shape, has_types, is_column, row_count, sizes_fit}
+use Rattle.vortex_base.specs.Data.Columns.{ColumnData, all_appended, all_long, has_types, is_column, row_count, sizes_fit}
 use Rattle.vortex_base.specs.Data.Exact.{both_hold, both_true}
-use Rattle.vortex_base.specs.Data.Scopes.{IsScope, Named, has_duplicate, is_empty, is_scope, is_state_column}
-use Rattle.vortex_base.specs.Data.Types.{dtype_eq, dtype_eq_is_exact}
-use Rattle.vortex_base.specs.declared.dtype.DType.{DType}
+use Rattle.vortex_base.specs.Data.Scopes.{Named, has_duplicate, is_empty, is_scope, is_state_column}
+use Rattle.vortex_base.specs.Data.Types.{dtype_eq_is_exact}
 use Rattle.vortex_base.specs.declared.scalar_value.ScalarValue.{ScalarValue}
 use Rattle.vortex_prune.proofs.Scanning.JoinLemmas.{joined_is_part}
-use Rattle.vortex_prune.specs.Part.{Entries, IsPart, PartData, joined, sets_fit}
+use Rattle.vortex_prune.specs.Part.{Entries, PartData, joined, sets_fit}
 use Rattle.vortex_stats.proofs.Sets.Fitting.{entries_fit_with_entry}
 use Rattle.vortex_stats.specs.Sets.Entries.{entries_fit, value_fits, with_entry}
 use Rattle.vortex_stats.specs.declared.precision.Precision.{Precision}

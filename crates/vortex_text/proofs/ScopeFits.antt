@@ -1,5 +1,5 @@
 -- A column with a new name and a type that words name keeps a scope one.
-use Rattle.std.proofs.Common.{◌≡◌, ◌<◌, ◌≤◌, ◌||◌, ◌-◌, ◌==◌, ◌&&◌, ℕ, zero, suc, Bool, IsAscii, IsUtf8, nat_le, true, false, List, [], ◌∷◌, ◌++◌, Option, None, Some, All, is_some, codes, length, position, slice_index, take, refl, ap, sym, ◌∙◌, subst, inl, inr, arith}
+use Rattle.std.proofs.Common.{◌≡◌, ◌≤◌, ◌||◌, ◌-◌, ◌==◌, ◌&&◌, ℕ, zero, suc, Bool, IsAscii, IsUtf8, nat_le, true, false, List, [], ◌∷◌, ◌++◌, Option, None, Some, is_some, codes, length, slice_index, take, refl, ap, sym, ◌∙◌, inl, inr, arith}
 use Rattle.std.proofs.lemmas.Bool.{cases_Bool, false_from_ne_true}
 use Rattle.std.proofs.lemmas.List.Folds.{list_any-append, list_any_none}
 use Rattle.std.proofs.lemmas.List.Sums.{fails_before_first}
@@ -14,7 +14,7 @@ use Rattle.vortex_base.specs.declared.dtype.DType.TheVariants as dtype
 use Rattle.vortex_base.specs.declared.types.Nullability.{Nullability}
 use Rattle.vortex_base.specs.declared.types.Nullability.TheVariants.{Nullable, NonNullable}
 use Rattle.vortex_text.proofs.FirstLine.{none_found}
-use Rattle.vortex_text.proofs.ValueFits.{chosen, mapped}
+use Rattle.vortex_text.proofs.ValueFits.{mapped}
 use Rattle.vortex_text.specs.Lines.{is_new}
 use Rattle.vortex_text.specs.Names.{begins_name, continues_name, is_name, kind_of, name_limit, ptype_of, type_of}
 

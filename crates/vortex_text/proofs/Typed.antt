@@ -1,5 +1,5 @@
 -- What a fault of the layer below says of a line.
-use Rattle.std.proofs.Common.{◌≡◌, None, Result, Ok, Err, refl, ap, sym}
+use Rattle.std.proofs.Common.{◌≡◌, None, Result, Ok, Err, refl}
 use Rattle.vortex_base.specs.Answer.{Answers, Builds}
 use Rattle.vortex_base.specs.Trees.Tree.{Tree, Place}
 use Rattle.vortex_base.specs.Meanings.Typing.{type_of}

@@ -1,5 +1,5 @@
 -- A value that a word writes for a type fits the type.
-use Rattle.std.proofs.Common.{◌≡◌, ◌&&◌, ◌==◌, ℕ, Bool, true, false, List, Option, None, Some, ℤ, pos, negsuc, int_le, codes, drop, option_and_then, option_map, unsigned_abs, slice_index, if◌then◌else◌, refl, ap, sym, ◌∙◌, inl, inr}
+use Rattle.std.proofs.Common.{◌≡◌, ◌&&◌, ◌==◌, ℕ, Bool, true, false, List, Option, None, Some, ℤ, pos, negsuc, int_le, codes, drop, option_map, slice_index, if◌then◌else◌, refl, ap, sym, ◌∙◌, inl, inr}
 use Rattle.std.proofs.lemmas.Bool.{cases_Bool}
 use Rattle.std.specs.Str.{bytes_eq, is_utf8}
 use Rattle.vortex_base.specs.Data.Scalars.{is_optional_value}
@@ -13,7 +13,7 @@ use Rattle.vortex_base.specs.declared.types.PType.TheVariants as ptype
 use Rattle.vortex_base.specs.declared.pvalue.PValue.{PValue}
 use Rattle.vortex_base.specs.declared.scalar_value.ScalarValue.{ScalarValue}
 use Rattle.vortex_base.specs.declared.scalar_value.ScalarValue.TheVariants as value
-use Rattle.vortex_text.proofs.ExpressionFits.{Step, step_of}
+use Rattle.vortex_text.proofs.ExpressionFits.{step_of}
 use Rattle.vortex_text.specs.Numbers.{bytes_of, in_type, number_of, sized, whole_of}
 use Rattle.vortex_text.specs.Values.{binary_of, null_or, optional_value_of, plain_value, quoted_value, text_of, truth_of, value_of}
 use Rattle.vortex_text.specs.Words.{Token, Plain, Quoted, Broken}

@@ -1,12 +1,11 @@
 -- What a line's first word is.
-use Rattle.std.proofs.Common.{◌≡◌, ◌<◌, ◌≤◌, ◌==◌, ◌||◌, ◌+◌, ℕ, suc, Bool, true, false, cond, not, List, [], ◌∷◌, ◌++◌, Option, None, Some, length, nat_lt, position, take, drop, get_or, refl, ap, sym, ◌∙◌, inl, inr, arith, append_assoc, append-nil}
+use Rattle.std.proofs.Common.{◌≡◌, ◌<◌, ◌≤◌, ◌==◌, ◌||◌, ◌+◌, ℕ, suc, Bool, true, false, List, [], ◌∷◌, ◌++◌, Option, None, Some, length, nat_lt, position, take, drop, get_or, refl, ap, sym, ◌∙◌, inl, inr, arith, append_assoc, append-nil}
 use Rattle.std.proofs.lemmas.Bool.{cases_Bool}
 use Rattle.std.proofs.lemmas.Bool.Decides.{nat_tests}
 use Rattle.std.proofs.lemmas.List.{drop_all, take_all}
-use Rattle.std.proofs.lemmas.List.Quantifiers.{position-Some}
-use Rattle.std.specs.List.{position_or_len, prefix_len}
+use Rattle.std.specs.List.{position_or_len}
 use Rattle.vortex_text.specs.QuotedSteps.{escape_of, step_of}
-use Rattle.vortex_text.specs.Words.{Token, Plain, Quoted, Broken, Place, between, closed, plain, quoted, escaped, no_word, plain_word, words, words_from}
+use Rattle.vortex_text.specs.Words.{Token, Plain, Broken, Place, between, closed, plain, quoted, escaped, no_word, plain_word, words, words_from}
 
 -- the words of a text between quotes whose bytes so far are w, after a step
 abbrev pub after_quoted : List ℕ → Option (Option ℕ × List ℕ) → List Token

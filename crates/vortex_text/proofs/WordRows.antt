@@ -1,6 +1,6 @@
 -- Worked rows: the words of lines, computed.
-use Rattle.std.proofs.Common.{◌≡◌, List, [], ◌∷◌, codes, refl}
-use Rattle.vortex_text.specs.Words.{Token, Plain, Quoted, Broken, words}
+use Rattle.std.proofs.Common.{◌≡◌, [], ◌∷◌, codes, refl}
+use Rattle.vortex_text.specs.Words.{Plain, Quoted, Broken, words}
 
 words_of_line : words (codes "  row  -5 ") ≡ Plain (codes "row") ∷ Plain (codes "-5") ∷ []
 words_of_line = refl

@@ -1,5 +1,5 @@
 -- Expressions in prefix form.
-use Rattle.std.specs.Prelude.{ℕ, zero, suc, Bool, true, false, List, Option, Some, None, Result, Ok, Err, codes, is_ok, length, if◌then◌else◌, option_and_then}
+use Rattle.std.specs.Prelude.{ℕ, zero, suc, true, false, List, Option, Some, None, codes, is_ok, length, if◌then◌else◌}
 use Rattle.std.specs.Str.{bytes_eq}
 use Rattle.vortex_base.specs.Meanings.Binding.{find_column}
 use Rattle.vortex_base.specs.Data.Scopes.{Named}

@@ -1,5 +1,5 @@
 -- The values of the types.
-use Rattle.std.specs.Prelude.{ℕ, Bool, true, false, ◌==◌, if◌then◌else◌, List, length, drop, Option, Some, None, option_map, codes, slice_index}
+use Rattle.std.specs.Prelude.{ℕ, Bool, true, false, ◌==◌, if◌then◌else◌, List, drop, Option, Some, None, option_map, codes, slice_index}
 use Rattle.std.specs.Str.{bytes_eq, is_utf8}
 use Rattle.vortex_base.specs.Data.Types.{is_nullable}
 use Rattle.vortex_base.specs.declared.dtype.DType.{DType}

@@ -6,6 +6,7 @@ use vortex_base::pvalue::PValue;
 use vortex_base::types::PType;
 
 // A number with one more digit behind it, as far as 64 bits hold it.
+#[inline]
 fn with_digit(number: u64, digit: u8) -> Option<u64>
     ensures { result ≡ with_digit number digit }
 {
@@ -16,6 +17,7 @@ fn with_digit(number: u64, digit: u8) -> Option<u64>
 }
 
 /// The number that digits write, as far as 64 bits hold it.
+#[inline]
 pub fn natural_of(digits: &[u8]) -> Option<u64>
     ensures { result ≡ option_and_then in_64_bits (natural_of digits.now) }
 {
@@ -33,6 +35,7 @@ pub fn natural_of(digits: &[u8]) -> Option<u64>
 }
 
 // The number that a word writes, behind a minus where it is below zero, if 64 bits hold it.
+#[inline]
 fn signed_of(word: &[u8]) -> Option<i64>
     ensures { result ≡ option_and_then in_64_bits_signed (whole_of true word.now) }
 {
@@ -44,6 +47,7 @@ fn signed_of(word: &[u8]) -> Option<i64>
 
 /// The number of a type that a word writes: decimal digits, and in front of them a minus where the
 /// type has numbers below zero.
+#[inline]
 pub fn number_of(ptype: PType, word: &[u8]) -> Option<PValue>
     ensures { result ≡ number_of ptype word.now }
 {

@@ -50,6 +50,7 @@ impl OpenColumn {
     }
 
     // Adds a value.
+    #[inline]
     fn push(&mut self, value: Option<ScalarValue>) -> Result<(), AllocError>
         ensures { OnOk result (self.new ≡ with_value value self.old) }
     {
@@ -58,6 +59,7 @@ impl OpenColumn {
     }
 
     // Adds the value of the first word of a line. The rest of the line comes back.
+    #[inline]
     fn take<'a>(&mut self, alloc: Global, line: &'a [u8]) -> Result<&'a [u8], LineError>
         ensures { GivesAndChanges (λ rest. words rest.now) result
             (taken self.old (words line.now)) self.new }

@@ -76,6 +76,7 @@ fn binary_of(alloc: Global, word: &[u8]) -> Result<ScalarValue, LineError>
 }
 
 // The value other than null that a word without quotes writes.
+#[inline(always)]
 fn plain_value(alloc: Global, dtype: DType, word: &[u8]) -> Result<ScalarValue, LineError>
     ensures { Gives (λ v. v) result (plain_value dtype word.now) }
 {
@@ -129,6 +130,7 @@ pub fn value_of(alloc: Global, dtype: DType, word: Word) -> Result<ScalarValue, 
 }
 
 /// The value that a word writes, or `None` for `null` where the type has it.
+#[inline(always)]
 pub fn optional_value_of(
     alloc: Global,
     dtype: DType,

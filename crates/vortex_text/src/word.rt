@@ -53,6 +53,7 @@ fn quoted_at(alloc: Global, bytes: &[u8]) -> Result<(Vec<u8>, &[u8]), LineError>
 }
 
 /// A line without the spaces in front.
+#[inline]
 pub fn skip_spaces(line: &[u8]) -> &[u8]
     ensures same { words result.now ≡ words line.now }
     ensures at_word { (slice_index result.now 0 == 32) ≡ false }
@@ -65,6 +66,7 @@ pub fn skip_spaces(line: &[u8]) -> &[u8]
     rest
 }
 
+#[inline]
 fn space(line: &[u8]) -> Option<usize>
     ensures { result ≡ position (λ b. b == 32) line.now }
 {
@@ -72,6 +74,7 @@ fn space(line: &[u8]) -> Option<usize>
 }
 
 // The word without quotes that a text begins with, and what follows it.
+#[inline]
 fn split_word(text: &[u8]) -> (&[u8], &[u8])
     requires some { 0 < length text.now }
     requires no_space { (slice_index text.now 0 == 32) ≡ false }
@@ -86,6 +89,7 @@ fn split_word(text: &[u8]) -> (&[u8], &[u8])
 }
 
 /// The first word of a line, and the line after it. There has to be one.
+#[inline(always)]
 pub fn first_word(alloc: Global, line: &[u8]) -> Result<(Word<'_>, &[u8]), LineError>
     ensures word { Gives (λ x. (token_of x.0, words x.1.now)) result (first_word (words line.now)) }
     ensures broken { IsErrOf result LineError.Bad → length (words line.now) ≤ 1 }
@@ -122,6 +126,7 @@ pub fn plain_word(line: &[u8]) -> Result<(&[u8], &[u8]), LineError>
 }
 
 /// A line has no further word.
+#[inline]
 pub fn no_word(line: &[u8]) -> Result<(), LineError>
     ensures { Gives (λ x. x) result (no_word (words line.now)) }
 {

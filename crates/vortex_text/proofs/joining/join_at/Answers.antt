@@ -1,6 +1,5 @@
-use Rattle.std.proofs.Common.{◌≡◌, ◌+◌, ◌<◌, Some, MatchBool, alloc_error, length, get_or, ap, sym, ◌∙◌, arith}
+use Rattle.std.proofs.Common.{◌≡◌, ◌+◌, ◌<◌, Some, alloc_error, length, get_or, ap, sym, ◌∙◌, arith}
 use Rattle.std.specs.List.{insert, remove}
-use Rattle.vortex_stats.specs.declared.error.StatsError.TheVariants.{Memory, TooLarge}
 use Rattle.vortex_text.proofs.JoinLemmas.{joined_in_place, neighbours_may_join}
 use Rattle.vortex_text.proofs.joining.join_at.Goals as goal
 

@@ -1,4 +1,4 @@
-use Rattle.std.proofs.Common.{sym, ◌∙◌}
+use Rattle.std.proofs.Common.{sym}
 use Rattle.vortex_base.specs.Data.Scopes.{named_columns}
 use Rattle.vortex_text.proofs.ScopeFits.{new_is_text}
 use Rattle.vortex_text.proofs.draft.Draft.add_column.Goals as goal
