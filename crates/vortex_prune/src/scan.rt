@@ -19,13 +19,39 @@ pub mod zones;
 
 use crate::bind::stat_binder::StatBinder;
 use crate::part::Part;
+use crate::part_scan::{SkipTest, scan_parts};
 use crate::rewrite::falsify;
 use crate::rewrite::rule::StatsRewriteRule;
 use crate::rewrite::rules::Rules;
 use crate::scan::outcome::Scan;
+use crate::scan::skip::is_skipped;
 use std::alloc::Global;
 use vortex_base::bound_expression::BoundExpression;
 use vortex_stats::error::StatsError;
+
+// Whether a part is skipped by a proof, if there is one, as the part's binder binds it.
+#[derive(Drop)]
+struct ByBinders<'a, B: StatBinder> {
+    proof: Option<&'a BoundExpression>,
+    binders: &'a [B],
+}
+
+impl<'a, B: StatBinder> SkipTest for ByBinders<'a, B> {
+    ghost use Rattle.std.specs.Prelude.{◌<◌, length, option_copied};
+    ghost use Rattle.vortex_prune.specs.PartScans.{binder_refuses, binder_tells};
+
+    ghost able = { λ s i. i < length s.binders.now };
+
+    ghost tells = { λ s. binder_tells B.answer B.is_missing B.is_faithful_over
+        (option_copied s.proof) s.binders.now B.value };
+
+    ghost refuses = { λ s. binder_refuses B.answer B.is_missing B.is_faithful_over
+        (option_copied s.proof) s.binders.now B.can_fault };
+
+    fn is_skipped(&self, alloc: Global, place: usize, part: &Part) -> Result<bool, StatsError> {
+        is_skipped(alloc, self.proof, part, &self.binders[place])
+    }
+}
 
 // The scan by a proof that no row of a part satisfies the predicate, if there is one.
 fn scan_by<B: StatBinder>(
@@ -53,21 +79,7 @@ fn scan_by<B: StatBinder>(
         IfErr result (λ f. AreFaithful B.is_faithful_over parts.now binders.now → IsRefusal
         (if_faithful (option_copied proof.entry) (causes (option_copied proof.entry) binders.now)) f) }
 {
-    let mut scan = Scan {
-        selected: Vec::new(alloc),
-        skipped: Vec::new(alloc),
-    };
-    for place in 0..parts.len() {
-        scan.visit(
-            alloc,
-            place,
-            &parts[place],
-            &binders[place],
-            predicate,
-            proof,
-        )?;
-    }
-    Ok(scan)
+    scan_parts(alloc, parts, predicate, &ByBinders { proof, binders })
 }
 
 // The scan by the falsifier of the predicate.

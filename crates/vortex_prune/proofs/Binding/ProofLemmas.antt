@@ -1,5 +1,5 @@
 -- A proof that is bound and closed has its value on the row with no columns.
-use Rattle.std.proofs.Common.{◌≡◌, ◌||◌, ◌&&◌, ℕ, Bool, true, false, not as not_b, List, [], Option, None, Ok, Err, Result, IfErr, IsTrue, alloc_error, cond, refl, sym, ap, subst, ◌∙◌, inl, inr}
+use Rattle.std.proofs.Common.{◌≡◌, ◌||◌, ℕ, Bool, true, false, not as not_b, List, [], Option, None, Result, IsTrue, cond, refl, sym, ap, ◌∙◌, inl, inr}
 use Rattle.std.proofs.lemmas.Bool.{cases_Bool}
 use Rattle.vortex_base.specs.Answer.{Answers, Makes}
 use Rattle.vortex_base.specs.Data.Exact.{both_hold, both_true}
@@ -9,12 +9,11 @@ use Rattle.vortex_base.specs.Data.Scalars.{Constant}
 use Rattle.vortex_base.specs.Trees.Tree.{Tree, Place, column, literal, binary, between, is_null, is_not_null, not, like, stat, row_count, has_bare_column, has_column, has_placeholder, is_closed}
 use Rattle.vortex_base.specs.declared.aggregate.AggregateFnRef.{AggregateFnRef}
 use Rattle.vortex_base.specs.declared.error.BaseError.{BaseError}
-use Rattle.vortex_base.specs.declared.error.BaseError.TheVariants.{Memory}
 use Rattle.vortex_base.specs.declared.scalar_value.ScalarValue.{ScalarValue}
 use Rattle.vortex_prune.proofs.Binding.BoundValues.{closed}
 use Rattle.vortex_prune.proofs.Scanning.SelectLemmas.{none_held}
 use Rattle.vortex_prune.specs.Binding.BoundTo.{IsBinding}
-use Rattle.vortex_prune.specs.Rewriting.Proof.{Assignment, proof, proves, value_under}
+use Rattle.vortex_prune.specs.Rewriting.Proof.{Assignment, proves, value_under}
 
 -- ---- a closed expression is evaluated on the row with no columns
 

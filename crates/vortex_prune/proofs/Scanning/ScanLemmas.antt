@@ -1,8 +1,8 @@
 -- What a scan has found after some parts, from what it had found before the last of them.
-use Rattle.std.proofs.Common.{◌≡◌, ◌<◌, ◌≤◌, ◌+◌, ◌||◌, ℕ, zero, suc, Bool, true, false, List, [], ◌∷◌, ◌++◌, Option, Some, IsTrue, cond, map, length, get_or, take, refl, sym, ap, subst, take_all, ◌∙◌, append_assoc, append-nil, inl, inr, arith}
+use Rattle.std.proofs.Common.{◌≡◌, ◌<◌, ◌≤◌, ◌+◌, ◌||◌, ℕ, zero, suc, Bool, true, false, List, [], ◌∷◌, ◌++◌, Option, Some, IsTrue, cond, map, length, get_or, take, refl, sym, ap, subst, ◌∙◌, append_assoc, append-nil, inl, inr, arith}
 use Rattle.std.proofs.Math.Nat.{eq-or-lt_of_le}
-use Rattle.std.proofs.lemmas.Option.{same_Some, slice_get_read, slice_get_within, slice_get-get_or}
-use Rattle.std.specs.List.{All, enumerate_from, filter, flat_map}
+use Rattle.std.proofs.lemmas.Option.{same_Some, slice_get_read, slice_get_within}
+use Rattle.std.specs.List.{enumerate_from, filter, flat_map}
 use Rattle.std.specs.Prelude.{slice_get}
 use Rattle.vortex_base.specs.Data.Columns.{row_count as rows_of}
 use Rattle.vortex_base.specs.Data.Scalars.{Constant}
@@ -75,26 +75,6 @@ below_more n parts part h is own below i other less there =
       | inr before ↦ below i other before there
     ]
 
--- ---- what is so of each element that was looked at
-
-abbrev pub HoldsBelow : {X : Type 0} → (X → Type 0) → ℕ → List X → Type 0
-HoldsBelow {X} P n xs = (k : ℕ) (d : X) → k < n → P (get_or xs k d)
-
--- within a list what stands past its end doesn't matter
-same_element : {X : Type 0} (xs : List X) (n : ℕ) (a b : X) → n < length xs → get_or xs n a ≡ get_or xs n b
-same_element xs n a b h = same_Some _ _ (sym (slice_get-get_or xs n a h) ∙ slice_get-get_or xs n b h)
-
-pub holds_more : {X : Type 0} (P : X → Type 0) (n : ℕ) (xs : List X) (x : X) → n < length xs → x ≡ get_or xs n x → P x → HoldsBelow P n xs → HoldsBelow P (n + 1) xs
-holds_more P n xs x h is own below k d less =
-    let place : k ≤ n = omega (arith, less) in
-    elim (eq-or-lt_of_le place) [
-      | inl here ↦ subst P (is ∙ same_element xs n x d h ∙ ap (λ i. get_or xs i d) (sym here)) own
-      | inr before ↦ below k d before
-    ]
-
-pub holds_all : {X : Type 0} (P : X → Type 0) (n : ℕ) (xs : List X) → length xs ≤ n → HoldsBelow P n xs → All P xs
-holds_all P n xs h below k d less = below k d (omega (arith, less, h))
-
 -- ---- the parts
 
 pub all_below : (n : ℕ) (parts : List PartData) → length parts ≤ n → AreBelow n parts → AreParts parts
@@ -107,13 +87,6 @@ module _ {S : Type 0} where
   answered_long value [] binders h = refl
   answered_long value (p ∷ parts) [] h = absurd (omega (arith, h))
   answered_long value (p ∷ parts) (b ∷ binders) h = ap suc (answered_long value parts binders (omega (arith, h)))
-
-  pub answered_at : (value : S → List Constant → ℕ → Assignment) (parts : List PartData) (binders : List S) (n : ℕ) (p : PartData) (b : S) → length binders ≡ length parts → n < length parts
-      → (d : Answered) → get_or (answered value parts binders) n d ≡ (get_or parts n p, value (get_or binders n b) [] (rows_of (get_or parts n p).chunk.columns))
-  answered_at value [] binders n p b long h d = absurd (omega arith)
-  answered_at value (q ∷ parts) [] n p b long h d = absurd (omega (arith, long))
-  answered_at value (q ∷ parts) (c ∷ binders) zero p b long h d = refl
-  answered_at value (q ∷ parts) (c ∷ binders) (suc n) p b long h d = answered_at value parts binders n p b (omega (arith, long)) (omega arith) d
 
   pub faithful_at : (is_faithful_over : S → List Constant → ℕ → Bool) (parts : List PartData) (binders : List S) (n : ℕ) (p : PartData) (b : S) → length binders ≡ length parts → n < length parts
       → AreFaithful is_faithful_over parts binders → IsTrue (is_faithful_over (get_or binders n b) [] (rows_of (get_or parts n p).chunk.columns))
@@ -154,39 +127,3 @@ module _ {S : Type 0} where
           wrong_type = λ x. x;
           open_proof = λ x. x;
         }) (r own)
-
-  -- the part that was read there, with its binder's answers
-  pub answered_in : (value : S → List Constant → ℕ → Assignment) (parts : List PartData) (binders : List S) (n : ℕ) (part : PartData) (b : S) (d : Answered) → length binders ≡ length parts → n < length parts
-      → part ≡ get_or parts n part → b ≡ get_or binders n b → (part, value b [] (rows_of part.chunk.columns)) ≡ get_or (answered value parts binders) n d
-  answered_in value parts binders n part b d long h is is_b =
-      ap (λ q. (q, value b [] (rows_of q.chunk.columns))) is ∙ ap (λ c. (get_or parts n part, value c [] (rows_of (get_or parts n part).chunk.columns))) is_b ∙ sym (answered_at value parts binders n part b long h d)
-
-  pub faithful_in : (over : S → List Constant → ℕ → Bool) (parts : List PartData) (binders : List S) (n : ℕ) (part : PartData) (b : S) → length binders ≡ length parts → n < length parts
-      → part ≡ get_or parts n part → b ≡ get_or binders n b → AreFaithful over parts binders → IsTrue (over b [] (rows_of part.chunk.columns))
-  faithful_in over parts binders n part b long h is is_b faithful =
-      subst (λ c. IsTrue (over c [] (rows_of part.chunk.columns))) (sym is_b) (subst (λ q. IsTrue (over (get_or binders n b) [] (rows_of q.chunk.columns))) (sym is) (faithful_at over parts binders n part b long h faithful))
-
-  -- one more part was looked at
-  pub skipped_in : (value : S → List Constant → ℕ → Assignment) (proof : Option (Tree Place)) (parts : List PartData) (binders : List S) (n : ℕ) (part : PartData) (b : S) (xs : List ℕ) → length binders ≡ length parts → n < length parts
-      → part ≡ get_or parts n part → b ≡ get_or binders n b → xs ≡ skipped_parts proof (take n (answered value parts binders))
-      → xs ++ place_if (is_skipped proof part (value b [] (rows_of part.chunk.columns))) n ≡ skipped_parts proof (take (n + 1) (answered value parts binders))
-  skipped_in value proof parts binders n part b xs long h is is_b e =
-      let d : Answered = (part, value b [] (rows_of part.chunk.columns)) in
-      let own = answered_in value parts binders n part b d long h is is_b in
-      ap (λ l. l ++ place_if (is_skipped proof part (value b [] (rows_of part.chunk.columns))) n) e
-      ∙ ap (λ (q : Answered). skipped_parts proof (take n (answered value parts binders)) ++ place_if (is_skipped proof q.0 q.1) n) own
-      ∙ sym (skipped_more proof (answered value parts binders) n d (omega (arith, answered_long value parts binders long, h)))
-
-  pub selected_in : (value : S → List Constant → ℕ → Assignment) (proof : Option (Tree Place)) (p : Tree Place) (parts : List PartData) (binders : List S) (n : ℕ) (part : PartData) (b : S) (xs : List (ℕ × ℕ)) → length binders ≡ length parts → n < length parts
-      → part ≡ get_or parts n part → b ≡ get_or binders n b → xs ≡ selected_rows proof p (take n (answered value parts binders))
-      → xs ++ kept_rows proof p n (part, value b [] (rows_of part.chunk.columns)) ≡ selected_rows proof p (take (n + 1) (answered value parts binders))
-  selected_in value proof p parts binders n part b xs long h is is_b e =
-      let d : Answered = (part, value b [] (rows_of part.chunk.columns)) in
-      let own = answered_in value parts binders n part b d long h is is_b in
-      ap (λ l. l ++ kept_rows proof p n (part, value b [] (rows_of part.chunk.columns))) e
-      ∙ ap (λ (q : Answered). selected_rows proof p (take n (answered value parts binders)) ++ kept_rows proof p n q) own
-      ∙ sym (selected_more proof p (answered value parts binders) n d (omega (arith, answered_long value parts binders long, h)))
-
-  -- all parts were looked at
-  pub all_taken : (value : S → List Constant → ℕ → Assignment) (parts : List PartData) (binders : List S) (n : ℕ) → length binders ≡ length parts → length parts ≤ n → take n (answered value parts binders) ≡ answered value parts binders
-  all_taken value parts binders n long h = take_all n (answered value parts binders) (omega (arith, answered_long value parts binders long, h))

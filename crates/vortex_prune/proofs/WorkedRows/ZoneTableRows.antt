@@ -1,9 +1,9 @@
 -- Worked rows of tables of zones and their binder, found by computation alone.
 use Rattle.std.specs.Prelude.{◌≡◌, ℕ, true, false, List, [], ◌∷◌, Option, Some, None, pos, codes, map, refl}
-use Rattle.vortex_base.specs.Data.Columns.{ChunkData, ColumnData, row_of}
+use Rattle.vortex_base.specs.Data.Columns.{ColumnData, row_of}
 use Rattle.vortex_base.specs.Data.Scopes.{Named}
 use Rattle.vortex_base.specs.Trees.Tree.{Tree, Place, binary, column, is_null, stat}
-use Rattle.vortex_base.specs.declared.aggregate.AggregateFnRef.TheVariants.{Max, Min, Sum, NullCount, AllNull, AllNonNull, MinMax}
+use Rattle.vortex_base.specs.declared.aggregate.AggregateFnRef.TheVariants.{Max, Min, NullCount, AllNull, AllNonNull, MinMax}
 use Rattle.vortex_base.specs.declared.dtype.DType.{DType}
 use Rattle.vortex_base.specs.declared.dtype.DType.TheVariants as dtype
 use Rattle.vortex_base.specs.declared.types.Nullability.TheVariants.{Nullable, NonNullable}
@@ -17,7 +17,7 @@ use Rattle.vortex_stats.specs.declared.precision.Precision.TheVariants.{Exact, I
 use Rattle.vortex_stats.specs.declared.stat.Stat.TheVariants as stats
 use Rattle.vortex_prune.specs.Part.{Entries, PartData}
 use Rattle.vortex_prune.specs.Scanning.ZoneScans.{is_left_open}
-use Rattle.vortex_prune.specs.Zones.{ZonesData, aggregates, is_zone_row, starts_from, zone_answer, zone_columns, zone_place, zone_table}
+use Rattle.vortex_prune.specs.Zones.{ZonesData, is_zone_row, starts_from, zone_answer, zone_columns, zone_place, zone_table}
 
 abbrev i64_type : DType
 i64_type = dtype.Primitive ptype.I64 Nullable

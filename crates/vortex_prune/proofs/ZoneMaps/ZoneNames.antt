@@ -1,24 +1,22 @@
 -- The columns of a table of zones make a scope, and with their values a chunk.
-use Rattle.std.proofs.Common.{◌≡◌, ◌<◌, ◌||◌, ◌+◌, ◌++◌, ◌==◌, ℕ, zero, suc, Bool, true, false, not, List, [], ◌∷◌, Option, Some, None, Ok, Result, arith, cond, length, map, refl, subst, sym, ap, take, ◌∙◌}
+use Rattle.std.proofs.Common.{◌≡◌, ◌<◌, ◌||◌, ◌+◌, ◌++◌, ◌==◌, ℕ, zero, suc, Bool, true, false, not, List, [], ◌∷◌, Option, Some, None, Ok, Result, arith, length, map, refl, subst, sym, ap, take, ◌∙◌}
 use Rattle.std.specs.Prelude.{Err, IsTrue, bytes_eq, slice_get}
-use Rattle.std.specs.List.{AllByRecursion, list_any, list_all}
+use Rattle.std.specs.List.{AllByRecursion, list_any}
 use Rattle.std.proofs.Math.Seq.{take-append_seam}
 use Rattle.std.proofs.lemmas.Bool.Decides.{nat_tests}
 use Rattle.std.proofs.lemmas.List.{append_cancel_left, length-append, length-map, map-append}
 use Rattle.std.proofs.lemmas.List.Folds.{list_any-append}
 use Rattle.std.proofs.lemmas.Option.{same_Some}
-use lib.Pointwise.{pointwise}
-use Rattle.vortex_base.specs.Data.Columns.{ChunkData, ColumnData, all_fit, all_long, chunk_of, column_of, has_shape, has_types, row_count as rows_of}
+use Rattle.vortex_base.specs.Data.Columns.{ChunkData, ColumnData, all_fit, all_long, chunk_of, has_shape, has_types, row_count as rows_of}
 use Rattle.vortex_base.specs.Data.Exact.{both_hold, both_true}
 use Rattle.vortex_base.specs.Data.Scalars.{is_optional_value}
-use Rattle.vortex_base.specs.Data.Scopes.{IsScope, Named, bytes_eq_is_exact, has_duplicate, is_empty, is_named, is_scope, is_state_column, scope_of}
-use Rattle.vortex_base.specs.Data.Types.{dtype_eq, dtype_eq_is_exact}
+use Rattle.vortex_base.specs.Data.Scopes.{IsScope, Named, bytes_eq_is_exact, has_duplicate, is_empty, is_named, is_state_column}
+use Rattle.vortex_base.specs.Data.Types.{dtype_eq_is_exact}
 use Rattle.vortex_base.specs.Meanings.Typing.{stat_type}
 use Rattle.vortex_base.specs.declared.aggregate.AggregateFnRef.{AggregateFnRef}
 use Rattle.vortex_base.specs.declared.dtype.DType.{DType}
 use Rattle.vortex_base.specs.declared.dtype.DType.TheVariants as dtype
 use Rattle.vortex_base.specs.declared.error.BaseError.{BaseError}
-use Rattle.vortex_base.specs.declared.error.BaseError.TheVariants.{Mismatch}
 use Rattle.vortex_base.specs.declared.scalar_value.ScalarValue.{ScalarValue}
 use Rattle.vortex_stats.specs.Sets.Entries.{entries_fit}
 use Rattle.vortex_prune.proofs.Honesty.StatFits.{placeholder_null, stat_value-fits}

@@ -1,5 +1,5 @@
 -- What a scan over a table of zones is refused for.
-use Rattle.std.proofs.Common.{◌≡◌, ◌<◌, ℕ, Bool, true, false, List, [], ◌∷◌, Option, Some, None, Result, Ok, Err, IfErr, arith, length, refl, subst, sym, ◌∙◌}
+use Rattle.std.proofs.Common.{◌≡◌, ◌<◌, true, false, List, [], ◌∷◌, Option, Some, None, Result, Ok, Err, IfErr, arith, length, refl, subst, sym, ◌∙◌}
 use Rattle.vortex_base.specs.Trees.Tree.{Tree, Place, has_bare_column}
 use Rattle.vortex_base.specs.declared.dtype.DType.{DType}
 use Rattle.vortex_prune.proofs.Rewriting.CauseLemmas.{met-const}
@@ -11,7 +11,7 @@ use Rattle.vortex_prune.specs.Rewriting.Lawful.{OwnRule}
 use Rattle.vortex_prune.specs.Part.{PartData}
 use Rattle.vortex_prune.specs.Rewriting.Falsifiers.{falsifier}
 use Rattle.vortex_prune.specs.Rewriting.RuleRefusals.{rule_causes}
-use Rattle.vortex_prune.specs.Scanning.ScanRefusals.{IsMemory, is_open}
+use Rattle.vortex_prune.specs.Scanning.ScanRefusals.{IsMemory}
 use Rattle.vortex_prune.specs.Rewriting.Visited.{visited}
 use Rattle.vortex_prune.specs.Scanning.ZoneScans.{is_left_open, open_causes, zone_causes}
 use Rattle.vortex_stats.specs.declared.error.BinderFault.TheVariants as binder_fault

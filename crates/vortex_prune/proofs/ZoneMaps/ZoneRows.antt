@@ -1,14 +1,14 @@
 -- A row of a table of zones has the table's types, and tells what its part's statistics do.
-use Rattle.std.proofs.Common.{◌≡◌, ℕ, zero, suc, Bool, true, false, List, [], ◌∷◌, Option, Some, None, Ok, Err, map, refl, subst, sym, ap, ◌∙◌}
-use Rattle.std.specs.Prelude.{◌&&◌, ◌+◌, IsTrue, Result, if◌then◌else◌, length, option_map, slice_get}
+use Rattle.std.proofs.Common.{◌≡◌, ℕ, zero, suc, Bool, true, false, List, [], ◌∷◌, Option, Some, None, map, refl, subst, sym, ap, ◌∙◌}
+use Rattle.std.specs.Prelude.{◌+◌, IsTrue, if◌then◌else◌, length, option_map, slice_get}
 use Rattle.std.proofs.lemmas.Option.{same_Some, slice_get-map}
 use lib.Pointwise.{pointwise}
-use Rattle.vortex_base.specs.Data.Columns.{ColumnData, IsChunk, cell_value, has_types, row_count as rows_of, row_of, value_at}
+use Rattle.vortex_base.specs.Data.Columns.{ColumnData, cell_value, has_types, row_count as rows_of, row_of, value_at}
 use Rattle.vortex_base.specs.Data.Exact.{both_hold, both_true}
 use Rattle.vortex_base.specs.Data.Scalars.{Constant}
 use Rattle.vortex_base.specs.Data.Scopes.{Named}
 use Rattle.vortex_base.specs.Trees.Tree.{Place, Tree, column}
-use Rattle.vortex_base.specs.Data.Types.{as_nullable, dtype_eq, dtype_eq_is_exact, eq_ignore_nullability}
+use Rattle.vortex_base.specs.Data.Types.{dtype_eq, dtype_eq_is_exact, eq_ignore_nullability}
 use Rattle.vortex_base.specs.declared.aggregate.AggregateFnRef.{AggregateFnRef}
 use Rattle.vortex_base.specs.declared.aggregate.AggregateFnRef.TheVariants as aggregate
 use Rattle.vortex_base.specs.declared.dtype.DType.{DType}

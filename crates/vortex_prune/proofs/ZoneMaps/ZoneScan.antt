@@ -1,8 +1,8 @@
 -- A scan by a table of zones finds what one by each part's own statistics does.
-use Rattle.std.proofs.Common.{◌≡◌, ◌<◌, ◌≤◌, ◌+◌, ◌++◌, All, ℕ, zero, suc, Bool, true, false, not, List, [], ◌∷◌, Option, Some, None, arith, get_or, inl, length, map, refl, subst, sym, ap, take, ◌∙◌}
+use Rattle.std.proofs.Common.{◌≡◌, All, ℕ, zero, suc, Bool, true, false, not, List, [], ◌∷◌, Option, Some, None, alloc_error, arith, inl, inr, length, map, refl, subst, sym, ap, ◌∙◌}
 use Rattle.std.specs.Prelude.{Err, IfOk, Ok, Result, if◌then◌else◌, slice_get, IsTrue}
 use Rattle.std.proofs.lemmas.List.{length-map}
-use Rattle.std.proofs.lemmas.Option.{same_Some, slice_get_read, slice_get_within}
+use Rattle.std.proofs.lemmas.Option.{same_Some, slice_get_within}
 use Rattle.vortex_base.specs.Meanings.Fitting.{fits_row, fits_scope}
 use Rattle.vortex_base.specs.Data.Scalars.{Constant}
 use Rattle.vortex_base.specs.Data.Columns.{ChunkData, IsChunk, row_count as rows_of, row_of}
@@ -10,34 +10,55 @@ use Rattle.vortex_base.specs.Data.Exact.{both_true}
 use Rattle.vortex_base.specs.Meanings.Meaning.{is_true, meaning}
 use Rattle.vortex_base.specs.Data.Scopes.{Named, is_empty}
 use Rattle.vortex_base.specs.Trees.Tree.{Place, Tree, has_bare_column, has_placeholder}
-use Rattle.vortex_prune.proofs.Scanning.ScanLemmas.{all_taken, selected_in, skipped_in}
+use Rattle.vortex_prune.proofs.BinderScan.{answered_there}
+use Rattle.vortex_prune.proofs.Scanning.ScanLemmas.{answered_long}
 use Rattle.vortex_prune.proofs.Scanning.WholeScan.{all_at}
 use Rattle.std.proofs.lemmas.List.Elements.{recursion_from_All}
 use Rattle.vortex_prune.proofs.ZoneMaps.ZoneRows.{row_is_zone_row, values_same}
 use Rattle.vortex_prune.specs.declared.scan.outcome.Scan.{Scan}
 use Rattle.vortex_stats.specs.declared.error.StatsError.{StatsError}
+use Rattle.vortex_stats.specs.declared.error.StatsError.TheVariants.{Memory}
 use Rattle.vortex_prune.specs.Binding.BoundTo.{HasNoColumnOn, WhereFaithful}
-use Rattle.vortex_prune.specs.Part.{IsPart, PartData}
+use Rattle.vortex_prune.specs.Part.{PartData}
+use Rattle.vortex_prune.specs.PartScans.{IsRefusedAt, TellsOf}
 use Rattle.vortex_prune.specs.Binding.PartAnswers.{part_values}
-use Rattle.vortex_prune.specs.Rewriting.Proof.{Assignment, proves, value_under}
-use Rattle.vortex_prune.specs.Scanning.Selection.{is_skipped, place_if, rows_unless, selected_rows, skipped_parts}
+use Rattle.vortex_prune.specs.Rewriting.Proof.{Assignment, value_under}
+use Rattle.vortex_prune.specs.Scanning.Selection.{Answered, is_skipped, selected_rows, skipped_parts}
 use Rattle.vortex_prune.specs.Scanning.ZoneScans.{CanTell, TellsAs, own_answers, zone_truth}
 use Rattle.vortex_prune.specs.Zones.{HaveScope, Head, ZonesData, heads, is_zone_row, named_head, zone_column, zone_columns, zone_table, zone_values}
 
--- ---- one more part was looked at
+-- ---- a scan by the rows of the table, as one part by part
 
-pub skipped_on : (proof : Option (Tree Place)) (parts : List PartData) (n : ℕ) (part : PartData) (b : Bool) (xs new : List ℕ) → n < length parts → part ≡ get_or parts n part → b ≡ is_skipped proof part (part_values part)
-    → new ≡ xs ++ place_if b n → xs ≡ skipped_parts proof (take n (own_answers parts)) → new ≡ skipped_parts proof (take (n + 1) (own_answers parts))
-skipped_on proof parts n part b xs new h is told pushed before =
-    pushed ∙ ap (λ t. xs ++ place_if t n) told ∙ skipped_in (λ (p : PartData) row k. part_values p) proof parts parts n part part xs refl h is is before
+-- the answers that stand with a part are those of its own statistics
+own_answer : (parts : List PartData) (i : ℕ) (d : Answered) → slice_get (own_answers parts) i ≡ Some d → (slice_get parts i ≡ Some d.0) × (part_values d.0 ≡ d.1)
+own_answer [] i d e = absurd cc
+own_answer (p ∷ parts) zero d e =
+    let own : Answered = (p, part_values p) in
+    subst (λ (c : Answered). (Some p ≡ Some c.0) × (part_values c.0 ≡ c.1)) (same_Some own d e) (refl, refl)
+own_answer (p ∷ parts) (suc i) d e = own_answer parts i d e
 
-pub selected_on : (proof : Option (Tree Place)) (p : Tree Place) (parts : List PartData) (n : ℕ) (part : PartData) (b : Bool) (xs new : List (ℕ × ℕ)) → n < length parts → part ≡ get_or parts n part → b ≡ is_skipped proof part (part_values part)
-    → new ≡ xs ++ rows_unless b p n part.chunk → xs ≡ selected_rows proof p (take n (own_answers parts)) → new ≡ selected_rows proof p (take (n + 1) (own_answers parts))
-selected_on proof p parts n part b xs new h is told pushed before =
-    pushed ∙ ap (λ t. xs ++ rows_unless t p n part.chunk) told ∙ selected_in (λ (q : PartData) row k. part_values q) proof p parts parts n part part xs refl h is is before
+own_there : (parts : List PartData) (i : ℕ) (part : PartData) → slice_get parts i ≡ Some part → (d : Answered) × (slice_get (own_answers parts) i ≡ Some d) × (d.0 ≡ part)
+own_there parts i part e = answered_there (λ (p : PartData) row n. part_values p) parts parts i part refl e
 
-pub own_taken : (parts : List PartData) (n : ℕ) → length parts ≤ n → take n (own_answers parts) ≡ own_answers parts
-own_taken parts n h = all_taken (λ (p : PartData) row k. part_values p) parts parts n refl h
+abbrev table_told : (bound : Option (Tree Place)) → ZonesData → ℕ → PartData → Bool → Type 0
+table_told bound z i part b = b ≡ zone_truth bound z i (rows_of part.chunk.columns)
+
+own_tell : (bound proof : Option (Tree Place)) (z : ZonesData) → TellsAs bound proof z → TellsOf (table_told bound z) proof z.parts (own_answers z.parts)
+own_tell bound proof z tells = record {
+  long = answered_long (λ (p : PartData) row n. part_values p) z.parts z.parts refl;
+  there = own_there z.parts;
+  same = λ i d b e is told.
+      let own = own_answer z.parts i d e in
+      told ∙ tells i d.0 own.0 is ∙ ap (is_skipped proof d.0) own.1;
+}
+
+pub table_tells : (bound proof : Option (Tree Place)) (z : ZonesData) (parts : List PartData) → parts ≡ z.parts → TellsAs bound proof z → TellsOf (table_told bound z) proof parts (own_answers z.parts)
+table_tells bound proof z parts same tells = subst (λ (ps : List PartData). TellsOf (table_told bound z) proof ps (own_answers z.parts)) (sym same) (own_tell bound proof z tells)
+
+-- for memory alone
+pub refused_alone : (parts : List PartData) (f : StatsError) → IsRefusedAt (λ i part g. g ≡ Memory alloc_error) parts f → f ≡ Memory alloc_error
+refused_alone parts f (inl memory) = memory
+refused_alone parts f (inr h) = h.3
 
 -- ---- the table has a row for each part
 
@@ -88,11 +109,6 @@ tells_none z r part at is = refl
 
 pub tells_nothing : (z : ZonesData) (bound proof : Option (Tree Place)) → length z.parts ≡ 0 → TellsAs bound proof z
 tells_nothing z bound proof h r part at is = absurd (omega (arith, h, slice_get_within z.parts r part at))
-
-pub told_in : (bound proof : Option (Tree Place)) (z : ZonesData) (ps : List PartData) (n k : ℕ) (part : PartData) (b : Bool) → ps ≡ z.parts → TellsAs bound proof z → n < length ps → part ≡ get_or ps n part → IsPart part → k ≡ rows_of part.chunk.columns
-    → b ≡ zone_truth bound z n k → b ≡ is_skipped proof part (part_values part)
-told_in bound proof z ps n k part b same tells h is own rows e =
-    e ∙ ap (zone_truth bound z n) rows ∙ tells n part (sym (ap (λ l. slice_get l n) same) ∙ slice_get_read ps (length ps) n part refl h is) own
 
 pub can_fit : (o : Option (Tree Place)) (b : Tree Place) (z : ZonesData) (r : ℕ) (row : List Constant) → CanTell o z → o ≡ Some b → row ≡ row_of r (zone_columns z) → IsTrue (fits_row b row)
 can_fit None b z r row can is at = absurd cc

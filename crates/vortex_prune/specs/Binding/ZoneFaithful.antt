@@ -1,25 +1,22 @@
 -- The binder over the rows of a table of zones is faithful.
-use Rattle.std.specs.Prelude.{◌≡◌, ℕ, ◌+◌, Bool, true, false, List, [], ◌∷◌, ◌++◌, Option, Some, None, Result, Ok, Err, IsTrue, length, map, position, option_map, slice_get, if◌then◌else◌, refl}
-use Rattle.std.specs.List.{filter}
-use Rattle.std.proofs.Common.{ap, arith, cond, rules, suc, sym, zero, ◌∙◌}
+use Rattle.std.specs.Prelude.{◌≡◌, ℕ, ◌+◌, Bool, true, false, List, [], ◌∷◌, ◌++◌, Option, Some, None, Ok, IsTrue, length, map, position, option_map, slice_get, if◌then◌else◌, refl}
+use Rattle.std.proofs.Common.{ap, arith, rules, suc, sym, zero, ◌∙◌}
 use Rattle.std.proofs.Common.{get_or}
 use Rattle.std.proofs.lemmas.List.{length-map}
 use Rattle.std.proofs.lemmas.List.Quantifiers.{position-Some}
 use Rattle.std.proofs.lemmas.Option.{same_Some, slice_get-get_or, slice_get-map}
 use lib.Pointwise.{pointwise}
-use Rattle.vortex_base.specs.Data.Columns.{cell_value}
 use Rattle.vortex_base.specs.Data.Exact.{IsExact, both_true}
 use Rattle.vortex_base.specs.Meanings.Fitting.{fits_row, is_cell_of}
 use Rattle.vortex_base.specs.Meanings.Meaning.{meaning}
 use Rattle.vortex_base.specs.Data.Scalars.{Constant, null_of}
 use Rattle.vortex_base.specs.Data.Scopes.{Named}
-use Rattle.vortex_base.specs.Trees.Tree.{Place, Tree, column, has_placeholder, literal, stat}
+use Rattle.vortex_base.specs.Trees.Tree.{Place, Tree, column, has_placeholder, stat}
 use Rattle.vortex_base.specs.Trees.TreeEq.{aggregate_eq}
 use Rattle.vortex_base.specs.Data.Types.{as_nullable, dtype_eq, dtype_eq_is_exact, eq_ignore_nullability}
 use Rattle.vortex_base.specs.Meanings.Typing.{stat_type, type_of}
 use Rattle.vortex_base.specs.declared.aggregate.AggregateFnRef.{AggregateFnRef}
 use Rattle.vortex_base.specs.declared.dtype.DType.{DType}
-use Rattle.vortex_base.specs.declared.error.BaseError.{BaseError}
 use Rattle.vortex_prune.specs.Binding.Binders.{IsAnswerOf, IsFaithful}
 use Rattle.vortex_prune.specs.Binding.PartBinder.{IsNullOf}
 use Rattle.vortex_prune.specs.Binding.PartFaithful.{literal_is_answer}

@@ -1,19 +1,13 @@
 //! What a scan found.
-ghost use Rattle.std.specs.Prelude.{◌≡◌, ◌++◌, [], IfErr, IfOk, IsTrue, OnOk, alloc_error, option_copied};
-ghost use Rattle.vortex_base.specs.Data.Columns.{row_count};
+ghost use Rattle.std.specs.Prelude.{◌≡◌, ◌++◌, IfErr, IsTrue, OnOk, alloc_error};
 ghost use Rattle.vortex_base.specs.Meanings.Fitting.{fits_scope};
 ghost use Rattle.vortex_base.specs.Trees.Tree.{is_plain};
 ghost use Rattle.vortex_prune.specs.Part.{IsPart};
-ghost use Rattle.vortex_prune.specs.Scanning.Selection.{is_skipped, kept_rows, place_if, rows_unless};
-ghost use Rattle.vortex_prune.specs.Scanning.Causes.{IsRefusal};
-ghost use Rattle.vortex_prune.specs.Scanning.ScanRefusals.{IsClosed, if_faithful, proof_causes};
+ghost use Rattle.vortex_prune.specs.Scanning.Selection.{place_if, rows_unless};
 ghost use Rattle.vortex_stats.specs.declared.error.StatsError.TheVariants.{Memory};
 
-use crate::bind::stat_binder::StatBinder;
 use crate::part::Part;
 use crate::scan::select::select;
-use crate::scan::skip::is_skipped;
-use std::alloc::Global;
 use vortex_base::bound_expression::BoundExpression;
 use vortex_stats::error::StatsError;
 
@@ -27,37 +21,6 @@ pub struct Scan {
 }
 
 impl Scan {
-    // Looks at the part at a place: it is skipped, or its satisfying rows are selected.
-    pub(crate) fn visit<B: StatBinder>(
-        &mut self,
-        alloc: Global,
-        place: usize,
-        part: &Part,
-        binder: &B,
-        predicate: &BoundExpression,
-        proof: Option<&BoundExpression>,
-    ) -> Result<(), StatsError>
-        requires plain { IsTrue (is_plain predicate.now) }
-        requires fits { IsTrue (fits_scope predicate.now part.now.chunk.scope) }
-        ensures skipped { let n = row_count part.now.chunk.columns in
-            OnOk result (IsTrue (B.is_faithful_over binder.now [] n) → self.new.skipped.items ≡ self.old.skipped.items ++ place_if (is_skipped (option_copied proof.entry) part.now (B.value binder.now [] n)) place) }
-        ensures selected { let n = row_count part.now.chunk.columns in
-            OnOk result (IsTrue (B.is_faithful_over binder.now [] n) → self.new.selected.items ≡ self.old.selected.items ++ kept_rows (option_copied proof.entry) predicate.now place (part.now, B.value binder.now [] n)) }
-        ensures is_part { IsPart part.now }
-        ensures closed { IfOk result (λ _. IsClosed (B.answer binder.now) (B.is_missing binder.now)
-            (option_copied proof.entry)) }
-        ensures refusal { IfErr result (IsRefusal (proof_causes (B.answer binder.now)
-            (B.is_missing binder.now) (B.can_fault binder.now) (option_copied proof.entry))) }
-        ensures faithful { let n = row_count part.now.chunk.columns in
-            let causes = proof_causes (B.answer binder.now) (B.is_missing binder.now) (B.can_fault binder.now) in
-            IfErr result (λ f. IsTrue (B.is_faithful_over binder.now [] n)
-            → IsRefusal (if_faithful (option_copied proof.entry) (causes (option_copied proof.entry))) f) }
-    {
-        let _chunk = part.chunk();
-        let skipped = is_skipped(alloc, proof, part, binder)?;
-        self.record(place, part, skipped, predicate)
-    }
-
     // Records a part: it was skipped, or its satisfying rows are selected.
     pub(crate) fn record(
         &mut self,

@@ -21,6 +21,8 @@ use crate::bind::bind_stats_of;
 use crate::bind::stat_binder::StatBinder;
 use crate::bind::stats_binder::StatsBinder;
 use crate::bind::zone_binder::ZoneBinder;
+use crate::part::Part;
+use crate::part_scan::{SkipTest, scan_parts};
 use crate::rewrite::falsify;
 use crate::rewrite::rule::StatsRewriteRule;
 use crate::rewrite::rules::Rules;
@@ -94,6 +96,33 @@ fn is_skipped_on(
     }
 }
 
+// Whether a part is skipped by a bound proof, if there is one, on the part's row of the table.
+#[derive(Drop)]
+struct ByTable<'a> {
+    zones: &'a Zones,
+    bound: Option<&'a BoundExpression>,
+}
+
+impl<'a> SkipTest for ByTable<'a> {
+    ghost use Rattle.std.specs.Prelude.{◌≡◌, ◌<◌, alloc_error, length, option_copied};
+    ghost use Rattle.vortex_base.specs.Data.Columns.{row_count};
+    ghost use Rattle.vortex_prune.specs.Scanning.ZoneScans.{CanTell, zone_truth};
+    ghost use Rattle.vortex_stats.specs.declared.error.StatsError.TheVariants.{Memory};
+
+    ghost able = { λ s i. (i < length s.zones.now.parts)
+        × CanTell (option_copied s.bound) s.zones.now };
+
+    ghost tells = { λ s i part b. b
+        ≡ zone_truth (option_copied s.bound) s.zones.now i (row_count part.chunk.columns) };
+
+    ghost refuses = { λ s i part f. f ≡ Memory alloc_error };
+
+    fn is_skipped(&self, _alloc: Global, place: usize, part: &Part) -> Result<bool, StatsError> {
+        let rows = part.chunk().rows() as u64;
+        is_skipped_on(self.zones, place, self.bound, rows)
+    }
+}
+
 // The scan by a bound proof, if there is one.
 fn scan_bound(
     alloc: Global,
@@ -112,18 +141,7 @@ fn scan_bound(
         → scan.selected.items ≡ selected_rows proof predicate.now (own_answers zones.now.parts)) }
     ensures memory { IfErr result (λ f. f ≡ Memory alloc_error) }
 {
-    let mut scan = Scan {
-        selected: Vec::new(alloc),
-        skipped: Vec::new(alloc),
-    };
-    let parts = zones.parts();
-    for place in 0..parts.len() {
-        let part = &parts[place];
-        let rows = part.chunk().rows() as u64;
-        let skipped = is_skipped_on(zones, place, bound, rows)?;
-        scan.record(place, part, skipped, predicate)?;
-    }
-    Ok(scan)
+    scan_parts(alloc, zones.parts(), predicate, &ByTable { zones, bound })
 }
 
 // The scan by the falsifier of the predicate.

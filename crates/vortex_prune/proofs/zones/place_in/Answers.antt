@@ -1,6 +1,5 @@
-use Rattle.std.proofs.Common.{◌≡◌, ◌<◌, ◌+◌, Some, None, Fits, ap, arith, length, map, sym, w64, ◌∙◌}
+use Rattle.std.proofs.Common.{◌+◌, Some, ap, arith, length, sym, ◌∙◌}
 use Rattle.std.specs.Prelude.{slice_get}
-use Rattle.vortex_prune.specs.Zones.{heads, named_head, starts_from}
 use Rattle.vortex_prune.proofs.ZoneMaps.ZonePlaces.{none_offset, none_past, none_typed, place_within, read_past, read_start, some_place, start_within}
 use Rattle.vortex_prune.proofs.zones.place_in.Goals as goal
 

@@ -1,4 +1,4 @@
-use Rattle.std.proofs.Common.{◌≡◌, ◌<◌, arith, length}
+use Rattle.std.proofs.Common.{arith}
 use Rattle.vortex_prune.specs.Zones.{aggregates}
 use Rattle.vortex_prune.proofs.ZoneMaps.ZoneTables.{headed_at}
 use Rattle.vortex_prune.proofs.zones.push_heads.Goals as goal

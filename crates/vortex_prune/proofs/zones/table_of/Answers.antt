@@ -1,4 +1,4 @@
-use Rattle.std.proofs.Common.{◌≡◌, ap, map, sym, ◌∙◌}
+use Rattle.std.proofs.Common.{ap, map, sym, ◌∙◌}
 use Rattle.std.specs.Prelude.{slice_get}
 use Rattle.vortex_base.specs.Data.Scopes.{named_columns}
 use Rattle.vortex_prune.specs.Zones.{zone_column}

@@ -1,4 +1,4 @@
-use Rattle.std.proofs.Common.{◌≡◌, ◌++◌, [], ◌∷◌, ap, arith, ◌∙◌}
+use Rattle.std.proofs.Common.{◌++◌, [], ◌∷◌, ap, arith, ◌∙◌}
 use Rattle.vortex_prune.specs.Zones.{Head, zone_value}
 use Rattle.vortex_prune.proofs.Scanning.ScanLemmas.{all_below, below_more}
 use Rattle.vortex_prune.proofs.ZoneMaps.ZoneTables.{mapped_more}

@@ -1,6 +1,5 @@
 // Scans over tables of texts and of nulls, beside the scans by each part's binder.
 use super::*;
-use crate::part::Part;
 use crate::testing::{both_scans, zones_of};
 use std::alloc::AllocError;
 use std::test::Fail;

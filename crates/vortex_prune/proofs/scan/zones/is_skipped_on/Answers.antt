@@ -1,4 +1,4 @@
-use Rattle.std.proofs.Common.{◌≡◌, ap, arith, length, ◌∙◌}
+use Rattle.std.proofs.Common.{ap, arith, ◌∙◌}
 use Rattle.std.specs.Prelude.{option_copied}
 use Rattle.vortex_base.specs.Data.Columns.{ChunkData, row_of}
 use Rattle.vortex_prune.proofs.ZoneMaps.ZoneScan.{can_fit, table_rows}
