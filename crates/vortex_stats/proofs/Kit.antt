@@ -1,4 +1,4 @@
--- The lemmas of this crate that proofs of other crates may cite; the other files are its own.
+-- The lemmas of this crate that proofs of other crates may cite; the other files are for this crate alone.
 -- What is read of a set that fits its column fits the statistic.
 pub use Rattle.vortex_stats.proofs.Sets.Fitting.{entry_value-fits}
 -- A merge of sets that fit fits, and one of sets that are true of two columns is true of the appended column.

@@ -1,4 +1,5 @@
 pub mod Bounds
+pub mod Copies
 pub mod Merging
 pub mod Precision
 pub mod Scalars

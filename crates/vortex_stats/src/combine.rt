@@ -6,17 +6,20 @@ ghost use Rattle.vortex_base.specs.declared.dtype.DType.TheVariants as types;
 ghost use Rattle.vortex_base.specs.declared.types.Nullability.TheVariants.{NonNullable};
 ghost use Rattle.vortex_base.specs.Data.Values.{is_value};
 ghost use Rattle.vortex_stats.specs.Bounds.Bound.{ClonesEqual, intersection_map};
+ghost use Rattle.vortex_stats.specs.Bounds.Bound.{IntersectionHoldsFallible};
 ghost use Rattle.vortex_stats.specs.Precision.{precision_map, IfPresent};
 ghost use Rattle.vortex_stats.specs.Scalars.{IsAnswerOrMemory};
 ghost use Rattle.vortex_stats.specs.Sets.Entries.{entries_fit, value_fits, AreDistinct};
 ghost use Rattle.vortex_stats.specs.Sets.Changes.{changed_by};
 ghost use Rattle.vortex_stats.specs.Merging.Combined.{intersection_of, combined, Combines};
-ghost use Rattle.vortex_stats.specs.Merging.CombineSteps.{truth_value, meeting, IsChange};
+ghost use Rattle.vortex_stats.specs.Merging.CombineSteps.{truth_value, meeting, IsChange, IsAnswerOrCopy};
+ghost use Rattle.vortex_stats.specs.Copies.{combination_copies};
+ghost use Rattle.vortex_stats.specs.StatsError.{OnMemory};
 
 use crate::bound::IntersectionResult;
 use crate::error::StatsError;
 use crate::merge::{self, Change};
-use crate::precision::Precision;
+use crate::precision::{self, Precision};
 use crate::stat::{self, Stat};
 use crate::stat_bound::{StatBound, StatType};
 use crate::stats_set::StatsSet;
@@ -27,15 +30,17 @@ use vortex_base::scalar_value::ScalarValue;
 /// What two values of the statistic `S` meet in, under its bound; None where a value is absent.
 /// `Conflict` where the values contradict each other.
 pub(crate) fn combine<T: Ord + Clone, S: StatType<T>>(
-    own: Precision<T>,
+    left: Precision<T>,
     other: Precision<T>,
 ) -> Result<Option<Precision<T>>, StatsError>
     requires { ClonesEqual T.is_clone }
-    ensures { IsAnswerOrMemory (meeting S.STAT (S.Bound.intersection own other)) result }
+    ensures answer { IsAnswerOrMemory (meeting S.STAT (S.Bound.intersection left other)) result }
+    ensures memory { OnMemory result (IntersectionHoldsFallible T.is_infallible
+        (S.Bound.intersection left other)) }
 {
-    let own = <S::Bound as StatBound<T>>::lift(own);
+    let left = <S::Bound as StatBound<T>>::lift(left);
     let other = <S::Bound as StatBound<T>>::lift(other);
-    match own.intersection(&other)? {
+    match left.intersection(&other)? {
         Some(IntersectionResult::Value(bound)) => Ok(Some(bound.into_value())),
         Some(IntersectionResult::Empty) => Err(StatsError::Conflict(S::STAT)),
         None => Ok(None),
@@ -44,14 +49,15 @@ pub(crate) fn combine<T: Ord + Clone, S: StatType<T>>(
 
 /// The same of values of any kind. One value is cloned at most.
 fn combine_values<'a, S: StatType<&'a ScalarValue>>(
-    own: Precision<&'a ScalarValue>,
+    left: Precision<&'a ScalarValue>,
     other: Precision<&'a ScalarValue>,
 ) -> Result<Option<Precision<ScalarValue>>, StatsError>
-    ensures { IsAnswerOrMemory (meeting S.STAT (option_map (intersection_map (precision_map (λ v. v.now)))
-        (S.Bound.intersection own.entry other.entry))) result }
+    ensures { let met = option_map (intersection_map (precision_map (λ v. v.now)))
+        (S.Bound.intersection left.entry other.entry) in
+        IsAnswerOrCopy (meeting S.STAT met) result }
 {
-    match combine::<&'a ScalarValue, S>(own, other)? {
-        Some(value) => Ok(Some(value.cloned()?)),
+    match combine::<&'a ScalarValue, S>(left, other)? {
+        Some(value) => Ok(Some(precision::copied(value)?)),
         None => Ok(None),
     }
 }
@@ -71,17 +77,18 @@ fn truth_of(value: Precision<&ScalarValue>) -> Precision<bool>
 
 /// The same of truth values.
 fn combine_truths<S: StatType<bool>>(
-    own: Precision<&ScalarValue>,
+    left: Precision<&ScalarValue>,
     other: Precision<&ScalarValue>,
 ) -> Result<Option<Precision<ScalarValue>>, StatsError>
-    requires own_truth { IfPresent own (λ v. IsTrue (is_value v.now (types.Bool NonNullable))) }
+    requires left_truth { IfPresent left (λ v. IsTrue (is_value v.now (types.Bool NonNullable))) }
     requires other_truth { IfPresent other (λ v. IsTrue (is_value v.now (types.Bool NonNullable))) }
-    ensures { let own_truth = truth_value (precision_map (λ v. v.now) own.entry) in
+    ensures { let left_truth = truth_value (precision_map (λ v. v.now) left.entry) in
         let other_truth = truth_value (precision_map (λ v. v.now) other.entry) in
-        IsAnswerOrMemory (meeting S.STAT (option_map (intersection_map (precision_map scalars.Bool))
-        (S.Bound.intersection own_truth other_truth))) result }
+        let met = option_map (intersection_map (precision_map scalars.Bool))
+        (S.Bound.intersection left_truth other_truth) in
+        IsAnswerOrCopy (meeting S.STAT met) result }
 {
-    match combine::<bool, S>(truth_of(own), truth_of(other))? {
+    match combine::<bool, S>(truth_of(left), truth_of(other))? {
         Some(Precision::Exact(holds)) => Ok(Some(Precision::Exact(ScalarValue::Bool(holds)))),
         Some(Precision::Inexact(holds)) => Ok(Some(Precision::Inexact(ScalarValue::Bool(holds)))),
         Some(Precision::Absent) => Ok(Some(Precision::Absent)),
@@ -93,52 +100,55 @@ fn combine_truths<S: StatType<bool>>(
 fn met_value(
     stat: Stat,
     dtype: &DType,
-    own: Precision<&ScalarValue>,
+    left: Precision<&ScalarValue>,
     other: Precision<&ScalarValue>,
 ) -> Result<Option<Precision<ScalarValue>>, StatsError>
-    requires own_fits { IsTrue (value_fits stat dtype.now (precision_map (λ v. v.now) own)) }
+    requires left_fits { IsTrue (value_fits stat dtype.now (precision_map (λ v. v.now) left)) }
     requires other_fits { IsTrue (value_fits stat dtype.now (precision_map (λ v. v.now) other)) }
-    ensures { IsAnswerOrMemory (meeting stat (intersection_of stat (precision_map (λ v. v.now) own.entry)
-        (precision_map (λ v. v.now) other.entry))) result }
+    ensures { let met = intersection_of stat (precision_map (λ v. v.now) left.entry)
+        (precision_map (λ v. v.now) other.entry) in
+        IsAnswerOrCopy (meeting stat met) result }
 {
     let _ = dtype;
     match stat {
-        Stat::IsConstant => combine_truths::<stat::IsConstant>(own, other),
-        Stat::IsSorted => combine_truths::<stat::IsSorted>(own, other),
-        Stat::IsStrictSorted => combine_truths::<stat::IsStrictSorted>(own, other),
-        Stat::Max => combine_values::<stat::Max>(own, other),
-        Stat::Min => combine_values::<stat::Min>(own, other),
-        Stat::Sum => combine_values::<stat::Sum>(own, other),
-        Stat::NullCount => combine_values::<stat::NullCount>(own, other),
+        Stat::IsConstant => combine_truths::<stat::IsConstant>(left, other),
+        Stat::IsSorted => combine_truths::<stat::IsSorted>(left, other),
+        Stat::IsStrictSorted => combine_truths::<stat::IsStrictSorted>(left, other),
+        Stat::Max => combine_values::<stat::Max>(left, other),
+        Stat::Min => combine_values::<stat::Min>(left, other),
+        Stat::Sum => combine_values::<stat::Sum>(left, other),
+        Stat::NullCount => combine_values::<stat::NullCount>(left, other),
         Stat::UncompressedSizeInBytes => combine_values::<stat::UncompressedSizeInBytes>(
-            own, other,
+            left, other,
         ),
-        Stat::NaNCount => combine_values::<stat::NaNCount>(own, other),
+        Stat::NaNCount => combine_values::<stat::NaNCount>(left, other),
     }
 }
 
-/// What an entry of the other set makes of the own value. One value is cloned at most.
+/// What an entry of the other set makes of the left value. One value is copied at most.
 fn entry_change(
-    own: Precision<&ScalarValue>,
+    left: Precision<&ScalarValue>,
     dtype: &DType,
     entry: &(Stat, Precision<ScalarValue>),
 ) -> Result<Change, StatsError>
-    requires own_fits { IsTrue (value_fits entry.now.0 dtype.now (precision_map (λ v. v.now) own)) }
+    requires left_fits { let value = precision_map (λ v. v.now) left in
+        IsTrue (value_fits entry.now.0 dtype.now value) }
     requires entry_fits { IsTrue (value_fits entry.now.0 dtype.now entry.now.1) }
-    ensures change { IsChange entry.now.0 (precision_map (λ v. v.now) own.entry) entry.now.1 result }
+    ensures change { let value = precision_map (λ v. v.now) left.entry in
+        IsChange entry.now.0 value entry.now.1 result }
 {
     let other = entry.1.as_ref();
     if other.is_absent() {
-        return Ok(if own.is_absent() {
+        return Ok(if left.is_absent() {
             Change::Cleared
         } else {
             Change::Kept
         });
     }
-    if own.is_absent() {
-        return Ok(Change::Set(other.cloned()?));
+    if left.is_absent() {
+        return Ok(Change::Set(precision::copied(other)?));
     }
-    match met_value(entry.0, dtype, own, other)? {
+    match met_value(entry.0, dtype, left, other)? {
         Some(value) => Ok(Change::Set(value)),
         None => Ok(Change::Kept),
     }
@@ -159,12 +169,13 @@ fn change_each(set: &mut StatsSet, changes: EntryChanges)
 impl StatsSet {
     /// Combines what another set tells of the same array. Both sets fit the type of the column, as
     /// `fits` tells. `Conflict` if two values of a statistic contradict each other, and then the other
-    /// set's earlier entries stay combined; `Memory` if a clone of a value is refused, and then the set
-    /// stays as it was. `Memory` may come where a conflict would have come later.
+    /// set's earlier entries stay combined; `Memory` if a copy of a text or bytes is refused, and then
+    /// the set stays as it was. `Memory` may come where a conflict would have come later.
     pub fn combine_sets(&mut self, other: &Self, dtype: &DType) -> Result<(), StatsError>
-        requires own_fits { IsTrue (entries_fit self.old dtype.now) }
+        requires left_fits { IsTrue (entries_fit self.old dtype.now) }
         requires other_fits { IsTrue (entries_fit other.now dtype.now) }
         ensures combined { Combines (combined self.old other.now) self.old self.new result }
+        ensures copies { OnMemory result (IsTrue (combination_copies self.old other.now)) }
         ensures fits { IsTrue (entries_fit self.new dtype.now) }
         ensures distinct { AreDistinct other.now }
     {

@@ -5,7 +5,7 @@ ghost use Rattle.vortex_stats.specs.Bounds.UpperBound.{upper_allows, upper_union
 ghost use Rattle.vortex_stats.specs.Bounds.LowerBound.{lower_allows, lower_union, lower_intersection};
 ghost use Rattle.vortex_stats.specs.Bounds.Tightest.{IsTightestUnion, BoundTree, leaves, ArePresent, tree_union};
 ghost use Rattle.vortex_stats.specs.Bounds.Tightest.{IsGreatestOf, IsLeastOf, AnswersAlike};
-ghost use Rattle.std.specs.Prelude.{◌≡◌, ℕ, IsTrue, IsPermutation, List, MatchOption};
+ghost use Rattle.std.specs.Prelude.{◌≡◌, ℕ, IsTrue, IsPermutation, List, MatchOption, false};
 ghost use Rattle.std.specs.Ordering.{nat_cmp};
 ghost use Rattle.vortex_base.specs.declared.dtype.DType.{DType};
 ghost use Rattle.vortex_stats.specs.declared.stat.Stat.{Stat};
@@ -14,6 +14,8 @@ ghost use Rattle.vortex_stats.specs.Sets.Bitset.{IsBitsetOf, stats_in, distinct_
 ghost use Rattle.vortex_base.specs.declared.scalar_value.ScalarValue.{ScalarValue};
 ghost use Rattle.vortex_stats.specs.declared.precision.Precision.{Precision};
 ghost use Rattle.vortex_stats.specs.Merging.Merges.{merged_ordered, merged_by_steps};
+ghost use Rattle.vortex_stats.specs.Copies.{holds_long, merge_copies, combination_copies};
+ghost use Rattle.vortex_stats.specs.Sets.Entries.{entries_fit};
 
 pub mod truth;
 
@@ -71,7 +73,8 @@ pub fn state_types_agree()
 
 /// Statistics are equal, and ordered, as their numbers are.
 pub fn statistics_compare_by_number()
-    ensures order { (a b : Stat) → ⟦<Stat as Ord>⟧.cmp a b ≡ nat_cmp (stat_number a) (stat_number b) }
+    ensures order { (a b : Stat)
+        → ⟦<Stat as Ord>⟧.cmp a b ≡ nat_cmp (stat_number a) (stat_number b) }
     ensures equality { (a b : Stat) → ⟦<Stat as PartialEq>⟧.eq a b ≡ stat_eq a b }
 {}
 
@@ -93,8 +96,20 @@ pub fn bitsets_are_read_back()
         → stats_in bytes ≡ distinct_ascending stats }
 {}
 
-/// The table of a merge is what the statistics give one after the other, in the order of their numbers,
-/// where each step sees what the earlier ones left.
+/// The table of a merge is what the statistics give one after the other, in the order of their
+/// numbers, where each step sees what the earlier ones left.
 pub fn merges_go_step_by_step()
-    ensures { (own other : List (Stat × Precision ScalarValue)) → merged_ordered own other ≡ merged_by_steps own other }
+    ensures { (a b : List (Stat × Precision ScalarValue))
+        → merged_ordered a b ≡ merged_by_steps a b }
+{}
+
+/// In a column without texts and bytes no merge and no combination makes a copy that takes memory,
+/// so that neither is refused for it.
+pub fn short_values_are_not_copied()
+    ensures merged { (t : DType) (a b : List (Stat × Precision ScalarValue))
+        → holds_long t ≡ false → IsTrue (entries_fit a t) → IsTrue (entries_fit b t)
+        → merge_copies a b ≡ false }
+    ensures combined { (t : DType) (a b : List (Stat × Precision ScalarValue))
+        → holds_long t ≡ false → IsTrue (entries_fit a t) → IsTrue (entries_fit b t)
+        → combination_copies a b ≡ false }
 {}

@@ -1,8 +1,8 @@
-//! Statistics of columns: values with a precision, bounds, the kinds of statistics and sets of them.
+//! Statistics of columns: values with a precision, bounds, kinds of statistics and sets of them.
 //!
-//! A statistic's value is a [`precision::Precision`]: exact, inexact or absent. What an inexact value
-//! says depends on the statistic, and a bound of module [`bound`] tells it: an inexact maximum is an
-//! upper bound, an inexact minimum a lower one.
+//! A statistic's value is a [`precision::Precision`]: exact, inexact or absent. What an inexact
+//! value says depends on the statistic, and a bound of module [`bound`] tells it: an inexact
+//! maximum is an upper bound, an inexact minimum a lower one.
 #![tactic(auto)]
 
 pub mod bitset;
@@ -18,6 +18,8 @@ mod reading;
 pub mod stat;
 pub mod stat_bound;
 pub mod stats_set;
+#[cfg(test)]
+mod testing;
 #[cfg(test)]
 mod tests;
 pub mod typed;

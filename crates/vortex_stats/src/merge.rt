@@ -9,11 +9,12 @@ ghost use Rattle.vortex_stats.specs.declared.stat.Stat.TheVariants as stats;
 ghost use Rattle.vortex_stats.specs.Precision.{precision_map, present_value};
 ghost use Rattle.vortex_stats.specs.Sets.Entries.{entry_value, entries_fit};
 ghost use Rattle.vortex_stats.specs.Merging.Merges.{truth, is_exactly, seam, at_seam, is_below, is_at_most, sum_added, count_added, count_merged, merged_value, unordered_value, revised, merged_ordered, merged_unordered};
+ghost use Rattle.vortex_stats.specs.Copies.{is_bound_copied, merge_copies};
 ghost use Rattle.vortex_stats.specs.Sets.Changes.{made, changed, all_changed, MakesAll};
 
 use crate::bound::{LowerBound, UpperBound};
 use crate::error::StatsError;
-use crate::precision::Precision;
+use crate::precision::{self, Precision};
 use crate::stat::Stat;
 use crate::stat_bound::StatBound;
 use crate::stats_set::{MergeRefused, StatsSet};
@@ -64,10 +65,10 @@ fn is_exactly(holds: bool, value: Precision<&ScalarValue>) -> bool
 
 /// IsConstant: false if either side is exactly false; of two that are exactly true whether the exact
 /// minima are equal.
-fn is_constant_value(own: &StatsSet, other: &StatsSet) -> Option<Precision<ScalarValue>>
-    ensures { result ≡ merged_value stats.IsConstant own.now other.now }
+fn is_constant_value(left: &StatsSet, other: &StatsSet) -> Option<Precision<ScalarValue>>
+    ensures { result ≡ merged_value stats.IsConstant left.now other.now }
 {
-    let first = own.find(Stat::IsConstant);
+    let first = left.find(Stat::IsConstant);
     let second = other.find(Stat::IsConstant);
     if is_exactly(false, first) || is_exactly(false, second) {
         return Some(truth(false));
@@ -75,7 +76,7 @@ fn is_constant_value(own: &StatsSet, other: &StatsSet) -> Option<Precision<Scala
     if !is_exactly(true, first) || !is_exactly(true, second) {
         return None;
     }
-    match (own.find(Stat::Min), other.find(Stat::Min)) {
+    match (left.find(Stat::Min), other.find(Stat::Min)) {
         (Precision::Exact(x), Precision::Exact(y)) => Some(truth(x.cmp(y).is_eq())),
         _ => None,
     }
@@ -120,49 +121,53 @@ fn at_seam(
 }
 
 /// IsSorted: whether the first side's greatest value is at most the other's least.
-fn is_sorted_value(own: &StatsSet, other: &StatsSet) -> Option<Precision<ScalarValue>>
-    ensures { result ≡ merged_value stats.IsSorted own.now other.now }
+fn is_sorted_value(left: &StatsSet, other: &StatsSet) -> Option<Precision<ScalarValue>>
+    ensures { result ≡ merged_value stats.IsSorted left.now other.now }
 {
-    if is_exactly(true, own.find(Stat::IsSorted)) && is_exactly(true, other.find(Stat::IsSorted)) {
-        at_seam(own.find(Stat::Max), other.find(Stat::Min), false)
+    if is_exactly(true, left.find(Stat::IsSorted)) && is_exactly(true, other.find(Stat::IsSorted)) {
+        at_seam(left.find(Stat::Max), other.find(Stat::Min), false)
     } else {
         None
     }
 }
 
 /// IsStrictSorted: whether the first side's greatest value is below the other's least.
-fn is_strict_sorted_value(own: &StatsSet, other: &StatsSet) -> Option<Precision<ScalarValue>>
-    ensures { result ≡ merged_value stats.IsStrictSorted own.now other.now }
+fn is_strict_sorted_value(left: &StatsSet, other: &StatsSet) -> Option<Precision<ScalarValue>>
+    ensures { result ≡ merged_value stats.IsStrictSorted left.now other.now }
 {
-    if is_exactly(true, own.find(Stat::IsStrictSorted))
+    if is_exactly(true, left.find(Stat::IsStrictSorted))
         && is_exactly(true, other.find(Stat::IsStrictSorted))
     {
-        at_seam(own.find(Stat::Max), other.find(Stat::Min), true)
+        at_seam(left.find(Stat::Max), other.find(Stat::Min), true)
     } else {
         None
     }
 }
 
-/// The own value stays where the bound of both is that value; else the bound's value is cloned.
+/// The left value stays where the bound of both is that value; else the bound's value is copied.
 fn bound_change(
-    own: Precision<&ScalarValue>,
+    left: Precision<&ScalarValue>,
     bound: Precision<&ScalarValue>,
 ) -> Result<Change, AllocError>
-    ensures { IfOk result (λ c. made c (precision_map (λ v. v.now) own.entry)
+    ensures made { IfOk result (λ c. made c (precision_map (λ v. v.now) left.entry)
         ≡ Some (precision_map (λ v. v.now) bound.entry)) }
+    ensures refused { OnErr result (IsTrue (is_bound_copied (precision_map (λ v. v.now) left.entry)
+        (Some (precision_map (λ v. v.now) bound.entry)))) }
 {
-    if bound == own {
+    if bound == left {
         return Ok(Change::Kept);
     }
-    Ok(Change::Set(bound.cloned()?))
+    Ok(Change::Set(precision::copied(bound)?))
 }
 
 /// Max: the union of two upper bounds.
-fn max_change(own: &StatsSet, other: &StatsSet) -> Result<Change, AllocError>
-    ensures { IfOk result (λ c. made c (entry_value stats.Max own.now)
-        ≡ merged_value stats.Max own.now other.now) }
+fn max_change(left: &StatsSet, other: &StatsSet) -> Result<Change, AllocError>
+    ensures made { IfOk result (λ c. made c (entry_value stats.Max left.now)
+        ≡ merged_value stats.Max left.now other.now) }
+    ensures refused { OnErr result (IsTrue (is_bound_copied (entry_value stats.Max left.now)
+        (merged_value stats.Max left.now other.now))) }
 {
-    let value = own.find(Stat::Max);
+    let value = left.find(Stat::Max);
     let first = UpperBound::lift(value);
     match first.union(&UpperBound::lift(other.find(Stat::Max)))? {
         Some(bound) => bound_change(value, bound.into_value()),
@@ -171,11 +176,13 @@ fn max_change(own: &StatsSet, other: &StatsSet) -> Result<Change, AllocError>
 }
 
 /// Min: the union of two lower bounds.
-fn min_change(own: &StatsSet, other: &StatsSet) -> Result<Change, AllocError>
-    ensures { IfOk result (λ c. made c (entry_value stats.Min own.now)
-        ≡ merged_value stats.Min own.now other.now) }
+fn min_change(left: &StatsSet, other: &StatsSet) -> Result<Change, AllocError>
+    ensures made { IfOk result (λ c. made c (entry_value stats.Min left.now)
+        ≡ merged_value stats.Min left.now other.now) }
+    ensures refused { OnErr result (IsTrue (is_bound_copied (entry_value stats.Min left.now)
+        (merged_value stats.Min left.now other.now))) }
 {
-    let value = own.find(Stat::Min);
+    let value = left.find(Stat::Min);
     let first = LowerBound::lift(value);
     match first.union(&LowerBound::lift(other.find(Stat::Min)))? {
         Some(bound) => bound_change(value, bound.into_value()),
@@ -184,10 +191,10 @@ fn min_change(own: &StatsSet, other: &StatsSet) -> Result<Change, AllocError>
 }
 
 /// The sum of two sums, where it stays in their type.
-fn sum_of(own: &ScalarValue, other: &ScalarValue) -> Option<Precision<ScalarValue>>
-    ensures { result ≡ sum_added own.now other.now }
+fn sum_of(left: &ScalarValue, other: &ScalarValue) -> Option<Precision<ScalarValue>>
+    ensures { result ≡ sum_added left.now other.now }
 {
-    match (own, other) {
+    match (left, other) {
         (ScalarValue::Primitive(PValue::I64(m)), ScalarValue::Primitive(PValue::I64(n))) =>
             match m.checked_add(*n) {
                 Some(sum) => Some(Precision::Exact(ScalarValue::from(sum))),
@@ -203,10 +210,10 @@ fn sum_of(own: &ScalarValue, other: &ScalarValue) -> Option<Precision<ScalarValu
 }
 
 /// Sum: of two exact ones.
-fn sum_value(own: &StatsSet, other: &StatsSet) -> Option<Precision<ScalarValue>>
-    ensures { result ≡ merged_value stats.Sum own.now other.now }
+fn sum_value(left: &StatsSet, other: &StatsSet) -> Option<Precision<ScalarValue>>
+    ensures { result ≡ merged_value stats.Sum left.now other.now }
 {
-    match (own.find(Stat::Sum), other.find(Stat::Sum)) {
+    match (left.find(Stat::Sum), other.find(Stat::Sum)) {
         (Precision::Exact(m), Precision::Exact(n)) => sum_of(m, n),
         _ => None,
     }
@@ -214,14 +221,14 @@ fn sum_value(own: &StatsSet, other: &StatsSet) -> Option<Precision<ScalarValue>>
 
 /// The sum of two counts, where it stays below 2 ^ 64.
 fn sum_of_counts(
-    own: &ScalarValue,
+    left: &ScalarValue,
     other: &ScalarValue,
     is_exact: bool,
 ) -> Option<Precision<ScalarValue>>
     ensures { result ≡ count_added (λ v. if is_exact then precise.Exact v else precise.Inexact v)
-        own.now other.now }
+        left.now other.now }
 {
-    match (own, other) {
+    match (left, other) {
         (ScalarValue::Primitive(PValue::U64(m)), ScalarValue::Primitive(PValue::U64(n))) => {
             let sum = ScalarValue::from(m.checked_add(*n)?);
             Some(if is_exact {
@@ -236,13 +243,13 @@ fn sum_of_counts(
 
 /// NullCount and UncompressedSizeInBytes: the sum, exact of two exact ones.
 fn count_value(
-    own: Precision<&ScalarValue>,
+    left: Precision<&ScalarValue>,
     other: Precision<&ScalarValue>,
 ) -> Option<Precision<ScalarValue>>
-    ensures { result ≡ count_merged (precision_map (λ v. v.now) own.entry)
+    ensures { result ≡ count_merged (precision_map (λ v. v.now) left.entry)
         (precision_map (λ v. v.now) other.entry) }
 {
-    match own.zip(other) {
+    match left.zip(other) {
         Precision::Exact((m, n)) => sum_of_counts(m, n, true),
         Precision::Inexact((m, n)) => sum_of_counts(m, n, false),
         Precision::Absent => None,
@@ -263,29 +270,36 @@ pub(crate) struct Changes {
 }
 
 /// What becomes of each entry where the rows of the other side follow.
-fn ordered_changes(own: &StatsSet, other: &StatsSet) -> Result<Changes, AllocError>
-    ensures { IfOk result (λ c. MakesAll c (λ s. merged_value s own.now other.now) own.now) }
+fn ordered_changes(left: &StatsSet, other: &StatsSet) -> Result<Changes, AllocError>
+    ensures made { IfOk result (λ c. MakesAll c
+        (λ s. merged_value s left.now other.now) left.now) }
+    ensures refused { OnErr result (IsTrue (merge_copies left.now other.now)) }
 {
     Ok(Changes {
-        is_constant: is_constant_value(own, other),
-        is_sorted: Change::of(is_sorted_value(own, other)),
-        is_strict_sorted: Change::of(is_strict_sorted_value(own, other)),
-        max: max_change(own, other)?,
-        min: min_change(own, other)?,
-        sum: Change::of(sum_value(own, other)),
-        null_count: Change::of(count_value(own.find(Stat::NullCount), other.find(Stat::NullCount))),
+        is_constant: is_constant_value(left, other),
+        is_sorted: Change::of(is_sorted_value(left, other)),
+        is_strict_sorted: Change::of(is_strict_sorted_value(left, other)),
+        max: max_change(left, other)?,
+        min: min_change(left, other)?,
+        sum: Change::of(sum_value(left, other)),
+        null_count: Change::of(count_value(
+            left.find(Stat::NullCount),
+            other.find(Stat::NullCount),
+        )),
         uncompressed_size_in_bytes: Change::of(count_value(
-            own.find(Stat::UncompressedSizeInBytes),
+            left.find(Stat::UncompressedSizeInBytes),
             other.find(Stat::UncompressedSizeInBytes),
         )),
     })
 }
 
 /// What becomes of each entry where the order of the rows isn't known.
-fn unordered_changes(own: &StatsSet, other: &StatsSet) -> Result<Changes, AllocError>
-    ensures { IfOk result (λ c. MakesAll c (λ s. unordered_value s own.now other.now) own.now) }
+fn unordered_changes(left: &StatsSet, other: &StatsSet) -> Result<Changes, AllocError>
+    ensures made { IfOk result (λ c. MakesAll c
+        (λ s. unordered_value s left.now other.now) left.now) }
+    ensures refused { OnErr result (IsTrue (merge_copies left.now other.now)) }
 {
-    let mut changes = ordered_changes(own, other)?;
+    let mut changes = ordered_changes(left, other)?;
     changes.is_sorted = Change::Cleared;
     changes.is_strict_sorted = Change::Cleared;
     Ok(changes)
@@ -334,10 +348,11 @@ fn change_all(set: &mut StatsSet, changes: Changes)
 impl StatsSet {
     /// The merge in place. Where memory is refused, the set stays as it was.
     pub(crate) fn append(&mut self, other: &Self, dtype: &DType) -> Result<(), AllocError>
-        requires own_fits { IsTrue (entries_fit self.old dtype.now) }
+        requires left_fits { IsTrue (entries_fit self.old dtype.now) }
         requires other_fits { IsTrue (entries_fit other.now dtype.now) }
         ensures merged { OnOk result (self.new ≡ merged_ordered self.old other.now) }
         ensures refused { OnErr result (self.new ≡ self.old) }
+        ensures copies { OnErr result (IsTrue (merge_copies self.old other.now)) }
         ensures fits { IsTrue (entries_fit self.new dtype.now) }
     {
         let _ = dtype;
@@ -348,10 +363,11 @@ impl StatsSet {
 
     /// The unordered merge in place. Where memory is refused, the set stays as it was.
     pub(crate) fn mix(&mut self, other: &Self, dtype: &DType) -> Result<(), AllocError>
-        requires own_fits { IsTrue (entries_fit self.old dtype.now) }
+        requires left_fits { IsTrue (entries_fit self.old dtype.now) }
         requires other_fits { IsTrue (entries_fit other.now dtype.now) }
         ensures merged { OnOk result (self.new ≡ merged_unordered self.old other.now) }
         ensures refused { OnErr result (self.new ≡ self.old) }
+        ensures copies { OnErr result (IsTrue (merge_copies self.old other.now)) }
         ensures fits { IsTrue (entries_fit self.new dtype.now) }
     {
         let _ = dtype;
@@ -361,15 +377,16 @@ impl StatsSet {
     }
 
     /// The statistics of the array of this set followed by the array of the other. Both sets fit the
-    /// type of the column, as `fits` tells. `Memory` if a clone of a value is refused, and then this
+    /// type of the column, as `fits` tells. `Memory` if a copy of a text or bytes is refused, and then this
     /// set is handed back as it was.
     pub fn merge_ordered(mut self, other: &Self, dtype: &DType) -> Result<StatsSet, MergeRefused>
-        requires own_fits { IsTrue (entries_fit self dtype.now) }
+        requires left_fits { IsTrue (entries_fit self dtype.now) }
         requires other_fits { IsTrue (entries_fit other.now dtype.now) }
         ensures merged { IfOk result (λ set. set ≡ merged_ordered self other.now) }
         ensures fits { IfOk result (λ set. IsTrue (entries_fit set dtype.now)) }
         ensures unchanged { IfErr result (λ r. r.set ≡ self) }
         ensures memory { IfErr result (λ r. r.error ≡ Memory alloc_error) }
+        ensures copies { OnErr result (IsTrue (merge_copies self other.now)) }
     {
         match self.append(other, dtype) {
             Ok(()) => Ok(self),
@@ -381,15 +398,16 @@ impl StatsSet {
     }
 
     /// The statistics of any arrangement of the rows of both arrays. Both sets fit the type of the
-    /// column, as `fits` tells. `Memory` if a clone of a value is refused, and then this set is handed
+    /// column, as `fits` tells. `Memory` if a copy of a text or bytes is refused, and then this set is handed
     /// back as it was.
     pub fn merge_unordered(mut self, other: &Self, dtype: &DType) -> Result<StatsSet, MergeRefused>
-        requires own_fits { IsTrue (entries_fit self dtype.now) }
+        requires left_fits { IsTrue (entries_fit self dtype.now) }
         requires other_fits { IsTrue (entries_fit other.now dtype.now) }
         ensures merged { IfOk result (λ set. set ≡ merged_unordered self other.now) }
         ensures fits { IfOk result (λ set. IsTrue (entries_fit set dtype.now)) }
         ensures unchanged { IfErr result (λ r. r.set ≡ self) }
         ensures memory { IfErr result (λ r. r.error ≡ Memory alloc_error) }
+        ensures copies { OnErr result (IsTrue (merge_copies self other.now)) }
     {
         match self.mix(other, dtype) {
             Ok(()) => Ok(self),

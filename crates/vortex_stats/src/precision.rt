@@ -1,11 +1,13 @@
 //! A value with a precision.
-ghost use Rattle.std.specs.Prelude.{◌≡◌, Ok, Err, IfOk, OnErr, if◌then◌else◌};
+ghost use Rattle.std.specs.Prelude.{◌≡◌, Ok, Err, Some, IfOk, OnErr, IsTrue, if◌then◌else◌};
 ghost use Rattle.std.specs.Option.{option_map};
 ghost use Rattle.vortex_stats.specs.declared.precision.Precision.{Precision};
 ghost use Rattle.vortex_stats.specs.declared.error.StatsError.TheVariants.{Mismatch};
 ghost use Rattle.vortex_stats.specs.Bounds.Bound.{ClonesEqual};
 ghost use Rattle.vortex_stats.specs.Scalars.{precise_scalar, checked_scalar, IsAnswerOrMemory};
+ghost use Rattle.vortex_base.specs.Meanings.Meaning.{is_long};
 ghost use Rattle.vortex_base.specs.Data.Values.{is_value};
+ghost use Rattle.vortex_stats.specs.Copies.{is_copied};
 ghost use Rattle.vortex_stats.specs.Precision.{
   is_exact,
   is_absent,
@@ -245,7 +247,8 @@ impl Precision<&ScalarValue> {
     /// The same case around the scalar of this type and a clone of the value. `Mismatch` if the value
     /// is none of the type, which is found before anything is cloned; `Memory` if the clone is refused.
     pub fn into_scalar(self, dtype: DType) -> Result<Precision<Scalar>, StatsError>
-        ensures { IsAnswerOrMemory (precise_scalar (precision_map (λ v. v.now) self.entry) dtype) result }
+        ensures { let value = precision_map (λ v. v.now) self.entry in
+            IsAnswerOrMemory (precise_scalar value dtype) result }
     {
         match self {
             Precision::Exact(v) => Ok(Precision::Exact(typed_clone(v, dtype)?)),
@@ -265,13 +268,27 @@ pub(crate) fn typed(value: ScalarValue, dtype: DType) -> Result<Scalar, StatsErr
     }
 }
 
-/// A copy of a value, by the value's allocator.
+/// A copy of a value, by the value's allocator. A text or bytes alone take memory.
 pub(crate) fn copy_of(value: &ScalarValue) -> Result<ScalarValue, AllocError>
-    ensures { IfOk result (λ copy. copy ≡ value.now) }
+    ensures value { IfOk result (λ copy. copy ≡ value.now) }
+    ensures refused { OnErr result (IsTrue (is_long (Some value.now))) }
 {
-    match value.try_clone() {
-        Ok(copy) => Ok(copy),
-        Err(_) => Err(AllocError),
+    match value {
+        ScalarValue::Bool(holds) => Ok(ScalarValue::Bool(*holds)),
+        ScalarValue::Primitive(number) => Ok(ScalarValue::Primitive(*number)),
+        ScalarValue::Utf8(_) | ScalarValue::Binary(_) => value.clone(),
+    }
+}
+
+/// The same case around a copy of the value. A text or bytes alone take memory.
+pub(crate) fn copied(value: Precision<&ScalarValue>) -> Result<Precision<ScalarValue>, AllocError>
+    ensures value { IfOk result (λ copy. copy ≡ precision_map (λ v. v.now) value.entry) }
+    ensures refused { OnErr result (IsTrue (is_copied (precision_map (λ v. v.now) value.entry))) }
+{
+    match value {
+        Precision::Exact(v) => Ok(Precision::Exact(copy_of(v)?)),
+        Precision::Inexact(v) => Ok(Precision::Inexact(copy_of(v)?)),
+        Precision::Absent => Ok(Precision::Absent),
     }
 }
 

@@ -17,7 +17,8 @@ pub trait StatsProvider {
     /// The statistic's value under the statistic's type, and Absent where there is no entry.
     fn get(&self, stat: Stat) -> Result<Precision<Scalar>, AllocError>
         ensures value { IfOk result (λ p. p ≡ typed_value stat (typed self.now)) }
-        ensures refused { OnErr result (IsTrue (is_present (entry_value stat (typed self.now).values))) };
+        ensures refused { let values = (typed self.now).values in
+            OnErr result (IsTrue (is_present (entry_value stat values))) };
 
     /// The number of entries, Absent ones too.
     fn len(&self) -> usize

@@ -14,7 +14,8 @@ pub(crate) fn read_precision<T: FromScalar>(
     value: Precision<&ScalarValue>,
     dtype: DType,
 ) -> Result<Precision<T>, StatsError>
-    ensures { IsPreciselyReadAs T.can_read T.reads dtype (precision_map (λ v. v.now) value.entry) result }
+    ensures { let read = precision_map (λ v. v.now) value.entry in
+        IsPreciselyReadAs T.can_read T.reads dtype read result }
 {
     match value {
         Precision::Exact(v) => Ok(Precision::Exact(read_value(v, dtype)?)),

@@ -127,7 +127,7 @@ impl Stat {
         !matches!(self, Stat::IsSorted | Stat::IsStrictSorted)
     }
 
-    /// Whether the statistic's value is of the column's own type.
+    /// Whether the statistic's value is of the column's type.
     pub fn has_same_dtype_as_array(&self) -> bool
         ensures { result ≡ has_same_dtype_as_array self.now }
     {

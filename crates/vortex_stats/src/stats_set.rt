@@ -161,7 +161,8 @@ impl StatsSet {
         stat: Stat,
         dtype: &DType,
     ) -> Result<Precision<T>, StatsError>
-        ensures { IsPreciselyReadAs T.can_read T.reads dtype.now (entry_value stat self.now) result }
+        ensures { let value = entry_value stat self.now in
+            IsPreciselyReadAs T.can_read T.reads dtype.now value result }
     {
         reading::read_precision(self.find(stat), *dtype)
     }

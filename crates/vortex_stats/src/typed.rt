@@ -3,6 +3,8 @@ ghost use Rattle.std.specs.Prelude.{◌≡◌, IfOk, IfErr, OnErr, IsOk, IsTrue,
 ghost use Rattle.vortex_stats.specs.declared.error.StatsError.TheVariants.{Memory};
 ghost use Rattle.vortex_stats.specs.Merging.Merges.{merged_ordered, merged_unordered};
 ghost use Rattle.vortex_stats.specs.Merging.Combined.{combined, Combines};
+ghost use Rattle.vortex_stats.specs.Copies.{merge_copies, combination_copies};
+ghost use Rattle.vortex_stats.specs.StatsError.{OnMemory};
 ghost use Rattle.std.specs.Borrow.{sem};
 ghost use Rattle.vortex_base.specs.Data.Values.{is_value};
 ghost use Rattle.vortex_stats.specs.Precision.{is_present, precision_map, IfPresent};
@@ -98,7 +100,8 @@ impl<'a> StatsProvider for TypedStatsSetRef<'a> {
 /// The statistic's value under the statistic's type in a column of this type.
 fn get_typed(values: &StatsSet, dtype: &DType, stat: Stat) -> Result<Precision<Scalar>, AllocError>
     requires { IsTrue (entries_fit values.now dtype.now) }
-    ensures value { IfOk result (λ p. p ≡ typed_value stat (record { values = values.now; dtype = dtype.now })) }
+    ensures value { IfOk result (λ p. p ≡ typed_value stat
+        (record { values = values.now; dtype = dtype.now })) }
     ensures refused { OnErr result (IsTrue (is_present (entry_value stat values.now))) }
 {
     match stat.dtype(dtype) {
@@ -214,16 +217,19 @@ impl<'a> MutTypedStatsSetRef<'a> {
     ghost use Rattle.vortex_stats.specs.Sets.MutTypedStats.{typed_stats, rests_if_refused};
 
     /// The statistics of the array of this set followed by the array of the other, which is viewed under
-    /// the same type. `Memory` if a clone of a value is refused, and then the set that was borrowed is
+    /// the same type. `Memory` if a copy of a text or bytes is refused, and then the set that was borrowed is
     /// as it was.
     pub fn merge_ordered(self, other: &TypedStatsSetRef<'_>) -> Result<Self, StatsError>
         requires { other.now.dtype ≡ (typed_stats self).dtype }
-        ensures merged { let own = typed_stats self.entry in
+        ensures merged { let left = typed_stats self.entry in
             IfOk result (λ view. typed_stats view
-            ≡ with_values (merged_ordered own.values other.now.values) own) }
-        ensures same_set { IfOk result (λ view. view.values.ghost_name ≡ self.entry.values.ghost_name) }
+            ≡ with_values (merged_ordered left.values other.now.values) left) }
+        ensures same_set { let name = self.entry.values.ghost_name in
+            IfOk result (λ view. view.values.ghost_name ≡ name) }
         ensures* unchanged { sem 𝓛 (rests_if_refused self.entry result) }
         ensures memory { IfErr result (λ e. e ≡ Memory alloc_error) }
+        ensures copies { let left = (typed_stats self.entry).values in
+            OnErr result (IsTrue (merge_copies left other.now.values)) }
     {
         let MutTypedStatsSetRef { values, dtype } = self;
         values.append(other.values(), &dtype)?;
@@ -231,16 +237,19 @@ impl<'a> MutTypedStatsSetRef<'a> {
     }
 
     /// The statistics of any arrangement of the rows of both arrays; the other set is viewed under the
-    /// same type. `Memory` if a clone of a value is refused, and then the set that was borrowed is as
+    /// same type. `Memory` if a copy of a text or bytes is refused, and then the set that was borrowed is as
     /// it was.
     pub fn merge_unordered(self, other: &TypedStatsSetRef<'_>) -> Result<Self, StatsError>
         requires { other.now.dtype ≡ (typed_stats self).dtype }
-        ensures merged { let own = typed_stats self.entry in
+        ensures merged { let left = typed_stats self.entry in
             IfOk result (λ view. typed_stats view
-            ≡ with_values (merged_unordered own.values other.now.values) own) }
-        ensures same_set { IfOk result (λ view. view.values.ghost_name ≡ self.entry.values.ghost_name) }
+            ≡ with_values (merged_unordered left.values other.now.values) left) }
+        ensures same_set { let name = self.entry.values.ghost_name in
+            IfOk result (λ view. view.values.ghost_name ≡ name) }
         ensures* unchanged { sem 𝓛 (rests_if_refused self.entry result) }
         ensures memory { IfErr result (λ e. e ≡ Memory alloc_error) }
+        ensures copies { let left = (typed_stats self.entry).values in
+            OnErr result (IsTrue (merge_copies left other.now.values)) }
     {
         let MutTypedStatsSetRef { values, dtype } = self;
         values.mix(other.values(), &dtype)?;
@@ -249,11 +258,13 @@ impl<'a> MutTypedStatsSetRef<'a> {
 
     /// Combines what another set, viewed under the same type, tells of the same array. `Conflict` if two
     /// values of a statistic contradict each other, and then the other set's earlier entries stay
-    /// combined; `Memory` if a clone of a value is refused, and then the set stays as it was.
+    /// combined; `Memory` if a copy of a text or bytes is refused, and then the set stays as it was.
     pub fn combine_sets(&mut self, other: &TypedStatsSetRef<'_>) -> Result<(), StatsError>
         requires { other.now.dtype ≡ (typed_stats self.old).dtype }
         ensures combined { let old = (typed_stats self.old).values in
             Combines (combined old other.now.values) old (typed_stats self.new).values result }
+        ensures copies { let old = (typed_stats self.old).values in
+            OnMemory result (IsTrue (combination_copies old other.now.values)) }
         ensures distinct { AreDistinct other.now.values }
         ensures same_type { (typed_stats self.new).dtype ≡ (typed_stats self.old).dtype }
         ensures same_set { self.new.values.ghost_name ≡ self.old.values.ghost_name }

@@ -13,7 +13,6 @@ use Rattle.vortex_base.specs.contracts.scalar_value.ScalarValueOrd.TheImpl as de
 use Rattle.vortex_base.specs.declared.scalar_value.ScalarValue.{ScalarValue}
 use Rattle.vortex_base.specs.declared.scalar_value.ScalarValue.TheVariants as value
 use Rattle.vortex_base.specs.Data.Values.{value_cmp}
-use Rattle.vortex_stats.specs.declared.bound.IntersectionResult.{IntersectionResult}
 use Rattle.vortex_stats.specs.declared.precision.Precision.{Precision}
 use Rattle.vortex_stats.specs.Bounds.Bound.{intersection_map}
 use Rattle.vortex_stats.specs.Bounds.LowerBound.{lower_union, lower_intersection}

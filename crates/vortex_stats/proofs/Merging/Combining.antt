@@ -1,5 +1,5 @@
 -- One step of a combination, by its cases.
-use Rattle.std.proofs.Common.{◌≡◌, Bool, true, false, cond, ◌&&◌, List, [], ◌∷◌, Option, Some, None, Result, Ok, Err, refl, sym, ap, subst, ◌∙◌}
+use Rattle.std.proofs.Common.{◌≡◌, Bool, true, false, List, [], ◌∷◌, Option, Some, None, Result, Ok, Err, refl, sym, ap, subst, ◌∙◌}
 use Rattle.std.specs.Prelude.{IsTrue, IsErrAnd, ⊤}
 use Rattle.std.specs.Option.{option_map}
 use Rattle.std.specs.declared.cmp.Ordering.{Ordering}
@@ -19,18 +19,18 @@ use Rattle.vortex_stats.specs.declared.stat.Stat.{Stat}
 use Rattle.vortex_stats.specs.declared.stat.Stat.TheVariants.{IsConstant, IsSorted, IsStrictSorted, Max, Min, Sum, NullCount, UncompressedSizeInBytes, NaNCount}
 use Rattle.vortex_stats.specs.Bounds.Bound.{intersection_map}
 use Rattle.vortex_stats.specs.Merging.Combined.{intersection_of, met, combined_by, combined_entry, or_conflict, combined}
-use Rattle.vortex_stats.specs.Merging.CombineSteps.{truth_value, meeting, IsChange}
-use Rattle.vortex_stats.specs.Sets.Changes.{changed}
+use Rattle.vortex_stats.specs.Merging.CombineSteps.{truth_value, meeting, is_answer_copied, IsAnswerOrCopy, IsChange}
+use Rattle.vortex_stats.specs.Copies.{is_copied, is_meeting_copied, entry_copies}
 use Rattle.vortex_stats.specs.declared.merge.Change.{Change}
 use Rattle.vortex_stats.specs.Sets.Entries.{entry_value, is_value_of, value_fits, entries_fit, with_entry}
 use Rattle.vortex_stats.specs.Bounds.LowerBound.{lower_intersection}
 use Rattle.vortex_stats.specs.Bounds.PointBound.{point_intersection}
 use Rattle.vortex_stats.specs.Precision.{is_absent, precision_map, IfPresent}
-use Rattle.vortex_stats.specs.Scalars.{IsAnswerOrMemory}
 use Rattle.vortex_stats.specs.Stat.{stat_dtype}
 use Rattle.vortex_stats.specs.Bounds.UpperBound.{upper_intersection}
 use Rattle.vortex_stats.proofs.Bounds.DerivedOrder.{point_intersection-read}
 use Rattle.vortex_stats.proofs.Sets.Fitting.{entry_value-fits, entries_fit_with_entry, entries_fit_filter}
+use Rattle.vortex_stats.proofs.Logic.{either}
 
 -- ---- truth values
 
@@ -76,29 +76,55 @@ kept_step (Some (Value v)) s es h = absurd (cc)
 kept_step (Some Empty) s es h = absurd (cc)
 kept_step None s es h = refl
 
+-- where the left has no value, the right's is copied
+pub absent_copies : (s : Stat) (p q : Precision ScalarValue) → is_absent p ≡ true → IsTrue (is_copied q) → IsTrue (entry_copies s p q)
+absent_copies s (Exact v) q a h = absurd (true≢false (sym a))
+absent_copies s (Inexact v) q a h = absurd (true≢false (sym a))
+absent_copies s Absent q a h = h
+
+answer_copied-meeting : (s : Stat) (m : Option (IntersectionResult (Precision ScalarValue))) → is_answer_copied (meeting s m) ≡ is_meeting_copied m
+answer_copied-meeting s (Some (Value p)) = refl
+answer_copied-meeting s (Some Empty) = refl
+answer_copied-meeting s None = refl
+
+-- of two that are present it is what they meet in
+meeting_copies : (s : Stat) (p q : Precision ScalarValue) → is_absent p ≡ false → is_absent q ≡ false
+    → IsTrue (is_answer_copied (meeting s (intersection_of s p q))) → IsTrue (entry_copies s p q)
+meeting_copies s Absent q a b h = absurd (true≢false a)
+meeting_copies s (Exact v) Absent a b h = absurd (true≢false b)
+meeting_copies s (Inexact v) Absent a b h = absurd (true≢false b)
+meeting_copies s (Exact v) (Exact w) a b h = sym (answer_copied-meeting s (intersection_of s (Exact v) (Exact w))) ∙ h
+meeting_copies s (Exact v) (Inexact w) a b h = sym (answer_copied-meeting s (intersection_of s (Exact v) (Inexact w))) ∙ h
+meeting_copies s (Inexact v) (Exact w) a b h = sym (answer_copied-meeting s (intersection_of s (Inexact v) (Exact w))) ∙ h
+meeting_copies s (Inexact v) (Inexact w) a b h = sym (answer_copied-meeting s (intersection_of s (Inexact v) (Inexact w))) ∙ h
+
 refused_by : (m : Option (IntersectionResult (Precision ScalarValue))) (s : Stat) (p q : Precision ScalarValue)
-    → ((es : List (Stat × Precision ScalarValue)) → combined_by s p q es ≡ met s m es) → (e : StatsError) → IsAnswerOrMemory (meeting s m) (Err e) → IsChange s p q (Err e)
-refused_by m s p q f (errors.Memory e) h = tt
-refused_by (Some (Value v)) s p q f (errors.Conflict t) h = absurd (cc)
-refused_by (Some Empty) s p q f (errors.Conflict t) h = let e : t ≡ s = cc in (f, e)
-refused_by None s p q f (errors.Conflict t) h = absurd (cc)
-refused_by (Some (Value v)) s p q f e h = cc
-refused_by (Some Empty) s p q f e h = cc
-refused_by None s p q f e h = cc
+    → ((es : List (Stat × Precision ScalarValue)) → combined_by s p q es ≡ met s m es) → (IsTrue (is_answer_copied (meeting s m)) → IsTrue (entry_copies s p q))
+    → (e : StatsError) → IsAnswerOrCopy (meeting s m) (Err e) → IsChange s p q (Err e)
+refused_by m s p q f g (errors.Memory e) h = g h
+refused_by (Some (Value v)) s p q f g (errors.Conflict t) h = absurd (cc)
+refused_by (Some Empty) s p q f g (errors.Conflict t) h = let e : t ≡ s = cc in (f, e)
+refused_by None s p q f g (errors.Conflict t) h = absurd (cc)
+refused_by (Some (Value v)) s p q f g e h = cc
+refused_by (Some Empty) s p q f g e h = cc
+refused_by None s p q f g e h = cc
 
-module _ (s : Stat) (own other q : Precision ScalarValue) (b : other ≡ q) (h : is_absent own ≡ false) (k : is_absent other ≡ false) where
-  met_at : (es : List (Stat × Precision ScalarValue)) → combined_by s own q es ≡ met s (intersection_of s own other) es
-  met_at es = met_case s own q es h (ap is_absent (sym b) ∙ k) ∙ ap (λ y. met s (intersection_of s own y) es) (sym b)
+module _ (s : Stat) (left other q : Precision ScalarValue) (b : other ≡ q) (h : is_absent left ≡ false) (k : is_absent other ≡ false) where
+  met_at : (es : List (Stat × Precision ScalarValue)) → combined_by s left q es ≡ met s (intersection_of s left other) es
+  met_at es = met_case s left q es h (ap is_absent (sym b) ∙ k) ∙ ap (λ y. met s (intersection_of s left y) es) (sym b)
 
-  pub met_written : (r : Precision ScalarValue) → meeting s (intersection_of s own other) ≡ Ok (Some r)
-      → (es : List (Stat × Precision ScalarValue)) → combined_by s own q es ≡ Some (with_entry s r es)
-  met_written r m es = met_at es ∙ written_step (intersection_of s own other) s es r m
+  pub met_written : (r : Precision ScalarValue) → meeting s (intersection_of s left other) ≡ Ok (Some r)
+      → (es : List (Stat × Precision ScalarValue)) → combined_by s left q es ≡ Some (with_entry s r es)
+  met_written r m es = met_at es ∙ written_step (intersection_of s left other) s es r m
 
-  pub met_kept : meeting s (intersection_of s own other) ≡ Ok None → (es : List (Stat × Precision ScalarValue)) → combined_by s own q es ≡ Some es
-  met_kept m es = met_at es ∙ kept_step (intersection_of s own other) s es m
+  pub met_kept : meeting s (intersection_of s left other) ≡ Ok None → (es : List (Stat × Precision ScalarValue)) → combined_by s left q es ≡ Some es
+  met_kept m es = met_at es ∙ kept_step (intersection_of s left other) s es m
 
-  pub met_refused : (e : StatsError) → IsAnswerOrMemory (meeting s (intersection_of s own other)) (Err e) → IsChange s own q (Err e)
-  met_refused e m = refused_by (intersection_of s own other) s own q met_at e m
+  copied_at : IsTrue (is_answer_copied (meeting s (intersection_of s left other))) → IsTrue (entry_copies s left q)
+  copied_at m = subst (λ y. IsTrue (entry_copies s left y)) b (meeting_copies s left other h k m)
+
+  pub met_refused : (e : StatsError) → IsAnswerOrCopy (meeting s (intersection_of s left other)) (Err e) → IsChange s left q (Err e)
+  met_refused e m = refused_by (intersection_of s left other) s left q met_at copied_at e m
 
 -- a refusal that is handed on
 pub refused_with : (s : Stat) (p q : Precision ScalarValue) (r : Result Change StatsError) (x : StatsError) → IsErrAnd r (λ e. e ≡ x) → IsChange s p q (Err x) → IsChange s p q r
@@ -112,17 +138,13 @@ combined-step es new e rest h = ap (λ o. or_conflict o es e.0 (λ n. combined n
 
 -- ---- fitting
 
-either : {A : Type 0} (P : A → Type 0) (b : Bool) (x y : A) → P x → P y → P (cond b x y)
-either P true x y p q = p
-either P false x y p q = q
-
 -- an intersection holds an operand's value
 module _ (Q : ScalarValue → Type 0) (R : ScalarValue → ScalarValue → Ordering) where
-  abbrev OfMet : IntersectionResult (Precision ScalarValue) → Type 0
+  abbrev pub OfMet : IntersectionResult (Precision ScalarValue) → Type 0
   OfMet (Value r) = IfPresent r Q
   OfMet Empty = ⊤
 
-  abbrev IfMet : Option (IntersectionResult (Precision ScalarValue)) → Type 0
+  abbrev pub IfMet : Option (IntersectionResult (Precision ScalarValue)) → Type 0
   IfMet None = ⊤
   IfMet (Some m) = OfMet m
 
@@ -147,7 +169,7 @@ module _ (Q : ScalarValue → Type 0) (R : ScalarValue → ScalarValue → Order
 lower_intersection-either : (Q : ScalarValue → Type 0) (R : ScalarValue → ScalarValue → Ordering) (p q : Precision ScalarValue) → IfPresent p Q → IfPresent q Q → IfMet Q R (lower_intersection R p q)
 lower_intersection-either Q R = upper_intersection-either Q (flip_args R)
 
-intersection_of-either : (Q : ScalarValue → Type 0) (s : Stat) (p q : Precision ScalarValue) → IfPresent p Q → IfPresent q Q → IfMet Q value_cmp (intersection_of s p q)
+pub intersection_of-either : (Q : ScalarValue → Type 0) (s : Stat) (p q : Precision ScalarValue) → IfPresent p Q → IfPresent q Q → IfMet Q value_cmp (intersection_of s p q)
 intersection_of-either Q IsConstant = point_intersection-either Q value_cmp
 intersection_of-either Q IsSorted = point_intersection-either Q value_cmp
 intersection_of-either Q IsStrictSorted = point_intersection-either Q value_cmp
@@ -159,10 +181,10 @@ intersection_of-either Q UncompressedSizeInBytes = upper_intersection-either Q v
 intersection_of-either Q NaNCount = upper_intersection-either Q value_cmp
 
 module _ (t : DType) where
-  abbrev OfType : Stat → ScalarValue → Type 0
+  abbrev pub OfType : Stat → ScalarValue → Type 0
   OfType s v = is_value_of (stat_dtype s t) v ≡ true
 
-  present-fits : (s : Stat) (p : Precision ScalarValue) → value_fits s t p ≡ true → IfPresent p (OfType s)
+  pub present-fits : (s : Stat) (p : Precision ScalarValue) → value_fits s t p ≡ true → IfPresent p (OfType s)
   present-fits s (Exact v) h = h
   present-fits s (Inexact v) h = h
   present-fits s Absent h = tt

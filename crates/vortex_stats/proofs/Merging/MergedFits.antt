@@ -1,7 +1,7 @@
 -- Merged sets fit the type of their column again.
-use Rattle.std.proofs.Common.{◌≡◌, ℕ, ◌+◌, ◌<◌, ◌^◌, Bool, true, false, cond, ◌&&◌, ◌||◌, List, [], ◌∷◌, Option, Some, None, refl, sym, ap, subst, ◌∙◌, rules, arith}
+use Rattle.std.proofs.Common.{◌≡◌, ℕ, ◌+◌, ◌<◌, ◌^◌, Bool, true, false, cond, ◌&&◌, ◌||◌, List, [], Option, Some, None, refl, sym, ap, ◌∙◌, rules, arith}
 use Rattle.std.proofs.lemmas.Bool.Decides.{nat_tests}
-use Rattle.std.specs.Prelude.{IsTrue, IfSome, OnOk, OnErr, Result, Ok, Err, ◌==◌, nat_lt, ⊤, ℤ, ◌+ℤ◌, int_le}
+use Rattle.std.specs.Prelude.{IfSome, ◌==◌, nat_lt, ⊤, ℤ, ◌+ℤ◌, int_le}
 use Rattle.std.specs.declared.cmp.Ordering.{Ordering}
 use Rattle.std.specs.Ordering.{is_lt, flip_args}
 use mathlib.Core.Bool.{true≢false}
@@ -13,22 +13,19 @@ use Rattle.vortex_base.specs.declared.types.PType.TheVariants as ptype
 use Rattle.vortex_base.specs.declared.scalar_value.ScalarValue.{ScalarValue}
 use Rattle.vortex_base.specs.declared.scalar_value.ScalarValue.TheVariants as value
 use Rattle.vortex_base.specs.Data.Types.{ptype_index}
-use Rattle.vortex_base.specs.Data.Values.{value_cmp, is_value, in_range, ptype_of, least, greatest}
+use Rattle.vortex_base.specs.Data.Values.{value_cmp, in_range, ptype_of, least, greatest}
 use Rattle.vortex_stats.specs.declared.stat.Stat.{Stat}
 use Rattle.vortex_stats.specs.declared.stat.Stat.TheVariants.{IsConstant, IsSorted, IsStrictSorted, Max, Min, Sum, NullCount, UncompressedSizeInBytes, NaNCount}
 use Rattle.vortex_stats.specs.declared.precision.Precision.{Precision}
 use Rattle.vortex_stats.specs.declared.precision.Precision.TheVariants.{Exact, Inexact, Absent}
 use Rattle.vortex_stats.specs.Stat.{stat_dtype}
 use Rattle.vortex_stats.specs.Precision.{present_value}
-use Rattle.vortex_stats.specs.Sets.Entries.{entry_value, is_value_of, value_fits, entries_fit, with_entry}
+use Rattle.vortex_stats.specs.Sets.Entries.{entry_value, is_value_of, value_fits, entries_fit}
 use Rattle.vortex_stats.specs.Bounds.LowerBound.{lower_union}
 use Rattle.vortex_stats.specs.Bounds.UpperBound.{upper_union}
-use Rattle.vortex_stats.specs.Merging.Merges.{truth, is_exactly, same_minima, constant_merged, seam, at_seam, order_merged, is_at_most, is_below, sum_added, sum_merged, count_added, count_merged, merged_value, unordered_value, revised, all_revised, merged_ordered, merged_unordered}
+use Rattle.vortex_stats.specs.Merging.Merges.{truth, is_exactly, same_minima, constant_merged, at_seam, order_merged, is_at_most, is_below, sum_added, sum_merged, count_added, count_merged, merged_value, unordered_value, revised, all_revised, merged_ordered, merged_unordered}
 use Rattle.vortex_stats.proofs.Sets.Fitting.{entry_value-fits, entries_fit_with_entry, entries_fit_filter}
-
-either : {A : Type 0} (P : A → Type 0) (b : Bool) (x y : A) → P x → P y → P (cond b x y)
-either P true x y p q = p
-either P false x y p q = q
+use Rattle.vortex_stats.proofs.Logic.{and_both, and_first, either}
 
 module _ (P : Precision ScalarValue → Type 0) where
   abbrev IfNew : Option (Precision ScalarValue) → Type 0
@@ -70,7 +67,7 @@ module _ (P : Precision ScalarValue → Type 0) where
     order_merged-truth test c d max min =
         either IfNew (is_exactly true c && is_exactly true d) (at_seam test (present_value max) (present_value min)) None (at_seam-truth test (present_value max) (present_value min)) tt
 
-  -- a sum under its own test
+  -- a sum under a test of it
   tested : (b : Bool) (p : Precision ScalarValue) → (b ≡ true → P p) → IfNew (cond b (Some p) None)
   tested true p h = h refl
   tested false p h = tt
@@ -92,14 +89,6 @@ module _ (P : Precision ScalarValue → Type 0) where
 
 -- ---- numbers of a type
 
-both : (a b : Bool) → a ≡ true → b ≡ true → (a && b) ≡ true
-both true b h k = k
-both false b h k = h
-
-left : (a b : Bool) → (a && b) ≡ true → a ≡ true
-left true b h = refl
-left false b h = h
-
 count_in_range : (n : ℕ) → n < 2 ^ 64 → in_range (number.U64 n) ≡ true
 count_in_range n h = search rules
 
@@ -107,7 +96,7 @@ count_in_range n h = search rules
 same_type : (o : Option DType) (p q : PValue) → ptype_of q ≡ ptype_of p → is_value_of o (value.Primitive p) ≡ true → in_range q ≡ true → is_value_of o (value.Primitive q) ≡ true
 same_type None p q e h r = absurd (true≢false (sym h))
 same_type (Some (dtype.Primitive t n)) p q e h r =
-    both (ptype_index (ptype_of q) == ptype_index t) (in_range q) (ap (λ u. ptype_index u == ptype_index t) e ∙ left (ptype_index (ptype_of p) == ptype_index t) (in_range p) h) r
+    and_both (ptype_index (ptype_of q) == ptype_index t) (in_range q) (ap (λ u. ptype_index u == ptype_index t) e ∙ and_first (ptype_index (ptype_of p) == ptype_index t) (in_range p) h) r
 same_type (Some t) p q e h r = absurd (true≢false (sym h))
 
 sum_added-fits : (t : DType) (v w : ScalarValue) → is_value_of (stat_dtype Sum t) v ≡ true → IfSome (sum_added v w) (λ p. value_fits Sum t p ≡ true)
@@ -126,40 +115,40 @@ sum_merged-fits t p q h = tt
 -- ---- sets
 
 -- a new value of a statistic fits
-abbrev NewFits : DType → Stat → Option (Precision ScalarValue) → Type 0
+abbrev pub NewFits : DType → Stat → Option (Precision ScalarValue) → Type 0
 NewFits t s o = IfSome o (λ p. value_fits s t p ≡ true)
 
-merged_value-fits : (t : DType) (own other : List (Stat × Precision ScalarValue)) → entries_fit own t ≡ true → entries_fit other t ≡ true
-    → (s : Stat) → NewFits t s (merged_value s own other)
-merged_value-fits t own other h k IsConstant =
-    constant_merged-truth (λ p. value_fits IsConstant t p ≡ true) (λ b. refl) refl (entry_value IsConstant own) (entry_value IsConstant other) (entry_value Min own) (entry_value Min other)
-merged_value-fits t own other h k IsSorted =
-    order_merged-truth (λ p. value_fits IsSorted t p ≡ true) (λ b. refl) refl is_at_most (entry_value IsSorted own) (entry_value IsSorted other) (entry_value Max own) (entry_value Min other)
-merged_value-fits t own other h k IsStrictSorted =
+pub merged_value-fits : (t : DType) (left other : List (Stat × Precision ScalarValue)) → entries_fit left t ≡ true → entries_fit other t ≡ true
+    → (s : Stat) → NewFits t s (merged_value s left other)
+merged_value-fits t left other h k IsConstant =
+    constant_merged-truth (λ p. value_fits IsConstant t p ≡ true) (λ b. refl) refl (entry_value IsConstant left) (entry_value IsConstant other) (entry_value Min left) (entry_value Min other)
+merged_value-fits t left other h k IsSorted =
+    order_merged-truth (λ p. value_fits IsSorted t p ≡ true) (λ b. refl) refl is_at_most (entry_value IsSorted left) (entry_value IsSorted other) (entry_value Max left) (entry_value Min other)
+merged_value-fits t left other h k IsStrictSorted =
     order_merged-truth (λ p. value_fits IsStrictSorted t p ≡ true) (λ b. refl) refl is_below
-    (entry_value IsStrictSorted own) (entry_value IsStrictSorted other) (entry_value Max own) (entry_value Min other)
-merged_value-fits t own other h k Max =
-    upper_union-either (λ p. value_fits Max t p ≡ true) value_cmp (entry_value Max own) (entry_value Max other) (entry_value-fits Max t own h) (entry_value-fits Max t other k)
-merged_value-fits t own other h k Min =
-    lower_union-either (λ p. value_fits Min t p ≡ true) value_cmp (entry_value Min own) (entry_value Min other) (entry_value-fits Min t own h) (entry_value-fits Min t other k)
-merged_value-fits t own other h k Sum = sum_merged-fits t (entry_value Sum own) (entry_value Sum other) (entry_value-fits Sum t own h)
-merged_value-fits t own other h k NullCount =
-    count_merged-counts (λ p. value_fits NullCount t p ≡ true) count_in_range count_in_range (entry_value NullCount own) (entry_value NullCount other)
-merged_value-fits t own other h k UncompressedSizeInBytes =
-    count_merged-counts (λ p. value_fits UncompressedSizeInBytes t p ≡ true) count_in_range count_in_range (entry_value UncompressedSizeInBytes own) (entry_value UncompressedSizeInBytes other)
-merged_value-fits t own other h k NaNCount = tt
+    (entry_value IsStrictSorted left) (entry_value IsStrictSorted other) (entry_value Max left) (entry_value Min other)
+merged_value-fits t left other h k Max =
+    upper_union-either (λ p. value_fits Max t p ≡ true) value_cmp (entry_value Max left) (entry_value Max other) (entry_value-fits Max t left h) (entry_value-fits Max t other k)
+merged_value-fits t left other h k Min =
+    lower_union-either (λ p. value_fits Min t p ≡ true) value_cmp (entry_value Min left) (entry_value Min other) (entry_value-fits Min t left h) (entry_value-fits Min t other k)
+merged_value-fits t left other h k Sum = sum_merged-fits t (entry_value Sum left) (entry_value Sum other) (entry_value-fits Sum t left h)
+merged_value-fits t left other h k NullCount =
+    count_merged-counts (λ p. value_fits NullCount t p ≡ true) count_in_range count_in_range (entry_value NullCount left) (entry_value NullCount other)
+merged_value-fits t left other h k UncompressedSizeInBytes =
+    count_merged-counts (λ p. value_fits UncompressedSizeInBytes t p ≡ true) count_in_range count_in_range (entry_value UncompressedSizeInBytes left) (entry_value UncompressedSizeInBytes other)
+merged_value-fits t left other h k NaNCount = tt
 
-unordered_value-fits : (t : DType) (own other : List (Stat × Precision ScalarValue)) → entries_fit own t ≡ true → entries_fit other t ≡ true
-    → (s : Stat) → NewFits t s (unordered_value s own other)
-unordered_value-fits t own other h k IsConstant = merged_value-fits t own other h k IsConstant
-unordered_value-fits t own other h k IsSorted = tt
-unordered_value-fits t own other h k IsStrictSorted = tt
-unordered_value-fits t own other h k Max = merged_value-fits t own other h k Max
-unordered_value-fits t own other h k Min = merged_value-fits t own other h k Min
-unordered_value-fits t own other h k Sum = merged_value-fits t own other h k Sum
-unordered_value-fits t own other h k NullCount = merged_value-fits t own other h k NullCount
-unordered_value-fits t own other h k UncompressedSizeInBytes = merged_value-fits t own other h k UncompressedSizeInBytes
-unordered_value-fits t own other h k NaNCount = tt
+unordered_value-fits : (t : DType) (left other : List (Stat × Precision ScalarValue)) → entries_fit left t ≡ true → entries_fit other t ≡ true
+    → (s : Stat) → NewFits t s (unordered_value s left other)
+unordered_value-fits t left other h k IsConstant = merged_value-fits t left other h k IsConstant
+unordered_value-fits t left other h k IsSorted = tt
+unordered_value-fits t left other h k IsStrictSorted = tt
+unordered_value-fits t left other h k Max = merged_value-fits t left other h k Max
+unordered_value-fits t left other h k Min = merged_value-fits t left other h k Min
+unordered_value-fits t left other h k Sum = merged_value-fits t left other h k Sum
+unordered_value-fits t left other h k NullCount = merged_value-fits t left other h k NullCount
+unordered_value-fits t left other h k UncompressedSizeInBytes = merged_value-fits t left other h k UncompressedSizeInBytes
+unordered_value-fits t left other h k NaNCount = tt
 
 revised-fits : (t : DType) (s : Stat) (o : Option (Precision ScalarValue)) (es : List (Stat × Precision ScalarValue)) → NewFits t s o → entries_fit es t ≡ true → entries_fit (revised s o es) t ≡ true
 revised-fits t s (Some p) es f h = entries_fit_with_entry s p t es f h
@@ -172,8 +161,8 @@ all_revised-fits t v es f h =
     (revised-fits t NullCount (v NullCount) _ (f NullCount) (revised-fits t Sum (v Sum) _ (f Sum) (revised-fits t Min (v Min) _ (f Min) (revised-fits t Max (v Max) _ (f Max)
     (revised-fits t IsStrictSorted (v IsStrictSorted) _ (f IsStrictSorted) (revised-fits t IsSorted (v IsSorted) _ (f IsSorted) (revised-fits t IsConstant (v IsConstant) es (f IsConstant) h))))))))
 
-pub merged_ordered-fits : (t : DType) (own other : List (Stat × Precision ScalarValue)) → entries_fit own t ≡ true → entries_fit other t ≡ true → entries_fit (merged_ordered own other) t ≡ true
-merged_ordered-fits t own other h k = all_revised-fits t (λ s. merged_value s own other) own (merged_value-fits t own other h k) h
+pub merged_ordered-fits : (t : DType) (left other : List (Stat × Precision ScalarValue)) → entries_fit left t ≡ true → entries_fit other t ≡ true → entries_fit (merged_ordered left other) t ≡ true
+merged_ordered-fits t left other h k = all_revised-fits t (λ s. merged_value s left other) left (merged_value-fits t left other h k) h
 
-pub merged_unordered-fits : (t : DType) (own other : List (Stat × Precision ScalarValue)) → entries_fit own t ≡ true → entries_fit other t ≡ true → entries_fit (merged_unordered own other) t ≡ true
-merged_unordered-fits t own other h k = all_revised-fits t (λ s. unordered_value s own other) own (unordered_value-fits t own other h k) h
+pub merged_unordered-fits : (t : DType) (left other : List (Stat × Precision ScalarValue)) → entries_fit left t ≡ true → entries_fit other t ≡ true → entries_fit (merged_unordered left other) t ≡ true
+merged_unordered-fits t left other h k = all_revised-fits t (λ s. unordered_value s left other) left (unordered_value-fits t left other h k) h

@@ -14,16 +14,13 @@ use Rattle.vortex_stats.specs.declared.precision.Precision.{Precision}
 use Rattle.vortex_stats.specs.declared.precision.Precision.TheVariants.{Absent}
 use Rattle.vortex_stats.specs.Stat.{stat_eq, same_from_stat_eq}
 use Rattle.vortex_stats.specs.Sets.Entries.{is_entry_of, has_entry, entry_value, with_entry, with_entries, AreDistinct}
+use Rattle.vortex_stats.proofs.Logic.{or_right, or_left_false, or_right_false}
 
 none_step : (i : ℕ) (b c : Bool) (o : Option ℕ) → (o ≡ None → c ≡ false) → cond b (Some i) o ≡ None → (b || c) ≡ false
 none_step i true c o ih h = cc
 none_step i false c o ih h = ih h
 
-or_right : (a b : Bool) → b ≡ true → (a || b) ≡ true
-or_right true b h = refl
-or_right false b h = h
-
-eq_back : (a b : Stat) → stat_eq a b ≡ false → stat_eq b a ≡ false
+pub eq_back : (a b : Stat) → stat_eq a b ≡ false → stat_eq b a ≡ false
 eq_back a b h = grind (arith, nat_tests)
 
 filter_step : (a b c : Bool) → (c ≡ false → b ≡ false) → (a || c) ≡ false → (a || b) ≡ false
@@ -37,14 +34,6 @@ filter_step_out false b c f h = f h
 new_step : (a b c d : Bool) → (b ≡ false → d ≡ false → c ≡ false) → (a || b) ≡ false → d ≡ false → (a || c) ≡ false
 new_step true b c d f h k = absurd (true≢false h)
 new_step false b c d f h k = f h k
-
-or_left_false : (a b : Bool) → (a || b) ≡ false → a ≡ false
-or_left_false true b h = absurd (true≢false h)
-or_left_false false b h = refl
-
-or_right_false : (a b : Bool) → (a || b) ≡ false → b ≡ false
-or_right_false true b h = absurd (true≢false h)
-or_right_false false b h = h
 
 module _ {V : Type 0} where
   none_from : (s : Stat) (es : List (Stat × Precision V)) (i : ℕ) → position_from (is_entry_of s) i es ≡ None → has_entry s es ≡ false
@@ -197,6 +186,6 @@ module _ {V : Type 0} where
   with_entries-after (y ∷ ys) xs d m =
       ap (with_entries ys) (with_entry-none y.0 y.1 xs m.0) ∙ with_entries-after ys (xs ++ y ∷ []) d.1 (misses_last xs ys y m.1 d.0) ∙ append_assoc xs (y ∷ []) ys
 
-  -- distinct entries that are set one by one make their own list
+  -- distinct entries that are set one by one make a list of them
   pub with_entries-distinct : (es : List (Stat × Precision V)) → AreDistinct es → with_entries es [] ≡ es
   with_entries-distinct es d = with_entries-after es [] d (misses_nothing es)

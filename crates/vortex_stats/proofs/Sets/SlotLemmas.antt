@@ -1,5 +1,5 @@
 -- Entries in slots: what is read of a slot, and what a write of one leaves.
-use Rattle.std.proofs.Common.{◌≡◌, ℕ, zero, suc, ◌+◌, ◌<◌, ◌≤◌, ◌≢◌, Bool, true, false, cond, not, ◌||◌, List, [], ◌∷◌, ◌++◌, length, get_or, set, Option, Some, None, refl, sym, ap, subst, ◌∙◌, arith, get_or-set_other, get_or-set_same}
+use Rattle.std.proofs.Common.{◌≡◌, ℕ, ◌+◌, ◌<◌, ◌≤◌, ◌≢◌, Bool, true, false, cond, not, ◌||◌, List, [], ◌∷◌, ◌++◌, length, get_or, set, Option, Some, None, refl, sym, ap, subst, ◌∙◌, arith, get_or-set_other, get_or-set_same}
 use Rattle.std.proofs.lemmas.List.{length-set, get_or_read}
 use Rattle.std.proofs.lemmas.Cmp.{nat_eq_equiv}
 use Rattle.std.specs.Option.{is_some}
@@ -13,7 +13,8 @@ use Rattle.vortex_stats.specs.declared.precision.Precision.TheVariants.{Absent}
 use Rattle.vortex_stats.specs.Stat.{stat_number, stat_eq, same_from_stat_eq}
 use Rattle.vortex_stats.specs.Sets.Entries.{is_entry_of, has_entry, entry_value, with_entry, without_entry, AreDistinct}
 use Rattle.vortex_stats.specs.Sets.Slots.{slot_of, value_in, slot_entries, IsHeld, IsSound, IsOwn, AreOwn, AreLeft}
-use Rattle.vortex_stats.proofs.Sets.Places.{entry_value-none, with_entry-none, other_entry, distinct_with_entry, distinct_filter}
+use Rattle.vortex_stats.proofs.Logic.{or_right, or_right_false}
+use Rattle.vortex_stats.proofs.Sets.Places.{eq_back, entry_value-none, with_entry-none, other_entry, distinct_with_entry, distinct_filter}
 use Rattle.vortex_stats.proofs.Sets.Lookups.{has_entry-with_own, has_entry-without_own, has_entry-without_other}
 
 pub number_below : (s : Stat) → stat_number s < 9
@@ -26,13 +27,6 @@ number_below Sum = omega arith
 number_below NullCount = omega arith
 number_below UncompressedSizeInBytes = omega arith
 number_below NaNCount = omega arith
-
-eq_back : (a b : Stat) → stat_eq a b ≡ false → stat_eq b a ≡ false
-eq_back a b h = nat_eq_equiv.symm (stat_number b) (stat_number a) ∙ h
-
-or_right : (a b : Bool) → b ≡ true → (a || b) ≡ true
-or_right true b h = refl
-or_right false b h = h
 
 -- ---- no more than nine distinct statistics
 
@@ -271,13 +265,9 @@ module _ {V : Type 0} (slots : List (Option (Stat × Precision V))) (s : Stat) (
   own_after_step t ts o ih true e n = absurd (true≢false n)
   own_after_step t ts o ih false e n = (subst (λ x. IsOwn x t) (sym (other_slot slots h.nine s None t e)) o, ih)
 
-  right_false : (a b : Bool) → (a || b) ≡ false → b ≡ false
-  right_false true b n = absurd (true≢false n)
-  right_false false b n = n
-
   own_after : (ts : List Stat) → AreOwn slots ts → has_entry s (slot_entries slots ts) ≡ false → AreOwn (set slots (stat_number s) None) ts
   own_after [] o n = tt
-  own_after (t ∷ ts) o n = own_after_step t ts o.0 (own_after ts o.1 (right_false (stat_eq t s) (has_entry s (slot_entries slots ts)) n)) (stat_eq t s) refl n
+  own_after (t ∷ ts) o n = own_after_step t ts o.0 (own_after ts o.1 (or_right_false (stat_eq t s) (has_entry s (slot_entries slots ts)) n)) (stat_eq t s) refl n
 
   -- the others are left once the first was taken
   pub left_after : AreLeft (set slots (stat_number s) None) rest

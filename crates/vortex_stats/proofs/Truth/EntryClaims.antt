@@ -9,7 +9,7 @@ use Rattle.vortex_stats.specs.Sets.Claims.{Claims, IsTrueOf}
 use Rattle.vortex_stats.specs.Sets.Entries.{is_entry_of, has_entry, entry_value, value_fits, entries_fit, AreDistinct}
 use Rattle.vortex_stats.specs.Stat.{same_from_stat_eq, stat_eq-itself}
 use Rattle.vortex_stats.proofs.Bounds.Ascending.{contains_first, contains_later}
-use Rattle.vortex_stats.proofs.Sets.Fitting.{first_true, second_true}
+use Rattle.vortex_stats.proofs.Logic.{and_first, and_second}
 use Rattle.vortex_stats.proofs.Truth.MergedTruth.{absent_claims}
 use Rattle.vortex_stats.proofs.Sets.Places.{entry_value-none}
 
@@ -19,7 +19,7 @@ module _ (c : ColumnData) where
   first_claims e es h = subst (λ b. Claims e.0 (cond b e.1 (entry_value e.0 es)) c) (stat_eq-itself e.0) (h.claims e.0)
 
   pub first_fits : (e : Stat × Precision ScalarValue) (es : List (Stat × Precision ScalarValue)) → IsTrueOf (e ∷ es) c → value_fits e.0 c.dtype e.1 ≡ true
-  first_fits e es h = first_true (value_fits e.0 c.dtype e.1) (entries_fit es c.dtype) h.fits
+  first_fits e es h = and_first (value_fits e.0 c.dtype e.1) (entries_fit es c.dtype) h.fits
 
   later_step : (e : Stat × Precision ScalarValue) (es : List (Stat × Precision ScalarValue)) (s : Stat) (b : Bool) → is_entry_of s e ≡ b → has_entry e.0 es ≡ false
       → Claims s (cond b e.1 (entry_value s es)) c → Claims s (entry_value s es) c
@@ -29,7 +29,7 @@ module _ (c : ColumnData) where
   -- so are those after it, each being of another statistic
   pub rest_is_true : (e : Stat × Precision ScalarValue) (es : List (Stat × Precision ScalarValue)) → IsTrueOf (e ∷ es) c → has_entry e.0 es ≡ false → IsTrueOf es c
   rest_is_true e es h n = record {
-    fits = second_true (value_fits e.0 c.dtype e.1) (entries_fit es c.dtype) h.fits;
+    fits = and_second (value_fits e.0 c.dtype e.1) (entries_fit es c.dtype) h.fits;
     claims = λ s. later_step e es s (is_entry_of s e) refl n (h.claims s);
   }
 

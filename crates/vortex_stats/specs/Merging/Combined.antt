@@ -7,7 +7,7 @@ use Rattle.vortex_stats.specs.declared.bound.IntersectionResult.TheVariants.{Val
 use Rattle.vortex_stats.specs.declared.error.StatsError.{StatsError}
 use Rattle.vortex_stats.specs.declared.error.StatsError.TheVariants as errors
 use Rattle.vortex_stats.specs.declared.precision.Precision.{Precision}
-use Rattle.vortex_stats.specs.declared.precision.Precision.TheVariants.{Exact, Inexact, Absent}
+use Rattle.vortex_stats.specs.declared.precision.Precision.TheVariants.{Absent}
 use Rattle.vortex_stats.specs.declared.stat.Stat.{Stat}
 use Rattle.vortex_stats.specs.declared.stat.Stat.TheVariants.{IsConstant, IsSorted, IsStrictSorted, Max, Min, Sum, NullCount, UncompressedSizeInBytes, NaNCount}
 use Rattle.vortex_stats.specs.Sets.Entries.{entry_value, with_entry, without_entry}
@@ -33,8 +33,8 @@ met s (Some (Value p)) es = Some (with_entry s p es)
 met s (Some Empty) es = None
 met s None es = Some es
 
--- the entries after one entry of the other set, by the own value and the other's; none where they contradict each other
-abbrev pub combined_by : Stat → (own other : Precision ScalarValue) → List (Stat × Precision ScalarValue) → Option (List (Stat × Precision ScalarValue))
+-- the entries after one entry of the other set, by the left value and the other's; none where they contradict each other
+abbrev pub combined_by : Stat → (left other : Precision ScalarValue) → List (Stat × Precision ScalarValue) → Option (List (Stat × Precision ScalarValue))
 combined_by s Absent Absent es = Some (without_entry s es)
 combined_by s Absent q es = Some (with_entry s q es)
 combined_by s p Absent es = Some es
@@ -53,7 +53,7 @@ or_conflict None es s rest = record { entries = es; conflict = Some s }
 or_conflict (Some new) es s rest = rest new
 
 -- the other set's entries in order, each combined with what the earlier ones left
-abbrev pub combined : (own other : List (Stat × Precision ScalarValue)) → Outcome
+abbrev pub combined : (left other : List (Stat × Precision ScalarValue)) → Outcome
 combined es [] = record { entries = es; conflict = None }
 combined es (e ∷ more) = or_conflict (combined_entry es e) es e.0 (λ new. combined new more)
 

@@ -1,5 +1,5 @@
 -- Short names for the values of worked rows.
-use Rattle.std.specs.Prelude.{ℕ, pos, true, false}
+use Rattle.std.specs.Prelude.{ℕ, pos, true, false, [], ◌∷◌}
 use Rattle.vortex_base.specs.declared.pvalue.PValue.TheVariants as number
 use Rattle.vortex_base.specs.declared.scalar_value.ScalarValue.{ScalarValue}
 use Rattle.vortex_base.specs.declared.scalar_value.ScalarValue.TheVariants as value
@@ -14,6 +14,10 @@ i64 n = value.Primitive (number.I64 (pos n))
 
 abbrev pub u64 : ℕ → ScalarValue
 u64 n = value.Primitive (number.U64 n)
+
+-- the text of one character
+abbrev pub letter : ℕ → ScalarValue
+letter c = value.Utf8 (c ∷ [])
 
 abbrev pub holds : Precision ScalarValue
 holds = Exact (value.Bool true)

@@ -1,6 +1,5 @@
 -- The statistics of one array followed by another, from the statistics of both.
-use Rattle.std.specs.Prelude.{◌≡◌, ℕ, ◌+◌, ◌^◌, ℤ, ◌+ℤ◌, int_le, Bool, true, false, not, ◌||◌, ◌&&◌, List, [], ◌∷◌, Option, Some, None, nat_lt, if◌then◌else◌}
-use Rattle.std.specs.Option.{option_and_then}
+use Rattle.std.specs.Prelude.{◌+◌, ◌^◌, ℤ, ◌+ℤ◌, int_le, Bool, true, false, not, ◌||◌, ◌&&◌, List, [], Option, Some, None, nat_lt, if◌then◌else◌}
 use Rattle.std.specs.Ordering.{is_eq, is_gt, is_lt}
 use Rattle.vortex_base.specs.declared.types.PType.TheVariants as ptype
 use Rattle.vortex_base.specs.declared.pvalue.PValue.TheVariants as number
@@ -10,8 +9,8 @@ use Rattle.vortex_base.specs.Data.Values.{value_cmp, least, greatest}
 use Rattle.vortex_stats.specs.declared.stat.Stat.{Stat}
 use Rattle.vortex_stats.specs.declared.stat.Stat.TheVariants.{IsConstant, IsSorted, IsStrictSorted, Max, Min, Sum, NullCount, UncompressedSizeInBytes, NaNCount}
 use Rattle.vortex_stats.specs.declared.precision.Precision.{Precision}
-use Rattle.vortex_stats.specs.declared.precision.Precision.TheVariants.{Exact, Inexact, Absent}
-use Rattle.vortex_stats.specs.Sets.Entries.{has_entry, entry_value, with_entry, without_entry}
+use Rattle.vortex_stats.specs.declared.precision.Precision.TheVariants.{Exact, Inexact}
+use Rattle.vortex_stats.specs.Sets.Entries.{entry_value, with_entry, without_entry}
 use Rattle.vortex_stats.specs.Bounds.LowerBound.{lower_union}
 use Rattle.vortex_stats.specs.Precision.{present_value}
 use Rattle.vortex_stats.specs.Bounds.UpperBound.{upper_union}
@@ -33,7 +32,7 @@ same_minima (Exact x) (Exact y) = Some (truth (is_eq (value_cmp x y)))
 same_minima p q = None
 
 -- IsConstant: false if either side is exactly false; of two that are exactly true whether their minima are equal
-abbrev pub constant_merged : (own other : Precision ScalarValue) → (own_min other_min : Precision ScalarValue) → Option (Precision ScalarValue)
+abbrev pub constant_merged : (left other : Precision ScalarValue) → (left_min other_min : Precision ScalarValue) → Option (Precision ScalarValue)
 constant_merged c d m n =
     if is_exactly false c || is_exactly false d then Some (truth false)
     else (if is_exactly true c && is_exactly true d then same_minima m n else None)
@@ -48,7 +47,7 @@ at_seam test (Some max) (Some min) = Some (seam (test max min))
 at_seam test p q = None
 
 -- IsSorted and IsStrictSorted: of two that are exactly true whether the first side's maximum may stand before the other's minimum
-abbrev pub order_merged : (ScalarValue → ScalarValue → Bool) → (own other : Precision ScalarValue) → (own_max other_min : Precision ScalarValue) → Option (Precision ScalarValue)
+abbrev pub order_merged : (ScalarValue → ScalarValue → Bool) → (left other : Precision ScalarValue) → (left_max other_min : Precision ScalarValue) → Option (Precision ScalarValue)
 order_merged test c d max min =
     if is_exactly true c && is_exactly true d then at_seam test (present_value max) (present_value min) else None
 
@@ -67,7 +66,7 @@ sum_added (value.Primitive (number.U64 m)) (value.Primitive (number.U64 n)) =
 sum_added v w = None
 
 -- Sum: of two exact ones
-abbrev pub sum_merged : (own other : Precision ScalarValue) → Option (Precision ScalarValue)
+abbrev pub sum_merged : (left other : Precision ScalarValue) → Option (Precision ScalarValue)
 sum_merged (Exact v) (Exact w) = sum_added v w
 sum_merged p q = None
 
@@ -78,7 +77,7 @@ count_added case (value.Primitive (number.U64 m)) (value.Primitive (number.U64 n
 count_added case v w = None
 
 -- NullCount and UncompressedSizeInBytes: the sum, exact of two exact ones
-abbrev pub count_merged : (own other : Precision ScalarValue) → Option (Precision ScalarValue)
+abbrev pub count_merged : (left other : Precision ScalarValue) → Option (Precision ScalarValue)
 count_merged (Exact v) (Exact w) = count_added Exact v w
 count_merged (Exact v) (Inexact w) = count_added Inexact v w
 count_merged (Inexact v) (Exact w) = count_added Inexact v w
@@ -88,7 +87,7 @@ count_merged p q = None
 -- ---- whole sets
 
 -- the merged value of a statistic, from the entries of the two sides as they came in
-abbrev pub merged_value : Stat → (own other : List (Stat × Precision ScalarValue)) → Option (Precision ScalarValue)
+abbrev pub merged_value : Stat → (left other : List (Stat × Precision ScalarValue)) → Option (Precision ScalarValue)
 merged_value IsConstant a b = constant_merged (entry_value IsConstant a) (entry_value IsConstant b) (entry_value Min a) (entry_value Min b)
 merged_value IsSorted a b = order_merged is_at_most (entry_value IsSorted a) (entry_value IsSorted b) (entry_value Max a) (entry_value Min b)
 merged_value IsStrictSorted a b = order_merged is_below (entry_value IsStrictSorted a) (entry_value IsStrictSorted b) (entry_value Max a) (entry_value Min b)
@@ -100,7 +99,7 @@ merged_value UncompressedSizeInBytes a b = count_merged (entry_value Uncompresse
 merged_value NaNCount a b = None
 
 -- the same where the order of the rows isn't known
-abbrev pub unordered_value : Stat → (own other : List (Stat × Precision ScalarValue)) → Option (Precision ScalarValue)
+abbrev pub unordered_value : Stat → (left other : List (Stat × Precision ScalarValue)) → Option (Precision ScalarValue)
 unordered_value IsSorted a b = None
 unordered_value IsStrictSorted a b = None
 unordered_value s a b = merged_value s a b
@@ -118,10 +117,10 @@ all_revised v es =
     (revised IsStrictSorted (v IsStrictSorted) (revised IsSorted (v IsSorted) (revised IsConstant (v IsConstant) es))))))))
 
 -- the entries of the merged set
-abbrev pub merged_ordered : (own other : List (Stat × Precision ScalarValue)) → List (Stat × Precision ScalarValue)
+abbrev pub merged_ordered : (left other : List (Stat × Precision ScalarValue)) → List (Stat × Precision ScalarValue)
 merged_ordered a b = all_revised (λ s. merged_value s a b) a
 
-abbrev pub merged_unordered : (own other : List (Stat × Precision ScalarValue)) → List (Stat × Precision ScalarValue)
+abbrev pub merged_unordered : (left other : List (Stat × Precision ScalarValue)) → List (Stat × Precision ScalarValue)
 merged_unordered a b = all_revised (λ s. unordered_value s a b) a
 
 -- ---- the same step by step: each statistic in the order of the numbers, each step from what the earlier ones left
@@ -129,7 +128,7 @@ merged_unordered a b = all_revised (λ s. unordered_value s a b) a
 abbrev pub merge_step : (List (Stat × Precision ScalarValue)) → List (Stat × Precision ScalarValue) → Stat → List (Stat × Precision ScalarValue)
 merge_step other es s = revised s (merged_value s es other) es
 
-abbrev pub merged_by_steps : (own other : List (Stat × Precision ScalarValue)) → List (Stat × Precision ScalarValue)
+abbrev pub merged_by_steps : (left other : List (Stat × Precision ScalarValue)) → List (Stat × Precision ScalarValue)
 merged_by_steps a b =
     merge_step b (merge_step b (merge_step b (merge_step b (merge_step b (merge_step b (merge_step b (merge_step b (merge_step b a
     IsConstant) IsSorted) IsStrictSorted) Max) Min) Sum) NullCount) UncompressedSizeInBytes) NaNCount

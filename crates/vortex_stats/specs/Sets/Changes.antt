@@ -10,11 +10,11 @@ use Rattle.vortex_stats.specs.declared.stat.Stat.TheVariants.{IsConstant, IsSort
 use Rattle.vortex_stats.specs.Sets.Entries.{entry_value, with_entry, without_entry}
 use Rattle.vortex_stats.specs.Merging.Merges.{revised}
 
--- the value that the change makes of the own one; None clears the entry
+-- the value that the change makes of the left one; None clears the entry
 abbrev pub made : Change → Precision ScalarValue → Option (Precision ScalarValue)
-made Kept own = Some own
-made (Set new) own = Some new
-made Cleared own = None
+made Kept left = Some left
+made (Set new) left = Some new
+made Cleared left = None
 
 -- the entries after the change of the statistic's entry
 abbrev pub changed : Stat → Change → List (Stat × Precision ScalarValue) → List (Stat × Precision ScalarValue)
@@ -34,13 +34,13 @@ all_changed c es =
     (changed Sum c.sum (changed Min c.min (changed Max c.max
     (changed IsStrictSorted c.is_strict_sorted (changed IsSorted c.is_sorted (revised IsConstant c.is_constant es))))))))
 
--- the changes make the values v of the own entries
-pub record MakesAll (c : Changes) (v : Stat → Option (Precision ScalarValue)) (own : List (Stat × Precision ScalarValue)) : Type 0 where
+-- the changes make the values v of the left entries
+pub record MakesAll (c : Changes) (v : Stat → Option (Precision ScalarValue)) (left : List (Stat × Precision ScalarValue)) : Type 0 where
   pub is_constant : c.is_constant ≡ v IsConstant
-  pub is_sorted : made c.is_sorted (entry_value IsSorted own) ≡ v IsSorted
-  pub is_strict_sorted : made c.is_strict_sorted (entry_value IsStrictSorted own) ≡ v IsStrictSorted
-  pub max : made c.max (entry_value Max own) ≡ v Max
-  pub min : made c.min (entry_value Min own) ≡ v Min
-  pub sum : made c.sum (entry_value Sum own) ≡ v Sum
-  pub null_count : made c.null_count (entry_value NullCount own) ≡ v NullCount
-  pub uncompressed_size_in_bytes : made c.uncompressed_size_in_bytes (entry_value UncompressedSizeInBytes own) ≡ v UncompressedSizeInBytes
+  pub is_sorted : made c.is_sorted (entry_value IsSorted left) ≡ v IsSorted
+  pub is_strict_sorted : made c.is_strict_sorted (entry_value IsStrictSorted left) ≡ v IsStrictSorted
+  pub max : made c.max (entry_value Max left) ≡ v Max
+  pub min : made c.min (entry_value Min left) ≡ v Min
+  pub sum : made c.sum (entry_value Sum left) ≡ v Sum
+  pub null_count : made c.null_count (entry_value NullCount left) ≡ v NullCount
+  pub uncompressed_size_in_bytes : made c.uncompressed_size_in_bytes (entry_value UncompressedSizeInBytes left) ≡ v UncompressedSizeInBytes

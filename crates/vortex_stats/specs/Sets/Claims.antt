@@ -1,5 +1,5 @@
 -- What a statistic claims of a column, and when a set is true of it.
-use Rattle.std.specs.Prelude.{◌≡◌, ◌≤◌, ℕ, ◌+◌, ℤ, pos, ◌+ℤ◌, Bool, true, false, not, ◌&&◌, List, [], ◌∷◌, ◌++◌, Option, Some, IsTrue, Contains, IsPermutation, count_by, is_none, ⊤}
+use Rattle.std.specs.Prelude.{◌≡◌, ◌≤◌, ℕ, ◌+◌, ℤ, pos, ◌+ℤ◌, Bool, true, false, not, ◌&&◌, List, [], ◌∷◌, Option, Some, IsTrue, Contains, IsPermutation, count_by, is_none, ⊤}
 use Rattle.std.specs.List.{filter_map, list_all}
 use Rattle.std.specs.Ordering.{is_lt, is_gt}
 use Rattle.vortex_base.specs.declared.pvalue.PValue.TheVariants as number

@@ -1,5 +1,5 @@
 -- What a view that writes shows of its set.
-use Rattle.std.specs.Prelude.{◌≡◌, ℕ, Result}
+use Rattle.std.specs.Prelude.{◌≡◌, Result}
 use Rattle.std.specs.Borrow.{RestsIfErr, Fml}
 use Rattle.vortex_stats.specs.contracts.stats_set.StatsSet.{the_row}
 use Rattle.vortex_stats.specs.declared.typed.MutTypedStatsSetRef.{MutTypedStatsSetRef}

@@ -24,26 +24,32 @@ pub fn sets_are_true_by_entry()
 /// with the second appended, sizes added.
 pub fn ordered_merges_stay_true()
     ensures { (a b : List (Stat × Precision ScalarValue)) (c d : ColumnData)
-        → c.dtype ≡ d.dtype → IsTrueOf a c → IsTrueOf b d → IsTrueOf (merged_ordered a b) (appended c d) }
+        → c.dtype ≡ d.dtype → IsTrueOf a c → IsTrueOf b d
+        → IsTrueOf (merged_ordered a b) (appended c d) }
 {}
 
 /// The unordered merge of sets that are true of two columns of one type is true of the appended
 /// column in whatever order its values stand.
 pub fn unordered_merges_stay_true()
     ensures { (a b : List (Stat × Precision ScalarValue)) (c d e : ColumnData)
-        → c.dtype ≡ d.dtype → IsTrueOf a c → IsTrueOf b d → IsReordered (appended c d) e → IsTrueOf (merged_unordered a b) e }
+        → c.dtype ≡ d.dtype → IsTrueOf a c → IsTrueOf b d → IsReordered (appended c d) e
+        → IsTrueOf (merged_unordered a b) e }
 {}
 
 /// An unordered merge says nothing of the order of the values.
 pub fn unordered_merges_forget_order()
-    ensures sorted { (a b : List (Stat × Precision ScalarValue)) → has_entry IsSorted (merged_unordered a b) ≡ false }
-    ensures strict_sorted { (a b : List (Stat × Precision ScalarValue)) → has_entry IsStrictSorted (merged_unordered a b) ≡ false }
+    ensures sorted { (a b : List (Stat × Precision ScalarValue))
+        → has_entry IsSorted (merged_unordered a b) ≡ false }
+    ensures strict_sorted { (a b : List (Stat × Precision ScalarValue))
+        → has_entry IsStrictSorted (merged_unordered a b) ≡ false }
 {}
 
 /// Unordered merges of two sets have the same statistics with the same values, whichever comes first.
 pub fn unordered_merges_commute()
-    ensures statistics { (s : Stat) (a b : List (Stat × Precision ScalarValue)) → has_entry s (merged_unordered a b) ≡ has_entry s (merged_unordered b a) }
-    ensures values { (s : Stat) (a b : List (Stat × Precision ScalarValue)) → entry_value s (merged_unordered a b) ≡ entry_value s (merged_unordered b a) }
+    ensures statistics { (s : Stat) (a b : List (Stat × Precision ScalarValue))
+        → has_entry s (merged_unordered a b) ≡ has_entry s (merged_unordered b a) }
+    ensures values { (s : Stat) (a b : List (Stat × Precision ScalarValue))
+        → entry_value s (merged_unordered a b) ≡ entry_value s (merged_unordered b a) }
 {}
 
 /// Sets that are true of one column do not contradict each other.
@@ -60,12 +66,14 @@ pub fn combinations_stay_true()
 
 /// A true set stays true without the entry of a statistic.
 pub fn cleared_sets_stay_true()
-    ensures { (s : Stat) (es : List (Stat × Precision ScalarValue)) (c : ColumnData) → IsTrueOf es c → IsTrueOf (without_entry s es) c }
+    ensures { (s : Stat) (es : List (Stat × Precision ScalarValue)) (c : ColumnData)
+        → IsTrueOf es c → IsTrueOf (without_entry s es) c }
 {}
 
 /// A true set stays true with the entries of some statistics alone.
 pub fn retained_sets_stay_true()
-    ensures { (stats : List Stat) (es : List (Stat × Precision ScalarValue)) (c : ColumnData) → IsTrueOf es c → IsTrueOf (retained_entries stats es) c }
+    ensures { (stats : List Stat) (es : List (Stat × Precision ScalarValue)) (c : ColumnData)
+        → IsTrueOf es c → IsTrueOf (retained_entries stats es) c }
 {}
 
 /// A true set stays true with a statistic's value made inexact.

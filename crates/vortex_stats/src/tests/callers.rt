@@ -1,14 +1,16 @@
 //! Callers that know a set by its list alone.
-ghost use Rattle.std.specs.Prelude.{◌≡◌, ◌⊎◌, IfOk, IfErr, OnOk, OnErr, IsTrue, length, map, alloc_error};
+ghost use Rattle.std.specs.Prelude.{◌≡◌, ◌⊎◌, false, IfOk, IfErr, OnOk, OnErr, IsTrue, length, map, alloc_error};
 ghost use Rattle.vortex_base.specs.Data.Columns.{ColumnData};
 ghost use Rattle.vortex_base.specs.Data.Values.{is_value};
 ghost use Rattle.vortex_stats.specs.declared.error.StatsError.TheVariants.{Memory};
 ghost use Rattle.vortex_stats.specs.Sets.Claims.{IsTrueOf};
 ghost use Rattle.vortex_stats.specs.Merging.Merges.{merged_ordered, merged_unordered};
 ghost use Rattle.vortex_stats.specs.Merging.Combined.{combined, Combines};
+ghost use Rattle.vortex_stats.specs.Copies.{holds_long};
 ghost use Rattle.vortex_stats.specs.Sets.Entries.{entries_fit, value_fits, with_entry, without_entry};
 
 use crate::error::StatsError;
+use crate::laws::short_values_are_not_copied;
 use crate::laws::truth::{combinations_stay_true, true_sets_agree};
 use crate::precision::Precision;
 use crate::stat::Stat;
@@ -75,7 +77,7 @@ pub fn merged_through_view(
     other: &StatsSet,
     dtype: &DType,
 ) -> Result<(), StatsError>
-    requires own_fits { IsTrue (entries_fit set.old dtype.now) }
+    requires left_fits { IsTrue (entries_fit set.old dtype.now) }
     requires other_fits { IsTrue (entries_fit other.now dtype.now) }
     ensures merged { OnOk result (set.new ≡ merged_ordered set.old other.now) }
     ensures refused { OnErr result (set.new ≡ set.old) }
@@ -91,7 +93,7 @@ pub fn mixed_through_view(
     other: &StatsSet,
     dtype: &DType,
 ) -> Result<(), StatsError>
-    requires own_fits { IsTrue (entries_fit set.old dtype.now) }
+    requires left_fits { IsTrue (entries_fit set.old dtype.now) }
     requires other_fits { IsTrue (entries_fit other.now dtype.now) }
     ensures merged { OnOk result (set.new ≡ merged_unordered set.old other.now) }
     ensures refused { OnErr result (set.new ≡ set.old) }
@@ -107,7 +109,7 @@ pub fn combined_through_view(
     other: &StatsSet,
     dtype: &DType,
 ) -> Result<(), StatsError>
-    requires own_fits { IsTrue (entries_fit set.old dtype.now) }
+    requires left_fits { IsTrue (entries_fit set.old dtype.now) }
     requires other_fits { IsTrue (entries_fit other.now dtype.now) }
     ensures { Combines (combined set.old other.now) set.old set.new result }
 {
@@ -122,7 +124,7 @@ pub fn set_through_view(
     stat: Stat,
     value: Precision<ScalarValue>,
 )
-    requires own_fits { IsTrue (entries_fit set.old dtype.now) }
+    requires left_fits { IsTrue (entries_fit set.old dtype.now) }
     requires value_fits { IsTrue (value_fits stat dtype.now value) }
     ensures { set.new ≡ with_entry stat value set.old }
 {
@@ -131,8 +133,8 @@ pub fn set_through_view(
 }
 
 /// A refused merge hands back the set as it was.
-pub fn merged_or_own(set: StatsSet, other: &StatsSet, dtype: &DType) -> StatsSet
-    requires own_fits { IsTrue (entries_fit set dtype.now) }
+pub fn merged_or_left(set: StatsSet, other: &StatsSet, dtype: &DType) -> StatsSet
+    requires left_fits { IsTrue (entries_fit set dtype.now) }
     requires other_fits { IsTrue (entries_fit other.now dtype.now) }
     ensures { (result ≡ merged_ordered set other.now) ⊎ (result ≡ set) }
 {
@@ -142,9 +144,39 @@ pub fn merged_or_own(set: StatsSet, other: &StatsSet, dtype: &DType) -> StatsSet
     }
 }
 
+/// Sets of a column without texts and bytes always merge.
+pub fn merged_numbers(set: StatsSet, other: &StatsSet, dtype: &DType) -> StatsSet
+    requires short { holds_long dtype.now ≡ false }
+    requires left_fits { IsTrue (entries_fit set dtype.now) }
+    requires other_fits { IsTrue (entries_fit other.now dtype.now) }
+    ensures { result ≡ merged_ordered set other.now }
+{
+    short_values_are_not_copied();
+    match set.merge_ordered(other, dtype) {
+        Ok(merged) => merged,
+        Err(_) => unreachable!(),
+    }
+}
+
+/// Their combination is refused for a conflict alone.
+pub fn combined_numbers(set: &mut StatsSet, other: &StatsSet, dtype: &DType) -> Option<Stat>
+    requires short { holds_long dtype.now ≡ false }
+    requires left_fits { IsTrue (entries_fit set.old dtype.now) }
+    requires other_fits { IsTrue (entries_fit other.now dtype.now) }
+    ensures conflict { result ≡ (combined set.old other.now).conflict }
+    ensures entries { set.new ≡ (combined set.old other.now).entries }
+{
+    short_values_are_not_copied();
+    match set.combine_sets(other, dtype) {
+        Ok(()) => None,
+        Err(StatsError::Conflict(stat)) => Some(stat),
+        Err(_) => unreachable!(),
+    }
+}
+
 /// A combination that is refused for memory leaves the set as it was.
 pub fn is_out_of_memory(set: &mut StatsSet, other: &StatsSet, dtype: &DType) -> bool
-    requires own_fits { IsTrue (entries_fit set.old dtype.now) }
+    requires left_fits { IsTrue (entries_fit set.old dtype.now) }
     requires other_fits { IsTrue (entries_fit other.now dtype.now) }
     ensures { IsTrue result → set.new ≡ set.old }
 {
@@ -160,7 +192,7 @@ pub fn combined_of_one_column(
     other: &StatsSet,
     dtype: &DType,
 ) -> Result<(), StatsError>
-    requires own_fits { IsTrue (entries_fit set.old dtype.now) }
+    requires left_fits { IsTrue (entries_fit set.old dtype.now) }
     requires other_fits { IsTrue (entries_fit other.now dtype.now) }
     ensures truth { (c : ColumnData) → IsTrueOf set.old c → IsTrueOf other.now c
         → OnOk result (IsTrueOf set.new c) }

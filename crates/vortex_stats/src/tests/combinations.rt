@@ -1,22 +1,17 @@
 //! Combinations of sets by value and through a view, row by row.
 use super::callers::combined_through_view;
-use super::merges::{I32, exact, has_entries, inexact, set_of};
 use crate::error::StatsError;
 use crate::precision::Precision;
 use crate::stat::Stat;
 use crate::stats_set::StatsSet;
+use crate::testing::{Entry, I32, Value, exact, inexact, sets};
 use std::alloc::Global;
 use std::test::Fail;
 use vortex_base::scalar_value::ScalarValue;
 
-type Entry = (Stat, Precision<ScalarValue>);
-
 /// Combines two sets that fit I32, and answers the statistic of a conflict.
 fn combine(set: &mut StatsSet, other: &StatsSet) -> Result<Option<Stat>, Fail> {
-    if !set.fits(&I32) || !other.fits(&I32) {
-        return Err(Fail::from(StatsError::Mismatch));
-    }
-    match set.combine_sets(other, &I32) {
+    match sets::combine(set, other, &I32) {
         Ok(()) => Ok(None),
         Err(StatsError::Conflict(stat)) => Ok(Some(stat)),
         Err(refused) => Err(Fail::from(refused)),
@@ -31,9 +26,9 @@ fn combines<const A: usize, const B: usize, const C: usize>(
     expected: [Entry; C],
     conflict: Option<Stat>,
 ) -> Result<bool, Fail> {
-    let mut set = set_of(alloc, first)?;
-    let found = combine(&mut set, &set_of(alloc, other)?)?;
-    Ok(found == conflict && has_entries(alloc, set, expected)?)
+    let mut set = sets::of(alloc, first)?;
+    let found = combine(&mut set, &sets::of(alloc, other)?)?;
+    Ok(found == conflict && sets::is(alloc, set, expected)?)
 }
 
 #[test]
@@ -49,82 +44,88 @@ fn conflict_at_min(rt: HostRuntime) -> Result<(), Fail> {
     Ok(())
 }
 
+/// An entry of Max that is Absent.
+fn absent() -> [Entry; 1] {
+    [(Stat::Max, Precision::Absent)]
+}
+
 #[test]
 fn absent_entries(rt: HostRuntime) -> Result<(), Fail> {
     let alloc = rt.alloc();
-    let absent = || [(Stat::Max, Precision::Absent)];
     assert!(rt; combines(alloc, [], absent(), [], None)?);
     assert!(rt; combines(alloc, absent(), absent(), [], None)?);
-    let max = || [(Stat::Max, exact(3))];
-    assert!(rt; combines(alloc, max(), absent(), max(), None)?);
-    assert!(rt; combines(alloc, absent(), max(), max(), None)?);
+    assert!(rt; combines(alloc, max(exact(3)), absent(), max(exact(3)), None)?);
+    assert!(rt; combines(alloc, absent(), max(exact(3)), max(exact(3)), None)?);
     Ok(())
+}
+
+/// Whether two values of the statistic meet in the last one.
+fn meet(
+    alloc: Global,
+    stat: Stat,
+    first: Value,
+    other: Value,
+    expected: Value,
+) -> Result<bool, Fail> {
+    combines(
+        alloc,
+        [(stat, first)],
+        [(stat, other)],
+        [(stat, expected)],
+        None,
+    )
+}
+
+/// Whether two values of the statistic contradict each other, and the first stays.
+fn conflict<T: Into<ScalarValue> + Copy>(
+    alloc: Global,
+    stat: Stat,
+    first: Precision<T>,
+    other: Value,
+) -> Result<bool, Fail> {
+    let entry = || [(stat, first.map(|value| value.into()))];
+    combines(alloc, entry(), [(stat, other)], entry(), Some(stat))
 }
 
 #[test]
 fn truths(rt: HostRuntime) -> Result<(), Fail> {
     let alloc = rt.alloc();
-    let constant = |value: Precision<ScalarValue>| [(Stat::IsConstant, value)];
-    let holds = || constant(exact(true));
-    assert!(rt; combines(alloc, holds(), holds(), holds(), None)?);
-    assert!(rt; combines(alloc, holds(), constant(inexact(false)), holds(), None)?);
-    let fails = || constant(exact(false));
-    assert!(rt; combines(alloc, fails(), constant(inexact(false)), fails(), None)?);
-    assert!(rt;
-        combines(
-            alloc,
-            fails(),
-            constant(inexact(true)),
-            constant(inexact(false)),
-            None
-        )?
-    );
-    let first = || [
-        (Stat::IsConstant, exact(true)),
-        (Stat::IsSorted, exact(true)),
-    ];
-    let other = [
-        (Stat::IsConstant, exact(false)),
-        (Stat::IsSorted, exact(true)),
-    ];
-    assert!(rt; combines(alloc, first(), other, first(), Some(Stat::IsConstant))?);
+    let stat = Stat::IsConstant;
+    assert!(rt; meet(alloc, stat, exact(true), exact(true), exact(true))?);
+    assert!(rt; meet(alloc, stat, exact(true), inexact(false), exact(true))?);
+    assert!(rt; meet(alloc, stat, exact(false), inexact(false), exact(false))?);
+    assert!(rt; meet(alloc, stat, exact(false), inexact(true), inexact(false))?);
     Ok(())
+}
+
+/// Whether the rows are constant, and that they are sorted.
+fn sorted(is_constant: bool) -> [Entry; 2] {
+    [
+        (Stat::IsConstant, exact(is_constant)),
+        (Stat::IsSorted, exact(true)),
+    ]
+}
+
+#[test]
+fn conflict_of_truths(rt: HostRuntime) -> Result<(), Fail> {
+    let alloc = rt.alloc();
+    let stat = Some(Stat::IsConstant);
+    assert!(rt; combines(alloc, sorted(true), sorted(false), sorted(true), stat)?);
+    Ok(())
+}
+
+fn max(value: Value) -> [Entry; 1] {
+    [(Stat::Max, value)]
 }
 
 #[test]
 fn bounds(rt: HostRuntime) -> Result<(), Fail> {
     let alloc = rt.alloc();
-    let max = |value: Precision<ScalarValue>| [(Stat::Max, value)];
-    assert!(rt; combines(alloc, max(exact(5)), max(inexact(7)), max(exact(5)), None)?);
-    assert!(rt; combines(alloc, max(inexact(7)), max(exact(5)), max(exact(5)), None)?);
-    assert!(rt;
-        combines(
-            alloc,
-            max(inexact(5)),
-            max(exact(7)),
-            max(inexact(5)),
-            Some(Stat::Max)
-        )?
-    );
-    assert!(rt;
-        combines(
-            alloc,
-            max(inexact(7)),
-            max(inexact(5)),
-            max(inexact(5)),
-            None
-        )?
-    );
-    let sum = |value: Precision<ScalarValue>| [(Stat::Sum, value)];
-    assert!(rt;
-        combines(
-            alloc,
-            sum(exact(1i64)),
-            sum(exact(2i64)),
-            sum(exact(1i64)),
-            Some(Stat::Sum)
-        )?
-    );
+    assert!(rt; meet(alloc, Stat::Max, exact(5), inexact(7), exact(5))?);
+    assert!(rt; meet(alloc, Stat::Max, inexact(7), exact(5), exact(5))?);
+    assert!(rt; conflict(alloc, Stat::Max, Precision::Inexact(5), exact(7))?);
+    assert!(rt; meet(alloc, Stat::Max, inexact(7), inexact(5), inexact(5))?);
+    assert!(rt; conflict(alloc, Stat::Sum, Precision::Exact(1i64), exact(2i64))?);
     Ok(())
 }
 
@@ -145,16 +146,21 @@ fn missing_stats(rt: HostRuntime) -> Result<(), Fail> {
     Ok(())
 }
 
+/// Combines through a view, where both sets fit I32, and tells whether that is a conflict at Min.
+fn conflicts_viewed(set: &mut StatsSet, other: &StatsSet) -> bool {
+    if !set.fits(&I32) || !other.fits(&I32) {
+        return false;
+    }
+    let answer = combined_through_view(set, other, &I32);
+    matches!(answer, Err(StatsError::Conflict(Stat::Min)))
+}
+
 #[test]
 fn combines_through_a_view(rt: HostRuntime) -> Result<(), Fail> {
     let alloc = rt.alloc();
-    let mut set = set_of(alloc, [(Stat::Min, exact(5))])?;
-    let other = set_of(alloc, [(Stat::Max, exact(9)), (Stat::Min, exact(4))])?;
-    if !set.fits(&I32) || !other.fits(&I32) {
-        return Err(Fail::from(StatsError::Mismatch));
-    }
-    let answer = combined_through_view(&mut set, &other, &I32);
-    assert!(rt; matches!(answer, Err(StatsError::Conflict(Stat::Min))));
-    assert!(rt; has_entries(alloc, set, [(Stat::Min, exact(5)), (Stat::Max, exact(9))])?);
+    let mut set = sets::one(alloc, Stat::Min, exact(5));
+    let other = sets::of(alloc, [(Stat::Max, exact(9)), (Stat::Min, exact(4))])?;
+    assert!(rt; conflicts_viewed(&mut set, &other));
+    assert!(rt; sets::is(alloc, set, [(Stat::Min, exact(5)), (Stat::Max, exact(9))])?);
     Ok(())
 }

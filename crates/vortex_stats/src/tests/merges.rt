@@ -1,66 +1,14 @@
 //! Merges of sets by value and through views, row by row.
-use super::callers::{collected, merged_through_view, mixed_through_view};
+use super::callers::{merged_through_view, mixed_through_view};
 use crate::error::StatsError;
 use crate::precision::Precision;
 use crate::stat::Stat;
 use crate::stats_set::StatsSet;
-use std::alloc::{AllocError, Global};
+use crate::testing::{Entry, I32, I64, U8, UTF8, Value, exact, inexact, sets, text};
+use std::alloc::Global;
 use std::test::Fail;
 use vortex_base::dtype::DType;
 use vortex_base::scalar_value::ScalarValue;
-use vortex_base::text::Text;
-use vortex_base::types::{Nullability, PType};
-
-type Entry = (Stat, Precision<ScalarValue>);
-
-pub const I32: DType = DType::Primitive(PType::I32, Nullability::NonNullable);
-
-const I64: DType = DType::Primitive(PType::I64, Nullability::NonNullable);
-
-const U8: DType = DType::Primitive(PType::U8, Nullability::NonNullable);
-
-const UTF8: DType = DType::Utf8(Nullability::NonNullable);
-
-pub fn exact<T: Into<ScalarValue>>(value: T) -> Precision<ScalarValue> {
-    Precision::Exact(value.into())
-}
-
-pub fn inexact<T: Into<ScalarValue>>(value: T) -> Precision<ScalarValue> {
-    Precision::Inexact(value.into())
-}
-
-/// An exact text of more bytes than stand in place.
-pub fn text(alloc: Global, first: &str) -> Result<Precision<ScalarValue>, AllocError> {
-    let mut text = String::from_str(alloc, first)?;
-    text.push_str(" and more than stands in place")?;
-    Ok(Precision::Exact(ScalarValue::Utf8(Text::new(text))))
-}
-
-/// The set of these entries, in order.
-pub fn set_of<const N: usize>(alloc: Global, entries: [Entry; N]) -> Result<StatsSet, StatsError> {
-    let mut set = StatsSet::new(alloc);
-    set.try_extend(Vec::from_array(alloc, entries)?.into_iter())?;
-    Ok(set)
-}
-
-/// Whether the set has these entries, in order.
-pub fn has_entries<const N: usize>(
-    alloc: Global,
-    set: StatsSet,
-    entries: [Entry; N],
-) -> Result<bool, StatsError> {
-    let expected = Vec::from_array(alloc, entries)?;
-    let entries = collected(alloc, set)?;
-    Ok(entries.as_slice() == expected.as_slice())
-}
-
-/// The ordered merge of two sets that fit the type.
-fn merged(first: StatsSet, other: &StatsSet, dtype: &DType) -> Result<StatsSet, Fail> {
-    if !first.fits(dtype) || !other.fits(dtype) {
-        return Err(Fail::from(StatsError::Mismatch));
-    }
-    Ok(first.merge_ordered(other, dtype)?)
-}
 
 /// Whether the ordered merge of the two sets under the type has the last entries.
 fn merges_under<const A: usize, const B: usize, const C: usize>(
@@ -70,8 +18,9 @@ fn merges_under<const A: usize, const B: usize, const C: usize>(
     other: [Entry; B],
     expected: [Entry; C],
 ) -> Result<bool, Fail> {
-    let set = merged(set_of(alloc, first)?, &set_of(alloc, other)?, dtype)?;
-    Ok(has_entries(alloc, set, expected)?)
+    let other = sets::of(alloc, other)?;
+    let set = sets::merged(sets::of(alloc, first)?, &other, dtype)?;
+    Ok(sets::is(alloc, set, expected)?)
 }
 
 /// The same under the type I32.
@@ -84,171 +33,244 @@ fn merges<const A: usize, const B: usize, const C: usize>(
     merges_under(alloc, &I32, first, other, expected)
 }
 
+/// The set of the statistic's value, or of no entry.
+fn set_of(alloc: Global, stat: Stat, value: Option<Value>) -> StatsSet {
+    match value {
+        Some(value) => StatsSet::of(alloc, stat, value),
+        None => StatsSet::new(alloc),
+    }
+}
+
+/// Whether the ordered merge of sets that have at most the statistic has the last value, or no entry.
+fn merges_values(
+    alloc: Global,
+    dtype: &DType,
+    stat: Stat,
+    first: Option<Value>,
+    other: Option<Value>,
+    expected: Option<Value>,
+) -> Result<bool, Fail> {
+    let other = set_of(alloc, stat, other);
+    let set = sets::merged(set_of(alloc, stat, first), &other, dtype)?;
+    match expected {
+        Some(value) => Ok(sets::is(alloc, set, [(stat, value)])?),
+        None => Ok(set.is_empty()),
+    }
+}
+
+/// The sum of two sums in a column of the type, `None` where the entry is cleared.
+fn sums(
+    alloc: Global,
+    dtype: &DType,
+    first: Value,
+    other: Value,
+    expected: Option<Value>,
+) -> Result<bool, Fail> {
+    merges_values(alloc, dtype, Stat::Sum, Some(first), Some(other), expected)
+}
+
 #[test]
 fn overflowing_sums(rt: HostRuntime) -> Result<(), Fail> {
     let alloc = rt.alloc();
-    let most = || [(Stat::Sum, exact(i64::MAX))];
-    assert!(rt; merges_under(alloc, &I64, most(), most(), [])?);
-    let least = || [(Stat::Sum, exact(i64::MIN))];
-    assert!(rt; merges_under(alloc, &I64, least(), [(Stat::Sum, exact(-1i64))], [])?);
-    assert!(rt; merges_under(alloc, &I64, least(), most(), [(Stat::Sum, exact(-1i64))])?);
-    let all = || [(Stat::Sum, exact(u64::MAX))];
-    assert!(rt; merges_under(alloc, &U8, all(), [(Stat::Sum, exact(1u64))], [])?);
-    assert!(rt; merges_under(alloc, &U8, all(), [(Stat::Sum, exact(0u64))], all())?);
+    assert!(rt; sums(alloc, &I64, exact(i64::MAX), exact(i64::MAX), None)?);
+    assert!(rt; sums(alloc, &I64, exact(i64::MIN), exact(-1i64), None)?);
     assert!(rt;
-        merges(
+        sums(
             alloc,
-            [(Stat::Sum, exact(37i64))],
-            [(Stat::Sum, exact(42i64))],
-            [(Stat::Sum, exact(79i64))]
+            &I64,
+            exact(i64::MIN),
+            exact(i64::MAX),
+            Some(exact(-1i64))
         )?
     );
+    assert!(rt; sums(alloc, &U8, exact(u64::MAX), exact(1u64), None)?);
     assert!(rt;
-        merges(
+        sums(
             alloc,
-            [(Stat::Sum, exact(37i64))],
-            [(Stat::Sum, inexact(42i64))],
-            []
+            &U8,
+            exact(u64::MAX),
+            exact(0u64),
+            Some(exact(u64::MAX))
         )?
     );
+    assert!(rt; sums(alloc, &I32, exact(37i64), exact(42i64), Some(exact(79i64)))?);
+    assert!(rt; sums(alloc, &I32, exact(37i64), inexact(42i64), None)?);
     Ok(())
+}
+
+/// Counts of the statistic that add up, overflow, or stand on one side alone.
+fn adds_counts(alloc: Global, stat: Stat) -> Result<bool, Fail> {
+    Ok(overflows(alloc, stat)? && adds_up(alloc, stat)? && needs_both_sides(alloc, stat)?)
+}
+
+fn overflows(alloc: Global, stat: Stat) -> Result<bool, Fail> {
+    let most = || exact(u64::MAX);
+    let past = counts(alloc, stat, most().into_inexact(), exact(1u64), None)?;
+    Ok(past && counts(alloc, stat, most(), exact(0u64), Some(most()))?)
+}
+
+fn adds_up(alloc: Global, stat: Stat) -> Result<bool, Fail> {
+    let seven = || Some(inexact(7u64));
+    let other_inexact = counts(alloc, stat, exact(3u64), inexact(4u64), seven())?;
+    Ok(other_inexact && counts(alloc, stat, inexact(3u64), exact(4u64), seven())?)
+}
+
+fn needs_both_sides(alloc: Global, stat: Stat) -> Result<bool, Fail> {
+    let first_alone = merges_values(alloc, &I32, stat, Some(exact(3u64)), None, None)?;
+    Ok(first_alone && merges_values(alloc, &I32, stat, None, Some(exact(3u64)), None)?)
+}
+
+/// The sum of two counts, `None` where the entry is cleared.
+fn counts(
+    alloc: Global,
+    stat: Stat,
+    first: Value,
+    other: Value,
+    expected: Option<Value>,
+) -> Result<bool, Fail> {
+    merges_values(alloc, &I32, stat, Some(first), Some(other), expected)
 }
 
 #[test]
 fn overflowing_counts(rt: HostRuntime) -> Result<(), Fail> {
-    let alloc = rt.alloc();
-    for stat in [Stat::NullCount, Stat::UncompressedSizeInBytes] {
-        assert!(rt;
-            merges(
-                alloc,
-                [(stat, inexact(u64::MAX))],
-                [(stat, exact(1u64))],
-                []
-            )?
-        );
-        assert!(rt;
-            merges(
-                alloc,
-                [(stat, exact(u64::MAX))],
-                [(stat, exact(0u64))],
-                [(stat, exact(u64::MAX))]
-            )?
-        );
-        assert!(rt;
-            merges(
-                alloc,
-                [(stat, exact(3u64))],
-                [(stat, inexact(4u64))],
-                [(stat, inexact(7u64))]
-            )?
-        );
-        assert!(rt;
-            merges(
-                alloc,
-                [(stat, inexact(3u64))],
-                [(stat, exact(4u64))],
-                [(stat, inexact(7u64))]
-            )?
-        );
-        assert!(rt; merges(alloc, [(stat, exact(3u64))], [], [])?);
-        assert!(rt; merges(alloc, [], [(stat, exact(3u64))], [])?);
-    }
+    assert!(rt; adds_counts(rt.alloc(), Stat::NullCount)?);
+    assert!(rt; adds_counts(rt.alloc(), Stat::UncompressedSizeInBytes)?);
     Ok(())
+}
+
+/// A minimum and IsConstant.
+fn constant(min: Value, is_constant: Value) -> [Entry; 2] {
+    [(Stat::Min, min), (Stat::IsConstant, is_constant)]
+}
+
+/// Of rows that are all 42.
+fn all_42() -> [Entry; 2] {
+    constant(exact(42), exact(true))
+}
+
+/// Of rows from 42 on.
+fn from_42() -> [Entry; 2] {
+    constant(exact(42), exact(false))
 }
 
 #[test]
 fn constants_that_differ(rt: HostRuntime) -> Result<(), Fail> {
     let alloc = rt.alloc();
-    let constant = |min: Precision<ScalarValue>, is_constant: Precision<ScalarValue>| {
-        [(Stat::Min, min), (Stat::IsConstant, is_constant)]
-    };
-    let first = || constant(exact(42), exact(true));
-    assert!(rt;
-        merges(
-            alloc,
-            first(),
-            constant(inexact(42), exact(true)),
-            [(Stat::Min, exact(42))]
-        )?
-    );
-    assert!(rt;
-        merges(
-            alloc,
-            first(),
-            constant(exact(7), exact(true)),
-            constant(exact(7), exact(false))
-        )?
-    );
-    assert!(rt; merges(alloc, first(), first(), first())?);
-    let varied = || constant(exact(42), exact(false));
-    assert!(rt; merges(alloc, varied(), first(), varied())?);
-    assert!(rt; merges(alloc, first(), varied(), varied())?);
+    let unsure_min = constant(inexact(42), exact(true));
+    assert!(rt; merges(alloc, all_42(), unsure_min, [(Stat::Min, exact(42))])?);
+    let all_7 = constant(exact(7), exact(true));
+    assert!(rt; merges(alloc, all_42(), all_7, constant(exact(7), exact(false)))?);
+    assert!(rt; merges(alloc, all_42(), all_42(), all_42())?);
+    assert!(rt; merges(alloc, from_42(), all_42(), from_42())?);
+    assert!(rt; merges(alloc, all_42(), from_42(), from_42())?);
     let unsure = constant(exact(42), inexact(true));
-    assert!(rt; merges(alloc, unsure, first(), [(Stat::Min, exact(42))])?);
+    assert!(rt; merges(alloc, unsure, all_42(), [(Stat::Min, exact(42))])?);
     Ok(())
+}
+
+/// Whether an exact value on one side alone is cleared, whichever side that is.
+fn is_cleared<T: Into<ScalarValue> + Copy>(
+    alloc: Global,
+    stat: Stat,
+    value: T,
+) -> Result<bool, Fail> {
+    let first = merges_values(alloc, &I32, stat, Some(exact(value)), None, None)?;
+    Ok(first && merges_values(alloc, &I32, stat, None, Some(exact(value)), None)?)
 }
 
 #[test]
 fn one_side_absent(rt: HostRuntime) -> Result<(), Fail> {
     let alloc = rt.alloc();
-    let varied = || [(Stat::IsConstant, exact(false))];
-    assert!(rt; merges(alloc, [], varied(), varied())?);
-    let min = || [(Stat::Min, exact(42))];
-    assert!(rt; merges(alloc, min(), [], [])? && merges(alloc, [], min(), [])?);
-    let max = || [(Stat::Max, exact(42))];
-    assert!(rt; merges(alloc, max(), [], [])? && merges(alloc, [], max(), [])?);
-    let sum = || [(Stat::Sum, exact(42i64))];
-    assert!(rt; merges(alloc, sum(), [], [])? && merges(alloc, [], sum(), [])?);
-    let strict = || [(Stat::IsStrictSorted, exact(true))];
-    assert!(rt; merges(alloc, strict(), [], [])? && merges(alloc, [], strict(), [])?);
-    // an own entry that is Absent keeps its place
+    let varied = merges_values(
+        alloc,
+        &I32,
+        Stat::IsConstant,
+        None,
+        Some(exact(false)),
+        Some(exact(false)),
+    )?;
+    assert!(rt; varied);
+    assert!(rt; is_cleared(alloc, Stat::Min, 42)?);
+    assert!(rt; is_cleared(alloc, Stat::Max, 42)?);
+    assert!(rt; is_cleared(alloc, Stat::Sum, 42i64)?);
+    assert!(rt; is_cleared(alloc, Stat::IsStrictSorted, true)?);
+    Ok(())
+}
+
+/// Max 3, and that the rows are no constant.
+fn up_to_3() -> [Entry; 2] {
+    [(Stat::Max, exact(3)), (Stat::IsConstant, exact(false))]
+}
+
+/// An entry of the left set that is Absent keeps its place, and a new one goes last.
+#[test]
+fn places_of_is_constant(rt: HostRuntime) -> Result<(), Fail> {
+    let alloc = rt.alloc();
     let unknown = [(Stat::IsConstant, Precision::Absent), (Stat::Max, exact(1))];
     let known = [(Stat::IsConstant, exact(false)), (Stat::Max, exact(3))];
-    let other = [(Stat::Max, exact(3)), (Stat::IsConstant, exact(false))];
-    assert!(rt; merges(alloc, unknown, other, known)?);
-    // a new one goes last
-    let other = [(Stat::Max, exact(3)), (Stat::IsConstant, exact(false))];
-    let merged = [(Stat::Max, exact(3)), (Stat::IsConstant, exact(false))];
-    assert!(rt; merges(alloc, [(Stat::Max, exact(1))], other, merged)?);
+    assert!(rt; merges(alloc, unknown, up_to_3(), known)?);
+    assert!(rt; merges(alloc, [(Stat::Max, exact(1))], up_to_3(), up_to_3())?);
     Ok(())
+}
+
+/// Whether two values of a bound merge to the last one.
+fn joins(
+    alloc: Global,
+    stat: Stat,
+    first: Value,
+    other: Value,
+    expected: Value,
+) -> Result<bool, Fail> {
+    merges_values(alloc, &I32, stat, Some(first), Some(other), Some(expected))
 }
 
 #[test]
 fn bounds(rt: HostRuntime) -> Result<(), Fail> {
     let alloc = rt.alloc();
-    let min = |value: Precision<ScalarValue>| [(Stat::Min, value)];
-    let max = |value: Precision<ScalarValue>| [(Stat::Max, value)];
-    assert!(rt; merges(alloc, min(exact(37)), min(exact(42)), min(exact(37)))?);
-    assert!(rt; merges(alloc, max(exact(37)), max(exact(42)), max(exact(42)))?);
-    assert!(rt; merges(alloc, max(exact(42)), max(inexact(43)), max(inexact(43)))?);
-    assert!(rt; merges(alloc, min(inexact(5)), min(exact(5)), min(exact(5)))?);
-    assert!(rt; merges(alloc, max(exact(43)), max(inexact(42)), max(exact(43)))?);
+    assert!(rt; joins(alloc, Stat::Min, exact(37), exact(42), exact(37))?);
+    assert!(rt; joins(alloc, Stat::Max, exact(37), exact(42), exact(42))?);
+    assert!(rt; joins(alloc, Stat::Max, exact(42), inexact(43), inexact(43))?);
+    assert!(rt; joins(alloc, Stat::Min, inexact(5), exact(5), exact(5))?);
+    assert!(rt; joins(alloc, Stat::Max, exact(43), inexact(42), exact(43))?);
     Ok(())
+}
+
+/// Rows in strict order, with a bound.
+fn strict(stat: Stat, value: Value) -> [Entry; 2] {
+    [(Stat::IsStrictSorted, exact(true)), (stat, value)]
+}
+
+/// Whether rows in strict order up to the first number and from the second one on stay so; where
+/// they don't, that is unknown.
+fn stays_strict(alloc: Global, max: i32, min: Value) -> Result<Option<bool>, Fail> {
+    let first = sets::of(alloc, strict(Stat::Max, exact(max)))?;
+    let other = sets::of(alloc, strict(Stat::Min, min))?;
+    let set = sets::merged(first, &other, &I32)?;
+    Ok(if sets::is(
+        alloc,
+        set.try_clone()?,
+        [(Stat::IsStrictSorted, exact(true))],
+    )? {
+        Some(true)
+    } else if sets::is(alloc, set, [(Stat::IsStrictSorted, inexact(false))])? {
+        Some(false)
+    } else {
+        None
+    })
 }
 
 #[test]
 fn strict_order_at_the_seam(rt: HostRuntime) -> Result<(), Fail> {
     let alloc = rt.alloc();
-    let strict = |stat: Stat, value: Precision<ScalarValue>| {
-        [(Stat::IsStrictSorted, exact(true)), (stat, value)]
-    };
-    let kept = || [(Stat::IsStrictSorted, exact(true))];
-    let lost = || [(Stat::IsStrictSorted, inexact(false))];
-    let first = || strict(Stat::Max, exact(1));
-    assert!(rt;
-        merges(
-            alloc,
-            strict(Stat::Max, exact(2)),
-            strict(Stat::Min, exact(1)),
-            lost()
-        )?
-    );
-    assert!(rt; merges(alloc, first(), strict(Stat::Min, exact(1)), lost())?);
-    assert!(rt; merges(alloc, first(), strict(Stat::Min, inexact(2)), kept())?);
-    assert!(rt; merges(alloc, first(), strict(Stat::Min, exact(2)), kept())?);
+    assert!(rt; stays_strict(alloc, 2, exact(1))? == Some(false));
+    assert!(rt; stays_strict(alloc, 1, exact(1))? == Some(false));
+    assert!(rt; stays_strict(alloc, 1, inexact(2))? == Some(true));
+    assert!(rt; stays_strict(alloc, 1, exact(2))? == Some(true));
+    let first = strict(Stat::Max, exact(1));
     let unsorted = [(Stat::IsStrictSorted, exact(false)), (Stat::Min, exact(2))];
-    assert!(rt; merges(alloc, first(), unsorted, [])?);
-    assert!(rt; merges(alloc, first(), kept(), [])?);
+    assert!(rt; merges(alloc, first, unsorted, [])?);
+    let first = strict(Stat::Max, exact(1));
+    assert!(rt; merges(alloc, first, [(Stat::IsStrictSorted, exact(true))], [])?);
     let sorted = [(Stat::IsSorted, exact(true)), (Stat::Max, exact(1))];
     let other = [(Stat::IsSorted, exact(true)), (Stat::Min, exact(1))];
     assert!(rt; merges(alloc, sorted, other, [(Stat::IsSorted, exact(true))])?);
@@ -257,7 +279,7 @@ fn strict_order_at_the_seam(rt: HostRuntime) -> Result<(), Fail> {
 
 /// A set with every statistic but the sum.
 fn full(alloc: Global) -> Result<StatsSet, StatsError> {
-    set_of(
+    sets::of(
         alloc,
         [
             (Stat::Min, exact(1)),
@@ -271,14 +293,15 @@ fn full(alloc: Global) -> Result<StatsSet, StatsError> {
     )
 }
 
+/// The unordered merge of the set with itself.
+fn mixed_with_itself(alloc: Global) -> Result<StatsSet, Fail> {
+    let other = full(alloc)?;
+    Ok(sets::mixed(full(alloc)?, &other, &I32)?)
+}
+
 #[test]
 fn unordered_merge(rt: HostRuntime) -> Result<(), Fail> {
     let alloc = rt.alloc();
-    let (set, other) = (full(alloc)?, full(alloc)?);
-    if !set.fits(&I32) || !other.fits(&I32) {
-        return Err(Fail::from(StatsError::Mismatch));
-    }
-    let set = set.merge_unordered(&other, &I32)?;
     let expected = [
         (Stat::Min, exact(1)),
         (Stat::Max, exact(10000)),
@@ -286,46 +309,56 @@ fn unordered_merge(rt: HostRuntime) -> Result<(), Fail> {
         (Stat::UncompressedSizeInBytes, exact(50u64)),
         (Stat::IsConstant, exact(false)),
     ];
-    assert!(rt; has_entries(alloc, set, expected)?);
+    assert!(rt; sets::is(alloc, mixed_with_itself(alloc)?, expected)?);
     Ok(())
+}
+
+/// The ordered merge through a view, where both sets fit the type.
+pub fn merge_viewed(set: &mut StatsSet, other: &StatsSet, dtype: &DType) -> Result<(), StatsError> {
+    if !set.fits(dtype) || !other.fits(dtype) {
+        return Err(StatsError::Mismatch);
+    }
+    merged_through_view(set, other, dtype)
+}
+
+/// The unordered merge through a view, where both sets fit the type.
+pub fn mix_viewed(set: &mut StatsSet, other: &StatsSet, dtype: &DType) -> Result<(), StatsError> {
+    if !set.fits(dtype) || !other.fits(dtype) {
+        return Err(StatsError::Mismatch);
+    }
+    mixed_through_view(set, other, dtype)
 }
 
 #[test]
 fn merges_through_views(rt: HostRuntime) -> Result<(), Fail> {
     let alloc = rt.alloc();
-    let (mut set, other) = (full(alloc)?, full(alloc)?);
-    if !set.fits(&I32) || !other.fits(&I32) {
-        return Err(Fail::from(StatsError::Mismatch));
-    }
-    merged_through_view(&mut set, &other, &I32)?;
-    assert_eq!(rt; set.len(), 7);
-    assert!(rt; set.get(Stat::IsSorted)? == inexact(false));
-    assert!(rt; set.get(Stat::NullCount)? == exact(4u64));
+    let other = full(alloc)?;
     let mut set = full(alloc)?;
-    if !set.fits(&I32) {
-        return Err(Fail::from(StatsError::Mismatch));
-    }
-    mixed_through_view(&mut set, &other, &I32)?;
-    assert_eq!(rt; set.len(), 5);
-    assert!(rt; set.get(Stat::IsSorted)?.is_absent());
+    merge_viewed(&mut set, &other, &I32)?;
+    assert_eq!(rt; sets::len(&set), 7);
+    assert!(rt; sets::has(&set, Stat::IsSorted, inexact(false))?);
+    assert!(rt; sets::has(&set, Stat::NullCount, exact(4u64))?);
+    let mut set = full(alloc)?;
+    mix_viewed(&mut set, &other, &I32)?;
+    assert_eq!(rt; sets::len(&set), 5);
+    assert!(rt; sets::has(&set, Stat::IsSorted, Precision::Absent)?);
     Ok(())
+}
+
+/// Two entries of texts.
+fn two_texts(alloc: Global, first: (Stat, &str), second: (Stat, &str)) -> Result<[Entry; 2], Fail> {
+    Ok([
+        (first.0, text(alloc, first.1)?),
+        (second.0, text(alloc, second.1)?),
+    ])
 }
 
 #[test]
 fn texts(rt: HostRuntime) -> Result<(), Fail> {
     let alloc = rt.alloc();
-    let first = [
-        (Stat::Max, text(alloc, "m")?),
-        (Stat::Min, text(alloc, "b")?),
-    ];
-    let other = [
-        (Stat::Min, text(alloc, "a")?),
-        (Stat::Max, text(alloc, "k")?),
-    ];
-    let expected = [
-        (Stat::Max, text(alloc, "m")?),
-        (Stat::Min, text(alloc, "a")?),
-    ];
+    let first = two_texts(alloc, (Stat::Max, "m"), (Stat::Min, "b"))?;
+    let other = two_texts(alloc, (Stat::Min, "a"), (Stat::Max, "k"))?;
+    let expected = two_texts(alloc, (Stat::Max, "m"), (Stat::Min, "a"))?;
     assert!(rt; merges_under(alloc, &UTF8, first, other, expected)?);
     Ok(())
 }

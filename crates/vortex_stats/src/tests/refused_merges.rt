@@ -1,21 +1,16 @@
-//! Merges and combination of sets of a text column with all its statistics, where every growth may be
-//! refused: `rt try --test --fail-alloc N` refuses the Nth. A refused call leaves its set as it was.
-use super::callers::{merged_through_view, mixed_through_view};
-use super::merges::{exact, set_of, text};
+//! Merges and combination of sets of a text column with all its statistics, where every growth
+//! may be refused: `rt try --test --fail-alloc N` refuses the Nth. A refused call leaves its set as
+//! it was.
+use super::merges::{merge_viewed, mix_viewed};
 use crate::error::StatsError;
-use crate::precision::Precision;
 use crate::stat::Stat;
-use crate::stats_set::StatsSet;
+use crate::stats_set::{MergeRefused, StatsSet};
+use crate::testing::{Entry, UTF8, exact, sets, text};
 use std::alloc::Global;
-use std::process::Abort;
-use vortex_base::dtype::DType;
-use vortex_base::types::Nullability;
-
-const UTF8: DType = DType::Utf8(Nullability::NonNullable);
 
 /// All statistics of a text column but IsConstant, which a merge with `varied` adds.
 fn texts(alloc: Global, min: &str, max: &str) -> Result<StatsSet, StatsError> {
-    set_of(
+    sets::of(
         alloc,
         [
             (Stat::Max, text(alloc, max)?),
@@ -54,79 +49,74 @@ fn are_same(a: &StatsSet, b: &StatsSet) -> bool {
     a.len() == b.len() && a.iter().zip(b.iter()).all(|(x, y)| *x == *y)
 }
 
+/// Whether the entry is one of the set. This takes no memory.
+fn has(set: &StatsSet, wanted: &Entry) -> bool {
+    set.iter().any(|entry| *entry == *wanted)
+}
+
+/// Whether the set has the other's entry of the statistic.
+fn has_same(set: &StatsSet, other: &StatsSet, stat: Stat) -> bool {
+    other.iter().any(|entry| entry.0 == stat && has(set, entry))
+}
+
 /// The merge took the other's values and IsConstant, and added the counts.
 fn is_merged(set: &StatsSet, other: &StatsSet) -> bool {
-    let count = |stat: Stat, n: u64| {
-        set.iter()
-            .any(|entry| entry.0 == stat && entry.1 == exact(n))
+    has(set, &(Stat::NullCount, exact(2u64)))
+        && has(set, &(Stat::UncompressedSizeInBytes, exact(128u64)))
+        && has_same(set, other, Stat::Max)
+        && has_same(set, other, Stat::Min)
+        && has_same(set, other, Stat::IsConstant)
+}
+
+/// Whether the merge took all, or was refused for memory and handed its set back as it was.
+fn took_all(answer: Result<StatsSet, MergeRefused>, before: &StatsSet, other: &StatsSet) -> bool {
+    match answer {
+        Ok(set) => is_merged(&set, other),
+        Err(refused) => {
+            matches!(refused.error, StatsError::Memory(_)) && are_same(&refused.set, before)
+        }
+    }
+}
+
+/// The same of an ordered merge or an unordered one; `None` where the sides were refused.
+fn merges(alloc: Global, is_ordered: bool) -> Option<bool> {
+    let Sides { set, before, other } = make_sides(alloc)?;
+    let answer = if is_ordered {
+        sets::merged(set, &other, &UTF8)
+    } else {
+        sets::mixed(set, &other, &UTF8)
     };
-    let taken = |stat: Stat| {
-        set.iter().any(|entry| entry.0 == stat && other.iter().any(|theirs| *theirs == *entry))
-    };
-    count(Stat::NullCount, 2)
-        && count(Stat::UncompressedSizeInBytes, 128)
-        && taken(Stat::Max)
-        && taken(Stat::Min)
-        && taken(Stat::IsConstant)
+    Some(took_all(answer, &before, &other))
 }
 
 #[test]
 fn merges_by_value(rt: HostRuntime) {
-    let alloc = rt.alloc();
-    for is_ordered in [true, false] {
-        let Some(Sides { set, before, other }) = make_sides(alloc) else {
-            return;
-        };
-        if !set.fits(&UTF8) || !other.fits(&UTF8) {
-            assert!(rt; false);
-            return;
-        }
-        let answer = if is_ordered {
-            set.merge_ordered(&other, &UTF8)
-        } else {
-            set.merge_unordered(&other, &UTF8)
-        };
-        match answer {
-            Ok(set) => assert!(rt; is_merged(&set, &other)),
-            Err(refused) => {
-                assert!(rt; matches!(refused.error, StatsError::Memory(_)));
-                assert!(rt; are_same(&refused.set, &before));
-            }
-        }
-    }
+    assert!(rt; merges(rt.alloc(), true) != Some(false));
+    assert!(rt; merges(rt.alloc(), false) != Some(false));
+}
+
+/// The same through a view, where a refused merge leaves the set that is viewed as it was.
+fn merges_viewed(alloc: Global, is_ordered: bool) -> Option<bool> {
+    let Sides {
+        mut set,
+        before,
+        other,
+    } = make_sides(alloc)?;
+    let answer = if is_ordered {
+        merge_viewed(&mut set, &other, &UTF8)
+    } else {
+        mix_viewed(&mut set, &other, &UTF8)
+    };
+    Some(match answer {
+        Ok(()) => is_merged(&set, &other),
+        Err(refused) => matches!(refused, StatsError::Memory(_)) && are_same(&set, &before),
+    })
 }
 
 #[test]
 fn merges_through_a_view(rt: HostRuntime) {
-    let alloc = rt.alloc();
-    for is_ordered in [true, false] {
-        let Some(
-            Sides {
-                mut set,
-                before,
-                other,
-            },
-        ) = make_sides(alloc)
-        else {
-            return;
-        };
-        if !set.fits(&UTF8) || !other.fits(&UTF8) {
-            assert!(rt; false);
-            return;
-        }
-        let answer = if is_ordered {
-            merged_through_view(&mut set, &other, &UTF8)
-        } else {
-            mixed_through_view(&mut set, &other, &UTF8)
-        };
-        match answer {
-            Ok(()) => assert!(rt; is_merged(&set, &other)),
-            Err(refused) => {
-                assert!(rt; matches!(refused, StatsError::Memory(_)));
-                assert!(rt; are_same(&set, &before));
-            }
-        }
-    }
+    assert!(rt; merges_viewed(rt.alloc(), true) != Some(false));
+    assert!(rt; merges_viewed(rt.alloc(), false) != Some(false));
 }
 
 /// The first entry, which every set has.
@@ -136,7 +126,7 @@ fn min_of(alloc: Global, min: &str) -> Result<StatsSet, StatsError> {
 
 /// A maximum, and then a minimum.
 fn max_and_min(alloc: Global, max: &str, min: &str) -> Result<StatsSet, StatsError> {
-    set_of(
+    sets::of(
         alloc,
         [
             (Stat::Max, text(alloc, max)?),
@@ -145,29 +135,22 @@ fn max_and_min(alloc: Global, max: &str, min: &str) -> Result<StatsSet, StatsErr
     )
 }
 
-/// Combines with the set, which agrees or conflicts at Min.
-fn combines(rt: &impl Abort, alloc: Global, min: &str, agrees: bool) -> Option<()> {
+/// Whether a combination with the set agrees, or conflicts at Min, as it is to do; or it was
+/// refused for memory with the set as it was.
+fn combines(alloc: Global, min: &str, agrees: bool) -> Option<bool> {
     let mut set = min_of(alloc, "e").ok()?;
     let before = min_of(alloc, "e").ok()?;
     let other = max_and_min(alloc, "m", min).ok()?;
-    if !set.fits(&UTF8) || !other.fits(&UTF8) {
-        assert!(rt; false);
-        return None;
-    }
-    match set.combine_sets(&other, &UTF8) {
-        Ok(()) => assert!(rt; agrees && set.len() == 2),
-        Err(StatsError::Conflict(stat)) => {
-            assert!(rt; !agrees && stat == Stat::Min && set.len() == 2);
-        }
-        Err(StatsError::Memory(_)) => assert!(rt; are_same(&set, &before)),
-        Err(_) => assert!(rt; false),
-    }
-    Some(())
+    Some(match sets::combine(&mut set, &other, &UTF8) {
+        Ok(()) => agrees && sets::len(&set) == 2,
+        Err(StatsError::Conflict(stat)) => { !agrees && stat == Stat::Min && sets::len(&set) == 2 }
+        Err(StatsError::Memory(_)) => are_same(&set, &before),
+        Err(_) => false,
+    })
 }
 
 #[test]
 fn combinations(rt: HostRuntime) {
-    let alloc = rt.alloc();
-    let _ = combines(&rt, alloc, "d", false);
-    let _ = combines(&rt, alloc, "e", true);
+    assert!(rt; combines(rt.alloc(), "d", false) != Some(false));
+    assert!(rt; combines(rt.alloc(), "e", true) != Some(false));
 }

@@ -1,5 +1,5 @@
-//! Worked rows of the definitions of unions, found by computation alone, and bounds that are not the
-//! tightest.
+//! Worked rows of the definitions of unions, found by computation alone, and bounds that are not
+//! the tightest.
 ghost use Rattle.std.specs.Prelude.{◌≡◌, [], ◌∷◌, Some, None};
 ghost use Rattle.std.specs.Ordering.{nat_cmp};
 ghost use Rattle.vortex_stats.specs.declared.precision.Precision.TheVariants.{Exact, Inexact, Absent};

@@ -1,8 +1,8 @@
 use Rattle.vortex_prune.proofs.Honesty.PartLemmas.{other_set_fits, own_set_fits}
 use Rattle.vortex_prune.proofs.part.join.merged_set.Goals as goal
 
-pub merge_ordered-requires-clause-own_fits : goal.merge_ordered-requires-clause-own_fits
-merge_ordered-requires-clause-own_fits c =
+pub merge_ordered-requires-clause-left_fits : goal.merge_ordered-requires-clause-left_fits
+merge_ordered-requires-clause-left_fits c =
     rw (c.in_ok-own.ensures.value, c.dtype-dtype.ensures.value)
     (own_set_fits c.args.left.now c.args.i c.column.result.now c.stats.result.now c.chunk.ensures.is_part (rw c.chunk.ensures.value at c.column.ensures) c.stats.ensures.value)
 

@@ -1,4 +1,4 @@
-use Rattle.std.proofs.Common.{◌≡◌, sym, ap, ◌∙◌}
+use Rattle.std.proofs.Common.{sym, ap, ◌∙◌}
 use Rattle.vortex_stats.specs.Sets.Entries.{entry_value}
 use Rattle.vortex_stats.specs.Sets.Slots.{value_in}
 use Rattle.vortex_stats.proofs.Sets.SlotLemmas.{entry_value-slots, slot_read}

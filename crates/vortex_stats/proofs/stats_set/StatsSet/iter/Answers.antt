@@ -1,4 +1,4 @@
-use Rattle.std.proofs.Common.{◌≡◌, ◌≤◌, sym, subst, length}
+use Rattle.std.proofs.Common.{◌≤◌, subst, length}
 use Rattle.vortex_stats.specs.Sets.Slots.{slot_entries}
 use Rattle.vortex_stats.proofs.Sets.SlotLemmas.{all_left, length-distinct}
 use Rattle.vortex_stats.proofs.stats_set.StatsSet.iter.Goals as goal

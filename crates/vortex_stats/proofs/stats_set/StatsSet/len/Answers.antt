@@ -1,4 +1,4 @@
-use Rattle.std.proofs.Common.{◌≡◌, sym, ap, ◌∙◌, length}
+use Rattle.std.proofs.Common.{sym, ap, ◌∙◌, length}
 use Rattle.vortex_stats.proofs.Sets.SlotLemmas.{length_slots}
 use Rattle.vortex_stats.proofs.stats_set.StatsSet.len.Goals as goal
 

@@ -1,4 +1,4 @@
-use Rattle.std.proofs.Common.{◌≡◌, [], ap, ◌∙◌}
+use Rattle.std.proofs.Common.{[], ap, ◌∙◌}
 use Rattle.vortex_stats.specs.Sets.Entries.{with_entries}
 use Rattle.vortex_stats.proofs.Sets.Places.{with_entries-distinct}
 use Rattle.vortex_stats.proofs.stats_set.StatsSet.new_unchecked.Goals as goal

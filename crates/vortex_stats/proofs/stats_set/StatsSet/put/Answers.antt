@@ -1,4 +1,4 @@
-use Rattle.std.proofs.Common.{◌≡◌, List, [], ◌∷◌, ◌++◌, true, false, sym, ap, ◌∙◌, is_some, arith}
+use Rattle.std.proofs.Common.{◌≡◌, [], ◌∷◌, ◌++◌, true, false, ap, ◌∙◌, is_some, arith}
 use Rattle.vortex_stats.specs.Sets.Entries.{has_entry}
 use Rattle.vortex_stats.specs.Sets.Slots.{slot_entries}
 use Rattle.vortex_stats.proofs.Sets.SlotLemmas.{slot_read, has_entry-slots, room, written_in_place, written_last, sound_with}

@@ -1,7 +1,7 @@
-use Rattle.std.proofs.Common.{◌≡◌, ◌∷◌, [], ◌++◌, sym, ap, subst, ◌∙◌, append_assoc}
+use Rattle.std.proofs.Common.{◌∷◌, [], ◌++◌, sym, ap, ◌∙◌, append_assoc}
 use Rattle.std.proofs.lemmas.List.{append-nil}
 use Rattle.vortex_stats.specs.Sets.Entries.{without_entry}
-use Rattle.vortex_stats.proofs.Sets.Retained.{retained_so_far, retained_at_start, retained_at_end, retained_where_listed, retained_where_not}
+use Rattle.vortex_stats.proofs.Sets.Retained.{retained_so_far, retained_at_start, retained_at_end, retained_where_not}
 use Rattle.vortex_stats.proofs.stats_set.StatsSet.retain_only.Goals as goal
 
 pub loop-stat-init : goal.loop-stat-init

@@ -1,5 +1,5 @@
-use Rattle.std.proofs.Common.{◌≡◌, ap, sym, subst, ◌∙◌, []}
-use Rattle.vortex_stats.specs.Sets.Entries.{with_entries, AreDistinct}
+use Rattle.std.proofs.Common.{ap, ◌∙◌, []}
+use Rattle.vortex_stats.specs.Sets.Entries.{with_entries}
 use Rattle.vortex_stats.proofs.Sets.Places.{with_entries-distinct}
 use Rattle.vortex_stats.proofs.stats_set.StatsSet.try_clone.Goals as goal
 

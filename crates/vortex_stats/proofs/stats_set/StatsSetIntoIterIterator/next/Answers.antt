@@ -1,4 +1,4 @@
-use Rattle.std.proofs.Common.{◌≡◌, ◌∷◌, sym, ap, subst, ◌∙◌, length, arith}
+use Rattle.std.proofs.Common.{sym, ap, subst, ◌∙◌, length, arith}
 use Rattle.vortex_stats.specs.Sets.Slots.{slot_entries, AreLeft}
 use Rattle.vortex_stats.proofs.Sets.SlotLemmas.{left_after, left_first}
 use Rattle.vortex_stats.proofs.stats_set.StatsSetIntoIterIterator.next.Goals as goal

@@ -1,4 +1,3 @@
-use Rattle.std.proofs.Common.{◌≡◌, sym}
 use Rattle.vortex_stats.proofs.Sets.SlotLemmas.{all_left}
 use Rattle.vortex_stats.proofs.stats_set.StatsSetIntoIterator.into_iter.Goals as goal
 
