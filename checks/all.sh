@@ -24,7 +24,8 @@ check() {
 
 # Builds the program anew if anything has changed, so that the checks below run what stands here.
 first_example() {
-    ./scan < examples/first-run.txt > "$log.first" && cmp "$log.first" examples/first-run.out
+    ./scan < examples/first-run.txt > "$log.first"
+    cmp "$log.first" examples/first-run.out && echo "built as it stands here"
     local status=$?
     rm -f "$log.first"
     return "$status"
@@ -35,7 +36,7 @@ check "program" first_example
 check "examples" examples/compare.sh
 check "random inputs" checks/random-inputs.py
 check "hostile inputs" checks/hostile-input.py
-check "refused growths of the first run" checks/refused-growths.sh
-check "refused growths of tests" checks/refused-growths-of-tests.sh vortex_stats 1 24
+check "refused growths of the program" checks/refused-growths.py
+check "refused growths of tests" checks/refused-growths-of-tests.py vortex_stats vortex_text
 echo "$passed passed, $failed failed"
 [ "$failed" -eq 0 ]

@@ -1,6 +1,5 @@
 # The built program and the plain one of bench/plain, run on the same bytes: what checks that compare them share.
 import os
-import socket
 import subprocess
 import sys
 from concurrent.futures import ThreadPoolExecutor
@@ -12,11 +11,16 @@ PLAIN = os.path.join(TOP, "bench/data/plain")
 WORKERS = 2
 
 
-def build():
-    """Builds both programs; the proved one only where it isn't there yet."""
+def build_program():
+    """Proves and builds the program where it isn't built yet."""
     if not os.access(PROGRAM, os.X_OK):
         with open(os.path.join(TOP, "examples/first-run.txt"), "rb") as first:
             subprocess.run([os.path.join(TOP, "scan")], stdin=first, stdout=subprocess.DEVNULL, check=True)
+
+
+def build():
+    """Builds both programs; the proved one only where it isn't there yet."""
+    build_program()
     os.makedirs(os.path.dirname(PLAIN), exist_ok=True)
     main = os.path.join(TOP, "bench/plain/main.rs")
     subprocess.run(["rustc", "--edition", "2021", "-O", main, "-o", PLAIN], check=True)
@@ -29,25 +33,6 @@ def answer(program, data, seconds):
     except subprocess.TimeoutExpired:
         return f"no answer in {seconds} s"
     return run.returncode, run.stdout
-
-
-def answer_byte_by_byte(program, data, seconds):
-    """The answer where each read gives one byte: standard input is a socket of packets of one byte each."""
-    near, far = socket.socketpair(socket.AF_UNIX, socket.SOCK_SEQPACKET)
-    with subprocess.Popen([program], stdin=far, stdout=subprocess.PIPE, stderr=subprocess.DEVNULL) as run:
-        far.close()
-        try:
-            for byte in data:
-                near.send(bytes([byte]))
-        except BrokenPipeError:
-            pass
-        near.close()
-        try:
-            printed, _ = run.communicate(timeout=seconds)
-        except subprocess.TimeoutExpired:
-            run.kill()
-            return f"no answer in {seconds} s"
-        return run.returncode, printed
 
 
 def shown(said):

@@ -7,7 +7,8 @@ import resource
 import subprocess
 import time
 
-from both import PROGRAM, TOP, answer_byte_by_byte, build, end, faults_of
+import shim
+from both import PROGRAM, TOP, build, end, faults_of
 
 LIMIT = 16_777_216
 STACK = 8 << 20
@@ -131,6 +132,11 @@ def streams():
     return faults, len(runs)
 
 
+def byte_by_byte():
+    library = shim.build()
+    return faults_of(prefixes(), 20, lambda program, data, seconds: shim.run(library, program, data, seconds, ONE_BYTE="1"))
+
+
 def compared(inputs, seconds):
     return lambda: faults_of(inputs(), seconds)
 
@@ -138,7 +144,7 @@ def compared(inputs, seconds):
 # Each check by its name; it gives what is wrong, and how many inputs there were.
 CHECKS = [("every prefix of an input of 40 lines", compared(prefixes, 20)),
           ("every byte of it replaced by eight others", compared(replaced_bytes, 20)),
-          ("prefixes of it read one byte a read", lambda: faults_of(prefixes()[::3], 20, answer_byte_by_byte)),
+          ("prefixes of it, one byte a read and a write", byte_by_byte),
           ("numbers of 10,000 digits", compared(long_numbers, 20)),
           ("lines of 16 million bytes", compared(long_lines, 60)),
           ("deep predicates on 8 MiB of stack", compared(deep_predicates, 20)),

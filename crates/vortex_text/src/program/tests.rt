@@ -209,6 +209,21 @@ fn a_slow_writer(rt: HostRuntime) -> Result<(), Fail> {
     Ok(())
 }
 
+// A growth may be refused, and the answer is then that it was.
+#[test]
+fn a_run_that_is_refused(rt: HostRuntime) -> Result<(), Fail> {
+    let mut writer = OneByte::new(32);
+    let status = run(rt.alloc(), &mut FIRST_RUN.as_bytes(), &mut writer);
+    assert!(rt; status <= 1);
+    let wanted = if status == 0 {
+        FIRST_ANSWER
+    } else {
+        "memory\n"
+    };
+    assert_eq!(rt; writer.written(), wanted.as_bytes());
+    Ok(())
+}
+
 // A reader without an end, which fails once its bytes are past the limit.
 #[derive(Drop)]
 struct Endless {
