@@ -3,6 +3,7 @@ ghost use Rattle.std.specs.Prelude.{◌≡◌, ◌++◌, ◌∷◌, IfOk, OnOk, 
 ghost use Rattle.std.specs.List.{flat_map};
 ghost use Rattle.vortex_text.specs.Printing.{bad_text, part_text, row_text, scan_text};
 
+use itoa::Buffer;
 use std::alloc::{AllocError, Global};
 use vortex_prune::scan::outcome::Scan;
 
@@ -10,8 +11,10 @@ fn print_parts(text: &mut String, parts: &[usize]) -> Result<(), AllocError>
     ensures { OnOk result
         (string_bytes text.new ≡ string_bytes text.old ++ flat_map part_text parts.now) }
 {
+    let mut digits = Buffer::new();
     for part in parts {
-        write!(text, " {part}")?;
+        text.push_str(" ")?;
+        text.push_str(digits.format(*part))?;
     }
     Ok(())
 }
@@ -20,8 +23,12 @@ fn print_rows(text: &mut String, rows: &[(usize, usize)]) -> Result<(), AllocErr
     ensures { OnOk result
         (string_bytes text.new ≡ string_bytes text.old ++ flat_map row_text rows.now) }
 {
+    let mut digits = Buffer::new();
     for (part, row) in rows {
-        write!(text, " {part}:{row}")?;
+        text.push_str(" ")?;
+        text.push_str(digits.format(*part))?;
+        text.push_str(":")?;
+        text.push_str(digits.format(*row))?;
     }
     Ok(())
 }
