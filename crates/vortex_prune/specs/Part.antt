@@ -1,13 +1,11 @@
 -- Parts: the columns of some rows, with a set of statistics for each.
-use Rattle.std.specs.Prelude.{◌≡◌, ℕ, Some, slice_get, Bool, true, false, List, [], ◌∷◌, IsTrue, Result, Ok, Err, MatchResult, alloc_error, ⊤}
+use Rattle.std.specs.Prelude.{◌≡◌, ℕ, Some, slice_get, Bool, true, List, [], ◌∷◌, IsTrue, ⊤}
 use lib.Pointwise.{pointwise}
 use Rattle.vortex_base.specs.declared.scalar_value.ScalarValue.{ScalarValue}
-use Rattle.vortex_base.specs.Data.Columns.{ChunkData, ColumnData, IsChunk, appended_chunk, sizes_fit}
+use Rattle.vortex_base.specs.Data.Columns.{ChunkData, ColumnData, IsChunk, appended_chunk}
 use Rattle.vortex_stats.specs.Sets.Claims.{IsTrueOf}
-use Rattle.vortex_stats.specs.Sets.Entries.{AreDistinct, entries_fit}
+use Rattle.vortex_stats.specs.Sets.Entries.{entries_fit}
 use Rattle.vortex_stats.specs.Merging.Merges.{merged_ordered}
-use Rattle.vortex_stats.specs.declared.error.StatsError.{StatsError}
-use Rattle.vortex_stats.specs.declared.error.StatsError.TheVariants.{Memory, Mismatch, TooLarge}
 use Rattle.vortex_stats.specs.declared.precision.Precision.{Precision}
 use Rattle.vortex_stats.specs.declared.stat.Stat.{Stat}
 

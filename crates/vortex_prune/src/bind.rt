@@ -64,8 +64,10 @@ fn replaced<B: StatBinder>(
     binder: &B,
 ) -> Result<BoundExpression, StatsError>
     requires { type_of (stat aggregate input.now) ≡ Ok dtype }
-    ensures replaces { IfOk result (Replaces (B.answer binder.now) (B.is_missing binder.now) aggregate input.now) }
-    ensures typed { IfOk result (λ r. spec.base_type r ≡ spec.base_type (stat aggregate input.now)) }
+    ensures replaces { IfOk result (Replaces (B.answer binder.now) (B.is_missing binder.now)
+        aggregate input.now) }
+    ensures typed { IfOk result (λ r.
+        spec.base_type r ≡ spec.base_type (stat aggregate input.now)) }
     ensures refusal { IfErr result (IsRefusal (binding_causes (B.answer binder.now)
         (B.is_missing binder.now) (B.can_fault binder.now) (stat aggregate input.now))) }
 {
@@ -83,7 +85,8 @@ fn bound_stats<B: StatBinder>(
     e: &BoundExpression,
     binder: &B,
 ) -> Result<BoundExpression, StatsError>
-    ensures bound { IfOk result (IsBinding (Replaces (B.answer binder.now) (B.is_missing binder.now)) e.now) }
+    ensures bound { IfOk result
+        (IsBinding (Replaces (B.answer binder.now) (B.is_missing binder.now)) e.now) }
     ensures typed { IfOk result (λ r. spec.base_type r ≡ spec.base_type e.now) }
     ensures refusal { IfErr result (IsRefusal (binding_causes (B.answer binder.now)
         (B.is_missing binder.now) (B.can_fault binder.now) e.now)) }
@@ -122,14 +125,16 @@ pub(crate) fn bind_stats_of<B: StatBinder>(
     e: &BoundExpression,
     binder: &B,
 ) -> Result<BoundExpression, StatsError>
-    ensures bound { IfOk result (IsBinding (Replaces (B.answer binder.now) (B.is_missing binder.now)) e.now) }
+    ensures bound { IfOk result
+        (IsBinding (Replaces (B.answer binder.now) (B.is_missing binder.now)) e.now) }
     ensures typed { IfOk result (λ r. spec.base_type r ≡ spec.base_type e.now) }
     ensures free { IfOk result (λ r. WhereFaithful (B.is_faithful_over binder.now)
         (λ row n. has_placeholder r ≡ false)) }
     ensures fits { IfOk result (λ r. WhereFaithful (B.is_faithful_over binder.now)
         (λ row n. has_bare_column e.now ≡ false → IsTrue (fits_row r row))) }
     ensures value { IfOk result (λ r. WhereFaithful (B.is_faithful_over binder.now)
-        (λ row n. HasNoColumnOn e.now row → meaning r row n ≡ value_under (B.value binder.now row n) n e.now)) }
+        (λ row n. HasNoColumnOn e.now row
+        → meaning r row n ≡ value_under (B.value binder.now row n) n e.now)) }
     ensures refusal { IfErr result (IsRefusal (binding_causes (B.answer binder.now)
         (B.is_missing binder.now) (B.can_fault binder.now) e.now)) }
     ensures right_types { WhereFaithful (B.is_faithful_over binder.now)
@@ -151,14 +156,16 @@ pub fn bind_stats<B: StatBinder>(
     e: BoundExpression,
     binder: &B,
 ) -> Result<BoundExpression, StatsError>
-    ensures bound { IfOk result (IsBinding (Replaces (B.answer binder.now) (B.is_missing binder.now)) e) }
+    ensures bound { IfOk result
+        (IsBinding (Replaces (B.answer binder.now) (B.is_missing binder.now)) e) }
     ensures typed { IfOk result (λ r. spec.base_type r ≡ spec.base_type e) }
     ensures free { IfOk result (λ r. WhereFaithful (B.is_faithful_over binder.now)
         (λ row n. has_placeholder r ≡ false)) }
     ensures fits { IfOk result (λ r. WhereFaithful (B.is_faithful_over binder.now)
         (λ row n. has_bare_column e ≡ false → IsTrue (fits_row r row))) }
     ensures value { IfOk result (λ r. WhereFaithful (B.is_faithful_over binder.now)
-        (λ row n. HasNoColumnOn e row → meaning r row n ≡ value_under (B.value binder.now row n) n e)) }
+        (λ row n. HasNoColumnOn e row
+        → meaning r row n ≡ value_under (B.value binder.now row n) n e)) }
     ensures refusal { IfErr result (IsRefusal (binding_causes (B.answer binder.now)
         (B.is_missing binder.now) (B.can_fault binder.now) e)) }
     ensures right_types { WhereFaithful (B.is_faithful_over binder.now)

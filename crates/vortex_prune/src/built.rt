@@ -1,7 +1,7 @@
 //! Nodes over operands that are known to fit.
-ghost use Rattle.std.specs.Prelude.{◌≡◌, Ok, IfOk, IfErr, alloc_error};
+ghost use Rattle.std.specs.Prelude.{◌≡◌, Ok, IfErr, alloc_error};
 ghost use Rattle.vortex_base.specs.declared.error.BaseError.TheVariants.{Memory};
-ghost use Rattle.vortex_stats.specs.declared.error.StatsError.TheVariants as refusal;
+ghost use Rattle.vortex_prune.specs.Answers.{Makes, OkOrMemory};
 
 use vortex_base::bound_expression::BoundExpression;
 use vortex_base::error::BaseError;
@@ -10,8 +10,7 @@ use vortex_stats::error::StatsError;
 // What a constructor made of operands that fit; `Memory` is the one refusal that is left.
 pub(crate) fn built<T>(made: Result<T, BaseError>) -> Result<T, StatsError>
     requires { IfErr made (λ fault. fault ≡ Memory alloc_error) }
-    ensures value { IfOk result (λ e. made ≡ Ok e) }
-    ensures memory { IfErr result (λ fault. fault ≡ refusal.Memory alloc_error) }
+    ensures { OkOrMemory result (λ e. made ≡ Ok e) }
 {
     match made {
         Ok(e) => Ok(e),
@@ -22,8 +21,7 @@ pub(crate) fn built<T>(made: Result<T, BaseError>) -> Result<T, StatsError>
 
 /// A copy of an expression, by the allocators that its nodes hold.
 pub(crate) fn cloned(e: &BoundExpression) -> Result<BoundExpression, StatsError>
-    ensures value { IfOk result (λ copy. copy ≡ e.now) }
-    ensures memory { IfErr result (λ fault. fault ≡ refusal.Memory alloc_error) }
+    ensures { Makes e.now result }
 {
     built(e.try_clone())
 }

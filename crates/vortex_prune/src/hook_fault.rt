@@ -1,5 +1,7 @@
 //! What binders and rules of a user answer where they fail.
 use std::alloc::{AllocError, AllocFailed};
+use vortex_base::error::BaseError;
+use vortex_stats::error::StatsError;
 
 /// Why a binder or a rule of a user has no answer.
 #[derive(Debug, Drop)]
@@ -8,6 +10,12 @@ pub enum HookFault {
     Memory(AllocError),
     /// A fault of its own, by its number.
     Own(u32),
+}
+
+impl HookFault {
+    /// The number by which `?` tells a refusal of a layer below, but for one of memory. A binder or a
+    /// rule that can't meet one needn't name it among its faults.
+    pub const REFUSED: u32 = u32::MAX;
 }
 
 impl From<AllocError> for HookFault {
@@ -29,5 +37,33 @@ impl<T: Drop> From<AllocFailed<T>> for HookFault {
 
     fn from(_refused: AllocFailed<T>) -> HookFault {
         HookFault::Memory(AllocError)
+    }
+}
+
+impl From<BaseError> for HookFault {
+    ghost use Rattle.std.specs.Prelude.{◌≡◌};
+    ghost use Rattle.vortex_prune.specs.Binding.HookFaults.{of_base};
+
+    ghost from_gives = { λ e r. r ≡ of_base e };
+
+    fn from(fault: BaseError) -> HookFault {
+        match fault {
+            BaseError::Memory(refused) => HookFault::Memory(refused),
+            _ => HookFault::Own(HookFault::REFUSED),
+        }
+    }
+}
+
+impl From<StatsError> for HookFault {
+    ghost use Rattle.std.specs.Prelude.{◌≡◌};
+    ghost use Rattle.vortex_prune.specs.Binding.HookFaults.{of_stats};
+
+    ghost from_gives = { λ e r. r ≡ of_stats e };
+
+    fn from(fault: StatsError) -> HookFault {
+        match fault {
+            StatsError::Memory(refused) => HookFault::Memory(refused),
+            _ => HookFault::Own(HookFault::REFUSED),
+        }
     }
 }

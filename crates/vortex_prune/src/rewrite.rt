@@ -45,10 +45,12 @@ pub fn falsify(
     rules: &Rules,
 ) -> Result<Option<BoundExpression>, StatsError>
     ensures not_predicate { is_predicate predicate.now ≡ false → result ≡ Err NotPredicate }
-    ensures answer { let own = own_rules ⟦<dyn StatsRewriteRule as StatsRewriteRule>⟧ rules.now.own.items in
+    ensures answer { let own =
+        own_rules ⟦<dyn StatsRewriteRule as StatsRewriteRule>⟧ rules.now.own.items in
         IfOk result (λ proof. proof ≡ falsifier_of own predicate.now) }
     ensures truth { IfOk result (λ proof. IfSome proof (λ e. IsTrue (is_predicate e))) }
-    ensures refusal { let own = own_rules ⟦<dyn StatsRewriteRule as StatsRewriteRule>⟧ rules.now.own.items in
+    ensures refusal { let own =
+        own_rules ⟦<dyn StatsRewriteRule as StatsRewriteRule>⟧ rules.now.own.items in
         IsTrue (is_predicate predicate.now) → IfErr result (IsRefusal
         (rule_causes (λ rule. rule.falsifier) own (visited predicate.now))) }
 {
@@ -64,11 +66,13 @@ pub fn falsify_counted(
     rules: &Rules,
 ) -> Result<(Option<BoundExpression>, u64), StatsError>
     ensures not_predicate { is_predicate predicate.now ≡ false → result ≡ Err NotPredicate }
-    ensures answer { let own = own_rules ⟦<dyn StatsRewriteRule as StatsRewriteRule>⟧ rules.now.own.items in
+    ensures answer { let own =
+        own_rules ⟦<dyn StatsRewriteRule as StatsRewriteRule>⟧ rules.now.own.items in
         IfOk result (λ r. r.0 ≡ falsifier_of own predicate.now) }
     ensures visits { IfOk result (λ r. r.1 ≡ min (visits_of predicate.now) (2 ^ 64 - 1)) }
     ensures truth { IfOk result (λ r. IfSome r.0 (λ e. IsTrue (is_predicate e))) }
-    ensures refusal { let own = own_rules ⟦<dyn StatsRewriteRule as StatsRewriteRule>⟧ rules.now.own.items in
+    ensures refusal { let own =
+        own_rules ⟦<dyn StatsRewriteRule as StatsRewriteRule>⟧ rules.now.own.items in
         IsTrue (is_predicate predicate.now) → IfErr result (IsRefusal
         (rule_causes (λ rule. rule.falsifier) own (visited predicate.now))) }
 {
@@ -88,10 +92,12 @@ pub fn satisfy(
     rules: &Rules,
 ) -> Result<Option<BoundExpression>, StatsError>
     ensures not_predicate { is_predicate predicate.now ≡ false → result ≡ Err NotPredicate }
-    ensures answer { let own = own_rules ⟦<dyn StatsRewriteRule as StatsRewriteRule>⟧ rules.now.own.items in
+    ensures answer { let own =
+        own_rules ⟦<dyn StatsRewriteRule as StatsRewriteRule>⟧ rules.now.own.items in
         IfOk result (λ proof. proof ≡ satisfier_of own predicate.now) }
     ensures truth { IfOk result (λ proof. IfSome proof (λ e. IsTrue (is_predicate e))) }
-    ensures refusal { let own = own_rules ⟦<dyn StatsRewriteRule as StatsRewriteRule>⟧ rules.now.own.items in
+    ensures refusal { let own =
+        own_rules ⟦<dyn StatsRewriteRule as StatsRewriteRule>⟧ rules.now.own.items in
         IsTrue (is_predicate predicate.now) → IfErr result (IsRefusal
         (rule_causes (λ rule. rule.satisfier) own (predicate.now ∷ []))) }
 {

@@ -5,12 +5,13 @@ ghost use Rattle.vortex_base.specs.Trees.Tree.{is_plain};
 ghost use Rattle.vortex_prune.specs.Part.{AreParts};
 ghost use Rattle.vortex_prune.specs.Scanning.Selection.{AreByStatistics, AreFaithful, AreHonest, answered, full, any_binder, selected_rows, skipped_parts};
 ghost use Rattle.vortex_prune.specs.Scanning.Causes.{IsRefusal};
-ghost use Rattle.vortex_prune.specs.Scanning.ScanRefusals.{AreClosed, IsMemory, binder_causes, if_faithful, scan_causes};
+ghost use Rattle.vortex_prune.specs.Scanning.ScanRefusals.{AreClosed, binder_causes, if_faithful, scan_causes};
 ghost use Rattle.vortex_prune.specs.Scanning.Complete.{SkipsExactly, is_read_once};
 ghost use Rattle.vortex_prune.specs.Rewriting.Own.{own_rules};
 ghost use Rattle.vortex_prune.specs.Rewriting.Predicates.{is_predicate};
 ghost use Rattle.vortex_prune.specs.Rewriting.Falsifiers.{falsifier as falsifier_of};
 ghost use Rattle.vortex_stats.specs.declared.error.StatsError.TheVariants.{NotPredicate};
+ghost use Rattle.vortex_prune.specs.Answers.{IsMemory};
 
 pub mod outcome;
 mod select;
@@ -75,47 +76,12 @@ fn scan_by<B: StatBinder>(
         (option_copied proof.entry) binders.now) }
     ensures refusal { let causes = binder_causes B.answer B.is_missing B.can_fault in
         IfErr result (IsRefusal (causes (option_copied proof.entry) binders.now)) }
-    ensures faithful { let causes = binder_causes B.answer B.is_missing B.can_fault in
-        IfErr result (λ f. AreFaithful B.is_faithful_over parts.now binders.now → IsRefusal
-        (if_faithful (option_copied proof.entry) (causes (option_copied proof.entry) binders.now)) f) }
+    ensures faithful { let causes = binder_causes B.answer B.is_missing B.can_fault
+        (option_copied proof.entry) binders.now in
+        IfErr result (λ f. AreFaithful B.is_faithful_over parts.now binders.now
+        → IsRefusal (if_faithful (option_copied proof.entry) causes) f) }
 {
     scan_parts(alloc, parts, predicate, &ByBinders { proof, binders })
-}
-
-// The scan by the falsifier of the predicate.
-fn scan_rules<B: StatBinder>(
-    alloc: Global,
-    parts: &[Part],
-    binders: &[B],
-    predicate: &BoundExpression,
-    rules: &Rules,
-) -> Result<Scan, StatsError>
-    requires binders { length binders.now ≡ length parts.now }
-    requires plain { IsTrue (is_plain predicate.now) }
-    requires fits { All (λ part. IsTrue (fits_scope predicate.now part.chunk.scope)) parts.now }
-    ensures skipped { let own = own_rules ⟦<dyn StatsRewriteRule as StatsRewriteRule>⟧ rules.now.own.items in
-        IfOk result (λ scan. AreFaithful B.is_faithful_over parts.now binders.now
-        → scan.skipped.items ≡ skipped_parts (falsifier_of own predicate.now)
-        (answered B.value parts.now binders.now)) }
-    ensures kept { let own = own_rules ⟦<dyn StatsRewriteRule as StatsRewriteRule>⟧ rules.now.own.items in
-        IfOk result (λ scan. AreFaithful B.is_faithful_over parts.now binders.now
-        → scan.selected.items ≡ selected_rows (falsifier_of own predicate.now) predicate.now
-        (answered B.value parts.now binders.now)) }
-    ensures parts { IfOk result (λ _. AreParts parts.now) }
-    ensures predicate { IfOk result (λ _. IsTrue (is_predicate predicate.now)) }
-    ensures not_predicate { is_predicate predicate.now ≡ false → result ≡ Err NotPredicate }
-    ensures closed { let own = own_rules ⟦<dyn StatsRewriteRule as StatsRewriteRule>⟧ rules.now.own.items in
-        IfOk result (λ _. AreClosed B.answer B.is_missing (falsifier_of own predicate.now) binders.now) }
-    ensures refusal { let own = own_rules ⟦<dyn StatsRewriteRule as StatsRewriteRule>⟧ rules.now.own.items in
-        let causes = scan_causes B.answer B.is_missing B.can_fault own predicate.now binders.now in
-        IsTrue (is_predicate predicate.now) → IfErr result (IsRefusal causes) }
-    ensures faithful { let own = own_rules ⟦<dyn StatsRewriteRule as StatsRewriteRule>⟧ rules.now.own.items in
-        let causes = scan_causes B.answer B.is_missing B.can_fault own predicate.now binders.now in
-        IsTrue (is_predicate predicate.now) → AreFaithful B.is_faithful_over parts.now binders.now
-        → IfErr result (IsRefusal (if_faithful (falsifier_of own predicate.now) causes)) }
-{
-    let proof = falsify(alloc, predicate, rules)?;
-    scan_by(alloc, parts, binders, predicate, proof.as_ref())
 }
 
 /// Selects the rows of the parts that satisfy a predicate, and leaves out unread each part whose
@@ -144,43 +110,50 @@ pub fn scan<B: StatBinder>(
         → AreHonest B.value parts.now binders.now
         → scan.selected.items ≡ full predicate.now parts.now) }
     // With faithful binders a part is skipped exactly if the falsifier is true of it.
-    ensures skipped { let own = own_rules ⟦<dyn StatsRewriteRule as StatsRewriteRule>⟧ rules.now.own.items in
+    ensures skipped { let own =
+        own_rules ⟦<dyn StatsRewriteRule as StatsRewriteRule>⟧ rules.now.own.items in
         IfOk result (λ scan. AreFaithful B.is_faithful_over parts.now binders.now
         → scan.skipped.items ≡ skipped_parts (falsifier_of own predicate.now)
         (answered B.value parts.now binders.now)) }
     // Whether or not they are honest, the satisfying rows of the other parts are selected.
-    ensures kept { let own = own_rules ⟦<dyn StatsRewriteRule as StatsRewriteRule>⟧ rules.now.own.items in
+    ensures kept { let own =
+        own_rules ⟦<dyn StatsRewriteRule as StatsRewriteRule>⟧ rules.now.own.items in
         IfOk result (λ scan. AreFaithful B.is_faithful_over parts.now binders.now
         → scan.selected.items ≡ selected_rows (falsifier_of own predicate.now) predicate.now
         (answered B.value parts.now binders.now)) }
     // What was looked at are parts, as `own_binders_are_honest` asks.
     ensures parts { IfOk result (λ _. AreParts parts.now) }
-    // By built-in rules and the parts' own statistics, a read-once predicate skips a part exactly if
-    // no values within its bounds satisfy it.
+    // By built-in rules and the parts' own statistics, a read-once predicate skips a part exactly
+    // if no values within its bounds satisfy it.
     ensures complete { IfOk result (λ scan. rules.now.own.items ≡ []
         → AreFaithful B.is_faithful_over parts.now binders.now
         → AreByStatistics B.value parts.now binders.now
         → IsTrue (is_read_once predicate.now)
         → SkipsExactly predicate.now parts.now scan.skipped.items) }
-    // By built-in rules, and binders that are faithful and name no fault of their own, as those of the
-    // parts' own statistics, a predicate is refused for memory alone.
+    // By built-in rules, and binders that are faithful and name no fault of their own, as those of
+    // the parts' own statistics, a predicate is refused for memory alone.
     ensures memory { IsTrue (is_predicate predicate.now) → rules.now.own.items ≡ []
         → AreFaithful B.is_faithful_over parts.now binders.now
         → ((k : ℕ) → any_binder B.can_fault binders.now k ≡ false) → IfErr result IsMemory }
     ensures not_predicate { is_predicate predicate.now ≡ false → result ≡ Err NotPredicate }
     // Where there is a falsifier, each binder has bound it to a closed expression.
-    ensures closed { let own = own_rules ⟦<dyn StatsRewriteRule as StatsRewriteRule>⟧ rules.now.own.items in
-        IfOk result (λ _. AreClosed B.answer B.is_missing (falsifier_of own predicate.now) binders.now) }
+    ensures closed { let own =
+        own_rules ⟦<dyn StatsRewriteRule as StatsRewriteRule>⟧ rules.now.own.items in
+        IfOk result (λ _.
+        AreClosed B.answer B.is_missing (falsifier_of own predicate.now) binders.now) }
     // A refusal has its cause: a rule asked at a visited node, or a binder asked for the falsifier.
-    ensures refusal { let own = own_rules ⟦<dyn StatsRewriteRule as StatsRewriteRule>⟧ rules.now.own.items in
+    ensures refusal { let own =
+        own_rules ⟦<dyn StatsRewriteRule as StatsRewriteRule>⟧ rules.now.own.items in
         let causes = scan_causes B.answer B.is_missing B.can_fault own predicate.now binders.now in
         IsTrue (is_predicate predicate.now) → IfErr result (IsRefusal causes) }
-    ensures faithful { let own = own_rules ⟦<dyn StatsRewriteRule as StatsRewriteRule>⟧ rules.now.own.items in
+    ensures faithful { let own =
+        own_rules ⟦<dyn StatsRewriteRule as StatsRewriteRule>⟧ rules.now.own.items in
         let causes = scan_causes B.answer B.is_missing B.can_fault own predicate.now binders.now in
         IsTrue (is_predicate predicate.now) → AreFaithful B.is_faithful_over parts.now binders.now
         → IfErr result (IsRefusal (if_faithful (falsifier_of own predicate.now) causes)) }
 {
-    scan_rules(alloc, parts, binders, predicate, rules)
+    let proof = falsify(alloc, predicate, rules)?;
+    scan_by(alloc, parts, binders, predicate, proof.as_ref())
 }
 
 #[cfg(test)]

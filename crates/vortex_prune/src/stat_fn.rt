@@ -1,10 +1,9 @@
 //! The function that a placeholder applies: what a set of statistics answers to it.
-ghost use Rattle.std.specs.Prelude.{◌≡◌, alloc_error, codes, false, IfErr, IfOk, IsTrue};
+ghost use Rattle.std.specs.Prelude.{◌≡◌, codes, false, IsTrue};
 ghost use Rattle.vortex_base.specs.Meanings.Typing.{stat_type};
 ghost use Rattle.vortex_stats.specs.Sets.Entries.{entries_fit};
-ghost use Rattle.vortex_stats.specs.declared.error.StatsError.TheVariants.{Memory};
-ghost use Rattle.vortex_prune.specs.Answers.{IfSupported, supported};
 ghost use Rattle.vortex_prune.specs.Binding.StatValues as values;
+ghost use Rattle.vortex_prune.specs.Answers.{IfSupported, Makes, supported};
 
 use std::hash::Hash;
 use std::marker::Model;
@@ -154,8 +153,7 @@ pub(crate) fn stat_value(
     stats: &StatsSet,
     rows: u64,
 ) -> Result<Option<ScalarValue>, StatsError>
-    ensures value { IfOk result (λ v. v ≡ values.stat_value aggregate stats.now rows) }
-    ensures memory { IfErr result (λ error. error ≡ Memory alloc_error) }
+    ensures { Makes (values.stat_value aggregate stats.now rows) result }
 {
     Ok(match aggregate {
         AggregateFnRef::Max => stats.get(Stat::Max)?.into_inner(),
@@ -180,8 +178,8 @@ fn count_of(value: &ScalarValue) -> Option<u64>
     }
 }
 
-// Whether every value is null. An inexact count bounds the nulls from above, so it tells only where it
-// is below the number of rows.
+// Whether every value is null. An inexact count bounds the nulls from above, so it tells only where
+// it is below the number of rows.
 fn all_null_value(count: Precision<ScalarValue>, rows: u64) -> Option<ScalarValue>
     ensures { result ≡ values.all_null_value count rows }
 {

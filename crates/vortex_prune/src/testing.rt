@@ -6,7 +6,8 @@ ghost use Rattle.vortex_base.specs.Meanings.Fitting.{fits_scope};
 ghost use Rattle.vortex_prune.specs.Zones.{HaveScope};
 
 use crate::bind::stats_binder::StatsBinder;
-use crate::part::Part;
+use crate::part::{Part, PartRefused};
+use crate::rewrite::rule::StatsRewriteRuleRef;
 use crate::rewrite::rules::Rules;
 use crate::scan::outcome::Scan;
 use crate::scan::scan;
@@ -16,6 +17,8 @@ use std::alloc::{AllocError, Global};
 use vortex_base::aggregate::AggregateFnRef;
 use vortex_base::bound;
 use vortex_base::bound_expression::BoundExpression;
+use vortex_base::chunk::Chunk;
+use vortex_base::column::Column;
 use vortex_base::dtype::DType;
 use vortex_base::error::BaseError;
 use vortex_base::like::LikeOptions;
@@ -24,6 +27,9 @@ use vortex_base::scalar_value::ScalarValue;
 use vortex_base::scope::Scope;
 use vortex_base::types::{BetweenOptions, Operator};
 use vortex_stats::error::StatsError;
+use vortex_stats::precision::Precision;
+use vortex_stats::stat::Stat;
+use vortex_stats::stats_set::StatsSet;
 
 pub type Built = Result<BoundExpression, BaseError>;
 
@@ -44,36 +50,45 @@ pub fn copy(x: &BoundExpression) -> Built {
     x.try_clone()
 }
 
+pub fn binary(
+    alloc: Global,
+    operator: Operator,
+    left: BoundExpression,
+    right: BoundExpression,
+) -> Built {
+    bound::binary(alloc, operator, left, right)
+}
+
 pub fn eq(alloc: Global, left: BoundExpression, right: BoundExpression) -> Built {
-    bound::binary(alloc, Operator::Eq, left, right)
+    binary(alloc, Operator::Eq, left, right)
 }
 
 pub fn not_eq(alloc: Global, left: BoundExpression, right: BoundExpression) -> Built {
-    bound::binary(alloc, Operator::NotEq, left, right)
+    binary(alloc, Operator::NotEq, left, right)
 }
 
 pub fn gt(alloc: Global, left: BoundExpression, right: BoundExpression) -> Built {
-    bound::binary(alloc, Operator::Gt, left, right)
+    binary(alloc, Operator::Gt, left, right)
 }
 
 pub fn gt_eq(alloc: Global, left: BoundExpression, right: BoundExpression) -> Built {
-    bound::binary(alloc, Operator::Gte, left, right)
+    binary(alloc, Operator::Gte, left, right)
 }
 
 pub fn lt(alloc: Global, left: BoundExpression, right: BoundExpression) -> Built {
-    bound::binary(alloc, Operator::Lt, left, right)
+    binary(alloc, Operator::Lt, left, right)
 }
 
 pub fn lt_eq(alloc: Global, left: BoundExpression, right: BoundExpression) -> Built {
-    bound::binary(alloc, Operator::Lte, left, right)
+    binary(alloc, Operator::Lte, left, right)
 }
 
 pub fn and(alloc: Global, left: BoundExpression, right: BoundExpression) -> Built {
-    bound::binary(alloc, Operator::And, left, right)
+    binary(alloc, Operator::And, left, right)
 }
 
 pub fn or(alloc: Global, left: BoundExpression, right: BoundExpression) -> Built {
-    bound::binary(alloc, Operator::Or, left, right)
+    binary(alloc, Operator::Or, left, right)
 }
 
 pub fn not(alloc: Global, x: BoundExpression) -> Built {
@@ -119,6 +134,95 @@ pub fn row_count(alloc: Global) -> Built {
     bound::row_count(alloc)
 }
 
+pub fn number(value: i32) -> ScalarValue {
+    ScalarValue::from(value)
+}
+
+pub fn count(value: u64) -> ScalarValue {
+    ScalarValue::from(value)
+}
+
+// The scope of one column `a`.
+pub fn scope_of(alloc: Global, dtype: DType) -> Result<Scope, BaseError> {
+    let name = String::from_str(alloc, "a")?;
+    Scope::try_new(vec![in alloc; (name, dtype)]?)
+}
+
+// A chunk of one column `a`.
+pub fn chunk_of(
+    alloc: Global,
+    dtype: DType,
+    values: Vec<Option<ScalarValue>>,
+    size: u64,
+) -> Result<Chunk, BaseError> {
+    let column = Column::try_new(dtype, values, size)?;
+    Chunk::try_new(scope_of(alloc, dtype)?, vec![in alloc; column]?)
+}
+
+pub fn one_value(
+    alloc: Global,
+    value: ScalarValue,
+) -> Result<Vec<Option<ScalarValue>>, AllocError> {
+    Ok(vec![in alloc; Some(value)]?)
+}
+
+pub fn no_statistics(alloc: Global) -> StatsSet {
+    StatsSet::new(alloc)
+}
+
+pub fn exactly(alloc: Global, stat: Stat, value: ScalarValue) -> StatsSet {
+    StatsSet::of(alloc, stat, Precision::Exact(value))
+}
+
+pub fn at_most(alloc: Global, stat: Stat, value: ScalarValue) -> StatsSet {
+    StatsSet::of(alloc, stat, Precision::Inexact(value))
+}
+
+// An entry that says nothing.
+pub fn unknown(alloc: Global, stat: Stat) -> StatsSet {
+    StatsSet::of(alloc, stat, Precision::Absent)
+}
+
+pub fn set_exactly(set: &mut StatsSet, stat: Stat, value: ScalarValue) -> Result<(), StatsError> {
+    set.set(stat, Precision::Exact(value))
+}
+
+pub fn set_at_most(set: &mut StatsSet, stat: Stat, value: ScalarValue) -> Result<(), StatsError> {
+    set.set(stat, Precision::Inexact(value))
+}
+
+// The least value, and one that is at least the greatest.
+pub fn bounds(alloc: Global, low: i32, high: i32) -> Result<StatsSet, StatsError> {
+    let mut set = exactly(alloc, Stat::Min, number(low));
+    set_at_most(&mut set, Stat::Max, number(high))?;
+    Ok(set)
+}
+
+pub fn new_part(chunk: Chunk, sets: Vec<StatsSet>) -> Result<Part, PartRefused> {
+    Part::try_new(chunk, sets)
+}
+
+// A part of a chunk of one column.
+pub fn part_of(alloc: Global, chunk: Chunk, set: StatsSet) -> Result<Part, StatsError> {
+    match new_part(chunk, vec![in alloc; set]?) {
+        Ok(part) => Ok(part),
+        Err(refused) => Err(refused.error),
+    }
+}
+
+// The built-in rules and then this one.
+pub fn rules_of(alloc: Global, rule: StatsRewriteRuleRef) -> Result<Rules, AllocError> {
+    Ok(Rules::with_own(vec![in alloc; rule]?))
+}
+
+pub fn two_rules(
+    alloc: Global,
+    first: StatsRewriteRuleRef,
+    second: StatsRewriteRuleRef,
+) -> Result<Rules, AllocError> {
+    Ok(Rules::with_own(vec![in alloc; first, second]?))
+}
+
 /// Whether each part has the scope.
 pub fn all_scoped(scope: &Scope, parts: &[Part]) -> bool
     ensures { OnTrue result (HaveScope scope.now parts.now) }
@@ -155,7 +259,8 @@ pub fn binders_of<'a>(alloc: Global, parts: &'a [Part]) -> Result<Vec<StatsBinde
 
 /// Whether the predicate fits the scope of each part.
 pub fn all_fit(parts: &[Part], predicate: &BoundExpression) -> bool
-    ensures { OnTrue result (All (λ part. IsTrue (fits_scope predicate.now part.chunk.scope)) parts.now) }
+    ensures { OnTrue result
+        (All (λ part. IsTrue (fits_scope predicate.now part.chunk.scope)) parts.now) }
 {
     for part in parts {
         if !predicate.fits_scope(part.chunk().scope()) {

@@ -3,7 +3,7 @@ use Rattle.std.proofs.Common.{◌≡◌, List, [], ◌∷◌, map, refl, ap}
 use Rattle.std.specs.declared.alloc.AllocError.{AllocError}
 use Rattle.vortex_prune.specs.Part.{PartData}
 use Rattle.vortex_prune.specs.Binding.PartAnswers.{part_values}
-use Rattle.vortex_prune.specs.Scanning.ScanRefusals.{IsMemory}
+use Rattle.vortex_prune.specs.Answers.{IsMemory}
 use Rattle.vortex_prune.specs.Scanning.Selection.{answered}
 use Rattle.vortex_stats.specs.declared.error.StatsError.{StatsError}
 use Rattle.vortex_stats.specs.declared.error.StatsError.TheVariants as faults

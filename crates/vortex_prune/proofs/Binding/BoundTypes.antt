@@ -15,10 +15,12 @@ use Rattle.vortex_base.specs.Answer.{Answers, Builds, Makes}
 use Rattle.vortex_base.specs.Trees.Tree as tree
 use Rattle.vortex_base.specs.Trees.Tree.{Tree, Place}
 use Rattle.vortex_base.specs.Data.Types.{as_nullable, dtype_eq, is_nullable}
-use Rattle.vortex_base.specs.Meanings.Typing.{are_comparable, between_type, binary_type, comparison_type, connective_type, is_bool, is_state, is_utf8, like_type, null_test_type, not_type, truth_type, type_if, type_of, with_type, with_types}
+use Rattle.vortex_base.specs.Meanings.Typing.{are_comparable, between_type, binary_type, comparison_type, connective_type, is_bool, is_utf8, like_type, null_test_type, not_type, truth_type, type_if, type_of, with_type, with_types}
 use Rattle.vortex_stats.specs.declared.error.StatsError.{StatsError}
 use Rattle.vortex_prune.specs.Binding.BoundTo.{IsBinding, base_type}
 use Rattle.vortex_prune.specs.Binding.StateTypes.{as_nullable-again}
+use Rattle.vortex_prune.proofs.NullErasure.{is_state-as_nullable, is_bool-as_nullable, is_utf8-as_nullable}
+use Rattle.vortex_prune.specs.Answers.{OkOrMemory}
 
 -- the type, with null, if there is one
 abbrev base : Result DType BaseError → Result DType BaseError
@@ -26,30 +28,6 @@ base r = with_type (λ t. Ok (as_nullable t)) r
 
 abbrev truth : DType
 truth = dtype.Bool Nullable
-
-is_state-as_nullable : (t : DType) → is_state (as_nullable t) ≡ is_state t
-is_state-as_nullable dtype.Null = refl
-is_state-as_nullable (dtype.Bool n) = refl
-is_state-as_nullable (dtype.Primitive p n) = refl
-is_state-as_nullable (dtype.Utf8 n) = refl
-is_state-as_nullable (dtype.Binary n) = refl
-is_state-as_nullable (dtype.MinMaxState e n) = refl
-
-is_bool-as_nullable : (t : DType) → is_bool (as_nullable t) ≡ is_bool t
-is_bool-as_nullable dtype.Null = refl
-is_bool-as_nullable (dtype.Bool n) = refl
-is_bool-as_nullable (dtype.Primitive p n) = refl
-is_bool-as_nullable (dtype.Utf8 n) = refl
-is_bool-as_nullable (dtype.Binary n) = refl
-is_bool-as_nullable (dtype.MinMaxState e n) = refl
-
-is_utf8-as_nullable : (t : DType) → is_utf8 (as_nullable t) ≡ is_utf8 t
-is_utf8-as_nullable dtype.Null = refl
-is_utf8-as_nullable (dtype.Bool n) = refl
-is_utf8-as_nullable (dtype.Primitive p n) = refl
-is_utf8-as_nullable (dtype.Utf8 n) = refl
-is_utf8-as_nullable (dtype.Binary n) = refl
-is_utf8-as_nullable (dtype.MinMaxState e n) = refl
 
 -- ---- what the table makes of types, nullability aside
 
@@ -177,7 +155,7 @@ pub made-same : (e n r : Tree Place) (t : DType) (made : Result (Tree Place) Bas
 made-same e n r t made h k b m = let s = same_there (type_of n) (type_of e) t h k in is_made n r made (makes (type_of n) s.0 n made s.1 b) m
 
 -- what was built is the node
-pub is_node : (e n : Tree Place) (t : DType) (made : Result (Tree Place) BaseError) (r : Result (Tree Place) StatsError) → type_of e ≡ Ok t → base_type n ≡ base_type e → Builds n made → IfOk r (λ x. made ≡ Ok x) → IfOk r (λ x. x ≡ n)
+pub is_node : (e n : Tree Place) (t : DType) (made : Result (Tree Place) BaseError) (r : Result (Tree Place) StatsError) → type_of e ≡ Ok t → base_type n ≡ base_type e → Builds n made → OkOrMemory r (λ x. made ≡ Ok x) → IfOk r (λ x. x ≡ n)
 is_node e n t made (Ok x) h k b m = made-same e n x t made h k b m
 is_node e n t made (Err f) h k b m = tt
 

@@ -1,6 +1,6 @@
 -- What a bound expression is worth over a row of statistics over which the binder is faithful.
 use Rattle.std.proofs.Common.{◌≡◌, ℕ, Bool, true, false, ◌&&◌, ◌||◌, List, [], Option, Some, None, refl, sym, ap, ap₂, subst, ◌∙◌, inl, inr}
-use Rattle.std.specs.Prelude.{◌⊎◌, IsOk, Result, Ok, Err, IfErr, IfOk, is_none, not as not_b, slice_get}
+use Rattle.std.specs.Prelude.{◌⊎◌, IsOk, Result, Ok, Err, IfErr, is_none, not as not_b, slice_get}
 use mathlib.Core.Bool.{true≢false}
 use Rattle.vortex_base.specs.declared.aggregate.AggregateFnRef.{AggregateFnRef}
 use Rattle.vortex_base.specs.declared.dtype.DType.{DType}
@@ -23,6 +23,9 @@ use Rattle.vortex_prune.specs.Binding.Binders.{BinderAnswer, IsAnswerOf, IsFaith
 use Rattle.vortex_prune.specs.Binding.BoundTo.{HasNoColumnOn, IsBinding, IsReplacement, IsWrong, Replaces, SomeMet, binding_causes}
 use Rattle.vortex_prune.specs.Scanning.Causes.{IsRefusal}
 use Rattle.vortex_prune.specs.Rewriting.Proof.{Assignment, value_under}
+use Rattle.std.proofs.lemmas.Bool.{or_parts}
+use Rattle.vortex_prune.proofs.Rewriting.CauseLemmas.{refusal-more}
+use Rattle.vortex_prune.specs.Scanning.ScanRefusals.{if_faithful, proof_causes}
 
 abbrev Table : Type 0
 Table = Result DType BaseError
@@ -30,10 +33,6 @@ Table = Result DType BaseError
 there : (a : Table) → IsOk a → (t : DType) × (a ≡ Ok t)
 there (Ok t) h = (t, refl)
 there (Err e) h = cc
-
-or_false : (a b : Bool) → (a || b) ≡ false → (a ≡ false) × (b ≡ false)
-or_false true b h = cc
-or_false false b h = (refl, h)
 
 -- ---- the answers, and what stands for missing ones
 
@@ -79,6 +78,13 @@ module _ (answer : BinderAnswer) (IsMissing : DType → Tree Place → Type 0) (
   not_wrong_type can_fault e (Ok r) h = tt
   not_wrong_type can_fault e (Err f) h = refused can_fault e f h
 
+  -- so what binding a proof is refused for, it is refused for with a faithful binder too
+  pub right_type : (can_fault : ℕ → Bool) (e : Tree Place) (f : StatsError) → IsRefusal (binding_causes answer IsMissing can_fault e) f
+      → IsRefusal (if_faithful (Some e) (proof_causes answer IsMissing can_fault (Some e))) f
+  right_type can_fault e f h =
+      refusal-more (binding_causes answer IsMissing can_fault e) (if_faithful (Some e) (proof_causes answer IsMissing can_fault (Some e))) f
+      (record { rule = λ k r. r; not_bool = λ r. r; binder = λ k r. r; wrong_type = none_wrong e; open_proof = λ r. absurd r }) h
+
   -- ---- the whole expression
 
   pub bound-free : (e r : Tree Place) → IsOk (type_of e) → IsBinding (Replaces answer IsMissing) e r → has_placeholder r ≡ false
@@ -107,19 +113,19 @@ module _ (answer : BinderAnswer) (IsMissing : DType → Tree Place → Type 0) (
   bound-fits (literal c) r h k b = ap fits b
   bound-fits (binary o x y) r h k b =
       let w = with_types-ok (binary_type o) (type_of x) (type_of y) h in
-      let v = or_false (has_bare_column x) (has_bare_column y) k in
+      let v = or_parts (has_bare_column x) (has_bare_column y) k in
       ap fits b.2 ∙ ap₂ (λ p q. p && q) (bound-fits x b.0 w.0 v.0 b.3) (bound-fits y b.1 w.1 v.1 b.4)
   bound-fits (between o x l u) r h k b =
       let w = with_three-ok between_type (type_of x) (type_of l) (type_of u) h in
-      let v = or_false (has_bare_column x) (has_bare_column l || has_bare_column u) k in
-      let z = or_false (has_bare_column l) (has_bare_column u) v.1 in
+      let v = or_parts (has_bare_column x) (has_bare_column l || has_bare_column u) k in
+      let z = or_parts (has_bare_column l) (has_bare_column u) v.1 in
       ap fits b.3 ∙ ap₂ (λ p q. p && q) (bound-fits x b.0 w.0 v.0 b.4) (ap₂ (λ p q. p && q) (bound-fits l b.1 w.1.0 z.0 b.5) (bound-fits u b.2 w.1.1 z.1 b.6))
   bound-fits (is_null x) r h k b = ap fits b.1 ∙ bound-fits x b.0 (with_type-ok null_test_type (type_of x) h) k b.2
   bound-fits (is_not_null x) r h k b = ap fits b.1 ∙ bound-fits x b.0 (with_type-ok null_test_type (type_of x) h) k b.2
   bound-fits (not x) r h k b = ap fits b.1 ∙ bound-fits x b.0 (with_type-ok not_type (type_of x) h) k b.2
   bound-fits (like o x p) r h k b =
       let w = with_types-ok like_type (type_of x) (type_of p) h in
-      let v = or_false (has_bare_column x) (has_bare_column p) k in
+      let v = or_parts (has_bare_column x) (has_bare_column p) k in
       ap fits b.2 ∙ ap₂ (λ p q. p && q) (bound-fits x b.0 w.0 v.0 b.3) (bound-fits p b.1 w.1 v.1 b.4)
   bound-fits (stat f x) r h k b = (of_placeholder f x r h b).1.fits
   bound-fits row_count r h k b = ap fits b
@@ -132,13 +138,13 @@ module _ (answer : BinderAnswer) (IsMissing : DType → Tree Place → Type 0) (
 
   -- what is said of a node with no columns on the row is said of its children
   of_two : (x y : Tree Place) → ((has_bare_column x || has_bare_column y) ≡ false) ⊎ (row ≡ []) → HasNoColumnOn x row × HasNoColumnOn y row
-  of_two x y (inl k) = let v = or_false (has_bare_column x) (has_bare_column y) k in (inl v.0, inl v.1)
+  of_two x y (inl k) = let v = or_parts (has_bare_column x) (has_bare_column y) k in (inl v.0, inl v.1)
   of_two x y (inr k) = (inr k, inr k)
 
   of_three : (x l u : Tree Place) → ((has_bare_column x || (has_bare_column l || has_bare_column u)) ≡ false) ⊎ (row ≡ []) → HasNoColumnOn x row × HasNoColumnOn l row × HasNoColumnOn u row
   of_three x l u (inl k) =
-      let v = or_false (has_bare_column x) (has_bare_column l || has_bare_column u) k in
-      let z = or_false (has_bare_column l) (has_bare_column u) v.1 in
+      let v = or_parts (has_bare_column x) (has_bare_column l || has_bare_column u) k in
+      let z = or_parts (has_bare_column l) (has_bare_column u) v.1 in
       (inl v.0, inl z.0, inl z.1)
   of_three x l u (inr k) = (inr k, inr k, inr k)
 
@@ -189,11 +195,6 @@ no_column row_count h = refl
 
 pub closed : (e : Tree Place) → has_placeholder e ≡ false → fits_row e [] ≡ true → is_closed e ≡ true
 closed e h k = ap₂ (λ p q. not_b p && not_b q) h (no_column e k)
-
--- of an answer, where there is one
-pub of_answer : (P Q : Tree Place → Type 0) (r : Result (Tree Place) StatsError) → ((e : Tree Place) → P e → Q e) → IfOk r P → IfOk r Q
-of_answer P Q (Ok e) f h = f e h
-of_answer P Q (Err e) f h = tt
 
 pub has_a_type : (a : Result DType BaseError) (t : DType) → a ≡ Ok t → IsOk a
 has_a_type (Ok s) t h = refl

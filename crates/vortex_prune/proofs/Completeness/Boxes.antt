@@ -34,7 +34,7 @@ use Rattle.vortex_base.specs.declared.types.Operator.{Operator}
 use Rattle.vortex_base.specs.declared.types.Operator.TheVariants.{Eq, NotEq, Gt, Gte, Lt, Lte, And, Or}
 use Rattle.vortex_base.specs.declared.scalar_value.ScalarValue.{ScalarValue}
 use Rattle.vortex_base.specs.declared.scalar_value.ScalarValue.TheVariants as value
-use Rattle.vortex_prune.proofs.Completeness.Choices.{AreInside, IsBetween, all_back, all_front, all_joined, all_map, distinct_back, distinct_front, row_with, row_within}
+use Rattle.vortex_prune.proofs.Completeness.Choices.{AreInside, IsBetween, all_back, all_front, all_map, distinct_back, distinct_front, row_with, row_within}
 use Rattle.vortex_prune.proofs.Completeness.Decided.{Decided, and_decided, comparison_decided, or_decided, truth_decided}
 use Rattle.vortex_prune.proofs.Completeness.Interval.{is_comparison}
 use Rattle.vortex_prune.proofs.Completeness.Operands.{IsInterval, if_ok, if_typed, operand, operand_type, same_operands, same_values, some_value}
@@ -56,6 +56,7 @@ use Rattle.vortex_stats.specs.declared.precision.Precision.{Precision}
 use Rattle.vortex_stats.specs.declared.precision.Precision.TheVariants.{Exact, Inexact, Absent}
 use Rattle.vortex_stats.specs.declared.stat.Stat.{Stat}
 use Rattle.vortex_stats.specs.declared.stat.Stat.TheVariants.{Max, Min}
+use Rattle.vortex_prune.proofs.Logic.{all_append}
 
 -- ---- what the tests of a predicate's shape tell
 
@@ -96,18 +97,18 @@ each_column test (column c) h = (h, tt)
 each_column test (literal c) h = tt
 each_column test (binary o l r) h =
     let k = and_parts (all_columns test l) (all_columns test r) h in
-    all_joined (λ c. test c ≡ true) (columns_of l) (columns_of r) (each_column test l k.0) (each_column test r k.1)
+    all_append (λ c. test c ≡ true) (columns_of l) (columns_of r) (each_column test l k.0) (each_column test r k.1)
 each_column test (between o x l u) h =
     let k = and_parts (all_columns test x) (all_columns test l && all_columns test u) h in
     let j = and_parts (all_columns test l) (all_columns test u) k.1 in
-    all_joined (λ c. test c ≡ true) (columns_of x) (columns_of l ++ columns_of u) (each_column test x k.0)
-    (all_joined (λ c. test c ≡ true) (columns_of l) (columns_of u) (each_column test l j.0) (each_column test u j.1))
+    all_append (λ c. test c ≡ true) (columns_of x) (columns_of l ++ columns_of u) (each_column test x k.0)
+    (all_append (λ c. test c ≡ true) (columns_of l) (columns_of u) (each_column test l j.0) (each_column test u j.1))
 each_column test (is_null x) h = each_column test x h
 each_column test (is_not_null x) h = each_column test x h
 each_column test (not x) h = each_column test x h
 each_column test (like o x q) h =
     let k = and_parts (all_columns test x) (all_columns test q) h in
-    all_joined (λ c. test c ≡ true) (columns_of x) (columns_of q) (each_column test x k.0) (each_column test q k.1)
+    all_append (λ c. test c ≡ true) (columns_of x) (columns_of q) (each_column test x k.0) (each_column test q k.1)
 each_column test (stat f x) h = tt
 each_column test row_count h = tt
 

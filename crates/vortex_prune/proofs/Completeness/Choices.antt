@@ -2,7 +2,7 @@
 use Rattle.std.proofs.Common.{◌≡◌, ◌<◌, ◌+◌, ℕ, Bool, true, false, not as not_b, ◌&&◌, ◌||◌, List, [], ◌∷◌, ◌++◌, Some, map, length, option_map, refl, sym, ap, ap₂, ◌∙◌, if◌then◌else◌, arith}
 use Rattle.std.specs.Prelude.{◌==◌, is_none, slice_get}
 use Rattle.std.specs.List.{AllByRecursion, range_with_len}
-use Rattle.std.proofs.lemmas.Bool.{not-true, and_parts, eq-eqb}
+use Rattle.std.proofs.lemmas.Bool.{not-true, and_parts, eq-eqb, or_parts, or_right}
 use Rattle.std.proofs.lemmas.List.FromFn.{get_or-range_with_len, length-range_with_len}
 use Rattle.std.proofs.lemmas.Option.{slice_get-map, slice_get-get_or}
 use Rattle.vortex_base.specs.declared.dtype.DType.TheVariants as dtype
@@ -13,7 +13,6 @@ use Rattle.vortex_base.specs.Meanings.Meaning.{applied, is_true, liked, meaning,
 use Rattle.vortex_base.specs.Data.Scalars.{Constant}
 use Rattle.vortex_base.specs.Trees.Tree.{Tree, Place, column, literal, binary, between, is_null, is_not_null, not, like, stat, row_count}
 use Rattle.vortex_base.specs.Data.Values.{is_value}
-use Rattle.vortex_prune.proofs.Soundness.TruthLogic.{clash}
 use Rattle.vortex_prune.proofs.Soundness.ValueTests.{value_le}
 use Rattle.vortex_prune.specs.Scanning.Complete.{Box, IsWithin, are_distinct, columns_of, has_index}
 
@@ -24,10 +23,6 @@ all_front P (x ∷ xs) ys h = (h.0, all_front P xs ys h.1)
 pub all_back : {X : Type 0} (P : X → Type 0) (xs ys : List X) → AllByRecursion P (xs ++ ys) → AllByRecursion P ys
 all_back P [] ys h = h
 all_back P (x ∷ xs) ys h = all_back P xs ys h.1
-
-pub all_joined : {X : Type 0} (P : X → Type 0) (xs ys : List X) → AllByRecursion P xs → AllByRecursion P ys → AllByRecursion P (xs ++ ys)
-all_joined P [] ys h k = k
-all_joined P (x ∷ xs) ys h k = (h.0, all_joined P xs ys h.1 k)
 
 pub all_map : {X : Type 0} (P Q : X → Type 0) (xs : List X) → ((x : X) → P x → Q x) → AllByRecursion P xs → AllByRecursion Q xs
 all_map P Q [] f h = tt
@@ -150,10 +145,6 @@ module _ (f g : Choice) (m n : ℕ) (p : Tree Place) (inside : AreInside m (colu
 abbrev pub combined : Choice → Choice → List Place → Choice
 combined f g cs i = if has_index i cs then g i else f i
 
-or_false : (a b : Bool) → (a || b) ≡ false → (a ≡ false) × (b ≡ false)
-or_false true b h = clash refl h
-or_false false b h = (refl, h)
-
 pub combined_front : (f g : Choice) (xs ys : List Place) → are_distinct (xs ++ ys) ≡ true → Agree (combined f g ys) f xs
 combined_front f g [] ys h = tt
 combined_front f g (x ∷ xs) ys h =
@@ -162,18 +153,14 @@ combined_front f g (x ∷ xs) ys h =
   where
     not_behind : (i : ℕ) (xs : List Place) → has_index i (xs ++ ys) ≡ false → has_index i ys ≡ false
     not_behind i [] h = h
-    not_behind i (x ∷ xs) h = not_behind i xs (or_false (i == x.index) (has_index i (xs ++ ys)) h).1
+    not_behind i (x ∷ xs) h = not_behind i xs (or_parts (i == x.index) (has_index i (xs ++ ys)) h).1
 
 all_had : (ys : List Place) → AllByRecursion (λ y. has_index y.index ys ≡ true) ys
 all_had [] = tt
 all_had (y ∷ ys) = (
   ap (λ b. b || has_index y.index ys) (eq-eqb y.index y.index refl),
-  all_map (λ z. has_index z.index ys ≡ true) (λ z. has_index z.index (y ∷ ys) ≡ true) ys (λ z e. or_true (z.index == y.index) (has_index z.index ys) e) (all_had ys),
+  all_map (λ z. has_index z.index ys ≡ true) (λ z. has_index z.index (y ∷ ys) ≡ true) ys (λ z e. or_right (z.index == y.index) (has_index z.index ys) e) (all_had ys),
 )
-  where
-    or_true : (a b : Bool) → b ≡ true → (a || b) ≡ true
-    or_true true b h = refl
-    or_true false b h = h
 
 pub combined_back : (f g : Choice) (ys : List Place) → Agree (combined f g ys) g ys
 combined_back f g ys = all_map (λ y. has_index y.index ys ≡ true) (λ y. combined f g ys y.index ≡ g y.index) ys (λ y e. ap (λ (b : Bool). if b then g y.index else f y.index) e) (all_had ys)
@@ -186,7 +173,7 @@ distinct_front (x ∷ xs) ys h =
   where
     not_before : (i : ℕ) (xs : List Place) → has_index i (xs ++ ys) ≡ false → has_index i xs ≡ false
     not_before i [] h = refl
-    not_before i (x ∷ xs) h = let k = or_false (i == x.index) (has_index i (xs ++ ys)) h in ap₂ ◌||◌ k.0 (not_before i xs k.1)
+    not_before i (x ∷ xs) h = let k = or_parts (i == x.index) (has_index i (xs ++ ys)) h in ap₂ ◌||◌ k.0 (not_before i xs k.1)
 
 pub distinct_back : (xs ys : List Place) → are_distinct (xs ++ ys) ≡ true → are_distinct ys ≡ true
 distinct_back [] ys h = h

@@ -1,7 +1,7 @@
 -- A read-once predicate over a known box in order: either its falsifier is true and no row within the box satisfies it, or one does.
 use Rattle.std.proofs.Common.{◌≡◌, ◌<◌, ℕ, Bool, true, false, not as not_b, ◌&&◌, ◌||◌, List, [], ◌∷◌, ◌++◌, Option, Some, refl, sym, ap, ap₂, ◌∙◌, ◌⊎◌, inl, inr, ⊎_elim, option_to_list}
 use Rattle.std.specs.List.{AllByRecursion}
-use Rattle.std.proofs.lemmas.Bool.{not-true, not-false, and_parts, and_cases, and_left, and_right, or_cases}
+use Rattle.std.proofs.lemmas.Bool.{not-true, not-false, and_parts, and_cases, and_left, and_right, or_cases, or_parts}
 use Rattle.vortex_base.specs.declared.dtype.DType.{DType}
 use Rattle.vortex_base.specs.declared.types.Operator.{Operator}
 use Rattle.vortex_base.specs.declared.types.Operator.TheVariants.{Eq, NotEq, Gt, Gte, Lt, Lte, And, Or}
@@ -12,13 +12,14 @@ use Rattle.vortex_base.specs.Data.Scalars.{Constant}
 use Rattle.vortex_base.specs.Trees.Tree.{Tree, Place, literal, binary, has_bare_column}
 use Rattle.vortex_base.specs.Data.Types.{eq_ignore_nullability}
 use Rattle.vortex_base.specs.Data.Values.{is_value}
-use Rattle.vortex_prune.proofs.Completeness.Choices.{Agree, AreInside, Choice, IsBetween, all_back, all_front, all_joined, between_agreed, chosen_agreed, combined, combined_back, combined_front, row_with, satisfies_agreed}
-use Rattle.vortex_prune.proofs.Completeness.Interval.{Found, apart, find, is_comparison, neither, refute, test}
+use Rattle.vortex_prune.proofs.Completeness.Choices.{Agree, AreInside, Choice, IsBetween, all_back, all_front, between_agreed, chosen_agreed, combined, combined_back, combined_front, row_with, satisfies_agreed}
+use Rattle.vortex_prune.proofs.Completeness.Interval.{Found, apart, find, is_comparison, refute, test}
 use Rattle.vortex_prune.proofs.Completeness.Operands.{Operand, same_values}
 use Rattle.vortex_prune.proofs.Soundness.TruthLogic.{clash, true_and, true_or}
 use Rattle.vortex_prune.specs.Scanning.Complete.{Box, IsWithin, are_distinct, columns_of}
 use Rattle.vortex_prune.specs.Rewriting.Proof.{Assignment, value_under}
 use Rattle.vortex_prune.specs.Rewriting.Falsifiers.{binary_node, bool_literal, both_of, comparison_falsifier, either_of, falsified, falsifier, reduce_balanced, node}
+use Rattle.vortex_prune.proofs.Logic.{all_append}
 
 -- ---- with no rules of a user, a node has the one proof that is built in
 
@@ -55,9 +56,6 @@ either_known false t = refl
 both_known : (s t : Bool) → both (Some s) (Some t) ≡ Some (s && t)
 both_known true t = refl
 both_known false t = refl
-
-both_true : (s t : Bool) → is_true (truth_value (both (Some s) (Some t))) ≡ (s && t)
-both_true s t = ap (λ o. is_true (truth_value o)) (both_known s t)
 
 either_holds : (s t : Bool) → (s ≡ true) ⊎ (t ≡ true) → (s || t) ≡ true
 either_holds true t h = refl
@@ -152,7 +150,7 @@ module _ (box : Box) (A : Assignment) (m n : ℕ) where
             let ex = chosen_agreed h f m n x (all_front (λ c. c.index < m) (columns_of x) (columns_of y) inside) front ∙ rx.1 in
             let ey = chosen_agreed h g m n y (all_back (λ c. c.index < m) (columns_of x) (columns_of y) inside) back ∙ ry.1 in (
               h,
-              all_joined (IsBetween box h) (columns_of x) (columns_of y) (between_agreed box h f (columns_of x) front rx.0) (between_agreed box h g (columns_of y) back ry.0),
+              all_append (IsBetween box h) (columns_of x) (columns_of y) (between_agreed box h f (columns_of x) front rx.0) (between_agreed box h g (columns_of y) back ry.0),
               satisfied_as (row_with h m) w.x w.y ex ey ∙ w.holds,
             )
 
@@ -184,7 +182,7 @@ module _ (box : Box) (A : Assignment) (m n : ℕ) where
       joint_between : Between f (columns_of x) → Between g (columns_of y) → Between joint (columns_of x ++ columns_of y)
       unfolding joint
       joint_between bf bg =
-          all_joined (IsBetween box joint) (columns_of x) (columns_of y)
+          all_append (IsBetween box joint) (columns_of x) (columns_of y)
           (between_agreed box joint f (columns_of x) (combined_front f g (columns_of x) (columns_of y) distinct) bf)
           (between_agreed box joint g (columns_of y) (combined_back f g (columns_of y)) bg)
 
@@ -212,7 +210,7 @@ module _ (box : Box) (A : Assignment) (m n : ℕ) where
           (λ k. and_right (satisfies x row n) (satisfies y row n) (dy.refutes k row (all_back (IsWithin box row) (columns_of x) (columns_of y) within)))
           (or_cases dx.says dy.says h);
       finds = λ h.
-          let k = neither dx.says dy.says h in
+          let k = or_parts dx.says dy.says h in
           let cx = dx.finds k.0 in
           let cy = dy.finds k.1 in
           let row = row_with (joint cx.0 cy.0) m in

@@ -1,6 +1,6 @@
 -- Two intervals of values, and the six comparisons between values of them.
 use Rattle.std.proofs.Common.{◌≡◌, Bool, true, false, not, ◌&&◌, ◌||◌, refl, sym, ap, ◌∙◌, ⊎_elim}
-use Rattle.std.proofs.lemmas.Bool.{not-false, and_parts, or_cases, and_left, and_right, and_cases}
+use Rattle.std.proofs.lemmas.Bool.{not-false, and_parts, or_cases, and_left, and_right, and_cases, or_parts}
 use Rattle.vortex_base.specs.Meanings.Meaning.{holds}
 use Rattle.vortex_base.specs.Data.Values.{value_cmp}
 use Rattle.vortex_base.specs.declared.types.Operator.{Operator}
@@ -51,10 +51,6 @@ not_lt x y h = not-false (value_le y x) (sym (holds_by_le Lt x y) ∙ h)
 not_gte : (x y : ScalarValue) → test Gte x y ≡ false → value_le y x ≡ false
 not_gte x y h = sym (holds_by_le Gte x y) ∙ h
 
-pub neither : (s t : Bool) → (s || t) ≡ false → (s ≡ false) × (t ≡ false)
-neither true t h = clash refl h
-neither false t h = (refl, h)
-
 equal : (v : ScalarValue) → test Eq v v ≡ true
 equal v = by_order Eq v v true true (le_refl v) (le_refl v)
 
@@ -81,7 +77,7 @@ module _ (a b c d : ScalarValue) (a_b : value_le a b ≡ true) (c_d : value_le c
     find Lt k h = low_high Lt (holds_by_le Lt a d ∙ ap not (not_gte a d h))
     find Gt k h = high_low Gt (holds_by_le Gt b c ∙ ap not h)
     find Gte k h = high_low Gte (holds_by_le Gte b c ∙ not_lt b c h)
-    find Eq k h = let n = neither (test Gt a d) (test Gt c b) h in common (value_le a c) refl (not_gt a d n.0) (not_gt c b n.1)
+    find Eq k h = let n = or_parts (test Gt a d) (test Gt c b) h in common (value_le a c) refl (not_gt a d n.0) (not_gt c b n.1)
     find NotEq k h = ⊎_elim (λ e. low_high NotEq (not_equal a d e)) (λ e. high_low NotEq (not_equal b c e)) (and_cases (test Eq a d) (test Eq b c) h)
     find And k h = cc
     find Or k h = cc

@@ -21,18 +21,12 @@ use Rattle.vortex_prune.proofs.Soundness.ValueTests.{value_le, le_refl, le_antis
 use Rattle.vortex_prune.specs.Scanning.Complete.{Box, IsWithin, columns_of, is_operand}
 use Rattle.vortex_prune.specs.Rewriting.Proof.{Assignment, value_under}
 use Rattle.vortex_prune.specs.Rewriting.Falsifiers.{max_of, min_of}
+use Rattle.vortex_base.proofs.Meanings.MeaningFits.{is_value-as_nullable}
 
 -- ---- types that are equal but for null have the same values
 
-value_nullable : (v : ScalarValue) (t : DType) → is_value v (as_nullable t) ≡ is_value v t
-value_nullable (value.Bool b) (dtype.Bool n) = refl
-value_nullable (value.Primitive p) (dtype.Primitive q n) = refl
-value_nullable (value.Utf8 s) (dtype.Utf8 n) = refl
-value_nullable (value.Binary s) (dtype.Binary n) = refl
-value_nullable v t = refl
-
 pub same_values : (v : ScalarValue) (s t : DType) → eq_ignore_nullability s t ≡ true → is_value v s ≡ is_value v t
-same_values v s t h = sym (value_nullable v s) ∙ ap (is_value v) ((dtype_eq_is_exact (as_nullable s) (as_nullable t)).0 h) ∙ value_nullable v t
+same_values v s t h = sym (is_value-as_nullable v s) ∙ ap (is_value v) ((dtype_eq_is_exact (as_nullable s) (as_nullable t)).0 h) ∙ is_value-as_nullable v t
 
 -- a type that has a value has a least and a greatest one
 extremes_typed : (v : ScalarValue) (t : DType) → is_value v t ≡ true → (is_ok (stat_type Min t) ≡ true) × (is_ok (stat_type Max t) ≡ true)

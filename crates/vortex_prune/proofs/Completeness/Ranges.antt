@@ -2,7 +2,7 @@
 use Rattle.std.proofs.Common.{◌≡◌, ℕ, Bool, true, false, ◌&&◌, ◌||◌, List, ◌∷◌, [], Option, Some, None, refl, sym, ap, ap₂, ◌∙◌, ⊎_elim, option_to_list}
 use Rattle.std.specs.Prelude.{slice_get}
 use Rattle.std.specs.List.{AllByRecursion}
-use Rattle.std.proofs.lemmas.Bool.{and_left, and_right, not-false, or_cases}
+use Rattle.std.proofs.lemmas.Bool.{and_left, and_right, not-false, or_cases, or_parts}
 use Rattle.vortex_base.specs.Trees.Between.{to_operator}
 use Rattle.vortex_base.specs.Data.Columns.{cell_value}
 use Rattle.vortex_base.specs.Meanings.Meaning.{compared, either, holds, is_true, meaning, satisfies, truth, truth_value}
@@ -17,7 +17,6 @@ use Rattle.vortex_base.specs.declared.scalar_value.ScalarValue.{ScalarValue}
 use Rattle.vortex_base.specs.declared.scalar_value.ScalarValue.TheVariants as value
 use Rattle.vortex_prune.proofs.Completeness.Choices.{Choice, IsBetween, cell_with, row_with}
 use Rattle.vortex_prune.proofs.Completeness.Decided.{Decided, either_known, one_proof}
-use Rattle.vortex_prune.proofs.Completeness.Interval.{neither}
 use Rattle.vortex_prune.proofs.Soundness.MovedEnds.{IsMoved, between_is, end_compares, end_le}
 use Rattle.vortex_prune.proofs.Completeness.Operands.{IsInterval}
 use Rattle.vortex_prune.proofs.Soundness.TruthLogic.{true_and}
@@ -145,7 +144,7 @@ module _ (box : Box) (A : Assignment) (m n : ℕ) (c : Place) (known : IsInterva
               (λ k. and_left (satisfies lower row n) (satisfies upper row n) (below.refutes k row within))
               (λ k. and_right (satisfies lower row n) (satisfies upper row n) (above.refutes k row within))
               (or_cases below.says above.says h);
-          finds = λ h. let k = neither below.says above.says h in found k.0 k.1;
+          finds = λ h. let k = or_parts below.says above.says h in found k.0 k.1;
         }
 
   -- a BETWEEN that is rewritten by such ends is decided by them

@@ -1,17 +1,16 @@
 -- What true statistics answer to placeholders are facts of the columns.
-use Rattle.std.proofs.Common.{◌≡◌, ℕ, zero, suc, ◌<◌, ◌≤◌, Bool, true, false, ◌&&◌, List, [], ◌∷◌, map, length, Option, Some, None, refl, sym, ap, ◌∙◌, subst, arith, get_or, cond}
-use Rattle.std.specs.Prelude.{◌==◌, nat_lt, MatchBool, Ok, Err, Result, IsTrue, option_map, slice_get, if◌then◌else◌}
-use Rattle.std.specs.List.{list_all, range_with_len}
-use Rattle.std.proofs.lemmas.Bool.{and_parts, eqb-true}
+use Rattle.std.proofs.Common.{◌≡◌, ℕ, zero, suc, ◌<◌, ◌≤◌, Bool, true, false, List, [], ◌∷◌, length, Option, Some, None, refl, sym, ap, ◌∙◌, subst, arith}
+use Rattle.std.specs.Prelude.{◌==◌, nat_lt, MatchBool, option_map, slice_get, if◌then◌else◌}
+use Rattle.std.proofs.lemmas.Bool.{eqb-true}
 use Rattle.std.proofs.lemmas.Bool.Decides.{nat_tests}
 use Rattle.std.proofs.lemmas.List.FromFn.{fill_by_all}
 use Rattle.std.proofs.lemmas.Option.{slice_get-get_or, slice_get-map}
-use Rattle.vortex_base.specs.Data.Columns.{ChunkData, ColumnData, IsChunk, all_long, cell_value, row_count as rows_of, row_of, value_at}
+use Rattle.vortex_base.specs.Data.Columns.{ColumnData, all_long, cell_value, row_count as rows_of, row_of, value_at}
 use Rattle.vortex_base.specs.Data.Exact.{both_true}
 use Rattle.vortex_base.specs.Meanings.Meaning.{meaning}
 use Rattle.vortex_base.specs.Trees.Tree.{Tree, Place, column}
 use Rattle.vortex_base.specs.Data.Types.{eq_ignore_nullability}
-use Rattle.vortex_base.specs.Data.Values.{number_of, whole}
+use Rattle.vortex_base.specs.Data.Values.{whole}
 use Rattle.vortex_base.specs.declared.aggregate.AggregateFnRef.{AggregateFnRef}
 use Rattle.vortex_base.specs.declared.aggregate.AggregateFnRef.TheVariants as aggregate
 use Rattle.vortex_base.specs.declared.dtype.DType.{DType}
@@ -30,6 +29,7 @@ use Rattle.vortex_prune.specs.Binding.Facts.{IsFact, IsNumber, is_column_of, is_
 use Rattle.vortex_prune.specs.Part.{AreTrueSets, Entries, PartData}
 use Rattle.vortex_prune.specs.Binding.PartAnswers.{column_value, part_values}
 use Rattle.vortex_prune.specs.Binding.StatValues.{all_non_null_value, all_null_value, exact_value, null_count_value, stat_value}
+use Rattle.vortex_base.proofs.Data.ChunkLemmas.{equal_numbers}
 
 -- ---- of one statistic
 
@@ -110,12 +110,9 @@ stat_fact aggregate.NanCount es d n h long = tt
 
 -- ---- of a column of a chunk
 
-equal_lengths : (m n : ℕ) → (m == n) ≡ true → m ≡ n
-equal_lengths m n h = grind (arith, nat_tests)
-
 column_long : (n : ℕ) (cs : List ColumnData) (j : ℕ) (d : ColumnData) → all_long n cs ≡ true → slice_get cs j ≡ Some d → length d.values ≡ n
 column_long n [] j d h there = cc
-column_long n (c ∷ cs) zero d h there = let same : c ≡ d = cc in ap (λ (x : ColumnData). length x.values) (sym same) ∙ equal_lengths (length c.values) n (both_true _ _ h).0
+column_long n (c ∷ cs) zero d h there = let same : c ≡ d = cc in ap (λ (x : ColumnData). length x.values) (sym same) ∙ equal_numbers (length c.values) n (both_true _ _ h).0
 column_long n (c ∷ cs) (suc j) d h there = column_long n cs j d (both_true _ _ h).1 there
 
 -- what a column means on the rows is its values

@@ -1,5 +1,5 @@
 -- The binders of the parts' own statistics: faithful, quiet, and honest for true parts.
-use Rattle.std.proofs.Common.{◌≡◌, ℕ, Bool, true, false, List, [], ◌∷◌, refl}
+use Rattle.std.proofs.Common.{◌≡◌, ℕ, true, false, List, [], ◌∷◌, refl}
 use Rattle.std.specs.List.{AllByRecursion}
 use Rattle.vortex_prune.proofs.Honesty.HonestParts.{part_is_honest}
 use Rattle.vortex_prune.specs.Part.{IsPart, IsTruePart, PartData}

@@ -15,7 +15,7 @@ use Rattle.vortex_base.specs.Data.Scalars.{Constant, constant_of, is_optional_va
 use Rattle.vortex_base.specs.Data.Types.{as_nullable, is_nullable}
 use Rattle.vortex_base.specs.Meanings.Typing.{placeholder_type, state_dtype, stat_type}
 use Rattle.vortex_base.specs.Data.Values.{is_value}
-use Rattle.vortex_base.proofs.Meanings.MeaningFits.{is_value-as_nullable, null_fits}
+use Rattle.vortex_base.proofs.Meanings.MeaningFits.{is_value-as_nullable}
 use Rattle.vortex_stats.specs.declared.error.StatsError.{StatsError}
 use Rattle.vortex_stats.specs.declared.precision.Precision.{Precision}
 use Rattle.vortex_stats.specs.declared.precision.Precision.TheVariants.{Exact, Inexact, Absent}
@@ -29,23 +29,14 @@ use Rattle.vortex_stats.proofs.Kit.{entry_value-fits}
 use Rattle.vortex_prune.specs.Answers.{IfSupported, supported}
 use Rattle.vortex_prune.specs.Part.{Entries}
 use Rattle.vortex_prune.specs.Binding.StatValues.{count_of, of_count, all_null_value, all_non_null_value, null_count_value, exact_value, stat_value}
-
-abbrev ok : DType → Result DType BaseError
-ok t = Ok t
+use Rattle.vortex_prune.proofs.Logic.{ok, same_ok}
+use Rattle.vortex_prune.proofs.NullErasure.{placeholder_null}
 
 abbrev constant : Constant → Result Constant BaseError
 constant c = Ok c
 
 abbrev answer : Constant → Result Constant StatsError
 answer c = Ok c
-
-same_ok : (s t : DType) → ok s ≡ ok t → s ≡ t
-same_ok s t h = cc
-
--- null may stand under a placeholder's type
-pub placeholder_null : (o : Option DType) (u : DType) → placeholder_type o ≡ Ok u → is_nullable u ≡ true
-placeholder_null None u e = cc
-placeholder_null (Some t) u e = ap is_nullable (sym (same_ok (as_nullable t) u e)) ∙ null_fits t
 
 -- where the statistic's type and the aggregate's agree, a value of the one may stand under the other
 alike_fits : (o q : Option DType) (u : DType) (v : ScalarValue) → AreAlike o q → placeholder_type q ≡ Ok u → is_value_of o v ≡ true → is_value v u ≡ true

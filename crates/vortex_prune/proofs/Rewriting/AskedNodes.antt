@@ -1,5 +1,5 @@
 -- What rules may cause at some nodes they may cause at more of them, and which nodes a predicate has more than its parts.
-use Rattle.std.proofs.Common.{◌≡◌, zero, suc, List, [], ◌∷◌, ◌++◌, Option, Some, None, refl, sym, ap, ap₂, subst, ◌∙◌, arith, option_map}
+use Rattle.std.proofs.Common.{◌≡◌, List, [], ◌∷◌, ◌++◌, Option, Some, None, refl, sym, ap, ap₂, subst, ◌∙◌, arith, option_map}
 use Rattle.std.specs.Prelude.{Contains}
 use Rattle.std.proofs.lemmas.List.Elements.{Contains-append_left, Contains-append_right}
 use Rattle.vortex_base.specs.Trees.Between.{to_operator}
@@ -13,6 +13,7 @@ use Rattle.vortex_prune.specs.Rewriting.Lawful.{OwnRule}
 use Rattle.vortex_prune.specs.Rewriting.Falsifiers.{Ends, ends, halves}
 use Rattle.vortex_prune.specs.Rewriting.RuleRefusals.{rule_causes}
 use Rattle.vortex_prune.specs.Rewriting.Visited.{halves_visited, visited}
+use Rattle.vortex_prune.proofs.Logic.{only_one}
 
 -- ---- more rules, and more nodes
 
@@ -36,11 +37,6 @@ module _ (prove : OwnRule → Tree Place → Option (Tree Place)) where
   }
 
 -- ---- the nodes of a predicate
-
--- what is the one element
-pub only : {X : Type 0} (x y : X) → Contains (x ∷ []) y → x ≡ y
-only x y (zero, h, e) = e
-only x y (suc k, h, e) = absurd (omega (arith, h))
 
 pub the_one : {X : Type 0} (x : X) → Contains (x ∷ []) x
 the_one x = (0, omega arith, refl)
@@ -80,7 +76,7 @@ moved_in x h q (Some e) is held =
 module _ (prove : OwnRule → Tree Place → Option (Tree Place)) (rules : List OwnRule) (p : Tree Place) where
   -- at the node alone
   pub at_node : BringAbout (rule_causes prove rules (p ∷ [])) (rule_causes prove rules (visited p))
-  at_node = nodes-more prove rules (p ∷ []) (visited p) (λ q h. subst (Contains (visited p)) (only p q h) (itself p))
+  at_node = nodes-more prove rules (p ∷ []) (visited p) (λ q h. subst (Contains (visited p)) (only_one p q h) (itself p))
 
   -- at the sides of a connective
   pub at_and_left : (l r : Tree Place) → p ≡ binary And l r → BringAbout (rule_causes prove rules (visited l)) (rule_causes prove rules (visited p))

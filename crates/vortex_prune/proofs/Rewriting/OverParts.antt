@@ -14,7 +14,7 @@ use Rattle.vortex_base.specs.Meanings.Meaning.{meaning, truth_value}
 use Rattle.vortex_base.specs.Data.Scalars.{is_optional_value}
 use Rattle.vortex_base.specs.Trees.Tree.{Tree, Place, column, literal, binary, between, is_null, is_not_null, not as not_tree, like, stat, row_count, has_placeholder}
 use Rattle.vortex_base.specs.Data.Types.{as_nullable, dtype_eq_is_exact, eq_ignore_nullability, is_nullable}
-use Rattle.vortex_base.specs.Meanings.Typing.{are_comparable, between_type, binary_type, connective_type, is_state, like_type, truth_type, type_if, type_of, with_type, with_types}
+use Rattle.vortex_base.specs.Meanings.Typing.{are_comparable, between_type, binary_type, connective_type, is_state, like_type, truth_type, type_of, with_type, with_types}
 use Rattle.vortex_base.specs.declared.types.BetweenOptions.{BetweenOptions}
 use Rattle.vortex_base.specs.declared.types.StrictComparison.{StrictComparison}
 use Rattle.vortex_base.specs.declared.types.StrictComparison.TheVariants.{Strict, NonStrict}
@@ -29,6 +29,9 @@ use Rattle.vortex_base.specs.declared.scalar_value.ScalarValue.TheVariants as va
 use Rattle.vortex_prune.proofs.Soundness.LikeRows.{IsText}
 use Rattle.vortex_prune.specs.Rewriting.Lawful.{IsOver}
 use Rattle.vortex_prune.specs.Rewriting.Falsifiers.{halves}
+use Rattle.vortex_prune.proofs.NullErasure.{same_state}
+use Rattle.vortex_prune.proofs.Logic.{ok}
+use Rattle.vortex_prune.proofs.Rewriting.ProofTypes.{comparable_if}
 
 -- ---- parts
 
@@ -67,29 +70,14 @@ turned : (s t : DType) → are_comparable s t ≡ true → are_comparable t s �
 turned s t h =
     let k = and_parts (eq_ignore_nullability s t) (not (is_state s)) h in
     let same : as_nullable s ≡ as_nullable t = (dtype_eq_is_exact (as_nullable s) (as_nullable t)).0 k.0 in
-    both_hold _ _ ((dtype_eq_is_exact (as_nullable t) (as_nullable s)).1 (sym same)) (sym (ap not (state_kept s t same)) ∙ k.1)
-  where
-    state_kept : (s t : DType) → as_nullable s ≡ as_nullable t → is_state s ≡ is_state t
-    state_kept s t e = sym (of_nullable s) ∙ ap is_state e ∙ of_nullable t
-      where
-        of_nullable : (t : DType) → is_state (as_nullable t) ≡ is_state t
-        of_nullable dtype.Null = refl
-        of_nullable (dtype.Bool n) = refl
-        of_nullable (dtype.Primitive p n) = refl
-        of_nullable (dtype.Utf8 n) = refl
-        of_nullable (dtype.Binary n) = refl
-        of_nullable (dtype.MinMaxState e n) = refl
+    both_hold _ _ ((dtype_eq_is_exact (as_nullable t) (as_nullable s)).1 (sym same)) (sym (ap not (same_state s t same)) ∙ k.1)
 
 half_type : (s : StrictComparison) (a b : DType) → are_comparable a b ≡ true → binary_type (to_operator s) a b ≡ Ok (truth_type (is_nullable a || is_nullable b))
 half_type Strict a b h = rw h refl
 half_type NonStrict a b h = rw h refl
 
-passed : (b : Bool) (t : DType) → IsOk (type_if b t) → b ≡ true
-passed true t h = refl
-passed false t h = cc
-
 pub comparable_ends : (x l u : DType) → IsOk (between_type x l u) → (are_comparable x l ≡ true) × (are_comparable x u ≡ true)
-comparable_ends x l u h = and_parts (are_comparable x l) (are_comparable x u) (passed (are_comparable x l && are_comparable x u) (truth_type (is_nullable x || (is_nullable l || is_nullable u))) h)
+comparable_ends x l u h = and_parts (are_comparable x l) (are_comparable x u) (comparable_if (are_comparable x l && are_comparable x u) (truth_type (is_nullable x || (is_nullable l || is_nullable u))) h)
 
 pub halves_typed : (s t : StrictComparison) (x l u : Result DType BaseError) → IsOk (with_type (λ a. with_types (between_type a) l u) x)
     → IsOk (with_types connective_type (with_types (binary_type (to_operator s)) l x) (with_types (binary_type (to_operator t)) x u))
@@ -123,9 +111,6 @@ fitting_text (Some (value.Utf8 bs)) (dtype.MinMaxState e n) h = cc
 truth_text : (o : Option Bool) → IsText (truth_value o)
 truth_text None = tt
 truth_text (Some b) = tt
-
-abbrev ok : DType → Result DType BaseError
-ok t = Ok t
 
 literal_fits : (b : Bool) (t : DType) → IsOk (if b then ok t else Err Mismatch) → b ≡ true
 literal_fits true t h = refl

@@ -26,6 +26,9 @@ use Rattle.vortex_base.specs.declared.types.Operator.TheVariants.{Eq, NotEq, Gt,
 use Rattle.vortex_base.specs.declared.types.PType.TheVariants.{U64}
 use Rattle.vortex_prune.specs.Rewriting.Predicates.{has_type, is_predicate, is_text, is_connective, is_extreme}
 use Rattle.vortex_prune.specs.Rewriting.Falsifiers.{placeholder, extreme, null_count_of, count_literal}
+use Rattle.vortex_prune.proofs.NullErasure.{same_state}
+use Rattle.vortex_prune.specs.Binding.StateTypes.{as_nullable-again}
+use Rattle.std.proofs.lemmas.Bool.{not-true}
 
 -- ---- refusals of constructors
 
@@ -101,34 +104,19 @@ pub record AreAlike (l r : Tree Place) : Type 0 where
   pub same : as_nullable left_type ≡ as_nullable right_type
   pub value : is_state left_type ≡ false
 
-not_true : (b : Bool) → not b ≡ true → b ≡ false
-not_true true h = cc
-not_true false h = refl
-
-comparable_if : (b : Bool) (t : DType) → IsOk (type_if b t) → b ≡ true
+pub comparable_if : (b : Bool) (t : DType) → IsOk (type_if b t) → b ≡ true
 comparable_if true t h = refl
 comparable_if false t h = cc
 
 alike_from : (l r : Tree Place) (a b : Result DType BaseError) → type_of l ≡ a → type_of r ≡ b → IsOk (with_types comparison_type a b) → AreAlike l r
 alike_from l r (Ok s) (Ok t) e f h =
     let both = both_true _ _ (comparable_if (are_comparable s t) _ h) in
-    record { left_type = s; right_type = t; left = e; right = f; same = (dtype_eq_is_exact _ _).0 both.0; value = not_true _ both.1 }
+    record { left_type = s; right_type = t; left = e; right = f; same = (dtype_eq_is_exact _ _).0 both.0; value = not-true _ both.1 }
 alike_from l r (Ok s) (Err f') e f h = absurd cc
 alike_from l r (Err e') b e f h = absurd cc
 
 pub are_alike : (l r : Tree Place) → IsOk (type_of (binary Eq l r)) → AreAlike l r
 are_alike l r h = alike_from l r (type_of l) (type_of r) refl refl h
-
-state_of_nullable : (t : DType) → is_state (as_nullable t) ≡ is_state t
-state_of_nullable dtype.Null = refl
-state_of_nullable (dtype.Bool n) = refl
-state_of_nullable (dtype.Primitive p n) = refl
-state_of_nullable (dtype.Utf8 n) = refl
-state_of_nullable (dtype.Binary n) = refl
-state_of_nullable (dtype.MinMaxState e n) = refl
-
-same_state : (s t : DType) → as_nullable s ≡ as_nullable t → is_state s ≡ is_state t
-same_state s t e = sym (state_of_nullable s) ∙ ap is_state e ∙ state_of_nullable t
 
 pub alike_turned : (l r : Tree Place) → AreAlike l r → AreAlike r l
 alike_turned l r a = record {
@@ -165,17 +153,9 @@ pub record IsSimilar (e x : Tree Place) : Type 0 where
   pub typed_x : type_of x ≡ Ok dtype_of_x
   pub same : as_nullable dtype_of_e ≡ as_nullable dtype_of_x
 
-nullable_twice : (t : DType) → as_nullable (as_nullable t) ≡ as_nullable t
-nullable_twice dtype.Null = refl
-nullable_twice (dtype.Bool n) = refl
-nullable_twice (dtype.Primitive p n) = refl
-nullable_twice (dtype.Utf8 n) = refl
-nullable_twice (dtype.Binary n) = refl
-nullable_twice (dtype.MinMaxState e n) = refl
-
 state_of : (e : Option Element) (t : DType) → IsOk (placeholder_type (of_element e (λ x. as_nullable t))) → placeholder_type (of_element e (λ x. as_nullable t)) ≡ Ok (as_nullable t)
 state_of None t h = absurd cc
-state_of (Some e) t h = ap Ok (nullable_twice t)
+state_of (Some e) t h = ap Ok (as_nullable-again t)
 
 extreme_type : (f : AggregateFnRef) (t : DType) → is_extreme f ≡ true → IsOk (placeholder_type (state_dtype f t)) → placeholder_type (state_dtype f t) ≡ Ok (as_nullable t)
 extreme_type aggregate.Max t x h = state_of (element_of t) t h
@@ -197,7 +177,7 @@ placeholder_similar f x a t ex e h =
     let is = there (is_ok (type_of (stat f x))) (stat f x) a h in
     let typed : type_of (stat f x) ≡ placeholder_type (state_dtype f t) = ap (with_type (λ s. placeholder_type (state_dtype f s))) e in
     let found : type_of (stat f x) ≡ Ok (as_nullable t) = typed ∙ extreme_type f t ex (subst (λ (r : Result DType BaseError). IsOk r) typed is.0) in
-    record { dtype_of_e = as_nullable t; dtype_of_x = t; typed_e = subst (λ (y : Tree Place). type_of y ≡ Ok (as_nullable t)) is.1 found; typed_x = e; same = nullable_twice t }
+    record { dtype_of_e = as_nullable t; dtype_of_x = t; typed_e = subst (λ (y : Tree Place). type_of y ≡ Ok (as_nullable t)) is.1 found; typed_x = e; same = as_nullable-again t }
 
 pub extreme_similar : (f : AggregateFnRef) (x a : Tree Place) (t : DType) → is_extreme f ≡ true → type_of x ≡ Ok t → extreme f x ≡ Some a → IsSimilar a x
 extreme_similar f (literal c) a t ex e h =
@@ -265,8 +245,8 @@ ends_alike x l u (Ok r) (Ok s) (Ok t) e f g h =
     let both = both_true _ _ (comparable_if (are_comparable r s && are_comparable r t) _ h) in
     let low = both_true _ _ both.0 in
     let high = both_true _ _ both.1 in (
-      alike_turned x l (record { left_type = r; right_type = s; left = e; right = f; same = (dtype_eq_is_exact _ _).0 low.0; value = not_true _ low.1 }),
-      record { left_type = r; right_type = t; left = e; right = g; same = (dtype_eq_is_exact _ _).0 high.0; value = not_true _ high.1 },
+      alike_turned x l (record { left_type = r; right_type = s; left = e; right = f; same = (dtype_eq_is_exact _ _).0 low.0; value = not-true _ low.1 }),
+      record { left_type = r; right_type = t; left = e; right = g; same = (dtype_eq_is_exact _ _).0 high.0; value = not-true _ high.1 },
     )
 ends_alike x l u (Ok r) (Ok s) (Err t) e f g h = absurd cc
 ends_alike x l u (Ok r) (Err s) c e f g h = absurd cc

@@ -8,7 +8,7 @@ use Rattle.std.specs.declared.alloc.Global.{Global}
 use Rattle.std.specs.declared.dyn_box.DynBox.{DynBox}
 use Rattle.vortex_base.specs.Trees.Tree.{Tree, Place}
 use Rattle.vortex_stats.specs.declared.error.StatsError.{StatsError}
-use Rattle.vortex_prune.proofs.Rewriting.AskedNodes.{only, rules-more}
+use Rattle.vortex_prune.proofs.Rewriting.AskedNodes.{rules-more}
 use Rattle.vortex_prune.proofs.Rewriting.CauseLemmas.{refusal-more}
 use Rattle.vortex_prune.specs.Scanning.Causes.{IsRefusal}
 use Rattle.vortex_prune.specs.Rewriting.Lawful.{OwnRule}
@@ -16,6 +16,7 @@ use Rattle.vortex_prune.specs.Rewriting.Own.{own_rule, own_rules}
 use Rattle.vortex_prune.specs.Rewriting.Falsifiers.{asked, own_proofs}
 use Rattle.vortex_prune.specs.Rewriting.RuleRefusals.{rule_causes}
 use Rattle.vortex_prune.specs.declared.rewrite.rule.StatsRewriteRule.{Ghosts}
+use Rattle.vortex_prune.proofs.Logic.{only_one}
 
 one_or_none : (o : Option (Tree Place)) → cons_option o [] ≡ option_to_list o
 one_or_none None = refl
@@ -45,5 +46,5 @@ module _ {I : Type 0} {D : I → Type 0} (M : (i : I) → Ghosts (D i)) (prove :
   refusal_in nodes bs cs i b f h is same r =
       subst (λ xs. IsRefusal (rule_causes prove (own_rules M xs) nodes) f) same
       (refusal-more _ (rule_causes prove (own_rules M bs) nodes) f
-      (rules-more prove (own_rule M b ∷ []) (own_rules M bs) nodes (λ rule held. read_at bs i b rule h (ap (own_rule M) (sym is) ∙ only (own_rule M b) rule held)))
+      (rules-more prove (own_rule M b ∷ []) (own_rules M bs) nodes (λ rule held. read_at bs i b rule h (ap (own_rule M) (sym is) ∙ only_one (own_rule M b) rule held)))
       r)

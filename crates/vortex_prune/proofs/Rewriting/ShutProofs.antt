@@ -20,17 +20,18 @@ use Rattle.vortex_base.specs.declared.scalar_value.ScalarValue.TheVariants as va
 use Rattle.vortex_prune.specs.Rewriting.Lawful.{OwnRule}
 use Rattle.vortex_prune.specs.Rewriting.Falsifiers.{Ends, binary_node, both_of, comparison_falsifier, either_of, ends, ends_node, every_null, extreme, falsified, falsifier, halves_node, items_falsifier, reduce_balanced, like_falsifier, literal_falsifier, max_of, min_of, node, none_null, null_count_of, other_than, outside, pattern_falsifier, placeholder, round, rounds, text_literal}
 use Rattle.vortex_base.specs.declared.dtype.DType.{DType}
-use Rattle.vortex_prune.proofs.Rewriting.CauseLemmas.{met-const, some-const}
+use Rattle.vortex_prune.proofs.Rewriting.CauseLemmas.{met-const, some-const, refusal-more}
 use Rattle.vortex_prune.proofs.Scanning.ScanLemmas.{any_at}
 use Rattle.vortex_prune.specs.Binding.Binders.{BinderAnswer}
 use Rattle.vortex_prune.specs.Scanning.Causes.{IsRefusal}
-use Rattle.vortex_prune.specs.Scanning.ScanRefusals.{IsMemory, if_faithful, is_open, scan_causes}
+use Rattle.vortex_prune.specs.Scanning.ScanRefusals.{binder_causes, if_faithful, is_open, scan_causes}
 use Rattle.vortex_prune.specs.Scanning.Selection.{any_binder}
 use Rattle.vortex_stats.specs.declared.error.BinderFault.TheVariants as binder_fault
 use Rattle.vortex_stats.specs.declared.error.RuleFault.TheVariants as rule_fault
 use Rattle.vortex_stats.specs.declared.error.StatsError.{StatsError}
 use Rattle.vortex_stats.specs.declared.error.StatsError.TheVariants as fault
 use mathlib.Core.Bool.{true≢false}
+use Rattle.vortex_prune.specs.Answers.{IsMemory}
 
 abbrev Shut : Tree Place → Type 0
 Shut e = has_bare_column e ≡ false
@@ -213,20 +214,31 @@ no_element x h = absurd (omega (arith, h.1))
 module _ {S : Type 0} (answer : S → BinderAnswer) (IsMissing : S → DType → Tree Place → Type 0) (can_fault : S → ℕ → Bool) (p : Tree Place) (binders : List S) where
   memory_alone : (f : StatsError) → ((k : ℕ) → any_binder can_fault binders k ≡ false)
       → IsRefusal (if_faithful (falsifier [] p) (scan_causes answer IsMissing can_fault [] p binders)) f → IsMemory f
-  memory_alone (fault.Memory e) quiet h = tt
-  memory_alone fault.NotPredicate quiet h = h
-  memory_alone fault.Mismatch quiet h = h
-  memory_alone fault.Unsupported quiet h = h
-  memory_alone (fault.Conflict s) quiet h = h
+  memory_alone (fault.Memory e) quiet h = refl
+  memory_alone fault.NotPredicate quiet h = absurd h
+  memory_alone fault.Mismatch quiet h = absurd h
+  memory_alone fault.Unsupported quiet h = absurd h
+  memory_alone (fault.Conflict s) quiet h = absurd h
   memory_alone (fault.Binder (binder_fault.Own k)) quiet h =
       let named : can_fault h.1 k ≡ true = some-const (falsifier [] p) _ _ (λ e m. met-const _ e m) h.4 in
       let read : can_fault (get_or binders h.0 h.1) k ≡ true = ap (λ b. can_fault b k) h.3 ∙ named in
       absurd (true≢false (sym (any_at can_fault binders h.0 h.1 k h.2 read) ∙ quiet k))
-  memory_alone (fault.Binder binder_fault.WrongType) quiet h = h
-  memory_alone (fault.Rule (rule_fault.Own k)) quiet h = no_element h.1 h.3
-  memory_alone (fault.Rule rule_fault.NotBool) quiet h = no_element h.1 h.3
+  memory_alone (fault.Binder binder_fault.WrongType) quiet h = absurd h
+  memory_alone (fault.Rule (rule_fault.Own k)) quiet h = absurd (no_element h.1 h.3)
+  memory_alone (fault.Rule rule_fault.NotBool) quiet h = absurd (no_element h.1 h.3)
   memory_alone fault.OpenProof quiet h = absurd (true≢false (sym h ∙ built_in_is_shut p))
-  memory_alone fault.TooLarge quiet h = h
+  memory_alone fault.TooLarge quiet h = absurd h
+
+  -- what the binders cause that are asked for the falsifier, the scan is refused for
+  pub by_falsifier : {X F : Type 0} (rules : List OwnRule) (o : Option (Tree Place)) (r : Result X StatsError) → o ≡ falsifier rules p
+      → IfErr r (λ f. F → IsRefusal (if_faithful o (binder_causes answer IsMissing can_fault o binders)) f) → F
+      → IfErr r (IsRefusal (if_faithful (falsifier rules p) (scan_causes answer IsMissing can_fault rules p binders)))
+  by_falsifier rules o (Ok x) e h faithful = tt
+  by_falsifier rules o (Err f) e h faithful =
+      refusal-more (if_faithful (falsifier rules p) (binder_causes answer IsMissing can_fault (falsifier rules p) binders))
+      (if_faithful (falsifier rules p) (scan_causes answer IsMissing can_fault rules p binders)) f
+      (record { rule = λ k w. absurd w; not_bool = λ w. absurd w; binder = λ k w. w; wrong_type = λ w. w; open_proof = λ w. w })
+      (subst (λ (q : Option (Tree Place)). IsRefusal (if_faithful q (binder_causes answer IsMissing can_fault q binders)) f) e (h faithful))
 
   -- such a scan is refused for memory alone
   pub refused_for_memory : {X : Type 0} (rules : List OwnRule) (r : Result X StatsError) → rules ≡ [] → ((k : ℕ) → any_binder can_fault binders k ≡ false)

@@ -1,14 +1,13 @@
 -- Joined parts are parts, and of true parts true ones.
-use Rattle.std.proofs.Common.{◌≡◌, ◌&&◌, Bool, true, List, [], ◌∷◌, Result, Ok, Err, IfOk, refl, sym, ap, subst, ◌∙◌}
+use Rattle.std.proofs.Common.{◌≡◌, true, List, [], ◌∷◌, Result, Ok, Err, IfOk, refl, sym, ap, subst, ◌∙◌}
 use Rattle.vortex_base.proofs.Data.AppendLemmas.{same_type}
 use Rattle.vortex_base.proofs.Data.ChunkLemmas.{IsChunk-appended, chunks_may_append}
-use Rattle.vortex_base.specs.Data.Columns.{ChunkData, ColumnData, IsChunk, all_appended, appended_chunk, can_append, sizes_fit}
+use Rattle.vortex_base.specs.Data.Columns.{ChunkData, ColumnData, all_appended, appended_chunk, can_append, sizes_fit}
 use Rattle.vortex_base.specs.Data.Exact.{both_hold, both_true}
 use Rattle.vortex_base.specs.declared.dtype.DType.{DType}
 use Rattle.vortex_prune.specs.Part.{AreTrueSets, Entries, IsPart, IsTruePart, PartData, joined, merged_sets, sets_fit}
 use Rattle.vortex_stats.proofs.Kit.{merged_ordered-fits, merged_ordered_is_true}
 use Rattle.vortex_stats.specs.Sets.Entries.{entries_fit}
-use Rattle.vortex_stats.specs.Merging.Merges.{merged_ordered}
 
 merged_fit : (cs ds : List ColumnData) (xs ys : List Entries) → can_append cs ds ≡ true → sets_fit cs xs ≡ true → sets_fit ds ys ≡ true → sets_fit (all_appended cs ds) (merged_sets xs ys) ≡ true
 merged_fit [] [] [] [] h p q = refl

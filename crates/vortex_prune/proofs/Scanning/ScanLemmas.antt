@@ -16,16 +16,9 @@ use Rattle.vortex_prune.proofs.Rewriting.CauseLemmas.{refusal-more}
 use Rattle.vortex_base.specs.declared.dtype.DType.{DType}
 use Rattle.vortex_prune.specs.Scanning.Selection.{Answered, AreFaithful, answered, any_binder, is_skipped, kept_rows, place_if, selected_rows, skipped_parts}
 use Rattle.vortex_stats.specs.declared.error.StatsError.{StatsError}
+use Rattle.std.proofs.lemmas.Bool.{or_left, or_right}
 
 -- ---- lists made of the elements of a list and their places
-
-or_left : (a b : Bool) → a ≡ true → (a || b) ≡ true
-or_left true b h = refl
-or_left false b h = absurd cc
-
-or_right : (a b : Bool) → b ≡ true → (a || b) ≡ true
-or_right true b h = refl
-or_right false b h = h
 
 module _ {X Y : Type 0} (f : ℕ → X → List Y) where
   abbrev collected : ℕ → List X → List Y

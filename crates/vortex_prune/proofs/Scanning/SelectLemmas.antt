@@ -1,5 +1,5 @@
 -- The rows that satisfy a predicate are found one by one; what is refused for memory alone.
-use Rattle.std.proofs.Common.{◌≡◌, ℕ, Bool, true, false, not, Ok, Result, IsTrue, IfErr, Err, List, [], ◌∷◌, ◌++◌, Option, alloc_error, append_assoc, append-nil, arith, cond, map, refl, subst, sym, ap, ◌∙◌, ◌+◌, zero, suc}
+use Rattle.std.proofs.Common.{◌≡◌, ℕ, Bool, true, false, Ok, Result, IfErr, Err, List, [], ◌∷◌, ◌++◌, alloc_error, append_assoc, arith, cond, map, refl, subst, sym, ap, ◌∙◌, ◌+◌}
 use Rattle.std.specs.List.{filter, range_with_len}
 use Rattle.std.proofs.lemmas.List.{map-append, map-id}
 use Rattle.std.proofs.lemmas.List.Elements.{filter-append}
@@ -8,10 +8,6 @@ use Rattle.vortex_base.specs.Answer.{Makes}
 use Rattle.vortex_prune.specs.Scanning.Selection.{row_if}
 use Rattle.vortex_base.specs.declared.error.BaseError.{BaseError}
 use Rattle.vortex_base.specs.declared.error.BaseError.TheVariants.{Memory}
-
-pub none_held : (b : Bool) → not b ≡ true → b ≡ false
-none_held true h = cc
-none_held false h = refl
 
 -- what makes a value is refused for memory alone
 pub memory_alone : {A : Type 0} (v : A) (r : Result A BaseError) → Makes v r → IfErr r (λ fault. fault ≡ Memory alloc_error)

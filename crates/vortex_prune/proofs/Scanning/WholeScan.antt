@@ -39,10 +39,10 @@ predicate_typed : (t : Result DType BaseError) → has_type is_bool t ≡ true �
 predicate_typed (Ok t) h = has_a_type (Ok t) t refl
 predicate_typed (Err f) h = absurd cc
 
--- what follows from three things that are so of an answer is so of it
-pub of_three : {X E : Type 0} (r : Result X E) (P Q R T : X → Type 0) → ((x : X) → P x → Q x → R x → T x) → IfOk r P → IfOk r Q → IfOk r R → IfOk r T
-of_three (Ok x) P Q R T f p q k = f x p q k
-of_three (Err e) P Q R T f p q k = tt
+-- what follows from two things that are so of an answer is so of it
+pub of_two : {X E : Type 0} (r : Result X E) (P Q T : X → Type 0) → ((x : X) → P x → Q x → T x) → IfOk r P → IfOk r Q → IfOk r T
+of_two (Ok x) P Q T f p q = f x p q
+of_two (Err e) P Q T f p q = tt
 
 module _ {S : Type 0} (value : S → List Constant → ℕ → Assignment) where
   all_answered : (p : Tree Place) (parts : List PartData) (binders : List S) → length binders ≡ length parts → AllByRecursion (Fits p) parts → AllByRecursion IsPart parts → AreHonest value parts binders

@@ -1,5 +1,5 @@
 -- The proofs at one node, from the tables.
-use Rattle.std.proofs.Common.{◌≡◌, ℕ, ◌+◌, min, arith, Some, option_map, option_to_list, Bool, true, false, List, [], ◌∷◌, ◌++◌, Option, None, Result, Ok, Err, IfOk, refl, sym, ap, ◌∙◌}
+use Rattle.std.proofs.Common.{◌≡◌, ℕ, ◌+◌, min, arith, Some, option_map, option_to_list, Bool, true, false, List, [], ◌∷◌, ◌++◌, Option, None, Result, Ok, Err, IfOk, refl, sym, ap, ◌∙◌, append-nil}
 use denote.Bor.{Bor}
 use Rattle.vortex_base.specs.Trees.Parts.{whole}
 use Rattle.vortex_base.specs.Trees.Tree.{Tree, Place, column, literal, binary, between, is_null, is_not_null, not, like, stat, row_count}
@@ -12,10 +12,12 @@ use Rattle.vortex_base.specs.declared.types.Operator.{Operator}
 use Rattle.vortex_base.specs.declared.types.Operator.TheVariants.{Eq, NotEq, Gt, Gte, Lt, Lte, And, Or}
 use Rattle.vortex_base.specs.declared.bound_expression.parts.Parts.{Parts}
 use Rattle.vortex_base.specs.declared.bound_expression.parts.Parts.TheVariants as parts
-use Rattle.vortex_prune.specs.Rewriting.BuiltIn.{table_falsifiers, table_satisfiers}
 use Rattle.vortex_prune.specs.Rewriting.Lawful.{OwnRule}
 use Rattle.vortex_prune.specs.Rewriting.Predicates.{is_connective}
-use Rattle.vortex_prune.specs.Rewriting.Falsifiers.{Ends, asked, binary_node, bool_literal, ends, ends_node, ends_visits, halves, halves_node, own_proofs, reduce_balanced, node, binary_visits, falsified, falsifier, satisfied, satisfier, visits}
+use Rattle.vortex_prune.specs.Rewriting.Falsifiers.{Ends, asked, binary_node, binary_visits, bool_literal, ends, ends_node, ends_visits, falsified, falsifier, halves, halves_node, reduce_balanced, node, own_proofs, satisfied, satisfier, table_falsifiers, table_satisfiers, visits}
+use Rattle.vortex_prune.proofs.Logic.{answer_is}
+use Rattle.vortex_prune.specs.Answers.{Makes}
+use Rattle.vortex_stats.specs.declared.error.StatsError.{StatsError}
 
 module _ (prove : OwnRule → Tree Place → Option (Tree Place)) where
   -- no rule is asked at a column
@@ -143,10 +145,23 @@ satisfier_answer rules p built_in r e =
     answer_along r (satisfied rules p built_in) (satisfier rules p) (ap (satisfied rules p) e ∙ sym (satisfier_of_table rules p))
 
 -- the proofs at a node, joined
-pub node_answer : {E : Type 0} (prove : OwnRule → Tree Place → Option (Tree Place)) (rules : List OwnRule) (p : Tree Place) (built_in proofs : List (Tree Place)) (r : Result (Option (Tree Place)) E)
-    → proofs ≡ built_in ++ own_proofs prove rules p → IfOk r (λ o. o ≡ reduce_balanced proofs) → IfOk r (λ o. o ≡ node prove rules p built_in)
+pub node_answer : (prove : OwnRule → Tree Place → Option (Tree Place)) (rules : List OwnRule) (p : Tree Place) (built_in proofs : List (Tree Place)) (r : Result (Option (Tree Place)) StatsError)
+    → proofs ≡ built_in ++ own_proofs prove rules p → Makes (reduce_balanced proofs) r → IfOk r (λ o. o ≡ node prove rules p built_in)
 unfolding node
-node_answer prove rules p built_in proofs r e = answer_along r (reduce_balanced proofs) (reduce_balanced (built_in ++ own_proofs prove rules p)) (ap reduce_balanced e)
+node_answer prove rules p built_in proofs r e m =
+    answer_along r (reduce_balanced proofs) (reduce_balanced (built_in ++ own_proofs prove rules p)) (ap reduce_balanced e) (answer_is (λ (o : Option (Tree Place)). o ≡ reduce_balanced proofs) r m)
+
+-- one proof at the most is its own join
+one_alone : (o : Option (Tree Place)) → reduce_balanced (option_to_list o) ≡ o
+unfolding reduce_balanced
+one_alone None = refl
+one_alone (Some p) = refl
+
+-- where the user has no rules, a built-in proof is the answer
+pub alone : (prove : OwnRule → Tree Place → Option (Tree Place)) (rules : List OwnRule) (p : Tree Place) (o : Option (Tree Place)) → rules ≡ [] → o ≡ node prove rules p (option_to_list o)
+unfolding node
+alone prove rules p o none =
+    sym (ap (λ rs. reduce_balanced (option_to_list o ++ own_proofs prove rs p)) none ∙ ap reduce_balanced (append-nil (option_to_list o)) ∙ one_alone o)
 
 -- ---- a BETWEEN
 

@@ -1,8 +1,7 @@
 -- The proofs of LIKE, read off the bytes of the pattern's literal beginning.
-use Rattle.std.proofs.Common.{◌≡◌, ℕ, Bool, true, false, List, Option, Some, None, Result, IfOk, refl, sym, ap, ◌∙◌, option_map}
+use Rattle.std.proofs.Common.{◌≡◌, ℕ, Bool, true, false, List, Option, Some, None, Result, refl, sym, ap, ◌∙◌, option_map}
 use Rattle.std.specs.Prelude.{encode_utf8_all, if◌then◌else◌}
 use Rattle.std.specs.Str.{chars, IsUtf8}
-use Rattle.std.proofs.lemmas.Result.{IfOk-weaker}
 use Rattle.std.proofs.lemmas.Str.{encodes-chars, encodes_same}
 use Rattle.vortex_base.specs.Patterns.Prefix.{PatternData, pattern_of, exact_text, literal_prefix, is_exact, successor}
 use Rattle.vortex_base.specs.Trees.Tree.{Tree, Place, binary}
@@ -10,17 +9,19 @@ use Rattle.vortex_base.specs.declared.aggregate.AggregateFnRef.TheVariants.{Max,
 use Rattle.vortex_base.specs.declared.like.Item.{Item}
 use Rattle.vortex_base.specs.declared.types.Operator.{Operator}
 use Rattle.vortex_base.specs.declared.types.Operator.TheVariants.{Gte, Lt, Or}
-use Rattle.vortex_prune.specs.Rewriting.BuiltIn.{beyond, bytes_literal}
-use Rattle.vortex_prune.specs.Rewriting.Falsifiers.{both_of, extreme, items_falsifier, other_than, outside}
+use Rattle.vortex_prune.specs.Rewriting.Falsifiers.{beyond, both_of, bytes_literal, extreme, items_falsifier, other_than, outside}
+use Rattle.vortex_prune.proofs.Logic.{made-weaker}
+use Rattle.vortex_prune.specs.Answers.{Makes}
+use Rattle.vortex_stats.specs.declared.error.StatsError.{StatsError}
 
 -- the two comparisons with texts, joined
-pub beyond_is : {E : Type 0} (x a b : Tree Place) (o : Operator) (above below : List ℕ) (p q : Option (Tree Place)) (r : Result (Option (Tree Place)) E) → a ≡ bytes_literal above → b ≡ bytes_literal below
+pub beyond_is : (x a b : Tree Place) (o : Operator) (above below : List ℕ) (p q : Option (Tree Place)) (r : Result (Option (Tree Place)) StatsError) → a ≡ bytes_literal above → b ≡ bytes_literal below
     → p ≡ both_of (binary o) (extreme Min x) (extreme Max a) → q ≡ both_of (binary Lt) (extreme Max x) (extreme Min b)
-    → IfOk r (λ e. e ≡ both_of (binary Or) p q) → IfOk r (λ e. e ≡ beyond x o above below)
+    → Makes (both_of (binary Or) p q) r → Makes (beyond x o above below) r
 beyond_is x a b o above below p q r e f h k =
     let first : p ≡ both_of (binary o) (extreme Min x) (Some (bytes_literal above)) = h ∙ ap (λ y. both_of (binary o) (extreme Min x) (extreme Max y)) e in
     let second : q ≡ both_of (binary Lt) (extreme Max x) (Some (bytes_literal below)) = k ∙ ap (λ y. both_of (binary Lt) (extreme Max x) (extreme Min y)) f in
-    IfOk-weaker r _ _ (λ e' is. is ∙ ap (λ y. both_of (binary Or) y q) first ∙ ap (both_of (binary Or) (both_of (binary o) (extreme Min x) (Some (bytes_literal above)))) second)
+    made-weaker _ _ r (λ e' is. is ∙ ap (λ y. both_of (binary Or) y q) first ∙ ap (both_of (binary Or) (both_of (binary o) (extreme Min x) (Some (bytes_literal above)))) second)
 
 not_exact : (b : Bool) (bs : List ℕ) → None ≡ (if b then Some bs else None) → b ≡ false
 not_exact true bs h = cc
@@ -44,12 +45,12 @@ wild : (p : PatternData) (is : List Item) → p ≡ pattern_of is → None ≡ e
 wild p is e h = not_exact (is_exact is) (encode_utf8_all (literal_prefix is)) (h ∙ ap exact_text e)
 
 -- a pattern with a wildcard whose prefix has a successor
-pub pattern_outside : {E : Type 0} (x : Tree Place) (p : PatternData) (is : List Item) (prefix next : List ℕ) (r : Result (Option (Tree Place)) E) → p ≡ pattern_of is → None ≡ exact_text p → prefix ≡ p.prefix → IsUtf8 prefix
-    → Some next ≡ option_map encode_utf8_all (successor (chars prefix)) → IfOk r (λ o. o ≡ beyond x Gte next prefix) → IfOk r (λ o. o ≡ items_falsifier x is)
+pub pattern_outside : (x : Tree Place) (p : PatternData) (is : List Item) (prefix next : List ℕ) (r : Result (Option (Tree Place)) StatsError) → p ≡ pattern_of is → None ≡ exact_text p → prefix ≡ p.prefix → IsUtf8 prefix
+    → Some next ≡ option_map encode_utf8_all (successor (chars prefix)) → Makes (beyond x Gte next prefix) r → Makes (items_falsifier x is) r
 pattern_outside x p is prefix next r e h same text s =
     let bytes : prefix ≡ encode_utf8_all (literal_prefix is) = same ∙ ap (λ (q : PatternData). q.prefix) e in
     let read : Some next ≡ option_map encode_utf8_all (successor (literal_prefix is)) = s ∙ ap (λ cs. option_map encode_utf8_all (successor cs)) (prefix_chars prefix (literal_prefix is) text bytes) in
-    IfOk-weaker r _ _ (λ o is'. is' ∙ ap (beyond x Gte next) bytes ∙ sym (outside_next x (literal_prefix is) next (successor (literal_prefix is)) read) ∙ sym (items_outside x is (wild p is e h)))
+    made-weaker _ _ r (λ o is'. is' ∙ ap (beyond x Gte next) bytes ∙ sym (outside_next x (literal_prefix is) next (successor (literal_prefix is)) read) ∙ sym (items_outside x is (wild p is e h)))
 
 -- and one whose prefix has none
 pub pattern_open : (x : Tree Place) (p : PatternData) (is : List Item) (prefix : List ℕ) → p ≡ pattern_of is → None ≡ exact_text p → prefix ≡ p.prefix → IsUtf8 prefix

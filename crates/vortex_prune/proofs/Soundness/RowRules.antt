@@ -1,5 +1,5 @@
 -- The proofs of comparisons, of tests of null and of literals, at one row where the answers of the placeholders are right.
-use Rattle.std.proofs.Common.{◌≡◌, ℕ, Bool, true, false, not, ◌&&◌, ◌||◌, ◌<◌, ◌⊎◌, ⊎_elim, List, [], ◌∷◌, Option, Some, None, refl, sym, ap, ◌∙◌, subst, arith, option_to_list, if◌then◌else◌}
+use Rattle.std.proofs.Common.{◌≡◌, ℕ, Bool, true, false, not, ◌<◌, ◌⊎◌, ⊎_elim, List, [], Option, Some, None, refl, sym, ap, ◌∙◌, subst, arith, option_to_list, if◌then◌else◌}
 use Rattle.std.specs.Prelude.{⊤, is_none}
 use Rattle.std.specs.List.{AllByRecursion}
 use Rattle.std.specs.Result.{is_ok}
@@ -7,7 +7,7 @@ use Rattle.std.proofs.lemmas.Bool.{not-true, not-false, and_parts, or_cases, and
 use Rattle.std.proofs.lemmas.Option.{same_Some, none-some, cond_some}
 use Rattle.vortex_base.specs.Meanings.Meaning.{compared, is_true, meaning, satisfies, truth_value}
 use Rattle.vortex_base.specs.Data.Scalars.{Constant}
-use Rattle.vortex_base.specs.Trees.Tree.{Tree, Place, literal, binary, is_null, is_not_null, stat, row_count}
+use Rattle.vortex_base.specs.Trees.Tree.{Tree, Place, literal, binary, stat, row_count}
 use Rattle.vortex_base.specs.Meanings.Typing.{type_of}
 use Rattle.vortex_base.specs.Data.Values.{value_cmp}
 use Rattle.vortex_base.specs.declared.aggregate.AggregateFnRef.{AggregateFnRef}
@@ -18,10 +18,11 @@ use Rattle.vortex_base.specs.declared.scalar_value.ScalarValue.{ScalarValue}
 use Rattle.vortex_base.specs.declared.scalar_value.ScalarValue.TheVariants as value
 use Rattle.vortex_base.specs.Meanings.Meaning.{holds}
 use Rattle.vortex_stats.specs.Sets.Claims.{count_value}
-use Rattle.vortex_prune.proofs.Soundness.TruthLogic.{AreBoth, Gives, both_some, clash, proves_value, refuted, true_and, true_or, all_option}
+use Rattle.vortex_prune.proofs.Soundness.TruthLogic.{Gives, both_some, clash, proves_value, refuted, true_and, true_or}
 use Rattle.vortex_prune.proofs.Soundness.ValueTests.{value_le, le_refl, le_trans, le_antisym, holds_by_le, by_order, gt_le, gte_le, lt_le, eq_le}
 use Rattle.vortex_prune.specs.Rewriting.Proof.{Assignment, value_under}
 use Rattle.vortex_prune.specs.Rewriting.Falsifiers.{both_of, comparison_falsifier, count_literal, every_null, literal_falsifier, literal_satisfier, max_of, min_of, none_null, null_count_of, placeholder}
+use Rattle.std.proofs.Math.Bool.{and_comm}
 
 -- ---- bounds of an optional value
 
@@ -95,16 +96,10 @@ not_ne (Some x) None h k = refl
 not_ne (Some x) (Some y) h k =
     by_order NotEq x y true true (not-false (value_le x y) (sym (holds_by_le Gt x y) ∙ h)) (not-false (value_le y x) (sym (holds_by_le Lt x y) ∙ k))
 
-and_swap : (s t : Bool) → (s && t) ≡ (t && s)
-and_swap true true = refl
-and_swap true false = refl
-and_swap false true = refl
-and_swap false false = refl
-
 eq_back : (x y : Option ScalarValue) → is Eq y x ≡ false → is Eq x y ≡ false
 eq_back None y h = refl
 eq_back (Some x) None h = refl
-eq_back (Some x) (Some y) h = holds_by_le Eq x y ∙ and_swap (value_le x y) (value_le y x) ∙ sym (holds_by_le Eq y x) ∙ h
+eq_back (Some x) (Some y) h = holds_by_le Eq x y ∙ and_comm (value_le x y) (value_le y x) ∙ sym (holds_by_le Eq y x) ∙ h
 
 pub equal_some : (o : Option ScalarValue) (w : ScalarValue) → is Eq o (Some w) ≡ true → o ≡ Some w
 equal_some None w h = cc

@@ -1,6 +1,6 @@
 -- When the connectives and the joined proofs are true.
 use Rattle.std.proofs.Common.{◌≡◌, ℕ, zero, suc, Bool, true, false, ◌&&◌, ◌||◌, ◌⊎◌, ⊎_elim, List, [], ◌∷◌, ◌++◌, length, Option, Some, None, refl, sym, ap, ap₂, ◌∙◌, option_to_list, if◌then◌else◌}
-use Rattle.std.specs.List.{AllByRecursion, cons_option, filter_map}
+use Rattle.std.specs.List.{AllByRecursion, cons_option}
 use Rattle.std.proofs.lemmas.Bool.{and_parts, or_cases}
 use Rattle.std.proofs.lemmas.Option.{same_Some, none-some}
 use Rattle.vortex_base.specs.Meanings.Meaning.{both, either, is_true, truth, truth_value}
@@ -11,6 +11,7 @@ use Rattle.vortex_base.specs.declared.scalar_value.ScalarValue.TheVariants as va
 use Rattle.vortex_prune.specs.Rewriting.Lawful.{OwnRule}
 use Rattle.vortex_prune.specs.Rewriting.Proof.{Assignment, proves, value_under}
 use Rattle.vortex_prune.specs.Rewriting.Falsifiers.{asked, both_of, is_function, reduce_balanced, node, own_proofs, round, rounds}
+use Rattle.vortex_prune.proofs.Logic.{all_append}
 
 pub clash : {P : Type 0} {b : Bool} → b ≡ true → b ≡ false → P
 clash {b = true} h k = cc
@@ -107,10 +108,6 @@ both_some join (Some a) None e h = absurd (none-some e h)
 both_some join None p e h = absurd (none-some e h)
 
 -- ---- all of a list
-
-all_append : {X : Type 0} (P : X → Type 0) (xs ys : List X) → AllByRecursion P xs → AllByRecursion P ys → AllByRecursion P (xs ++ ys)
-all_append P [] ys h k = k
-all_append P (x ∷ xs) ys h k = (h.0, all_append P xs ys h.1 k)
 
 pub all_option : {X : Type 0} (P : X → Type 0) (o : Option X) → ((x : X) → o ≡ Some x → P x) → AllByRecursion P (option_to_list o)
 all_option P None f = tt

@@ -13,11 +13,11 @@ use Rattle.vortex_base.specs.declared.scalar_value.ScalarValue.{ScalarValue}
 use Rattle.vortex_base.specs.Data.Columns.{ColumnData, row_count as rows_of}
 use Rattle.vortex_base.specs.Data.Scalars.{is_optional_value}
 use Rattle.vortex_base.specs.Trees.Tree.{Tree, Place, literal, stat}
-use Rattle.vortex_base.specs.Data.Types.{as_nullable, is_nullable}
-use Rattle.vortex_base.specs.Meanings.Typing.{placeholder_type, stat_type, state_dtype, type_of, with_type}
+use Rattle.vortex_base.specs.Meanings.Typing.{stat_type, type_of, with_type}
 use Rattle.vortex_stats.specs.Sets.Claims.{count_value, null_count}
 use Rattle.vortex_prune.specs.Binding.Facts.{IsFact, IsHonest, is_over, meanings, size_of}
 use Rattle.vortex_prune.specs.Rewriting.Proof.{Assignment}
+use Rattle.vortex_prune.proofs.NullErasure.{typed_null}
 
 -- a literal that isn't null has no null on any row
 abbrev counted_value : Tree Place → Option ScalarValue
@@ -45,24 +45,8 @@ counted_facts : (cs : List ColumnData) (f : AggregateFnRef) (x : Tree Place) →
 counted_facts cs NullCount (literal c) = literal_fact c.value (rows_of cs) (size_of (literal c) cs)
 counted_facts cs f x = no_answer (is_over x cs) None
 
-nullable : (t : DType) → is_nullable (as_nullable t) ≡ true
-nullable dtype.Null = refl
-nullable (dtype.Bool n) = refl
-nullable (dtype.Primitive p n) = refl
-nullable (dtype.Utf8 n) = refl
-nullable (dtype.Binary n) = refl
-nullable (dtype.MinMaxState e n) = refl
-
-nullable_placeholder : (o : Option DType) (t : DType) → placeholder_type o ≡ Ok t → is_nullable t ≡ true
-nullable_placeholder None t h = absurd cc
-nullable_placeholder (Some s) t h = let same : as_nullable s ≡ t = cc in subst (λ u. is_nullable u ≡ true) same (nullable s)
-
-null_fits : (f : AggregateFnRef) (r : Result DType BaseError) (t : DType) → with_type (stat_type f) r ≡ Ok t → is_nullable t ≡ true
-null_fits f (Ok s) t h = nullable_placeholder (state_dtype f s) t h
-null_fits f (Err e) t h = absurd cc
-
 count_fits : (v : Option ScalarValue) (r : Result DType BaseError) (t : DType) → with_type (stat_type NullCount) r ≡ Ok t → is_optional_value (if is_none v then None else Some (count_value 0)) t ≡ true
-count_fits None r t h = null_fits NullCount r t h
+count_fits None r t h = typed_null NullCount r t h
 count_fits (Some w) (Ok s) t h =
     let same : dtype.Primitive ptype.U64 Nullable ≡ t = cc in
     subst (λ u. is_optional_value (Some (count_value 0)) u ≡ true) same refl
@@ -70,7 +54,7 @@ count_fits (Some w) (Err e) t h = absurd cc
 
 counted_types : (f : AggregateFnRef) (x : Tree Place) (t : DType) → type_of (stat f x) ≡ Ok t → is_optional_value (counted f x) t ≡ true
 counted_types NullCount (literal c) t h = count_fits c.value (type_of (literal c)) t h
-counted_types f x t h = null_fits f (type_of x) t h
+counted_types f x t h = typed_null f (type_of x) t h
 
 pub counted_is_honest : (cs : List ColumnData) → IsHonest counted cs
 counted_is_honest cs = record { facts = counted_facts cs; types = counted_types }

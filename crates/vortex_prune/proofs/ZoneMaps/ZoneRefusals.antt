@@ -11,7 +11,7 @@ use Rattle.vortex_prune.specs.Rewriting.Lawful.{OwnRule}
 use Rattle.vortex_prune.specs.Part.{PartData}
 use Rattle.vortex_prune.specs.Rewriting.Falsifiers.{falsifier}
 use Rattle.vortex_prune.specs.Rewriting.RuleRefusals.{rule_causes}
-use Rattle.vortex_prune.specs.Scanning.ScanRefusals.{IsMemory}
+use Rattle.vortex_prune.specs.Answers.{IsMemory}
 use Rattle.vortex_prune.specs.Rewriting.Visited.{visited}
 use Rattle.vortex_prune.specs.Scanning.ZoneScans.{is_left_open, open_causes, zone_causes}
 use Rattle.vortex_stats.specs.declared.error.BinderFault.TheVariants as binder_fault

@@ -41,9 +41,21 @@ bool_literal b = literal (record { dtype = dtype.Bool NonNullable; value = Some 
 abbrev pub count_literal : ℕ → Tree Place
 count_literal n = literal (record { dtype = dtype.Primitive ptype.U64 NonNullable; value = Some (value.Primitive (number.U64 n)) })
 
--- a text given by its characters
+-- a text given by its bytes, and one given by its characters
+abbrev pub bytes_literal : List ℕ → Tree Place
+bytes_literal bs = literal (record { dtype = dtype.Utf8 NonNullable; value = Some (value.Utf8 bs) })
+
 abbrev pub text_literal : List ℕ → Tree Place
-text_literal cs = literal (record { dtype = dtype.Utf8 NonNullable; value = Some (value.Utf8 (encode_utf8_all cs)) })
+text_literal cs = bytes_literal (encode_utf8_all cs)
+
+abbrev pub text_of : Option ScalarValue → Option (List ℕ)
+text_of (Some (value.Utf8 bs)) = Some bs
+text_of v = None
+
+-- the text that a literal is, by its bytes
+abbrev pub text_in : Tree Place → Option (List ℕ)
+text_in (literal c) = text_of c.value
+text_in e = None
 
 -- the placeholder, where the aggregate supports the input's type
 abbrev pub placeholder : AggregateFnRef → Tree Place → Option (Tree Place)
@@ -106,26 +118,60 @@ none_null x = binary Eq (null_count_of x) (count_literal 0) ∷ stat AllNonNull 
 abbrev pub every_null : Tree Place → List (Tree Place)
 every_null x = binary Eq (null_count_of x) row_count ∷ stat AllNull x ∷ []
 
+-- that every value lies above a text, as the operator says, or below another
+abbrev pub beyond : Tree Place → Operator → (above below : List ℕ) → Option (Tree Place)
+beyond x o above below = both_of (binary Or) (both_of (binary o) (min_of x) (Some (bytes_literal above))) (both_of (binary Lt) (max_of x) (Some (bytes_literal below)))
+
 -- that no value is the text
 abbrev pub other_than : Tree Place → (text : List ℕ) → Option (Tree Place)
-other_than x cs = both_of (binary Or) (both_of (binary Gt) (min_of x) (Some (text_literal cs))) (both_of (binary Lt) (max_of x) (Some (text_literal cs)))
+other_than x cs = beyond x Gt (encode_utf8_all cs) (encode_utf8_all cs)
 
 -- that no value begins with the prefix, whose successor is given
 abbrev pub outside : Tree Place → (prefix : List ℕ) → Option (List ℕ) → Option (Tree Place)
 outside x cs None = None
-outside x cs (Some ds) = both_of (binary Or) (both_of (binary Gte) (min_of x) (Some (text_literal ds))) (both_of (binary Lt) (max_of x) (Some (text_literal cs)))
+outside x cs (Some ds) = beyond x Gte (encode_utf8_all ds) (encode_utf8_all cs)
 
 abbrev pub items_falsifier : Tree Place → List Item → Option (Tree Place)
 items_falsifier x is = if is_exact is then other_than x (literal_prefix is) else outside x (literal_prefix is) (successor (literal_prefix is))
 
+-- that no value is a text that the pattern matches
+abbrev pub text_falsifier : Tree Place → Option (List ℕ) → Option (Tree Place)
+text_falsifier x None = None
+text_falsifier x (Some bs) = items_falsifier x (items (chars bs))
+
 -- that no text matches the pattern, if it is a text and compared as it stands
 abbrev pub pattern_falsifier : LikeOptions → Tree Place → Option ScalarValue → Option (Tree Place)
-pattern_falsifier o x (Some (value.Utf8 bs)) = if o.negated then None else (if o.case_insensitive then None else items_falsifier x (items (chars bs)))
+pattern_falsifier o x (Some (value.Utf8 bs)) = if o.negated then None else (if o.case_insensitive then None else text_falsifier x (Some bs))
 pattern_falsifier o x v = None
 
 abbrev pub like_falsifier : LikeOptions → (text pattern : Tree Place) → Option (Tree Place)
 like_falsifier o x (literal c) = pattern_falsifier o x c.value
 like_falsifier o x p = None
+
+-- the built-in falsifiers of a node that isn't rewritten any further
+abbrev pub table_falsifiers : Tree Place → List (Tree Place)
+table_falsifiers (column c) = []
+table_falsifiers (literal c) = option_to_list (literal_falsifier c.value)
+table_falsifiers (binary o l r) = option_to_list (comparison_falsifier o l r)
+table_falsifiers (between o x l u) = []
+table_falsifiers (is_null x) = none_null x
+table_falsifiers (is_not_null x) = every_null x
+table_falsifiers (not x) = []
+table_falsifiers (like o x p) = option_to_list (like_falsifier o x p)
+table_falsifiers (stat f x) = []
+table_falsifiers row_count = []
+
+abbrev pub table_satisfiers : Tree Place → List (Tree Place)
+table_satisfiers (column c) = []
+table_satisfiers (literal c) = option_to_list (literal_satisfier c.value)
+table_satisfiers (binary o l r) = []
+table_satisfiers (between o x l u) = []
+table_satisfiers (is_null x) = every_null x
+table_satisfiers (is_not_null x) = none_null x
+table_satisfiers (not x) = []
+table_satisfiers (like o x p) = []
+table_satisfiers (stat f x) = []
+table_satisfiers row_count = []
 
 -- ---- joining the proofs at a node
 
@@ -230,7 +276,7 @@ falsified rules p built_in = node (λ rule. rule.falsifier) rules p built_in
 abbrev pub binary_node : List OwnRule → Operator → (l r : Tree Place) → Option (Tree Place) → Option (Tree Place) → Option (Tree Place)
 binary_node rules And l r f g = falsified rules (binary And l r) (option_to_list (either_of (binary Or) f g))
 binary_node rules Or l r f g = falsified rules (binary Or l r) (option_to_list (both_of (binary And) f g))
-binary_node rules o l r f g = falsified rules (binary o l r) (option_to_list (comparison_falsifier o l r))
+binary_node rules o l r f g = falsified rules (binary o l r) (table_falsifiers (binary o l r))
 
 -- the AND of the two comparisons that a BETWEEN stands for
 abbrev pub halves : BetweenOptions → (x lower upper : Tree Place) → Tree Place
@@ -251,15 +297,15 @@ ends_node rules x (Some e) = halves_node rules e.options x e.lower e.upper
 -- the proof that no row satisfies a predicate, if there is one
 abbrev pub falsifier : List OwnRule → Tree Place → Option (Tree Place)
 falsifier rules (column c) = None
-falsifier rules (literal c) = falsified rules (literal c) (option_to_list (literal_falsifier c.value))
+falsifier rules (literal c) = falsified rules (literal c) (table_falsifiers (literal c))
 falsifier rules (binary o l r) = binary_node rules o l r (falsifier rules l) (falsifier rules r)
 falsifier rules (between o x l u) = falsified rules (between o x l u) (option_to_list (ends_node rules x (ends o l u)))
-falsifier rules (is_null x) = falsified rules (is_null x) (none_null x)
-falsifier rules (is_not_null x) = falsified rules (is_not_null x) (every_null x)
-falsifier rules (not x) = falsified rules (not x) []
-falsifier rules (like o x p) = falsified rules (like o x p) (option_to_list (like_falsifier o x p))
-falsifier rules (stat f x) = falsified rules (stat f x) []
-falsifier rules row_count = falsified rules row_count []
+falsifier rules (is_null x) = falsified rules (is_null x) (table_falsifiers (is_null x))
+falsifier rules (is_not_null x) = falsified rules (is_not_null x) (table_falsifiers (is_not_null x))
+falsifier rules (not x) = falsified rules (not x) (table_falsifiers (not x))
+falsifier rules (like o x p) = falsified rules (like o x p) (table_falsifiers (like o x p))
+falsifier rules (stat f x) = falsified rules (stat f x) (table_falsifiers (stat f x))
+falsifier rules row_count = falsified rules row_count (table_falsifiers row_count)
 
 -- ---- satisfiers
 
@@ -269,15 +315,15 @@ satisfied rules p built_in = node (λ rule. rule.satisfier) rules p built_in
 -- the proof that every row satisfies a predicate, if there is one; only the rules of the node itself are asked
 abbrev pub satisfier : List OwnRule → Tree Place → Option (Tree Place)
 satisfier rules (column c) = None
-satisfier rules (literal c) = satisfied rules (literal c) (option_to_list (literal_satisfier c.value))
-satisfier rules (binary o l r) = satisfied rules (binary o l r) []
-satisfier rules (between o x l u) = satisfied rules (between o x l u) []
-satisfier rules (is_null x) = satisfied rules (is_null x) (every_null x)
-satisfier rules (is_not_null x) = satisfied rules (is_not_null x) (none_null x)
-satisfier rules (not x) = satisfied rules (not x) []
-satisfier rules (like o x p) = satisfied rules (like o x p) []
-satisfier rules (stat f x) = satisfied rules (stat f x) []
-satisfier rules row_count = satisfied rules row_count []
+satisfier rules (literal c) = satisfied rules (literal c) (table_satisfiers (literal c))
+satisfier rules (binary o l r) = satisfied rules (binary o l r) (table_satisfiers (binary o l r))
+satisfier rules (between o x l u) = satisfied rules (between o x l u) (table_satisfiers (between o x l u))
+satisfier rules (is_null x) = satisfied rules (is_null x) (table_satisfiers (is_null x))
+satisfier rules (is_not_null x) = satisfied rules (is_not_null x) (table_satisfiers (is_not_null x))
+satisfier rules (not x) = satisfied rules (not x) (table_satisfiers (not x))
+satisfier rules (like o x p) = satisfied rules (like o x p) (table_satisfiers (like o x p))
+satisfier rules (stat f x) = satisfied rules (stat f x) (table_satisfiers (stat f x))
+satisfier rules row_count = satisfied rules row_count (table_satisfiers row_count)
 
 -- ---- visits: the turns of the engine
 

@@ -1,5 +1,5 @@
 -- What may cause the refusal of a scan, and what an answered one has bound.
-use Rattle.std.specs.Prelude.{◌≡◌, ℕ, Bool, true, false, All, Any, List, Option, Some, None, IfSome, IsSomeAnd, IsTrue, ⊤}
+use Rattle.std.specs.Prelude.{◌≡◌, ℕ, Bool, true, false, All, Any, List, Option, Some, None, IfSome, IsSomeAnd, IsTrue}
 use Rattle.vortex_base.specs.declared.dtype.DType.{DType}
 use Rattle.vortex_base.specs.Trees.Tree.{Tree, Place, has_bare_column}
 use Rattle.vortex_prune.specs.Binding.Binders.{BinderAnswer}
@@ -9,8 +9,6 @@ use Rattle.vortex_prune.specs.Rewriting.Lawful.{OwnRule}
 use Rattle.vortex_prune.specs.Rewriting.Falsifiers.{falsifier}
 use Rattle.vortex_prune.specs.Rewriting.RuleRefusals.{rule_causes}
 use Rattle.vortex_prune.specs.Rewriting.Visited.{visited}
-use Rattle.vortex_stats.specs.declared.error.StatsError.{StatsError}
-use Rattle.vortex_stats.specs.declared.error.StatsError.TheVariants.{Memory}
 
 module _ (answer : BinderAnswer) (IsMissing : DType → Tree Place → Type 0) where
   -- the binder binds the proof, if there is one, to a closed expression
@@ -53,8 +51,3 @@ is_open (Some e) = has_bare_column e
 -- those causes that are left where the binders are faithful: none answers by a wrong type, and a proof is left open only by a column of its own outside its placeholders
 abbrev pub if_faithful : (proof : Option (Tree Place)) → Causes → Causes
 if_faithful proof causes = record causes { wrong_type = ⊥; open_proof = is_open proof ≡ true }
-
--- memory was refused
-abbrev pub IsMemory : StatsError → Type 0
-IsMemory (Memory e) = ⊤
-IsMemory e = ⊥

@@ -57,25 +57,33 @@ selected_rows proof p parts = flat_map (λ e. kept_rows proof p e.0 e.1) (enumer
 
 -- ---- parts with their binders
 
+-- a binder is faithful for a part: over the row with no columns and the part's row count
+abbrev pub IsFaithfulFor : (is_faithful_over : List Constant → ℕ → Bool) → PartData → Type 0
+IsFaithfulFor is_faithful_over part = IsTrue (is_faithful_over [] (rows_of part.chunk.columns))
+
+-- the answers that it names there
+abbrev pub answers_for : (value : List Constant → ℕ → Assignment) → PartData → Assignment
+answers_for value part = value [] (rows_of part.chunk.columns)
+
 module _ {S : Type 0} where
-  -- each part with the answers that its binder names over the row with no columns and the part's row count
+  -- each part with the answers that its binder names for it
   abbrev pub answered : (value : S → List Constant → ℕ → Assignment) → List PartData → List S → List Answered
-  answered value (part ∷ parts) (binder ∷ binders) = (part, value binder [] (rows_of part.chunk.columns)) ∷ answered value parts binders
+  answered value (part ∷ parts) (binder ∷ binders) = (part, answers_for (value binder) part) ∷ answered value parts binders
   answered value parts binders = []
 
-  -- each binder is faithful there
+  -- each binder is faithful for its part
   abbrev pub AreFaithful : (is_faithful_over : S → List Constant → ℕ → Bool) → List PartData → List S → Type 0
-  AreFaithful is_faithful_over (part ∷ parts) (binder ∷ binders) = IsTrue (is_faithful_over binder [] (rows_of part.chunk.columns)) × AreFaithful is_faithful_over parts binders
+  AreFaithful is_faithful_over (part ∷ parts) (binder ∷ binders) = IsFaithfulFor (is_faithful_over binder) part × AreFaithful is_faithful_over parts binders
   AreFaithful is_faithful_over parts binders = ⊤
 
-  -- and the values that it names there are facts of the part
+  -- and the values that it names for it are facts of the part
   abbrev pub AreHonest : (value : S → List Constant → ℕ → Assignment) → List PartData → List S → Type 0
-  AreHonest value (part ∷ parts) (binder ∷ binders) = IsHonest (value binder [] (rows_of part.chunk.columns)) part.chunk.columns × AreHonest value parts binders
+  AreHonest value (part ∷ parts) (binder ∷ binders) = IsHonest (answers_for (value binder) part) part.chunk.columns × AreHonest value parts binders
   AreHonest value parts binders = ⊤
 
   -- each binder names what the part's own statistics answer
   abbrev pub AreByStatistics : (value : S → List Constant → ℕ → Assignment) → List PartData → List S → Type 0
-  AreByStatistics value (part ∷ parts) (binder ∷ binders) = (value binder [] (rows_of part.chunk.columns) ≡ part_values part) × AreByStatistics value parts binders
+  AreByStatistics value (part ∷ parts) (binder ∷ binders) = (answers_for (value binder) part ≡ part_values part) × AreByStatistics value parts binders
   AreByStatistics value parts binders = ⊤
 
   -- some binder names the fault

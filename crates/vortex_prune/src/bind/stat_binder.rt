@@ -1,14 +1,12 @@
 //! Who tells what stands for the placeholders of a proof.
-ghost use Rattle.std.specs.Prelude.{◌≡◌, ℕ, Bool, List, Ok, Option, IsTrue, MatchResult, IfOk, IfErr, alloc_error};
+ghost use Rattle.std.specs.Prelude.{◌≡◌, ℕ, Bool, List, Option, IsTrue, MatchResult};
 ghost use Rattle.vortex_base.specs.declared.dtype.DType.{DType};
-ghost use Rattle.vortex_base.specs.declared.error.BaseError.TheVariants as base;
-ghost use Rattle.vortex_base.specs.Data.Scalars.{Constant, IsConstant, null_of};
+ghost use Rattle.vortex_base.specs.Data.Scalars.{Constant, null_of};
 ghost use Rattle.vortex_base.specs.Trees.Tree.{Tree, Place, literal};
 ghost use Rattle.vortex_base.specs.Data.Types.{as_nullable};
 ghost use Rattle.vortex_prune.specs.Binding.Binders.{BinderAnswer, IsFaithful};
 ghost use Rattle.vortex_prune.specs.Binding.HookFaults.{IsHookFault};
 ghost use Rattle.vortex_prune.specs.Rewriting.Proof.{Assignment};
-ghost use Rattle.vortex_prune.specs.declared.hook_fault.HookFault.TheVariants as fault;
 
 use crate::hook_fault::HookFault;
 use std::alloc::Global;
@@ -16,7 +14,6 @@ use vortex_base::aggregate::AggregateFnRef;
 use vortex_base::bound;
 use vortex_base::bound_expression::BoundExpression;
 use vortex_base::dtype::DType;
-use vortex_base::error::BaseError;
 use vortex_base::scalar::Scalar;
 
 /// Binds placeholders to what a store of statistics has for them: columns of a table of statistics,
@@ -30,7 +27,8 @@ pub trait StatBinder {
 
     ghost is_missing: { Self → DType → Tree Place → Type 0 };
 
-    ghost allows_null: { (s : Self) (t : DType) → is_missing s t (literal (null_of (as_nullable t))) };
+    ghost allows_null: { (s : Self) (t : DType)
+        → is_missing s t (literal (null_of (as_nullable t))) };
 
     ghost can_fault: { Self → ℕ → Bool };
 
@@ -38,7 +36,8 @@ pub trait StatBinder {
 
     ghost is_faithful_over: { Self → (row : List Constant) → (n : ℕ) → Bool };
 
-    ghost is_faithful: { (s : Self) (row : List Constant) (n : ℕ) → IsTrue (is_faithful_over s row n)
+    ghost is_faithful: { (s : Self) (row : List Constant) (n : ℕ)
+        → IsTrue (is_faithful_over s row n)
         → IsFaithful (answer s) (is_missing s) (value s row n) row n };
 
     /// What stands for the placeholder of an aggregate of an input, whose type is given, or `None`
@@ -50,33 +49,15 @@ pub trait StatBinder {
         aggregate: &AggregateFnRef,
         stat_dtype: &DType,
     ) -> Result<Option<BoundExpression>, HookFault>
-        ensures { MatchResult result (λ o. o ≡ answer self.now aggregate.now input.now stat_dtype.now)
+        ensures { MatchResult result
+            (λ o. o ≡ answer self.now aggregate.now input.now stat_dtype.now)
             (IsHookFault (can_fault self.now)) };
 
     /// What stands for a placeholder of this type of which nothing is known: null.
     fn missing_stat(&self, alloc: Global, dtype: DType) -> Result<BoundExpression, HookFault>
-        ensures { MatchResult result (is_missing self.now dtype) (IsHookFault (can_fault self.now)) }
+        ensures { MatchResult result (is_missing self.now dtype)
+            (IsHookFault (can_fault self.now)) }
     {
-        literal(alloc, Scalar::null(dtype.as_nullable()))
+        Ok(bound::lit(alloc, Scalar::null(dtype.as_nullable()))?)
     }
-}
-
-// What a constructor made of operands that fit, for a binder.
-pub(crate) fn hooked<T>(made: Result<T, BaseError>) -> Result<T, HookFault>
-    requires { IfErr made (λ f. f ≡ base.Memory alloc_error) }
-    ensures value { IfOk result (λ v. made ≡ Ok v) }
-    ensures memory { IfErr result (λ f. f ≡ fault.Memory alloc_error) }
-{
-    match made {
-        Ok(value) => Ok(value),
-        Err(BaseError::Memory(refused)) => Err(HookFault::Memory(refused)),
-        Err(_) => unreachable!(),
-    }
-}
-
-// A literal, for a binder.
-pub(crate) fn literal(alloc: Global, value: Scalar) -> Result<BoundExpression, HookFault>
-    ensures { MatchResult result (λ e. e ≡ literal value) (λ f. f ≡ fault.Memory alloc_error) }
-{
-    hooked(bound::lit(alloc, value))
 }

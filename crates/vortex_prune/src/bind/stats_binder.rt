@@ -7,13 +7,14 @@ ghost use Rattle.vortex_prune.specs.declared.hook_fault.HookFault.TheVariants as
 ghost use Rattle.vortex_prune.specs.Binding.Facts.{is_column_of};
 ghost use Rattle.vortex_prune.specs.Binding.PartBinder as spec;
 
-use crate::bind::stat_binder::{StatBinder, literal};
+use crate::bind::stat_binder::StatBinder;
 use crate::hook_fault::HookFault;
 use crate::part::Part;
 use crate::stat_fn::scalar_of;
 use std::alloc::Global;
 use std::marker::Model;
 use vortex_base::aggregate::AggregateFnRef;
+use vortex_base::bound;
 use vortex_base::bound_expression::BoundExpression;
 use vortex_base::bound_expression::parts::Parts;
 use vortex_base::dtype::DType;
@@ -53,7 +54,8 @@ fn has_column(part: &Part, place: usize, dtype: DType) -> bool
     place < chunk.scope().len() && chunk.column(place).dtype().eq_ignore_nullability(&dtype)
 }
 
-// The literal of what a column's set tells, or `None` where the aggregate does not support the column.
+// The literal of what a column's set tells, or `None` where the aggregate does not support the
+// column.
 fn column_literal(
     alloc: Global,
     part: &Part,
@@ -62,14 +64,16 @@ fn column_literal(
 ) -> Result<Option<BoundExpression>, HookFault>
     requires { place < length part.now.chunk.scope }
     ensures { let p = part.now in
-        let known = spec.column_literal aggregate (slice_get p.chunk.columns place) (slice_get p.stats place) in
-        MatchResult result (λ o. o ≡ known (row_count p.chunk.columns)) (λ f. f ≡ fault.Memory alloc_error) }
+        let column = slice_get p.chunk.columns place in
+        let known = spec.column_literal aggregate column (slice_get p.stats place) in
+        MatchResult result (λ o. o ≡ known (row_count p.chunk.columns))
+        (λ f. f ≡ fault.Memory alloc_error) }
 {
     let chunk = part.chunk();
     let rows = chunk.rows() as u64;
     let dtype = chunk.column(place).dtype();
     match scalar_of(aggregate, part.stats(place), &dtype, rows) {
-        Ok(value) => Ok(Some(literal(alloc, value)?)),
+        Ok(value) => Ok(Some(bound::lit(alloc, value)?)),
         Err(StatsError::Memory(refused)) => Err(HookFault::Memory(refused)),
         Err(_) => Ok(None),
     }

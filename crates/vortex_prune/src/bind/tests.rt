@@ -10,10 +10,10 @@ ghost use Rattle.vortex_base.specs.Trees.Tree.{column};
 ghost use Rattle.vortex_prune.specs.Binding.PartBinder.{IsNullOf};
 
 use super::*;
-use crate::bind::stat_binder::{hooked, literal};
 use crate::expr::bound as placed;
+use crate::testing::*;
+use std::process::Abort;
 use std::test::Fail;
-use vortex_base::error::BaseError;
 use vortex_base::scalar::Scalar;
 use vortex_base::scalar_value::ScalarValue;
 use vortex_base::types::{Nullability, PType};
@@ -24,31 +24,64 @@ const U64: DType = DType::Primitive(PType::U64, Nullability::NonNullable);
 
 const BOOL: DType = DType::Bool(Nullability::NonNullable);
 
-const BOOL_OR_NULL: DType = DType::Bool(Nullability::Nullable);
-
 // The column `a` of a table of rows.
-fn a(alloc: Global) -> Result<BoundExpression, BaseError> {
-    bound::col(alloc, 0, I32)
+fn a(alloc: Global) -> Built {
+    col(alloc, 0, I32)
 }
 
-fn truth(alloc: Global, value: bool) -> Result<BoundExpression, BaseError> {
-    let scalar = Scalar::try_new(BOOL, Some(ScalarValue::Bool(value)))?;
-    bound::lit(alloc, scalar)
+// The column of the counts of nulls, in a table of statistics.
+fn counts(alloc: Global) -> Built {
+    col(alloc, 1, U64)
 }
 
-fn null(alloc: Global) -> Result<BoundExpression, BaseError> {
-    bound::lit(alloc, Scalar::null(BOOL_OR_NULL))
+fn truth(alloc: Global, value: bool) -> Built {
+    lit(alloc, BOOL, ScalarValue::Bool(value))
 }
 
-// Answers the count of nulls of any input by the second column of a table of statistics, if it knows
-// that, and nothing else.
+fn null(alloc: Global) -> Built {
+    null_of(alloc, BOOL)
+}
+
+fn null_count(alloc: Global, x: BoundExpression) -> Result<BoundExpression, StatsError> {
+    placed::null_count(alloc, x)
+}
+
+fn all_null(alloc: Global) -> Result<BoundExpression, Fail> {
+    Ok(placed::all_null(alloc, a(alloc)?)?)
+}
+
+fn bound_by<B: StatBinder>(
+    alloc: Global,
+    e: BoundExpression,
+    binder: &B,
+) -> Result<BoundExpression, StatsError> {
+    bind_stats(alloc, e, binder)
+}
+
+// The expression is bound to this one.
+fn expect_bound<B: StatBinder>(
+    rt: &impl Abort,
+    alloc: Global,
+    e: BoundExpression,
+    binder: &B,
+    expected: BoundExpression,
+) -> Result<(), Fail> {
+    let found = bound_by(alloc, e, binder)?;
+    assert!(rt; found == expected);
+    Ok(())
+}
+
+// Answers the count of nulls of any input by the second column of a table of statistics, if it
+// knows that, and nothing else.
 struct NullCounts {
     are_known: bool,
 }
 
 impl StatBinder for NullCounts {
-    ghost answer = { λ b f x t. if (b.are_known && (⟦<AggregateFnRef as PartialEq>⟧.eq f aggregate.NullCount))
-        then Some (column (record { index = 1; dtype = dtype.Primitive ptype.U64 NonNullable })) else None };
+    ghost answer = { λ b f x t.
+        if b.are_known && (⟦<AggregateFnRef as PartialEq>⟧.eq f aggregate.NullCount)
+        then Some (column (record { index = 1; dtype = dtype.Primitive ptype.U64 NonNullable }))
+        else None };
 
     ghost is_missing = { λ b. IsNullOf };
 
@@ -70,7 +103,7 @@ impl StatBinder for NullCounts {
         _stat_dtype: &DType,
     ) -> Result<Option<BoundExpression>, HookFault> {
         if self.are_known && *aggregate == AggregateFnRef::NullCount {
-            Ok(Some(hooked(bound::col(alloc, 1, U64))?))
+            Ok(Some(bound::col(alloc, 1, U64)?))
         } else {
             Ok(None)
         }
@@ -135,7 +168,7 @@ impl StatBinder for Counting {
     }
 
     fn missing_stat(&self, alloc: Global, _dtype: DType) -> Result<BoundExpression, HookFault> {
-        literal(alloc, Scalar::null(U64.as_nullable()))
+        Ok(bound::lit(alloc, Scalar::null(U64.as_nullable()))?)
     }
 }
 
@@ -146,61 +179,52 @@ const UNKNOWN: NullCounts = NullCounts { are_known: false };
 #[test]
 fn a_count_of_nulls_is_a_column(rt: HostRuntime) -> Result<(), Fail> {
     let alloc = rt.alloc();
-    let count = placed::null_count(alloc, a(alloc)?)?;
-    assert!(rt; bind_stats(alloc, count, &KNOWN)? == bound::col(alloc, 1, U64)?);
-    Ok(())
+    let count = null_count(alloc, a(alloc)?)?;
+    expect_bound(&rt, alloc, count, &KNOWN, counts(alloc)?)
 }
 
 #[test]
 fn a_truth_is_not_derived_from_a_count(rt: HostRuntime) -> Result<(), Fail> {
     let alloc = rt.alloc();
-    let all_null = placed::all_null(alloc, a(alloc)?)?;
-    assert!(rt; bind_stats(alloc, all_null, &KNOWN)? == null(alloc)?);
-    Ok(())
+    expect_bound(&rt, alloc, all_null(alloc)?, &KNOWN, null(alloc)?)
 }
 
 #[test]
 fn nothing_is_reduced(rt: HostRuntime) -> Result<(), Fail> {
     let alloc = rt.alloc();
-    let all_null = placed::all_null(alloc, a(alloc)?)?;
-    let both = bound::and(alloc, truth(alloc, false)?, all_null)?;
-    let kept = bound::and(alloc, truth(alloc, false)?, null(alloc)?)?;
-    assert!(rt; bind_stats(alloc, both, &UNKNOWN)? == kept);
-    let all_null = placed::all_null(alloc, a(alloc)?)?;
-    let either = bound::or(alloc, truth(alloc, true)?, all_null)?;
-    let kept = bound::or(alloc, truth(alloc, true)?, null(alloc)?)?;
-    assert!(rt; bind_stats(alloc, either, &UNKNOWN)? == kept);
-    Ok(())
+    let both = and(alloc, truth(alloc, false)?, all_null(alloc)?)?;
+    let kept = and(alloc, truth(alloc, false)?, null(alloc)?)?;
+    expect_bound(&rt, alloc, both, &UNKNOWN, kept)?;
+    let either = or(alloc, truth(alloc, true)?, all_null(alloc)?)?;
+    let kept = or(alloc, truth(alloc, true)?, null(alloc)?)?;
+    expect_bound(&rt, alloc, either, &UNKNOWN, kept)
 }
 
 #[test]
 fn what_holds_no_placeholder_is_kept(rt: HostRuntime) -> Result<(), Fail> {
     let alloc = rt.alloc();
-    let is_null = bound::is_null(alloc, a(alloc)?)?;
-    let kept = is_null.try_clone()?;
-    assert!(rt; bind_stats(alloc, is_null, &Faulty)? == kept);
-    let count = bound::row_count(alloc)?;
-    assert!(rt; bind_stats(alloc, count, &Faulty)? == bound::row_count(alloc)?);
-    Ok(())
+    let is_null = is_null(alloc, a(alloc)?)?;
+    let kept = copy(&is_null)?;
+    expect_bound(&rt, alloc, is_null, &Faulty, kept)?;
+    expect_bound(&rt, alloc, row_count(alloc)?, &Faulty, row_count(alloc)?)
 }
 
 #[test]
 fn an_inner_placeholder_is_not_met(rt: HostRuntime) -> Result<(), Fail> {
     let alloc = rt.alloc();
-    let inner = placed::stat(alloc, a(alloc)?, AggregateFnRef::Max)?;
-    let outer = placed::null_count(alloc, inner)?;
-    assert!(rt; bind_stats(alloc, outer, &KNOWN)? == bound::col(alloc, 1, U64)?);
-    Ok(())
+    let inner = stat(alloc, a(alloc)?, AggregateFnRef::Max)?;
+    let outer = null_count(alloc, inner)?;
+    expect_bound(&rt, alloc, outer, &KNOWN, counts(alloc)?)
 }
 
 #[test]
 fn faults_are_the_binders(rt: HostRuntime) -> Result<(), Fail> {
     let alloc = rt.alloc();
-    let own = bind_stats(alloc, placed::all_null(alloc, a(alloc)?)?, &Faulty);
+    let own = bound_by(alloc, all_null(alloc)?, &Faulty);
     assert!(rt; matches!(own, Err(StatsError::Binder(BinderFault::Own(7)))));
-    let wrong = bind_stats(alloc, placed::all_null(alloc, a(alloc)?)?, &Counting);
+    let wrong = bound_by(alloc, all_null(alloc)?, &Counting);
     assert!(rt; matches!(wrong, Err(StatsError::Binder(BinderFault::WrongType))));
-    let right = bind_stats(alloc, placed::null_count(alloc, a(alloc)?)?, &Counting)?;
-    assert_eq!(rt; right.dtype(), U64.as_nullable());
+    let right = bound_by(alloc, null_count(alloc, a(alloc)?)?, &Counting)?;
+    assert!(rt; right.dtype() == U64.as_nullable());
     Ok(())
 }

@@ -31,14 +31,16 @@ pub fn stat(
 
 /// The placeholder for the least and the greatest value of an input.
 pub fn min_max(alloc: Global, input: BoundExpression) -> Result<BoundExpression, StatsError>
-    ensures { let s = tree.stat AggregateFnRef.MinMax input in IfSupported (type_of s) (λ _. s) result }
+    ensures { let s = tree.stat AggregateFnRef.MinMax input in
+        IfSupported (type_of s) (λ _. s) result }
 {
     stat(alloc, input, AggregateFnRef::MinMax)
 }
 
 /// The placeholder for the sum of an input.
 pub fn sum(alloc: Global, input: BoundExpression) -> Result<BoundExpression, StatsError>
-    ensures { let s = tree.stat AggregateFnRef.Sum input in IfSupported (type_of s) (λ _. s) result }
+    ensures { let s = tree.stat AggregateFnRef.Sum input in
+        IfSupported (type_of s) (λ _. s) result }
 {
     stat(alloc, input, AggregateFnRef::Sum)
 }

@@ -1,11 +1,11 @@
 //! Parts joined to one.
-ghost use Rattle.std.specs.Prelude.{◌≡◌, ◌+◌, ◌<◌, ◌^◌, IfErr, IfOk, IsTrue, OnOk, alloc_error, length, nat_lt, slice_get, Some};
+ghost use Rattle.std.specs.Prelude.{◌≡◌, ◌+◌, ◌<◌, ◌^◌, IfErr, IfOk, IsTrue, OnOk, length, nat_lt, slice_get, Some};
 ghost use Rattle.std.specs.Bool.{MatchBool};
 ghost use Rattle.vortex_base.specs.Data.Columns.{sizes_fit};
-ghost use Rattle.vortex_prune.specs.Part.{Entries, IsPart, IsTruePart, joined, merged_sets, sets_fit};
-ghost use Rattle.vortex_stats.specs.Sets.Entries.{entries_fit};
+ghost use Rattle.vortex_prune.specs.Part.{Entries, IsPart, IsTruePart, joined, merged_sets};
 ghost use Rattle.vortex_stats.specs.Merging.Merges.{merged_ordered};
-ghost use Rattle.vortex_stats.specs.declared.error.StatsError.TheVariants.{Memory, TooLarge};
+ghost use Rattle.vortex_stats.specs.declared.error.StatsError.TheVariants.{TooLarge};
+ghost use Rattle.vortex_prune.specs.Answers.{IsMemory, OkOrMemory};
 
 use crate::part::{JoinRefused, Part};
 use std::alloc::{AllocError, Global};
@@ -37,9 +37,8 @@ fn sizes_fit(left: &Chunk, right: &Chunk) -> bool
 fn merged_set(left: &Part, right: &Part, i: usize) -> Result<StatsSet, StatsError>
     requires scope { left.now.chunk.scope ≡ right.now.chunk.scope }
     requires within { i < length left.now.chunk.scope }
-    ensures merged { IfOk result (λ set. (a b : Entries) → slice_get left.now.stats i ≡ Some a
+    ensures merged { OkOrMemory result (λ set. (a b : Entries) → slice_get left.now.stats i ≡ Some a
         → slice_get right.now.stats i ≡ Some b → set ≡ merged_ordered a b) }
-    ensures memory { IfErr result (λ error. error ≡ Memory alloc_error) }
     ensures left_part { IsPart left.now }
     ensures right_part { IsPart right.now }
 {
@@ -55,8 +54,7 @@ fn merged_set(left: &Part, right: &Part, i: usize) -> Result<StatsSet, StatsErro
 // The sets of the joined part's columns.
 fn merged_sets(alloc: Global, left: &Part, right: &Part) -> Result<Vec<StatsSet>, StatsError>
     requires { left.now.chunk.scope ≡ right.now.chunk.scope }
-    ensures merged { IfOk result (λ sets. sets.items ≡ merged_sets left.now.stats right.now.stats) }
-    ensures memory { IfErr result (λ error. error ≡ Memory alloc_error) }
+    ensures { OkOrMemory result (λ sets. sets.items ≡ merged_sets left.now.stats right.now.stats) }
 {
     let mut sets = Vec::new(alloc);
     for i in 0..left.chunk().scope().len() {
@@ -74,8 +72,9 @@ impl Part {
         requires { left.chunk.scope ≡ right.chunk.scope }
         ensures joined { IfOk result (λ part. part ≡ joined left right) }
         ensures sizes { OnOk result (IsTrue (sizes_fit left.chunk.columns right.chunk.columns)) }
-        ensures error { IfErr result (λ refused. MatchBool (sizes_fit left.chunk.columns right.chunk.columns)
-            (refused.error ≡ Memory alloc_error) (refused.error ≡ TooLarge)) }
+        ensures error { IfErr result (λ refused.
+            MatchBool (sizes_fit left.chunk.columns right.chunk.columns)
+            (IsMemory refused.error) (refused.error ≡ TooLarge)) }
         ensures left_back { IfErr result (λ refused. refused.left ≡ left) }
         ensures right_back { IfErr result (λ refused. refused.right ≡ right) }
 
@@ -100,7 +99,7 @@ fn append(left: Part, right: Part, stats: Vec<StatsSet>) -> Result<Part, JoinRef
     requires sizes { IsTrue (sizes_fit left.chunk.columns right.chunk.columns) }
     requires stats { stats.items ≡ merged_sets left.stats right.stats }
     ensures joined { IfOk result (λ part. part ≡ joined left right) }
-    ensures error { IfErr result (λ refused. refused.error ≡ Memory alloc_error) }
+    ensures error { IfErr result (λ refused. IsMemory refused.error) }
     ensures left_back { IfErr result (λ refused. refused.left ≡ left) }
     ensures right_back { IfErr result (λ refused. refused.right ≡ right) }
 {

@@ -1,8 +1,7 @@
 //! The built-in proofs of one node.
-ghost use Rattle.std.specs.Prelude.{◌≡◌, ◌∷◌, [], IfErr, IfOk, alloc_error, option_to_list};
-ghost use Rattle.vortex_stats.specs.declared.error.StatsError.TheVariants.{Memory};
-ghost use Rattle.vortex_prune.specs.Rewriting.BuiltIn.{table_falsifiers as falsifiers_of, table_satisfiers as satisfiers_of};
-ghost use Rattle.vortex_prune.specs.Rewriting.Falsifiers.{every_null, literal_falsifier, literal_satisfier, none_null};
+ghost use Rattle.std.specs.Prelude.{◌≡◌, ◌∷◌, [], option_to_list};
+ghost use Rattle.vortex_prune.specs.Rewriting.Falsifiers.{every_null, literal_falsifier, literal_satisfier, none_null, table_falsifiers as falsifiers_of, table_satisfiers as satisfiers_of};
+ghost use Rattle.vortex_prune.specs.Answers.{Makes, OkOrMemory};
 
 pub(crate) mod between;
 pub(crate) mod comparison;
@@ -23,8 +22,7 @@ use vortex_stats::error::StatsError;
 
 /// The list of a proof, if there is one.
 pub(crate) fn at_most_one(alloc: Global, proof: Option<Proof>) -> Result<Vec<Proof>, StatsError>
-    ensures value { IfOk result (λ v. v.items ≡ option_to_list proof) }
-    ensures memory { IfErr result (λ fault. fault ≡ Memory alloc_error) }
+    ensures { OkOrMemory result (λ v. v.items ≡ option_to_list proof) }
 {
     let mut proofs = Vec::new(alloc);
     push_some(&mut proofs, proof)?;
@@ -32,8 +30,7 @@ pub(crate) fn at_most_one(alloc: Global, proof: Option<Proof>) -> Result<Vec<Pro
 }
 
 fn pair(alloc: Global, first: Proof, second: Proof) -> Result<Vec<Proof>, StatsError>
-    ensures value { IfOk result (λ v. v.items ≡ first ∷ second ∷ []) }
-    ensures memory { IfErr result (λ fault. fault ≡ Memory alloc_error) }
+    ensures { OkOrMemory result (λ v. v.items ≡ first ∷ second ∷ []) }
 {
     let mut proofs = Vec::new(alloc);
     proofs.push(first)?;
@@ -43,8 +40,7 @@ fn pair(alloc: Global, first: Proof, second: Proof) -> Result<Vec<Proof>, StatsE
 
 /// That no row satisfies a literal.
 fn literal_falsifier(alloc: Global, value: &Scalar) -> Result<Option<Proof>, StatsError>
-    ensures value { IfOk result (λ o. o ≡ literal_falsifier value.now.value) }
-    ensures memory { IfErr result (λ fault. fault ≡ Memory alloc_error) }
+    ensures { Makes (literal_falsifier value.now.value) result }
 {
     match value.value() {
         Some(ScalarValue::Bool(truth)) => Ok(Some(Proof::truth(alloc, !*truth)?)),
@@ -54,8 +50,7 @@ fn literal_falsifier(alloc: Global, value: &Scalar) -> Result<Option<Proof>, Sta
 
 /// That every row satisfies a literal.
 fn literal_satisfier(alloc: Global, value: &Scalar) -> Result<Option<Proof>, StatsError>
-    ensures value { IfOk result (λ o. o ≡ literal_satisfier value.now.value) }
-    ensures memory { IfErr result (λ fault. fault ≡ Memory alloc_error) }
+    ensures { Makes (literal_satisfier value.now.value) result }
 {
     match value.value() {
         Some(ScalarValue::Bool(truth)) => Ok(Some(Proof::truth(alloc, *truth)?)),
@@ -65,8 +60,7 @@ fn literal_satisfier(alloc: Global, value: &Scalar) -> Result<Option<Proof>, Sta
 
 /// That no value of an operand is null, in two ways.
 fn none_null(alloc: Global, x: &BoundExpression) -> Result<Vec<Proof>, StatsError>
-    ensures value { IfOk result (λ v. v.items ≡ none_null x.now) }
-    ensures memory { IfErr result (λ fault. fault ≡ Memory alloc_error) }
+    ensures { OkOrMemory result (λ v. v.items ≡ none_null x.now) }
 {
     let _typed = x.dtype();
     let count = null_count(alloc, x)?;
@@ -78,8 +72,7 @@ fn none_null(alloc: Global, x: &BoundExpression) -> Result<Vec<Proof>, StatsErro
 
 /// That every value of an operand is null, in two ways.
 fn every_null(alloc: Global, x: &BoundExpression) -> Result<Vec<Proof>, StatsError>
-    ensures value { IfOk result (λ v. v.items ≡ every_null x.now) }
-    ensures memory { IfErr result (λ fault. fault ≡ Memory alloc_error) }
+    ensures { OkOrMemory result (λ v. v.items ≡ every_null x.now) }
 {
     let _typed = x.dtype();
     let count = null_count(alloc, x)?;
@@ -92,8 +85,7 @@ fn every_null(alloc: Global, x: &BoundExpression) -> Result<Vec<Proof>, StatsErr
 /// The built-in proofs that no row satisfies an expression, but for AND, OR and BETWEEN, which are
 /// rewritten further.
 pub(crate) fn table_falsifiers(alloc: Global, e: &BoundExpression) -> Result<Vec<Proof>, StatsError>
-    ensures value { IfOk result (λ v. v.items ≡ falsifiers_of e.now) }
-    ensures memory { IfErr result (λ fault. fault ≡ Memory alloc_error) }
+    ensures { OkOrMemory result (λ v. v.items ≡ falsifiers_of e.now) }
 {
     let _typed = e.dtype();
     match e.parts() {
@@ -116,8 +108,7 @@ pub(crate) fn table_falsifiers(alloc: Global, e: &BoundExpression) -> Result<Vec
 
 /// The built-in proofs that every row satisfies an expression.
 pub(crate) fn table_satisfiers(alloc: Global, e: &BoundExpression) -> Result<Vec<Proof>, StatsError>
-    ensures value { IfOk result (λ v. v.items ≡ satisfiers_of e.now) }
-    ensures memory { IfErr result (λ fault. fault ≡ Memory alloc_error) }
+    ensures { OkOrMemory result (λ v. v.items ≡ satisfiers_of e.now) }
 {
     match e.parts() {
         Parts::Literal(value) => at_most_one(alloc, literal_satisfier(alloc, value)?),

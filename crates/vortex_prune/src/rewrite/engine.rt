@@ -1,18 +1,18 @@
 //! The engine: it rewrites a predicate into a proof, node by node.
-ghost use Rattle.std.specs.Prelude.{◌≡◌, ◌+◌, ◌-◌, ◌^◌, ◌∷◌, [], min, IfErr, IfOk, IsOk, alloc_error, option_map};
+ghost use Rattle.std.specs.Prelude.{◌≡◌, ◌+◌, ◌-◌, ◌^◌, ◌∷◌, [], min, IfErr, IfOk, IsOk, option_map, option_to_list};
 ghost use Rattle.vortex_base.specs.Trees.Tree as tree;
 ghost use Rattle.vortex_base.specs.Meanings.Typing.{type_of};
-ghost use Rattle.vortex_stats.specs.declared.error.StatsError.TheVariants.{Memory};
 ghost use Rattle.vortex_prune.specs.Scanning.Causes.{IsRefusal};
 ghost use Rattle.vortex_prune.specs.Rewriting.Own.{own_rules};
 ghost use Rattle.vortex_prune.specs.Rewriting.Falsifiers.{ends as ends_of, falsifier as falsifier_of, halves as halves_of, node as node_of, satisfier as satisfier_of, visits as visits_of};
 ghost use Rattle.vortex_prune.specs.Rewriting.RuleRefusals.{rule_causes};
 ghost use Rattle.vortex_prune.specs.Rewriting.Sides.{proof_of};
 ghost use Rattle.vortex_prune.specs.Rewriting.Visited.{visited};
+ghost use Rattle.vortex_prune.specs.Answers.{Makes};
 
 use crate::built::cloned;
 use crate::rewrite::builtins::between::ends;
-use crate::rewrite::builtins::comparison::{both_joined, either_joined};
+use crate::rewrite::builtins::comparison::{both_joined, comparison_proof, either_joined};
 use crate::rewrite::builtins::{at_most_one, table_falsifiers, table_satisfiers};
 use crate::rewrite::proof::Proof;
 use crate::rewrite::reduce::reduce_balanced;
@@ -34,14 +34,38 @@ fn node(
     e: &BoundExpression,
     built_in: Vec<Proof>,
 ) -> Result<Option<Proof>, StatsError>
-    ensures answer { let own = own_rules ⟦<dyn StatsRewriteRule as StatsRewriteRule>⟧ rules.now.own.items in
+    ensures answer { let own =
+        own_rules ⟦<dyn StatsRewriteRule as StatsRewriteRule>⟧ rules.now.own.items in
         IfOk result (λ o. o ≡ node_of (proof_of side) own e.now built_in.items) }
-    ensures refusal { let own = own_rules ⟦<dyn StatsRewriteRule as StatsRewriteRule>⟧ rules.now.own.items in
+    ensures refusal { let own =
+        own_rules ⟦<dyn StatsRewriteRule as StatsRewriteRule>⟧ rules.now.own.items in
         IfErr result (IsRefusal (rule_causes (proof_of side) own (e.now ∷ []))) }
 {
     let mut proofs = built_in;
     ask_own(alloc, side, rules, e, &mut proofs)?;
     reduce_balanced(alloc, proofs)
+}
+
+/// The same, of one built-in proof at the most. Where the user has no rules it is the answer, and no
+/// list is made.
+fn node_of_one(
+    alloc: Global,
+    side: Side,
+    rules: &Rules,
+    e: &BoundExpression,
+    built_in: Option<Proof>,
+) -> Result<Option<Proof>, StatsError>
+    ensures answer { let own =
+        own_rules ⟦<dyn StatsRewriteRule as StatsRewriteRule>⟧ rules.now.own.items in
+        IfOk result (λ o. o ≡ node_of (proof_of side) own e.now (option_to_list built_in)) }
+    ensures refusal { let own =
+        own_rules ⟦<dyn StatsRewriteRule as StatsRewriteRule>⟧ rules.now.own.items in
+        IfErr result (IsRefusal (rule_causes (proof_of side) own (e.now ∷ []))) }
+{
+    if rules.own.is_empty() {
+        return Ok(built_in);
+    }
+    node(alloc, side, rules, e, at_most_one(alloc, built_in)?)
 }
 
 /// The AND of the two comparisons that a BETWEEN stands for.
@@ -53,8 +77,7 @@ fn both_halves(
     upper: &BoundExpression,
 ) -> Result<BoundExpression, StatsError>
     requires { IsOk (type_of (tree.between options x.now lower.now upper.now)) }
-    ensures value { IfOk result (λ e. e ≡ halves_of options x.now lower.now upper.now) }
-    ensures memory { IfErr result (λ fault. fault ≡ Memory alloc_error) }
+    ensures { Makes (halves_of options x.now lower.now upper.now) result }
 {
     let low = Proof::binary(
         alloc,
@@ -81,9 +104,8 @@ fn halves(
     upper: &BoundExpression,
 ) -> Result<Option<BoundExpression>, StatsError>
     requires { IsOk (type_of (tree.between options x.now lower.now upper.now)) }
-    ensures value { IfOk result (λ o. o ≡ option_map (λ e. halves_of e.options x.now e.lower e.upper)
-        (ends_of options lower.now upper.now)) }
-    ensures memory { IfErr result (λ fault. fault ≡ Memory alloc_error) }
+    ensures { Makes (option_map (λ e. halves_of e.options x.now e.lower e.upper)
+        (ends_of options lower.now upper.now)) result }
 {
     match ends(alloc, options, lower, upper)? {
         None => Ok(None),
@@ -101,10 +123,13 @@ pub(crate) fn rewrite_node(
     e: &BoundExpression,
     visits: &mut u64,
 ) -> Result<Option<Proof>, StatsError>
-    ensures answer { let own = own_rules ⟦<dyn StatsRewriteRule as StatsRewriteRule>⟧ rules.now.own.items in
+    ensures answer { let own =
+        own_rules ⟦<dyn StatsRewriteRule as StatsRewriteRule>⟧ rules.now.own.items in
         IfOk result (λ o. o ≡ falsifier_of own e.now) }
-    ensures visits { IfOk result (λ _. visits.new ≡ min (visits.old + visits_of e.now) (2 ^ 64 - 1)) }
-    ensures refusal { let own = own_rules ⟦<dyn StatsRewriteRule as StatsRewriteRule>⟧ rules.now.own.items in
+    ensures visits { IfOk result (λ _.
+        visits.new ≡ min (visits.old + visits_of e.now) (2 ^ 64 - 1)) }
+    ensures refusal { let own =
+        own_rules ⟦<dyn StatsRewriteRule as StatsRewriteRule>⟧ rules.now.own.items in
         IfErr result (IsRefusal (rule_causes (proof_of Side.Falsify) own (visited e.now))) }
 {
     *visits = visits.saturating_add(1);
@@ -115,15 +140,18 @@ pub(crate) fn rewrite_node(
                 let left = rewrite_node(alloc, rules, left, visits)?;
                 let right = rewrite_node(alloc, rules, right, visits)?;
                 let joined = either_joined(alloc, Operator::Or, left, right)?;
-                node(alloc, Side::Falsify, rules, e, at_most_one(alloc, joined)?)
+                node_of_one(alloc, Side::Falsify, rules, e, joined)
             }
             Operator::Or => {
                 let left = rewrite_node(alloc, rules, left, visits)?;
                 let right = rewrite_node(alloc, rules, right, visits)?;
                 let joined = both_joined(alloc, Operator::And, left, right)?;
-                node(alloc, Side::Falsify, rules, e, at_most_one(alloc, joined)?)
+                node_of_one(alloc, Side::Falsify, rules, e, joined)
             }
-            _ => node(alloc, Side::Falsify, rules, e, table_falsifiers(alloc, e)?),
+            _ => {
+                let compared = comparison_proof(alloc, operator, left, right)?;
+                node_of_one(alloc, Side::Falsify, rules, e, compared)
+            }
         },
         Parts::Between(options, x, lower, upper) => {
             let halves = halves(alloc, options, x, lower, upper)?;
@@ -143,9 +171,11 @@ pub(crate) fn satisfy_node(
     rules: &Rules,
     e: &BoundExpression,
 ) -> Result<Option<Proof>, StatsError>
-    ensures answer { let own = own_rules ⟦<dyn StatsRewriteRule as StatsRewriteRule>⟧ rules.now.own.items in
+    ensures answer { let own =
+        own_rules ⟦<dyn StatsRewriteRule as StatsRewriteRule>⟧ rules.now.own.items in
         IfOk result (λ o. o ≡ satisfier_of own e.now) }
-    ensures refusal { let own = own_rules ⟦<dyn StatsRewriteRule as StatsRewriteRule>⟧ rules.now.own.items in
+    ensures refusal { let own =
+        own_rules ⟦<dyn StatsRewriteRule as StatsRewriteRule>⟧ rules.now.own.items in
         IfErr result (IsRefusal (rule_causes (proof_of Side.Satisfy) own (e.now ∷ []))) }
 {
     node(alloc, Side::Satisfy, rules, e, table_satisfiers(alloc, e)?)

@@ -1,12 +1,11 @@
 //! The nodes that proofs are made of, over operands that are known to fit.
-ghost use Rattle.std.specs.Prelude.{◌≡◌, IfErr, IfOk, IsOk, IsTrue, Some, alloc_error, option_copied};
+ghost use Rattle.std.specs.Prelude.{◌≡◌, IfErr, IfOk, IsOk, IsTrue, Some};
 ghost use Rattle.vortex_base.specs.Data.Scalars.{is_optional_value};
 ghost use Rattle.vortex_base.specs.Trees.Tree as tree;
 ghost use Rattle.vortex_base.specs.Meanings.Typing.{type_of};
-ghost use Rattle.vortex_stats.specs.declared.error.StatsError.TheVariants.{Memory};
-ghost use Rattle.vortex_prune.specs.Rewriting.BuiltIn.{bytes_literal};
 ghost use Rattle.vortex_prune.specs.Rewriting.Predicates.{is_text};
-ghost use Rattle.vortex_prune.specs.Rewriting.Falsifiers.{count_literal as count_literal_of, null_count_of};
+ghost use Rattle.vortex_prune.specs.Rewriting.Falsifiers.{bytes_literal, count_literal as count_literal_of, null_count_of};
+ghost use Rattle.vortex_prune.specs.Answers.{IsMemory, Makes};
 
 use crate::built::{built, cloned};
 use std::alloc::Global;
@@ -27,8 +26,7 @@ pub(crate) fn literal(
     value: ScalarValue,
 ) -> Result<BoundExpression, StatsError>
     requires { IsTrue (is_optional_value (Some value) dtype) }
-    ensures value { IfOk result (λ e. e ≡ tree.literal (record { dtype = dtype; value = Some value })) }
-    ensures memory { IfErr result (λ fault. fault ≡ Memory alloc_error) }
+    ensures { Makes (tree.literal (record { dtype = dtype; value = Some value })) result }
 {
     match Scalar::try_new(dtype, Some(value)) {
         Ok(scalar) => built(bound::lit(alloc, scalar)),
@@ -37,8 +35,7 @@ pub(crate) fn literal(
 }
 
 pub(crate) fn count_literal(alloc: Global, count: u64) -> Result<BoundExpression, StatsError>
-    ensures value { IfOk result (λ e. e ≡ count_literal_of count) }
-    ensures memory { IfErr result (λ fault. fault ≡ Memory alloc_error) }
+    ensures { Makes (count_literal_of count) result }
 {
     literal(
         alloc,
@@ -50,7 +47,7 @@ pub(crate) fn count_literal(alloc: Global, count: u64) -> Result<BoundExpression
 pub(crate) fn text_literal(alloc: Global, text: &str) -> Result<BoundExpression, StatsError>
     ensures value { IfOk result (λ e. e ≡ bytes_literal text.now) }
     ensures text { IfOk result (λ e. IsTrue (is_text e)) }
-    ensures memory { IfErr result (λ fault. fault ≡ Memory alloc_error) }
+    ensures memory { IfErr result IsMemory }
 {
     let value = Text::new(String::from_str(alloc, text)?);
     literal(
@@ -67,8 +64,7 @@ pub(crate) fn stat(
     x: &BoundExpression,
 ) -> Result<BoundExpression, StatsError>
     requires { IsOk (type_of (tree.stat aggregate x.now)) }
-    ensures value { IfOk result (λ e. e ≡ tree.stat aggregate x.now) }
-    ensures memory { IfErr result (λ fault. fault ≡ Memory alloc_error) }
+    ensures { Makes (tree.stat aggregate x.now) result }
 {
     let input = cloned(x)?;
     built(bound::new_stat(alloc, input, aggregate))
@@ -76,8 +72,7 @@ pub(crate) fn stat(
 
 /// The number of an operand's nulls, which of a literal is known.
 pub(crate) fn null_count(alloc: Global, x: &BoundExpression) -> Result<BoundExpression, StatsError>
-    ensures value { IfOk result (λ e. e ≡ null_count_of x.now) }
-    ensures memory { IfErr result (λ fault. fault ≡ Memory alloc_error) }
+    ensures { Makes (null_count_of x.now) result }
 {
     let _typed = x.dtype();
     match x.literal() {
@@ -87,8 +82,7 @@ pub(crate) fn null_count(alloc: Global, x: &BoundExpression) -> Result<BoundExpr
 }
 
 pub(crate) fn row_count(alloc: Global) -> Result<BoundExpression, StatsError>
-    ensures value { IfOk result (λ e. e ≡ tree.row_count) }
-    ensures memory { IfErr result (λ fault. fault ≡ Memory alloc_error) }
+    ensures { Makes tree.row_count result }
 {
     built(bound::row_count(alloc))
 }

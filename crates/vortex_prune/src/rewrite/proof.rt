@@ -1,8 +1,8 @@
 //! Proofs: expressions of type Bool.
-ghost use Rattle.std.specs.Prelude.{◌≡◌, ◌++◌, false, IfErr, IfOk, IsOk, IsTrue, MatchOption, alloc_error, option_to_list};
+ghost use Rattle.std.specs.Prelude.{◌≡◌, ◌++◌, false, IsOk, IsTrue, MatchOption, option_to_list};
 ghost use Rattle.vortex_base.specs.Trees.Tree as tree;
 ghost use Rattle.vortex_base.specs.Meanings.Typing.{type_of};
-ghost use Rattle.vortex_stats.specs.declared.error.StatsError.TheVariants.{Memory};
+ghost use Rattle.vortex_prune.specs.Answers.{Makes, OkOrMemory};
 ghost use Rattle.vortex_prune.specs.Rewriting.Predicates.{is_connective, is_predicate, is_truth_aggregate};
 ghost use Rattle.vortex_prune.specs.Rewriting.Falsifiers.{bool_literal};
 
@@ -74,8 +74,7 @@ impl Proof {
         right: BoundExpression,
     ) -> Result<Proof, StatsError>
         requires { IsOk (type_of (tree.binary operator left right)) }
-        ensures value { IfOk result (λ p. p ≡ tree.binary operator left right) }
-        ensures memory { IfErr result (λ fault. fault ≡ Memory alloc_error) }
+        ensures { Makes (tree.binary operator left right) result }
     {
         let expression = built(bound::binary(alloc, operator, left, right))?;
         Ok(Proof { expression })
@@ -89,16 +88,14 @@ impl Proof {
         right: Proof,
     ) -> Result<Proof, StatsError>
         requires { IsTrue (is_connective connective) }
-        ensures value { IfOk result (λ p. p ≡ tree.binary connective left right) }
-        ensures memory { IfErr result (λ fault. fault ≡ Memory alloc_error) }
+        ensures { Makes (tree.binary connective left right) result }
     {
         Proof::binary(alloc, connective, left.expression, right.expression)
     }
 
     /// A literal truth.
     pub(crate) fn truth(alloc: Global, truth: bool) -> Result<Proof, StatsError>
-        ensures value { IfOk result (λ p. p ≡ bool_literal truth) }
-        ensures memory { IfErr result (λ fault. fault ≡ Memory alloc_error) }
+        ensures { Makes (bool_literal truth) result }
     {
         let expression = literal(
             alloc,
@@ -115,8 +112,7 @@ impl Proof {
         x: &BoundExpression,
     ) -> Result<Proof, StatsError>
         requires { IsTrue (is_truth_aggregate aggregate) }
-        ensures value { IfOk result (λ p. p ≡ tree.stat aggregate x.now) }
-        ensures memory { IfErr result (λ fault. fault ≡ Memory alloc_error) }
+        ensures { Makes (tree.stat aggregate x.now) result }
     {
         let _typed = x.dtype();
         let expression = stat(alloc, aggregate, x)?;
@@ -126,8 +122,7 @@ impl Proof {
 
 /// Appends a proof, if there is one.
 pub(crate) fn push_some(proofs: &mut Vec<Proof>, proof: Option<Proof>) -> Result<(), StatsError>
-    ensures value { IfOk result (λ _. proofs.new.items ≡ proofs.old.items ++ option_to_list proof) }
-    ensures memory { IfErr result (λ fault. fault ≡ Memory alloc_error) }
+    ensures { OkOrMemory result (λ _. proofs.new.items ≡ proofs.old.items ++ option_to_list proof) }
 {
     if let Some(proof) = proof {
         proofs.push(proof)?;

@@ -1,7 +1,7 @@
 //! Many proofs as one.
-ghost use Rattle.std.specs.Prelude.{◌≡◌, IfErr, IfOk, alloc_error};
-ghost use Rattle.vortex_stats.specs.declared.error.StatsError.TheVariants.{Memory};
+ghost use Rattle.std.specs.Prelude.{◌≡◌};
 ghost use Rattle.vortex_prune.specs.Rewriting.Falsifiers.{reduce_balanced as reduced, round};
+ghost use Rattle.vortex_prune.specs.Answers.{Makes, OkOrMemory};
 
 use crate::rewrite::proof::Proof;
 use std::alloc::Global;
@@ -11,8 +11,7 @@ use vortex_stats::error::StatsError;
 /// Joins neighbours by OR, the first with the second, the third with the fourth; an odd last one
 /// stays.
 fn reduce_round(alloc: Global, proofs: Vec<Proof>) -> Result<Vec<Proof>, StatsError>
-    ensures value { IfOk result (λ joined. joined.items ≡ round proofs.items) }
-    ensures memory { IfErr result (λ fault. fault ≡ Memory alloc_error) }
+    ensures { OkOrMemory result (λ joined. joined.items ≡ round proofs.items) }
 {
     let mut joined = Vec::new(alloc);
     let mut rest = proofs.into_iter();
@@ -26,9 +25,11 @@ fn reduce_round(alloc: Global, proofs: Vec<Proof>) -> Result<Vec<Proof>, StatsEr
 }
 
 /// Joins neighbours, round after round, until one proof is left.
-pub(crate) fn reduce_balanced(alloc: Global, proofs: Vec<Proof>) -> Result<Option<Proof>, StatsError>
-    ensures value { IfOk result (λ o. o ≡ reduced proofs.items) }
-    ensures memory { IfErr result (λ fault. fault ≡ Memory alloc_error) }
+pub(crate) fn reduce_balanced(
+    alloc: Global,
+    proofs: Vec<Proof>,
+) -> Result<Option<Proof>, StatsError>
+    ensures { Makes (reduced proofs.items) result }
 {
     let mut left = proofs;
     while left.len() > 1 {

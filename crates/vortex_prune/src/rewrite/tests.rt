@@ -421,10 +421,10 @@ fn each_node_is_visited_once(rt: HostRuntime) -> Result<(), Fail> {
     let rules = Rules::builtin(alloc);
     let (proof, visits) = counted(alloc, &chain(alloc)?, &rules)?;
     assert!(rt; proof.is_some());
-    assert_eq!(rt; visits, 31);
+    assert!(rt; visits == 31);
     let (proof, visits) = counted(alloc, &closed_range(alloc, 10, 50)?, &rules)?;
     assert!(rt; proof.is_some());
-    assert_eq!(rt; visits, 4);
+    assert!(rt; visits == 4);
     Ok(())
 }
 
@@ -443,7 +443,7 @@ fn deep_predicates_fit_the_stack(rt: HostRuntime) -> Result<(), Fail> {
     let rules = Rules::builtin(alloc);
     let (proof, visits) = counted(alloc, &deep_and(alloc)?, &rules)?;
     assert!(rt; proof.is_some());
-    assert_eq!(rt; visits, 8193);
+    assert!(rt; visits == 8193);
     Ok(())
 }
 
@@ -461,7 +461,7 @@ fn rewriting_is_refused_for_memory_alone(rt: HostRuntime) {
         return;
     };
     match counted(alloc, &chain, &rules) {
-        Ok((_, visits)) => assert_eq!(rt; visits, 31),
+        Ok((_, visits)) => assert!(rt; visits == 31),
         refused => assert!(rt; is_memory(refused)),
     }
     let Ok(null) = is_null(alloc, chain) else {

@@ -24,28 +24,6 @@ fn id_of(rule: &Box<dyn StatsRewriteRule>) -> ScalarFnId
     rule.scalar_fn_id()
 }
 
-fn ask_falsifier(
-    alloc: Global,
-    rule: &Box<dyn StatsRewriteRule>,
-    e: &BoundExpression,
-) -> Result<Option<BoundExpression>, HookFault>
-    ensures { let own = own_rule ⟦<dyn StatsRewriteRule as StatsRewriteRule>⟧ rule.now in
-        MatchResult result (λ o. o ≡ own.falsifier e.now) (IsHookFault own.can_fault) }
-{
-    rule.falsify(alloc, e)
-}
-
-fn ask_satisfier(
-    alloc: Global,
-    rule: &Box<dyn StatsRewriteRule>,
-    e: &BoundExpression,
-) -> Result<Option<BoundExpression>, HookFault>
-    ensures { let own = own_rule ⟦<dyn StatsRewriteRule as StatsRewriteRule>⟧ rule.now in
-        MatchResult result (λ o. o ≡ own.satisfier e.now) (IsHookFault own.can_fault) }
-{
-    rule.satisfy(alloc, e)
-}
-
 fn ask_side(
     alloc: Global,
     side: Side,
@@ -56,8 +34,8 @@ fn ask_side(
         MatchResult result (λ o. o ≡ proof_of side own e.now) (IsHookFault own.can_fault) }
 {
     match side {
-        Side::Falsify => ask_falsifier(alloc, rule, e),
-        Side::Satisfy => ask_satisfier(alloc, rule, e),
+        Side::Falsify => rule.falsify(alloc, e),
+        Side::Satisfy => rule.satisfy(alloc, e),
     }
 }
 
@@ -104,9 +82,12 @@ pub(crate) fn ask_own(
     e: &BoundExpression,
     proofs: &mut Vec<Proof>,
 ) -> Result<(), StatsError>
-    ensures proofs { IfOk result (λ _. proofs.new.items ≡ proofs.old.items ++ own_proofs (proof_of side)
-        (own_rules ⟦<dyn StatsRewriteRule as StatsRewriteRule>⟧ rules.now.own.items) e.now) }
-    ensures refusal { let own = own_rules ⟦<dyn StatsRewriteRule as StatsRewriteRule>⟧ rules.now.own.items in
+    ensures proofs { let own =
+        own_rules ⟦<dyn StatsRewriteRule as StatsRewriteRule>⟧ rules.now.own.items in
+        IfOk result (λ _.
+        proofs.new.items ≡ proofs.old.items ++ own_proofs (proof_of side) own e.now) }
+    ensures refusal { let own =
+        own_rules ⟦<dyn StatsRewriteRule as StatsRewriteRule>⟧ rules.now.own.items in
         IfErr result (IsRefusal (rule_causes (proof_of side) own (e.now ∷ []))) }
 {
     for rule in &rules.own {

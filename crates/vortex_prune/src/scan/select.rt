@@ -1,9 +1,9 @@
 //! The rows of one part that a predicate selects.
-ghost use Rattle.std.specs.Prelude.{◌≡◌, ◌<◌, ◌++◌, IfErr, OnOk, alloc_error};
+ghost use Rattle.std.specs.Prelude.{◌≡◌, ◌<◌, ◌++◌, IfErr, OnOk};
 ghost use Rattle.vortex_base.specs.Data.Columns.{row_of, row_count};
 ghost use Rattle.vortex_base.specs.Meanings.Meaning.{satisfies};
 ghost use Rattle.vortex_prune.specs.Scanning.Selection.{row_if, satisfying_rows};
-ghost use Rattle.vortex_stats.specs.declared.error.StatsError.TheVariants.{Memory};
+ghost use Rattle.vortex_prune.specs.Answers.{IsMemory};
 
 use vortex_base::bound_expression::BoundExpression;
 use vortex_base::chunk::Chunk;
@@ -21,7 +21,7 @@ fn select_row(
     ensures selected { let satisfied =
         satisfies predicate.now (row_of row chunk.now.columns) (row_count chunk.now.columns) in
         OnOk result (selected.new.items ≡ selected.old.items ++ row_if satisfied place row) }
-    ensures memory { IfErr result (λ fault. fault ≡ Memory alloc_error) }
+    ensures memory { IfErr result IsMemory }
 {
     if !predicate.is_satisfied(&chunk.row(row), chunk.rows() as u64) {
         return Ok(());
@@ -38,7 +38,7 @@ pub(crate) fn select(
 ) -> Result<(), StatsError>
     ensures selected { OnOk result (selected.new.items
         ≡ selected.old.items ++ satisfying_rows predicate.now place chunk.now) }
-    ensures memory { IfErr result (λ fault. fault ≡ Memory alloc_error) }
+    ensures memory { IfErr result IsMemory }
 {
     for row in 0..chunk.rows() {
         select_row(selected, place, chunk, row, predicate)?;

@@ -1,11 +1,11 @@
 //! Whether a part is skipped: its proof is bound to what its binder answers, and evaluated.
-ghost use Rattle.std.specs.Prelude.{◌≡◌, [], false, true, IfOk, IfErr, IsTrue, Some, alloc_error, option_copied};
+ghost use Rattle.std.specs.Prelude.{◌≡◌, false, true, IfOk, IfErr, IsTrue, Some, alloc_error, option_copied};
 ghost use Rattle.vortex_base.specs.Data.Columns.{row_count};
 ghost use Rattle.vortex_base.specs.Meanings.Fitting.{fits_row};
 ghost use Rattle.vortex_base.specs.Meanings.Meaning.{is_true as value_is_true, meaning};
 ghost use Rattle.vortex_base.specs.Trees.Tree.{has_placeholder};
 ghost use Rattle.vortex_prune.specs.Rewriting.Proof.{proves};
-ghost use Rattle.vortex_prune.specs.Scanning.Selection.{is_skipped};
+ghost use Rattle.vortex_prune.specs.Scanning.Selection.{IsFaithfulFor, answers_for, is_skipped};
 ghost use Rattle.vortex_prune.specs.Binding.BoundTo.{IsBoundTo};
 ghost use Rattle.vortex_prune.specs.Scanning.Causes.{IsRefusal};
 ghost use Rattle.vortex_prune.specs.Scanning.ScanRefusals.{IsClosed, if_faithful, proof_causes};
@@ -52,15 +52,17 @@ pub(crate) fn is_proved<B: StatBinder>(
     part: &Part,
     binder: &B,
 ) -> Result<bool, StatsError>
-    ensures value { let n = row_count part.now.chunk.columns in
-        IfOk result (λ b. IsTrue (B.is_faithful_over binder.now [] n) → b ≡ proves proof.now (B.value binder.now [] n) n) }
-    ensures closed { IfOk result (λ _. IsBoundTo (B.answer binder.now) (B.is_missing binder.now) proof.now true) }
+    ensures value { let answers = answers_for (B.value binder.now) part.now in
+        IfOk result (λ b. IsFaithfulFor (B.is_faithful_over binder.now) part.now
+        → b ≡ proves proof.now answers (row_count part.now.chunk.columns)) }
+    ensures closed { IfOk result (λ _.
+        IsBoundTo (B.answer binder.now) (B.is_missing binder.now) proof.now true) }
     ensures refusal { IfErr result (IsRefusal (proof_causes (B.answer binder.now)
         (B.is_missing binder.now) (B.can_fault binder.now) (Some proof.now))) }
-    ensures faithful { let n = row_count part.now.chunk.columns in
-        let causes = proof_causes (B.answer binder.now) (B.is_missing binder.now) (B.can_fault binder.now) in
-        IfErr result (λ f. IsTrue (B.is_faithful_over binder.now [] n)
-        → IsRefusal (if_faithful (Some proof.now) (causes (Some proof.now))) f) }
+    ensures faithful { let causes = proof_causes (B.answer binder.now)
+        (B.is_missing binder.now) (B.can_fault binder.now) (Some proof.now) in
+        IfErr result (λ f. IsFaithfulFor (B.is_faithful_over binder.now) part.now
+        → IsRefusal (if_faithful (Some proof.now) causes) f) }
 {
     let bound = bind_stats_of(alloc, proof, binder)?;
     if !bound.is_closed() {
@@ -77,16 +79,17 @@ pub(crate) fn is_skipped<B: StatBinder>(
     part: &Part,
     binder: &B,
 ) -> Result<bool, StatsError>
-    ensures value { let n = row_count part.now.chunk.columns in
-        IfOk result (λ b. IsTrue (B.is_faithful_over binder.now [] n) → b ≡ is_skipped (option_copied proof.entry) part.now (B.value binder.now [] n)) }
+    ensures value { let answers = answers_for (B.value binder.now) part.now in
+        IfOk result (λ b. IsFaithfulFor (B.is_faithful_over binder.now) part.now
+        → b ≡ is_skipped (option_copied proof.entry) part.now answers) }
     ensures closed { IfOk result (λ _. IsClosed (B.answer binder.now) (B.is_missing binder.now)
         (option_copied proof.entry)) }
     ensures refusal { IfErr result (IsRefusal (proof_causes (B.answer binder.now)
         (B.is_missing binder.now) (B.can_fault binder.now) (option_copied proof.entry))) }
-    ensures faithful { let n = row_count part.now.chunk.columns in
-        let causes = proof_causes (B.answer binder.now) (B.is_missing binder.now) (B.can_fault binder.now) in
-        IfErr result (λ f. IsTrue (B.is_faithful_over binder.now [] n)
-        → IsRefusal (if_faithful (option_copied proof.entry) (causes (option_copied proof.entry))) f) }
+    ensures faithful { let causes = proof_causes (B.answer binder.now)
+        (B.is_missing binder.now) (B.can_fault binder.now) (option_copied proof.entry) in
+        IfErr result (λ f. IsFaithfulFor (B.is_faithful_over binder.now) part.now
+        → IsRefusal (if_faithful (option_copied proof.entry) causes) f) }
 {
     match proof {
         None => Ok(false),

@@ -1,29 +1,25 @@
-// Scans over parts of one column of numbers, row by row: by their binders, and by their table.
+// Scans over parts of one column of numbers, row by row.
 use super::*;
-use crate::testing::{all_fit, binders_of, both_scans, zones_of};
+use crate::testing::*;
 use crate::zones::Zones;
 use std::alloc::AllocError;
+use std::process::Abort;
 use std::test::Fail;
-use vortex_base::bound;
-use vortex_base::chunk::Chunk;
-use vortex_base::column::Column;
 use vortex_base::dtype::DType;
-use vortex_base::error::BaseError;
-use vortex_base::scalar::Scalar;
 use vortex_base::scalar_value::ScalarValue;
-use vortex_base::scope::Scope;
 use vortex_base::types::{BetweenOptions, Nullability, Operator, PType, StrictComparison};
-use vortex_stats::precision::Precision;
 use vortex_stats::stat::Stat;
 use vortex_stats::stats_set::StatsSet;
+
+mod callers;
+mod own;
+mod table;
 
 const NUMBER: DType = DType::Primitive(PType::I32, Nullability::Nullable);
 
 const LITERAL: DType = DType::Primitive(PType::I32, Nullability::NonNullable);
 
-fn number(value: i32) -> ScalarValue {
-    ScalarValue::from(value)
-}
+const BOOL: DType = DType::Bool(Nullability::NonNullable);
 
 // The values of a column of these numbers.
 fn values(alloc: Global, rows: &[Option<i32>]) -> Result<Vec<Option<ScalarValue>>, AllocError> {
@@ -37,189 +33,190 @@ fn values(alloc: Global, rows: &[Option<i32>]) -> Result<Vec<Option<ScalarValue>
     Ok(values)
 }
 
-// The scope of one column `a`.
-fn scope(alloc: Global) -> Result<Scope, Fail> {
-    let name = String::from_str(alloc, "a")?;
-    Ok(Scope::try_new(vec![in alloc; (name, NUMBER)]?)?)
-}
-
-// The parts of that scope with their table.
-fn tabled(alloc: Global, parts: Vec<Part>) -> Result<Zones, Fail> {
-    Ok(zones_of(alloc, scope(alloc)?, parts)?)
-}
-
 // A part of one column `a`, with these statistics of it.
-fn part<const N: usize>(
-    alloc: Global,
-    rows: &[Option<i32>],
-    entries: [(Stat, Precision<ScalarValue>); N],
-) -> Result<Part, Fail> {
-    let column = Column::try_new(NUMBER, values(alloc, rows)?, 0)?;
-    let chunk = Chunk::try_new(scope(alloc)?, vec![in alloc; column]?)?;
-    let mut set = StatsSet::new(alloc);
-    set.try_extend(Vec::from_array(alloc, entries)?.into_iter())?;
-    match Part::try_new(chunk, vec![in alloc; set]?) {
-        Ok(part) => Ok(part),
-        Err(refused) => Err(Fail::from(refused.error)),
-    }
+fn part(alloc: Global, rows: &[Option<i32>], set: StatsSet) -> Result<Part, Fail> {
+    let chunk = chunk_of(alloc, NUMBER, values(alloc, rows)?, 0)?;
+    Ok(part_of(alloc, chunk, set)?)
 }
 
-fn bounds(low: i32, high: i32) -> [(Stat, Precision<ScalarValue>); 2] {
-    [
-        (Stat::Min, Precision::Exact(number(low))),
-        (Stat::Max, Precision::Inexact(number(high))),
-    ]
+// The table of parts of one column `a`.
+fn tabled(alloc: Global, parts: Vec<Part>) -> Result<Zones, Fail> {
+    Ok(zones_of(alloc, scope_of(alloc, NUMBER)?, parts)?)
 }
 
-fn nulls(count: u64) -> [(Stat, Precision<ScalarValue>); 1] {
-    [(
-        Stat::NullCount,
-        Precision::Inexact(ScalarValue::from(count)),
-    )]
+fn one_part(alloc: Global, rows: &[Option<i32>], set: StatsSet) -> Result<Zones, Fail> {
+    tabled(alloc, vec![in alloc; part(alloc, rows, set)?]?)
 }
 
-fn a(alloc: Global) -> Result<BoundExpression, BaseError> {
-    bound::col(alloc, 0, NUMBER)
+fn bounded(alloc: Global, rows: &[Option<i32>], low: i32, high: i32) -> Result<Zones, Fail> {
+    one_part(alloc, rows, bounds(alloc, low, high)?)
 }
 
-fn lit(alloc: Global, value: i32) -> Result<BoundExpression, BaseError> {
-    bound::lit(alloc, Scalar::try_new(LITERAL, Some(number(value)))?)
+// The rows have at most so many nulls.
+fn with_nulls(alloc: Global, rows: &[Option<i32>], nulls: u64) -> Result<Zones, Fail> {
+    one_part(alloc, rows, at_most(alloc, Stat::NullCount, count(nulls)))
 }
 
-fn compare(alloc: Global, operator: Operator, value: i32) -> Result<BoundExpression, BaseError> {
-    bound::binary(alloc, operator, a(alloc)?, lit(alloc, value)?)
+fn no_parts(alloc: Global) -> Result<Zones, Fail> {
+    tabled(alloc, Vec::new(alloc))
 }
 
-fn range(
-    alloc: Global,
-    end: StrictComparison,
-    lower: i32,
-    upper: i32,
-) -> Result<BoundExpression, BaseError> {
+// The numbers 1, 5, 10, and 8, null, 20, of which the greatest is known to be at most 25.
+fn two_parts(alloc: Global) -> Result<Zones, Fail> {
+    let first = part(alloc, &[Some(1), Some(5), Some(10)], bounds(alloc, 1, 10)?)?;
+    let second = part(alloc, &[Some(8), None, Some(20)], bounds(alloc, 8, 25)?)?;
+    tabled(alloc, vec![in alloc; first, second]?)
+}
+
+fn a(alloc: Global) -> Built {
+    col(alloc, 0, NUMBER)
+}
+
+fn int(alloc: Global, value: i32) -> Built {
+    lit(alloc, LITERAL, number(value))
+}
+
+fn compare(alloc: Global, operator: Operator, value: i32) -> Built {
+    binary(alloc, operator, a(alloc)?, int(alloc, value)?)
+}
+
+fn above(alloc: Global, value: i32) -> Built {
+    compare(alloc, Operator::Gt, value)
+}
+
+fn range(alloc: Global, end: StrictComparison, lower: i32, upper: i32) -> Built {
     let options = BetweenOptions {
         lower_strict: end,
         upper_strict: end,
     };
-    bound::between(
+    between(
         alloc,
         a(alloc)?,
-        lit(alloc, lower)?,
-        lit(alloc, upper)?,
+        int(alloc, lower)?,
+        int(alloc, upper)?,
         options,
     )
 }
 
-// The scan of the parts by the built-in rules and their own statistics, in both ways.
-fn scanned(alloc: Global, zones: &Zones, predicate: &BoundExpression) -> Result<Scan, StatsError> {
-    both_scans(alloc, zones, predicate, &Rules::builtin(alloc))
+// The scan by these rules and binders.
+fn scanned_with<B: StatBinder>(
+    alloc: Global,
+    parts: &[Part],
+    binders: &[B],
+    predicate: &BoundExpression,
+    rules: &Rules,
+) -> Result<Scan, StatsError> {
+    if binders.len() != parts.len() || !predicate.is_plain() || !all_fit(parts, predicate) {
+        return Err(StatsError::Mismatch);
+    }
+    scan(alloc, parts, binders, predicate, rules)
 }
 
-// Whether the one part is skipped, and else how many rows it gives.
-fn looked_at<const N: usize>(
+// The scan by these rules and the parts' statistics, in both ways.
+fn scanned_by(
     alloc: Global,
-    rows: &[Option<i32>],
-    entries: [(Stat, Precision<ScalarValue>); N],
+    parts: &Zones,
     predicate: &BoundExpression,
-) -> Result<(bool, usize), Fail> {
-    let zones = tabled(alloc, vec![in alloc; part(alloc, rows, entries)?]?)?;
-    let found = scanned(alloc, &zones, predicate)?;
-    Ok((found.skipped.len() == 1, found.selected.len()))
+    rules: &Rules,
+) -> Result<Scan, StatsError> {
+    both_scans(alloc, parts, predicate, rules)
+}
+
+// The scan by the built-in rules and the parts' statistics, in both ways.
+fn scanned(alloc: Global, parts: &Zones, predicate: &BoundExpression) -> Result<Scan, StatsError> {
+    scanned_by(alloc, parts, predicate, &Rules::builtin(alloc))
+}
+
+// The scan skipped these parts and selected these rows.
+fn expect_found(rt: &impl Abort, found: Scan, skipped: &[usize], selected: &[(usize, usize)]) {
+    assert!(rt; found.skipped.as_slice() == skipped);
+    assert!(rt; found.selected.as_slice() == selected);
+}
+
+// The one part is skipped.
+fn expect_skipped(
+    rt: &impl Abort,
+    alloc: Global,
+    parts: Zones,
+    predicate: &BoundExpression,
+) -> Result<(), Fail> {
+    let found = scanned(alloc, &parts, predicate)?;
+    assert!(rt; found.skipped.as_slice() == [0].as_slice());
+    assert!(rt; found.selected.is_empty());
+    Ok(())
+}
+
+// The one part is looked at, and so many of its rows satisfy the predicate.
+fn expect_rows(
+    rt: &impl Abort,
+    alloc: Global,
+    parts: Zones,
+    predicate: &BoundExpression,
+    rows: usize,
+) -> Result<(), Fail> {
+    let found = scanned(alloc, &parts, predicate)?;
+    assert!(rt; found.skipped.is_empty());
+    assert!(rt; found.selected.len() == rows);
+    Ok(())
 }
 
 #[test]
 fn one_part_is_skipped(rt: HostRuntime) -> Result<(), Fail> {
     let alloc = rt.alloc();
-    let mut parts = Vec::new(alloc);
-    parts.push(part(alloc, &[Some(1), Some(5), Some(10)], bounds(1, 10))?)?;
-    parts.push(part(alloc, &[Some(8), None, Some(20)], bounds(8, 25))?)?;
-    let parts = tabled(alloc, parts)?;
-    let found = scanned(alloc, &parts, &compare(alloc, Operator::Gt, 10)?)?;
-    assert!(rt; found.skipped.as_slice() == [0].as_slice());
-    assert!(rt; found.selected.as_slice() == [(1, 2)].as_slice());
-    let found = scanned(alloc, &parts, &compare(alloc, Operator::Gt, 9)?)?;
-    assert!(rt; found.skipped.is_empty());
-    assert!(rt; found.selected.as_slice() == [(0, 2), (1, 2)].as_slice());
+    let parts = two_parts(alloc)?;
+    let found = scanned(alloc, &parts, &above(alloc, 10)?)?;
+    expect_found(&rt, found, &[0], &[(1, 2)]);
+    let found = scanned(alloc, &parts, &above(alloc, 9)?)?;
+    expect_found(&rt, found, &[], &[(0, 2), (1, 2)]);
     Ok(())
 }
 
 #[test]
 fn a_repeated_column_is_kept(rt: HostRuntime) -> Result<(), Fail> {
     let alloc = rt.alloc();
-    let above = compare(alloc, Operator::Gt, 10)?;
-    let both = bound::and(alloc, above, compare(alloc, Operator::Lt, 5)?)?;
-    assert_eq!(rt;
-        looked_at(alloc, &[Some(3)], bounds(0, 20), &both)?,
-        (false, 0)
-    );
-    Ok(())
+    let below = compare(alloc, Operator::Lt, 5)?;
+    let both = and(alloc, above(alloc, 10)?, below)?;
+    expect_rows(&rt, alloc, bounded(alloc, &[Some(3)], 0, 20)?, &both, 0)
 }
 
 #[test]
 fn ranges(rt: HostRuntime) -> Result<(), Fail> {
     let alloc = rt.alloc();
     let crossed = range(alloc, StrictComparison::NonStrict, 50, 10)?;
-    assert_eq!(rt;
-        looked_at(alloc, &[Some(3)], bounds(0, 60), &crossed)?,
-        (true, 0)
-    );
+    expect_skipped(&rt, alloc, bounded(alloc, &[Some(3)], 0, 60)?, &crossed)?;
     let neighbours = range(alloc, StrictComparison::Strict, 3, 4)?;
-    assert_eq!(rt;
-        looked_at(alloc, &[Some(3)], bounds(0, 10), &neighbours)?,
-        (true, 0)
-    );
+    expect_skipped(&rt, alloc, bounded(alloc, &[Some(3)], 0, 10)?, &neighbours)?;
     let closed = range(alloc, StrictComparison::NonStrict, 10, 50)?;
-    assert_eq!(rt;
-        looked_at(alloc, &[Some(51)], bounds(51, 60), &closed)?,
-        (true, 0)
-    );
-    assert_eq!(rt;
-        looked_at(alloc, &[Some(50)], bounds(50, 60), &closed)?,
-        (false, 1)
-    );
-    Ok(())
+    expect_skipped(&rt, alloc, bounded(alloc, &[Some(51)], 51, 60)?, &closed)?;
+    expect_rows(&rt, alloc, bounded(alloc, &[Some(50)], 50, 60)?, &closed, 1)
 }
 
 #[test]
 fn null_tests(rt: HostRuntime) -> Result<(), Fail> {
     let alloc = rt.alloc();
-    let is_value = bound::is_not_null(alloc, a(alloc)?)?;
-    assert_eq!(rt;
-        looked_at(alloc, &[None, Some(2), None], nulls(3), &is_value)?,
-        (false, 1)
-    );
-    assert_eq!(rt;
-        looked_at(alloc, &[None, Some(2), None], nulls(2), &is_value)?,
-        (false, 1)
-    );
-    let is_null = bound::is_null(alloc, a(alloc)?)?;
-    assert_eq!(rt; looked_at(alloc, &[], nulls(0), &is_null)?, (true, 0));
-    assert_eq!(rt;
-        looked_at(alloc, &[Some(1)], nulls(0), &is_null)?,
-        (true, 0)
-    );
-    Ok(())
+    let is_value = is_not_null(alloc, a(alloc)?)?;
+    let rows = [None, Some(2), None];
+    expect_rows(&rt, alloc, with_nulls(alloc, &rows, 3)?, &is_value, 1)?;
+    expect_rows(&rt, alloc, with_nulls(alloc, &rows, 2)?, &is_value, 1)?;
+    let is_null = is_null(alloc, a(alloc)?)?;
+    expect_skipped(&rt, alloc, with_nulls(alloc, &[], 0)?, &is_null)?;
+    expect_skipped(&rt, alloc, with_nulls(alloc, &[Some(1)], 0)?, &is_null)
 }
 
 #[test]
 fn a_comparison_with_null_proves_nothing(rt: HostRuntime) -> Result<(), Fail> {
     let alloc = rt.alloc();
-    let null = bound::lit(alloc, Scalar::null(NUMBER))?;
-    let predicate = bound::eq(alloc, a(alloc)?, null)?;
-    assert_eq!(rt;
-        looked_at(alloc, &[Some(1), None], bounds(1, 1), &predicate)?,
-        (false, 0)
-    );
-    Ok(())
+    let predicate = eq(alloc, a(alloc)?, null_of(alloc, NUMBER)?)?;
+    let parts = bounded(alloc, &[Some(1), None], 1, 1)?;
+    expect_rows(&rt, alloc, parts, &predicate, 0)
 }
 
 #[test]
 fn without_parts(rt: HostRuntime) -> Result<(), Fail> {
     let alloc = rt.alloc();
-    let parts = tabled(alloc, Vec::new(alloc))?;
-    let found = scanned(alloc, &parts, &compare(alloc, Operator::Gt, 10)?)?;
-    assert!(rt; found.skipped.is_empty());
-    assert!(rt; found.selected.is_empty());
-    let refused = scanned(alloc, &parts, &lit(alloc, 7)?);
+    let parts = no_parts(alloc)?;
+    expect_found(&rt, scanned(alloc, &parts, &above(alloc, 10)?)?, &[], &[]);
+    let refused = scanned(alloc, &parts, &int(alloc, 7)?);
     assert!(rt; matches!(refused, Err(StatsError::NotPredicate)));
     Ok(())
 }
@@ -227,13 +224,9 @@ fn without_parts(rt: HostRuntime) -> Result<(), Fail> {
 #[test]
 fn without_statistics(rt: HostRuntime) -> Result<(), Fail> {
     let alloc = rt.alloc();
-    let above = compare(alloc, Operator::Gt, 10)?;
-    assert_eq!(rt; looked_at(alloc, &[Some(11)], [], &above)?, (false, 1));
-    let absent = [(Stat::Max, Precision::Absent)];
-    assert_eq!(rt; looked_at(alloc, &[Some(11)], absent, &above)?, (false, 1));
-    Ok(())
+    let predicate = above(alloc, 10)?;
+    let parts = one_part(alloc, &[Some(11)], no_statistics(alloc))?;
+    expect_rows(&rt, alloc, parts, &predicate, 1)?;
+    let parts = one_part(alloc, &[Some(11)], unknown(alloc, Stat::Max))?;
+    expect_rows(&rt, alloc, parts, &predicate, 1)
 }
-
-mod callers;
-mod own;
-mod table;

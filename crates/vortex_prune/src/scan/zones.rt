@@ -10,7 +10,7 @@ ghost use Rattle.vortex_prune.specs.Rewriting.Own.{own_rules};
 ghost use Rattle.vortex_prune.specs.Part.{AreParts, IsTruePart};
 ghost use Rattle.vortex_prune.specs.Rewriting.Predicates.{is_predicate};
 ghost use Rattle.vortex_prune.specs.Rewriting.Falsifiers.{falsifier as falsifier_of};
-ghost use Rattle.vortex_prune.specs.Scanning.ScanRefusals.{IsMemory};
+ghost use Rattle.vortex_prune.specs.Answers.{IsMemory};
 ghost use Rattle.vortex_prune.specs.Scanning.Selection.{answered, full, selected_rows, skipped_parts};
 ghost use Rattle.vortex_prune.specs.Scanning.ZoneScans.{CanTell, TellsAs, is_left_open, open_causes};
 ghost use Rattle.vortex_prune.specs.Scanning.ZoneScans.{own_answers, zone_causes, zone_truth};

@@ -1,6 +1,8 @@
 // What sets over a column of numbers answer.
 use super::*;
+use crate::testing::*;
 use std::alloc::Global;
+use std::process::Abort;
 use std::test::Fail;
 use vortex_base::types::{Nullability, PType};
 
@@ -14,123 +16,148 @@ const U64: DType = DType::Primitive(PType::U64, Nullability::Nullable);
 
 const BOOL: DType = DType::Bool(Nullability::Nullable);
 
-// Whether a set that fits answers with this value at each row.
-fn answers(
+// What a set that fits answers, at each row.
+fn answer(
+    set: &StatsSet,
+    aggregate: AggregateFnRef,
+    rows: u64,
+) -> Result<ConstantArray, StatsError> {
+    if !set.fits(&I32) {
+        return Err(StatsError::Mismatch);
+    }
+    StatFn::execute(&StatOptions::new(aggregate), set, &I32, rows)
+}
+
+// This value at each row.
+fn repeated(dtype: DType, value: Option<ScalarValue>, rows: u64) -> Result<ConstantArray, Fail> {
+    Ok(ConstantArray::new(Scalar::try_new(dtype, value)?, rows))
+}
+
+// The set answers with this value at each row.
+fn expect(
+    rt: &impl Abort,
     set: &StatsSet,
     aggregate: AggregateFnRef,
     rows: u64,
     dtype: DType,
     value: Option<ScalarValue>,
-) -> Result<bool, StatsError> {
-    if !set.fits(&I32) {
-        return Ok(false);
-    }
-    let array = StatFn::execute(&StatOptions::new(aggregate), set, &I32, rows)?;
-    match Scalar::try_new(dtype, value) {
-        Ok(scalar) => Ok(array == ConstantArray::new(scalar, rows)),
-        Err(_) => Ok(false),
-    }
+) -> Result<(), Fail> {
+    let found = answer(set, aggregate, rows)?;
+    let expected = repeated(dtype, value, rows)?;
+    assert!(rt; found == expected);
+    Ok(())
 }
 
-fn number(value: u64) -> Option<ScalarValue> {
-    Some(ScalarValue::from(value))
+fn six() -> ScalarValue {
+    ScalarValue::from(6i64)
 }
 
-fn nulls(alloc: Global, count: Precision<u64>) -> StatsSet {
-    let count = match count {
-        Precision::Exact(n) => Precision::Exact(ScalarValue::from(n)),
-        Precision::Inexact(n) => Precision::Inexact(ScalarValue::from(n)),
-        Precision::Absent => Precision::Absent,
+fn expect_sum(rt: &impl Abort, set: StatsSet, value: Option<ScalarValue>) -> Result<(), Fail> {
+    expect(rt, &set, AggregateFnRef::Sum, 3, I64, value)
+}
+
+// What a count of nulls in four rows is answered by.
+fn expect_count(rt: &impl Abort, set: StatsSet, value: Option<u64>) -> Result<(), Fail> {
+    let value = match value {
+        Some(n) => Some(count(n)),
+        None => None,
     };
-    StatsSet::of(alloc, Stat::NullCount, count)
+    expect(rt, &set, AggregateFnRef::NullCount, 4, U64, value)
 }
 
-fn truth(value: bool) -> Option<ScalarValue> {
-    Some(ScalarValue::Bool(value))
+fn expect_truth(
+    rt: &impl Abort,
+    set: StatsSet,
+    aggregate: AggregateFnRef,
+    rows: u64,
+    value: Option<bool>,
+) -> Result<(), Fail> {
+    let value = match value {
+        Some(truth) => Some(ScalarValue::Bool(truth)),
+        None => None,
+    };
+    expect(rt, &set, aggregate, rows, BOOL, value)
+}
+
+fn exact_nulls(alloc: Global, nulls: u64) -> StatsSet {
+    exactly(alloc, Stat::NullCount, count(nulls))
+}
+
+fn nulls_at_most(alloc: Global, nulls: u64) -> StatsSet {
+    at_most(alloc, Stat::NullCount, count(nulls))
+}
+
+fn options(aggregate: AggregateFnRef) -> StatOptions {
+    StatOptions::new(aggregate)
+}
+
+fn return_dtype(options: &StatOptions, dtype: DType) -> Result<DType, StatsError> {
+    StatFn::return_dtype(options, &dtype)
 }
 
 #[test]
 fn name_the_function_and_its_child(rt: HostRuntime) -> Result<(), Fail> {
-    let sum = StatOptions::new(AggregateFnRef::Sum);
-    assert_eq!(rt; StatFn::id(), ScalarFnId::Stat);
-    assert_eq!(rt; StatFn::arity(&sum), 1);
-    assert_eq!(rt; StatFn::child_name(&sum, 0), "input");
+    let sum = options(AggregateFnRef::Sum);
+    assert!(rt; StatFn::id() == ScalarFnId::Stat);
+    assert!(rt; StatFn::arity(&sum) == 1);
+    assert!(rt; StatFn::child_name(&sum, 0) == "input");
     assert!(rt; !StatFn::is_strict(&sum));
-    assert_eq!(rt; StatFn::return_dtype(&sum, &I32)?, I64);
-    let of_texts = StatFn::return_dtype(&sum, &DType::Utf8(Nullability::Nullable));
+    assert!(rt; return_dtype(&sum, I32)? == I64);
+    let of_texts = return_dtype(&sum, DType::Utf8(Nullability::Nullable));
     assert!(rt; matches!(of_texts, Err(StatsError::Unsupported)));
     Ok(())
 }
 
 #[test]
 fn options_compare_by_their_aggregate(rt: HostRuntime) {
-    let sum = StatOptions::new(AggregateFnRef::Sum);
+    let sum = options(AggregateFnRef::Sum);
     let copy = sum;
-    assert_eq!(rt; copy, sum);
-    assert!(rt; sum != StatOptions::new(AggregateFnRef::Max));
-    assert_eq!(rt; sum.aggregate_fn(), AggregateFnRef::Sum);
+    assert!(rt; copy == sum);
+    assert!(rt; sum != options(AggregateFnRef::Max));
+    assert!(rt; sum.aggregate_fn() == AggregateFnRef::Sum);
 }
 
 #[test]
 fn sums_are_exact_or_null(rt: HostRuntime) -> Result<(), Fail> {
-    let sum = AggregateFnRef::Sum;
-    let six = Precision::Exact(ScalarValue::from(6i64));
-    let set = StatsSet::of(rt.alloc(), Stat::Sum, six);
-    assert!(rt; answers(&set, sum, 3, I64, Some(ScalarValue::from(6i64)))?);
-    let six = Precision::Inexact(ScalarValue::from(6i64));
-    let set = StatsSet::of(rt.alloc(), Stat::Sum, six);
-    assert!(rt; answers(&set, sum, 3, I64, None)?);
-    assert!(rt; answers(&StatsSet::new(rt.alloc()), sum, 3, I64, None)?);
-    Ok(())
+    let alloc = rt.alloc();
+    expect_sum(&rt, exactly(alloc, Stat::Sum, six()), Some(six()))?;
+    expect_sum(&rt, at_most(alloc, Stat::Sum, six()), None)?;
+    expect_sum(&rt, no_statistics(alloc), None)
 }
 
 #[test]
 fn extremes_are_bounds(rt: HostRuntime) -> Result<(), Fail> {
-    let mut set = StatsSet::new(rt.alloc());
-    set.set(Stat::Min, Precision::Exact(ScalarValue::from(1i32)))?;
-    set.set(Stat::Max, Precision::Inexact(ScalarValue::from(3i32)))?;
-    let one = Some(ScalarValue::from(1i32));
-    assert!(rt; answers(&set, AggregateFnRef::Min, 3, I32_OR_NULL, one)?);
-    let three = Some(ScalarValue::from(3i32));
-    assert!(rt; answers(&set, AggregateFnRef::Max, 3, I32_OR_NULL, three)?);
-    assert!(rt; answers(&set, AggregateFnRef::UncompressedSizeInBytes, 3, U64, None)?);
-    let nans = answers(&set, AggregateFnRef::NanCount, 3, U64, None);
+    let set = bounds(rt.alloc(), 1, 3)?;
+    let (one, three) = (Some(number(1)), Some(number(3)));
+    expect(&rt, &set, AggregateFnRef::Min, 3, I32_OR_NULL, one)?;
+    expect(&rt, &set, AggregateFnRef::Max, 3, I32_OR_NULL, three)?;
+    let size = AggregateFnRef::UncompressedSizeInBytes;
+    expect(&rt, &set, size, 3, U64, None)?;
+    let nans = answer(&set, AggregateFnRef::NanCount, 3);
     assert!(rt; matches!(nans, Err(StatsError::Unsupported)));
     Ok(())
 }
 
 #[test]
 fn counts_of_nulls_are_exact(rt: HostRuntime) -> Result<(), Fail> {
-    let count = AggregateFnRef::NullCount;
-    let exact = nulls(rt.alloc(), Precision::Exact(2));
-    assert!(rt; answers(&exact, count, 4, U64, number(2))?);
-    let inexact = nulls(rt.alloc(), Precision::Inexact(2));
-    assert!(rt; answers(&inexact, count, 4, U64, None)?);
-    let inexact = nulls(rt.alloc(), Precision::Inexact(0));
-    assert!(rt; answers(&inexact, count, 4, U64, number(0))?);
-    Ok(())
+    let alloc = rt.alloc();
+    expect_count(&rt, exact_nulls(alloc, 2), Some(2))?;
+    expect_count(&rt, nulls_at_most(alloc, 2), None)?;
+    expect_count(&rt, nulls_at_most(alloc, 0), Some(0))
 }
 
 #[test]
 fn all_null_by_the_count(rt: HostRuntime) -> Result<(), Fail> {
-    let all_null = AggregateFnRef::AllNull;
-    let two = nulls(rt.alloc(), Precision::Inexact(2));
-    assert!(rt; answers(&two, all_null, 3, BOOL, truth(false))?);
-    let three = nulls(rt.alloc(), Precision::Inexact(3));
-    assert!(rt; answers(&three, all_null, 3, BOOL, None)?);
-    let three = nulls(rt.alloc(), Precision::Exact(3));
-    assert!(rt; answers(&three, all_null, 3, BOOL, truth(true))?);
-    Ok(())
+    let (alloc, all_null) = (rt.alloc(), AggregateFnRef::AllNull);
+    expect_truth(&rt, nulls_at_most(alloc, 2), all_null, 3, Some(false))?;
+    expect_truth(&rt, nulls_at_most(alloc, 3), all_null, 3, None)?;
+    expect_truth(&rt, exact_nulls(alloc, 3), all_null, 3, Some(true))
 }
 
 #[test]
 fn all_non_null_by_the_count(rt: HostRuntime) -> Result<(), Fail> {
-    let no_null = AggregateFnRef::AllNonNull;
-    let zero = nulls(rt.alloc(), Precision::Inexact(0));
-    assert!(rt; answers(&zero, no_null, 3, BOOL, truth(true))?);
-    let two = nulls(rt.alloc(), Precision::Inexact(2));
-    assert!(rt; answers(&two, no_null, 4, BOOL, None)?);
-    let zero = nulls(rt.alloc(), Precision::Exact(0));
-    assert!(rt; answers(&zero, no_null, 4, BOOL, truth(true))?);
-    Ok(())
+    let (alloc, no_null) = (rt.alloc(), AggregateFnRef::AllNonNull);
+    expect_truth(&rt, nulls_at_most(alloc, 0), no_null, 3, Some(true))?;
+    expect_truth(&rt, nulls_at_most(alloc, 2), no_null, 4, None)?;
+    expect_truth(&rt, exact_nulls(alloc, 0), no_null, 4, Some(true))
 }

@@ -48,7 +48,7 @@ returns-in_ok-right-in-Binary-clause-typed g t c =
     let e = c.args.e.now in
     let same : base_type (tree.binary o l r) ≡ base_type e = binary-base_type o c.in-Binary.left.now c.in-Binary.right.now l r c.in_ok-left-in-Binary.ensures.typed c.in_ok-right-in-Binary.ensures.typed ∙ ap base_type (sym c.in-Binary.ensures) in
     has_type e (tree.binary o l r) c.built-in-Binary.result same
-    (is_node e (tree.binary o l r) c.dtype-dtype.result c.binary.result c.built-in-Binary.result c.dtype-dtype.ensures same c.binary.ensures c.built-in-Binary.ensures.value)
+    (is_node e (tree.binary o l r) c.dtype-dtype.result c.binary.result c.built-in-Binary.result c.dtype-dtype.ensures same c.binary.ensures c.built-in-Binary.ensures)
 
 pub returns-in_ok-upper-in-Between-clause-typed : goal.returns-in_ok-upper-in-Between-clause-typed
 returns-in_ok-upper-in-Between-clause-typed g t c =
@@ -59,7 +59,7 @@ returns-in_ok-upper-in-Between-clause-typed g t c =
     let e = c.args.e.now in
     let same : base_type (tree.between o x l u) ≡ base_type e = between-base_type o c.in-Between.x.now c.in-Between.lower.now c.in-Between.upper.now x l u c.in_ok-x-in-Between.ensures.typed c.in_ok-lower-in-Between.ensures.typed c.in_ok-upper-in-Between.ensures.typed ∙ ap base_type (sym c.in-Between.ensures) in
     has_type e (tree.between o x l u) c.built-in-Between.result same
-    (is_node e (tree.between o x l u) c.dtype-dtype.result c.between.result c.built-in-Between.result c.dtype-dtype.ensures same c.between.ensures c.built-in-Between.ensures.value)
+    (is_node e (tree.between o x l u) c.dtype-dtype.result c.between.result c.built-in-Between.result c.dtype-dtype.ensures same c.between.ensures c.built-in-Between.ensures)
 
 pub returns-in_ok-upper-in-Between-clause-bound : goal.returns-in_ok-upper-in-Between-clause-bound
 returns-in_ok-upper-in-Between-clause-bound g t c =
@@ -70,6 +70,6 @@ returns-in_ok-upper-in-Between-clause-bound g t c =
     let e = c.args.e.now in
     let R = Replaces (g.B.StatBinder.answer c.args.binder.now) (g.B.StatBinder.is_missing c.args.binder.now) in
     let same : base_type (tree.between o x l u) ≡ base_type e = between-base_type o c.in-Between.x.now c.in-Between.lower.now c.in-Between.upper.now x l u c.in_ok-x-in-Between.ensures.typed c.in_ok-lower-in-Between.ensures.typed c.in_ok-upper-in-Between.ensures.typed ∙ ap base_type (sym c.in-Between.ensures) in
-    let node = is_node e (tree.between o x l u) c.dtype-dtype.result c.between.result c.built-in-Between.result c.dtype-dtype.ensures same c.between.ensures c.built-in-Between.ensures.value in
+    let node = is_node e (tree.between o x l u) c.dtype-dtype.result c.between.result c.built-in-Between.result c.dtype-dtype.ensures same c.between.ensures c.built-in-Between.ensures in
     subst (λ e. IfOk c.built-in-Between.result (IsBinding R e)) (sym c.in-Between.ensures)
     (between_bound R o c.in-Between.x.now c.in-Between.lower.now c.in-Between.upper.now x l u c.built-in-Between.result c.in_ok-x-in-Between.ensures.bound c.in_ok-lower-in-Between.ensures.bound c.in_ok-upper-in-Between.ensures.bound node)

@@ -2,116 +2,115 @@
 use super::*;
 use crate::bind::bind_stats;
 use crate::expr::bound as placed;
+use crate::testing::*;
+use std::alloc::AllocError;
+use std::process::Abort;
 use std::test::Fail;
-use vortex_base::bound;
-use vortex_base::chunk::Chunk;
-use vortex_base::column::Column;
-use vortex_base::error::BaseError;
 use vortex_base::evaluate::evaluate;
 use vortex_base::row::Row;
-use vortex_base::scalar::Scalar;
 use vortex_base::scalar_value::ScalarValue;
-use vortex_base::scope::Scope;
 use vortex_base::types::{Nullability, PType};
-use vortex_stats::precision::Precision;
 use vortex_stats::stat::Stat;
-use vortex_stats::stats_set::StatsSet;
 
 const I32: DType = DType::Primitive(PType::I32, Nullability::Nullable);
 
+const VALUES: DType = DType::Primitive(PType::I32, Nullability::NonNullable);
+
 const BOOL: DType = DType::Bool(Nullability::Nullable);
 
-// The rows 1, null, 3 of a column `a`.
-fn chunk(alloc: Global) -> Result<Chunk, BaseError> {
-    let name = String::from_str(alloc, "a")?;
-    let scope = Scope::try_new(vec![in alloc; (name, I32)]?)?;
-    let values = vec![in alloc;
-        Some(ScalarValue::from(1i32)),
-        None,
-        Some(ScalarValue::from(3i32)),
-    ]?;
-    Chunk::try_new(scope, vec![in alloc; Column::try_new(I32, values, 12)?]?)
+const TEXT: DType = DType::Utf8(Nullability::Nullable);
+
+fn values(alloc: Global) -> Result<Vec<Option<ScalarValue>>, AllocError> {
+    Ok(vec![in alloc; Some(number(1)), None, Some(number(3))]?)
 }
 
-// Its statistics: at most 20, and one null.
-fn part(alloc: Global) -> Result<Option<Part>, Fail> {
-    let twenty = Precision::Inexact(ScalarValue::from(20i32));
-    let mut set = StatsSet::of(alloc, Stat::Max, twenty);
-    set.set(Stat::NullCount, Precision::Exact(ScalarValue::from(1u64)))?;
-    match Part::try_new(chunk(alloc)?, vec![in alloc; set]?) {
-        Ok(part) => Ok(Some(part)),
-        Err(_) => Ok(None),
-    }
+// The rows 1, null, 3 of a column `a`, with its statistics: at most 20, and one null.
+fn part(alloc: Global) -> Result<Part, Fail> {
+    let mut set = at_most(alloc, Stat::Max, number(20));
+    set_exactly(&mut set, Stat::NullCount, count(1))?;
+    let chunk = chunk_of(alloc, I32, values(alloc)?, 12)?;
+    Ok(part_of(alloc, chunk, set)?)
 }
 
-fn number(alloc: Global, value: i32) -> Result<BoundExpression, BaseError> {
-    let scalar = Scalar::try_new(I32, Some(ScalarValue::from(value)))?;
-    bound::lit(alloc, scalar)
+fn a(alloc: Global) -> Built {
+    col(alloc, 0, I32)
 }
 
-fn truth(alloc: Global, value: Option<bool>) -> Result<BoundExpression, BaseError> {
-    let value = match value {
-        Some(value) => Some(ScalarValue::Bool(value)),
-        None => None,
-    };
-    bound::lit(alloc, Scalar::try_new(BOOL, value)?)
+fn int(alloc: Global, value: i32) -> Built {
+    lit(alloc, I32, number(value))
+}
+
+fn truth(alloc: Global, value: bool) -> Built {
+    lit(alloc, BOOL, ScalarValue::Bool(value))
+}
+
+fn unknown_truth(alloc: Global) -> Built {
+    null_of(alloc, BOOL)
+}
+
+fn max(alloc: Global, x: BoundExpression) -> Built {
+    stat(alloc, x, AggregateFnRef::Max)
+}
+
+fn all_null(alloc: Global, x: BoundExpression) -> Result<BoundExpression, StatsError> {
+    placed::all_null(alloc, x)
+}
+
+// The expression, bound by the part's own statistics.
+fn bound_by(alloc: Global, e: BoundExpression, part: &Part) -> Result<BoundExpression, StatsError> {
+    bind_stats(alloc, e, &StatsBinder::new(part))
+}
+
+// The expression is bound to this one.
+fn expect_bound(
+    rt: &impl Abort,
+    alloc: Global,
+    e: BoundExpression,
+    expected: BoundExpression,
+) -> Result<(), Fail> {
+    let part = part(alloc)?;
+    let found = bound_by(alloc, e, &part)?;
+    assert!(rt; found == expected);
+    Ok(())
+}
+
+// The value of an expression over no columns and these rows.
+fn value_of(e: &BoundExpression, rows: u64) -> Result<Option<ScalarValue>, Fail> {
+    Ok(evaluate(e, &Row::empty(), rows)?)
 }
 
 #[test]
 fn literals_of_what_is_known(rt: HostRuntime) -> Result<(), Fail> {
     let alloc = rt.alloc();
-    let made = part(alloc)?;
-    assert!(rt; made.is_some());
-    let Some(part) = made else {
-        return Ok(());
-    };
-    let binder = StatsBinder::new(&part);
-    let max = placed::stat(alloc, bound::col(alloc, 0, I32)?, AggregateFnRef::Max)?;
-    assert!(rt; bind_stats(alloc, max, &binder)? == number(alloc, 20)?);
-    let min = placed::stat(alloc, bound::col(alloc, 0, I32)?, AggregateFnRef::Min)?;
-    let null = bound::lit(alloc, Scalar::null(I32))?;
-    assert!(rt; bind_stats(alloc, min, &binder)? == null);
-    let all_null = placed::all_null(alloc, bound::col(alloc, 0, I32)?)?;
-    assert!(rt; bind_stats(alloc, all_null, &binder)? == truth(alloc, Some(false))?);
-    Ok(())
+    expect_bound(&rt, alloc, max(alloc, a(alloc)?)?, int(alloc, 20)?)?;
+    let min = stat(alloc, a(alloc)?, AggregateFnRef::Min)?;
+    expect_bound(&rt, alloc, min, null_of(alloc, I32)?)?;
+    expect_bound(
+        &rt,
+        alloc,
+        all_null(alloc, a(alloc)?)?,
+        truth(alloc, false)?,
+    )
 }
 
 #[test]
 fn null_of_what_is_not(rt: HostRuntime) -> Result<(), Fail> {
     let alloc = rt.alloc();
-    let made = part(alloc)?;
-    assert!(rt; made.is_some());
-    let Some(part) = made else {
-        return Ok(());
-    };
-    let binder = StatsBinder::new(&part);
-    let elsewhere = placed::all_null(alloc, bound::col(alloc, 1, I32)?)?;
-    assert!(rt; bind_stats(alloc, elsewhere, &binder)? == truth(alloc, None)?);
-    let of_texts = bound::col(alloc, 0, DType::Utf8(Nullability::Nullable))?;
-    let other_type = placed::all_null(alloc, of_texts)?;
-    assert!(rt; bind_stats(alloc, other_type, &binder)? == truth(alloc, None)?);
-    let no_column = placed::all_null(alloc, number(alloc, 1)?)?;
-    assert!(rt; bind_stats(alloc, no_column, &binder)? == truth(alloc, None)?);
-    Ok(())
+    let elsewhere = all_null(alloc, col(alloc, 1, I32)?)?;
+    expect_bound(&rt, alloc, elsewhere, unknown_truth(alloc)?)?;
+    let other_type = all_null(alloc, col(alloc, 0, TEXT)?)?;
+    expect_bound(&rt, alloc, other_type, unknown_truth(alloc)?)?;
+    let no_column = all_null(alloc, int(alloc, 1)?)?;
+    expect_bound(&rt, alloc, no_column, unknown_truth(alloc)?)
 }
 
 #[test]
 fn a_proof_can_be_evaluated(rt: HostRuntime) -> Result<(), Fail> {
     let alloc = rt.alloc();
-    let made = part(alloc)?;
-    assert!(rt; made.is_some());
-    let Some(part) = made else {
-        return Ok(());
-    };
-    let a = bound::col(
-        alloc,
-        0,
-        DType::Primitive(PType::I32, Nullability::NonNullable),
-    )?;
-    let max = placed::stat(alloc, a, AggregateFnRef::Max)?;
-    let proof = bound::lt_eq(alloc, max, number(alloc, 25)?)?;
-    let bound = bind_stats(alloc, proof, &StatsBinder::new(&part))?;
-    let value = evaluate(&bound, &Row::empty(), 3)?;
-    assert_eq!(rt; value, Some(ScalarValue::Bool(true)));
+    let max = max(alloc, col(alloc, 0, VALUES)?)?;
+    let proof = lt_eq(alloc, max, int(alloc, 25)?)?;
+    let bound = bound_by(alloc, proof, &part(alloc)?)?;
+    let value = value_of(&bound, 3)?;
+    assert!(rt; value == Some(ScalarValue::Bool(true)));
     Ok(())
 }

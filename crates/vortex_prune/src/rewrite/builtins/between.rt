@@ -1,13 +1,13 @@
 //! The ends by which a BETWEEN is rewritten.
-ghost use Rattle.std.specs.Prelude.{◌≡◌, IfErr, IfOk, IsOk, Some, alloc_error, option_map, true};
+ghost use Rattle.std.specs.Prelude.{◌≡◌, IsOk, Some, option_map, true};
 ghost use Rattle.vortex_base.specs.Trees.Tree as tree;
 ghost use Rattle.vortex_base.specs.Data.Types.{eq_ignore_nullability};
 ghost use Rattle.vortex_base.specs.Meanings.Typing.{type_of};
 ghost use Rattle.vortex_base.specs.Data.Values.{value_cmp};
 ghost use Rattle.vortex_base.specs.declared.scalar_value.ScalarValue.TheVariants as value;
-ghost use Rattle.vortex_stats.specs.declared.error.StatsError.TheVariants.{Memory};
 ghost use Rattle.vortex_prune.specs.Rewriting.BuiltIn.{ends_from, ordered_ends, raised_end, lowered_end};
 ghost use Rattle.vortex_prune.specs.Rewriting.Falsifiers.{ends as ends_of, is_closed_end, is_crossed as is_crossed_by, number_ends as number_ends_of};
+ghost use Rattle.vortex_prune.specs.Answers.{OkOrMemory};
 
 use crate::built::cloned;
 use crate::rewrite::nodes::literal;
@@ -88,9 +88,8 @@ fn number_ends(
     requires lower { lower.0.now.value ≡ Some (value.Primitive lower.1) }
     requires upper { upper.0.now.value ≡ Some (value.Primitive upper.1) }
     requires alike { eq_ignore_nullability lower.0.now.dtype upper.0.now.dtype ≡ true }
-    ensures value { IfOk result (λ o. option_map ends_from o ≡
+    ensures { OkOrMemory result (λ o. option_map ends_from o ≡
         number_ends_of options lower.entry.0.now upper.entry.0.now lower.entry.1 upper.entry.1) }
-    ensures memory { IfErr result (λ fault. fault ≡ Memory alloc_error) }
 {
     let low_type = lower.0.dtype();
     let high_type = upper.0.dtype();
@@ -116,8 +115,8 @@ fn as_they_stand(
     lower: &BoundExpression,
     upper: &BoundExpression,
 ) -> Result<Option<(BetweenOptions, BoundExpression, BoundExpression)>, StatsError>
-    ensures value { IfOk result (λ o. option_map ends_from o ≡ Some (ends_from (options, lower.now, upper.now))) }
-    ensures memory { IfErr result (λ fault. fault ≡ Memory alloc_error) }
+    ensures { OkOrMemory result (λ o.
+        option_map ends_from o ≡ Some (ends_from (options, lower.now, upper.now))) }
 {
     Ok(Some((options, cloned(lower)?, cloned(upper)?)))
 }
@@ -130,8 +129,8 @@ pub(crate) fn ends(
     upper: &BoundExpression,
 ) -> Result<Option<(BetweenOptions, BoundExpression, BoundExpression)>, StatsError>
     requires { IsOk (type_of (tree.binary Operator.Eq lower.now upper.now)) }
-    ensures value { IfOk result (λ o. option_map ends_from o ≡ ends_of options lower.now upper.now) }
-    ensures memory { IfErr result (λ fault. fault ≡ Memory alloc_error) }
+    ensures { OkOrMemory result (λ o.
+        option_map ends_from o ≡ ends_of options lower.now upper.now) }
 {
     let Some(c) = lower.literal() else {
         return as_they_stand(options, lower, upper);

@@ -1,10 +1,10 @@
 //! The least and the greatest values of operands, and how they compare.
-ghost use Rattle.std.specs.Prelude.{◌≡◌, IfErr, IfOk, IsOk, IsTrue, alloc_error, false};
+ghost use Rattle.std.specs.Prelude.{◌≡◌, IsOk, IsTrue, false};
 ghost use Rattle.vortex_base.specs.Trees.Tree as tree;
 ghost use Rattle.vortex_base.specs.Meanings.Typing.{type_of};
-ghost use Rattle.vortex_stats.specs.declared.error.StatsError.TheVariants.{Memory};
 ghost use Rattle.vortex_prune.specs.Rewriting.Predicates.{is_connective, is_extreme};
 ghost use Rattle.vortex_prune.specs.Rewriting.Falsifiers.{both_of, comparison_falsifier, either_of, extreme as extreme_of, placeholder as placeholder_of};
+ghost use Rattle.vortex_prune.specs.Answers.{Makes};
 
 use crate::built::cloned;
 use crate::rewrite::nodes::stat;
@@ -20,8 +20,7 @@ fn placeholder(
     aggregate: AggregateFnRef,
     x: &BoundExpression,
 ) -> Result<Option<BoundExpression>, StatsError>
-    ensures value { IfOk result (λ o. o ≡ placeholder_of aggregate x.now) }
-    ensures memory { IfErr result (λ fault. fault ≡ Memory alloc_error) }
+    ensures { Makes (placeholder_of aggregate x.now) result }
 {
     match aggregate.state_dtype(&x.dtype()) {
         None => Ok(None),
@@ -35,8 +34,7 @@ fn extreme(
     aggregate: AggregateFnRef,
     x: &BoundExpression,
 ) -> Result<Option<BoundExpression>, StatsError>
-    ensures value { IfOk result (λ o. o ≡ extreme_of aggregate x.now) }
-    ensures memory { IfErr result (λ fault. fault ≡ Memory alloc_error) }
+    ensures { Makes (extreme_of aggregate x.now) result }
 {
     match x.literal() {
         Some(_) => Ok(Some(cloned(x)?)),
@@ -55,9 +53,9 @@ pub(crate) fn compared(
     requires left_extreme { IsTrue (is_extreme left.0) }
     requires right_extreme { IsTrue (is_extreme right.0) }
     requires comparable { IsOk (type_of (tree.binary Operator.Eq left.1.now right.1.now)) }
-    ensures value { IfOk result (λ o. o ≡ both_of (tree.binary operator)
-        (extreme_of left.entry.0 left.entry.1.now) (extreme_of right.entry.0 right.entry.1.now)) }
-    ensures memory { IfErr result (λ fault. fault ≡ Memory alloc_error) }
+    ensures { Makes (both_of (tree.binary operator)
+        (extreme_of left.entry.0 left.entry.1.now)
+        (extreme_of right.entry.0 right.entry.1.now)) result }
 {
     let low = extreme(alloc, left.0, left.1)?;
     let high = extreme(alloc, right.0, right.1)?;
@@ -75,8 +73,7 @@ pub(crate) fn both_joined(
     right: Option<Proof>,
 ) -> Result<Option<Proof>, StatsError>
     requires { IsTrue (is_connective connective) }
-    ensures value { IfOk result (λ o. o ≡ both_of (tree.binary connective) left right) }
-    ensures memory { IfErr result (λ fault. fault ≡ Memory alloc_error) }
+    ensures { Makes (both_of (tree.binary connective) left right) result }
 {
     match (left, right) {
         (Some(left), Some(right)) => Ok(Some(Proof::connect(alloc, connective, left, right)?)),
@@ -92,8 +89,7 @@ pub(crate) fn either_joined(
     right: Option<Proof>,
 ) -> Result<Option<Proof>, StatsError>
     requires { IsTrue (is_connective connective) }
-    ensures value { IfOk result (λ o. o ≡ either_of (tree.binary connective) left right) }
-    ensures memory { IfErr result (λ fault. fault ≡ Memory alloc_error) }
+    ensures { Makes (either_of (tree.binary connective) left right) result }
 {
     match (left, right) {
         (Some(left), Some(right)) => Ok(Some(Proof::connect(alloc, connective, left, right)?)),
@@ -110,8 +106,7 @@ pub(crate) fn comparison_proof(
     right: &BoundExpression,
 ) -> Result<Option<Proof>, StatsError>
     requires { IsOk (type_of (tree.binary operator left.now right.now)) }
-    ensures value { IfOk result (λ o. o ≡ comparison_falsifier operator left.now right.now) }
-    ensures memory { IfErr result (λ fault. fault ≡ Memory alloc_error) }
+    ensures { Makes (comparison_falsifier operator left.now right.now) result }
 {
     let (min_left, max_left) = ((AggregateFnRef::Min, left), (AggregateFnRef::Max, left));
     let (min_right, max_right) = ((AggregateFnRef::Min, right), (AggregateFnRef::Max, right));

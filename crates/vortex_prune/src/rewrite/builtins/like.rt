@@ -1,22 +1,18 @@
 //! The built-in proofs of LIKE.
-ghost use Rattle.std.specs.Prelude.{◌≡◌, IfErr, IfOk, IsOk, IsTrue, Some, alloc_error, false, option_copied, option_map};
-ghost use Rattle.std.specs.Str.{chars};
-ghost use Rattle.vortex_base.specs.Patterns.Like.{items};
-ghost use Rattle.vortex_base.specs.Patterns.Prefix.{pattern_of};
+ghost use Rattle.std.specs.Prelude.{◌≡◌, IsOk, IsTrue, Some, false, option_copied};
 ghost use Rattle.vortex_base.specs.Trees.Tree as tree;
 ghost use Rattle.vortex_base.specs.Meanings.Typing.{type_of};
-ghost use Rattle.vortex_stats.specs.declared.error.StatsError.TheVariants.{Memory};
-ghost use Rattle.vortex_prune.specs.Rewriting.BuiltIn.{beyond as beyond_of, bytes_literal, text_falsifier, text_in};
 ghost use Rattle.vortex_prune.specs.Rewriting.Predicates.{is_connective, is_text};
-ghost use Rattle.vortex_prune.specs.Rewriting.Falsifiers.{like_falsifier};
+ghost use Rattle.vortex_prune.specs.Rewriting.Falsifiers.{beyond as beyond_of, like_falsifier, text_falsifier, text_in};
+ghost use Rattle.vortex_prune.specs.Answers.{Makes};
 
+use crate::built::built;
 use crate::rewrite::builtins::comparison::{both_joined, compared};
 use crate::rewrite::nodes::text_literal;
 use crate::rewrite::proof::Proof;
 use std::alloc::Global;
 use vortex_base::aggregate::AggregateFnRef;
 use vortex_base::bound_expression::BoundExpression;
-use vortex_base::error::BaseError;
 use vortex_base::like::LikeOptions;
 use vortex_base::like_pattern::{LikePattern, successor};
 use vortex_base::scalar_value::ScalarValue;
@@ -33,17 +29,6 @@ fn text_in(e: &BoundExpression) -> Option<&str>
     }
 }
 
-fn read_pattern(alloc: Global, pattern: &str) -> Result<LikePattern, StatsError>
-    ensures value { IfOk result (λ p. p ≡ pattern_of (items (chars pattern.now))) }
-    ensures memory { IfErr result (λ fault. fault ≡ Memory alloc_error) }
-{
-    match LikePattern::try_read(alloc, pattern) {
-        Ok(read) => Ok(read),
-        Err(BaseError::Memory(refused)) => Err(StatsError::Memory(refused)),
-        Err(_) => unreachable!(),
-    }
-}
-
 /// The proof that every value lies above one text, as the operator says, or below another.
 fn beyond(
     alloc: Global,
@@ -54,8 +39,7 @@ fn beyond(
 ) -> Result<Option<Proof>, StatsError>
     requires text { IsTrue (is_text x.now) }
     requires comparison { is_connective operator ≡ false }
-    ensures value { IfOk result (λ o. o ≡ beyond_of x.now operator above.now below.now) }
-    ensures memory { IfErr result (λ fault. fault ≡ Memory alloc_error) }
+    ensures { Makes (beyond_of x.now operator above.now below.now) result }
 {
     let above = text_literal(alloc, above)?;
     let below = text_literal(alloc, below)?;
@@ -73,10 +57,9 @@ fn pattern_proof(
     pattern: &str,
 ) -> Result<Option<Proof>, StatsError>
     requires { IsTrue (is_text x.now) }
-    ensures value { IfOk result (λ o. o ≡ text_falsifier x.now (Some pattern.now)) }
-    ensures memory { IfErr result (λ fault. fault ≡ Memory alloc_error) }
+    ensures { Makes (text_falsifier x.now (Some pattern.now)) result }
 {
-    let pattern = read_pattern(alloc, pattern)?;
+    let pattern = built(LikePattern::try_read(alloc, pattern))?;
     if let Some(exact) = pattern.exact() {
         return beyond(alloc, x, Operator::Gt, exact, exact);
     }
@@ -95,8 +78,7 @@ pub(crate) fn like_proof(
     pattern: &BoundExpression,
 ) -> Result<Option<Proof>, StatsError>
     requires { IsOk (type_of (tree.like options text.now pattern.now)) }
-    ensures value { IfOk result (λ o. o ≡ like_falsifier options text.now pattern.now) }
-    ensures memory { IfErr result (λ fault. fault ≡ Memory alloc_error) }
+    ensures { Makes (like_falsifier options text.now pattern.now) result }
 {
     if options.negated || options.case_insensitive {
         return Ok(None);

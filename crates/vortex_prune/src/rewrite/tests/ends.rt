@@ -1,4 +1,4 @@
-// BETWEEN with strict and crossed ends: the falsifier at the ends of each type, and a user's rules there.
+// BETWEEN with strict and crossed ends: the falsifier at the ends of each type.
 use super::*;
 use vortex_base::bytes::Bytes;
 use vortex_base::pvalue::PValue;
@@ -211,10 +211,10 @@ fn an_empty_range_is_one_visit(rt: HostRuntime) -> Result<(), Fail> {
     let rules = Rules::builtin(alloc);
     let empty = numbers_between(alloc, PValue::I32(3), PValue::I32(4), OPEN)?;
     let (proof, visits) = counted(alloc, &empty, &rules)?;
-    assert_eq!(rt; visits, 1);
+    assert!(rt; visits == 1);
     expect_proof(&rt, proof, truth(alloc, true)?)?;
     let moved = numbers_between(alloc, PValue::I32(3), PValue::I32(5), OPEN)?;
     let (proof, visits) = counted(alloc, &moved, &rules)?;
-    assert_eq!(rt; visits, 4);
+    assert!(rt; visits == 4);
     expect_proof(&rt, proof, beyond(alloc, PValue::I32(4), PValue::I32(4))?)
 }

@@ -16,21 +16,13 @@ fn truth_answer(alloc: Global, truth: bool) -> Result<Option<BoundExpression>, H
     ensures { MatchResult result (λ o. o ≡ Some (bool_literal truth)) (IsHookFault (λ k. false)) }
 {
     let dtype = DType::Bool(Nullability::NonNullable);
-    match literal(alloc, dtype, ScalarValue::from(truth)) {
-        Ok(e) => Ok(Some(e)),
-        Err(StatsError::Memory(refused)) => Err(HookFault::Memory(refused)),
-        Err(_) => unreachable!(),
-    }
+    Ok(Some(literal(alloc, dtype, ScalarValue::from(truth))?))
 }
 
 fn number_answer(alloc: Global) -> Result<Option<BoundExpression>, HookFault>
     ensures { MatchResult result (λ o. o ≡ Some (count_literal_of 7)) (IsHookFault (λ k. false)) }
 {
-    match count_literal(alloc, 7) {
-        Ok(e) => Ok(Some(e)),
-        Err(StatsError::Memory(refused)) => Err(HookFault::Memory(refused)),
-        Err(_) => unreachable!(),
-    }
+    Ok(Some(count_literal(alloc, 7)?))
 }
 
 fn is_not_of(e: &BoundExpression, truth: bool) -> bool
@@ -230,6 +222,11 @@ fn fault_of(answer: Result<Option<BoundExpression>, StatsError>) -> Option<u32> 
     }
 }
 
+// The rule's fault of this number is told.
+fn expect_fault(rt: &impl Abort, answer: Result<Option<BoundExpression>, StatsError>, fault: u32) {
+    assert!(rt; fault_of(answer) == Some(fault));
+}
+
 fn is_not_bool(answer: Result<Option<BoundExpression>, StatsError>) -> bool {
     matches!(answer, Err(StatsError::Rule(RuleFault::NotBool)))
 }
@@ -237,10 +234,9 @@ fn is_not_bool(answer: Result<Option<BoundExpression>, StatsError>) -> bool {
 #[test]
 fn proofs_of_two_rules_are_joined(rt: HostRuntime) -> Result<(), Fail> {
     let alloc = rt.alloc();
-    let mut own: Vec<StatsRewriteRuleRef> = Vec::new(alloc);
-    own.push(Box::new(alloc, Opposite { answer: false })?)?;
-    own.push(Box::new(alloc, Opposite { answer: true })?)?;
-    let rules = Rules::with_own(own);
+    let first = Box::new(alloc, Opposite { answer: false })?;
+    let second = Box::new(alloc, Opposite { answer: true })?;
+    let rules = two_rules(alloc, first, second)?;
     let both = or(alloc, truth(alloc, false)?, truth(alloc, true)?)?;
     let not_true = not(alloc, truth(alloc, true)?)?;
     expect_proof(&rt, falsified(alloc, &not_true, &rules)?, copy(&both)?)?;
@@ -263,10 +259,15 @@ fn without_a_rule_of_its_own_not_has_no_proof(rt: HostRuntime) -> Result<(), Fai
 #[test]
 fn own_proofs_follow_the_built_in_ones(rt: HostRuntime) -> Result<(), Fail> {
     let alloc = rt.alloc();
-    let mut own: Vec<StatsRewriteRuleRef> = Vec::new(alloc);
-    let function = ScalarFnId::IsNull;
-    own.push(Box::new(alloc, Unsure { function })?)?;
-    let rules = Rules::with_own(own);
+    let rules = rules_of(
+        alloc,
+        Box::new(
+            alloc,
+            Unsure {
+                function: ScalarFnId::IsNull,
+            },
+        )?,
+    )?;
     let tests = or(alloc, no_nulls(alloc)?, all_non_null(alloc)?)?;
     let expected = or(alloc, tests, truth(alloc, false)?)?;
     let e = is_null(alloc, a(alloc)?)?;
@@ -276,10 +277,15 @@ fn own_proofs_follow_the_built_in_ones(rt: HostRuntime) -> Result<(), Fail> {
 #[test]
 fn rules_are_asked_at_connectives_too(rt: HostRuntime) -> Result<(), Fail> {
     let alloc = rt.alloc();
-    let mut own: Vec<StatsRewriteRuleRef> = Vec::new(alloc);
-    let function = ScalarFnId::Binary;
-    own.push(Box::new(alloc, Unsure { function })?)?;
-    let rules = Rules::with_own(own);
+    let rules = rules_of(
+        alloc,
+        Box::new(
+            alloc,
+            Unsure {
+                function: ScalarFnId::Binary,
+            },
+        )?,
+    )?;
     let above = gt(alloc, a(alloc)?, int(alloc, 10)?)?;
     let e = or(alloc, above, truth(alloc, false)?)?;
     let left = lt_eq(alloc, max_a(alloc)?, int(alloc, 10)?)?;
@@ -293,10 +299,15 @@ fn rules_are_asked_at_connectives_too(rt: HostRuntime) -> Result<(), Fail> {
 #[test]
 fn rules_are_asked_within_a_between(rt: HostRuntime) -> Result<(), Fail> {
     let alloc = rt.alloc();
-    let mut own: Vec<StatsRewriteRuleRef> = Vec::new(alloc);
-    let function = ScalarFnId::Binary;
-    own.push(Box::new(alloc, Unsure { function })?)?;
-    let rules = Rules::with_own(own);
+    let rules = rules_of(
+        alloc,
+        Box::new(
+            alloc,
+            Unsure {
+                function: ScalarFnId::Binary,
+            },
+        )?,
+    )?;
     let low = gt(alloc, int(alloc, 10)?, max_a(alloc)?)?;
     let low = or(alloc, low, truth(alloc, false)?)?;
     let high = gt(alloc, min_a(alloc)?, int(alloc, 50)?)?;
@@ -313,47 +324,69 @@ fn rules_are_asked_within_a_between(rt: HostRuntime) -> Result<(), Fail> {
 #[test]
 fn an_empty_between_is_asked_for_itself_alone(rt: HostRuntime) -> Result<(), Fail> {
     let alloc = rt.alloc();
-    let mut own: Vec<StatsRewriteRuleRef> = Vec::new(alloc);
-    let function = ScalarFnId::Binary;
-    own.push(Box::new(alloc, Faulty { function, fault: 3 })?)?;
-    let function = ScalarFnId::Between;
-    own.push(Box::new(alloc, Unsure { function })?)?;
-    let rules = Rules::with_own(own);
+    let first = Box::new(
+        alloc,
+        Faulty {
+            function: ScalarFnId::Binary,
+            fault: 3,
+        },
+    )?;
+    let second = Box::new(
+        alloc,
+        Unsure {
+            function: ScalarFnId::Between,
+        },
+    )?;
+    let rules = two_rules(alloc, first, second)?;
     let expected = or(alloc, truth(alloc, true)?, truth(alloc, false)?)?;
     let e = range(alloc, 3, 4, StrictComparison::Strict)?;
     expect_proof(&rt, falsified(alloc, &e, &rules)?, expected)?;
     let e = range(alloc, 3, 5, StrictComparison::Strict)?;
-    assert_eq!(rt; fault_of(falsified(alloc, &e, &rules)), Some(3));
+    expect_fault(&rt, falsified(alloc, &e, &rules), 3);
     Ok(())
 }
 
 #[test]
 fn the_first_fault_ends_the_call(rt: HostRuntime) -> Result<(), Fail> {
     let alloc = rt.alloc();
-    let mut own: Vec<StatsRewriteRuleRef> = Vec::new(alloc);
-    let function = ScalarFnId::IsNull;
-    own.push(Box::new(alloc, Faulty { function, fault: 4 })?)?;
-    let function = ScalarFnId::Not;
-    own.push(Box::new(alloc, Faulty { function, fault: 3 })?)?;
-    let rules = Rules::with_own(own);
+    let first = Box::new(
+        alloc,
+        Faulty {
+            function: ScalarFnId::IsNull,
+            fault: 4,
+        },
+    )?;
+    let second = Box::new(
+        alloc,
+        Faulty {
+            function: ScalarFnId::Not,
+            fault: 3,
+        },
+    )?;
+    let rules = two_rules(alloc, first, second)?;
     let not_true = not(alloc, truth(alloc, true)?)?;
     let null = is_null(alloc, a(alloc)?)?;
-    assert_eq!(rt; fault_of(satisfied(alloc, &null, &rules)), Some(4));
+    expect_fault(&rt, satisfied(alloc, &null, &rules), 4);
     let e = and(alloc, copy(&not_true)?, copy(&null)?)?;
-    assert_eq!(rt; fault_of(falsified(alloc, &e, &rules)), Some(3));
+    expect_fault(&rt, falsified(alloc, &e, &rules), 3);
     expect_none(&rt, satisfied(alloc, &e, &rules)?)?;
     let e = or(alloc, null, not_true)?;
-    assert_eq!(rt; fault_of(falsified(alloc, &e, &rules)), Some(4));
+    expect_fault(&rt, falsified(alloc, &e, &rules), 4);
     Ok(())
 }
 
 #[test]
 fn a_proof_has_to_be_a_truth(rt: HostRuntime) -> Result<(), Fail> {
     let alloc = rt.alloc();
-    let mut own: Vec<StatsRewriteRuleRef> = Vec::new(alloc);
-    let function = ScalarFnId::Not;
-    own.push(Box::new(alloc, Number { function })?)?;
-    let rules = Rules::with_own(own);
+    let rules = rules_of(
+        alloc,
+        Box::new(
+            alloc,
+            Number {
+                function: ScalarFnId::Not,
+            },
+        )?,
+    )?;
     let e = not(alloc, truth(alloc, true)?)?;
     assert!(rt; is_not_bool(falsified(alloc, &e, &rules)));
     assert!(rt; is_not_bool(satisfied(alloc, &e, &rules)));

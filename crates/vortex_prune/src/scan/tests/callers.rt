@@ -5,7 +5,7 @@ ghost use Rattle.vortex_base.specs.Meanings.Fitting.{fits_scope};
 ghost use Rattle.vortex_base.specs.Trees.Tree.{is_plain};
 ghost use Rattle.vortex_prune.specs.Part.{IsTruePart};
 ghost use Rattle.vortex_prune.specs.Rewriting.Predicates.{is_predicate};
-ghost use Rattle.vortex_prune.specs.Scanning.ScanRefusals.{IsMemory};
+ghost use Rattle.vortex_prune.specs.Answers.{IsMemory};
 ghost use Rattle.vortex_prune.specs.Scanning.Selection.{full};
 
 use super::*;
@@ -31,12 +31,17 @@ fn scan_by_statistics(
 #[test]
 fn a_caller_has_the_rows(rt: HostRuntime) -> Result<(), Fail> {
     let alloc = rt.alloc();
-    let parts = vec![in alloc; part(alloc, &[Some(8), None, Some(20)], bounds(8, 25))?]?;
-    let predicate = compare(alloc, Operator::Gt, 10)?;
-    if !predicate.is_plain() || !all_fit(&parts, &predicate) {
+    let zones = bounded(alloc, &[Some(8), None, Some(20)], 8, 25)?;
+    let parts = zones.parts();
+    let predicate = above(alloc, 10)?;
+    if !predicate.is_plain() || !all_fit(parts, &predicate) {
         return Err(Fail::from(StatsError::Mismatch));
     }
-    let found = scan_by_statistics(alloc, &parts, &predicate)?;
-    assert!(rt; found.selected.as_slice() == [(0, 2)].as_slice());
+    expect_found(
+        &rt,
+        scan_by_statistics(alloc, parts, &predicate)?,
+        &[],
+        &[(0, 2)],
+    );
     Ok(())
 }

@@ -7,25 +7,20 @@ ghost use Rattle.vortex_prune.specs.Rewriting.Falsifiers.{bool_literal};
 ghost use Rattle.vortex_prune.specs.Rewriting.RuleExamples.{at_null_test};
 
 use super::*;
-use crate::bind::stat_binder::{StatBinder, hooked};
+use crate::bind::stat_binder::StatBinder;
 use crate::hook_fault::HookFault;
 use crate::rewrite::nodes::literal;
 use crate::rewrite::rule::{StatsRewriteRule, StatsRewriteRuleRef};
 use vortex_base::aggregate::AggregateFnRef;
+use vortex_base::bound;
 use vortex_base::bound_expression::parts::Parts;
 use vortex_base::types::ScalarFnId;
 use vortex_stats::error::{BinderFault, RuleFault};
 
-const BOOL: DType = DType::Bool(Nullability::NonNullable);
-
 fn truth_answer(alloc: Global) -> Result<Option<BoundExpression>, HookFault>
     ensures { MatchResult result (λ o. o ≡ Some (bool_literal true)) (IsHookFault (λ k. false)) }
 {
-    match literal(alloc, BOOL, ScalarValue::from(true)) {
-        Ok(e) => Ok(Some(e)),
-        Err(StatsError::Memory(refused)) => Err(HookFault::Memory(refused)),
-        Err(_) => unreachable!(),
-    }
+    Ok(Some(literal(alloc, BOOL, ScalarValue::from(true))?))
 }
 
 // Whether it is IS NULL of a column whose type has no null.
@@ -113,8 +108,8 @@ impl StatsRewriteRule for Open {
         alloc: Global,
         _expression: &BoundExpression,
     ) -> Result<Option<BoundExpression>, HookFault> {
-        let column = hooked(bound::col(alloc, 0, NUMBER))?;
-        Ok(Some(hooked(bound::is_null(alloc, column))?))
+        let column = bound::col(alloc, 0, NUMBER)?;
+        Ok(Some(bound::is_null(alloc, column)?))
     }
 
     fn satisfy(
@@ -196,64 +191,38 @@ impl StatBinder for Truths {
     }
 }
 
-// The scan by these rules and binders.
-fn scanned_with<B: StatBinder>(
-    alloc: Global,
-    parts: &[Part],
-    binders: &[B],
-    predicate: &BoundExpression,
-    rules: &Rules,
-) -> Result<Scan, StatsError> {
-    if binders.len() != parts.len() || !predicate.is_plain() || !all_fit(parts, predicate) {
-        return Err(StatsError::Mismatch);
-    }
-    scan(alloc, parts, binders, predicate, rules)
-}
-
-// The scope of one column `a` without nulls.
-fn plain_scope(alloc: Global) -> Result<Scope, Fail> {
-    let name = String::from_str(alloc, "a")?;
-    Ok(Scope::try_new(vec![in alloc; (name, LITERAL)]?)?)
+// A part of one number, of a type without null.
+fn part_of_values(alloc: Global) -> Result<Zones, Fail> {
+    let chunk = chunk_of(alloc, LITERAL, one_value(alloc, number(1))?, 0)?;
+    let part = part_of(alloc, chunk, no_statistics(alloc))?;
+    Ok(zones_of(
+        alloc,
+        scope_of(alloc, LITERAL)?,
+        vec![in alloc; part]?,
+    )?)
 }
 
 #[test]
 fn a_rule_may_rest_on_a_type(rt: HostRuntime) -> Result<(), Fail> {
     let alloc = rt.alloc();
-    let mut own: Vec<StatsRewriteRuleRef> = Vec::new(alloc);
-    own.push(Box::new(alloc, Declared)?)?;
-    let rules = Rules::with_own(own);
-    let values = vec![in alloc; Some(number(1))]?;
-    let column = Column::try_new(LITERAL, values, 0)?;
-    let chunk = Chunk::try_new(plain_scope(alloc)?, vec![in alloc; column]?)?;
-    let parts = match Part::try_new(chunk, vec![in alloc; StatsSet::new(alloc)]?) {
-        Ok(part) => vec![in alloc; part]?,
-        Err(refused) => return Err(Fail::from(refused.error)),
-    };
-    let is_null = bound::is_null(alloc, bound::col(alloc, 0, LITERAL)?)?;
-    let table = zones_of(alloc, plain_scope(alloc)?, parts)?;
-    let found = both_scans(alloc, &table, &is_null, &rules)?;
-    assert!(rt; found.skipped.as_slice() == [0].as_slice());
-    let found = scanned(alloc, &table, &is_null)?;
-    assert!(rt; found.skipped.is_empty());
-    assert!(rt; found.selected.is_empty());
+    let parts = part_of_values(alloc)?;
+    let is_null = is_null(alloc, col(alloc, 0, LITERAL)?)?;
+    let rules = rules_of(alloc, Box::new(alloc, Declared)?)?;
+    let found = scanned_by(alloc, &parts, &is_null, &rules)?;
+    expect_found(&rt, found, &[0], &[]);
+    expect_found(&rt, scanned(alloc, &parts, &is_null)?, &[], &[]);
     Ok(())
 }
 
 #[test]
 fn an_open_proof_is_refused_at_a_part(rt: HostRuntime) -> Result<(), Fail> {
     let alloc = rt.alloc();
-    let mut own: Vec<StatsRewriteRuleRef> = Vec::new(alloc);
-    own.push(Box::new(alloc, Open)?)?;
-    let rules = Rules::with_own(own);
-    let opposite = bound::not(alloc, compare(alloc, Operator::Gt, 10)?)?;
-    let none = tabled(alloc, Vec::new(alloc))?;
-    let found = both_scans(alloc, &none, &opposite, &rules)?;
-    assert!(rt; found.skipped.is_empty() && found.selected.is_empty());
-    let parts = tabled(
-        alloc,
-        vec![in alloc; part(alloc, &[Some(1)], bounds(1, 1))?]?,
-    )?;
-    let refused = both_scans(alloc, &parts, &opposite, &rules);
+    let rules = rules_of(alloc, Box::new(alloc, Open)?)?;
+    let opposite = not(alloc, above(alloc, 10)?)?;
+    let found = scanned_by(alloc, &no_parts(alloc)?, &opposite, &rules)?;
+    expect_found(&rt, found, &[], &[]);
+    let parts = bounded(alloc, &[Some(1)], 1, 1)?;
+    let refused = scanned_by(alloc, &parts, &opposite, &rules);
     assert!(rt; matches!(refused, Err(StatsError::OpenProof)));
     Ok(())
 }
@@ -261,30 +230,27 @@ fn an_open_proof_is_refused_at_a_part(rt: HostRuntime) -> Result<(), Fail> {
 #[test]
 fn an_own_fault_ends_the_scan(rt: HostRuntime) -> Result<(), Fail> {
     let alloc = rt.alloc();
-    let mut own: Vec<StatsRewriteRuleRef> = Vec::new(alloc);
-    own.push(Box::new(alloc, Faulty)?)?;
-    let rules = Rules::with_own(own);
-    let parts = tabled(
-        alloc,
-        vec![in alloc; part(alloc, &[Some(1)], bounds(1, 1))?]?,
-    )?;
-    let is_value = bound::is_not_null(alloc, a(alloc)?)?;
-    let refused = both_scans(alloc, &parts, &is_value, &rules);
+    let rules = rules_of(alloc, Box::new(alloc, Faulty)?)?;
+    let parts = bounded(alloc, &[Some(1)], 1, 1)?;
+    let is_value = is_not_null(alloc, a(alloc)?)?;
+    let refused = scanned_by(alloc, &parts, &is_value, &rules);
     assert!(rt; matches!(refused, Err(StatsError::Rule(RuleFault::Own(3)))));
-    let above = compare(alloc, Operator::Gt, 10)?;
-    let found = both_scans(alloc, &parts, &above, &rules)?;
-    assert!(rt; found.skipped.as_slice() == [0].as_slice());
+    let found = scanned_by(alloc, &parts, &above(alloc, 10)?, &rules)?;
+    expect_found(&rt, found, &[0], &[]);
     Ok(())
 }
 
 #[test]
 fn an_answer_of_another_type_is_refused(rt: HostRuntime) -> Result<(), Fail> {
     let alloc = rt.alloc();
-    let rules = Rules::builtin(alloc);
-    let parts = vec![in alloc; part(alloc, &[Some(1)], bounds(1, 1))?]?;
-    let binders = vec![in alloc; Truths]?;
-    let above = compare(alloc, Operator::Gt, 10)?;
-    let refused = scanned_with(alloc, &parts, &binders, &above, &rules);
+    let parts = bounded(alloc, &[Some(1)], 1, 1)?;
+    let refused = scanned_with(
+        alloc,
+        parts.parts(),
+        &[Truths],
+        &above(alloc, 10)?,
+        &Rules::builtin(alloc),
+    );
     assert!(rt; matches!(refused, Err(StatsError::Binder(BinderFault::WrongType))));
     Ok(())
 }

@@ -1,4 +1,4 @@
-use Rattle.std.proofs.Common.{◌≡◌, ◌<◌, refl, ap, length, sym, arith}
+use Rattle.std.proofs.Common.{◌≡◌, ◌<◌, refl, ap, length, arith}
 use Rattle.vortex_prune.proofs.Honesty.PartLemmas.{sets_pushed, stats_within}
 use Rattle.vortex_prune.proofs.part.join.merged_sets.Goals as goal
 

@@ -14,7 +14,7 @@ use Rattle.vortex_prune.proofs.rewrite.engine.+rewrite_node.Goals.{in-None+in_ok
 pub returns-in_ok-table_falsifiers-in_default-clause-answer : goal.returns-in_ok-table_falsifiers-in_default-clause-answer
 returns-in_ok-table_falsifiers-in_default-clause-answer g t c =
     let plain : is_rewritten c.args.e.now ≡ false = others_plain c.args.e.now _ c.parts.ensures c.in_default.not-Binary c.in_default.not-Between in
-    table_answer (own_rules (λ i. (g.dyn-1.0.entry i).1) c.args.rules.now.own.items) c.args.e.now c.in_ok-table_falsifiers-in_default.field-0.items _ plain c.in_ok-table_falsifiers-in_default.ensures.value c.node-in_default.ensures.answer
+    table_answer (own_rules (λ i. (g.dyn-1.0.entry i).1) c.args.rules.now.own.items) c.args.e.now c.in_ok-table_falsifiers-in_default.field-0.items _ plain c.in_ok-table_falsifiers-in_default.ensures c.node-in_default.ensures.answer
 
 pub returns-in_ok-table_falsifiers-in_default-clause-visits : goal.returns-in_ok-table_falsifiers-in_default-clause-visits
 returns-in_ok-table_falsifiers-in_default-clause-visits g t c =
@@ -26,20 +26,20 @@ pub returns-in_ok-at_most_one-in-Between-clause-answer : goal.returns-in_ok-at_m
 returns-in_ok-at_most_one-in-Between-clause-answer g t c =
     let rs = own_rules (λ i. (g.dyn-1.0.entry i).1) c.args.rules.now.own.items in
     let p_is : c.args.e.now ≡ between c.in-Between.options c.in-Between.x.now c.in-Between.lower.now c.in-Between.upper.now = c.parts.ensures ∙ ap whole c.in-Between.is in
-    let halves_is = c.in_ok-halves-in-Between.ensures.value in
+    let halves_is = c.in_ok-halves-in-Between.ensures in
     let proof_is : c.match-halves.proof ≡ ends_node rs c.in-Between.x.now (ends c.in-Between.options c.in-Between.lower.now c.in-Between.upper.now) =
     elim c.match-halves.branch [
-      | in-None+in_ok-truth-in-None w ↦ w.proof-is ∙ ap Some w.in_ok-truth-in-None.ensures.value ∙ empty_node rs c.in-Between.options c.in-Between.x.now c.in-Between.lower.now c.in-Between.upper.now c.args.e.now p_is (sym w.in-None.is ∙ halves_is)
+      | in-None+in_ok-truth-in-None w ↦ w.proof-is ∙ ap Some w.in_ok-truth-in-None.ensures ∙ empty_node rs c.in-Between.options c.in-Between.x.now c.in-Between.lower.now c.in-Between.upper.now c.args.e.now p_is (sym w.in-None.is ∙ halves_is)
       | in-Some+in_ok-proof-in-Some w ↦ w.proof-is ∙ w.in_ok-proof-in-Some.ensures.answer ∙ moved_node rs c.in-Between.options c.in-Between.x.now c.in-Between.lower.now c.in-Between.upper.now c.args.e.now p_is w.in-Some.halves (sym w.in-Some.is ∙ halves_is)
     ] in
-    between_answer rs c.in-Between.options c.in-Between.x.now c.in-Between.lower.now c.in-Between.upper.now c.args.e.now p_is c.match-halves.proof c.in_ok-at_most_one-in-Between.field-0.items _ proof_is c.in_ok-at_most_one-in-Between.ensures.value c.node-in-Between.ensures.answer
+    between_answer rs c.in-Between.options c.in-Between.x.now c.in-Between.lower.now c.in-Between.upper.now c.args.e.now p_is c.match-halves.proof c.in_ok-at_most_one-in-Between.field-0.items _ proof_is c.in_ok-at_most_one-in-Between.ensures c.node.ensures.answer
 
 pub returns-in_ok-at_most_one-in-Between-clause-visits : goal.returns-in_ok-at_most_one-in-Between-clause-visits
 returns-in_ok-at_most_one-in-Between-clause-visits g t c =
     let rs = own_rules (λ i. (g.dyn-1.0.entry i).1) c.args.rules.now.own.items in
     let p_is : c.args.e.now ≡ between c.in-Between.options c.in-Between.x.now c.in-Between.lower.now c.in-Between.upper.now = c.parts.ensures ∙ ap whole c.in-Between.is in
-    let halves_is = c.in_ok-halves-in-Between.ensures.value in
-    always_ok c.node-in-Between.result _ (elim c.match-halves.branch [
+    let halves_is = c.in_ok-halves-in-Between.ensures in
+    always_ok c.node.result _ (elim c.match-halves.branch [
       | in-None+in_ok-truth-in-None w ↦ empty_turns c.args.visits.now c.saturating_add.result c.match-halves.visits (visits c.args.e.now) 18446744073709551615 c.saturating_add.ensures w.visits-is
           (empty_visits rs c.in-Between.options c.in-Between.x.now c.in-Between.lower.now c.in-Between.upper.now c.args.e.now p_is (sym w.in-None.is ∙ halves_is))
       | in-Some+in_ok-proof-in-Some w ↦
@@ -85,20 +85,20 @@ returns-in_err-proof-in-Some-clause-refusal g t c =
     let p = err_from_is_err_and c.from_residual-in_err-proof-in-Some.result c.from_residual-in_err-proof-in-Some.ensures.1 in
     rw (p.1, p.2)
     (refusal-more _ _ _
-    (at_halves (λ rule. rule.falsifier) (own_rules (λ i. (g.dyn-1.0.entry i).1) c.args.rules.now.own.items) c.args.e.now c.in-Between.options c.in-Between.x.now c.in-Between.lower.now c.in-Between.upper.now c.in-Some.halves p_is (sym c.in-Some.is ∙ c.in_ok-halves-in-Between.ensures.value))
+    (at_halves (λ rule. rule.falsifier) (own_rules (λ i. (g.dyn-1.0.entry i).1) c.args.rules.now.own.items) c.args.e.now c.in-Between.options c.in-Between.x.now c.in-Between.lower.now c.in-Between.upper.now c.in-Some.halves p_is (sym c.in-Some.is ∙ c.in_ok-halves-in-Between.ensures))
     c.in_err-proof-in-Some.ensures.refusal)
 
-pub returns-in_ok-at_most_one-in-And-clause-refusal : goal.returns-in_ok-at_most_one-in-And-clause-refusal
-returns-in_ok-at_most_one-in-And-clause-refusal g t c = answer-more _ _ _ (at_node (λ rule. rule.falsifier) (own_rules (λ i. (g.dyn-1.0.entry i).1) c.args.rules.now.own.items) c.args.e.now) c.node.ensures.refusal
+pub returns-in_ok-joined-in-And-clause-refusal : goal.returns-in_ok-joined-in-And-clause-refusal
+returns-in_ok-joined-in-And-clause-refusal g t c = answer-more _ _ _ (at_node (λ rule. rule.falsifier) (own_rules (λ i. (g.dyn-1.0.entry i).1) c.args.rules.now.own.items) c.args.e.now) c.node_of_one.ensures.refusal
 
-pub returns-in_ok-at_most_one-in-Or-clause-refusal : goal.returns-in_ok-at_most_one-in-Or-clause-refusal
-returns-in_ok-at_most_one-in-Or-clause-refusal g t c = answer-more _ _ _ (at_node (λ rule. rule.falsifier) (own_rules (λ i. (g.dyn-1.0.entry i).1) c.args.rules.now.own.items) c.args.e.now) c.node-in-Or.ensures.refusal
+pub returns-in_ok-joined-in-Or-clause-refusal : goal.returns-in_ok-joined-in-Or-clause-refusal
+returns-in_ok-joined-in-Or-clause-refusal g t c = answer-more _ _ _ (at_node (λ rule. rule.falsifier) (own_rules (λ i. (g.dyn-1.0.entry i).1) c.args.rules.now.own.items) c.args.e.now) c.node_of_one-in-Or.ensures.refusal
 
-pub returns-in_ok-table_falsifiers-in_default-operator-clause-refusal : goal.returns-in_ok-table_falsifiers-in_default-operator-clause-refusal
-returns-in_ok-table_falsifiers-in_default-operator-clause-refusal g t c = answer-more _ _ _ (at_node (λ rule. rule.falsifier) (own_rules (λ i. (g.dyn-1.0.entry i).1) c.args.rules.now.own.items) c.args.e.now) c.node-in_default-operator.ensures.refusal
+pub returns-in_ok-compared-in_default-operator-clause-refusal : goal.returns-in_ok-compared-in_default-operator-clause-refusal
+returns-in_ok-compared-in_default-operator-clause-refusal g t c = answer-more _ _ _ (at_node (λ rule. rule.falsifier) (own_rules (λ i. (g.dyn-1.0.entry i).1) c.args.rules.now.own.items) c.args.e.now) c.node_of_one-in_default-operator.ensures.refusal
 
 pub returns-in_ok-at_most_one-in-Between-clause-refusal : goal.returns-in_ok-at_most_one-in-Between-clause-refusal
-returns-in_ok-at_most_one-in-Between-clause-refusal g t c = answer-more _ _ _ (at_node (λ rule. rule.falsifier) (own_rules (λ i. (g.dyn-1.0.entry i).1) c.args.rules.now.own.items) c.args.e.now) c.node-in-Between.ensures.refusal
+returns-in_ok-at_most_one-in-Between-clause-refusal g t c = answer-more _ _ _ (at_node (λ rule. rule.falsifier) (own_rules (λ i. (g.dyn-1.0.entry i).1) c.args.rules.now.own.items) c.args.e.now) c.node.ensures.refusal
 
 pub returns-in_ok-table_falsifiers-in_default-clause-refusal : goal.returns-in_ok-table_falsifiers-in_default-clause-refusal
 returns-in_ok-table_falsifiers-in_default-clause-refusal g t c = answer-more _ _ _ (at_node (λ rule. rule.falsifier) (own_rules (λ i. (g.dyn-1.0.entry i).1) c.args.rules.now.own.items) c.args.e.now) c.node-in_default.ensures.refusal

@@ -10,4 +10,4 @@ ends-requires c = ends_compare c.args.options c.args.x.now c.args.lower.now c.ar
 pub both_halves-requires : goal.both_halves-requires
 both_halves-requires c =
     moved_typed c.args.options c.args.x.now c.args.lower.now c.args.upper.now (record { options = c.in-Some.options; lower = c.in-Some.lower; upper = c.in-Some.upper }) c.requires
-    (sym c.in_ok-ends.ensures.value ∙ ap (option_map ends_from) c.in-Some.is)
+    (sym c.in_ok-ends.ensures ∙ ap (option_map ends_from) c.in-Some.is)

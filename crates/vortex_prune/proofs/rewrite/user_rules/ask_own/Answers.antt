@@ -12,5 +12,5 @@ returns-in_err-proof-clause-refusal g c =
 
 pub loop-rule-preserved : goal.loop-rule-preserved
 loop-rule-preserved g c =
-    c.in_ok-push_some.ensures.value ∙
+    c.in_ok-push_some.ensures ∙
     own_more (λ i. (g.dyn-1.0.entry i).1) (proof_of c.args.side) _ _ _ _ _ _ _ c.loop-rule-test.true c.rule-item.is c.loop-rule.invariant (ap option_to_list c.in_ok-proof.ensures)

@@ -1,4 +1,4 @@
-use Rattle.std.proofs.Common.{◌∙◌, sym}
+use Rattle.std.proofs.Common.{◌∙◌}
 use Rattle.vortex_base.specs.Data.Columns.{row_of, row_count}
 use Rattle.vortex_base.specs.Meanings.Meaning.{satisfies}
 use Rattle.vortex_prune.proofs.Scanning.SelectLemmas.{row_added}

@@ -6,4 +6,4 @@ pub binary-requires : goal.binary-requires
 binary-requires c =
     extremes_compare c.args.operator c.args.left.0 c.args.right.0 c.args.left.1.now c.args.right.1.now c.in-Some-Some.low c.in-Some-Some.high
     c.requires.comparison c.requires.left_extreme c.requires.right_extreme c.requires.comparable
-    (sym c.in-Some-Some.is-0 ∙ c.in_ok-low.ensures.value) (sym c.in-Some-Some.is-1 ∙ c.in_ok-high.ensures.value)
+    (sym c.in-Some-Some.is-0 ∙ c.in_ok-low.ensures) (sym c.in-Some-Some.is-1 ∙ c.in_ok-high.ensures)

@@ -10,5 +10,5 @@ built-requires c = fits_or_memory (binary c.args.operator c.args.left c.args.rig
 
 pub invariant_of-result : goal.invariant_of-result
 invariant_of-result c =
-    subst (λ e. IsTrue (is_predicate e)) (sym (made_is (binary c.args.operator c.args.left c.args.right) _ _ c.requires c.binary.ensures c.in_ok-expression.ensures.value))
+    subst (λ e. IsTrue (is_predicate e)) (sym (made_is (binary c.args.operator c.args.left c.args.right) _ _ c.requires c.binary.ensures c.in_ok-expression.ensures))
     (binary_is_predicate c.args.operator c.args.left c.args.right c.requires)
