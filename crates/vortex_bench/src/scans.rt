@@ -82,12 +82,19 @@ fn part_of(alloc: Global, size: Size, number: i64) -> Result<Part> {
     }
 }
 
+// Whether a part has the scope.
+fn has_scope(part: &Part, scope: &Scope) -> bool
+    ensures { OnTrue result (part.now.chunk.scope ≡ scope.now) }
+{
+    *part.chunk().scope() == *scope
+}
+
 // Whether each part has the scope.
 fn all_scoped(scope: &Scope, parts: &[Part]) -> bool
     ensures { OnTrue result (HaveScope scope.now parts.now) }
 {
     for part in parts {
-        if *part.chunk().scope() != *scope {
+        if !has_scope(part, scope) {
             return false;
         }
     }

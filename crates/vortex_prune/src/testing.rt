@@ -223,12 +223,19 @@ pub fn two_rules(
     Ok(Rules::with_own(vec![in alloc; first, second]?))
 }
 
+// Whether a part has the scope.
+fn has_scope(part: &Part, scope: &Scope) -> bool
+    ensures { OnTrue result (part.now.chunk.scope ≡ scope.now) }
+{
+    *part.chunk().scope() == *scope
+}
+
 /// Whether each part has the scope.
 pub fn all_scoped(scope: &Scope, parts: &[Part]) -> bool
     ensures { OnTrue result (HaveScope scope.now parts.now) }
 {
     for part in parts {
-        if *part.chunk().scope() != *scope {
+        if !has_scope(part, scope) {
             return false;
         }
     }
