@@ -12,15 +12,15 @@ use vortex_base::chunk::Chunk;
 use vortex_base::column::Column;
 use vortex_base::dtype::DType;
 use vortex_base::error::BaseError;
-use vortex_base::types::{Nullability, PType};
 use vortex_base::scalar::Scalar;
 use vortex_base::scalar_value::ScalarValue;
 use vortex_base::scope::Scope;
+use vortex_base::types::{Nullability, PType};
+use vortex_prune::bind::stats_binder::StatsBinder;
 use vortex_prune::part::Part;
 use vortex_prune::rewrite::rules::Rules;
 use vortex_prune::scan::scan;
 use vortex_prune::scan::zones::scan_zones;
-use vortex_prune::bind::stats_binder::StatsBinder;
 use vortex_prune::zones::Zones;
 use vortex_stats::error::StatsError;
 use vortex_stats::precision::Precision;
@@ -189,13 +189,18 @@ pub fn scanned_by_binders(alloc: Global, size: Size) -> Result<usize> {
 pub fn scanned_by_table(alloc: Global, size: Size) -> Result<usize> {
     let zones = table_of(alloc, size)?;
     let predicate = all_above(alloc, size)?;
-    if !predicate.is_plain() || !predicate.fits_scope(zones.scope()) || !all_fit(zones.parts(), &predicate) {
+    if !predicate.is_plain()
+        || !predicate.fits_scope(zones.scope())
+        || !all_fit(zones.parts(), &predicate)
+    {
         return Err(StatsError::Mismatch.into());
     }
     let rules = Rules::builtin(alloc);
     let mut selected = 0;
     for _ in 0..REPEATS {
-        selected = scan_zones(alloc, &zones, &predicate, &rules)?.selected.len();
+        selected = scan_zones(alloc, &zones, &predicate, &rules)?
+            .selected
+            .len();
     }
     Ok(selected)
 }

@@ -195,11 +195,7 @@ impl StatBinder for Truths {
 fn part_of_values(alloc: Global) -> Result<Zones, Fail> {
     let chunk = chunk_of(alloc, LITERAL, one_value(alloc, number(1))?, 0)?;
     let part = part_of(alloc, chunk, no_statistics(alloc))?;
-    Ok(zones_of(
-        alloc,
-        scope_of(alloc, LITERAL)?,
-        vec![in alloc; part]?,
-    )?)
+    Ok(zones_of(alloc, scope_of(alloc, LITERAL)?, vec![in alloc; part]?)?)
 }
 
 #[test]
