@@ -1,5 +1,5 @@
-// Work for timing the layers: LIKE on a text that tempts a search to go back, the evaluation of comparisons, the calls of
-// a set of statistics, and scans of many small parts.
+// Work for timing the layers: LIKE on a text that tempts a search to go back, comparisons, the
+// calls of a set of statistics, and scans of many small parts.
 #![tactic(auto)]
 
 mod scans;

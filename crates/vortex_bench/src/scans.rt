@@ -135,7 +135,8 @@ fn all_above(alloc: Global, size: Size) -> Result<BoundExpression> {
 
 // Whether the predicate fits the scope of each part.
 fn all_fit(parts: &[Part], predicate: &BoundExpression) -> bool
-    ensures { OnTrue result (All (λ part. IsTrue (fits_scope predicate.now part.chunk.scope)) parts.now) }
+    ensures { OnTrue result
+        (All (λ part. IsTrue (fits_scope predicate.now part.chunk.scope)) parts.now) }
 {
     for part in parts {
         if !predicate.fits_scope(part.chunk().scope()) {

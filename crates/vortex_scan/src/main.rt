@@ -1,4 +1,4 @@
-// Reads parts and a predicate from standard input, and prints which parts were skipped and which rows were selected.
+// Reads parts and a predicate from standard input, and prints the skipped parts and selected rows.
 #![tactic(auto)]
 
 use std::io;

@@ -1,5 +1,5 @@
 -- The answers of the parts' own statistics, and what a text's reply is made of.
-use Rattle.std.proofs.Common.{◌≡◌, List, [], ◌∷◌, map, refl, ap}
+use Rattle.std.proofs.Common.{◌≡◌, List, [], ◌∷◌, map, refl, ap, alloc_error}
 use Rattle.std.specs.declared.alloc.AllocError.{AllocError}
 use Rattle.vortex_prune.specs.Part.{PartData}
 use Rattle.vortex_prune.specs.Binding.PartAnswers.{part_values}
@@ -15,12 +15,4 @@ own_answered (part ∷ parts) = ap (λ more. by_statistics part ∷ more) (own_a
 
 -- what is told as refused memory can be no other fault
 pub not_memory : (f : StatsError) → IsMemory f → ((refused : AllocError) → f ≡ faults.Memory refused → ⊥) → ⊥
-not_memory (faults.Memory refused) h other = other refused refl
-not_memory faults.NotPredicate h other = absurd h
-not_memory faults.Mismatch h other = absurd h
-not_memory faults.Unsupported h other = absurd h
-not_memory (faults.Conflict s) h other = absurd h
-not_memory (faults.Binder f) h other = absurd h
-not_memory (faults.Rule f) h other = absurd h
-not_memory faults.OpenProof h other = absurd h
-not_memory faults.TooLarge h other = absurd h
+not_memory f h other = other alloc_error h

@@ -98,17 +98,17 @@ shut_always [] p = refl
 shut_always (part ∷ parts) p = built_in_is_shut p
 
 memory_alone : (p : Tree Place) (parts : List PartData) (f : StatsError) → IsRefusal (zone_causes [] p parts) f → IsMemory f
-memory_alone p parts (fault.Memory a) h = tt
-memory_alone p parts fault.NotPredicate h = h
-memory_alone p parts fault.Mismatch h = h
-memory_alone p parts fault.Unsupported h = h
-memory_alone p parts (fault.Conflict s) h = h
-memory_alone p parts (fault.Binder (binder_fault.Own k)) h = h
-memory_alone p parts (fault.Binder binder_fault.WrongType) h = h
-memory_alone p parts (fault.Rule (rule_fault.Own k)) h = no_element h.1 h.3
-memory_alone p parts (fault.Rule rule_fault.NotBool) h = no_element h.1 h.3
+memory_alone p parts (fault.Memory a) h = refl
+memory_alone p parts fault.NotPredicate h = absurd h
+memory_alone p parts fault.Mismatch h = absurd h
+memory_alone p parts fault.Unsupported h = absurd h
+memory_alone p parts (fault.Conflict s) h = absurd h
+memory_alone p parts (fault.Binder (binder_fault.Own k)) h = absurd h
+memory_alone p parts (fault.Binder binder_fault.WrongType) h = absurd h
+memory_alone p parts (fault.Rule (rule_fault.Own k)) h = absurd (no_element h.1 h.3)
+memory_alone p parts (fault.Rule rule_fault.NotBool) h = absurd (no_element h.1 h.3)
 memory_alone p parts fault.OpenProof h = absurd (true≢false (sym h ∙ shut_always parts p))
-memory_alone p parts fault.TooLarge h = h
+memory_alone p parts fault.TooLarge h = absurd h
 
 pub zones_refused_for_memory : {X : Type 0} (rules : List OwnRule) (p : Tree Place) (parts : List PartData) (r : Result X StatsError) → rules ≡ [] → IfErr r (IsRefusal (zone_causes rules p parts)) → IfErr r IsMemory
 zones_refused_for_memory rules p parts (Ok x) none h = tt

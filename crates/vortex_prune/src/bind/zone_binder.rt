@@ -5,7 +5,7 @@ ghost use Rattle.vortex_prune.specs.Binding.Binders.{IsHonestOver};
 ghost use Rattle.vortex_prune.specs.Part.{IsTruePart, PartData};
 ghost use Rattle.vortex_prune.specs.Zones.{zone_table};
 
-use crate::bind::stat_binder::{StatBinder, hooked};
+use crate::bind::stat_binder::StatBinder;
 use crate::hook_fault::HookFault;
 use crate::zones::Zones;
 use std::alloc::Global;
@@ -80,7 +80,7 @@ impl<'a> StatBinder for ZoneBinder<'a> {
         match input.parts() {
             Parts::Column(place, dtype) => match self.zones.place_of(place, *aggregate, dtype) {
                 None => Ok(None),
-                Some((at, dtype)) => Ok(Some(hooked(bound::col(alloc, at, dtype))?)),
+                Some((at, dtype)) => Ok(Some(bound::col(alloc, at, dtype)?)),
             },
             _ => Ok(None),
         }

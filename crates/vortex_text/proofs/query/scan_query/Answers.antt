@@ -1,4 +1,4 @@
-use Rattle.std.proofs.Common.{◌≡◌, [], false, ap, sym, ◌∙◌, inl, inr}
+use Rattle.std.proofs.Common.{◌≡◌, [], ap, sym, ◌∙◌, inl, inr}
 use Rattle.std.proofs.lemmas.Bool.{cases_Bool}
 use Rattle.vortex_prune.specs.Rewriting.Falsifiers.{falsifier}
 use Rattle.vortex_prune.specs.Rewriting.Predicates.{is_predicate}

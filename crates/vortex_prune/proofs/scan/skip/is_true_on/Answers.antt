@@ -12,4 +12,4 @@ pub returns-clause-value : goal.returns-clause-value
 returns-clause-value c =
     let value = meaning c.args.bound.now c.args.row.now c.args.rows in
     let makes = row_value c.args.bound.now c.args.row.now c.args.rows c.evaluate.result c.requires.free c.requires.fits c.evaluate.ensures.value in
-    c.is_true.ensures ∙ ap is_true (made_value value c.in_ok-value.value c.evaluate.result makes c.in_ok-value.ensures.value)
+    c.is_true.ensures ∙ ap is_true (made_value value c.in_ok-value.value c.evaluate.result makes c.in_ok-value.ensures)
