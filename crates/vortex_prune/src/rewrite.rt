@@ -10,7 +10,7 @@ ghost use Rattle.vortex_prune.specs.Rewriting.Visited.{visited};
 
 mod builtins;
 mod engine;
-mod nodes;
+pub(crate) mod nodes;
 pub(crate) mod proof;
 mod reduce;
 pub mod rule;
