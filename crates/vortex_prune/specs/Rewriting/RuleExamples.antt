@@ -4,7 +4,7 @@ use Rattle.std.proofs.Common.{ap, subst, sym, ◌∙◌}
 use Rattle.vortex_base.proofs.Data.RowLemmas.{row_of-IsRow}
 use Rattle.vortex_base.specs.declared.dtype.DType.{DType}
 use Rattle.vortex_base.specs.declared.dtype.DType.TheVariants as dtype
-use Rattle.vortex_base.specs.declared.types.Nullability.TheVariants.{Nullable}
+use Rattle.vortex_base.specs.declared.types.Nullability.TheVariants.{NonNullable, Nullable}
 use Rattle.vortex_base.specs.declared.types.PType.TheVariants.{I32}
 use Rattle.vortex_base.specs.declared.scalar_value.ScalarValue.{ScalarValue}
 use Rattle.vortex_base.specs.declared.scalar_value.ScalarValue.TheVariants as value
@@ -71,6 +71,22 @@ never_open e A n h t =
 pub open_proof_is_lawful : IsLawful open_proof no_proof
 open_proof_is_lawful = record {
   falsifies = λ p e h k A chunk over honest t. absurd (never_open e A _ h t);
+  satisfies = λ p e h. absurd cc;
+}
+
+-- a proof that is a column itself
+abbrev pub bare_proof : Tree Place → Option (Tree Place)
+bare_proof p = Some (column (record { index = 0; dtype = dtype.Bool NonNullable }))
+
+never_bare : (e : Tree Place) (A : Assignment) (n : ℕ) → Some (column (record { index = 0; dtype = dtype.Bool NonNullable })) ≡ Some e → IsTrue (proves e A n) → ⊥
+never_bare e A n h t =
+    let same : e ≡ column (record { index = 0; dtype = dtype.Bool NonNullable }) = cc in
+    let told : false ≡ true = subst (λ (x : Tree Place). IsTrue (proves x A n)) same t in
+    cc
+
+pub bare_proof_is_lawful : IsLawful bare_proof no_proof
+bare_proof_is_lawful = record {
+  falsifies = λ p e h k A chunk over honest t. absurd (never_bare e A _ h t);
   satisfies = λ p e h. absurd cc;
 }
 

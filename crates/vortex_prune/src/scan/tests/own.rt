@@ -121,6 +121,46 @@ impl StatsRewriteRule for Open {
     }
 }
 
+// Proves by a column of truths itself.
+#[derive(Drop)]
+struct Bare;
+
+impl StatsRewriteRule for Bare {
+    ghost use Rattle.std.specs.Prelude.{false};
+    ghost use Rattle.vortex_base.specs.declared.types.ScalarFnId.TheVariants as function;
+    ghost use Rattle.vortex_prune.specs.Rewriting.RuleExamples.{bare_proof, bare_proof_is_lawful, no_proof};
+
+    ghost id = { λ s. function.Not };
+
+    ghost falsifier = { λ s. bare_proof };
+
+    ghost satisfier = { λ s. no_proof };
+
+    ghost can_fault = { λ s k. false };
+
+    ghost is_lawful = { λ s. bare_proof_is_lawful };
+
+    fn scalar_fn_id(&self) -> ScalarFnId {
+        ScalarFnId::Not
+    }
+
+    fn falsify(
+        &self,
+        alloc: Global,
+        _expression: &BoundExpression,
+    ) -> Result<Option<BoundExpression>, HookFault> {
+        Ok(Some(bound::col(alloc, 0, BOOL)?))
+    }
+
+    fn satisfy(
+        &self,
+        _alloc: Global,
+        _expression: &BoundExpression,
+    ) -> Result<Option<BoundExpression>, HookFault> {
+        Ok(None)
+    }
+}
+
 // Faults wherever it is asked.
 #[derive(Drop)]
 struct Faulty;
@@ -214,6 +254,19 @@ fn a_rule_may_rest_on_a_type(rt: HostRuntime) -> Result<(), Fail> {
 fn an_open_proof_is_refused_at_a_part(rt: HostRuntime) -> Result<(), Fail> {
     let alloc = rt.alloc();
     let rules = rules_of(alloc, Box::new(alloc, Open)?)?;
+    let opposite = not(alloc, above(alloc, 10)?)?;
+    let found = scanned_by(alloc, &no_parts(alloc)?, &opposite, &rules)?;
+    expect_found(&rt, found, &[], &[]);
+    let parts = bounded(alloc, &[Some(1)], 1, 1)?;
+    let refused = scanned_by(alloc, &parts, &opposite, &rules);
+    assert!(rt; matches!(refused, Err(StatsError::OpenProof)));
+    Ok(())
+}
+
+#[test]
+fn a_bare_column_is_refused_at_a_part(rt: HostRuntime) -> Result<(), Fail> {
+    let alloc = rt.alloc();
+    let rules = rules_of(alloc, Box::new(alloc, Bare)?)?;
     let opposite = not(alloc, above(alloc, 10)?)?;
     let found = scanned_by(alloc, &no_parts(alloc)?, &opposite, &rules)?;
     expect_found(&rt, found, &[], &[]);
