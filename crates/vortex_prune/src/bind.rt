@@ -144,10 +144,10 @@ pub(crate) fn bind_stats_of<B: StatBinder>(
     bound_stats(alloc, e, binder)
 }
 
-/// The expression with each placeholder replaced by the binder's answer, or, where that is `None`, by
-/// what stands for a missing one. Placeholders are met from the top and from the left; one inside
-/// the input of another is not met, nor is one in an answer. Everything else is kept, and nothing is
-/// reduced.
+/// The expression with each placeholder replaced by the binder's answer, or, where that is `None`,
+/// by what stands for a missing one. Placeholders are met from the top and from the left; one
+/// inside the input of another is not met, nor is one in an answer. Everything else is kept, and
+/// nothing is reduced.
 ///
 /// `Binder` if the binder faults, or what it answers has not the placeholder's type, nullability
 /// aside.

@@ -13,8 +13,8 @@ pub enum HookFault {
 }
 
 impl HookFault {
-    /// The number by which `?` tells a refusal of a layer below, but for one of memory. A binder or a
-    /// rule that can't meet one needn't name it among its faults.
+    /// The number by which `?` tells a refusal of a layer below, but for one of memory. A binder or
+    /// a rule that can't meet one needn't name it among its faults.
     pub const REFUSED: u32 = u32::MAX;
 }
 

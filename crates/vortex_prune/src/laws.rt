@@ -36,14 +36,15 @@ pub fn built_in_rules_are_in_order()
     ensures functions { RulesAreOfFunctions }
 {}
 
-/// Over columns whose least and greatest values are known and in order, the falsifier of a read-once
-/// predicate is there, and true exactly if no values within them satisfy the predicate.
+/// Over columns whose least and greatest values are known and in order, the falsifier of a
+/// read-once predicate is there, and true exactly if no values within them satisfy the predicate.
 pub fn falsifiers_are_complete()
     ensures { FalsifiersAreComplete }
 {}
 
-/// The binders of the parts' own statistics meet what a scan asks of its binders: they are faithful,
-/// answer by those statistics and name no fault, and they are honest where the statistics are true.
+/// The binders of the parts' own statistics meet what a scan asks of its binders: they are
+/// faithful, answer by those statistics and name no fault, and they are honest where the statistics
+/// are true.
 pub fn own_binders_are_honest<'a>()
     ensures faithful { (parts : List PartData)
         → AreFaithful ⟦<StatsBinder<'a> as StatBinder>⟧.is_faithful_over parts parts }

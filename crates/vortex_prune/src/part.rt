@@ -56,8 +56,9 @@ fn sets_fit(chunk: &Chunk, stats: &[StatsSet]) -> bool
 }
 
 impl Part {
-    /// The part of a chunk and the statistics of its columns, in their order. `Mismatch` unless there is one set a column and
-    /// each fits its column's type. No memory is taken, and what was given comes back with the refusal.
+    /// The part of a chunk and the statistics of its columns, in their order. `Mismatch` unless
+    /// there is one set a column and each fits its column's type. No memory is taken, and what was
+    /// given comes back with the refusal.
     pub fn try_new(chunk: Chunk, stats: Vec<StatsSet>) -> Result<Part, PartRefused>
         ensures made { IfOk result (λ part. part ≡ record { chunk = chunk; stats = stats.items }) }
         ensures fits { IsTrue (sets_fit chunk.columns stats.items) → IsOk result }
@@ -84,7 +85,8 @@ impl Part {
         &self.chunk
     }
 
-    /// The statistics of the column at a place, which the length of the chunk's scope tells to be in range.
+    /// The statistics of the column at a place, which the length of the chunk's scope tells to be
+    /// in range.
     pub fn stats(&self, i: usize) -> &StatsSet
         requires { i < length self.now.chunk.scope }
         ensures value { slice_get self.now.stats i ≡ Some result.now }

@@ -101,9 +101,9 @@ impl StatFn {
         answer_dtype(options.aggregate_fn, dtype)
     }
 
-    /// What a set of statistics, which `StatsSet::fits` tells to fit the type, answers for a column of
-    /// this type: one value, or null where it tells none, for each of the rows. `Unsupported` where
-    /// the aggregate does not support the type.
+    /// What a set of statistics, which `StatsSet::fits` tells to fit the type, answers for a column
+    /// of this type: one value, or null where it tells none, for each of the rows. `Unsupported`
+    /// where the aggregate does not support the type.
     pub fn execute(
         options: &StatOptions,
         stats: &StatsSet,

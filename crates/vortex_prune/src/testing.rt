@@ -1,5 +1,5 @@
-//! Nodes, scalars, tables and scans for the tests, by calls without a contract: a test compares what
-//! it builds and reasons of nothing, so its proof stays short.
+//! Nodes, scalars, tables and scans for the tests, by calls without a contract: a test compares
+//! what it builds and reasons of nothing, so its proof stays short.
 ghost use Rattle.std.specs.Bool.{OnTrue};
 ghost use Rattle.std.specs.Prelude.{◌≡◌, All, IfOk, IsTrue};
 ghost use Rattle.vortex_base.specs.Meanings.Fitting.{fits_scope};

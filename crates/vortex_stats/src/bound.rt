@@ -135,8 +135,8 @@ impl<T: Ord> UpperBound<T> {
         self.0.eq_value(value)
     }
 
-    /// The order of the bound's value and `value`, where it is known. Of an inexact bound whose value
-    /// is greater it isn't, nor of an absent one.
+    /// The order of the bound's value and `value`, where it is known. Of an inexact bound whose
+    /// value is greater it isn't, nor of an absent one.
     pub fn partial_cmp_value(&self, value: &T) -> Option<Ordering>
         ensures { result ≡ upper_compared T.cmp self.now value.now }
     {
@@ -254,8 +254,8 @@ impl<T: Ord> LowerBound<T> {
         self.0.eq_value(value)
     }
 
-    /// The order of the bound's value and `value`, where it is known. Of an inexact bound whose value
-    /// is less it isn't, nor of an absent one.
+    /// The order of the bound's value and `value`, where it is known. Of an inexact bound whose
+    /// value is less it isn't, nor of an absent one.
     pub fn partial_cmp_value(&self, value: &T) -> Option<Ordering>
         ensures { result ≡ lower_compared T.cmp self.now value.now }
     {

@@ -168,9 +168,9 @@ fn change_each(set: &mut StatsSet, changes: EntryChanges)
 
 impl StatsSet {
     /// Combines what another set tells of the same array. Both sets fit the type of the column, as
-    /// `fits` tells. `Conflict` if two values of a statistic contradict each other, and then the other
-    /// set's earlier entries stay combined; `Memory` if a copy of a text or bytes is refused, and then
-    /// the set stays as it was. `Memory` may come where a conflict would have come later.
+    /// `fits` tells. `Conflict` if two values of a statistic contradict each other, and then the
+    /// other set's earlier entries stay combined; `Memory` if a copy of a text or bytes is refused,
+    /// and then the set stays as it was. `Memory` may come where a conflict would have come later.
     pub fn combine_sets(&mut self, other: &Self, dtype: &DType) -> Result<(), StatsError>
         requires left_fits { IsTrue (entries_fit self.old dtype.now) }
         requires other_fits { IsTrue (entries_fit other.now dtype.now) }

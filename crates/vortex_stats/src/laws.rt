@@ -64,8 +64,8 @@ pub fn statistics_are_told()
     ensures { (s : Stat) → IsTold s }
 {}
 
-/// For every statistic with an aggregate and every column type, the statistic's type and the type of
-/// the aggregate's state are equal up to nullability, or there is neither.
+/// For every statistic with an aggregate and every column type, the statistic's type and the type
+/// of the aggregate's state are equal up to nullability, or there is neither.
 #[tactic(auto, using(crate::specs::Stat::stats_agree))]
 pub fn state_types_agree()
     ensures { (s : Stat) (t : DType) → IsColumnType t → AgreesWithAggregate s t }

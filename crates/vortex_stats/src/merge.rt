@@ -63,8 +63,8 @@ fn is_exactly(holds: bool, value: Precision<&ScalarValue>) -> bool
     }
 }
 
-/// IsConstant: false if either side is exactly false; of two that are exactly true whether the exact
-/// minima are equal.
+/// IsConstant: false if either side is exactly false; of two that are exactly true whether the
+/// exact minima are equal.
 fn is_constant_value(left: &StatsSet, other: &StatsSet) -> Option<Precision<ScalarValue>>
     ensures { result ≡ merged_value stats.IsConstant left.now other.now }
 {
@@ -104,7 +104,8 @@ fn may_precede(max: &ScalarValue, min: &ScalarValue, is_strict: bool) -> bool
     }
 }
 
-/// What the order of the first side's greatest value and the other's least tells, where both are known.
+/// What the order of the first side's greatest value and the other's least tells, where both are
+/// known.
 fn at_seam(
     max: Precision<&ScalarValue>,
     min: Precision<&ScalarValue>,
@@ -376,9 +377,9 @@ impl StatsSet {
         Ok(())
     }
 
-    /// The statistics of the array of this set followed by the array of the other. Both sets fit the
-    /// type of the column, as `fits` tells. `Memory` if a copy of a text or bytes is refused, and then this
-    /// set is handed back as it was.
+    /// The statistics of the array of this set followed by the array of the other. Both sets fit
+    /// the type of the column, as `fits` tells. `Memory` if a copy of a text or bytes is refused,
+    /// and then this set is handed back as it was.
     pub fn merge_ordered(mut self, other: &Self, dtype: &DType) -> Result<StatsSet, MergeRefused>
         requires left_fits { IsTrue (entries_fit self dtype.now) }
         requires other_fits { IsTrue (entries_fit other.now dtype.now) }
@@ -398,8 +399,8 @@ impl StatsSet {
     }
 
     /// The statistics of any arrangement of the rows of both arrays. Both sets fit the type of the
-    /// column, as `fits` tells. `Memory` if a copy of a text or bytes is refused, and then this set is handed
-    /// back as it was.
+    /// column, as `fits` tells. `Memory` if a copy of a text or bytes is refused, and then this set
+    /// is handed back as it was.
     pub fn merge_unordered(mut self, other: &Self, dtype: &DType) -> Result<StatsSet, MergeRefused>
         requires left_fits { IsTrue (entries_fit self dtype.now) }
         requires other_fits { IsTrue (entries_fit other.now dtype.now) }

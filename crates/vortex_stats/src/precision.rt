@@ -38,8 +38,9 @@ use vortex_base::scalar_value::ScalarValue;
 
 /// A statistic's value and how far it can be trusted.
 ///
-/// An exact value is the statistic. An inexact one confines it, and how is for the statistic to say:
-/// of a maximum it is an upper bound, of a minimum a lower one. Of an absent one nothing is known.
+/// An exact value is the statistic. An inexact one confines it, and how is for the statistic to
+/// say: of a maximum it is an upper bound, of a minimum a lower one. Of an absent one nothing is
+/// known.
 #[derive(Debug, Clone, Copy, PartialEq, Eq, Drop)]
 pub enum Precision<T> {
     /// The statistic's value.
@@ -244,8 +245,9 @@ impl Precision<ScalarValue> {
 }
 
 impl Precision<&ScalarValue> {
-    /// The same case around the scalar of this type and a clone of the value. `Mismatch` if the value
-    /// is none of the type, which is found before anything is cloned; `Memory` if the clone is refused.
+    /// The same case around the scalar of this type and a clone of the value. `Mismatch` if the
+    /// value is none of the type, which is found before anything is cloned; `Memory` if the clone
+    /// is refused.
     pub fn into_scalar(self, dtype: DType) -> Result<Precision<Scalar>, StatsError>
         ensures { let value = precision_map (λ v. v.now) self.entry in
             IsAnswerOrMemory (precise_scalar value dtype) result }

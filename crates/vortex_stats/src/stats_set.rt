@@ -154,8 +154,8 @@ impl StatsSet {
         Ok(self.find(stat).cloned()?)
     }
 
-    /// The statistic's value, read under this type, and Absent where there is no entry. `Mismatch` if
-    /// the value is none of the type, or is no `T`; `Memory` if a clone is refused.
+    /// The statistic's value, read under this type, and Absent where there is no entry. `Mismatch`
+    /// if the value is none of the type, or is no `T`; `Memory` if a clone is refused.
     pub fn get_as<T: FromScalar>(
         &self,
         stat: Stat,

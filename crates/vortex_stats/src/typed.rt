@@ -147,8 +147,8 @@ pub struct MutTypedStatsSetRef<'a> {
 impl StatsSet {
     ghost use Rattle.vortex_stats.specs.Sets.MutTypedStats.{typed_stats};
 
-    /// A view of the set under the type of its column, which the set fits, as `fits` tells, and keeps
-    /// fitting at each write.
+    /// A view of the set under the type of its column, which the set fits, as `fits` tells, and
+    /// keeps fitting at each write.
     pub fn as_mut_typed_ref(&mut self, dtype: &DType) -> MutTypedStatsSetRef<'_>
         requires { IsTrue (entries_fit self.old dtype.now) }
         ensures typed { typed_stats result ≡ record { values = self.old; dtype = dtype.now } }
@@ -181,8 +181,8 @@ impl<'a> MutTypedStatsSetRef<'a> {
         &self.dtype
     }
 
-    /// Sets the statistic's value, which fits, as `StatsSet::value_fits` tells: a present one keeps its
-    /// place, a new one goes last.
+    /// Sets the statistic's value, which fits, as `StatsSet::value_fits` tells: a present one keeps
+    /// its place, a new one goes last.
     pub fn set(&mut self, stat: Stat, value: Precision<ScalarValue>) -> Result<(), StatsError>
         requires { IsTrue (value_fits stat (typed_stats self.old).dtype value) }
         ensures set { typed_stats self.new ≡ with_value stat value (typed_stats self.old) }
@@ -216,9 +216,9 @@ impl<'a> MutTypedStatsSetRef<'a> {
 impl<'a> MutTypedStatsSetRef<'a> {
     ghost use Rattle.vortex_stats.specs.Sets.MutTypedStats.{typed_stats, rests_if_refused};
 
-    /// The statistics of the array of this set followed by the array of the other, which is viewed under
-    /// the same type. `Memory` if a copy of a text or bytes is refused, and then the set that was borrowed is
-    /// as it was.
+    /// The statistics of the array of this set followed by the array of the other, which is viewed
+    /// under the same type. `Memory` if a copy of a text or bytes is refused, and then the set that
+    /// was borrowed is as it was.
     pub fn merge_ordered(self, other: &TypedStatsSetRef<'_>) -> Result<Self, StatsError>
         requires { other.now.dtype ≡ (typed_stats self).dtype }
         ensures merged { let left = typed_stats self.entry in
@@ -236,9 +236,9 @@ impl<'a> MutTypedStatsSetRef<'a> {
         Ok(MutTypedStatsSetRef { values, dtype })
     }
 
-    /// The statistics of any arrangement of the rows of both arrays; the other set is viewed under the
-    /// same type. `Memory` if a copy of a text or bytes is refused, and then the set that was borrowed is as
-    /// it was.
+    /// The statistics of any arrangement of the rows of both arrays; the other set is viewed under
+    /// the same type. `Memory` if a copy of a text or bytes is refused, and then the set that was
+    /// borrowed is as it was.
     pub fn merge_unordered(self, other: &TypedStatsSetRef<'_>) -> Result<Self, StatsError>
         requires { other.now.dtype ≡ (typed_stats self).dtype }
         ensures merged { let left = typed_stats self.entry in
@@ -256,9 +256,10 @@ impl<'a> MutTypedStatsSetRef<'a> {
         Ok(MutTypedStatsSetRef { values, dtype })
     }
 
-    /// Combines what another set, viewed under the same type, tells of the same array. `Conflict` if two
-    /// values of a statistic contradict each other, and then the other set's earlier entries stay
-    /// combined; `Memory` if a copy of a text or bytes is refused, and then the set stays as it was.
+    /// Combines what another set, viewed under the same type, tells of the same array. `Conflict`
+    /// if two values of a statistic contradict each other, and then the other set's earlier entries
+    /// stay combined; `Memory` if a copy of a text or bytes is refused, and then the set stays as
+    /// it was.
     pub fn combine_sets(&mut self, other: &TypedStatsSetRef<'_>) -> Result<(), StatsError>
         requires { other.now.dtype ≡ (typed_stats self.old).dtype }
         ensures combined { let old = (typed_stats self.old).values in

@@ -22,7 +22,8 @@ fn without_return(line: &[u8]) -> &[u8]
     }
 }
 
-/// The first line of a text, and the text after it. A carriage return before the line feed isn't part of the line.
+/// The first line of a text, and the text after it. A carriage return before the line feed isn't
+/// part of the line.
 pub fn next_line(text: &[u8]) -> (&[u8], &[u8])
     requires { 0 < length text.now }
     ensures line { lines text.now ≡ result.0.now ∷ lines result.1.now }

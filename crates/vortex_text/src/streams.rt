@@ -56,7 +56,8 @@ pub fn read_all<R: Read>(alloc: Global, reader: &mut R) -> Result<Vec<u8>, ReadE
     Err(ReadError::TooLong)
 }
 
-/// Writes all the bytes, or stops at the first write that fails or takes nothing. No write is tried again.
+/// Writes all the bytes, or stops at the first write that fails or takes nothing. No write is tried
+/// again.
 pub fn write_out<W: Write>(writer: &mut W, bytes: &[u8]) -> bool
     ensures whole { IsTrue result
         → Appends (W.contents writer.old) (W.contents writer.new) bytes.now }

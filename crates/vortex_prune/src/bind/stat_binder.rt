@@ -19,8 +19,8 @@ use vortex_base::scalar::Scalar;
 /// Binds placeholders to what a store of statistics has for them: columns of a table of statistics,
 /// or literals.
 ///
-/// A binder names its answers, what may stand for a missing one, the numbers of its own faults, and a
-/// value for each placeholder over a row of statistics and a row count. Where it says that it is
+/// A binder names its answers, what may stand for a missing one, the numbers of its own faults, and
+/// a value for each placeholder over a row of statistics and a row count. Where it says that it is
 /// faithful, its answers have those values; it may be faithful nowhere.
 pub trait StatBinder {
     ghost answer: { Self → BinderAnswer };

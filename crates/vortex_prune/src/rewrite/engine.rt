@@ -46,8 +46,8 @@ fn node(
     reduce_balanced(alloc, proofs)
 }
 
-/// The same, of one built-in proof at the most. Where the user has no rules it is the answer, and no
-/// list is made.
+/// The same, of one built-in proof at the most. Where the user has no rules it is the answer, and
+/// no list is made.
 fn node_of_one(
     alloc: Global,
     side: Side,
@@ -94,8 +94,8 @@ fn both_halves(
     Ok(Proof::connect(alloc, Operator::And, low, high)?.into_expression())
 }
 
-/// The AND of the two comparisons that a BETWEEN stands for, at its moved ends; none, if its ends are
-/// literals between which no value lies.
+/// The AND of the two comparisons that a BETWEEN stands for, at its moved ends; none, if its ends
+/// are literals between which no value lies.
 fn halves(
     alloc: Global,
     options: BetweenOptions,

@@ -44,7 +44,8 @@ pub fn unordered_merges_forget_order()
         → has_entry IsStrictSorted (merged_unordered a b) ≡ false }
 {}
 
-/// Unordered merges of two sets have the same statistics with the same values, whichever comes first.
+/// Unordered merges of two sets have the same statistics with the same values, whichever comes
+/// first.
 pub fn unordered_merges_commute()
     ensures statistics { (s : Stat) (a b : List (Stat × Precision ScalarValue))
         → has_entry s (merged_unordered a b) ≡ has_entry s (merged_unordered b a) }

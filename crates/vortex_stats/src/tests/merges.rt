@@ -41,7 +41,8 @@ fn set_of(alloc: Global, stat: Stat, value: Option<Value>) -> StatsSet {
     }
 }
 
-/// Whether the ordered merge of sets that have at most the statistic has the last value, or no entry.
+/// Whether the ordered merge of sets that have at most the statistic has the last value, or no
+/// entry.
 fn merges_values(
     alloc: Global,
     dtype: &DType,
