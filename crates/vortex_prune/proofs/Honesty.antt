@@ -1,7 +1,7 @@
 -- True statistics answer honestly.
 pub mod HonestParts
 pub mod HonestStats
-pub mod OwnBinders
+pub mod StatisticsBinders
 pub mod PartLemmas
 pub mod PartLiterals
 pub mod StatFits

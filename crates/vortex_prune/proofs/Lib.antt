@@ -1,10 +1,8 @@
-pub mod BinderScan
 pub mod Binding
 pub mod Completeness
 pub mod Honesty
 pub mod Logic
 pub mod NullErasure
-pub mod PartScanLemmas
 pub mod Rewriting
 pub mod Scanning
 pub mod Soundness

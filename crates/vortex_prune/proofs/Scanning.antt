@@ -1,6 +1,8 @@
 -- On what a scan finds.
+pub mod BinderScan
 pub mod JoinLemmas
 pub mod Lossless
+pub mod PartScanLemmas
 pub mod ScanLemmas
 pub mod SelectLemmas
 pub mod SkippedParts

@@ -2,7 +2,6 @@ pub mod Answers
 pub mod Binding
 pub mod Laws
 pub mod Part
-pub mod PartScans
 pub mod Rewriting
 pub mod Scanning
 pub mod Zones

@@ -1,6 +1,7 @@
 -- What a scan selects, skips and refuses.
 pub mod Causes
 pub mod Complete
+pub mod PartScans
 pub mod ScanRefusals
 pub mod Selection
 pub mod ZoneScans

@@ -45,10 +45,10 @@ pub fn falsifiers_are_complete()
 /// The binders of the parts' own statistics meet what a scan asks of its binders: they are
 /// faithful, answer by those statistics and name no fault, and they are honest where the statistics
 /// are true.
-pub fn own_binders_are_honest<'a>()
+pub fn statistics_binders_are_honest<'a>()
     ensures faithful { (parts : List PartData)
         → AreFaithful ⟦<StatsBinder<'a> as StatBinder>⟧.is_faithful_over parts parts }
-    ensures own { (parts : List PartData)
+    ensures statistics { (parts : List PartData)
         → AreByStatistics ⟦<StatsBinder<'a> as StatBinder>⟧.value parts parts }
     ensures honest { (parts : List PartData) → AreParts parts → AllByRecursion IsTruePart parts
         → AreHonest ⟦<StatsBinder<'a> as StatBinder>⟧.value parts parts }

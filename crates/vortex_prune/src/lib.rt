@@ -7,7 +7,6 @@ pub mod expr;
 pub mod hook_fault;
 pub mod laws;
 pub mod part;
-mod part_scan;
 pub mod rewrite;
 pub mod scan;
 pub mod stat_fn;

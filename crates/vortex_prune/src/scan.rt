@@ -14,13 +14,14 @@ ghost use Rattle.vortex_stats.specs.declared.error.StatsError.TheVariants.{NotPr
 ghost use Rattle.vortex_prune.specs.Answers.{IsMemory};
 
 pub mod outcome;
+mod part_scan;
 mod select;
 mod skip;
 pub mod zones;
 
 use crate::bind::stat_binder::StatBinder;
 use crate::part::Part;
-use crate::part_scan::{SkipTest, scan_parts};
+use crate::scan::part_scan::{SkipTest, scan_parts};
 use crate::rewrite::falsify;
 use crate::rewrite::rule::StatsRewriteRule;
 use crate::rewrite::rules::Rules;
@@ -39,7 +40,7 @@ struct ByBinders<'a, B: StatBinder> {
 
 impl<'a, B: StatBinder> SkipTest for ByBinders<'a, B> {
     ghost use Rattle.std.specs.Prelude.{◌<◌, length, option_copied};
-    ghost use Rattle.vortex_prune.specs.PartScans.{binder_refuses, binder_tells};
+    ghost use Rattle.vortex_prune.specs.Scanning.PartScans.{binder_refuses, binder_tells};
 
     ghost able = { λ s i. i < length s.binders.now };
 
@@ -121,7 +122,7 @@ pub fn scan<B: StatBinder>(
         IfOk result (λ scan. AreFaithful B.is_faithful_over parts.now binders.now
         → scan.selected.items ≡ selected_rows (falsifier_of own predicate.now) predicate.now
         (answered B.value parts.now binders.now)) }
-    // What was looked at are parts, as `own_binders_are_honest` asks.
+    // What was looked at are parts, as `statistics_binders_are_honest` asks.
     ensures parts { IfOk result (λ _. AreParts parts.now) }
     // By built-in rules and the parts' own statistics, a read-once predicate skips a part exactly
     // if no values within its bounds satisfy it.

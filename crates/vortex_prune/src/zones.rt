@@ -104,8 +104,8 @@ fn push_head(
 ) -> Result<(), AllocError>
     requires { source < length scope.now }
     ensures { OnOk result ((c : Named) → slice_get scope.now source ≡ Some c
-        → let own = head_if (is_typed (stat_type aggregate c.1)) (head source c aggregate) in
-        heads.new.items ≡ heads.old.items ++ own) }
+        → let more = head_if (is_typed (stat_type aggregate c.1)) (head source c aggregate) in
+        heads.new.items ≡ heads.old.items ++ more) }
 {
     match zone_type(aggregate, scope.dtype(source)) {
         None => Ok(()),
@@ -385,12 +385,12 @@ fn place_in(
     match starts.get(place) {
         None => None,
         Some(start) => {
-            let own = scope.dtype(place);
-            if !own.eq_ignore_nullability(&dtype) {
+            let declared = scope.dtype(place);
+            if !declared.eq_ignore_nullability(&dtype) {
                 return None;
             }
             let _columns = table.scope().len();
-            match offset(aggregate, own) {
+            match offset(aggregate, declared) {
                 None => None,
                 Some(offset) => Some((*start + offset, zone_dtype(aggregate, dtype))),
             }

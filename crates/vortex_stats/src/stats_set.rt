@@ -6,7 +6,7 @@ ghost use Rattle.std.specs.Iterator.{YieldsFirst, YieldsFirstRef, item_count, Is
 ghost use Rattle.vortex_stats.specs.Sets.Reading.{IsPreciselyReadAs};
 ghost use Rattle.vortex_stats.specs.Precision.{is_present, precision_map};
 ghost use Rattle.vortex_stats.specs.Stat.{stat_eq, stat_number};
-ghost use Rattle.vortex_stats.specs.Sets.Slots.{slot_of, IsOwn};
+ghost use Rattle.vortex_stats.specs.Sets.Slots.{slot_of, IsFiled};
 ghost use Rattle.vortex_stats.specs.declared.error.StatsError.TheVariants.{Memory};
 ghost use Rattle.vortex_stats.specs.Sets.Entries.{entry_value, with_entry, without_entry, retained_entries};
 ghost use Rattle.vortex_stats.specs.Sets.Entries.{value_fits, entries_fit, AreDistinct, SetsAll};
@@ -293,7 +293,7 @@ fn is_among(stats: &[Stat], stat: Stat) -> bool
 /// The statistic's entry, whose slot is empty from here on.
 fn taken(slots: &mut [Option<Entry>], stat: Stat) -> Entry
     requires nine { length slots.old ≡ 9 }
-    requires own { IsOwn (slot_of slots.old stat) stat }
+    requires filed { IsFiled (slot_of slots.old stat) stat }
     ensures taken { slot_of slots.old stat ≡ Some result }
     ensures emptied { slots.new ≡ slice_set slots.old (stat_number stat) None }
 {

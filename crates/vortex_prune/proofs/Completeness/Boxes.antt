@@ -38,7 +38,7 @@ use Rattle.vortex_prune.proofs.Completeness.Choices.{AreInside, IsBetween, all_b
 use Rattle.vortex_prune.proofs.Completeness.Decided.{Decided, and_decided, comparison_decided, or_decided, truth_decided}
 use Rattle.vortex_prune.proofs.Completeness.Interval.{is_comparison}
 use Rattle.vortex_prune.proofs.Completeness.Operands.{IsInterval, if_ok, if_typed, operand, operand_type, same_operands, same_values, some_value}
-use Rattle.vortex_prune.proofs.Honesty.PartLemmas.{own_set_fits}
+use Rattle.vortex_prune.proofs.Honesty.PartLemmas.{part_set_fits}
 use Rattle.vortex_prune.proofs.Soundness.TruthLogic.{clash}
 use Rattle.vortex_prune.proofs.Soundness.ValueTests.{le_refl}
 use Rattle.vortex_prune.specs.Scanning.Complete.{Box, FalsifiersAreComplete, IsBoxOf, IsInOrder, IsKnownBy, IsSatisfiable, SkippingIsComplete, are_distinct, columns_of, has_closed_end, is_number_type, is_operand, is_range, is_simple, is_truth}
@@ -307,7 +307,7 @@ module _ (part : PartData) (box : Box) (is_part : IsPart part) where
   interval_at : (c : Place) (d : ColumnData) (es : Entries) → slice_get part.chunk.columns c.index ≡ Some d → d.dtype ≡ c.dtype → slice_get part.stats c.index ≡ Some es → IsKnownBy box c.index es
       → AtMost (box.low c.index) (box.high c.index) → IsInterval box (part_values part) (length part.stats) rows c
   interval_at c d es there same set known order =
-      let fits = own_set_fits part c.index d es is_part there set in
+      let fits = part_set_fits part c.index d es is_part there set in
       let suits : eq_ignore_nullability d.dtype c.dtype ≡ true = (dtype_eq_is_exact (as_nullable d.dtype) (as_nullable c.dtype)).1 (ap as_nullable same) in
       let low = extreme_fits d.dtype (box.low c.index) (present_fits Min d.dtype (entry_value Min es) (box.low c.index) known.0 (entry_value-fits Min d.dtype es fits)) in
       let high = extreme_fits d.dtype (box.high c.index) (present_fits Max d.dtype (entry_value Max es) (box.high c.index) known.1 (entry_value-fits Max d.dtype es fits)) in

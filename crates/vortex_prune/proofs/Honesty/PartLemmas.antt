@@ -90,8 +90,8 @@ fits_at (x ∷ xs) (s ∷ ss) zero c es h there set = (let same : x ≡ c = cc i
 fits_at (x ∷ xs) (s ∷ ss) (suc i) c es h there set = fits_at xs ss i c es (both_true _ _ h).1 there set
 
 -- the set of a column fits its type
-pub own_set_fits : (p : PartData) (i : ℕ) (c : ColumnData) (es : Entries) → IsPart p → slice_get p.chunk.columns i ≡ Some c → slice_get p.stats i ≡ Some es → entries_fit es c.dtype ≡ true
-own_set_fits p i c es h there set = fits_at p.chunk.columns p.stats i c es h.1 there set
+pub part_set_fits : (p : PartData) (i : ℕ) (c : ColumnData) (es : Entries) → IsPart p → slice_get p.chunk.columns i ≡ Some c → slice_get p.stats i ≡ Some es → entries_fit es c.dtype ≡ true
+part_set_fits p i c es h there set = fits_at p.chunk.columns p.stats i c es h.1 there set
 
 same_types : (r s t : DType) → dtype_eq r s ≡ true → dtype_eq r t ≡ true → s ≡ t
 same_types r s t p q = sym ((dtype_eq_is_exact r s).0 p) ∙ (dtype_eq_is_exact r t).0 q

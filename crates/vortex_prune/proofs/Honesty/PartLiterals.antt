@@ -15,12 +15,12 @@ use Rattle.vortex_prune.specs.Answers.{IfSupported}
 use Rattle.vortex_prune.specs.Part.{Entries, IsPart, PartData}
 use Rattle.vortex_prune.specs.Binding.PartBinder.{column_literal, literal_if}
 use Rattle.vortex_prune.specs.Binding.StatValues.{stat_value}
-use Rattle.vortex_prune.proofs.Honesty.PartLemmas.{own_set_fits}
+use Rattle.vortex_prune.proofs.Honesty.PartLemmas.{part_set_fits}
 
 -- the set fits the column's type, however the chunk and the type are given
 pub set_fits_type : (p : PartData) (k : ChunkData) (i : ℕ) (c : ColumnData) (es : Entries) (t : DType) → IsPart p → k ≡ p.chunk → slice_get k.columns i ≡ Some c → slice_get p.stats i ≡ Some es → t ≡ c.dtype → IsTrue (entries_fit es t)
 set_fits_type p k i c es t h e there set typed =
-    ap (entries_fit es) typed ∙ own_set_fits p i c es h (sym (ap (λ (x : ChunkData). slice_get x.columns i) e) ∙ there) set
+    ap (entries_fit es) typed ∙ part_set_fits p i c es h (sym (ap (λ (x : ChunkData). slice_get x.columns i) e) ∙ there) set
 
 abbrev answer : Constant → Result Constant StatsError
 answer s = Ok s

@@ -9,7 +9,7 @@ use Rattle.vortex_base.specs.Meanings.Typing.{stat_type, state_dtype, type_of}
 use Rattle.vortex_base.specs.declared.aggregate.AggregateFnRef.{AggregateFnRef}
 use Rattle.vortex_base.specs.declared.dtype.DType.{DType}
 use Rattle.vortex_prune.proofs.NullErasure.{placeholder_null, typed_null}
-use Rattle.vortex_prune.proofs.Honesty.PartLemmas.{own_set_fits}
+use Rattle.vortex_prune.proofs.Honesty.PartLemmas.{part_set_fits}
 use Rattle.vortex_prune.proofs.Honesty.StatFits.{stat_value-fits}
 use Rattle.vortex_prune.specs.Part.{Entries, IsPart, PartData}
 use Rattle.vortex_prune.specs.Binding.PartAnswers.{column_value, part_values}
@@ -28,7 +28,7 @@ module _ (p : PartData) (part : IsPart p) (f : AggregateFnRef) where
   column_fits c t (Some d) (Some es) n h there set = by (eq_ignore_nullability d.dtype c.dtype) refl
     where
       by : (b : Bool) → eq_ignore_nullability d.dtype c.dtype ≡ b → is_optional_value (if b then stat_value f es n else None) t ≡ true
-      by true e = stat_value-fits f es n d.dtype t (own_set_fits p c.index d es part there set) (same_placeholder f d.dtype c.dtype t e h)
+      by true e = stat_value-fits f es n d.dtype t (part_set_fits p c.index d es part there set) (same_placeholder f d.dtype c.dtype t e h)
       by false e = placeholder_null (state_dtype f c.dtype) t h
 
   pub part_type : (x : Tree Place) (t : DType) → type_of (stat f x) ≡ Ok t → is_optional_value (part_values p f x) t ≡ true

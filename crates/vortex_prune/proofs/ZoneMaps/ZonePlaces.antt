@@ -50,10 +50,10 @@ by_start cs i c s f t there at = sym (not_moved (zone_place cs i f t)) ∙ from_
 -- ---- the same, as it is looked up
 
 -- the name at a place whose type was read
-pub own_there : (cs : List Named) (i : ℕ) (own : DType) → option_map (λ (c : Named). c.1) (slice_get cs i) ≡ Some own → (c : Named) × (slice_get cs i ≡ Some c) × (c.1 ≡ own)
-own_there [] i own h = absurd cc
-own_there (c ∷ cs) zero own h = (c, refl, same_Some c.1 own h)
-own_there (c ∷ cs) (suc i) own h = own_there cs i own h
+pub typed_there : (cs : List Named) (i : ℕ) (own : DType) → option_map (λ (c : Named). c.1) (slice_get cs i) ≡ Some own → (c : Named) × (slice_get cs i ≡ Some c) × (c.1 ≡ own)
+typed_there [] i own h = absurd cc
+typed_there (c ∷ cs) zero own h = (c, refl, same_Some c.1 own h)
+typed_there (c ∷ cs) (suc i) own h = typed_there cs i own h
 
 abbrev pub reference : AggregateFnRef → DType → Option ℕ → Option (ℕ × DType)
 reference f t o = option_map (λ k. (k, zone_type f t)) o
@@ -64,7 +64,7 @@ none_past cs i f t h = sym (ap (reference f t) (past cs i f t h))
 module _ (cs : List Named) (i : ℕ) (own : DType) (s : ℕ) (f : AggregateFnRef) (t : DType) (typed : option_map (λ (c : Named). c.1) (slice_get cs i) ≡ Some own) (at : slice_get (starts_from 0 cs) i ≡ Some s) where
   placed : zone_place cs i f t ≡ place_if (offset f own) (eq_ignore_nullability own t) s
   placed =
-      let p = own_there cs i own typed in
+      let p = typed_there cs i own typed in
       by_start cs i p.0 s f t p.1 at ∙ ap (λ u. place_if (offset f u) (eq_ignore_nullability u t) s) p.2
 
   pub none_typed : eq_ignore_nullability own t ≡ false → None ≡ reference f t (zone_place cs i f t)

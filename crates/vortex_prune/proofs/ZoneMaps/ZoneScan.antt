@@ -10,7 +10,7 @@ use Rattle.vortex_base.specs.Data.Exact.{both_true}
 use Rattle.vortex_base.specs.Meanings.Meaning.{is_true, meaning}
 use Rattle.vortex_base.specs.Data.Scopes.{Named, is_empty}
 use Rattle.vortex_base.specs.Trees.Tree.{Place, Tree, has_bare_column, has_placeholder}
-use Rattle.vortex_prune.proofs.BinderScan.{answered_there}
+use Rattle.vortex_prune.proofs.Scanning.BinderScan.{answered_there}
 use Rattle.vortex_prune.proofs.Scanning.ScanLemmas.{answered_long}
 use Rattle.vortex_prune.proofs.Scanning.WholeScan.{all_at}
 use Rattle.std.proofs.lemmas.List.Elements.{recursion_from_All}
@@ -20,40 +20,40 @@ use Rattle.vortex_stats.specs.declared.error.StatsError.{StatsError}
 use Rattle.vortex_stats.specs.declared.error.StatsError.TheVariants.{Memory}
 use Rattle.vortex_prune.specs.Binding.BoundTo.{HasNoColumnOn, WhereFaithful}
 use Rattle.vortex_prune.specs.Part.{PartData}
-use Rattle.vortex_prune.specs.PartScans.{IsRefusedAt, TellsOf}
+use Rattle.vortex_prune.specs.Scanning.PartScans.{IsRefusedAt, TellsOf}
 use Rattle.vortex_prune.specs.Binding.PartAnswers.{part_values}
 use Rattle.vortex_prune.specs.Rewriting.Proof.{Assignment, value_under}
 use Rattle.vortex_prune.specs.Scanning.Selection.{Answered, is_skipped, selected_rows, skipped_parts}
-use Rattle.vortex_prune.specs.Scanning.ZoneScans.{CanTell, TellsAs, own_answers, zone_truth}
+use Rattle.vortex_prune.specs.Scanning.ZoneScans.{CanTell, TellsAs, statistics_answers, zone_truth}
 use Rattle.vortex_prune.specs.Zones.{HaveScope, Head, ZonesData, heads, is_zone_row, named_head, zone_column, zone_columns, zone_table, zone_values}
 
 -- ---- a scan by the rows of the table, as one part by part
 
 -- the answers that stand with a part are those of its own statistics
-own_answer : (parts : List PartData) (i : ℕ) (d : Answered) → slice_get (own_answers parts) i ≡ Some d → (slice_get parts i ≡ Some d.0) × (part_values d.0 ≡ d.1)
-own_answer [] i d e = absurd cc
-own_answer (p ∷ parts) zero d e =
+answer_from : (parts : List PartData) (i : ℕ) (d : Answered) → slice_get (statistics_answers parts) i ≡ Some d → (slice_get parts i ≡ Some d.0) × (part_values d.0 ≡ d.1)
+answer_from [] i d e = absurd cc
+answer_from (p ∷ parts) zero d e =
     let own : Answered = (p, part_values p) in
     subst (λ (c : Answered). (Some p ≡ Some c.0) × (part_values c.0 ≡ c.1)) (same_Some own d e) (refl, refl)
-own_answer (p ∷ parts) (suc i) d e = own_answer parts i d e
+answer_from (p ∷ parts) (suc i) d e = answer_from parts i d e
 
-own_there : (parts : List PartData) (i : ℕ) (part : PartData) → slice_get parts i ≡ Some part → (d : Answered) × (slice_get (own_answers parts) i ≡ Some d) × (d.0 ≡ part)
-own_there parts i part e = answered_there (λ (p : PartData) row n. part_values p) parts parts i part refl e
+answer_there : (parts : List PartData) (i : ℕ) (part : PartData) → slice_get parts i ≡ Some part → (d : Answered) × (slice_get (statistics_answers parts) i ≡ Some d) × (d.0 ≡ part)
+answer_there parts i part e = answered_there (λ (p : PartData) row n. part_values p) parts parts i part refl e
 
 abbrev table_told : (bound : Option (Tree Place)) → ZonesData → ℕ → PartData → Bool → Type 0
 table_told bound z i part b = b ≡ zone_truth bound z i (rows_of part.chunk.columns)
 
-own_tell : (bound proof : Option (Tree Place)) (z : ZonesData) → TellsAs bound proof z → TellsOf (table_told bound z) proof z.parts (own_answers z.parts)
-own_tell bound proof z tells = record {
+answers_tell : (bound proof : Option (Tree Place)) (z : ZonesData) → TellsAs bound proof z → TellsOf (table_told bound z) proof z.parts (statistics_answers z.parts)
+answers_tell bound proof z tells = record {
   long = answered_long (λ (p : PartData) row n. part_values p) z.parts z.parts refl;
-  there = own_there z.parts;
+  there = answer_there z.parts;
   same = λ i d b e is told.
-      let own = own_answer z.parts i d e in
+      let own = answer_from z.parts i d e in
       told ∙ tells i d.0 own.0 is ∙ ap (is_skipped proof d.0) own.1;
 }
 
-pub table_tells : (bound proof : Option (Tree Place)) (z : ZonesData) (parts : List PartData) → parts ≡ z.parts → TellsAs bound proof z → TellsOf (table_told bound z) proof parts (own_answers z.parts)
-table_tells bound proof z parts same tells = subst (λ (ps : List PartData). TellsOf (table_told bound z) proof ps (own_answers z.parts)) (sym same) (own_tell bound proof z tells)
+pub table_tells : (bound proof : Option (Tree Place)) (z : ZonesData) (parts : List PartData) → parts ≡ z.parts → TellsAs bound proof z → TellsOf (table_told bound z) proof parts (statistics_answers z.parts)
+table_tells bound proof z parts same tells = subst (λ (ps : List PartData). TellsOf (table_told bound z) proof ps (statistics_answers z.parts)) (sym same) (answers_tell bound proof z tells)
 
 -- for memory alone
 pub refused_alone : (parts : List PartData) (f : StatsError) → IsRefusedAt (λ i part g. g ≡ Memory alloc_error) parts f → f ≡ Memory alloc_error
@@ -120,11 +120,11 @@ module _ (bound told proof other : Option (Tree Place)) (z : ZonesData) (is : to
   tells_other : TellsAs told other z
   tells_other = subst (λ (o : Option (Tree Place)). TellsAs o other z) (sym is) (subst (λ (o : Option (Tree Place)). TellsAs bound o z) same tells)
 
-  pub skipped_by : (r : Result Scan StatsError) → IfOk r (λ scan. (q : Option (Tree Place)) → TellsAs told q z → scan.skipped.items ≡ skipped_parts q (own_answers z.parts)) → IfOk r (λ scan. scan.skipped.items ≡ skipped_parts other (own_answers z.parts))
+  pub skipped_by : (r : Result Scan StatsError) → IfOk r (λ scan. (q : Option (Tree Place)) → TellsAs told q z → scan.skipped.items ≡ skipped_parts q (statistics_answers z.parts)) → IfOk r (λ scan. scan.skipped.items ≡ skipped_parts other (statistics_answers z.parts))
   skipped_by (Ok scan) h = h other tells_other
   skipped_by (Err f) h = tt
 
-  pub selected_by : (p : Tree Place) (r : Result Scan StatsError) → IfOk r (λ scan. (q : Option (Tree Place)) → TellsAs told q z → scan.selected.items ≡ selected_rows q p (own_answers z.parts)) → IfOk r (λ scan. scan.selected.items ≡ selected_rows other p (own_answers z.parts))
+  pub selected_by : (p : Tree Place) (r : Result Scan StatsError) → IfOk r (λ scan. (q : Option (Tree Place)) → TellsAs told q z → scan.selected.items ≡ selected_rows q p (statistics_answers z.parts)) → IfOk r (λ scan. scan.selected.items ≡ selected_rows other p (statistics_answers z.parts))
   selected_by p (Ok scan) h = h other tells_other
   selected_by p (Err f) h = tt
 

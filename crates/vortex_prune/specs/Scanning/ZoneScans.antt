@@ -26,8 +26,8 @@ CanTell None z = ⊤
 CanTell (Some b) z = (has_placeholder b ≡ false) × ((r : ℕ) → IsTrue (fits_row b (row_of r (zone_columns z))))
 
 -- the parts, each with the answers of its own statistics, as a scan has them
-abbrev pub own_answers : List PartData → List Answered
-own_answers parts = answered (λ (p : PartData) row n. part_values p) parts parts
+abbrev pub statistics_answers : List PartData → List Answered
+statistics_answers parts = answered (λ (p : PartData) row n. part_values p) parts parts
 
 -- on the row of each part it tells what the proof does of the part, by its own statistics
 abbrev pub TellsAs : (bound proof : Option (Tree Place)) → ZonesData → Type 0

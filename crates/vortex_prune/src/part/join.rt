@@ -44,8 +44,8 @@ fn merged_set(left: &Part, right: &Part, i: usize) -> Result<StatsSet, StatsErro
 {
     let dtype = left.chunk().column(i).dtype();
     let other = right.stats(i);
-    let own = left.stats(i).try_clone()?;
-    match own.merge_ordered(other, &dtype) {
+    let set = left.stats(i).try_clone()?;
+    match set.merge_ordered(other, &dtype) {
         Ok(set) => Ok(set),
         Err(refused) => Err(refused.error),
     }

@@ -13,7 +13,7 @@ ghost use Rattle.vortex_prune.specs.Rewriting.Falsifiers.{falsifier as falsifier
 ghost use Rattle.vortex_prune.specs.Answers.{IsMemory};
 ghost use Rattle.vortex_prune.specs.Scanning.Selection.{answered, full, selected_rows, skipped_parts};
 ghost use Rattle.vortex_prune.specs.Scanning.ZoneScans.{CanTell, TellsAs, is_left_open, open_causes};
-ghost use Rattle.vortex_prune.specs.Scanning.ZoneScans.{own_answers, zone_causes, zone_truth};
+ghost use Rattle.vortex_prune.specs.Scanning.ZoneScans.{statistics_answers, zone_causes, zone_truth};
 ghost use Rattle.vortex_prune.specs.Zones.{HaveScope};
 ghost use Rattle.vortex_stats.specs.declared.error.StatsError.TheVariants.{Memory, NotPredicate};
 
@@ -22,7 +22,7 @@ use crate::bind::stat_binder::StatBinder;
 use crate::bind::stats_binder::StatsBinder;
 use crate::bind::zone_binder::ZoneBinder;
 use crate::part::Part;
-use crate::part_scan::{SkipTest, scan_parts};
+use crate::scan::part_scan::{SkipTest, scan_parts};
 use crate::rewrite::falsify;
 use crate::rewrite::rule::StatsRewriteRule;
 use crate::rewrite::rules::Rules;
@@ -135,10 +135,10 @@ fn scan_bound(
     requires tells { CanTell (option_copied bound) zones.now }
     ensures skipped { IfOk result (λ scan. (proof : Option (Tree Place))
         → TellsAs (option_copied bound.entry) proof zones.now
-        → scan.skipped.items ≡ skipped_parts proof (own_answers zones.now.parts)) }
+        → scan.skipped.items ≡ skipped_parts proof (statistics_answers zones.now.parts)) }
     ensures selected { IfOk result (λ scan. (proof : Option (Tree Place))
         → TellsAs (option_copied bound.entry) proof zones.now
-        → scan.selected.items ≡ selected_rows proof predicate.now (own_answers zones.now.parts)) }
+        → scan.selected.items ≡ selected_rows proof predicate.now (statistics_answers zones.now.parts)) }
     ensures memory { IfErr result (λ f. f ≡ Memory alloc_error) }
 {
     scan_parts(alloc, zones.parts(), predicate, &ByTable { zones, bound })
@@ -155,11 +155,11 @@ fn scan_rules(
     requires fits { IsTrue (fits_scope predicate.now zones.now.scope) }
     ensures skipped { let M = ⟦<dyn StatsRewriteRule as StatsRewriteRule>⟧ in
         let proof = falsifier_of (own_rules M rules.now.own.items) predicate.now in
-        let places = skipped_parts proof (own_answers zones.now.parts) in
+        let places = skipped_parts proof (statistics_answers zones.now.parts) in
         IfOk result (λ scan. scan.skipped.items ≡ places) }
     ensures kept { let M = ⟦<dyn StatsRewriteRule as StatsRewriteRule>⟧ in
         let proof = falsifier_of (own_rules M rules.now.own.items) predicate.now in
-        let rows = selected_rows proof predicate.now (own_answers zones.now.parts) in
+        let rows = selected_rows proof predicate.now (statistics_answers zones.now.parts) in
         IfOk result (λ scan. scan.selected.items ≡ rows) }
     ensures parts { AreParts zones.now.parts }
     ensures scoped { HaveScope zones.now.scope zones.now.parts }

@@ -12,7 +12,7 @@ use Rattle.vortex_stats.specs.declared.precision.Precision.{Precision}
 use Rattle.vortex_stats.specs.declared.precision.Precision.TheVariants.{Absent}
 use Rattle.vortex_stats.specs.Stat.{stat_number, stat_eq, same_from_stat_eq}
 use Rattle.vortex_stats.specs.Sets.Entries.{is_entry_of, has_entry, entry_value, with_entry, without_entry, AreDistinct}
-use Rattle.vortex_stats.specs.Sets.Slots.{slot_of, value_in, slot_entries, IsHeld, IsSound, IsOwn, AreOwn, AreLeft}
+use Rattle.vortex_stats.specs.Sets.Slots.{slot_of, value_in, slot_entries, IsHeld, IsSound, IsFiled, AreFiled, AreLeft}
 use Rattle.vortex_stats.proofs.Logic.{or_right, or_right_false}
 use Rattle.vortex_stats.proofs.Sets.Places.{eq_back, entry_value-none, with_entry-none, other_entry, distinct_with_entry, distinct_filter}
 use Rattle.vortex_stats.proofs.Sets.Lookups.{has_entry-with_own, has_entry-without_own, has_entry-without_other}
@@ -132,8 +132,8 @@ module _ {V : Type 0} where
   -- ---- a write at the slot of s
 
   module _ (slots : List (Option (Stat × Precision V))) (nine : length slots ≡ 9) (s : Stat) (x : Option (Stat × Precision V)) where
-    own_slot : slot_of (set slots (stat_number s) x) s ≡ x
-    own_slot = let l : stat_number s < length slots = omega (arith, nine, number_below s) in get_or-set_same slots (stat_number s) x None l
+    set_slot : slot_of (set slots (stat_number s) x) s ≡ x
+    set_slot = let l : stat_number s < length slots = omega (arith, nine, number_below s) in get_or-set_same slots (stat_number s) x None l
 
     other_slot : (t : Stat) → stat_eq t s ≡ false → slot_of (set slots (stat_number s) x) t ≡ slot_of slots t
     other_slot t n = get_or-set_other slots (stat_number s) (stat_number t) x None (eqb-false (stat_number t) (stat_number s) n)
@@ -151,12 +151,12 @@ module _ {V : Type 0} where
     unchanged (t ∷ ts) h = unchanged_step t ts (unchanged ts) (stat_eq t s) refl h
 
     module _ (order : List Stat) (capacity : ℕ) (h : IsSound slots order capacity) (order' : List Stat) (es : List (Stat × Precision V))
-        (written : slot_entries (set slots (stat_number s) x) order' ≡ es) (own : IsHeld x s (has_entry s es))
+        (written : slot_entries (set slots (stat_number s) x) order' ≡ es) (here : IsHeld x s (has_entry s es))
         (others : (t : Stat) → stat_eq t s ≡ false → has_entry t es ≡ has_entry t (slot_entries slots order)) (d : AreDistinct es) where
       held_step : (t : Stat) (b : Bool) → stat_eq t s ≡ b → IsHeld (slot_of (set slots (stat_number s) x) t) t (has_entry t es)
       held_step t true e =
           subst (λ u. IsHeld (slot_of (set slots (stat_number s) x) u) u (has_entry u es)) (sym (same_from_stat_eq t s e))
-          (subst (λ y. IsHeld y s (has_entry s es)) (sym own_slot) own)
+          (subst (λ y. IsHeld y s (has_entry s es)) (sym set_slot) here)
       held_step t false e =
           subst (λ b. IsHeld (slot_of (set slots (stat_number s) x) t) t b) (sym (others t e))
           (subst (λ y. IsHeld y t (has_entry t (slot_entries slots order))) (sym (other_slot t e)) (h.held t))
@@ -179,7 +179,7 @@ module _ {V : Type 0} where
         → slot_entries (set slots (stat_number s) (Some (s, p))) (t ∷ ts) ≡ cond b ((s, p) ∷ slot_entries slots ts) ((t, value_in (slot_of slots t)) ∷ with_entry s p (slot_entries slots ts))
     set_step t ts d ih true e h =
         ap (λ u. (u, value_in (slot_of (set slots (stat_number s) (Some (s, p))) u)) ∷ slot_entries (set slots (stat_number s) (Some (s, p))) ts) (same_from_stat_eq t s e)
-        ∙ ap (λ v. (s, value_in v) ∷ slot_entries (set slots (stat_number s) (Some (s, p))) ts) (own_slot slots nine s (Some (s, p)))
+        ∙ ap (λ v. (s, value_in v) ∷ slot_entries (set slots (stat_number s) (Some (s, p))) ts) (set_slot slots nine s (Some (s, p)))
         ∙ ap (λ r. (s, p) ∷ r) (unchanged slots nine s (Some (s, p)) ts (ap (λ u. has_entry u (slot_entries slots ts)) (sym (same_from_stat_eq t s e)) ∙ d))
     set_step t ts d ih false e h =
         ap (λ v. (t, value_in v) ∷ slot_entries (set slots (stat_number s) (Some (s, p))) ts) (other_slot slots nine s (Some (s, p)) t e)
@@ -192,7 +192,7 @@ module _ {V : Type 0} where
     written_in_place (t ∷ ts) d h = set_step t ts d.0 (written_in_place ts d.1) (stat_eq t s) refl h
 
     pushed : (order : List Stat) → slot_entries (set slots (stat_number s) (Some (s, p))) (order ++ s ∷ []) ≡ slot_entries (set slots (stat_number s) (Some (s, p))) order ++ (s, p) ∷ []
-    pushed [] = ap (λ v. (s, value_in v) ∷ []) (own_slot slots nine s (Some (s, p)))
+    pushed [] = ap (λ v. (s, value_in v) ∷ []) (set_slot slots nine s (Some (s, p)))
     pushed (t ∷ ts) = ap (λ r. (t, value_in (slot_of (set slots (stat_number s) (Some (s, p))) t)) ∷ r) (pushed ts)
 
     -- a new one goes last
@@ -243,37 +243,37 @@ module _ {V : Type 0} where
 
   -- ---- iterators
 
-  own_held : (x : Option (Stat × Precision V)) (s : Stat) (b : Bool) → IsHeld x s b → b ≡ true → IsOwn x s
-  own_held None s b h e = true≢false (sym e ∙ h)
-  own_held (Some d) s b h e = h.0
+  filed_held : (x : Option (Stat × Precision V)) (s : Stat) (b : Bool) → IsHeld x s b → b ≡ true → IsFiled x s
+  filed_held None s b h e = true≢false (sym e ∙ h)
+  filed_held (Some d) s b h e = h.0
 
   module _ (slots : List (Option (Stat × Precision V))) (order : List Stat) (capacity : ℕ) (h : IsSound slots order capacity) where
-    own_among : (ss : List Stat) → ((s : Stat) → has_entry s (slot_entries slots ss) ≡ true → has_entry s (slot_entries slots order) ≡ true) → AreOwn slots ss
-    own_among [] g = tt
-    own_among (s ∷ ss) g = (
-      own_held (slot_of slots s) s (has_entry s (slot_entries slots order)) (h.held s) (g s (ap (λ b. b || has_entry s (slot_entries slots ss)) (nat_eq_equiv.refl (stat_number s)))),
-      own_among ss (λ t i. g t (or_right (stat_eq s t) (has_entry t (slot_entries slots ss)) i)),
+    filed_among : (ss : List Stat) → ((s : Stat) → has_entry s (slot_entries slots ss) ≡ true → has_entry s (slot_entries slots order) ≡ true) → AreFiled slots ss
+    filed_among [] g = tt
+    filed_among (s ∷ ss) g = (
+      filed_held (slot_of slots s) s (has_entry s (slot_entries slots order)) (h.held s) (g s (ap (λ b. b || has_entry s (slot_entries slots ss)) (nat_eq_equiv.refl (stat_number s)))),
+      filed_among ss (λ t i. g t (or_right (stat_eq s t) (has_entry t (slot_entries slots ss)) i)),
     )
 
     -- all entries are left at the start
     pub all_left : AreLeft slots order
-    all_left = record { nine = h.nine; own = own_among order (λ s i. i); distinct = h.distinct }
+    all_left = record { nine = h.nine; filed = filed_among order (λ s i. i); distinct = h.distinct }
 
 module _ {V : Type 0} (slots : List (Option (Stat × Precision V))) (s : Stat) (rest : List Stat) (h : AreLeft slots (s ∷ rest)) where
-  own_after_step : (t : Stat) (ts : List Stat) → IsOwn (slot_of slots t) t → AreOwn (set slots (stat_number s) None) ts → (b : Bool) → stat_eq t s ≡ b
-      → (b || has_entry s (slot_entries slots ts)) ≡ false → AreOwn (set slots (stat_number s) None) (t ∷ ts)
-  own_after_step t ts o ih true e n = absurd (true≢false n)
-  own_after_step t ts o ih false e n = (subst (λ x. IsOwn x t) (sym (other_slot slots h.nine s None t e)) o, ih)
+  filed_after_step : (t : Stat) (ts : List Stat) → IsFiled (slot_of slots t) t → AreFiled (set slots (stat_number s) None) ts → (b : Bool) → stat_eq t s ≡ b
+      → (b || has_entry s (slot_entries slots ts)) ≡ false → AreFiled (set slots (stat_number s) None) (t ∷ ts)
+  filed_after_step t ts o ih true e n = absurd (true≢false n)
+  filed_after_step t ts o ih false e n = (subst (λ x. IsFiled x t) (sym (other_slot slots h.nine s None t e)) o, ih)
 
-  own_after : (ts : List Stat) → AreOwn slots ts → has_entry s (slot_entries slots ts) ≡ false → AreOwn (set slots (stat_number s) None) ts
-  own_after [] o n = tt
-  own_after (t ∷ ts) o n = own_after_step t ts o.0 (own_after ts o.1 (or_right_false (stat_eq t s) (has_entry s (slot_entries slots ts)) n)) (stat_eq t s) refl n
+  filed_after : (ts : List Stat) → AreFiled slots ts → has_entry s (slot_entries slots ts) ≡ false → AreFiled (set slots (stat_number s) None) ts
+  filed_after [] o n = tt
+  filed_after (t ∷ ts) o n = filed_after_step t ts o.0 (filed_after ts o.1 (or_right_false (stat_eq t s) (has_entry s (slot_entries slots ts)) n)) (stat_eq t s) refl n
 
   -- the others are left once the first was taken
   pub left_after : AreLeft (set slots (stat_number s) None) rest
   left_after = record {
     nine = length-set slots (stat_number s) None ∙ h.nine;
-    own = own_after rest h.own.1 h.distinct.0;
+    filed = filed_after rest h.filed.1 h.distinct.0;
     distinct = subst AreDistinct (sym (unchanged slots h.nine s None rest h.distinct.0)) h.distinct.1;
   }
 
@@ -283,5 +283,5 @@ module _ {V : Type 0} (slots : List (Option (Stat × Precision V))) (s : Stat) (
   -- what was taken stood first
   pub left_first : (e : Stat × Precision V) → slot_of slots s ≡ Some e → slot_entries slots (s ∷ rest) ≡ e ∷ slot_entries (set slots (stat_number s) None) rest
   left_first e f =
-      ap (λ x. (s, value_in x) ∷ slot_entries slots rest) f ∙ ap (λ x. x ∷ slot_entries slots rest) (taken_first e (subst (λ x. IsOwn x s) f h.own.0))
+      ap (λ x. (s, value_in x) ∷ slot_entries slots rest) f ∙ ap (λ x. x ∷ slot_entries slots rest) (taken_first e (subst (λ x. IsFiled x s) f h.filed.0))
       ∙ ap (λ r. e ∷ r) (sym (unchanged slots h.nine s None rest h.distinct.0))

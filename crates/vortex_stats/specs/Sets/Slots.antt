@@ -20,30 +20,30 @@ module _ {V : Type 0} where
   slot_entries slots [] = []
   slot_entries slots (s ∷ ss) = (s, value_in (slot_of slots s)) ∷ slot_entries slots ss
 
-  -- the slot is empty, and the statistic isn't listed; or it holds the statistic's own entry, and the statistic is listed
+  -- the slot is empty, and the statistic isn't listed; or it holds the statistic's entry, and the statistic is listed
   abbrev pub IsHeld : Option (Stat × Precision V) → Stat → Bool → Type 0
   IsHeld None s is_listed = is_listed ≡ false
   IsHeld (Some e) s is_listed = (e.0 ≡ s) × (is_listed ≡ true)
 
-  -- the order names exactly the statistics of the filled slots, each once, and each slot's entry has its own number
+  -- the order names exactly the statistics of the filled slots, each once, and each slot's entry has its number
   pub record IsSound (slots : List (Option (Stat × Precision V))) (order : List Stat) (capacity : ℕ) : Type 0 where
     pub nine : length slots ≡ 9
     pub inline : capacity ≡ 9
     pub held : (s : Stat) → IsHeld (slot_of slots s) s (has_entry s (slot_entries slots order))
     pub distinct : AreDistinct (slot_entries slots order)
 
-  -- the slot holds the statistic's own entry
-  abbrev pub IsOwn : Option (Stat × Precision V) → Stat → Type 0
-  IsOwn None s = ⊥
-  IsOwn (Some e) s = e.0 ≡ s
+  -- the slot holds the statistic's entry
+  abbrev pub IsFiled : Option (Stat × Precision V) → Stat → Type 0
+  IsFiled None s = ⊥
+  IsFiled (Some e) s = e.0 ≡ s
 
-  -- each statistic of the order has its own entry in its slot
-  abbrev pub AreOwn : List (Option (Stat × Precision V)) → List Stat → Type 0
-  AreOwn slots [] = ⊤
-  AreOwn slots (s ∷ ss) = IsOwn (slot_of slots s) s × AreOwn slots ss
+  -- each statistic of the order has its entry in its slot
+  abbrev pub AreFiled : List (Option (Stat × Precision V)) → List Stat → Type 0
+  AreFiled slots [] = ⊤
+  AreFiled slots (s ∷ ss) = IsFiled (slot_of slots s) s × AreFiled slots ss
 
   -- what an iterator over slots knows of what is left
   pub record AreLeft (slots : List (Option (Stat × Precision V))) (order : List Stat) : Type 0 where
     pub nine : length slots ≡ 9
-    pub own : AreOwn slots order
+    pub filed : AreFiled slots order
     pub distinct : AreDistinct (slot_entries slots order)

@@ -1,7 +1,7 @@
 use Rattle.std.proofs.Common.{arith}
 use Rattle.std.proofs.lemmas.Result.{IfErr-weaker, IfOk-weaker}
 use Rattle.std.specs.Prelude.{option_copied}
-use Rattle.vortex_prune.proofs.BinderScan.{binders_closed, binders_refused, binders_refused_faithful, binders_tell}
+use Rattle.vortex_prune.proofs.Scanning.BinderScan.{binders_closed, binders_refused, binders_refused_faithful, binders_tell}
 use Rattle.vortex_prune.specs.Scanning.Selection.{answered}
 use Rattle.vortex_prune.proofs.scan.scan_by.Goals as goal
 

@@ -9,7 +9,7 @@ ghost use Rattle.vortex_prune.specs.Answers.{IsMemory};
 ghost use Rattle.vortex_prune.specs.Scanning.Selection.{full};
 
 use super::*;
-use crate::laws::own_binders_are_honest;
+use crate::laws::statistics_binders_are_honest;
 
 // The scan by the built-in rules and the parts' own statistics.
 fn scan_by_statistics(
@@ -23,7 +23,7 @@ fn scan_by_statistics(
         → scan.selected.items ≡ full predicate.now parts.now) }
     ensures memory { IsTrue (is_predicate predicate.now) → IfErr result IsMemory }
 {
-    own_binders_are_honest();
+    statistics_binders_are_honest();
     let binders = binders_of(alloc, parts)?;
     scan(alloc, parts, &binders, predicate, &Rules::builtin(alloc))
 }

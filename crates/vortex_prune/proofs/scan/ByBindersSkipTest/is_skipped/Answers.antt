@@ -1,6 +1,6 @@
 use Rattle.std.proofs.lemmas.Option.{slice_get-get_or}
 use Rattle.std.specs.Prelude.{option_copied}
-use Rattle.vortex_prune.proofs.BinderScan.{binder_told}
+use Rattle.vortex_prune.proofs.Scanning.BinderScan.{binder_told}
 use Rattle.vortex_prune.proofs.scan.ByBindersSkipTest.is_skipped.Goals as goal
 
 pub returns : goal.returns

@@ -2,7 +2,7 @@ use Rattle.std.proofs.Common.{◌<◌, length, subst, sym}
 use Rattle.std.proofs.lemmas.Result.{IfErr-weaker, IfOk-weaker}
 use Rattle.std.specs.Prelude.{option_copied}
 use Rattle.vortex_prune.proofs.ZoneMaps.ZoneScan.{fits_each, refused_alone, table_tells}
-use Rattle.vortex_prune.specs.Scanning.ZoneScans.{own_answers}
+use Rattle.vortex_prune.specs.Scanning.ZoneScans.{statistics_answers}
 use Rattle.vortex_prune.specs.Zones.{HaveScope}
 use Rattle.vortex_prune.proofs.scan.zones.scan_bound.Goals as goal
 
@@ -18,14 +18,14 @@ pub returns-clause-skipped : goal.returns-clause-skipped
 returns-clause-skipped c =
     let z = c.args.zones.now in
     IfOk-weaker c.scan_parts.result _ _
-    (λ scan found proof tells. found proof (own_answers z.parts) (table_tells (option_copied c.args.bound) proof z c.parts.result.now c.parts.ensures.value tells))
+    (λ scan found proof tells. found proof (statistics_answers z.parts) (table_tells (option_copied c.args.bound) proof z c.parts.result.now c.parts.ensures.value tells))
     c.scan_parts.ensures.skipped
 
 pub returns-clause-selected : goal.returns-clause-selected
 returns-clause-selected c =
     let z = c.args.zones.now in
     IfOk-weaker c.scan_parts.result _ _
-    (λ scan found proof tells. found proof (own_answers z.parts) (table_tells (option_copied c.args.bound) proof z c.parts.result.now c.parts.ensures.value tells))
+    (λ scan found proof tells. found proof (statistics_answers z.parts) (table_tells (option_copied c.args.bound) proof z c.parts.result.now c.parts.ensures.value tells))
     c.scan_parts.ensures.selected
 
 pub returns-clause-memory : goal.returns-clause-memory

@@ -3,9 +3,9 @@ use Rattle.vortex_stats.specs.Sets.Slots.{slot_entries, AreLeft}
 use Rattle.vortex_stats.proofs.Sets.SlotLemmas.{left_after, left_first}
 use Rattle.vortex_stats.proofs.stats_set.StatsSetIntoIterIterator.next.Goals as goal
 
-pub taken-requires-clause-own : goal.taken-requires-clause-own
-taken-requires-clause-own c =
-    let left = subst (AreLeft c.self.inside.slots) c.in_ok-first.ensures.steps c.self.invariant in left.own.0
+pub taken-requires-clause-filed : goal.taken-requires-clause-filed
+taken-requires-clause-filed c =
+    let left = subst (AreLeft c.self.inside.slots) c.in_ok-first.ensures.steps c.self.invariant in left.filed.0
 
 pub invariant_of-self-2 : goal.invariant_of-self-2
 invariant_of-self-2 c =

@@ -4,7 +4,7 @@ ghost use Rattle.std.specs.Prelude.{MatchResult, length};
 ghost use Rattle.vortex_base.specs.Meanings.Fitting.{fits_scope};
 ghost use Rattle.vortex_base.specs.Trees.Tree.{Place, Tree, is_plain};
 ghost use Rattle.vortex_prune.specs.Part.{AreParts, PartData};
-ghost use Rattle.vortex_prune.specs.PartScans.{AreTold, IsRefusedAt, TellsOf};
+ghost use Rattle.vortex_prune.specs.Scanning.PartScans.{AreTold, IsRefusedAt, TellsOf};
 ghost use Rattle.vortex_prune.specs.Scanning.Selection.{Answered, selected_rows, skipped_parts};
 ghost use Rattle.vortex_stats.specs.declared.error.StatsError.{StatsError};
 

@@ -6,7 +6,7 @@ use Rattle.std.specs.Prelude.{slice_get}
 use Rattle.vortex_base.specs.Trees.Tree.{Place, Tree}
 use Rattle.vortex_prune.proofs.Scanning.ScanLemmas.{selected_more, skipped_more}
 use Rattle.vortex_prune.specs.Part.{IsPart, PartData}
-use Rattle.vortex_prune.specs.PartScans.{AreTold, TellsOf}
+use Rattle.vortex_prune.specs.Scanning.PartScans.{AreTold, TellsOf}
 use Rattle.vortex_prune.specs.Scanning.Selection.{Answered, is_skipped, kept_rows, place_if, rows_unless, selected_rows, skipped_parts}
 
 -- something was told of each part before this one

@@ -10,7 +10,7 @@ use Rattle.vortex_prune.proofs.Scanning.ScanLemmas.{answered_long, faithful_refu
 use Rattle.vortex_prune.specs.Binding.Binders.{BinderAnswer}
 use Rattle.vortex_prune.specs.Scanning.Causes.{IsRefusal}
 use Rattle.vortex_prune.specs.Part.{PartData}
-use Rattle.vortex_prune.specs.PartScans.{AreTold, IsRefusedAt, TellsOf, binder_refuses, binder_tells}
+use Rattle.vortex_prune.specs.Scanning.PartScans.{AreTold, IsRefusedAt, TellsOf, binder_refuses, binder_tells}
 use Rattle.vortex_prune.specs.Rewriting.Proof.{Assignment}
 use Rattle.vortex_prune.specs.Scanning.ScanRefusals.{AreClosed, IsClosed, binder_causes, if_faithful, proof_causes}
 use Rattle.vortex_prune.specs.Scanning.Selection.{Answered, AreFaithful, answered, is_skipped}

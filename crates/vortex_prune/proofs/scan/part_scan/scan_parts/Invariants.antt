@@ -1,10 +1,10 @@
 use Rattle.std.proofs.Common.{◌≡◌, List, Option, take}
 use Rattle.vortex_base.specs.Trees.Tree.{Place, Tree}
-use Rattle.vortex_prune.proofs.PartScanLemmas.{AreToldBelow}
+use Rattle.vortex_prune.proofs.Scanning.PartScanLemmas.{AreToldBelow}
 use Rattle.vortex_prune.proofs.Scanning.ScanLemmas.{AreBelow}
-use Rattle.vortex_prune.specs.PartScans.{TellsOf}
+use Rattle.vortex_prune.specs.Scanning.PartScans.{TellsOf}
 use Rattle.vortex_prune.specs.Scanning.Selection.{Answered, selected_rows, skipped_parts}
-use Rattle.vortex_prune.proofs.part_scan.scan_parts.Given as goal
+use Rattle.vortex_prune.proofs.scan.part_scan.scan_parts.Given as goal
 
 -- what was found is what there is to find in the parts before this one
 abbrev pub invariant-loop-place : goal.invariant-loop-place

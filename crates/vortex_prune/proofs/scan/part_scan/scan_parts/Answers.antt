@@ -1,10 +1,10 @@
 use Rattle.std.proofs.Common.{ap, arith, inr, length, refl, ◌∙◌}
 use Rattle.std.proofs.lemmas.Option.{slice_get_read}
 use Rattle.std.proofs.lemmas.Result.{err_from_is_err_and}
-use Rattle.vortex_prune.proofs.PartScanLemmas.{all_answered, selected_next, skipped_next, told_all, told_more}
+use Rattle.vortex_prune.proofs.Scanning.PartScanLemmas.{all_answered, selected_next, skipped_next, told_all, told_more}
 use Rattle.vortex_prune.proofs.Scanning.ScanLemmas.{all_below, below_more}
 use Rattle.vortex_prune.specs.Scanning.Selection.{selected_rows, skipped_parts}
-use Rattle.vortex_prune.proofs.part_scan.scan_parts.Goals as goal
+use Rattle.vortex_prune.proofs.scan.part_scan.scan_parts.Goals as goal
 
 pub loop-place-preserved : goal.loop-place-preserved
 loop-place-preserved g c =
