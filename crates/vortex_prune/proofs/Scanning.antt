@@ -4,6 +4,7 @@ pub mod JoinLemmas
 pub mod Lossless
 pub mod PartScanLemmas
 pub mod ScanLemmas
+pub mod ScanRefused
 pub mod SelectLemmas
 pub mod SkippedParts
 pub mod WholeScan

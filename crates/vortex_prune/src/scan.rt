@@ -1,15 +1,20 @@
 //! Scans: which rows of which parts a predicate selects, and which parts it needn't look at.
-ghost use Rattle.std.specs.Prelude.{◌≡◌, ℕ, [], false, All, Err, IfErr, IfOk, IsTrue, length, option_copied};
+ghost use Rattle.std.specs.Prelude.{◌≡◌, ◌-◌, ◌^◌, ℕ, [], false, All, Option, Err, IfErr, IfOk, IsTrue};
+ghost use Rattle.std.specs.Prelude.{length, min, option_copied};
 ghost use Rattle.vortex_base.specs.Meanings.Fitting.{fits_scope};
-ghost use Rattle.vortex_base.specs.Trees.Tree.{is_plain};
+ghost use Rattle.vortex_base.specs.Trees.Tree.{Place, Tree, is_plain};
 ghost use Rattle.vortex_prune.specs.Part.{AreParts};
-ghost use Rattle.vortex_prune.specs.Scanning.Selection.{AreByStatistics, AreFaithful, AreHonest, answered, full, any_binder, selected_rows, skipped_parts};
-ghost use Rattle.vortex_prune.specs.Scanning.Causes.{IsRefusal};
-ghost use Rattle.vortex_prune.specs.Scanning.ScanRefusals.{AreClosed, binder_causes, if_faithful, scan_causes};
+ghost use Rattle.vortex_prune.specs.Scanning.Selection.{AreByStatistics, AreFaithful, AreHonest};
+ghost use Rattle.vortex_prune.specs.Scanning.Selection.{answered, any_binder, full, selected_rows};
+ghost use Rattle.vortex_prune.specs.Scanning.Selection.{skipped_parts, tested_rows, whole_parts};
+ghost use Rattle.vortex_prune.specs.Scanning.Causes.{Causes, IsRefusal, either_causes};
+ghost use Rattle.vortex_prune.specs.Scanning.ScanRefusals.{AreClosed, KeptAreClosed, binder_causes};
+ghost use Rattle.vortex_prune.specs.Scanning.ScanRefusals.{faithful_causes, if_faithful, scan_causes};
 ghost use Rattle.vortex_prune.specs.Scanning.Complete.{SkipsExactly, is_read_once};
 ghost use Rattle.vortex_prune.specs.Rewriting.Own.{own_rules};
 ghost use Rattle.vortex_prune.specs.Rewriting.Predicates.{is_predicate};
 ghost use Rattle.vortex_prune.specs.Rewriting.Falsifiers.{falsifier as falsifier_of};
+ghost use Rattle.vortex_prune.specs.Rewriting.Falsifiers.{satisfier as satisfier_of};
 ghost use Rattle.vortex_stats.specs.declared.error.StatsError.TheVariants.{NotPredicate};
 ghost use Rattle.vortex_prune.specs.Answers.{IsMemory};
 
@@ -17,77 +22,99 @@ pub mod outcome;
 mod part_scan;
 mod select;
 mod skip;
+pub(crate) mod verdict;
 pub mod zones;
 
 use crate::bind::stat_binder::StatBinder;
 use crate::part::Part;
-use crate::scan::part_scan::{SkipTest, scan_parts};
-use crate::rewrite::falsify;
 use crate::rewrite::rule::StatsRewriteRule;
 use crate::rewrite::rules::Rules;
+use crate::rewrite::{falsify, satisfy};
 use crate::scan::outcome::Scan;
-use crate::scan::skip::is_skipped;
+use crate::scan::part_scan::{PartTest, scan_parts};
+use crate::scan::skip::verdict;
+use crate::scan::verdict::Verdict;
 use std::alloc::Global;
 use vortex_base::bound_expression::BoundExpression;
 use vortex_stats::error::StatsError;
 
-// Whether a part is skipped by a proof, if there is one, as the part's binder binds it.
+// What becomes of a part by two proofs, as the part's binder binds them.
 #[derive(Drop)]
 struct ByBinders<'a, B: StatBinder> {
-    proof: Option<&'a BoundExpression>,
+    falsifier: Option<&'a BoundExpression>,
+    satisfier: Option<&'a BoundExpression>,
     binders: &'a [B],
 }
 
-impl<'a, B: StatBinder> SkipTest for ByBinders<'a, B> {
+impl<'a, B: StatBinder> PartTest for ByBinders<'a, B> {
     ghost use Rattle.std.specs.Prelude.{◌<◌, length, option_copied};
     ghost use Rattle.vortex_prune.specs.Scanning.PartScans.{binder_refuses, binder_tells};
 
     ghost able = { λ s i. i < length s.binders.now };
 
     ghost tells = { λ s. binder_tells B.answer B.is_missing B.is_faithful_over
-        (option_copied s.proof) s.binders.now B.value };
+        (option_copied s.falsifier) (option_copied s.satisfier) s.binders.now B.value };
 
     ghost refuses = { λ s. binder_refuses B.answer B.is_missing B.is_faithful_over
-        (option_copied s.proof) s.binders.now B.can_fault };
+        (option_copied s.falsifier) (option_copied s.satisfier) s.binders.now B.can_fault };
 
-    fn is_skipped(&self, alloc: Global, place: usize, part: &Part) -> Result<bool, StatsError> {
-        is_skipped(alloc, self.proof, part, &self.binders[place])
+    fn verdict(&mut self, alloc: Global, place: usize, part: &Part) -> Result<Verdict, StatsError> {
+        verdict(alloc, self.falsifier, self.satisfier, part, &self.binders[place])
     }
 }
 
-// The scan by a proof that no row of a part satisfies the predicate, if there is one.
+// The scan by a falsifier and a satisfier, where there is one.
 fn scan_by<B: StatBinder>(
     alloc: Global,
     parts: &[Part],
     binders: &[B],
     predicate: &BoundExpression,
-    proof: Option<&BoundExpression>,
+    falsifier: Option<&BoundExpression>,
+    satisfier: Option<&BoundExpression>,
 ) -> Result<Scan, StatsError>
     requires binders { length binders.now ≡ length parts.now }
     requires plain { IsTrue (is_plain predicate.now) }
     requires fits { All (λ part. IsTrue (fits_scope predicate.now part.chunk.scope)) parts.now }
     ensures skipped { IfOk result (λ scan. AreFaithful B.is_faithful_over parts.now binders.now
-        → scan.skipped.items ≡ skipped_parts (option_copied proof.entry)
+        → scan.skipped.items ≡ skipped_parts (option_copied falsifier.entry)
         (answered B.value parts.now binders.now)) }
+    ensures whole { IfOk result (λ scan. AreFaithful B.is_faithful_over parts.now binders.now
+        → scan.whole.items ≡ whole_parts (option_copied falsifier.entry)
+        (option_copied satisfier.entry) (answered B.value parts.now binders.now)) }
     ensures selected { IfOk result (λ scan. AreFaithful B.is_faithful_over parts.now binders.now
-        → scan.selected.items ≡ selected_rows (option_copied proof.entry) predicate.now
-        (answered B.value parts.now binders.now)) }
+        → scan.selected.items ≡ selected_rows (option_copied falsifier.entry)
+        (option_copied satisfier.entry) predicate.now (answered B.value parts.now binders.now)) }
+    ensures evaluated { IfOk result (λ scan. AreFaithful B.is_faithful_over parts.now binders.now
+        → scan.evaluated ≡ min (tested_rows (option_copied falsifier.entry)
+        (option_copied satisfier.entry) (answered B.value parts.now binders.now)) (2 ^ 64 - 1)) }
     ensures parts { IfOk result (λ _. AreParts parts.now) }
     ensures closed { IfOk result (λ _. AreClosed B.answer B.is_missing
-        (option_copied proof.entry) binders.now) }
-    ensures refusal { let causes = binder_causes B.answer B.is_missing B.can_fault in
-        IfErr result (IsRefusal (causes (option_copied proof.entry) binders.now)) }
-    ensures faithful { let causes = binder_causes B.answer B.is_missing B.can_fault
-        (option_copied proof.entry) binders.now in
+        (option_copied falsifier.entry) binders.now) }
+    ensures kept_closed { IfOk result (λ scan. KeptAreClosed B.answer B.is_missing
+        scan.skipped.items (option_copied satisfier.entry) binders.now) }
+    ensures refusal { let causes : Option (Tree Place) → Causes = λ proof.
+        binder_causes B.answer B.is_missing B.can_fault proof binders.now in
+        IfErr result (IsRefusal (either_causes (causes (option_copied falsifier.entry))
+        (causes (option_copied satisfier.entry)))) }
+    ensures faithful { let causes : Option (Tree Place) → Causes = λ proof. if_faithful proof
+        (binder_causes B.answer B.is_missing B.can_fault proof binders.now) in
         IfErr result (λ f. AreFaithful B.is_faithful_over parts.now binders.now
-        → IsRefusal (if_faithful (option_copied proof.entry) causes) f) }
+        → IsRefusal (either_causes (causes (option_copied falsifier.entry))
+        (causes (option_copied satisfier.entry))) f) }
 {
-    scan_parts(alloc, parts, predicate, &ByBinders { proof, binders })
+    let mut test = ByBinders {
+        falsifier,
+        satisfier,
+        binders,
+    };
+    scan_parts(alloc, parts, predicate, &mut test)
 }
 
-/// Selects the rows of the parts that satisfy a predicate, and leaves out unread each part whose
-/// falsifier is true by what its binder answers. The predicate is rewritten once; then each part's
-/// binder is asked, in order. With no falsifier no binder is asked and no part is left out.
+/// Selects the rows of the parts that satisfy a predicate. A part whose falsifier is true by what
+/// its binder answers is skipped, left out unread. Of another part whose satisfier is true all rows
+/// are selected and none is tested. The predicate is rewritten once into both proofs; then each
+/// part's binder is asked, in order: for the falsifier, and if that isn't true for the satisfier.
+/// Where there is neither proof no binder is asked.
 ///
 /// The caller knows that there is one binder a part, that the predicate is plain
 /// (`BoundExpression::is_plain`) and fits the scope of each part (`BoundExpression::fits_scope`).
@@ -116,12 +143,25 @@ pub fn scan<B: StatBinder>(
         IfOk result (λ scan. AreFaithful B.is_faithful_over parts.now binders.now
         → scan.skipped.items ≡ skipped_parts (falsifier_of own predicate.now)
         (answered B.value parts.now binders.now)) }
-    // Whether or not they are honest, the satisfying rows of the other parts are selected.
+    // And whole exactly if it isn't skipped and the satisfier is true of it.
+    ensures whole { let own =
+        own_rules ⟦<dyn StatsRewriteRule as StatsRewriteRule>⟧ rules.now.own.items in
+        IfOk result (λ scan. AreFaithful B.is_faithful_over parts.now binders.now
+        → scan.whole.items ≡ whole_parts (falsifier_of own predicate.now)
+        (satisfier_of own predicate.now) (answered B.value parts.now binders.now)) }
+    // Whether or not they are honest, all rows of the whole parts are selected, and the satisfying
+    // rows of the parts that are neither.
     ensures kept { let own =
         own_rules ⟦<dyn StatsRewriteRule as StatsRewriteRule>⟧ rules.now.own.items in
         IfOk result (λ scan. AreFaithful B.is_faithful_over parts.now binders.now
-        → scan.selected.items ≡ selected_rows (falsifier_of own predicate.now) predicate.now
-        (answered B.value parts.now binders.now)) }
+        → scan.selected.items ≡ selected_rows (falsifier_of own predicate.now)
+        (satisfier_of own predicate.now) predicate.now (answered B.value parts.now binders.now)) }
+    // The rows of these were tested.
+    ensures evaluated { let own =
+        own_rules ⟦<dyn StatsRewriteRule as StatsRewriteRule>⟧ rules.now.own.items in
+        IfOk result (λ scan. AreFaithful B.is_faithful_over parts.now binders.now
+        → scan.evaluated ≡ min (tested_rows (falsifier_of own predicate.now)
+        (satisfier_of own predicate.now) (answered B.value parts.now binders.now)) (2 ^ 64 - 1)) }
     // What was looked at are parts, as `statistics_binders_are_honest` asks.
     ensures parts { IfOk result (λ _. AreParts parts.now) }
     // By built-in rules and the parts' own statistics, a read-once predicate skips a part exactly
@@ -142,19 +182,26 @@ pub fn scan<B: StatBinder>(
         own_rules ⟦<dyn StatsRewriteRule as StatsRewriteRule>⟧ rules.now.own.items in
         IfOk result (λ _.
         AreClosed B.answer B.is_missing (falsifier_of own predicate.now) binders.now) }
-    // A refusal has its cause: a rule asked at a visited node, or a binder asked for the falsifier.
+    // Where there is a satisfier, so has the binder of each part that isn't skipped.
+    ensures kept_closed { let own =
+        own_rules ⟦<dyn StatsRewriteRule as StatsRewriteRule>⟧ rules.now.own.items in
+        IfOk result (λ scan. KeptAreClosed B.answer B.is_missing scan.skipped.items
+        (satisfier_of own predicate.now) binders.now) }
+    // A refusal has its cause: a rule asked at a visited node, or a binder asked for a proof.
     ensures refusal { let own =
         own_rules ⟦<dyn StatsRewriteRule as StatsRewriteRule>⟧ rules.now.own.items in
         let causes = scan_causes B.answer B.is_missing B.can_fault own predicate.now binders.now in
         IsTrue (is_predicate predicate.now) → IfErr result (IsRefusal causes) }
     ensures faithful { let own =
         own_rules ⟦<dyn StatsRewriteRule as StatsRewriteRule>⟧ rules.now.own.items in
-        let causes = scan_causes B.answer B.is_missing B.can_fault own predicate.now binders.now in
+        let causes =
+        faithful_causes B.answer B.is_missing B.can_fault own predicate.now binders.now in
         IsTrue (is_predicate predicate.now) → AreFaithful B.is_faithful_over parts.now binders.now
-        → IfErr result (IsRefusal (if_faithful (falsifier_of own predicate.now) causes)) }
+        → IfErr result (IsRefusal causes) }
 {
-    let proof = falsify(alloc, predicate, rules)?;
-    scan_by(alloc, parts, binders, predicate, proof.as_ref())
+    let falsifier = falsify(alloc, predicate, rules)?;
+    let satisfier = satisfy(alloc, predicate, rules)?;
+    scan_by(alloc, parts, binders, predicate, falsifier.as_ref(), satisfier.as_ref())
 }
 
 #[cfg(test)]

@@ -46,7 +46,7 @@ use Rattle.vortex_prune.specs.Part.{Entries, IsPart, PartData}
 use Rattle.vortex_prune.specs.Binding.PartAnswers.{column_value, part_values}
 use Rattle.vortex_prune.specs.Rewriting.Proof.{Assignment, proves}
 use Rattle.vortex_prune.specs.Rewriting.Falsifiers.{closed, ends, falsifier, high_size, is_crossed, literal_ends, low_size, number_literal}
-use Rattle.vortex_prune.specs.Scanning.Selection.{is_skipped}
+use Rattle.vortex_prune.specs.Scanning.Selection.{is_proved}
 use Rattle.vortex_stats.proofs.Kit.{entry_value-fits}
 use Rattle.vortex_stats.specs.Sets.Claims.{AtMost}
 use Rattle.vortex_stats.specs.Sets.Entries.{entry_value, is_value_of, value_fits}
@@ -344,4 +344,4 @@ falsifiers_are_complete p t part box typed bool is_part fits once is_box order =
 pub skipping_is_complete : SkippingIsComplete
 skipping_is_complete p t part box typed bool is_part fits once is_box order =
     let c = falsifiers_are_complete p t part box typed bool is_part fits once is_box order in
-    subst (λ o. IsTrue (is_skipped o part (part_values part)) ↔ ¬ IsSatisfiable p box (rows_of part.chunk.columns)) (sym c.1) c.2
+    subst (λ o. IsTrue (is_proved o part (part_values part)) ↔ ¬ IsSatisfiable p box (rows_of part.chunk.columns)) (sym c.1) c.2

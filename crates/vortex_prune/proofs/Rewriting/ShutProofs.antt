@@ -1,7 +1,7 @@
--- The falsifiers of the built-in rules have no column outside their placeholders.
-use Rattle.std.proofs.Common.{◌≡◌, ◌||◌, ℕ, zero, suc, Bool, true, false, cond, List, [], ◌∷◌, Option, Some, None, length, IfErr, Ok, Err, Result, get_or, refl, sym, ap, subst, append-nil, ◌∙◌, arith}
+-- The proofs of the built-in rules have no column outside their placeholders.
+use Rattle.std.proofs.Common.{◌≡◌, ◌||◌, ℕ, zero, suc, Bool, true, false, cond, List, [], ◌∷◌, Option, Some, None, length, refl, sym, ap, subst, append-nil, ◌∙◌, arith}
 use Rattle.std.specs.List.{AllByRecursion}
-use Rattle.std.specs.Prelude.{Contains, option_to_list}
+use Rattle.std.specs.Prelude.{option_to_list}
 use Rattle.std.specs.Result.{is_ok}
 use Rattle.std.specs.Str.{chars}
 use Rattle.vortex_base.specs.Trees.Between.{to_operator}
@@ -18,20 +18,8 @@ use Rattle.vortex_base.specs.declared.types.Operator.TheVariants.{Eq, NotEq, Gt,
 use Rattle.vortex_base.specs.declared.scalar_value.ScalarValue.{ScalarValue}
 use Rattle.vortex_base.specs.declared.scalar_value.ScalarValue.TheVariants as value
 use Rattle.vortex_prune.specs.Rewriting.Lawful.{OwnRule}
-use Rattle.vortex_prune.specs.Rewriting.Falsifiers.{Ends, binary_node, both_of, comparison_falsifier, either_of, ends, ends_node, every_null, extreme, falsified, falsifier, halves_node, items_falsifier, reduce_balanced, like_falsifier, literal_falsifier, max_of, min_of, node, none_null, null_count_of, other_than, outside, pattern_falsifier, placeholder, round, rounds, text_literal}
-use Rattle.vortex_base.specs.declared.dtype.DType.{DType}
-use Rattle.vortex_prune.proofs.Rewriting.CauseLemmas.{met-const, some-const, refusal-more}
-use Rattle.vortex_prune.proofs.Scanning.ScanLemmas.{any_at}
-use Rattle.vortex_prune.specs.Binding.Binders.{BinderAnswer}
-use Rattle.vortex_prune.specs.Scanning.Causes.{IsRefusal}
-use Rattle.vortex_prune.specs.Scanning.ScanRefusals.{binder_causes, if_faithful, is_open, scan_causes}
-use Rattle.vortex_prune.specs.Scanning.Selection.{any_binder}
-use Rattle.vortex_stats.specs.declared.error.BinderFault.TheVariants as binder_fault
-use Rattle.vortex_stats.specs.declared.error.RuleFault.TheVariants as rule_fault
-use Rattle.vortex_stats.specs.declared.error.StatsError.{StatsError}
-use Rattle.vortex_stats.specs.declared.error.StatsError.TheVariants as fault
-use mathlib.Core.Bool.{true≢false}
-use Rattle.vortex_prune.specs.Answers.{IsMemory}
+use Rattle.vortex_prune.specs.Rewriting.Falsifiers.{Ends, binary_node, both_of, comparison_falsifier, either_of, ends, ends_node, every_null, extreme, falsified, falsifier, halves_node, items_falsifier, reduce_balanced, like_falsifier, literal_falsifier, literal_satisfier, max_of, min_of, node, none_null, null_count_of, other_than, outside, pattern_falsifier, placeholder, round, rounds, satisfied, satisfier, text_literal}
+use Rattle.vortex_prune.specs.Scanning.ScanRefusals.{is_open}
 
 abbrev Shut : Tree Place → Type 0
 Shut e = has_bare_column e ≡ false
@@ -206,43 +194,31 @@ built_in_is_shut (like o x p) = one_shut (like o x p) (like_falsifier o x p) (li
 built_in_is_shut (stat f x) = node_shut (stat f x) [] tt
 built_in_is_shut row_count = node_shut row_count [] tt
 
--- ---- refusals by built-in rules and binders that name no fault
+-- ---- and so are their satisfiers
 
-pub no_element : {X : Type 0} (x : X) → Contains [] x → ⊥
-no_element x h = absurd (omega (arith, h.1))
+literal_satisfier_shut : (v : Option ScalarValue) → AreShut (literal_satisfier v)
+literal_satisfier_shut None = refl
+literal_satisfier_shut (Some (value.Bool b)) = refl
+literal_satisfier_shut (Some (value.Primitive p)) = refl
+literal_satisfier_shut (Some (value.Utf8 bs)) = refl
+literal_satisfier_shut (Some (value.Binary bs)) = refl
 
-module _ {S : Type 0} (answer : S → BinderAnswer) (IsMissing : S → DType → Tree Place → Type 0) (can_fault : S → ℕ → Bool) (p : Tree Place) (binders : List S) where
-  memory_alone : (f : StatsError) → ((k : ℕ) → any_binder can_fault binders k ≡ false)
-      → IsRefusal (if_faithful (falsifier [] p) (scan_causes answer IsMissing can_fault [] p binders)) f → IsMemory f
-  memory_alone (fault.Memory e) quiet h = refl
-  memory_alone fault.NotPredicate quiet h = absurd h
-  memory_alone fault.Mismatch quiet h = absurd h
-  memory_alone fault.Unsupported quiet h = absurd h
-  memory_alone (fault.Conflict s) quiet h = absurd h
-  memory_alone (fault.Binder (binder_fault.Own k)) quiet h =
-      let named : can_fault h.1 k ≡ true = some-const (falsifier [] p) _ _ (λ e m. met-const _ e m) h.4 in
-      let read : can_fault (get_or binders h.0 h.1) k ≡ true = ap (λ b. can_fault b k) h.3 ∙ named in
-      absurd (true≢false (sym (any_at can_fault binders h.0 h.1 k h.2 read) ∙ quiet k))
-  memory_alone (fault.Binder binder_fault.WrongType) quiet h = absurd h
-  memory_alone (fault.Rule (rule_fault.Own k)) quiet h = absurd (no_element h.1 h.3)
-  memory_alone (fault.Rule rule_fault.NotBool) quiet h = absurd (no_element h.1 h.3)
-  memory_alone fault.OpenProof quiet h = absurd (true≢false (sym h ∙ built_in_is_shut p))
-  memory_alone fault.TooLarge quiet h = absurd h
+satisfied_shut : (p : Tree Place) (ps : List (Tree Place)) → AllByRecursion Shut ps → AreShut (satisfied [] p ps)
+unfolding node reduce_balanced
+satisfied_shut p ps h = subst (λ qs. AreShut (rounds (length qs) qs)) (sym (append-nil ps)) (rounds_shut (length ps) ps h)
 
-  -- what the binders cause that are asked for the falsifier, the scan is refused for
-  pub by_falsifier : {X F : Type 0} (rules : List OwnRule) (o : Option (Tree Place)) (r : Result X StatsError) → o ≡ falsifier rules p
-      → IfErr r (λ f. F → IsRefusal (if_faithful o (binder_causes answer IsMissing can_fault o binders)) f) → F
-      → IfErr r (IsRefusal (if_faithful (falsifier rules p) (scan_causes answer IsMissing can_fault rules p binders)))
-  by_falsifier rules o (Ok x) e h faithful = tt
-  by_falsifier rules o (Err f) e h faithful =
-      refusal-more (if_faithful (falsifier rules p) (binder_causes answer IsMissing can_fault (falsifier rules p) binders))
-      (if_faithful (falsifier rules p) (scan_causes answer IsMissing can_fault rules p binders)) f
-      (record { rule = λ k w. absurd w; not_bool = λ w. absurd w; binder = λ k w. w; wrong_type = λ w. w; open_proof = λ w. w })
-      (subst (λ (q : Option (Tree Place)). IsRefusal (if_faithful q (binder_causes answer IsMissing can_fault q binders)) f) e (h faithful))
+one_satisfier_shut : (p : Tree Place) (o : Option (Tree Place)) → AreShut o → AreShut (satisfied [] p (option_to_list o))
+one_satisfier_shut p None h = satisfied_shut p [] tt
+one_satisfier_shut p (Some e) h = satisfied_shut p (e ∷ []) (h, tt)
 
-  -- such a scan is refused for memory alone
-  pub refused_for_memory : {X : Type 0} (rules : List OwnRule) (r : Result X StatsError) → rules ≡ [] → ((k : ℕ) → any_binder can_fault binders k ≡ false)
-      → IfErr r (IsRefusal (if_faithful (falsifier rules p) (scan_causes answer IsMissing can_fault rules p binders))) → IfErr r IsMemory
-  refused_for_memory rules (Ok x) none quiet h = tt
-  refused_for_memory rules (Err f) none quiet h =
-      memory_alone f quiet (subst (λ rs. IsRefusal (if_faithful (falsifier rs p) (scan_causes answer IsMissing can_fault rs p binders)) f) none h)
+pub built_in_satisfier_is_shut : (p : Tree Place) → is_open (satisfier [] p) ≡ false
+built_in_satisfier_is_shut (column c) = refl
+built_in_satisfier_is_shut (literal c) = one_satisfier_shut (literal c) (literal_satisfier c.value) (literal_satisfier_shut c.value)
+built_in_satisfier_is_shut (binary o l r) = satisfied_shut (binary o l r) [] tt
+built_in_satisfier_is_shut (between o x l u) = satisfied_shut (between o x l u) [] tt
+built_in_satisfier_is_shut (is_null x) = satisfied_shut (is_null x) (every_null x) (every_null_shut x)
+built_in_satisfier_is_shut (is_not_null x) = satisfied_shut (is_not_null x) (none_null x) (none_null_shut x)
+built_in_satisfier_is_shut (not x) = satisfied_shut (not x) [] tt
+built_in_satisfier_is_shut (like o x p) = satisfied_shut (like o x p) [] tt
+built_in_satisfier_is_shut (stat f x) = satisfied_shut (stat f x) [] tt
+built_in_satisfier_is_shut row_count = satisfied_shut row_count [] tt

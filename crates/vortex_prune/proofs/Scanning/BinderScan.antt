@@ -1,19 +1,22 @@
 -- A scan with a binder for each part, as one part by part.
 use Rattle.std.proofs.Common.{◌≡◌, ◌<◌, ℕ, zero, suc, Bool, List, [], ◌∷◌, Option, Some, Result, Ok, Err, IfOk, IfErr, IsTrue, arith, get_or, inl, inr, length, refl, sym, subst, ◌∙◌}
 use Rattle.std.proofs.lemmas.Option.{get_or_from_slice_get, same_Some, slice_get_within, slice_get-get_or}
-use Rattle.std.specs.Prelude.{MatchResult, slice_get}
+use Rattle.std.specs.Prelude.{◌⊎◌, Contains, MatchResult, slice_get}
 use Rattle.vortex_base.specs.Data.Columns.{row_count as rows_of}
 use Rattle.vortex_base.specs.Data.Scalars.{Constant}
 use Rattle.vortex_base.specs.Trees.Tree.{Place, Tree}
 use Rattle.vortex_base.specs.declared.dtype.DType.{DType}
-use Rattle.vortex_prune.proofs.Scanning.ScanLemmas.{answered_long, faithful_refusal_in, refusal_in}
+use Rattle.vortex_prune.proofs.Scanning.ScanLemmas.{answered_long, faithful_one, faithful_refusal_in, refusal_in}
+use Rattle.vortex_prune.proofs.Rewriting.CauseLemmas.{either-refusal}
 use Rattle.vortex_prune.specs.Binding.Binders.{BinderAnswer}
-use Rattle.vortex_prune.specs.Scanning.Causes.{IsRefusal}
+use Rattle.vortex_prune.specs.Scanning.Causes.{Causes, IsRefusal, either_causes}
 use Rattle.vortex_prune.specs.Part.{PartData}
-use Rattle.vortex_prune.specs.Scanning.PartScans.{AreTold, IsRefusedAt, TellsOf, binder_refuses, binder_tells}
+use Rattle.vortex_prune.specs.Scanning.PartScans.{AreTold, IsListed, IsRefusedAt, TellsOf, UnlessSkipped, binder_refuses, binder_tells}
 use Rattle.vortex_prune.specs.Rewriting.Proof.{Assignment}
-use Rattle.vortex_prune.specs.Scanning.ScanRefusals.{AreClosed, IsClosed, binder_causes, if_faithful, proof_causes}
-use Rattle.vortex_prune.specs.Scanning.Selection.{Answered, AreFaithful, answered, is_skipped}
+use Rattle.vortex_prune.specs.Scanning.ScanRefusals.{AreClosed, IsClosed, KeptAreClosed, binder_causes, if_faithful, proof_causes}
+use Rattle.vortex_prune.specs.Scanning.Selection.{Answered, AreFaithful, answered, verdict}
+use Rattle.vortex_prune.specs.declared.scan.verdict.Verdict.{Verdict}
+use Rattle.vortex_prune.specs.declared.scan.verdict.Verdict.TheVariants.{Skipped, Whole, Tested}
 use Rattle.vortex_stats.specs.declared.error.StatsError.{StatsError}
 
 element_there : {X : Type 0} (xs : List X) (k : ℕ) → k < length xs → (x : X) × (slice_get xs k ≡ Some x)
@@ -41,46 +44,75 @@ module _ {S : Type 0} (value : S → List Constant → ℕ → Assignment) where
       (subst (λ (t : S). (value t [] (rows_of p.chunk.columns) ≡ value b [] (rows_of p.chunk.columns)) × IsTrue (over t [] (rows_of p.chunk.columns))) (same_Some b s k) (refl, faithful.0))
   answered_by over (p ∷ parts) (b ∷ binders) (suc i) d s e k faithful = answered_by over parts binders i d s e k faithful.1
 
-module _ {S : Type 0} (answer : S → BinderAnswer) (IsMissing : S → DType → Tree Place → Type 0) (over : S → List Constant → ℕ → Bool) (proof : Option (Tree Place)) (binders : List S) where
+module _ {S : Type 0} (answer : S → BinderAnswer) (IsMissing : S → DType → Tree Place → Type 0) (over : S → List Constant → ℕ → Bool) (falsifier satisfier : Option (Tree Place)) (binders : List S) where
   module _ (value : S → List Constant → ℕ → Assignment) where
-    -- where the binders are faithful, what their tests tell is what the proof does under the values that they name
-    pub binders_tell : (parts : List PartData) → length binders ≡ length parts → AreFaithful over parts binders → TellsOf (binder_tells answer IsMissing over proof binders value) proof parts (answered value parts binders)
+    -- where the binders are faithful, what their tests tell is the verdict under the values that they name
+    pub binders_tell : (parts : List PartData) → length binders ≡ length parts → AreFaithful over parts binders → TellsOf (binder_tells answer IsMissing over falsifier satisfier binders value) falsifier satisfier parts (answered value parts binders)
     binders_tell parts long faithful = record {
       long = answered_long value parts binders long;
       there = λ i part e. answered_there value parts binders i part long e;
-      same = λ i d b e is told.
+      same = λ i d v e is told.
           let own = answered_by value over parts binders i d told.0 e told.1 faithful in
-          subst (λ (a : Assignment). b ≡ is_skipped proof d.0 a) own.0 (told.2 own.1);
+          subst (λ (a : Assignment). v ≡ verdict falsifier satisfier d.0 a) own.0 (told.2 own.1);
     }
 
-    -- each has bound the proof to a closed expression
-    pub binders_closed : (parts : List PartData) → length binders ≡ length parts → AreTold (binder_tells answer IsMissing over proof binders value) parts → AreClosed answer IsMissing proof binders
-    binders_closed parts long told k d less =
+    -- each has bound the falsifier to a closed expression
+    pub binders_closed : (parts : List PartData) (skipped : List ℕ) → length binders ≡ length parts → AreTold (binder_tells answer IsMissing over falsifier satisfier binders value) parts skipped → AreClosed answer IsMissing falsifier binders
+    binders_closed parts skipped long told k d less =
         let p = element_there parts k (omega (arith, long, less)) in
         let t = (told k p.0 p.1).1 in
-        subst (λ (s : S). IsClosed (answer s) (IsMissing s) proof) (same_Some t.0 (get_or binders k d) (sym t.1 ∙ slice_get-get_or binders k d less)) t.3
+        subst (λ (s : S). IsClosed (answer s) (IsMissing s) falsifier) (same_Some t.0 (get_or binders k d) (sym t.1 ∙ slice_get-get_or binders k d less)) t.3
+
+    listed_or_closed : (v : Verdict) (skipped : List ℕ) (i : ℕ) (P : Type 0) → IsListed v skipped i → UnlessSkipped v P → Contains skipped i ⊎ P
+    listed_or_closed Skipped skipped i P h p = inl h
+    listed_or_closed Whole skipped i P h p = inr p
+    listed_or_closed Tested skipped i P h p = inr p
+
+    -- and those of parts that aren't skipped the satisfier
+    pub binders_kept_closed : (parts : List PartData) (skipped : List ℕ) → length binders ≡ length parts → AreTold (binder_tells answer IsMissing over falsifier satisfier binders value) parts skipped → KeptAreClosed answer IsMissing skipped satisfier binders
+    binders_kept_closed parts skipped long told i b there =
+        let less = slice_get_within binders i b there in
+        let p = element_there parts i (omega (arith, long, less)) in
+        let t = told i p.0 p.1 in
+        listed_or_closed t.0 skipped i (IsClosed (answer b) (IsMissing b) satisfier) t.2
+        (subst (λ (s : S). UnlessSkipped t.0 (IsClosed (answer s) (IsMissing s) satisfier)) (same_Some t.1.0 b (sym t.1.1 ∙ there)) t.1.4)
 
     -- what the test of one part says, by its binder
-    pub binder_told : (can_fault : S → ℕ → Bool) (i : ℕ) (part : PartData) (s : S) (r : Result Bool StatsError) → slice_get binders i ≡ Some s
-        → IfOk r (λ b. IsTrue (over s [] (rows_of part.chunk.columns)) → b ≡ is_skipped proof part (value s [] (rows_of part.chunk.columns))) → IfOk r (λ _. IsClosed (answer s) (IsMissing s) proof)
-        → IfErr r (IsRefusal (proof_causes (answer s) (IsMissing s) (can_fault s) proof))
-        → IfErr r (λ f. IsTrue (over s [] (rows_of part.chunk.columns)) → IsRefusal (if_faithful proof (proof_causes (answer s) (IsMissing s) (can_fault s) proof)) f)
-        → MatchResult r (binder_tells answer IsMissing over proof binders value i part) (binder_refuses answer IsMissing over proof binders can_fault i part)
-    binder_told can_fault i part s (Ok b) at told closed refused faithful = (s, at, told, closed)
-    binder_told can_fault i part s (Err f) at told closed refused faithful = (s, at, refused, faithful)
+    pub binder_told : (can_fault : S → ℕ → Bool) (i : ℕ) (part : PartData) (s : S) (r : Result Verdict StatsError) → slice_get binders i ≡ Some s
+        → IfOk r (λ v. IsTrue (over s [] (rows_of part.chunk.columns)) → v ≡ verdict falsifier satisfier part (value s [] (rows_of part.chunk.columns)))
+        → IfOk r (λ _. IsClosed (answer s) (IsMissing s) falsifier) → IfOk r (λ v. UnlessSkipped v (IsClosed (answer s) (IsMissing s) satisfier))
+        → IfErr r (IsRefusal (either_causes (proof_causes (answer s) (IsMissing s) (can_fault s) falsifier) (proof_causes (answer s) (IsMissing s) (can_fault s) satisfier)))
+        → IfErr r (λ f. IsTrue (over s [] (rows_of part.chunk.columns))
+        → IsRefusal (either_causes (if_faithful falsifier (proof_causes (answer s) (IsMissing s) (can_fault s) falsifier)) (if_faithful satisfier (proof_causes (answer s) (IsMissing s) (can_fault s) satisfier))) f)
+        → MatchResult r (binder_tells answer IsMissing over falsifier satisfier binders value i part) (binder_refuses answer IsMissing over falsifier satisfier binders can_fault i part)
+    binder_told can_fault i part s (Ok v) at told closed kept refused faithful = (s, at, told, closed, kept)
+    binder_told can_fault i part s (Err f) at told closed kept refused faithful = (s, at, refused, faithful)
 
   module _ (can_fault : S → ℕ → Bool) (parts : List PartData) where
+    abbrev pub causes : Option (Tree Place) → Causes
+    causes proof = binder_causes answer IsMissing can_fault proof binders
+
     -- what one of them is refused for, the scan is
-    pub binders_refused : (f : StatsError) → IsRefusedAt (binder_refuses answer IsMissing over proof binders can_fault) parts f → IsRefusal (binder_causes answer IsMissing can_fault proof binders) f
-    binders_refused f (inl memory) = subst (IsRefusal (binder_causes answer IsMissing can_fault proof binders)) (sym memory) tt
+    pub binders_refused : (f : StatsError) → IsRefusedAt (binder_refuses answer IsMissing over falsifier satisfier binders can_fault) parts f → IsRefusal (either_causes (causes falsifier) (causes satisfier)) f
+    binders_refused f (inl memory) = subst (IsRefusal (either_causes (causes falsifier) (causes satisfier))) (sym memory) tt
     binders_refused f (inr h) =
         let s = h.3.0 in
-        refusal_in answer IsMissing can_fault proof binders h.0 s f (slice_get_within binders h.0 s h.3.1) (sym (get_or_from_slice_get binders h.0 s s h.3.1)) h.3.2
+        let less = slice_get_within binders h.0 s h.3.1 in
+        let at = sym (get_or_from_slice_get binders h.0 s s h.3.1) in
+        either-refusal _ _ (causes falsifier) (causes satisfier) f (refusal_in answer IsMissing can_fault falsifier binders h.0 s f less at) (refusal_in answer IsMissing can_fault satisfier binders h.0 s f less at) h.3.2
 
-    pub binders_refused_faithful : (f : StatsError) → length binders ≡ length parts → AreFaithful over parts binders → IsRefusedAt (binder_refuses answer IsMissing over proof binders can_fault) parts f
-        → IsRefusal (if_faithful proof (binder_causes answer IsMissing can_fault proof binders)) f
-    binders_refused_faithful f long faithful (inl memory) = subst (IsRefusal (if_faithful proof (binder_causes answer IsMissing can_fault proof binders))) (sym memory) tt
+    abbrev pub faithful_causes : Option (Tree Place) → Causes
+    faithful_causes proof = if_faithful proof (causes proof)
+
+    pub binders_refused_faithful : (f : StatsError) → length binders ≡ length parts → AreFaithful over parts binders → IsRefusedAt (binder_refuses answer IsMissing over falsifier satisfier binders can_fault) parts f
+        → IsRefusal (either_causes (faithful_causes falsifier) (faithful_causes satisfier)) f
+    binders_refused_faithful f long faithful (inl memory) = subst (IsRefusal (either_causes (faithful_causes falsifier) (faithful_causes satisfier))) (sym memory) tt
     binders_refused_faithful f long faithful (inr h) =
         let s = h.3.0 in
-        faithful_refusal_in answer IsMissing can_fault proof over parts binders h.0 h.1 s f long (slice_get_within parts h.0 h.1 h.2) (sym (get_or_from_slice_get parts h.0 h.1 h.1 h.2))
-        (sym (get_or_from_slice_get binders h.0 s s h.3.1)) h.3.3 faithful
+        let less = slice_get_within parts h.0 h.1 h.2 in
+        let at = sym (get_or_from_slice_get parts h.0 h.1 h.1 h.2) in
+        let own = sym (get_or_from_slice_get binders h.0 s s h.3.1) in
+        let over_it = faithful_one over parts binders h.0 h.1 s long less at own faithful in
+        either-refusal _ _ (faithful_causes falsifier) (faithful_causes satisfier) f
+        (λ r. faithful_refusal_in answer IsMissing can_fault falsifier over parts binders h.0 h.1 s f long less at own (λ _. r) faithful)
+        (λ r. faithful_refusal_in answer IsMissing can_fault satisfier over parts binders h.0 h.1 s f long less at own (λ _. r) faithful) (h.3.3 over_it)

@@ -1,5 +1,5 @@
 -- What a scan has found after some parts, from what it had found before the last of them.
-use Rattle.std.proofs.Common.{◌≡◌, ◌<◌, ◌≤◌, ◌+◌, ◌||◌, ℕ, zero, suc, Bool, true, false, List, [], ◌∷◌, ◌++◌, Option, Some, IsTrue, cond, map, length, get_or, take, refl, sym, ap, subst, ◌∙◌, append_assoc, append-nil, inl, inr, arith}
+use Rattle.std.proofs.Common.{◌≡◌, ◌<◌, ◌≤◌, ◌+◌, ℕ, zero, suc, Bool, true, false, List, [], ◌∷◌, ◌++◌, Option, Some, IsTrue, cond, map, length, get_or, take, refl, sym, ap, subst, ◌∙◌, append_assoc, append-nil, inl, inr, arith}
 use Rattle.std.proofs.Math.Nat.{eq-or-lt_of_le}
 use Rattle.std.proofs.lemmas.Option.{same_Some, slice_get_read, slice_get_within}
 use Rattle.std.specs.List.{enumerate_from, filter, flat_map}
@@ -14,7 +14,7 @@ use Rattle.vortex_prune.specs.Scanning.Causes.{IsRefusal}
 use Rattle.vortex_prune.specs.Scanning.ScanRefusals.{binder_causes, if_faithful, proof_causes}
 use Rattle.vortex_prune.proofs.Rewriting.CauseLemmas.{refusal-more}
 use Rattle.vortex_base.specs.declared.dtype.DType.{DType}
-use Rattle.vortex_prune.specs.Scanning.Selection.{Answered, AreFaithful, answered, any_binder, is_skipped, kept_rows, place_if, selected_rows, skipped_parts}
+use Rattle.vortex_prune.specs.Scanning.Selection.{Answered, AreFaithful, answered, any_binder, is_proved, is_whole, place_if, rows_by, rows_tested, selected_rows, skipped_parts, tested_rows, verdict, whole_parts}
 use Rattle.vortex_stats.specs.declared.error.StatsError.{StatsError}
 use Rattle.std.proofs.lemmas.Bool.{or_left, or_right}
 
@@ -45,15 +45,35 @@ module _ {X : Type 0} (test : X → Bool) where
   passing_collected m (x ∷ xs) = listed_if (test x) m x (filter (λ e. test e.1) (enumerate_from (m + 1) xs)) ∙ ap (λ l. place_if (test x) m ++ l) (passing_collected (m + 1) xs)
 
 pub skipped_more : (proof : Option (Tree Place)) (parts : List Answered) (n : ℕ) (d : Answered) → n < length parts
-    → skipped_parts proof (take (n + 1) parts) ≡ skipped_parts proof (take n parts) ++ place_if (is_skipped proof (get_or parts n d).0 (get_or parts n d).1) n
+    → skipped_parts proof (take (n + 1) parts) ≡ skipped_parts proof (take n parts) ++ place_if (is_proved proof (get_or parts n d).0 (get_or parts n d).1) n
 skipped_more proof parts n d h =
-    passing_collected (λ e. is_skipped proof e.0 e.1) 0 (take (n + 1) parts)
-    ∙ collected_more (λ i e. place_if (is_skipped proof e.0 e.1) i) n parts d h
-    ∙ ap (λ l. l ++ place_if (is_skipped proof (get_or parts n d).0 (get_or parts n d).1) n) (sym (passing_collected (λ e. is_skipped proof e.0 e.1) 0 (take n parts)))
+    passing_collected (λ e. is_proved proof e.0 e.1) 0 (take (n + 1) parts)
+    ∙ collected_more (λ i e. place_if (is_proved proof e.0 e.1) i) n parts d h
+    ∙ ap (λ l. l ++ place_if (is_proved proof (get_or parts n d).0 (get_or parts n d).1) n) (sym (passing_collected (λ e. is_proved proof e.0 e.1) 0 (take n parts)))
 
-pub selected_more : (proof : Option (Tree Place)) (p : Tree Place) (parts : List Answered) (n : ℕ) (d : Answered) → n < length parts
-    → selected_rows proof p (take (n + 1) parts) ≡ selected_rows proof p (take n parts) ++ kept_rows proof p n (get_or parts n d)
-selected_more proof p parts n d h = collected_more (λ i e. kept_rows proof p i e) n parts d h
+module _ (falsifier satisfier : Option (Tree Place)) where
+  pub whole_more : (parts : List Answered) (n : ℕ) (d : Answered) → n < length parts
+      → whole_parts falsifier satisfier (take (n + 1) parts) ≡ whole_parts falsifier satisfier (take n parts) ++ place_if (is_whole (verdict falsifier satisfier (get_or parts n d).0 (get_or parts n d).1)) n
+  whole_more parts n d h =
+      let test : Answered → Bool = λ e. is_whole (verdict falsifier satisfier e.0 e.1) in
+      passing_collected test 0 (take (n + 1) parts)
+      ∙ collected_more (λ i e. place_if (test e) i) n parts d h
+      ∙ ap (λ l. l ++ place_if (test (get_or parts n d)) n) (sym (passing_collected test 0 (take n parts)))
+
+  pub selected_more : (p : Tree Place) (parts : List Answered) (n : ℕ) (d : Answered) → n < length parts
+      → selected_rows falsifier satisfier p (take (n + 1) parts)
+      ≡ selected_rows falsifier satisfier p (take n parts) ++ rows_by (verdict falsifier satisfier (get_or parts n d).0 (get_or parts n d).1) p n (get_or parts n d).0.chunk
+  selected_more p parts n d h = collected_more (λ i e. rows_by (verdict falsifier satisfier e.0 e.1) p i e.0.chunk) n parts d h
+
+  pub tested_more : (parts : List Answered) (n : ℕ) (d : Answered) → n < length parts
+      → tested_rows falsifier satisfier (take (n + 1) parts)
+      ≡ tested_rows falsifier satisfier (take n parts) + rows_tested (verdict falsifier satisfier (get_or parts n d).0 (get_or parts n d).1) (get_or parts n d).0.chunk
+  tested_more [] n d h = absurd (omega arith)
+  tested_more (part ∷ parts) zero d h = omega arith
+  tested_more (part ∷ parts) (suc n) d h =
+      let more = tested_more parts n d (omega arith) in
+      let next : suc n + 1 ≡ suc (n + 1) = omega arith in
+      ap (λ k. tested_rows falsifier satisfier (take k (part ∷ parts))) next ∙ omega (arith, more)
 
 -- ---- the parts that were looked at are parts
 
@@ -88,6 +108,13 @@ module _ {S : Type 0} where
   faithful_at over (q ∷ parts) (c ∷ binders) zero p b long h f = f.0
   faithful_at over (q ∷ parts) (c ∷ binders) (suc n) p b long h f = faithful_at over parts binders n p b (omega (arith, long)) (omega arith) f.1
 
+  -- so the binder of a part is faithful for it
+  pub faithful_one : (over : S → List Constant → ℕ → Bool) (parts : List PartData) (binders : List S) (n : ℕ) (part : PartData) (b : S) → length binders ≡ length parts → n < length parts → part ≡ get_or parts n part → b ≡ get_or binders n b
+      → AreFaithful over parts binders → IsTrue (over b [] (rows_of part.chunk.columns))
+  faithful_one over parts binders n part b long h is is_b faithful =
+      let here = faithful_at over parts binders n part b long h faithful in
+      subst (λ c. IsTrue (over c [] (rows_of part.chunk.columns))) (sym is_b) (subst (λ q. IsTrue (over (get_or binders n b) [] (rows_of q.chunk.columns))) (sym is) here)
+
   pub any_at : (can_fault : S → ℕ → Bool) (binders : List S) (n : ℕ) (b : S) (k : ℕ) → n < length binders → can_fault (get_or binders n b) k ≡ true → any_binder can_fault binders k ≡ true
   any_at can_fault [] n b k h t = absurd (omega arith)
   any_at can_fault (c ∷ binders) zero b k h t = or_left (can_fault c k) (any_binder can_fault binders k) t
@@ -111,8 +138,7 @@ module _ {S : Type 0} where
         → (IsTrue (over b [] (rows_of part.chunk.columns)) → IsRefusal (if_faithful proof (proof_causes (answer b) (IsMissing b) (can_fault b) proof)) f)
         → AreFaithful over parts binders → IsRefusal (if_faithful proof (binder_causes answer IsMissing can_fault proof binders)) f
     faithful_refusal_in over parts binders n part b f long h is is_b r faithful =
-        let here = faithful_at over parts binders n part b long h faithful in
-        let own : IsTrue (over b [] (rows_of part.chunk.columns)) = subst (λ c. IsTrue (over c [] (rows_of part.chunk.columns))) (sym is_b) (subst (λ q. IsTrue (over (get_or binders n b) [] (rows_of q.chunk.columns))) (sym is) here) in
+        let own : IsTrue (over b [] (rows_of part.chunk.columns)) = faithful_one over parts binders n part b long h is is_b faithful in
         refusal-more _ (if_faithful proof (binder_causes answer IsMissing can_fault proof binders)) f (record {
           rule = λ k x. x;
           not_bool = λ x. x;

@@ -41,3 +41,14 @@ rows_more test place n =
 pub row_added : (test : ℕ → Bool) (place n : ℕ) (xs ys : List (ℕ × ℕ)) → xs ≡ ys ++ rows_below test place n → xs ++ row_if (test n) place n ≡ ys ++ rows_below test place (n + 1)
 row_added test place n xs ys h =
     ap (λ l. l ++ row_if (test n) place n) h ∙ append_assoc ys (rows_below test place n) (row_if (test n) place n) ∙ ap (λ l. ys ++ l) (sym (rows_more test place n))
+
+-- ---- all rows below a place
+
+abbrev pub pairs_below : (place n : ℕ) → List (ℕ × ℕ)
+pairs_below place n = map (λ i. (place, i)) (range_with_len 0 n)
+
+-- one more of them
+pub pair_added : (place n : ℕ) (xs ys : List (ℕ × ℕ)) → xs ≡ ys ++ pairs_below place n → xs ++ (place, n) ∷ [] ≡ ys ++ pairs_below place (n + 1)
+pair_added place n xs ys h =
+    ap (λ l. l ++ (place, n) ∷ []) h ∙ append_assoc ys (pairs_below place n) ((place, n) ∷ [])
+    ∙ ap (λ l. ys ++ l) (sym (ap (map {B = ℕ × ℕ} (λ i. (place, i))) (range_more n) ∙ map-append {B = ℕ × ℕ} (λ i. (place, i)) (range_with_len 0 n) (n ∷ [])))

@@ -9,7 +9,7 @@ use Rattle.vortex_prune.proofs.Completeness.Boxes.{skipping_is_complete}
 use Rattle.vortex_prune.specs.Scanning.Complete.{ScansSkipExactly, by_own_statistics}
 use Rattle.vortex_prune.specs.Binding.PartAnswers.{part_values}
 use Rattle.vortex_prune.specs.Rewriting.Falsifiers.{falsifier}
-use Rattle.vortex_prune.specs.Scanning.Selection.{Answered, is_skipped, skipped_parts}
+use Rattle.vortex_prune.specs.Scanning.Selection.{Answered, is_proved, skipped_parts}
 use Rattle.vortex_stats.proofs.Kit.{contains_first, contains_later}
 
 module _ {X : Type 0} (test : X → Bool) where
@@ -59,11 +59,11 @@ module _ {X : Type 0} (test : X → Bool) where
       back ys (n + 1) i x is (subst (Contains (passing (n + 1) ys)) at (first_place (test y) n (n + suc i) y (filter (λ e. test e.1) (enumerate_from (n + 1) ys)) h (λ same. absurd (omega (arith, same)))))
 
 -- a part's place is skipped exactly if the proof is true of the part
-pub skipped_part : (proof : Option (Tree Place)) (parts : List Answered) (i : ℕ) (part : Answered) → slice_get parts i ≡ Some part → Contains (skipped_parts proof parts) i ↔ IsTrue (is_skipped proof part.0 part.1)
+pub skipped_part : (proof : Option (Tree Place)) (parts : List Answered) (i : ℕ) (part : Answered) → slice_get parts i ≡ Some part → Contains (skipped_parts proof parts) i ↔ IsTrue (is_proved proof part.0 part.1)
 skipped_part proof parts i part is =
     let at : 0 + i ≡ i = omega arith in (
-      (λ h. back (λ e. is_skipped proof e.0 e.1) parts 0 i part is (subst (Contains (skipped_parts proof parts)) (sym at) h)),
-      (λ h. subst (Contains (skipped_parts proof parts)) at (there (λ e. is_skipped proof e.0 e.1) parts 0 i part is h)),
+      (λ h. back (λ e. is_proved proof e.0 e.1) parts 0 i part is (subst (Contains (skipped_parts proof parts)) (sym at) h)),
+      (λ h. subst (Contains (skipped_parts proof parts)) at (there (λ e. is_proved proof e.0 e.1) parts 0 i part is h)),
     )
 
 pub scans_skip_exactly : ScansSkipExactly

@@ -20,7 +20,7 @@ use Rattle.vortex_prune.specs.Part.{AreParts, IsPart, PartData}
 use Rattle.vortex_prune.specs.Binding.PartAnswers.{part_values}
 use Rattle.vortex_prune.specs.Rewriting.Predicates.{has_type, is_predicate}
 use Rattle.vortex_prune.specs.Rewriting.Proof.{Assignment}
-use Rattle.vortex_prune.specs.Rewriting.Falsifiers.{falsifier}
+use Rattle.vortex_prune.specs.Rewriting.Falsifiers.{falsifier, satisfier}
 use Rattle.vortex_prune.specs.Scanning.Selection.{AreByStatistics, AreHonest, answered, full, selected_rows, skipped_parts}
 
 abbrev Fits : Tree Place → PartData → Type 0
@@ -59,9 +59,9 @@ module _ {S : Type 0} (value : S → List Constant → ℕ → Assignment) where
 
   -- with honest binders what is kept is what the full scan selects
   pub kept_is_full : (rules : List OwnRule) (p : Tree Place) (parts : List PartData) (binders : List S) → length binders ≡ length parts → IsTrue (is_predicate p) → IsTrue (is_plain p)
-      → All (Fits p) parts → AreParts parts → AreHonest value parts binders → selected_rows (falsifier rules p) p (answered value parts binders) ≡ full p parts
+      → All (Fits p) parts → AreParts parts → AreHonest value parts binders → selected_rows (falsifier rules p) (satisfier rules p) p (answered value parts binders) ≡ full p parts
   kept_is_full rules p parts binders long predicate plain fits are honest =
-      selected_full rules p (predicate_typed (type_of p) predicate) plain (falsifier rules p) (answered value parts binders) refl
+      selected_full rules p (predicate_typed (type_of p) predicate) plain (falsifier rules p) (satisfier rules p) (answered value parts binders) refl refl
       (all_answered p parts binders long (recursion_from_All (Fits p) parts fits) (parts_by_recursion parts are) honest)
       ∙ ap (full p) (same_parts parts binders long)
 

@@ -18,7 +18,7 @@ use Rattle.vortex_prune.specs.Scanning.Complete.{Box, IsSatisfiable, is_read_onc
 use Rattle.vortex_prune.specs.Part.{Entries, IsPart, PartData}
 use Rattle.vortex_prune.specs.Binding.PartAnswers.{part_values}
 use Rattle.vortex_prune.specs.Rewriting.Falsifiers.{bool_literal, falsifier, reduce_balanced, node}
-use Rattle.vortex_prune.specs.Scanning.Selection.{is_skipped}
+use Rattle.vortex_prune.specs.Scanning.Selection.{is_proved}
 use Rattle.vortex_stats.specs.declared.precision.Precision.TheVariants.{Exact, Inexact}
 use Rattle.vortex_stats.specs.declared.stat.Stat.TheVariants.{Max, Min}
 
@@ -56,7 +56,7 @@ part as' bs = record {
 
 -- the part is skipped under its own statistics
 abbrev skips : Tree Place → (as' bs : Entries) → Bool
-skips p as' bs = is_skipped (falsifier [] p) (part as' bs) (part_values (part as' bs))
+skips p as' bs = is_proved (falsifier [] p) (part as' bs) (part_values (part as' bs))
 
 some_part : IsPart (part (bounds 5 9) (bounds 1 5))
 some_part = (refl, refl)

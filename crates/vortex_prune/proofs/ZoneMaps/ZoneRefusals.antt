@@ -2,17 +2,16 @@
 use Rattle.std.proofs.Common.{◌≡◌, ◌<◌, true, false, List, [], ◌∷◌, Option, Some, None, Result, Ok, Err, IfErr, arith, length, refl, subst, sym, ◌∙◌}
 use Rattle.vortex_base.specs.Trees.Tree.{Tree, Place, has_bare_column}
 use Rattle.vortex_base.specs.declared.dtype.DType.{DType}
-use Rattle.vortex_prune.proofs.Rewriting.CauseLemmas.{met-const}
-use Rattle.vortex_prune.proofs.Rewriting.ShutProofs.{built_in_is_shut, no_element}
+use Rattle.vortex_prune.proofs.Rewriting.CauseLemmas.{either-left, either-right, met-const}
+use Rattle.vortex_prune.proofs.Scanning.ScanRefused.{asking_refused, memory_alone_by}
 use Rattle.vortex_prune.specs.Binding.Binders.{BinderAnswer}
 use Rattle.vortex_prune.specs.Binding.BoundTo.{binding_causes}
 use Rattle.vortex_prune.specs.Scanning.Causes.{Causes, IsRefusal}
 use Rattle.vortex_prune.specs.Rewriting.Lawful.{OwnRule}
 use Rattle.vortex_prune.specs.Part.{PartData}
-use Rattle.vortex_prune.specs.Rewriting.Falsifiers.{falsifier}
-use Rattle.vortex_prune.specs.Rewriting.RuleRefusals.{rule_causes}
+use Rattle.vortex_prune.specs.Rewriting.Falsifiers.{falsifier, satisfier}
 use Rattle.vortex_prune.specs.Answers.{IsMemory}
-use Rattle.vortex_prune.specs.Rewriting.Visited.{visited}
+use Rattle.vortex_prune.specs.Scanning.ScanRefusals.{is_open}
 use Rattle.vortex_prune.specs.Scanning.ZoneScans.{is_left_open, open_causes, zone_causes}
 use Rattle.vortex_stats.specs.declared.error.BinderFault.TheVariants as binder_fault
 use Rattle.vortex_stats.specs.declared.error.RuleFault.TheVariants as rule_fault
@@ -62,54 +61,33 @@ module _ (answer : BinderAnswer) (IsMissing : DType → Tree Place → Type 0) (
 -- ---- the whole scan
 
 module _ (rules : List OwnRule) (p : Tree Place) (parts : List PartData) where
-  -- what its rules cause, it may be refused for
-  pub rules_refuse : (f : StatsError) → IsRefusal (rule_causes (λ rule. rule.falsifier) rules (visited p)) f → IsRefusal (zone_causes rules p parts) f
-  rules_refuse (fault.Memory a) h = tt
-  rules_refuse fault.NotPredicate h = absurd h
-  rules_refuse fault.Mismatch h = absurd h
-  rules_refuse fault.Unsupported h = absurd h
-  rules_refuse (fault.Conflict s) h = absurd h
-  rules_refuse (fault.Binder (binder_fault.Own k)) h = absurd h
-  rules_refuse (fault.Binder binder_fault.WrongType) h = absurd h
-  rules_refuse (fault.Rule (rule_fault.Own k)) h = h
-  rules_refuse (fault.Rule rule_fault.NotBool) h = h
-  rules_refuse fault.OpenProof h = absurd h
-  rules_refuse fault.TooLarge h = absurd h
-
-  open_of_falsifier : (f : StatsError) → IsRefusal (open_causes (falsifier rules p) parts) f → IsRefusal (zone_causes rules p parts) f
-  open_of_falsifier (fault.Memory a) h = tt
-  open_of_falsifier fault.NotPredicate h = absurd h
-  open_of_falsifier fault.Mismatch h = absurd h
-  open_of_falsifier fault.Unsupported h = absurd h
-  open_of_falsifier (fault.Conflict s) h = absurd h
-  open_of_falsifier (fault.Binder (binder_fault.Own k)) h = absurd h
-  open_of_falsifier (fault.Binder binder_fault.WrongType) h = absurd h
-  open_of_falsifier (fault.Rule (rule_fault.Own k)) h = absurd h
-  open_of_falsifier (fault.Rule rule_fault.NotBool) h = absurd h
-  open_of_falsifier fault.OpenProof h = h
-  open_of_falsifier fault.TooLarge h = absurd h
-
+  -- a falsifier that is left open
   pub open_refuses : (proof : Option (Tree Place)) (f : StatsError) → proof ≡ falsifier rules p → IsRefusal (open_causes proof parts) f → IsRefusal (zone_causes rules p parts) f
-  open_refuses proof f same h = open_of_falsifier f (subst (λ (o : Option (Tree Place)). IsRefusal (open_causes o parts) f) same h)
+  open_refuses proof f same h = asking_refused (λ e. open_causes e parts) rules p proof (satisfier rules p) f same refl (either-left _ _ f h)
+
+  -- a satisfier that is
+  pub open_satisfier_refuses : (proof : Option (Tree Place)) (f : StatsError) → proof ≡ satisfier rules p → IsRefusal (open_causes proof parts) f → IsRefusal (zone_causes rules p parts) f
+  open_satisfier_refuses proof f same h = asking_refused (λ e. open_causes e parts) rules p (falsifier rules p) proof f refl same (either-right _ _ f h)
 
 -- by built-in rules it is refused for memory alone
-shut_always : (parts : List PartData) (p : Tree Place) → is_left_open (falsifier [] p) parts ≡ false
-shut_always [] p = refl
-shut_always (part ∷ parts) p = built_in_is_shut p
+left_shut_always : (parts : List PartData) (proof : Option (Tree Place)) → is_open proof ≡ false → is_left_open proof parts ≡ false
+left_shut_always [] proof shut = refl
+left_shut_always (part ∷ parts) proof shut = shut
 
-memory_alone : (p : Tree Place) (parts : List PartData) (f : StatsError) → IsRefusal (zone_causes [] p parts) f → IsMemory f
-memory_alone p parts (fault.Memory a) h = refl
-memory_alone p parts fault.NotPredicate h = absurd h
-memory_alone p parts fault.Mismatch h = absurd h
-memory_alone p parts fault.Unsupported h = absurd h
-memory_alone p parts (fault.Conflict s) h = absurd h
-memory_alone p parts (fault.Binder (binder_fault.Own k)) h = absurd h
-memory_alone p parts (fault.Binder binder_fault.WrongType) h = absurd h
-memory_alone p parts (fault.Rule (rule_fault.Own k)) h = absurd (no_element h.1 h.3)
-memory_alone p parts (fault.Rule rule_fault.NotBool) h = absurd (no_element h.1 h.3)
-memory_alone p parts fault.OpenProof h = absurd (true≢false (sym h ∙ shut_always parts p))
-memory_alone p parts fault.TooLarge h = absurd h
+memory_alone : (parts : List PartData) (proof : Option (Tree Place)) (f : StatsError) → is_open proof ≡ false → IsRefusal (open_causes proof parts) f → IsMemory f
+memory_alone parts proof (fault.Memory a) shut h = refl
+memory_alone parts proof fault.NotPredicate shut h = absurd h
+memory_alone parts proof fault.Mismatch shut h = absurd h
+memory_alone parts proof fault.Unsupported shut h = absurd h
+memory_alone parts proof (fault.Conflict s) shut h = absurd h
+memory_alone parts proof (fault.Binder (binder_fault.Own k)) shut h = absurd h
+memory_alone parts proof (fault.Binder binder_fault.WrongType) shut h = absurd h
+memory_alone parts proof (fault.Rule (rule_fault.Own k)) shut h = absurd h
+memory_alone parts proof (fault.Rule rule_fault.NotBool) shut h = absurd h
+memory_alone parts proof fault.OpenProof shut h = absurd (true≢false (sym h ∙ left_shut_always parts proof shut))
+memory_alone parts proof fault.TooLarge shut h = absurd h
 
 pub zones_refused_for_memory : {X : Type 0} (rules : List OwnRule) (p : Tree Place) (parts : List PartData) (r : Result X StatsError) → rules ≡ [] → IfErr r (IsRefusal (zone_causes rules p parts)) → IfErr r IsMemory
 zones_refused_for_memory rules p parts (Ok x) none h = tt
-zones_refused_for_memory rules p parts (Err f) none h = memory_alone p parts f (subst (λ rs. IsRefusal (zone_causes rs p parts) f) none h)
+zones_refused_for_memory rules p parts (Err f) none h =
+    memory_alone_by (λ proof. open_causes proof parts) p (memory_alone parts) f (subst (λ rs. IsRefusal (zone_causes rs p parts) f) none h)

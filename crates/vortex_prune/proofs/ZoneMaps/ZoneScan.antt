@@ -1,6 +1,6 @@
 -- A scan by a table of zones finds what one by each part's own statistics does.
-use Rattle.std.proofs.Common.{◌≡◌, All, ℕ, zero, suc, Bool, true, false, not, List, [], ◌∷◌, Option, Some, None, alloc_error, arith, inl, inr, length, map, refl, subst, sym, ap, ◌∙◌}
-use Rattle.std.specs.Prelude.{Err, IfOk, Ok, Result, if◌then◌else◌, slice_get, IsTrue}
+use Rattle.std.proofs.Common.{◌≡◌, All, ℕ, zero, suc, Bool, true, false, not, List, [], ◌∷◌, Option, Some, None, arith, inl, inr, length, map, refl, subst, sym, ap, ◌∙◌}
+use Rattle.std.specs.Prelude.{◌<◌, ◌⊎◌, Contains, Err, IfOk, Ok, Result, if◌then◌else◌, slice_get, IsTrue}
 use Rattle.std.proofs.lemmas.List.{length-map}
 use Rattle.std.proofs.lemmas.Option.{same_Some, slice_get_within}
 use Rattle.vortex_base.specs.Meanings.Fitting.{fits_row, fits_scope}
@@ -17,14 +17,17 @@ use Rattle.std.proofs.lemmas.List.Elements.{recursion_from_All}
 use Rattle.vortex_prune.proofs.ZoneMaps.ZoneRows.{row_is_zone_row, values_same}
 use Rattle.vortex_prune.specs.declared.scan.outcome.Scan.{Scan}
 use Rattle.vortex_stats.specs.declared.error.StatsError.{StatsError}
-use Rattle.vortex_stats.specs.declared.error.StatsError.TheVariants.{Memory}
 use Rattle.vortex_prune.specs.Binding.BoundTo.{HasNoColumnOn, WhereFaithful}
-use Rattle.vortex_prune.specs.Part.{PartData}
-use Rattle.vortex_prune.specs.Scanning.PartScans.{IsRefusedAt, TellsOf}
+use Rattle.vortex_prune.specs.Part.{IsPart, PartData}
+use Rattle.vortex_prune.specs.Scanning.PartScans.{AreTold, IsListed, IsRefusedAt, TellsOf, UnlessSkipped}
 use Rattle.vortex_prune.specs.Binding.PartAnswers.{part_values}
 use Rattle.vortex_prune.specs.Rewriting.Proof.{Assignment, value_under}
-use Rattle.vortex_prune.specs.Scanning.Selection.{Answered, is_skipped, selected_rows, skipped_parts}
-use Rattle.vortex_prune.specs.Scanning.ZoneScans.{CanTell, TellsAs, statistics_answers, zone_truth}
+use Rattle.vortex_prune.specs.Scanning.Selection.{Answered, is_proved, verdict}
+use Rattle.vortex_prune.specs.Scanning.Causes.{IsRefusal}
+use Rattle.vortex_prune.specs.Scanning.ScanRefusals.{is_open}
+use Rattle.vortex_prune.specs.declared.scan.verdict.Verdict.{Verdict}
+use Rattle.vortex_prune.specs.declared.scan.verdict.Verdict.TheVariants.{Skipped, Whole, Tested}
+use Rattle.vortex_prune.specs.Scanning.ZoneScans.{CanTell, IsBoundOnce, IsShutIfKept, TellsAs, open_causes, statistics_answers, table_tells, table_verdict, zone_truth}
 use Rattle.vortex_prune.specs.Zones.{HaveScope, Head, ZonesData, heads, is_zone_row, named_head, zone_column, zone_columns, zone_table, zone_values}
 
 -- ---- a scan by the rows of the table, as one part by part
@@ -40,25 +43,73 @@ answer_from (p ∷ parts) (suc i) d e = answer_from parts i d e
 answer_there : (parts : List PartData) (i : ℕ) (part : PartData) → slice_get parts i ≡ Some part → (d : Answered) × (slice_get (statistics_answers parts) i ≡ Some d) × (d.0 ≡ part)
 answer_there parts i part e = answered_there (λ (p : PartData) row n. part_values p) parts parts i part refl e
 
-abbrev table_told : (bound : Option (Tree Place)) → ZonesData → ℕ → PartData → Bool → Type 0
-table_told bound z i part b = b ≡ zone_truth bound z i (rows_of part.chunk.columns)
+-- by a falsifier that was bound it tells the verdict of the part
+same_verdict : (bound f s : Option (Tree Place)) (z : ZonesData) (i : ℕ) (part : PartData) (b : Bool) → zone_truth bound z i (rows_of part.chunk.columns) ≡ b → b ≡ is_proved f part (part_values part)
+    → table_verdict bound s z i part ≡ verdict f s part (part_values part)
+same_verdict bound f s z i part b told is =
+    ap (λ c. if c then Skipped else if is_proved s part (part_values part) then Whole else Tested) (told ∙ is)
 
-answers_tell : (bound proof : Option (Tree Place)) (z : ZonesData) → TellsAs bound proof z → TellsOf (table_told bound z) proof z.parts (statistics_answers z.parts)
-answers_tell bound proof z tells = record {
+answers_tell : (bound f s : Option (Tree Place)) (z : ZonesData) → TellsAs bound f z → TellsOf (table_tells bound s z) f s z.parts (statistics_answers z.parts)
+answers_tell bound f s z tells = record {
   long = answered_long (λ (p : PartData) row n. part_values p) z.parts z.parts refl;
   there = answer_there z.parts;
-  same = λ i d b e is told.
+  same = λ i d v e is told.
       let own = answer_from z.parts i d e in
-      told ∙ tells i d.0 own.0 is ∙ ap (is_skipped proof d.0) own.1;
+      told.0 own.0 is ∙ same_verdict bound f s z i d.0 (zone_truth bound z i (rows_of d.0.chunk.columns)) refl (tells i d.0 own.0 is) ∙ ap (verdict f s d.0) own.1;
 }
 
-pub table_tells : (bound proof : Option (Tree Place)) (z : ZonesData) (parts : List PartData) → parts ≡ z.parts → TellsAs bound proof z → TellsOf (table_told bound z) proof parts (statistics_answers z.parts)
-table_tells bound proof z parts same tells = subst (λ (ps : List PartData). TellsOf (table_told bound z) proof ps (statistics_answers z.parts)) (sym same) (answers_tell bound proof z tells)
+pub tables_tell : (bound f s : Option (Tree Place)) (z : ZonesData) (parts : List PartData) → parts ≡ z.parts → TellsAs bound f z → TellsOf (table_tells bound s z) f s parts (statistics_answers z.parts)
+tables_tell bound f s z parts same tells = subst (λ (ps : List PartData). TellsOf (table_tells bound s z) f s ps (statistics_answers z.parts)) (sym same) (answers_tell bound f s z tells)
 
--- for memory alone
-pub refused_alone : (parts : List PartData) (f : StatsError) → IsRefusedAt (λ i part g. g ≡ Memory alloc_error) parts f → f ≡ Memory alloc_error
-refused_alone parts f (inl memory) = memory
-refused_alone parts f (inr h) = h.3
+-- a refusal at some part is for memory, or since the satisfier is left open
+pub refused_open : (satisfier : Option (Tree Place)) (zoned parts : List PartData) (f : StatsError) → IsRefusedAt (λ i part. IsRefusal (open_causes satisfier zoned)) parts f → IsRefusal (open_causes satisfier zoned) f
+refused_open satisfier zoned parts f (inl memory) = subst (IsRefusal (open_causes satisfier zoned)) (sym memory) tt
+refused_open satisfier zoned parts f (inr h) = h.3
+
+-- ---- the satisfier is bound where it is needed
+
+pub once_can_tell : (bound satisfier : Option (Tree Place)) (z : ZonesData) → IsBoundOnce bound satisfier z → CanTell bound z
+once_can_tell None satisfier z h = tt
+once_can_tell (Some b) satisfier z h = h.0
+
+-- nothing was bound, or the satisfier was
+pub is_once : (bound satisfier : Option (Tree Place)) (z : ZonesData) → CanTell bound z → TellsAs bound satisfier z → is_open satisfier ≡ false → IsBoundOnce bound satisfier z
+is_once None satisfier z can tells shut = tt
+is_once (Some b) satisfier z can tells shut = (can, tells, shut)
+
+listed_or_shut : (v : Verdict) (skipped : List ℕ) (i : ℕ) (P : Type 0) → IsListed v skipped i → UnlessSkipped v P → Contains skipped i ⊎ P
+listed_or_shut Skipped skipped i P h p = inl h
+listed_or_shut Whole skipped i P h p = inr p
+listed_or_shut Tested skipped i P h p = inr p
+
+part_there : (parts : List PartData) (i : ℕ) → i < length parts → (part : PartData) × (slice_get parts i ≡ Some part)
+part_there [] i h = absurd (omega arith)
+part_there (p ∷ parts) zero h = (p, refl)
+part_there (p ∷ parts) (suc i) h = part_there parts i (omega arith)
+
+-- where a part isn't skipped the satisfier has no column outside its placeholders
+pub shut_if_kept : (bound s : Option (Tree Place)) (z : ZonesData) (parts : List PartData) (skipped : List ℕ) → parts ≡ z.parts → AreTold (table_tells bound s z) parts skipped → IsShutIfKept skipped s z.parts
+shut_if_kept bound s z parts skipped same told i less =
+    let p = part_there parts i (subst (λ l. i < length l) (sym same) less) in
+    let t = told i p.0 p.1 in
+    listed_or_shut t.0 skipped i (is_open s ≡ false) t.2 t.1.1
+
+-- the verdict on a part of the table
+module _ (falsifier satisfier : Option (Tree Place)) (z : ZonesData) (i : ℕ) (part : PartData) where
+  pub is_skipped_part : zone_truth falsifier z i (rows_of part.chunk.columns) ≡ true → table_tells falsifier satisfier z i part Skipped
+  is_skipped_part told = ((λ there is. ap (λ c. if c then Skipped else if is_proved satisfier part (part_values part) then Whole else Tested) (sym told)), tt)
+
+  module _ (bound : Option (Tree Place)) (not_told : zone_truth falsifier z i (rows_of part.chunk.columns) ≡ false) (tells : TellsAs bound satisfier z) (shut : is_open satisfier ≡ false) where
+    by_satisfier : (b : Bool) → zone_truth bound z i (rows_of part.chunk.columns) ≡ b → slice_get z.parts i ≡ Some part → IsPart part → (if b then Whole else Tested) ≡ table_verdict falsifier satisfier z i part
+    by_satisfier b told there is =
+        ap (λ c. if c then Whole else Tested) (sym told ∙ tells i part there is)
+        ∙ ap (λ c. if c then Skipped else if is_proved satisfier part (part_values part) then Whole else Tested) (sym not_told)
+
+    pub is_whole_part : zone_truth bound z i (rows_of part.chunk.columns) ≡ true → table_tells falsifier satisfier z i part Whole
+    is_whole_part told = (by_satisfier true told, shut)
+
+    pub is_tested_part : zone_truth bound z i (rows_of part.chunk.columns) ≡ false → table_tells falsifier satisfier z i part Tested
+    is_tested_part told = (by_satisfier false told, shut)
 
 -- ---- the table has a row for each part
 
@@ -114,19 +165,13 @@ pub can_fit : (o : Option (Tree Place)) (b : Tree Place) (z : ZonesData) (r : �
 can_fit None b z r row can is at = absurd cc
 can_fit (Some e) b z r row can is at = ap (fits_row b) at ∙ ap (λ x. fits_row x (row_of r (zone_columns z))) (sym (same_Some e b is)) ∙ can.1 r
 
--- ---- the answer of a scan by a bound proof is that by the falsifier
-
-module _ (bound told proof other : Option (Tree Place)) (z : ZonesData) (is : told ≡ bound) (tells : TellsAs bound proof z) (same : proof ≡ other) where
-  tells_other : TellsAs told other z
-  tells_other = subst (λ (o : Option (Tree Place)). TellsAs o other z) (sym is) (subst (λ (o : Option (Tree Place)). TellsAs bound o z) same tells)
-
-  pub skipped_by : (r : Result Scan StatsError) → IfOk r (λ scan. (q : Option (Tree Place)) → TellsAs told q z → scan.skipped.items ≡ skipped_parts q (statistics_answers z.parts)) → IfOk r (λ scan. scan.skipped.items ≡ skipped_parts other (statistics_answers z.parts))
-  skipped_by (Ok scan) h = h other tells_other
-  skipped_by (Err f) h = tt
-
-  pub selected_by : (p : Tree Place) (r : Result Scan StatsError) → IfOk r (λ scan. (q : Option (Tree Place)) → TellsAs told q z → scan.selected.items ≡ selected_rows q p (statistics_answers z.parts)) → IfOk r (λ scan. scan.selected.items ≡ selected_rows other p (statistics_answers z.parts))
-  selected_by p (Ok scan) h = h other tells_other
-  selected_by p (Err f) h = tt
+-- what was found by a falsifier that was bound and by a satisfier is found by equal ones
+pub found_by : (P : Scan → Option (Tree Place) → Option (Tree Place) → Type 0) (bound told f other a b : Option (Tree Place)) (z : ZonesData) (r : Result Scan StatsError) → told ≡ bound → f ≡ other → a ≡ b → TellsAs bound f z
+    → IfOk r (λ scan. (q : Option (Tree Place)) → TellsAs told q z → P scan q a) → IfOk r (λ scan. P scan other b)
+found_by P bound told f other a b z (Ok scan) is same also tells h =
+    subst (λ (o : Option (Tree Place)). P scan other o) also
+    (h other (subst (λ (o : Option (Tree Place)). TellsAs o other z) (sym is) (subst (λ (o : Option (Tree Place)). TellsAs bound o z) same tells)))
+found_by P bound told f other a b z (Err fault) is same also tells h = tt
 
 -- ---- the predicate fits the scope of each part
 

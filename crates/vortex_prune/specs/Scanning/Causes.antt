@@ -1,5 +1,5 @@
 -- The refusals of pruning by what causes them.
-use Rattle.std.specs.Prelude.{ℕ, ⊤}
+use Rattle.std.specs.Prelude.{◌⊎◌, ℕ, ⊤}
 use Rattle.vortex_stats.specs.declared.error.BinderFault.TheVariants as binder_fault
 use Rattle.vortex_stats.specs.declared.error.RuleFault.TheVariants as rule_fault
 use Rattle.vortex_stats.specs.declared.error.StatsError.{StatsError}
@@ -35,3 +35,13 @@ IsRefusal causes TooLarge = ⊥
 -- nothing but memory is refused
 abbrev pub no_causes : Causes
 no_causes = record { rule = λ k. ⊥; not_bool = ⊥; binder = λ k. ⊥; wrong_type = ⊥; open_proof = ⊥ }
+
+-- what either of two may cause
+abbrev pub either_causes : Causes → Causes → Causes
+either_causes a b = record {
+  rule = λ k. a.rule k ⊎ b.rule k;
+  not_bool = a.not_bool ⊎ b.not_bool;
+  binder = λ k. a.binder k ⊎ b.binder k;
+  wrong_type = a.wrong_type ⊎ b.wrong_type;
+  open_proof = a.open_proof ⊎ b.open_proof;
+}

@@ -24,7 +24,7 @@ use Rattle.vortex_prune.specs.Part.{Entries, IsPart, PartData}
 use Rattle.vortex_prune.specs.Binding.PartAnswers.{part_values}
 use Rattle.vortex_prune.specs.Rewriting.Proof.{proves}
 use Rattle.vortex_prune.specs.Rewriting.Falsifiers.{falsifier, is_closed_end}
-use Rattle.vortex_prune.specs.Scanning.Selection.{Answered, is_skipped, skipped_parts}
+use Rattle.vortex_prune.specs.Scanning.Selection.{Answered, is_proved, skipped_parts}
 
 -- ---- read-once predicates
 
@@ -142,7 +142,7 @@ abbrev pub SkippingIsComplete : Type 0
 SkippingIsComplete =
     (p : Tree Place) (t : DType) (part : PartData) (box : Box) → type_of p ≡ Ok t → IsTrue (is_bool t) → IsPart part → IsTrue (fits_scope p part.chunk.scope) →
     IsTrue (is_read_once p) → IsBoxOf part p box → IsInOrder p box →
-    IsTrue (is_skipped (falsifier [] p) part (part_values part)) ↔ ¬ IsSatisfiable p box (rows_of part.chunk.columns)
+    IsTrue (is_proved (falsifier [] p) part (part_values part)) ↔ ¬ IsSatisfiable p box (rows_of part.chunk.columns)
 
 -- the parts, each with the answers of its own statistics
 abbrev pub by_own_statistics : List PartData → List Answered

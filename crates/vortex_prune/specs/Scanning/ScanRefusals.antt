@@ -1,12 +1,12 @@
 -- What may cause the refusal of a scan, and what an answered one has bound.
-use Rattle.std.specs.Prelude.{◌≡◌, ℕ, Bool, true, false, All, Any, List, Option, Some, None, IfSome, IsSomeAnd, IsTrue}
+use Rattle.std.specs.Prelude.{◌≡◌, ◌⊎◌, ℕ, Bool, true, false, All, Any, Contains, List, [], ◌∷◌, Option, Some, None, IfSome, IsSomeAnd, IsTrue, slice_get}
 use Rattle.vortex_base.specs.declared.dtype.DType.{DType}
 use Rattle.vortex_base.specs.Trees.Tree.{Tree, Place, has_bare_column}
 use Rattle.vortex_prune.specs.Binding.Binders.{BinderAnswer}
 use Rattle.vortex_prune.specs.Binding.BoundTo.{IsBoundTo, IsWrong, SomeMet}
-use Rattle.vortex_prune.specs.Scanning.Causes.{Causes, no_causes}
+use Rattle.vortex_prune.specs.Scanning.Causes.{Causes, either_causes, no_causes}
 use Rattle.vortex_prune.specs.Rewriting.Lawful.{OwnRule}
-use Rattle.vortex_prune.specs.Rewriting.Falsifiers.{falsifier}
+use Rattle.vortex_prune.specs.Rewriting.Falsifiers.{falsifier, satisfier}
 use Rattle.vortex_prune.specs.Rewriting.RuleRefusals.{rule_causes}
 use Rattle.vortex_prune.specs.Rewriting.Visited.{visited}
 
@@ -28,19 +28,16 @@ module _ {S : Type 0} (answer : S → BinderAnswer) (IsMissing : S → DType →
   abbrev pub AreClosed : (proof : Option (Tree Place)) → List S → Type 0
   AreClosed proof binders = All (λ b. IsClosed (answer b) (IsMissing b) proof) binders
 
+  -- each binder does so, but for those of skipped parts
+  abbrev pub KeptAreClosed : (skipped : List ℕ) → (proof : Option (Tree Place)) → List S → Type 0
+  KeptAreClosed skipped proof binders = (i : ℕ) (b : S) → slice_get binders i ≡ Some b → Contains skipped i ⊎ IsClosed (answer b) (IsMissing b) proof
+
   -- what some of the binders may cause
   abbrev pub binder_causes : (can_fault : S → ℕ → Bool) → (proof : Option (Tree Place)) → List S → Causes
   binder_causes can_fault proof binders = record no_causes {
     binder = λ k. Any (λ b. (proof_causes (answer b) (IsMissing b) (can_fault b) proof).binder k) binders;
     wrong_type = Any (λ b. (proof_causes (answer b) (IsMissing b) (can_fault b) proof).wrong_type) binders;
     open_proof = Any (λ b. (proof_causes (answer b) (IsMissing b) (can_fault b) proof).open_proof) binders;
-  }
-
-  -- what a scan may be refused for: what its rules cause at the nodes that are visited, and what its binders do that are asked for the falsifier
-  abbrev pub scan_causes : (can_fault : S → ℕ → Bool) → List OwnRule → Tree Place → List S → Causes
-  scan_causes can_fault rules p binders = record (binder_causes can_fault (falsifier rules p) binders) {
-    rule = (rule_causes (λ rule. rule.falsifier) rules (visited p)).rule;
-    not_bool = (rule_causes (λ rule. rule.falsifier) rules (visited p)).not_bool;
   }
 
 -- the proof, if there is one, has a column outside its placeholders
@@ -51,3 +48,22 @@ is_open (Some e) = has_bare_column e
 -- those causes that are left where the binders are faithful: none answers by a wrong type, and a proof is left open only by a column of its own outside its placeholders
 abbrev pub if_faithful : (proof : Option (Tree Place)) → Causes → Causes
 if_faithful proof causes = record causes { wrong_type = ⊥; open_proof = is_open proof ≡ true }
+
+-- the nodes at which the rules are asked for a satisfier
+abbrev pub satisfier_nodes : Tree Place → List (Tree Place)
+satisfier_nodes p = p ∷ []
+
+-- what a scan may be refused for: what its rules cause at the nodes that are visited, and what comes of asking for the falsifier and for the satisfier
+abbrev pub causes_by : (asked : Option (Tree Place) → Causes) → List OwnRule → Tree Place → Causes
+causes_by asked rules p =
+    either_causes (either_causes (rule_causes (λ rule. rule.falsifier) rules (visited p)) (rule_causes (λ rule. rule.satisfier) rules (satisfier_nodes p)))
+    (either_causes (asked (falsifier rules p)) (asked (satisfier rules p)))
+
+module _ {S : Type 0} (answer : S → BinderAnswer) (IsMissing : S → DType → Tree Place → Type 0) (can_fault : S → ℕ → Bool) where
+  -- by a binder for each part
+  abbrev pub scan_causes : List OwnRule → Tree Place → List S → Causes
+  scan_causes rules p binders = causes_by (λ proof. binder_causes answer IsMissing can_fault proof binders) rules p
+
+  -- by such binders that are faithful
+  abbrev pub faithful_causes : List OwnRule → Tree Place → List S → Causes
+  faithful_causes rules p binders = causes_by (λ proof. if_faithful proof (binder_causes answer IsMissing can_fault proof binders)) rules p

@@ -1,5 +1,5 @@
 -- What a scan has to select and to skip.
-use Rattle.std.specs.Prelude.{◌≡◌, ℕ, Bool, false, ◌||◌, List, [], ◌∷◌, Option, None, Some, IsTrue, map, filter, if◌then◌else◌, ⊤}
+use Rattle.std.specs.Prelude.{◌≡◌, ◌+◌, ℕ, Bool, true, false, ◌||◌, List, [], ◌∷◌, Option, None, Some, IsTrue, map, filter, if◌then◌else◌, ⊤}
 use Rattle.std.specs.List.{enumerate_from, flat_map, range_with_len}
 use Rattle.vortex_base.specs.Data.Columns.{ChunkData, row_of, row_count as rows_of}
 use Rattle.vortex_base.specs.Meanings.Meaning.{satisfies}
@@ -9,6 +9,8 @@ use Rattle.vortex_prune.specs.Binding.Facts.{IsHonest}
 use Rattle.vortex_prune.specs.Part.{PartData}
 use Rattle.vortex_prune.specs.Binding.PartAnswers.{part_values}
 use Rattle.vortex_prune.specs.Rewriting.Proof.{Assignment, proves}
+use Rattle.vortex_prune.specs.declared.scan.verdict.Verdict.{Verdict}
+use Rattle.vortex_prune.specs.declared.scan.verdict.Verdict.TheVariants.{Skipped, Whole, Tested}
 
 -- the rows of a chunk that satisfy the predicate, by their places, ascending
 abbrev pub satisfying : Tree Place → ChunkData → List ℕ
@@ -17,6 +19,10 @@ satisfying p k = filter (λ i. satisfies p (row_of i k.columns) (rows_of k.colum
 -- the same as pairs, for the part at a place
 abbrev pub satisfying_rows : Tree Place → ℕ → ChunkData → List (ℕ × ℕ)
 satisfying_rows p place k = map (λ i. (place, i)) (satisfying p k)
+
+-- all rows of a chunk as pairs, for the part at a place, ascending
+abbrev pub all_rows : ℕ → ChunkData → List (ℕ × ℕ)
+all_rows place k = map (λ i. (place, i)) (range_with_len 0 (rows_of k.columns))
 
 -- one row as a pair, if it satisfies
 abbrev pub row_if : Bool → (place row : ℕ) → List (ℕ × ℕ)
@@ -27,9 +33,9 @@ abbrev pub full : Tree Place → List PartData → List (ℕ × ℕ)
 full p parts = flat_map (λ e. satisfying_rows p e.0 e.1.chunk) (enumerate_from 0 parts)
 
 -- the proof, if there is one, is true of the part under these answers
-abbrev pub is_skipped : Option (Tree Place) → PartData → Assignment → Bool
-is_skipped None part A = false
-is_skipped (Some e) part A = proves e A (rows_of part.chunk.columns)
+abbrev pub is_proved : Option (Tree Place) → PartData → Assignment → Bool
+is_proved None part A = false
+is_proved (Some e) part A = proves e A (rows_of part.chunk.columns)
 
 -- a part beside the answers that its placeholders get
 abbrev pub Answered : Type 0
@@ -41,19 +47,49 @@ place_if skipped place = if skipped then place ∷ [] else []
 
 -- the places of the parts that are skipped, ascending
 abbrev pub skipped_parts : Option (Tree Place) → List Answered → List ℕ
-skipped_parts proof parts = map (λ e. e.0) (filter (λ e. is_skipped proof e.1.0 e.1.1) (enumerate_from 0 parts))
+skipped_parts proof parts = map (λ e. e.0) (filter (λ e. is_proved proof e.1.0 e.1.1) (enumerate_from 0 parts))
 
--- the satisfying rows of the part at a place, unless it is skipped
-abbrev pub rows_unless : (skipped : Bool) → Tree Place → (place : ℕ) → ChunkData → List (ℕ × ℕ)
-rows_unless skipped p place k = if skipped then [] else satisfying_rows p place k
+-- ---- what becomes of a part
 
--- the satisfying rows of a part that isn't skipped
-abbrev pub kept_rows : Option (Tree Place) → Tree Place → ℕ → Answered → List (ℕ × ℕ)
-kept_rows proof p place part = rows_unless (is_skipped proof part.0 part.1) p place part.0.chunk
+-- it is skipped if the falsifier is true of it, else it is whole if the satisfier is, else its rows are tested
+abbrev pub verdict : (falsifier satisfier : Option (Tree Place)) → PartData → Assignment → Verdict
+verdict falsifier satisfier part A = if is_proved falsifier part A then Skipped else if is_proved satisfier part A then Whole else Tested
 
--- the rows that are selected whatever the statistics claim: the satisfying rows of the parts that aren't skipped
-abbrev pub selected_rows : Option (Tree Place) → Tree Place → List Answered → List (ℕ × ℕ)
-selected_rows proof p parts = flat_map (λ e. kept_rows proof p e.0 e.1) (enumerate_from 0 parts)
+abbrev pub is_skipped : Verdict → Bool
+is_skipped Skipped = true
+is_skipped Whole = false
+is_skipped Tested = false
+
+abbrev pub is_whole : Verdict → Bool
+is_whole Skipped = false
+is_whole Whole = true
+is_whole Tested = false
+
+-- the rows that are selected of the part at a place: none of a skipped one, all of a whole one, else those that satisfy the predicate
+abbrev pub rows_by : Verdict → Tree Place → (place : ℕ) → ChunkData → List (ℕ × ℕ)
+rows_by Skipped p place k = []
+rows_by Whole p place k = all_rows place k
+rows_by Tested p place k = satisfying_rows p place k
+
+-- how many of its rows are tested
+abbrev pub rows_tested : Verdict → ChunkData → ℕ
+rows_tested Skipped k = 0
+rows_tested Whole k = 0
+rows_tested Tested k = rows_of k.columns
+
+module _ (falsifier satisfier : Option (Tree Place)) where
+  -- the places of the parts that are whole, ascending
+  abbrev pub whole_parts : List Answered → List ℕ
+  whole_parts parts = map (λ e. e.0) (filter (λ e. is_whole (verdict falsifier satisfier e.1.0 e.1.1)) (enumerate_from 0 parts))
+
+  -- the rows that are selected, whatever the statistics claim
+  abbrev pub selected_rows : Tree Place → List Answered → List (ℕ × ℕ)
+  selected_rows p parts = flat_map (λ e. rows_by (verdict falsifier satisfier e.1.0 e.1.1) p e.0 e.1.0.chunk) (enumerate_from 0 parts)
+
+  -- how many rows are tested
+  abbrev pub tested_rows : List Answered → ℕ
+  tested_rows [] = 0
+  tested_rows (part ∷ parts) = rows_tested (verdict falsifier satisfier part.0 part.1) part.0.chunk + tested_rows parts
 
 -- ---- parts with their binders
 

@@ -1,5 +1,5 @@
 -- Scans over a table of zones: what they evaluate, and what they may be refused for.
-use Rattle.std.specs.Prelude.{◌≡◌, ℕ, Bool, true, false, List, [], ◌∷◌, Option, Some, None, IsTrue, ⊤, slice_get}
+use Rattle.std.specs.Prelude.{◌≡◌, ◌<◌, ◌⊎◌, ℕ, Bool, true, false, Contains, List, [], ◌∷◌, Option, Some, None, IsTrue, ⊤, if◌then◌else◌, length, slice_get}
 use Rattle.vortex_base.specs.Data.Columns.{row_count as rows_of, row_of}
 use Rattle.vortex_base.specs.Meanings.Fitting.{fits_row}
 use Rattle.vortex_base.specs.Meanings.Meaning.{is_true, meaning}
@@ -8,11 +8,11 @@ use Rattle.vortex_prune.specs.Scanning.Causes.{Causes, no_causes}
 use Rattle.vortex_prune.specs.Rewriting.Lawful.{OwnRule}
 use Rattle.vortex_prune.specs.Part.{IsPart, PartData}
 use Rattle.vortex_prune.specs.Binding.PartAnswers.{part_values}
-use Rattle.vortex_prune.specs.Rewriting.Falsifiers.{falsifier}
-use Rattle.vortex_prune.specs.Rewriting.RuleRefusals.{rule_causes}
-use Rattle.vortex_prune.specs.Scanning.ScanRefusals.{is_open}
-use Rattle.vortex_prune.specs.Scanning.Selection.{Answered, answered, is_skipped}
-use Rattle.vortex_prune.specs.Rewriting.Visited.{visited}
+use Rattle.vortex_prune.specs.Scanning.ScanRefusals.{causes_by, is_open}
+use Rattle.vortex_prune.specs.Scanning.PartScans.{UnlessSkipped}
+use Rattle.vortex_prune.specs.Scanning.Selection.{Answered, answered, is_proved}
+use Rattle.vortex_prune.specs.declared.scan.verdict.Verdict.{Verdict}
+use Rattle.vortex_prune.specs.declared.scan.verdict.Verdict.TheVariants.{Skipped, Whole, Tested}
 use Rattle.vortex_prune.specs.Zones.{ZonesData, zone_columns}
 
 -- what a bound proof, if there is one, tells on a row of the table
@@ -32,7 +32,22 @@ statistics_answers parts = answered (λ (p : PartData) row n. part_values p) par
 -- on the row of each part it tells what the proof does of the part, by its own statistics
 abbrev pub TellsAs : (bound proof : Option (Tree Place)) → ZonesData → Type 0
 TellsAs bound proof z =
-    (r : ℕ) (part : PartData) → slice_get z.parts r ≡ Some part → IsPart part → zone_truth bound z r (rows_of part.chunk.columns) ≡ is_skipped proof part (part_values part)
+    (r : ℕ) (part : PartData) → slice_get z.parts r ≡ Some part → IsPart part → zone_truth bound z r (rows_of part.chunk.columns) ≡ is_proved proof part (part_values part)
+
+-- the verdict by a falsifier that was bound, on the row of the part, and by a satisfier
+abbrev pub table_verdict : (bound satisfier : Option (Tree Place)) → ZonesData → ℕ → PartData → Verdict
+table_verdict bound satisfier z r part =
+    if zone_truth bound z r (rows_of part.chunk.columns) then Skipped else if is_proved satisfier part (part_values part) then Whole else Tested
+
+-- this is told of the part at a place, and the satisfier has no column outside its placeholders, if the part isn't skipped
+abbrev pub table_tells : (bound satisfier : Option (Tree Place)) → ZonesData → ℕ → PartData → Verdict → Type 0
+table_tells bound satisfier z r part v =
+    (slice_get z.parts r ≡ Some part → IsPart part → v ≡ table_verdict bound satisfier z r part) × UnlessSkipped v (is_open satisfier ≡ false)
+
+-- the satisfier was bound to the table, if it was
+abbrev pub IsBoundOnce : (bound satisfier : Option (Tree Place)) → ZonesData → Type 0
+IsBoundOnce None satisfier z = ⊤
+IsBoundOnce (Some b) satisfier z = CanTell (Some b) z × TellsAs (Some b) satisfier z × (is_open satisfier ≡ false)
 
 -- the proof, if there is one, has a column outside its placeholders, and there are parts for which it would be bound
 abbrev pub is_left_open : Option (Tree Place) → List PartData → Bool
@@ -43,9 +58,10 @@ is_left_open proof (part ∷ parts) = is_open proof
 abbrev pub open_causes : Option (Tree Place) → List PartData → Causes
 open_causes proof parts = record no_causes { open_proof = is_left_open proof parts ≡ true }
 
--- what a scan of the table may be refused for: what its rules cause at the nodes that are visited, and such a falsifier
+-- what a scan of the table may be refused for: what its rules cause at the nodes that are visited, and such a falsifier or satisfier
 abbrev pub zone_causes : List OwnRule → Tree Place → List PartData → Causes
-zone_causes rules p parts = record (open_causes (falsifier rules p) parts) {
-  rule = (rule_causes (λ rule. rule.falsifier) rules (visited p)).rule;
-  not_bool = (rule_causes (λ rule. rule.falsifier) rules (visited p)).not_bool;
-}
+zone_causes rules p parts = causes_by (λ proof. open_causes proof parts) rules p
+
+-- the satisfier has no column outside its placeholders, if some part isn't skipped
+abbrev pub IsShutIfKept : (skipped : List ℕ) → (satisfier : Option (Tree Place)) → List PartData → Type 0
+IsShutIfKept skipped satisfier parts = (i : ℕ) → i < length parts → Contains skipped i ⊎ (is_open satisfier ≡ false)

@@ -1,13 +1,15 @@
 //! What a scan found.
-ghost use Rattle.std.specs.Prelude.{◌≡◌, ◌++◌, IfErr, IsTrue, OnOk, alloc_error};
+ghost use Rattle.std.specs.Prelude.{◌≡◌, ◌+◌, ◌-◌, ◌^◌, ◌++◌, IfErr, IsTrue, OnOk, alloc_error, min};
 ghost use Rattle.vortex_base.specs.Meanings.Fitting.{fits_scope};
 ghost use Rattle.vortex_base.specs.Trees.Tree.{is_plain};
 ghost use Rattle.vortex_prune.specs.Part.{IsPart};
-ghost use Rattle.vortex_prune.specs.Scanning.Selection.{place_if, rows_unless};
+ghost use Rattle.vortex_prune.specs.Scanning.Selection.{is_skipped, is_whole, place_if};
+ghost use Rattle.vortex_prune.specs.Scanning.Selection.{rows_by, rows_tested};
 ghost use Rattle.vortex_stats.specs.declared.error.StatsError.TheVariants.{Memory};
 
 use crate::part::Part;
-use crate::scan::select::select;
+use crate::scan::select::{select, select_all};
+use crate::scan::verdict::Verdict;
 use vortex_base::bound_expression::BoundExpression;
 use vortex_stats::error::StatsError;
 
@@ -18,31 +20,46 @@ pub struct Scan {
     pub selected: Vec<(usize, usize)>,
     /// The parts that were left out unread, ascending.
     pub skipped: Vec<usize>,
+    /// The parts of which all rows were selected without a test, ascending.
+    pub whole: Vec<usize>,
+    /// How many rows were tested: those of the other parts. It stays at the greatest number once it
+    /// is reached.
+    pub evaluated: u64,
 }
 
 impl Scan {
-    // Records a part: it was skipped, or its satisfying rows are selected.
+    // Records a part: it was skipped, or all its rows are selected, or those that satisfy.
     pub(crate) fn record(
         &mut self,
         place: usize,
         part: &Part,
-        skipped: bool,
+        verdict: Verdict,
         predicate: &BoundExpression,
     ) -> Result<(), StatsError>
         requires plain { IsTrue (is_plain predicate.now) }
         requires fits { IsTrue (fits_scope predicate.now part.now.chunk.scope) }
-        ensures skipped { OnOk result
-            (self.new.skipped.items ≡ self.old.skipped.items ++ place_if skipped place) }
-        ensures selected { let found = rows_unless skipped predicate.now place part.now.chunk in
+        ensures skipped { OnOk result (self.new.skipped.items
+            ≡ self.old.skipped.items ++ place_if (is_skipped verdict) place) }
+        ensures whole { OnOk result (self.new.whole.items
+            ≡ self.old.whole.items ++ place_if (is_whole verdict) place) }
+        ensures selected { let found = rows_by verdict predicate.now place part.now.chunk in
             OnOk result (self.new.selected.items ≡ self.old.selected.items ++ found) }
+        ensures evaluated { let tested = rows_tested verdict part.now.chunk in
+            OnOk result (self.new.evaluated ≡ min (self.old.evaluated + tested) (2 ^ 64 - 1)) }
         ensures is_part { IsPart part.now }
         ensures memory { IfErr result (λ f. f ≡ Memory alloc_error) }
     {
         let chunk = part.chunk();
-        if skipped {
-            self.skipped.push(place)?;
-            return Ok(());
+        let _counted = self.evaluated;
+        match verdict {
+            Verdict::Skipped => Ok(self.skipped.push(place)?),
+            Verdict::Whole => {
+                self.whole.push(place)?;
+                select_all(&mut self.selected, place, chunk)
+            }
+            Verdict::Tested => {
+                select(&mut self.selected, &mut self.evaluated, place, chunk, predicate)
+            }
         }
-        select(&mut self.selected, place, chunk, predicate)
     }
 }

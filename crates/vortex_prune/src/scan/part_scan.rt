@@ -1,65 +1,80 @@
-//! Scans part by part: what tells whether a part is skipped, and the loop over the parts.
-ghost use Rattle.std.specs.Prelude.{◌≡◌, ◌<◌, ℕ, All, Bool, List, Option, IfErr, IfOk, IsTrue};
-ghost use Rattle.std.specs.Prelude.{MatchResult, length};
+//! Scans part by part: what tells what becomes of a part, and the loop over the parts.
+ghost use Rattle.std.specs.Prelude.{◌≡◌, ◌-◌, ◌^◌, ◌<◌, ℕ, All, Bool, List, Option, IfErr, IfOk, IsTrue};
+ghost use Rattle.std.specs.Prelude.{MatchResult, length, min};
 ghost use Rattle.vortex_base.specs.Meanings.Fitting.{fits_scope};
 ghost use Rattle.vortex_base.specs.Trees.Tree.{Place, Tree, is_plain};
 ghost use Rattle.vortex_prune.specs.Part.{AreParts, PartData};
-ghost use Rattle.vortex_prune.specs.Scanning.PartScans.{AreTold, IsRefusedAt, TellsOf};
+ghost use Rattle.vortex_prune.specs.Scanning.PartScans.{AreTold, IsRefusedAt, IsSameTest, TellsOf};
 ghost use Rattle.vortex_prune.specs.Scanning.Selection.{Answered, selected_rows, skipped_parts};
+ghost use Rattle.vortex_prune.specs.Scanning.Selection.{tested_rows, whole_parts};
+ghost use Rattle.vortex_prune.specs.declared.scan.verdict.Verdict.{Verdict};
 ghost use Rattle.vortex_stats.specs.declared.error.StatsError.{StatsError};
 
 use crate::part::Part;
 use crate::scan::outcome::Scan;
+use crate::scan::verdict::Verdict;
 use std::alloc::Global;
 use vortex_base::bound_expression::BoundExpression;
 use vortex_stats::error::StatsError;
 
-/// What tells of each of some parts whether it is skipped: by a binder for each, or by their table.
-pub(crate) trait SkipTest {
+/// What tells of each of some parts what becomes of it: by a binder for each, or by their table.
+pub(crate) trait PartTest {
     // It can be asked about the part at a place.
     ghost able: { Self → ℕ → Type 0 };
     // What its answer says of the part at a place.
-    ghost tells: { Self → ℕ → PartData → Bool → Type 0 };
+    ghost tells: { Self → ℕ → PartData → Verdict → Type 0 };
     // What its refusal says.
     ghost refuses: { Self → ℕ → PartData → StatsError → Type 0 };
 
-    /// Whether the part at a place is skipped.
-    fn is_skipped(&self, alloc: Global, place: usize, part: &Part) -> Result<bool, StatsError>
-        requires { able self.now place }
-        ensures { MatchResult result (tells self.now place part.now)
-            (refuses self.now place part.now) };
+    /// What becomes of the part at a place.
+    fn verdict(&mut self, alloc: Global, place: usize, part: &Part) -> Result<Verdict, StatsError>
+        requires { able self.old place }
+        ensures verdict { MatchResult result (tells self.old place part.now)
+            (refuses self.old place part.now) }
+        ensures same { IsSameTest (able self.old) (able self.new) (tells self.old) (tells self.new)
+            (refuses self.old) (refuses self.new) };
 }
 
-/// The scan by such a test: each part is skipped, or its satisfying rows are selected.
-pub(crate) fn scan_parts<T: SkipTest>(
+/// The scan by such a test: each part is skipped, or all its rows are selected, or those that
+/// satisfy the predicate.
+pub(crate) fn scan_parts<T: PartTest>(
     alloc: Global,
     parts: &[Part],
     predicate: &BoundExpression,
-    test: &T,
+    test: &mut T,
 ) -> Result<Scan, StatsError>
-    requires able { (place : ℕ) → place < length parts.now → T.able test.now place }
+    requires able { (place : ℕ) → place < length parts.now → T.able test.old place }
     requires plain { IsTrue (is_plain predicate.now) }
     requires fits { All (λ part. IsTrue (fits_scope predicate.now part.chunk.scope)) parts.now }
-    // Whatever answers the parts stand with: where what the test tells of each is what a proof does
-    // of it under them, the scan finds what there is to find by the proof.
-    ensures skipped { IfOk result (λ scan. (proof : Option (Tree Place)) (answers : List Answered)
-        → TellsOf (T.tells test.now) proof parts.now answers
-        → scan.skipped.items ≡ skipped_parts proof answers) }
-    ensures selected { IfOk result (λ scan. (proof : Option (Tree Place)) (answers : List Answered)
-        → TellsOf (T.tells test.now) proof parts.now answers
-        → scan.selected.items ≡ selected_rows proof predicate.now answers) }
-    ensures told { IfOk result (λ _. AreTold (T.tells test.now) parts.now) }
+    // Whatever answers the parts stand with: where what the test tells of each is the verdict by
+    // two proofs under them, the scan finds what there is to find by these.
+    ensures skipped { IfOk result (λ scan. (f s : Option (Tree Place)) (answers : List Answered)
+        → TellsOf (T.tells test.old) f s parts.now answers
+        → scan.skipped.items ≡ skipped_parts f answers) }
+    ensures whole { IfOk result (λ scan. (f s : Option (Tree Place)) (answers : List Answered)
+        → TellsOf (T.tells test.old) f s parts.now answers
+        → scan.whole.items ≡ whole_parts f s answers) }
+    ensures selected { IfOk result (λ scan. (f s : Option (Tree Place)) (answers : List Answered)
+        → TellsOf (T.tells test.old) f s parts.now answers
+        → scan.selected.items ≡ selected_rows f s predicate.now answers) }
+    ensures evaluated { IfOk result (λ scan. (f s : Option (Tree Place)) (answers : List Answered)
+        → TellsOf (T.tells test.old) f s parts.now answers
+        → scan.evaluated ≡ min (tested_rows f s answers) (2 ^ 64 - 1)) }
+    ensures told { IfOk result (λ scan.
+        AreTold (T.tells test.old) parts.now scan.skipped.items) }
     ensures parts { IfOk result (λ _. AreParts parts.now) }
-    ensures refusal { IfErr result (IsRefusedAt (T.refuses test.now) parts.now) }
+    ensures refusal { IfErr result (IsRefusedAt (T.refuses test.old) parts.now) }
 {
     let mut scan = Scan {
         selected: Vec::new(alloc),
         skipped: Vec::new(alloc),
+        whole: Vec::new(alloc),
+        evaluated: 0,
     };
     for place in 0..parts.len() {
         let part = &parts[place];
-        let skipped = test.is_skipped(alloc, place, part)?;
-        scan.record(place, part, skipped, predicate)?;
+        let verdict = test.verdict(alloc, place, part)?;
+        scan.record(place, part, verdict, predicate)?;
     }
     Ok(scan)
 }

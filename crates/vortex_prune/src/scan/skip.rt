@@ -1,13 +1,15 @@
-//! Whether a part is skipped: its proof is bound to what its binder answers, and evaluated.
-ghost use Rattle.std.specs.Prelude.{◌≡◌, false, true, IfOk, IfErr, IsTrue, Some, alloc_error, option_copied};
+//! What becomes of a part: its proofs are bound to what its binder answers, and evaluated.
+ghost use Rattle.std.specs.Prelude.{◌≡◌, false, true, IfOk, IfErr, IsTrue, Option, Some, alloc_error, option_copied};
 ghost use Rattle.vortex_base.specs.Data.Columns.{row_count};
 ghost use Rattle.vortex_base.specs.Meanings.Fitting.{fits_row};
 ghost use Rattle.vortex_base.specs.Meanings.Meaning.{is_true as value_is_true, meaning};
-ghost use Rattle.vortex_base.specs.Trees.Tree.{has_placeholder};
+ghost use Rattle.vortex_base.specs.Trees.Tree.{Place, Tree, has_placeholder};
 ghost use Rattle.vortex_prune.specs.Rewriting.Proof.{proves};
-ghost use Rattle.vortex_prune.specs.Scanning.Selection.{IsFaithfulFor, answers_for, is_skipped};
+ghost use Rattle.vortex_prune.specs.Scanning.PartScans.{UnlessSkipped};
+ghost use Rattle.vortex_prune.specs.Scanning.Selection.{IsFaithfulFor, answers_for};
+ghost use Rattle.vortex_prune.specs.Scanning.Selection.{is_proved as is_proved_of, verdict as verdict_of};
 ghost use Rattle.vortex_prune.specs.Binding.BoundTo.{IsBoundTo};
-ghost use Rattle.vortex_prune.specs.Scanning.Causes.{IsRefusal};
+ghost use Rattle.vortex_prune.specs.Scanning.Causes.{Causes, IsRefusal, either_causes};
 ghost use Rattle.vortex_prune.specs.Scanning.ScanRefusals.{IsClosed, if_faithful, proof_causes};
 ghost use Rattle.vortex_stats.specs.declared.error.StatsError.TheVariants.{Memory};
 
@@ -15,6 +17,7 @@ use crate::bind::bind_stats_of;
 use crate::bind::stat_binder::StatBinder;
 use crate::built::built;
 use crate::part::Part;
+use crate::scan::verdict::Verdict;
 use std::alloc::Global;
 use vortex_base::bound_expression::BoundExpression;
 use vortex_base::evaluate::evaluate;
@@ -72,8 +75,8 @@ pub(crate) fn is_proved<B: StatBinder>(
     is_true_on(&bound, &Row::empty(), rows)
 }
 
-// Whether a part is skipped: there is a proof, and it is true of the part.
-pub(crate) fn is_skipped<B: StatBinder>(
+// Whether a proof, if there is one, is true of a part.
+fn is_proved_by<B: StatBinder>(
     alloc: Global,
     proof: Option<&BoundExpression>,
     part: &Part,
@@ -81,7 +84,7 @@ pub(crate) fn is_skipped<B: StatBinder>(
 ) -> Result<bool, StatsError>
     ensures value { let answers = answers_for (B.value binder.now) part.now in
         IfOk result (λ b. IsFaithfulFor (B.is_faithful_over binder.now) part.now
-        → b ≡ is_skipped (option_copied proof.entry) part.now answers) }
+        → b ≡ is_proved_of (option_copied proof.entry) part.now answers) }
     ensures closed { IfOk result (λ _. IsClosed (B.answer binder.now) (B.is_missing binder.now)
         (option_copied proof.entry)) }
     ensures refusal { IfErr result (IsRefusal (proof_causes (B.answer binder.now)
@@ -95,4 +98,41 @@ pub(crate) fn is_skipped<B: StatBinder>(
         None => Ok(false),
         Some(proof) => is_proved(alloc, proof, part, binder),
     }
+}
+
+// What becomes of a part: its binder is asked for the falsifier, and, if that isn't true of the
+// part, for the satisfier.
+pub(crate) fn verdict<B: StatBinder>(
+    alloc: Global,
+    falsifier: Option<&BoundExpression>,
+    satisfier: Option<&BoundExpression>,
+    part: &Part,
+    binder: &B,
+) -> Result<Verdict, StatsError>
+    ensures value { let answers = answers_for (B.value binder.now) part.now in
+        IfOk result (λ v. IsFaithfulFor (B.is_faithful_over binder.now) part.now
+        → v ≡ verdict_of (option_copied falsifier.entry) (option_copied satisfier.entry)
+        part.now answers) }
+    ensures closed { IfOk result (λ _. IsClosed (B.answer binder.now) (B.is_missing binder.now)
+        (option_copied falsifier.entry)) }
+    ensures kept_closed { IfOk result (λ v. UnlessSkipped v (IsClosed (B.answer binder.now)
+        (B.is_missing binder.now) (option_copied satisfier.entry))) }
+    ensures refusal { let causes = proof_causes (B.answer binder.now)
+        (B.is_missing binder.now) (B.can_fault binder.now) in
+        IfErr result (IsRefusal (either_causes (causes (option_copied falsifier.entry))
+        (causes (option_copied satisfier.entry)))) }
+    ensures faithful { let causes : Option (Tree Place) → Causes = λ proof. if_faithful proof
+        (proof_causes (B.answer binder.now) (B.is_missing binder.now) (B.can_fault binder.now)
+        proof) in
+        IfErr result (λ f. IsFaithfulFor (B.is_faithful_over binder.now) part.now
+        → IsRefusal (either_causes (causes (option_copied falsifier.entry))
+        (causes (option_copied satisfier.entry))) f) }
+{
+    if is_proved_by(alloc, falsifier, part, binder)? {
+        return Ok(Verdict::Skipped);
+    }
+    if is_proved_by(alloc, satisfier, part, binder)? {
+        return Ok(Verdict::Whole);
+    }
+    Ok(Verdict::Tested)
 }

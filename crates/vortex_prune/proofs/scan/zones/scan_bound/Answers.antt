@@ -1,13 +1,13 @@
 use Rattle.std.proofs.Common.{◌<◌, length, subst, sym}
 use Rattle.std.proofs.lemmas.Result.{IfErr-weaker, IfOk-weaker}
 use Rattle.std.specs.Prelude.{option_copied}
-use Rattle.vortex_prune.proofs.ZoneMaps.ZoneScan.{fits_each, refused_alone, table_tells}
+use Rattle.vortex_prune.proofs.ZoneMaps.ZoneScan.{fits_each, refused_open, shut_if_kept, tables_tell}
 use Rattle.vortex_prune.specs.Scanning.ZoneScans.{statistics_answers}
 use Rattle.vortex_prune.specs.Zones.{HaveScope}
 use Rattle.vortex_prune.proofs.scan.zones.scan_bound.Goals as goal
 
 pub scan_parts-requires-clause-able : goal.scan_parts-requires-clause-able
-scan_parts-requires-clause-able c = λ place less. (subst (λ l. place < length l) c.parts.ensures.value less, c.requires.tells)
+scan_parts-requires-clause-able c = λ place less. (subst (λ l. place < length l) c.parts.ensures.value less, c.requires.tells, tt)
 
 pub scan_parts-requires-clause-fits : goal.scan_parts-requires-clause-fits
 scan_parts-requires-clause-fits c =
@@ -17,16 +17,41 @@ scan_parts-requires-clause-fits c =
 pub returns-clause-skipped : goal.returns-clause-skipped
 returns-clause-skipped c =
     let z = c.args.zones.now in
+    let s = option_copied c.args.satisfier in
     IfOk-weaker c.scan_parts.result _ _
-    (λ scan found proof tells. found proof (statistics_answers z.parts) (table_tells (option_copied c.args.bound) proof z c.parts.result.now c.parts.ensures.value tells))
+    (λ scan found f tells. found f s (statistics_answers z.parts) (tables_tell (option_copied c.args.falsifier) f s z c.parts.result.now c.parts.ensures.value tells))
     c.scan_parts.ensures.skipped
+
+pub returns-clause-whole : goal.returns-clause-whole
+returns-clause-whole c =
+    let z = c.args.zones.now in
+    let s = option_copied c.args.satisfier in
+    IfOk-weaker c.scan_parts.result _ _
+    (λ scan found f tells. found f s (statistics_answers z.parts) (tables_tell (option_copied c.args.falsifier) f s z c.parts.result.now c.parts.ensures.value tells))
+    c.scan_parts.ensures.whole
 
 pub returns-clause-selected : goal.returns-clause-selected
 returns-clause-selected c =
     let z = c.args.zones.now in
+    let s = option_copied c.args.satisfier in
     IfOk-weaker c.scan_parts.result _ _
-    (λ scan found proof tells. found proof (statistics_answers z.parts) (table_tells (option_copied c.args.bound) proof z c.parts.result.now c.parts.ensures.value tells))
+    (λ scan found f tells. found f s (statistics_answers z.parts) (tables_tell (option_copied c.args.falsifier) f s z c.parts.result.now c.parts.ensures.value tells))
     c.scan_parts.ensures.selected
 
-pub returns-clause-memory : goal.returns-clause-memory
-returns-clause-memory c = IfErr-weaker c.scan_parts.result _ _ (refused_alone c.parts.result.now) c.scan_parts.ensures.refusal
+pub returns-clause-evaluated : goal.returns-clause-evaluated
+returns-clause-evaluated c =
+    let z = c.args.zones.now in
+    let s = option_copied c.args.satisfier in
+    IfOk-weaker c.scan_parts.result _ _
+    (λ scan found f tells. found f s (statistics_answers z.parts) (tables_tell (option_copied c.args.falsifier) f s z c.parts.result.now c.parts.ensures.value tells))
+    c.scan_parts.ensures.evaluated
+
+pub returns-clause-kept_closed : goal.returns-clause-kept_closed
+returns-clause-kept_closed c =
+    let z = c.args.zones.now in
+    IfOk-weaker c.scan_parts.result _ _
+    (λ scan told. shut_if_kept (option_copied c.args.falsifier) (option_copied c.args.satisfier) z c.parts.result.now scan.skipped.items c.parts.ensures.value told)
+    c.scan_parts.ensures.told
+
+pub returns-clause-refusal : goal.returns-clause-refusal
+returns-clause-refusal c = IfErr-weaker c.scan_parts.result _ _ (refused_open (option_copied c.args.satisfier) c.args.zones.now.parts c.parts.result.now) c.scan_parts.ensures.refusal

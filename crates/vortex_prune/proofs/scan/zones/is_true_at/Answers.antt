@@ -2,7 +2,7 @@ use Rattle.std.proofs.Common.{ap, arith, ◌∙◌}
 use Rattle.std.specs.Prelude.{option_copied}
 use Rattle.vortex_base.specs.Data.Columns.{ChunkData, row_of}
 use Rattle.vortex_prune.proofs.ZoneMaps.ZoneScan.{can_fit, table_rows}
-use Rattle.vortex_prune.proofs.scan.zones.is_skipped_on.Goals as goal
+use Rattle.vortex_prune.proofs.scan.zones.is_true_at.Goals as goal
 
 pub row-requires : goal.row-requires
 row-requires c =

@@ -1,0 +1,12 @@
+//! What becomes of a part in a scan.
+
+/// What becomes of a part in a scan.
+#[derive(Clone, Copy, Debug, PartialEq, Eq)]
+pub(crate) enum Verdict {
+    /// The falsifier is true of it: it is left out unread.
+    Skipped,
+    /// The satisfier is true of it: all its rows are selected, and none is tested.
+    Whole,
+    /// Neither is true of it: its rows are tested.
+    Tested,
+}
