@@ -1,7 +1,8 @@
--- A run that ends without an answer.
-use Rattle.std.proofs.Common.{◌<◌, ℕ, List, Option, None, Some, IfSome, length, ◌⊎◌, inl, inr}
+-- A run that ends without an answer, and one whose answer has the rows of the full scan.
+use Rattle.std.proofs.Common.{◌≡◌, ◌<◌, ℕ, List, Option, None, Some, IfSome, length, ◌⊎◌, inl, inr, subst, sym}
+use Rattle.std.specs.Io.KnownBytes.{Appends}
 use Rattle.vortex_text.specs.declared.streams.TheConstants.{INPUT_LIMIT}
-use Rattle.vortex_text.specs.Program.{Answers, IsReason, Stops}
+use Rattle.vortex_text.specs.Program.{Answers, IsFullScan, IsReason, Stops, WritesFullScan}
 use Rattle.vortex_text.specs.Streams.{AppendsFront}
 
 -- the word says why, whatever the input
@@ -15,3 +16,10 @@ pub stops_too_long : (known old new : Option (List ℕ)) (word : List ℕ) → (
     → IfSome known (λ input. INPUT_LIMIT < length input) → AppendsFront old new word → IfSome known (λ input. Answers input 1 old new ⊎ Stops input old new)
 stops_too_long None old new word is long front = tt
 stops_too_long (Some input) old new word is long front = inr (inl (word, is input long, front))
+
+-- what was printed of all bytes that were read
+pub writes_full_scan : (known old new : Option (List ℕ)) (read text printed bytes : List ℕ) → IfSome known (λ input. read ≡ input) → text ≡ read → bytes ≡ printed → IsFullScan text printed → Appends old new bytes
+    → IfSome known (λ input. WritesFullScan input old new)
+writes_full_scan None old new read text printed bytes all is same found written = tt
+writes_full_scan (Some input) old new read text printed bytes all is same found written =
+    (printed, subst (Appends old new) same written, subst (λ t. IsFullScan t printed) all (subst (λ t. IsFullScan t printed) is found))

@@ -55,11 +55,11 @@ untrue_statistic : reply_to (codes "column a i64\npart\nstat a max exact 5\nrow 
 unfolding is_utf8 chars lib.Utf8.encode digits rewriting.node rewriting.reduce_balanced
 untrue_statistic = refl
 
-spaces_at_both_ends : reply_to (codes " column a i64 \n   \n\npart\n  row   1 \nwhere  lit bool true ") ≡ (0, codes "skipped\nrows 0:0\n")
+spaces_at_both_ends : reply_to (codes " column a i64 \n   \n\npart\n  row   1 \nwhere  lit bool true ") ≡ (0, codes "skipped\nrows 0:0\nwhole 0\n")
 unfolding is_utf8 chars lib.Utf8.encode digits rewriting.node rewriting.reduce_balanced
 spaces_at_both_ends = refl
 
-returns_before_line_ends : reply_to (codes "column a i64\r\npart\r\nrow 1\r\nwhere lit bool true\r\n") ≡ (0, codes "skipped\nrows 0:0\n")
+returns_before_line_ends : reply_to (codes "column a i64\r\npart\r\nrow 1\r\nwhere lit bool true\r\n") ≡ (0, codes "skipped\nrows 0:0\nwhole 0\n")
 unfolding is_utf8 chars lib.Utf8.encode digits rewriting.node rewriting.reduce_balanced
 returns_before_line_ends = refl
 
@@ -89,7 +89,7 @@ join_of_joined : reply_to (codes "column a i64\npart\nrow 1\npart\nrow 2\npart\n
 unfolding is_utf8 chars lib.Utf8.encode digits rewriting.node rewriting.reduce_balanced
 join_of_joined = refl
 
-part_after_join : reply_to (codes "column a i64\npart\npart\njoin 0\npart\nrow 9\nwhere lit bool true\n") ≡ (0, codes "skipped\nrows 1:0\n")
+part_after_join : reply_to (codes "column a i64\npart\npart\njoin 0\npart\nrow 9\nwhere lit bool true\n") ≡ (0, codes "skipped\nrows 1:0\nwhole 0 1\n")
 unfolding is_utf8 chars lib.Utf8.encode digits rewriting.node rewriting.reduce_balanced
 part_after_join = refl
 
@@ -125,7 +125,7 @@ names_like_keywords : reply_to (codes "column null i64\ncolumn col i64\npart\nro
 unfolding is_utf8 chars lib.Utf8.encode digits rewriting.node rewriting.reduce_balanced
 names_like_keywords = refl
 
-statistics_of_each_name : reply_to (codes "column a i8\npart\nstat a sum exact 300\nstat a is_constant exact false\nstat a is_sorted inexact true\nstat a is_strict_sorted exact true\nstat a uncompressed_size_in_bytes inexact 2\nrow 1\nrow 2\nwhere lit bool true\n") ≡ (0, codes "skipped\nrows 0:0 0:1\n")
+statistics_of_each_name : reply_to (codes "column a i8\npart\nstat a sum exact 300\nstat a is_constant exact false\nstat a is_sorted inexact true\nstat a is_strict_sorted exact true\nstat a uncompressed_size_in_bytes inexact 2\nrow 1\nrow 2\nwhere lit bool true\n") ≡ (0, codes "skipped\nrows 0:0 0:1\nwhole 0\n")
 unfolding is_utf8 chars lib.Utf8.encode digits rewriting.node rewriting.reduce_balanced
 statistics_of_each_name = refl
 

@@ -10,9 +10,14 @@ part_text part = 32 ∷ decimal part
 abbrev pub row_text : ℕ × ℕ → List ℕ
 row_text row = 32 ∷ decimal row.0 ++ 58 ∷ decimal row.1
 
+-- the line of the parts that are whole, where there are any
+abbrev pub whole_text : List ℕ → List ℕ
+whole_text [] = []
+whole_text (part ∷ parts) = codes "whole" ++ flat_map part_text (part ∷ parts) ++ 10 ∷ []
+
 -- what is printed of a scan
-abbrev pub scan_text : List ℕ → List (ℕ × ℕ) → List ℕ
-scan_text skipped selected = codes "skipped" ++ flat_map part_text skipped ++ 10 ∷ codes "rows" ++ flat_map row_text selected ++ 10 ∷ []
+abbrev pub scan_text : (skipped : List ℕ) → (selected : List (ℕ × ℕ)) → (whole : List ℕ) → List ℕ
+scan_text skipped selected whole = codes "skipped" ++ flat_map part_text skipped ++ 10 ∷ codes "rows" ++ flat_map row_text selected ++ 10 ∷ whole_text whole
 
 -- what is printed of a bad line
 abbrev pub bad_text : ℕ → List ℕ

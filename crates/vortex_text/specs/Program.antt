@@ -6,8 +6,8 @@ use Rattle.vortex_base.specs.Trees.Tree.{Tree, Place}
 use Rattle.vortex_prune.specs.Part.{IsTruePart, PartData}
 use Rattle.vortex_prune.specs.Binding.PartAnswers.{part_values}
 use Rattle.vortex_prune.specs.Rewriting.Predicates.{is_predicate}
-use Rattle.vortex_prune.specs.Rewriting.Falsifiers.{falsifier}
-use Rattle.vortex_prune.specs.Scanning.Selection.{Answered, full, selected_rows, skipped_parts}
+use Rattle.vortex_prune.specs.Rewriting.Falsifiers.{falsifier, satisfier}
+use Rattle.vortex_prune.specs.Scanning.Selection.{Answered, full, selected_rows, skipped_parts, whole_parts}
 use Rattle.vortex_text.specs.declared.streams.TheConstants.{INPUT_LIMIT}
 use Rattle.vortex_text.specs.Naming.{Query, named}
 use Rattle.vortex_text.specs.Printing.{bad_text, scan_text}
@@ -21,13 +21,17 @@ by_statistics part = (part, part_values part)
 abbrev pub skipped : Tree Place → List PartData → List ℕ
 skipped predicate parts = skipped_parts (falsifier [] predicate) (map by_statistics parts)
 
--- the rows that satisfy the predicate, of the other parts
+-- those of the other parts that are whole: the satisfier of the predicate is true of them
+abbrev pub whole : Tree Place → List PartData → List ℕ
+whole predicate parts = whole_parts (falsifier [] predicate) (satisfier [] predicate) (map by_statistics parts)
+
+-- all rows of these, and the rows of the parts that are neither which satisfy the predicate
 abbrev pub selected : Tree Place → List PartData → List (ℕ × ℕ)
-selected predicate parts = selected_rows (falsifier [] predicate) predicate (map by_statistics parts)
+selected predicate parts = selected_rows (falsifier [] predicate) (satisfier [] predicate) predicate (map by_statistics parts)
 
 -- the status and what is printed: 0 with the scan, 1 where the predicate isn't of type Bool, 2 with the bad line
 abbrev pub reply : Result Query ℕ → ℕ × List ℕ
-reply (Ok x) = if is_predicate x.1 then (0, scan_text (skipped x.1 x.0) (selected x.1 x.0)) else (1, codes "predicate" ++ 10 ∷ [])
+reply (Ok x) = if is_predicate x.1 then (0, scan_text (skipped x.1 x.0) (selected x.1 x.0) (whole x.1 x.0)) else (1, codes "predicate" ++ 10 ∷ [])
 reply (Err line) = (2, bad_text line)
 
 -- the reply to a text
@@ -52,7 +56,7 @@ Stops input old new = ((word : List ℕ) × IsReason input word × AppendsFront 
 -- where all statistics of the parts that a text names are true, these bytes tell the rows of the full scan
 abbrev pub IsFullScan : List ℕ → List ℕ → Type 0
 IsFullScan text printed = (parts : List PartData) (predicate : Tree Place) → named text ≡ Ok (parts, predicate) → IsTrue (is_predicate predicate)
-    → AllByRecursion IsTruePart parts → printed ≡ scan_text (skipped predicate parts) (full predicate parts)
+    → AllByRecursion IsTruePart parts → printed ≡ scan_text (skipped predicate parts) (full predicate parts) (whole predicate parts)
 
 -- and such bytes were written
 abbrev pub WritesFullScan : List ℕ → Option (List ℕ) → Option (List ℕ) → Type 0

@@ -1,7 +1,7 @@
 //! What is printed.
 ghost use Rattle.std.specs.Prelude.{◌≡◌, ◌++◌, ◌∷◌, IfOk, OnOk, string_bytes, ℕ};
 ghost use Rattle.std.specs.List.{flat_map};
-ghost use Rattle.vortex_text.specs.Printing.{bad_text, part_text, row_text, scan_text};
+ghost use Rattle.vortex_text.specs.Printing.{bad_text, part_text, row_text, scan_text, whole_text};
 
 use itoa::Buffer;
 use std::alloc::{AllocError, Global};
@@ -33,16 +33,31 @@ fn print_rows(text: &mut String, rows: &[(usize, usize)]) -> Result<(), AllocErr
     Ok(())
 }
 
-/// The lines of a scan.
+// The line of the parts that are whole, where there are any.
+fn print_whole(text: &mut String, parts: &[usize]) -> Result<(), AllocError>
+    ensures { OnOk result (string_bytes text.new ≡ string_bytes text.old ++ whole_text parts.now) }
+{
+    if parts.is_empty() {
+        return Ok(());
+    }
+    text.push_str("whole")?;
+    print_parts(text, parts)?;
+    text.push_str("\n")
+}
+
+/// The lines of a scan: the parts that were skipped, the rows that were selected, and the parts that
+/// are whole where there are any.
 pub fn print_scan(alloc: Global, scan: &Scan) -> Result<String, AllocError>
     ensures { IfOk result (λ text.
-        string_bytes text ≡ scan_text scan.now.skipped.items scan.now.selected.items) }
+        string_bytes text
+        ≡ scan_text scan.now.skipped.items scan.now.selected.items scan.now.whole.items) }
 {
     let mut text = String::from_str(alloc, "skipped")?;
     print_parts(&mut text, &scan.skipped)?;
     text.push_str("\nrows")?;
     print_rows(&mut text, &scan.selected)?;
     text.push_str("\n")?;
+    print_whole(&mut text, &scan.whole)?;
     Ok(text)
 }
 

@@ -5,7 +5,7 @@ ghost use Rattle.vortex_prune.specs.Part.{IsTruePart};
 ghost use Rattle.vortex_prune.specs.Rewriting.Predicates.{is_predicate};
 ghost use Rattle.vortex_prune.specs.Scanning.Selection.{full};
 ghost use Rattle.vortex_text.specs.Fitting.{IsQueryOver};
-ghost use Rattle.vortex_text.specs.Program.{selected, skipped};
+ghost use Rattle.vortex_text.specs.Program.{selected, skipped, whole};
 
 use std::alloc::{AllocError, Global};
 use vortex_base::{BoundExpression, Scope};
@@ -30,6 +30,8 @@ pub fn scan_query(alloc: Global, query: Query) -> Result<Option<Scan>, AllocErro
     ensures kind { IfOk result (λ o. is_some o ≡ is_predicate query.predicate) }
     ensures skipped { IfOk result (λ o. IfSome o
         (λ s. s.skipped.items ≡ skipped query.predicate query.parts.items)) }
+    ensures whole { IfOk result (λ o. IfSome o
+        (λ s. s.whole.items ≡ whole query.predicate query.parts.items)) }
     ensures selected { IfOk result (λ o. IfSome o
         (λ s. s.selected.items ≡ selected query.predicate query.parts.items)) }
     // Where all statistics are true no row is lost.
