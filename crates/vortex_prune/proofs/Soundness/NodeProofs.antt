@@ -1,8 +1,9 @@
 -- The proofs at one node, from the tables.
-use Rattle.std.proofs.Common.{◌≡◌, ℕ, ◌+◌, min, arith, Some, option_map, option_to_list, Bool, true, false, List, [], ◌∷◌, ◌++◌, Option, None, Result, Ok, Err, IfOk, refl, sym, ap, ◌∙◌, append-nil}
+use Rattle.std.proofs.Common.{◌≡◌, ◌||◌, ℕ, ◌+◌, min, arith, Some, option_map, option_to_list, if◌then◌else◌, Bool, true, false, List, [], ◌∷◌, ◌++◌, Option, None, Result, Ok, Err, IfOk, refl, sym, ap, ◌∙◌, append-nil}
 use denote.Bor.{Bor}
+use Rattle.std.specs.List.{cons_option}
 use Rattle.vortex_base.specs.Trees.Parts.{whole}
-use Rattle.vortex_base.specs.Trees.Tree.{Tree, Place, column, literal, binary, between, is_null, is_not_null, not, like, stat, row_count}
+use Rattle.vortex_base.specs.Trees.Tree.{Tree, Place, column, literal, binary, between, is_null, is_not_null, not, like, stat, row_count, scalar_fn_of}
 use Rattle.std.proofs.lemmas.Option.{same_Some}
 use Rattle.vortex_base.specs.Trees.Between.{to_operator}
 use Rattle.vortex_base.specs.declared.types.BetweenOptions.{BetweenOptions}
@@ -13,7 +14,7 @@ use Rattle.vortex_base.specs.declared.types.Operator.TheVariants.{And, Or}
 use Rattle.vortex_base.specs.declared.bound_expression.parts.Parts.{Parts}
 use Rattle.vortex_base.specs.declared.bound_expression.parts.Parts.TheVariants as parts
 use Rattle.vortex_prune.specs.Rewriting.Lawful.{OwnRule}
-use Rattle.vortex_prune.specs.Rewriting.Falsifiers.{Ends, asked, binary_node, binary_visits, either_of, empty_proof, ends, ends_node, ends_visits, halves, halves_node, node, own_proofs, proved, reduce_balanced, rewriting, table_proofs, visits}
+use Rattle.vortex_prune.specs.Rewriting.Falsifiers.{Ends, asked, binary_node, binary_visits, either_of, empty_proof, ends, ends_node, ends_visits, halves, halves_node, is_asked, is_function, node, own_proofs, proved, reduce_balanced, rewriting, table_proofs, visits}
 use Rattle.vortex_prune.specs.Rewriting.BuiltIn.{listed}
 use Rattle.vortex_prune.specs.Rewriting.Sides.{proof_of}
 use Rattle.vortex_prune.specs.declared.rewrite.side.Side.{Side}
@@ -117,13 +118,22 @@ two_joined (Some p) None = refl
 two_joined None (Some q) = refl
 two_joined (Some p) (Some q) = refl
 
--- where the user has no rules, the built-in proofs joined are the answer
-pub alone : (prove : OwnRule → Tree Place → Option (Tree Place)) (rules : List OwnRule) (p : Tree Place) (a b : Option (Tree Place)) (r : Result (Option (Tree Place)) StatsError) → rules ≡ []
+-- where no rule of the user is asked, none proves anything
+unasked : (prove : OwnRule → Tree Place → Option (Tree Place)) (rules : List OwnRule) (p : Tree Place) → is_asked rules p ≡ false → own_proofs prove rules p ≡ []
+unasked prove [] p h = refl
+unasked prove (rule ∷ rules) p h = one (is_function (scalar_fn_of p) rule.id) (unasked prove rules p) h
+  where
+    one : (b : Bool) → (is_asked rules p ≡ false → own_proofs prove rules p ≡ []) → (b || is_asked rules p) ≡ false → cons_option (if b then prove rule p else None) (own_proofs prove rules p) ≡ []
+    one true rest k = absurd cc
+    one false rest k = rest k
+
+-- and the built-in proofs joined are the answer
+pub alone : (prove : OwnRule → Tree Place → Option (Tree Place)) (rules : List OwnRule) (p : Tree Place) (a b : Option (Tree Place)) (r : Result (Option (Tree Place)) StatsError) → is_asked rules p ≡ false
     → Makes (either_of (binary Or) a b) r → IfOk r (λ o. o ≡ node prove rules p (listed a b))
 unfolding node
 alone prove rules p a b r none m =
     answer_along r (either_of (binary Or) a b) (reduce_balanced (listed a b ++ own_proofs prove rules p))
-    (sym (ap (λ rs. reduce_balanced (listed a b ++ own_proofs prove rs p)) none ∙ ap reduce_balanced (append-nil (listed a b)) ∙ two_joined a b))
+    (sym (ap (λ ps. reduce_balanced (listed a b ++ ps)) (unasked prove rules p none) ∙ ap reduce_balanced (append-nil (listed a b)) ∙ two_joined a b))
     (answer_is (λ (o : Option (Tree Place)). o ≡ either_of (binary Or) a b) r m)
 
 -- ---- a BETWEEN

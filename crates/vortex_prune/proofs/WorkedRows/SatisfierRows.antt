@@ -166,8 +166,8 @@ unfolding node reduce_balanced
 no_bounds_above = refl
 
 operand_that_is_no_column : SatisfiedBy (binary Eq (is_null a) (bool_literal true)) (
-  binary And (binary And (binary Eq (stat Min (is_null a)) (bool_literal true)) (binary Eq (stat Max (is_null a)) (bool_literal true))) (values_alone (is_null a))
-)
+    binary And (binary And (binary Eq (stat Min (is_null a)) (bool_literal true)) (binary Eq (stat Max (is_null a)) (bool_literal true))) (values_alone (is_null a))
+    )
 unfolding node reduce_balanced
 operand_that_is_no_column = refl
 
@@ -248,8 +248,8 @@ unfolding node reduce_balanced
 column_ends = refl
 
 texts : SatisfiedBy (between open_below s (text (codes "a")) (text (codes "c"))) (
-  binary And (binary And (binary Lt (text (codes "a")) (stat Min s)) (values_alone s)) (binary And (binary Lte (stat Max s) (text (codes "c"))) (values_alone s))
-)
+    binary And (binary And (binary Lt (text (codes "a")) (stat Min s)) (values_alone s)) (binary And (binary Lte (stat Max s) (text (codes "c"))) (values_alone s))
+    )
 unfolding node reduce_balanced
 texts = refl
 
@@ -258,8 +258,8 @@ unfolding node reduce_balanced
 equal_texts = refl
 
 open_truths : SatisfiedBy (between open_ends truth (bool_literal false) (bool_literal true)) (
-  binary And (binary And (binary Lt (bool_literal false) (stat Min truth)) (values_alone truth)) (binary And (binary Lt (stat Max truth) (bool_literal true)) (values_alone truth))
-)
+    binary And (binary And (binary Lt (bool_literal false) (stat Min truth)) (values_alone truth)) (binary And (binary Lt (stat Max truth) (bool_literal true)) (values_alone truth))
+    )
 unfolding node reduce_balanced
 open_truths = refl
 
@@ -321,8 +321,8 @@ unfolding node reduce_balanced
 asked_at_or = refl
 
 asked_within_between : satisfier (unsure function.Binary ∷ []) (between open_ends a (num 19) (num 31)) ≡ Some (or_false (
-  binary And (or_false (binary And (binary Lte (num 20) (stat Min a)) (values_alone a))) (or_false (binary And (binary Lte (stat Max a) (num 30)) (values_alone a)))
-))
+    binary And (or_false (binary And (binary Lte (num 20) (stat Min a)) (values_alone a))) (or_false (binary And (binary Lte (stat Max a) (num 30)) (values_alone a)))
+    ))
 unfolding node reduce_balanced
 asked_within_between = refl
 
@@ -335,7 +335,7 @@ unfolding node reduce_balanced
 asked_at_an_empty_between = refl
 
 asked_in_its_place : satisfier (unsure function.IsNull ∷ unsure function.Not ∷ []) (binary Or (is_null a) (not truth)) ≡ Some (
-  binary Or (binary Or (binary Or (binary Eq (stat NullCount a) row_count) (stat AllNull a)) (bool_literal false)) (bool_literal false)
-)
+    binary Or (binary Or (binary Or (binary Eq (stat NullCount a) row_count) (stat AllNull a)) (bool_literal false)) (bool_literal false)
+    )
 unfolding node reduce_balanced
 asked_in_its_place = refl

@@ -1,5 +1,5 @@
 -- The tables of rewriting: which proofs the built-in rules have for a predicate, and how the proofs of a user's rules join them.
-use Rattle.std.specs.Prelude.{ℕ, zero, suc, ◌+◌, ℤ, pos, ◌+ℤ◌, ◌-ℤ◌, int_le, ◌&&◌, Bool, true, false, not as not_b, List, [], ◌∷◌, ◌++◌, length, Option, Some, None, option_map, option_to_list, is_none, encode_utf8_all, if◌then◌else◌}
+use Rattle.std.specs.Prelude.{ℕ, zero, suc, ◌+◌, ℤ, pos, ◌+ℤ◌, ◌-ℤ◌, int_le, ◌&&◌, ◌||◌, Bool, true, false, not as not_b, List, [], ◌∷◌, ◌++◌, length, Option, Some, None, option_map, option_to_list, is_none, encode_utf8_all, if◌then◌else◌}
 use Rattle.std.specs.List.{filter_map}
 use Rattle.std.specs.Ordering.{is_eq, is_gt}
 use Rattle.std.specs.Result.{is_ok}
@@ -240,6 +240,11 @@ reduce_balanced ps = rounds (length ps) ps
 abbrev pub is_function : Option ScalarFnId → ScalarFnId → Bool
 is_function None id = false
 is_function (Some f) id = functions.ghosts.eq f id
+
+-- some rule is asked there
+abbrev pub is_asked : List OwnRule → Tree Place → Bool
+is_asked [] p = false
+is_asked (rule ∷ rules) p = is_function (scalar_fn_of p) rule.id || is_asked rules p
 
 -- what one rule proves
 abbrev pub asked : (OwnRule → Tree Place → Option (Tree Place)) → Tree Place → OwnRule → Option (Tree Place)

@@ -20,15 +20,15 @@ use crate::rewrite::reduce::reduce_balanced;
 use crate::rewrite::rule::StatsRewriteRule;
 use crate::rewrite::rules::Rules;
 use crate::rewrite::side::Side;
-use crate::rewrite::user_rules::ask_own;
+use crate::rewrite::user_rules::{ask_own, is_asked};
 use std::alloc::Global;
 use vortex_base::bound_expression::BoundExpression;
 use vortex_base::bound_expression::parts::Parts;
 use vortex_base::types::{BetweenOptions, Operator};
 use vortex_stats::error::StatsError;
 
-/// The proof at one node: the built-in ones and then those of the user's rules, joined. Where the
-/// user has no rules no list is made.
+/// The proof at one node: the built-in ones and then those of the user's rules, joined. Where no
+/// rule of the user is asked no list is made.
 fn node(
     alloc: Global,
     side: Side,
@@ -43,7 +43,7 @@ fn node(
         own_rules ⟦<dyn StatsRewriteRule as StatsRewriteRule>⟧ rules.now.own.items in
         IfErr result (IsRefusal (rule_causes (proof_of side) own (e.now ∷ []))) }
 {
-    if rules.own.is_empty() {
+    if !is_asked(rules, e) {
         return either_joined(alloc, Operator::Or, built_in.0, built_in.1);
     }
     let mut proofs = Vec::new(alloc);
