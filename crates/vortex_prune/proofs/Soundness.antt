@@ -7,6 +7,7 @@ pub mod NumberEnds
 pub mod PatternProofs
 pub mod RowFacts
 pub mod RowRules
+pub mod RowSatisfiers
 pub mod SoundRules
 pub mod TruthLogic
 pub mod ValueTests

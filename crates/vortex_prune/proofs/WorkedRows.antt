@@ -3,6 +3,8 @@ pub mod CompleteRows
 pub mod EndsRows
 pub mod HonestRows
 pub mod RewritingRows
+pub mod SatisfierRows
 pub mod StatRows
 pub mod VisitRows
+pub mod WholeRows
 pub mod ZoneTableRows

@@ -1,5 +1,5 @@
 //! Predicates rewritten into proofs over statistics.
-ghost use Rattle.std.specs.Prelude.{◌≡◌, ◌-◌, ◌^◌, ◌∷◌, [], min, Err, IfErr, IfOk, IfSome, IsTrue, false};
+ghost use Rattle.std.specs.Prelude.{◌≡◌, ◌-◌, ◌^◌, min, Err, IfErr, IfOk, IfSome, IsTrue, false};
 ghost use Rattle.vortex_stats.specs.declared.error.StatsError.TheVariants.{NotPredicate};
 ghost use Rattle.vortex_prune.specs.Scanning.Causes.{IsRefusal};
 ghost use Rattle.vortex_prune.specs.Rewriting.Own.{own_rules};
@@ -18,10 +18,11 @@ pub mod rules;
 mod side;
 mod user_rules;
 
-use crate::rewrite::engine::{rewrite_node, satisfy_node};
+use crate::rewrite::engine::rewrite_node;
 use crate::rewrite::proof::{Proof, is_truth};
 use crate::rewrite::rule::StatsRewriteRule;
 use crate::rewrite::rules::Rules;
+use crate::rewrite::side::Side;
 use std::alloc::Global;
 use vortex_base::bound_expression::BoundExpression;
 use vortex_stats::error::StatsError;
@@ -80,12 +81,12 @@ pub fn falsify_counted(
         return Err(StatsError::NotPredicate);
     }
     let mut visits = 0;
-    let proof = rewrite_node(alloc, rules, predicate, &mut visits)?;
+    let proof = rewrite_node(alloc, Side::Falsify, rules, predicate, &mut visits)?;
     Ok((into_expression(proof), visits))
 }
 
-/// A proof over statistics that every row satisfies the predicate, if the rules have one. The
-/// children of AND, OR and BETWEEN aren't looked into. Refusals are those of `falsify`.
+/// A proof over statistics that every row satisfies the predicate, if the rules have one. It comes
+/// of the same nodes as that of `falsify`, and refusals are those of `falsify`.
 pub fn satisfy(
     alloc: Global,
     predicate: &BoundExpression,
@@ -99,12 +100,13 @@ pub fn satisfy(
     ensures refusal { let own =
         own_rules ⟦<dyn StatsRewriteRule as StatsRewriteRule>⟧ rules.now.own.items in
         IsTrue (is_predicate predicate.now) → IfErr result (IsRefusal
-        (rule_causes (λ rule. rule.satisfier) own (predicate.now ∷ []))) }
+        (rule_causes (λ rule. rule.satisfier) own (visited predicate.now))) }
 {
     if !is_truth(predicate) {
         return Err(StatsError::NotPredicate);
     }
-    let proof = satisfy_node(alloc, rules, predicate)?;
+    let mut turns = 0;
+    let proof = rewrite_node(alloc, Side::Satisfy, rules, predicate, &mut turns)?;
     Ok(into_expression(proof))
 }
 

@@ -18,16 +18,17 @@ use Rattle.vortex_prune.proofs.Completeness.Operands.{Operand, same_values}
 use Rattle.vortex_prune.proofs.Soundness.TruthLogic.{clash, true_and, true_or}
 use Rattle.vortex_prune.specs.Scanning.Complete.{Box, IsWithin, are_distinct, columns_of}
 use Rattle.vortex_prune.specs.Rewriting.Proof.{Assignment, value_under}
-use Rattle.vortex_prune.specs.Rewriting.Falsifiers.{binary_node, bool_literal, both_of, comparison_falsifier, either_of, falsified, falsifier, reduce_balanced, node}
+use Rattle.vortex_prune.specs.Rewriting.Falsifiers.{binary_node, bool_literal, both_of, comparison_falsifier, either_of, falsifier, node, proved, reduce_balanced}
+use Rattle.vortex_prune.specs.declared.rewrite.side.Side.TheVariants.{Falsify}
 use Rattle.vortex_prune.proofs.Logic.{all_append}
 
 -- ---- with no rules of a user, a node has the one proof that is built in
 
-pub one_proof : (p e : Tree Place) → falsified [] p (e ∷ []) ≡ Some e
+pub one_proof : (p e : Tree Place) → proved Falsify [] p (e ∷ []) ≡ Some e
 unfolding node reduce_balanced
 one_proof p e = refl
 
-comparison_node : (o : Operator) (l r : Tree Place) (f g : Option (Tree Place)) → is_comparison o ≡ true → binary_node [] o l r f g ≡ falsified [] (binary o l r) (option_to_list (comparison_falsifier o l r))
+comparison_node : (o : Operator) (l r : Tree Place) (f g : Option (Tree Place)) → is_comparison o ≡ true → binary_node Falsify [] o l r f g ≡ proved Falsify [] (binary o l r) (option_to_list (comparison_falsifier o l r))
 comparison_node Eq l r f g k = refl
 comparison_node NotEq l r f g k = refl
 comparison_node Gt l r f g k = refl
@@ -159,7 +160,7 @@ module _ (box : Box) (A : Assignment) (m n : ℕ) where
           proof = made o ox.least ox.most oy.least oy.most;
           proof_is =
               comparison_node o x y (falsifier [] x) (falsifier [] y) k
-              ∙ ap (λ e. falsified [] (binary o x y) (option_to_list e)) (made_is o k)
+              ∙ ap (λ e. proved Falsify [] (binary o x y) (option_to_list e)) (made_is o k)
               ∙ one_proof (binary o x y) (made o ox.least ox.most oy.least oy.most);
           closed = made_closed o k;
           says = apart o ox.lo ox.hi oy.lo oy.hi;
@@ -198,7 +199,7 @@ module _ (box : Box) (A : Assignment) (m n : ℕ) where
     and_decided = record {
       proof = binary Or dx.proof dy.proof;
       proof_is =
-          (λ i. falsified [] (binary And x y) (option_to_list (either_of (binary Or) (dx.proof_is i) (dy.proof_is i))))
+          (λ i. proved Falsify [] (binary And x y) (option_to_list (either_of (binary Or) (dx.proof_is i) (dy.proof_is i))))
           ∙ one_proof (binary And x y) (binary Or dx.proof dy.proof);
       closed = λ i. dx.closed i || dy.closed i;
       says = dx.says || dy.says;
@@ -233,7 +234,7 @@ module _ (box : Box) (A : Assignment) (m n : ℕ) where
       or_decided = record {
         proof = binary And dx.proof dy.proof;
         proof_is =
-            (λ i. falsified [] (binary Or x y) (option_to_list (both_of (binary And) (dx.proof_is i) (dy.proof_is i))))
+            (λ i. proved Falsify [] (binary Or x y) (option_to_list (both_of (binary And) (dx.proof_is i) (dy.proof_is i))))
             ∙ one_proof (binary Or x y) (binary And dx.proof dy.proof);
         closed = λ i. dx.closed i || dy.closed i;
         says = dx.says && dy.says;

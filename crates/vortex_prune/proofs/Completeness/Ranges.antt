@@ -23,10 +23,11 @@ use Rattle.vortex_prune.proofs.Soundness.TruthLogic.{true_and}
 use Rattle.vortex_prune.proofs.Soundness.ValueTests.{holds_by_le, le_refl, le_total, le_trans, value_le}
 use Rattle.vortex_prune.specs.Scanning.Complete.{Box, IsWithin, has_closed_end}
 use Rattle.vortex_prune.specs.Rewriting.Proof.{Assignment, value_under}
-use Rattle.vortex_prune.specs.Rewriting.Falsifiers.{binary_node, bool_literal, either_of, ends, ends_node, falsified, falsifier, halves_node, is_closed_end}
+use Rattle.vortex_prune.specs.Rewriting.Falsifiers.{binary_node, bool_literal, either_of, ends, ends_node, falsifier, halves_node, is_closed_end, proved}
+use Rattle.vortex_prune.specs.declared.rewrite.side.Side.TheVariants.{Falsify}
 
 -- a comparison at an end doesn't ask what its sides' falsifiers are
-end_node : (s : StrictComparison) (l r : Tree Place) (f g : Option (Tree Place)) → binary_node [] (to_operator s) l r None None ≡ binary_node [] (to_operator s) l r f g
+end_node : (s : StrictComparison) (l r : Tree Place) (f g : Option (Tree Place)) → binary_node Falsify [] (to_operator s) l r None None ≡ binary_node Falsify [] (to_operator s) l r f g
 end_node Strict l r f g = refl
 end_node NonStrict l r f g = refl
 
@@ -46,7 +47,7 @@ module _ (box : Box) (A : Assignment) (m n : ℕ) (c : Place) (known : IsInterva
   -- what the AND of a BETWEEN's two comparisons proves, and that it is right both ways
   pub record Halved (o : BetweenOptions) (d e : Constant) : Type 0 where
     pub proof : Tree Place
-    pub proof_is : halves_node [] o (column c) (literal d) (literal e) ≡ Some proof
+    pub proof_is : halves_node Falsify [] o (column c) (literal d) (literal e) ≡ Some proof
     pub closed : has_bare_column proof ≡ false
     pub says : Bool
     pub proof_told : value_under A n proof ≡ Some (value.Bool says)
@@ -131,7 +132,7 @@ module _ (box : Box) (A : Assignment) (m n : ℕ) (c : Place) (known : IsInterva
         halved = record {
           proof = binary Or below.proof above.proof;
           proof_is =
-              (λ i. falsified [] (binary And lower upper) (option_to_list (either_of (binary Or)
+              (λ i. proved Falsify [] (binary And lower upper) (option_to_list (either_of (binary Or)
               ((end_node o.lower_strict (literal d) (column c) (falsifier [] (literal d)) None ∙ below.proof_is) i)
               ((end_node o.upper_strict (column c) (literal e) None (falsifier [] (literal e)) ∙ above.proof_is) i))))
               ∙ one_proof (binary And lower upper) (binary Or below.proof above.proof);
@@ -152,7 +153,7 @@ module _ (box : Box) (A : Assignment) (m n : ℕ) (c : Place) (known : IsInterva
       → IsMoved o (column c) (literal d) (literal e) (record { options = q; lower = literal a; upper = literal b }) → Halved q a b → Decided box A m n (between_of o d e)
   moved_decided o q d e a b is moved h = record {
     proof = h.proof;
-    proof_is = (λ i. falsified [] (between_of o d e) (option_to_list (ends_node [] (column c) (is i)))) ∙ ap (λ p. falsified [] (between_of o d e) (option_to_list p)) h.proof_is ∙ one_proof (between_of o d e) h.proof;
+    proof_is = (λ i. proved Falsify [] (between_of o d e) (option_to_list (ends_node Falsify [] (column c) (is i)))) ∙ ap (λ p. proved Falsify [] (between_of o d e) (option_to_list p)) h.proof_is ∙ one_proof (between_of o d e) h.proof;
     closed = h.closed;
     says = h.says;
     proof_told = h.proof_told;
@@ -164,7 +165,7 @@ module _ (box : Box) (A : Assignment) (m n : ℕ) (c : Place) (known : IsInterva
   pub never_decided : (o : BetweenOptions) (d e : Constant) → ends o (literal d) (literal e) ≡ None → ((row : List Constant) (n : ℕ) → satisfies (between_of o d e) row n ≡ false) → Decided box A m n (between_of o d e)
   never_decided o d e is never = record {
     proof = bool_literal true;
-    proof_is = (λ i. falsified [] (between_of o d e) (option_to_list (ends_node [] (column c) (is i)))) ∙ one_proof (between_of o d e) (bool_literal true);
+    proof_is = (λ i. proved Falsify [] (between_of o d e) (option_to_list (ends_node Falsify [] (column c) (is i)))) ∙ one_proof (between_of o d e) (bool_literal true);
     closed = refl;
     says = true;
     proof_told = refl;

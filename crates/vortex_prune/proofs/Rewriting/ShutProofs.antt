@@ -1,7 +1,7 @@
 -- The proofs of the built-in rules have no column outside their placeholders.
-use Rattle.std.proofs.Common.{◌≡◌, ◌||◌, ℕ, zero, suc, Bool, true, false, cond, List, [], ◌∷◌, Option, Some, None, length, refl, sym, ap, subst, append-nil, ◌∙◌, arith}
+use Rattle.std.proofs.Common.{◌≡◌, ◌||◌, ℕ, zero, suc, Bool, true, false, cond, List, [], ◌∷◌, Option, Some, None, length, IfErr, Ok, Err, Result, get_or, refl, sym, ap, subst, append-nil, ◌∙◌, arith}
 use Rattle.std.specs.List.{AllByRecursion}
-use Rattle.std.specs.Prelude.{option_to_list}
+use Rattle.std.specs.Prelude.{Contains, option_map, option_to_list}
 use Rattle.std.specs.Result.{is_ok}
 use Rattle.std.specs.Str.{chars}
 use Rattle.vortex_base.specs.Trees.Between.{to_operator}
@@ -18,7 +18,12 @@ use Rattle.vortex_base.specs.declared.types.Operator.TheVariants.{Eq, NotEq, Gt,
 use Rattle.vortex_base.specs.declared.scalar_value.ScalarValue.{ScalarValue}
 use Rattle.vortex_base.specs.declared.scalar_value.ScalarValue.TheVariants as value
 use Rattle.vortex_prune.specs.Rewriting.Lawful.{OwnRule}
-use Rattle.vortex_prune.specs.Rewriting.Falsifiers.{Ends, binary_node, both_of, comparison_falsifier, either_of, ends, ends_node, every_null, extreme, falsified, falsifier, halves_node, items_falsifier, reduce_balanced, like_falsifier, literal_falsifier, literal_satisfier, max_of, min_of, node, none_null, null_count_of, other_than, outside, pattern_falsifier, placeholder, round, rounds, satisfied, satisfier, text_literal}
+use Rattle.vortex_prune.specs.Rewriting.Falsifiers.{Ends, and_proof, binary_node, both_of, comparison_falsifier, comparison_proof, either_of, ends, ends_node, every_null, extreme, falsifier, halves_node, items_falsifier, like_falsifier, literal_falsifier, literal_satisfier, max_of, min_of, node, none_null, null_count_of, of_sides, or_proof, other_than, outside, pattern_falsifier, placeholder, proved, reduce_balanced, rewriting, round, rounds, satisfier, table_falsifiers, table_proofs, table_satisfiers, text_literal, value_condition, without_nulls}
+use Rattle.vortex_prune.specs.Rewriting.BuiltIn.{opposite}
+use Rattle.vortex_prune.specs.declared.rewrite.side.Side.{Side}
+use Rattle.vortex_prune.specs.declared.rewrite.side.Side.TheVariants.{Falsify, Satisfy}
+use Rattle.vortex_prune.proofs.Soundness.RowSatisfiers.{condition_is}
+use Rattle.vortex_base.specs.declared.dtype.DType.{DType}
 use Rattle.vortex_prune.specs.Scanning.ScanRefusals.{is_open}
 
 abbrev Shut : Tree Place → Type 0
@@ -46,13 +51,16 @@ rounds_shut zero (p ∷ q ∷ ps) h = refl
 rounds_shut (suc n) (p ∷ q ∷ ps) h = rounds_shut n (round (p ∷ q ∷ ps)) (round_shut (p ∷ q ∷ ps) h)
 
 -- with no rule of a user the proofs at a node are the built-in ones
-node_shut : (p : Tree Place) (ps : List (Tree Place)) → AllByRecursion Shut ps → AreShut (falsified [] p ps)
+node_shut : (side : Side) (p : Tree Place) (ps : List (Tree Place)) → AllByRecursion Shut ps → AreShut (proved side [] p ps)
 unfolding node reduce_balanced
-node_shut p ps h = subst (λ qs. AreShut (rounds (length qs) qs)) (sym (append-nil ps)) (rounds_shut (length ps) ps h)
+node_shut side p ps h = subst (λ qs. AreShut (rounds (length qs) qs)) (sym (append-nil ps)) (rounds_shut (length ps) ps h)
 
-one_shut : (p : Tree Place) (o : Option (Tree Place)) → AreShut o → AreShut (falsified [] p (option_to_list o))
-one_shut p None h = node_shut p [] tt
-one_shut p (Some e) h = node_shut p (e ∷ []) (h, tt)
+option_shut : (o : Option (Tree Place)) → AreShut o → AllByRecursion Shut (option_to_list o)
+option_shut None h = tt
+option_shut (Some e) h = (h, tt)
+
+one_shut : (side : Side) (p : Tree Place) (o : Option (Tree Place)) → AreShut o → AreShut (proved side [] p (option_to_list o))
+one_shut side p o h = node_shut side p (option_to_list o) (option_shut o h)
 
 both_shut : (o : Operator) (a b : Option (Tree Place)) → AreShut a → AreShut b → AreShut (both_of (binary o) a b)
 both_shut o (Some a) (Some b) h k = two_shut (has_bare_column a) (has_bare_column b) h k
@@ -98,12 +106,24 @@ comparison_shut Lte l r = compared_shut Gt Min Max l r
 comparison_shut And l r = refl
 comparison_shut Or l r = refl
 
-literal_shut : (v : Option ScalarValue) → AreShut (literal_falsifier v)
-literal_shut None = refl
-literal_shut (Some (value.Bool b)) = refl
-literal_shut (Some (value.Primitive p)) = refl
-literal_shut (Some (value.Utf8 bs)) = refl
-literal_shut (Some (value.Binary bs)) = refl
+without_nulls_shut : (x e : Tree Place) → Shut e → Shut (without_nulls x e)
+without_nulls_shut (literal c) e h = h
+without_nulls_shut x e h = two_shut (has_bare_column e) false h refl
+
+satisfier_shut : (l r : Tree Place) (o : Option (Tree Place)) → AreShut o → AreShut (option_map (λ e. without_nulls r (without_nulls l e)) o)
+satisfier_shut l r None h = refl
+satisfier_shut l r (Some e) h = without_nulls_shut r (without_nulls l e) (without_nulls_shut l e h)
+
+compared_either_way : (side : Side) (o : Operator) (l r : Tree Place) → AreShut (comparison_proof side o l r)
+compared_either_way Falsify o l r = comparison_shut o l r
+compared_either_way Satisfy o l r = satisfier_shut l r (value_condition o l r) (ap is_open (condition_is o l r) ∙ comparison_shut (opposite o) l r)
+
+truth_shut : (v : Option ScalarValue) → AreShut (literal_falsifier v) × AreShut (literal_satisfier v)
+truth_shut None = (refl, refl)
+truth_shut (Some (value.Bool b)) = (refl, refl)
+truth_shut (Some (value.Primitive p)) = (refl, refl)
+truth_shut (Some (value.Utf8 bs)) = (refl, refl)
+truth_shut (Some (value.Binary bs)) = (refl, refl)
 
 null_count_shut : (x : Tree Place) → Shut (null_count_of x)
 null_count_shut (literal c) = refl
@@ -160,65 +180,71 @@ like_shut o x (like f y q) = refl
 like_shut o x (stat g y) = refl
 like_shut o x row_count = refl
 
--- ---- the falsifier
+-- ---- the proofs
 
-binary_shut : (o : Operator) (l r : Tree Place) (a b : Option (Tree Place)) → AreShut a → AreShut b → AreShut (binary_node [] o l r a b)
-binary_shut And l r a b h k = one_shut (binary And l r) (either_of (binary Or) a b) (either_shut Or a b h k)
-binary_shut Or l r a b h k = one_shut (binary Or l r) (both_of (binary And) a b) (both_shut And a b h k)
-binary_shut Eq l r a b h k = one_shut (binary Eq l r) (comparison_falsifier Eq l r) (comparison_shut Eq l r)
-binary_shut NotEq l r a b h k = one_shut (binary NotEq l r) (comparison_falsifier NotEq l r) (comparison_shut NotEq l r)
-binary_shut Gt l r a b h k = one_shut (binary Gt l r) (comparison_falsifier Gt l r) (comparison_shut Gt l r)
-binary_shut Gte l r a b h k = one_shut (binary Gte l r) (comparison_falsifier Gte l r) (comparison_shut Gte l r)
-binary_shut Lt l r a b h k = one_shut (binary Lt l r) (comparison_falsifier Lt l r) (comparison_shut Lt l r)
-binary_shut Lte l r a b h k = one_shut (binary Lte l r) (comparison_falsifier Lte l r) (comparison_shut Lte l r)
+and_shut : (side : Side) (a b : Option (Tree Place)) → AreShut a → AreShut b → AreShut (and_proof side a b)
+and_shut Falsify a b h k = either_shut Or a b h k
+and_shut Satisfy a b h k = both_shut And a b h k
 
-halves_shut : (o : BetweenOptions) (x l u : Tree Place) → AreShut (halves_node [] o x l u)
-halves_shut o x l u =
-    binary_shut And (binary (to_operator o.lower_strict) l x) (binary (to_operator o.upper_strict) x u)
-    (binary_node [] (to_operator o.lower_strict) l x None None) (binary_node [] (to_operator o.upper_strict) x u None None)
-    (binary_shut (to_operator o.lower_strict) l x None None refl refl) (binary_shut (to_operator o.upper_strict) x u None None refl refl)
+or_shut : (side : Side) (a b : Option (Tree Place)) → AreShut a → AreShut b → AreShut (or_proof side a b)
+or_shut Falsify a b h k = both_shut And a b h k
+or_shut Satisfy a b h k = either_shut Or a b h k
 
-ends_shut : (x : Tree Place) (es : Option Ends) → AreShut (ends_node [] x es)
-ends_shut x None = refl
-ends_shut x (Some e) = halves_shut e.options x e.lower e.upper
+sides_shut : (side : Side) (o : Operator) (l r : Tree Place) (a b : Option (Tree Place)) → AreShut a → AreShut b → AreShut (of_sides side o l r a b)
+sides_shut side And l r a b h k = and_shut side a b h k
+sides_shut side Or l r a b h k = or_shut side a b h k
+sides_shut side Eq l r a b h k = compared_either_way side Eq l r
+sides_shut side NotEq l r a b h k = compared_either_way side NotEq l r
+sides_shut side Gt l r a b h k = compared_either_way side Gt l r
+sides_shut side Gte l r a b h k = compared_either_way side Gte l r
+sides_shut side Lt l r a b h k = compared_either_way side Lt l r
+sides_shut side Lte l r a b h k = compared_either_way side Lte l r
+
+binary_shut : (side : Side) (o : Operator) (l r : Tree Place) (a b : Option (Tree Place)) → AreShut a → AreShut b → AreShut (binary_node side [] o l r a b)
+binary_shut side o l r a b h k = one_shut side (binary o l r) (of_sides side o l r a b) (sides_shut side o l r a b h k)
+
+halves_shut : (side : Side) (o : BetweenOptions) (x l u : Tree Place) → AreShut (halves_node side [] o x l u)
+halves_shut side o x l u =
+    binary_shut side And (binary (to_operator o.lower_strict) l x) (binary (to_operator o.upper_strict) x u)
+    (binary_node side [] (to_operator o.lower_strict) l x None None) (binary_node side [] (to_operator o.upper_strict) x u None None)
+    (binary_shut side (to_operator o.lower_strict) l x None None refl refl) (binary_shut side (to_operator o.upper_strict) x u None None refl refl)
+
+ends_shut : (side : Side) (x : Tree Place) (es : Option Ends) → AreShut (ends_node side [] x es)
+ends_shut Falsify x None = refl
+ends_shut Satisfy x None = refl
+ends_shut side x (Some e) = halves_shut side e.options x e.lower e.upper
+
+falsifiers_shut : (p : Tree Place) → AllByRecursion Shut (table_falsifiers p)
+falsifiers_shut (literal c) = option_shut (literal_falsifier c.value) (truth_shut c.value).0
+falsifiers_shut (is_null x) = none_null_shut x
+falsifiers_shut (is_not_null x) = every_null_shut x
+falsifiers_shut (like o x p) = option_shut (like_falsifier o x p) (like_shut o x p)
+falsifiers_shut p = tt
+
+satisfiers_shut : (p : Tree Place) → AllByRecursion Shut (table_satisfiers p)
+satisfiers_shut (literal c) = option_shut (literal_satisfier c.value) (truth_shut c.value).1
+satisfiers_shut (is_null x) = every_null_shut x
+satisfiers_shut (is_not_null x) = none_null_shut x
+satisfiers_shut p = tt
+
+table_shut : (side : Side) (p : Tree Place) → AreShut (proved side [] p (table_proofs side p))
+table_shut Falsify p = node_shut Falsify p (table_falsifiers p) (falsifiers_shut p)
+table_shut Satisfy p = node_shut Satisfy p (table_satisfiers p) (satisfiers_shut p)
+
+rewriting_shut : (side : Side) (p : Tree Place) → AreShut (rewriting side [] p)
+rewriting_shut side (column c) = refl
+rewriting_shut side (literal c) = table_shut side (literal c)
+rewriting_shut side (binary o l r) = binary_shut side o l r (rewriting side [] l) (rewriting side [] r) (rewriting_shut side l) (rewriting_shut side r)
+rewriting_shut side (between o x l u) = one_shut side (between o x l u) (ends_node side [] x (ends o l u)) (ends_shut side x (ends o l u))
+rewriting_shut side (is_null x) = table_shut side (is_null x)
+rewriting_shut side (is_not_null x) = table_shut side (is_not_null x)
+rewriting_shut side (not x) = table_shut side (not x)
+rewriting_shut side (like o x p) = table_shut side (like o x p)
+rewriting_shut side (stat f x) = table_shut side (stat f x)
+rewriting_shut side row_count = table_shut side row_count
 
 pub built_in_is_shut : (p : Tree Place) → is_open (falsifier [] p) ≡ false
-built_in_is_shut (column c) = refl
-built_in_is_shut (literal c) = one_shut (literal c) (literal_falsifier c.value) (literal_shut c.value)
-built_in_is_shut (binary o l r) = binary_shut o l r (falsifier [] l) (falsifier [] r) (built_in_is_shut l) (built_in_is_shut r)
-built_in_is_shut (between o x l u) = one_shut (between o x l u) (ends_node [] x (ends o l u)) (ends_shut x (ends o l u))
-built_in_is_shut (is_null x) = node_shut (is_null x) (none_null x) (none_null_shut x)
-built_in_is_shut (is_not_null x) = node_shut (is_not_null x) (every_null x) (every_null_shut x)
-built_in_is_shut (not x) = node_shut (not x) [] tt
-built_in_is_shut (like o x p) = one_shut (like o x p) (like_falsifier o x p) (like_shut o x p)
-built_in_is_shut (stat f x) = node_shut (stat f x) [] tt
-built_in_is_shut row_count = node_shut row_count [] tt
-
--- ---- and so are their satisfiers
-
-literal_satisfier_shut : (v : Option ScalarValue) → AreShut (literal_satisfier v)
-literal_satisfier_shut None = refl
-literal_satisfier_shut (Some (value.Bool b)) = refl
-literal_satisfier_shut (Some (value.Primitive p)) = refl
-literal_satisfier_shut (Some (value.Utf8 bs)) = refl
-literal_satisfier_shut (Some (value.Binary bs)) = refl
-
-satisfied_shut : (p : Tree Place) (ps : List (Tree Place)) → AllByRecursion Shut ps → AreShut (satisfied [] p ps)
-unfolding node reduce_balanced
-satisfied_shut p ps h = subst (λ qs. AreShut (rounds (length qs) qs)) (sym (append-nil ps)) (rounds_shut (length ps) ps h)
-
-one_satisfier_shut : (p : Tree Place) (o : Option (Tree Place)) → AreShut o → AreShut (satisfied [] p (option_to_list o))
-one_satisfier_shut p None h = satisfied_shut p [] tt
-one_satisfier_shut p (Some e) h = satisfied_shut p (e ∷ []) (h, tt)
+built_in_is_shut p = rewriting_shut Falsify p
 
 pub built_in_satisfier_is_shut : (p : Tree Place) → is_open (satisfier [] p) ≡ false
-built_in_satisfier_is_shut (column c) = refl
-built_in_satisfier_is_shut (literal c) = one_satisfier_shut (literal c) (literal_satisfier c.value) (literal_satisfier_shut c.value)
-built_in_satisfier_is_shut (binary o l r) = satisfied_shut (binary o l r) [] tt
-built_in_satisfier_is_shut (between o x l u) = satisfied_shut (between o x l u) [] tt
-built_in_satisfier_is_shut (is_null x) = satisfied_shut (is_null x) (every_null x) (every_null_shut x)
-built_in_satisfier_is_shut (is_not_null x) = satisfied_shut (is_not_null x) (none_null x) (none_null_shut x)
-built_in_satisfier_is_shut (not x) = satisfied_shut (not x) [] tt
-built_in_satisfier_is_shut (like o x p) = satisfied_shut (like o x p) [] tt
-built_in_satisfier_is_shut (stat f x) = satisfied_shut (stat f x) [] tt
-built_in_satisfier_is_shut row_count = satisfied_shut row_count [] tt
+built_in_satisfier_is_shut p = rewriting_shut Satisfy p

@@ -13,7 +13,7 @@ use Rattle.vortex_prune.specs.Rewriting.Lawful.{OwnRule}
 use Rattle.vortex_prune.specs.Rewriting.RuleRefusals.{SomeAsked, rule_causes}
 use Rattle.vortex_prune.specs.Rewriting.Visited.{visited}
 use Rattle.vortex_prune.specs.Scanning.Causes.{Causes, IsRefusal, either_causes}
-use Rattle.vortex_prune.specs.Scanning.ScanRefusals.{binder_causes, causes_by, faithful_causes, if_faithful, is_open, satisfier_nodes, scan_causes}
+use Rattle.vortex_prune.specs.Scanning.ScanRefusals.{binder_causes, causes_by, faithful_causes, if_faithful, is_open, scan_causes}
 use Rattle.vortex_prune.specs.Scanning.Selection.{any_binder}
 use Rattle.vortex_stats.specs.declared.error.BinderFault.TheVariants as binder_fault
 use Rattle.vortex_stats.specs.declared.error.RuleFault.TheVariants as rule_fault
@@ -38,7 +38,7 @@ module _ (asked : Option (Tree Place) → Causes) (rules : List OwnRule) (p : Tr
   pub falsifying_refused : (f : StatsError) → IsRefusal (rule_causes (λ rule. rule.falsifier) rules (visited p)) f → IsRefusal (causes_by asked rules p) f
   falsifying_refused f h = either-left _ _ f (either-left _ _ f h)
 
-  pub satisfying_refused : (f : StatsError) → IsRefusal (rule_causes (λ rule. rule.satisfier) rules (satisfier_nodes p)) f → IsRefusal (causes_by asked rules p) f
+  pub satisfying_refused : (f : StatsError) → IsRefusal (rule_causes (λ rule. rule.satisfier) rules (visited p)) f → IsRefusal (causes_by asked rules p) f
   satisfying_refused f h = either-left _ _ f (either-right _ _ f h)
 
   pub asking_refused : (a b : Option (Tree Place)) (f : StatsError) → a ≡ falsifier rules p → b ≡ satisfier rules p → IsRefusal (either_causes (asked a) (asked b)) f → IsRefusal (causes_by asked rules p) f
@@ -62,8 +62,8 @@ module _ (asked : Option (Tree Place) → Causes) (p : Tree Place) where
   by_asking (fault.Conflict s) h = absurd h
   by_asking (fault.Binder (binder_fault.Own k)) h = not_by_rules (λ x. x) (λ x. x) h
   by_asking (fault.Binder binder_fault.WrongType) h = not_by_rules (λ x. x) (λ x. x) h
-  by_asking (fault.Rule (rule_fault.Own k)) h = not_by_rules (none_asked _ (visited p)) (none_asked _ (satisfier_nodes p)) h
-  by_asking (fault.Rule rule_fault.NotBool) h = not_by_rules (none_asked _ (visited p)) (none_asked _ (satisfier_nodes p)) h
+  by_asking (fault.Rule (rule_fault.Own k)) h = not_by_rules (none_asked _ (visited p)) (none_asked _ (visited p)) h
+  by_asking (fault.Rule rule_fault.NotBool) h = not_by_rules (none_asked _ (visited p)) (none_asked _ (visited p)) h
   by_asking fault.OpenProof h = not_by_rules (λ x. x) (λ x. x) h
   by_asking fault.TooLarge h = absurd h
 

@@ -1,20 +1,24 @@
 -- The proofs at one node, from the tables.
-use Rattle.std.proofs.Common.{◌≡◌, ℕ, ◌+◌, min, arith, Some, option_map, option_to_list, Bool, true, false, List, [], ◌∷◌, ◌++◌, Option, None, Result, Ok, Err, IfOk, refl, sym, ap, ◌∙◌, append-nil}
+use Rattle.std.proofs.Common.{◌≡◌, ◌||◌, ℕ, ◌+◌, min, arith, Some, option_map, option_to_list, if◌then◌else◌, Bool, true, false, List, [], ◌∷◌, ◌++◌, Option, None, Result, Ok, Err, IfOk, refl, sym, ap, ◌∙◌, append-nil}
 use denote.Bor.{Bor}
+use Rattle.std.specs.List.{cons_option}
 use Rattle.vortex_base.specs.Trees.Parts.{whole}
-use Rattle.vortex_base.specs.Trees.Tree.{Tree, Place, column, literal, binary, between, is_null, is_not_null, not, like, stat, row_count}
+use Rattle.vortex_base.specs.Trees.Tree.{Tree, Place, column, literal, binary, between, is_null, is_not_null, not, like, stat, row_count, scalar_fn_of}
 use Rattle.std.proofs.lemmas.Option.{same_Some}
 use Rattle.vortex_base.specs.Trees.Between.{to_operator}
 use Rattle.vortex_base.specs.declared.types.BetweenOptions.{BetweenOptions}
 use Rattle.vortex_base.specs.declared.types.StrictComparison.{StrictComparison}
 use Rattle.vortex_base.specs.declared.types.StrictComparison.TheVariants.{Strict, NonStrict}
 use Rattle.vortex_base.specs.declared.types.Operator.{Operator}
-use Rattle.vortex_base.specs.declared.types.Operator.TheVariants.{Eq, NotEq, Gt, Gte, Lt, Lte, And, Or}
+use Rattle.vortex_base.specs.declared.types.Operator.TheVariants.{And, Or}
 use Rattle.vortex_base.specs.declared.bound_expression.parts.Parts.{Parts}
 use Rattle.vortex_base.specs.declared.bound_expression.parts.Parts.TheVariants as parts
 use Rattle.vortex_prune.specs.Rewriting.Lawful.{OwnRule}
-use Rattle.vortex_prune.specs.Rewriting.Predicates.{is_connective}
-use Rattle.vortex_prune.specs.Rewriting.Falsifiers.{Ends, asked, binary_node, binary_visits, bool_literal, ends, ends_node, ends_visits, falsified, falsifier, halves, halves_node, reduce_balanced, node, own_proofs, satisfied, satisfier, table_falsifiers, table_satisfiers, visits}
+use Rattle.vortex_prune.specs.Rewriting.Falsifiers.{Ends, asked, binary_node, binary_visits, either_of, empty_proof, ends, ends_node, ends_visits, halves, halves_node, is_asked, is_function, node, own_proofs, proved, reduce_balanced, rewriting, table_proofs, visits}
+use Rattle.vortex_prune.specs.Rewriting.BuiltIn.{listed}
+use Rattle.vortex_prune.specs.Rewriting.Sides.{proof_of}
+use Rattle.vortex_prune.specs.declared.rewrite.side.Side.{Side}
+use Rattle.vortex_prune.specs.declared.rewrite.side.Side.TheVariants.{Falsify, Satisfy}
 use Rattle.vortex_prune.proofs.Logic.{answer_is}
 use Rattle.vortex_prune.specs.Answers.{Makes}
 use Rattle.vortex_stats.specs.declared.error.StatsError.{StatsError}
@@ -29,11 +33,11 @@ module _ (prove : OwnRule → Tree Place → Option (Tree Place)) where
   unfolding node reduce_balanced
   column_node rules c = ap (λ ps. reduce_balanced ps) (none_asked rules (column c) (λ rule. refl))
 
--- whether a node is rewritten by way of other nodes
+-- whether a node has two operands to compare or connect, or ends, and so no proofs in the tables
 abbrev pub is_rewritten : Tree Place → Bool
 is_rewritten (column c) = false
 is_rewritten (literal c) = false
-is_rewritten (binary o l r) = is_connective o
+is_rewritten (binary o l r) = true
 is_rewritten (between o x l u) = true
 is_rewritten (is_null x) = false
 is_rewritten (is_not_null x) = false
@@ -42,55 +46,24 @@ is_rewritten (like o x p) = false
 is_rewritten (stat f x) = false
 is_rewritten row_count = false
 
-comparison_node : (rules : List OwnRule) (o : Operator) (l r : Tree Place) → is_connective o ≡ false → falsifier rules (binary o l r) ≡ falsified rules (binary o l r) (table_falsifiers (binary o l r))
-comparison_node rules Eq l r h = refl
-comparison_node rules NotEq l r h = refl
-comparison_node rules Gt l r h = refl
-comparison_node rules Gte l r h = refl
-comparison_node rules Lt l r h = refl
-comparison_node rules Lte l r h = refl
-comparison_node rules And l r h = cc
-comparison_node rules Or l r h = cc
-
-falsifier_of_table : (rules : List OwnRule) (p : Tree Place) → is_rewritten p ≡ false → falsifier rules p ≡ falsified rules p (table_falsifiers p)
-falsifier_of_table rules (column c) h = sym (column_node (λ rule. rule.falsifier) rules c)
-falsifier_of_table rules (literal c) h = refl
-falsifier_of_table rules (binary o l r) h = comparison_node rules o l r h
-falsifier_of_table rules (between o x l u) h = cc
-falsifier_of_table rules (is_null x) h = refl
-falsifier_of_table rules (is_not_null x) h = refl
-falsifier_of_table rules (not x) h = refl
-falsifier_of_table rules (like o x p) h = refl
-falsifier_of_table rules (stat f x) h = refl
-falsifier_of_table rules row_count h = refl
-
-satisfier_of_table : (rules : List OwnRule) (p : Tree Place) → satisfier rules p ≡ satisfied rules p (table_satisfiers p)
-satisfier_of_table rules (column c) = sym (column_node (λ rule. rule.satisfier) rules c)
-satisfier_of_table rules (literal c) = refl
-satisfier_of_table rules (binary o l r) = refl
-satisfier_of_table rules (between o x l u) = refl
-satisfier_of_table rules (is_null x) = refl
-satisfier_of_table rules (is_not_null x) = refl
-satisfier_of_table rules (not x) = refl
-satisfier_of_table rules (like o x p) = refl
-satisfier_of_table rules (stat f x) = refl
-satisfier_of_table rules row_count = refl
-
-comparison_visits : (o : Operator) (m n : ℕ) → is_connective o ≡ false → binary_visits o m n ≡ 1
-comparison_visits Eq m n h = refl
-comparison_visits NotEq m n h = refl
-comparison_visits Gt m n h = refl
-comparison_visits Gte m n h = refl
-comparison_visits Lt m n h = refl
-comparison_visits Lte m n h = refl
-comparison_visits And m n h = cc
-comparison_visits Or m n h = cc
+of_table : (side : Side) (rules : List OwnRule) (p : Tree Place) → is_rewritten p ≡ false → rewriting side rules p ≡ proved side rules p (table_proofs side p)
+of_table Falsify rules (column c) h = sym (column_node (proof_of Falsify) rules c)
+of_table Satisfy rules (column c) h = sym (column_node (proof_of Satisfy) rules c)
+of_table side rules (literal c) h = refl
+of_table side rules (binary o l r) h = cc
+of_table side rules (between o x l u) h = cc
+of_table side rules (is_null x) h = refl
+of_table side rules (is_not_null x) h = refl
+of_table side rules (not x) h = refl
+of_table side rules (like o x p) h = refl
+of_table side rules (stat f x) h = refl
+of_table side rules row_count h = refl
 
 -- such a node takes one turn
 pub plain_visits : (p : Tree Place) → is_rewritten p ≡ false → visits p ≡ 1
 plain_visits (column c) h = refl
 plain_visits (literal c) h = refl
-plain_visits (binary o l r) h = comparison_visits o (visits l) (visits r) h
+plain_visits (binary o l r) h = cc
 plain_visits (between o x l u) h = cc
 plain_visits (is_null x) h = refl
 plain_visits (is_not_null x) h = refl
@@ -98,20 +71,6 @@ plain_visits (not x) h = refl
 plain_visits (like o x p) h = refl
 plain_visits (stat f x) h = refl
 plain_visits row_count h = refl
-
-is_not_connective : (o : Operator) → (o ≡ And → ⊥) → (o ≡ Or → ⊥) → is_connective o ≡ false
-is_not_connective Eq h k = refl
-is_not_connective NotEq h k = refl
-is_not_connective Gt h k = refl
-is_not_connective Gte h k = refl
-is_not_connective Lt h k = refl
-is_not_connective Lte h k = refl
-is_not_connective And h k = absurd (h refl)
-is_not_connective Or h k = absurd (k refl)
-
--- a comparison isn't rewritten further
-pub comparison_plain : (p : Tree Place) (q : Parts) (o : Operator) (l r : Bor (Tree Place)) → p ≡ whole q → q ≡ parts.Binary o l r → (o ≡ And → ⊥) → (o ≡ Or → ⊥) → is_rewritten p ≡ false
-comparison_plain p q o l r e f h k = ap is_rewritten (e ∙ ap whole f) ∙ is_not_connective o h k
 
 parts_plain : (q : Parts) → ((o : Operator) (l r : Bor (Tree Place)) → q ≡ parts.Binary o l r → ⊥) → ((o : BetweenOptions) (x l u : Bor (Tree Place)) → q ≡ parts.Between o x l u → ⊥) → is_rewritten (whole q) ≡ false
 parts_plain (parts.Column i t) h k = refl
@@ -125,7 +84,7 @@ parts_plain (parts.Like o x p) h k = refl
 parts_plain (parts.Stat f x) h k = refl
 parts_plain parts.RowCount h k = refl
 
--- nor is what is neither a node of two operands nor a BETWEEN
+-- what is neither a node of two operands nor a BETWEEN is none of these
 pub others_plain : (p : Tree Place) (q : Parts) → p ≡ whole q → ((o : Operator) (l r : Bor (Tree Place)) → q ≡ parts.Binary o l r → ⊥) → ((o : BetweenOptions) (x l u : Bor (Tree Place)) → q ≡ parts.Between o x l u → ⊥) → is_rewritten p ≡ false
 others_plain p q e h k = ap is_rewritten e ∙ parts_plain q h k
 
@@ -133,16 +92,11 @@ answer_along : {E : Type 0} (r : Result (Option (Tree Place)) E) (a b : Option (
 answer_along (Ok o) a b e k = k ∙ e
 answer_along (Err f) a b e k = tt
 
--- the answer at a node that the table decides
-pub table_answer : {E : Type 0} (rules : List OwnRule) (p : Tree Place) (built_in : List (Tree Place)) (r : Result (Option (Tree Place)) E) → is_rewritten p ≡ false → built_in ≡ table_falsifiers p
-    → IfOk r (λ o. o ≡ falsified rules p built_in) → IfOk r (λ o. o ≡ falsifier rules p)
-table_answer rules p built_in r h e =
-    answer_along r (falsified rules p built_in) (falsifier rules p) (ap (falsified rules p) e ∙ sym (falsifier_of_table rules p h))
-
-pub satisfier_answer : {E : Type 0} (rules : List OwnRule) (p : Tree Place) (built_in : List (Tree Place)) (r : Result (Option (Tree Place)) E) → built_in ≡ table_satisfiers p
-    → IfOk r (λ o. o ≡ satisfied rules p built_in) → IfOk r (λ o. o ≡ satisfier rules p)
-satisfier_answer rules p built_in r e =
-    answer_along r (satisfied rules p built_in) (satisfier rules p) (ap (satisfied rules p) e ∙ sym (satisfier_of_table rules p))
+-- the answer at a node that the tables decide
+pub table_answer : {E : Type 0} (side : Side) (rules : List OwnRule) (p : Tree Place) (built_in : List (Tree Place)) (r : Result (Option (Tree Place)) E) → is_rewritten p ≡ false → built_in ≡ table_proofs side p
+    → IfOk r (λ o. o ≡ proved side rules p built_in) → IfOk r (λ o. o ≡ rewriting side rules p)
+table_answer side rules p built_in r h e =
+    answer_along r (proved side rules p built_in) (rewriting side rules p) (ap (proved side rules p) e ∙ sym (of_table side rules p h))
 
 -- the proofs at a node, joined
 pub node_answer : (prove : OwnRule → Tree Place → Option (Tree Place)) (rules : List OwnRule) (p : Tree Place) (built_in proofs : List (Tree Place)) (r : Result (Option (Tree Place)) StatsError)
@@ -151,39 +105,58 @@ unfolding node
 node_answer prove rules p built_in proofs r e m =
     answer_along r (reduce_balanced proofs) (reduce_balanced (built_in ++ own_proofs prove rules p)) (ap reduce_balanced e) (answer_is (λ (o : Option (Tree Place)). o ≡ reduce_balanced proofs) r m)
 
--- one proof at the most is its own join
-one_alone : (o : Option (Tree Place)) → reduce_balanced (option_to_list o) ≡ o
-unfolding reduce_balanced
-one_alone None = refl
-one_alone (Some p) = refl
+-- two proofs at the most that are listed, one after the other
+pub listed_is : (a b : Option (Tree Place)) → ([] ++ option_to_list a) ++ option_to_list b ≡ listed a b
+listed_is a None = append-nil (option_to_list a)
+listed_is None (Some q) = refl
+listed_is (Some p) (Some q) = refl
 
--- where the user has no rules, a built-in proof is the answer
-pub alone : (prove : OwnRule → Tree Place → Option (Tree Place)) (rules : List OwnRule) (p : Tree Place) (o : Option (Tree Place)) → rules ≡ [] → o ≡ node prove rules p (option_to_list o)
+two_joined : (a b : Option (Tree Place)) → reduce_balanced (listed a b) ≡ either_of (binary Or) a b
+unfolding reduce_balanced
+two_joined None None = refl
+two_joined (Some p) None = refl
+two_joined None (Some q) = refl
+two_joined (Some p) (Some q) = refl
+
+-- where no rule of the user is asked, none proves anything
+unasked : (prove : OwnRule → Tree Place → Option (Tree Place)) (rules : List OwnRule) (p : Tree Place) → is_asked rules p ≡ false → own_proofs prove rules p ≡ []
+unasked prove [] p h = refl
+unasked prove (rule ∷ rules) p h = one (is_function (scalar_fn_of p) rule.id) (unasked prove rules p) h
+  where
+    one : (b : Bool) → (is_asked rules p ≡ false → own_proofs prove rules p ≡ []) → (b || is_asked rules p) ≡ false → cons_option (if b then prove rule p else None) (own_proofs prove rules p) ≡ []
+    one true rest k = absurd cc
+    one false rest k = rest k
+
+-- and the built-in proofs joined are the answer
+pub alone : (prove : OwnRule → Tree Place → Option (Tree Place)) (rules : List OwnRule) (p : Tree Place) (a b : Option (Tree Place)) (r : Result (Option (Tree Place)) StatsError) → is_asked rules p ≡ false
+    → Makes (either_of (binary Or) a b) r → IfOk r (λ o. o ≡ node prove rules p (listed a b))
 unfolding node
-alone prove rules p o none =
-    sym (ap (λ rs. reduce_balanced (option_to_list o ++ own_proofs prove rs p)) none ∙ ap reduce_balanced (append-nil (option_to_list o)) ∙ one_alone o)
+alone prove rules p a b r none m =
+    answer_along r (either_of (binary Or) a b) (reduce_balanced (listed a b ++ own_proofs prove rules p))
+    (sym (ap (λ ps. reduce_balanced (listed a b ++ ps)) (unasked prove rules p none) ∙ ap reduce_balanced (append-nil (listed a b)) ∙ two_joined a b))
+    (answer_is (λ (o : Option (Tree Place)). o ≡ either_of (binary Or) a b) r m)
 
 -- ---- a BETWEEN
 
-module _ (rules : List OwnRule) (o : BetweenOptions) (x l u : Tree Place) where
+module _ (side : Side) (rules : List OwnRule) (o : BetweenOptions) (x l u : Tree Place) where
   abbrev and_of : Ends → Tree Place
   and_of e = halves e.options x e.lower e.upper
 
-  ends_none : (es : Option Ends) → None ≡ option_map and_of es → Some (bool_literal true) ≡ ends_node rules x es
+  ends_none : (es : Option Ends) → None ≡ option_map and_of es → empty_proof side ≡ ends_node side rules x es
   ends_none None h = refl
   ends_none (Some e) h = cc
 
-  end_node : (s : StrictComparison) (l r : Tree Place) (f g : Option (Tree Place)) → binary_node rules (to_operator s) l r f g ≡ binary_node rules (to_operator s) l r None None
+  end_node : (s : StrictComparison) (l r : Tree Place) (f g : Option (Tree Place)) → binary_node side rules (to_operator s) l r f g ≡ binary_node side rules (to_operator s) l r None None
   end_node Strict l r f g = refl
   end_node NonStrict l r f g = refl
 
-  halves_are : (e : Ends) → falsifier rules (and_of e) ≡ halves_node rules e.options x e.lower e.upper
-  halves_are e = λ i. binary_node rules And (binary (to_operator e.options.lower_strict) e.lower x) (binary (to_operator e.options.upper_strict) x e.upper)
-      (end_node e.options.lower_strict e.lower x (falsifier rules e.lower) (falsifier rules x) i) (end_node e.options.upper_strict x e.upper (falsifier rules x) (falsifier rules e.upper) i)
+  halves_are : (e : Ends) → rewriting side rules (and_of e) ≡ halves_node side rules e.options x e.lower e.upper
+  halves_are e = λ i. binary_node side rules And (binary (to_operator e.options.lower_strict) e.lower x) (binary (to_operator e.options.upper_strict) x e.upper)
+      (end_node e.options.lower_strict e.lower x (rewriting side rules e.lower) (rewriting side rules x) i) (end_node e.options.upper_strict x e.upper (rewriting side rules x) (rewriting side rules e.upper) i)
 
-  ends_some : (h : Tree Place) (es : Option Ends) → Some h ≡ option_map and_of es → falsifier rules h ≡ ends_node rules x es
+  ends_some : (h : Tree Place) (es : Option Ends) → Some h ≡ option_map and_of es → rewriting side rules h ≡ ends_node side rules x es
   ends_some h None e = cc
-  ends_some h (Some f) e = ap (falsifier rules) (same_Some _ _ e) ∙ halves_are f
+  ends_some h (Some f) e = ap (rewriting side rules) (same_Some _ _ e) ∙ halves_are f
 
   end_visits : (s : StrictComparison) (m n : ℕ) → binary_visits (to_operator s) m n ≡ 1
   end_visits Strict m n = refl
@@ -201,16 +174,16 @@ module _ (rules : List OwnRule) (o : BetweenOptions) (x l u : Tree Place) where
   visits_none (Some f) e = cc
 
   module _ (p : Tree Place) (p_is : p ≡ between o x l u) where
-    pub between_answer : {E : Type 0} (proof : Option (Tree Place)) (built_in : List (Tree Place)) (r : Result (Option (Tree Place)) E) → proof ≡ ends_node rules x (ends o l u) → built_in ≡ option_to_list proof
-        → IfOk r (λ a. a ≡ falsified rules p built_in) → IfOk r (λ a. a ≡ falsifier rules p)
-    between_answer proof built_in r h k =
-        answer_along r (falsified rules p built_in) (falsifier rules p)
-        ((λ i. falsified rules (p_is i) ((k ∙ ap option_to_list h) i)) ∙ sym (ap (falsifier rules) p_is))
+    pub between_answer : {E : Type 0} (proof : Option (Tree Place)) (r : Result (Option (Tree Place)) E) → proof ≡ ends_node side rules x (ends o l u)
+        → IfOk r (λ a. a ≡ proved side rules p (option_to_list proof)) → IfOk r (λ a. a ≡ rewriting side rules p)
+    between_answer proof r h =
+        answer_along r (proved side rules p (option_to_list proof)) (rewriting side rules p)
+        ((λ i. proved side rules (p_is i) (option_to_list (h i))) ∙ sym (ap (rewriting side rules) p_is))
 
-    pub empty_node : None ≡ option_map and_of (ends o l u) → Some (bool_literal true) ≡ ends_node rules x (ends o l u)
+    pub empty_node : None ≡ option_map and_of (ends o l u) → empty_proof side ≡ ends_node side rules x (ends o l u)
     empty_node h = ends_none (ends o l u) h
 
-    pub moved_node : (h : Tree Place) → Some h ≡ option_map and_of (ends o l u) → falsifier rules h ≡ ends_node rules x (ends o l u)
+    pub moved_node : (h : Tree Place) → Some h ≡ option_map and_of (ends o l u) → rewriting side rules h ≡ ends_node side rules x (ends o l u)
     moved_node h e = ends_some h (ends o l u) e
 
     pub empty_visits : None ≡ option_map and_of (ends o l u) → visits p ≡ 1

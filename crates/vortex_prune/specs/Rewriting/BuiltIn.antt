@@ -1,9 +1,11 @@
 -- The built-in proofs of one node, and the functions that the built-in rules are for.
-use Rattle.std.specs.Prelude.{[], Option, Some, None, if◌then◌else◌}
+use Rattle.std.specs.Prelude.{List, [], ◌∷◌, Option, Some, None, option_to_list, if◌then◌else◌}
 use Rattle.std.specs.Ordering.{is_gt}
 use Rattle.vortex_base.specs.declared.types.BetweenOptions.{BetweenOptions}
 use Rattle.vortex_base.specs.declared.types.StrictComparison.{StrictComparison}
 use Rattle.vortex_base.specs.declared.types.StrictComparison.TheVariants.{Strict, NonStrict}
+use Rattle.vortex_base.specs.declared.types.Operator.{Operator}
+use Rattle.vortex_base.specs.declared.types.Operator.TheVariants.{Eq, NotEq, Gt, Gte, Lt, Lte, And, Or}
 use Rattle.vortex_base.specs.declared.pvalue.PValue.{PValue}
 use Rattle.vortex_base.specs.declared.types.ScalarFnId.{ScalarFnId}
 use Rattle.vortex_base.specs.declared.types.ScalarFnId.TheVariants as function
@@ -32,6 +34,24 @@ ordered_ends None q = None
 abbrev pub ends_from : BetweenOptions × Tree Place × Tree Place → Ends
 ends_from e = record { options = e.0; lower = e.1; upper = e.2 }
 
+-- the proofs that are there, of two
+abbrev pub listed : Option (Tree Place) → Option (Tree Place) → List (Tree Place)
+listed p None = option_to_list p
+listed None (Some q) = q ∷ []
+listed (Some p) (Some q) = p ∷ q ∷ []
+
+-- the comparison that holds of two values where this one doesn't; a connective stays
+abbrev pub opposite : Operator → Operator
+opposite Eq = NotEq
+opposite NotEq = Eq
+opposite Gt = Lte
+opposite Gte = Lt
+opposite Lt = Gte
+opposite Lte = Gt
+opposite And = And
+opposite Or = Or
+
+-- the function whose nodes a rule is for
 abbrev pub function_of : BuiltinRule → ScalarFnId
 function_of rule.LiteralStatsRewrite = function.Literal
 function_of rule.BinaryNanCountStatsRewrite = function.Binary

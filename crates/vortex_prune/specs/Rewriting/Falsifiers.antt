@@ -1,5 +1,5 @@
--- The tables of rewriting: which proof the built-in rules have for a predicate, and how the proofs of a user's rules join them.
-use Rattle.std.specs.Prelude.{ℕ, zero, suc, ◌+◌, ℤ, pos, ◌+ℤ◌, ◌-ℤ◌, int_le, ◌&&◌, Bool, true, false, not as not_b, List, [], ◌∷◌, ◌++◌, length, Option, Some, None, option_to_list, is_none, encode_utf8_all, if◌then◌else◌}
+-- The tables of rewriting: which proofs the built-in rules have for a predicate, and how the proofs of a user's rules join them.
+use Rattle.std.specs.Prelude.{ℕ, zero, suc, ◌+◌, ℤ, pos, ◌+ℤ◌, ◌-ℤ◌, int_le, ◌&&◌, ◌||◌, Bool, true, false, not as not_b, List, [], ◌∷◌, ◌++◌, length, Option, Some, None, option_map, option_to_list, is_none, encode_utf8_all, if◌then◌else◌}
 use Rattle.std.specs.List.{filter_map}
 use Rattle.std.specs.Ordering.{is_eq, is_gt}
 use Rattle.std.specs.Result.{is_ok}
@@ -32,6 +32,9 @@ use Rattle.vortex_base.specs.Trees.Tree.{Tree, Place, column, literal, binary, b
 use Rattle.vortex_base.specs.Meanings.Typing.{type_of}
 use Rattle.vortex_base.specs.Data.Values.{number_of, value_cmp}
 use Rattle.vortex_prune.specs.Rewriting.Lawful.{OwnRule}
+use Rattle.vortex_prune.specs.Rewriting.Sides.{proof_of}
+use Rattle.vortex_prune.specs.declared.rewrite.side.Side.{Side}
+use Rattle.vortex_prune.specs.declared.rewrite.side.Side.TheVariants.{Falsify, Satisfy}
 
 -- ---- the parts of proofs
 
@@ -102,6 +105,26 @@ comparison_falsifier Lte l r = both_of (binary Gt) (min_of l) (max_of r)
 comparison_falsifier And l r = None
 comparison_falsifier Or l r = None
 
+-- that any two values of the operands compare so
+abbrev pub value_condition : Operator → (l r : Tree Place) → Option (Tree Place)
+value_condition Eq l r = both_of (binary And) (both_of (binary Eq) (min_of l) (max_of r)) (both_of (binary Eq) (max_of l) (min_of r))
+value_condition NotEq l r = both_of (binary Or) (both_of (binary Gt) (min_of l) (max_of r)) (both_of (binary Gt) (min_of r) (max_of l))
+value_condition Gt l r = both_of (binary Gt) (min_of l) (max_of r)
+value_condition Gte l r = both_of (binary Gte) (min_of l) (max_of r)
+value_condition Lt l r = both_of (binary Lt) (max_of l) (min_of r)
+value_condition Lte l r = both_of (binary Lte) (max_of l) (min_of r)
+value_condition And l r = None
+value_condition Or l r = None
+
+-- a proof, and that no value of an operand is null; a literal isn't asked, since it's compared itself
+abbrev pub without_nulls : (x : Tree Place) → Tree Place → Tree Place
+without_nulls (literal c) e = e
+without_nulls x e = binary And e (stat AllNonNull x)
+
+-- that every row satisfies a comparison: its values compare so, and neither operand is null
+abbrev pub comparison_satisfier : Operator → (l r : Tree Place) → Option (Tree Place)
+comparison_satisfier o l r = option_map (λ e. without_nulls r (without_nulls l e)) (value_condition o l r)
+
 -- that no row satisfies a literal, and that every row does
 abbrev pub literal_falsifier : Option ScalarValue → Option (Tree Place)
 literal_falsifier (Some (value.Bool b)) = Some (bool_literal (not_b b))
@@ -148,30 +171,51 @@ abbrev pub like_falsifier : LikeOptions → (text pattern : Tree Place) → Opti
 like_falsifier o x (literal c) = pattern_falsifier o x c.value
 like_falsifier o x p = None
 
--- the built-in falsifiers of a node that isn't rewritten any further
+-- the built-in falsifiers of a node that is neither of two operands nor a BETWEEN
 abbrev pub table_falsifiers : Tree Place → List (Tree Place)
-table_falsifiers (column c) = []
 table_falsifiers (literal c) = option_to_list (literal_falsifier c.value)
-table_falsifiers (binary o l r) = option_to_list (comparison_falsifier o l r)
-table_falsifiers (between o x l u) = []
 table_falsifiers (is_null x) = none_null x
 table_falsifiers (is_not_null x) = every_null x
-table_falsifiers (not x) = []
 table_falsifiers (like o x p) = option_to_list (like_falsifier o x p)
-table_falsifiers (stat f x) = []
-table_falsifiers row_count = []
+table_falsifiers e = []
 
+-- and its satisfiers
 abbrev pub table_satisfiers : Tree Place → List (Tree Place)
-table_satisfiers (column c) = []
 table_satisfiers (literal c) = option_to_list (literal_satisfier c.value)
-table_satisfiers (binary o l r) = []
-table_satisfiers (between o x l u) = []
 table_satisfiers (is_null x) = every_null x
 table_satisfiers (is_not_null x) = none_null x
-table_satisfiers (not x) = []
-table_satisfiers (like o x p) = []
-table_satisfiers (stat f x) = []
-table_satisfiers row_count = []
+table_satisfiers e = []
+
+-- ---- the tables by what is to be proved: that no row satisfies the predicate, or that every row does
+
+abbrev pub comparison_proof : Side → Operator → (l r : Tree Place) → Option (Tree Place)
+comparison_proof Falsify o l r = comparison_falsifier o l r
+comparison_proof Satisfy o l r = comparison_satisfier o l r
+
+abbrev pub table_proofs : Side → Tree Place → List (Tree Place)
+table_proofs Falsify e = table_falsifiers e
+table_proofs Satisfy e = table_satisfiers e
+
+-- AND is falsified by either of its sides, and satisfied by both
+abbrev pub and_proof : Side → Option (Tree Place) → Option (Tree Place) → Option (Tree Place)
+and_proof Falsify f g = either_of (binary Or) f g
+and_proof Satisfy f g = both_of (binary And) f g
+
+-- OR is falsified by both of its sides, and satisfied by either
+abbrev pub or_proof : Side → Option (Tree Place) → Option (Tree Place) → Option (Tree Place)
+or_proof Falsify f g = both_of (binary And) f g
+or_proof Satisfy f g = either_of (binary Or) f g
+
+-- a connective by the proofs of its sides, and a comparison by its operands
+abbrev pub of_sides : Side → Operator → (l r : Tree Place) → Option (Tree Place) → Option (Tree Place) → Option (Tree Place)
+of_sides side And l r f g = and_proof side f g
+of_sides side Or l r f g = or_proof side f g
+of_sides side o l r f g = comparison_proof side o l r
+
+-- a BETWEEN whose ends leave no value between: no row satisfies it
+abbrev pub empty_proof : Side → Option (Tree Place)
+empty_proof Falsify = Some (bool_literal true)
+empty_proof Satisfy = None
 
 -- ---- joining the proofs at a node
 
@@ -196,6 +240,11 @@ reduce_balanced ps = rounds (length ps) ps
 abbrev pub is_function : Option ScalarFnId → ScalarFnId → Bool
 is_function None id = false
 is_function (Some f) id = functions.ghosts.eq f id
+
+-- some rule is asked there
+abbrev pub is_asked : List OwnRule → Tree Place → Bool
+is_asked [] p = false
+is_asked (rule ∷ rules) p = is_function (scalar_fn_of p) rule.id || is_asked rules p
 
 -- what one rule proves
 abbrev pub asked : (OwnRule → Tree Place → Option (Tree Place)) → Tree Place → OwnRule → Option (Tree Place)
@@ -267,63 +316,52 @@ abbrev pub ends : BetweenOptions → (lower upper : Tree Place) → Option Ends
 ends o (literal c) (literal d) = literal_ends o c d c.value d.value
 ends o l u = Some (record { options = o; lower = l; upper = u })
 
--- ---- falsifiers
+-- ---- proofs
 
-abbrev pub falsified : List OwnRule → Tree Place → List (Tree Place) → Option (Tree Place)
-falsified rules p built_in = node (λ rule. rule.falsifier) rules p built_in
+-- the built-in proofs of a node, and then those of the user's rules, joined
+abbrev pub proved : Side → List OwnRule → Tree Place → List (Tree Place) → Option (Tree Place)
+proved side rules p built_in = node (proof_of side) rules p built_in
 
--- a connective from the falsifiers of its sides, and a comparison from its operands
-abbrev pub binary_node : List OwnRule → Operator → (l r : Tree Place) → Option (Tree Place) → Option (Tree Place) → Option (Tree Place)
-binary_node rules And l r f g = falsified rules (binary And l r) (option_to_list (either_of (binary Or) f g))
-binary_node rules Or l r f g = falsified rules (binary Or l r) (option_to_list (both_of (binary And) f g))
-binary_node rules o l r f g = falsified rules (binary o l r) (table_falsifiers (binary o l r))
+-- a node of two operands, whose own proofs are given
+abbrev pub binary_node : Side → List OwnRule → Operator → (l r : Tree Place) → Option (Tree Place) → Option (Tree Place) → Option (Tree Place)
+binary_node side rules o l r f g = proved side rules (binary o l r) (option_to_list (of_sides side o l r f g))
 
 -- the AND of the two comparisons that a BETWEEN stands for
 abbrev pub halves : BetweenOptions → (x lower upper : Tree Place) → Tree Place
 halves o x l u = binary And (binary (to_operator o.lower_strict) l x) (binary (to_operator o.upper_strict) x u)
 
--- its falsifier
-abbrev pub halves_node : List OwnRule → BetweenOptions → (x lower upper : Tree Place) → Option (Tree Place)
-halves_node rules o x l u =
-    binary_node rules And (binary (to_operator o.lower_strict) l x) (binary (to_operator o.upper_strict) x u)
-    (binary_node rules (to_operator o.lower_strict) l x None None)
-    (binary_node rules (to_operator o.upper_strict) x u None None)
+-- its proof
+abbrev pub halves_node : Side → List OwnRule → BetweenOptions → (x lower upper : Tree Place) → Option (Tree Place)
+halves_node side rules o x l u =
+    binary_node side rules And (binary (to_operator o.lower_strict) l x) (binary (to_operator o.upper_strict) x u)
+    (binary_node side rules (to_operator o.lower_strict) l x None None)
+    (binary_node side rules (to_operator o.upper_strict) x u None None)
 
--- the falsifier of the AND for a BETWEEN's ends; without ends it's always false
-abbrev pub ends_node : List OwnRule → (x : Tree Place) → Option Ends → Option (Tree Place)
-ends_node rules x None = Some (bool_literal true)
-ends_node rules x (Some e) = halves_node rules e.options x e.lower e.upper
+-- the proof of the AND for a BETWEEN's ends
+abbrev pub ends_node : Side → List OwnRule → (x : Tree Place) → Option Ends → Option (Tree Place)
+ends_node side rules x None = empty_proof side
+ends_node side rules x (Some e) = halves_node side rules e.options x e.lower e.upper
 
--- the proof that no row satisfies a predicate, if there is one
+-- the proof of a predicate, if there is one
+abbrev pub rewriting : Side → List OwnRule → Tree Place → Option (Tree Place)
+rewriting side rules (column c) = None
+rewriting side rules (literal c) = proved side rules (literal c) (table_proofs side (literal c))
+rewriting side rules (binary o l r) = binary_node side rules o l r (rewriting side rules l) (rewriting side rules r)
+rewriting side rules (between o x l u) = proved side rules (between o x l u) (option_to_list (ends_node side rules x (ends o l u)))
+rewriting side rules (is_null x) = proved side rules (is_null x) (table_proofs side (is_null x))
+rewriting side rules (is_not_null x) = proved side rules (is_not_null x) (table_proofs side (is_not_null x))
+rewriting side rules (not x) = proved side rules (not x) (table_proofs side (not x))
+rewriting side rules (like o x p) = proved side rules (like o x p) (table_proofs side (like o x p))
+rewriting side rules (stat f x) = proved side rules (stat f x) (table_proofs side (stat f x))
+rewriting side rules row_count = proved side rules row_count (table_proofs side row_count)
+
+-- the proof that no row satisfies a predicate
 abbrev pub falsifier : List OwnRule → Tree Place → Option (Tree Place)
-falsifier rules (column c) = None
-falsifier rules (literal c) = falsified rules (literal c) (table_falsifiers (literal c))
-falsifier rules (binary o l r) = binary_node rules o l r (falsifier rules l) (falsifier rules r)
-falsifier rules (between o x l u) = falsified rules (between o x l u) (option_to_list (ends_node rules x (ends o l u)))
-falsifier rules (is_null x) = falsified rules (is_null x) (table_falsifiers (is_null x))
-falsifier rules (is_not_null x) = falsified rules (is_not_null x) (table_falsifiers (is_not_null x))
-falsifier rules (not x) = falsified rules (not x) (table_falsifiers (not x))
-falsifier rules (like o x p) = falsified rules (like o x p) (table_falsifiers (like o x p))
-falsifier rules (stat f x) = falsified rules (stat f x) (table_falsifiers (stat f x))
-falsifier rules row_count = falsified rules row_count (table_falsifiers row_count)
+falsifier rules p = rewriting Falsify rules p
 
--- ---- satisfiers
-
-abbrev pub satisfied : List OwnRule → Tree Place → List (Tree Place) → Option (Tree Place)
-satisfied rules p built_in = node (λ rule. rule.satisfier) rules p built_in
-
--- the proof that every row satisfies a predicate, if there is one; only the rules of the node itself are asked
+-- and that every row does
 abbrev pub satisfier : List OwnRule → Tree Place → Option (Tree Place)
-satisfier rules (column c) = None
-satisfier rules (literal c) = satisfied rules (literal c) (table_satisfiers (literal c))
-satisfier rules (binary o l r) = satisfied rules (binary o l r) (table_satisfiers (binary o l r))
-satisfier rules (between o x l u) = satisfied rules (between o x l u) (table_satisfiers (between o x l u))
-satisfier rules (is_null x) = satisfied rules (is_null x) (table_satisfiers (is_null x))
-satisfier rules (is_not_null x) = satisfied rules (is_not_null x) (table_satisfiers (is_not_null x))
-satisfier rules (not x) = satisfied rules (not x) (table_satisfiers (not x))
-satisfier rules (like o x p) = satisfied rules (like o x p) (table_satisfiers (like o x p))
-satisfier rules (stat f x) = satisfied rules (stat f x) (table_satisfiers (stat f x))
-satisfier rules row_count = satisfied rules row_count (table_satisfiers row_count)
+satisfier rules p = rewriting Satisfy rules p
 
 -- ---- visits: the turns of the engine
 

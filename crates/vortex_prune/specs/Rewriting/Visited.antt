@@ -1,4 +1,4 @@
--- The nodes at which the rules are asked for a proof that no row satisfies a predicate.
+-- The nodes at which the rules are asked for a proof of a predicate, that no row satisfies it or that every row does.
 use Rattle.std.specs.Prelude.{List, [], ◌∷◌, ◌++◌, Option, Some, None}
 use Rattle.vortex_base.specs.declared.types.Operator.{Operator}
 use Rattle.vortex_base.specs.declared.types.Operator.TheVariants.{And, Or}

@@ -1,5 +1,5 @@
 -- What may cause the refusal of a scan, and what an answered one has bound.
-use Rattle.std.specs.Prelude.{◌≡◌, ◌⊎◌, ℕ, Bool, true, false, All, Any, Contains, List, [], ◌∷◌, Option, Some, None, IfSome, IsSomeAnd, IsTrue, slice_get}
+use Rattle.std.specs.Prelude.{◌≡◌, ◌⊎◌, ℕ, Bool, true, false, All, Any, Contains, List, Option, Some, None, IfSome, IsSomeAnd, IsTrue, slice_get}
 use Rattle.vortex_base.specs.declared.dtype.DType.{DType}
 use Rattle.vortex_base.specs.Trees.Tree.{Tree, Place, has_bare_column}
 use Rattle.vortex_prune.specs.Binding.Binders.{BinderAnswer}
@@ -49,14 +49,10 @@ is_open (Some e) = has_bare_column e
 abbrev pub if_faithful : (proof : Option (Tree Place)) → Causes → Causes
 if_faithful proof causes = record causes { wrong_type = ⊥; open_proof = is_open proof ≡ true }
 
--- the nodes at which the rules are asked for a satisfier
-abbrev pub satisfier_nodes : Tree Place → List (Tree Place)
-satisfier_nodes p = p ∷ []
-
 -- what a scan may be refused for: what its rules cause at the nodes that are visited, and what comes of asking for the falsifier and for the satisfier
 abbrev pub causes_by : (asked : Option (Tree Place) → Causes) → List OwnRule → Tree Place → Causes
 causes_by asked rules p =
-    either_causes (either_causes (rule_causes (λ rule. rule.falsifier) rules (visited p)) (rule_causes (λ rule. rule.satisfier) rules (satisfier_nodes p)))
+    either_causes (either_causes (rule_causes (λ rule. rule.falsifier) rules (visited p)) (rule_causes (λ rule. rule.satisfier) rules (visited p)))
     (either_causes (asked (falsifier rules p)) (asked (satisfier rules p)))
 
 module _ {S : Type 0} (answer : S → BinderAnswer) (IsMissing : S → DType → Tree Place → Type 0) (can_fault : S → ℕ → Bool) where

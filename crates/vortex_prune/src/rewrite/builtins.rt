@@ -1,16 +1,18 @@
 //! The built-in proofs of one node.
-ghost use Rattle.std.specs.Prelude.{◌≡◌, ◌∷◌, [], option_to_list};
-ghost use Rattle.vortex_prune.specs.Rewriting.Falsifiers.{every_null, literal_falsifier, literal_satisfier, none_null, table_falsifiers as falsifiers_of, table_satisfiers as satisfiers_of};
+ghost use Rattle.std.specs.Prelude.{◌≡◌};
+ghost use Rattle.vortex_prune.specs.Rewriting.BuiltIn.{listed};
+ghost use Rattle.vortex_prune.specs.Rewriting.Falsifiers.{and_proof as and_proof_of, empty_proof as empty_proof_of, every_null, literal_falsifier, literal_satisfier, none_null, or_proof as or_proof_of, table_falsifiers as falsifiers_of, table_proofs as table_proofs_of, table_satisfiers as satisfiers_of};
 ghost use Rattle.vortex_prune.specs.Answers.{Makes, OkOrMemory};
 
 pub(crate) mod between;
 pub(crate) mod comparison;
 mod like;
 
-use crate::rewrite::builtins::comparison::comparison_proof;
+use crate::rewrite::builtins::comparison::{both_joined, either_joined};
 use crate::rewrite::builtins::like::like_proof;
 use crate::rewrite::nodes::{count_literal, null_count, row_count};
-use crate::rewrite::proof::{Proof, push_some};
+use crate::rewrite::proof::Proof;
+use crate::rewrite::side::Side;
 use std::alloc::Global;
 use vortex_base::aggregate::AggregateFnRef;
 use vortex_base::bound_expression::BoundExpression;
@@ -20,22 +22,47 @@ use vortex_base::scalar_value::ScalarValue;
 use vortex_base::types::Operator;
 use vortex_stats::error::StatsError;
 
-/// The list of a proof, if there is one.
-pub(crate) fn at_most_one(alloc: Global, proof: Option<Proof>) -> Result<Vec<Proof>, StatsError>
-    ensures { OkOrMemory result (λ v. v.items ≡ option_to_list proof) }
+/// The built-in proofs of one node, which are two at the most.
+pub(crate) type BuiltIn = (Option<Proof>, Option<Proof>);
+
+/// A proof of AND by the proofs of its sides: it is falsified by either, and satisfied by both.
+pub(crate) fn and_proof(
+    alloc: Global,
+    side: Side,
+    left: Option<Proof>,
+    right: Option<Proof>,
+) -> Result<Option<Proof>, StatsError>
+    ensures { Makes (and_proof_of side left right) result }
 {
-    let mut proofs = Vec::new(alloc);
-    push_some(&mut proofs, proof)?;
-    Ok(proofs)
+    match side {
+        Side::Falsify => either_joined(alloc, Operator::Or, left, right),
+        Side::Satisfy => both_joined(alloc, Operator::And, left, right),
+    }
 }
 
-fn pair(alloc: Global, first: Proof, second: Proof) -> Result<Vec<Proof>, StatsError>
-    ensures { OkOrMemory result (λ v. v.items ≡ first ∷ second ∷ []) }
+/// A proof of OR by the proofs of its sides: it is falsified by both, and satisfied by either.
+pub(crate) fn or_proof(
+    alloc: Global,
+    side: Side,
+    left: Option<Proof>,
+    right: Option<Proof>,
+) -> Result<Option<Proof>, StatsError>
+    ensures { Makes (or_proof_of side left right) result }
 {
-    let mut proofs = Vec::new(alloc);
-    proofs.push(first)?;
-    proofs.push(second)?;
-    Ok(proofs)
+    match side {
+        Side::Falsify => both_joined(alloc, Operator::And, left, right),
+        Side::Satisfy => either_joined(alloc, Operator::Or, left, right),
+    }
+}
+
+/// The proof of a BETWEEN whose ends leave no value between: no row satisfies it.
+pub(crate) fn empty_proof(alloc: Global, side: Side) -> Result<Option<Proof>, StatsError>
+    ensures { Makes (empty_proof_of side) result }
+{
+    match side {
+        Side::Falsify => Ok(Some(Proof::truth(alloc, true)?)),
+        Side::Satisfy => Ok(None),
+    }
 }
 
 /// That no row satisfies a literal.
@@ -59,59 +86,57 @@ fn literal_satisfier(alloc: Global, value: &Scalar) -> Result<Option<Proof>, Sta
 }
 
 /// That no value of an operand is null, in two ways.
-fn none_null(alloc: Global, x: &BoundExpression) -> Result<Vec<Proof>, StatsError>
-    ensures { OkOrMemory result (λ v. v.items ≡ none_null x.now) }
+fn none_null(alloc: Global, x: &BoundExpression) -> Result<BuiltIn, StatsError>
+    ensures { OkOrMemory result (λ b. listed b.0 b.1 ≡ none_null x.now) }
 {
     let _typed = x.dtype();
     let count = null_count(alloc, x)?;
     let zero = count_literal(alloc, 0)?;
     let by_count = Proof::binary(alloc, Operator::Eq, count, zero)?;
     let by_test = Proof::stat(alloc, AggregateFnRef::AllNonNull, x)?;
-    pair(alloc, by_count, by_test)
+    Ok((Some(by_count), Some(by_test)))
 }
 
 /// That every value of an operand is null, in two ways.
-fn every_null(alloc: Global, x: &BoundExpression) -> Result<Vec<Proof>, StatsError>
-    ensures { OkOrMemory result (λ v. v.items ≡ every_null x.now) }
+fn every_null(alloc: Global, x: &BoundExpression) -> Result<BuiltIn, StatsError>
+    ensures { OkOrMemory result (λ b. listed b.0 b.1 ≡ every_null x.now) }
 {
     let _typed = x.dtype();
     let count = null_count(alloc, x)?;
     let rows = row_count(alloc)?;
     let by_count = Proof::binary(alloc, Operator::Eq, count, rows)?;
     let by_test = Proof::stat(alloc, AggregateFnRef::AllNull, x)?;
-    pair(alloc, by_count, by_test)
+    Ok((Some(by_count), Some(by_test)))
 }
 
-/// The built-in proofs that no row satisfies an expression, but for AND, OR and BETWEEN, which are
-/// rewritten further.
-pub(crate) fn table_falsifiers(alloc: Global, e: &BoundExpression) -> Result<Vec<Proof>, StatsError>
-    ensures { OkOrMemory result (λ v. v.items ≡ falsifiers_of e.now) }
+/// The built-in proofs that no row satisfies an expression that has neither two operands to compare
+/// or connect nor ends.
+fn table_falsifiers(alloc: Global, e: &BoundExpression) -> Result<BuiltIn, StatsError>
+    ensures { OkOrMemory result (λ b. listed b.0 b.1 ≡ falsifiers_of e.now) }
 {
     let _typed = e.dtype();
     match e.parts() {
-        Parts::Literal(value) => at_most_one(alloc, literal_falsifier(alloc, value)?),
-        Parts::Binary(operator, left, right) => {
-            at_most_one(alloc, comparison_proof(alloc, operator, left, right)?)
-        }
+        Parts::Literal(value) => Ok((literal_falsifier(alloc, value)?, None)),
         Parts::IsNull(x) => none_null(alloc, x),
         Parts::IsNotNull(x) => every_null(alloc, x),
         Parts::Like(options, text, pattern) => {
-            at_most_one(alloc, like_proof(alloc, options, text, pattern)?)
+            Ok((like_proof(alloc, options, text, pattern)?, None))
         }
         Parts::Column(_, _)
+        | Parts::Binary(_, _, _)
         | Parts::Between(_, _, _, _)
         | Parts::Not(_)
         | Parts::Stat(_, _)
-        | Parts::RowCount => Ok(Vec::new(alloc)),
+        | Parts::RowCount => Ok((None, None)),
     }
 }
 
-/// The built-in proofs that every row satisfies an expression.
-pub(crate) fn table_satisfiers(alloc: Global, e: &BoundExpression) -> Result<Vec<Proof>, StatsError>
-    ensures { OkOrMemory result (λ v. v.items ≡ satisfiers_of e.now) }
+/// The built-in proofs that every row satisfies such an expression.
+fn table_satisfiers(alloc: Global, e: &BoundExpression) -> Result<BuiltIn, StatsError>
+    ensures { OkOrMemory result (λ b. listed b.0 b.1 ≡ satisfiers_of e.now) }
 {
     match e.parts() {
-        Parts::Literal(value) => at_most_one(alloc, literal_satisfier(alloc, value)?),
+        Parts::Literal(value) => Ok((literal_satisfier(alloc, value)?, None)),
         Parts::IsNull(x) => every_null(alloc, x),
         Parts::IsNotNull(x) => none_null(alloc, x),
         Parts::Column(_, _)
@@ -120,6 +145,21 @@ pub(crate) fn table_satisfiers(alloc: Global, e: &BoundExpression) -> Result<Vec
         | Parts::Not(_)
         | Parts::Like(_, _, _)
         | Parts::Stat(_, _)
-        | Parts::RowCount => Ok(Vec::new(alloc)),
+        | Parts::RowCount => Ok((None, None)),
+    }
+}
+
+/// The built-in proofs of an expression that has neither two operands to compare or connect nor
+/// ends.
+pub(crate) fn table_proofs(
+    alloc: Global,
+    side: Side,
+    e: &BoundExpression,
+) -> Result<BuiltIn, StatsError>
+    ensures { OkOrMemory result (λ b. listed b.0 b.1 ≡ table_proofs_of side e.now) }
+{
+    match side {
+        Side::Falsify => table_falsifiers(alloc, e),
+        Side::Satisfy => table_satisfiers(alloc, e),
     }
 }

@@ -1,10 +1,11 @@
 //! The engine: it rewrites a predicate into a proof, node by node.
-ghost use Rattle.std.specs.Prelude.{◌≡◌, ◌+◌, ◌-◌, ◌^◌, ◌∷◌, [], min, IfErr, IfOk, IsOk, option_map, option_to_list};
+ghost use Rattle.std.specs.Prelude.{◌≡◌, ◌+◌, ◌-◌, ◌^◌, ◌∷◌, [], min, IfErr, IfOk, IsOk, option_map};
 ghost use Rattle.vortex_base.specs.Trees.Tree as tree;
 ghost use Rattle.vortex_base.specs.Meanings.Typing.{type_of};
 ghost use Rattle.vortex_prune.specs.Scanning.Causes.{IsRefusal};
 ghost use Rattle.vortex_prune.specs.Rewriting.Own.{own_rules};
-ghost use Rattle.vortex_prune.specs.Rewriting.Falsifiers.{ends as ends_of, falsifier as falsifier_of, halves as halves_of, node as node_of, satisfier as satisfier_of, visits as visits_of};
+ghost use Rattle.vortex_prune.specs.Rewriting.BuiltIn.{listed};
+ghost use Rattle.vortex_prune.specs.Rewriting.Falsifiers.{ends as ends_of, halves as halves_of, proved, rewriting, visits as visits_of};
 ghost use Rattle.vortex_prune.specs.Rewriting.RuleRefusals.{rule_causes};
 ghost use Rattle.vortex_prune.specs.Rewriting.Sides.{proof_of};
 ghost use Rattle.vortex_prune.specs.Rewriting.Visited.{visited};
@@ -12,60 +13,44 @@ ghost use Rattle.vortex_prune.specs.Answers.{Makes};
 
 use crate::built::cloned;
 use crate::rewrite::builtins::between::ends;
-use crate::rewrite::builtins::comparison::{both_joined, comparison_proof, either_joined};
-use crate::rewrite::builtins::{at_most_one, table_falsifiers, table_satisfiers};
-use crate::rewrite::proof::Proof;
+use crate::rewrite::builtins::comparison::{comparison_proof, either_joined};
+use crate::rewrite::builtins::{BuiltIn, and_proof, empty_proof, or_proof, table_proofs};
+use crate::rewrite::proof::{Proof, push_some};
 use crate::rewrite::reduce::reduce_balanced;
 use crate::rewrite::rule::StatsRewriteRule;
 use crate::rewrite::rules::Rules;
 use crate::rewrite::side::Side;
-use crate::rewrite::user_rules::ask_own;
+use crate::rewrite::user_rules::{ask_own, is_asked};
 use std::alloc::Global;
 use vortex_base::bound_expression::BoundExpression;
 use vortex_base::bound_expression::parts::Parts;
 use vortex_base::types::{BetweenOptions, Operator};
 use vortex_stats::error::StatsError;
 
-/// The proof at one node: the built-in ones and then those of the user's rules, joined.
+/// The proof at one node: the built-in ones and then those of the user's rules, joined. Where no
+/// rule of the user is asked no list is made.
 fn node(
     alloc: Global,
     side: Side,
     rules: &Rules,
     e: &BoundExpression,
-    built_in: Vec<Proof>,
+    built_in: BuiltIn,
 ) -> Result<Option<Proof>, StatsError>
     ensures answer { let own =
         own_rules ⟦<dyn StatsRewriteRule as StatsRewriteRule>⟧ rules.now.own.items in
-        IfOk result (λ o. o ≡ node_of (proof_of side) own e.now built_in.items) }
+        IfOk result (λ o. o ≡ proved side own e.now (listed built_in.0 built_in.1)) }
     ensures refusal { let own =
         own_rules ⟦<dyn StatsRewriteRule as StatsRewriteRule>⟧ rules.now.own.items in
         IfErr result (IsRefusal (rule_causes (proof_of side) own (e.now ∷ []))) }
 {
-    let mut proofs = built_in;
+    if !is_asked(rules, e) {
+        return either_joined(alloc, Operator::Or, built_in.0, built_in.1);
+    }
+    let mut proofs = Vec::new(alloc);
+    push_some(&mut proofs, built_in.0)?;
+    push_some(&mut proofs, built_in.1)?;
     ask_own(alloc, side, rules, e, &mut proofs)?;
     reduce_balanced(alloc, proofs)
-}
-
-/// The same, of one built-in proof at the most. Where the user has no rules it is the answer, and
-/// no list is made.
-fn node_of_one(
-    alloc: Global,
-    side: Side,
-    rules: &Rules,
-    e: &BoundExpression,
-    built_in: Option<Proof>,
-) -> Result<Option<Proof>, StatsError>
-    ensures answer { let own =
-        own_rules ⟦<dyn StatsRewriteRule as StatsRewriteRule>⟧ rules.now.own.items in
-        IfOk result (λ o. o ≡ node_of (proof_of side) own e.now (option_to_list built_in)) }
-    ensures refusal { let own =
-        own_rules ⟦<dyn StatsRewriteRule as StatsRewriteRule>⟧ rules.now.own.items in
-        IfErr result (IsRefusal (rule_causes (proof_of side) own (e.now ∷ []))) }
-{
-    if rules.own.is_empty() {
-        return Ok(built_in);
-    }
-    node(alloc, side, rules, e, at_most_one(alloc, built_in)?)
 }
 
 /// The AND of the two comparisons that a BETWEEN stands for.
@@ -115,68 +100,53 @@ fn halves(
     }
 }
 
-/// The proof that no row satisfies an expression, if there is one. Each call is a turn, and is
-/// counted as it begins.
+/// The proof of an expression, that no row satisfies it or that every row does, if there is one.
+/// Each call is a turn, and is counted as it begins.
 pub(crate) fn rewrite_node(
     alloc: Global,
+    side: Side,
     rules: &Rules,
     e: &BoundExpression,
     visits: &mut u64,
 ) -> Result<Option<Proof>, StatsError>
     ensures answer { let own =
         own_rules ⟦<dyn StatsRewriteRule as StatsRewriteRule>⟧ rules.now.own.items in
-        IfOk result (λ o. o ≡ falsifier_of own e.now) }
+        IfOk result (λ o. o ≡ rewriting side own e.now) }
     ensures visits { IfOk result (λ _.
         visits.new ≡ min (visits.old + visits_of e.now) (2 ^ 64 - 1)) }
     ensures refusal { let own =
         own_rules ⟦<dyn StatsRewriteRule as StatsRewriteRule>⟧ rules.now.own.items in
-        IfErr result (IsRefusal (rule_causes (proof_of Side.Falsify) own (visited e.now))) }
+        IfErr result (IsRefusal (rule_causes (proof_of side) own (visited e.now))) }
 {
     *visits = visits.saturating_add(1);
     let _typed = e.dtype();
     match e.parts() {
         Parts::Binary(operator, left, right) => match operator {
             Operator::And => {
-                let left = rewrite_node(alloc, rules, left, visits)?;
-                let right = rewrite_node(alloc, rules, right, visits)?;
-                let joined = either_joined(alloc, Operator::Or, left, right)?;
-                node_of_one(alloc, Side::Falsify, rules, e, joined)
+                let left = rewrite_node(alloc, side, rules, left, visits)?;
+                let right = rewrite_node(alloc, side, rules, right, visits)?;
+                let joined = and_proof(alloc, side, left, right)?;
+                node(alloc, side, rules, e, (joined, None))
             }
             Operator::Or => {
-                let left = rewrite_node(alloc, rules, left, visits)?;
-                let right = rewrite_node(alloc, rules, right, visits)?;
-                let joined = both_joined(alloc, Operator::And, left, right)?;
-                node_of_one(alloc, Side::Falsify, rules, e, joined)
+                let left = rewrite_node(alloc, side, rules, left, visits)?;
+                let right = rewrite_node(alloc, side, rules, right, visits)?;
+                let joined = or_proof(alloc, side, left, right)?;
+                node(alloc, side, rules, e, (joined, None))
             }
             _ => {
-                let compared = comparison_proof(alloc, operator, left, right)?;
-                node_of_one(alloc, Side::Falsify, rules, e, compared)
+                let compared = comparison_proof(alloc, side, operator, left, right)?;
+                node(alloc, side, rules, e, (compared, None))
             }
         },
         Parts::Between(options, x, lower, upper) => {
             let halves = halves(alloc, options, x, lower, upper)?;
             let proof = match halves {
-                None => Some(Proof::truth(alloc, true)?),
-                Some(halves) => rewrite_node(alloc, rules, &halves, visits)?,
+                None => empty_proof(alloc, side)?,
+                Some(halves) => rewrite_node(alloc, side, rules, &halves, visits)?,
             };
-            node(alloc, Side::Falsify, rules, e, at_most_one(alloc, proof)?)
+            node(alloc, side, rules, e, (proof, None))
         }
-        _ => node(alloc, Side::Falsify, rules, e, table_falsifiers(alloc, e)?),
+        _ => node(alloc, side, rules, e, table_proofs(alloc, side, e)?),
     }
-}
-
-/// The proof that every row satisfies an expression, if there is one.
-pub(crate) fn satisfy_node(
-    alloc: Global,
-    rules: &Rules,
-    e: &BoundExpression,
-) -> Result<Option<Proof>, StatsError>
-    ensures answer { let own =
-        own_rules ⟦<dyn StatsRewriteRule as StatsRewriteRule>⟧ rules.now.own.items in
-        IfOk result (λ o. o ≡ satisfier_of own e.now) }
-    ensures refusal { let own =
-        own_rules ⟦<dyn StatsRewriteRule as StatsRewriteRule>⟧ rules.now.own.items in
-        IfErr result (IsRefusal (rule_causes (proof_of Side.Satisfy) own (e.now ∷ []))) }
-{
-    node(alloc, Side::Satisfy, rules, e, table_satisfiers(alloc, e)?)
 }

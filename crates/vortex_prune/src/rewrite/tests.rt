@@ -12,6 +12,7 @@ use vortex_base::types::{BetweenOptions, Nullability, PType, StrictComparison};
 
 mod ends;
 mod own;
+mod satisfiers;
 
 const I32: DType = DType::Primitive(PType::I32, Nullability::NonNullable);
 
@@ -444,6 +445,8 @@ fn deep_predicates_fit_the_stack(rt: HostRuntime) -> Result<(), Fail> {
     let (proof, visits) = counted(alloc, &deep_and(alloc)?, &rules)?;
     assert!(rt; proof.is_some());
     assert!(rt; visits == 8193);
+    let proof = satisfied(alloc, &deep_and(alloc)?, &rules)?;
+    assert!(rt; proof.is_some());
     Ok(())
 }
 
@@ -462,6 +465,10 @@ fn rewriting_is_refused_for_memory_alone(rt: HostRuntime) {
     };
     match counted(alloc, &chain, &rules) {
         Ok((_, visits)) => assert!(rt; visits == 31),
+        refused => assert!(rt; is_memory(refused)),
+    }
+    match satisfied(alloc, &chain, &rules) {
+        Ok(proof) => assert!(rt; proof.is_some()),
         refused => assert!(rt; is_memory(refused)),
     }
     let Ok(null) = is_null(alloc, chain) else {

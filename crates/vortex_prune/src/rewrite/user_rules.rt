@@ -3,7 +3,7 @@ ghost use Rattle.std.specs.Prelude.{◌≡◌, ◌∷◌, ◌++◌, [], IfErr, I
 ghost use Rattle.vortex_base.specs.Trees.Tree.{scalar_fn_of};
 ghost use Rattle.vortex_prune.specs.Binding.HookFaults.{IsHookFault};
 ghost use Rattle.vortex_prune.specs.Rewriting.Own.{own_rule, own_rules};
-ghost use Rattle.vortex_prune.specs.Rewriting.Falsifiers.{asked, is_function, own_proofs};
+ghost use Rattle.vortex_prune.specs.Rewriting.Falsifiers.{asked, is_asked as is_some_asked, is_function, own_proofs};
 ghost use Rattle.vortex_prune.specs.Scanning.Causes.{IsRefusal};
 ghost use Rattle.vortex_prune.specs.Rewriting.RuleRefusals.{rule_causes};
 ghost use Rattle.vortex_prune.specs.Rewriting.Sides.{proof_of};
@@ -47,6 +47,20 @@ fn is_for(rule: &Box<dyn StatsRewriteRule>, e: &BoundExpression) -> bool
         Some(function) => function == id_of(rule),
         None => false,
     }
+}
+
+/// Whether some rule of the user is one for an expression's function.
+pub(crate) fn is_asked(rules: &Rules, e: &BoundExpression) -> bool
+    ensures { let own =
+        own_rules ⟦<dyn StatsRewriteRule as StatsRewriteRule>⟧ rules.now.own.items in
+        result ≡ is_some_asked own e.now }
+{
+    for rule in &rules.own {
+        if is_for(rule, e) {
+            return true;
+        }
+    }
+    false
 }
 
 /// What one rule proves of an expression, if it is a rule for its function.

@@ -1,14 +1,16 @@
-//! The least and the greatest values of operands, and how they compare.
+//! The least and the greatest values of operands, how they compare, and what that proves.
 ghost use Rattle.std.specs.Prelude.{◌≡◌, IsOk, IsTrue, false};
 ghost use Rattle.vortex_base.specs.Trees.Tree as tree;
 ghost use Rattle.vortex_base.specs.Meanings.Typing.{type_of};
 ghost use Rattle.vortex_prune.specs.Rewriting.Predicates.{is_connective, is_extreme};
-ghost use Rattle.vortex_prune.specs.Rewriting.Falsifiers.{both_of, comparison_falsifier, either_of, extreme as extreme_of, placeholder as placeholder_of};
+ghost use Rattle.vortex_prune.specs.Rewriting.BuiltIn.{opposite as opposite_of};
+ghost use Rattle.vortex_prune.specs.Rewriting.Falsifiers.{both_of, comparison_falsifier, comparison_proof as comparison_proof_of, comparison_satisfier, either_of, extreme as extreme_of, placeholder as placeholder_of, without_nulls as without_nulls_of};
 ghost use Rattle.vortex_prune.specs.Answers.{Makes};
 
 use crate::built::cloned;
 use crate::rewrite::nodes::stat;
 use crate::rewrite::proof::Proof;
+use crate::rewrite::side::Side;
 use std::alloc::Global;
 use vortex_base::aggregate::AggregateFnRef;
 use vortex_base::bound_expression::BoundExpression;
@@ -99,7 +101,7 @@ pub(crate) fn either_joined(
 }
 
 /// The built-in proof that no row satisfies a comparison, and none for a connective.
-pub(crate) fn comparison_proof(
+fn comparison_falsifier(
     alloc: Global,
     operator: Operator,
     left: &BoundExpression,
@@ -126,5 +128,70 @@ pub(crate) fn comparison_proof(
         Operator::Lt => compared(alloc, Operator::Gte, min_left, max_right),
         Operator::Lte => compared(alloc, Operator::Gt, min_left, max_right),
         Operator::And | Operator::Or => Ok(None),
+    }
+}
+
+/// The comparison that holds of two values where this one doesn't; a connective stays.
+fn opposite(operator: Operator) -> Operator
+    ensures { result ≡ opposite_of operator }
+{
+    match operator {
+        Operator::Eq => Operator::NotEq,
+        Operator::NotEq => Operator::Eq,
+        Operator::Gt => Operator::Lte,
+        Operator::Gte => Operator::Lt,
+        Operator::Lt => Operator::Gte,
+        Operator::Lte => Operator::Gt,
+        Operator::And | Operator::Or => operator,
+    }
+}
+
+/// A proof, and that no value of an operand is null; a literal isn't asked.
+fn without_nulls(alloc: Global, x: &BoundExpression, proof: Proof) -> Result<Proof, StatsError>
+    ensures { Makes (without_nulls_of x.now proof) result }
+{
+    match x.literal() {
+        Some(_) => Ok(proof),
+        None => {
+            let every_value = Proof::stat(alloc, AggregateFnRef::AllNonNull, x)?;
+            Proof::connect(alloc, Operator::And, proof, every_value)
+        }
+    }
+}
+
+/// The built-in proof that every row satisfies a comparison, and none for a connective: no two
+/// values compare the opposite way, and none is null.
+fn comparison_satisfier(
+    alloc: Global,
+    operator: Operator,
+    left: &BoundExpression,
+    right: &BoundExpression,
+) -> Result<Option<Proof>, StatsError>
+    requires { IsOk (type_of (tree.binary operator left.now right.now)) }
+    ensures { Makes (comparison_satisfier operator left.now right.now) result }
+{
+    match comparison_falsifier(alloc, opposite(operator), left, right)? {
+        None => Ok(None),
+        Some(values_compare) => {
+            let proof = without_nulls(alloc, left, values_compare)?;
+            Ok(Some(without_nulls(alloc, right, proof)?))
+        }
+    }
+}
+
+/// The built-in proof of a comparison, and none for a connective.
+pub(crate) fn comparison_proof(
+    alloc: Global,
+    side: Side,
+    operator: Operator,
+    left: &BoundExpression,
+    right: &BoundExpression,
+) -> Result<Option<Proof>, StatsError>
+    requires { IsOk (type_of (tree.binary operator left.now right.now)) }
+    ensures { Makes (comparison_proof_of side operator left.now right.now) result }
+{
+    match side {
+        Side::Falsify => comparison_falsifier(alloc, operator, left, right),
+        Side::Satisfy => comparison_satisfier(alloc, operator, left, right),
     }
 }

@@ -293,7 +293,54 @@ fn rules_are_asked_at_connectives_too(rt: HostRuntime) -> Result<(), Fail> {
     let sides = and(alloc, left, truth(alloc, true)?)?;
     let expected = or(alloc, sides, truth(alloc, false)?)?;
     expect_proof(&rt, falsified(alloc, &e, &rules)?, expected)?;
+    let left = gt(alloc, min_a(alloc)?, int(alloc, 10)?)?;
+    let left = unsure_of(alloc, and(alloc, left, all_non_null(alloc)?)?)?;
+    let expected = unsure_of(alloc, or(alloc, left, truth(alloc, false)?)?)?;
+    expect_proof(&rt, satisfied(alloc, &e, &rules)?, expected)
+}
+
+// The proof, beside that of a rule which is unsure.
+fn unsure_of(alloc: Global, proof: BoundExpression) -> Built {
+    or(alloc, proof, truth(alloc, false)?)
+}
+
+#[test]
+fn rules_are_asked_for_satisfiers_at_and(rt: HostRuntime) -> Result<(), Fail> {
+    let alloc = rt.alloc();
+    let rules = rules_of(
+        alloc,
+        Box::new(
+            alloc,
+            Unsure {
+                function: ScalarFnId::Binary,
+            },
+        )?,
+    )?;
+    let above = gt(alloc, a(alloc)?, int(alloc, 10)?)?;
+    let e = and(alloc, copy(&above)?, truth(alloc, true)?)?;
+    let left = gt(alloc, min_a(alloc)?, int(alloc, 10)?)?;
+    let left = unsure_of(alloc, and(alloc, left, all_non_null(alloc)?)?)?;
+    let expected = unsure_of(alloc, and(alloc, left, truth(alloc, true)?)?)?;
+    expect_proof(&rt, satisfied(alloc, &e, &rules)?, expected)?;
+    // A side without a satisfier leaves the rule of the AND alone.
+    let e = and(alloc, above, not(alloc, truth(alloc, false)?)?)?;
     expect_proof(&rt, satisfied(alloc, &e, &rules)?, truth(alloc, false)?)
+}
+
+#[test]
+fn satisfiers_of_rules_stand_in_for_a_side(rt: HostRuntime) -> Result<(), Fail> {
+    let alloc = rt.alloc();
+    let rules = rules_of(alloc, Box::new(alloc, Opposite { answer: true })?)?;
+    let above = gt(alloc, a(alloc)?, int(alloc, 10)?)?;
+    let side = gt(alloc, min_a(alloc)?, int(alloc, 10)?)?;
+    let side = and(alloc, side, all_non_null(alloc)?)?;
+    let not_false = not(alloc, truth(alloc, false)?)?;
+    let e = and(alloc, copy(&above)?, copy(&not_false)?)?;
+    let expected = and(alloc, copy(&side)?, truth(alloc, true)?)?;
+    expect_proof(&rt, satisfied(alloc, &e, &rules)?, expected)?;
+    let e = or(alloc, not_false, above)?;
+    let expected = or(alloc, truth(alloc, true)?, side)?;
+    expect_proof(&rt, satisfied(alloc, &e, &rules)?, expected)
 }
 
 #[test]
@@ -318,7 +365,13 @@ fn rules_are_asked_within_a_between(rt: HostRuntime) -> Result<(), Fail> {
     expect_proof(&rt, falsified(alloc, &e, &rules)?, copy(&expected)?)?;
     // Strict ends are moved first, and the rules are asked at the comparisons as they then stand.
     let e = range(alloc, 9, 51, StrictComparison::Strict)?;
-    expect_proof(&rt, falsified(alloc, &e, &rules)?, expected)
+    expect_proof(&rt, falsified(alloc, &e, &rules)?, expected)?;
+    let low = lt_eq(alloc, int(alloc, 10)?, min_a(alloc)?)?;
+    let low = unsure_of(alloc, and(alloc, low, all_non_null(alloc)?)?)?;
+    let high = lt_eq(alloc, max_a(alloc)?, int(alloc, 50)?)?;
+    let high = unsure_of(alloc, and(alloc, high, all_non_null(alloc)?)?)?;
+    let expected = unsure_of(alloc, and(alloc, low, high)?)?;
+    expect_proof(&rt, satisfied(alloc, &e, &rules)?, expected)
 }
 
 #[test]
@@ -341,8 +394,10 @@ fn an_empty_between_is_asked_for_itself_alone(rt: HostRuntime) -> Result<(), Fai
     let expected = or(alloc, truth(alloc, true)?, truth(alloc, false)?)?;
     let e = range(alloc, 3, 4, StrictComparison::Strict)?;
     expect_proof(&rt, falsified(alloc, &e, &rules)?, expected)?;
+    expect_proof(&rt, satisfied(alloc, &e, &rules)?, truth(alloc, false)?)?;
     let e = range(alloc, 3, 5, StrictComparison::Strict)?;
     expect_fault(&rt, falsified(alloc, &e, &rules), 3);
+    expect_fault(&rt, satisfied(alloc, &e, &rules), 3);
     Ok(())
 }
 
@@ -369,9 +424,10 @@ fn the_first_fault_ends_the_call(rt: HostRuntime) -> Result<(), Fail> {
     expect_fault(&rt, satisfied(alloc, &null, &rules), 4);
     let e = and(alloc, copy(&not_true)?, copy(&null)?)?;
     expect_fault(&rt, falsified(alloc, &e, &rules), 3);
-    expect_none(&rt, satisfied(alloc, &e, &rules)?)?;
+    expect_fault(&rt, satisfied(alloc, &e, &rules), 3);
     let e = or(alloc, null, not_true)?;
     expect_fault(&rt, falsified(alloc, &e, &rules), 4);
+    expect_fault(&rt, satisfied(alloc, &e, &rules), 4);
     Ok(())
 }
 
@@ -389,6 +445,8 @@ fn a_proof_has_to_be_a_truth(rt: HostRuntime) -> Result<(), Fail> {
     )?;
     let e = not(alloc, truth(alloc, true)?)?;
     assert!(rt; is_not_bool(falsified(alloc, &e, &rules)));
+    assert!(rt; is_not_bool(satisfied(alloc, &e, &rules)));
+    let e = or(alloc, e, truth(alloc, true)?)?;
     assert!(rt; is_not_bool(satisfied(alloc, &e, &rules)));
     let other = truth(alloc, true)?;
     expect_proof(&rt, falsified(alloc, &other, &rules)?, truth(alloc, false)?)

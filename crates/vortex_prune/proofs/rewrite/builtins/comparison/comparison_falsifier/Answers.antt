@@ -1,7 +1,7 @@
 use Rattle.std.proofs.Common.{refl}
 use Rattle.vortex_base.specs.declared.types.Operator.TheVariants.{Eq, NotEq}
 use Rattle.vortex_prune.proofs.Rewriting.ProofTypes.{compare_turned, operands_compare}
-use Rattle.vortex_prune.proofs.rewrite.builtins.comparison.comparison_proof.Goals as goal
+use Rattle.vortex_prune.proofs.rewrite.builtins.comparison.comparison_falsifier.Goals as goal
 
 pub compared-requires-in-Eq-clause-comparable : goal.compared-requires-in-Eq-clause-comparable
 compared-requires-in-Eq-clause-comparable c = compare_turned c.args.left.now c.args.right.now (operands_compare c.args.operator Eq c.args.left.now c.args.right.now c.in-Eq.is refl c.requires)
