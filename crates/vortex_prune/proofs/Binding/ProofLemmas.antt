@@ -1,5 +1,5 @@
 -- A proof that is bound and closed has its value on the row with no columns.
-use Rattle.std.proofs.Common.{◌≡◌, ◌||◌, ℕ, Bool, true, false, not as not_b, List, [], Option, None, Result, IsTrue, cond, refl, sym, ap, ◌∙◌, inl, inr}
+use Rattle.std.proofs.Common.{◌≡◌, ◌||◌, ℕ, true, false, not as not_b, List, [], Option, None, Result, IsTrue, cond, refl, sym, ap, ◌∙◌, inl, inr}
 use Rattle.std.proofs.lemmas.Bool.{cases_Bool, or_parts, not-true}
 use Rattle.vortex_base.specs.Answer.{Answers, Makes}
 use Rattle.vortex_base.specs.Data.Exact.{both_hold, both_true}

@@ -1,7 +1,7 @@
 -- The proofs of the built-in rules have no column outside their placeholders.
-use Rattle.std.proofs.Common.{◌≡◌, ◌||◌, ℕ, zero, suc, Bool, true, false, cond, List, [], ◌∷◌, Option, Some, None, length, IfErr, Ok, Err, Result, get_or, refl, sym, ap, subst, append-nil, ◌∙◌, arith}
+use Rattle.std.proofs.Common.{◌≡◌, ◌||◌, ℕ, zero, suc, Bool, true, false, cond, List, [], ◌∷◌, Option, Some, None, length, refl, sym, ap, subst, append-nil, ◌∙◌}
 use Rattle.std.specs.List.{AllByRecursion}
-use Rattle.std.specs.Prelude.{Contains, option_map, option_to_list}
+use Rattle.std.specs.Prelude.{option_map, option_to_list}
 use Rattle.std.specs.Result.{is_ok}
 use Rattle.std.specs.Str.{chars}
 use Rattle.vortex_base.specs.Trees.Between.{to_operator}
@@ -17,13 +17,11 @@ use Rattle.vortex_base.specs.declared.types.Operator.{Operator}
 use Rattle.vortex_base.specs.declared.types.Operator.TheVariants.{Eq, NotEq, Gt, Gte, Lt, Lte, And, Or}
 use Rattle.vortex_base.specs.declared.scalar_value.ScalarValue.{ScalarValue}
 use Rattle.vortex_base.specs.declared.scalar_value.ScalarValue.TheVariants as value
-use Rattle.vortex_prune.specs.Rewriting.Lawful.{OwnRule}
 use Rattle.vortex_prune.specs.Rewriting.Falsifiers.{Ends, and_proof, binary_node, both_of, comparison_falsifier, comparison_proof, either_of, ends, ends_node, every_null, extreme, falsifier, halves_node, items_falsifier, like_falsifier, literal_falsifier, literal_satisfier, max_of, min_of, node, none_null, null_count_of, of_sides, or_proof, other_than, outside, pattern_falsifier, placeholder, proved, reduce_balanced, rewriting, round, rounds, satisfier, table_falsifiers, table_proofs, table_satisfiers, text_literal, value_condition, without_nulls}
 use Rattle.vortex_prune.specs.Rewriting.BuiltIn.{opposite}
 use Rattle.vortex_prune.specs.declared.rewrite.side.Side.{Side}
 use Rattle.vortex_prune.specs.declared.rewrite.side.Side.TheVariants.{Falsify, Satisfy}
 use Rattle.vortex_prune.proofs.Soundness.RowSatisfiers.{condition_is}
-use Rattle.vortex_base.specs.declared.dtype.DType.{DType}
 use Rattle.vortex_prune.specs.Scanning.ScanRefusals.{is_open}
 
 abbrev Shut : Tree Place → Type 0

@@ -1,5 +1,5 @@
 -- The proofs of comparisons, of tests of null and of literals, at one row where the answers of the placeholders are right.
-use Rattle.std.proofs.Common.{◌≡◌, ℕ, Bool, true, false, not, ◌<◌, ◌⊎◌, ⊎_elim, List, [], Option, Some, None, refl, sym, ap, ◌∙◌, subst, arith, option_to_list, if◌then◌else◌}
+use Rattle.std.proofs.Common.{◌≡◌, ℕ, Bool, true, false, not, ◌<◌, ⊎_elim, List, Option, Some, None, refl, sym, ap, ◌∙◌, subst, arith, option_to_list, if◌then◌else◌}
 use Rattle.std.specs.Prelude.{⊤, is_none}
 use Rattle.std.specs.List.{AllByRecursion}
 use Rattle.std.specs.Result.{is_ok}

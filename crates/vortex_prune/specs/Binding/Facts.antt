@@ -1,5 +1,5 @@
 -- What is true of the values of an input over the rows of a chunk: the facts that answer placeholders.
-use Rattle.std.specs.Prelude.{◌≡◌, ℕ, ◌==◌, ℤ, Bool, true, false, not as not_b, ◌&&◌, List, Option, Some, None, Ok, IsTrue, MatchBool, map, length, slice_get, option_map, ⊤}
+use Rattle.std.specs.Prelude.{◌≡◌, ℕ, ◌==◌, ℤ, Bool, false, not as not_b, ◌&&◌, List, Option, Some, None, Ok, IsTrue, MatchBool, map, length, slice_get, option_map, ⊤}
 use Rattle.std.specs.List.{range_with_len}
 use Rattle.vortex_base.specs.declared.aggregate.AggregateFnRef.{AggregateFnRef}
 use Rattle.vortex_base.specs.declared.aggregate.AggregateFnRef.TheVariants.{Max, Min, Sum, NullCount, NanCount, UncompressedSizeInBytes, AllNull, AllNonNull, MinMax}

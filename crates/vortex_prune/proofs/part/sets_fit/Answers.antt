@@ -1,4 +1,4 @@
-use Rattle.std.proofs.Common.{false, ap, length, sym, ◌∙◌, arith}
+use Rattle.std.proofs.Common.{ap, length, sym, ◌∙◌, arith}
 use Rattle.vortex_prune.proofs.Honesty.PartLemmas.{scope_long, sets_go_on, sets_stop}
 use Rattle.vortex_prune.proofs.part.sets_fit.Goals as goal
 

@@ -2,7 +2,7 @@ use Rattle.std.proofs.Common.{ap, arith, inr, length, refl, ◌-◌, ◌^◌, �
 use Rattle.std.specs.Prelude.{min}
 use Rattle.std.proofs.lemmas.Option.{slice_get_read}
 use Rattle.std.proofs.lemmas.Result.{err_from_is_err_and}
-use Rattle.vortex_prune.proofs.Scanning.PartScanLemmas.{all_answered, same_again, same_at_first, selected_next, skipped_next, tested_next, told_all, told_more, whole_next}
+use Rattle.vortex_prune.proofs.Scanning.PartScanLemmas.{all_answered, same_again, selected_next, skipped_next, tested_next, told_all, told_more, whole_next}
 use Rattle.vortex_prune.proofs.Scanning.ScanLemmas.{all_below, below_more}
 use Rattle.vortex_prune.specs.Scanning.Selection.{selected_rows, skipped_parts, tested_rows, whole_parts}
 use Rattle.vortex_prune.proofs.scan.part_scan.scan_parts.Goals as goal
