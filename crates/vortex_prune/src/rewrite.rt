@@ -107,6 +107,3 @@ pub fn satisfy(
     let proof = satisfy_node(alloc, rules, predicate)?;
     Ok(into_expression(proof))
 }
-
-#[cfg(test)]
-mod tests;

@@ -21,11 +21,11 @@ pub mod zones;
 
 use crate::bind::stat_binder::StatBinder;
 use crate::part::Part;
-use crate::scan::part_scan::{SkipTest, scan_parts};
 use crate::rewrite::falsify;
 use crate::rewrite::rule::StatsRewriteRule;
 use crate::rewrite::rules::Rules;
 use crate::scan::outcome::Scan;
+use crate::scan::part_scan::{SkipTest, scan_parts};
 use crate::scan::skip::is_skipped;
 use std::alloc::Global;
 use vortex_base::bound_expression::BoundExpression;
@@ -156,6 +156,3 @@ pub fn scan<B: StatBinder>(
     let proof = falsify(alloc, predicate, rules)?;
     scan_by(alloc, parts, binders, predicate, proof.as_ref())
 }
-
-#[cfg(test)]
-mod tests;

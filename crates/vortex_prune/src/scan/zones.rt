@@ -22,11 +22,11 @@ use crate::bind::stat_binder::StatBinder;
 use crate::bind::stats_binder::StatsBinder;
 use crate::bind::zone_binder::ZoneBinder;
 use crate::part::Part;
-use crate::scan::part_scan::{SkipTest, scan_parts};
 use crate::rewrite::falsify;
 use crate::rewrite::rule::StatsRewriteRule;
 use crate::rewrite::rules::Rules;
 use crate::scan::outcome::Scan;
+use crate::scan::part_scan::{SkipTest, scan_parts};
 use crate::scan::skip::is_true_on;
 use crate::zones::Zones;
 use std::alloc::Global;
@@ -234,6 +234,3 @@ pub fn scan_zones<'a>(
 {
     scan_rules(alloc, zones, predicate, rules)
 }
-
-#[cfg(test)]
-mod tests;
