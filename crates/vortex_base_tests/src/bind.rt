@@ -1,208 +1,216 @@
 //! Tests of binding.
-use crate::testing::{bind, copy, evaluated, named, placed};
+use crate::testing::{named, placed, *};
 use std::alloc::Global;
 use std::process::Abort;
 use std::test::Fail;
 use vortex_base::{
-    AggregateFnRef, BaseError, BetweenOptions, BoundExpression, DType, Expression, LikeOptions,
-    Nullability, PType, Row, Scalar, ScalarValue, Scope, StrictComparison, Text, bound,
+    AggregateFnRef, BaseError, BetweenOptions, BoundExpression, DType, LikeOptions, Nullability,
+    PType, Row, Scalar, ScalarValue, StrictComparison,
 };
 
-const I32: DType = DType::Primitive(PType::I32, Nullability::NonNullable);
+const I64: DType = DType::Primitive(PType::I64, Nullability::NonNullable);
 
-fn scope_of_a(alloc: Global) -> Result<Scope, BaseError> {
-    let name = String::from_str(alloc, "a")?;
-    Scope::try_new(vec![in alloc; (name, I32)]?)
+const HALF_OPEN: BetweenOptions = BetweenOptions {
+    lower_strict: StrictComparison::Strict,
+    upper_strict: StrictComparison::NonStrict,
+};
+
+const NOT_ILIKE: LikeOptions = LikeOptions {
+    negated: true,
+    case_insensitive: true,
+};
+
+fn named_lit(alloc: Global, value: Result<Scalar, BaseError>) -> Made {
+    named::lit(alloc, value?)
 }
 
-fn long(alloc: Global, value: i64) -> Result<Expression, BaseError> {
-    let dtype = DType::Primitive(PType::I64, Nullability::NonNullable);
-    named::lit(
-        alloc,
-        Scalar::try_new(dtype, Some(ScalarValue::from(value)))?,
-    )
+fn int(alloc: Global, value: i32) -> Made {
+    named_lit(alloc, scalar(I32, Some(ScalarValue::from(value))))
 }
 
-fn int(alloc: Global, value: i32) -> Result<Expression, BaseError> {
-    named::lit(alloc, Scalar::try_new(I32, Some(ScalarValue::from(value)))?)
-}
-
-// `a = 1i64`, whose sides have two widths
-fn of_two_widths(alloc: Global) -> Result<Expression, BaseError> {
-    let a = named::col(alloc, "a")?;
-    named::eq(alloc, a, long(alloc, 1)?)
-}
-
-#[test]
-fn a_known_column_is_placed(rt: HostRuntime) -> Result<(), Fail> {
-    let alloc = rt.alloc();
-    let a = named::col(alloc, "a")?;
-    let above = named::gt(alloc, a, int(alloc, 4)?)?;
-    let bound = bind(above, alloc, &scope_of_a(alloc)?)?;
-    let four = Scalar::try_new(I32, Some(ScalarValue::from(4i32)))?;
-    let four = bound::lit(alloc, four)?;
-    let expected = placed::gt(alloc, placed::col(alloc, 0, I32)?, four)?;
-    assert!(rt; bound == expected);
-    Ok(())
-}
-
-fn expect_bound(
-    rt: &impl Abort,
-    alloc: Global,
-    expression: Expression,
-    expected: &BoundExpression,
-) -> Result<(), Fail> {
-    let bound = bind(expression, alloc, &scope_of_a(alloc)?)?;
-    assert!(rt; bound == *expected);
-    Ok(())
-}
-
-fn a(alloc: Global) -> Result<Expression, BaseError> {
+fn a(alloc: Global) -> Made {
     named::col(alloc, "a")
 }
 
-fn placed_a(alloc: Global) -> Result<BoundExpression, BaseError> {
+fn z(alloc: Global) -> Made {
+    named::col(alloc, "z")
+}
+
+// `a = 1i64`, whose sides have two widths
+fn of_two_widths(alloc: Global) -> Made {
+    let long = scalar(I64, Some(ScalarValue::from(1i64)));
+    named::eq(alloc, a(alloc), named_lit(alloc, long))
+}
+
+fn placed_a(alloc: Global) -> Built {
     placed::col(alloc, 0, I32)
 }
 
-fn placed_int(alloc: Global, value: i32) -> Result<BoundExpression, BaseError> {
-    int(alloc, value)?.bind(alloc, &scope_of_a(alloc)?)
+fn placed_int(alloc: Global, value: i32) -> Built {
+    placed::lit(alloc, I32, Some(ScalarValue::from(value)))
+}
+
+// The expression is bound to this one.
+fn expect_bound(
+    rt: &impl Abort,
+    alloc: Global,
+    expression: Made,
+    expected: Built,
+) -> Result<(), Fail> {
+    expect_same(rt, bound_to_a(alloc, expression), expected)
 }
 
 #[test]
 fn comparisons_stay_what_they_are(rt: HostRuntime) -> Result<(), Fail> {
     let alloc = rt.alloc();
-    let expected = placed::not_eq(alloc, placed_a(alloc)?, placed_int(alloc, 4)?)?;
-    let differ = named::not_eq(alloc, a(alloc)?, int(alloc, 4)?)?;
-    expect_bound(&rt, alloc, differ, &expected)?;
-    let expected = placed::gt_eq(alloc, placed_a(alloc)?, placed_int(alloc, 4)?)?;
-    let at_least = named::gt_eq(alloc, a(alloc)?, int(alloc, 4)?)?;
-    expect_bound(&rt, alloc, at_least, &expected)?;
-    let expected = placed::lt(alloc, placed_a(alloc)?, placed_int(alloc, 4)?)?;
-    let below = named::lt(alloc, a(alloc)?, int(alloc, 4)?)?;
-    expect_bound(&rt, alloc, below, &expected)?;
-    let expected = placed::lt_eq(alloc, placed_a(alloc)?, placed_int(alloc, 4)?)?;
-    let at_most = named::lt_eq(alloc, a(alloc)?, int(alloc, 4)?)?;
-    expect_bound(&rt, alloc, at_most, &expected)
+    let expected = placed::gt(alloc, placed_a(alloc), placed_int(alloc, 4));
+    expect_bound(
+        &rt,
+        alloc,
+        named::gt(alloc, a(alloc), int(alloc, 4)),
+        expected,
+    )?;
+    let expected = placed::not_eq(alloc, placed_a(alloc), placed_int(alloc, 4));
+    expect_bound(
+        &rt,
+        alloc,
+        named::not_eq(alloc, a(alloc), int(alloc, 4)),
+        expected,
+    )?;
+    let expected = placed::gt_eq(alloc, placed_a(alloc), placed_int(alloc, 4));
+    expect_bound(
+        &rt,
+        alloc,
+        named::gt_eq(alloc, a(alloc), int(alloc, 4)),
+        expected,
+    )?;
+    let expected = placed::lt(alloc, placed_a(alloc), placed_int(alloc, 4));
+    expect_bound(
+        &rt,
+        alloc,
+        named::lt(alloc, a(alloc), int(alloc, 4)),
+        expected,
+    )?;
+    let expected = placed::lt_eq(alloc, placed_a(alloc), placed_int(alloc, 4));
+    expect_bound(
+        &rt,
+        alloc,
+        named::lt_eq(alloc, a(alloc), int(alloc, 4)),
+        expected,
+    )
 }
 
 #[test]
 fn ranges_and_null_tests_stay_what_they_are(rt: HostRuntime) -> Result<(), Fail> {
     let alloc = rt.alloc();
-    let options = BetweenOptions {
-        lower_strict: StrictComparison::Strict,
-        upper_strict: StrictComparison::NonStrict,
-    };
-    let (low, high) = (placed_int(alloc, 1)?, placed_int(alloc, 5)?);
-    let expected = placed::between(alloc, placed_a(alloc)?, low, high, options)?;
-    let (low, high) = (int(alloc, 1)?, int(alloc, 5)?);
-    let range = named::between(alloc, a(alloc)?, low, high, options)?;
-    expect_bound(&rt, alloc, range, &expected)?;
-    let expected = placed::is_null(alloc, placed_a(alloc)?)?;
-    let is_null = named::is_null(alloc, a(alloc)?)?;
-    expect_bound(&rt, alloc, is_null, &expected)?;
-    let expected = placed::is_not_null(alloc, placed_a(alloc)?)?;
-    let is_not_null = named::is_not_null(alloc, a(alloc)?)?;
-    expect_bound(&rt, alloc, is_not_null, &expected)?;
+    let (low, high) = (placed_int(alloc, 1), placed_int(alloc, 5));
+    let expected = placed::between(alloc, placed_a(alloc), low, high, HALF_OPEN);
+    let range = named::between(alloc, a(alloc), int(alloc, 1), int(alloc, 5), HALF_OPEN);
+    expect_bound(&rt, alloc, range, expected)?;
+    let expected = placed::is_null(alloc, placed_a(alloc));
+    expect_bound(&rt, alloc, named::is_null(alloc, a(alloc)), expected)?;
+    let expected = placed::is_not_null(alloc, placed_a(alloc));
+    expect_bound(&rt, alloc, named::is_not_null(alloc, a(alloc)), expected)?;
     expect_bound(
         &rt,
         alloc,
-        named::row_count(alloc)?,
-        &placed::row_count(alloc)?,
+        named::row_count(alloc),
+        placed::row_count(alloc),
     )
 }
 
-fn text(alloc: Global, value: &str) -> Result<Scalar, BaseError> {
-    let value = ScalarValue::from(Text::new(String::from_str(alloc, value)?));
-    Scalar::try_new(DType::Utf8(Nullability::NonNullable), Some(value))
+fn text(alloc: Global, value: &str) -> Made {
+    named_lit(alloc, scalar(UTF8, Some(text_value(alloc, value)?)))
+}
+
+fn placed_text(alloc: Global, value: &str) -> Built {
+    placed::lit(alloc, UTF8, Some(text_value(alloc, value)?))
 }
 
 #[test]
 fn patterns_stay_what_they_are(rt: HostRuntime) -> Result<(), Fail> {
     let alloc = rt.alloc();
-    let placed_text = bound::lit(alloc, text(alloc, "ab")?)?;
-    let placed_pattern = bound::lit(alloc, text(alloc, "a%")?)?;
-    let expected = placed::like(alloc, copy(&placed_text)?, copy(&placed_pattern)?)?;
-    let named_text = named::lit(alloc, text(alloc, "ab")?)?;
-    let named_pattern = named::lit(alloc, text(alloc, "a%")?)?;
-    let like = named::like(alloc, named_text, named_pattern)?;
-    expect_bound(&rt, alloc, like, &expected)?;
-    let options = LikeOptions {
-        negated: true,
-        case_insensitive: true,
-    };
-    let expected = placed::like_with(alloc, placed_text, placed_pattern, options)?;
-    let named_text = named::lit(alloc, text(alloc, "ab")?)?;
-    let named_pattern = named::lit(alloc, text(alloc, "a%")?)?;
-    let not_like = named::like_with(alloc, named_text, named_pattern, options)?;
-    expect_bound(&rt, alloc, not_like, &expected)
+    let expected = placed::like(alloc, placed_text(alloc, "ab"), placed_text(alloc, "a%"));
+    let like = named::like(alloc, text(alloc, "ab"), text(alloc, "a%"));
+    expect_bound(&rt, alloc, like, expected)?;
+    let (value, pattern) = (placed_text(alloc, "ab"), placed_text(alloc, "a%"));
+    let expected = placed::like_with(alloc, value, pattern, NOT_ILIKE);
+    let not_like = named::like_with(alloc, text(alloc, "ab"), text(alloc, "a%"), NOT_ILIKE);
+    expect_bound(&rt, alloc, not_like, expected)
+}
+
+fn is_type_fault(bound: Built) -> bool {
+    matches!(bound, Err(BaseError::TypeFault))
+}
+
+fn is_unknown_column(bound: Built) -> bool {
+    matches!(bound, Err(BaseError::UnknownColumn))
+}
+
+fn is_unsupported(bound: Built) -> bool {
+    matches!(bound, Err(BaseError::Unsupported))
 }
 
 #[test]
-fn widths_that_differ_are_a_type_fault(rt: HostRuntime) -> Result<(), Fail> {
+fn widths_that_differ_are_a_type_fault(rt: HostRuntime) {
     let alloc = rt.alloc();
-    let bound = bind(of_two_widths(alloc)?, alloc, &scope_of_a(alloc)?);
-    assert!(rt; matches!(bound, Err(BaseError::TypeFault)));
-    Ok(())
+    assert!(rt; is_type_fault(bound_to_a(alloc, of_two_widths(alloc))));
 }
 
 #[test]
-fn the_left_child_is_faulted_first(rt: HostRuntime) -> Result<(), Fail> {
+fn the_left_child_is_faulted_first(rt: HostRuntime) {
     let alloc = rt.alloc();
-    let z = named::col(alloc, "z")?;
-    let both = named::and(alloc, z, of_two_widths(alloc)?)?;
-    let bound = bind(both, alloc, &scope_of_a(alloc)?);
-    assert!(rt; matches!(bound, Err(BaseError::UnknownColumn)));
-    Ok(())
+    let both = named::and(alloc, z(alloc), of_two_widths(alloc));
+    assert!(rt; is_unknown_column(bound_to_a(alloc, both)));
 }
 
 #[test]
-fn a_child_is_faulted_before_its_parent(rt: HostRuntime) -> Result<(), Fail> {
+fn a_child_is_faulted_before_its_parent(rt: HostRuntime) {
     let alloc = rt.alloc();
-    let a = named::col(alloc, "a")?;
-    let z = named::col(alloc, "z")?;
-    let both = named::or(alloc, a, z)?;
-    let bound = bind(both, alloc, &scope_of_a(alloc)?);
-    assert!(rt; matches!(bound, Err(BaseError::UnknownColumn)));
-    Ok(())
+    let both = named::or(alloc, a(alloc), z(alloc));
+    assert!(rt; is_unknown_column(bound_to_a(alloc, both)));
 }
 
 #[test]
-fn an_aggregate_may_not_support_its_input(rt: HostRuntime) -> Result<(), Fail> {
+fn an_aggregate_may_not_support_its_input(rt: HostRuntime) {
     let alloc = rt.alloc();
-    let a = named::col(alloc, "a")?;
-    let count = named::new_stat(alloc, a, AggregateFnRef::NanCount)?;
-    let bound = bind(count, alloc, &scope_of_a(alloc)?);
-    assert!(rt; matches!(bound, Err(BaseError::Unsupported)));
-    Ok(())
+    let count = named::new_stat(alloc, a(alloc), AggregateFnRef::NanCount);
+    assert!(rt; is_unsupported(bound_to_a(alloc, count)));
 }
 
-fn deep_truth(alloc: Global) -> Result<Expression, BaseError> {
-    let dtype = DType::Bool(Nullability::NonNullable);
-    let truth = Scalar::try_new(dtype, Some(ScalarValue::from(true)))?;
-    let mut deep = named::lit(alloc, truth)?;
+fn deep_truth(alloc: Global) -> Made {
+    let mut deep = named_lit(alloc, scalar(BOOL, Some(ScalarValue::from(true))))?;
     for _ in 0..4094 {
-        deep = named::not(alloc, deep)?;
+        deep = named::not(alloc, Ok(deep))?;
     }
     Ok(deep)
+}
+
+fn deep(alloc: Global) -> Result<BoundExpression, BaseError> {
+    bound_to_a(alloc, deep_truth(alloc))
+}
+
+fn value_of(x: &BoundExpression) -> Result<Option<ScalarValue>, BaseError> {
+    evaluated(x, &Row::empty(), 0)
 }
 
 // As deep as a predicate of 4,096 words can be: each recursion over it fits the usual stack.
 #[test]
 fn deep_expressions_fit_the_stack(rt: HostRuntime) -> Result<(), Fail> {
-    let alloc = rt.alloc();
-    let bound = bind(deep_truth(alloc)?, alloc, &scope_of_a(alloc)?)?;
+    let bound = deep(rt.alloc())?;
     assert!(rt; bound.is_plain() && bound.is_closed());
     let copy = copy(&bound)?;
     assert!(rt; copy == bound);
     drop(bound);
-    let value = evaluated(&copy, &Row::empty(), 0)?;
-    assert_eq!(rt; value, Some(ScalarValue::from(true)));
+    assert!(rt; value_of(&copy)? == Some(ScalarValue::from(true)));
     Ok(())
 }
 
-fn is_memory<T: Drop>(answer: Result<T, BaseError>) -> bool {
-    matches!(answer, Err(BaseError::Memory(_)))
+fn has_two_children(x: Built) -> bool {
+    match x {
+        Ok(x) => x.child_count() == 2,
+        Err(refused) => matches!(refused, BaseError::Memory(_)),
+    }
 }
 
 // With a growth refused, as `rt try --test --fail-alloc` refuses one,
@@ -210,20 +218,6 @@ fn is_memory<T: Drop>(answer: Result<T, BaseError>) -> bool {
 #[test]
 fn binding_is_refused_for_memory_alone(rt: HostRuntime) {
     let alloc = rt.alloc();
-    let Ok(scope) = scope_of_a(alloc) else {
-        return;
-    };
-    let Ok(a) = named::col(alloc, "a") else {
-        return;
-    };
-    let Ok(four) = int(alloc, 4) else {
-        return;
-    };
-    let Ok(above) = named::gt(alloc, a, four) else {
-        return;
-    };
-    match bind(above, alloc, &scope) {
-        Ok(bound) => assert_eq!(rt; bound.child_count(), 2),
-        refused => assert!(rt; is_memory(refused)),
-    }
+    let above = named::gt(alloc, a(alloc), int(alloc, 4));
+    assert!(rt; has_two_children(bound_to_a(alloc, above)));
 }

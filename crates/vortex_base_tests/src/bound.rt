@@ -1,6 +1,7 @@
 //! Tests of the constructors of typed expressions.
-use crate::testing::placed;
+use crate::testing::{placed, *};
 use std::alloc::Global;
+use std::process::Abort;
 use std::test::Fail;
 use vortex_base::bound::binary;
 use vortex_base::types::{
@@ -8,19 +9,11 @@ use vortex_base::types::{
 };
 use vortex_base::{AggregateFnRef, BaseError, BoundExpression, DType, ScalarValue};
 
-const BOOL: DType = DType::Bool(Nullability::NonNullable);
-
-const BOOL_OR_NULL: DType = DType::Bool(Nullability::Nullable);
-
-const I32: DType = DType::Primitive(PType::I32, Nullability::NonNullable);
-
-const I32_OR_NULL: DType = DType::Primitive(PType::I32, Nullability::Nullable);
-
 const I64: DType = DType::Primitive(PType::I64, Nullability::NonNullable);
 
-const UTF8: DType = DType::Utf8(Nullability::NonNullable);
+const U64: DType = DType::Primitive(PType::U64, Nullability::NonNullable);
 
-const UTF8_OR_NULL: DType = DType::Utf8(Nullability::Nullable);
+const U64_OR_NULL: DType = DType::Primitive(PType::U64, Nullability::Nullable);
 
 const BINARY: DType = DType::Binary(Nullability::NonNullable);
 
@@ -31,54 +24,66 @@ const CLOSED: BetweenOptions = BetweenOptions {
     upper_strict: StrictComparison::NonStrict,
 };
 
-fn joined(
-    alloc: Global,
-    operator: Operator,
-    left: DType,
-    right: DType,
-) -> Result<DType, BaseError> {
-    let left = placed::col(alloc, 0, left)?;
-    let right = placed::col(alloc, 1, right)?;
-    Ok(binary(alloc, operator, left, right)?.dtype())
+type Typed = Result<DType, BaseError>;
+
+fn col(alloc: Global, place: usize, dtype: DType) -> Built {
+    placed::col(alloc, place, dtype)
 }
 
-fn ranged(alloc: Global, x: DType, lower: DType, upper: DType) -> Result<DType, BaseError> {
-    let x = placed::col(alloc, 0, x)?;
-    let lower = placed::col(alloc, 1, lower)?;
-    let upper = placed::col(alloc, 2, upper)?;
-    Ok(placed::between(alloc, x, lower, upper, CLOSED)?.dtype())
+fn node(alloc: Global, operator: Operator, left: BoundExpression, right: BoundExpression) -> Built {
+    binary(alloc, operator, left, right)
 }
 
-fn patterned(alloc: Global, text: DType, pattern: DType) -> Result<DType, BaseError> {
-    let text = placed::col(alloc, 0, text)?;
-    let pattern = placed::col(alloc, 1, pattern)?;
-    Ok(placed::like(alloc, text, pattern)?.dtype())
+fn joined(alloc: Global, operator: Operator, left: DType, right: DType) -> Typed {
+    dtype_of(node(alloc, operator, col(alloc, 0, left)?, col(alloc, 1, right)?))
 }
 
-fn negated(alloc: Global, x: DType) -> Result<DType, BaseError> {
-    Ok(placed::not(alloc, placed::col(alloc, 0, x)?)?.dtype())
+fn ranged(alloc: Global, x: DType, lower: DType, upper: DType) -> Typed {
+    let (lower, upper) = (col(alloc, 1, lower), col(alloc, 2, upper));
+    dtype_of(placed::between(alloc, col(alloc, 0, x), lower, upper, CLOSED))
 }
 
-fn asked(alloc: Global, input: DType, aggregate: AggregateFnRef) -> Result<DType, BaseError> {
-    Ok(placed::new_stat(alloc, placed::col(alloc, 0, input)?, aggregate)?.dtype())
+fn patterned(alloc: Global, text: DType, pattern: DType) -> Typed {
+    dtype_of(placed::like(alloc, col(alloc, 0, text), col(alloc, 1, pattern)))
 }
 
-fn is_type_fault(answer: Result<DType, BaseError>) -> bool {
+fn negated(alloc: Global, x: DType) -> Typed {
+    dtype_of(placed::not(alloc, col(alloc, 0, x)))
+}
+
+fn asked(alloc: Global, input: DType, aggregate: AggregateFnRef) -> Typed {
+    dtype_of(placed::new_stat(alloc, col(alloc, 0, input), aggregate))
+}
+
+// The expression is made, and of this type.
+fn expect_type(rt: &impl Abort, found: Typed, expected: DType) -> Result<(), Fail> {
+    let found = found?;
+    assert!(rt; found == expected);
+    Ok(())
+}
+
+fn is_type_fault(answer: Typed) -> bool {
     matches!(answer, Err(BaseError::TypeFault))
+}
+
+fn is_unsupported(answer: Typed) -> bool {
+    matches!(answer, Err(BaseError::Unsupported))
 }
 
 #[test]
 fn comparisons_take_two_of_one_type(rt: HostRuntime) -> Result<(), Fail> {
     let alloc = rt.alloc();
-    assert_eq!(rt; joined(alloc, Operator::Lt, I32, I32)?, BOOL);
-    assert_eq!(rt;
-        joined(alloc, Operator::Eq, I32, I32_OR_NULL)?,
-        BOOL_OR_NULL
-    );
-    assert_eq!(rt;
-        joined(alloc, Operator::Eq, DType::Null, DType::Null)?,
-        BOOL_OR_NULL
-    );
+    expect_type(&rt, joined(alloc, Operator::Lt, I32, I32), BOOL)?;
+    expect_type(
+        &rt,
+        joined(alloc, Operator::Eq, I32, I32_OR_NULL),
+        BOOL_OR_NULL,
+    )?;
+    expect_type(
+        &rt,
+        joined(alloc, Operator::Eq, DType::Null, DType::Null),
+        BOOL_OR_NULL,
+    )?;
     assert!(rt; is_type_fault(joined(alloc, Operator::Gte, I32, I64)));
     assert!(rt; is_type_fault(joined(alloc, Operator::NotEq, UTF8, BINARY)));
     assert!(rt; is_type_fault(joined(alloc, Operator::Eq, STATE, STATE)));
@@ -88,15 +93,17 @@ fn comparisons_take_two_of_one_type(rt: HostRuntime) -> Result<(), Fail> {
 #[test]
 fn connectives_take_two_truths(rt: HostRuntime) -> Result<(), Fail> {
     let alloc = rt.alloc();
-    assert_eq!(rt; joined(alloc, Operator::And, BOOL, BOOL)?, BOOL);
-    assert_eq!(rt;
-        joined(alloc, Operator::And, BOOL, BOOL_OR_NULL)?,
-        BOOL_OR_NULL
-    );
-    assert_eq!(rt;
-        joined(alloc, Operator::Or, BOOL_OR_NULL, BOOL)?,
-        BOOL_OR_NULL
-    );
+    expect_type(&rt, joined(alloc, Operator::And, BOOL, BOOL), BOOL)?;
+    expect_type(
+        &rt,
+        joined(alloc, Operator::And, BOOL, BOOL_OR_NULL),
+        BOOL_OR_NULL,
+    )?;
+    expect_type(
+        &rt,
+        joined(alloc, Operator::Or, BOOL_OR_NULL, BOOL),
+        BOOL_OR_NULL,
+    )?;
     assert!(rt; is_type_fault(joined(alloc, Operator::Or, BOOL, I32)));
     assert!(rt; is_type_fault(joined(alloc, Operator::And, I32, I32)));
     Ok(())
@@ -105,8 +112,8 @@ fn connectives_take_two_truths(rt: HostRuntime) -> Result<(), Fail> {
 #[test]
 fn ranges_take_three_of_one_type(rt: HostRuntime) -> Result<(), Fail> {
     let alloc = rt.alloc();
-    assert_eq!(rt; ranged(alloc, I32, I32, I32)?, BOOL);
-    assert_eq!(rt; ranged(alloc, I32, I32, I32_OR_NULL)?, BOOL_OR_NULL);
+    expect_type(&rt, ranged(alloc, I32, I32, I32), BOOL)?;
+    expect_type(&rt, ranged(alloc, I32, I32, I32_OR_NULL), BOOL_OR_NULL)?;
     assert!(rt; is_type_fault(ranged(alloc, I32, I64, I32)));
     assert!(rt; is_type_fault(ranged(alloc, I32, I32, I64)));
     assert!(rt; is_type_fault(ranged(alloc, STATE, STATE, STATE)));
@@ -116,10 +123,10 @@ fn ranges_take_three_of_one_type(rt: HostRuntime) -> Result<(), Fail> {
 #[test]
 fn negations_and_patterns(rt: HostRuntime) -> Result<(), Fail> {
     let alloc = rt.alloc();
-    assert_eq!(rt; negated(alloc, BOOL_OR_NULL)?, BOOL_OR_NULL);
+    expect_type(&rt, negated(alloc, BOOL_OR_NULL), BOOL_OR_NULL)?;
     assert!(rt; is_type_fault(negated(alloc, I32)));
-    assert_eq!(rt; patterned(alloc, UTF8, UTF8)?, BOOL);
-    assert_eq!(rt; patterned(alloc, UTF8, UTF8_OR_NULL)?, BOOL_OR_NULL);
+    expect_type(&rt, patterned(alloc, UTF8, UTF8), BOOL)?;
+    expect_type(&rt, patterned(alloc, UTF8, UTF8_OR_NULL), BOOL_OR_NULL)?;
     assert!(rt; is_type_fault(patterned(alloc, BINARY, UTF8)));
     assert!(rt; is_type_fault(patterned(alloc, UTF8, BINARY)));
     Ok(())
@@ -128,91 +135,66 @@ fn negations_and_patterns(rt: HostRuntime) -> Result<(), Fail> {
 #[test]
 fn null_tests_and_row_counts_are_never_null(rt: HostRuntime) -> Result<(), Fail> {
     let alloc = rt.alloc();
-    assert_eq!(rt;
-        placed::is_null(alloc, placed::col(alloc, 0, I32_OR_NULL)?)?.dtype(),
-        BOOL
-    );
-    assert_eq!(rt;
-        placed::is_not_null(alloc, placed::col(alloc, 0, STATE)?)?.dtype(),
-        BOOL
-    );
-    let u64 = DType::Primitive(PType::U64, Nullability::NonNullable);
-    assert_eq!(rt; placed::row_count(alloc)?.dtype(), u64);
-    Ok(())
+    let null = placed::is_null(alloc, col(alloc, 0, I32_OR_NULL));
+    expect_type(&rt, dtype_of(null), BOOL)?;
+    let not_null = placed::is_not_null(alloc, col(alloc, 0, STATE));
+    expect_type(&rt, dtype_of(not_null), BOOL)?;
+    expect_type(&rt, dtype_of(placed::row_count(alloc)), U64)
 }
 
 #[test]
 fn placeholders_are_nullable(rt: HostRuntime) -> Result<(), Fail> {
+    use AggregateFnRef::{AllNull, Max, Min, MinMax, NanCount, NullCount, Sum};
     let alloc = rt.alloc();
-    let u64_or_null = DType::Primitive(PType::U64, Nullability::Nullable);
-    assert_eq!(rt; asked(alloc, I32, AggregateFnRef::Max)?, I32_OR_NULL);
-    assert_eq!(rt; asked(alloc, UTF8, AggregateFnRef::Min)?, UTF8_OR_NULL);
-    assert_eq!(rt; asked(alloc, BOOL, AggregateFnRef::MinMax)?, STATE);
-    assert_eq!(rt; asked(alloc, BOOL, AggregateFnRef::Sum)?, u64_or_null);
-    assert_eq!(rt;
-        asked(alloc, STATE, AggregateFnRef::NullCount)?,
-        u64_or_null
-    );
-    assert_eq!(rt; asked(alloc, I32, AggregateFnRef::AllNull)?, BOOL_OR_NULL);
-    let unsupported = asked(alloc, I32, AggregateFnRef::NanCount);
-    assert!(rt; matches!(unsupported, Err(BaseError::Unsupported)));
-    let of_null = asked(alloc, DType::Null, AggregateFnRef::Max);
-    assert!(rt; matches!(of_null, Err(BaseError::Unsupported)));
+    expect_type(&rt, asked(alloc, I32, Max), I32_OR_NULL)?;
+    expect_type(&rt, asked(alloc, UTF8, Min), UTF8_OR_NULL)?;
+    expect_type(&rt, asked(alloc, BOOL, MinMax), STATE)?;
+    expect_type(&rt, asked(alloc, BOOL, Sum), U64_OR_NULL)?;
+    expect_type(&rt, asked(alloc, STATE, NullCount), U64_OR_NULL)?;
+    expect_type(&rt, asked(alloc, I32, AllNull), BOOL_OR_NULL)?;
+    assert!(rt; is_unsupported(asked(alloc, I32, NanCount)));
+    assert!(rt; is_unsupported(asked(alloc, DType::Null, Max)));
     Ok(())
+}
+
+fn state(aggregate: AggregateFnRef, dtype: DType) -> Option<DType> {
+    aggregate.state_dtype(&dtype)
 }
 
 #[test]
 fn signed_sums_are_signed(rt: HostRuntime) {
-    let i64_or_null = Some(DType::Primitive(PType::I64, Nullability::Nullable));
-    assert_eq!(rt; AggregateFnRef::Sum.state_dtype(&I32), i64_or_null);
-    assert_eq!(rt; AggregateFnRef::Sum.state_dtype(&UTF8), None);
-    assert_eq!(rt; AggregateFnRef::AllNonNull.state_dtype(&UTF8), Some(BOOL));
-    assert_eq!(rt; AggregateFnRef::NanCount.state_dtype(&I32), None);
+    let i64_or_null = DType::Primitive(PType::I64, Nullability::Nullable);
+    assert!(rt; state(AggregateFnRef::Sum, I32) == Some(i64_or_null));
+    assert!(rt; state(AggregateFnRef::Sum, UTF8) == None);
+    assert!(rt; state(AggregateFnRef::AllNonNull, UTF8) == Some(BOOL));
+    assert!(rt; state(AggregateFnRef::NanCount, I32) == None);
 }
 
-fn five(alloc: Global) -> Result<BoundExpression, BaseError> {
+fn five(alloc: Global) -> Built {
     placed::lit(alloc, I32, Some(ScalarValue::from(5i32)))
 }
 
-#[test]
-fn each_comparison_has_its_operator(rt: HostRuntime) -> Result<(), Fail> {
-    let alloc = rt.alloc();
-    let kinds = [
-        placed::eq(alloc, five(alloc)?, five(alloc)?)?.kind(),
-        placed::not_eq(alloc, five(alloc)?, five(alloc)?)?.kind(),
-        placed::gt(alloc, five(alloc)?, five(alloc)?)?.kind(),
-        placed::gt_eq(alloc, five(alloc)?, five(alloc)?)?.kind(),
-        placed::lt(alloc, five(alloc)?, five(alloc)?)?.kind(),
-        placed::lt_eq(alloc, five(alloc)?, five(alloc)?)?.kind(),
-    ];
-    assert!(rt;
-        kinds
-            == [
-                ExprKind::Binary(Operator::Eq),
-                ExprKind::Binary(Operator::NotEq),
-                ExprKind::Binary(Operator::Gt),
-                ExprKind::Binary(Operator::Gte),
-                ExprKind::Binary(Operator::Lt),
-                ExprKind::Binary(Operator::Lte),
-            ]
-    );
+fn truth(alloc: Global) -> Built {
+    placed::col(alloc, 0, BOOL)
+}
+
+// The expression is made, and is a node of this operator.
+fn expect_operator(rt: &impl Abort, found: Built, expected: Operator) -> Result<(), Fail> {
+    let found = found?;
+    assert!(rt; found.kind() == ExprKind::Binary(expected));
     Ok(())
 }
 
 #[test]
-fn each_connective_has_its_operator(rt: HostRuntime) -> Result<(), Fail> {
+fn each_constructor_has_its_operator(rt: HostRuntime) -> Result<(), Fail> {
+    use Operator::{And, Eq, Gt, Gte, Lt, Lte, NotEq, Or};
     let alloc = rt.alloc();
-    let both = placed::and(
-        alloc,
-        placed::col(alloc, 0, BOOL)?,
-        placed::col(alloc, 1, BOOL)?,
-    )?;
-    assert!(rt; both.kind() == ExprKind::Binary(Operator::And));
-    let either = placed::or(
-        alloc,
-        placed::col(alloc, 0, BOOL)?,
-        placed::col(alloc, 1, BOOL)?,
-    )?;
-    assert!(rt; either.kind() == ExprKind::Binary(Operator::Or));
-    Ok(())
+    expect_operator(&rt, placed::eq(alloc, five(alloc), five(alloc)), Eq)?;
+    expect_operator(&rt, placed::not_eq(alloc, five(alloc), five(alloc)), NotEq)?;
+    expect_operator(&rt, placed::gt(alloc, five(alloc), five(alloc)), Gt)?;
+    expect_operator(&rt, placed::gt_eq(alloc, five(alloc), five(alloc)), Gte)?;
+    expect_operator(&rt, placed::lt(alloc, five(alloc), five(alloc)), Lt)?;
+    expect_operator(&rt, placed::lt_eq(alloc, five(alloc), five(alloc)), Lte)?;
+    expect_operator(&rt, placed::and(alloc, truth(alloc), truth(alloc)), And)?;
+    expect_operator(&rt, placed::or(alloc, truth(alloc), truth(alloc)), Or)
 }

@@ -1,139 +1,163 @@
 //! Tests of typed expressions as trees.
-use crate::testing::{copy, placed};
+use crate::testing::{placed, *};
 use std::alloc::Global;
+use std::process::Abort;
 use std::test::Fail;
-use vortex_base::types::{
-    BetweenOptions, ExprKind, Nullability, Operator, PType, ScalarFnId, StrictComparison,
-};
-use vortex_base::{
-    AggregateFnRef, BaseError, BoundExpression, DType, Parts, Scalar, ScalarValue, Scope,
-};
-
-const I32: DType = DType::Primitive(PType::I32, Nullability::NonNullable);
-
-const I32_OR_NULL: DType = DType::Primitive(PType::I32, Nullability::Nullable);
+use vortex_base::types::{BetweenOptions, ExprKind, Operator, ScalarFnId, StrictComparison};
+use vortex_base::{AggregateFnRef, BaseError, BoundExpression, Parts, Scalar, ScalarValue, Scope};
 
 const HALF_OPEN: BetweenOptions = BetweenOptions {
     lower_strict: StrictComparison::Strict,
     upper_strict: StrictComparison::NonStrict,
 };
 
-fn int(alloc: Global, value: i32) -> Result<BoundExpression, BaseError> {
+fn int(alloc: Global, value: i32) -> Built {
     placed::lit(alloc, I32, Some(ScalarValue::from(value)))
 }
 
+fn a(alloc: Global) -> Built {
+    placed::col(alloc, 0, I32)
+}
+
 // `1 < a <= 5`
-fn range(alloc: Global) -> Result<BoundExpression, BaseError> {
-    let a = placed::col(alloc, 0, I32)?;
-    placed::between(alloc, a, int(alloc, 1)?, int(alloc, 5)?, HALF_OPEN)
+fn range(alloc: Global) -> Built {
+    placed::between(alloc, a(alloc), int(alloc, 1), int(alloc, 5), HALF_OPEN)
 }
 
 #[test]
 fn list_their_children(rt: HostRuntime) -> Result<(), Fail> {
-    let range = range(rt.alloc())?;
+    let (range, five) = (range(rt.alloc())?, int(rt.alloc(), 5)?);
     assert!(rt; range.kind() == ExprKind::Between(HALF_OPEN));
     assert!(rt; range.scalar_fn_id() == Some(ScalarFnId::Between));
-    assert_eq!(rt; range.child_count(), 3);
+    assert!(rt; range.child_count() == 3);
     assert!(rt; range.child(0).kind() == ExprKind::Column(0));
-    assert!(rt; *range.child(2) == int(rt.alloc(), 5)?);
+    assert!(rt; *range.child(2) == five);
     Ok(())
+}
+
+fn lends(x: &BoundExpression, value: &Scalar) -> bool {
+    x.literal() == Some(value)
 }
 
 #[test]
 fn lend_their_literals(rt: HostRuntime) -> Result<(), Fail> {
-    let five = int(rt.alloc(), 5)?;
-    let value = Scalar::try_new(I32, Some(ScalarValue::from(5i32)))?;
-    assert!(rt; five.literal() == Some(&value));
-    let column = placed::col(rt.alloc(), 0, I32)?;
+    let value = scalar(I32, Some(ScalarValue::from(5i32)))?;
+    assert!(rt; lends(&int(rt.alloc(), 5)?, &value));
+    let column = a(rt.alloc())?;
     assert!(rt; column.literal().is_none());
     assert!(rt; column.scalar_fn_id().is_none());
     Ok(())
 }
 
+fn is_null_test_of(x: &BoundExpression, of: &BoundExpression) -> bool {
+    match x.parts() {
+        Parts::IsNull(x) => *x == *of,
+        _ => false,
+    }
+}
+
 #[test]
 fn come_apart_by_their_top(rt: HostRuntime) -> Result<(), Fail> {
-    let is_null = placed::is_null(rt.alloc(), range(rt.alloc())?)?;
-    let Parts::IsNull(x) = is_null.parts() else {
-        return Err(Fail::from("not a null test"));
-    };
-    assert!(rt; *x == range(rt.alloc())?);
+    let is_null = placed::is_null(rt.alloc(), range(rt.alloc()))?;
+    let range = range(rt.alloc())?;
+    assert!(rt; is_null_test_of(&is_null, &range));
+    Ok(())
+}
+
+// The two are made, and differ.
+fn expect_other(rt: &impl Abort, found: Built, other: Built) -> Result<(), Fail> {
+    let (found, other) = (found?, other?);
+    assert!(rt; found != other);
     Ok(())
 }
 
 #[test]
 fn are_equal_if_they_are_one_tree(rt: HostRuntime) -> Result<(), Fail> {
     let alloc = rt.alloc();
-    let range = range(alloc)?;
-    let copy = copy(&range)?;
-    assert!(rt; copy == range);
-    assert!(rt; int(alloc, 1)? != int(alloc, 5)?);
-    let a = placed::col(alloc, 0, I32)?;
-    assert!(rt; a != placed::col(alloc, 1, I32)?);
-    assert!(rt; a != placed::col(alloc, 0, I32_OR_NULL)?);
-    Ok(())
+    expect_other(&rt, int(alloc, 1), int(alloc, 5))?;
+    expect_other(&rt, a(alloc), placed::col(alloc, 1, I32))?;
+    expect_other(&rt, a(alloc), placed::col(alloc, 0, I32_OR_NULL))
 }
 
-fn scope_of_a(alloc: Global) -> Result<Scope, BaseError> {
-    let name = String::from_str(alloc, "a")?;
-    Scope::try_new(vec![in alloc; (name, I32)]?)
+fn fits(x: Built, scope: &Scope) -> Result<bool, BaseError> {
+    Ok(x?.fits_scope(scope))
 }
 
 #[test]
 fn fit_a_scope_by_place_and_type(rt: HostRuntime) -> Result<(), Fail> {
     let alloc = rt.alloc();
     let scope = scope_of_a(alloc)?;
-    assert!(rt; range(alloc)?.fits_scope(&scope));
-    assert!(rt; !placed::col(alloc, 1, I32)?.fits_scope(&scope));
-    assert!(rt; !placed::col(alloc, 0, I32_OR_NULL)?.fits_scope(&scope));
+    assert!(rt; fits(range(alloc), &scope)?);
+    assert!(rt; !fits(placed::col(alloc, 1, I32), &scope)?);
+    assert!(rt; !fits(placed::col(alloc, 0, I32_OR_NULL), &scope)?);
+    Ok(())
+}
+
+// Whether it is plain, is closed and has a bare column, as told.
+fn expect_held(rt: &impl Abort, x: Built, told: (bool, bool, bool)) -> Result<(), Fail> {
+    let x = x?;
+    assert!(rt; (x.is_plain(), x.is_closed(), x.has_bare_column()) == told);
     Ok(())
 }
 
 #[test]
 fn tell_what_they_hold(rt: HostRuntime) -> Result<(), Fail> {
     let alloc = rt.alloc();
-    let range = range(alloc)?;
-    assert!(rt; range.is_plain() && !range.is_closed() && range.has_bare_column());
-    let rows = placed::row_count(alloc)?;
-    assert!(rt; !rows.is_plain() && rows.is_closed());
-    let greatest = placed::new_stat(alloc, range, AggregateFnRef::Max)?;
-    assert!(rt; !greatest.is_plain() && !greatest.is_closed() && !greatest.has_bare_column());
-    Ok(())
+    expect_held(&rt, range(alloc), (true, false, true))?;
+    expect_held(&rt, placed::row_count(alloc), (false, true, false))?;
+    let greatest = placed::new_stat(alloc, range(alloc), AggregateFnRef::Max);
+    expect_held(&rt, greatest, (false, false, false))
+}
+
+// The copy of it is equal to it; what is answered is it.
+fn copied(rt: &impl Abort, x: Built) -> Result<BoundExpression, Fail> {
+    let x = x?;
+    let copy = copy(&x)?;
+    assert!(rt; copy == x);
+    Ok(x)
+}
+
+fn pattern(alloc: Global) -> Built {
+    let (text, pattern) = (
+        placed::col(alloc, 0, UTF8_OR_NULL),
+        placed::col(alloc, 0, UTF8_OR_NULL),
+    );
+    placed::like(alloc, text, pattern)
 }
 
 #[test]
 fn copies_are_equal(rt: HostRuntime) -> Result<(), Fail> {
     let alloc = rt.alloc();
-    let is_null = placed::is_null(alloc, range(alloc)?)?;
-    assert!(rt; copy(&is_null)? == is_null);
-    let is_not_null = placed::is_not_null(alloc, is_null)?;
-    assert!(rt; copy(&is_not_null)? == is_not_null);
-    let opposite = placed::not(alloc, is_not_null)?;
-    assert!(rt; copy(&opposite)? == opposite);
-    let greatest = placed::new_stat(alloc, opposite, AggregateFnRef::Max)?;
-    assert!(rt; copy(&greatest)? == greatest);
-    let text = placed::col(alloc, 0, DType::Utf8(Nullability::Nullable))?;
-    let pattern = copy(&text)?;
-    let like = placed::like(alloc, text, pattern)?;
-    assert!(rt; copy(&like)? == like);
-    let rows = placed::row_count(alloc)?;
-    assert!(rt; copy(&rows)? == rows);
+    let is_null = copied(&rt, placed::is_null(alloc, range(alloc)))?;
+    let is_not_null = copied(&rt, placed::is_not_null(alloc, Ok(is_null)))?;
+    let opposite = copied(&rt, placed::not(alloc, Ok(is_not_null)))?;
+    let greatest = placed::new_stat(alloc, Ok(opposite), AggregateFnRef::Max);
+    let _greatest = copied(&rt, greatest)?;
+    let _like = copied(&rt, pattern(alloc))?;
+    let _rows = copied(&rt, placed::row_count(alloc))?;
     Ok(())
+}
+
+fn printed(alloc: Global, x: Built) -> Result<String, Fail> {
+    let x = x?;
+    Ok(format!(in alloc; "{x:?}")?)
 }
 
 #[test]
 fn print_their_nodes(rt: HostRuntime) -> Result<(), Fail> {
-    let rows = placed::not(
-        rt.alloc(),
-        placed::is_null(rt.alloc(), int(rt.alloc(), 1)?)?,
-    )?;
-    let printed = format!(in rt.alloc(); "{rows:?}")?;
-    assert!(rt; printed.as_str().contains("IsNull"));
+    let alloc = rt.alloc();
+    let rows = placed::not(alloc, placed::is_null(alloc, int(alloc, 1)));
+    assert!(rt; printed(alloc, rows)?.as_str().contains("IsNull"));
     Ok(())
 }
 
-fn is_copied(source: &BoundExpression) -> bool {
-    match source.try_clone() {
-        Ok(copy) => copy == *source,
+// Whether a copy is equal to its source, or refused for memory with the source as it was.
+fn is_copied(x: Built) -> bool {
+    match x {
+        Ok(source) => match copy(&source) {
+            Ok(copy) => copy == source,
+            Err(_) => source.child_count() == 3,
+        },
         Err(_) => true,
     }
 }
@@ -142,15 +166,12 @@ fn is_copied(source: &BoundExpression) -> bool {
 // a copy is refused and its source stays.
 #[test]
 fn copies_are_refused_for_memory_alone(rt: HostRuntime) {
-    if let Ok(range) = range(rt.alloc()) {
-        assert!(rt; is_copied(&range));
-        assert_eq!(rt; range.child_count(), 3);
-    }
+    assert!(rt; is_copied(range(rt.alloc())));
 }
 
 #[test]
 fn functions_have_names(rt: HostRuntime) {
-    assert_eq!(rt; ScalarFnId::Stat.name(), "vortex.stat");
-    assert_eq!(rt; ScalarFnId::IsNotNull.name(), "is_not_null");
-    assert_eq!(rt; StrictComparison::Strict.to_operator(), Operator::Lt);
+    assert!(rt; ScalarFnId::Stat.name() == "vortex.stat");
+    assert!(rt; ScalarFnId::IsNotNull.name() == "is_not_null");
+    assert!(rt; StrictComparison::Strict.to_operator() == Operator::Lt);
 }

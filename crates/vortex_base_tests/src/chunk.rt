@@ -1,4 +1,5 @@
 //! Tests of `chunk`.
+use crate::testing::{self, column};
 use std::alloc::Global;
 use std::test::Fail;
 use vortex_base::{BaseError, Chunk, Column, DType, Nullability, PType, ScalarValue, Scope};
@@ -8,15 +9,14 @@ const NUMBER: DType = DType::Primitive(PType::I64, Nullability::Nullable);
 const TRUTH: DType = DType::Bool(Nullability::NonNullable);
 
 fn scope(alloc: Global) -> Result<Scope, BaseError> {
-    let mut columns = Vec::new(alloc);
-    columns.push((String::from_str(alloc, "a")?, NUMBER))?;
-    columns.push((String::from_str(alloc, "t")?, TRUTH))?;
-    Scope::try_new(columns)
+    testing::scope(alloc, &[("a", NUMBER), ("t", TRUTH)])
 }
 
 fn numbers(alloc: Global) -> Result<Column, BaseError> {
-    let values = vec![in alloc; Some(ScalarValue::from(7i64)), None]?;
-    Column::try_new(NUMBER, values, 16)
+    let mut values = Vec::new(alloc);
+    values.push(Some(ScalarValue::from(7i64)))?;
+    values.push(None)?;
+    column(NUMBER, values, 16)
 }
 
 fn truths(alloc: Global, count: usize) -> Result<Column, BaseError> {
@@ -24,68 +24,93 @@ fn truths(alloc: Global, count: usize) -> Result<Column, BaseError> {
     for _ in 0..count {
         values.push(Some(ScalarValue::from(true)))?;
     }
-    Column::try_new(TRUTH, values, 1)
+    column(TRUTH, values, 1)
+}
+
+type Columns = Result<Vec<Column>, BaseError>;
+
+fn one(alloc: Global, first: Result<Column, BaseError>) -> Columns {
+    let mut columns = Vec::new(alloc);
+    columns.push(first?)?;
+    Ok(columns)
+}
+
+fn and(columns: Columns, next: Result<Column, BaseError>) -> Columns {
+    let mut columns = columns?;
+    columns.push(next?)?;
+    Ok(columns)
+}
+
+fn chunk_of(alloc: Global, columns: Columns) -> Result<Chunk, BaseError> {
+    testing::chunk(scope(alloc)?, columns?)
 }
 
 fn two_rows(alloc: Global) -> Result<Chunk, BaseError> {
-    let columns = vec![in alloc; numbers(alloc)?, truths(alloc, 2)?]?;
-    Chunk::try_new(scope(alloc)?, columns)
+    chunk_of(alloc, and(one(alloc, numbers(alloc)), truths(alloc, 2)))
+}
+
+fn is_number(value: Option<&ScalarValue>) -> bool {
+    value == Some(&ScalarValue::from(7i64))
+}
+
+fn is_true(value: Option<&ScalarValue>) -> bool {
+    value == Some(&ScalarValue::from(true))
 }
 
 #[test]
 fn lend_columns(rt: HostRuntime) -> Result<(), Fail> {
-    let chunk = two_rows(rt.alloc())?;
-    assert!(rt; *chunk.scope() == scope(rt.alloc())?);
-    assert_eq!(rt; chunk.scope().len(), 2);
+    let (chunk, scope) = (two_rows(rt.alloc())?, scope(rt.alloc())?);
+    assert!(rt; *chunk.scope() == scope);
+    assert!(rt; chunk.scope().len() == 2);
     let column = chunk.column(0);
-    assert_eq!(rt; column.dtype(), NUMBER);
-    assert_eq!(rt; column.size(), 16);
-    assert_eq!(rt; column.len(), 2);
-    assert!(rt; column.get(0) == Some(&ScalarValue::from(7i64)));
-    assert!(rt; column.get(1).is_none());
+    assert!(rt; column.dtype() == NUMBER);
+    assert!(rt; column.size() == 16);
+    assert!(rt; column.len() == 2);
+    assert!(rt; is_number(column.get(0)) && column.get(1).is_none());
     Ok(())
 }
 
 #[test]
 fn lend_rows(rt: HostRuntime) -> Result<(), Fail> {
     let chunk = two_rows(rt.alloc())?;
-    assert_eq!(rt; chunk.rows(), 2);
+    assert!(rt; chunk.rows() == 2);
     let row = chunk.row(1);
-    assert_eq!(rt; row.len(), 2);
-    assert_eq!(rt; row.dtype(0), Some(NUMBER));
-    assert!(rt; row.value(0).is_none());
-    assert!(rt; row.value(1) == Some(&ScalarValue::from(true)));
-    assert_eq!(rt; row.dtype(2), None);
-    assert!(rt; row.value(2).is_none());
+    assert!(rt; row.len() == 2);
+    assert!(rt; row.dtype(0) == Some(NUMBER) && row.value(0).is_none());
+    assert!(rt; is_true(row.value(1)));
+    assert!(rt; row.dtype(2) == None && row.value(2).is_none());
     Ok(())
 }
 
-fn refusal(alloc: Global, columns: Vec<Column>) -> Result<Option<BaseError>, BaseError> {
-    Ok(Chunk::try_new(scope(alloc)?, columns).err())
+fn is_row_shape(made: Result<Chunk, BaseError>) -> bool {
+    matches!(made, Err(BaseError::RowShape))
+}
+
+fn is_mismatch<T: Drop>(made: Result<T, BaseError>) -> bool {
+    matches!(made, Err(BaseError::Mismatch))
 }
 
 #[test]
-fn are_refused_for_their_shape_first(rt: HostRuntime) -> Result<(), Fail> {
+fn are_refused_for_their_shape_first(rt: HostRuntime) {
     let alloc = rt.alloc();
-    let too_few = vec![in alloc; numbers(alloc)?]?;
-    assert!(rt; matches!(refusal(alloc, too_few)?, Some(BaseError::RowShape)));
-    let unequal = vec![in alloc; numbers(alloc)?, truths(alloc, 3)?]?;
-    assert!(rt; matches!(refusal(alloc, unequal)?, Some(BaseError::RowShape)));
-    let turned_and_unequal = vec![in alloc; truths(alloc, 3)?, numbers(alloc)?]?;
-    assert!(rt;
-        matches!(
-            refusal(alloc, turned_and_unequal)?,
-            Some(BaseError::RowShape)
-        )
-    );
-    let turned = vec![in alloc; truths(alloc, 2)?, numbers(alloc)?]?;
-    assert!(rt; matches!(refusal(alloc, turned)?, Some(BaseError::Mismatch)));
-    Ok(())
+    let too_few = one(alloc, numbers(alloc));
+    assert!(rt; is_row_shape(chunk_of(alloc, too_few)));
+    let unequal = and(one(alloc, numbers(alloc)), truths(alloc, 3));
+    assert!(rt; is_row_shape(chunk_of(alloc, unequal)));
+    let turned_and_unequal = and(one(alloc, truths(alloc, 3)), numbers(alloc));
+    assert!(rt; is_row_shape(chunk_of(alloc, turned_and_unequal)));
+    let turned = and(one(alloc, truths(alloc, 2)), numbers(alloc));
+    assert!(rt; is_mismatch(chunk_of(alloc, turned)));
+}
+
+fn truth_and_null(alloc: Global) -> Result<Column, BaseError> {
+    let mut values = Vec::new(alloc);
+    values.push(Some(ScalarValue::from(true)))?;
+    values.push(None)?;
+    column(TRUTH, values, 1)
 }
 
 #[test]
-fn take_no_null_where_there_is_none(rt: HostRuntime) -> Result<(), Fail> {
-    let null = vec![in rt.alloc(); Some(ScalarValue::from(true)), None]?;
-    assert!(rt; matches!(Column::try_new(TRUTH, null, 1), Err(BaseError::Mismatch)));
-    Ok(())
+fn take_no_null_where_there_is_none(rt: HostRuntime) {
+    assert!(rt; is_mismatch(truth_and_null(rt.alloc())));
 }

@@ -1,188 +1,225 @@
 //! Tests of evaluation.
-use crate::testing::{evaluated, placed};
+use crate::testing::{placed, *};
 use std::alloc::Global;
+use std::process::Abort;
 use std::test::Fail;
 use vortex_base::{
-    AggregateFnRef, BaseError, BetweenOptions, BoundExpression, Chunk, Column, DType, LikeOptions,
-    Nullability, PType, Row, ScalarValue, Scope, StrictComparison, Text,
+    AggregateFnRef, BaseError, BetweenOptions, BoundExpression, Chunk, LikeOptions, Row,
+    ScalarValue, StrictComparison,
 };
 
-const I32: DType = DType::Primitive(PType::I32, Nullability::NonNullable);
+const OPEN_ABOVE: BetweenOptions = BetweenOptions {
+    lower_strict: StrictComparison::NonStrict,
+    upper_strict: StrictComparison::Strict,
+};
 
-const BOOL_OR_NULL: DType = DType::Bool(Nullability::Nullable);
+const ILIKE: LikeOptions = LikeOptions {
+    negated: false,
+    case_insensitive: true,
+};
 
-const UTF8: DType = DType::Utf8(Nullability::NonNullable);
+type Value = Result<Option<ScalarValue>, BaseError>;
 
-fn truth(alloc: Global, value: Option<bool>) -> Result<BoundExpression, BaseError> {
-    let value = match value {
-        Some(value) => Some(ScalarValue::Bool(value)),
-        None => None,
-    };
-    placed::lit(alloc, BOOL_OR_NULL, value)
+fn truth(alloc: Global, value: bool) -> Built {
+    placed::lit(alloc, BOOL_OR_NULL, Some(ScalarValue::Bool(value)))
 }
 
-fn int(alloc: Global, value: i32) -> Result<BoundExpression, BaseError> {
+fn unknown(alloc: Global) -> Built {
+    placed::lit(alloc, BOOL_OR_NULL, None)
+}
+
+fn int(alloc: Global, value: i32) -> Built {
     placed::lit(alloc, I32, Some(ScalarValue::from(value)))
 }
 
-fn text(alloc: Global, value: &str) -> Result<BoundExpression, BaseError> {
-    let value = ScalarValue::Utf8(Text::new(String::from_str(alloc, value)?));
-    placed::lit(alloc, UTF8, Some(value))
+fn text(alloc: Global, value: &str) -> Built {
+    placed::lit(alloc, UTF8, Some(text_value(alloc, value)?))
 }
 
-fn on_nothing(expression: BoundExpression) -> Result<Option<bool>, BaseError> {
-    match evaluated(&expression, &Row::empty(), 3)? {
-        Some(ScalarValue::Bool(value)) => Ok(Some(value)),
-        _ => Ok(None),
-    }
+fn on_nothing(x: Built, rows: u64) -> Value {
+    evaluated(&x?, &Row::empty(), rows)
+}
+
+// The value of an expression without columns.
+fn expect_value(rt: &impl Abort, x: Built, expected: Option<ScalarValue>) -> Result<(), Fail> {
+    let value = on_nothing(x, 3)?;
+    assert!(rt; value == expected);
+    Ok(())
+}
+
+fn expect_truth(rt: &impl Abort, x: Built, expected: bool) -> Result<(), Fail> {
+    expect_value(rt, x, Some(ScalarValue::Bool(expected)))
 }
 
 #[test]
 fn connectives_have_three_values(rt: HostRuntime) -> Result<(), Fail> {
     let alloc = rt.alloc();
-    let both = placed::and(alloc, truth(alloc, None)?, truth(alloc, Some(false))?)?;
-    assert_eq!(rt; on_nothing(both)?, Some(false));
-    let either = placed::or(alloc, truth(alloc, None)?, truth(alloc, Some(false))?)?;
-    assert_eq!(rt; on_nothing(either)?, None);
-    let opposite = placed::not(alloc, truth(alloc, None)?)?;
-    assert_eq!(rt; on_nothing(opposite)?, None);
-    Ok(())
+    expect_truth(
+        &rt,
+        placed::and(alloc, unknown(alloc), truth(alloc, false)),
+        false,
+    )?;
+    expect_value(
+        &rt,
+        placed::or(alloc, unknown(alloc), truth(alloc, false)),
+        None,
+    )?;
+    expect_value(&rt, placed::not(alloc, unknown(alloc)), None)
 }
 
 #[test]
 fn comparisons_follow_the_order_of_values(rt: HostRuntime) -> Result<(), Fail> {
     let alloc = rt.alloc();
-    let less = placed::lt(alloc, int(alloc, -1)?, int(alloc, 1)?)?;
-    assert_eq!(rt; on_nothing(less)?, Some(true));
-    let at_least = placed::gt_eq(alloc, text(alloc, "b")?, text(alloc, "ab")?)?;
-    assert_eq!(rt; on_nothing(at_least)?, Some(true));
-    let differ = placed::not_eq(alloc, text(alloc, "a")?, text(alloc, "a")?)?;
-    assert_eq!(rt; on_nothing(differ)?, Some(false));
-    Ok(())
+    expect_truth(&rt, placed::lt(alloc, int(alloc, -1), int(alloc, 1)), true)?;
+    expect_truth(
+        &rt,
+        placed::gt_eq(alloc, text(alloc, "b"), text(alloc, "ab")),
+        true,
+    )?;
+    expect_truth(
+        &rt,
+        placed::not_eq(alloc, text(alloc, "a"), text(alloc, "a")),
+        false,
+    )
+}
+
+// Whether a number is at least 1 and below 5.
+fn from_one_to_five(alloc: Global, value: i32) -> Built {
+    placed::between(
+        alloc,
+        int(alloc, value),
+        int(alloc, 1),
+        int(alloc, 5),
+        OPEN_ABOVE,
+    )
 }
 
 #[test]
 fn open_ends_are_left_out(rt: HostRuntime) -> Result<(), Fail> {
     let alloc = rt.alloc();
-    let options = BetweenOptions {
-        lower_strict: StrictComparison::NonStrict,
-        upper_strict: StrictComparison::Strict,
-    };
-    let at_lower = placed::between(
-        alloc,
-        int(alloc, 1)?,
-        int(alloc, 1)?,
-        int(alloc, 5)?,
-        options,
-    )?;
-    assert_eq!(rt; on_nothing(at_lower)?, Some(true));
-    let at_upper = placed::between(
-        alloc,
-        int(alloc, 5)?,
-        int(alloc, 1)?,
-        int(alloc, 5)?,
-        options,
-    )?;
-    assert_eq!(rt; on_nothing(at_upper)?, Some(false));
-    Ok(())
+    expect_truth(&rt, from_one_to_five(alloc, 1), true)?;
+    expect_truth(&rt, from_one_to_five(alloc, 5), false)
 }
 
 #[test]
 fn patterns_and_null_tests(rt: HostRuntime) -> Result<(), Fail> {
     let alloc = rt.alloc();
-    let plain = placed::like(alloc, text(alloc, "axxbc")?, text(alloc, "a%b_")?)?;
-    assert_eq!(rt; on_nothing(plain)?, Some(true));
-    let ignoring_case = LikeOptions {
-        negated: false,
-        case_insensitive: true,
-    };
-    let e = placed::like_with(alloc, text(alloc, "é")?, text(alloc, "É")?, ignoring_case)?;
-    assert_eq!(rt; on_nothing(e)?, Some(false));
-    let is_null = placed::is_null(alloc, truth(alloc, None)?)?;
-    assert_eq!(rt; on_nothing(is_null)?, Some(true));
-    let is_not_null = placed::is_not_null(alloc, int(alloc, 1)?)?;
-    assert_eq!(rt; on_nothing(is_not_null)?, Some(true));
-    Ok(())
+    let plain = placed::like(alloc, text(alloc, "axxbc"), text(alloc, "a%b_"));
+    expect_truth(&rt, plain, true)?;
+    let e = placed::like_with(alloc, text(alloc, "é"), text(alloc, "É"), ILIKE);
+    expect_truth(&rt, e, false)?;
+    expect_truth(&rt, placed::is_null(alloc, unknown(alloc)), true)?;
+    expect_truth(&rt, placed::is_not_null(alloc, int(alloc, 1)), true)
+}
+
+fn satisfies(x: Built) -> Result<bool, BaseError> {
+    Ok(x?.is_satisfied(&Row::empty(), 1))
+}
+
+// Null or true.
+fn either(alloc: Global) -> Built {
+    let above = placed::gt(alloc, int(alloc, 2), int(alloc, 1));
+    placed::or(alloc, unknown(alloc), above)
+}
+
+// Null and true.
+fn both(alloc: Global) -> Built {
+    placed::and(alloc, unknown(alloc), either(alloc))
 }
 
 #[test]
 fn only_true_satisfies(rt: HostRuntime) -> Result<(), Fail> {
     let alloc = rt.alloc();
-    let row = Row::empty();
-    let above = placed::gt(alloc, int(alloc, 2)?, int(alloc, 1)?)?;
-    let either = placed::or(alloc, truth(alloc, None)?, above)?;
-    assert!(rt; either.is_satisfied(&row, 0));
-    let both = placed::and(alloc, truth(alloc, None)?, either)?;
-    assert!(rt; !both.is_satisfied(&row, 0));
-    assert!(rt; !placed::not(alloc, both)?.is_satisfied(&row, 0));
-    assert!(rt; !placed::row_count(alloc)?.is_satisfied(&row, 1));
+    assert!(rt; satisfies(either(alloc))?);
+    assert!(rt; !satisfies(both(alloc))?);
+    assert!(rt; !satisfies(placed::not(alloc, both(alloc)))?);
+    assert!(rt; !satisfies(placed::row_count(alloc))?);
     Ok(())
 }
 
 #[test]
 fn the_row_count_is_handed_in(rt: HostRuntime) -> Result<(), Fail> {
-    let rows = placed::row_count(rt.alloc())?;
-    let value = evaluated(&rows, &Row::empty(), 3)?;
-    assert_eq!(rt; value, Some(ScalarValue::from(3u64)));
-    Ok(())
+    expect_value(
+        &rt,
+        placed::row_count(rt.alloc()),
+        Some(ScalarValue::from(3u64)),
+    )
+}
+
+fn is_row_shape(value: Value) -> bool {
+    matches!(value, Err(BaseError::RowShape))
+}
+
+fn is_placeholder(value: Value) -> bool {
+    matches!(value, Err(BaseError::Placeholder))
 }
 
 #[test]
-fn a_column_needs_its_row(rt: HostRuntime) -> Result<(), Fail> {
-    let a = placed::col(rt.alloc(), 0, I32)?;
-    let value = evaluated(&a, &Row::empty(), 0);
-    assert!(rt; matches!(value, Err(BaseError::RowShape)));
-    Ok(())
+fn a_column_needs_its_row(rt: HostRuntime) {
+    assert!(rt; is_row_shape(on_nothing(placed::col(rt.alloc(), 0, I32), 0)));
+}
+
+fn a(alloc: Global) -> Built {
+    placed::col(alloc, 0, I32)
 }
 
 #[test]
-fn placeholders_are_refused_first(rt: HostRuntime) -> Result<(), Fail> {
+fn placeholders_are_refused_first(rt: HostRuntime) {
     let alloc = rt.alloc();
-    let a = placed::col(alloc, 0, I32)?;
-    let greatest = placed::new_stat(alloc, placed::col(alloc, 0, I32)?, AggregateFnRef::Max)?;
-    let equal = placed::eq(alloc, greatest, a)?;
-    let value = evaluated(&equal, &Row::empty(), 0);
-    assert!(rt; matches!(value, Err(BaseError::Placeholder)));
-    Ok(())
+    let greatest = placed::new_stat(alloc, a(alloc), AggregateFnRef::Max);
+    let equal = placed::eq(alloc, greatest, a(alloc));
+    assert!(rt; is_placeholder(on_nothing(equal, 0)));
+}
+
+fn two_texts(alloc: Global) -> Result<Vec<Option<ScalarValue>>, BaseError> {
+    let mut values = Vec::new(alloc);
+    values.push(Some(text_value(alloc, "x")?))?;
+    values.push(Some(text_value(alloc, "y")?))?;
+    Ok(values)
 }
 
 // a chunk of the texts `x` and `y`
 fn texts(alloc: Global) -> Result<Chunk, BaseError> {
-    let x = ScalarValue::Utf8(Text::new(String::from_str(alloc, "x")?));
-    let y = ScalarValue::Utf8(Text::new(String::from_str(alloc, "y")?));
-    let column = Column::try_new(UTF8, vec![in alloc; Some(x), Some(y)]?, 2)?;
-    let name = String::from_str(alloc, "s")?;
-    let scope = Scope::try_new(vec![in alloc; (name, UTF8)]?)?;
-    Chunk::try_new(scope, vec![in alloc; column]?)
+    let mut columns = Vec::new(alloc);
+    columns.push(column(UTF8, two_texts(alloc)?, 2)?)?;
+    chunk(scope(alloc, &[("s", UTF8)])?, columns)
+}
+
+fn on_row(x: Built, chunk: &Chunk, row: usize) -> Value {
+    if row >= chunk.rows() {
+        return Err(BaseError::Mismatch);
+    }
+    evaluated(&x?, &chunk.row(row), 2)
+}
+
+fn is_text(value: Value, text: &ScalarValue) -> bool {
+    match value {
+        Ok(Some(value)) => value == *text,
+        _ => false,
+    }
 }
 
 #[test]
 fn columns_are_read_at_the_row(rt: HostRuntime) -> Result<(), Fail> {
     let alloc = rt.alloc();
     let chunk = texts(alloc)?;
-    assert_eq!(rt; chunk.rows(), 2);
-    let column = placed::col(alloc, 0, DType::Utf8(Nullability::Nullable))?;
-    let y = ScalarValue::Utf8(Text::new(String::from_str(alloc, "y")?));
-    assert_eq!(rt; evaluated(&column, &chunk.row(1), 2)?, Some(y));
-    let other = placed::col(alloc, 0, I32)?;
-    assert!(rt;
-        matches!(
-            evaluated(&other, &chunk.row(0), 2),
-            Err(BaseError::RowShape)
-        )
-    );
+    assert!(rt; chunk.rows() == 2);
+    let y = text_value(alloc, "y")?;
+    assert!(rt; is_text(on_row(placed::col(alloc, 0, UTF8_OR_NULL), &chunk, 1), &y));
+    assert!(rt; is_row_shape(on_row(a(alloc), &chunk, 0)));
     Ok(())
+}
+
+fn is_some_or_memory(value: Value) -> bool {
+    match value {
+        Ok(value) => value.is_some(),
+        Err(refused) => matches!(refused, BaseError::Memory(_)),
+    }
 }
 
 // With a growth refused, as `rt try --test --fail-alloc` refuses one,
 // a text is refused for memory and nothing else.
 #[test]
 fn texts_are_refused_for_memory_alone(rt: HostRuntime) {
-    let Ok(x) = text(rt.alloc(), "x") else {
-        return;
-    };
-    match evaluated(&x, &Row::empty(), 0) {
-        Ok(value) => assert!(rt; value.is_some()),
-        Err(refused) => assert!(rt; matches!(refused, BaseError::Memory(_))),
-    }
+    assert!(rt; is_some_or_memory(on_nothing(text(rt.alloc(), "x"), 0)));
 }

@@ -1,58 +1,66 @@
 //! Tests of `from_scalar`.
+use crate::testing::*;
+use std::alloc::Global;
 use std::test::Fail;
-use vortex_base::{
-    BaseError, Bytes, DType, FromScalar, Nullability, PType, Scalar, ScalarValue, Text,
-};
-
-const I32: DType = DType::Primitive(PType::I32, Nullability::Nullable);
+use vortex_base::{BaseError, DType, FromScalar, Nullability, Scalar, ScalarValue};
 
 fn number(value: i32) -> Result<Scalar, BaseError> {
-    Scalar::try_new(I32, Some(ScalarValue::from(value)))
+    scalar(I32_OR_NULL, Some(ScalarValue::from(value)))
 }
 
 fn read<T: FromScalar>(scalar: &Scalar) -> Result<T, BaseError> {
     T::from_scalar(scalar)
 }
 
+// Whether the scalar is read as this.
+fn reads<T: FromScalar + PartialEq + Drop>(
+    scalar: &Scalar,
+    expected: T,
+) -> Result<bool, BaseError> {
+    Ok(read::<T>(scalar)? == expected)
+}
+
+fn is_mismatch<T: FromScalar + Drop>(scalar: &Scalar) -> bool {
+    matches!(read::<T>(scalar), Err(BaseError::Mismatch))
+}
+
 #[test]
 fn numbers(rt: HostRuntime) -> Result<(), Fail> {
-    let positive = number(200)?;
-    assert_eq!(rt; read::<u8>(&positive)?, 200);
-    assert!(rt; matches!(read::<i8>(&positive), Err(BaseError::Mismatch)));
-    assert_eq!(rt; read::<u16>(&positive)?, 200);
-    assert_eq!(rt; read::<i16>(&positive)?, 200);
-    assert_eq!(rt; read::<u32>(&positive)?, 200);
-    assert_eq!(rt; read::<i32>(&positive)?, 200);
-    assert_eq!(rt; read::<u64>(&positive)?, 200);
-    assert_eq!(rt; read::<i64>(&positive)?, 200);
-    assert!(rt; matches!(read::<u8>(&number(300)?), Err(BaseError::Mismatch)));
-    assert!(rt; matches!(read::<u64>(&number(-1)?), Err(BaseError::Mismatch)));
-    assert_eq!(rt; read::<i8>(&number(-128)?)?, -128);
-    assert!(rt; matches!(read::<i64>(&Scalar::null(I32)), Err(BaseError::Mismatch)));
-    assert!(rt; matches!(read::<bool>(&positive), Err(BaseError::Mismatch)));
+    let (positive, large) = (number(200)?, number(300)?);
+    let (negative, least) = (number(-1)?, number(-128)?);
+    assert!(rt; reads(&positive, 200u8)? && is_mismatch::<i8>(&positive));
+    assert!(rt; reads(&positive, 200u16)? && reads(&positive, 200i16)?);
+    assert!(rt; reads(&positive, 200u32)? && reads(&positive, 200i32)?);
+    assert!(rt; reads(&positive, 200u64)? && reads(&positive, 200i64)?);
+    assert!(rt; is_mismatch::<u8>(&large) && is_mismatch::<u64>(&negative));
+    assert!(rt; reads(&least, -128i8)?);
+    assert!(rt; is_mismatch::<i64>(&Scalar::null(I32_OR_NULL)) && is_mismatch::<bool>(&positive));
     Ok(())
+}
+
+fn text(alloc: Global) -> Result<Scalar, BaseError> {
+    scalar(UTF8, Some(text_value(alloc, "a name")?))
+}
+
+fn bytes(alloc: Global) -> Result<Scalar, BaseError> {
+    let dtype = DType::Binary(Nullability::NonNullable);
+    scalar(dtype, Some(bytes_value(alloc, &[7, 8])?))
+}
+
+fn reads_text(scalar: &Scalar, expected: &str) -> Result<bool, BaseError> {
+    Ok(read::<String>(scalar)?.as_str() == expected)
+}
+
+fn reads_bytes(scalar: &Scalar, expected: &[u8]) -> Result<bool, BaseError> {
+    Ok(read::<Vec<u8>>(scalar)?.as_slice() == expected)
 }
 
 #[test]
 fn other_kinds(rt: HostRuntime) -> Result<(), Fail> {
-    let truth = Scalar::try_new(
-        DType::Bool(Nullability::NonNullable),
-        Some(ScalarValue::from(true)),
-    )?;
-    assert!(rt; read::<bool>(&truth)?);
-    let text = Text::new(String::from_str(rt.alloc(), "a name")?);
-    let text = Scalar::try_new(
-        DType::Utf8(Nullability::NonNullable),
-        Some(ScalarValue::Utf8(text)),
-    )?;
-    assert_eq!(rt; read::<String>(&text)?.as_str(), "a name");
-    assert!(rt; read::<Vec<u8>>(&text).is_err());
-    let bytes = Bytes::new(vec![in rt.alloc(); 7, 8]?);
-    let bytes = Scalar::try_new(
-        DType::Binary(Nullability::NonNullable),
-        Some(ScalarValue::Binary(bytes)),
-    )?;
-    assert_eq!(rt; read::<Vec<u8>>(&bytes)?.as_slice(), [7, 8].as_slice());
-    assert!(rt; read::<String>(&bytes).is_err());
+    let truth = scalar(BOOL, Some(ScalarValue::from(true)))?;
+    assert!(rt; reads(&truth, true)?);
+    let (text, bytes) = (text(rt.alloc())?, bytes(rt.alloc())?);
+    assert!(rt; reads_text(&text, "a name")? && is_mismatch::<Vec<u8>>(&text));
+    assert!(rt; reads_bytes(&bytes, &[7, 8])? && is_mismatch::<String>(&bytes));
     Ok(())
 }

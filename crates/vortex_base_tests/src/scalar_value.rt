@@ -1,21 +1,14 @@
 //! Tests of `scalar_value`.
+use crate::testing::*;
 use std::alloc::{AllocError, Global};
 use std::cmp::Ordering;
 use std::process::Abort;
 use std::test::Fail;
-use vortex_base::{Bytes, DType, Nullability, PType, ScalarValue, Text, laws};
-
-fn text(alloc: Global, text: &str) -> Result<ScalarValue, AllocError> {
-    Ok(ScalarValue::from(Text::new(String::from_str(alloc, text)?)))
-}
-
-fn bytes(alloc: Global, bytes: &[u8]) -> Result<ScalarValue, AllocError> {
-    Ok(ScalarValue::from(Bytes::new(Vec::from_slice(alloc, bytes)?)))
-}
+use vortex_base::{BaseError, DType, Nullability, PType, ScalarValue, laws};
 
 // Truths and numbers in ascending order.
-fn numbers(alloc: Global) -> Result<Vec<ScalarValue>, AllocError> {
-    Ok(vec![in alloc;
+fn numbers() -> [ScalarValue; 12] {
+    [
         ScalarValue::from(false),
         ScalarValue::from(true),
         ScalarValue::from(255u8),
@@ -28,63 +21,75 @@ fn numbers(alloc: Global) -> Result<Vec<ScalarValue>, AllocError> {
         ScalarValue::from(-7i32),
         ScalarValue::from(i64::MIN),
         ScalarValue::from(i64::MAX),
-    ]?)
+    ]
 }
 
 // Texts and bytes in ascending order.
-fn strings(alloc: Global) -> Result<Vec<ScalarValue>, AllocError> {
-    Ok(vec![in alloc;
-        text(alloc, "")?,
-        text(alloc, "ab")?,
-        text(alloc, "é")?,
-        bytes(alloc, &[])?,
-        bytes(alloc, &[0xC1, 0xA1])?,
-    ]?)
+fn strings(alloc: Global) -> Result<[ScalarValue; 5], AllocError> {
+    Ok([
+        text_value(alloc, "")?,
+        text_value(alloc, "ab")?,
+        text_value(alloc, "é")?,
+        bytes_value(alloc, &[])?,
+        bytes_value(alloc, &[0xC1, 0xA1])?,
+    ])
+}
+
+// All of them.
+fn ascending(alloc: Global) -> Result<Vec<ScalarValue>, AllocError> {
+    let mut values = Vec::from_array(alloc, numbers())?;
+    for value in Vec::from_array(alloc, strings(alloc)?)? {
+        values.push(value)?;
+    }
+    Ok(values)
+}
+
+// Whether the order and the equality of two values are those of their places.
+fn stand_as(left: &ScalarValue, right: &ScalarValue, i: usize, j: usize) -> bool {
+    laws::values_compare(left, right) == (i.cmp(&j), i == j)
 }
 
 fn stand_in_order(rt: &impl Abort, ascending: &[ScalarValue]) {
     for (i, left) in ascending.iter().enumerate() {
         for (j, right) in ascending.iter().enumerate() {
-            let (order, same) = laws::values_compare(left, right);
-            assert_eq!(rt; order, i.cmp(&j), "{i} and {j}");
-            assert_eq!(rt; same, i == j, "{i} and {j}");
+            assert!(rt; stand_as(left, right, i, j), "{i} and {j}");
         }
     }
 }
 
 #[test]
 fn stand_in_one_order(rt: HostRuntime) -> Result<(), Fail> {
-    let mut ascending = numbers(rt.alloc())?;
-    for value in strings(rt.alloc())? {
-        ascending.push(value)?;
-    }
-    stand_in_order(&rt, &ascending);
+    stand_in_order(&rt, &ascending(rt.alloc())?);
     Ok(())
+}
+
+// Whether copies of the value are equal to it.
+fn is_copied(value: &ScalarValue) -> Result<bool, BaseError> {
+    let is_same = value.try_clone()? == *value;
+    Ok(is_same && laws::clone_of_value(value)?.cmp(value) == Ordering::Equal)
 }
 
 #[test]
 fn clones_are_equal(rt: HostRuntime) -> Result<(), Fail> {
-    let value = text(rt.alloc(), "é")?;
-    assert_eq!(rt; value.try_clone()?, value);
-    assert_eq!(rt; laws::clone_of_value(&value)?, value);
-    let value = bytes(rt.alloc(), &[1, 2])?;
-    assert_eq!(rt; value.try_clone()?, value);
-    assert_eq!(rt; laws::clone_of_value(&value)?.cmp(&value), Ordering::Equal);
+    assert!(rt; is_copied(&text_value(rt.alloc(), "é")?)?);
+    assert!(rt; is_copied(&bytes_value(rt.alloc(), &[1, 2])?)?);
     Ok(())
+}
+
+fn fits(value: &ScalarValue, dtype: DType) -> bool {
+    value.fits(&dtype)
 }
 
 #[test]
 fn fit_their_kind_and_width(rt: HostRuntime) -> Result<(), Fail> {
     let plain = Nullability::NonNullable;
     let five = ScalarValue::from(5i32);
-    let letters = text(rt.alloc(), "ab")?;
-    assert!(rt; five.fits(&DType::Primitive(PType::I32, plain)));
-    assert!(rt; !five.fits(&DType::Primitive(PType::I64, plain)));
-    assert!(rt; !five.fits(&DType::Primitive(PType::U32, plain)));
-    assert!(rt; letters.fits(&DType::Utf8(plain)));
-    assert!(rt; !letters.fits(&DType::Binary(plain)));
-    assert!(rt; bytes(rt.alloc(), &[])?.fits(&DType::Binary(plain)));
-    assert!(rt; ScalarValue::from(true).fits(&DType::Bool(plain)));
-    assert!(rt; !ScalarValue::from(true).fits(&DType::Null));
+    assert!(rt; fits(&five, I32) && !fits(&five, DType::Primitive(PType::I64, plain)));
+    assert!(rt; !fits(&five, DType::Primitive(PType::U32, plain)));
+    let letters = text_value(rt.alloc(), "ab")?;
+    assert!(rt; fits(&letters, UTF8) && !fits(&letters, DType::Binary(plain)));
+    assert!(rt; fits(&bytes_value(rt.alloc(), &[])?, DType::Binary(plain)));
+    assert!(rt; fits(&ScalarValue::from(true), BOOL));
+    assert!(rt; !fits(&ScalarValue::from(true), DType::Null));
     Ok(())
 }

@@ -1,5 +1,6 @@
 //! Tests of `scope`.
-use std::alloc::{AllocError, Global};
+use crate::testing::scope;
+use std::alloc::Global;
 use std::test::Fail;
 use vortex_base::types::Element;
 use vortex_base::{BaseError, DType, Nullability, Scope};
@@ -8,36 +9,35 @@ const BOOL: DType = DType::Bool(Nullability::Nullable);
 
 const STATE: DType = DType::MinMaxState(Element::Bool, Nullability::Nullable);
 
-fn named(alloc: Global, columns: &[(&str, DType)]) -> Result<Vec<(String, DType)>, AllocError> {
-    let mut named = Vec::new(alloc);
-    for (name, dtype) in columns {
-        named.push((String::from_str(alloc, name)?, *dtype))?;
-    }
-    Ok(named)
+fn two(alloc: Global) -> Result<Scope, BaseError> {
+    scope(alloc, &[("a", BOOL), ("é", DType::Null)])
+}
+
+fn turned(alloc: Global) -> Result<Scope, BaseError> {
+    scope(alloc, &[("é", DType::Null), ("a", BOOL)])
 }
 
 #[test]
 fn list_distinct_names(rt: HostRuntime) -> Result<(), Fail> {
-    let two = Scope::try_new(named(rt.alloc(), &[("a", BOOL), ("é", DType::Null)])?)?;
-    assert_eq!(rt; two.len(), 2);
-    assert_eq!(rt; two.name(1), "é");
-    assert_eq!(rt; two.dtype(1), DType::Null);
-    assert_eq!(rt; two.find("é"), Some(1));
-    assert_eq!(rt; two.find("b"), None);
-    let same = Scope::try_new(named(rt.alloc(), &[("a", BOOL), ("é", DType::Null)])?)?;
-    let turned = Scope::try_new(named(rt.alloc(), &[("é", DType::Null), ("a", BOOL)])?)?;
-    assert!(rt; two == same);
-    assert!(rt; two != turned);
+    let (two, same, turned) = (two(rt.alloc())?, two(rt.alloc())?, turned(rt.alloc())?);
+    assert!(rt; two.len() == 2);
+    assert!(rt; two.name(1) == "é" && two.dtype(1) == DType::Null);
+    assert!(rt; two.find("é") == Some(1) && two.find("b") == None);
+    assert!(rt; two == same && two != turned);
     Ok(())
 }
 
+fn fault(made: Result<Scope, BaseError>) -> Option<BaseError> {
+    made.err()
+}
+
 #[test]
-fn are_refused_for_the_first_fault(rt: HostRuntime) -> Result<(), Fail> {
-    let none = Scope::try_new(named(rt.alloc(), &[])?);
-    assert!(rt; matches!(none, Err(BaseError::EmptyScope)));
-    let twice = Scope::try_new(named(rt.alloc(), &[("a", BOOL), ("b", STATE), ("a", STATE)])?);
-    assert!(rt; matches!(twice, Err(BaseError::DuplicateColumn)));
-    let state = Scope::try_new(named(rt.alloc(), &[("a", BOOL), ("b", STATE)])?);
-    assert!(rt; matches!(state, Err(BaseError::TypeFault)));
-    Ok(())
+fn are_refused_for_the_first_fault(rt: HostRuntime) {
+    let alloc = rt.alloc();
+    let none = fault(scope(alloc, &[]));
+    assert!(rt; matches!(none, Some(BaseError::EmptyScope)));
+    let twice = fault(scope(alloc, &[("a", BOOL), ("b", STATE), ("a", STATE)]));
+    assert!(rt; matches!(twice, Some(BaseError::DuplicateColumn)));
+    let state = fault(scope(alloc, &[("a", BOOL), ("b", STATE)]));
+    assert!(rt; matches!(state, Some(BaseError::TypeFault)));
 }

@@ -1,16 +1,82 @@
-//! Expressions for the tests, by calls without a contract: a test compares what it builds and
-//! reasons of nothing, so its proof stays short.
-use std::alloc::Global;
-use vortex_base::{BaseError, BoundExpression, Expression, Row, ScalarValue, Scope};
+//! Values and expressions for the tests, by calls without a contract that take what other calls
+//! answered: a test is one straight line of calls, so its proof stays short.
+use std::alloc::{AllocError, Global};
+use std::process::Abort;
+use std::test::Fail;
+use vortex_base::{
+    BaseError, BoundExpression, Bytes, Chunk, Column, DType, Expression, Nullability, PType, Row,
+    Scalar, ScalarValue, Scope, Text,
+};
 
 pub type Built = Result<BoundExpression, BaseError>;
+
+pub type Made = Result<Expression, BaseError>;
+
+pub const BOOL: DType = DType::Bool(Nullability::NonNullable);
+
+pub const BOOL_OR_NULL: DType = DType::Bool(Nullability::Nullable);
+
+pub const I32: DType = DType::Primitive(PType::I32, Nullability::NonNullable);
+
+pub const I32_OR_NULL: DType = DType::Primitive(PType::I32, Nullability::Nullable);
+
+pub const UTF8: DType = DType::Utf8(Nullability::NonNullable);
+
+pub const UTF8_OR_NULL: DType = DType::Utf8(Nullability::Nullable);
 
 pub fn copy(x: &BoundExpression) -> Built {
     x.try_clone()
 }
 
+pub fn text_value(alloc: Global, text: &str) -> Result<ScalarValue, AllocError> {
+    Ok(ScalarValue::Utf8(Text::new(String::from_str(alloc, text)?)))
+}
+
+pub fn bytes_value(alloc: Global, bytes: &[u8]) -> Result<ScalarValue, AllocError> {
+    Ok(ScalarValue::Binary(Bytes::new(Vec::from_slice(alloc, bytes)?)))
+}
+
+pub fn scalar(dtype: DType, value: Option<ScalarValue>) -> Result<Scalar, BaseError> {
+    Scalar::try_new(dtype, value)
+}
+
+/// The scope of columns with these names and types.
+pub fn scope(alloc: Global, columns: &[(&str, DType)]) -> Result<Scope, BaseError> {
+    let mut named = Vec::new(alloc);
+    for (name, dtype) in columns {
+        named.push((String::from_str(alloc, name)?, *dtype))?;
+    }
+    Scope::try_new(named)
+}
+
+pub fn scope_of_a(alloc: Global) -> Result<Scope, BaseError> {
+    scope(alloc, &[("a", I32)])
+}
+
+pub fn column(
+    dtype: DType,
+    values: Vec<Option<ScalarValue>>,
+    size: u64,
+) -> Result<Column, BaseError> {
+    Column::try_new(dtype, values, size)
+}
+
+pub fn chunk(scope: Scope, columns: Vec<Column>) -> Result<Chunk, BaseError> {
+    Chunk::try_new(scope, columns)
+}
+
 pub fn bind(x: Expression, alloc: Global, scope: &Scope) -> Built {
     x.bind(alloc, scope)
+}
+
+/// The expression, bound to the scope of a column `a` of numbers.
+pub fn bound_to_a(alloc: Global, x: Made) -> Built {
+    bind(x?, alloc, &scope_of_a(alloc)?)
+}
+
+/// The type of an expression that is made.
+pub fn dtype_of(x: Built) -> Result<DType, BaseError> {
+    Ok(x?.dtype())
 }
 
 pub fn evaluated(
@@ -19,6 +85,13 @@ pub fn evaluated(
     rows: u64,
 ) -> Result<Option<ScalarValue>, BaseError> {
     vortex_base::evaluate::evaluate(x, row, rows)
+}
+
+/// The two are made, and alike.
+pub fn expect_same(rt: &impl Abort, found: Built, expected: Built) -> Result<(), Fail> {
+    let (found, expected) = (found?, expected?);
+    assert!(rt; found == expected);
+    Ok(())
 }
 
 /// Expressions over names.
@@ -38,75 +111,70 @@ pub mod named {
         Expression::lit(alloc, value)
     }
 
-    pub fn eq(alloc: Global, left: Expression, right: Expression) -> Built {
-        Expression::eq(alloc, left, right)
+    pub fn eq(alloc: Global, left: Built, right: Built) -> Built {
+        Expression::eq(alloc, left?, right?)
     }
 
-    pub fn not_eq(alloc: Global, left: Expression, right: Expression) -> Built {
-        Expression::not_eq(alloc, left, right)
+    pub fn not_eq(alloc: Global, left: Built, right: Built) -> Built {
+        Expression::not_eq(alloc, left?, right?)
     }
 
-    pub fn gt(alloc: Global, left: Expression, right: Expression) -> Built {
-        Expression::gt(alloc, left, right)
+    pub fn gt(alloc: Global, left: Built, right: Built) -> Built {
+        Expression::gt(alloc, left?, right?)
     }
 
-    pub fn gt_eq(alloc: Global, left: Expression, right: Expression) -> Built {
-        Expression::gt_eq(alloc, left, right)
+    pub fn gt_eq(alloc: Global, left: Built, right: Built) -> Built {
+        Expression::gt_eq(alloc, left?, right?)
     }
 
-    pub fn lt(alloc: Global, left: Expression, right: Expression) -> Built {
-        Expression::lt(alloc, left, right)
+    pub fn lt(alloc: Global, left: Built, right: Built) -> Built {
+        Expression::lt(alloc, left?, right?)
     }
 
-    pub fn lt_eq(alloc: Global, left: Expression, right: Expression) -> Built {
-        Expression::lt_eq(alloc, left, right)
+    pub fn lt_eq(alloc: Global, left: Built, right: Built) -> Built {
+        Expression::lt_eq(alloc, left?, right?)
     }
 
-    pub fn and(alloc: Global, left: Expression, right: Expression) -> Built {
-        Expression::and(alloc, left, right)
+    pub fn and(alloc: Global, left: Built, right: Built) -> Built {
+        Expression::and(alloc, left?, right?)
     }
 
-    pub fn or(alloc: Global, left: Expression, right: Expression) -> Built {
-        Expression::or(alloc, left, right)
+    pub fn or(alloc: Global, left: Built, right: Built) -> Built {
+        Expression::or(alloc, left?, right?)
     }
 
-    pub fn not(alloc: Global, x: Expression) -> Built {
-        Expression::not(alloc, x)
+    pub fn not(alloc: Global, x: Built) -> Built {
+        Expression::not(alloc, x?)
     }
 
-    pub fn is_null(alloc: Global, x: Expression) -> Built {
-        Expression::is_null(alloc, x)
+    pub fn is_null(alloc: Global, x: Built) -> Built {
+        Expression::is_null(alloc, x?)
     }
 
-    pub fn is_not_null(alloc: Global, x: Expression) -> Built {
-        Expression::is_not_null(alloc, x)
+    pub fn is_not_null(alloc: Global, x: Built) -> Built {
+        Expression::is_not_null(alloc, x?)
     }
 
     pub fn between(
         alloc: Global,
-        x: Expression,
-        lower: Expression,
-        upper: Expression,
+        x: Built,
+        lower: Built,
+        upper: Built,
         options: BetweenOptions,
     ) -> Built {
-        Expression::between(alloc, x, lower, upper, options)
+        Expression::between(alloc, x?, lower?, upper?, options)
     }
 
-    pub fn like(alloc: Global, text: Expression, pattern: Expression) -> Built {
-        Expression::like(alloc, text, pattern)
+    pub fn like(alloc: Global, text: Built, pattern: Built) -> Built {
+        Expression::like(alloc, text?, pattern?)
     }
 
-    pub fn like_with(
-        alloc: Global,
-        text: Expression,
-        pattern: Expression,
-        options: LikeOptions,
-    ) -> Built {
-        Expression::like_with(alloc, text, pattern, options)
+    pub fn like_with(alloc: Global, text: Built, pattern: Built, options: LikeOptions) -> Built {
+        Expression::like_with(alloc, text?, pattern?, options)
     }
 
-    pub fn new_stat(alloc: Global, x: Expression, aggregate: AggregateFnRef) -> Built {
-        Expression::new_stat(alloc, x, aggregate)
+    pub fn new_stat(alloc: Global, x: Built, aggregate: AggregateFnRef) -> Built {
+        Expression::new_stat(alloc, x?, aggregate)
     }
 
     pub fn row_count(alloc: Global) -> Built {
@@ -131,75 +199,70 @@ pub mod placed {
         bound::lit(alloc, Scalar::try_new(dtype, value)?)
     }
 
-    pub fn eq(alloc: Global, left: BoundExpression, right: BoundExpression) -> Built {
-        bound::eq(alloc, left, right)
+    pub fn eq(alloc: Global, left: Built, right: Built) -> Built {
+        bound::eq(alloc, left?, right?)
     }
 
-    pub fn not_eq(alloc: Global, left: BoundExpression, right: BoundExpression) -> Built {
-        bound::not_eq(alloc, left, right)
+    pub fn not_eq(alloc: Global, left: Built, right: Built) -> Built {
+        bound::not_eq(alloc, left?, right?)
     }
 
-    pub fn gt(alloc: Global, left: BoundExpression, right: BoundExpression) -> Built {
-        bound::gt(alloc, left, right)
+    pub fn gt(alloc: Global, left: Built, right: Built) -> Built {
+        bound::gt(alloc, left?, right?)
     }
 
-    pub fn gt_eq(alloc: Global, left: BoundExpression, right: BoundExpression) -> Built {
-        bound::gt_eq(alloc, left, right)
+    pub fn gt_eq(alloc: Global, left: Built, right: Built) -> Built {
+        bound::gt_eq(alloc, left?, right?)
     }
 
-    pub fn lt(alloc: Global, left: BoundExpression, right: BoundExpression) -> Built {
-        bound::lt(alloc, left, right)
+    pub fn lt(alloc: Global, left: Built, right: Built) -> Built {
+        bound::lt(alloc, left?, right?)
     }
 
-    pub fn lt_eq(alloc: Global, left: BoundExpression, right: BoundExpression) -> Built {
-        bound::lt_eq(alloc, left, right)
+    pub fn lt_eq(alloc: Global, left: Built, right: Built) -> Built {
+        bound::lt_eq(alloc, left?, right?)
     }
 
-    pub fn and(alloc: Global, left: BoundExpression, right: BoundExpression) -> Built {
-        bound::and(alloc, left, right)
+    pub fn and(alloc: Global, left: Built, right: Built) -> Built {
+        bound::and(alloc, left?, right?)
     }
 
-    pub fn or(alloc: Global, left: BoundExpression, right: BoundExpression) -> Built {
-        bound::or(alloc, left, right)
+    pub fn or(alloc: Global, left: Built, right: Built) -> Built {
+        bound::or(alloc, left?, right?)
     }
 
-    pub fn not(alloc: Global, x: BoundExpression) -> Built {
-        bound::not(alloc, x)
+    pub fn not(alloc: Global, x: Built) -> Built {
+        bound::not(alloc, x?)
     }
 
-    pub fn is_null(alloc: Global, x: BoundExpression) -> Built {
-        bound::is_null(alloc, x)
+    pub fn is_null(alloc: Global, x: Built) -> Built {
+        bound::is_null(alloc, x?)
     }
 
-    pub fn is_not_null(alloc: Global, x: BoundExpression) -> Built {
-        bound::is_not_null(alloc, x)
+    pub fn is_not_null(alloc: Global, x: Built) -> Built {
+        bound::is_not_null(alloc, x?)
     }
 
     pub fn between(
         alloc: Global,
-        x: BoundExpression,
-        lower: BoundExpression,
-        upper: BoundExpression,
+        x: Built,
+        lower: Built,
+        upper: Built,
         options: BetweenOptions,
     ) -> Built {
-        bound::between(alloc, x, lower, upper, options)
+        bound::between(alloc, x?, lower?, upper?, options)
     }
 
-    pub fn like(alloc: Global, text: BoundExpression, pattern: BoundExpression) -> Built {
-        bound::like(alloc, text, pattern)
+    pub fn like(alloc: Global, text: Built, pattern: Built) -> Built {
+        bound::like(alloc, text?, pattern?)
     }
 
-    pub fn like_with(
-        alloc: Global,
-        text: BoundExpression,
-        pattern: BoundExpression,
-        options: LikeOptions,
-    ) -> Built {
-        bound::like_with(alloc, text, pattern, options)
+    pub fn like_with(alloc: Global, text: Built, pattern: Built, options: LikeOptions) -> Built {
+        bound::like_with(alloc, text?, pattern?, options)
     }
 
-    pub fn new_stat(alloc: Global, x: BoundExpression, aggregate: AggregateFnRef) -> Built {
-        bound::new_stat(alloc, x, aggregate)
+    pub fn new_stat(alloc: Global, x: Built, aggregate: AggregateFnRef) -> Built {
+        bound::new_stat(alloc, x?, aggregate)
     }
 
     pub fn row_count(alloc: Global) -> Built {

@@ -173,6 +173,3 @@ pub fn bind_stats<B: StatBinder>(
 {
     bind_stats_of(alloc, &e, binder)
 }
-
-#[cfg(test)]
-mod tests;

@@ -57,6 +57,3 @@ pub fn all_non_null(alloc: Global, input: Expression) -> Result<Expression, Stat
 {
     stat(alloc, input, AggregateFnRef::AllNonNull)
 }
-
-#[cfg(test)]
-mod tests;

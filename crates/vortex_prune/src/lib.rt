@@ -10,8 +10,6 @@ pub mod part;
 pub mod rewrite;
 pub mod scan;
 pub mod stat_fn;
-#[cfg(test)]
-mod testing;
 pub mod zones;
 
 pub use bind::stat_binder::StatBinder;

@@ -107,6 +107,3 @@ pub struct JoinRefused {
     /// The second part as it was given.
     pub right: Part,
 }
-
-#[cfg(test)]
-mod tests;

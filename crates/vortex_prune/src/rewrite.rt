@@ -109,6 +109,3 @@ pub fn satisfy(
     let proof = rewrite_node(alloc, Side::Satisfy, rules, predicate, &mut turns)?;
     Ok(into_expression(proof))
 }
-
-#[cfg(test)]
-mod tests;

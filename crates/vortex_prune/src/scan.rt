@@ -203,6 +203,3 @@ pub fn scan<B: StatBinder>(
     let satisfier = satisfy(alloc, predicate, rules)?;
     scan_by(alloc, parts, binders, predicate, falsifier.as_ref(), satisfier.as_ref())
 }
-
-#[cfg(test)]
-mod tests;

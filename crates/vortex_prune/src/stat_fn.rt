@@ -229,6 +229,3 @@ fn null_count_value(count: Precision<ScalarValue>) -> Option<ScalarValue>
         Precision::Absent => None,
     }
 }
-
-#[cfg(test)]
-mod tests;

@@ -416,6 +416,3 @@ fn offset(aggregate: AggregateFnRef, dtype: DType) -> Option<usize>
         _ => None,
     }
 }
-
-#[cfg(test)]
-mod tests;

@@ -18,10 +18,6 @@ mod reading;
 pub mod stat;
 pub mod stat_bound;
 pub mod stats_set;
-#[cfg(test)]
-mod testing;
-#[cfg(test)]
-mod tests;
 pub mod typed;
 
 pub use bound::{IntersectionResult, LowerBound, UpperBound};

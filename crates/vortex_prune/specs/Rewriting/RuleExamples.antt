@@ -58,6 +58,12 @@ number_proof_is_lawful = record {
   satisfies = λ p e h k A chunk over honest t. absurd (never_number e A _ h t);
 }
 
+pub number_satisfier_is_lawful : IsLawful no_proof number_proof
+number_satisfier_is_lawful = record {
+  falsifies = λ p e h. absurd cc;
+  satisfies = λ p e h k A chunk over honest t. absurd (never_number e A _ h t);
+}
+
 -- a proof with a column outside its placeholders
 abbrev pub open_proof : Tree Place → Option (Tree Place)
 open_proof p = Some (is_null (column (record { index = 0; dtype = dtype.Primitive I32 Nullable })))
@@ -88,6 +94,12 @@ pub bare_proof_is_lawful : IsLawful bare_proof no_proof
 bare_proof_is_lawful = record {
   falsifies = λ p e h k A chunk over honest t. absurd (never_bare e A _ h t);
   satisfies = λ p e h. absurd cc;
+}
+
+pub bare_satisfier_is_lawful : IsLawful no_proof bare_proof
+bare_satisfier_is_lawful = record {
+  falsifies = λ p e h. absurd cc;
+  satisfies = λ p e h k A chunk over honest t. absurd (never_bare e A _ h t);
 }
 
 -- the answer, where the value is this truth

@@ -114,6 +114,3 @@ impl<'a> StatBinder for StatsBinder<'a> {
         }
     }
 }
-
-#[cfg(test)]
-mod tests;

@@ -68,6 +68,3 @@ pub fn all_non_null(alloc: Global, input: BoundExpression) -> Result<BoundExpres
     let _typed = input.dtype();
     stat(alloc, input, AggregateFnRef::AllNonNull)
 }
-
-#[cfg(test)]
-mod tests;

@@ -334,6 +334,3 @@ pub fn scan_zones<'a>(
 {
     scan_rules(alloc, zones, predicate, rules)
 }
-
-#[cfg(test)]
-mod tests;

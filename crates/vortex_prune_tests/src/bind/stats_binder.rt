@@ -1,0 +1,100 @@
+//! What the statistics of a part of one column answer.
+use crate::testing::*;
+use std::alloc::{AllocError, Global};
+use std::process::Abort;
+use std::test::Fail;
+use vortex_base::evaluate::evaluate;
+use vortex_base::{BaseError, BoundExpression, DType, Nullability, Row, ScalarValue};
+use vortex_prune::bind::bind_stats;
+use vortex_prune::expr::bound as placed;
+use vortex_prune::{Part, StatsBinder};
+use vortex_stats::{Stat, StatsError};
+
+const TRUTH: DType = DType::Bool(Nullability::Nullable);
+
+const TEXT: DType = DType::Utf8(Nullability::Nullable);
+
+fn values(alloc: Global) -> Result<Cells, AllocError> {
+    numbers(alloc, &[Some(1), None, Some(3)])
+}
+
+// At most 20, and one null.
+fn statistics(alloc: Global) -> Sets {
+    let set = at_most(alloc, Stat::Max, number(20));
+    and_exactly(set, Stat::NullCount, count(1))
+}
+
+// The rows 1, null, 3 of a column `a`, with its statistics.
+fn part(alloc: Global) -> Result<Part, StatsError> {
+    let column = column(I32_OR_NULL, values(alloc), 12);
+    let chunk = chunk_of(alloc, scope_of(alloc, I32_OR_NULL), column);
+    part_of(alloc, chunk, statistics(alloc))
+}
+
+fn a(alloc: Global) -> Built {
+    col(alloc, 0, I32_OR_NULL)
+}
+
+fn int_or_null(alloc: Global, value: i32) -> Built {
+    lit(alloc, I32_OR_NULL, number(value))
+}
+
+fn unknown_truth(alloc: Global) -> Built {
+    null_of(alloc, TRUTH)
+}
+
+fn all_null(alloc: Global, x: Built) -> Built {
+    placed::all_null(alloc, x?)
+}
+
+// The expression, bound by the part's own statistics.
+fn bound_by(alloc: Global, e: BoundExpression, part: &Part) -> Built {
+    bind_stats(alloc, e, &StatsBinder::new(part))
+}
+
+fn bound_to_part(alloc: Global, e: Built) -> Built {
+    bound_by(alloc, e?, &part(alloc)?)
+}
+
+// The expression is bound to this one.
+fn expect_bound(rt: &impl Abort, alloc: Global, e: Built, expected: Built) -> Result<(), Fail> {
+    expect_same(rt, bound_to_part(alloc, e), expected)
+}
+
+#[test]
+fn literals_of_what_is_known(rt: HostRuntime) -> Result<(), Fail> {
+    let alloc = rt.alloc();
+    expect_bound(&rt, alloc, max(alloc, a(alloc)), int_or_null(alloc, 20))?;
+    expect_bound(&rt, alloc, min(alloc, a(alloc)), null_of(alloc, I32))?;
+    let is_truth = lit(alloc, TRUTH, ScalarValue::Bool(false));
+    expect_bound(&rt, alloc, all_null(alloc, a(alloc)), is_truth)
+}
+
+#[test]
+fn null_of_what_is_not(rt: HostRuntime) -> Result<(), Fail> {
+    let alloc = rt.alloc();
+    let elsewhere = all_null(alloc, col(alloc, 1, I32_OR_NULL));
+    expect_bound(&rt, alloc, elsewhere, unknown_truth(alloc))?;
+    let other_type = all_null(alloc, col(alloc, 0, TEXT));
+    expect_bound(&rt, alloc, other_type, unknown_truth(alloc))?;
+    let no_column = all_null(alloc, int_or_null(alloc, 1));
+    expect_bound(&rt, alloc, no_column, unknown_truth(alloc))
+}
+
+fn value(e: &BoundExpression, rows: u64) -> Result<Option<ScalarValue>, BaseError> {
+    evaluate(e, &Row::empty(), rows)
+}
+
+// The value of an expression over no columns and these rows.
+fn value_of(e: Built, rows: u64) -> Result<Option<ScalarValue>, Fail> {
+    Ok(value(&e?, rows)?)
+}
+
+#[test]
+fn a_proof_can_be_evaluated(rt: HostRuntime) -> Result<(), Fail> {
+    let alloc = rt.alloc();
+    let max = max(alloc, col(alloc, 0, I32));
+    let bound = bound_to_part(alloc, lt_eq(alloc, max, int_or_null(alloc, 25)));
+    assert!(rt; value_of(bound, 3)? == Some(ScalarValue::Bool(true)));
+    Ok(())
+}

@@ -1,0 +1,19 @@
+//! Tests of `vortex_prune` by its public calls, one module for each of its modules.
+#![tactic(auto)]
+
+#[cfg(test)]
+mod bind;
+#[cfg(test)]
+mod expr;
+#[cfg(test)]
+mod part;
+#[cfg(test)]
+mod rewrite;
+#[cfg(test)]
+mod scan;
+#[cfg(test)]
+mod stat_fn;
+#[cfg(test)]
+mod testing;
+#[cfg(test)]
+mod zones;

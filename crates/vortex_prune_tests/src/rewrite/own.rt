@@ -1,0 +1,455 @@
+//! Rules of a user, boxed and asked.
+ghost use Rattle.std.specs.Prelude.{◌≡◌, Bool, true, false, MatchResult, Some, None, if◌then◌else◌};
+ghost use Rattle.vortex_prune.specs.Binding.HookFaults.{IsHookFault};
+ghost use Rattle.vortex_prune.specs.Rewriting.RuleExamples.{at_opposite};
+ghost use Rattle.vortex_prune.specs.Rewriting.Falsifiers.{bool_literal, count_literal};
+
+use super::*;
+use std::alloc::AllocError;
+use vortex_base::{Parts, Scalar, ScalarFnId, bound};
+use vortex_prune::{HookFault, StatsRewriteRule, StatsRewriteRuleRef};
+use vortex_stats::RuleFault;
+
+fn number_answer(alloc: Global) -> Result<Option<BoundExpression>, HookFault>
+    ensures { MatchResult result (λ o. o ≡ Some (count_literal 7)) (IsHookFault (λ k. false)) }
+{
+    let seven = Scalar::try_new(U64, Some(ScalarValue::from(7u64)))?;
+    Ok(Some(bound::lit(alloc, seven)?))
+}
+
+fn is_not_of(e: &BoundExpression, truth: bool) -> bool
+    ensures { (answer : Bool) → at_opposite truth answer e.now
+        ≡ (if result then Some (bool_literal answer) else None) }
+{
+    match e.parts() {
+        Parts::Not(x) => match x.parts() {
+            Parts::Literal(value) => match value.value() {
+                Some(ScalarValue::Bool(b)) => *b == truth,
+                _ => false,
+            },
+            _ => false,
+        },
+        _ => false,
+    }
+}
+
+// Answers a literal for NOT TRUE, which no row satisfies, and for NOT FALSE, which every row does.
+#[derive(Drop)]
+struct Opposite {
+    answer: bool,
+}
+
+impl StatsRewriteRule for Opposite {
+    ghost use Rattle.std.specs.Prelude.{true, false};
+    ghost use Rattle.vortex_base.specs.declared.types.ScalarFnId.TheVariants as function;
+    ghost use Rattle.vortex_prune.specs.Rewriting.RuleExamples.{at_opposite, opposite_is_lawful};
+
+    ghost id = { λ s. function.Not };
+
+    ghost falsifier = { λ s. at_opposite true s.answer };
+
+    ghost satisfier = { λ s. at_opposite false s.answer };
+
+    ghost can_fault = { λ s k. false };
+
+    ghost is_lawful = { λ s. opposite_is_lawful s.answer };
+
+    fn scalar_fn_id(&self) -> ScalarFnId {
+        ScalarFnId::Not
+    }
+
+    fn falsify(
+        &self,
+        alloc: Global,
+        expression: &BoundExpression,
+    ) -> Result<Option<BoundExpression>, HookFault> {
+        if is_not_of(expression, true) {
+            truth_answer(alloc, self.answer)
+        } else {
+            Ok(None)
+        }
+    }
+
+    fn satisfy(
+        &self,
+        alloc: Global,
+        expression: &BoundExpression,
+    ) -> Result<Option<BoundExpression>, HookFault> {
+        if is_not_of(expression, false) {
+            truth_answer(alloc, self.answer)
+        } else {
+            Ok(None)
+        }
+    }
+}
+
+// Answers a literal that is false at each node of its function.
+#[derive(Drop)]
+struct Unsure {
+    function: ScalarFnId,
+}
+
+impl StatsRewriteRule for Unsure {
+    ghost use Rattle.std.specs.Prelude.{false};
+    ghost use Rattle.vortex_prune.specs.Rewriting.RuleExamples.{false_proof, false_proof_is_lawful};
+
+    ghost id = { λ s. s.function };
+
+    ghost falsifier = { λ s. false_proof };
+
+    ghost satisfier = { λ s. false_proof };
+
+    ghost can_fault = { λ s k. false };
+
+    ghost is_lawful = { λ s. false_proof_is_lawful };
+
+    fn scalar_fn_id(&self) -> ScalarFnId {
+        self.function
+    }
+
+    fn falsify(
+        &self,
+        alloc: Global,
+        _expression: &BoundExpression,
+    ) -> Result<Option<BoundExpression>, HookFault> {
+        truth_answer(alloc, false)
+    }
+
+    fn satisfy(
+        &self,
+        alloc: Global,
+        _expression: &BoundExpression,
+    ) -> Result<Option<BoundExpression>, HookFault> {
+        truth_answer(alloc, false)
+    }
+}
+
+// Answers a number, which is no proof.
+#[derive(Drop)]
+struct Number {
+    function: ScalarFnId,
+}
+
+impl StatsRewriteRule for Number {
+    ghost use Rattle.std.specs.Prelude.{false};
+    ghost use Rattle.vortex_prune.specs.Rewriting.RuleExamples.{number_proof, number_proof_is_lawful};
+
+    ghost id = { λ s. s.function };
+
+    ghost falsifier = { λ s. number_proof };
+
+    ghost satisfier = { λ s. number_proof };
+
+    ghost can_fault = { λ s k. false };
+
+    ghost is_lawful = { λ s. number_proof_is_lawful };
+
+    fn scalar_fn_id(&self) -> ScalarFnId {
+        self.function
+    }
+
+    fn falsify(
+        &self,
+        alloc: Global,
+        _expression: &BoundExpression,
+    ) -> Result<Option<BoundExpression>, HookFault> {
+        number_answer(alloc)
+    }
+
+    fn satisfy(
+        &self,
+        alloc: Global,
+        _expression: &BoundExpression,
+    ) -> Result<Option<BoundExpression>, HookFault> {
+        number_answer(alloc)
+    }
+}
+
+// Fails at each node of its function.
+#[derive(Drop)]
+struct Faulty {
+    function: ScalarFnId,
+    fault: u32,
+}
+
+impl StatsRewriteRule for Faulty {
+    ghost use Rattle.std.specs.Prelude.{◌==◌};
+    ghost use Rattle.vortex_prune.specs.Rewriting.RuleExamples.{no_proof, no_proof_is_lawful};
+
+    ghost id = { λ s. s.function };
+
+    ghost falsifier = { λ s. no_proof };
+
+    ghost satisfier = { λ s. no_proof };
+
+    ghost can_fault = { λ s k. k == s.fault };
+
+    ghost is_lawful = { λ s. no_proof_is_lawful };
+
+    fn scalar_fn_id(&self) -> ScalarFnId {
+        self.function
+    }
+
+    fn falsify(
+        &self,
+        _alloc: Global,
+        _expression: &BoundExpression,
+    ) -> Result<Option<BoundExpression>, HookFault> {
+        Err(HookFault::Own(self.fault))
+    }
+
+    fn satisfy(
+        &self,
+        _alloc: Global,
+        _expression: &BoundExpression,
+    ) -> Result<Option<BoundExpression>, HookFault> {
+        Err(HookFault::Own(self.fault))
+    }
+}
+
+fn fault_of(answer: Proof) -> Option<u32> {
+    match answer {
+        Err(StatsError::Rule(RuleFault::Own(fault))) => Some(fault),
+        _ => None,
+    }
+}
+
+// The rule's fault of this number is told.
+fn expect_fault(rt: &impl Abort, answer: Proof, fault: u32) {
+    assert!(rt; fault_of(answer) == Some(fault));
+}
+
+fn is_not_bool(answer: Proof) -> bool {
+    matches!(answer, Err(StatsError::Rule(RuleFault::NotBool)))
+}
+
+fn new_opposite(alloc: Global, answer: bool) -> Result<StatsRewriteRuleRef, AllocError> {
+    Ok(Box::new(alloc, Opposite { answer })?)
+}
+
+fn new_unsure(alloc: Global, function: ScalarFnId) -> Result<StatsRewriteRuleRef, AllocError> {
+    Ok(Box::new(alloc, Unsure { function })?)
+}
+
+fn new_number(alloc: Global, function: ScalarFnId) -> Result<StatsRewriteRuleRef, AllocError> {
+    Ok(Box::new(alloc, Number { function })?)
+}
+
+fn new_faulty(
+    alloc: Global,
+    function: ScalarFnId,
+    fault: u32,
+) -> Result<StatsRewriteRuleRef, AllocError> {
+    Ok(Box::new(alloc, Faulty { function, fault })?)
+}
+
+fn two_opposites(alloc: Global) -> Result<Rules, AllocError> {
+    two_rules(
+        alloc,
+        new_opposite(alloc, false)?,
+        new_opposite(alloc, true)?,
+    )
+}
+
+fn not_true(alloc: Global) -> Built {
+    not(alloc, truth(alloc, true))
+}
+
+fn not_false(alloc: Global) -> Built {
+    not(alloc, truth(alloc, false))
+}
+
+fn either_truth(alloc: Global) -> Built {
+    or(alloc, truth(alloc, false), truth(alloc, true))
+}
+
+#[test]
+fn proofs_of_two_rules_are_joined(rt: HostRuntime) -> Result<(), Fail> {
+    let alloc = rt.alloc();
+    let rules = two_opposites(alloc)?;
+    expect_proof(
+        &rt,
+        falsified(alloc, not_true(alloc), &rules),
+        either_truth(alloc),
+    )?;
+    expect_none(&rt, satisfied(alloc, not_true(alloc), &rules))?;
+    expect_proof(
+        &rt,
+        satisfied(alloc, not_false(alloc), &rules),
+        either_truth(alloc),
+    )?;
+    expect_none(&rt, falsified(alloc, not_false(alloc), &rules))
+}
+
+#[test]
+fn without_a_rule_of_its_own_not_has_no_proof(rt: HostRuntime) -> Result<(), Fail> {
+    let alloc = rt.alloc();
+    expect_no_falsifier(&rt, alloc, not_true(alloc))?;
+    expect_none(
+        &rt,
+        satisfied(alloc, not_false(alloc), &Rules::builtin(alloc)),
+    )
+}
+
+fn unsure_rules(alloc: Global, function: ScalarFnId) -> Result<Rules, AllocError> {
+    rules_of(alloc, new_unsure(alloc, function)?)
+}
+
+// A proof, and then the one that the unsure rule has.
+fn and_unsure(alloc: Global, proof: Built) -> Built {
+    or(alloc, proof, truth(alloc, false))
+}
+
+#[test]
+fn own_proofs_follow_the_built_in_ones(rt: HostRuntime) -> Result<(), Fail> {
+    let alloc = rt.alloc();
+    let rules = unsure_rules(alloc, ScalarFnId::IsNull)?;
+    let found = falsified(alloc, is_null(alloc, a(alloc)), &rules);
+    expect_proof(&rt, found, and_unsure(alloc, no_null(alloc)))
+}
+
+fn above_ten_or_never(alloc: Global) -> Built {
+    or(
+        alloc,
+        gt(alloc, a(alloc), int(alloc, 10)),
+        truth(alloc, false),
+    )
+}
+
+#[test]
+fn rules_are_asked_at_connectives_too(rt: HostRuntime) -> Result<(), Fail> {
+    let alloc = rt.alloc();
+    let rules = unsure_rules(alloc, ScalarFnId::Binary)?;
+    let left = and_unsure(alloc, lt_eq(alloc, max_a(alloc), int(alloc, 10)));
+    let sides = and(alloc, left, truth(alloc, true));
+    let found = falsified(alloc, above_ten_or_never(alloc), &rules);
+    expect_proof(&rt, found, and_unsure(alloc, sides))?;
+    let sides = or(alloc, unsure_above_ten(alloc), truth(alloc, false));
+    let found = satisfied(alloc, above_ten_or_never(alloc), &rules);
+    expect_proof(&rt, found, and_unsure(alloc, sides))
+}
+
+// What satisfies `a > 10`, where the unsure rule is asked.
+fn unsure_above_ten(alloc: Global) -> Built {
+    let above = gt(alloc, min_a(alloc), int(alloc, 10));
+    and_unsure(alloc, and(alloc, above, all_non_null(alloc)))
+}
+
+fn above_ten_and(alloc: Global, other: Built) -> Built {
+    and(alloc, gt(alloc, a(alloc), int(alloc, 10)), other)
+}
+
+#[test]
+fn rules_are_asked_for_satisfiers_at_and(rt: HostRuntime) -> Result<(), Fail> {
+    let alloc = rt.alloc();
+    let rules = unsure_rules(alloc, ScalarFnId::Binary)?;
+    let sides = and(alloc, unsure_above_ten(alloc), truth(alloc, true));
+    let found = satisfied(alloc, above_ten_and(alloc, truth(alloc, true)), &rules);
+    expect_proof(&rt, found, and_unsure(alloc, sides))?;
+    // A side without a satisfier leaves the rule of the AND alone.
+    let found = satisfied(alloc, above_ten_and(alloc, not_false(alloc)), &rules);
+    expect_proof(&rt, found, truth(alloc, false))
+}
+
+#[test]
+fn satisfiers_of_rules_stand_in_for_a_side(rt: HostRuntime) -> Result<(), Fail> {
+    let alloc = rt.alloc();
+    let rules = rules_of(alloc, new_opposite(alloc, true)?)?;
+    let side = gt(alloc, min_a(alloc), int(alloc, 10));
+    let side = and(alloc, side, all_non_null(alloc));
+    let found = satisfied(alloc, above_ten_and(alloc, not_false(alloc)), &rules);
+    expect_proof(&rt, found, and(alloc, side, truth(alloc, true)))?;
+    let side = gt(alloc, min_a(alloc), int(alloc, 10));
+    let side = and(alloc, side, all_non_null(alloc));
+    let above = gt(alloc, a(alloc), int(alloc, 10));
+    let found = satisfied(alloc, or(alloc, not_false(alloc), above), &rules);
+    expect_proof(&rt, found, or(alloc, truth(alloc, true), side))
+}
+
+// What falsifies a range from 10 to 50, where the unsure rule is asked at its comparisons.
+fn unsure_range(alloc: Global) -> Built {
+    let low = and_unsure(alloc, gt(alloc, int(alloc, 10), max_a(alloc)));
+    let high = and_unsure(alloc, gt(alloc, min_a(alloc), int(alloc, 50)));
+    and_unsure(alloc, or(alloc, low, high))
+}
+
+#[test]
+fn rules_are_asked_within_a_between(rt: HostRuntime) -> Result<(), Fail> {
+    let alloc = rt.alloc();
+    let rules = unsure_rules(alloc, ScalarFnId::Binary)?;
+    let found = falsified(alloc, closed_range(alloc, 10, 50), &rules);
+    expect_proof(&rt, found, unsure_range(alloc))?;
+    // Strict ends are moved first, and the rules are asked at the comparisons as they then stand.
+    let found = falsified(alloc, open_range(alloc, 9, 51), &rules);
+    expect_proof(&rt, found, unsure_range(alloc))?;
+    let found = satisfied(alloc, open_range(alloc, 9, 51), &rules);
+    expect_proof(&rt, found, unsure_satisfied_range(alloc))
+}
+
+// What satisfies that range.
+fn unsure_satisfied_range(alloc: Global) -> Built {
+    let low = lt_eq(alloc, int(alloc, 10), min_a(alloc));
+    let low = and_unsure(alloc, and(alloc, low, all_non_null(alloc)));
+    let high = lt_eq(alloc, max_a(alloc), int(alloc, 50));
+    let high = and_unsure(alloc, and(alloc, high, all_non_null(alloc)));
+    and_unsure(alloc, and(alloc, low, high))
+}
+
+fn faulty_within_unsure(alloc: Global) -> Result<Rules, AllocError> {
+    let within = new_faulty(alloc, ScalarFnId::Binary, 3)?;
+    two_rules(alloc, within, new_unsure(alloc, ScalarFnId::Between)?)
+}
+
+#[test]
+fn an_empty_between_is_asked_for_itself_alone(rt: HostRuntime) -> Result<(), Fail> {
+    let alloc = rt.alloc();
+    let rules = faulty_within_unsure(alloc)?;
+    let found = falsified(alloc, open_range(alloc, 3, 4), &rules);
+    expect_proof(&rt, found, and_unsure(alloc, truth(alloc, true)))?;
+    let found = satisfied(alloc, open_range(alloc, 3, 4), &rules);
+    expect_proof(&rt, found, truth(alloc, false))?;
+    expect_fault(&rt, falsified(alloc, open_range(alloc, 3, 5), &rules), 3);
+    expect_fault(&rt, satisfied(alloc, open_range(alloc, 3, 5), &rules), 3);
+    Ok(())
+}
+
+fn two_faulty(alloc: Global) -> Result<Rules, AllocError> {
+    let first = new_faulty(alloc, ScalarFnId::IsNull, 4)?;
+    two_rules(alloc, first, new_faulty(alloc, ScalarFnId::Not, 3)?)
+}
+
+fn null_test(alloc: Global) -> Built {
+    is_null(alloc, a(alloc))
+}
+
+#[test]
+fn the_first_fault_ends_the_call(rt: HostRuntime) -> Result<(), Fail> {
+    let alloc = rt.alloc();
+    let rules = two_faulty(alloc)?;
+    expect_fault(&rt, satisfied(alloc, null_test(alloc), &rules), 4);
+    let e = and(alloc, not_true(alloc), null_test(alloc));
+    expect_fault(&rt, falsified(alloc, e, &rules), 3);
+    let e = and(alloc, not_true(alloc), null_test(alloc));
+    expect_fault(&rt, satisfied(alloc, e, &rules), 3);
+    let e = or(alloc, null_test(alloc), not_true(alloc));
+    expect_fault(&rt, falsified(alloc, e, &rules), 4);
+    let e = or(alloc, null_test(alloc), not_true(alloc));
+    expect_fault(&rt, satisfied(alloc, e, &rules), 4);
+    Ok(())
+}
+
+fn number_rules(alloc: Global) -> Result<Rules, AllocError> {
+    rules_of(alloc, new_number(alloc, ScalarFnId::Not)?)
+}
+
+#[test]
+fn a_proof_has_to_be_a_truth(rt: HostRuntime) -> Result<(), Fail> {
+    let alloc = rt.alloc();
+    let rules = number_rules(alloc)?;
+    assert!(rt; is_not_bool(falsified(alloc, not_true(alloc), &rules)));
+    assert!(rt; is_not_bool(satisfied(alloc, not_true(alloc), &rules)));
+    let e = or(alloc, not_true(alloc), truth(alloc, true));
+    assert!(rt; is_not_bool(satisfied(alloc, e, &rules)));
+    let found = falsified(alloc, truth(alloc, true), &rules);
+    expect_proof(&rt, found, truth(alloc, false))
+}

@@ -1,0 +1,264 @@
+//! Parts that satisfy the predicate whole, and how many rows of the others are tested.
+use super::*;
+use std::alloc::AllocError;
+use vortex_base::{BoundExpression, ScalarFnId, bound};
+use vortex_prune::{HookFault, Rules, StatsRewriteRule};
+use vortex_stats::RuleFault;
+
+// The least value, and how many rows are null.
+fn from(alloc: Global, low: i32, nulls: u64) -> Sets {
+    let set = exactly(alloc, Stat::Min, number(low));
+    and_exactly(set, Stat::NullCount, count(nulls))
+}
+
+// Both ends, and that at most no row is null.
+fn within(alloc: Global, low: i32, high: i32) -> Sets {
+    let set = exactly(alloc, Stat::Min, number(low));
+    let set = and_exactly(set, Stat::Max, number(high))?;
+    and_at_most(set, Stat::NullCount, count(0))
+}
+
+// The one part is whole: both its rows are selected, and none was tested.
+fn expect_whole(rt: &impl Abort, found: Found) -> Result<(), Fail> {
+    let found = found?;
+    assert!(rt; found.skipped.is_empty());
+    assert!(rt; found.whole.as_slice() == [0].as_slice());
+    assert!(rt; found.selected.as_slice() == [(0, 0), (0, 1)].as_slice());
+    assert!(rt; found.evaluated == 0);
+    Ok(())
+}
+
+// The one part of two rows is neither skipped nor whole: each row was tested, and this one selected.
+fn expect_tested(rt: &impl Abort, found: Found, row: usize) -> Result<(), Fail> {
+    let found = found?;
+    assert!(rt; found.skipped.is_empty());
+    assert!(rt; found.whole.is_empty());
+    assert!(rt; found.selected.as_slice() == [(0, row)].as_slice());
+    assert!(rt; found.evaluated == 2);
+    Ok(())
+}
+
+#[test]
+fn a_null_is_tested(rt: HostRuntime) -> Result<(), Fail> {
+    let alloc = rt.alloc();
+    let set = exactly(alloc, Stat::Min, number(20));
+    let parts = with_set(alloc, &[Some(20), None], set);
+    expect_tested(&rt, scanned(alloc, &parts, above(alloc, 10)), 0)
+}
+
+#[test]
+fn above_all_is_whole(rt: HostRuntime) -> Result<(), Fail> {
+    let alloc = rt.alloc();
+    let parts = table_of(alloc, &[Some(20), Some(30)], from(alloc, 20, 0));
+    expect_whole(&rt, scanned(alloc, &parts, above(alloc, 10)))?;
+    let parts = table_of(alloc, &[Some(10), Some(30)], from(alloc, 10, 0));
+    expect_tested(&rt, scanned(alloc, &parts, above(alloc, 10)), 1)
+}
+
+#[test]
+fn a_range_of_all_values_is_whole(rt: HostRuntime) -> Result<(), Fail> {
+    let alloc = rt.alloc();
+    let parts = table_of(alloc, &[Some(20), Some(30)], within(alloc, 20, 30));
+    expect_whole(&rt, scanned(alloc, &parts, range(alloc, CLOSED, 20, 30)))?;
+    expect_whole(&rt, scanned(alloc, &parts, range(alloc, OPEN, 19, 31)))?;
+    expect_tested(&rt, scanned(alloc, &parts, range(alloc, CLOSED, 21, 30)), 1)?;
+    expect_tested(&rt, scanned(alloc, &parts, range(alloc, OPEN, 19, 30)), 0)
+}
+
+// Untrue statistics select rows that don't satisfy.
+#[test]
+fn all_rows_of_a_whole_part_are_selected(rt: HostRuntime) -> Result<(), Fail> {
+    let alloc = rt.alloc();
+    let parts = table_of(alloc, &[Some(1), None], from(alloc, 20, 0));
+    expect_whole(&rt, scanned(alloc, &parts, above(alloc, 10)))
+}
+
+#[test]
+fn a_skipped_part_is_not_whole(rt: HostRuntime) -> Result<(), Fail> {
+    let alloc = rt.alloc();
+    let set = exactly(alloc, Stat::NullCount, count(0));
+    let found = scanned(alloc, &with_set(alloc, &[], set), is_null(alloc, a(alloc)))?;
+    assert!(rt; found.skipped.as_slice() == [0].as_slice());
+    assert!(rt; found.whole.is_empty());
+    assert!(rt; found.selected.is_empty());
+    assert!(rt; found.evaluated == 0);
+    Ok(())
+}
+
+// A part that is skipped, one that is whole, and two that are tested.
+fn four_parts(alloc: Global) -> Table {
+    let parts = one_part(alloc, part(alloc, &[Some(1), Some(10)], bounds(alloc, 1, 10)));
+    let parts = and_part(parts, part(alloc, &[Some(20), Some(30)], from(alloc, 20, 0)));
+    let parts = and_part(parts, part(alloc, &[Some(11)], bounds(alloc, 11, 40)));
+    let rows = [None, Some(9), Some(12)];
+    tabled(alloc, and_part(parts, part(alloc, &rows, bounds(alloc, 9, 12))))
+}
+
+#[test]
+fn each_part_by_itself(rt: HostRuntime) -> Result<(), Fail> {
+    let alloc = rt.alloc();
+    let found = scanned(alloc, &four_parts(alloc), above(alloc, 10))?;
+    assert!(rt; found.skipped.as_slice() == [0].as_slice());
+    assert!(rt; found.whole.as_slice() == [1].as_slice());
+    assert!(rt; found.evaluated == 4);
+    assert!(rt; found.selected.as_slice() == [(1, 0), (1, 1), (2, 0), (3, 2)].as_slice());
+    Ok(())
+}
+
+fn no_cells(alloc: Global) -> Cells {
+    Vec::new(alloc)
+}
+
+fn two_texts(alloc: Global) -> Result<Cells, StatsError> {
+    let mut cells = no_cells(alloc);
+    cells.push(Some(text_value(alloc, "ax")?))?;
+    cells.push(Some(text_value(alloc, "ay")?))?;
+    Ok(cells)
+}
+
+fn texts(alloc: Global) -> Result<vortex_base::Column, StatsError> {
+    column(UTF8, Ok(two_texts(alloc)?), 0)
+}
+
+// The numbers 20 and 30 beside two texts, one of which ends in x.
+fn numbers_and_texts(alloc: Global) -> Table {
+    let numbers = column(I32_OR_NULL, numbers(alloc, &[Some(20), Some(30)]), 0);
+    let scope = scope_of_two(alloc, ("a", I32_OR_NULL), ("s", UTF8));
+    let chunk = chunk_of_two(alloc, scope, numbers, texts(alloc));
+    let part = part_of_two(alloc, chunk, from(alloc, 20, 0), Ok(no_statistics(alloc)));
+    let scope = scope_of_two(alloc, ("a", I32_OR_NULL), ("s", UTF8));
+    zones_of(alloc, scope, one_part(alloc, part))
+}
+
+fn ends_in_x(alloc: Global) -> Built {
+    like(alloc, col(alloc, 1, UTF8), text(alloc, "%x"))
+}
+
+#[test]
+fn one_side_makes_or_whole_but_not_and(rt: HostRuntime) -> Result<(), Fail> {
+    let alloc = rt.alloc();
+    let parts = numbers_and_texts(alloc);
+    let either = or(alloc, above(alloc, 10), ends_in_x(alloc));
+    expect_whole(&rt, scanned(alloc, &parts, either))?;
+    let both = and(alloc, above(alloc, 10), ends_in_x(alloc));
+    expect_tested(&rt, scanned(alloc, &parts, both), 0)
+}
+
+// What a rule of a user claims to satisfy a comparison by.
+#[derive(Drop)]
+struct Bare;
+
+impl StatsRewriteRule for Bare {
+    ghost use Rattle.std.specs.Prelude.{false};
+    ghost use Rattle.vortex_base.specs.declared.types.ScalarFnId.TheVariants as function;
+    ghost use Rattle.vortex_prune.specs.Rewriting.RuleExamples.{bare_proof, bare_satisfier_is_lawful, no_proof};
+
+    ghost id = { λ s. function.Binary };
+
+    ghost falsifier = { λ s. no_proof };
+
+    ghost satisfier = { λ s. bare_proof };
+
+    ghost can_fault = { λ s k. false };
+
+    ghost is_lawful = { λ s. bare_satisfier_is_lawful };
+
+    fn scalar_fn_id(&self) -> ScalarFnId {
+        ScalarFnId::Binary
+    }
+
+    fn falsify(
+        &self,
+        _alloc: Global,
+        _expression: &BoundExpression,
+    ) -> Result<Option<BoundExpression>, HookFault> {
+        Ok(None)
+    }
+
+    fn satisfy(
+        &self,
+        alloc: Global,
+        _expression: &BoundExpression,
+    ) -> Result<Option<BoundExpression>, HookFault> {
+        Ok(Some(bound::col(alloc, 0, BOOL)?))
+    }
+}
+
+// Faults where it is asked for a satisfier.
+#[derive(Drop)]
+struct Faulty;
+
+impl StatsRewriteRule for Faulty {
+    ghost use Rattle.std.specs.Prelude.{◌==◌};
+    ghost use Rattle.vortex_base.specs.declared.types.ScalarFnId.TheVariants as function;
+    ghost use Rattle.vortex_prune.specs.Rewriting.RuleExamples.{no_proof, no_proof_is_lawful};
+
+    ghost id = { λ s. function.Binary };
+
+    ghost falsifier = { λ s. no_proof };
+
+    ghost satisfier = { λ s. no_proof };
+
+    ghost can_fault = { λ s k. k == 4 };
+
+    ghost is_lawful = { λ s. no_proof_is_lawful };
+
+    fn scalar_fn_id(&self) -> ScalarFnId {
+        ScalarFnId::Binary
+    }
+
+    fn falsify(
+        &self,
+        _alloc: Global,
+        _expression: &BoundExpression,
+    ) -> Result<Option<BoundExpression>, HookFault> {
+        Ok(None)
+    }
+
+    fn satisfy(
+        &self,
+        _alloc: Global,
+        _expression: &BoundExpression,
+    ) -> Result<Option<BoundExpression>, HookFault> {
+        Err(HookFault::Own(4))
+    }
+}
+
+fn bare_rules(alloc: Global) -> Result<Rules, AllocError> {
+    rules_of(alloc, Box::new(alloc, Bare)?)
+}
+
+fn faulty_rules(alloc: Global) -> Result<Rules, AllocError> {
+    rules_of(alloc, Box::new(alloc, Faulty)?)
+}
+
+fn is_open(found: Found) -> bool {
+    matches!(found, Err(StatsError::OpenProof))
+}
+
+fn is_fault(found: Found) -> bool {
+    matches!(found, Err(StatsError::Rule(RuleFault::Own(4))))
+}
+
+// The satisfier is bound at the first part that isn't skipped: an open one is refused there.
+#[test]
+fn an_open_satisfier_is_refused_at_a_kept_part(rt: HostRuntime) -> Result<(), Fail> {
+    let alloc = rt.alloc();
+    let rules = bare_rules(alloc)?;
+    let kept = bounded(alloc, &[Some(11)], 11, 11);
+    assert!(rt; is_open(scanned_by(alloc, &kept, above(alloc, 10), &rules)));
+    let skipped = bounded(alloc, &[Some(1)], 1, 1);
+    let found = scanned_by(alloc, &skipped, above(alloc, 10), &rules);
+    expect_found(&rt, found, &[0], &[])?;
+    let found = scanned_by(alloc, &without_part(alloc), above(alloc, 10), &rules);
+    expect_found(&rt, found, &[], &[])
+}
+
+#[test]
+fn a_fault_of_a_satisfier_ends_the_scan(rt: HostRuntime) -> Result<(), Fail> {
+    let alloc = rt.alloc();
+    let rules = faulty_rules(alloc)?;
+    let skipped = bounded(alloc, &[Some(1)], 1, 1);
+    assert!(rt; is_fault(scanned_by(alloc, &skipped, above(alloc, 10), &rules)));
+    Ok(())
+}

@@ -1,0 +1,200 @@
+//! What sets over a column of numbers answer.
+use crate::testing::*;
+use std::alloc::Global;
+use std::process::Abort;
+use std::test::Fail;
+use vortex_base::{
+    AggregateFnRef, ConstantArray, DType, Nullability, PType, Scalar, ScalarFnId, ScalarValue,
+};
+use vortex_prune::{StatFn, StatOptions};
+use vortex_stats::{Stat, StatsError, StatsSet};
+
+const I64: DType = DType::Primitive(PType::I64, Nullability::Nullable);
+
+const COUNT: DType = DType::Primitive(PType::U64, Nullability::Nullable);
+
+const TRUTH: DType = DType::Bool(Nullability::Nullable);
+
+// What a set that fits answers, at each row.
+fn answer(
+    set: &StatsSet,
+    aggregate: AggregateFnRef,
+    rows: u64,
+) -> Result<ConstantArray, StatsError> {
+    if !set.fits(&I32) {
+        return Err(StatsError::Mismatch);
+    }
+    StatFn::execute(&StatOptions::new(aggregate), set, &I32, rows)
+}
+
+fn array(scalar: Scalar, rows: u64) -> ConstantArray {
+    ConstantArray::new(scalar, rows)
+}
+
+// This value at each row.
+fn repeated(dtype: DType, value: Option<ScalarValue>, rows: u64) -> Result<ConstantArray, Fail> {
+    Ok(array(scalar(dtype, value)?, rows))
+}
+
+// The set answers with this value at each row.
+fn expect(
+    rt: &impl Abort,
+    set: StatsSet,
+    aggregate: AggregateFnRef,
+    rows: u64,
+    dtype: DType,
+    value: Option<ScalarValue>,
+) -> Result<(), Fail> {
+    let expected = repeated(dtype, value, rows)?;
+    let found = answer(&set, aggregate, rows)?;
+    assert!(rt; found == expected);
+    Ok(())
+}
+
+fn six() -> ScalarValue {
+    ScalarValue::from(6i64)
+}
+
+fn expect_sum(rt: &impl Abort, set: StatsSet, value: Option<ScalarValue>) -> Result<(), Fail> {
+    expect(rt, set, AggregateFnRef::Sum, 3, I64, value)
+}
+
+// What a count of nulls in four rows is answered by.
+fn expect_count(rt: &impl Abort, set: StatsSet, value: Option<u64>) -> Result<(), Fail> {
+    let value = match value {
+        Some(n) => Some(count(n)),
+        None => None,
+    };
+    expect(rt, set, AggregateFnRef::NullCount, 4, COUNT, value)
+}
+
+fn expect_truth(
+    rt: &impl Abort,
+    set: StatsSet,
+    aggregate: AggregateFnRef,
+    rows: u64,
+    value: Option<bool>,
+) -> Result<(), Fail> {
+    let value = match value {
+        Some(truth) => Some(ScalarValue::Bool(truth)),
+        None => None,
+    };
+    expect(rt, set, aggregate, rows, TRUTH, value)
+}
+
+fn exact_nulls(alloc: Global, nulls: u64) -> StatsSet {
+    exactly(alloc, Stat::NullCount, count(nulls))
+}
+
+fn nulls_at_most(alloc: Global, nulls: u64) -> StatsSet {
+    at_most(alloc, Stat::NullCount, count(nulls))
+}
+
+fn options(aggregate: AggregateFnRef) -> StatOptions {
+    StatOptions::new(aggregate)
+}
+
+fn return_dtype(options: &StatOptions, dtype: DType) -> Result<DType, StatsError> {
+    StatFn::return_dtype(options, &dtype)
+}
+
+#[test]
+fn name_the_function_and_its_child(rt: HostRuntime) -> Result<(), Fail> {
+    let sum = options(AggregateFnRef::Sum);
+    assert!(rt; StatFn::id() == ScalarFnId::Stat);
+    assert!(rt; StatFn::arity(&sum) == 1);
+    assert!(rt; StatFn::child_name(&sum, 0) == "input");
+    assert!(rt; !StatFn::is_strict(&sum));
+    assert!(rt; return_dtype(&sum, I32)? == I64);
+    let of_texts = return_dtype(&sum, DType::Utf8(Nullability::Nullable));
+    assert!(rt; matches!(of_texts, Err(StatsError::Unsupported)));
+    Ok(())
+}
+
+#[test]
+fn options_compare_by_their_aggregate(rt: HostRuntime) {
+    let sum = options(AggregateFnRef::Sum);
+    let copy = sum;
+    assert!(rt; copy == sum);
+    assert!(rt; sum != options(AggregateFnRef::Max));
+    assert!(rt; sum.aggregate_fn() == AggregateFnRef::Sum);
+}
+
+#[test]
+fn sums_are_exact_or_null(rt: HostRuntime) -> Result<(), Fail> {
+    let alloc = rt.alloc();
+    expect_sum(&rt, exactly(alloc, Stat::Sum, six()), Some(six()))?;
+    expect_sum(&rt, at_most(alloc, Stat::Sum, six()), None)?;
+    expect_sum(&rt, no_statistics(alloc), None)
+}
+
+fn extremes(alloc: Global) -> Sets {
+    bounds(alloc, 1, 3)
+}
+
+fn expect_extreme(
+    rt: &impl Abort,
+    alloc: Global,
+    aggregate: AggregateFnRef,
+    dtype: DType,
+    value: Option<ScalarValue>,
+) -> Result<(), Fail> {
+    expect(rt, extremes(alloc)?, aggregate, 3, dtype, value)
+}
+
+fn is_unsupported(answer: Result<ConstantArray, StatsError>) -> bool {
+    matches!(answer, Err(StatsError::Unsupported))
+}
+
+#[test]
+fn extremes_are_bounds(rt: HostRuntime) -> Result<(), Fail> {
+    let alloc = rt.alloc();
+    expect_extreme(
+        &rt,
+        alloc,
+        AggregateFnRef::Min,
+        I32_OR_NULL,
+        Some(number(1)),
+    )?;
+    expect_extreme(
+        &rt,
+        alloc,
+        AggregateFnRef::Max,
+        I32_OR_NULL,
+        Some(number(3)),
+    )?;
+    expect_extreme(
+        &rt,
+        alloc,
+        AggregateFnRef::UncompressedSizeInBytes,
+        COUNT,
+        None,
+    )?;
+    let set = extremes(alloc)?;
+    assert!(rt; is_unsupported(answer(&set, AggregateFnRef::NanCount, 3)));
+    Ok(())
+}
+
+#[test]
+fn counts_of_nulls_are_exact(rt: HostRuntime) -> Result<(), Fail> {
+    let alloc = rt.alloc();
+    expect_count(&rt, exact_nulls(alloc, 2), Some(2))?;
+    expect_count(&rt, nulls_at_most(alloc, 2), None)?;
+    expect_count(&rt, nulls_at_most(alloc, 0), Some(0))
+}
+
+#[test]
+fn all_null_by_the_count(rt: HostRuntime) -> Result<(), Fail> {
+    let (alloc, all_null) = (rt.alloc(), AggregateFnRef::AllNull);
+    expect_truth(&rt, nulls_at_most(alloc, 2), all_null, 3, Some(false))?;
+    expect_truth(&rt, nulls_at_most(alloc, 3), all_null, 3, None)?;
+    expect_truth(&rt, exact_nulls(alloc, 3), all_null, 3, Some(true))
+}
+
+#[test]
+fn all_non_null_by_the_count(rt: HostRuntime) -> Result<(), Fail> {
+    let (alloc, no_null) = (rt.alloc(), AggregateFnRef::AllNonNull);
+    expect_truth(&rt, nulls_at_most(alloc, 0), no_null, 3, Some(true))?;
+    expect_truth(&rt, nulls_at_most(alloc, 2), no_null, 4, None)?;
+    expect_truth(&rt, exact_nulls(alloc, 0), no_null, 4, Some(true))
+}

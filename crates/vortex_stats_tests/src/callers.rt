@@ -1,0 +1,212 @@
+//! Callers that know a set by its list alone.
+ghost use Rattle.std.specs.Prelude.{◌≡◌, ◌⊎◌, false, IfOk, IfErr, OnOk, OnErr, IsTrue, length, map, alloc_error};
+ghost use Rattle.vortex_base.specs.Data.Columns.{ColumnData};
+ghost use Rattle.vortex_base.specs.Data.Values.{is_value};
+ghost use Rattle.vortex_stats.specs.declared.error.StatsError.TheVariants.{Memory};
+ghost use Rattle.vortex_stats.specs.Sets.Claims.{IsTrueOf};
+ghost use Rattle.vortex_stats.specs.Merging.Merges.{merged_ordered, merged_unordered};
+ghost use Rattle.vortex_stats.specs.Merging.Combined.{combined, Combines};
+ghost use Rattle.vortex_stats.specs.Copies.{holds_long};
+ghost use Rattle.vortex_stats.specs.Sets.Entries.{entries_fit, value_fits, with_entry, without_entry};
+
+use std::alloc::{AllocError, Global};
+use vortex_base::dtype::DType;
+use vortex_base::scalar::Scalar;
+use vortex_base::scalar_value::ScalarValue;
+use vortex_stats::error::StatsError;
+use vortex_stats::laws::short_values_are_not_copied;
+use vortex_stats::laws::truth::{combinations_stay_true, true_sets_agree};
+use vortex_stats::precision::Precision;
+use vortex_stats::stat::Stat;
+use vortex_stats::stats_set::StatsSet;
+
+/// A `for` over a set by value goes over the list.
+pub fn entries_of(
+    alloc: Global,
+    set: StatsSet,
+) -> Result<Vec<(Stat, Precision<ScalarValue>)>, AllocError>
+    ensures { IfOk result (λ entries. entries.items ≡ set) }
+{
+    let mut entries = Vec::new(alloc);
+    for entry in set {
+        entries.push(entry)?;
+    }
+    Ok(entries)
+}
+
+/// A `for` over a set by reference goes over the list too.
+pub fn statistics_of(alloc: Global, set: &StatsSet) -> Result<Vec<Stat>, AllocError>
+    ensures { IfOk result (λ stats. stats.items ≡ map (λ e. e.0) set.now) }
+{
+    let mut stats = Vec::new(alloc);
+    for entry in set.iter() {
+        stats.push(entry.0)?;
+    }
+    Ok(stats)
+}
+
+/// The iterator by value gives the list, and ends.
+pub fn collected(
+    alloc: Global,
+    set: StatsSet,
+) -> Result<Vec<(Stat, Precision<ScalarValue>)>, AllocError>
+    ensures { IfOk result (λ entries. entries.items ≡ set) }
+{
+    set.into_iter().collect(alloc)
+}
+
+/// The iterator by reference gives as many entries as the list has.
+pub fn counted(set: &StatsSet) -> usize
+    ensures { result ≡ length set.now }
+{
+    set.iter().count()
+}
+
+/// What is written through a view is written to the set.
+pub fn cleared_through_view(set: &mut StatsSet, dtype: &DType, stat: Stat)
+    requires { IsTrue (entries_fit set.old dtype.now) }
+    ensures { set.new ≡ without_entry stat set.old }
+{
+    let mut view = set.as_mut_typed_ref(dtype);
+    view.clear(stat);
+}
+
+/// What is merged through a view is merged into the set, and a refusal leaves the set as it was.
+pub fn merged_through_view(
+    set: &mut StatsSet,
+    other: &StatsSet,
+    dtype: &DType,
+) -> Result<(), StatsError>
+    requires left_fits { IsTrue (entries_fit set.old dtype.now) }
+    requires other_fits { IsTrue (entries_fit other.now dtype.now) }
+    ensures merged { OnOk result (set.new ≡ merged_ordered set.old other.now) }
+    ensures refused { OnErr result (set.new ≡ set.old) }
+{
+    let view = set.as_mut_typed_ref(dtype);
+    let _merged = view.merge_ordered(&other.as_typed_ref(dtype))?;
+    Ok(())
+}
+
+/// The same where the order of the rows isn't known.
+pub fn mixed_through_view(
+    set: &mut StatsSet,
+    other: &StatsSet,
+    dtype: &DType,
+) -> Result<(), StatsError>
+    requires left_fits { IsTrue (entries_fit set.old dtype.now) }
+    requires other_fits { IsTrue (entries_fit other.now dtype.now) }
+    ensures merged { OnOk result (set.new ≡ merged_unordered set.old other.now) }
+    ensures refused { OnErr result (set.new ≡ set.old) }
+{
+    let view = set.as_mut_typed_ref(dtype);
+    let _merged = view.merge_unordered(&other.as_typed_ref(dtype))?;
+    Ok(())
+}
+
+/// What is combined through a view is combined in the set.
+pub fn combined_through_view(
+    set: &mut StatsSet,
+    other: &StatsSet,
+    dtype: &DType,
+) -> Result<(), StatsError>
+    requires left_fits { IsTrue (entries_fit set.old dtype.now) }
+    requires other_fits { IsTrue (entries_fit other.now dtype.now) }
+    ensures { Combines (combined set.old other.now) set.old set.new result }
+{
+    let mut view = set.as_mut_typed_ref(dtype);
+    view.combine_sets(&other.as_typed_ref(dtype))
+}
+
+/// What is set through a view is set in the set, whatever the call answers.
+pub fn set_through_view(
+    set: &mut StatsSet,
+    dtype: &DType,
+    stat: Stat,
+    value: Precision<ScalarValue>,
+)
+    requires left_fits { IsTrue (entries_fit set.old dtype.now) }
+    requires value_fits { IsTrue (value_fits stat dtype.now value) }
+    ensures { set.new ≡ with_entry stat value set.old }
+{
+    let mut view = set.as_mut_typed_ref(dtype);
+    let _answered = view.set(stat, value).is_ok();
+}
+
+/// A refused merge hands back the set as it was.
+pub fn merged_or_left(set: StatsSet, other: &StatsSet, dtype: &DType) -> StatsSet
+    requires left_fits { IsTrue (entries_fit set dtype.now) }
+    requires other_fits { IsTrue (entries_fit other.now dtype.now) }
+    ensures { (result ≡ merged_ordered set other.now) ⊎ (result ≡ set) }
+{
+    match set.merge_ordered(other, dtype) {
+        Ok(merged) => merged,
+        Err(refused) => refused.set,
+    }
+}
+
+/// Sets of a column without texts and bytes always merge.
+pub fn merged_numbers(set: StatsSet, other: &StatsSet, dtype: &DType) -> StatsSet
+    requires short { holds_long dtype.now ≡ false }
+    requires left_fits { IsTrue (entries_fit set dtype.now) }
+    requires other_fits { IsTrue (entries_fit other.now dtype.now) }
+    ensures { result ≡ merged_ordered set other.now }
+{
+    short_values_are_not_copied();
+    match set.merge_ordered(other, dtype) {
+        Ok(merged) => merged,
+        Err(_) => unreachable!(),
+    }
+}
+
+/// Their combination is refused for a conflict alone.
+pub fn combined_numbers(set: &mut StatsSet, other: &StatsSet, dtype: &DType) -> Option<Stat>
+    requires short { holds_long dtype.now ≡ false }
+    requires left_fits { IsTrue (entries_fit set.old dtype.now) }
+    requires other_fits { IsTrue (entries_fit other.now dtype.now) }
+    ensures conflict { result ≡ (combined set.old other.now).conflict }
+    ensures entries { set.new ≡ (combined set.old other.now).entries }
+{
+    short_values_are_not_copied();
+    match set.combine_sets(other, dtype) {
+        Ok(()) => None,
+        Err(StatsError::Conflict(stat)) => Some(stat),
+        Err(_) => unreachable!(),
+    }
+}
+
+/// A combination that is refused for memory leaves the set as it was.
+pub fn is_out_of_memory(set: &mut StatsSet, other: &StatsSet, dtype: &DType) -> bool
+    requires left_fits { IsTrue (entries_fit set.old dtype.now) }
+    requires other_fits { IsTrue (entries_fit other.now dtype.now) }
+    ensures { IsTrue result → set.new ≡ set.old }
+{
+    match set.combine_sets(other, dtype) {
+        Err(StatsError::Memory(_)) => true,
+        _ => false,
+    }
+}
+
+/// Sets that are true of one column combine to one that is true of it, or memory was refused.
+pub fn combined_of_one_column(
+    set: &mut StatsSet,
+    other: &StatsSet,
+    dtype: &DType,
+) -> Result<(), StatsError>
+    requires left_fits { IsTrue (entries_fit set.old dtype.now) }
+    requires other_fits { IsTrue (entries_fit other.now dtype.now) }
+    ensures truth { (c : ColumnData) → IsTrueOf set.old c → IsTrueOf other.now c
+        → OnOk result (IsTrueOf set.new c) }
+    ensures agreement { (c : ColumnData) → IsTrueOf set.old c → IsTrueOf other.now c
+        → IfErr result (λ e. e ≡ Memory alloc_error) }
+{
+    true_sets_agree();
+    combinations_stay_true();
+    set.combine_sets(other, dtype)
+}
+
+/// A scalar is refused for memory only where the value is one of the type.
+pub fn scalar_of_value(value: &ScalarValue, dtype: DType) -> Result<Precision<Scalar>, StatsError>
+    ensures { IfErr result (λ e. e ≡ Memory alloc_error → IsTrue (is_value value.now dtype)) }
+{
+    Precision::Exact(value).into_scalar(dtype)
+}
