@@ -26,7 +26,7 @@ use Rattle.vortex_prune.specs.Rewriting.Sides.{proof_of}
 use Rattle.vortex_prune.specs.declared.rewrite.side.Side.{Side}
 use Rattle.vortex_prune.specs.declared.rewrite.side.Side.TheVariants.{Falsify, Satisfy}
 use Rattle.std.specs.Prelude.{is_ok}
-use Rattle.vortex_prune.specs.Rewriting.Falsifiers.{Ends, and_proof, binary_node, both_of, comparison_proof, either_of, ends, ends_node, falsifier, halves, halves_node, like_falsifier, none_null, of_sides, or_proof, proved, rewriting, satisfier, table_proofs}
+use Rattle.vortex_prune.specs.Rewriting.Falsifiers.{Ends, and_proof, binary_node, both_of, comparison_proof, either_of, ends, ends_node, falsifier, halves, halves_node, like_falsifier, of_sides, or_proof, proved, rewriting, satisfier, table_proofs}
 
 module _ (row : List Constant) (n : ℕ) where
   and_false : (x y : Tree Place) → (satisfies x row n ≡ false) ⊎ (satisfies y row n ≡ false) → satisfies (binary And x y) row n ≡ false

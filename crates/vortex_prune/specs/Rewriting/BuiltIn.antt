@@ -11,7 +11,7 @@ use Rattle.vortex_base.specs.declared.types.ScalarFnId.{ScalarFnId}
 use Rattle.vortex_base.specs.declared.types.ScalarFnId.TheVariants as function
 use Rattle.vortex_base.specs.Data.Neighbours.{next_number, prev_number}
 use Rattle.vortex_base.specs.Data.Orders.{pvalue_cmp}
-use Rattle.vortex_base.specs.Trees.Tree.{Tree, Place, between}
+use Rattle.vortex_base.specs.Trees.Tree.{Tree, Place}
 use Rattle.vortex_prune.specs.Rewriting.Falsifiers.{Ends}
 use Rattle.vortex_prune.specs.declared.rewrite.rules.BuiltinRule.{BuiltinRule}
 use Rattle.vortex_prune.specs.declared.rewrite.rules.BuiltinRule.TheVariants as rule

@@ -1,4 +1,4 @@
-use Rattle.std.proofs.Common.{◌≡◌, Some, false, rules, ap, sym, ◌∙◌}
+use Rattle.std.proofs.Common.{◌≡◌, false, rules, ap, sym, ◌∙◌}
 use Rattle.vortex_base.specs.Trees.Parts.{whole}
 use Rattle.std.proofs.lemmas.Result.{err_from_is_err_and}
 use Rattle.vortex_base.specs.Trees.Tree.{between, binary}
