@@ -13,7 +13,7 @@ pub enum BuiltinRule {
     BinaryNanCountStatsRewrite,
     /// BETWEEN by the AND of the two comparisons that it stands for.
     BetweenStatsRewrite,
-    /// A literal truth by its opposite.
+    /// A literal truth, falsified by its opposite and satisfied by itself.
     LiteralStatsRewrite,
     /// IS NULL by the number of nulls.
     IsNullNullCountStatsRewrite,
