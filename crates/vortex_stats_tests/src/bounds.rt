@@ -1,4 +1,5 @@
 //! Worked rows of unions, intersections and comparisons of bounds, and clones that refuse.
+use crate::testing::text_of;
 use std::alloc::{AllocError, Global};
 use std::cell::Cell;
 use std::cmp::Ordering;
@@ -167,13 +168,9 @@ fn results(rt: HostRuntime) -> Result<(), Fail> {
     Ok(())
 }
 
-fn text(alloc: Global, text: &str) -> Result<Text, AllocError> {
-    Ok(Text::new(String::from_str(alloc, text)?))
-}
-
 /// An inexact text as a bound.
 fn bound<B: StatBound<Text>>(alloc: Global, value: &str) -> Result<B, AllocError> {
-    Ok(B::lift(Precision::Inexact(text(alloc, value)?)))
+    Ok(B::lift(Precision::Inexact(text_of(alloc, value)?)))
 }
 
 /// Whether the two bounds unite to the one and meet in the other.
@@ -219,7 +216,7 @@ fn upper_text_against(
     value: &str,
 ) -> Result<Option<Ordering>, Fail> {
     let upper: UpperBound<Text> = bound(alloc, bound_text)?;
-    let value = text(alloc, value)?;
+    let value = text_of(alloc, value)?;
     if upper.eq_value(&value) || upper.to_exact().is_some() {
         return Err(Fail::from("an inexact bound is exact"));
     }
@@ -233,7 +230,7 @@ fn lower_text_against(
     value: &str,
 ) -> Result<Option<Ordering>, Fail> {
     let lower: LowerBound<Text> = bound(alloc, bound_text)?;
-    let value = text(alloc, value)?;
+    let value = text_of(alloc, value)?;
     if lower.eq_value(&value) || lower.is_exact() {
         return Err(Fail::from("an inexact bound is exact"));
     }
@@ -242,7 +239,7 @@ fn lower_text_against(
 
 /// Whether a clone of a found text is the text, and none is taken for Empty.
 fn finds_clones(alloc: Global, value: &str) -> Result<bool, Fail> {
-    let found = IntersectionResult::Value(text(alloc, value)?);
+    let found = IntersectionResult::Value(text_of(alloc, value)?);
     let same = found.try_clone()? == found;
     Ok(same && found.ok_or_else(|| 'e').is_ok())
 }

@@ -36,8 +36,8 @@ fn merges<const A: usize, const B: usize, const C: usize>(
 /// The set of the statistic's value, or of no entry.
 fn set_of(alloc: Global, stat: Stat, value: Option<Value>) -> StatsSet {
     match value {
-        Some(value) => StatsSet::of(alloc, stat, value),
-        None => StatsSet::new(alloc),
+        Some(value) => sets::one(alloc, stat, value),
+        None => sets::empty(alloc),
     }
 }
 

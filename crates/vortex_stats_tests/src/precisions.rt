@@ -1,5 +1,5 @@
 //! Worked rows of values with a precision.
-use crate::testing::{self, I32, UTF8, Value};
+use crate::testing::{self, I32, UTF8, Value, text_of};
 use std::alloc::{AllocError, Global};
 use std::test::Fail;
 use vortex_base::scalar_value::ScalarValue;
@@ -124,10 +124,6 @@ fn closures(rt: HostRuntime) {
     assert!(rt; transposed(Precision::Exact(Err('e'))) == Err('e'));
 }
 
-fn text(alloc: Global, text: &str) -> Result<Text, AllocError> {
-    Ok(Text::new(String::from_str(alloc, text)?))
-}
-
 /// Whether the name equals an exact one, and no other text.
 fn equals_itself(name: &Precision<Text>, same: &Text, other: &Text) -> bool {
     name.eq_value(same) && !name.eq_value(other) && name.is_exact()
@@ -174,16 +170,16 @@ fn is_ok_transposed(name: Precision<Text>) -> bool {
 #[test]
 fn names(rt: HostRuntime) -> Result<(), Fail> {
     let alloc = rt.alloc();
-    let name = text(alloc, "a name")?;
-    let other = text(alloc, "another name")?;
-    let exact: Precision<Text> = exactly(text(alloc, "a name")?);
+    let name = text_of(alloc, "a name")?;
+    let other = text_of(alloc, "another name")?;
+    let exact: Precision<Text> = exactly(text_of(alloc, "a name")?);
     assert!(rt; equals_itself(&exact, &name, &other));
     assert!(rt; clones_to(&exact, &name)?);
     assert!(rt; len(&exact) == Precision::Exact(6));
     assert!(rt; first(&exact) == Precision::Exact(b'a'));
     let inexact: Precision<Text> = inexactly(other);
     assert!(rt; clones_inexact(&inexact)?);
-    assert!(rt; zip_holds(exactly(text(alloc, "a name")?), inexact, &name));
+    assert!(rt; zip_holds(exactly(text_of(alloc, "a name")?), inexact, &name));
     assert!(rt; is_ok_transposed(exact));
     assert!(rt; has_upper(Precision::Exact(name)));
     assert!(rt; !has_lower(Precision::<Text>::default()));

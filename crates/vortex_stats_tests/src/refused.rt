@@ -1,20 +1,12 @@
 //! Each call that takes memory, where every growth may be refused: `rt try --test --fail-alloc N`
 //! refuses the Nth. With ample memory no call is refused, and the test asserts all of them.
 
-use crate::testing::{Value, exact, sets};
-use std::alloc::{AllocError, Global};
-use vortex_base::scalar_value::ScalarValue;
-use vortex_base::text::Text;
+use crate::testing::{exact, sets, text};
+use std::alloc::Global;
 use vortex_stats::error::StatsError;
 use vortex_stats::precision::Precision;
 use vortex_stats::stat::Stat;
 use vortex_stats::stats_set::StatsSet;
-
-/// A text value of more bytes than stand in place.
-fn text(alloc: Global) -> Result<Value, AllocError> {
-    let text = String::from_str(alloc, "a text that takes memory of its own")?;
-    Ok(Precision::Exact(ScalarValue::Utf8(Text::new(text))))
-}
 
 /// Sets each statistic, and tells whether each call added an entry.
 fn sets_each(set: &mut StatsSet) -> bool {
@@ -58,7 +50,7 @@ fn gets_absent(set: &StatsSet) -> bool {
 
 #[test]
 fn gets(rt: HostRuntime) {
-    let Ok(value) = text(rt.alloc()) else {
+    let Ok(value) = text(rt.alloc(), "a text") else {
         return;
     };
     let set = sets::one(rt.alloc(), Stat::Max, value);
@@ -70,7 +62,7 @@ fn gets(rt: HostRuntime) {
 
 /// Whether a set takes an item of each statistic, or is refused with fewer.
 fn extends(alloc: Global) -> bool {
-    let mut set = StatsSet::of(alloc, Stat::Sum, Precision::Absent);
+    let mut set = sets::one(alloc, Stat::Sum, Precision::Absent);
     let items = Stat::all().map(|stat| (stat, exact(stat.number())));
     match set.try_extend(items) {
         Ok(()) => set.len() == 9,

@@ -121,7 +121,7 @@ fn merges_through_a_view(rt: HostRuntime) {
 
 /// The first entry, which every set has.
 fn min_of(alloc: Global, min: &str) -> Result<StatsSet, StatsError> {
-    Ok(StatsSet::of(alloc, Stat::Min, text(alloc, min)?))
+    Ok(sets::one(alloc, Stat::Min, text(alloc, min)?))
 }
 
 /// A maximum, and then a minimum.

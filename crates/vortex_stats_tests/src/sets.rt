@@ -114,7 +114,7 @@ fn three_items(alloc: Global) -> Result<Vec<Entry>, StatsError> {
 
 /// The set of Min 7, extended by the items.
 fn extended(alloc: Global) -> Result<StatsSet, StatsError> {
-    let mut set = StatsSet::of(alloc, Stat::Min, exact(7));
+    let mut set = sets::one(alloc, Stat::Min, exact(7));
     set.try_extend(three_items(alloc)?.into_iter())?;
     Ok(set)
 }
@@ -160,8 +160,8 @@ fn readings(rt: HostRuntime) {
 /// Whether an inexact Min of this text is read as it.
 fn reads_text(alloc: Global, text: &str) -> Result<bool, StatsError> {
     let value: Value = Precision::Inexact(name(alloc, text)?);
-    let set = StatsSet::of(alloc, Stat::Min, value);
-    match set.get_as::<String>(Stat::Min, &UTF8)? {
+    let set = sets::one(alloc, Stat::Min, value);
+    match sets::get_as::<String>(&set, Stat::Min, &UTF8)? {
         Precision::Inexact(read) => Ok(read.as_str() == text),
         _ => Ok(false),
     }

@@ -31,9 +31,13 @@ pub fn inexact<T: Into<ScalarValue>>(value: T) -> Value {
     Precision::Inexact(value.into())
 }
 
+pub fn text_of(alloc: Global, text: &str) -> Result<Text, AllocError> {
+    Ok(Text::new(String::from_str(alloc, text)?))
+}
+
 /// A text value.
 pub fn name(alloc: Global, text: &str) -> Result<ScalarValue, AllocError> {
-    Ok(ScalarValue::Utf8(Text::new(String::from_str(alloc, text)?)))
+    Ok(ScalarValue::Utf8(text_of(alloc, text)?))
 }
 
 /// An exact text of more bytes than stand in place.
