@@ -40,6 +40,9 @@ def imports(text):
 
 
 def is_used(name, rest):
+    # The notation `do` stands for this operator.
+    if name == "◌>>=◌" and re.search(r"\bdo\b", rest):
+        return True
     parts = [it for it in name.split("◌") if it] if "◌" in name else [name]
     return all(re.search(r"(?<![\w-])" + re.escape(it) + r"(?![\w-])" if re.match(r"\w", it) else re.escape(it), rest) for it in parts)
 

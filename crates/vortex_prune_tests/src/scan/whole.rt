@@ -28,7 +28,7 @@ fn expect_whole(rt: &impl Abort, found: Found) -> Result<(), Fail> {
     Ok(())
 }
 
-// The one part of two rows is neither skipped nor whole: each row was tested, and this one selected.
+// The one part of two rows is neither skipped nor whole: both were tested, and this one selected.
 fn expect_tested(rt: &impl Abort, found: Found, row: usize) -> Result<(), Fail> {
     let found = found?;
     assert!(rt; found.skipped.is_empty());

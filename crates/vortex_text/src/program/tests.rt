@@ -272,4 +272,5 @@ mod ranges;
 mod skipping;
 mod text_lines;
 mod typed_values;
+mod whole;
 mod worked;

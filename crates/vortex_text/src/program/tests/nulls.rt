@@ -83,7 +83,7 @@ fn statistics_at_odds(rt: HostRuntime) -> Result<(), Fail> {
         where eq col a lit i32 4 => skipped 0 / rows
         where ne col a lit i32 4 => skipped / rows
         stat a null_count exact 2 / where notnull col a => skipped 0 / rows
-        stat a null_count exact 2 / where isnull col a => skipped / rows 0:0 0:1
+        stat a null_count exact 2 / where isnull col a => skipped / rows 0:0 0:1 / whole 0
     ";
     expect_each(&rt, rt.alloc(), front, cases)
 }

@@ -84,7 +84,7 @@ fn literal_truths(rt: HostRuntime) -> Result<(), Fail> {
     let front = "column a i32\npart\npart\nrow 1\n";
     let cases = "
         where lit bool false => skipped 0 1 / rows
-        where lit bool true => skipped / rows 1:0
+        where lit bool true => skipped / rows 1:0 / whole 0 1
         where lit bool? null => skipped / rows
         where or lit bool false eq col a lit i32 1 => skipped / rows 1:0
         where and eq col a lit i32 1 lit bool? false => skipped 0 1 / rows
