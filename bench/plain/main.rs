@@ -23,6 +23,7 @@ fn answer(input: &[u8]) -> (u8, String) {
 fn scan(parts: &[table::Part], predicate: &predicate::Node) -> String {
     let mut skipped = String::from("skipped");
     let mut selected = String::from("rows");
+    let mut whole = String::new();
     let mut digits = String::new();
     for (place, part) in parts.iter().enumerate() {
         if prune::is_falsified(predicate, part) {
@@ -32,12 +33,21 @@ fn scan(parts: &[table::Part], predicate: &predicate::Node) -> String {
         digits.clear();
         digits.push_str(&format!(" {place}:"));
         let mut number = itoa::Buffer::default();
-        for row in rows::selected(predicate, part) {
+        let mut select = |row| {
             selected.push_str(&digits);
             selected.push_str(number.format(row));
+        };
+        if prune::is_satisfied(predicate, part) {
+            whole.push_str(&format!(" {place}"));
+            (0..part.rows).for_each(&mut select);
+        } else {
+            rows::selected(predicate, part).for_each(&mut select);
         }
     }
-    skipped + "\n" + &selected + "\n"
+    if !whole.is_empty() {
+        whole = format!("whole{whole}\n");
+    }
+    skipped + "\n" + &selected + "\n" + &whole
 }
 
 /// Decimal digits without an allocation.

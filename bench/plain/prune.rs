@@ -1,4 +1,4 @@
-//! Whether the statistics of a part prove that no row of it satisfies a predicate.
+//! Whether the statistics of a part prove that no row of it satisfies a predicate, or that every row does.
 use crate::like::Range;
 use crate::predicate::{Comparison, Node, Op};
 use crate::table::{Part, Stats};
@@ -21,6 +21,22 @@ pub fn is_falsified(e: &Node, part: &Part) -> bool {
             None => false,
             Some(range) => is_outside(&range, bounds(&sides[0], part)),
         },
+        _ => false,
+    }
+}
+
+pub fn is_satisfied(e: &Node, part: &Part) -> bool {
+    match &e.op {
+        Op::Literal(value) => matches!(value, Some(Value::Bool(true))),
+        Op::And(sides) => is_satisfied(&sides[0], part) && is_satisfied(&sides[1], part),
+        Op::Or(sides) => is_satisfied(&sides[0], part) || is_satisfied(&sides[1], part),
+        Op::Compare(by, sides) => {
+            let [left, right] = &**sides;
+            is_met(*by, &side(left, part), &side(right, part))
+        }
+        Op::Between(lower, upper, operands) => is_within(*lower, *upper, operands, part),
+        Op::IsNull(x) => has_only_nulls(x, part),
+        Op::IsNotNull(x) => has_no_null(x, part),
         _ => false,
     }
 }
@@ -72,6 +88,54 @@ fn is_beyond(lower: bool, upper: bool, [x, l, u]: &[Node; 3], part: &Part) -> bo
     }
     let (x, l, u) = (bounds(x, part), bounds(l, part), bounds(u, part));
     compared(by(lower), l, x) || compared(by(upper), x, u)
+}
+
+/// An operand of a comparison, with whether it is known to hold no null. A literal isn't asked.
+struct Side<'a> {
+    bounds: Bounds<'a>,
+    has_values: bool,
+}
+
+fn side<'a>(e: &'a Node, part: &'a Part) -> Side<'a> {
+    let has_values = match &e.op {
+        Op::Literal(_) => true,
+        Op::Column(_) => has_no_null(e, part),
+        _ => false,
+    };
+    Side { bounds: bounds(e, part), has_values }
+}
+
+fn is_met(by: Comparison, left: &Side, right: &Side) -> bool {
+    let (l, r) = (left.bounds, right.bounds);
+    let is_met = match by {
+        Comparison::Eq => holds(l.0, Ordering::is_eq, r.1) && holds(l.1, Ordering::is_eq, r.0),
+        Comparison::Ne => holds(l.0, Ordering::is_gt, r.1) || holds(r.0, Ordering::is_gt, l.1),
+        Comparison::Gt => holds(l.0, Ordering::is_gt, r.1),
+        Comparison::Ge => holds(l.0, Ordering::is_ge, r.1),
+        Comparison::Lt => holds(l.1, Ordering::is_lt, r.0),
+        Comparison::Le => holds(l.1, Ordering::is_le, r.0),
+    };
+    is_met && left.has_values && right.has_values
+}
+
+fn is_within(lower: bool, upper: bool, [x, l, u]: &[Node; 3], part: &Part) -> bool {
+    let by = |strict: bool| if strict { Comparison::Lt } else { Comparison::Le };
+    let operand = side(x, part);
+    if let (Op::Literal(Some(low)), Op::Literal(Some(high))) = (&l.op, &u.op) {
+        if let (Value::Number(low), Value::Number(high)) = (low, high) {
+            let (low, high) = (Value::Number(low + i128::from(lower)), Value::Number(high - i128::from(upper)));
+            let end = |value| Side { bounds: (Some(value), Some(value)), has_values: true };
+            return low.order(&high).is_le()
+                && is_met(Comparison::Le, &end(&low), &operand)
+                && is_met(Comparison::Le, &operand, &end(&high));
+        }
+        match low.order(high) {
+            Ordering::Greater => return false,
+            Ordering::Equal if lower || upper => return false,
+            _ => {}
+        }
+    }
+    is_met(by(lower), &side(l, part), &operand) && is_met(by(upper), &operand, &side(u, part))
 }
 
 fn is_outside(range: &Range, (min, max): Bounds) -> bool {
