@@ -1,4 +1,4 @@
--- Worked rows, found by computation alone: of which parts a satisfier is true by their own statistics.
+-- Worked rows, found by computation alone: of which parts a satisfier is true by their own statistics, and what a scan makes of them.
 use Rattle.std.specs.Prelude.{◌≡◌, ℕ, Bool, true, false, List, [], ◌∷◌, Option, Some, None, pos, codes, refl}
 use Rattle.vortex_base.specs.declared.types.StrictComparison.TheVariants.{Strict, NonStrict}
 use Rattle.vortex_base.specs.declared.dtype.DType.{DType}
@@ -14,8 +14,8 @@ use Rattle.vortex_base.specs.Trees.Tree.{Tree, Place, column, literal, binary, b
 use Rattle.vortex_prune.specs.Binding.PartAnswers.{part_values}
 use Rattle.vortex_prune.specs.Part.{Entries, PartData}
 use Rattle.vortex_prune.specs.Rewriting.Falsifiers.{falsifier, node, reduce_balanced, satisfier}
-use Rattle.vortex_prune.specs.Rewriting.Proof.{proves}
-use Rattle.vortex_base.specs.Data.Columns.{row_count as rows_of}
+use Rattle.vortex_prune.specs.Scanning.Selection.{Answered, is_proved, selected_rows, skipped_parts, tested_rows, verdict, whole_parts}
+use Rattle.vortex_prune.specs.declared.scan.verdict.Verdict.TheVariants.{Skipped}
 use Rattle.vortex_stats.specs.declared.precision.Precision.TheVariants.{Exact, Inexact}
 use Rattle.vortex_stats.specs.declared.stat.Stat.TheVariants.{Max, Min, NullCount}
 use Rattle.vortex_stats.specs.Sets.Claims.{count_value}
@@ -48,12 +48,8 @@ part numbers texts known = record {
 abbrev two_rows : Entries → PartData
 two_rows known = part (Some (num 20) ∷ Some (num 30) ∷ []) (None ∷ None ∷ []) known
 
-abbrev is_proved : Option (Tree Place) → PartData → Bool
-is_proved None p = false
-is_proved (Some e) p = proves e (part_values p) (rows_of p.chunk.columns)
-
 abbrev shows : Tree Place → PartData → Bool
-shows p k = is_proved (satisfier [] p) k
+shows p k = is_proved (satisfier [] p) k (part_values k)
 
 abbrev above_ten : Tree Place
 above_ten = binary Gt a (lit 10)
@@ -132,6 +128,47 @@ no_rows_satisfied : shows (is_null a) no_rows ≡ true
 unfolding node reduce_balanced
 no_rows_satisfied = refl
 
-no_rows_falsified : is_proved (falsifier [] (is_null a)) no_rows ≡ true
+no_rows_falsified : is_proved (falsifier [] (is_null a)) no_rows (part_values no_rows) ≡ true
 unfolding node reduce_balanced
 no_rows_falsified = refl
+
+-- so it is skipped
+no_rows_verdict : verdict (falsifier [] (is_null a)) (satisfier [] (is_null a)) no_rows (part_values no_rows) ≡ Skipped
+unfolding node reduce_balanced
+no_rows_verdict = refl
+
+-- ---- a scan of three parts: one is skipped, one is whole, though its statistics aren't true, and of one the rows are tested
+
+abbrev with_answers : PartData → Answered
+with_answers p = (p, part_values p)
+
+abbrev three_parts : List Answered
+three_parts =
+    with_answers (part (Some (num 9) ∷ []) (None ∷ []) ((Max, Inexact (num 10)) ∷ []))
+    ∷ with_answers (part (Some (num 1) ∷ None ∷ []) (None ∷ None ∷ []) ((Min, Exact (num 20)) ∷ (NullCount, Exact (count_value 0)) ∷ []))
+    ∷ with_answers (part (Some (num 5) ∷ Some (num 30) ∷ None ∷ []) (None ∷ None ∷ None ∷ []) ((Min, Exact (num 5)) ∷ [])) ∷ []
+
+first_skipped : skipped_parts (falsifier [] above_ten) three_parts ≡ 0 ∷ []
+unfolding node reduce_balanced
+first_skipped = refl
+
+second_whole : whole_parts (falsifier [] above_ten) (satisfier [] above_ten) three_parts ≡ 1 ∷ []
+unfolding node reduce_balanced
+second_whole = refl
+
+all_and_satisfying : selected_rows (falsifier [] above_ten) (satisfier [] above_ten) above_ten three_parts ≡ (1, 0) ∷ (1, 1) ∷ (2, 1) ∷ []
+unfolding node reduce_balanced
+all_and_satisfying = refl
+
+rows_of_the_third : tested_rows (falsifier [] above_ten) (satisfier [] above_ten) three_parts ≡ 3
+unfolding node reduce_balanced
+rows_of_the_third = refl
+
+-- without a satisfier no part is whole, without a falsifier none is skipped
+none_whole : whole_parts (falsifier [] above_ten) None three_parts ≡ []
+unfolding node reduce_balanced
+none_whole = refl
+
+rows_of_two : tested_rows None (satisfier [] above_ten) three_parts ≡ 4
+unfolding node reduce_balanced
+rows_of_two = refl
