@@ -8,6 +8,7 @@ use vortex_prune::{Part, Zones};
 use vortex_stats::{Stat, StatsError, StatsSet};
 
 mod callers;
+mod hostile;
 mod own;
 mod table;
 mod whole;

@@ -453,3 +453,74 @@ fn a_proof_has_to_be_a_truth(rt: HostRuntime) -> Result<(), Fail> {
     let found = falsified(alloc, truth(alloc, true), &rules);
     expect_proof(&rt, found, truth(alloc, false))
 }
+
+fn many_unsure(alloc: Global) -> Result<Vec<StatsRewriteRuleRef>, AllocError> {
+    let mut rules = Vec::new(alloc);
+    for _ in 0..64 {
+        rules.push(new_unsure(alloc, ScalarFnId::Binary)?)?;
+    }
+    Ok(rules)
+}
+
+fn is_bool(proof: Proof) -> bool {
+    matches!(proof, Ok(Some(proof)) if matches!(proof.dtype(), DType::Bool(_)))
+}
+
+// The proofs of 64 rules at one node are joined beside the built-in one.
+#[test]
+fn many_rules_at_one_node(rt: HostRuntime) -> Result<(), Fail> {
+    let alloc = rt.alloc();
+    let rules = Rules::with_own(many_unsure(alloc)?);
+    let above = gt(alloc, a(alloc), int(alloc, 10));
+    assert!(rt; is_bool(falsified(alloc, above, &rules)));
+    let above = gt(alloc, a(alloc), int(alloc, 10));
+    assert!(rt; is_bool(satisfied(alloc, above, &rules)));
+    Ok(())
+}
+
+// A rule that faults wherever it is asked is met at a node of its function, by both calls.
+fn expect_asked(
+    rt: &impl Abort,
+    alloc: Global,
+    function: ScalarFnId,
+    predicate: Built,
+) -> Result<(), Fail> {
+    let rules = rules_of(alloc, new_faulty(alloc, function, 5)?)?;
+    let predicate = predicate?;
+    expect_fault(rt, falsify(alloc, &predicate, &rules), 5);
+    expect_fault(rt, satisfy(alloc, &predicate, &rules), 5);
+    Ok(())
+}
+
+#[test]
+fn rules_are_asked_at_each_function(rt: HostRuntime) -> Result<(), Fail> {
+    let alloc = rt.alloc();
+    expect_asked(&rt, alloc, ScalarFnId::Literal, truth(alloc, true))?;
+    expect_asked(
+        &rt,
+        alloc,
+        ScalarFnId::Binary,
+        eq(alloc, a(alloc), b(alloc)),
+    )?;
+    expect_asked(&rt, alloc, ScalarFnId::Between, closed_range(alloc, 1, 2))?;
+    expect_asked(&rt, alloc, ScalarFnId::IsNull, null_test(alloc))?;
+    expect_asked(
+        &rt,
+        alloc,
+        ScalarFnId::IsNotNull,
+        is_not_null(alloc, a(alloc)),
+    )?;
+    expect_asked(&rt, alloc, ScalarFnId::Not, not_true(alloc))?;
+    expect_asked(&rt, alloc, ScalarFnId::Like, like_of(alloc, "x%"))?;
+    expect_asked(&rt, alloc, ScalarFnId::Stat, all_non_null(alloc))
+}
+
+// A count of rows is no predicate, and stands below no node that is visited.
+#[test]
+fn no_rule_is_asked_at_a_count_of_rows(rt: HostRuntime) -> Result<(), Fail> {
+    let alloc = rt.alloc();
+    let rules = rules_of(alloc, new_faulty(alloc, ScalarFnId::RowCount, 5)?)?;
+    let e = gt(alloc, row_count(alloc), nulls(alloc, 1));
+    assert!(rt; is_bool(falsified(alloc, e, &rules)));
+    Ok(())
+}

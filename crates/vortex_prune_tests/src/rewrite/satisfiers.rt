@@ -58,7 +58,12 @@ fn orders_with_a_literal(rt: HostRuntime) -> Result<(), Fail> {
     let e = gt_eq(alloc, a(alloc), int(alloc, 10));
     let proof = gt_eq(alloc, min_a(alloc), int(alloc, 10));
     expect_satisfier(&rt, alloc, e, without_null_a(alloc, proof))?;
-    expect_satisfier(&rt, alloc, below_fifty(alloc), below_fifty_everywhere(alloc))?;
+    expect_satisfier(
+        &rt,
+        alloc,
+        below_fifty(alloc),
+        below_fifty_everywhere(alloc),
+    )?;
     let e = lt_eq(alloc, a(alloc), int(alloc, 10));
     let proof = lt_eq(alloc, max_a(alloc), int(alloc, 10));
     expect_satisfier(&rt, alloc, e, without_null_a(alloc, proof))
@@ -74,7 +79,12 @@ fn equality_with_a_literal(rt: HostRuntime) -> Result<(), Fail> {
     let above = gt(alloc, min_a(alloc), int(alloc, 10));
     let below = gt(alloc, int(alloc, 10), max_a(alloc));
     let e = not_eq(alloc, a(alloc), int(alloc, 10));
-    expect_satisfier(&rt, alloc, e, without_null_a(alloc, or(alloc, above, below)))
+    expect_satisfier(
+        &rt,
+        alloc,
+        e,
+        without_null_a(alloc, or(alloc, above, below)),
+    )
 }
 
 #[test]
@@ -127,7 +137,11 @@ fn literals_are_not_asked_for_nulls(rt: HostRuntime) -> Result<(), Fail> {
 #[test]
 fn types_without_bounds_have_no_satisfier(rt: HostRuntime) -> Result<(), Fail> {
     let alloc = rt.alloc();
-    let e = eq(alloc, col(alloc, 0, DType::Null), null_of(alloc, DType::Null));
+    let e = eq(
+        alloc,
+        col(alloc, 0, DType::Null),
+        null_of(alloc, DType::Null),
+    );
     expect_no_satisfier(&rt, alloc, e)
 }
 
@@ -135,7 +149,11 @@ fn types_without_bounds_have_no_satisfier(rt: HostRuntime) -> Result<(), Fail> {
 fn both_sides_satisfy_and(rt: HostRuntime) -> Result<(), Fail> {
     let alloc = rt.alloc();
     let e = and(alloc, above_ten(alloc), below_fifty(alloc));
-    let proof = and(alloc, above_ten_everywhere(alloc), below_fifty_everywhere(alloc));
+    let proof = and(
+        alloc,
+        above_ten_everywhere(alloc),
+        below_fifty_everywhere(alloc),
+    );
     expect_satisfier(&rt, alloc, e, proof)?;
     let e = and(alloc, above_ten(alloc), ends_in_x(alloc));
     expect_no_satisfier(&rt, alloc, e)?;
@@ -147,7 +165,11 @@ fn both_sides_satisfy_and(rt: HostRuntime) -> Result<(), Fail> {
 fn either_side_satisfies_or(rt: HostRuntime) -> Result<(), Fail> {
     let alloc = rt.alloc();
     let e = or(alloc, above_ten(alloc), below_fifty(alloc));
-    let proof = or(alloc, above_ten_everywhere(alloc), below_fifty_everywhere(alloc));
+    let proof = or(
+        alloc,
+        above_ten_everywhere(alloc),
+        below_fifty_everywhere(alloc),
+    );
     expect_satisfier(&rt, alloc, e, proof)?;
     let e = or(alloc, above_ten(alloc), ends_in_x(alloc));
     expect_satisfier(&rt, alloc, e, above_ten_everywhere(alloc))?;
@@ -177,7 +199,11 @@ fn empty_ranges_have_no_satisfier(rt: HostRuntime) -> Result<(), Fail> {
 
 // The proof, and that no text of `s` is null.
 fn without_null_s(alloc: Global, proof: Built) -> Built {
-    and(alloc, proof, stat(alloc, s(alloc), AggregateFnRef::AllNonNull))
+    and(
+        alloc,
+        proof,
+        stat(alloc, s(alloc), AggregateFnRef::AllNonNull),
+    )
 }
 
 fn open_texts(alloc: Global, low: &str, high: &str) -> Built {
@@ -189,7 +215,11 @@ fn strict_ranges_of_texts_stay_strict(rt: HostRuntime) -> Result<(), Fail> {
     let alloc = rt.alloc();
     let above = lt(alloc, text(alloc, "a"), min(alloc, s(alloc)));
     let below = lt(alloc, max(alloc, s(alloc)), text(alloc, "c"));
-    let proof = and(alloc, without_null_s(alloc, above), without_null_s(alloc, below));
+    let proof = and(
+        alloc,
+        without_null_s(alloc, above),
+        without_null_s(alloc, below),
+    );
     expect_satisfier(&rt, alloc, open_texts(alloc, "a", "c"), proof)?;
     expect_no_satisfier(&rt, alloc, open_texts(alloc, "b", "b"))
 }

@@ -87,11 +87,20 @@ fn a_skipped_part_is_not_whole(rt: HostRuntime) -> Result<(), Fail> {
 
 // A part that is skipped, one that is whole, and two that are tested.
 fn four_parts(alloc: Global) -> Table {
-    let parts = one_part(alloc, part(alloc, &[Some(1), Some(10)], bounds(alloc, 1, 10)));
-    let parts = and_part(parts, part(alloc, &[Some(20), Some(30)], from(alloc, 20, 0)));
+    let parts = one_part(
+        alloc,
+        part(alloc, &[Some(1), Some(10)], bounds(alloc, 1, 10)),
+    );
+    let parts = and_part(
+        parts,
+        part(alloc, &[Some(20), Some(30)], from(alloc, 20, 0)),
+    );
     let parts = and_part(parts, part(alloc, &[Some(11)], bounds(alloc, 11, 40)));
     let rows = [None, Some(9), Some(12)];
-    tabled(alloc, and_part(parts, part(alloc, &rows, bounds(alloc, 9, 12))))
+    tabled(
+        alloc,
+        and_part(parts, part(alloc, &rows, bounds(alloc, 9, 12))),
+    )
 }
 
 #[test]

@@ -1,0 +1,237 @@
+//! Binders of a user that answer what they shouldn't or fault, and statistics at odds.
+ghost use Rattle.std.specs.Prelude.{◌==◌, ⊤, false, Some, None, if◌then◌else◌};
+ghost use Rattle.std.proofs.Common.{sym};
+ghost use mathlib.Core.Bool.{true≢false};
+ghost use Rattle.vortex_base.specs.Trees.Tree.{stat as placeholder};
+ghost use Rattle.vortex_base.specs.declared.aggregate.AggregateFnRef.TheVariants as aggregate;
+
+use super::*;
+use vortex_base::{AggregateFnRef, BaseError, BoundExpression, DType, Scalar, bound};
+use vortex_prune::bind::bind_stats;
+use vortex_prune::{HookFault, Rules, StatBinder};
+use vortex_stats::BinderFault;
+
+// Answers each placeholder by itself, by that of the least value, or by the input of the
+// placeholder, or knows nothing and answers a count; or faults.
+#[derive(Drop)]
+struct Hostile {
+    gives_itself: bool,
+    gives_least: bool,
+    gives_input: bool,
+    faults: bool,
+}
+
+// What the layers below made, a refusal of anything but memory told as the binder's fault.
+fn made(made: Result<BoundExpression, BaseError>) -> Result<Option<BoundExpression>, HookFault> {
+    match made {
+        Ok(made) => Ok(Some(made)),
+        Err(BaseError::Memory(refused)) => Err(HookFault::Memory(refused)),
+        Err(_) => Err(HookFault::Own(7)),
+    }
+}
+
+impl StatBinder for Hostile {
+    ghost answer = { λ b f x t.
+        if b.gives_itself then Some (placeholder f x)
+        else if b.gives_least then Some (placeholder aggregate.Min x)
+        else if b.gives_input then Some x else None };
+
+    ghost is_missing = { λ b t r. ⊤ };
+
+    ghost allows_null = { λ b t. tt };
+
+    ghost can_fault = { λ b k. k == 7 };
+
+    ghost value = { λ b row n f x. None };
+
+    ghost is_faithful_over = { λ b row n. false };
+
+    ghost is_faithful = { λ b row n h. absurd (true≢false (sym h)) };
+
+    fn bind_aggregate(
+        &self,
+        alloc: Global,
+        input: &BoundExpression,
+        aggregate: &AggregateFnRef,
+        _stat_dtype: &DType,
+    ) -> Result<Option<BoundExpression>, HookFault> {
+        if self.faults {
+            return Err(HookFault::Own(7));
+        }
+        if self.gives_itself {
+            return made(bound::new_stat(alloc, input.try_clone()?, *aggregate));
+        }
+        if self.gives_least {
+            return made(bound::new_stat(alloc, input.try_clone()?, AggregateFnRef::Min));
+        }
+        if self.gives_input {
+            return Ok(Some(input.try_clone()?));
+        }
+        Ok(None)
+    }
+
+    fn missing_stat(&self, alloc: Global, _dtype: DType) -> Result<BoundExpression, HookFault> {
+        Ok(bound::lit(alloc, Scalar::null(U64.as_nullable()))?)
+    }
+}
+
+const QUIET: Hostile = Hostile {
+    gives_itself: false,
+    gives_least: false,
+    gives_input: false,
+    faults: false,
+};
+
+const ITSELF: Hostile = Hostile {
+    gives_itself: true,
+    gives_least: false,
+    gives_input: false,
+    faults: false,
+};
+
+const LEAST: Hostile = Hostile {
+    gives_itself: false,
+    gives_least: true,
+    gives_input: false,
+    faults: false,
+};
+
+const INPUT: Hostile = Hostile {
+    gives_itself: false,
+    gives_least: false,
+    gives_input: true,
+    faults: false,
+};
+
+const FAULTY: Hostile = Hostile {
+    gives_itself: false,
+    gives_least: false,
+    gives_input: false,
+    faults: true,
+};
+
+// The scan by the built-in rules and these binders.
+fn scanned_by_binders(
+    alloc: Global,
+    parts: &Table,
+    predicate: Built,
+    binders: &[Hostile],
+) -> Found {
+    let rules = Rules::builtin(alloc);
+    match parts {
+        Ok(parts) => scanned_with(alloc, parts.parts(), binders, &predicate?, &rules),
+        Err(_) => Err(StatsError::Mismatch),
+    }
+}
+
+// One number, of which the greatest is known.
+fn twenty(alloc: Global) -> Table {
+    with_set(alloc, &[Some(20)], exactly(alloc, Stat::Max, number(20)))
+}
+
+fn scanned_by_one(alloc: Global, predicate: Built, binder: Hostile) -> Found {
+    scanned_by_binders(alloc, &twenty(alloc), predicate, &[binder])
+}
+
+fn is_open(found: Found) -> bool {
+    matches!(found, Err(StatsError::OpenProof))
+}
+
+fn is_wrong_type(found: Found) -> bool {
+    matches!(found, Err(StatsError::Binder(BinderFault::WrongType)))
+}
+
+fn is_fault(found: Found) -> bool {
+    matches!(found, Err(StatsError::Binder(BinderFault::Own(7))))
+}
+
+#[test]
+fn answers_that_leave_a_proof_open(rt: HostRuntime) {
+    let alloc = rt.alloc();
+    assert!(rt; is_open(scanned_by_one(alloc, above(alloc, 10), ITSELF)));
+    assert!(rt; is_open(scanned_by_one(alloc, above(alloc, 10), LEAST)));
+    assert!(rt; is_open(scanned_by_one(alloc, above(alloc, 10), INPUT)));
+}
+
+fn greatest(alloc: Global) -> Built {
+    stat(alloc, a(alloc), AggregateFnRef::Max)
+}
+
+fn bound_by(alloc: Global, e: Built, binder: &Hostile) -> Built {
+    bind_stats(alloc, e?, binder)
+}
+
+#[test]
+fn binding_takes_a_placeholder_for_itself(rt: HostRuntime) -> Result<(), Fail> {
+    let alloc = rt.alloc();
+    expect_same(
+        &rt,
+        bound_by(alloc, greatest(alloc), &ITSELF),
+        greatest(alloc),
+    )
+}
+
+#[test]
+fn a_count_is_no_greatest_value(rt: HostRuntime) {
+    let alloc = rt.alloc();
+    assert!(rt; is_wrong_type(scanned_by_one(alloc, above(alloc, 10), QUIET)));
+}
+
+#[test]
+fn a_fault_of_a_binder_ends_the_scan(rt: HostRuntime) {
+    let alloc = rt.alloc();
+    assert!(rt; is_fault(scanned_by_one(alloc, above(alloc, 10), FAULTY)));
+}
+
+// Without a falsifier and a satisfier no binder is asked.
+#[test]
+fn no_binder_is_asked_without_a_proof(rt: HostRuntime) -> Result<(), Fail> {
+    let alloc = rt.alloc();
+    let found = scanned_by_one(alloc, not(alloc, above(alloc, 10)), FAULTY);
+    expect_found(&rt, found, &[], &[])
+}
+
+// The numbers 1 and 2, in a part each.
+fn two_rows(alloc: Global) -> Table {
+    let parts = one_part(alloc, part(alloc, &[Some(1)], bounds(alloc, 1, 1)));
+    tabled(
+        alloc,
+        and_part(parts, part(alloc, &[Some(2)], bounds(alloc, 2, 2))),
+    )
+}
+
+// Binders are asked in the order of their parts.
+#[test]
+fn a_later_binder_faults(rt: HostRuntime) {
+    let alloc = rt.alloc();
+    let found = scanned_by_binders(alloc, &two_rows(alloc), above(alloc, 10), &[QUIET, FAULTY]);
+    assert!(rt; is_wrong_type(found));
+    let found = scanned_by_binders(alloc, &two_rows(alloc), above(alloc, 10), &[FAULTY, QUIET]);
+    assert!(rt; is_fault(found));
+    let found = scanned_by_binders(alloc, &two_rows(alloc), above(alloc, 10), &[ITSELF, FAULTY]);
+    assert!(rt; is_open(found));
+}
+
+// Two nulls, whose least value is said to be above the greatest.
+fn crossed(alloc: Global) -> Table {
+    let set = at_most(alloc, Stat::Min, number(5));
+    table_of(alloc, &[None, None], and_at_most(set, Stat::Max, number(3)))
+}
+
+fn all_nulls(alloc: Global) -> Table {
+    let set = exactly(alloc, Stat::NullCount, count(2));
+    with_set(alloc, &[None, None], set)
+}
+
+#[test]
+fn statistics_at_odds(rt: HostRuntime) -> Result<(), Fail> {
+    let alloc = rt.alloc();
+    expect_skipped(&rt, alloc, crossed(alloc), compare(alloc, Operator::Eq, 4))?;
+    let parts = crossed(alloc);
+    expect_rows(&rt, alloc, parts, compare(alloc, Operator::NotEq, 4), 0)?;
+    expect_skipped(&rt, alloc, all_nulls(alloc), is_not_null(alloc, a(alloc)))?;
+    expect_rows(&rt, alloc, all_nulls(alloc), is_null(alloc, a(alloc)), 2)?;
+    let set = exactly(alloc, Stat::NullCount, count(0));
+    let parts = with_set(alloc, &[], set);
+    expect_skipped(&rt, alloc, parts, is_not_null(alloc, a(alloc)))
+}
