@@ -12,29 +12,73 @@ fn read<T: FromScalar>(scalar: &Scalar) -> Result<T, BaseError> {
     T::from_scalar(scalar)
 }
 
-// Whether the scalar is read as this.
-fn reads<T: FromScalar + PartialEq + Drop>(
-    scalar: &Scalar,
-    expected: T,
-) -> Result<bool, BaseError> {
-    Ok(read::<T>(scalar)? == expected)
+// Whether this was read, or a mismatch told where nothing is to be read.
+fn is_as<T: PartialEq + Drop>(read: Result<T, BaseError>, expected: Option<T>) -> bool {
+    match read {
+        Ok(value) => expected == Some(value),
+        Err(BaseError::Mismatch) => expected.is_none(),
+        Err(_) => false,
+    }
 }
 
-fn is_mismatch<T: FromScalar + Drop>(scalar: &Scalar) -> bool {
-    matches!(read::<T>(scalar), Err(BaseError::Mismatch))
+// One function for each type, since a proof that reads several types is long.
+fn is_u8(scalar: &Scalar, expected: Option<u8>) -> bool {
+    is_as(read::<u8>(scalar), expected)
+}
+
+fn is_u16(scalar: &Scalar, expected: Option<u16>) -> bool {
+    is_as(read::<u16>(scalar), expected)
+}
+
+fn is_u32(scalar: &Scalar, expected: Option<u32>) -> bool {
+    is_as(read::<u32>(scalar), expected)
+}
+
+fn is_u64(scalar: &Scalar, expected: Option<u64>) -> bool {
+    is_as(read::<u64>(scalar), expected)
+}
+
+fn is_i8(scalar: &Scalar, expected: Option<i8>) -> bool {
+    is_as(read::<i8>(scalar), expected)
+}
+
+fn is_i16(scalar: &Scalar, expected: Option<i16>) -> bool {
+    is_as(read::<i16>(scalar), expected)
+}
+
+fn is_i32(scalar: &Scalar, expected: Option<i32>) -> bool {
+    is_as(read::<i32>(scalar), expected)
+}
+
+fn is_i64(scalar: &Scalar, expected: Option<i64>) -> bool {
+    is_as(read::<i64>(scalar), expected)
+}
+
+fn is_bool(scalar: &Scalar, expected: Option<bool>) -> bool {
+    is_as(read::<bool>(scalar), expected)
 }
 
 #[test]
 fn numbers(rt: HostRuntime) -> Result<(), Fail> {
-    let (positive, large) = (number(200)?, number(300)?);
-    let (negative, least) = (number(-1)?, number(-128)?);
-    assert!(rt; reads(&positive, 200u8)? && is_mismatch::<i8>(&positive));
-    assert!(rt; reads(&positive, 200u16)? && reads(&positive, 200i16)?);
-    assert!(rt; reads(&positive, 200u32)? && reads(&positive, 200i32)?);
-    assert!(rt; reads(&positive, 200u64)? && reads(&positive, 200i64)?);
-    assert!(rt; is_mismatch::<u8>(&large) && is_mismatch::<u64>(&negative));
-    assert!(rt; reads(&least, -128i8)?);
-    assert!(rt; is_mismatch::<i64>(&Scalar::null(I32_OR_NULL)) && is_mismatch::<bool>(&positive));
+    let positive = number(200)?;
+    assert!(rt; is_u8(&positive, Some(200)));
+    assert!(rt; is_i8(&positive, None));
+    assert!(rt; is_u16(&positive, Some(200)));
+    assert!(rt; is_i16(&positive, Some(200)));
+    assert!(rt; is_u32(&positive, Some(200)));
+    assert!(rt; is_i32(&positive, Some(200)));
+    assert!(rt; is_u64(&positive, Some(200)));
+    assert!(rt; is_i64(&positive, Some(200)));
+    assert!(rt; is_bool(&positive, None));
+    Ok(())
+}
+
+#[test]
+fn numbers_out_of_range(rt: HostRuntime) -> Result<(), Fail> {
+    assert!(rt; is_u8(&number(300)?, None));
+    assert!(rt; is_u64(&number(-1)?, None));
+    assert!(rt; is_i8(&number(-128)?, Some(-128)));
+    assert!(rt; is_i64(&Scalar::null(I32_OR_NULL), None));
     Ok(())
 }
 
@@ -47,20 +91,33 @@ fn bytes(alloc: Global) -> Result<Scalar, BaseError> {
     scalar(dtype, Some(bytes_value(alloc, &[7, 8])?))
 }
 
-fn reads_text(scalar: &Scalar, expected: &str) -> Result<bool, BaseError> {
-    Ok(read::<String>(scalar)?.as_str() == expected)
+// Whether it is read as this text, or refused where no text is to be read.
+fn is_text(scalar: &Scalar, expected: Option<&str>) -> bool {
+    match read::<String>(scalar) {
+        Ok(text) => expected == Some(text.as_str()),
+        Err(_) => expected.is_none(),
+    }
 }
 
-fn reads_bytes(scalar: &Scalar, expected: &[u8]) -> Result<bool, BaseError> {
-    Ok(read::<Vec<u8>>(scalar)?.as_slice() == expected)
+// The same of bytes.
+fn are_bytes(scalar: &Scalar, expected: Option<&[u8]>) -> bool {
+    match read::<Vec<u8>>(scalar) {
+        Ok(bytes) => expected == Some(bytes.as_slice()),
+        Err(_) => expected.is_none(),
+    }
+}
+
+fn truth() -> Result<Scalar, BaseError> {
+    scalar(BOOL, Some(ScalarValue::from(true)))
 }
 
 #[test]
 fn other_kinds(rt: HostRuntime) -> Result<(), Fail> {
-    let truth = scalar(BOOL, Some(ScalarValue::from(true)))?;
-    assert!(rt; reads(&truth, true)?);
     let (text, bytes) = (text(rt.alloc())?, bytes(rt.alloc())?);
-    assert!(rt; reads_text(&text, "a name")? && is_mismatch::<Vec<u8>>(&text));
-    assert!(rt; reads_bytes(&bytes, &[7, 8])? && is_mismatch::<String>(&bytes));
+    assert!(rt; is_bool(&truth()?, Some(true)));
+    assert!(rt; is_text(&text, Some("a name")));
+    assert!(rt; are_bytes(&text, None));
+    assert!(rt; are_bytes(&bytes, Some([7, 8].as_slice())));
+    assert!(rt; is_text(&bytes, None));
     Ok(())
 }
