@@ -1,4 +1,5 @@
 -- Types, values, columns and scopes.
+pub mod Cells
 pub mod Columns
 pub mod Exact
 pub mod Neighbours

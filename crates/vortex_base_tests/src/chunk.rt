@@ -1,7 +1,8 @@
 //! Tests of `chunk`.
 use std::alloc::Global;
 use std::test::Fail;
-use vortex_base::{BaseError, Chunk, Column, DType, Nullability, PType, ScalarValue, Scope};
+use vortex_base::{BaseError, Chunk, Column, DType, Nullability, PType, PValue, ScalarValue};
+use vortex_base::{Scope, ValueRef};
 
 const NUMBER: DType = DType::Primitive(PType::I64, Nullability::Nullable);
 
@@ -41,7 +42,7 @@ fn lend_columns(rt: HostRuntime) -> Result<(), Fail> {
     assert_eq!(rt; column.dtype(), NUMBER);
     assert_eq!(rt; column.size(), 16);
     assert_eq!(rt; column.len(), 2);
-    assert!(rt; column.get(0) == Some(&ScalarValue::from(7i64)));
+    assert!(rt; matches!(column.get(0), Some(ValueRef::Primitive(PValue::I64(7)))));
     assert!(rt; column.get(1).is_none());
     Ok(())
 }
@@ -54,7 +55,7 @@ fn lend_rows(rt: HostRuntime) -> Result<(), Fail> {
     assert_eq!(rt; row.len(), 2);
     assert_eq!(rt; row.dtype(0), Some(NUMBER));
     assert!(rt; row.value(0).is_none());
-    assert!(rt; row.value(1) == Some(&ScalarValue::from(true)));
+    assert!(rt; matches!(row.value(1), Some(ValueRef::Bool(true))));
     assert_eq!(rt; row.dtype(2), None);
     assert!(rt; row.value(2).is_none());
     Ok(())

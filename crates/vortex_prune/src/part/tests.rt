@@ -9,6 +9,7 @@ use vortex_base::pvalue::PValue;
 use vortex_base::scalar_value::ScalarValue;
 use vortex_base::text::Text;
 use vortex_base::types::{Nullability, PType};
+use vortex_base::value_ref::ValueRef;
 use vortex_stats::precision::Precision;
 use vortex_stats::stat::Stat;
 
@@ -68,7 +69,7 @@ fn number_at(part: &Part, i: usize) -> Option<i32> {
         return None;
     }
     match part.chunk().row(i).value(0) {
-        Some(ScalarValue::Primitive(PValue::I32(n))) => Some(*n),
+        Some(ValueRef::Primitive(PValue::I32(n))) => Some(n),
         _ => None,
     }
 }

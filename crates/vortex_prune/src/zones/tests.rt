@@ -88,7 +88,18 @@ fn is_column(zones: &Zones, place: usize, name: &str, dtype: DType) -> bool {
 // Whether the cell of a row and a column holds this.
 fn holds(zones: &Zones, row: usize, place: usize, value: Option<ScalarValue>) -> bool {
     let table = zones.table();
-    row < table.rows() && table.row(row).value(place) == value.as_ref()
+    if row >= table.rows() {
+        return false;
+    }
+    let cell = match table.row(row).value(place) {
+        None => None,
+        Some(cell) => Some(cell.to_value()),
+    };
+    match (cell, value) {
+        (None, None) => true,
+        (Some(Ok(cell)), Some(value)) => cell == value,
+        _ => false,
+    }
 }
 
 // Whether both of the rows are null in the column at a place.
