@@ -2,6 +2,7 @@
 pub mod Cells
 pub mod Columns
 pub mod Exact
+pub mod Names
 pub mod Neighbours
 pub mod Orders
 pub mod Repeated

@@ -1,14 +1,16 @@
-//! The values of a column as they are kept: short ones by themselves, where no text or bytes are among them.
-ghost use Rattle.std.specs.Prelude.{◌≡◌, ◌≤◌, ◌+◌, ◌++◌, ◌∷◌, [], IfOk, IfSome, OnOk, Some, length, map, option_map, slice_get, vec_capacity, vec_len};
-ghost use Rattle.vortex_base.specs.Data.Cells.{HasRoom, HasWideRoom, cell_values, short_value, value_of};
+//! The values of a column as they are kept: short ones and texts in forms of their own.
+ghost use Rattle.std.specs.Prelude.{◌≡◌, ◌≤◌, ◌+◌, ◌++◌, ◌∷◌, [], IfOk, IfSome, IsTrue, OnErr, OnOk, Some, length, map, option_map, slice_get, vec_capacity, vec_len};
+ghost use Rattle.vortex_base.specs.Data.Cells.{HasRoom, HasWideRoom, cell_values, is_text, short_value, text_value, value_of};
 ghost use Rattle.vortex_base.specs.Data.Columns.{value_at};
 ghost use Rattle.vortex_base.specs.declared.scalar_value.ScalarValue.TheVariants as value;
 
 use crate::dtype::DType;
 use crate::pvalue::PValue;
 use crate::scalar_value::ScalarValue;
+use crate::text::Text;
 use crate::value_ref::{ValueRef, lend};
 use std::alloc::{AllocError, Global};
+use std::mem;
 
 /// A truth, a number or null.
 #[derive(Clone, Copy, Debug)]
@@ -32,6 +34,8 @@ pub enum Cells {
     Any(Vec<Option<ScalarValue>>),
     /// Values without a text or bytes among them, in less than half the room.
     Short(Vec<ShortCell>),
+    /// Texts.
+    Texts(Vec<Option<Text>>),
 }
 
 impl ShortCell {
@@ -121,13 +125,75 @@ fn widened(
     Ok(values)
 }
 
+// The value of an optional text.
+#[inline]
+fn text_value(text: Option<Text>) -> Option<ScalarValue>
+    ensures { result ≡ text_value text }
+{
+    match text {
+        Some(text) => Some(ScalarValue::Utf8(text)),
+        None => None,
+    }
+}
+
+// Whether an optional value is null or a text.
+#[inline]
+fn is_text(value: &Option<ScalarValue>) -> bool
+    ensures { result ≡ is_text value.now }
+{
+    matches!(value, None | Some(ScalarValue::Utf8(_)))
+}
+
+// The optional text that such a value is.
+#[inline]
+fn text_of(value: Option<ScalarValue>) -> Option<Text>
+    requires { IsTrue (is_text value) }
+    ensures { text_value result ≡ value }
+{
+    match value {
+        None => None,
+        Some(value) => match value {
+            ScalarValue::Utf8(text) => Some(text),
+            _other => unreachable!(),
+        },
+    }
+}
+
+// Moves texts behind values of any kind, for which there is room.
+fn push_texts(values: &mut Vec<Option<ScalarValue>>, texts: Vec<Option<Text>>)
+    requires { vec_len values.old + vec_len texts ≤ vec_capacity values.old }
+    ensures values { values.new.items ≡ values.old.items ++ map text_value texts.items }
+    ensures capacity { vec_capacity values.new ≡ vec_capacity values.old }
+{
+    for text in texts {
+        values.push_reserved(text_value(text));
+    }
+}
+
+// The same texts as values of any kind, with room for some more. They are left where they were if
+// memory is refused.
+fn widened_texts(
+    texts: &mut Vec<Option<Text>>,
+    more: usize,
+) -> Result<Vec<Option<ScalarValue>>, AllocError>
+    ensures values { IfOk result (λ v. v.items ≡ map text_value texts.old.items) }
+    ensures room { IfOk result (λ v. vec_len v + more ≤ vec_capacity v) }
+    ensures refused { OnErr result (texts.new.items ≡ texts.old.items) }
+{
+    let alloc = *texts.allocator();
+    let mut values = Vec::with_capacity(alloc, texts.len().saturating_add(more))?;
+    push_texts(&mut values, mem::replace(texts, Vec::new(alloc)));
+    Ok(values)
+}
+
 impl Cells {
     /// No values yet, of a type that they will have.
     pub fn new(alloc: Global, dtype: DType) -> Cells
         ensures { cell_values result ≡ [] }
     {
         match dtype {
-            DType::Utf8(_) | DType::Binary(_) => Cells::Any(Vec::new(alloc)),
+            DType::Utf8(_) => Cells::Texts(Vec::new(alloc)),
+            DType::Binary(_) => Cells::Any(Vec::new(alloc)),
             _ => Cells::Short(Vec::new(alloc)),
         }
     }
@@ -137,7 +203,8 @@ impl Cells {
         ensures { IfOk result (λ cells. cell_values cells ≡ []) }
     {
         match dtype {
-            DType::Utf8(_) | DType::Binary(_) => Ok(Cells::Any(Vec::with_capacity(alloc, count)?)),
+            DType::Utf8(_) => Ok(Cells::Texts(Vec::with_capacity(alloc, count)?)),
+            DType::Binary(_) => Ok(Cells::Any(Vec::with_capacity(alloc, count)?)),
             _ => Ok(Cells::Short(Vec::with_capacity(alloc, count)?)),
         }
     }
@@ -149,6 +216,7 @@ impl Cells {
         match self {
             Cells::Any(values) => values.shrink_to_fit(),
             Cells::Short(cells) => cells.shrink_to_fit(),
+            Cells::Texts(texts) => texts.shrink_to_fit(),
         }
     }
 
@@ -160,6 +228,7 @@ impl Cells {
         match self {
             Cells::Any(values) => values.len(),
             Cells::Short(cells) => cells.len(),
+            Cells::Texts(texts) => texts.len(),
         }
     }
 
@@ -177,6 +246,10 @@ impl Cells {
                 None => None,
                 Some(cell) => cell.lend(),
             },
+            Cells::Texts(texts) => match texts.get(i) {
+                Some(Some(text)) => Some(ValueRef::Utf8(text)),
+                _ => None,
+            },
         }
     }
 
@@ -193,6 +266,11 @@ impl Cells {
                 *self = Cells::Any(values);
                 Ok(())
             }
+            Cells::Texts(texts) => {
+                let values = widened_texts(texts, more)?;
+                *self = Cells::Any(values);
+                Ok(())
+            }
         }
     }
 
@@ -204,7 +282,7 @@ impl Cells {
         self.widen(1)?;
         match self {
             Cells::Any(values) => Ok(values.push(value)?),
-            Cells::Short(_) => unreachable!(),
+            Cells::Short(_) | Cells::Texts(_) => unreachable!(),
         }
     }
 
@@ -213,10 +291,18 @@ impl Cells {
     pub fn push(&mut self, value: Option<ScalarValue>) -> Result<(), AllocError>
         ensures { OnOk result (cell_values self.new ≡ cell_values self.old ++ value ∷ []) }
     {
-        if let Cells::Short(cells) = self {
-            if let Some(cell) = ShortCell::of(&value) {
-                return Ok(cells.push(cell)?);
+        match self {
+            Cells::Short(cells) => {
+                if let Some(cell) = ShortCell::of(&value) {
+                    return Ok(cells.push(cell)?);
+                }
             }
+            Cells::Texts(texts) => {
+                if is_text(&value) {
+                    return Ok(texts.push(text_of(value))?);
+                }
+            }
+            Cells::Any(_) => {}
         }
         self.push_any(value)
     }
@@ -231,6 +317,12 @@ impl Cells {
             Cells::Short(more) => match self {
                 Cells::Any(values) => values.reserve(more.len()),
                 Cells::Short(cells) => cells.reserve(more.len()),
+                Cells::Texts(_) => self.widen(more.len()),
+            },
+            Cells::Texts(more) => match self {
+                Cells::Any(values) => values.reserve(more.len()),
+                Cells::Short(_) => self.widen(more.len()),
+                Cells::Texts(texts) => texts.reserve(more.len()),
             },
         }
     }
@@ -254,7 +346,14 @@ impl Cells {
                 }
                 more.clear();
             }
-            (Cells::Short(_), Cells::Any(_)) => unreachable!(),
+            (Cells::Texts(texts), Cells::Texts(more)) => {
+                let _ = texts.append(more);
+            }
+            (Cells::Any(values), Cells::Texts(more)) => {
+                let texts = mem::replace(more, Vec::new(*more.allocator()));
+                push_texts(values, texts);
+            }
+            _ => unreachable!(),
         }
     }
 }

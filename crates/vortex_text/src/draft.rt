@@ -78,7 +78,7 @@ impl Draft {
         let Some(part) = self.current.take() else {
             return Ok(());
         };
-        let scope = scope_of(alloc, &self.columns)?;
+        let scope = scope_of(alloc, &self.columns, &self.ended)?;
         let part = part.close(alloc, scope)?;
         self.ended.push(part)?;
         Ok(())
