@@ -1,5 +1,5 @@
 //! A column of a part that still takes rows.
-ghost use Rattle.std.specs.Prelude.{◌≡◌, [], OnOk};
+ghost use Rattle.std.specs.Prelude.{◌≡◌, [], IfOk, OnOk};
 ghost use Rattle.vortex_base.specs.Data.Columns.{IsColumn};
 ghost use Rattle.vortex_text.specs.Columns.{taken, with_value, with_values};
 ghost use Rattle.vortex_text.specs.Fails.{Changes, GivesAndChanges};
@@ -32,12 +32,17 @@ impl Model for OpenColumn {
 }
 
 impl OpenColumn {
-    /// A column with no values yet.
-    pub fn new(alloc: Global, dtype: DType) -> OpenColumn
-        ensures { result ≡ record { dtype = dtype; values = []; size = 0 } }
+    /// A column with no values yet, and with room for some.
+    pub fn with_capacity(
+        alloc: Global,
+        dtype: DType,
+        count: usize,
+    ) -> Result<OpenColumn, AllocError>
+        ensures { IfOk result (λ column.
+            column ≡ record { dtype = dtype; values = []; size = 0 }) }
     {
-        let cells = Cells::new(alloc, dtype);
-        OpenColumn { dtype, cells }
+        let cells = Cells::with_capacity(alloc, dtype, count)?;
+        Ok(OpenColumn { dtype, cells })
     }
 
     /// The column, which takes no more values.

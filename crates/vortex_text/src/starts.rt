@@ -44,15 +44,19 @@ pub fn scope_of(
     }
 }
 
-/// A part of these columns that has no rows yet.
-pub fn empty_part(alloc: Global, columns: &[(String, DType)]) -> Result<OpenPart, AllocError>
+/// A part of these columns that has no rows yet, and room for some.
+pub fn empty_part(
+    alloc: Global,
+    columns: &[(String, DType)],
+    rows: usize,
+) -> Result<OpenPart, AllocError>
     ensures { IfOk result (λ part.
         open_data (named_columns columns.now) part ≡ empty_part (named_columns columns.now)) }
 {
     let mut open = Vec::with_capacity(alloc, columns.len())?;
     let mut stats = Vec::with_capacity(alloc, columns.len())?;
     for column in columns {
-        open.push(OpenColumn::new(alloc, column.1))?;
+        open.push(OpenColumn::with_capacity(alloc, column.1, rows)?)?;
         stats.push(StatsSet::new(alloc))?;
     }
     Ok(OpenPart {
