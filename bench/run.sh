@@ -1,5 +1,5 @@
 #!/usr/bin/env bash
-# Times the built program on large inputs, beside a plain Rust program that answers the same (if rustc is there).
+# Measures the built program on large inputs, beside a plain Rust program that answers the same (if rustc is there).
 # usage: bench/run.sh [RUNS]
 set -eu
 here="$(cd "$(dirname "$0")" && pwd)"
@@ -7,30 +7,17 @@ runs="${1:-5}"
 program="$here/../crates/vortex_scan/out/vortex_scan"
 [ -x "$program" ] || "$here/../scan" < "$here/../examples/first-run.txt" > /dev/null
 mkdir -p "$here/data"
-plain="$here/data/plain"
-if command -v rustc > /dev/null; then rustc --edition 2021 -O "$here/plain/main.rs" -o "$plain"; else plain=""; fi
+plain=()
+if command -v rustc > /dev/null; then
+    rustc --edition 2021 -O "$here/plain/main.rs" -o "$here/data/plain"
+    plain=("$here/data/plain")
+fi
 
-# the least time of some runs, in milliseconds
-best() {
-    local least=999999 start end
-    for _ in $(seq "$runs"); do
-        start=$(date +%s%N); "$1" < "$2" > "$3"; end=$(date +%s%N)
-        least=$(( (end - start) / 1000000 < least ? (end - start) / 1000000 : least ))
-    done
-    echo "$least"
-}
-
-for kind in parts rows wide; do
+# Least processor time of some runs and most memory held: both programs, and what the proved one is of the plain one
+for kind in rows leaves parts columns singles texts; do
     input="$here/data/$kind.txt"
-    [ -f "$input" ] || python3 "$here/generate.py" "$kind" > "$input"
-    ours=$(best "$program" "$input" "$here/data/ours.out")
-    if [ -n "$plain" ]; then
-        theirs=$(best "$plain" "$input" "$here/data/plain.out")
-        cmp "$here/data/ours.out" "$here/data/plain.out"
-        echo "$kind: ${ours} ms, plain Rust ${theirs} ms, ratio $(( 100 * ours / theirs ))%"
-    else
-        echo "$kind: ${ours} ms"
-    fi
+    [ -s "$input" ] || python3 "$here/generate.py" "$kind" > "$input"
+    python3 "$here/measure.py" "$runs" "$input" "$program" "${plain[@]}"
 done
 
 # Layers by themselves: LIKE on texts that tempt a search to go back, a million evaluated comparisons, and a million
@@ -40,5 +27,5 @@ layer="$here/../crates/vortex_bench/out/vortex_bench"
 [ -x "$layer" ] || (cd "$here/../crates/vortex_bench" && echo like | rt run > /dev/null 2>&1)
 for work in like evaluate set get merge narrow_table narrow_binders narrow_zones wide_table wide_binders wide_zones; do
     echo "$work" > "$here/data/$work.txt"
-    echo "$work: $(best "$layer" "$here/data/$work.txt" "$here/data/layer.out") ms"
+    python3 "$here/measure.py" "$runs" "$here/data/$work.txt" "$layer"
 done

@@ -1,6 +1,8 @@
 -- Types, values, columns and scopes.
+pub mod Cells
 pub mod Columns
 pub mod Exact
+pub mod Names
 pub mod Neighbours
 pub mod Orders
 pub mod Repeated

@@ -1,6 +1,5 @@
 -- What expressions mean, and their types.
 pub mod Binding
-pub mod Evaluated
 pub mod Fitting
 pub mod Meaning
 pub mod RowTest

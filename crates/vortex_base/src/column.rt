@@ -1,10 +1,13 @@
 //! The values of a column.
-ghost use Rattle.std.specs.Prelude.{◌≡◌, ◌<◌, IsTrue, OnErr, OnOk, length, map, slice_get, Some, option_copied};
+ghost use Rattle.std.specs.Prelude.{◌≡◌, ◌<◌, IsTrue, OnErr, OnOk, length, map, option_map, slice_get, Some};
+ghost use Rattle.vortex_base.specs.Data.Cells.{cell_values, value_of};
 ghost use Rattle.vortex_base.specs.Data.Columns.{all_appended, all_fit, can_append, column_of, emptied, value_at, IsColumn};
 
+use crate::cells::Cells;
 use crate::dtype::DType;
 use crate::error::BaseError;
 use crate::scalar_value::ScalarValue;
+use crate::value_ref::ValueRef;
 use std::alloc::AllocError;
 use std::marker::Model;
 
@@ -12,19 +15,20 @@ use std::marker::Model;
 #[derive(Debug, Drop)]
 pub struct Column {
     dtype: DType,
-    values: Vec<Option<ScalarValue>>,
+    cells: Cells,
     size: u64,
 }
 
 impl Model for Column {
     ghost use Rattle.std.specs.Prelude.{IsTrue};
+    ghost use Rattle.vortex_base.specs.Data.Cells.{cell_values};
     ghost use Rattle.vortex_base.specs.Data.Columns.{ColumnData, all_fit};
 
     ghost Value = { ColumnData };
 
-    ghost view = { λ a. record { dtype = a.dtype; values = a.values.items; size = a.size } };
+    ghost view = { λ a. record { dtype = a.dtype; values = cell_values a.cells; size = a.size } };
 
-    ghost invariant = { λ a. IsTrue (all_fit a.dtype a.values.items) };
+    ghost invariant = { λ a. IsTrue (all_fit a.dtype (cell_values a.cells)) };
 }
 
 fn all_fit(dtype: &DType, values: &[Option<ScalarValue>]) -> bool
@@ -49,23 +53,16 @@ impl Column {
         if !all_fit(&dtype, &values) {
             return Err(BaseError::Mismatch);
         }
-        Ok(Column {
-            dtype,
-            values,
-            size,
-        })
+        let cells = Cells::Any(values);
+        Ok(Column { dtype, cells, size })
     }
 
     /// The column of values that are known to fit the type, as their reader has tested each.
-    pub fn new_unchecked(dtype: DType, values: Vec<Option<ScalarValue>>, size: u64) -> Column
-        requires { IsTrue (all_fit dtype values.items) }
-        ensures { result ≡ record { dtype = dtype; values = values.items; size = size } }
+    pub fn new_unchecked(dtype: DType, cells: Cells, size: u64) -> Column
+        requires { IsTrue (all_fit dtype (cell_values cells)) }
+        ensures { result ≡ record { dtype = dtype; values = cell_values cells; size = size } }
     {
-        Column {
-            dtype,
-            values,
-            size,
-        }
+        Column { dtype, cells, size }
     }
 
     pub fn dtype(&self) -> DType
@@ -80,7 +77,7 @@ impl Column {
         ensures value { result ≡ length self.now.values }
         ensures is_column { IsColumn self.now }
     {
-        self.values.len()
+        self.cells.len()
     }
 
     /// The declared size in bytes.
@@ -91,20 +88,18 @@ impl Column {
     }
 
     /// The value at a place, which `len` tells to be in range, or `None` for null.
-    pub fn get(&self, i: usize) -> Option<&ScalarValue>
+    pub fn get(&self, i: usize) -> Option<ValueRef<'_>>
         requires { i < length self.now.values }
-        ensures { slice_get self.now.values i ≡ Some (option_copied result) }
+        ensures { slice_get self.now.values i ≡ Some (option_map value_of result) }
     {
-        self.values[i].as_ref()
+        self.cells.value_at(i)
     }
 
-    pub(crate) fn value_at(&self, i: usize) -> Option<&ScalarValue>
-        ensures { option_copied result ≡ value_at (slice_get self.now.values i) }
+    #[inline]
+    pub(crate) fn value_at(&self, i: usize) -> Option<ValueRef<'_>>
+        ensures { option_map value_of result ≡ value_at (slice_get self.now.values i) }
     {
-        match self.values.get(i) {
-            None => None,
-            Some(v) => v.as_ref(),
-        }
+        self.cells.value_at(i)
     }
 }
 
@@ -122,9 +117,10 @@ pub(crate) fn append_all(columns: &mut [Column], others: &mut [Column]) -> Resul
     ) else {
         return Ok(());
     };
-    column.values.reserve(other.values.len())?;
+    column.cells.make_room(&other.cells)?;
     append_all(columns, others)?;
     column.size += other.size;
     other.size = 0;
-    column.values.append(&mut other.values)
+    column.cells.append(&mut other.cells);
+    Ok(())
 }

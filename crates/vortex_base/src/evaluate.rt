@@ -1,11 +1,9 @@
 //! The value of an expression on a row.
-ghost use Rattle.std.specs.Prelude.{◌≡◌, IfOk, IsTrue, OnErr, alloc_error};
-ghost use Rattle.std.specs.Prelude.{option_copied, option_map};
+ghost use Rattle.std.specs.Prelude.{◌≡◌, IsTrue, alloc_error, option_map};
+ghost use Rattle.vortex_base.specs.Data.Cells.{value_of};
 ghost use Rattle.vortex_base.specs.Meanings.Meaning as spec;
 ghost use Rattle.vortex_base.specs.Meanings.Meaning.{can_evaluate, meaning};
-ghost use Rattle.vortex_base.specs.Meanings.Evaluated.{evaluated};
-ghost use Rattle.vortex_base.specs.Answer.{Answers, Makes};
-ghost use Rattle.vortex_base.specs.Data.Values.{value_cmp};
+ghost use Rattle.vortex_base.specs.Answer.{Answers};
 
 use crate::bound_expression::{BoundExpression, Node};
 use crate::error::BaseError;
@@ -14,61 +12,23 @@ use crate::pvalue::PValue;
 use crate::row::Row;
 use crate::scalar_value::ScalarValue;
 use crate::types::{BetweenOptions, Operator};
-use std::alloc::AllocError;
+use crate::value_ref::{ValueRef, lend};
 use std::cmp::Ordering;
 
-/// A value that the row or a literal lends, or that the evaluation made. What it makes is never a
-/// text or bytes, so no node but the answer's own is copied.
-#[derive(Drop)]
-pub(crate) enum Evaluated<'a> {
-    Lent(&'a ScalarValue),
-    Made(ScalarValue),
-}
-
-pub(crate) fn lent<'a>(value: &'a Option<Evaluated<'_>>) -> Option<&'a ScalarValue>
-    ensures { option_copied result ≡ option_map evaluated value.now }
-{
-    match value {
-        Some(Evaluated::Lent(value)) => Some(value),
-        Some(Evaluated::Made(value)) => Some(value),
-        None => None,
-    }
-}
-
-fn borrowed(value: Option<&ScalarValue>) -> Option<Evaluated<'_>>
-    ensures { option_map evaluated result ≡ option_copied value.entry }
-{
-    match value {
-        Some(value) => Some(Evaluated::Lent(value)),
-        None => None,
-    }
-}
-
-fn owned(value: &ScalarValue) -> Result<ScalarValue, AllocError>
-    ensures ok { IfOk result (λ v. v ≡ value.now) }
-    ensures memory { OnErr result (IsTrue (spec.is_long (Some value.now))) }
-{
-    match value {
-        ScalarValue::Bool(truth) => Ok(ScalarValue::Bool(*truth)),
-        ScalarValue::Primitive(number) => Ok(ScalarValue::Primitive(*number)),
-        ScalarValue::Utf8(_) | ScalarValue::Binary(_) => value.clone(),
-    }
-}
-
-fn made<'a>(truth: Option<bool>) -> Option<Evaluated<'a>>
-    ensures { option_map evaluated result ≡ spec.truth_value truth }
+fn made<'a>(truth: Option<bool>) -> Option<ValueRef<'a>>
+    ensures { option_map value_of result ≡ spec.truth_value truth }
 {
     match truth {
-        Some(truth) => Some(Evaluated::Made(ScalarValue::Bool(truth))),
+        Some(truth) => Some(ValueRef::Bool(truth)),
         None => None,
     }
 }
 
-fn truth(value: Option<&ScalarValue>) -> Option<bool>
-    ensures { result ≡ spec.truth (option_copied value.entry) }
+fn truth(value: Option<ValueRef<'_>>) -> Option<bool>
+    ensures { result ≡ spec.truth (option_map value_of value.entry) }
 {
     match value {
-        Some(ScalarValue::Bool(truth)) => Some(*truth),
+        Some(ValueRef::Bool(truth)) => Some(truth),
         _ => None,
     }
 }
@@ -102,12 +62,6 @@ fn opposite(a: Option<bool>) -> Option<bool>
     }
 }
 
-fn order(a: &ScalarValue, b: &ScalarValue) -> Ordering
-    ensures { result ≡ value_cmp a.now b.now }
-{
-    a.cmp(b)
-}
-
 fn holds(operator: Operator, order: Ordering) -> bool
     ensures { result ≡ spec.holds operator order }
 {
@@ -124,19 +78,19 @@ fn holds(operator: Operator, order: Ordering) -> bool
 
 pub(crate) fn compared(
     operator: Operator,
-    a: Option<&ScalarValue>,
-    b: Option<&ScalarValue>,
+    a: Option<ValueRef<'_>>,
+    b: Option<ValueRef<'_>>,
 ) -> Option<bool>
-    ensures { result ≡ spec.compared operator (option_copied a.entry) (option_copied b.entry) }
+    ensures { result ≡ spec.compared operator (option_map value_of a.entry) (option_map value_of b.entry) }
 {
     match (a, b) {
-        (Some(a), Some(b)) => Some(holds(operator, order(a, b))),
+        (Some(a), Some(b)) => Some(holds(operator, a.order(b))),
         _ => None,
     }
 }
 
-fn applied(operator: Operator, a: Option<&ScalarValue>, b: Option<&ScalarValue>) -> Option<bool>
-    ensures { result ≡ spec.applied operator (option_copied a.entry) (option_copied b.entry) }
+fn applied(operator: Operator, a: Option<ValueRef<'_>>, b: Option<ValueRef<'_>>) -> Option<bool>
+    ensures { result ≡ spec.applied operator (option_map value_of a.entry) (option_map value_of b.entry) }
 {
     match operator {
         Operator::And => both(truth(a), truth(b)),
@@ -147,23 +101,23 @@ fn applied(operator: Operator, a: Option<&ScalarValue>, b: Option<&ScalarValue>)
 
 pub(crate) fn within(
     options: BetweenOptions,
-    x: Option<&ScalarValue>,
-    lower: Option<&ScalarValue>,
-    upper: Option<&ScalarValue>,
+    x: Option<ValueRef<'_>>,
+    lower: Option<ValueRef<'_>>,
+    upper: Option<ValueRef<'_>>,
 ) -> Option<bool>
-    ensures { result ≡ spec.within options (option_copied x.entry)
-        (option_copied lower.entry) (option_copied upper.entry) }
+    ensures { result ≡ spec.within options (option_map value_of x.entry)
+        (option_map value_of lower.entry) (option_map value_of upper.entry) }
 {
     let above = compared(options.lower_strict.to_operator(), lower, x);
     let below = compared(options.upper_strict.to_operator(), x, upper);
     both(above, below)
 }
 
-fn is_like(options: LikeOptions, text: &ScalarValue, pattern: &ScalarValue) -> bool
-    ensures { result ≡ spec.is_like options text.now pattern.now }
+fn is_like(options: LikeOptions, text: ValueRef<'_>, pattern: ValueRef<'_>) -> bool
+    ensures { result ≡ spec.is_like options (value_of text.entry) (value_of pattern.entry) }
 {
     match (text, pattern) {
-        (ScalarValue::Utf8(text), ScalarValue::Utf8(pattern)) => {
+        (ValueRef::Utf8(text), ValueRef::Utf8(pattern)) => {
             options.matches(text.as_str(), pattern.as_str())
         }
         _ => false,
@@ -172,10 +126,10 @@ fn is_like(options: LikeOptions, text: &ScalarValue, pattern: &ScalarValue) -> b
 
 pub(crate) fn liked(
     options: LikeOptions,
-    text: Option<&ScalarValue>,
-    pattern: Option<&ScalarValue>,
+    text: Option<ValueRef<'_>>,
+    pattern: Option<ValueRef<'_>>,
 ) -> Option<bool>
-    ensures { result ≡ spec.liked options (option_copied text.entry) (option_copied pattern.entry) }
+    ensures { result ≡ spec.liked options (option_map value_of text.entry) (option_map value_of pattern.entry) }
 {
     match (text, pattern) {
         (Some(text), Some(pattern)) => Some(is_like(options, text, pattern)),
@@ -184,36 +138,36 @@ pub(crate) fn liked(
 }
 
 impl BoundExpression {
-    pub(crate) fn value_on<'a>(&'a self, row: &'a Row<'_>, row_count: u64) -> Option<Evaluated<'a>>
-        ensures { option_map evaluated result ≡ meaning self.entry.now row.entry.now row_count }
+    pub(crate) fn value_on<'a>(&'a self, row: &'a Row<'_>, row_count: u64) -> Option<ValueRef<'a>>
+        ensures { option_map value_of result ≡ meaning self.entry.now row.entry.now row_count }
     {
         match &*self.node {
-            Node::Column(place) => borrowed(row.value(*place)),
-            Node::Literal(scalar) => borrowed(scalar.value()),
+            Node::Column(place) => row.value(*place),
+            Node::Literal(scalar) => lend(scalar.value()),
             Node::Binary(operator, left, right) => {
                 let left = left.value_on(row, row_count);
                 let right = right.value_on(row, row_count);
-                made(applied(*operator, lent(&left), lent(&right)))
+                made(applied(*operator, left, right))
             }
             Node::Between(options, x, lower, upper) => {
                 let x = x.value_on(row, row_count);
                 let lower = lower.value_on(row, row_count);
                 let upper = upper.value_on(row, row_count);
-                made(within(*options, lent(&x), lent(&lower), lent(&upper)))
+                made(within(*options, x, lower, upper))
             }
             Node::IsNull(x) => made(Some(x.value_on(row, row_count).is_none())),
             Node::IsNotNull(x) => made(Some(x.value_on(row, row_count).is_some())),
             Node::Not(x) => {
                 let x = x.value_on(row, row_count);
-                made(opposite(truth(lent(&x))))
+                made(opposite(truth(x)))
             }
             Node::Like(options, text, pattern) => {
                 let text = text.value_on(row, row_count);
                 let pattern = pattern.value_on(row, row_count);
-                made(liked(*options, lent(&text), lent(&pattern)))
+                made(liked(*options, text, pattern))
             }
             Node::Stat(_, _) => None,
-            Node::RowCount => Some(Evaluated::Made(ScalarValue::Primitive(PValue::U64(row_count)))),
+            Node::RowCount => Some(ValueRef::Primitive(PValue::U64(row_count))),
         }
     }
 }
@@ -239,8 +193,7 @@ pub fn evaluate(
         return Err(BaseError::RowShape);
     }
     match expression.value_on(row, row_count) {
-        Some(Evaluated::Lent(value)) => Ok(Some(owned(value)?)),
-        Some(Evaluated::Made(value)) => Ok(Some(value)),
+        Some(value) => Ok(Some(value.to_value()?)),
         None => Ok(None),
     }
 }

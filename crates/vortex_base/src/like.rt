@@ -3,9 +3,11 @@
 //! `%` stands for any run of characters, `_` for any one character, and `\` makes the next
 //! character literal. The search goes back to the last `%` alone, so it takes at most as many steps
 //! as the pattern has characters times the text's.
-ghost use Rattle.std.specs.Prelude.{◌≡◌, ◌<◌, ◌∷◌, [], length, MatchOption, IfSome};
+ghost use Rattle.std.specs.Prelude.{◌≡◌, ◌<◌, ◌≤◌, ◌∷◌, [], List, length, MatchOption, IfSome};
 ghost use Rattle.std.specs.Str.{chars};
 ghost use Rattle.vortex_base.specs.Patterns.Like.{items, like, some_end, like_text};
+ghost use Rattle.vortex_base.specs.declared.like.Item.{Item};
+ghost use Rattle.vortex_base.specs.declared.like.Item.TheVariants.{Char};
 ghost use Rattle.vortex_base.specs.Patterns.LikeSearch.{characters, reached, stop};
 
 /// How a text is compared with a pattern. The default regards case and is not negated.
@@ -142,6 +144,36 @@ fn is_match<'a>(pattern: Characters<'a>, text: Characters<'a>) -> bool
     }
 }
 
+// The text from the first place on that holds this character, or its end.
+fn from_char(mut text: &str, wanted: char) -> &str
+    ensures same { (is : List Item) → some_end (like (Char wanted ∷ is)) (chars result.now)
+        ≡ some_end (like (Char wanted ∷ is)) (chars text.entry.now) }
+    ensures shorter { length (chars result.now) ≤ length (chars text.entry.now) }
+{
+    while let Some((first, rest)) = split_char(text) {
+        if first == wanted {
+            return text;
+        }
+        text = rest;
+    }
+    text
+}
+
+// The text from the first place on at which the pattern may match.
+fn from_chance<'a>(pattern: Characters<'a>, text: Characters<'a>) -> Characters<'a>
+    ensures same { let test = like (items (characters pattern.entry)) in
+        some_end test (characters result) ≡ some_end test (characters text.entry) }
+    ensures shorter { length (characters result) ≤ length (characters text.entry) }
+{
+    if text.ignore_case {
+        return text;
+    }
+    match next_item(pattern) {
+        Some((Item::Char(first), _)) => Characters::as_written(from_char(text.text, first)),
+        _ => text,
+    }
+}
+
 fn is_match_at_some_end<'a>(mut pattern: Characters<'a>, mut text: Characters<'a>) -> bool
     ensures { result ≡ some_end (like (items (characters pattern.entry))) (characters text.entry) }
 {
@@ -149,11 +181,11 @@ fn is_match_at_some_end<'a>(mut pattern: Characters<'a>, mut text: Characters<'a
         match match_front(pattern, text) {
             Front::Whole => return true,
             Front::BeforeRun(next, rest) => {
+                text = from_chance(next, rest);
                 pattern = next;
-                text = rest;
             }
             Front::Mismatch => match text.split_first() {
-                Some((_, rest)) => text = rest,
+                Some((_, rest)) => text = from_chance(pattern, rest),
                 None => return false,
             },
         }

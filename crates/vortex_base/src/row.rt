@@ -1,10 +1,11 @@
 //! The rows on which expressions have a meaning.
-ghost use Rattle.std.specs.Prelude.{◌≡◌, length, slice_get, option_copied, option_map, []};
+ghost use Rattle.std.specs.Prelude.{◌≡◌, length, slice_get, option_map, []};
+ghost use Rattle.vortex_base.specs.Data.Cells.{value_of};
 ghost use Rattle.vortex_base.specs.Data.Columns.{row_of, cell_value, IsRow};
 
 use crate::column::Column;
 use crate::dtype::DType;
-use crate::scalar_value::ScalarValue;
+use crate::value_ref::ValueRef;
 use std::marker::Model;
 
 /// A row of a chunk, or the row with no columns. It lends the chunk's values and copies none.
@@ -63,8 +64,9 @@ impl<'a> Row<'a> {
     }
 
     /// The value in the column at a place, or `None` for null and where the row has no such column.
-    pub fn value(&self, i: usize) -> Option<&ScalarValue>
-        ensures { option_copied result ≡ cell_value (slice_get self.now i) }
+    #[inline]
+    pub fn value(&self, i: usize) -> Option<ValueRef<'_>>
+        ensures { option_map value_of result ≡ cell_value (slice_get self.now i) }
     {
         match self.columns.get(i) {
             None => None,

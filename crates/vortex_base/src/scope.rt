@@ -1,33 +1,44 @@
 //! Named columns.
-ghost use Rattle.std.specs.Prelude.{◌≡◌, ◌↔◌, ◌<◌, IfSome, IsTrue, Some, option_map};
+ghost use Rattle.std.specs.Prelude.{◌≡◌, ◌↔◌, ◌<◌, IfOk, IfSome, IsTrue, Some, option_map};
 ghost use Rattle.std.specs.Prelude.{length, position, slice_get};
 ghost use Rattle.std.specs.Cmp.{partial_equiv_from_equiv};
 ghost use Rattle.std.specs.List.{list_all, list_any, zip};
 ghost use Rattle.vortex_base.specs.Data.Columns as columns_spec;
 ghost use Rattle.vortex_base.specs.Data.Exact.{exact_equivalence};
+ghost use Rattle.vortex_base.specs.Data.Names.{all_named};
 ghost use Rattle.vortex_base.specs.Data.Scopes as scopes;
 ghost use Rattle.vortex_base.specs.Data.Types.{dtype_eq};
 
 use crate::column::Column;
 use crate::dtype::DType;
 use crate::error::BaseError;
+use std::alloc::{AllocError, Global};
 use std::marker::Model;
+use std::rc::Rc;
+
+// Names with their types, which one scope has for itself or several have together.
+#[derive(Debug, Drop)]
+enum Names {
+    Own(Vec<(String, DType)>),
+    Shared(Rc<Vec<(String, DType)>>),
+}
 
 /// The columns that expressions can speak of: a list of distinct names, each with its type.
 #[derive(Debug, Drop)]
 pub struct Scope {
-    columns: Vec<(String, DType)>,
+    names: Names,
 }
 
 impl Model for Scope {
     ghost use Rattle.std.specs.Prelude.{List};
-    ghost use Rattle.vortex_base.specs.Data.Scopes.{Named, IsScope, named_columns};
+    ghost use Rattle.vortex_base.specs.Data.Names.{all_named};
+    ghost use Rattle.vortex_base.specs.Data.Scopes.{Named, IsScope};
 
     ghost Value = { List Named };
 
-    ghost view = { λ s. named_columns s.columns.items };
+    ghost view = { λ s. all_named s.names };
 
-    ghost invariant = { λ s. IsScope (named_columns s.columns.items) };
+    ghost invariant = { λ s. IsScope (all_named s.names) };
 }
 
 fn contains(columns: &[(String, DType)], name: &str) -> bool
@@ -95,13 +106,40 @@ fn is_same(left: &[(String, DType)], right: &[(String, DType)]) -> bool
     left == right
 }
 
+impl Names {
+    #[inline]
+    fn columns(&self) -> &[(String, DType)]
+        ensures { scopes.named_columns result.now ≡ all_named self.now }
+    {
+        match self {
+            Names::Own(columns) => columns.as_slice(),
+            Names::Shared(columns) => columns.as_slice(),
+        }
+    }
+}
+
+// The columns again.
+fn copied(columns: &Vec<(String, DType)>) -> Result<Vec<(String, DType)>, AllocError>
+    ensures { IfOk result (λ copy.
+        scopes.named_columns copy.items ≡ scopes.named_columns columns.now.items) }
+{
+    let mut copy = Vec::with_capacity(*columns.allocator(), columns.len())?;
+    for column in columns.iter() {
+        let name = column.0.clone()?;
+        copy.push((name, column.1))?;
+    }
+    Ok(copy)
+}
+
 impl Scope {
     /// The scope of columns whose names are known to be distinct, with no test of their names.
     pub fn new_unchecked(columns: Vec<(String, DType)>) -> Scope
         requires { scopes.IsScope (scopes.named_columns columns.items) }
         ensures { result ≡ scopes.named_columns columns.items }
     {
-        Scope { columns }
+        Scope {
+            names: Names::Own(columns),
+        }
     }
 
     /// The scope of these columns. Of several faults the first of these is answered: `EmptyScope`
@@ -119,7 +157,31 @@ impl Scope {
         if has_state(&columns) {
             return Err(BaseError::TypeFault);
         }
-        Ok(Scope { columns })
+        Ok(Scope {
+            names: Names::Own(columns),
+        })
+    }
+
+    /// The same scope, whose clones have its names together with it.
+    pub fn try_shared(self, alloc: Global) -> Result<Scope, AllocError>
+        ensures { IfOk result (λ scope. scope ≡ self) }
+    {
+        let names = match self.names {
+            Names::Own(columns) => Names::Shared(Rc::new(alloc, columns)?),
+            Names::Shared(columns) => Names::Shared(columns),
+        };
+        Ok(Scope { names })
+    }
+
+    /// An equal scope. It copies the names unless they are shared.
+    pub fn try_clone(&self) -> Result<Scope, AllocError>
+        ensures { IfOk result (λ scope. scope ≡ self.now) }
+    {
+        let names = match &self.names {
+            Names::Own(columns) => Names::Own(copied(columns)?),
+            Names::Shared(columns) => Names::Shared(columns.clone()?),
+        };
+        Ok(Scope { names })
     }
 
     /// The number of columns.
@@ -127,7 +189,7 @@ impl Scope {
         ensures value { result ≡ length self.now }
         ensures is_scope { scopes.IsScope self.now }
     {
-        self.columns.len()
+        self.names.columns().len()
     }
 
     /// The name of the column at a place, which `len` tells to be in range.
@@ -135,7 +197,7 @@ impl Scope {
         requires { i < length self.now }
         ensures { option_map (λ c. c.0) (slice_get self.now i) ≡ Some result.now }
     {
-        self.columns[i].0.as_str()
+        self.names.columns()[i].0.as_str()
     }
 
     /// The type of the column at a place, which `len` tells to be in range.
@@ -143,7 +205,7 @@ impl Scope {
         requires { i < length self.now }
         ensures { option_map (λ c. c.1) (slice_get self.now i) ≡ Some result }
     {
-        let (_, dtype) = &self.columns[i];
+        let (_, dtype) = &self.names.columns()[i];
         *dtype
     }
 
@@ -152,14 +214,14 @@ impl Scope {
         ensures value { result ≡ scopes.place_of name.now self.now }
         ensures in_range { IfSome result (λ i. i < length self.now) }
     {
-        place_of(&self.columns, name)
+        place_of(self.names.columns(), name)
     }
 
     /// Whether there are as many columns as names, each of its name's type.
     pub(crate) fn has_types(&self, columns: &[Column]) -> bool
         ensures { result ≡ columns_spec.has_types self.now columns.now }
     {
-        has_types(&self.columns, columns)
+        has_types(self.names.columns(), columns)
     }
 }
 
@@ -173,7 +235,7 @@ impl PartialEq for Scope {
         ensures value { result ≡ scopes.scope_eq self.now other.now }
         ensures same { IsTrue result ↔ (self.now ≡ other.now) }
     {
-        is_same(&self.columns, &other.columns)
+        is_same(self.names.columns(), other.names.columns())
     }
 }
 

@@ -2,7 +2,8 @@
 use crate::testing::{self, column};
 use std::alloc::Global;
 use std::test::Fail;
-use vortex_base::{BaseError, Chunk, Column, DType, Nullability, PType, ScalarValue, Scope};
+use vortex_base::{BaseError, Chunk, Column, DType, Nullability, PType, PValue, ScalarValue};
+use vortex_base::{Scope, ValueRef};
 
 const NUMBER: DType = DType::Primitive(PType::I64, Nullability::Nullable);
 
@@ -49,12 +50,12 @@ fn two_rows(alloc: Global) -> Result<Chunk, BaseError> {
     chunk_of(alloc, and(one(alloc, numbers(alloc)), truths(alloc, 2)))
 }
 
-fn is_number(value: Option<&ScalarValue>) -> bool {
-    value == Some(&ScalarValue::from(7i64))
+fn is_number(value: Option<ValueRef<'_>>) -> bool {
+    matches!(value, Some(ValueRef::Primitive(PValue::I64(7))))
 }
 
-fn is_true(value: Option<&ScalarValue>) -> bool {
-    value == Some(&ScalarValue::from(true))
+fn is_true(value: Option<ValueRef<'_>>) -> bool {
+    matches!(value, Some(ValueRef::Bool(true)))
 }
 
 #[test]

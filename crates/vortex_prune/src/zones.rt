@@ -1,6 +1,7 @@
 //! A table of zones: the statistics of parts of one scope, kept as one row a part.
 ghost use Rattle.std.specs.Prelude.{◌≡◌, ◌<◌, ◌++◌, ℕ, IfErr, IfOk, MatchOption, OnOk, Ok, Some};
 ghost use Rattle.std.specs.Prelude.{alloc_error, false, length, map, option_map, slice_get, string_bytes};
+ghost use Rattle.vortex_base.specs.Data.Cells.{cell_values};
 ghost use Rattle.vortex_base.specs.Data.Scopes.{IsScope, Named, named_columns};
 ghost use Rattle.vortex_base.specs.Meanings.Typing.{stat_type};
 ghost use Rattle.vortex_prune.specs.Part.{AreParts, IsPart};
@@ -14,6 +15,7 @@ use crate::stat_fn::stat_value;
 use std::alloc::{AllocError, Global};
 use std::marker::Model;
 use vortex_base::aggregate::AggregateFnRef;
+use vortex_base::cells::Cells;
 use vortex_base::chunk::Chunk;
 use vortex_base::column::Column;
 use vortex_base::dtype::DType;
@@ -171,22 +173,18 @@ fn zone_value(
 }
 
 // The values of a column of the table.
-fn zone_values(
-    alloc: Global,
-    parts: &[Part],
-    head: &Head,
-) -> Result<Vec<Option<ScalarValue>>, StatsError>
+fn zone_cells(alloc: Global, parts: &[Part], head: &Head) -> Result<Cells, StatsError>
     requires { EachTells parts.now head.now }
     ensures values { let told = zone_value head.now.aggregate head.now.source in
-        IfOk result (λ vs. vs.items ≡ map told parts.now) }
+        IfOk result (λ cells. cell_values cells ≡ map told parts.now) }
     ensures parts { IfOk result (λ _. AreParts parts.now) }
     ensures memory { IfErr result (λ f. f ≡ Memory alloc_error) }
 {
-    let mut values = Vec::new(alloc);
+    let mut cells = Cells::with_capacity(alloc, head.dtype, parts.len())?;
     for place in 0..parts.len() {
-        values.push(zone_value(&parts[place], head.source, head.aggregate)?)?;
+        cells.push(zone_value(&parts[place], head.source, head.aggregate)?)?;
     }
-    Ok(values)
+    Ok(cells)
 }
 
 // A column of the table.
@@ -196,8 +194,8 @@ fn zone_column(alloc: Global, parts: &[Part], head: &Head) -> Result<Column, Sta
     ensures parts { IfOk result (λ _. AreParts parts.now) }
     ensures memory { IfErr result (λ f. f ≡ Memory alloc_error) }
 {
-    let values = zone_values(alloc, parts, head)?;
-    Ok(Column::new_unchecked(head.dtype, values, 0))
+    let cells = zone_cells(alloc, parts, head)?;
+    Ok(Column::new_unchecked(head.dtype, cells, 0))
 }
 
 // The columns of the table.

@@ -6,7 +6,7 @@ use crate::testing::*;
 use std::alloc::{AllocError, Global};
 use std::process::Abort;
 use std::test::Fail;
-use vortex_base::{Chunk, PValue, ScalarValue};
+use vortex_base::{Chunk, PValue, ScalarValue, ValueRef};
 use vortex_prune::{JoinRefused, Part, PartRefused};
 use vortex_stats::{Precision, Stat, StatsError, StatsSet};
 
@@ -90,7 +90,7 @@ fn number_at(part: &Part, i: usize) -> Option<i32> {
         return None;
     }
     match part.chunk().row(i).value(0) {
-        Some(ScalarValue::Primitive(PValue::I32(n))) => Some(*n),
+        Some(ValueRef::Primitive(PValue::I32(n))) => Some(n),
         _ => None,
     }
 }

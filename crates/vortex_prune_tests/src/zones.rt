@@ -2,7 +2,7 @@
 use crate::testing::*;
 use std::alloc::{AllocError, Global};
 use std::test::Fail;
-use vortex_base::{DType, Nullability, PType, ScalarValue, Scope};
+use vortex_base::{DType, Nullability, PType, ScalarValue, Scope, ValueRef};
 use vortex_prune::{Part, Zones, ZonesRefused};
 use vortex_stats::{Stat, StatsError, StatsSet};
 
@@ -142,7 +142,16 @@ fn is_column(zones: &Zones, place: usize, name: &str, dtype: DType) -> bool {
 // Whether the cell of a row and a column holds this.
 fn holds(zones: &Zones, row: usize, place: usize, value: Option<ScalarValue>) -> bool {
     let table = zones.table();
-    row < table.rows() && table.row(row).value(place) == value.as_ref()
+    row < table.rows() && is_cell(table.row(row).value(place), value)
+}
+
+// Whether a cell is this value.
+fn is_cell(cell: Option<ValueRef<'_>>, value: Option<ScalarValue>) -> bool {
+    match (cell, value) {
+        (None, None) => true,
+        (Some(cell), Some(value)) => matches!(cell.to_value(), Ok(cell) if cell == value),
+        _ => false,
+    }
 }
 
 // Whether both of the rows are null in the column at a place.

@@ -205,7 +205,7 @@ joined_is_part_of scope p q h g = record {
   unsized = appended_unsized p.chunk.columns q.chunk.columns h.unsized g.unsized;
 }
 
-one_of : {X : Type 0} (P : X → Type 0) (xs : List X) (i : ℕ) (x : X) → All P xs → slice_get xs i ≡ Some x → P x
+pub one_of : {X : Type 0} (P : X → Type 0) (xs : List X) (i : ℕ) (x : X) → All P xs → slice_get xs i ≡ Some x → P x
 one_of P xs i x all there = subst P (get_or_from_slice_get xs i x x there) (all i x (slice_get_within xs i x there))
 
 pub joined_at_are_parts : (scope : List Named) (i : ℕ) (parts new : List PartData) → All (IsPartOf scope) parts → joined_at i parts ≡ Some new → All (IsPartOf scope) new

@@ -9,7 +9,7 @@ use Rattle.vortex_text.specs.declared.draft.Draft.{Draft}
 abbrev pub reading_of : Draft → Reading
 reading_of d = record {
   scope = named_columns d.columns.items;
-  ended = d.ended.items;
+  ended = d.ended;
   current = option_map (open_data (named_columns d.columns.items)) d.current;
   predicate = d.predicate;
 }

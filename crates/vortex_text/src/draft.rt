@@ -10,7 +10,6 @@ ghost use Rattle.vortex_text.specs.Lines.{read_row, read_stat, read_where, read_
 ghost use Rattle.vortex_text.specs.Words.{words};
 
 use crate::expression::{find_column, read_expression};
-use crate::joining::join_at;
 use crate::line_error::LineError;
 use crate::line_kind::{LineKind, kind_of};
 use crate::lines::is_utf8;
@@ -18,6 +17,7 @@ use crate::names::{is_name, type_of};
 use crate::number::natural_of;
 use crate::open_column::push_row;
 use crate::open_part::{OpenPart, set_statistic};
+use crate::parts::Parts;
 use crate::query::Query;
 use crate::starts::{empty_part, scope_of};
 use crate::statistic::{read_claim, read_claimed};
@@ -27,13 +27,12 @@ use std::str;
 use vortex_base::bound_expression::BoundExpression;
 use vortex_base::dtype::DType;
 use vortex_base::scope::Scope;
-use vortex_prune::part::Part;
 
 /// What the lines so far say.
 #[derive(Drop)]
 pub struct Draft {
     columns: Vec<(String, DType)>,
-    ended: Vec<Part>,
+    ended: Parts,
     current: Option<OpenPart>,
     predicate: Option<BoundExpression>,
 }
@@ -45,7 +44,7 @@ impl Draft {
     {
         Draft {
             columns: Vec::new(alloc),
-            ended: Vec::new(alloc),
+            ended: Parts::new(alloc),
             current: None,
             predicate: None,
         }
@@ -57,7 +56,7 @@ impl Draft {
     {
         match &self.current {
             Some(_) => true,
-            None => !self.ended.is_empty(),
+            None => self.ended.has_part(),
         }
     }
 
@@ -78,7 +77,7 @@ impl Draft {
         let Some(part) = self.current.take() else {
             return Ok(());
         };
-        let scope = scope_of(alloc, &self.columns)?;
+        let scope = scope_of(alloc, &self.columns, self.ended.some())?;
         let part = part.close(alloc, scope)?;
         self.ended.push(part)?;
         Ok(())
@@ -114,6 +113,15 @@ impl Draft {
         self.add_column(alloc, name, dtype)
     }
 
+    // How many rows the next part may have: as many as an earlier one, so that parts alike grow no
+    // column.
+    fn likely_rows(&self) -> usize {
+        match self.ended.some().last() {
+            Some(part) => part.chunk().rows(),
+            None => 0,
+        }
+    }
+
     // `part`
     fn read_part(&mut self, alloc: Global, line: &[u8]) -> Result<(), LineError>
         requires { FitsTogether (reading_of self.old) }
@@ -124,7 +132,7 @@ impl Draft {
         if self.columns.is_empty() {
             return Err(LineError::Bad);
         }
-        let part = empty_part(alloc, &self.columns)?;
+        let part = empty_part(alloc, &self.columns, self.likely_rows())?;
         self.end_part(alloc)?;
         self.current = Some(part);
         Ok(())
@@ -170,7 +178,7 @@ impl Draft {
             return Err(LineError::Bad);
         };
         self.end_part(alloc)?;
-        join_at(alloc, &mut self.ended, place as usize)
+        self.ended.join_at(alloc, place as usize)
     }
 
     // `where EXPR`
@@ -261,7 +269,7 @@ impl Draft {
         match predicate {
             Some(predicate) => Ok(Some(Query {
                 scope: Scope::new_unchecked(columns),
-                parts: ended,
+                parts: ended.into_vec()?,
                 predicate,
             })),
             None => Ok(None),

@@ -4,7 +4,6 @@
 mod draft;
 mod expression;
 mod form;
-mod joining;
 mod line_error;
 mod line_kind;
 mod lines;
@@ -13,6 +12,7 @@ pub mod naming;
 mod number;
 mod open_column;
 mod open_part;
+mod parts;
 mod printing;
 pub mod program;
 mod query;

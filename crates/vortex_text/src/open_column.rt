@@ -1,5 +1,5 @@
 //! A column of a part that still takes rows.
-ghost use Rattle.std.specs.Prelude.{◌≡◌, [], OnOk};
+ghost use Rattle.std.specs.Prelude.{◌≡◌, [], IfOk, OnOk};
 ghost use Rattle.vortex_base.specs.Data.Columns.{IsColumn};
 ghost use Rattle.vortex_text.specs.Columns.{taken, with_value, with_values};
 ghost use Rattle.vortex_text.specs.Fails.{Changes, GivesAndChanges};
@@ -10,6 +10,7 @@ use crate::value::optional_value_of;
 use crate::word::{first_word, no_word};
 use std::alloc::{AllocError, Global};
 use std::marker::Model;
+use vortex_base::cells::Cells;
 use vortex_base::column::Column;
 use vortex_base::dtype::DType;
 use vortex_base::scalar_value::ScalarValue;
@@ -18,26 +19,30 @@ use vortex_base::scalar_value::ScalarValue;
 #[derive(Debug, Drop)]
 pub struct OpenColumn {
     dtype: DType,
-    values: Vec<Option<ScalarValue>>,
+    cells: Cells,
 }
 
 impl Model for OpenColumn {
+    ghost use Rattle.vortex_base.specs.Data.Cells.{cell_values};
     ghost use Rattle.vortex_base.specs.Data.Columns.{ColumnData};
 
     ghost Value = { ColumnData };
 
-    ghost view = { λ c. record { dtype = c.dtype; values = c.values.items; size = 0 } };
+    ghost view = { λ c. record { dtype = c.dtype; values = cell_values c.cells; size = 0 } };
 }
 
 impl OpenColumn {
-    /// A column with no values yet.
-    pub fn new(alloc: Global, dtype: DType) -> OpenColumn
-        ensures { result ≡ record { dtype = dtype; values = []; size = 0 } }
+    /// A column with no values yet, and with room for some.
+    pub fn with_capacity(
+        alloc: Global,
+        dtype: DType,
+        count: usize,
+    ) -> Result<OpenColumn, AllocError>
+        ensures { IfOk result (λ column.
+            column ≡ record { dtype = dtype; values = []; size = 0 }) }
     {
-        OpenColumn {
-            dtype,
-            values: Vec::new(alloc),
-        }
+        let cells = Cells::with_capacity(alloc, dtype, count)?;
+        Ok(OpenColumn { dtype, cells })
     }
 
     /// The column, which takes no more values.
@@ -45,8 +50,9 @@ impl OpenColumn {
         requires { IsColumn self }
         ensures { result ≡ self }
     {
-        let OpenColumn { dtype, values } = self;
-        Column::new_unchecked(dtype, values, 0)
+        let OpenColumn { dtype, mut cells } = self;
+        cells.shrink_to_fit();
+        Column::new_unchecked(dtype, cells, 0)
     }
 
     // Adds a value.
@@ -54,8 +60,7 @@ impl OpenColumn {
     fn push(&mut self, value: Option<ScalarValue>) -> Result<(), AllocError>
         ensures { OnOk result (self.new ≡ with_value value self.old) }
     {
-        self.values.push(value)?;
-        Ok(())
+        self.cells.push(value)
     }
 
     // Adds the value of the first word of a line. The rest of the line comes back.

@@ -10,14 +10,16 @@ use crate::streams::{ReadError, read_all, write_out};
 use std::alloc::{AllocError, Global};
 use std::io::{Read, Write};
 
-// The status of a text and what is printed of it.
-fn reply_to(alloc: Global, text: &[u8]) -> Result<(u8, String), AllocError>
-    ensures status { IfOk result (λ x. x.0 ≡ (reply_to text.now).0) }
-    ensures printed { IfOk result (λ x. string_bytes x.1 ≡ (reply_to text.now).1) }
+// The status of a text and what is printed of it. The text is let go once it is read.
+fn reply_to(alloc: Global, text: Vec<u8>) -> Result<(u8, String), AllocError>
+    ensures status { IfOk result (λ x. x.0 ≡ (reply_to text.items).0) }
+    ensures printed { IfOk result (λ x. string_bytes x.1 ≡ (reply_to text.items).1) }
     // Where all statistics are true no row is lost.
-    ensures lossless { IfOk result (λ x. IsFullScan text.now (string_bytes x.1)) }
+    ensures lossless { IfOk result (λ x. IsFullScan text.items (string_bytes x.1)) }
 {
-    match read_input(alloc, text) {
+    let read = read_input(alloc, &text);
+    drop(text);
+    match read {
         Ok(query) => match scan_query(alloc, query)? {
             Some(scan) => Ok((0, print_scan(alloc, &scan)?)),
             None => Ok((1, String::from_str(alloc, "predicate\n")?)),
@@ -61,7 +63,7 @@ pub fn run<R: Read, W: Write>(alloc: Global, reader: &mut R, writer: &mut W) -> 
         Err(ReadError::Failed) => return refuse(writer, b"read\n"),
         Err(ReadError::TooLong) => return refuse(writer, b"input\n"),
     };
-    let Ok((status, text)) = reply_to(alloc, &input) else {
+    let Ok((status, text)) = reply_to(alloc, input) else {
         return refuse(writer, b"memory\n");
     };
     if write_out(writer, text.as_bytes()) {

@@ -1,5 +1,5 @@
 -- The values of two columns of one type fit it together.
-use Rattle.std.proofs.Common.{◌≡◌, Bool, true, false, cond, List, [], ◌∷◌, ◌++◌, Option, refl, sym, ap, subst, ◌∙◌}
+use Rattle.std.proofs.Common.{◌≡◌, Bool, true, false, cond, List, ◌∷◌, ◌++◌, Option, refl, sym, ap, subst, ◌∙◌}
 use Rattle.std.proofs.lemmas.List.Folds.{list_all-append}
 use Rattle.vortex_base.specs.Data.Columns.{ColumnData, all_fit, can_append}
 use Rattle.vortex_base.specs.Data.Exact.{both_true}

@@ -1,8 +1,9 @@
 -- Tests of a row: whether a truth of three values is the wanted one.
-use Rattle.std.specs.Prelude.{◌≡◌, ℕ, Bool, true, false, not as not_b, List, Option, Some, None, option_copied}
+use Rattle.std.specs.Prelude.{◌≡◌, ℕ, Bool, true, false, not as not_b, List, Option, Some, None, option_map}
 use Rattle.vortex_base.specs.declared.bound_expression.row_test.Leaf.{Leaf}
 use Rattle.vortex_base.specs.declared.bound_expression.row_test.Leaf.TheVariants.{Of, Inner}
 use Rattle.vortex_base.specs.Meanings.Meaning.{meaning}
+use Rattle.vortex_base.specs.Data.Cells.{value_of}
 use Rattle.vortex_base.specs.Data.Scalars.{Constant}
 use Rattle.vortex_base.specs.Trees.Tree.{Tree, Place, column, literal}
 
@@ -20,5 +21,5 @@ is_leaf e = false
 
 -- a leaf lends its value on the row, and any other node is told to be none
 abbrev pub Lends : Leaf → Tree Place → (row : List Constant) → (n : ℕ) → Type 0
-Lends (Of v) e row n = option_copied v ≡ meaning e row n
+Lends (Of v) e row n = option_map value_of v ≡ meaning e row n
 Lends Inner e row n = is_leaf e ≡ false

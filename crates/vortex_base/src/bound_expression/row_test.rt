@@ -3,22 +3,23 @@
 //! The truth that is asked for turns round at NOT, so that AND and OR stop at the first operand
 //! that decides. What a column or a literal lends is compared where it stands; the arms for other
 //! operands are functions of their own, which keeps the walk's frame small.
-ghost use Rattle.std.specs.Prelude.{◌≡◌, is_none, option_copied};
+ghost use Rattle.std.specs.Prelude.{◌≡◌, is_none, option_map};
 ghost use Rattle.vortex_base.specs.Meanings.Meaning as spec;
 ghost use Rattle.vortex_base.specs.Meanings.Meaning.{meaning};
+ghost use Rattle.vortex_base.specs.Data.Cells.{value_of};
 ghost use Rattle.vortex_base.specs.Meanings.RowTest.{Lends, is_wanted};
 
 use crate::bound_expression::{BoundExpression, Node};
-use crate::evaluate::{compared, lent, liked, within};
+use crate::evaluate::{compared, liked, within};
 use crate::like::LikeOptions;
 use crate::row::Row;
-use crate::scalar_value::ScalarValue;
 use crate::types::{BetweenOptions, Operator};
+use crate::value_ref::{ValueRef, lend};
 
 /// What a column or a literal lends, `None` being null; or an inner node.
 #[derive(Clone, Copy)]
 enum Leaf<'a> {
-    Of(Option<&'a ScalarValue>),
+    Of(Option<ValueRef<'a>>),
     Inner,
 }
 
@@ -33,11 +34,11 @@ fn is_wanted_truth(wanted: bool, truth: Option<bool>) -> bool
 }
 
 #[inline]
-fn is_wanted_value(wanted: bool, value: Option<&ScalarValue>) -> bool
-    ensures { result ≡ is_wanted wanted (spec.truth (option_copied value.entry)) }
+fn is_wanted_value(wanted: bool, value: Option<ValueRef<'_>>) -> bool
+    ensures { result ≡ is_wanted wanted (spec.truth (option_map value_of value.entry)) }
 {
     match value {
-        Some(ScalarValue::Bool(truth)) => *truth == wanted,
+        Some(ValueRef::Bool(truth)) => truth == wanted,
         _ => false,
     }
 }
@@ -49,7 +50,7 @@ impl BoundExpression {
     {
         match &*self.node {
             Node::Column(place) => Leaf::Of(row.value(*place)),
-            Node::Literal(scalar) => Leaf::Of(scalar.value()),
+            Node::Literal(scalar) => Leaf::Of(lend(scalar.value())),
             _ => Leaf::Inner,
         }
     }
@@ -78,7 +79,7 @@ fn are_compared(
 {
     let left = left.value_on(row, row_count);
     let right = right.value_on(row, row_count);
-    compared(operator, lent(&left), lent(&right))
+    compared(operator, left, right)
 }
 
 // The comparison of two expressions on a row.
@@ -111,7 +112,7 @@ fn are_liked(
 {
     let text = text.value_on(row, row_count);
     let pattern = pattern.value_on(row, row_count);
-    liked(options, lent(&text), lent(&pattern))
+    liked(options, text, pattern)
 }
 
 // The match of two expressions on a row.
@@ -149,7 +150,7 @@ fn are_within(
     let x = x.value_on(row, row_count);
     let lower = lower.value_on(row, row_count);
     let upper = upper.value_on(row, row_count);
-    within(options, lent(&x), lent(&lower), lent(&upper))
+    within(options, x, lower, upper)
 }
 
 // BETWEEN of three expressions on a row.
@@ -181,7 +182,7 @@ impl BoundExpression {
     {
         match &*self.node {
             Node::Column(place) => is_wanted_value(wanted, row.value(*place)),
-            Node::Literal(scalar) => is_wanted_value(wanted, scalar.value()),
+            Node::Literal(scalar) => is_wanted_value(wanted, lend(scalar.value())),
             Node::Binary(Operator::And, left, right) => {
                 if wanted {
                     left.has_truth(row, row_count, true) && right.has_truth(row, row_count, true)
