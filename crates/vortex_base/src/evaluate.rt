@@ -81,7 +81,8 @@ pub(crate) fn compared(
     a: Option<ValueRef<'_>>,
     b: Option<ValueRef<'_>>,
 ) -> Option<bool>
-    ensures { result ≡ spec.compared operator (option_map value_of a.entry) (option_map value_of b.entry) }
+    ensures { result
+        ≡ spec.compared operator (option_map value_of a.entry) (option_map value_of b.entry) }
 {
     match (a, b) {
         (Some(a), Some(b)) => Some(holds(operator, a.order(b))),
@@ -90,7 +91,8 @@ pub(crate) fn compared(
 }
 
 fn applied(operator: Operator, a: Option<ValueRef<'_>>, b: Option<ValueRef<'_>>) -> Option<bool>
-    ensures { result ≡ spec.applied operator (option_map value_of a.entry) (option_map value_of b.entry) }
+    ensures { result
+        ≡ spec.applied operator (option_map value_of a.entry) (option_map value_of b.entry) }
 {
     match operator {
         Operator::And => both(truth(a), truth(b)),
@@ -129,7 +131,8 @@ pub(crate) fn liked(
     text: Option<ValueRef<'_>>,
     pattern: Option<ValueRef<'_>>,
 ) -> Option<bool>
-    ensures { result ≡ spec.liked options (option_map value_of text.entry) (option_map value_of pattern.entry) }
+    ensures { result
+        ≡ spec.liked options (option_map value_of text.entry) (option_map value_of pattern.entry) }
 {
     match (text, pattern) {
         (Some(text), Some(pattern)) => Some(is_like(options, text, pattern)),
