@@ -18,8 +18,7 @@ stops_too_long None old new word is long front = tt
 stops_too_long (Some input) old new word is long front = inr (inl (word, is input long, front))
 
 -- what was printed of all bytes that were read
-pub writes_full_scan : (known old new : Option (List ℕ)) (read text printed bytes : List ℕ) → IfSome known (λ input. read ≡ input) → text ≡ read → bytes ≡ printed → IsFullScan text printed → Appends old new bytes
+pub writes_full_scan : (known old new : Option (List ℕ)) (read printed bytes : List ℕ) → IfSome known (λ input. read ≡ input) → bytes ≡ printed → IsFullScan read printed → Appends old new bytes
     → IfSome known (λ input. WritesFullScan input old new)
-writes_full_scan None old new read text printed bytes all is same found written = tt
-writes_full_scan (Some input) old new read text printed bytes all is same found written =
-    (printed, subst (Appends old new) same written, subst (λ t. IsFullScan t printed) all (subst (λ t. IsFullScan t printed) is found))
+writes_full_scan None old new read printed bytes all same found written = tt
+writes_full_scan (Some input) old new read printed bytes all same found written = (printed, subst (Appends old new) same written, subst (λ t. IsFullScan t printed) all found)

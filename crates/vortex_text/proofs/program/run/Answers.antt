@@ -17,5 +17,5 @@ returns-in_default-clause-refused g c = λ _. stops_at_word _ _ _ _ (λ input. i
 
 pub returns-then-write_out-clause-lossless : goal.returns-then-write_out-clause-lossless
 returns-then-write_out-clause-lossless g c = λ _.
-    writes_full_scan _ _ _ c.in-Ok.input.items c.deref.result.now (string_bytes c.in-Ok-reply_to.text) c.as_bytes.result.now c.in-Ok.ensures.whole c.deref.ensures.value c.as_bytes.ensures.value c.in-Ok-reply_to.ensures.lossless
+    writes_full_scan _ _ _ c.in-Ok.input.items (string_bytes c.in-Ok-reply_to.text) c.as_bytes.result.now c.in-Ok.ensures.whole c.as_bytes.ensures.value c.in-Ok-reply_to.ensures.lossless
     (c.write_out.ensures.whole c.if-write_out.true)
