@@ -2,8 +2,9 @@
 use crate::testing::{self, column};
 use std::alloc::Global;
 use std::test::Fail;
-use vortex_base::{BaseError, Chunk, Column, DType, Nullability, PType, PValue, ScalarValue};
-use vortex_base::{Scope, ValueRef};
+use vortex_base::{
+    BaseError, Chunk, Column, DType, Nullability, PType, PValue, ScalarValue, Scope, ValueRef,
+};
 
 const NUMBER: DType = DType::Primitive(PType::I64, Nullability::Nullable);
 

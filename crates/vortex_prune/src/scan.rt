@@ -59,7 +59,13 @@ impl<'a, B: StatBinder> PartTest for ByBinders<'a, B> {
         (option_copied s.falsifier) (option_copied s.satisfier) s.binders.now B.can_fault };
 
     fn verdict(&mut self, alloc: Global, place: usize, part: &Part) -> Result<Verdict, StatsError> {
-        verdict(alloc, self.falsifier, self.satisfier, part, &self.binders[place])
+        verdict(
+            alloc,
+            self.falsifier,
+            self.satisfier,
+            part,
+            &self.binders[place],
+        )
     }
 }
 
@@ -201,5 +207,12 @@ pub fn scan<B: StatBinder>(
 {
     let falsifier = falsify(alloc, predicate, rules)?;
     let satisfier = satisfy(alloc, predicate, rules)?;
-    scan_by(alloc, parts, binders, predicate, falsifier.as_ref(), satisfier.as_ref())
+    scan_by(
+        alloc,
+        parts,
+        binders,
+        predicate,
+        falsifier.as_ref(),
+        satisfier.as_ref(),
+    )
 }

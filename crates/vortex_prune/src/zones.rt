@@ -267,7 +267,8 @@ impl Model for Zones {
 
     ghost view = { λ z. record { scope = z.scope; parts = z.parts.items } };
 
-    ghost invariant = { λ z. let zones : ZonesData = record { scope = z.scope; parts = z.parts.items } in
+    ghost invariant = { λ z.
+        let zones : ZonesData = record { scope = z.scope; parts = z.parts.items } in
         AreZones zones z.table z.starts.items };
 }
 

@@ -56,9 +56,11 @@ module _ (tells : ℕ → PartData → Verdict → Type 0) (parts : List PartDat
   told_more n part v old new h is own pushed below i other less there =
       let place : i ≤ n = omega (arith, less) in
       elim (eq-or-lt_of_le place) [
-        | inl here ↦ (let read : Some part ≡ Some other = sym (slice_get_read parts (length parts) n part refl h is) ∙ ap (slice_get parts) (sym here) ∙ there in
-            (v, subst (λ (k : ℕ). tells k other v) (sym here) (subst (λ (p : PartData). tells n p v) (same_Some part other read) own),
-            subst (λ (k : ℕ). IsListed v new k) (sym here) (subst (λ (l : List ℕ). IsListed v l n) (sym pushed) (listed_now v old n))))
+        | inl here ↦ (let read : Some part ≡ Some other = sym (slice_get_read parts (length parts) n part refl h is) ∙ ap (slice_get parts) (sym here) ∙ there in (
+          v,
+          subst (λ (k : ℕ). tells k other v) (sym here) (subst (λ (p : PartData). tells n p v) (same_Some part other read) own),
+          subst (λ (k : ℕ). IsListed v new k) (sym here) (subst (λ (l : List ℕ). IsListed v l n) (sym pushed) (listed_now v old n)),
+        ))
         | inr before ↦ (let b = below i other before there in
             (b.0, b.1, subst (λ (l : List ℕ). IsListed b.0 l i) (sym pushed) (listed_later b.0 old (place_if (is_skipped v) n) i b.2)))
       ]

@@ -58,7 +58,13 @@ impl Scan {
                 select_all(&mut self.selected, place, chunk)
             }
             Verdict::Tested => {
-                select(&mut self.selected, &mut self.evaluated, place, chunk, predicate)
+                select(
+                    &mut self.selected,
+                    &mut self.evaluated,
+                    place,
+                    chunk,
+                    predicate,
+                )
             }
         }
     }
