@@ -8,6 +8,8 @@ usage: generate.py KIND
   columns  parts of 50 rows in 30 columns, each with bounds; one part in ten is kept
   singles  200,000 parts of one row; one part in a hundred is kept
   texts    one part of long texts, and LIKE
+  whole    one column, parts of 20,000 rows which all satisfy the predicate, as their statistics prove
+  tested   the same rows without their statistics, so that each is tested
 """
 import random
 import sys
@@ -127,6 +129,21 @@ def texts(room):
     return "".join(out) + where
 
 
+def satisfying(room, known):
+    """Values from 0 to 999, of which each is at least 0; the statistics say so of each part, or nothing is known."""
+    head, where = "column a i64?\n", "where ge col a lit i64 0\n"
+    front = "part\n" + "stat a min exact 0\nstat a null_count exact 0\n"
+    out = [head]
+    room -= len(head) + len(where)
+    while True:
+        rows = "".join(f"row {RNG.randrange(1000)}\n" for _ in range(20_000))
+        if len(front) + len(rows) > room:
+            break
+        room -= len(front) + len(rows)
+        out.append((front if known else "part\n") + rows)
+    return "".join(out) + where
+
+
 KINDS = {
     "rows": rows,
     "leaves": leaves,
@@ -134,6 +151,8 @@ KINDS = {
     "columns": columns,
     "singles": lambda room: counting(room, 1, 100_000_000, 200_000),
     "texts": texts,
+    "whole": lambda room: satisfying(room, True),
+    "tested": lambda room: satisfying(room, False),
 }
 
 

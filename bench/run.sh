@@ -14,7 +14,7 @@ if command -v rustc > /dev/null; then
 fi
 
 # Least processor time of some runs and most memory held: both programs, and what the proved one is of the plain one
-for kind in rows leaves parts columns singles texts; do
+for kind in rows leaves parts columns singles texts whole tested; do
     input="$here/data/$kind.txt"
     [ -s "$input" ] || python3 "$here/generate.py" "$kind" > "$input"
     python3 "$here/measure.py" "$runs" "$input" "$program" "${plain[@]}"

@@ -8,6 +8,8 @@ mod expr;
 #[cfg(test)]
 mod part;
 #[cfg(test)]
+mod refused;
+#[cfg(test)]
 mod rewrite;
 #[cfg(test)]
 mod scan;

@@ -271,3 +271,18 @@ fn refused_joins_hand_back(rt: HostRuntime) -> Result<(), Fail> {
     assert!(rt; joins_or_hands_back(alloc, joined, left, right)?);
     Ok(())
 }
+
+fn one_number(alloc: Global, value: i32) -> Made {
+    let column = column(I32_OR_NULL, numbers(alloc, &[Some(value)]), 8);
+    let chunk = chunk_of(alloc, scope_of(alloc, I32_OR_NULL), column);
+    part_of(alloc, chunk, bounds(alloc, value, value))
+}
+
+#[test]
+fn refused_joins_of_numbers_hand_back(rt: HostRuntime) -> Result<(), Fail> {
+    let alloc = rt.alloc();
+    let (left, right) = (one_number(alloc, 1), one_number(alloc, 8));
+    let joined = joined(alloc, one_number(alloc, 1), one_number(alloc, 8))?;
+    assert!(rt; joins_or_hands_back(alloc, joined, left, right)?);
+    Ok(())
+}

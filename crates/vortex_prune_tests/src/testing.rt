@@ -585,8 +585,8 @@ pub fn scanned_with<B: StatBinder>(
     scan(alloc, parts, binders, predicate, rules)
 }
 
-// The scan by the binders of the parts' own statistics.
-fn scanned_by_part(
+/// The scan by the binders of the parts' own statistics.
+pub fn scanned_by_part(
     alloc: Global,
     parts: &[Part],
     predicate: &BoundExpression,
@@ -596,8 +596,8 @@ fn scanned_by_part(
     scanned_with(alloc, parts, &binders, predicate, rules)
 }
 
-// The scan by the binder of the parts' table.
-fn scanned_by_table(
+/// The scan by the binder of the parts' table.
+pub fn scanned_by_table(
     alloc: Global,
     zones: &Zones,
     predicate: &BoundExpression,

@@ -1,0 +1,135 @@
+//! Calls of which a request for memory may be refused: each gives its answer, or `Memory` alone.
+use crate::testing::*;
+use std::alloc::Global;
+use std::process::Abort;
+use std::test::Fail;
+use vortex_base::{BoundExpression, Column};
+use vortex_prune::bind::bind_stats;
+use vortex_prune::rewrite::{falsify, falsify_counted, satisfy};
+use vortex_prune::{Part, Rules, StatsBinder, Zones};
+use vortex_stats::{Stat, StatsError};
+
+fn a(alloc: Global) -> Built {
+    col(alloc, 0, I32)
+}
+
+// A BETWEEN under an AND.
+fn ranged(alloc: Global) -> Built {
+    let range = between(alloc, a(alloc), int(alloc, 10), int(alloc, 50), CLOSED);
+    and(alloc, range, gt(alloc, a(alloc), int(alloc, 0)))
+}
+
+fn is_memory(refused: &StatsError) -> bool {
+    matches!(refused, StatsError::Memory(_))
+}
+
+fn is_proof(answer: Result<Option<BoundExpression>, StatsError>) -> bool {
+    match answer {
+        Ok(proof) => proof.is_some(),
+        Err(refused) => is_memory(&refused),
+    }
+}
+
+fn is_counted(answer: Result<(Option<BoundExpression>, u64), StatsError>) -> bool {
+    match answer {
+        Ok((proof, visits)) => proof.is_some() && visits == 6,
+        Err(refused) => is_memory(&refused),
+    }
+}
+
+#[test]
+fn refused_proofs_of_a_range(rt: HostRuntime) -> Result<(), Fail> {
+    let alloc = rt.alloc();
+    let (rules, predicate) = (Rules::builtin(alloc), ranged(alloc)?);
+    assert!(rt; is_proof(falsify(alloc, &predicate, &rules)));
+    assert!(rt; is_counted(falsify_counted(alloc, &predicate, &rules)));
+    assert!(rt; is_proof(satisfy(alloc, &predicate, &rules)));
+    Ok(())
+}
+
+// Two texts, at least the one and at most the other, beside two numbers.
+fn part(
+    alloc: Global,
+    texts: (&str, &str),
+    numbers: Result<Column, StatsError>,
+) -> Result<Part, StatsError> {
+    let set = exactly(alloc, Stat::Min, text_value(alloc, texts.0)?);
+    let set = and_exactly(set, Stat::Max, text_value(alloc, texts.1)?);
+    let mut cells = one_value(alloc, Some(text_value(alloc, texts.0)?))?;
+    cells.push(Some(text_value(alloc, texts.1)?))?;
+    let chunk = chunk_of_two(alloc, scope(alloc), column(UTF8, Ok(cells), 0), numbers);
+    let known = exactly(alloc, Stat::NullCount, count(0));
+    part_of_two(alloc, chunk, set, Ok(known))
+}
+
+fn scope(alloc: Global) -> Result<vortex_base::Scope, StatsError> {
+    scope_of_two(alloc, ("s", UTF8), ("n", I32_OR_NULL))
+}
+
+fn no_nulls(alloc: Global) -> Result<Column, StatsError> {
+    column(I32_OR_NULL, numbers(alloc, &[Some(3), Some(4)]), 0)
+}
+
+// The first part has a text that begins with `pre`, the second has none.
+fn two_parts(alloc: Global) -> Result<Zones, StatsError> {
+    let parts = one_part(alloc, part(alloc, ("apple", "present"), no_nulls(alloc)));
+    let parts = and_part(parts, part(alloc, ("q", "rose"), no_nulls(alloc)));
+    zones_of(alloc, scope(alloc), parts)
+}
+
+fn begins_with_pre(alloc: Global) -> Built {
+    let begins = like(alloc, col(alloc, 0, UTF8), text(alloc, "pre%"));
+    or(alloc, begins, is_null(alloc, col(alloc, 1, I32_OR_NULL)))
+}
+
+fn is_found(found: Found) -> bool {
+    match found {
+        Ok(found) => {
+            found.skipped.as_slice() == [1].as_slice()
+                && found.selected.as_slice() == [(0, 1)].as_slice()
+        }
+        Err(refused) => is_memory(&refused),
+    }
+}
+
+#[test]
+fn refused_scans(rt: HostRuntime) -> Result<(), Fail> {
+    let alloc = rt.alloc();
+    let (zones, predicate) = (two_parts(alloc)?, begins_with_pre(alloc)?);
+    let rules = Rules::builtin(alloc);
+    assert!(rt; is_found(scanned_by_part(alloc, zones.parts(), &predicate, &rules)));
+    assert!(rt; is_found(scanned_by_table(alloc, &zones, &predicate, &rules)));
+    Ok(())
+}
+
+fn is_bound(answer: Built) -> bool {
+    match answer {
+        Ok(bound) => bound.is_closed(),
+        Err(refused) => is_memory(&refused),
+    }
+}
+
+fn bound_by_first(alloc: Global, e: BoundExpression, zones: &Zones) -> Built {
+    match zones.parts().first() {
+        Some(part) => bind_stats(alloc, e, &StatsBinder::new(part)),
+        None => Err(StatsError::Mismatch),
+    }
+}
+
+// The least text is copied into the bound expression.
+fn least_text(alloc: Global) -> Built {
+    let least = min(alloc, col(alloc, 0, UTF8));
+    and(
+        alloc,
+        truth(alloc, false),
+        gt(alloc, least, text(alloc, "b")),
+    )
+}
+
+#[test]
+fn refused_bindings(rt: HostRuntime) -> Result<(), Fail> {
+    let alloc = rt.alloc();
+    let (zones, e) = (two_parts(alloc)?, least_text(alloc)?);
+    assert!(rt; is_bound(bound_by_first(alloc, e, &zones)));
+    Ok(())
+}
