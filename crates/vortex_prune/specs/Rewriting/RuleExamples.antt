@@ -102,6 +102,22 @@ bare_satisfier_is_lawful = record {
   satisfies = λ p e h k A chunk over honest t. absurd (never_bare e A _ h t);
 }
 
+-- a proof that is a column of another scope
+abbrev pub foreign_proof : Tree Place → Option (Tree Place)
+foreign_proof p = Some (column (record { index = 7; dtype = dtype.Bool NonNullable }))
+
+never_foreign : (e : Tree Place) (A : Assignment) (n : ℕ) → Some (column (record { index = 7; dtype = dtype.Bool NonNullable })) ≡ Some e → IsTrue (proves e A n) → ⊥
+never_foreign e A n h t =
+    let same : e ≡ column (record { index = 7; dtype = dtype.Bool NonNullable }) = cc in
+    let told : false ≡ true = subst (λ (x : Tree Place). IsTrue (proves x A n)) same t in
+    cc
+
+pub foreign_proof_is_lawful : IsLawful foreign_proof foreign_proof
+foreign_proof_is_lawful = record {
+  falsifies = λ p e h k A chunk over honest t. absurd (never_foreign e A _ h t);
+  satisfies = λ p e h k A chunk over honest t. absurd (never_foreign e A _ h t);
+}
+
 -- the answer, where the value is this truth
 abbrev pub at_truth : (of answer : Bool) → Option ScalarValue → Option (Tree Place)
 at_truth true answer (Some (value.Bool true)) = Some (bool_literal answer)

@@ -6,9 +6,10 @@ ghost use Rattle.vortex_base.specs.Trees.Tree.{stat as placeholder};
 ghost use Rattle.vortex_base.specs.declared.aggregate.AggregateFnRef.TheVariants as aggregate;
 
 use super::*;
-use vortex_base::{AggregateFnRef, BaseError, BoundExpression, DType, Scalar, bound};
+use std::alloc::AllocError;
+use vortex_base::{AggregateFnRef, BaseError, BoundExpression, DType, Scalar, ScalarFnId, bound};
 use vortex_prune::bind::bind_stats;
-use vortex_prune::{HookFault, Rules, StatBinder};
+use vortex_prune::{HookFault, Rules, StatBinder, StatsRewriteRule};
 use vortex_stats::BinderFault;
 
 // Answers each placeholder by itself, by that of the least value, or by the input of the
@@ -210,6 +211,65 @@ fn a_later_binder_faults(rt: HostRuntime) {
     assert!(rt; is_fault(found));
     let found = scanned_by_binders(alloc, &two_rows(alloc), above(alloc, 10), &[ITSELF, FAULTY]);
     assert!(rt; is_open(found));
+}
+
+// Proves both by a column of another scope.
+#[derive(Drop)]
+struct Foreign;
+
+impl StatsRewriteRule for Foreign {
+    ghost use Rattle.std.specs.Prelude.{false};
+    ghost use Rattle.vortex_base.specs.declared.types.ScalarFnId.TheVariants as function;
+    ghost use Rattle.vortex_prune.specs.Rewriting.RuleExamples.{foreign_proof, foreign_proof_is_lawful};
+
+    ghost id = { λ s. function.Not };
+
+    ghost falsifier = { λ s. foreign_proof };
+
+    ghost satisfier = { λ s. foreign_proof };
+
+    ghost can_fault = { λ s k. false };
+
+    ghost is_lawful = { λ s. foreign_proof_is_lawful };
+
+    fn scalar_fn_id(&self) -> ScalarFnId {
+        ScalarFnId::Not
+    }
+
+    fn falsify(
+        &self,
+        alloc: Global,
+        _expression: &BoundExpression,
+    ) -> Result<Option<BoundExpression>, HookFault> {
+        Ok(Some(bound::col(alloc, 7, BOOL)?))
+    }
+
+    fn satisfy(
+        &self,
+        alloc: Global,
+        _expression: &BoundExpression,
+    ) -> Result<Option<BoundExpression>, HookFault> {
+        Ok(Some(bound::col(alloc, 7, BOOL)?))
+    }
+}
+
+fn foreign_rules(alloc: Global) -> Result<Rules, AllocError> {
+    rules_of(alloc, Box::new(alloc, Foreign)?)
+}
+
+#[test]
+fn a_column_of_another_scope_leaves_a_proof_open(rt: HostRuntime) -> Result<(), Fail> {
+    let alloc = rt.alloc();
+    let rules = foreign_rules(alloc)?;
+    let found = scanned_by(alloc, &twenty(alloc), not(alloc, above(alloc, 10)), &rules);
+    assert!(rt; is_open(found));
+    let found = scanned_by(
+        alloc,
+        &without_part(alloc),
+        not(alloc, above(alloc, 10)),
+        &rules,
+    );
+    expect_found(&rt, found, &[], &[])
 }
 
 // Two nulls, whose least value is said to be above the greatest.
