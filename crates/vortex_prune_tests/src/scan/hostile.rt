@@ -20,6 +20,7 @@ struct Hostile {
     gives_least: bool,
     gives_input: bool,
     faults: bool,
+    lacks_memory: bool,
 }
 
 // What the layers below made, a refusal of anything but memory told as the binder's fault.
@@ -59,6 +60,9 @@ impl StatBinder for Hostile {
         if self.faults {
             return Err(HookFault::Own(7));
         }
+        if self.lacks_memory {
+            return Err(HookFault::Memory(AllocError));
+        }
         if self.gives_itself {
             return made(bound::new_stat(alloc, input.try_clone()?, *aggregate));
         }
@@ -81,6 +85,7 @@ const QUIET: Hostile = Hostile {
     gives_least: false,
     gives_input: false,
     faults: false,
+    lacks_memory: false,
 };
 
 const ITSELF: Hostile = Hostile {
@@ -88,6 +93,7 @@ const ITSELF: Hostile = Hostile {
     gives_least: false,
     gives_input: false,
     faults: false,
+    lacks_memory: false,
 };
 
 const LEAST: Hostile = Hostile {
@@ -95,6 +101,7 @@ const LEAST: Hostile = Hostile {
     gives_least: true,
     gives_input: false,
     faults: false,
+    lacks_memory: false,
 };
 
 const INPUT: Hostile = Hostile {
@@ -102,6 +109,7 @@ const INPUT: Hostile = Hostile {
     gives_least: false,
     gives_input: true,
     faults: false,
+    lacks_memory: false,
 };
 
 const FAULTY: Hostile = Hostile {
@@ -109,6 +117,15 @@ const FAULTY: Hostile = Hostile {
     gives_least: false,
     gives_input: false,
     faults: true,
+    lacks_memory: false,
+};
+
+const WITHOUT_MEMORY: Hostile = Hostile {
+    gives_itself: false,
+    gives_least: false,
+    gives_input: false,
+    faults: false,
+    lacks_memory: true,
 };
 
 // The scan by the built-in rules and these binders.
@@ -182,6 +199,69 @@ fn a_count_is_no_greatest_value(rt: HostRuntime) {
 fn a_fault_of_a_binder_ends_the_scan(rt: HostRuntime) {
     let alloc = rt.alloc();
     assert!(rt; is_fault(scanned_by_one(alloc, above(alloc, 10), FAULTY)));
+}
+
+fn is_memory(found: Found) -> bool {
+    matches!(found, Err(StatsError::Memory(_)))
+}
+
+#[test]
+fn a_binder_without_memory_ends_the_scan(rt: HostRuntime) {
+    let alloc = rt.alloc();
+    assert!(rt; is_memory(scanned_by_one(alloc, above(alloc, 10), WITHOUT_MEMORY)));
+}
+
+// Is refused memory wherever it is asked.
+#[derive(Drop)]
+struct Forgetful;
+
+impl StatsRewriteRule for Forgetful {
+    ghost use Rattle.std.specs.Prelude.{false};
+    ghost use Rattle.vortex_base.specs.declared.types.ScalarFnId.TheVariants as function;
+    ghost use Rattle.vortex_prune.specs.Rewriting.RuleExamples.{no_proof, no_proof_is_lawful};
+
+    ghost id = { λ s. function.Not };
+
+    ghost falsifier = { λ s. no_proof };
+
+    ghost satisfier = { λ s. no_proof };
+
+    ghost can_fault = { λ s k. false };
+
+    ghost is_lawful = { λ s. no_proof_is_lawful };
+
+    fn scalar_fn_id(&self) -> ScalarFnId {
+        ScalarFnId::Not
+    }
+
+    fn falsify(
+        &self,
+        _alloc: Global,
+        _expression: &BoundExpression,
+    ) -> Result<Option<BoundExpression>, HookFault> {
+        Err(HookFault::Memory(AllocError))
+    }
+
+    fn satisfy(
+        &self,
+        _alloc: Global,
+        _expression: &BoundExpression,
+    ) -> Result<Option<BoundExpression>, HookFault> {
+        Err(HookFault::Memory(AllocError))
+    }
+}
+
+fn forgetful_rules(alloc: Global) -> Result<Rules, AllocError> {
+    rules_of(alloc, Box::new(alloc, Forgetful)?)
+}
+
+#[test]
+fn a_rule_without_memory_ends_the_scan(rt: HostRuntime) -> Result<(), Fail> {
+    let alloc = rt.alloc();
+    let rules = forgetful_rules(alloc)?;
+    let opposite = not(alloc, above(alloc, 10));
+    assert!(rt; is_memory(scanned_by(alloc, &twenty(alloc), opposite, &rules)));
+    Ok(())
 }
 
 // Without a falsifier and a satisfier no binder is asked.
