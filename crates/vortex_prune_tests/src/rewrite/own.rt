@@ -132,7 +132,8 @@ struct Number {
 
 impl StatsRewriteRule for Number {
     ghost use Rattle.std.specs.Prelude.{false};
-    ghost use Rattle.vortex_prune.specs.Rewriting.RuleExamples.{number_proof, number_proof_is_lawful};
+    ghost use Rattle.vortex_prune.specs.Rewriting.RuleExamples.{number_proof};
+    ghost use Rattle.vortex_prune.specs.Rewriting.RuleExamples.{number_proof_is_lawful};
 
     ghost id = { λ s. s.function };
 

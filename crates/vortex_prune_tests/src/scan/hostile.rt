@@ -300,7 +300,8 @@ struct Foreign;
 impl StatsRewriteRule for Foreign {
     ghost use Rattle.std.specs.Prelude.{false};
     ghost use Rattle.vortex_base.specs.declared.types.ScalarFnId.TheVariants as function;
-    ghost use Rattle.vortex_prune.specs.Rewriting.RuleExamples.{foreign_proof, foreign_proof_is_lawful};
+    ghost use Rattle.vortex_prune.specs.Rewriting.RuleExamples.{foreign_proof};
+    ghost use Rattle.vortex_prune.specs.Rewriting.RuleExamples.{foreign_proof_is_lawful};
 
     ghost id = { λ s. function.Not };
 

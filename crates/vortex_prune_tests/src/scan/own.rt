@@ -31,7 +31,8 @@ struct Declared;
 impl StatsRewriteRule for Declared {
     ghost use Rattle.std.specs.Prelude.{false};
     ghost use Rattle.vortex_base.specs.declared.types.ScalarFnId.TheVariants as function;
-    ghost use Rattle.vortex_prune.specs.Rewriting.RuleExamples.{at_null_test, no_proof, null_test_is_lawful};
+    ghost use Rattle.vortex_prune.specs.Rewriting.RuleExamples.{at_null_test, no_proof};
+    ghost use Rattle.vortex_prune.specs.Rewriting.RuleExamples.{null_test_is_lawful};
 
     ghost id = { λ s. function.IsNull };
 
@@ -75,7 +76,8 @@ struct Open;
 impl StatsRewriteRule for Open {
     ghost use Rattle.std.specs.Prelude.{false};
     ghost use Rattle.vortex_base.specs.declared.types.ScalarFnId.TheVariants as function;
-    ghost use Rattle.vortex_prune.specs.Rewriting.RuleExamples.{no_proof, open_proof, open_proof_is_lawful};
+    ghost use Rattle.vortex_prune.specs.Rewriting.RuleExamples.{no_proof, open_proof};
+    ghost use Rattle.vortex_prune.specs.Rewriting.RuleExamples.{open_proof_is_lawful};
 
     ghost id = { λ s. function.Not };
 
@@ -116,7 +118,8 @@ struct Bare;
 impl StatsRewriteRule for Bare {
     ghost use Rattle.std.specs.Prelude.{false};
     ghost use Rattle.vortex_base.specs.declared.types.ScalarFnId.TheVariants as function;
-    ghost use Rattle.vortex_prune.specs.Rewriting.RuleExamples.{bare_proof, bare_proof_is_lawful, no_proof};
+    ghost use Rattle.vortex_prune.specs.Rewriting.RuleExamples.{bare_proof, bare_proof_is_lawful};
+    ghost use Rattle.vortex_prune.specs.Rewriting.RuleExamples.{no_proof};
 
     ghost id = { λ s. function.Not };
 
