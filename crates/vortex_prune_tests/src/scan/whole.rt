@@ -160,8 +160,8 @@ struct Bare;
 impl StatsRewriteRule for Bare {
     ghost use Rattle.std.specs.Prelude.{false};
     ghost use Rattle.vortex_base.specs.declared.types.ScalarFnId.TheVariants as function;
-    ghost use Rattle.vortex_prune.specs.Rewriting.RuleExamples.{bare_proof, bare_satisfier_is_lawful};
-    ghost use Rattle.vortex_prune.specs.Rewriting.RuleExamples.{no_proof};
+    ghost use Rattle.vortex_prune.specs.Rewriting.RuleExamples.{bare_proof, no_proof};
+    ghost use Rattle.vortex_prune.specs.Rewriting.RuleExamples.{bare_satisfier_is_lawful};
 
     ghost id = { λ s. function.Binary };
 
