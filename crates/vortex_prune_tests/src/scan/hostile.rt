@@ -1,8 +1,9 @@
 //! Binders of a user that answer what they shouldn't or fault, and statistics at odds.
-ghost use Rattle.std.specs.Prelude.{◌==◌, ⊤, false, Some, None, if◌then◌else◌};
+ghost use Rattle.std.specs.Prelude.{◌≡◌, ◌==◌, ⊤, false, MatchResult, Some, None, if◌then◌else◌};
 ghost use Rattle.std.proofs.Common.{sym};
 ghost use mathlib.Core.Bool.{true≢false};
 ghost use Rattle.vortex_base.specs.Trees.Tree.{stat as placeholder};
+ghost use Rattle.vortex_prune.specs.Binding.HookFaults.{IsHookFault};
 ghost use Rattle.vortex_base.specs.declared.aggregate.AggregateFnRef.TheVariants as aggregate;
 
 use super::*;
@@ -23,9 +24,16 @@ struct Hostile {
     lacks_memory: bool,
 }
 
-// What the layers below made, a refusal of anything but memory told as the binder's fault.
-fn made(made: Result<BoundExpression, BaseError>) -> Result<Option<BoundExpression>, HookFault> {
-    match made {
+// A placeholder of an input. What refuses it, but memory, is told as the binder's fault.
+fn placed(
+    alloc: Global,
+    input: &BoundExpression,
+    aggregate: AggregateFnRef,
+) -> Result<Option<BoundExpression>, HookFault>
+    ensures { MatchResult result (λ o. o ≡ Some (placeholder aggregate input.now))
+        (IsHookFault (λ k. k == 7)) }
+{
+    match bound::new_stat(alloc, input.try_clone()?, aggregate) {
         Ok(made) => Ok(Some(made)),
         Err(BaseError::Memory(refused)) => Err(HookFault::Memory(refused)),
         Err(_) => Err(HookFault::Own(7)),
@@ -64,10 +72,10 @@ impl StatBinder for Hostile {
             return Err(HookFault::Memory(AllocError));
         }
         if self.gives_itself {
-            return made(bound::new_stat(alloc, input.try_clone()?, *aggregate));
+            return placed(alloc, input, *aggregate);
         }
         if self.gives_least {
-            return made(bound::new_stat(alloc, input.try_clone()?, AggregateFnRef::Min));
+            return placed(alloc, input, AggregateFnRef::Min);
         }
         if self.gives_input {
             return Ok(Some(input.try_clone()?));
