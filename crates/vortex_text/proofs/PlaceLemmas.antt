@@ -12,11 +12,11 @@ use Rattle.std.specs.Ordering.{is_eq, nat_cmp}
 use Rattle.std.specs.Str.{bytes_eq}
 use Rattle.std.specs.declared.alloc.Global.{Global}
 use Rattle.vortex_base.proofs.Data.MapLemmas.{position-map}
-use Rattle.vortex_base.specs.Data.Scopes.{is_named, named, named_columns}
+use Rattle.vortex_base.specs.Data.Scopes.{Named, is_named, named, named_columns, place_of}
 use Rattle.vortex_base.specs.declared.dtype.DType.{DType}
 use Rattle.vortex_text.specs.Lines.{is_new}
 use Rattle.vortex_text.specs.Names.{is_name}
-use Rattle.vortex_text.specs.Places.{IsIndexOf, place_at, place_of}
+use Rattle.vortex_text.specs.Places.{IsIndexOf, place_at}
 
 -- ---- places in lists
 
@@ -44,10 +44,10 @@ after_passing p y passes i (x ∷ xs) none = elim (cases_Bool (p x)) [
 abbrev Held : Type 0
 Held = List (String Global × DType)
 
-at_name : (name : List ℕ) (cs : Held) → place_of name cs ≡ position_from (λ c. is_named name (named c)) 0 cs
-at_name name cs = position_from-zero (λ c. is_named name (named c)) cs
+at_name : (name : List ℕ) (cs : Held) → place_of name (named_columns cs) ≡ position_from (λ c. is_named name (named c)) 0 cs
+at_name name cs = position-map (is_named name) named cs ∙ position_from-zero (λ c. is_named name (named c)) cs
 
-pub place_in_range : (name : List ℕ) (cs : Held) (o : Option ℕ) → o ≡ place_of name cs → IfSome o (λ i. i < length cs)
+pub place_in_range : (name : List ℕ) (cs : Held) (o : Option ℕ) → o ≡ place_of name (named_columns cs) → IfSome o (λ i. i < length cs)
 place_in_range name cs None h = tt
 place_in_range name cs (Some i) h = omega (arith, below (λ c. is_named name (named c)) 0 cs i (sym (at_name name cs) ∙ sym h))
 
@@ -74,14 +74,14 @@ elsewhere name place old new update other fails =
     other_keys _ _ _ _ update.3 _ (λ x y. (eq_by_cmp_equiv nat_list_cmp_total).congr other x.items y.items) (λ k. apart name other k.items fails)
 
 -- a new name, at the place behind the others
-pub one_more : (cs : Held) (name : String Global) (t : DType) (place : ℕ) (old new : Places) → IsIndexOf cs old → place_of (string_bytes name) cs ≡ None → place ≡ length cs
+pub one_more : (cs : Held) (name : String Global) (t : DType) (place : ℕ) (old new : Places) → IsIndexOf cs old → place_of (string_bytes name) (named_columns cs) ≡ None → place ≡ length cs
     → (key : List ℕ) → key ≡ string_bytes name → IsUpdate key place old new → IsIndexOf (cs ++ (name, t) ∷ []) new
 one_more cs name t place old new index none at key is_name updated other =
     let behind : length cs ≡ 0 + length cs = omega arith in
     let update : IsUpdate (string_bytes name) place old new = subst (λ k. IsUpdate k place old new) is_name updated in
     elim (cases_Bool (bytes_eq (string_bytes name) other)) [
       | inl passes ↦ (let same : string_bytes name ≡ other = (bytes_decides (string_bytes name) other).0 passes in
-          let absent : place_of other cs ≡ None = subst (λ n. place_of n cs ≡ None) same none in
+          let absent : place_of other (named_columns cs) ≡ None = subst (λ n. place_of n (named_columns cs) ≡ None) same none in
           subst (λ n. place_at n new ≡ Some place) same update.1 ∙ ap Some (at ∙ behind)
           ∙ sym (at_name other (cs ++ (name, t) ∷ []) ∙ after_passing (λ c. is_named other (named c)) (name, t) passes 0 cs (sym (at_name other cs) ∙ absent)))
       | inr fails ↦ elsewhere (string_bytes name) place old new update other fails ∙ index other ∙ at_name other cs
@@ -89,9 +89,9 @@ one_more cs name t place old new index none at key is_name updated other =
     ]
 
 -- a name that no column has yet has no place
-pub new_has_no_place : (cs : Held) (name : List ℕ) → is_new (named_columns cs) name ≡ true → place_of name cs ≡ None
-new_has_no_place cs name new = elim (cases_Bool (is_name name)) [
-  | inl word ↦ none (place_of name cs) (rw word at (sym (ap (λ o. if is_name name then (if is_some o then false else true) else false) (position-map (is_named name) named cs)) ∙ new))
+pub new_has_no_place : (scope : List Named) (name : List ℕ) → is_new scope name ≡ true → place_of name scope ≡ None
+new_has_no_place scope name new = elim (cases_Bool (is_name name)) [
+  | inl word ↦ none (place_of name scope) (rw word at new)
   | inr other ↦ (let e = rw other at new in cc)
 ]
   where

@@ -1,15 +1,11 @@
 -- The places of columns, by their names.
-use Rattle.std.specs.Prelude.{◌≡◌, ℕ, List, Option, String, Vec, position}
+use Rattle.std.specs.Prelude.{◌≡◌, ℕ, List, Option, String, Vec}
 use Rattle.std.specs.BTreeMap.{BTreeMap, get_by}
 use Rattle.std.specs.Cmp.Lexicographic.{slice_cmp}
 use Rattle.std.specs.Ordering.{nat_cmp}
 use Rattle.std.specs.declared.alloc.Global.{Global}
-use Rattle.vortex_base.specs.Data.Scopes.{is_named, named}
+use Rattle.vortex_base.specs.Data.Scopes.{named_columns, place_of}
 use Rattle.vortex_base.specs.declared.dtype.DType.{DType}
-
--- the first place of a name, among columns as they are held
-abbrev pub place_of : List ℕ → List (String Global × DType) → Option ℕ
-place_of name cs = position (λ c. is_named name (named c)) cs
 
 -- the place that the map has at a name
 abbrev pub place_at : List ℕ → BTreeMap (Vec ℕ Global) ℕ → Option ℕ
@@ -17,4 +13,4 @@ place_at name places = get_by (λ k. slice_cmp nat_cmp name k.items) places
 
 -- at each name the map has the place of that column, if there is one
 abbrev pub IsIndexOf : List (String Global × DType) → BTreeMap (Vec ℕ Global) ℕ → Type 0
-IsIndexOf cs places = (name : List ℕ) → place_at name places ≡ place_of name cs
+IsIndexOf cs places = (name : List ℕ) → place_at name places ≡ place_of name (named_columns cs)

@@ -1,8 +1,7 @@
 //! The columns of a text, found by their names.
 ghost use Rattle.std.specs.Prelude.{◌≡◌, ◌<◌, ◌++◌, ◌∷◌, [], IfSome, None, OnErr, OnOk, length, option_map, string_bytes};
 ghost use Rattle.vortex_base.specs.Meanings.Binding.{find_column};
-ghost use Rattle.vortex_base.specs.Data.Scopes.{named_columns};
-ghost use Rattle.vortex_text.specs.Places.{place_of};
+ghost use Rattle.vortex_base.specs.Data.Scopes.{named_columns, place_of};
 
 use std::alloc::{AllocError, Global};
 use std::collections::BTreeMap;
@@ -57,7 +56,7 @@ impl Columns {
     }
 
     fn place_of(&self, name: &[u8]) -> Option<usize>
-        ensures value { result ≡ place_of name.now self.now }
+        ensures value { result ≡ place_of name.now (named_columns self.now) }
         ensures in_range { IfSome result (λ i. i < length self.now) }
     {
         self.places.get(name).copied()
@@ -77,7 +76,7 @@ impl Columns {
 
     /// One more column, whose name is new. Where memory is refused, the columns stay.
     pub fn push(&mut self, alloc: Global, name: String, dtype: DType) -> Result<(), AllocError>
-        requires { place_of (string_bytes name) self.old ≡ None }
+        requires { place_of (string_bytes name) (named_columns self.old) ≡ None }
         ensures ok { OnOk result (self.new ≡ self.old ++ (name, dtype) ∷ []) }
         ensures err { OnErr result (self.new ≡ self.old) }
     {

@@ -7,7 +7,7 @@ use Rattle.vortex_text.proofs.draft.Draft.add_column.Goals as goal
 pub push-requires : goal.push-requires
 push-requires c =
     let same : string_bytes c.in_ok-name.name ≡ c.args.name.now = c.in_ok-name.ensures.ok ∙ c.in-Ok.ensures.cases.0 in
-    rw same (new_has_no_place c.args.self.now.columns c.args.name.now (sym c.if-not-is_new.ensures))
+    rw same (new_has_no_place (named_columns c.args.self.now.columns) c.args.name.now (sym c.if-not-is_new.ensures))
 
 pub unreachable-requires : goal.unreachable-requires
 unreachable-requires c =
