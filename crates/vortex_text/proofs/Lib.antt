@@ -12,6 +12,7 @@ pub mod NamedLines
 pub mod NumberLemmas
 pub mod NumberRows
 pub mod PartFits
+pub mod PlaceLemmas
 pub mod QueryLemmas
 pub mod Refusals
 pub mod RowFits

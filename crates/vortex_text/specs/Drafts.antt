@@ -8,8 +8,8 @@ use Rattle.vortex_text.specs.declared.draft.Draft.{Draft}
 -- what the lines so far say
 abbrev pub reading_of : Draft → Reading
 reading_of d = record {
-  scope = named_columns d.columns.items;
+  scope = named_columns d.columns;
   ended = d.ended;
-  current = option_map (open_data (named_columns d.columns.items)) d.current;
+  current = option_map (open_data (named_columns d.columns)) d.current;
   predicate = d.predicate;
 }

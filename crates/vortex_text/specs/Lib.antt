@@ -8,6 +8,7 @@ pub mod Names
 pub mod Naming
 pub mod Numbers
 pub mod OpenParts
+pub mod Places
 pub mod Printing
 pub mod Program
 pub mod QuotedSteps

@@ -9,7 +9,8 @@ ghost use Rattle.vortex_text.specs.Lines.{read_column, read_join, read_kind, rea
 ghost use Rattle.vortex_text.specs.Lines.{read_row, read_stat, read_where, read_words, with_column};
 ghost use Rattle.vortex_text.specs.Words.{words};
 
-use crate::expression::{find_column, read_expression};
+use crate::columns::Columns;
+use crate::expression::read_expression;
 use crate::line_error::LineError;
 use crate::line_kind::{LineKind, kind_of};
 use crate::lines::is_utf8;
@@ -31,7 +32,7 @@ use vortex_base::scope::Scope;
 /// What the lines so far say.
 #[derive(Drop)]
 pub struct Draft {
-    columns: Vec<(String, DType)>,
+    columns: Columns,
     ended: Parts,
     current: Option<OpenPart>,
     predicate: Option<BoundExpression>,
@@ -43,7 +44,7 @@ impl Draft {
         ensures { reading_of result ≡ nothing_read }
     {
         Draft {
-            columns: Vec::new(alloc),
+            columns: Columns::new(alloc),
             ended: Parts::new(alloc),
             current: None,
             predicate: None,
@@ -62,9 +63,9 @@ impl Draft {
 
     // Whether a word may name the next column.
     fn is_new(&self, name: &[u8]) -> bool
-        ensures { result ≡ is_new (named_columns self.now.columns.items) name.now }
+        ensures { result ≡ is_new (named_columns self.now.columns) name.now }
     {
-        is_name(name) && find_column(&self.columns, name).is_none()
+        is_name(name) && self.columns.find(name).is_none()
     }
 
     // The current part takes no more rows.
@@ -77,7 +78,7 @@ impl Draft {
         let Some(part) = self.current.take() else {
             return Ok(());
         };
-        let scope = scope_of(alloc, &self.columns, self.ended.some())?;
+        let scope = scope_of(alloc, self.columns.as_slice(), self.ended.some())?;
         let part = part.close(alloc, scope)?;
         self.ended.push(part)?;
         Ok(())
@@ -95,7 +96,7 @@ impl Draft {
             unreachable!()
         };
         let name = String::from_str(alloc, name)?;
-        self.columns.push((name, dtype))?;
+        self.columns.push(alloc, name, dtype)?;
         Ok(())
     }
 
@@ -129,10 +130,10 @@ impl Draft {
             Changes result (read_part old (words line.now)) (reading_of self.new) }
     {
         no_word(line)?;
-        if self.columns.is_empty() {
+        if self.columns.as_slice().is_empty() {
             return Err(LineError::Bad);
         }
-        let part = empty_part(alloc, &self.columns, self.likely_rows())?;
+        let part = empty_part(alloc, self.columns.as_slice(), self.likely_rows())?;
         self.end_part(alloc)?;
         self.current = Some(part);
         Ok(())
@@ -191,7 +192,7 @@ impl Draft {
         }
         let (predicate, rest) = read_expression(alloc, &self.columns, line)?;
         no_word(rest)?;
-        if self.columns.is_empty() {
+        if self.columns.as_slice().is_empty() {
             return Err(LineError::Bad);
         }
         self.predicate = Some(predicate);
@@ -268,7 +269,7 @@ impl Draft {
         } = draft;
         match predicate {
             Some(predicate) => Ok(Some(Query {
-                scope: Scope::new_unchecked(columns),
+                scope: Scope::new_unchecked(columns.into_vec()),
                 parts: ended.into_vec()?,
                 predicate,
             })),

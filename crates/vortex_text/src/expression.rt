@@ -1,12 +1,12 @@
 //! Expressions in prefix form.
-ghost use Rattle.std.specs.Prelude.{◌≡◌, ◌<◌, ◌≤◌, ℕ, IfOk, IfSome, length, option_map, position};
-ghost use Rattle.vortex_base.specs.Meanings.Binding.{find_column};
-ghost use Rattle.vortex_base.specs.Data.Scopes.{is_named, named, named_columns};
+ghost use Rattle.std.specs.Prelude.{◌≡◌, ◌<◌, ◌≤◌, ℕ, IfOk, length};
+ghost use Rattle.vortex_base.specs.Data.Scopes.{named_columns};
 ghost use Rattle.vortex_base.specs.Trees.Tree as tree;
 ghost use Rattle.vortex_text.specs.Expressions as spec;
 ghost use Rattle.vortex_text.specs.Fails.{Gives};
 ghost use Rattle.vortex_text.specs.Words.{words};
 
+use crate::columns::Columns;
 use crate::form::{Form, form_of, strictness_of};
 use crate::line_error::LineError;
 use crate::names::type_of;
@@ -30,26 +30,6 @@ impl From<BaseError> for LineError {
             BaseError::Memory(_) => LineError::Memory,
             _ => LineError::Bad,
         }
-    }
-}
-
-fn place_of(columns: &[(String, DType)], name: &[u8]) -> Option<usize>
-    ensures value { result ≡ position (λ c. is_named name.now (named c)) columns.now }
-    ensures in_range { IfSome result (λ i. i < length columns.now) }
-{
-    columns
-        .iter()
-        .position(|column| column.0.as_bytes() == name)
-}
-
-/// The place and the type of the column of a name.
-pub fn find_column(columns: &[(String, DType)], name: &[u8]) -> Option<(usize, DType)>
-    ensures { option_map (λ p. record { index = p.0; dtype = p.1 }) result
-        ≡ find_column (named_columns columns.now) name.now }
-{
-    match place_of(columns, name) {
-        Some(place) => Some((place, columns[place].1)),
-        None => None,
     }
 }
 
@@ -111,7 +91,7 @@ fn is_not_null(alloc: Global, x: BoundExpression) -> Result<BoundExpression, Lin
 // `NAME`: a column.
 fn read_column<'a>(
     alloc: Global,
-    columns: &[(String, DType)],
+    columns: &Columns,
     line: &'a [u8],
 ) -> Result<(BoundExpression, &'a [u8]), LineError>
     ensures read { Gives (λ x. (x.0, words x.1.now)) result
@@ -119,7 +99,7 @@ fn read_column<'a>(
     ensures fewer { IfOk result (λ x. length (words x.1.now) < length (words line.now)) }
 {
     let (name, rest) = plain_word(line)?;
-    let Some((place, dtype)) = find_column(columns, name) else {
+    let Some((place, dtype)) = columns.find(name) else {
         return Err(LineError::Bad);
     };
     Ok((bound::col(alloc, place, dtype)?, rest))
@@ -175,7 +155,7 @@ fn read_options(line: &[u8]) -> Result<(BetweenOptions, &[u8]), LineError>
 #[cycle(expression)]
 fn read_binary<'a>(
     alloc: Global,
-    columns: &[(String, DType)],
+    columns: &Columns,
     operator: Operator,
     line: &'a [u8],
 ) -> Result<(BoundExpression, &'a [u8]), LineError>
@@ -194,7 +174,7 @@ fn read_binary<'a>(
 #[cycle(expression)]
 fn read_like<'a>(
     alloc: Global,
-    columns: &[(String, DType)],
+    columns: &Columns,
     options: LikeOptions,
     line: &'a [u8],
 ) -> Result<(BoundExpression, &'a [u8]), LineError>
@@ -213,7 +193,7 @@ fn read_like<'a>(
 #[cycle(expression)]
 fn read_between<'a>(
     alloc: Global,
-    columns: &[(String, DType)],
+    columns: &Columns,
     line: &'a [u8],
 ) -> Result<(BoundExpression, &'a [u8]), LineError>
     ensures read { (most : ℕ) → length (words line.now) ≤ most
@@ -233,7 +213,7 @@ fn read_between<'a>(
 #[cycle(expression)]
 fn read_not<'a>(
     alloc: Global,
-    columns: &[(String, DType)],
+    columns: &Columns,
     line: &'a [u8],
 ) -> Result<(BoundExpression, &'a [u8]), LineError>
     ensures read { (most : ℕ) → length (words line.now) ≤ most
@@ -250,7 +230,7 @@ fn read_not<'a>(
 #[cycle(expression)]
 fn read_is_null<'a>(
     alloc: Global,
-    columns: &[(String, DType)],
+    columns: &Columns,
     line: &'a [u8],
 ) -> Result<(BoundExpression, &'a [u8]), LineError>
     ensures read { (most : ℕ) → length (words line.now) ≤ most
@@ -267,7 +247,7 @@ fn read_is_null<'a>(
 #[cycle(expression)]
 fn read_is_not_null<'a>(
     alloc: Global,
-    columns: &[(String, DType)],
+    columns: &Columns,
     line: &'a [u8],
 ) -> Result<(BoundExpression, &'a [u8]), LineError>
     ensures read { (most : ℕ) → length (words line.now) ≤ most
@@ -285,7 +265,7 @@ fn read_is_not_null<'a>(
 #[cycle(expression)]
 pub fn read_expression<'a>(
     alloc: Global,
-    columns: &[(String, DType)],
+    columns: &Columns,
     line: &'a [u8],
 ) -> Result<(BoundExpression, &'a [u8]), LineError>
     ensures read { (most : ℕ) → length (words line.now) ≤ most

@@ -1,6 +1,7 @@
 //! Texts that name parts of columns, their statistics and a predicate, and what their scan prints.
 #![tactic(auto)]
 
+mod columns;
 mod draft;
 mod expression;
 mod form;

@@ -5,7 +5,7 @@ ghost use Rattle.vortex_text.specs.Fails.{Gives};
 ghost use Rattle.vortex_text.specs.Statistics.{claimed, claimed_value, precision_of, stat_of, truth_stat_of};
 ghost use Rattle.vortex_text.specs.Words.{words};
 
-use crate::expression::find_column;
+use crate::columns::Columns;
 use crate::line_error::LineError;
 use crate::names::is;
 use crate::value::value_of;
@@ -81,15 +81,12 @@ pub struct Claim {
 }
 
 /// The column and the statistic that a line begins with, and the line after them.
-pub fn read_claim<'a>(
-    columns: &[(String, DType)],
-    line: &'a [u8],
-) -> Result<(Claim, &'a [u8]), LineError>
+pub fn read_claim<'a>(columns: &Columns, line: &'a [u8]) -> Result<(Claim, &'a [u8]), LineError>
     ensures { Gives (λ x. ((x.0.place, x.0.stat, x.0.dtype), words x.1.now)) result
         (claimed (named_columns columns.now) (words line.now)) }
 {
     let (name, rest) = plain_word(line)?;
-    let Some((place, dtype)) = find_column(columns, name) else {
+    let Some((place, dtype)) = columns.find(name) else {
         return Err(LineError::Bad);
     };
     let (word, rest) = plain_word(rest)?;

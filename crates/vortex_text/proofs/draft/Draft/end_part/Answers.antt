@@ -3,4 +3,4 @@ use Rattle.vortex_text.proofs.draft.Draft.end_part.Goals as goal
 
 pub scope_of-requires-clause-parts : goal.scope_of-requires-clause-parts
 scope_of-requires-clause-parts c =
-    rw c.deref.ensures.value (c.some.ensures (named_columns c.args.self.now.columns.items) c.requires.ended)
+    rw c.as_slice.ensures (c.some.ensures (named_columns c.args.self.now.columns) c.requires.ended)

@@ -1,5 +1,7 @@
-use Rattle.std.proofs.Common.{List, subst, sym}
-use Rattle.vortex_base.specs.Data.Scopes.{Named}
+use Rattle.std.proofs.Common.{List, String, ap, subst, sym, ◌∙◌}
+use Rattle.std.specs.declared.alloc.Global.{Global}
+use Rattle.vortex_base.specs.Data.Scopes.{IsScope, Named, named_columns}
+use Rattle.vortex_base.specs.declared.dtype.DType.{DType}
 use Rattle.vortex_prune.specs.Part.{PartData}
 use Rattle.vortex_text.proofs.LineFits.{ended_fit}
 use Rattle.vortex_text.proofs.NamedFits.{ended_query}
@@ -10,12 +12,14 @@ use Rattle.vortex_text.proofs.draft.Draft.into_query.Goals as goal
 pub new_unchecked-requires : goal.new_unchecked-requires
 new_unchecked-requires c =
     let read = reading_of c.end_part.new.self in
-    (ended_query read c.in-Some.predicate (ended_fit (reading_of c.args.self) read c.requires c.in_ok-end_part.ensures) c.in-Some.is).is_scope
+    let P : List (String Global × DType) → Type 0 = λ columns. IsScope (named_columns columns) in
+    subst P (sym c.into_vec.ensures) (ended_query read c.in-Some.predicate (ended_fit (reading_of c.args.self) read c.requires c.in_ok-end_part.ensures) c.in-Some.is).is_scope
 
 pub returns-in-Some-clause-fits : goal.returns-in-Some-clause-fits
 returns-in-Some-clause-fits c =
     let read = reading_of c.end_part.new.self in
     let P : List Named → Type 0 = λ scope. IsQueryOver scope c.end_part.new.self.ended c.in-Some.predicate in
     let Q : List PartData → Type 0 = λ parts. IsQueryOver c.new_unchecked.result parts c.in-Some.predicate in
+    let scope = c.new_unchecked.ensures ∙ ap named_columns c.into_vec.ensures in
     subst Q (sym c.in_ok-into_vec-in-Some.ensures)
-    (subst P (sym c.new_unchecked.ensures) (ended_query read c.in-Some.predicate (ended_fit (reading_of c.args.self) read c.requires c.in_ok-end_part.ensures) c.in-Some.is))
+    (subst P (sym scope) (ended_query read c.in-Some.predicate (ended_fit (reading_of c.args.self) read c.requires c.in_ok-end_part.ensures) c.in-Some.is))
