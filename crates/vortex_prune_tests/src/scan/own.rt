@@ -267,7 +267,7 @@ fn open_rules(alloc: Global) -> Result<Rules, AllocError> {
 }
 
 #[test]
-fn an_open_proof_is_refused_at_a_part(rt: HostRuntime) -> Result<(), Fail> {
+fn an_open_proof_ends_the_scan_at_a_part(rt: HostRuntime) -> Result<(), Fail> {
     expect_open(&rt, rt.alloc(), &open_rules(rt.alloc())?)
 }
 
@@ -276,7 +276,7 @@ fn bare_rules(alloc: Global) -> Result<Rules, AllocError> {
 }
 
 #[test]
-fn a_bare_column_is_refused_at_a_part(rt: HostRuntime) -> Result<(), Fail> {
+fn a_bare_column_ends_the_scan_at_a_part(rt: HostRuntime) -> Result<(), Fail> {
     expect_open(&rt, rt.alloc(), &bare_rules(rt.alloc())?)
 }
 
@@ -317,7 +317,7 @@ fn is_wrong_type(found: Found) -> bool {
 }
 
 #[test]
-fn an_answer_of_another_type_is_refused(rt: HostRuntime) {
+fn an_answer_of_another_type_ends_the_scan(rt: HostRuntime) {
     let alloc = rt.alloc();
     let parts = bounded(alloc, &[Some(1)], 1, 1);
     assert!(rt; is_wrong_type(scanned_with_truths(alloc, &parts, above(alloc, 10))));

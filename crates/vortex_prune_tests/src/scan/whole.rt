@@ -252,7 +252,7 @@ fn is_fault(found: Found) -> bool {
 
 // The satisfier is bound at the first part that isn't skipped: an open one is refused there.
 #[test]
-fn an_open_satisfier_is_refused_at_a_kept_part(rt: HostRuntime) -> Result<(), Fail> {
+fn an_open_satisfier_ends_the_scan_at_a_kept_part(rt: HostRuntime) -> Result<(), Fail> {
     let alloc = rt.alloc();
     let rules = bare_rules(alloc)?;
     let kept = bounded(alloc, &[Some(11)], 11, 11);
