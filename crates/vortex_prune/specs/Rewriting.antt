@@ -6,7 +6,6 @@ pub mod Lawful
 pub mod Own
 pub mod Predicates
 pub mod Proof
-pub mod RuleExamples
 pub mod RuleRefusals
 pub mod Sides
 pub mod Visited

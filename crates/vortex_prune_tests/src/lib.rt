@@ -5,6 +5,7 @@
 mod bind;
 #[cfg(test)]
 mod expr;
+pub mod hooks;
 #[cfg(test)]
 mod part;
 #[cfg(test)]

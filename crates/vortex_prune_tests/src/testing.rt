@@ -1,23 +1,23 @@
 //! Nodes, parts, tables and scans for the tests, by calls without a contract that take what other
 //! calls answered: a test is one straight line of calls, so its proof stays short.
 ghost use Rattle.std.specs.Bool.{OnTrue};
-ghost use Rattle.std.specs.Prelude.{◌≡◌, All, IfOk, IsTrue, MatchResult, Some, false};
+ghost use Rattle.std.specs.Prelude.{◌≡◌, All, IfOk, IsTrue};
 ghost use Rattle.vortex_base.specs.Meanings.Fitting.{fits_scope};
-ghost use Rattle.vortex_prune.specs.Binding.HookFaults.{IsHookFault};
-ghost use Rattle.vortex_prune.specs.Rewriting.Falsifiers.{bool_literal};
 ghost use Rattle.vortex_prune.specs.Zones.{HaveScope};
 
+use crate::hooks::{Claim, Claiming};
 use std::alloc::{AllocError, Global};
 use std::process::Abort;
 use std::test::Fail;
 use vortex_base::{
     AggregateFnRef, BaseError, BetweenOptions, BoundExpression, Chunk, Column, DType, LikeOptions,
-    Nullability, Operator, PType, Scalar, ScalarValue, Scope, StrictComparison, Text, bound,
+    Nullability, Operator, PType, Scalar, ScalarFnId, ScalarValue, Scope, StrictComparison, Text,
+    bound,
 };
 use vortex_prune::scan::scan;
 use vortex_prune::scan::zones::scan_zones;
 use vortex_prune::{
-    HookFault, Part, PartRefused, Rules, Scan, StatBinder, StatsBinder, StatsRewriteRuleRef, Zones,
+    Part, PartRefused, Rules, Scan, StatBinder, StatsBinder, StatsRewriteRuleRef, Zones,
 };
 use vortex_stats::{Precision, Stat, StatsError, StatsSet};
 
@@ -461,12 +461,30 @@ pub fn two_rules(
     Ok(Rules::with_own(rules))
 }
 
-/// What rules and binders answer that know a truth.
-pub fn truth_answer(alloc: Global, truth: bool) -> Result<Option<BoundExpression>, HookFault>
-    ensures { MatchResult result (λ o. o ≡ Some (bool_literal truth)) (IsHookFault (λ k. false)) }
-{
-    let truth = Scalar::try_new(BOOL, Some(ScalarValue::from(truth)))?;
-    Ok(Some(bound::lit(alloc, truth)?))
+/// A rule that claims the same of every expression of its function. Its fault has the number 3.
+pub fn claiming(
+    alloc: Global,
+    function: ScalarFnId,
+    falsifier: Claim,
+    satisfier: Claim,
+) -> Result<StatsRewriteRuleRef, AllocError> {
+    let rule = Claiming {
+        function,
+        falsifier,
+        satisfier,
+        fault: 3,
+    };
+    Ok(Box::new(alloc, rule)?)
+}
+
+/// The built-in rules and then such a one.
+pub fn rules_that_claim(
+    alloc: Global,
+    function: ScalarFnId,
+    falsifier: Claim,
+    satisfier: Claim,
+) -> Result<Rules, AllocError> {
+    rules_of(alloc, claiming(alloc, function, falsifier, satisfier)?)
 }
 
 // Whether a part has the scope.

@@ -85,6 +85,17 @@ fn first_run(alloc: Global) -> Parts {
     and_part(one_part(alloc, first_part(alloc)), second_part(alloc))
 }
 
+// The rows 30 and null, of which nothing is known.
+fn third_part(alloc: Global) -> Result<Part, StatsError> {
+    let mut values = one_value(alloc, number(30))?;
+    values.push(None)?;
+    part(alloc, "a", NUMBER, Ok(values), Ok(no_statistics(alloc)))
+}
+
+fn three_parts(alloc: Global) -> Parts {
+    and_part(first_run(alloc), third_part(alloc))
+}
+
 fn counted_nulls(alloc: Global, nulls: u64) -> StatsSet {
     exactly(alloc, Stat::NullCount, count(nulls))
 }
@@ -248,8 +259,8 @@ fn keeps(
 #[test]
 fn refused_tables_hand_back(rt: HostRuntime) -> Result<(), Fail> {
     let alloc = rt.alloc();
-    let (same, same_parts) = (number_scope(alloc)?, first_run(alloc)?);
-    let made = table(alloc, number_scope(alloc)?, first_run(alloc)?);
+    let (same, same_parts) = (number_scope(alloc)?, three_parts(alloc)?);
+    let made = table(alloc, number_scope(alloc)?, three_parts(alloc)?);
     assert!(rt; keeps(alloc, made, &same, &same_parts)?);
     Ok(())
 }

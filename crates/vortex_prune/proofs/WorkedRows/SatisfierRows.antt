@@ -1,5 +1,6 @@
 -- Worked rows of satisfiers, found by computation alone.
-use Rattle.std.specs.Prelude.{◌≡◌, ℕ, true, false, List, [], ◌∷◌, Some, None, pos, codes, refl}
+use Rattle.std.specs.Prelude.{◌≡◌, ℕ, true, false, List, [], ◌∷◌, IsTrue, Option, Some, None, pos, codes, refl}
+use Rattle.std.proofs.Common.{subst}
 use Rattle.vortex_base.specs.declared.aggregate.AggregateFnRef.TheVariants.{Max, Min, NullCount, AllNull, AllNonNull}
 use Rattle.vortex_base.specs.declared.types.BetweenOptions.{BetweenOptions}
 use Rattle.vortex_base.specs.declared.types.StrictComparison.TheVariants.{Strict, NonStrict}
@@ -14,8 +15,8 @@ use Rattle.vortex_base.specs.declared.pvalue.PValue.TheVariants as number
 use Rattle.vortex_base.specs.declared.scalar_value.ScalarValue.TheVariants as value
 use Rattle.vortex_base.specs.Patterns.Like.{plain}
 use Rattle.vortex_base.specs.Trees.Tree.{Tree, Place, column, literal, binary, between, is_null, is_not_null, not, like, stat, row_count}
-use Rattle.vortex_prune.specs.Rewriting.Lawful.{OwnRule}
-use Rattle.vortex_prune.specs.Rewriting.RuleExamples.{false_proof, false_proof_is_lawful}
+use Rattle.vortex_prune.specs.Rewriting.Lawful.{IsLawful, OwnRule}
+use Rattle.vortex_prune.specs.Rewriting.Proof.{Assignment, proves}
 use Rattle.vortex_prune.specs.Rewriting.Falsifiers.{bool_literal, count_literal, node, reduce_balanced, satisfier}
 
 abbrev i32_type : DType
@@ -305,6 +306,22 @@ unfolding node reduce_balanced
 pattern = refl
 
 -- ---- with a rule of a user, which answers the literal false at each node of its function
+
+-- a rule of a user whose proof is never true
+abbrev false_proof : Tree Place → Option (Tree Place)
+false_proof p = Some (bool_literal false)
+
+never : (e : Tree Place) (A : Assignment) (n : ℕ) → Some (bool_literal false) ≡ Some e → IsTrue (proves e A n) → ⊥
+never e A n h t =
+    let same : e ≡ bool_literal false = cc in
+    let told : false ≡ true = subst (λ (x : Tree Place). IsTrue (proves x A n)) same t in
+    cc
+
+false_proof_is_lawful : IsLawful false_proof false_proof
+false_proof_is_lawful = record {
+  falsifies = λ p e h k A chunk over honest t. absurd (never e A _ h t);
+  satisfies = λ p e h k A chunk over honest t. absurd (never e A _ h t);
+}
 
 abbrev unsure : ScalarFnId → OwnRule
 unsure id = record { id = id; falsifier = false_proof; satisfier = false_proof; can_fault = λ k. false; is_lawful = false_proof_is_lawful }

@@ -1,21 +1,14 @@
 //! Rules of a user, boxed and asked.
-ghost use Rattle.std.specs.Prelude.{◌≡◌, Bool, true, false, MatchResult, Some, None, if◌then◌else◌};
-ghost use Rattle.vortex_prune.specs.Binding.HookFaults.{IsHookFault};
-ghost use Rattle.vortex_prune.specs.Rewriting.RuleExamples.{at_opposite};
-ghost use Rattle.vortex_prune.specs.Rewriting.Falsifiers.{bool_literal, count_literal};
+ghost use Rattle.std.specs.Prelude.{◌≡◌, Bool, Some, None, if◌then◌else◌};
+ghost use Rattle.vortex_prune.specs.Rewriting.Falsifiers.{bool_literal};
+ghost use Rattle.vortex_prune_tests.specs.RuleExamples.{at_opposite};
 
 use super::*;
+use crate::hooks::{Claim, Claiming, truth_answer};
 use std::alloc::AllocError;
-use vortex_base::{Parts, Scalar, ScalarFnId, bound};
+use vortex_base::{Parts, ScalarFnId};
 use vortex_prune::{HookFault, StatsRewriteRule, StatsRewriteRuleRef};
 use vortex_stats::RuleFault;
-
-fn number_answer(alloc: Global) -> Result<Option<BoundExpression>, HookFault>
-    ensures { MatchResult result (λ o. o ≡ Some (count_literal 7)) (IsHookFault (λ k. false)) }
-{
-    let seven = Scalar::try_new(U64, Some(ScalarValue::from(7u64)))?;
-    Ok(Some(bound::lit(alloc, seven)?))
-}
 
 fn is_not_of(e: &BoundExpression, truth: bool) -> bool
     ensures { (answer : Bool) → at_opposite truth answer e.now
@@ -42,7 +35,7 @@ struct Opposite {
 impl StatsRewriteRule for Opposite {
     ghost use Rattle.std.specs.Prelude.{true, false};
     ghost use Rattle.vortex_base.specs.declared.types.ScalarFnId.TheVariants as function;
-    ghost use Rattle.vortex_prune.specs.Rewriting.RuleExamples.{at_opposite, opposite_is_lawful};
+    ghost use Rattle.vortex_prune_tests.specs.RuleExamples.{at_opposite, opposite_is_lawful};
 
     ghost id = { λ s. function.Not };
 
@@ -83,131 +76,6 @@ impl StatsRewriteRule for Opposite {
     }
 }
 
-// Answers a literal that is false at each node of its function.
-#[derive(Drop)]
-struct Unsure {
-    function: ScalarFnId,
-}
-
-impl StatsRewriteRule for Unsure {
-    ghost use Rattle.std.specs.Prelude.{false};
-    ghost use Rattle.vortex_prune.specs.Rewriting.RuleExamples.{false_proof, false_proof_is_lawful};
-
-    ghost id = { λ s. s.function };
-
-    ghost falsifier = { λ s. false_proof };
-
-    ghost satisfier = { λ s. false_proof };
-
-    ghost can_fault = { λ s k. false };
-
-    ghost is_lawful = { λ s. false_proof_is_lawful };
-
-    fn scalar_fn_id(&self) -> ScalarFnId {
-        self.function
-    }
-
-    fn falsify(
-        &self,
-        alloc: Global,
-        _expression: &BoundExpression,
-    ) -> Result<Option<BoundExpression>, HookFault> {
-        truth_answer(alloc, false)
-    }
-
-    fn satisfy(
-        &self,
-        alloc: Global,
-        _expression: &BoundExpression,
-    ) -> Result<Option<BoundExpression>, HookFault> {
-        truth_answer(alloc, false)
-    }
-}
-
-// Answers a number, which is no proof.
-#[derive(Drop)]
-struct Number {
-    function: ScalarFnId,
-}
-
-impl StatsRewriteRule for Number {
-    ghost use Rattle.std.specs.Prelude.{false};
-    ghost use Rattle.vortex_prune.specs.Rewriting.RuleExamples.{number_proof};
-    ghost use Rattle.vortex_prune.specs.Rewriting.RuleExamples.{number_proof_is_lawful};
-
-    ghost id = { λ s. s.function };
-
-    ghost falsifier = { λ s. number_proof };
-
-    ghost satisfier = { λ s. number_proof };
-
-    ghost can_fault = { λ s k. false };
-
-    ghost is_lawful = { λ s. number_proof_is_lawful };
-
-    fn scalar_fn_id(&self) -> ScalarFnId {
-        self.function
-    }
-
-    fn falsify(
-        &self,
-        alloc: Global,
-        _expression: &BoundExpression,
-    ) -> Result<Option<BoundExpression>, HookFault> {
-        number_answer(alloc)
-    }
-
-    fn satisfy(
-        &self,
-        alloc: Global,
-        _expression: &BoundExpression,
-    ) -> Result<Option<BoundExpression>, HookFault> {
-        number_answer(alloc)
-    }
-}
-
-// Fails at each node of its function.
-#[derive(Drop)]
-struct Faulty {
-    function: ScalarFnId,
-    fault: u32,
-}
-
-impl StatsRewriteRule for Faulty {
-    ghost use Rattle.std.specs.Prelude.{◌==◌};
-    ghost use Rattle.vortex_prune.specs.Rewriting.RuleExamples.{no_proof, no_proof_is_lawful};
-
-    ghost id = { λ s. s.function };
-
-    ghost falsifier = { λ s. no_proof };
-
-    ghost satisfier = { λ s. no_proof };
-
-    ghost can_fault = { λ s k. k == s.fault };
-
-    ghost is_lawful = { λ s. no_proof_is_lawful };
-
-    fn scalar_fn_id(&self) -> ScalarFnId {
-        self.function
-    }
-
-    fn falsify(
-        &self,
-        _alloc: Global,
-        _expression: &BoundExpression,
-    ) -> Result<Option<BoundExpression>, HookFault> {
-        Err(HookFault::Own(self.fault))
-    }
-
-    fn satisfy(
-        &self,
-        _alloc: Global,
-        _expression: &BoundExpression,
-    ) -> Result<Option<BoundExpression>, HookFault> {
-        Err(HookFault::Own(self.fault))
-    }
-}
-
 fn fault_of(answer: Proof) -> Option<u32> {
     match answer {
         Err(StatsError::Rule(RuleFault::Own(fault))) => Some(fault),
@@ -228,12 +96,9 @@ fn new_opposite(alloc: Global, answer: bool) -> Result<StatsRewriteRuleRef, Allo
     Ok(Box::new(alloc, Opposite { answer })?)
 }
 
+// A literal that is false, at each node of its function.
 fn new_unsure(alloc: Global, function: ScalarFnId) -> Result<StatsRewriteRuleRef, AllocError> {
-    Ok(Box::new(alloc, Unsure { function })?)
-}
-
-fn new_number(alloc: Global, function: ScalarFnId) -> Result<StatsRewriteRuleRef, AllocError> {
-    Ok(Box::new(alloc, Number { function })?)
+    claiming(alloc, function, Claim::False, Claim::False)
 }
 
 fn new_faulty(
@@ -241,7 +106,13 @@ fn new_faulty(
     function: ScalarFnId,
     fault: u32,
 ) -> Result<StatsRewriteRuleRef, AllocError> {
-    Ok(Box::new(alloc, Faulty { function, fault })?)
+    let rule = Claiming {
+        function,
+        falsifier: Claim::Fault,
+        satisfier: Claim::Fault,
+        fault,
+    };
+    Ok(Box::new(alloc, rule)?)
 }
 
 fn two_opposites(alloc: Global) -> Result<Rules, AllocError> {
@@ -439,14 +310,10 @@ fn the_first_fault_ends_the_call(rt: HostRuntime) -> Result<(), Fail> {
     Ok(())
 }
 
-fn number_rules(alloc: Global) -> Result<Rules, AllocError> {
-    rules_of(alloc, new_number(alloc, ScalarFnId::Not)?)
-}
-
 #[test]
 fn a_proof_has_to_be_a_truth(rt: HostRuntime) -> Result<(), Fail> {
     let alloc = rt.alloc();
-    let rules = number_rules(alloc)?;
+    let rules = rules_that_claim(alloc, ScalarFnId::Not, Claim::Number, Claim::Number)?;
     assert!(rt; is_not_bool(falsified(alloc, not_true(alloc), &rules)));
     assert!(rt; is_not_bool(satisfied(alloc, not_true(alloc), &rules)));
     let e = or(alloc, not_true(alloc), truth(alloc, true));

@@ -1,8 +1,7 @@
 //! Parts that satisfy the predicate whole, and how many rows of the others are tested.
 use super::*;
-use std::alloc::AllocError;
-use vortex_base::{BoundExpression, ScalarFnId, bound};
-use vortex_prune::{HookFault, Rules, StatsRewriteRule};
+use crate::hooks::Claim;
+use vortex_base::ScalarFnId;
 use vortex_stats::RuleFault;
 
 // The least value, and how many rows are null.
@@ -153,108 +152,19 @@ fn one_side_makes_or_whole_but_not_and(rt: HostRuntime) -> Result<(), Fail> {
     expect_tested(&rt, scanned(alloc, &parts, both), 0)
 }
 
-// What a rule of a user claims to satisfy a comparison by.
-#[derive(Drop)]
-struct Bare;
-
-impl StatsRewriteRule for Bare {
-    ghost use Rattle.std.specs.Prelude.{false};
-    ghost use Rattle.vortex_base.specs.declared.types.ScalarFnId.TheVariants as function;
-    ghost use Rattle.vortex_prune.specs.Rewriting.RuleExamples.{bare_proof, no_proof};
-    ghost use Rattle.vortex_prune.specs.Rewriting.RuleExamples.{bare_satisfier_is_lawful};
-
-    ghost id = { λ s. function.Binary };
-
-    ghost falsifier = { λ s. no_proof };
-
-    ghost satisfier = { λ s. bare_proof };
-
-    ghost can_fault = { λ s k. false };
-
-    ghost is_lawful = { λ s. bare_satisfier_is_lawful };
-
-    fn scalar_fn_id(&self) -> ScalarFnId {
-        ScalarFnId::Binary
-    }
-
-    fn falsify(
-        &self,
-        _alloc: Global,
-        _expression: &BoundExpression,
-    ) -> Result<Option<BoundExpression>, HookFault> {
-        Ok(None)
-    }
-
-    fn satisfy(
-        &self,
-        alloc: Global,
-        _expression: &BoundExpression,
-    ) -> Result<Option<BoundExpression>, HookFault> {
-        Ok(Some(bound::col(alloc, 0, BOOL)?))
-    }
-}
-
-// Faults where it is asked for a satisfier.
-#[derive(Drop)]
-struct Faulty;
-
-impl StatsRewriteRule for Faulty {
-    ghost use Rattle.std.specs.Prelude.{◌==◌};
-    ghost use Rattle.vortex_base.specs.declared.types.ScalarFnId.TheVariants as function;
-    ghost use Rattle.vortex_prune.specs.Rewriting.RuleExamples.{no_proof, no_proof_is_lawful};
-
-    ghost id = { λ s. function.Binary };
-
-    ghost falsifier = { λ s. no_proof };
-
-    ghost satisfier = { λ s. no_proof };
-
-    ghost can_fault = { λ s k. k == 4 };
-
-    ghost is_lawful = { λ s. no_proof_is_lawful };
-
-    fn scalar_fn_id(&self) -> ScalarFnId {
-        ScalarFnId::Binary
-    }
-
-    fn falsify(
-        &self,
-        _alloc: Global,
-        _expression: &BoundExpression,
-    ) -> Result<Option<BoundExpression>, HookFault> {
-        Ok(None)
-    }
-
-    fn satisfy(
-        &self,
-        _alloc: Global,
-        _expression: &BoundExpression,
-    ) -> Result<Option<BoundExpression>, HookFault> {
-        Err(HookFault::Own(4))
-    }
-}
-
-fn bare_rules(alloc: Global) -> Result<Rules, AllocError> {
-    rules_of(alloc, Box::new(alloc, Bare)?)
-}
-
-fn faulty_rules(alloc: Global) -> Result<Rules, AllocError> {
-    rules_of(alloc, Box::new(alloc, Faulty)?)
-}
-
 fn is_open(found: Found) -> bool {
     matches!(found, Err(StatsError::OpenProof))
 }
 
 fn is_fault(found: Found) -> bool {
-    matches!(found, Err(StatsError::Rule(RuleFault::Own(4))))
+    matches!(found, Err(StatsError::Rule(RuleFault::Own(3))))
 }
 
 // The satisfier is bound at the first part that isn't skipped: an open one is refused there.
 #[test]
 fn an_open_satisfier_ends_the_scan_at_a_kept_part(rt: HostRuntime) -> Result<(), Fail> {
     let alloc = rt.alloc();
-    let rules = bare_rules(alloc)?;
+    let rules = rules_that_claim(alloc, ScalarFnId::Binary, Claim::Nothing, Claim::Column(0))?;
     let kept = bounded(alloc, &[Some(11)], 11, 11);
     assert!(rt; is_open(scanned_by(alloc, &kept, above(alloc, 10), &rules)));
     let skipped = bounded(alloc, &[Some(1)], 1, 1);
@@ -267,7 +177,7 @@ fn an_open_satisfier_ends_the_scan_at_a_kept_part(rt: HostRuntime) -> Result<(),
 #[test]
 fn a_fault_of_a_satisfier_ends_the_scan(rt: HostRuntime) -> Result<(), Fail> {
     let alloc = rt.alloc();
-    let rules = faulty_rules(alloc)?;
+    let rules = rules_that_claim(alloc, ScalarFnId::Binary, Claim::Nothing, Claim::Fault)?;
     let skipped = bounded(alloc, &[Some(1)], 1, 1);
     assert!(rt; is_fault(scanned_by(alloc, &skipped, above(alloc, 10), &rules)));
     Ok(())

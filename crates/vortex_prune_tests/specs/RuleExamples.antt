@@ -1,11 +1,8 @@
--- The proofs of the rules that the tests box, and that these are lawful.
-use Rattle.std.specs.Prelude.{◌≡◌, ℕ, zero, suc, Bool, true, false, List, [], ◌∷◌, Option, Some, None, IsTrue, is_none, if◌then◌else◌, slice_get, refl}
-use Rattle.std.proofs.Common.{ap, subst, sym, ◌∙◌}
+-- The proofs of two rules of the tests that may be true, and that these are lawful.
+use Rattle.std.specs.Prelude.{◌≡◌, ℕ, zero, suc, Bool, true, false, List, [], ◌∷◌, Option, Some, None, is_none, if◌then◌else◌, slice_get, refl}
+use Rattle.std.proofs.Common.{ap, sym, ◌∙◌}
 use Rattle.vortex_base.proofs.Data.RowLemmas.{row_of-IsRow}
 use Rattle.vortex_base.specs.declared.dtype.DType.{DType}
-use Rattle.vortex_base.specs.declared.dtype.DType.TheVariants as dtype
-use Rattle.vortex_base.specs.declared.types.Nullability.TheVariants.{NonNullable, Nullable}
-use Rattle.vortex_base.specs.declared.types.PType.TheVariants.{I32}
 use Rattle.vortex_base.specs.declared.scalar_value.ScalarValue.{ScalarValue}
 use Rattle.vortex_base.specs.declared.scalar_value.ScalarValue.TheVariants as value
 use Rattle.vortex_base.specs.Data.Columns.{ColumnData, cell_value, has_types, is_row, row_of, value_at}
@@ -17,106 +14,11 @@ use Rattle.vortex_base.specs.Data.Scopes.{Named}
 use Rattle.vortex_base.specs.Trees.Tree.{Tree, Place, column, is_null, literal, not}
 use Rattle.vortex_base.specs.Data.Types.{dtype_eq_is_exact, is_nullable}
 use Rattle.vortex_prune.specs.Rewriting.Lawful.{IsLawful, IsSoundFalsifier, IsSoundSatisfier}
-use Rattle.vortex_prune.specs.Rewriting.Proof.{Assignment, proves}
-use Rattle.vortex_prune.specs.Rewriting.Falsifiers.{bool_literal, count_literal}
+use Rattle.vortex_prune.specs.Rewriting.Falsifiers.{bool_literal}
 
 -- no proof
 abbrev pub no_proof : Tree Place → Option (Tree Place)
 no_proof p = None
-
-pub no_proof_is_lawful : IsLawful no_proof no_proof
-no_proof_is_lawful = record { falsifies = λ p e h. absurd cc; satisfies = λ p e h. absurd cc }
-
--- proofs that are never true
-abbrev pub false_proof : Tree Place → Option (Tree Place)
-false_proof p = Some (bool_literal false)
-
-abbrev pub number_proof : Tree Place → Option (Tree Place)
-number_proof p = Some (count_literal 7)
-
-never_false : (e : Tree Place) (A : Assignment) (n : ℕ) → Some (bool_literal false) ≡ Some e → IsTrue (proves e A n) → ⊥
-never_false e A n h t =
-    let same : e ≡ bool_literal false = cc in
-    let told : false ≡ true = subst (λ (x : Tree Place). IsTrue (proves x A n)) same t in
-    cc
-
-never_number : (e : Tree Place) (A : Assignment) (n : ℕ) → Some (count_literal 7) ≡ Some e → IsTrue (proves e A n) → ⊥
-never_number e A n h t =
-    let same : e ≡ count_literal 7 = cc in
-    let told : false ≡ true = subst (λ (x : Tree Place). IsTrue (proves x A n)) same t in
-    cc
-
-pub false_proof_is_lawful : IsLawful false_proof false_proof
-false_proof_is_lawful = record {
-  falsifies = λ p e h k A chunk over honest t. absurd (never_false e A _ h t);
-  satisfies = λ p e h k A chunk over honest t. absurd (never_false e A _ h t);
-}
-
-pub number_proof_is_lawful : IsLawful number_proof number_proof
-number_proof_is_lawful = record {
-  falsifies = λ p e h k A chunk over honest t. absurd (never_number e A _ h t);
-  satisfies = λ p e h k A chunk over honest t. absurd (never_number e A _ h t);
-}
-
-pub number_satisfier_is_lawful : IsLawful no_proof number_proof
-number_satisfier_is_lawful = record {
-  falsifies = λ p e h. absurd cc;
-  satisfies = λ p e h k A chunk over honest t. absurd (never_number e A _ h t);
-}
-
--- a proof with a column outside its placeholders
-abbrev pub open_proof : Tree Place → Option (Tree Place)
-open_proof p = Some (is_null (column (record { index = 0; dtype = dtype.Primitive I32 Nullable })))
-
-never_open : (e : Tree Place) (A : Assignment) (n : ℕ) → Some (is_null (column (record { index = 0; dtype = dtype.Primitive I32 Nullable }))) ≡ Some e → IsTrue (proves e A n) → ⊥
-never_open e A n h t =
-    let same : e ≡ is_null (column (record { index = 0; dtype = dtype.Primitive I32 Nullable })) = cc in
-    let told : false ≡ true = subst (λ (x : Tree Place). IsTrue (proves x A n)) same t in
-    cc
-
-pub open_proof_is_lawful : IsLawful open_proof no_proof
-open_proof_is_lawful = record {
-  falsifies = λ p e h k A chunk over honest t. absurd (never_open e A _ h t);
-  satisfies = λ p e h. absurd cc;
-}
-
--- a proof that is a column itself
-abbrev pub bare_proof : Tree Place → Option (Tree Place)
-bare_proof p = Some (column (record { index = 0; dtype = dtype.Bool NonNullable }))
-
-never_bare : (e : Tree Place) (A : Assignment) (n : ℕ) → Some (column (record { index = 0; dtype = dtype.Bool NonNullable })) ≡ Some e → IsTrue (proves e A n) → ⊥
-never_bare e A n h t =
-    let same : e ≡ column (record { index = 0; dtype = dtype.Bool NonNullable }) = cc in
-    let told : false ≡ true = subst (λ (x : Tree Place). IsTrue (proves x A n)) same t in
-    cc
-
-pub bare_proof_is_lawful : IsLawful bare_proof no_proof
-bare_proof_is_lawful = record {
-  falsifies = λ p e h k A chunk over honest t. absurd (never_bare e A _ h t);
-  satisfies = λ p e h. absurd cc;
-}
-
-pub bare_satisfier_is_lawful : IsLawful no_proof bare_proof
-bare_satisfier_is_lawful = record {
-  falsifies = λ p e h. absurd cc;
-  satisfies = λ p e h k A chunk over honest t. absurd (never_bare e A _ h t);
-}
-
--- a proof that is a column of another scope
-abbrev pub foreign_proof : Tree Place → Option (Tree Place)
-foreign_proof p = Some (column (record { index = 7; dtype = dtype.Bool NonNullable }))
-
-never_foreign : (e : Tree Place) (A : Assignment) (n : ℕ) → Some (column (record { index = 7; dtype = dtype.Bool NonNullable })) ≡ Some e → IsTrue (proves e A n) → ⊥
-never_foreign e A n h t =
-    let same : e ≡ column (record { index = 7; dtype = dtype.Bool NonNullable }) = cc in
-    let told : false ≡ true = subst (λ (x : Tree Place). IsTrue (proves x A n)) same t in
-    cc
-
-pub foreign_proof_is_lawful : IsLawful foreign_proof foreign_proof
-foreign_proof_is_lawful = record {
-  falsifies = λ p e h k A chunk over honest t. absurd (never_foreign e A _ h t);
-  satisfies = λ p e h k A chunk over honest t. absurd (never_foreign e A _ h t);
-}
 
 -- the answer, where the value is this truth
 abbrev pub at_truth : (of answer : Bool) → Option ScalarValue → Option (Tree Place)
