@@ -134,10 +134,10 @@ aggregate_stat aggregate.MinMax = None
 -- ---- laws of the table
 
 -- both are none, or both are one type, nullability aside
-abbrev pub AreAlike : Option DType → Option DType → Type 0
-AreAlike None None = ⊤
-AreAlike (Some s) (Some t) = as_nullable s ≡ as_nullable t
-AreAlike s t = ⊥
+abbrev pub AreOneType : Option DType → Option DType → Type 0
+AreOneType None None = ⊤
+AreOneType (Some s) (Some t) = as_nullable s ≡ as_nullable t
+AreOneType s t = ⊥
 
 -- a type of columns: any but that of a pair of a least and a greatest value
 abbrev pub IsColumnType : DType → Type 0
@@ -146,7 +146,7 @@ IsColumnType t = ⊤
 
 -- the statistic's type, and the type of its aggregate's state
 abbrev pub AgreesWithAggregate : Stat → DType → Type 0
-AgreesWithAggregate s t = MatchOption (stat_aggregate s) ⊤ (λ a. AreAlike (stat_dtype s t) (state_dtype a t))
+AgreesWithAggregate s t = MatchOption (stat_aggregate s) ⊤ (λ a. AreOneType (stat_dtype s t) (state_dtype a t))
 
 -- the statistic of its own number, and of its own aggregate, is the statistic
 pub record IsTold (s : Stat) : Type 0 where
@@ -164,7 +164,7 @@ stats_are_told NullCount = record { number = refl; aggregate = refl }
 stats_are_told UncompressedSizeInBytes = record { number = refl; aggregate = refl }
 stats_are_told NaNCount = record { number = refl; aggregate = refl }
 
-extreme_agrees : (t : DType) → IsColumnType t → AreAlike (extreme_dtype t) (state_dtype aggregate.Max t)
+extreme_agrees : (t : DType) → IsColumnType t → AreOneType (extreme_dtype t) (state_dtype aggregate.Max t)
 extreme_agrees dtype.Null c = tt
 extreme_agrees (dtype.Bool n) c = refl
 extreme_agrees (dtype.Primitive p n) c = refl
@@ -172,7 +172,7 @@ extreme_agrees (dtype.Utf8 n) c = refl
 extreme_agrees (dtype.Binary n) c = refl
 extreme_agrees (dtype.MinMaxState e n) c = absurd c
 
-sum_ptype_agrees : (p : PType) → AreAlike (sum_dtype (dtype.Primitive p Nullable)) (state_dtype aggregate.Sum (dtype.Primitive p Nullable))
+sum_ptype_agrees : (p : PType) → AreOneType (sum_dtype (dtype.Primitive p Nullable)) (state_dtype aggregate.Sum (dtype.Primitive p Nullable))
 sum_ptype_agrees ptype.U8 = refl
 sum_ptype_agrees ptype.U16 = refl
 sum_ptype_agrees ptype.U32 = refl
@@ -182,7 +182,7 @@ sum_ptype_agrees ptype.I16 = refl
 sum_ptype_agrees ptype.I32 = refl
 sum_ptype_agrees ptype.I64 = refl
 
-sum_agrees : (t : DType) → AreAlike (sum_dtype t) (state_dtype aggregate.Sum t)
+sum_agrees : (t : DType) → AreOneType (sum_dtype t) (state_dtype aggregate.Sum t)
 sum_agrees dtype.Null = tt
 sum_agrees (dtype.Bool n) = refl
 sum_agrees (dtype.Primitive p n) = sum_ptype_agrees p

@@ -8,7 +8,7 @@ ghost use Rattle.vortex_stats.specs.declared.precision.Precision.TheVariants as 
 ghost use Rattle.vortex_stats.specs.declared.stat.Stat.TheVariants as stats;
 ghost use Rattle.vortex_stats.specs.Precision.{precision_map, present_value};
 ghost use Rattle.vortex_stats.specs.Sets.Entries.{entry_value, entries_fit};
-ghost use Rattle.vortex_stats.specs.Merging.Merges.{truth, is_exactly, seam, at_seam, is_below, is_at_most, sum_added, count_added, count_merged, merged_value, unordered_value, revised, merged_ordered, merged_unordered};
+ghost use Rattle.vortex_stats.specs.Merging.Merges.{truth, is_exact_truth, seam, at_seam, is_below, is_at_most, sum_added, count_added, count_merged, merged_value, unordered_value, revised, merged_ordered, merged_unordered};
 ghost use Rattle.vortex_stats.specs.Copies.{is_bound_copied, merge_copies};
 ghost use Rattle.vortex_stats.specs.Sets.Changes.{made, changed, all_changed, MakesAll};
 
@@ -54,8 +54,8 @@ fn truth(holds: bool) -> Precision<ScalarValue>
     Precision::Exact(ScalarValue::Bool(holds))
 }
 
-fn is_exactly(holds: bool, value: Precision<&ScalarValue>) -> bool
-    ensures { result ≡ is_exactly holds (precision_map (λ v. v.now) value.entry) }
+fn is_exact_truth(holds: bool, value: Precision<&ScalarValue>) -> bool
+    ensures { result ≡ is_exact_truth holds (precision_map (λ v. v.now) value.entry) }
 {
     match value {
         Precision::Exact(ScalarValue::Bool(b)) => *b == holds,
@@ -70,10 +70,10 @@ fn is_constant_value(left: &StatsSet, other: &StatsSet) -> Option<Precision<Scal
 {
     let first = left.find(Stat::IsConstant);
     let second = other.find(Stat::IsConstant);
-    if is_exactly(false, first) || is_exactly(false, second) {
+    if is_exact_truth(false, first) || is_exact_truth(false, second) {
         return Some(truth(false));
     }
-    if !is_exactly(true, first) || !is_exactly(true, second) {
+    if !is_exact_truth(true, first) || !is_exact_truth(true, second) {
         return None;
     }
     match (left.find(Stat::Min), other.find(Stat::Min)) {
@@ -125,7 +125,9 @@ fn at_seam(
 fn is_sorted_value(left: &StatsSet, other: &StatsSet) -> Option<Precision<ScalarValue>>
     ensures { result ≡ merged_value stats.IsSorted left.now other.now }
 {
-    if is_exactly(true, left.find(Stat::IsSorted)) && is_exactly(true, other.find(Stat::IsSorted)) {
+    if is_exact_truth(true, left.find(Stat::IsSorted))
+        && is_exact_truth(true, other.find(Stat::IsSorted))
+    {
         at_seam(left.find(Stat::Max), other.find(Stat::Min), false)
     } else {
         None
@@ -136,8 +138,8 @@ fn is_sorted_value(left: &StatsSet, other: &StatsSet) -> Option<Precision<Scalar
 fn is_strict_sorted_value(left: &StatsSet, other: &StatsSet) -> Option<Precision<ScalarValue>>
     ensures { result ≡ merged_value stats.IsStrictSorted left.now other.now }
 {
-    if is_exactly(true, left.find(Stat::IsStrictSorted))
-        && is_exactly(true, other.find(Stat::IsStrictSorted))
+    if is_exact_truth(true, left.find(Stat::IsStrictSorted))
+        && is_exact_truth(true, other.find(Stat::IsStrictSorted))
     {
         at_seam(left.find(Stat::Max), other.find(Stat::Min), true)
     } else {

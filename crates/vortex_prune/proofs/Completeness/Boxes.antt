@@ -48,7 +48,7 @@ use Rattle.vortex_prune.specs.Rewriting.Proof.{Assignment, proves}
 use Rattle.vortex_prune.specs.Rewriting.Falsifiers.{closed, ends, falsifier, high_size, is_crossed, literal_ends, low_size, number_literal}
 use Rattle.vortex_prune.specs.Scanning.Selection.{is_proved}
 use Rattle.vortex_stats.proofs.Kit.{entry_value-fits}
-use Rattle.vortex_stats.specs.Sets.Claims.{AtMost}
+use Rattle.vortex_stats.specs.Bounds.Order.{AtMost}
 use Rattle.vortex_stats.specs.Sets.Entries.{entry_value, is_value_of, value_fits}
 use Rattle.vortex_stats.specs.Precision.{present_value}
 use Rattle.vortex_stats.specs.Stat.{extreme_dtype, stat_dtype}
@@ -305,7 +305,7 @@ module _ (part : PartData) (box : Box) (is_part : IsPart part) where
 
   -- the column's bounds are those of the box, whose values are of its type
   interval_at : (c : Place) (d : ColumnData) (es : Entries) → slice_get part.chunk.columns c.index ≡ Some d → d.dtype ≡ c.dtype → slice_get part.stats c.index ≡ Some es → IsKnownBy box c.index es
-      → AtMost (box.low c.index) (box.high c.index) → IsInterval box (part_values part) (length part.stats) rows c
+      → AtMost value_cmp (box.low c.index) (box.high c.index) → IsInterval box (part_values part) (length part.stats) rows c
   interval_at c d es there same set known order =
       let fits = part_set_fits part c.index d es is_part there set in
       let suits : eq_ignore_nullability d.dtype c.dtype ≡ true = (dtype_eq_is_exact (as_nullable d.dtype) (as_nullable c.dtype)).1 (ap as_nullable same) in
@@ -322,7 +322,7 @@ module _ (part : PartData) (box : Box) (is_part : IsPart part) where
 
   -- each column of a list
   intervals : (cs : List Place) → AllByRecursion (λ c. is_of_type c.dtype (slice_get part.chunk.scope c.index) ≡ true) cs → AllByRecursion (λ c. MatchOption (slice_get part.stats c.index) ⊥ (IsKnownBy box c.index)) cs
-      → AllByRecursion (λ c. AtMost (box.low c.index) (box.high c.index)) cs → AllByRecursion (IsInterval box (part_values part) (length part.stats) rows) cs
+      → AllByRecursion (λ c. AtMost value_cmp (box.low c.index) (box.high c.index)) cs → AllByRecursion (IsInterval box (part_values part) (length part.stats) rows) cs
   intervals [] fit known order = tt
   intervals (c ∷ cs) fit known order =
       let types = (both_true _ _ (both_true _ _ (both_true _ _ is_part.0).1).1).0 in

@@ -24,7 +24,7 @@ use Rattle.vortex_stats.specs.declared.stat.Stat.TheVariants.{Max, Min, Sum, Nul
 use Rattle.vortex_stats.specs.Sets.Claims.{count_value}
 use Rattle.vortex_stats.specs.Sets.Entries.{entry_value, entries_fit, is_value_of, value_fits}
 use Rattle.vortex_stats.specs.Precision.{present_value}
-use Rattle.vortex_stats.specs.Stat.{AreAlike, extreme_dtype, stat_dtype, stats_agree, sum_dtype}
+use Rattle.vortex_stats.specs.Stat.{AreOneType, extreme_dtype, stat_dtype, stats_agree, sum_dtype}
 use Rattle.vortex_stats.proofs.Kit.{entry_value-fits}
 use Rattle.vortex_prune.specs.Answers.{IfSupported, supported}
 use Rattle.vortex_prune.specs.Part.{Entries}
@@ -39,7 +39,7 @@ abbrev answer : Constant → Result Constant StatsError
 answer c = Ok c
 
 -- where the statistic's type and the aggregate's agree, a value of the one may stand under the other
-alike_fits : (o q : Option DType) (u : DType) (v : ScalarValue) → AreAlike o q → placeholder_type q ≡ Ok u → is_value_of o v ≡ true → is_value v u ≡ true
+alike_fits : (o q : Option DType) (u : DType) (v : ScalarValue) → AreOneType o q → placeholder_type q ≡ Ok u → is_value_of o v ≡ true → is_value v u ≡ true
 alike_fits None None u v a e h = cc
 alike_fits None (Some t) u v a e h = cc
 alike_fits (Some s) None u v a e h = cc

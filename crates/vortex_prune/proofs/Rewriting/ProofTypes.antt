@@ -96,7 +96,7 @@ predicates_connect o l r c h k = both_connect o (type_of l) (type_of r) c h k
 -- ---- operands of one type, nullability aside
 
 -- the two have types that may be compared
-pub record AreAlike (l r : Tree Place) : Type 0 where
+pub record AreComparable (l r : Tree Place) : Type 0 where
   pub left_type : DType
   pub right_type : DType
   pub left : type_of l ≡ Ok left_type
@@ -108,17 +108,17 @@ pub comparable_if : (b : Bool) (t : DType) → IsOk (type_if b t) → b ≡ true
 comparable_if true t h = refl
 comparable_if false t h = cc
 
-alike_from : (l r : Tree Place) (a b : Result DType BaseError) → type_of l ≡ a → type_of r ≡ b → IsOk (with_types comparison_type a b) → AreAlike l r
+alike_from : (l r : Tree Place) (a b : Result DType BaseError) → type_of l ≡ a → type_of r ≡ b → IsOk (with_types comparison_type a b) → AreComparable l r
 alike_from l r (Ok s) (Ok t) e f h =
     let both = both_true _ _ (comparable_if (are_comparable s t) _ h) in
     record { left_type = s; right_type = t; left = e; right = f; same = (dtype_eq_is_exact _ _).0 both.0; value = not-true _ both.1 }
 alike_from l r (Ok s) (Err f') e f h = absurd cc
 alike_from l r (Err e') b e f h = absurd cc
 
-pub are_alike : (l r : Tree Place) → IsOk (type_of (binary Eq l r)) → AreAlike l r
+pub are_alike : (l r : Tree Place) → IsOk (type_of (binary Eq l r)) → AreComparable l r
 are_alike l r h = alike_from l r (type_of l) (type_of r) refl refl h
 
-pub alike_turned : (l r : Tree Place) → AreAlike l r → AreAlike r l
+pub alike_turned : (l r : Tree Place) → AreComparable l r → AreComparable r l
 alike_turned l r a = record {
   left_type = a.right_type;
   right_type = a.left_type;
@@ -141,7 +141,7 @@ compared Lte s t c h = rw h refl
 compared And s t c h = cc
 compared Or s t c h = cc
 
-pub alike_compare : (o : Operator) (l r : Tree Place) → is_connective o ≡ false → AreAlike l r → IsOk (type_of (binary o l r))
+pub alike_compare : (o : Operator) (l r : Tree Place) → is_connective o ≡ false → AreComparable l r → IsOk (type_of (binary o l r))
 alike_compare o l r c a = rw (a.left, a.right) (compared o a.left_type a.right_type c (are_comparable_if _ _ a.same a.value))
 
 -- ---- the extremes of an operand have its type, nullability aside
@@ -196,7 +196,7 @@ extreme_similar f row_count a t ex e h = placeholder_similar f row_count a t ex 
 ok_same : (a : Result DType BaseError) (s t : DType) → a ≡ Ok s → a ≡ Ok t → s ≡ t
 ok_same a s t e f = cc
 
-similar_alike : (a b l r : Tree Place) → AreAlike l r → IsSimilar a l → IsSimilar b r → AreAlike a b
+similar_alike : (a b l r : Tree Place) → AreComparable l r → IsSimilar a l → IsSimilar b r → AreComparable a b
 similar_alike a b l r k p q =
     let left : as_nullable p.dtype_of_e ≡ as_nullable k.left_type = p.same ∙ ap as_nullable (ok_same _ _ _ p.typed_x k.left) in
     let right : as_nullable q.dtype_of_e ≡ as_nullable k.right_type = q.same ∙ ap as_nullable (ok_same _ _ _ q.typed_x k.right) in
@@ -240,7 +240,7 @@ compare_turned l r h = alike_compare Eq r l refl (alike_turned l r (are_alike l 
 
 -- ---- the comparisons that a BETWEEN stands for
 
-ends_alike : (x l u : Tree Place) (a b c : Result DType BaseError) → type_of x ≡ a → type_of l ≡ b → type_of u ≡ c → IsOk (with_type (λ t. with_types (between_type t) b c) a) → AreAlike l x × AreAlike x u
+ends_alike : (x l u : Tree Place) (a b c : Result DType BaseError) → type_of x ≡ a → type_of l ≡ b → type_of u ≡ c → IsOk (with_type (λ t. with_types (between_type t) b c) a) → AreComparable l x × AreComparable x u
 ends_alike x l u (Ok r) (Ok s) (Ok t) e f g h =
     let both = both_true _ _ (comparable_if (are_comparable r s && are_comparable r t) _ h) in
     let low = both_true _ _ both.0 in
@@ -329,7 +329,7 @@ no_state (dtype.Utf8 n) h = refl
 no_state (dtype.Binary n) h = refl
 no_state (dtype.MinMaxState e n) h = cc
 
-texts_alike : (x y : Tree Place) (a b : Result DType BaseError) → type_of x ≡ a → type_of y ≡ b → has_type is_utf8 a ≡ true → has_type is_utf8 b ≡ true → AreAlike x y
+texts_alike : (x y : Tree Place) (a b : Result DType BaseError) → type_of x ≡ a → type_of y ≡ b → has_type is_utf8 a ≡ true → has_type is_utf8 b ≡ true → AreComparable x y
 texts_alike x y (Ok s) (Ok t) e f h k = record { left_type = s; right_type = t; left = e; right = f; same = utf8_of s h ∙ sym (utf8_of t k); value = no_state s h }
 texts_alike x y (Ok s) (Err t) e f h k = absurd cc
 texts_alike x y (Err s) b e f h k = absurd cc

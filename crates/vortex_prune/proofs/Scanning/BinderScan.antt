@@ -19,10 +19,16 @@ use Rattle.vortex_prune.specs.declared.scan.verdict.Verdict.{Verdict}
 use Rattle.vortex_prune.specs.declared.scan.verdict.Verdict.TheVariants.{Skipped, Whole, Tested}
 use Rattle.vortex_stats.specs.declared.error.StatsError.{StatsError}
 
-element_there : {X : Type 0} (xs : List X) (k : ℕ) → k < length xs → (x : X) × (slice_get xs k ≡ Some x)
+pub element_there : {X : Type 0} (xs : List X) (k : ℕ) → k < length xs → (x : X) × (slice_get xs k ≡ Some x)
 element_there [] k h = absurd (omega arith)
 element_there (x ∷ xs) zero h = (x, refl)
 element_there (x ∷ xs) (suc k) h = element_there xs k (omega arith)
+
+-- a part is among those skipped, or what holds of one that isn't holds of it
+pub skipped_or : (v : Verdict) (skipped : List ℕ) (i : ℕ) (P : Type 0) → IsListed v skipped i → UnlessSkipped v P → Contains skipped i ⊎ P
+skipped_or Skipped skipped i P h p = inl h
+skipped_or Whole skipped i P h p = inr p
+skipped_or Tested skipped i P h p = inr p
 
 -- ---- parts with the answers of their binders
 
@@ -63,18 +69,13 @@ module _ {S : Type 0} (answer : S → BinderAnswer) (IsMissing : S → DType →
         let t = (told k p.0 p.1).1 in
         subst (λ (s : S). IsClosed (answer s) (IsMissing s) falsifier) (same_Some t.0 (get_or binders k d) (sym t.1 ∙ slice_get-get_or binders k d less)) t.3
 
-    listed_or_closed : (v : Verdict) (skipped : List ℕ) (i : ℕ) (P : Type 0) → IsListed v skipped i → UnlessSkipped v P → Contains skipped i ⊎ P
-    listed_or_closed Skipped skipped i P h p = inl h
-    listed_or_closed Whole skipped i P h p = inr p
-    listed_or_closed Tested skipped i P h p = inr p
-
     -- and those of parts that aren't skipped the satisfier
     pub binders_kept_closed : (parts : List PartData) (skipped : List ℕ) → length binders ≡ length parts → AreTold (binder_tells answer IsMissing over falsifier satisfier binders value) parts skipped → KeptAreClosed answer IsMissing skipped satisfier binders
     binders_kept_closed parts skipped long told i b there =
         let less = slice_get_within binders i b there in
         let p = element_there parts i (omega (arith, long, less)) in
         let t = told i p.0 p.1 in
-        listed_or_closed t.0 skipped i (IsClosed (answer b) (IsMissing b) satisfier) t.2
+        skipped_or t.0 skipped i (IsClosed (answer b) (IsMissing b) satisfier) t.2
         (subst (λ (s : S). UnlessSkipped t.0 (IsClosed (answer s) (IsMissing s) satisfier)) (same_Some t.1.0 b (sym t.1.1 ∙ there)) t.1.4)
 
     -- what the test of one part says, by its binder

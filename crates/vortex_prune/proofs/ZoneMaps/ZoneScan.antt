@@ -1,6 +1,6 @@
 -- A scan by a table of zones finds what one by each part's own statistics does.
 use Rattle.std.proofs.Common.{◌≡◌, All, ℕ, zero, suc, Bool, true, false, not, List, [], ◌∷◌, Option, Some, None, arith, inl, inr, length, map, refl, subst, sym, ap, ◌∙◌}
-use Rattle.std.specs.Prelude.{◌<◌, ◌⊎◌, Contains, Err, IfOk, Ok, Result, if◌then◌else◌, slice_get, IsTrue}
+use Rattle.std.specs.Prelude.{◌<◌, Err, IfOk, Ok, Result, if◌then◌else◌, slice_get, IsTrue}
 use Rattle.std.proofs.lemmas.List.{length-map}
 use Rattle.std.proofs.lemmas.Option.{same_Some, slice_get_within}
 use Rattle.vortex_base.specs.Meanings.Fitting.{fits_row, fits_scope}
@@ -10,7 +10,7 @@ use Rattle.vortex_base.specs.Data.Exact.{both_true}
 use Rattle.vortex_base.specs.Meanings.Meaning.{is_true, meaning}
 use Rattle.vortex_base.specs.Data.Scopes.{Named, is_empty}
 use Rattle.vortex_base.specs.Trees.Tree.{Place, Tree, has_bare_column, has_placeholder}
-use Rattle.vortex_prune.proofs.Scanning.BinderScan.{answered_there}
+use Rattle.vortex_prune.proofs.Scanning.BinderScan.{answered_there, element_there, skipped_or}
 use Rattle.vortex_prune.proofs.Scanning.ScanLemmas.{answered_long}
 use Rattle.vortex_prune.proofs.Scanning.WholeScan.{all_at}
 use Rattle.std.proofs.lemmas.List.Elements.{recursion_from_All}
@@ -19,7 +19,7 @@ use Rattle.vortex_prune.specs.declared.scan.outcome.Scan.{Scan}
 use Rattle.vortex_stats.specs.declared.error.StatsError.{StatsError}
 use Rattle.vortex_prune.specs.Binding.BoundTo.{HasNoColumnOn, WhereFaithful}
 use Rattle.vortex_prune.specs.Part.{IsPart, PartData}
-use Rattle.vortex_prune.specs.Scanning.PartScans.{AreTold, IsListed, IsRefusedAt, TellsOf, UnlessSkipped}
+use Rattle.vortex_prune.specs.Scanning.PartScans.{AreTold, IsRefusedAt, TellsOf}
 use Rattle.vortex_prune.specs.Binding.PartAnswers.{part_values}
 use Rattle.vortex_prune.specs.Rewriting.Proof.{Assignment, value_under}
 use Rattle.vortex_prune.specs.Scanning.Selection.{Answered, is_proved, verdict}
@@ -77,22 +77,12 @@ pub is_once : (bound satisfier : Option (Tree Place)) (z : ZonesData) → CanTel
 is_once None satisfier z can tells shut = tt
 is_once (Some b) satisfier z can tells shut = (can, tells, shut)
 
-listed_or_shut : (v : Verdict) (skipped : List ℕ) (i : ℕ) (P : Type 0) → IsListed v skipped i → UnlessSkipped v P → Contains skipped i ⊎ P
-listed_or_shut Skipped skipped i P h p = inl h
-listed_or_shut Whole skipped i P h p = inr p
-listed_or_shut Tested skipped i P h p = inr p
-
-part_there : (parts : List PartData) (i : ℕ) → i < length parts → (part : PartData) × (slice_get parts i ≡ Some part)
-part_there [] i h = absurd (omega arith)
-part_there (p ∷ parts) zero h = (p, refl)
-part_there (p ∷ parts) (suc i) h = part_there parts i (omega arith)
-
 -- where a part isn't skipped the satisfier has no column outside its placeholders
 pub shut_if_kept : (bound s : Option (Tree Place)) (z : ZonesData) (parts : List PartData) (skipped : List ℕ) → parts ≡ z.parts → AreTold (table_tells bound s z) parts skipped → IsShutIfKept skipped s z.parts
 shut_if_kept bound s z parts skipped same told i less =
-    let p = part_there parts i (subst (λ l. i < length l) (sym same) less) in
+    let p = element_there parts i (subst (λ l. i < length l) (sym same) less) in
     let t = told i p.0 p.1 in
-    listed_or_shut t.0 skipped i (is_open s ≡ false) t.2 t.1.1
+    skipped_or t.0 skipped i (is_open s ≡ false) t.2 t.1.1
 
 -- the verdict on a part of the table
 module _ (falsifier satisfier : Option (Tree Place)) (z : ZonesData) (i : ℕ) (part : PartData) where
@@ -177,8 +167,3 @@ found_by P bound told f other a b z (Err fault) is same also tells h = tt
 
 pub fits_each : (p : Tree Place) (scope : List Named) (parts : List PartData) → HaveScope scope parts → IsTrue (fits_scope p scope) → All (λ part. IsTrue (fits_scope p part.chunk.scope)) parts
 fits_each p scope parts have fits k d less = ap (fits_scope p) (have k d less) ∙ fits
-
--- what follows from two things that are so of an answer is so of it
-pub of_two : {X E : Type 0} (r : Result X E) (P Q T : X → Type 0) → ((x : X) → P x → Q x → T x) → IfOk r P → IfOk r Q → IfOk r T
-of_two (Ok x) P Q T f p q = f x p q
-of_two (Err e) P Q T f p q = tt

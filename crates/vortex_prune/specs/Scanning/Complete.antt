@@ -15,8 +15,8 @@ use Rattle.vortex_base.specs.Meanings.Meaning.{satisfies}
 use Rattle.vortex_base.specs.Data.Scalars.{Constant}
 use Rattle.vortex_base.specs.Trees.Tree.{Tree, Place, column, literal, binary, between, is_null, is_not_null, not, like, stat, row_count}
 use Rattle.vortex_base.specs.Meanings.Typing.{is_bool, type_of}
-use Rattle.vortex_base.specs.Data.Values.{is_value}
-use Rattle.vortex_stats.specs.Sets.Claims.{AtMost}
+use Rattle.vortex_base.specs.Data.Values.{is_value, value_cmp}
+use Rattle.vortex_stats.specs.Bounds.Order.{AtMost}
 use Rattle.vortex_stats.specs.Sets.Entries.{entry_value}
 use Rattle.vortex_stats.specs.Precision.{present_value}
 use Rattle.vortex_stats.specs.declared.stat.Stat.TheVariants.{Max, Min}
@@ -114,15 +114,15 @@ IsBoxOf part p box = AllByRecursion (λ c. MatchOption (slice_get part.stats c.i
 
 -- low is at most high for each column of the predicate
 abbrev pub IsInOrder : Tree Place → Box → Type 0
-IsInOrder p box = AllByRecursion (λ c. AtMost (box.low c.index) (box.high c.index)) (columns_of p)
+IsInOrder p box = AllByRecursion (λ c. AtMost value_cmp (box.low c.index) (box.high c.index)) (columns_of p)
 
 -- the row has a value of the column's type, from its low to its high
 pub record IsWithin (box : Box) (row : List Constant) (c : Place) : Type 0 where
   pub chosen : ScalarValue
   pub cell : cell_value (slice_get row c.index) ≡ Some chosen
   pub of_type : is_value chosen c.dtype ≡ true
-  pub above_low : AtMost (box.low c.index) chosen
-  pub below_high : AtMost chosen (box.high c.index)
+  pub above_low : AtMost value_cmp (box.low c.index) chosen
+  pub below_high : AtMost value_cmp chosen (box.high c.index)
 
 -- some choice of one value within the box for each column of the predicate makes it true
 abbrev pub IsSatisfiable : Tree Place → Box → (n : ℕ) → Type 0

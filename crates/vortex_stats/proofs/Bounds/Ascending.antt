@@ -13,7 +13,7 @@ use Rattle.vortex_base.specs.Data.Values.{value_cmp}
 use Rattle.vortex_stats.specs.declared.precision.Precision.{Precision}
 use Rattle.vortex_stats.specs.declared.precision.Precision.TheVariants.{Exact, Inexact, Absent}
 use Rattle.vortex_stats.specs.Sets.Claims.{present, is_sorted, is_strict_sorted, NoneAbove, NoneBelow, ClaimsTruth, ClaimsMax, ClaimsMin}
-use Rattle.vortex_stats.specs.Merging.Merges.{is_exactly, seam, at_seam, order_merged, is_at_most, is_below}
+use Rattle.vortex_stats.specs.Merging.Merges.{is_exact_truth, seam, at_seam, order_merged, is_at_most, is_below}
 use Rattle.vortex_stats.specs.Bounds.Order.{AtMost, AtMost-trans, AtMost-of_greater, AtMost-of_equal, greater_not}
 use Rattle.vortex_stats.specs.Precision.{present_value}
 use Rattle.vortex_stats.proofs.Merging.Constants.{when_true, inner}
@@ -129,15 +129,15 @@ module _ (test : ScalarValue → ScalarValue → Bool) (carries : Carries test) 
   at_values m n h k p q None min d e = tt
 
   at_truths : (c d m n : Precision ScalarValue) → ClaimsTruth c (ascends test (present xs)) → ClaimsTruth d (ascends test (present ys)) → ClaimsMax m xs → ClaimsMin n ys
-      → (b : Bool) → (is_exactly true c && is_exactly true d) ≡ b → TellsOrder (cond b (at_seam test (present_value m) (present_value n)) None)
+      → (b : Bool) → (is_exact_truth true c && is_exact_truth true d) ≡ b → TellsOrder (cond b (at_seam test (present_value m) (present_value n)) None)
   at_truths c d m n u v p q true e =
-      let k = and_parts (is_exactly true c) (is_exactly true d) e in
+      let k = and_parts (is_exact_truth true c) (is_exact_truth true d) e in
       at_values m n (when_true c (ascends test (present xs)) k.0 u) (when_true d (ascends test (present ys)) k.1 v) p q (present_value m) (present_value n) refl refl
   at_truths c d m n u v p q false e = tt
 
   order_of_merged : (c d m n : Precision ScalarValue) → ClaimsTruth c (ascends test (present xs)) → ClaimsTruth d (ascends test (present ys)) → ClaimsMax m xs → ClaimsMin n ys
       → TellsOrder (order_merged test c d m n)
-  order_of_merged c d m n u v p q = at_truths c d m n u v p q (is_exactly true c && is_exactly true d) refl
+  order_of_merged c d m n u v p q = at_truths c d m n u v p q (is_exact_truth true c && is_exact_truth true d) refl
 
 module _ (c d m n : Precision ScalarValue) (xs ys : List (Option ScalarValue)) where
   -- the merged truth is true of both columns together

@@ -23,13 +23,13 @@ both_equal Equal p h = (refl, h)
 both_equal Greater p h = absurd (cc)
 
 -- what is compared of two values is the same
-record AreAlike (v w : ScalarValue) : Type 0 where
+record AreComparedAlike (v w : ScalarValue) : Type 0 where
   kind : kind_index v ≡ kind_index w
   ptype : ptype_place v ≡ ptype_place w
   size : whole v ≡ whole w
   bytes : bytes_of v ≡ bytes_of w
 
-alike_from_equal : (v w : ScalarValue) → value_cmp v w ≡ Equal → AreAlike v w
+alike_from_equal : (v w : ScalarValue) → value_cmp v w ≡ Equal → AreComparedAlike v w
 alike_from_equal v w h =
     let first = both_equal (nat_cmp (kind_index v) (kind_index w)) _ h in
     let second = both_equal (nat_cmp (ptype_place v) (ptype_place w)) _ first.1 in

@@ -17,7 +17,7 @@ use Rattle.vortex_base.specs.Data.Values.{value_cmp}
 use Rattle.vortex_stats.specs.declared.precision.Precision.{Precision}
 use Rattle.vortex_stats.specs.declared.precision.Precision.TheVariants.{Exact, Inexact, Absent}
 use Rattle.vortex_stats.specs.Sets.Claims.{is_constant, ClaimsTruth, ClaimsMin}
-use Rattle.vortex_stats.specs.Merging.Merges.{is_exactly, same_minima, constant_merged, truth}
+use Rattle.vortex_stats.specs.Merging.Merges.{is_exact_truth, same_minima, constant_merged, truth}
 use Rattle.vortex_stats.specs.Precision.{inexact_of}
 use Rattle.vortex_stats.proofs.Bounds.ValueOrder.{value_total, same_from_equal}
 
@@ -50,11 +50,11 @@ constant_right xs ys h = (constant_means ys).1 (λ x y i j. (constant_means (xs 
 truth_is : (b c : Bool) → value.Bool b ≡ value.Bool c → c ≡ b
 truth_is b c e = cc
 
-when_false : (p : Precision ScalarValue) (b : Bool) → is_exactly false p ≡ true → ClaimsTruth p b → b ≡ false
+when_false : (p : Precision ScalarValue) (b : Bool) → is_exact_truth false p ≡ true → ClaimsTruth p b → b ≡ false
 when_false (Exact (value.Bool false)) b h k = truth_is false b k
 when_false p b h k = absurd (true≢false (sym h))
 
-pub when_true : (p : Precision ScalarValue) (b : Bool) → is_exactly true p ≡ true → ClaimsTruth p b → b ≡ true
+pub when_true : (p : Precision ScalarValue) (b : Bool) → is_exact_truth true p ≡ true → ClaimsTruth p b → b ≡ true
 when_true (Exact (value.Bool true)) b h k = truth_is true b k
 when_true p b h k = absurd (true≢false (sym h))
 
@@ -95,23 +95,23 @@ module _ (xs ys : List (Option ScalarValue)) where
   of_minima Absent n h k p q = tt
 
   second_step : (c d m n : Precision ScalarValue) → ClaimsTruth c (is_constant xs) → ClaimsTruth d (is_constant ys) → ClaimsMin m xs → ClaimsMin n ys
-      → (b : Bool) → (is_exactly true c && is_exactly true d) ≡ b → TellsConstant (cond b (same_minima m n) None)
+      → (b : Bool) → (is_exact_truth true c && is_exact_truth true d) ≡ b → TellsConstant (cond b (same_minima m n) None)
   second_step c d m n p q u v true e =
-      let k = and_parts (is_exactly true c) (is_exactly true d) e in
+      let k = and_parts (is_exact_truth true c) (is_exact_truth true d) e in
       of_minima m n (when_true c (is_constant xs) k.0 p) (when_true d (is_constant ys) k.1 q) u v
   second_step c d m n p q u v false e = tt
 
   first_step : (c d m n : Precision ScalarValue) → ClaimsTruth c (is_constant xs) → ClaimsTruth d (is_constant ys) → ClaimsMin m xs → ClaimsMin n ys
-      → (b : Bool) → (is_exactly false c || is_exactly false d) ≡ b
-      → TellsConstant (cond b (Some (truth false)) (cond (is_exactly true c && is_exactly true d) (same_minima m n) None))
+      → (b : Bool) → (is_exact_truth false c || is_exact_truth false d) ≡ b
+      → TellsConstant (cond b (Some (truth false)) (cond (is_exact_truth true c && is_exact_truth true d) (same_minima m n) None))
   first_step c d m n p q u v true e =
-      ap value.Bool (sym (one_false (is_exactly false c) (is_exactly false d) e (λ k. when_false c (is_constant xs) k p) (λ k. when_false d (is_constant ys) k q)))
-  first_step c d m n p q u v false e = second_step c d m n p q u v (is_exactly true c && is_exactly true d) refl
+      ap value.Bool (sym (one_false (is_exact_truth false c) (is_exact_truth false d) e (λ k. when_false c (is_constant xs) k p) (λ k. when_false d (is_constant ys) k q)))
+  first_step c d m n p q u v false e = second_step c d m n p q u v (is_exact_truth true c && is_exact_truth true d) refl
 
   -- the merged truth is true of both columns together
   pub constant_of_merged : (c d m n : Precision ScalarValue) → ClaimsTruth c (is_constant xs) → ClaimsTruth d (is_constant ys) → ClaimsMin m xs → ClaimsMin n ys
       → MatchOption (constant_merged c d m n) ⊤ (λ r. ClaimsTruth r (is_constant (xs ++ ys)))
-  constant_of_merged c d m n p q u v = first_step c d m n p q u v (is_exactly false c || is_exactly false d) refl
+  constant_of_merged c d m n p q u v = first_step c d m n p q u v (is_exact_truth false c || is_exact_truth false d) refl
 
 pub constant_of_reordered : (xs ys : List (Option ScalarValue)) → IsPermutation xs ys → is_constant ys ≡ is_constant xs
 constant_of_reordered xs ys m =

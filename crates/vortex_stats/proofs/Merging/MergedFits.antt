@@ -23,7 +23,7 @@ use Rattle.vortex_stats.specs.Precision.{present_value}
 use Rattle.vortex_stats.specs.Sets.Entries.{entry_value, is_value_of, value_fits, entries_fit}
 use Rattle.vortex_stats.specs.Bounds.LowerBound.{lower_union}
 use Rattle.vortex_stats.specs.Bounds.UpperBound.{upper_union}
-use Rattle.vortex_stats.specs.Merging.Merges.{truth, is_exactly, same_minima, constant_merged, at_seam, order_merged, is_at_most, is_below, sum_added, sum_merged, count_added, count_merged, merged_value, unordered_value, revised, all_revised, merged_ordered, merged_unordered}
+use Rattle.vortex_stats.specs.Merging.Merges.{truth, is_exact_truth, same_minima, constant_merged, at_seam, order_merged, is_at_most, is_below, sum_added, sum_merged, count_added, count_merged, merged_value, unordered_value, revised, all_revised, merged_ordered, merged_unordered}
 use Rattle.vortex_stats.proofs.Sets.Fitting.{entry_value-fits, entries_fit_with_entry, entries_fit_filter}
 use Rattle.vortex_stats.proofs.Logic.{and_both, and_first, either}
 
@@ -55,8 +55,8 @@ module _ (P : Precision ScalarValue → Type 0) where
 
     constant_merged-truth : (c d m n : Precision ScalarValue) → IfNew (constant_merged c d m n)
     constant_merged-truth c d m n =
-        either IfNew (is_exactly false c || is_exactly false d) (Some (truth false)) (cond (is_exactly true c && is_exactly true d) (same_minima m n) None) (exact false)
-        (either IfNew (is_exactly true c && is_exactly true d) (same_minima m n) None (same_minima-truth m n) tt)
+        either IfNew (is_exact_truth false c || is_exact_truth false d) (Some (truth false)) (cond (is_exact_truth true c && is_exact_truth true d) (same_minima m n) None) (exact false)
+        (either IfNew (is_exact_truth true c && is_exact_truth true d) (same_minima m n) None (same_minima-truth m n) tt)
 
     at_seam-truth : (test : ScalarValue → ScalarValue → Bool) (v w : Option ScalarValue) → IfNew (at_seam test v w)
     at_seam-truth test (Some v) (Some w) = either P (test v w) (truth true) (Inexact (value.Bool false)) (exact true) unknown
@@ -65,7 +65,7 @@ module _ (P : Precision ScalarValue → Type 0) where
 
     order_merged-truth : (test : ScalarValue → ScalarValue → Bool) (c d max min : Precision ScalarValue) → IfNew (order_merged test c d max min)
     order_merged-truth test c d max min =
-        either IfNew (is_exactly true c && is_exactly true d) (at_seam test (present_value max) (present_value min)) None (at_seam-truth test (present_value max) (present_value min)) tt
+        either IfNew (is_exact_truth true c && is_exact_truth true d) (at_seam test (present_value max) (present_value min)) None (at_seam-truth test (present_value max) (present_value min)) tt
 
   -- a sum under a test of it
   tested : (b : Bool) (p : Precision ScalarValue) → (b ≡ true → P p) → IfNew (cond b (Some p) None)

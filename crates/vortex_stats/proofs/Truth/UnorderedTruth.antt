@@ -21,7 +21,7 @@ use Rattle.vortex_stats.specs.declared.precision.Precision.{Precision}
 use Rattle.vortex_stats.specs.declared.precision.Precision.TheVariants.{Exact, Inexact, Absent}
 use Rattle.vortex_stats.specs.Sets.Claims.{Claims, ClaimsTruth, ClaimsCount, ClaimsSum, IsTrueOf, IsReordered, appended, null_count}
 use Rattle.vortex_stats.specs.Sets.Entries.{has_entry, entry_value, entries_fit}
-use Rattle.vortex_stats.specs.Merging.Merges.{is_exactly, truth, same_minima, constant_merged, sum_added, sum_merged, count_added, count_merged, merged_value, unordered_value, merged_unordered}
+use Rattle.vortex_stats.specs.Merging.Merges.{is_exact_truth, truth, same_minima, constant_merged, sum_added, sum_merged, count_added, count_merged, merged_value, unordered_value, merged_unordered}
 use Rattle.vortex_stats.specs.Bounds.Order.{greater, reversed_total}
 use Rattle.vortex_stats.specs.Bounds.UpperBound.{upper_union}
 use Rattle.vortex_stats.proofs.Merging.Constants.{constant_of_reordered}
@@ -112,9 +112,9 @@ minima_back Absent Absent = refl
 
 constant_back : (c d m n : Precision ScalarValue) → constant_merged c d m n ≡ constant_merged d c n m
 constant_back c d m n =
-    ap (λ b. cond b (Some (truth false)) (cond (is_exactly true c && is_exactly true d) (same_minima m n) None)) (or_back (is_exactly false c) (is_exactly false d))
-    ∙ ap (λ b. cond (is_exactly false d || is_exactly false c) (Some (truth false)) (cond b (same_minima m n) None)) (and_back (is_exactly true c) (is_exactly true d))
-    ∙ ap (λ o. cond (is_exactly false d || is_exactly false c) (Some (truth false)) (cond (is_exactly true d && is_exactly true c) o None)) (minima_back m n)
+    ap (λ b. cond b (Some (truth false)) (cond (is_exact_truth true c && is_exact_truth true d) (same_minima m n) None)) (or_back (is_exact_truth false c) (is_exact_truth false d))
+    ∙ ap (λ b. cond (is_exact_truth false d || is_exact_truth false c) (Some (truth false)) (cond b (same_minima m n) None)) (and_back (is_exact_truth true c) (is_exact_truth true d))
+    ∙ ap (λ o. cond (is_exact_truth false d || is_exact_truth false c) (Some (truth false)) (cond (is_exact_truth true d && is_exact_truth true c) o None)) (minima_back m n)
 
 module _ {R : ScalarValue → ScalarValue → Ordering} (o : IsTotalOrder R) (same : (v w : ScalarValue) → R v w ≡ Equal → v ≡ w) where
   greater_back_by : (v w : ScalarValue) (c : Ordering) → R v w ≡ c → cond (is_lt c) w v ≡ cond (is_lt (R w v)) v w

@@ -20,11 +20,11 @@ use Rattle.vortex_stats.specs.Bounds.UpperBound.{upper_union}
 abbrev pub truth : Bool → Precision ScalarValue
 truth b = Exact (value.Bool b)
 
-abbrev pub is_exactly : Bool → Precision ScalarValue → Bool
-is_exactly true (Exact (value.Bool b)) = b
-is_exactly false (Exact (value.Bool true)) = false
-is_exactly false (Exact (value.Bool false)) = true
-is_exactly b p = false
+abbrev pub is_exact_truth : Bool → Precision ScalarValue → Bool
+is_exact_truth true (Exact (value.Bool b)) = b
+is_exact_truth false (Exact (value.Bool true)) = false
+is_exact_truth false (Exact (value.Bool false)) = true
+is_exact_truth b p = false
 
 -- whether two exact minima are equal; of any others nothing is known
 abbrev pub same_minima : Precision ScalarValue → Precision ScalarValue → Option (Precision ScalarValue)
@@ -34,8 +34,8 @@ same_minima p q = None
 -- IsConstant: false if either side is exactly false; of two that are exactly true whether their minima are equal
 abbrev pub constant_merged : (left other : Precision ScalarValue) → (left_min other_min : Precision ScalarValue) → Option (Precision ScalarValue)
 constant_merged c d m n =
-    if is_exactly false c || is_exactly false d then Some (truth false)
-    else (if is_exactly true c && is_exactly true d then same_minima m n else None)
+    if is_exact_truth false c || is_exact_truth false d then Some (truth false)
+    else (if is_exact_truth true c && is_exact_truth true d then same_minima m n else None)
 
 -- true where the test holds, and else unknown, which is written as inexactly false
 abbrev pub seam : Bool → Precision ScalarValue
@@ -49,7 +49,7 @@ at_seam test p q = None
 -- IsSorted and IsStrictSorted: of two that are exactly true whether the first side's maximum may stand before the other's minimum
 abbrev pub order_merged : (ScalarValue → ScalarValue → Bool) → (left other : Precision ScalarValue) → (left_max other_min : Precision ScalarValue) → Option (Precision ScalarValue)
 order_merged test c d max min =
-    if is_exactly true c && is_exactly true d then at_seam test (present_value max) (present_value min) else None
+    if is_exact_truth true c && is_exact_truth true d then at_seam test (present_value max) (present_value min) else None
 
 abbrev pub is_at_most : ScalarValue → ScalarValue → Bool
 is_at_most v w = not (is_gt (value_cmp v w))

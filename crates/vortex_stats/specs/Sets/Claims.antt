@@ -1,5 +1,5 @@
 -- What a statistic claims of a column, and when a set is true of it.
-use Rattle.std.specs.Prelude.{◌≡◌, ◌≤◌, ℕ, ◌+◌, ℤ, pos, ◌+ℤ◌, Bool, true, false, not, ◌&&◌, List, [], ◌∷◌, Option, Some, IsTrue, Contains, IsPermutation, count_by, is_none, ⊤}
+use Rattle.std.specs.Prelude.{◌≡◌, ◌≤◌, ℕ, ◌+◌, ℤ, pos, ◌+ℤ◌, Bool, true, not, ◌&&◌, List, [], ◌∷◌, Option, Some, IsTrue, Contains, IsPermutation, count_by, is_none, ⊤}
 use Rattle.std.specs.List.{filter_map, list_all}
 use Rattle.std.specs.Ordering.{is_lt, is_gt}
 use Rattle.vortex_base.specs.declared.pvalue.PValue.TheVariants as number
@@ -13,21 +13,18 @@ use Rattle.vortex_stats.specs.declared.stat.Stat.{Stat}
 use Rattle.vortex_stats.specs.declared.stat.Stat.TheVariants.{IsConstant, IsSorted, IsStrictSorted, Max, Min, Sum, NullCount, UncompressedSizeInBytes, NaNCount}
 use Rattle.vortex_stats.specs.declared.precision.Precision.{Precision}
 use Rattle.vortex_stats.specs.declared.precision.Precision.TheVariants.{Exact, Inexact, Absent}
+use Rattle.vortex_stats.specs.Bounds.Order.{AtMost}
 use Rattle.vortex_stats.specs.Sets.Entries.{entry_value, entries_fit}
 
 -- ---- a column's list of optional values, None being null
 
--- one value is at most another
-abbrev pub AtMost : ScalarValue → ScalarValue → Type 0
-AtMost v w = is_gt (value_cmp v w) ≡ false
-
 -- no value is greater than v
 abbrev pub NoneAbove : ScalarValue → List (Option ScalarValue) → Type 0
-NoneAbove v xs = (w : ScalarValue) → Contains xs (Some w) → AtMost w v
+NoneAbove v xs = (w : ScalarValue) → Contains xs (Some w) → AtMost value_cmp w v
 
 -- no value is less than v
 abbrev pub NoneBelow : ScalarValue → List (Option ScalarValue) → Type 0
-NoneBelow v xs = (w : ScalarValue) → Contains xs (Some w) → AtMost v w
+NoneBelow v xs = (w : ScalarValue) → Contains xs (Some w) → AtMost value_cmp v w
 
 -- the values in order, nulls left out
 abbrev pub present : List (Option ScalarValue) → List ScalarValue

@@ -1,8 +1,8 @@
 use Rattle.std.proofs.Common.{ap, map, refl, ◌∙◌}
 use Rattle.vortex_prune.proofs.Honesty.StatisticsBinders.{statistics_honest, by_statistics}
-use Rattle.vortex_prune.proofs.Scanning.WholeScan.{kept_is_full, parts_by_recursion, skips_exactly}
+use Rattle.vortex_prune.proofs.Scanning.WholeScan.{kept_is_full, of_two, parts_by_recursion, skips_exactly}
 use Rattle.vortex_prune.proofs.ZoneMaps.ZoneRefusals.{zones_refused_for_memory}
-use Rattle.vortex_prune.proofs.ZoneMaps.ZoneScan.{fits_each, of_two}
+use Rattle.vortex_prune.proofs.ZoneMaps.ZoneScan.{fits_each}
 use Rattle.vortex_prune.specs.Rewriting.Own.{own_rule, own_rules}
 use Rattle.vortex_prune.specs.Part.{PartData}
 use Rattle.vortex_prune.specs.Binding.PartAnswers.{part_values}
