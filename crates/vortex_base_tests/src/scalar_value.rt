@@ -65,7 +65,7 @@ fn stand_in_one_order(rt: HostRuntime) -> Result<(), Fail> {
 
 // Whether copies of the value are equal to it.
 fn is_copied(value: &ScalarValue) -> Result<bool, BaseError> {
-    let is_same = value.try_clone()? == *value;
+    let is_same = value.try_clone()? == *value && value.lend().to_value()? == *value;
     Ok(is_same && laws::clone_of_value(value)?.cmp(value) == Ordering::Equal)
 }
 
@@ -73,6 +73,7 @@ fn is_copied(value: &ScalarValue) -> Result<bool, BaseError> {
 fn clones_are_equal(rt: HostRuntime) -> Result<(), Fail> {
     assert!(rt; is_copied(&text_value(rt.alloc(), "é")?)?);
     assert!(rt; is_copied(&bytes_value(rt.alloc(), &[1, 2])?)?);
+    assert!(rt; is_copied(&ScalarValue::from(5i32))? && is_copied(&ScalarValue::from(true))?);
     Ok(())
 }
 

@@ -27,6 +27,18 @@ fn list_distinct_names(rt: HostRuntime) -> Result<(), Fail> {
     Ok(())
 }
 
+#[test]
+fn share_their_names_with_their_clones(rt: HostRuntime) -> Result<(), Fail> {
+    let alloc = rt.alloc();
+    let same = two(alloc)?;
+    assert!(rt; same.try_clone()? == same);
+    let shared = two(alloc)?.try_shared(alloc)?;
+    assert!(rt; shared == same && shared.try_clone()? == same);
+    let again = shared.try_shared(alloc)?;
+    assert!(rt; again == same && again.find("é") == Some(1));
+    Ok(())
+}
+
 fn fault(made: Result<Scope, BaseError>) -> Option<BaseError> {
     made.err()
 }
