@@ -72,6 +72,3 @@ pub fn run<R: Read, W: Write>(alloc: Global, reader: &mut R, writer: &mut W) -> 
         1
     }
 }
-
-#[cfg(test)]
-mod tests;

@@ -1,9 +1,21 @@
 //! The program's answers to whole inputs, over readers and writers that are slow or fail.
-use super::*;
+use std::alloc::Global;
 use std::io;
-use std::io::ErrorKind;
+use std::io::{ErrorKind, Read, Write};
 use std::process::Abort;
 use std::test::Fail;
+use vortex_text::program::run;
+
+mod bad_lines;
+mod deep;
+mod joined_parts;
+mod nulls;
+mod ranges;
+mod skipping;
+mod text_lines;
+mod typed_values;
+mod whole;
+mod worked;
 
 const FIRST_RUN: &str =
     "column a i64?\npart\nstat a min exact 1\nstat a max exact 10\nrow 1\nrow 5\nrow 10\n\
@@ -263,14 +275,3 @@ fn a_failing_writer(rt: HostRuntime) -> Result<(), Fail> {
     expect_cut(&rt, rt.alloc(), 1, b"s".as_slice())?;
     expect_cut(&rt, rt.alloc(), 7, b"skipped".as_slice())
 }
-
-mod bad_lines;
-mod deep;
-mod joined_parts;
-mod nulls;
-mod ranges;
-mod skipping;
-mod text_lines;
-mod typed_values;
-mod whole;
-mod worked;
