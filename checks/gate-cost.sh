@@ -1,40 +1,96 @@
 #!/usr/bin/env bash
-# Prints what the gate costs: the processor minutes of each crate's proof, tests and must-fail edits, from nothing.
-# The gate proves a library alone, once more with its tests if it has any, and once more at its first edit; so does this.
-# It works in a clone of the last commit and takes as long as the gate does with one crate after another. What stands
-# below a crate is made first, and counted there alone.
-# usage: checks/gate-cost.sh [CRATE ..]
+# Runs the gate in a clone of the last commit, and prints what it cost: processor minutes of each crate's proof, tests and must-fail edits.
+# It looks at the processes of the gate once a second, so of a process that ends less than a second is lost. It takes
+# as long as the gate, and fails if the gate fails.
+# usage: checks/gate-cost.sh [LOG]    LOG keeps what the gate prints
 set -u
-top="$(cd "$(dirname "$0")/.." && pwd)"
-room="$(mktemp -d)"
-trap 'rm -rf "$room"' EXIT
-git clone -q "$top" "$room/repository" && cd "$room/repository" || exit 1
-TIMEFORMAT='%U %S'
+LOG="$(realpath -m "${1:-/dev/null}")"
+cd "$(dirname "$0")/.." || exit 1
+exec python3 - "$LOG" <<'PY'
+import collections
+import os
+import re
+import subprocess
+import sys
+import tempfile
+import time
 
-# The processor minutes of a command that has to succeed.
-minutes() {
-    local spent
-    spent="$( { time "$@" > "$room/log" 2>&1 || echo "failed: $*" >> "$room/failed"; } 2>&1 )"
-    awk '{ printf "%.1f", ($1 + $2) / 60 }' <<< "$spent"
-}
+TOP = os.getcwd()
+TICKS = os.sysconf("SC_CLK_TCK")
 
-within() { ( cd "crates/$1" && shift && "$@" ); }
 
-crates="${*:-$(sed -n 's/^\([a-z0-9_]*\):.*/\1/p' crates.txt)}"
-echo "| crate | proof | tests | edits | minutes |"
-echo "|---|---|---|---|---|"
-for crate in $crates; do
-    within "$crate" rt check --only= --jobs 2 > /dev/null 2>&1
-    kind=check
-    [ -f "crates/$crate/src/lib.rt" ] && kind=lib
-    proof="$(minutes within "$crate" rt "$kind" --jobs 1)"
-    rm -rf "crates/$crate/out/incremental"
-    tests=0.0
-    grep -rqF '#[test]' "crates/$crate/src" && tests="$(minutes within "$crate" rt check --test --jobs 1)"
-    count="$(find "crates/$crate/must-fail" -name '*.edit' 2> /dev/null | wc -l)"
-    edits=0.0
-    [ "$count" -eq 0 ] || edits="$(minutes rt must-fail "$crate")"
-    sum="$(awk "BEGIN { printf \"%.1f\", $proof + $tests + $edits }")"
-    echo "| \`$crate\` | $proof | $tests | $edits ($count) | $sum |"
-done
-[ ! -e "$room/failed" ] || { cat "$room/failed" >&2; exit 1; }
+def process(pid):
+    """A process: its parent, its own time with that of its ended children in seconds, its command, its folder and when it began."""
+    try:
+        with open(f"/proc/{pid}/stat") as stat, open(f"/proc/{pid}/cmdline") as cmdline:
+            fields = stat.read().rpartition(") ")[2].split()
+            command = cmdline.read().replace("\0", " ")
+        return int(fields[1]), sum(map(int, fields[11:15])) / TICKS, command, os.readlink(f"/proc/{pid}/cwd"), fields[19]
+    except OSError:
+        return None
+
+
+def below(gate):
+    """The children of the gate: what each cost so far with all below it, its command, its folder and when it began."""
+    seen = {int(pid): process(pid) for pid in os.listdir("/proc") if pid.isdigit()}
+    seen = {pid: found for pid, found in seen.items() if found}
+    children = collections.defaultdict(list)
+    for pid, found in seen.items():
+        children[found[0]].append(pid)
+    spent = lambda pid: seen[pid][1] + sum(spent(child) for child in children[pid])
+    return {pid: (spent(pid), *seen[pid][2:]) for pid in children[gate]}
+
+
+def kind(command, folder, clone):
+    """The crate that a command is for, and which of the three kinds of work it is."""
+    crate = re.search(r"--crate-name (\S+)", command)
+    if not crate:
+        return "other", 0
+    if not folder.startswith(clone):
+        return crate.group(1), 2
+    return crate.group(1), 1 if " --test" in command else 0
+
+
+def watch(gate, clone):
+    """The seconds of each crate and kind of work, until the gate ends."""
+    latest = {}
+    while gate.poll() is None:
+        for pid, (seconds, command, folder, start) in below(gate.pid).items():
+            if "rattle" in command:
+                latest[pid, start, kind(command, folder, clone)] = seconds
+        time.sleep(1)
+    cost = collections.defaultdict(lambda: [0.0, 0.0, 0.0])
+    for (_, _, (crate, which)), seconds in latest.items():
+        cost[crate][which] += seconds
+    return cost
+
+
+def row(name, kinds):
+    cells = [f"{seconds / 60:.1f}" for seconds in (*kinds, sum(kinds))]
+    return f"| {name} | " + " | ".join(cells) + " |"
+
+
+def main():
+    with tempfile.TemporaryDirectory() as room:
+        clone = os.path.join(room, "repository")
+        subprocess.run(["git", "clone", "-q", TOP, clone], check=True)
+        with open(os.path.join(room, "log"), "w+") as log:
+            began = time.time()
+            gate = subprocess.Popen(["rt", "ci"], cwd=clone, stdout=log, stderr=subprocess.STDOUT)
+            cost = watch(gate, clone)
+            minutes = (time.time() - began) / 60
+            log.seek(0)
+            told = log.read().rstrip()
+    with open(sys.argv[1], "w") as kept:
+        kept.write(told + "\n")
+    print("| crate | proof | tests | edits | minutes |\n|---|---|---|---|---|")
+    for crate in sorted(cost):
+        print(row(f"`{crate}`", cost[crate]))
+    print(row("all", [sum(kinds[i] for kinds in cost.values()) for i in range(3)]))
+    last = told.rpartition("\n")[2]
+    print(f"{last}; {minutes:.0f} minutes on {os.cpu_count()} cores")
+    sys.exit(gate.returncode)
+
+
+main()
+PY
