@@ -6,7 +6,7 @@ use Rattle.std.proofs.lemmas.List.{append-nil, append_assoc, length-append, leng
 use Rattle.std.proofs.lemmas.Option.{slice_get_past}
 use Rattle.vortex_base.specs.Data.Columns.{sizes_fit}
 use Rattle.vortex_prune.specs.Part.{PartData, joined}
-use Rattle.vortex_text.proofs.PartFits.{one_of, unsized_fit}
+use Rattle.vortex_text.proofs.Fitting.PartFits.{one_of, unsized_fit}
 use Rattle.vortex_text.specs.Fitting.{AreNeighbours, IsPartOf}
 use Rattle.vortex_text.specs.Lines.{has_part}
 use Rattle.vortex_text.specs.Rows.{joined_at}

@@ -1,4 +1,4 @@
-use Rattle.vortex_text.proofs.NamedFits.{named_fits}
+use Rattle.vortex_text.proofs.Fitting.NamedFits.{named_fits}
 use Rattle.vortex_text.proofs.NamedLines.{bad_named, named_bad, named_query, query_named}
 use Rattle.vortex_text.proofs.naming.what_texts_name.Goals as goal
 

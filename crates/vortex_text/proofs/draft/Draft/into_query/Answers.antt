@@ -3,8 +3,8 @@ use Rattle.std.specs.declared.alloc.Global.{Global}
 use Rattle.vortex_base.specs.Data.Scopes.{IsScope, Named, named_columns}
 use Rattle.vortex_base.specs.declared.dtype.DType.{DType}
 use Rattle.vortex_prune.specs.Part.{PartData}
-use Rattle.vortex_text.proofs.LineFits.{ended_fit}
-use Rattle.vortex_text.proofs.NamedFits.{ended_query}
+use Rattle.vortex_text.proofs.Fitting.LineFits.{ended_fit}
+use Rattle.vortex_text.proofs.Fitting.NamedFits.{ended_query}
 use Rattle.vortex_text.specs.Drafts.{reading_of}
 use Rattle.vortex_text.specs.Fitting.{IsQueryOver}
 use Rattle.vortex_text.proofs.draft.Draft.into_query.Goals as goal

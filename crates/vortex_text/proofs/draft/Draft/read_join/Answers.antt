@@ -1,4 +1,4 @@
-use Rattle.vortex_text.proofs.LineFits.{ended_fit}
+use Rattle.vortex_text.proofs.Fitting.LineFits.{ended_fit}
 use Rattle.vortex_text.specs.Drafts.{reading_of}
 use Rattle.vortex_text.proofs.draft.Draft.read_join.Goals as goal
 

@@ -19,10 +19,10 @@ use Rattle.vortex_stats.specs.declared.precision.Precision.{Precision}
 use Rattle.vortex_stats.specs.declared.precision.Precision.TheVariants.{Exact, Inexact}
 use Rattle.vortex_stats.specs.declared.stat.Stat.{Stat}
 use Rattle.vortex_text.proofs.DraftLemmas.{has_last}
-use Rattle.vortex_text.proofs.ExpressionFits.{expression_fits, found_place, one_made, step_of}
-use Rattle.vortex_text.proofs.PartFits.{empty_is_part, joined_at_are_parts, row_is_part, shape_of, statistic_is_part, type_at}
-use Rattle.vortex_text.proofs.ScopeFits.{distinct_more, storable_more, type_storable}
-use Rattle.vortex_text.proofs.ValueFits.{chosen, value_of_fits}
+use Rattle.vortex_text.proofs.Fitting.ExpressionFits.{expression_fits, found_place, one_made, step_of}
+use Rattle.vortex_text.proofs.Fitting.PartFits.{empty_is_part, joined_at_are_parts, row_is_part, shape_of, statistic_is_part, type_at}
+use Rattle.vortex_text.proofs.Fitting.ScopeFits.{distinct_more, storable_more, type_storable}
+use Rattle.vortex_text.proofs.Fitting.ValueFits.{chosen, value_of_fits}
 use Rattle.vortex_text.specs.Expressions.{expression_of}
 use Rattle.vortex_text.specs.Fails.{Changes}
 use Rattle.vortex_text.specs.Fitting.{FitsTogether, IsPartOf, IsPredicateOver}

@@ -4,9 +4,9 @@ use Rattle.std.proofs.lemmas.List.Elements.{All-nil}
 use Rattle.std.specs.Str.Lines.{lines}
 use Rattle.vortex_base.specs.Trees.Tree.{Tree, Place}
 use Rattle.vortex_prune.specs.Part.{PartData}
-use Rattle.vortex_text.proofs.LineFits.{line_fits, parts_fit}
+use Rattle.vortex_text.proofs.Fitting.LineFits.{line_fits, parts_fit}
 use Rattle.vortex_text.proofs.NamedLines.{query_named}
-use Rattle.vortex_text.proofs.PartFits.{scope_made}
+use Rattle.vortex_text.proofs.Fitting.PartFits.{scope_made}
 use Rattle.vortex_text.specs.Fitting.{FitsTogether, IsPartOf, IsPredicateOver, IsQuery, IsQueryOver}
 use Rattle.vortex_text.specs.Lines.{Reading, nothing_read, parts_of}
 use Rattle.vortex_text.specs.Naming.{NamesQuery, Reads, named}
