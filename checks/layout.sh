@@ -13,6 +13,7 @@ sources = sorted(f for f in tracked if f.startswith("crates/") and f.endswith(("
 is_listed = lambda f: not re.search(r"/(Lib|Answers|Invariants|Proof)\.antt$", f)
 read = lambda f: open(f, encoding="utf-8").read()
 faults = []
+traits = {"Read", "Write"} | {name for f in sources for name in re.findall(r"^pub trait (\w+)", read(f), re.M)}
 
 
 def first_line(f):
@@ -23,7 +24,7 @@ def first_line(f):
 def heading(f):
     """The first line of a script or a document that says what it is for."""
     for line in read(f).split("\n")[:3]:
-        found = re.match(r"# (\S.*)", line)
+        found = re.match(r'(?:# |""")(\S.*)', line)
         if found and not line.startswith("#!"):
             return found.group(1)
     return None
@@ -59,13 +60,25 @@ for f in sources:
         faults.append(f"{f}: over 800 lines")
     if f.endswith("/Lib.antt"):
         continue
-    whole = re.sub(r"^\s*(?:pub )?(?:ghost )?use [^\n]*(?:\n[^\n;}]*)*?[;}]?$" if f.endswith(".rt") else r"^use .*$", "", text, flags=re.M)
+    # Modules below may take what this one imports, by `super::*`; a trait may be there for its methods.
+    below = "".join(read(it) for it in sources if it.startswith(f[:-3] + "/")) if f.endswith(".rt") else ""
     for found, names in imports(text):
-        rest = text[: found.start()] + text[found.end() :]
+        rest = text[: found.start()] + text[found.end() :] + below
         number = text[: found.start()].count("\n") + 1
         for name in names:
-            if name not in ("*", "self", "") and re.match(r"[\w◌]", name) and f.endswith(".antt") and not is_used(name, rest):
+            if name not in ("*", "self", "") and re.match(r"[\w◌]", name) and name not in traits and not is_used(name, rest):
                 faults.append(f"{f}:{number}: nothing uses {name}")
+
+
+for number, row in enumerate(read("docs/DEFINITIONS.md").split("\n"), 1):
+    cells = [it.strip() for it in row.split("|")[1:-1]]
+    if not cells or not cells[0].startswith("`"):
+        continue
+    path = cells[-1].strip("`")
+    text = read(path) if path in sources else ""
+    for name in re.findall(r"`([^`]+)`", cells[0]):
+        if len(cells) != 3 or not is_used(name, text):
+            faults.append(f"docs/DEFINITIONS.md:{number}: {name} is not in a file that the row names")
 
 
 def table(rows):

@@ -2,7 +2,6 @@
 //!
 //! Each answers `TypeFault`, or `Unsupported` for a placeholder, exactly where the typing table has
 //! no type for the node, and drops what it was given where it refuses.
-ghost use Rattle.std.specs.Prelude.{◌≡◌};
 ghost use Rattle.vortex_base.specs.Trees.Tree as tree;
 ghost use Rattle.vortex_base.specs.Patterns.Like.{plain};
 ghost use Rattle.vortex_base.specs.Answer.{Builds, Makes};

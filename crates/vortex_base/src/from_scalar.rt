@@ -1,5 +1,5 @@
 //! Rust's own values, read out of scalars.
-ghost use Rattle.std.specs.Prelude.{◌≡◌, IfOk, IsErr, true, false, pos, string_bytes, ⊤, FitsSigned};
+ghost use Rattle.std.specs.Prelude.{◌≡◌, true, false, pos, string_bytes, ⊤, FitsSigned};
 ghost use Rattle.std.specs.Int.{w8, w16, w32, w64, FitsUnsigned};
 ghost use Rattle.vortex_base.specs.Data.Values.{number_of};
 ghost use Rattle.vortex_base.specs.Reading.{IsReading, IsBoolAnd, IsNumberAnd, IsTextAnd, AreBytesAnd};

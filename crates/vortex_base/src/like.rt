@@ -5,7 +5,7 @@
 //! as the pattern has characters times the text's.
 ghost use Rattle.std.specs.Prelude.{◌≡◌, ◌<◌, ◌≤◌, ◌∷◌, [], List, length, MatchOption, IfSome};
 ghost use Rattle.std.specs.Str.{chars};
-ghost use Rattle.vortex_base.specs.Patterns.Like.{items, like, some_end, like_text};
+ghost use Rattle.vortex_base.specs.Patterns.Like.{items, like, some_end};
 ghost use Rattle.vortex_base.specs.declared.like.Item.{Item};
 ghost use Rattle.vortex_base.specs.declared.like.Item.TheVariants.{Char};
 ghost use Rattle.vortex_base.specs.Patterns.LikeSearch.{characters, reached, stop};

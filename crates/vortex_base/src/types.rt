@@ -1,5 +1,5 @@
 //! The small types: nullability, number types, operators, functions, and the kinds of a node.
-ghost use Rattle.std.specs.Prelude.{◌≡◌, codes};
+ghost use Rattle.std.specs.Prelude.{◌≡◌};
 
 use crate::aggregate::AggregateFnRef;
 use crate::like::LikeOptions;

@@ -60,15 +60,27 @@ fn is_true(value: Option<ValueRef<'_>>) -> bool {
 }
 
 #[test]
-fn lend_columns(rt: HostRuntime) -> Result<(), Fail> {
+fn lend_their_scope(rt: HostRuntime) -> Result<(), Fail> {
     let (chunk, scope) = (two_rows(rt.alloc())?, scope(rt.alloc())?);
     assert!(rt; *chunk.scope() == scope);
     assert!(rt; chunk.scope().len() == 2);
+    Ok(())
+}
+
+fn is_of_numbers(column: &Column) -> bool {
+    column.dtype() == NUMBER && column.size() == 16
+}
+
+fn is_number_and_null(column: &Column) -> bool {
+    column.len() == 2 && is_number(column.get(0)) && column.get(1).is_none()
+}
+
+#[test]
+fn lend_columns(rt: HostRuntime) -> Result<(), Fail> {
+    let chunk = two_rows(rt.alloc())?;
     let column = chunk.column(0);
-    assert!(rt; column.dtype() == NUMBER);
-    assert!(rt; column.size() == 16);
-    assert!(rt; column.len() == 2);
-    assert!(rt; is_number(column.get(0)) && column.get(1).is_none());
+    assert!(rt; is_of_numbers(column));
+    assert!(rt; is_number_and_null(column));
     Ok(())
 }
 

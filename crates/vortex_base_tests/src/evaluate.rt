@@ -4,8 +4,8 @@ use std::alloc::Global;
 use std::process::Abort;
 use std::test::Fail;
 use vortex_base::{
-    AggregateFnRef, BaseError, BetweenOptions, BoundExpression, Chunk, LikeOptions, Row,
-    ScalarValue, StrictComparison,
+    AggregateFnRef, BaseError, BetweenOptions, Chunk, LikeOptions, Row, ScalarValue,
+    StrictComparison,
 };
 
 const OPEN_ABOVE: BetweenOptions = BetweenOptions {

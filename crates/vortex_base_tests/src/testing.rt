@@ -97,9 +97,7 @@ pub fn expect_same(rt: &impl Abort, found: Built, expected: Built) -> Result<(),
 /// Expressions over names.
 pub mod named {
     use std::alloc::Global;
-    use vortex_base::{
-        AggregateFnRef, BaseError, BetweenOptions, Expression, LikeOptions, Operator, Scalar,
-    };
+    use vortex_base::{AggregateFnRef, BaseError, BetweenOptions, Expression, LikeOptions, Scalar};
 
     pub type Built = Result<Expression, BaseError>;
 

@@ -1,10 +1,5 @@
 pub mod Binding
-pub mod Completeness
 pub mod Honesty
-pub mod Logic
-pub mod NullErasure
-pub mod Rewriting
 pub mod Scanning
-pub mod Soundness
 pub mod WorkedRows
 pub mod ZoneMaps

@@ -1,5 +1,6 @@
 -- On what a scan finds.
 pub mod BinderScan
+pub mod Boxes
 pub mod JoinLemmas
 pub mod Lossless
 pub mod PartScanLemmas

@@ -1,11 +1,8 @@
 -- Binders, and what they answer to placeholders.
 pub mod Binders
 pub mod BoundTo
-pub mod Facts
-pub mod HookFaults
 pub mod PartAnswers
 pub mod PartBinder
 pub mod PartFaithful
 pub mod StatValues
-pub mod StateTypes
 pub mod ZoneFaithful

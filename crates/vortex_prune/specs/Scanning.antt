@@ -1,5 +1,4 @@
 -- What a scan selects, skips and refuses.
-pub mod Causes
 pub mod Complete
 pub mod PartScans
 pub mod ScanRefusals

@@ -17,7 +17,7 @@ use Rattle.vortex_base.specs.Data.Types.{dtype_eq, eq_ignore_nullability}
 use Rattle.vortex_base.specs.Meanings.Typing.{stat_type}
 use Rattle.vortex_prune.specs.Binding.Binders.{BinderAnswer}
 use Rattle.vortex_prune.specs.Part.{AreParts, Entries, PartData}
-use Rattle.vortex_prune.specs.Rewriting.Proof.{Assignment}
+use Rattle.vortex_rewrite.specs.Rewriting.Proof.{Assignment}
 use Rattle.vortex_prune.specs.Binding.StatValues.{stat_value}
 
 -- parts of one scope

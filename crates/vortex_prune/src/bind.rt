@@ -6,8 +6,8 @@ ghost use Rattle.vortex_base.specs.Trees.Tree.{stat, has_bare_column, has_placeh
 ghost use Rattle.vortex_base.specs.Meanings.Typing.{type_of};
 ghost use Rattle.vortex_prune.specs.Binding.BoundTo as spec;
 ghost use Rattle.vortex_prune.specs.Binding.BoundTo.{IsBinding, IsReplacement, Replaces, HasNoColumnOn, WhereFaithful, binding_causes, hook_causes};
-ghost use Rattle.vortex_prune.specs.Scanning.Causes.{IsRefusal};
-ghost use Rattle.vortex_prune.specs.Rewriting.Proof.{value_under};
+ghost use Rattle.vortex_rewrite.specs.Causes.{IsRefusal};
+ghost use Rattle.vortex_rewrite.specs.Rewriting.Proof.{value_under};
 ghost use Rattle.vortex_stats.specs.declared.error.StatsError.TheVariants as fault;
 ghost use Rattle.vortex_stats.specs.declared.error.BinderFault.TheVariants as binder_fault;
 
@@ -16,14 +16,14 @@ pub mod stats_binder;
 pub mod zone_binder;
 
 use crate::bind::stat_binder::StatBinder;
-use crate::built::built;
-use crate::hook_fault::HookFault;
 use std::alloc::Global;
 use vortex_base::aggregate::AggregateFnRef;
 use vortex_base::bound;
 use vortex_base::bound_expression::BoundExpression;
 use vortex_base::bound_expression::parts::Parts;
 use vortex_base::dtype::DType;
+use vortex_rewrite::built::built;
+use vortex_rewrite::hook_fault::HookFault;
 use vortex_stats::error::{BinderFault, StatsError};
 
 // What a binder answered, with its fault as binding tells it.

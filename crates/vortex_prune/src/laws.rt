@@ -1,10 +1,8 @@
 //! Laws of pruning, in the words of its definitions. The functions carry them by their contracts.
 ghost use Rattle.std.specs.Prelude.{◌≡◌, ℕ, List, false};
 ghost use Rattle.std.specs.List.{AllByRecursion};
-ghost use Rattle.vortex_prune.specs.Rewriting.BuiltInRules.{ProofsAreInOrder, RulesAreOfFunctions};
 ghost use Rattle.vortex_prune.specs.Scanning.Complete.{FalsifiersAreComplete};
 ghost use Rattle.vortex_prune.specs.Laws.{StatisticsAreHonest};
-ghost use Rattle.vortex_prune.specs.Laws.{FalsifiersAreSound, SatisfiersAreSound};
 ghost use Rattle.vortex_prune.specs.Part.{AreParts, IsTruePart, PartData};
 ghost use Rattle.vortex_prune.specs.Scanning.Selection.{AreByStatistics, AreFaithful, AreHonest, any_binder};
 
@@ -15,25 +13,6 @@ use crate::bind::stats_binder::StatsBinder;
 /// true of them.
 pub fn statistics_are_honest()
     ensures { StatisticsAreHonest }
-{}
-
-/// Where a falsifier is true under facts, no row satisfies the predicate, whichever lawful rules
-/// took part in it.
-pub fn falsifiers_are_sound()
-    ensures { FalsifiersAreSound }
-{}
-
-/// Where a satisfier is true under facts, every row satisfies the predicate, whichever lawful rules
-/// took part in it.
-pub fn satisfiers_are_sound()
-    ensures { SatisfiersAreSound }
-{}
-
-/// At each node of a function the proofs of the built-in rules stand in the order of `BuiltinRule`,
-/// before those of the user's rules; and none of them proves anything of another function's node.
-pub fn built_in_rules_are_in_order()
-    ensures order { ProofsAreInOrder }
-    ensures functions { RulesAreOfFunctions }
 {}
 
 /// Over columns whose least and greatest values are known and in order, the falsifier of a

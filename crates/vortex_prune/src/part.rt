@@ -95,6 +95,16 @@ impl Part {
         let sets = self.stats.as_slice();
         &sets[i]
     }
+
+    /// The rows, and the statistics of the columns in order. They make a part again.
+    pub fn into_inner(self) -> (Chunk, Vec<StatsSet>)
+        ensures chunk { result.0 ≡ self.chunk }
+        ensures stats { result.1.items ≡ self.stats }
+        ensures is_part { IsPart self }
+    {
+        let Part { chunk, stats } = self;
+        (chunk, stats)
+    }
 }
 
 /// Two parts that were not joined, handed back beside the cause.

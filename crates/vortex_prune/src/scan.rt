@@ -7,16 +7,17 @@ ghost use Rattle.vortex_prune.specs.Part.{AreParts};
 ghost use Rattle.vortex_prune.specs.Scanning.Selection.{AreByStatistics, AreFaithful, AreHonest};
 ghost use Rattle.vortex_prune.specs.Scanning.Selection.{answered, any_binder, full, selected_rows};
 ghost use Rattle.vortex_prune.specs.Scanning.Selection.{skipped_parts, tested_rows, whole_parts};
-ghost use Rattle.vortex_prune.specs.Scanning.Causes.{Causes, IsRefusal, either_causes};
+ghost use Rattle.vortex_rewrite.specs.Causes.{Causes, IsRefusal, either_causes};
 ghost use Rattle.vortex_prune.specs.Scanning.ScanRefusals.{AreClosed, KeptAreClosed, binder_causes};
 ghost use Rattle.vortex_prune.specs.Scanning.ScanRefusals.{faithful_causes, if_faithful, scan_causes};
-ghost use Rattle.vortex_prune.specs.Scanning.Complete.{SkipsExactly, is_read_once};
-ghost use Rattle.vortex_prune.specs.Rewriting.Own.{own_rules};
-ghost use Rattle.vortex_prune.specs.Rewriting.Predicates.{is_predicate};
-ghost use Rattle.vortex_prune.specs.Rewriting.Falsifiers.{falsifier as falsifier_of};
-ghost use Rattle.vortex_prune.specs.Rewriting.Falsifiers.{satisfier as satisfier_of};
+ghost use Rattle.vortex_rewrite.specs.Rewriting.ReadOnce.{is_read_once};
+ghost use Rattle.vortex_prune.specs.Scanning.Complete.{SkipsExactly};
+ghost use Rattle.vortex_rewrite.specs.Rewriting.Own.{own_rules};
+ghost use Rattle.vortex_rewrite.specs.Rewriting.Predicates.{is_predicate};
+ghost use Rattle.vortex_rewrite.specs.Rewriting.Falsifiers.{falsifier as falsifier_of};
+ghost use Rattle.vortex_rewrite.specs.Rewriting.Falsifiers.{satisfier as satisfier_of};
 ghost use Rattle.vortex_stats.specs.declared.error.StatsError.TheVariants.{NotPredicate};
-ghost use Rattle.vortex_prune.specs.Answers.{IsMemory};
+ghost use Rattle.vortex_rewrite.specs.Answers.{IsMemory};
 
 pub mod outcome;
 mod part_scan;
@@ -27,15 +28,15 @@ pub mod zones;
 
 use crate::bind::stat_binder::StatBinder;
 use crate::part::Part;
-use crate::rewrite::rule::StatsRewriteRule;
-use crate::rewrite::rules::Rules;
-use crate::rewrite::{falsify, satisfy};
 use crate::scan::outcome::Scan;
 use crate::scan::part_scan::{PartTest, scan_parts};
 use crate::scan::skip::verdict;
 use crate::scan::verdict::Verdict;
 use std::alloc::Global;
 use vortex_base::bound_expression::BoundExpression;
+use vortex_rewrite::rewrite::rule::StatsRewriteRule;
+use vortex_rewrite::rewrite::rules::Rules;
+use vortex_rewrite::rewrite::{falsify, satisfy};
 use vortex_stats::error::StatsError;
 
 // What becomes of a part by two proofs, as the part's binder binds them.

@@ -3,7 +3,7 @@ ghost use Rattle.std.specs.Prelude.{◌≡◌, codes, false, IsTrue};
 ghost use Rattle.vortex_base.specs.Meanings.Typing.{stat_type};
 ghost use Rattle.vortex_stats.specs.Sets.Entries.{entries_fit};
 ghost use Rattle.vortex_prune.specs.Binding.StatValues as values;
-ghost use Rattle.vortex_prune.specs.Answers.{IfSupported, Makes, supported};
+ghost use Rattle.vortex_rewrite.specs.Answers.{IfSupported, Makes, supported};
 
 use std::hash::Hash;
 use std::marker::Model;

@@ -1,77 +1,22 @@
--- The proofs of two rules of the tests that may be true, and that these are lawful.
+-- The proofs of a rule of the tests that rests on the type that a column is declared of, and that it is lawful.
 use Rattle.std.specs.Prelude.{◌≡◌, ℕ, zero, suc, Bool, true, false, List, [], ◌∷◌, Option, Some, None, is_none, if◌then◌else◌, slice_get, refl}
 use Rattle.std.proofs.Common.{ap, sym, ◌∙◌}
 use Rattle.vortex_base.proofs.Data.RowLemmas.{row_of-IsRow}
 use Rattle.vortex_base.specs.declared.dtype.DType.{DType}
 use Rattle.vortex_base.specs.declared.scalar_value.ScalarValue.{ScalarValue}
-use Rattle.vortex_base.specs.declared.scalar_value.ScalarValue.TheVariants as value
 use Rattle.vortex_base.specs.Data.Columns.{ColumnData, cell_value, has_types, is_row, row_of, value_at}
 use Rattle.vortex_base.specs.Data.Exact.{both_true}
 use Rattle.vortex_base.specs.Meanings.Fitting.{is_of_type}
-use Rattle.vortex_base.specs.Meanings.Meaning.{is_true, opposite, truth, truth_value}
 use Rattle.vortex_base.specs.Data.Scalars.{is_optional_value}
 use Rattle.vortex_base.specs.Data.Scopes.{Named}
-use Rattle.vortex_base.specs.Trees.Tree.{Tree, Place, column, is_null, literal, not}
+use Rattle.vortex_base.specs.Trees.Tree.{Tree, Place, column, is_null}
 use Rattle.vortex_base.specs.Data.Types.{dtype_eq_is_exact, is_nullable}
-use Rattle.vortex_prune.specs.Rewriting.Lawful.{IsLawful, IsSoundFalsifier, IsSoundSatisfier}
-use Rattle.vortex_prune.specs.Rewriting.Falsifiers.{bool_literal}
+use Rattle.vortex_rewrite.specs.Rewriting.Lawful.{IsLawful, IsSoundFalsifier}
+use Rattle.vortex_rewrite.specs.Rewriting.Falsifiers.{bool_literal}
 
 -- no proof
 abbrev pub no_proof : Tree Place → Option (Tree Place)
 no_proof p = None
-
--- the answer, where the value is this truth
-abbrev pub at_truth : (of answer : Bool) → Option ScalarValue → Option (Tree Place)
-at_truth true answer (Some (value.Bool true)) = Some (bool_literal answer)
-at_truth true answer v = None
-at_truth false answer (Some (value.Bool false)) = Some (bool_literal answer)
-at_truth false answer v = None
-
-abbrev pub at_literal : (of answer : Bool) → Tree Place → Option (Tree Place)
-at_literal of answer (literal c) = at_truth of answer c.value
-at_literal of answer e = None
-
--- the answer, at NOT of a literal that is this truth
-abbrev pub at_opposite : (of answer : Bool) → Tree Place → Option (Tree Place)
-at_opposite of answer (not x) = at_literal of answer x
-at_opposite of answer e = None
-
-of_true : (answer : Bool) (v : Option ScalarValue) (e : Tree Place) → at_truth true answer v ≡ Some e → is_true (truth_value (opposite (truth v))) ≡ false
-of_true answer (Some (value.Bool true)) e h = refl
-of_true answer (Some (value.Bool false)) e h = cc
-of_true answer (Some (value.Primitive p)) e h = cc
-of_true answer (Some (value.Utf8 bs)) e h = cc
-of_true answer (Some (value.Binary bs)) e h = cc
-of_true answer None e h = cc
-
-of_false : (answer : Bool) (v : Option ScalarValue) (e : Tree Place) → at_truth false answer v ≡ Some e → is_true (truth_value (opposite (truth v))) ≡ true
-of_false answer (Some (value.Bool true)) e h = cc
-of_false answer (Some (value.Bool false)) e h = refl
-of_false answer (Some (value.Primitive p)) e h = cc
-of_false answer (Some (value.Utf8 bs)) e h = cc
-of_false answer (Some (value.Binary bs)) e h = cc
-of_false answer None e h = cc
-
-inner_falsifies : (answer : Bool) (x e : Tree Place) → at_literal true answer x ≡ Some e → IsSoundFalsifier (not x) e
-inner_falsifies answer (literal c) e h k A chunk over honest t i within = of_true answer c.value e h
-inner_falsifies answer x e h k A chunk over honest t i within = cc
-
-inner_satisfies : (answer : Bool) (x e : Tree Place) → at_literal false answer x ≡ Some e → IsSoundSatisfier (not x) e
-inner_satisfies answer (literal c) e h k A chunk over honest t i within = of_false answer c.value e h
-inner_satisfies answer x e h k A chunk over honest t i within = cc
-
-opposite_falsifies : (answer : Bool) (p e : Tree Place) → at_opposite true answer p ≡ Some e → IsSoundFalsifier p e
-opposite_falsifies answer (not x) e h = inner_falsifies answer x e h
-opposite_falsifies answer p e h = absurd cc
-
-opposite_satisfies : (answer : Bool) (p e : Tree Place) → at_opposite false answer p ≡ Some e → IsSoundSatisfier p e
-opposite_satisfies answer (not x) e h = inner_satisfies answer x e h
-opposite_satisfies answer p e h = absurd cc
-
-pub opposite_is_lawful : (answer : Bool) → IsLawful (at_opposite true answer) (at_opposite false answer)
-opposite_is_lawful answer = record { falsifies = opposite_falsifies answer; satisfies = opposite_satisfies answer }
-
--- ---- a rule that rests on the type that a column is declared of
 
 -- of a column that has no null no row is null
 abbrev pub at_column : Tree Place → Option (Tree Place)

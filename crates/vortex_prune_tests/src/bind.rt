@@ -1,5 +1,5 @@
-//! Binders that know a count of nulls or nothing, and binders that fault.
-ghost use Rattle.std.specs.Prelude.{◌≡◌, ◌==◌, ◌&&◌, ⊤, false, Some, None, refl, if◌then◌else◌};
+//! Binding by binders that know a count of nulls or nothing, and by ones that fault.
+ghost use Rattle.std.specs.Prelude.{◌&&◌, false, Some, None, refl, if◌then◌else◌};
 ghost use Rattle.std.proofs.Common.{sym};
 ghost use mathlib.Core.Bool.{true≢false};
 ghost use Rattle.vortex_base.specs.declared.aggregate.AggregateFnRef.TheVariants as aggregate;
@@ -9,14 +9,16 @@ ghost use Rattle.vortex_base.specs.declared.types.PType.TheVariants as ptype;
 ghost use Rattle.vortex_base.specs.Trees.Tree.{column};
 ghost use Rattle.vortex_prune.specs.Binding.PartBinder.{IsNullOf};
 
+use crate::hooks::Answerer;
 use crate::testing::*;
 use std::alloc::Global;
 use std::process::Abort;
 use std::test::Fail;
-use vortex_base::{AggregateFnRef, BoundExpression, DType, Scalar, bound};
+use vortex_base::{AggregateFnRef, BoundExpression, DType, bound};
 use vortex_prune::bind::bind_stats;
-use vortex_prune::expr::bound as placed;
 use vortex_prune::{HookFault, StatBinder};
+use vortex_rewrite::expr::bound as placed;
+use vortex_rewrite_tests::nodes::*;
 use vortex_stats::{BinderFault, StatsError};
 
 mod stats_binder;
@@ -55,7 +57,8 @@ fn expect_bound<B: StatBinder>(
     binder: &B,
     expected: Built,
 ) -> Result<(), Fail> {
-    expect_same(rt, bound_by(alloc, e, binder), expected)
+    assert!(rt; are_same(bound_by(alloc, e, binder), expected)?);
+    Ok(())
 }
 
 // Answers the count of nulls of any input by the second column of a table of statistics, if it
@@ -97,71 +100,14 @@ impl StatBinder for NullCounts {
     }
 }
 
-// Faults at each placeholder.
-struct Faulty;
-
-impl StatBinder for Faulty {
-    ghost answer = { λ b f x t. None };
-
-    ghost is_missing = { λ b. IsNullOf };
-
-    ghost allows_null = { λ b t. refl };
-
-    ghost can_fault = { λ b k. k == 7 };
-
-    ghost value = { λ b row n f x. None };
-
-    ghost is_faithful_over = { λ b row n. false };
-
-    ghost is_faithful = { λ b row n h. absurd (true≢false (sym h)) };
-
-    fn bind_aggregate(
-        &self,
-        _alloc: Global,
-        _input: &BoundExpression,
-        _aggregate: &AggregateFnRef,
-        _stat_dtype: &DType,
-    ) -> Result<Option<BoundExpression>, HookFault> {
-        Err(HookFault::Own(7))
-    }
-}
-
-// Knows nothing, and answers a count for what is missing.
-struct Counting;
-
-impl StatBinder for Counting {
-    ghost answer = { λ b f x t. None };
-
-    ghost is_missing = { λ b t r. ⊤ };
-
-    ghost allows_null = { λ b t. tt };
-
-    ghost can_fault = { λ b k. false };
-
-    ghost value = { λ b row n f x. None };
-
-    ghost is_faithful_over = { λ b row n. false };
-
-    ghost is_faithful = { λ b row n h. absurd (true≢false (sym h)) };
-
-    fn bind_aggregate(
-        &self,
-        _alloc: Global,
-        _input: &BoundExpression,
-        _aggregate: &AggregateFnRef,
-        _stat_dtype: &DType,
-    ) -> Result<Option<BoundExpression>, HookFault> {
-        Ok(None)
-    }
-
-    fn missing_stat(&self, alloc: Global, _dtype: DType) -> Result<BoundExpression, HookFault> {
-        Ok(bound::lit(alloc, Scalar::null(U64.as_nullable()))?)
-    }
-}
-
 const KNOWN: NullCounts = NullCounts { are_known: true };
 
 const UNKNOWN: NullCounts = NullCounts { are_known: false };
+
+const FAULTY: Answerer = Answerer::Faulty;
+
+// Knows nothing, and answers a count for what is missing.
+const QUIET: Answerer = Answerer::Quiet;
 
 #[test]
 fn a_count_of_nulls_is_a_column(rt: HostRuntime) -> Result<(), Fail> {
@@ -199,8 +145,8 @@ fn null_test(alloc: Global) -> Built {
 #[test]
 fn what_holds_no_placeholder_is_kept(rt: HostRuntime) -> Result<(), Fail> {
     let alloc = rt.alloc();
-    expect_bound(&rt, alloc, null_test(alloc), &Faulty, null_test(alloc))?;
-    expect_bound(&rt, alloc, row_count(alloc), &Faulty, row_count(alloc))
+    expect_bound(&rt, alloc, null_test(alloc), &FAULTY, null_test(alloc))?;
+    expect_bound(&rt, alloc, row_count(alloc), &FAULTY, row_count(alloc))
 }
 
 #[test]
@@ -225,9 +171,9 @@ fn dtype_of(answer: Built) -> Result<DType, StatsError> {
 #[test]
 fn faults_are_the_binders(rt: HostRuntime) -> Result<(), Fail> {
     let alloc = rt.alloc();
-    assert!(rt; is_own(bound_by(alloc, all_null(alloc), &Faulty)));
-    assert!(rt; is_wrong_type(bound_by(alloc, all_null(alloc), &Counting)));
-    let right = bound_by(alloc, null_count(alloc, a(alloc)), &Counting);
+    assert!(rt; is_own(bound_by(alloc, all_null(alloc), &FAULTY)));
+    assert!(rt; is_wrong_type(bound_by(alloc, all_null(alloc), &QUIET)));
+    let right = bound_by(alloc, null_count(alloc, a(alloc)), &QUIET);
     assert!(rt; dtype_of(right)? == U64.as_nullable());
     Ok(())
 }

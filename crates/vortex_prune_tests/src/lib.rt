@@ -3,15 +3,11 @@
 
 #[cfg(test)]
 mod bind;
-#[cfg(test)]
-mod expr;
 pub mod hooks;
 #[cfg(test)]
 mod part;
 #[cfg(test)]
 mod refused;
-#[cfg(test)]
-mod rewrite;
 #[cfg(test)]
 mod scan;
 #[cfg(test)]

@@ -8,6 +8,7 @@ use std::process::Abort;
 use std::test::Fail;
 use vortex_base::{Chunk, PValue, ScalarValue, ValueRef};
 use vortex_prune::{JoinRefused, Part, PartRefused};
+use vortex_rewrite_tests::nodes::*;
 use vortex_stats::{Precision, Stat, StatsError, StatsSet};
 
 type Made = Result<Part, StatsError>;
@@ -234,6 +235,26 @@ fn refuses_sets_that_do_not_fit(rt: HostRuntime) -> Result<(), Fail> {
     assert!(rt; refused.chunk.rows() == 1);
     let refused = refused_part(refused.chunk, Vec::new(alloc))?;
     assert!(rt; is_mismatch(&refused.error));
+    Ok(())
+}
+
+fn apart(part: Made) -> Result<(Chunk, Vec<StatsSet>), StatsError> {
+    Ok(part?.into_inner())
+}
+
+fn together(chunk: Chunk, sets: Vec<StatsSet>) -> Made {
+    match new_part(chunk, sets) {
+        Ok(part) => Ok(part),
+        Err(refused) => Err(refused.error),
+    }
+}
+
+#[test]
+fn comes_apart_into_what_makes_it(rt: HostRuntime) -> Result<(), Fail> {
+    let alloc = rt.alloc();
+    let (chunk, sets) = apart(first_part(alloc, 3))?;
+    let again = together(chunk, sets)?;
+    assert!(rt; are_same(alloc, &again, &first_part(alloc, 3)?)?);
     Ok(())
 }
 

@@ -1,12 +1,12 @@
 //! Calls of which a request for memory may be refused: each gives its answer, or `Memory` alone.
 use crate::testing::*;
 use std::alloc::Global;
-use std::process::Abort;
 use std::test::Fail;
 use vortex_base::{BoundExpression, Column};
 use vortex_prune::bind::bind_stats;
-use vortex_prune::rewrite::{falsify, falsify_counted, satisfy};
 use vortex_prune::{Part, Rules, StatsBinder, Zones};
+use vortex_rewrite::rewrite::{falsify, falsify_counted, satisfy};
+use vortex_rewrite_tests::nodes::*;
 use vortex_stats::{Stat, StatsError};
 
 fn a(alloc: Global) -> Built {

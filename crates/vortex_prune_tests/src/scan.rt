@@ -5,6 +5,7 @@ use std::process::Abort;
 use std::test::Fail;
 use vortex_base::{BetweenOptions, Operator};
 use vortex_prune::{Part, Zones};
+use vortex_rewrite_tests::nodes::*;
 use vortex_stats::{Stat, StatsError, StatsSet};
 
 mod callers;

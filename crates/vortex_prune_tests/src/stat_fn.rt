@@ -7,6 +7,7 @@ use vortex_base::{
     AggregateFnRef, ConstantArray, DType, Nullability, PType, Scalar, ScalarFnId, ScalarValue,
 };
 use vortex_prune::{StatFn, StatOptions};
+use vortex_rewrite_tests::nodes::*;
 use vortex_stats::{Stat, StatsError, StatsSet};
 
 const I64: DType = DType::Primitive(PType::I64, Nullability::Nullable);

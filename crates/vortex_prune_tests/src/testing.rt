@@ -1,277 +1,24 @@
-//! Nodes, parts, tables and scans for the tests, by calls without a contract that take what other
+//! Parts, tables and scans for the tests, by calls without a contract that take what other
 //! calls answered: a test is one straight line of calls, so its proof stays short.
 ghost use Rattle.std.specs.Bool.{OnTrue};
 ghost use Rattle.std.specs.Prelude.{◌≡◌, All, IfOk, IsTrue};
 ghost use Rattle.vortex_base.specs.Meanings.Fitting.{fits_scope};
 ghost use Rattle.vortex_prune.specs.Zones.{HaveScope};
 
-use crate::hooks::{Claim, Claiming};
 use std::alloc::{AllocError, Global};
 use std::process::Abort;
 use std::test::Fail;
-use vortex_base::{
-    AggregateFnRef, BaseError, BetweenOptions, BoundExpression, Chunk, Column, DType, LikeOptions,
-    Nullability, Operator, PType, Scalar, ScalarFnId, ScalarValue, Scope, StrictComparison, Text,
-    bound,
-};
+use vortex_base::{BoundExpression, Chunk, Column, DType, ScalarFnId, ScalarValue, Scope};
 use vortex_prune::scan::scan;
 use vortex_prune::scan::zones::scan_zones;
 use vortex_prune::{
     Part, PartRefused, Rules, Scan, StatBinder, StatsBinder, StatsRewriteRuleRef, Zones,
 };
+use vortex_rewrite_tests::hooks::{Claim, Claiming};
+use vortex_rewrite_tests::nodes::*;
 use vortex_stats::{Precision, Stat, StatsError, StatsSet};
 
-pub type Built = Result<BoundExpression, StatsError>;
-
 pub type Sets = Result<StatsSet, StatsError>;
-
-pub const BOOL: DType = DType::Bool(Nullability::NonNullable);
-
-pub const I32: DType = DType::Primitive(PType::I32, Nullability::NonNullable);
-
-pub const I32_OR_NULL: DType = DType::Primitive(PType::I32, Nullability::Nullable);
-
-pub const U64: DType = DType::Primitive(PType::U64, Nullability::NonNullable);
-
-pub const UTF8: DType = DType::Utf8(Nullability::NonNullable);
-
-pub const CLOSED: BetweenOptions = BetweenOptions {
-    lower_strict: StrictComparison::NonStrict,
-    upper_strict: StrictComparison::NonStrict,
-};
-
-pub const OPEN: BetweenOptions = BetweenOptions {
-    lower_strict: StrictComparison::Strict,
-    upper_strict: StrictComparison::Strict,
-};
-
-pub const OPEN_BELOW: BetweenOptions = BetweenOptions {
-    lower_strict: StrictComparison::Strict,
-    upper_strict: StrictComparison::NonStrict,
-};
-
-pub const OPEN_ABOVE: BetweenOptions = BetweenOptions {
-    lower_strict: StrictComparison::NonStrict,
-    upper_strict: StrictComparison::Strict,
-};
-
-/// What the layer below made, its refusals told as this crate's.
-pub fn told<T>(made: Result<T, BaseError>) -> Result<T, StatsError> {
-    match made {
-        Ok(made) => Ok(made),
-        Err(BaseError::Memory(refused)) => Err(StatsError::Memory(refused)),
-        Err(_) => Err(StatsError::Mismatch),
-    }
-}
-
-pub fn col(alloc: Global, place: usize, dtype: DType) -> Built {
-    told(bound::col(alloc, place, dtype))
-}
-
-pub fn scalar(dtype: DType, value: Option<ScalarValue>) -> Result<Scalar, StatsError> {
-    told(Scalar::try_new(dtype, value))
-}
-
-fn literal(alloc: Global, scalar: Scalar) -> Built {
-    told(bound::lit(alloc, scalar))
-}
-
-pub fn lit(alloc: Global, dtype: DType, value: ScalarValue) -> Built {
-    literal(alloc, scalar(dtype, Some(value))?)
-}
-
-/// The null literal of the type made nullable.
-pub fn null_of(alloc: Global, dtype: DType) -> Built {
-    literal(alloc, scalar(dtype.as_nullable(), None)?)
-}
-
-pub fn int(alloc: Global, value: i32) -> Built {
-    lit(alloc, I32, ScalarValue::from(value))
-}
-
-pub fn truth(alloc: Global, value: bool) -> Built {
-    lit(alloc, BOOL, ScalarValue::from(value))
-}
-
-pub fn text_value(alloc: Global, value: &str) -> Result<ScalarValue, AllocError> {
-    Ok(ScalarValue::Utf8(Text::new(String::from_str(alloc, value)?)))
-}
-
-pub fn text(alloc: Global, value: &str) -> Built {
-    lit(alloc, UTF8, text_value(alloc, value)?)
-}
-
-// The node of two operands.
-fn joined(
-    alloc: Global,
-    operator: Operator,
-    left: BoundExpression,
-    right: BoundExpression,
-) -> Built {
-    told(bound::binary(alloc, operator, left, right))
-}
-
-pub fn binary(alloc: Global, operator: Operator, left: Built, right: Built) -> Built {
-    joined(alloc, operator, left?, right?)
-}
-
-pub fn eq(alloc: Global, left: Built, right: Built) -> Built {
-    binary(alloc, Operator::Eq, left, right)
-}
-
-pub fn not_eq(alloc: Global, left: Built, right: Built) -> Built {
-    binary(alloc, Operator::NotEq, left, right)
-}
-
-pub fn gt(alloc: Global, left: Built, right: Built) -> Built {
-    binary(alloc, Operator::Gt, left, right)
-}
-
-pub fn gt_eq(alloc: Global, left: Built, right: Built) -> Built {
-    binary(alloc, Operator::Gte, left, right)
-}
-
-pub fn lt(alloc: Global, left: Built, right: Built) -> Built {
-    binary(alloc, Operator::Lt, left, right)
-}
-
-pub fn lt_eq(alloc: Global, left: Built, right: Built) -> Built {
-    binary(alloc, Operator::Lte, left, right)
-}
-
-pub fn and(alloc: Global, left: Built, right: Built) -> Built {
-    binary(alloc, Operator::And, left, right)
-}
-
-pub fn or(alloc: Global, left: Built, right: Built) -> Built {
-    binary(alloc, Operator::Or, left, right)
-}
-
-pub fn not(alloc: Global, x: Built) -> Built {
-    told(bound::not(alloc, x?))
-}
-
-pub fn is_null(alloc: Global, x: Built) -> Built {
-    told(bound::is_null(alloc, x?))
-}
-
-pub fn is_not_null(alloc: Global, x: Built) -> Built {
-    told(bound::is_not_null(alloc, x?))
-}
-
-// The range over three operands.
-fn ranged(
-    alloc: Global,
-    x: BoundExpression,
-    lower: BoundExpression,
-    upper: BoundExpression,
-    options: BetweenOptions,
-) -> Built {
-    told(bound::between(alloc, x, lower, upper, options))
-}
-
-pub fn between(
-    alloc: Global,
-    x: Built,
-    lower: Built,
-    upper: Built,
-    options: BetweenOptions,
-) -> Built {
-    ranged(alloc, x?, lower?, upper?, options)
-}
-
-// The pattern node of two operands.
-fn patterned(
-    alloc: Global,
-    text: BoundExpression,
-    pattern: BoundExpression,
-    options: LikeOptions,
-) -> Built {
-    told(bound::like_with(alloc, text, pattern, options))
-}
-
-pub fn like_with(alloc: Global, text: Built, pattern: Built, options: LikeOptions) -> Built {
-    patterned(alloc, text?, pattern?, options)
-}
-
-pub fn like(alloc: Global, text: Built, pattern: Built) -> Built {
-    let options = LikeOptions {
-        negated: false,
-        case_insensitive: false,
-    };
-    like_with(alloc, text, pattern, options)
-}
-
-pub fn stat(alloc: Global, x: Built, aggregate: AggregateFnRef) -> Built {
-    told(bound::new_stat(alloc, x?, aggregate))
-}
-
-pub fn min(alloc: Global, x: Built) -> Built {
-    stat(alloc, x, AggregateFnRef::Min)
-}
-
-pub fn max(alloc: Global, x: Built) -> Built {
-    stat(alloc, x, AggregateFnRef::Max)
-}
-
-pub fn row_count(alloc: Global) -> Built {
-    told(bound::row_count(alloc))
-}
-
-/// The two are built, and alike.
-pub fn expect_same(rt: &impl Abort, found: Built, expected: Built) -> Result<(), Fail> {
-    let (found, expected) = (found?, expected?);
-    assert!(rt; found == expected);
-    Ok(())
-}
-
-pub fn number(value: i32) -> ScalarValue {
-    ScalarValue::from(value)
-}
-
-pub fn count(value: u64) -> ScalarValue {
-    ScalarValue::from(value)
-}
-
-fn no_columns(alloc: Global) -> Vec<(String, DType)> {
-    Vec::new(alloc)
-}
-
-fn add_column(
-    columns: &mut Vec<(String, DType)>,
-    name: String,
-    dtype: DType,
-) -> Result<(), AllocError> {
-    Ok(columns.push((name, dtype))?)
-}
-
-fn scope(columns: Vec<(String, DType)>) -> Result<Scope, StatsError> {
-    told(Scope::try_new(columns))
-}
-
-/// The scope of one column.
-pub fn scope_named(alloc: Global, name: &str, dtype: DType) -> Result<Scope, StatsError> {
-    let mut columns = no_columns(alloc);
-    add_column(&mut columns, String::from_str(alloc, name)?, dtype)?;
-    scope(columns)
-}
-
-/// The scope of one column `a`.
-pub fn scope_of(alloc: Global, dtype: DType) -> Result<Scope, StatsError> {
-    scope_named(alloc, "a", dtype)
-}
-
-/// The scope of two columns.
-pub fn scope_of_two(
-    alloc: Global,
-    first: (&str, DType),
-    second: (&str, DType),
-) -> Result<Scope, StatsError> {
-    let mut columns = no_columns(alloc);
-    add_column(&mut columns, String::from_str(alloc, first.0)?, first.1)?;
-    add_column(&mut columns, String::from_str(alloc, second.0)?, second.1)?;
-    scope(columns)
-}
 
 pub type Cells = Vec<Option<ScalarValue>>;
 
@@ -431,60 +178,28 @@ pub fn one_part(alloc: Global, part: Result<Part, StatsError>) -> Parts {
     and_part(no_parts(alloc), part)
 }
 
-fn no_rules(alloc: Global) -> Vec<StatsRewriteRuleRef> {
-    Vec::new(alloc)
-}
-
-fn add_rule(
-    rules: &mut Vec<StatsRewriteRuleRef>,
-    rule: StatsRewriteRuleRef,
-) -> Result<(), AllocError> {
-    Ok(rules.push(rule)?)
-}
-
 /// The built-in rules and then this one.
 pub fn rules_of(alloc: Global, rule: StatsRewriteRuleRef) -> Result<Rules, AllocError> {
-    let mut rules = no_rules(alloc);
-    add_rule(&mut rules, rule)?;
+    let mut rules = Vec::new(alloc);
+    rules.push(rule)?;
     Ok(Rules::with_own(rules))
 }
 
-/// The built-in rules and then these two.
-pub fn two_rules(
-    alloc: Global,
-    first: StatsRewriteRuleRef,
-    second: StatsRewriteRuleRef,
-) -> Result<Rules, AllocError> {
-    let mut rules = no_rules(alloc);
-    add_rule(&mut rules, first)?;
-    add_rule(&mut rules, second)?;
-    Ok(Rules::with_own(rules))
-}
-
-/// A rule that claims the same of every expression of its function. Its fault has the number 3.
-pub fn claiming(
-    alloc: Global,
-    function: ScalarFnId,
-    falsifier: Claim,
-    satisfier: Claim,
-) -> Result<StatsRewriteRuleRef, AllocError> {
-    let rule = Claiming {
-        function,
-        falsifier,
-        satisfier,
-        fault: 3,
-    };
-    Ok(Box::new(alloc, rule)?)
-}
-
-/// The built-in rules and then such a one.
+/// The built-in rules and then one that claims the same of every expression of its function. Its
+/// fault has the number 3.
 pub fn rules_that_claim(
     alloc: Global,
     function: ScalarFnId,
     falsifier: Claim,
     satisfier: Claim,
 ) -> Result<Rules, AllocError> {
-    rules_of(alloc, claiming(alloc, function, falsifier, satisfier)?)
+    let rule = Claiming {
+        function,
+        falsifier,
+        satisfier,
+        fault: 3,
+    };
+    rules_of(alloc, Box::new(alloc, rule)?)
 }
 
 // Whether a part has the scope.

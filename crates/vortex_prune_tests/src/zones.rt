@@ -4,6 +4,7 @@ use std::alloc::{AllocError, Global};
 use std::test::Fail;
 use vortex_base::{DType, Nullability, PType, ScalarValue, Scope, ValueRef};
 use vortex_prune::{Part, Zones, ZonesRefused};
+use vortex_rewrite_tests::nodes::*;
 use vortex_stats::{Stat, StatsError, StatsSet};
 
 const NUMBER: DType = DType::Primitive(PType::I64, Nullability::Nullable);

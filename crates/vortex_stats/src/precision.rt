@@ -1,12 +1,11 @@
 //! A value with a precision.
-ghost use Rattle.std.specs.Prelude.{◌≡◌, Ok, Err, Some, IfOk, OnErr, IsTrue, if◌then◌else◌};
+ghost use Rattle.std.specs.Prelude.{◌≡◌, Ok, Err, Some, IfOk, OnErr, IsTrue};
 ghost use Rattle.std.specs.Option.{option_map};
 ghost use Rattle.vortex_stats.specs.declared.precision.Precision.{Precision};
 ghost use Rattle.vortex_stats.specs.declared.error.StatsError.TheVariants.{Mismatch};
 ghost use Rattle.vortex_stats.specs.Bounds.Bound.{ClonesEqual};
 ghost use Rattle.vortex_stats.specs.Scalars.{precise_scalar, checked_scalar, IsAnswerOrMemory};
 ghost use Rattle.vortex_base.specs.Meanings.Meaning.{is_long};
-ghost use Rattle.vortex_base.specs.Data.Values.{is_value};
 ghost use Rattle.vortex_stats.specs.Copies.{is_copied};
 ghost use Rattle.vortex_stats.specs.Precision.{
   is_exact,

@@ -1,10 +1,10 @@
 //! Worked rows of the definitions of merges and combination, found by computation alone.
-ghost use Rattle.std.specs.Prelude.{◌≡◌, [], ◌∷◌, pos, negsuc, true, false, Some, None};
+ghost use Rattle.std.specs.Prelude.{◌≡◌, [], ◌∷◌, true, false, Some, None};
 ghost use Rattle.vortex_base.specs.declared.pvalue.PValue.TheVariants as number;
 ghost use Rattle.vortex_base.specs.declared.scalar_value.ScalarValue.TheVariants as value;
 ghost use Rattle.vortex_stats.specs.declared.precision.Precision.TheVariants.{Exact, Inexact, Absent};
 ghost use Rattle.vortex_stats.specs.declared.stat.Stat.TheVariants as stats;
-ghost use Rattle.vortex_stats.specs.Merging.Merges.{merged_ordered, merged_unordered, merged_by_steps};
+ghost use Rattle.vortex_stats.specs.Merging.Merges.{merged_ordered, merged_unordered};
 ghost use Rattle.vortex_stats.specs.Merging.Combined.{combined};
 ghost use Rattle.vortex_stats.specs.Copies.{merge_copies, combination_copies};
 ghost use Rattle.vortex_stats.specs.Merging.MergeRows.{i32, i64, u64, letter, holds, fails, unknown};

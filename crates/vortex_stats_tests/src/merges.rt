@@ -330,17 +330,30 @@ pub fn mix_viewed(set: &mut StatsSet, other: &StatsSet, dtype: &DType) -> Result
     mixed_through_view(set, other, dtype)
 }
 
+fn merged_by_a_view(alloc: Global) -> Result<StatsSet, StatsError> {
+    let mut set = full(alloc)?;
+    merge_viewed(&mut set, &full(alloc)?, &I32)?;
+    Ok(set)
+}
+
+fn mixed_by_a_view(alloc: Global) -> Result<StatsSet, StatsError> {
+    let mut set = full(alloc)?;
+    mix_viewed(&mut set, &full(alloc)?, &I32)?;
+    Ok(set)
+}
+
 #[test]
 fn merges_through_views(rt: HostRuntime) -> Result<(), Fail> {
-    let alloc = rt.alloc();
-    let other = full(alloc)?;
-    let mut set = full(alloc)?;
-    merge_viewed(&mut set, &other, &I32)?;
+    let set = merged_by_a_view(rt.alloc())?;
     assert_eq!(rt; sets::len(&set), 7);
     assert!(rt; sets::has(&set, Stat::IsSorted, inexact(false))?);
     assert!(rt; sets::has(&set, Stat::NullCount, exact(4u64))?);
-    let mut set = full(alloc)?;
-    mix_viewed(&mut set, &other, &I32)?;
+    Ok(())
+}
+
+#[test]
+fn mixes_through_views(rt: HostRuntime) -> Result<(), Fail> {
+    let set = mixed_by_a_view(rt.alloc())?;
     assert_eq!(rt; sets::len(&set), 5);
     assert!(rt; sets::has(&set, Stat::IsSorted, Precision::Absent)?);
     Ok(())

@@ -1,10 +1,9 @@
 //! Worked rows of sets: writes, look-ups, readings and iterators.
-use crate::callers::{collected, counted, entries_of, statistics_of};
+use crate::callers::{counted, entries_of, statistics_of};
 use crate::testing::{Entry, I32, UTF8, Value, exact, inexact, name, sets};
 use smallvec::SmallVec;
 use std::alloc::Global;
 use std::test::Fail;
-use vortex_base::scalar_value::ScalarValue;
 use vortex_stats::error::StatsError;
 use vortex_stats::precision::Precision;
 use vortex_stats::stat::Stat;
@@ -68,11 +67,17 @@ fn loops_over<const N: usize>(
     Ok(entries.as_slice() == expected.as_slice())
 }
 
+/// Max, then Min; Max was set twice.
+fn set_twice(alloc: Global) -> Result<StatsSet, StatsError> {
+    let mut set = sets::of(alloc, [(Stat::Max, exact(1)), (Stat::Min, exact(0))])?;
+    sets::set(&mut set, Stat::Max, inexact(4))?;
+    Ok(set)
+}
+
 #[test]
 fn places(rt: HostRuntime) -> Result<(), Fail> {
     let alloc = rt.alloc();
-    let mut set = sets::of(alloc, [(Stat::Max, exact(1)), (Stat::Min, exact(0))])?;
-    sets::set(&mut set, Stat::Max, inexact(4))?;
+    let set = set_twice(alloc)?;
     assert!(rt; sets::has(&set, Stat::Max, inexact(4))?);
     assert!(rt;
         loops_over(
@@ -81,14 +86,36 @@ fn places(rt: HostRuntime) -> Result<(), Fail> {
             [(Stat::Max, inexact(4)), (Stat::Min, exact(0))]
         )?
     );
-    let mut kept = sets::copy(&set)?;
-    sets::set(&mut kept, Stat::Sum, Precision::Absent)?;
-    sets::retain_only(&mut kept, &[Stat::Sum, Stat::Max]);
+    Ok(())
+}
+
+/// A copy of which all but two statistics are taken out.
+fn retained(alloc: Global) -> Result<StatsSet, StatsError> {
+    let mut set = sets::copy(&set_twice(alloc)?)?;
+    sets::set(&mut set, Stat::Sum, Precision::Absent)?;
+    sets::retain_only(&mut set, &[Stat::Sum, Stat::Max]);
+    Ok(set)
+}
+
+#[test]
+fn retained_entries_keep_their_places(rt: HostRuntime) -> Result<(), Fail> {
+    let alloc = rt.alloc();
     let left = [(Stat::Max, inexact(4)), (Stat::Sum, Precision::Absent)];
-    assert!(rt; sets::is(alloc, kept, left)?);
+    assert!(rt; sets::is(alloc, retained(alloc)?, left)?);
+    Ok(())
+}
+
+fn cleared(alloc: Global) -> Result<StatsSet, StatsError> {
+    let mut set = set_twice(alloc)?;
     sets::clear(&mut set, Stat::Max);
     sets::clear(&mut set, Stat::NullCount);
-    assert!(rt; sets::is(alloc, set, [(Stat::Min, exact(0))])?);
+    Ok(set)
+}
+
+#[test]
+fn cleared_entries_are_gone(rt: HostRuntime) -> Result<(), Fail> {
+    let alloc = rt.alloc();
+    assert!(rt; sets::is(alloc, cleared(alloc)?, [(Stat::Min, exact(0))])?);
     Ok(())
 }
 

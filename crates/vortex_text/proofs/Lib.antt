@@ -1,3 +1,4 @@
+pub mod BatchLemmas
 pub mod ColumnLemmas
 pub mod DraftLemmas
 pub mod FirstLine

@@ -1,3 +1,4 @@
+pub mod Batches
 pub mod Columns
 pub mod Drafts
 pub mod Expressions

@@ -5,8 +5,8 @@ use Rattle.std.specs.List.{AllByRecursion}
 use Rattle.vortex_base.specs.Trees.Tree.{Tree, Place}
 use Rattle.vortex_prune.specs.Part.{IsTruePart, PartData}
 use Rattle.vortex_prune.specs.Binding.PartAnswers.{part_values}
-use Rattle.vortex_prune.specs.Rewriting.Predicates.{is_predicate}
-use Rattle.vortex_prune.specs.Rewriting.Falsifiers.{falsifier, satisfier}
+use Rattle.vortex_rewrite.specs.Rewriting.Predicates.{is_predicate}
+use Rattle.vortex_rewrite.specs.Rewriting.Falsifiers.{falsifier, satisfier}
 use Rattle.vortex_prune.specs.Scanning.Selection.{Answered, full, selected_rows, skipped_parts, whole_parts}
 use Rattle.vortex_text.specs.declared.streams.TheConstants.{INPUT_LIMIT}
 use Rattle.vortex_text.specs.Naming.{Query, named}

@@ -11,7 +11,7 @@ use crate::form::{Form, form_of, strictness_of};
 use crate::line_error::LineError;
 use crate::names::type_of;
 use crate::value::optional_value_of;
-use crate::word::{first_word, no_word, plain_word};
+use crate::word::{first_word, plain_word};
 use std::alloc::Global;
 use vortex_base::bound;
 use vortex_base::bound_expression::BoundExpression;

@@ -1,10 +1,12 @@
 //! Texts that name parts of columns, their statistics and a predicate, and what their scan prints.
 #![tactic(auto)]
 
+mod batches;
 mod columns;
 mod draft;
 mod expression;
 mod form;
+mod kept_part;
 mod line_error;
 mod line_kind;
 mod lines;

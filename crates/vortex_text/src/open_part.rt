@@ -5,6 +5,7 @@ ghost use Rattle.vortex_prune.specs.Part.{IsPart};
 ghost use Rattle.vortex_text.specs.Columns.{set_at};
 ghost use Rattle.vortex_text.specs.OpenParts.{open_data};
 
+use crate::kept_part::KeptPart;
 use crate::open_column::OpenColumn;
 use std::alloc::{AllocError, Global};
 use vortex_base::chunk::Chunk;
@@ -46,7 +47,7 @@ fn close_columns(alloc: Global, columns: Vec<OpenColumn>) -> Result<Vec<Column>,
 
 impl OpenPart {
     /// The part, which takes no more rows.
-    pub fn close(self, alloc: Global, scope: Scope) -> Result<Part, AllocError>
+    pub fn close(self, alloc: Global, scope: Scope) -> Result<KeptPart, AllocError>
         requires { IsPart (open_data scope self) }
         ensures { IfOk result (λ part. part ≡ open_data scope self) }
     {
@@ -55,7 +56,7 @@ impl OpenPart {
             unreachable!()
         };
         match Part::try_new(chunk, self.stats) {
-            Ok(part) => Ok(part),
+            Ok(part) => KeptPart::of(alloc, part),
             Err(_) => unreachable!(),
         }
     }

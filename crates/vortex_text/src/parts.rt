@@ -1,5 +1,5 @@
 //! The parts of a text so far, of which neighbours may be joined.
-ghost use Rattle.std.specs.Prelude.{◌≡◌, ◌≤◌, ◌++◌, ◌∷◌, ◌+◌, ℕ, [], All, IfOk, IsTrue, List, MatchResult, OnOk, length, reverse};
+ghost use Rattle.std.specs.Prelude.{◌≡◌, ◌≤◌, ◌++◌, ◌∷◌, ◌+◌, [], All, IfOk, IsTrue, List, MatchResult, OnOk, length, reverse};
 ghost use Rattle.vortex_base.specs.Data.Columns.{sizes_fit};
 ghost use Rattle.vortex_base.specs.Data.Scopes.{Named};
 ghost use Rattle.vortex_prune.specs.Part.{PartData, joined};
@@ -9,6 +9,7 @@ ghost use Rattle.vortex_text.specs.Lines.{has_part};
 ghost use Rattle.vortex_text.specs.Rows.{joined_at};
 ghost use Rattle.vortex_text.specs.declared.line_error.LineError.TheVariants.{Memory};
 
+use crate::kept_part::KeptPart;
 use crate::line_error::LineError;
 use std::alloc::{AllocError, Global};
 use std::marker::Model;
@@ -19,9 +20,9 @@ use vortex_stats::error::StatsError;
 /// a join there moves no other part.
 #[derive(Debug, Drop)]
 pub struct Parts {
-    front: Vec<Part>,
+    front: Vec<KeptPart>,
     // The parts behind those, the last one first.
-    back: Vec<Part>,
+    back: Vec<KeptPart>,
 }
 
 impl Model for Parts {
@@ -34,7 +35,11 @@ impl Model for Parts {
 }
 
 // Makes the two runs meet at a place.
-fn meet_at(front: &mut Vec<Part>, back: &mut Vec<Part>, place: usize) -> Result<(), AllocError>
+fn meet_at(
+    front: &mut Vec<KeptPart>,
+    back: &mut Vec<KeptPart>,
+    place: usize,
+) -> Result<(), AllocError>
     requires { place ≤ length front.old.items + length back.old.items }
     ensures same { OnOk result (front.new.items ++ reverse back.new.items
         ≡ front.old.items ++ reverse back.old.items) }
@@ -56,13 +61,15 @@ fn meet_at(front: &mut Vec<Part>, back: &mut Vec<Part>, place: usize) -> Result<
 }
 
 // Two parts of one scope as one.
-fn join_two(alloc: Global, left: Part, right: Part) -> Result<Part, LineError>
+fn join_two(alloc: Global, left: KeptPart, right: KeptPart) -> Result<KeptPart, LineError>
     requires scope { left.chunk.scope ≡ right.chunk.scope }
     requires sizes { IsTrue (sizes_fit left.chunk.columns right.chunk.columns) }
     ensures { MatchResult result (λ part. part ≡ joined left right) (λ e. e ≡ Memory) }
 {
+    let left = left.into_part(alloc)?;
+    let right = right.into_part(alloc)?;
     match Part::join(alloc, left, right) {
-        Ok(part) => Ok(part),
+        Ok(part) => Ok(KeptPart::of(alloc, part)?),
         Err(refused) => match refused.error {
             StatsError::Memory(_) => Err(LineError::Memory),
             _ => unreachable!(),
@@ -89,7 +96,7 @@ impl Parts {
     }
 
     /// Some of the parts, the last one that was added or joined among them.
-    pub fn some(&self) -> &[Part]
+    pub fn some(&self) -> &[KeptPart]
         ensures { (scope : List Named) → All (IsPartOf scope) self.now
             → All (IsPartOf scope) result.now }
     {
@@ -97,7 +104,7 @@ impl Parts {
     }
 
     /// Adds a part behind the others.
-    pub fn push(&mut self, part: Part) -> Result<(), AllocError>
+    pub fn push(&mut self, part: KeptPart) -> Result<(), AllocError>
         ensures { OnOk result (self.new ≡ self.old ++ part ∷ []) }
     {
         let count = self.front.len() + self.back.len();
@@ -128,7 +135,7 @@ impl Parts {
     }
 
     /// All the parts in order.
-    pub fn into_vec(self) -> Result<Vec<Part>, AllocError>
+    pub fn into_vec(self) -> Result<Vec<KeptPart>, AllocError>
         ensures { IfOk result (λ parts. parts.items ≡ self) }
     {
         let Parts {

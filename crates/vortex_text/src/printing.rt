@@ -1,5 +1,5 @@
 //! What is printed.
-ghost use Rattle.std.specs.Prelude.{◌≡◌, ◌++◌, ◌∷◌, IfOk, OnOk, string_bytes, ℕ};
+ghost use Rattle.std.specs.Prelude.{◌≡◌, ◌++◌, IfOk, OnOk, string_bytes};
 ghost use Rattle.std.specs.List.{flat_map};
 ghost use Rattle.vortex_text.specs.Printing.{bad_text, part_text, row_text, scan_text, whole_text};
 

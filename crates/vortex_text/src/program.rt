@@ -1,5 +1,5 @@
 //! From the bytes that come in to those that go out.
-ghost use Rattle.std.specs.Prelude.{◌≡◌, ◌≢◌, ◌⊎◌, ◌++◌, ◌∷◌, [], ℕ, List, IfOk, IfSome, codes, string_bytes};
+ghost use Rattle.std.specs.Prelude.{◌≡◌, ◌≢◌, ◌⊎◌, [], ℕ, List, IfOk, IfSome, string_bytes};
 ghost use Rattle.vortex_text.specs.Program.{Answers, IsFullScan, Stops, WritesFullScan, reply_to};
 ghost use Rattle.vortex_text.specs.Streams.{AppendsFront};
 

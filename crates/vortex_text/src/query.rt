@@ -1,17 +1,17 @@
 //! The scan of what a text names.
-ghost use Rattle.std.specs.Prelude.{◌≡◌, IfOk, IfSome, is_some};
+ghost use Rattle.std.specs.Prelude.{◌≡◌, ◌<◌, IfOk, IfSome, is_some};
 ghost use Rattle.std.specs.List.{AllByRecursion};
 ghost use Rattle.vortex_prune.specs.Part.{IsTruePart};
-ghost use Rattle.vortex_prune.specs.Rewriting.Predicates.{is_predicate};
+ghost use Rattle.vortex_rewrite.specs.Rewriting.Predicates.{is_predicate};
 ghost use Rattle.vortex_prune.specs.Scanning.Selection.{full};
 ghost use Rattle.vortex_text.specs.Fitting.{IsQueryOver};
 ghost use Rattle.vortex_text.specs.Program.{selected, skipped, whole};
 
+use crate::batches::{nothing_found, scan_more};
+use crate::kept_part::KeptPart;
 use std::alloc::{AllocError, Global};
 use vortex_base::{BoundExpression, Scope};
-use vortex_prune::scan::zones::scan_zones;
-use vortex_prune::{Part, Rules, Scan, Zones};
-use vortex_stats::StatsError;
+use vortex_prune::Scan;
 
 /// What a text names: parts of one scope, and a predicate over it.
 #[derive(Debug, Drop)]
@@ -19,12 +19,24 @@ pub struct Query {
     /// The columns in order.
     pub scope: Scope,
     /// The parts in order, after all joins.
-    pub parts: Vec<Part>,
+    pub parts: Vec<KeptPart>,
     /// What is asked for, maybe of another type than Bool.
     pub predicate: BoundExpression,
 }
 
-/// The scan of a table of the parts' statistics, or none where the predicate isn't of type Bool.
+// How many columns the parts of a batch have together, beside those of one part. Each has a set of
+// more than 500 bytes while the batch is scanned.
+const BATCH_COLUMNS: usize = 16_384;
+
+// How many parts of this many columns a batch has.
+fn batch_size(columns: usize) -> usize
+    ensures { 0 < result }
+{
+    1 + BATCH_COLUMNS / columns.max(1)
+}
+
+/// The scan of the parts, in tables of their statistics, or none where the predicate isn't of type
+/// Bool.
 pub fn scan_query(alloc: Global, query: Query) -> Result<Option<Scan>, AllocError>
     requires { IsQueryOver query.scope query.parts.items query.predicate }
     ensures kind { IfOk result (λ o. is_some o ≡ is_predicate query.predicate) }
@@ -43,16 +55,24 @@ pub fn scan_query(alloc: Global, query: Query) -> Result<Option<Scan>, AllocErro
         parts,
         predicate,
     } = query;
-    let Ok(zones) = Zones::try_new(alloc, scope, parts) else {
-        return Err(AllocError);
-    };
-    let rules = Rules::builtin(alloc);
-    match scan_zones(alloc, &zones, &predicate, &rules) {
-        Ok(found) => Ok(Some(found)),
-        Err(fault) => match fault {
-            StatsError::NotPredicate => Ok(None),
-            StatsError::Memory(refused) => Err(refused),
-            _ => unreachable!(),
-        },
+    let scope = scope.try_shared(alloc)?;
+    let size = batch_size(scope.len());
+    let mut found = nothing_found(alloc, &predicate);
+    let mut before = 0;
+    let mut batch = Vec::new(alloc);
+    for part in parts {
+        if batch.len() == size {
+            if !scan_more(alloc, &scope, &predicate, &mut found, before, batch)? {
+                return Ok(None);
+            }
+            before += size;
+            batch = Vec::new(alloc);
+        }
+        batch.push(part.into_part(alloc)?)?;
+    }
+    if scan_more(alloc, &scope, &predicate, &mut found, before, batch)? {
+        Ok(Some(found))
+    } else {
+        Ok(None)
     }
 }

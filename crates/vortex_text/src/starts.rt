@@ -5,12 +5,12 @@ ghost use Rattle.vortex_text.specs.Fitting.{IsPartOf};
 ghost use Rattle.vortex_text.specs.OpenParts.{open_data};
 ghost use Rattle.vortex_text.specs.Rows.{empty_part};
 
+use crate::kept_part::KeptPart;
 use crate::open_column::OpenColumn;
 use crate::open_part::OpenPart;
 use std::alloc::{AllocError, Global};
 use vortex_base::dtype::DType;
 use vortex_base::scope::Scope;
-use vortex_prune::part::Part;
 use vortex_stats::stats_set::StatsSet;
 
 // The columns again.
@@ -29,7 +29,7 @@ fn named(alloc: Global, columns: &[(String, DType)]) -> Result<Vec<(String, DTyp
 pub fn scope_of(
     alloc: Global,
     columns: &[(String, DType)],
-    parts: &[Part],
+    parts: &[KeptPart],
 ) -> Result<Scope, AllocError>
     requires scope { IsScope (named_columns columns.now) }
     requires parts { All (IsPartOf (named_columns columns.now)) parts.now }

@@ -1,7 +1,7 @@
 //! The bytes that come in, and the bytes that go out.
-ghost use Rattle.std.specs.Prelude.{◌≡◌, ℕ, ◌<◌, ◌≤◌, length, vec_len, IfOk, IfErr, IfSome, OnOk, IsErrOf, IsTrue};
+ghost use Rattle.std.specs.Prelude.{◌≡◌, ◌<◌, ◌≤◌, length, vec_len, IfOk, IfSome, OnOk, IsErrOf, IsTrue};
 ghost use Rattle.std.specs.Bool.{OnFalse};
-ghost use Rattle.std.specs.Io.KnownBytes.{Appends, Consumes, IsAtEnd};
+ghost use Rattle.std.specs.Io.KnownBytes.{Appends, IsAtEnd};
 ghost use Rattle.vortex_text.specs.Streams.{AppendsProperFront};
 ghost use Rattle.vortex_text.specs.declared.streams.ReadError.TheVariants.{Memory};
 

@@ -1,5 +1,5 @@
 //! The values that words write.
-ghost use Rattle.std.specs.Prelude.{◌≡◌, ◌++◌, ◌∷◌, [], OnOk, None, option_map};
+ghost use Rattle.std.specs.Prelude.{◌≡◌, [], None};
 ghost use Rattle.vortex_text.specs.Fails.{Gives};
 ghost use Rattle.vortex_text.specs.Numbers.{byte_of, bytes_of, hexadecimal_of};
 ghost use Rattle.vortex_text.specs.Values.{binary_of, optional_value_of, plain_value, quoted_value, text_of, truth_of, value_of};

@@ -7,6 +7,7 @@ use std::test::Fail;
 use vortex_text::program::run;
 
 mod bad_lines;
+mod batches;
 mod deep;
 mod joined_parts;
 mod nulls;

@@ -18,9 +18,9 @@ use Rattle.vortex_base.specs.Data.Types.{as_nullable, dtype_eq, is_nullable}
 use Rattle.vortex_base.specs.Meanings.Typing.{are_comparable, between_type, binary_type, comparison_type, connective_type, is_bool, is_utf8, like_type, null_test_type, not_type, truth_type, type_if, type_of, with_type, with_types}
 use Rattle.vortex_stats.specs.declared.error.StatsError.{StatsError}
 use Rattle.vortex_prune.specs.Binding.BoundTo.{IsBinding, base_type}
-use Rattle.vortex_prune.specs.Binding.StateTypes.{as_nullable-again}
-use Rattle.vortex_prune.proofs.NullErasure.{is_state-as_nullable, is_bool-as_nullable, is_utf8-as_nullable}
-use Rattle.vortex_prune.specs.Answers.{OkOrMemory}
+use Rattle.vortex_rewrite.specs.StateTypes.{as_nullable-again}
+use Rattle.vortex_rewrite.proofs.NullErasure.{is_state-as_nullable, is_bool-as_nullable, is_utf8-as_nullable}
+use Rattle.vortex_rewrite.specs.Answers.{OkOrMemory}
 
 -- the type, with null, if there is one
 abbrev base : Result DType BaseError → Result DType BaseError

@@ -21,11 +21,28 @@ use Rattle.vortex_stats.specs.declared.error.StatsError.{StatsError}
 use Rattle.vortex_stats.specs.declared.error.StatsError.TheVariants.{Binder}
 use Rattle.vortex_prune.specs.Binding.Binders.{BinderAnswer, IsAnswerOf, IsFaithful}
 use Rattle.vortex_prune.specs.Binding.BoundTo.{HasNoColumnOn, IsBinding, IsReplacement, IsWrong, Replaces, SomeMet, binding_causes}
-use Rattle.vortex_prune.specs.Scanning.Causes.{IsRefusal}
-use Rattle.vortex_prune.specs.Rewriting.Proof.{Assignment, value_under}
+use Rattle.vortex_rewrite.specs.Causes.{IsRefusal}
+use Rattle.vortex_rewrite.specs.Rewriting.Proof.{Assignment, value_under}
 use Rattle.std.proofs.lemmas.Bool.{or_parts}
-use Rattle.vortex_prune.proofs.Rewriting.CauseLemmas.{refusal-more}
+use Rattle.vortex_rewrite.proofs.Rewriting.CauseLemmas.{refusal-more}
 use Rattle.vortex_prune.specs.Scanning.ScanRefusals.{if_faithful, proof_causes}
+
+-- what is so of a placeholder that is met, whichever it is, is so
+pub met-const : (P : Type 0) (e : Tree Place) → SomeMet (λ f x. P) e → P
+met-const P (column c) h = absurd h
+met-const P (literal c) h = absurd h
+met-const P (binary o l r) (inl h) = met-const P l h
+met-const P (binary o l r) (inr h) = met-const P r h
+met-const P (between o x l u) (inl h) = met-const P x h
+met-const P (between o x l u) (inr (inl h)) = met-const P l h
+met-const P (between o x l u) (inr (inr h)) = met-const P u h
+met-const P (is_null x) h = met-const P x h
+met-const P (is_not_null x) h = met-const P x h
+met-const P (not x) h = met-const P x h
+met-const P (like o x p) (inl h) = met-const P x h
+met-const P (like o x p) (inr h) = met-const P p h
+met-const P (stat f x) h = h
+met-const P row_count h = absurd h
 
 abbrev Table : Type 0
 Table = Result DType BaseError

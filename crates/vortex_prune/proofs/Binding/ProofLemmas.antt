@@ -12,8 +12,8 @@ use Rattle.vortex_base.specs.declared.error.BaseError.{BaseError}
 use Rattle.vortex_base.specs.declared.scalar_value.ScalarValue.{ScalarValue}
 use Rattle.vortex_prune.proofs.Binding.BoundValues.{closed}
 use Rattle.vortex_prune.specs.Binding.BoundTo.{IsBinding}
-use Rattle.vortex_prune.specs.Rewriting.Proof.{Assignment, proves, value_under}
-use Rattle.vortex_prune.proofs.Logic.{or_more}
+use Rattle.vortex_rewrite.specs.Rewriting.Proof.{Assignment, proves, value_under}
+use Rattle.vortex_rewrite.proofs.Logic.{or_more}
 
 -- ---- a closed expression is evaluated on the row with no columns
 

@@ -4,7 +4,7 @@ use Rattle.vortex_base.specs.Data.Columns.{ChunkData, IsChunk, all_long, row_cou
 use Rattle.vortex_base.specs.Data.Exact.{both_true}
 use Rattle.vortex_prune.proofs.Honesty.HonestStats.{part_fact}
 use Rattle.vortex_prune.proofs.Honesty.StatTypes.{part_type}
-use Rattle.vortex_prune.specs.Binding.Facts.{IsHonest}
+use Rattle.vortex_rewrite.specs.Facts.{IsHonest}
 use Rattle.vortex_prune.specs.Part.{IsPart, IsTruePart, PartData}
 use Rattle.vortex_prune.specs.Binding.PartAnswers.{part_values}
 

@@ -11,7 +11,7 @@ use Rattle.vortex_base.specs.Trees.Tree.{Tree, Place, literal}
 use Rattle.vortex_base.specs.Meanings.Typing.{stat_type}
 use Rattle.vortex_stats.specs.declared.error.StatsError.{StatsError}
 use Rattle.vortex_stats.specs.Sets.Entries.{entries_fit}
-use Rattle.vortex_prune.specs.Answers.{IfSupported}
+use Rattle.vortex_rewrite.specs.Answers.{IfSupported}
 use Rattle.vortex_prune.specs.Part.{Entries, IsPart, PartData}
 use Rattle.vortex_prune.specs.Binding.PartBinder.{column_literal, literal_if}
 use Rattle.vortex_prune.specs.Binding.StatValues.{stat_value}

@@ -26,11 +26,11 @@ use Rattle.vortex_stats.specs.Sets.Entries.{entry_value, entries_fit, is_value_o
 use Rattle.vortex_stats.specs.Precision.{present_value}
 use Rattle.vortex_stats.specs.Stat.{AreOneType, extreme_dtype, stat_dtype, stats_agree, sum_dtype}
 use Rattle.vortex_stats.proofs.Kit.{entry_value-fits}
-use Rattle.vortex_prune.specs.Answers.{IfSupported, supported}
+use Rattle.vortex_rewrite.specs.Answers.{IfSupported, supported}
 use Rattle.vortex_prune.specs.Part.{Entries}
 use Rattle.vortex_prune.specs.Binding.StatValues.{count_of, of_count, all_null_value, all_non_null_value, null_count_value, exact_value, stat_value}
-use Rattle.vortex_prune.proofs.Logic.{ok, same_ok}
-use Rattle.vortex_prune.proofs.NullErasure.{placeholder_null}
+use Rattle.vortex_rewrite.proofs.Logic.{ok, same_ok}
+use Rattle.vortex_rewrite.proofs.NullErasure.{placeholder_null}
 
 abbrev constant : Constant → Result Constant BaseError
 constant c = Ok c

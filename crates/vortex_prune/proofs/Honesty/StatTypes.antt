@@ -8,13 +8,13 @@ use Rattle.vortex_base.specs.Data.Types.{as_nullable, dtype_eq_is_exact, eq_igno
 use Rattle.vortex_base.specs.Meanings.Typing.{stat_type, state_dtype, type_of}
 use Rattle.vortex_base.specs.declared.aggregate.AggregateFnRef.{AggregateFnRef}
 use Rattle.vortex_base.specs.declared.dtype.DType.{DType}
-use Rattle.vortex_prune.proofs.NullErasure.{placeholder_null, typed_null}
+use Rattle.vortex_rewrite.proofs.NullErasure.{placeholder_null, typed_null}
 use Rattle.vortex_prune.proofs.Honesty.PartLemmas.{part_set_fits}
 use Rattle.vortex_prune.proofs.Honesty.StatFits.{stat_value-fits}
 use Rattle.vortex_prune.specs.Part.{Entries, IsPart, PartData}
 use Rattle.vortex_prune.specs.Binding.PartAnswers.{column_value, part_values}
 use Rattle.vortex_prune.specs.Binding.StatValues.{stat_value}
-use Rattle.vortex_prune.specs.Binding.StateTypes.{same_stat_type}
+use Rattle.vortex_rewrite.specs.StateTypes.{same_stat_type}
 
 -- a column of the type, nullability aside, has placeholders of the same type
 same_placeholder : (f : AggregateFnRef) (s t u : DType) → eq_ignore_nullability s t ≡ true → stat_type f t ≡ Ok u → stat_type f s ≡ Ok u

@@ -7,12 +7,12 @@ use Rattle.vortex_base.specs.Data.Scalars.{Constant}
 use Rattle.vortex_base.specs.Trees.Tree.{Place, Tree}
 use Rattle.vortex_base.specs.declared.dtype.DType.{DType}
 use Rattle.vortex_prune.proofs.Scanning.ScanLemmas.{answered_long, faithful_one, faithful_refusal_in, refusal_in}
-use Rattle.vortex_prune.proofs.Rewriting.CauseLemmas.{either-refusal}
+use Rattle.vortex_rewrite.proofs.Rewriting.CauseLemmas.{either-refusal}
 use Rattle.vortex_prune.specs.Binding.Binders.{BinderAnswer}
-use Rattle.vortex_prune.specs.Scanning.Causes.{Causes, IsRefusal, either_causes}
+use Rattle.vortex_rewrite.specs.Causes.{Causes, IsRefusal, either_causes}
 use Rattle.vortex_prune.specs.Part.{PartData}
 use Rattle.vortex_prune.specs.Scanning.PartScans.{AreTold, IsListed, IsRefusedAt, TellsOf, UnlessSkipped, binder_refuses, binder_tells}
-use Rattle.vortex_prune.specs.Rewriting.Proof.{Assignment}
+use Rattle.vortex_rewrite.specs.Rewriting.Proof.{Assignment}
 use Rattle.vortex_prune.specs.Scanning.ScanRefusals.{AreClosed, IsClosed, KeptAreClosed, binder_causes, if_faithful, proof_causes}
 use Rattle.vortex_prune.specs.Scanning.Selection.{Answered, AreFaithful, answered, verdict}
 use Rattle.vortex_prune.specs.declared.scan.verdict.Verdict.{Verdict}

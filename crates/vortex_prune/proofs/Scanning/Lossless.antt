@@ -7,12 +7,12 @@ use Rattle.vortex_base.specs.Meanings.Fitting.{fits_scope}
 use Rattle.vortex_base.specs.Meanings.Meaning.{satisfies}
 use Rattle.vortex_base.specs.Trees.Tree.{Place, Tree, is_plain}
 use Rattle.vortex_base.specs.Meanings.Typing.{type_of}
-use Rattle.vortex_prune.proofs.Soundness.SoundRules.{falsifiers_sound, satisfiers_sound}
-use Rattle.vortex_prune.specs.Binding.Facts.{IsHonest}
-use Rattle.vortex_prune.specs.Rewriting.Lawful.{IsOver, OwnRule}
+use Rattle.vortex_rewrite.proofs.Soundness.SoundRules.{falsifiers_sound, satisfiers_sound}
+use Rattle.vortex_rewrite.specs.Facts.{IsHonest}
+use Rattle.vortex_rewrite.specs.Rewriting.Lawful.{IsOver, OwnRule}
 use Rattle.vortex_prune.specs.Part.{PartData}
-use Rattle.vortex_prune.specs.Rewriting.Proof.{Assignment}
-use Rattle.vortex_prune.specs.Rewriting.Falsifiers.{falsifier, satisfier}
+use Rattle.vortex_rewrite.specs.Rewriting.Proof.{Assignment}
+use Rattle.vortex_rewrite.specs.Rewriting.Falsifiers.{falsifier, satisfier}
 use Rattle.vortex_prune.specs.Scanning.Selection.{Answered, full, is_proved, rows_by, satisfying, satisfying_rows, selected_rows, verdict}
 use Rattle.vortex_prune.specs.declared.scan.verdict.Verdict.TheVariants.{Skipped, Whole, Tested}
 

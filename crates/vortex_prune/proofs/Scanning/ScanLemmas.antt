@@ -8,11 +8,11 @@ use Rattle.vortex_base.specs.Data.Columns.{row_count as rows_of}
 use Rattle.vortex_base.specs.Data.Scalars.{Constant}
 use Rattle.vortex_base.specs.Trees.Tree.{Place, Tree}
 use Rattle.vortex_prune.specs.Part.{AreParts, IsPart, PartData}
-use Rattle.vortex_prune.specs.Rewriting.Proof.{Assignment}
+use Rattle.vortex_rewrite.specs.Rewriting.Proof.{Assignment}
 use Rattle.vortex_prune.specs.Binding.Binders.{BinderAnswer}
-use Rattle.vortex_prune.specs.Scanning.Causes.{IsRefusal}
+use Rattle.vortex_rewrite.specs.Causes.{IsRefusal}
 use Rattle.vortex_prune.specs.Scanning.ScanRefusals.{binder_causes, if_faithful, proof_causes}
-use Rattle.vortex_prune.proofs.Rewriting.CauseLemmas.{refusal-more}
+use Rattle.vortex_rewrite.proofs.Rewriting.CauseLemmas.{refusal-more}
 use Rattle.vortex_base.specs.declared.dtype.DType.{DType}
 use Rattle.vortex_prune.specs.Scanning.Selection.{Answered, AreFaithful, answered, any_binder, is_proved, is_whole, place_if, rows_by, rows_tested, selected_rows, skipped_parts, tested_rows, verdict, whole_parts}
 use Rattle.vortex_stats.specs.declared.error.StatsError.{StatsError}
@@ -21,7 +21,7 @@ use Rattle.std.proofs.lemmas.Bool.{or_left, or_right}
 -- ---- lists made of the elements of a list and their places
 
 module _ {X Y : Type 0} (f : ℕ → X → List Y) where
-  abbrev collected : ℕ → List X → List Y
+  abbrev pub collected : ℕ → List X → List Y
   collected m xs = flat_map (λ e. f e.0 e.1) (enumerate_from m xs)
 
   one_more : (m n k : ℕ) (xs : List X) (d : X) → m + n ≡ k → n < length xs → collected m (take (suc n) xs) ≡ collected m (take n xs) ++ f k (get_or xs n d)
@@ -40,7 +40,7 @@ module _ {X : Type 0} (test : X → Bool) where
   listed_if true m x rest = refl
   listed_if false m x rest = refl
 
-  passing_collected : (m : ℕ) (xs : List X) → map (λ e. e.0) (filter (λ e. test e.1) (enumerate_from m xs)) ≡ flat_map (λ e. place_if (test e.1) e.0) (enumerate_from m xs)
+  pub passing_collected : (m : ℕ) (xs : List X) → map (λ e. e.0) (filter (λ e. test e.1) (enumerate_from m xs)) ≡ flat_map (λ e. place_if (test e.1) e.0) (enumerate_from m xs)
   passing_collected m [] = refl
   passing_collected m (x ∷ xs) = listed_if (test x) m x (filter (λ e. test e.1) (enumerate_from (m + 1) xs)) ∙ ap (λ l. place_if (test x) m ++ l) (passing_collected (m + 1) xs)
 

@@ -3,17 +3,19 @@ use Rattle.std.proofs.Common.{◌≡◌, ℕ, Bool, true, false, List, [], Optio
 use Rattle.std.specs.Prelude.{◌⊎◌, Contains}
 use Rattle.vortex_base.specs.Trees.Tree.{Tree, Place}
 use Rattle.vortex_base.specs.declared.dtype.DType.{DType}
-use Rattle.vortex_prune.proofs.Rewriting.CauseLemmas.{either-left, either-refused, either-right, met-const, some-const}
-use Rattle.vortex_prune.proofs.Rewriting.ShutProofs.{built_in_is_shut, built_in_satisfier_is_shut}
+use Rattle.vortex_rewrite.proofs.Rewriting.CauseLemmas.{either-left, either-refused, either-right, some-const}
+use Rattle.vortex_prune.proofs.Binding.BoundValues.{met-const}
+use Rattle.vortex_rewrite.proofs.Rewriting.ShutProofs.{built_in_is_shut, built_in_satisfier_is_shut}
 use Rattle.vortex_prune.proofs.Scanning.ScanLemmas.{any_at}
-use Rattle.vortex_prune.specs.Answers.{IsMemory}
+use Rattle.vortex_rewrite.specs.Answers.{IsMemory}
 use Rattle.vortex_prune.specs.Binding.Binders.{BinderAnswer}
-use Rattle.vortex_prune.specs.Rewriting.Falsifiers.{falsifier, satisfier}
-use Rattle.vortex_prune.specs.Rewriting.Lawful.{OwnRule}
-use Rattle.vortex_prune.specs.Rewriting.RuleRefusals.{SomeAsked, rule_causes}
-use Rattle.vortex_prune.specs.Rewriting.Visited.{visited}
-use Rattle.vortex_prune.specs.Scanning.Causes.{Causes, IsRefusal, either_causes}
-use Rattle.vortex_prune.specs.Scanning.ScanRefusals.{binder_causes, causes_by, faithful_causes, if_faithful, is_open, scan_causes}
+use Rattle.vortex_rewrite.specs.Rewriting.Falsifiers.{falsifier, satisfier}
+use Rattle.vortex_rewrite.specs.Rewriting.Lawful.{OwnRule}
+use Rattle.vortex_rewrite.specs.Rewriting.RuleRefusals.{SomeAsked, rule_causes}
+use Rattle.vortex_rewrite.specs.Rewriting.Visited.{visited}
+use Rattle.vortex_rewrite.specs.Causes.{Causes, IsRefusal, either_causes}
+use Rattle.vortex_rewrite.specs.Rewriting.Proof.{is_open}
+use Rattle.vortex_prune.specs.Scanning.ScanRefusals.{binder_causes, causes_by, faithful_causes, if_faithful, scan_causes}
 use Rattle.vortex_prune.specs.Scanning.Selection.{any_binder}
 use Rattle.vortex_stats.specs.declared.error.BinderFault.TheVariants as binder_fault
 use Rattle.vortex_stats.specs.declared.error.RuleFault.TheVariants as rule_fault

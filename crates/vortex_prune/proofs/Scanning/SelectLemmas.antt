@@ -1,22 +1,10 @@
--- The rows that satisfy a predicate are found one by one; what is refused for memory alone.
-use Rattle.std.proofs.Common.{◌≡◌, ℕ, Bool, true, false, Ok, Result, IfErr, Err, List, [], ◌∷◌, ◌++◌, alloc_error, append_assoc, arith, cond, map, refl, subst, sym, ap, ◌∙◌, ◌+◌}
+-- The rows that satisfy a predicate are found one by one.
+use Rattle.std.proofs.Common.{◌≡◌, ℕ, Bool, true, false, List, [], ◌∷◌, ◌++◌, append_assoc, arith, cond, map, refl, sym, ap, ◌∙◌, ◌+◌}
 use Rattle.std.specs.List.{filter, range_with_len}
 use Rattle.std.proofs.lemmas.List.{map-append, map-id}
 use Rattle.std.proofs.lemmas.List.Elements.{filter-append}
 use Rattle.std.proofs.lemmas.List.FromFn.{map-range_with_len_more}
-use Rattle.vortex_base.specs.Answer.{Makes}
 use Rattle.vortex_prune.specs.Scanning.Selection.{row_if}
-use Rattle.vortex_base.specs.declared.error.BaseError.{BaseError}
-use Rattle.vortex_base.specs.declared.error.BaseError.TheVariants.{Memory}
-
--- what makes a value is refused for memory alone
-pub memory_alone : {A : Type 0} (v : A) (r : Result A BaseError) → Makes v r → IfErr r (λ fault. fault ≡ Memory alloc_error)
-memory_alone v (Ok x) m = tt
-memory_alone v (Err f) m = m
-
--- and what it answers is the value
-pub made_value : {A : Type 0} (v x : A) (r : Result A BaseError) → Makes v r → r ≡ Ok x → x ≡ v
-made_value v x r m e = subst (λ s. Makes v s) e m
 
 -- ---- the rows below a place that pass a test, as pairs for the part at a place
 

@@ -5,10 +5,10 @@ use Rattle.std.specs.List.{enumerate_from}
 use Rattle.std.proofs.lemmas.Map.Made.{Contains-tail}
 use Rattle.std.proofs.lemmas.Option.{same_Some, slice_get-map}
 use Rattle.vortex_base.specs.Trees.Tree.{Tree, Place}
-use Rattle.vortex_prune.proofs.Completeness.Boxes.{skipping_is_complete}
+use Rattle.vortex_prune.proofs.Scanning.Boxes.{skipping_is_complete}
 use Rattle.vortex_prune.specs.Scanning.Complete.{ScansSkipExactly, by_own_statistics}
 use Rattle.vortex_prune.specs.Binding.PartAnswers.{part_values}
-use Rattle.vortex_prune.specs.Rewriting.Falsifiers.{falsifier}
+use Rattle.vortex_rewrite.specs.Rewriting.Falsifiers.{falsifier}
 use Rattle.vortex_prune.specs.Scanning.Selection.{Answered, is_proved, skipped_parts}
 use Rattle.vortex_stats.proofs.Kit.{contains_first, contains_later}
 

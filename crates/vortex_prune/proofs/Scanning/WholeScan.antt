@@ -14,13 +14,14 @@ use Rattle.vortex_base.specs.declared.error.BaseError.{BaseError}
 use Rattle.vortex_prune.proofs.Binding.BoundValues.{has_a_type}
 use Rattle.vortex_prune.proofs.Scanning.Lossless.{IsAnswered, selected_full}
 use Rattle.vortex_prune.proofs.Scanning.SkippedParts.{scans_skip_exactly}
-use Rattle.vortex_prune.specs.Scanning.Complete.{IsSatisfiable, SkipsExactly, by_own_statistics, is_read_once}
-use Rattle.vortex_prune.specs.Rewriting.Lawful.{OwnRule}
+use Rattle.vortex_rewrite.specs.Rewriting.ReadOnce.{IsSatisfiable, is_read_once}
+use Rattle.vortex_prune.specs.Scanning.Complete.{SkipsExactly, by_own_statistics}
+use Rattle.vortex_rewrite.specs.Rewriting.Lawful.{OwnRule}
 use Rattle.vortex_prune.specs.Part.{AreParts, IsPart, PartData}
 use Rattle.vortex_prune.specs.Binding.PartAnswers.{part_values}
-use Rattle.vortex_prune.specs.Rewriting.Predicates.{has_type, is_predicate}
-use Rattle.vortex_prune.specs.Rewriting.Proof.{Assignment}
-use Rattle.vortex_prune.specs.Rewriting.Falsifiers.{falsifier, satisfier}
+use Rattle.vortex_rewrite.specs.Rewriting.Predicates.{has_type, is_predicate}
+use Rattle.vortex_rewrite.specs.Rewriting.Proof.{Assignment}
+use Rattle.vortex_rewrite.specs.Rewriting.Falsifiers.{falsifier, satisfier}
 use Rattle.vortex_prune.specs.Scanning.Selection.{AreByStatistics, AreHonest, answered, full, selected_rows, skipped_parts}
 
 abbrev Fits : Tree Place → PartData → Type 0

@@ -13,11 +13,11 @@ use Rattle.vortex_base.specs.declared.scalar_value.ScalarValue.TheVariants as va
 use Rattle.vortex_base.specs.Data.Scalars.{Constant}
 use Rattle.vortex_base.specs.Trees.Tree.{Tree, Place, column, literal, binary, between, is_null, not}
 use Rattle.vortex_base.specs.Meanings.Typing.{truth_type}
-use Rattle.vortex_prune.proofs.Completeness.Boxes.{skipping_is_complete}
-use Rattle.vortex_prune.specs.Scanning.Complete.{Box, IsSatisfiable, is_read_once}
+use Rattle.vortex_prune.proofs.Scanning.Boxes.{skipping_is_complete}
+use Rattle.vortex_rewrite.specs.Rewriting.ReadOnce.{Box, IsSatisfiable, is_read_once}
 use Rattle.vortex_prune.specs.Part.{Entries, IsPart, PartData}
 use Rattle.vortex_prune.specs.Binding.PartAnswers.{part_values}
-use Rattle.vortex_prune.specs.Rewriting.Falsifiers.{bool_literal, falsifier, reduce_balanced, node}
+use Rattle.vortex_rewrite.specs.Rewriting.Falsifiers.{bool_literal, falsifier, reduce_balanced, node}
 use Rattle.vortex_prune.specs.Scanning.Selection.{is_proved}
 use Rattle.vortex_stats.specs.declared.precision.Precision.TheVariants.{Exact, Inexact}
 use Rattle.vortex_stats.specs.declared.stat.Stat.TheVariants.{Max, Min}

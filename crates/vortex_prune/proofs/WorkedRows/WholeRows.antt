@@ -13,7 +13,7 @@ use Rattle.vortex_base.specs.Patterns.Like.{plain}
 use Rattle.vortex_base.specs.Trees.Tree.{Tree, Place, column, literal, binary, between, is_null, like}
 use Rattle.vortex_prune.specs.Binding.PartAnswers.{part_values}
 use Rattle.vortex_prune.specs.Part.{Entries, PartData}
-use Rattle.vortex_prune.specs.Rewriting.Falsifiers.{falsifier, node, reduce_balanced, satisfier}
+use Rattle.vortex_rewrite.specs.Rewriting.Falsifiers.{falsifier, node, reduce_balanced, satisfier}
 use Rattle.vortex_prune.specs.Scanning.Selection.{Answered, is_proved, selected_rows, skipped_parts, tested_rows, verdict, whole_parts}
 use Rattle.vortex_prune.specs.declared.scan.verdict.Verdict.TheVariants.{Skipped}
 use Rattle.vortex_stats.specs.declared.precision.Precision.TheVariants.{Exact, Inexact}

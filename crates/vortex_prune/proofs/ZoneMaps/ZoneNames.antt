@@ -20,7 +20,7 @@ use Rattle.vortex_base.specs.declared.error.BaseError.{BaseError}
 use Rattle.vortex_base.specs.declared.scalar_value.ScalarValue.{ScalarValue}
 use Rattle.vortex_stats.specs.Sets.Entries.{entries_fit}
 use Rattle.vortex_prune.proofs.Honesty.StatFits.{stat_value-fits}
-use Rattle.vortex_prune.proofs.NullErasure.{placeholder_null}
+use Rattle.vortex_rewrite.proofs.NullErasure.{placeholder_null}
 use Rattle.vortex_prune.specs.Part.{AreParts, Entries, IsPart, PartData, sets_fit}
 use Rattle.vortex_prune.specs.Zones.{EachTells, Head, TellsOf, head, named_head, heads, heads_from, set_value, suffix, supporting, zone_column, zone_table, zone_type, zone_value, HaveScope}
 use Rattle.std.proofs.lemmas.List.Elements.{recursion_from_All}

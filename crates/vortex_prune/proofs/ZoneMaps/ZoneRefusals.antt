@@ -2,16 +2,17 @@
 use Rattle.std.proofs.Common.{◌≡◌, ◌<◌, true, false, List, [], ◌∷◌, Option, Some, None, Result, Ok, Err, IfErr, arith, length, refl, subst, sym, ◌∙◌}
 use Rattle.vortex_base.specs.Trees.Tree.{Tree, Place, has_bare_column}
 use Rattle.vortex_base.specs.declared.dtype.DType.{DType}
-use Rattle.vortex_prune.proofs.Rewriting.CauseLemmas.{either-left, either-right, met-const}
+use Rattle.vortex_rewrite.proofs.Rewriting.CauseLemmas.{either-left, either-right}
+use Rattle.vortex_prune.proofs.Binding.BoundValues.{met-const}
 use Rattle.vortex_prune.proofs.Scanning.ScanRefused.{asking_refused, memory_alone_by}
 use Rattle.vortex_prune.specs.Binding.Binders.{BinderAnswer}
 use Rattle.vortex_prune.specs.Binding.BoundTo.{binding_causes}
-use Rattle.vortex_prune.specs.Scanning.Causes.{Causes, IsRefusal}
-use Rattle.vortex_prune.specs.Rewriting.Lawful.{OwnRule}
+use Rattle.vortex_rewrite.specs.Causes.{Causes, IsRefusal}
+use Rattle.vortex_rewrite.specs.Rewriting.Lawful.{OwnRule}
 use Rattle.vortex_prune.specs.Part.{PartData}
-use Rattle.vortex_prune.specs.Rewriting.Falsifiers.{falsifier, satisfier}
-use Rattle.vortex_prune.specs.Answers.{IsMemory}
-use Rattle.vortex_prune.specs.Scanning.ScanRefusals.{is_open}
+use Rattle.vortex_rewrite.specs.Rewriting.Falsifiers.{falsifier, satisfier}
+use Rattle.vortex_rewrite.specs.Answers.{IsMemory}
+use Rattle.vortex_rewrite.specs.Rewriting.Proof.{is_open}
 use Rattle.vortex_prune.specs.Scanning.ZoneScans.{is_left_open, open_causes, zone_causes}
 use Rattle.vortex_stats.specs.declared.error.BinderFault.TheVariants as binder_fault
 use Rattle.vortex_stats.specs.declared.error.RuleFault.TheVariants as rule_fault

@@ -27,10 +27,10 @@ use Rattle.vortex_stats.specs.declared.stat.Stat.{Stat}
 use Rattle.vortex_stats.specs.declared.stat.Stat.TheVariants.{Max, Min, Sum}
 use Rattle.vortex_prune.proofs.Honesty.HonestParts.{part_is_honest}
 use Rattle.vortex_prune.specs.Binding.Binders.{IsHonestOver}
-use Rattle.vortex_prune.specs.Binding.Facts.{IsHonest}
+use Rattle.vortex_rewrite.specs.Facts.{IsHonest}
 use Rattle.vortex_prune.specs.Part.{Entries, IsPart, IsTruePart, PartData, sets_fit}
 use Rattle.vortex_prune.specs.Binding.PartAnswers.{column_value, part_values}
-use Rattle.vortex_prune.specs.Rewriting.Proof.{Assignment}
+use Rattle.vortex_rewrite.specs.Rewriting.Proof.{Assignment}
 use Rattle.vortex_prune.specs.Binding.StatValues.{exact_value, stat_value}
 use Rattle.vortex_prune.specs.Binding.ZoneFaithful.{place_of}
 use Rattle.vortex_prune.specs.Zones.{Head, ZonesData, cell_at, head, heads, is_zone_row, offset, set_value, supporting, zone_column, zone_columns, zone_place, zone_value, zone_values}

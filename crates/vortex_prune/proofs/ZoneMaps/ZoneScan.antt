@@ -21,10 +21,10 @@ use Rattle.vortex_prune.specs.Binding.BoundTo.{HasNoColumnOn, WhereFaithful}
 use Rattle.vortex_prune.specs.Part.{IsPart, PartData}
 use Rattle.vortex_prune.specs.Scanning.PartScans.{AreTold, IsRefusedAt, TellsOf}
 use Rattle.vortex_prune.specs.Binding.PartAnswers.{part_values}
-use Rattle.vortex_prune.specs.Rewriting.Proof.{Assignment, value_under}
+use Rattle.vortex_rewrite.specs.Rewriting.Proof.{Assignment, value_under}
 use Rattle.vortex_prune.specs.Scanning.Selection.{Answered, is_proved, verdict}
-use Rattle.vortex_prune.specs.Scanning.Causes.{IsRefusal}
-use Rattle.vortex_prune.specs.Scanning.ScanRefusals.{is_open}
+use Rattle.vortex_rewrite.specs.Causes.{IsRefusal}
+use Rattle.vortex_rewrite.specs.Rewriting.Proof.{is_open}
 use Rattle.vortex_prune.specs.declared.scan.verdict.Verdict.{Verdict}
 use Rattle.vortex_prune.specs.declared.scan.verdict.Verdict.TheVariants.{Skipped, Whole, Tested}
 use Rattle.vortex_prune.specs.Scanning.ZoneScans.{CanTell, IsBoundOnce, IsShutIfKept, TellsAs, open_causes, statistics_answers, table_tells, table_verdict, zone_truth}

@@ -9,8 +9,8 @@ use Rattle.vortex_base.specs.Data.Scalars.{Constant}
 use Rattle.vortex_base.specs.Trees.Tree.{Tree, Place, stat, has_placeholder}
 use Rattle.vortex_base.specs.Data.Types.{as_nullable}
 use Rattle.vortex_base.specs.Meanings.Typing.{type_of}
-use Rattle.vortex_prune.specs.Binding.Facts.{IsHonest}
-use Rattle.vortex_prune.specs.Rewriting.Proof.{Assignment}
+use Rattle.vortex_rewrite.specs.Facts.{IsHonest}
+use Rattle.vortex_rewrite.specs.Rewriting.Proof.{Assignment}
 
 -- a tree of this type, nullability aside, that has a value on the row: it has no placeholder, and its columns are the row's
 pub record IsAnswerOf (t : DType) (row : List Constant) (r : Tree Place) : Type 0 where

@@ -10,10 +10,10 @@ use Rattle.vortex_base.specs.Meanings.Typing.{type_of, with_type}
 use Rattle.vortex_stats.specs.declared.error.BinderFault.TheVariants.{Own}
 use Rattle.vortex_stats.specs.declared.error.StatsError.{StatsError}
 use Rattle.vortex_stats.specs.declared.error.StatsError.TheVariants.{Memory, Binder}
-use Rattle.vortex_prune.specs.declared.hook_fault.HookFault.{HookFault}
-use Rattle.vortex_prune.specs.declared.hook_fault.HookFault.TheVariants as fault
+use Rattle.vortex_rewrite.specs.declared.hook_fault.HookFault.{HookFault}
+use Rattle.vortex_rewrite.specs.declared.hook_fault.HookFault.TheVariants as fault
 use Rattle.vortex_prune.specs.Binding.Binders.{BinderAnswer}
-use Rattle.vortex_prune.specs.Scanning.Causes.{Causes, no_causes}
+use Rattle.vortex_rewrite.specs.Causes.{Causes, no_causes}
 
 -- the type, null being made one of its values
 abbrev pub base_type : Tree Place → Result DType BaseError

@@ -7,7 +7,7 @@ use Rattle.vortex_base.specs.Data.Columns.{ColumnData, row_count as rows_of}
 use Rattle.vortex_base.specs.Trees.Tree.{column}
 use Rattle.vortex_base.specs.Data.Types.{eq_ignore_nullability}
 use Rattle.vortex_prune.specs.Part.{Entries, PartData}
-use Rattle.vortex_prune.specs.Rewriting.Proof.{Assignment}
+use Rattle.vortex_rewrite.specs.Rewriting.Proof.{Assignment}
 use Rattle.vortex_prune.specs.Binding.StatValues.{stat_value}
 
 -- what the set of a column answers, if the column is there and has this type, nullability aside

@@ -10,7 +10,7 @@ use Rattle.vortex_base.specs.Trees.Tree.{Tree, Place, column, literal}
 use Rattle.vortex_base.specs.Data.Types.{as_nullable}
 use Rattle.vortex_base.specs.Meanings.Typing.{stat_type}
 use Rattle.vortex_prune.specs.Binding.Binders.{BinderAnswer}
-use Rattle.vortex_prune.specs.Binding.Facts.{is_column_of}
+use Rattle.vortex_rewrite.specs.Facts.{is_column_of}
 use Rattle.vortex_prune.specs.Part.{Entries, PartData}
 use Rattle.vortex_prune.specs.Binding.StatValues.{stat_value}
 

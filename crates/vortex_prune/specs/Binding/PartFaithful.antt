@@ -14,11 +14,11 @@ use Rattle.vortex_base.specs.Trees.Tree.{Tree, Place, column, literal, stat, has
 use Rattle.vortex_base.specs.Data.Types.{as_nullable, dtype_eq_is_exact, eq_ignore_nullability}
 use Rattle.vortex_base.specs.Meanings.Typing.{stat_type, type_of}
 use Rattle.vortex_prune.specs.Binding.Binders.{IsAnswerOf, IsFaithful}
-use Rattle.vortex_prune.specs.Binding.Facts.{is_column_of}
+use Rattle.vortex_rewrite.specs.Facts.{is_column_of}
 use Rattle.vortex_prune.specs.Part.{Entries, PartData}
 use Rattle.vortex_prune.specs.Binding.PartAnswers.{column_value, part_values}
 use Rattle.vortex_prune.specs.Binding.PartBinder.{IsNullOf, column_literal, literal_if, part_answer}
-use Rattle.vortex_prune.specs.Binding.StateTypes.{as_nullable-again, same_stat_type}
+use Rattle.vortex_rewrite.specs.StateTypes.{as_nullable-again, same_stat_type}
 use Rattle.vortex_prune.specs.Binding.StatValues.{stat_value}
 
 abbrev ok : DType → Result DType BaseError

@@ -20,7 +20,7 @@ use Rattle.vortex_base.specs.declared.dtype.DType.{DType}
 use Rattle.vortex_prune.specs.Binding.Binders.{IsAnswerOf, IsFaithful}
 use Rattle.vortex_prune.specs.Binding.PartBinder.{IsNullOf}
 use Rattle.vortex_prune.specs.Binding.PartFaithful.{literal_is_answer}
-use Rattle.vortex_prune.specs.Binding.StateTypes.{as_nullable-again, same_stat_type}
+use Rattle.vortex_rewrite.specs.StateTypes.{as_nullable-again, same_stat_type}
 use Rattle.vortex_prune.specs.Zones.{Head, head, heads, heads_from, is_zone_row, offset, supporting, type_or_null, cell_at, zone_answer, zone_place, zone_type, zone_values}
 
 -- ---- the place of a column of the table

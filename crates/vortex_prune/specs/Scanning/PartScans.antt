@@ -5,9 +5,9 @@ use Rattle.vortex_base.specs.Data.Scalars.{Constant}
 use Rattle.vortex_base.specs.Trees.Tree.{Tree, Place}
 use Rattle.vortex_base.specs.declared.dtype.DType.{DType}
 use Rattle.vortex_prune.specs.Binding.Binders.{BinderAnswer}
-use Rattle.vortex_prune.specs.Scanning.Causes.{IsRefusal, either_causes}
+use Rattle.vortex_rewrite.specs.Causes.{IsRefusal, either_causes}
 use Rattle.vortex_prune.specs.Part.{IsPart, PartData}
-use Rattle.vortex_prune.specs.Rewriting.Proof.{Assignment}
+use Rattle.vortex_rewrite.specs.Rewriting.Proof.{Assignment}
 use Rattle.vortex_prune.specs.Scanning.ScanRefusals.{IsClosed, if_faithful, proof_causes}
 use Rattle.vortex_prune.specs.Scanning.Selection.{Answered, verdict}
 use Rattle.vortex_prune.specs.declared.scan.verdict.Verdict.{Verdict}

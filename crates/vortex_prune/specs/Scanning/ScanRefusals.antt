@@ -1,14 +1,15 @@
 -- What may cause the refusal of a scan, and what an answered one has bound.
-use Rattle.std.specs.Prelude.{◌≡◌, ◌⊎◌, ℕ, Bool, true, false, All, Any, Contains, List, Option, Some, None, IfSome, IsSomeAnd, IsTrue, slice_get}
+use Rattle.std.specs.Prelude.{◌≡◌, ◌⊎◌, ℕ, Bool, true, false, All, Any, Contains, List, Option, Some, IfSome, IsSomeAnd, IsTrue, slice_get}
 use Rattle.vortex_base.specs.declared.dtype.DType.{DType}
-use Rattle.vortex_base.specs.Trees.Tree.{Tree, Place, has_bare_column}
+use Rattle.vortex_base.specs.Trees.Tree.{Tree, Place}
 use Rattle.vortex_prune.specs.Binding.Binders.{BinderAnswer}
 use Rattle.vortex_prune.specs.Binding.BoundTo.{IsBoundTo, IsWrong, SomeMet}
-use Rattle.vortex_prune.specs.Scanning.Causes.{Causes, either_causes, no_causes}
-use Rattle.vortex_prune.specs.Rewriting.Lawful.{OwnRule}
-use Rattle.vortex_prune.specs.Rewriting.Falsifiers.{falsifier, satisfier}
-use Rattle.vortex_prune.specs.Rewriting.RuleRefusals.{rule_causes}
-use Rattle.vortex_prune.specs.Rewriting.Visited.{visited}
+use Rattle.vortex_rewrite.specs.Causes.{Causes, either_causes, no_causes}
+use Rattle.vortex_rewrite.specs.Rewriting.Lawful.{OwnRule}
+use Rattle.vortex_rewrite.specs.Rewriting.Falsifiers.{falsifier, satisfier}
+use Rattle.vortex_rewrite.specs.Rewriting.Proof.{is_open}
+use Rattle.vortex_rewrite.specs.Rewriting.RuleRefusals.{rule_causes}
+use Rattle.vortex_rewrite.specs.Rewriting.Visited.{visited}
 
 module _ (answer : BinderAnswer) (IsMissing : DType → Tree Place → Type 0) where
   -- the binder binds the proof, if there is one, to a closed expression
@@ -39,11 +40,6 @@ module _ {S : Type 0} (answer : S → BinderAnswer) (IsMissing : S → DType →
     wrong_type = Any (λ b. (proof_causes (answer b) (IsMissing b) (can_fault b) proof).wrong_type) binders;
     open_proof = Any (λ b. (proof_causes (answer b) (IsMissing b) (can_fault b) proof).open_proof) binders;
   }
-
--- the proof, if there is one, has a column outside its placeholders
-abbrev pub is_open : Option (Tree Place) → Bool
-is_open None = false
-is_open (Some e) = has_bare_column e
 
 -- those causes that are left where the binders are faithful: none answers by a wrong type, and a proof is left open only by a column of its own outside its placeholders
 abbrev pub if_faithful : (proof : Option (Tree Place)) → Causes → Causes

@@ -5,10 +5,10 @@ use Rattle.vortex_base.specs.Data.Columns.{ChunkData, row_of, row_count as rows_
 use Rattle.vortex_base.specs.Meanings.Meaning.{satisfies}
 use Rattle.vortex_base.specs.Data.Scalars.{Constant}
 use Rattle.vortex_base.specs.Trees.Tree.{Tree, Place}
-use Rattle.vortex_prune.specs.Binding.Facts.{IsHonest}
+use Rattle.vortex_rewrite.specs.Facts.{IsHonest}
 use Rattle.vortex_prune.specs.Part.{PartData}
 use Rattle.vortex_prune.specs.Binding.PartAnswers.{part_values}
-use Rattle.vortex_prune.specs.Rewriting.Proof.{Assignment, proves}
+use Rattle.vortex_rewrite.specs.Rewriting.Proof.{Assignment, proves}
 use Rattle.vortex_prune.specs.declared.scan.verdict.Verdict.{Verdict}
 use Rattle.vortex_prune.specs.declared.scan.verdict.Verdict.TheVariants.{Skipped, Whole, Tested}
 

@@ -4,11 +4,12 @@ use Rattle.vortex_base.specs.Data.Columns.{row_count as rows_of, row_of}
 use Rattle.vortex_base.specs.Meanings.Fitting.{fits_row}
 use Rattle.vortex_base.specs.Meanings.Meaning.{is_true, meaning}
 use Rattle.vortex_base.specs.Trees.Tree.{Tree, Place, has_placeholder}
-use Rattle.vortex_prune.specs.Scanning.Causes.{Causes, no_causes}
-use Rattle.vortex_prune.specs.Rewriting.Lawful.{OwnRule}
+use Rattle.vortex_rewrite.specs.Causes.{Causes, no_causes}
+use Rattle.vortex_rewrite.specs.Rewriting.Lawful.{OwnRule}
 use Rattle.vortex_prune.specs.Part.{IsPart, PartData}
 use Rattle.vortex_prune.specs.Binding.PartAnswers.{part_values}
-use Rattle.vortex_prune.specs.Scanning.ScanRefusals.{causes_by, is_open}
+use Rattle.vortex_rewrite.specs.Rewriting.Proof.{is_open}
+use Rattle.vortex_prune.specs.Scanning.ScanRefusals.{causes_by}
 use Rattle.vortex_prune.specs.Scanning.PartScans.{UnlessSkipped}
 use Rattle.vortex_prune.specs.Scanning.Selection.{Answered, answered, is_proved}
 use Rattle.vortex_prune.specs.declared.scan.verdict.Verdict.{Verdict}

@@ -5,16 +5,16 @@ ghost use Rattle.vortex_base.specs.Data.Scalars.{Constant, null_of};
 ghost use Rattle.vortex_base.specs.Trees.Tree.{Tree, Place, literal};
 ghost use Rattle.vortex_base.specs.Data.Types.{as_nullable};
 ghost use Rattle.vortex_prune.specs.Binding.Binders.{BinderAnswer, IsFaithful};
-ghost use Rattle.vortex_prune.specs.Binding.HookFaults.{IsHookFault};
-ghost use Rattle.vortex_prune.specs.Rewriting.Proof.{Assignment};
+ghost use Rattle.vortex_rewrite.specs.HookFaults.{IsHookFault};
+ghost use Rattle.vortex_rewrite.specs.Rewriting.Proof.{Assignment};
 
-use crate::hook_fault::HookFault;
 use std::alloc::Global;
 use vortex_base::aggregate::AggregateFnRef;
 use vortex_base::bound;
 use vortex_base::bound_expression::BoundExpression;
 use vortex_base::dtype::DType;
 use vortex_base::scalar::Scalar;
+use vortex_rewrite::hook_fault::HookFault;
 
 /// Binds placeholders to what a store of statistics has for them: columns of a table of statistics,
 /// or literals.

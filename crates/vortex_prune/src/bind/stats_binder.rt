@@ -3,12 +3,11 @@ ghost use Rattle.std.specs.Prelude.{◌≡◌, ◌<◌, ℕ, List, IsTrue, Match
 ghost use Rattle.std.specs.Bool.{OnTrue};
 ghost use Rattle.vortex_base.specs.Data.Columns.{row_count};
 ghost use Rattle.vortex_base.specs.Data.Scalars.{Constant};
-ghost use Rattle.vortex_prune.specs.declared.hook_fault.HookFault.TheVariants as fault;
-ghost use Rattle.vortex_prune.specs.Binding.Facts.{is_column_of};
+ghost use Rattle.vortex_rewrite.specs.declared.hook_fault.HookFault.TheVariants as fault;
+ghost use Rattle.vortex_rewrite.specs.Facts.{is_column_of};
 ghost use Rattle.vortex_prune.specs.Binding.PartBinder as spec;
 
 use crate::bind::stat_binder::StatBinder;
-use crate::hook_fault::HookFault;
 use crate::part::Part;
 use crate::stat_fn::scalar_of;
 use std::alloc::Global;
@@ -18,6 +17,7 @@ use vortex_base::bound;
 use vortex_base::bound_expression::BoundExpression;
 use vortex_base::bound_expression::parts::Parts;
 use vortex_base::dtype::DType;
+use vortex_rewrite::hook_fault::HookFault;
 use vortex_stats::error::StatsError;
 
 /// Binds the placeholders of a proof to literals from the statistics of a part.

@@ -6,7 +6,6 @@ ghost use Rattle.vortex_prune.specs.Part.{IsTruePart, PartData};
 ghost use Rattle.vortex_prune.specs.Zones.{zone_table};
 
 use crate::bind::stat_binder::StatBinder;
-use crate::hook_fault::HookFault;
 use crate::zones::Zones;
 use std::alloc::Global;
 use std::marker::Model;
@@ -15,6 +14,7 @@ use vortex_base::bound;
 use vortex_base::bound_expression::BoundExpression;
 use vortex_base::bound_expression::parts::Parts;
 use vortex_base::dtype::DType;
+use vortex_rewrite::hook_fault::HookFault;
 
 /// Binds the placeholders of a proof to the columns of a table of zones, so that one bound proof is
 /// evaluated on the row of each part.

@@ -5,7 +5,7 @@ ghost use Rattle.vortex_base.specs.Data.Columns.{sizes_fit};
 ghost use Rattle.vortex_prune.specs.Part.{Entries, IsPart, IsTruePart, joined, merged_sets};
 ghost use Rattle.vortex_stats.specs.Merging.Merges.{merged_ordered};
 ghost use Rattle.vortex_stats.specs.declared.error.StatsError.TheVariants.{TooLarge};
-ghost use Rattle.vortex_prune.specs.Answers.{IsMemory, OkOrMemory};
+ghost use Rattle.vortex_rewrite.specs.Answers.{IsMemory, OkOrMemory};
 
 use crate::part::{JoinRefused, Part};
 use std::alloc::{AllocError, Global};

@@ -3,7 +3,7 @@ ghost use Rattle.std.specs.Prelude.{◌≡◌, ◌+◌, ◌-◌, ◌^◌, ◌<�
 ghost use Rattle.vortex_base.specs.Data.Columns.{row_of, row_count};
 ghost use Rattle.vortex_base.specs.Meanings.Meaning.{satisfies};
 ghost use Rattle.vortex_prune.specs.Scanning.Selection.{all_rows, row_if, satisfying_rows};
-ghost use Rattle.vortex_prune.specs.Answers.{IsMemory};
+ghost use Rattle.vortex_rewrite.specs.Answers.{IsMemory};
 
 use vortex_base::bound_expression::BoundExpression;
 use vortex_base::chunk::Chunk;

@@ -4,18 +4,17 @@ ghost use Rattle.vortex_base.specs.Data.Columns.{row_count};
 ghost use Rattle.vortex_base.specs.Meanings.Fitting.{fits_row};
 ghost use Rattle.vortex_base.specs.Meanings.Meaning.{is_true as value_is_true, meaning};
 ghost use Rattle.vortex_base.specs.Trees.Tree.{Place, Tree, has_placeholder};
-ghost use Rattle.vortex_prune.specs.Rewriting.Proof.{proves};
+ghost use Rattle.vortex_rewrite.specs.Rewriting.Proof.{proves};
 ghost use Rattle.vortex_prune.specs.Scanning.PartScans.{UnlessSkipped};
 ghost use Rattle.vortex_prune.specs.Scanning.Selection.{IsFaithfulFor, answers_for};
 ghost use Rattle.vortex_prune.specs.Scanning.Selection.{is_proved as is_proved_of, verdict as verdict_of};
 ghost use Rattle.vortex_prune.specs.Binding.BoundTo.{IsBoundTo};
-ghost use Rattle.vortex_prune.specs.Scanning.Causes.{Causes, IsRefusal, either_causes};
+ghost use Rattle.vortex_rewrite.specs.Causes.{Causes, IsRefusal, either_causes};
 ghost use Rattle.vortex_prune.specs.Scanning.ScanRefusals.{IsClosed, if_faithful, proof_causes};
 ghost use Rattle.vortex_stats.specs.declared.error.StatsError.TheVariants.{Memory};
 
 use crate::bind::bind_stats_of;
 use crate::bind::stat_binder::StatBinder;
-use crate::built::built;
 use crate::part::Part;
 use crate::scan::verdict::Verdict;
 use std::alloc::Global;
@@ -23,6 +22,7 @@ use vortex_base::bound_expression::BoundExpression;
 use vortex_base::evaluate::evaluate;
 use vortex_base::row::Row;
 use vortex_base::scalar_value::ScalarValue;
+use vortex_rewrite::built::built;
 use vortex_stats::error::StatsError;
 
 // Whether a value is true. False, null and a value of another kind aren't.

@@ -4,20 +4,21 @@ ghost use Rattle.std.specs.Prelude.{Some, alloc_error, false, length, min, optio
 ghost use Rattle.std.specs.List.{AllByRecursion};
 ghost use Rattle.vortex_base.specs.Meanings.Fitting.{fits_scope};
 ghost use Rattle.vortex_base.specs.Trees.Tree.{Place, Tree, has_bare_column, is_plain};
-ghost use Rattle.vortex_prune.specs.Scanning.Causes.{IsRefusal};
-ghost use Rattle.vortex_prune.specs.Scanning.Complete.{SkipsExactly, is_read_once};
-ghost use Rattle.vortex_prune.specs.Rewriting.Own.{own_rules};
+ghost use Rattle.vortex_rewrite.specs.Causes.{IsRefusal};
+ghost use Rattle.vortex_rewrite.specs.Rewriting.ReadOnce.{is_read_once};
+ghost use Rattle.vortex_prune.specs.Scanning.Complete.{SkipsExactly};
+ghost use Rattle.vortex_rewrite.specs.Rewriting.Own.{own_rules};
 ghost use Rattle.vortex_prune.specs.Part.{AreParts, IsTruePart};
-ghost use Rattle.vortex_prune.specs.Rewriting.Predicates.{is_predicate};
-ghost use Rattle.vortex_prune.specs.Rewriting.Falsifiers.{falsifier as falsifier_of};
-ghost use Rattle.vortex_prune.specs.Rewriting.Falsifiers.{satisfier as satisfier_of};
-ghost use Rattle.vortex_prune.specs.Answers.{IsMemory};
+ghost use Rattle.vortex_rewrite.specs.Rewriting.Predicates.{is_predicate};
+ghost use Rattle.vortex_rewrite.specs.Rewriting.Falsifiers.{falsifier as falsifier_of};
+ghost use Rattle.vortex_rewrite.specs.Rewriting.Falsifiers.{satisfier as satisfier_of};
+ghost use Rattle.vortex_rewrite.specs.Answers.{IsMemory};
 ghost use Rattle.vortex_prune.specs.Scanning.Selection.{answered, full, selected_rows};
 ghost use Rattle.vortex_prune.specs.Scanning.Selection.{skipped_parts, tested_rows, whole_parts};
 ghost use Rattle.vortex_prune.specs.Scanning.ZoneScans.{CanTell, IsBoundOnce, IsShutIfKept, TellsAs};
 ghost use Rattle.vortex_prune.specs.Scanning.ZoneScans.{is_left_open, open_causes};
 ghost use Rattle.vortex_prune.specs.Scanning.ZoneScans.{statistics_answers, zone_causes, zone_truth};
-ghost use Rattle.vortex_prune.specs.Scanning.ScanRefusals.{is_open};
+ghost use Rattle.vortex_rewrite.specs.Rewriting.Proof.{is_open};
 ghost use Rattle.vortex_prune.specs.Zones.{HaveScope};
 ghost use Rattle.vortex_stats.specs.declared.error.StatsError.TheVariants.{Memory, NotPredicate};
 
@@ -26,9 +27,6 @@ use crate::bind::stat_binder::StatBinder;
 use crate::bind::stats_binder::StatsBinder;
 use crate::bind::zone_binder::ZoneBinder;
 use crate::part::Part;
-use crate::rewrite::rule::StatsRewriteRule;
-use crate::rewrite::rules::Rules;
-use crate::rewrite::{falsify, satisfy};
 use crate::scan::outcome::Scan;
 use crate::scan::part_scan::{PartTest, scan_parts};
 use crate::scan::skip::is_true_on;
@@ -36,6 +34,9 @@ use crate::scan::verdict::Verdict;
 use crate::zones::Zones;
 use std::alloc::Global;
 use vortex_base::bound_expression::BoundExpression;
+use vortex_rewrite::rewrite::rule::StatsRewriteRule;
+use vortex_rewrite::rewrite::rules::Rules;
+use vortex_rewrite::rewrite::{falsify, satisfy};
 use vortex_stats::error::StatsError;
 
 // A proof bound to the table. `OpenProof` if it has a column outside its placeholders, which would
@@ -140,7 +141,7 @@ struct ByTable<'a> {
 
 impl<'a> PartTest for ByTable<'a> {
     ghost use Rattle.std.specs.Prelude.{◌≡◌, ◌<◌, length, option_copied};
-    ghost use Rattle.vortex_prune.specs.Scanning.Causes.{IsRefusal};
+    ghost use Rattle.vortex_rewrite.specs.Causes.{IsRefusal};
     ghost use Rattle.vortex_prune.specs.Scanning.ZoneScans.{CanTell, IsBoundOnce, open_causes};
     ghost use Rattle.vortex_prune.specs.Scanning.ZoneScans.{table_tells};
 

@@ -6,8 +6,9 @@ use std::test::Fail;
 use vortex_base::evaluate::evaluate;
 use vortex_base::{BaseError, BoundExpression, DType, Nullability, Row, ScalarValue};
 use vortex_prune::bind::bind_stats;
-use vortex_prune::expr::bound as placed;
 use vortex_prune::{Part, StatsBinder};
+use vortex_rewrite::expr::bound as placed;
+use vortex_rewrite_tests::nodes::*;
 use vortex_stats::{Stat, StatsError};
 
 const TRUTH: DType = DType::Bool(Nullability::Nullable);
@@ -58,7 +59,8 @@ fn bound_to_part(alloc: Global, e: Built) -> Built {
 
 // The expression is bound to this one.
 fn expect_bound(rt: &impl Abort, alloc: Global, e: Built, expected: Built) -> Result<(), Fail> {
-    expect_same(rt, bound_to_part(alloc, e), expected)
+    assert!(rt; are_same(bound_to_part(alloc, e), expected)?);
+    Ok(())
 }
 
 #[test]

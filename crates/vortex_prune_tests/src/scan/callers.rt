@@ -4,8 +4,8 @@ ghost use Rattle.std.specs.List.{AllByRecursion};
 ghost use Rattle.vortex_base.specs.Meanings.Fitting.{fits_scope};
 ghost use Rattle.vortex_base.specs.Trees.Tree.{is_plain};
 ghost use Rattle.vortex_prune.specs.Part.{IsTruePart};
-ghost use Rattle.vortex_prune.specs.Rewriting.Predicates.{is_predicate};
-ghost use Rattle.vortex_prune.specs.Answers.{IsMemory};
+ghost use Rattle.vortex_rewrite.specs.Rewriting.Predicates.{is_predicate};
+ghost use Rattle.vortex_rewrite.specs.Answers.{IsMemory};
 ghost use Rattle.vortex_prune.specs.Scanning.Selection.{full};
 
 use super::*;

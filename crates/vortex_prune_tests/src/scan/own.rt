@@ -1,13 +1,13 @@
 //! Scans by rules of a user, and what they are refused for.
 ghost use Rattle.std.specs.Prelude.{◌≡◌, true, Some, None, if◌then◌else◌};
-ghost use Rattle.vortex_prune.specs.Rewriting.Falsifiers.{bool_literal};
+ghost use Rattle.vortex_rewrite.specs.Rewriting.Falsifiers.{bool_literal};
 ghost use Rattle.vortex_prune_tests.specs.RuleExamples.{at_null_test};
 
 use super::*;
-use crate::hooks::{Claim, truth_answer};
 use std::alloc::AllocError;
 use vortex_base::{BoundExpression, Parts, ScalarFnId};
 use vortex_prune::{HookFault, Rules, StatsRewriteRule};
+use vortex_rewrite_tests::hooks::{Claim, truth_answer};
 use vortex_stats::RuleFault;
 
 // Whether it is IS NULL of a column whose type has no null.

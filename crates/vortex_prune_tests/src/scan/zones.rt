@@ -1,6 +1,6 @@
 //! Scans over tables of texts and of nulls, beside the scans by each part's binder.
 use super::*;
-use vortex_base::{Chunk, DType, Nullability, ScalarValue, Scope};
+use vortex_base::{Chunk, DType, Nullability, Scope};
 
 const TEXT: DType = DType::Utf8(Nullability::Nullable);
 

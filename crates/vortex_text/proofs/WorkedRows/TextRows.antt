@@ -2,7 +2,7 @@
 use Rattle.std.proofs.Common.{◌≡◌, ℕ, List, ◌++◌, codes, refl}
 use Rattle.std.specs.Str.{chars, is_utf8}
 use Rattle.std.specs.Fmt.{digits}
-use Rattle.vortex_prune.specs.Rewriting.Falsifiers as rewriting
+use Rattle.vortex_rewrite.specs.Rewriting.Falsifiers as rewriting
 use Rattle.vortex_text.specs.Program.{reply_to}
 
 -- two parts: 1, 5, 10 with exact bounds, and 8, null, 20 of which the greatest is known to be at most 25

@@ -5,10 +5,10 @@ use Rattle.vortex_base.specs.Meanings.Meaning.{meaning}
 use Rattle.vortex_base.specs.Trees.Tree.{has_bare_column, has_placeholder}
 use Rattle.vortex_base.specs.Meanings.Typing.{type_of}
 use Rattle.vortex_prune.specs.Binding.BoundTo.{HasNoColumnOn, IsBinding, Replaces, WhereFaithful}
-use Rattle.vortex_prune.specs.Rewriting.Proof.{value_under}
+use Rattle.vortex_rewrite.specs.Rewriting.Proof.{value_under}
 use Rattle.vortex_prune.proofs.Binding.BoundValues.{bound-fits, bound-free, bound-value, has_a_type, not_wrong_type}
 use Rattle.vortex_prune.proofs.bind.bind_stats_of.Goals as goal
-use Rattle.vortex_prune.proofs.Logic.{ok-weaker}
+use Rattle.vortex_rewrite.proofs.Logic.{ok-weaker}
 
 pub returns-clause-free : goal.returns-clause-free
 returns-clause-free g c =

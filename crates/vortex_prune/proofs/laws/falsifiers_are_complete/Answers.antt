@@ -1,4 +1,4 @@
-use Rattle.vortex_prune.proofs.Completeness.Boxes.{falsifiers_are_complete}
+use Rattle.vortex_prune.proofs.Scanning.Boxes.{falsifiers_are_complete}
 use Rattle.vortex_prune.proofs.laws.falsifiers_are_complete.Goals as goal
 
 pub returns : goal.returns

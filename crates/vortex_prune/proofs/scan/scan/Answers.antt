@@ -5,9 +5,9 @@ use Rattle.std.specs.Prelude.{min, option_copied}
 use Rattle.vortex_base.specs.Trees.Tree.{Place, Tree}
 use Rattle.vortex_prune.proofs.Scanning.ScanRefused.{by_binders, by_faithful, refused_for_memory}
 use Rattle.vortex_prune.proofs.Scanning.WholeScan.{kept_is_full, of_two, skips_exactly}
-use Rattle.vortex_prune.specs.Rewriting.Own.{own_rules, own_rule}
-use Rattle.vortex_prune.specs.Rewriting.Predicates.{is_predicate}
-use Rattle.vortex_prune.specs.Rewriting.Falsifiers.{falsifier, satisfier}
+use Rattle.vortex_rewrite.specs.Rewriting.Own.{own_rules, own_rule}
+use Rattle.vortex_rewrite.specs.Rewriting.Predicates.{is_predicate}
+use Rattle.vortex_rewrite.specs.Rewriting.Falsifiers.{falsifier, satisfier}
 use Rattle.vortex_prune.specs.Scanning.ScanRefusals.{AreClosed, KeptAreClosed}
 use Rattle.vortex_prune.specs.Scanning.Selection.{answered, selected_rows, skipped_parts, tested_rows, whole_parts}
 use Rattle.vortex_prune.proofs.scan.scan.Goals as goal

@@ -4,9 +4,9 @@ use Rattle.std.proofs.lemmas.Result.{IfOk-weaker}
 use Rattle.std.specs.Prelude.{IfOk, option_copied}
 use Rattle.vortex_base.specs.Trees.Tree.{Place, Tree}
 use Rattle.vortex_prune.proofs.ZoneMaps.ZoneScan.{found_by}
-use Rattle.vortex_prune.specs.Rewriting.Falsifiers.{falsifier, satisfier}
-use Rattle.vortex_prune.specs.Rewriting.Own.{own_rules}
-use Rattle.vortex_prune.specs.Rewriting.Predicates.{is_predicate}
+use Rattle.vortex_rewrite.specs.Rewriting.Falsifiers.{falsifier, satisfier}
+use Rattle.vortex_rewrite.specs.Rewriting.Own.{own_rules}
+use Rattle.vortex_rewrite.specs.Rewriting.Predicates.{is_predicate}
 use Rattle.vortex_prune.specs.Scanning.Selection.{selected_rows, whole_parts}
 use Rattle.vortex_prune.specs.Scanning.ZoneScans.{IsShutIfKept, statistics_answers}
 use Rattle.vortex_prune.proofs.scan.zones.scan_rules.Goals as goal

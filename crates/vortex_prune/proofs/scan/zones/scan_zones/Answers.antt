@@ -3,10 +3,10 @@ use Rattle.vortex_prune.proofs.Honesty.StatisticsBinders.{statistics_honest, by_
 use Rattle.vortex_prune.proofs.Scanning.WholeScan.{kept_is_full, of_two, parts_by_recursion, skips_exactly}
 use Rattle.vortex_prune.proofs.ZoneMaps.ZoneRefusals.{zones_refused_for_memory}
 use Rattle.vortex_prune.proofs.ZoneMaps.ZoneScan.{fits_each}
-use Rattle.vortex_prune.specs.Rewriting.Own.{own_rule, own_rules}
+use Rattle.vortex_rewrite.specs.Rewriting.Own.{own_rule, own_rules}
 use Rattle.vortex_prune.specs.Part.{PartData}
 use Rattle.vortex_prune.specs.Binding.PartAnswers.{part_values}
-use Rattle.vortex_prune.specs.Rewriting.Falsifiers.{falsifier}
+use Rattle.vortex_rewrite.specs.Rewriting.Falsifiers.{falsifier}
 use Rattle.vortex_prune.specs.Scanning.Selection.{skipped_parts}
 use Rattle.vortex_prune.specs.Scanning.ZoneScans.{statistics_answers}
 use Rattle.vortex_prune.proofs.scan.zones.scan_zones.Goals as goal

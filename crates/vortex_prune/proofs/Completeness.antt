@@ -1,7 +1,0 @@
--- Falsifiers of read-once predicates miss nothing.
-pub mod Boxes
-pub mod Choices
-pub mod Decided
-pub mod Interval
-pub mod Operands
-pub mod Ranges

@@ -1,5 +1,0 @@
-use Rattle.vortex_prune.proofs.Soundness.SoundRules.{satisfiers_sound}
-use Rattle.vortex_prune.proofs.laws.satisfiers_are_sound.Goals as goal
-
-pub returns : goal.returns
-returns c = satisfiers_sound

@@ -1,6 +1,0 @@
-use Rattle.vortex_prune.specs.Rewriting.Falsifiers.{visits}
-use Rattle.vortex_prune.proofs.rewrite.engine.+rewrite_node.Given as goal
-
--- a BETWEEN has more visits than the AND that it stands for
-abbrev pub decreases-rewrite_node : goal.decreases-rewrite_node
-decreases-rewrite_node g l = visits l.e.now

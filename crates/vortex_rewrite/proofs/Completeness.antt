@@ -1,0 +1,6 @@
+-- Falsifiers of read-once predicates miss nothing.
+pub mod Choices
+pub mod Decided
+pub mod Interval
+pub mod Operands
+pub mod Ranges

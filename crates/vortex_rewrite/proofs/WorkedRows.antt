@@ -1,0 +1,6 @@
+-- Worked rows, found by computation alone.
+pub mod EndsRows
+pub mod HonestRows
+pub mod RewritingRows
+pub mod SatisfierRows
+pub mod VisitRows

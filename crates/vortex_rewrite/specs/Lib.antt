@@ -1,0 +1,7 @@
+pub mod Answers
+pub mod Causes
+pub mod Facts
+pub mod HookFaults
+pub mod Laws
+pub mod Rewriting
+pub mod StateTypes

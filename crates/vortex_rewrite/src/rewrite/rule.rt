@@ -1,0 +1,52 @@
+//! The interface of a user's rules.
+ghost use Rattle.std.specs.Prelude.{◌≡◌, ℕ, Bool, Option, MatchResult};
+ghost use Rattle.vortex_base.specs.declared.types.ScalarFnId.{ScalarFnId};
+ghost use Rattle.vortex_base.specs.Trees.Tree.{Tree, Place};
+ghost use Rattle.vortex_rewrite.specs.Rewriting.Lawful.{IsLawful};
+
+use crate::hook_fault::HookFault;
+use std::alloc::Global;
+use vortex_base::bound_expression::BoundExpression;
+use vortex_base::types::ScalarFnId;
+
+/// A rule of a user for the predicates whose top node applies one function. It is asked at each
+/// such node, whatever its operands.
+pub trait StatsRewriteRule: Drop {
+    ghost use Rattle.vortex_rewrite.specs.HookFaults.{IsHookFault};
+
+    // The function that it is asked for.
+    ghost id: { Self → ScalarFnId };
+    // What it proves, by predicates.
+    ghost falsifier: { Self → Tree Place → Option (Tree Place) };
+
+    ghost satisfier: { Self → Tree Place → Option (Tree Place) };
+    // The numbers of the faults that it may answer.
+    ghost can_fault: { Self → ℕ → Bool };
+    // Its proofs are right.
+    ghost is_lawful: { (s : Self) → IsLawful (falsifier s) (satisfier s) };
+
+    /// The function whose nodes the rule is asked for.
+    fn scalar_fn_id(&self) -> ScalarFnId
+        ensures { result ≡ id self.now };
+
+    /// A proof that no row satisfies the expression, if the rule has one.
+    fn falsify(
+        &self,
+        alloc: Global,
+        expression: &BoundExpression,
+    ) -> Result<Option<BoundExpression>, HookFault>
+        ensures { MatchResult result (λ proof. proof ≡ falsifier self.now expression.now)
+            (IsHookFault (can_fault self.now)) };
+
+    /// A proof that every row satisfies the expression, if the rule has one.
+    fn satisfy(
+        &self,
+        alloc: Global,
+        expression: &BoundExpression,
+    ) -> Result<Option<BoundExpression>, HookFault>
+        ensures { MatchResult result (λ proof. proof ≡ satisfier self.now expression.now)
+            (IsHookFault (can_fault self.now)) };
+}
+
+/// A rule as lists of rules hold it.
+pub type StatsRewriteRuleRef = Box<dyn StatsRewriteRule>;

@@ -1,0 +1,11 @@
+//! Tests of `vortex_rewrite` by its public calls, one module for each of its modules.
+#![tactic(auto)]
+
+#[cfg(test)]
+mod expr;
+pub mod hooks;
+pub mod nodes;
+#[cfg(test)]
+mod rewrite;
+#[cfg(test)]
+mod rules;

@@ -1,0 +1,52 @@
+//! Lists of a user's rules for the tests.
+use crate::hooks::{Claim, Claiming};
+use std::alloc::{AllocError, Global};
+use vortex_base::ScalarFnId;
+use vortex_rewrite::{Rules, StatsRewriteRuleRef};
+
+fn no_rules(alloc: Global) -> Vec<StatsRewriteRuleRef> {
+    Vec::new(alloc)
+}
+
+fn add_rule(
+    rules: &mut Vec<StatsRewriteRuleRef>,
+    rule: StatsRewriteRuleRef,
+) -> Result<(), AllocError> {
+    Ok(rules.push(rule)?)
+}
+
+/// The built-in rules and then this one.
+pub fn rules_of(alloc: Global, rule: StatsRewriteRuleRef) -> Result<Rules, AllocError> {
+    let mut rules = no_rules(alloc);
+    add_rule(&mut rules, rule)?;
+    Ok(Rules::with_own(rules))
+}
+
+/// The built-in rules and then these two.
+pub fn two_rules(
+    alloc: Global,
+    first: StatsRewriteRuleRef,
+    second: StatsRewriteRuleRef,
+) -> Result<Rules, AllocError> {
+    let mut rules = no_rules(alloc);
+    add_rule(&mut rules, first)?;
+    add_rule(&mut rules, second)?;
+    Ok(Rules::with_own(rules))
+}
+
+/// A rule that claims the same of every expression of its function.
+pub fn new_claiming(
+    alloc: Global,
+    function: ScalarFnId,
+    falsifier: Claim,
+    satisfier: Claim,
+    fault: u32,
+) -> Result<StatsRewriteRuleRef, AllocError> {
+    let rule = Claiming {
+        function,
+        falsifier,
+        satisfier,
+        fault,
+    };
+    Ok(Box::new(alloc, rule)?)
+}
