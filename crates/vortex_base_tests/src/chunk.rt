@@ -3,7 +3,7 @@ use crate::testing::{self, column};
 use std::alloc::Global;
 use std::test::Fail;
 use vortex_base::{
-    BaseError, Chunk, Column, DType, Nullability, PType, PValue, ScalarValue, Scope, ValueRef,
+    BaseError, Chunk, Column, DType, Nullability, PType, PValue, Row, ScalarValue, Scope, ValueRef,
 };
 
 const NUMBER: DType = DType::Primitive(PType::I64, Nullability::Nullable);
@@ -84,15 +84,20 @@ fn lend_columns(rt: HostRuntime) -> Result<(), Fail> {
     Ok(())
 }
 
+// Whether there is no value at a place, whose column has this type.
+fn is_null_of(row: &Row<'_>, place: usize, dtype: Option<DType>) -> bool {
+    row.dtype(place) == dtype && row.value(place).is_none()
+}
+
 #[test]
 fn lend_rows(rt: HostRuntime) -> Result<(), Fail> {
     let chunk = two_rows(rt.alloc())?;
     assert!(rt; chunk.rows() == 2);
     let row = chunk.row(1);
     assert!(rt; row.len() == 2);
-    assert!(rt; row.dtype(0) == Some(NUMBER) && row.value(0).is_none());
+    assert!(rt; is_null_of(&row, 0, Some(NUMBER)));
     assert!(rt; is_true(row.value(1)));
-    assert!(rt; row.dtype(2) == None && row.value(2).is_none());
+    assert!(rt; is_null_of(&row, 2, None));
     Ok(())
 }
 

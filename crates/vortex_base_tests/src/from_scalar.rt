@@ -112,11 +112,22 @@ fn truth() -> Result<Scalar, BaseError> {
 }
 
 #[test]
-fn other_kinds(rt: HostRuntime) -> Result<(), Fail> {
-    let (text, bytes) = (text(rt.alloc())?, bytes(rt.alloc())?);
+fn truths(rt: HostRuntime) -> Result<(), Fail> {
     assert!(rt; is_bool(&truth()?, Some(true)));
+    Ok(())
+}
+
+#[test]
+fn texts(rt: HostRuntime) -> Result<(), Fail> {
+    let text = text(rt.alloc())?;
     assert!(rt; is_text(&text, Some("a name")));
     assert!(rt; are_bytes(&text, None));
+    Ok(())
+}
+
+#[test]
+fn bytes_alone(rt: HostRuntime) -> Result<(), Fail> {
+    let bytes = bytes(rt.alloc())?;
     assert!(rt; are_bytes(&bytes, Some([7, 8].as_slice())));
     assert!(rt; is_text(&bytes, None));
     Ok(())

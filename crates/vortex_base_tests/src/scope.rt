@@ -1,6 +1,6 @@
 //! Tests of `scope`.
 use crate::testing::scope;
-use std::alloc::Global;
+use std::alloc::{AllocError, Global};
 use std::test::Fail;
 use vortex_base::types::Element;
 use vortex_base::{BaseError, DType, Nullability, Scope};
@@ -17,25 +17,62 @@ fn turned(alloc: Global) -> Result<Scope, BaseError> {
     scope(alloc, &[("é", DType::Null), ("a", BOOL)])
 }
 
+// Whether the second and last of the columns has this name and type.
+fn ends_in(scope: &Scope, name: &str, dtype: DType) -> bool {
+    scope.len() == 2 && scope.name(1) == name && scope.dtype(1) == dtype
+}
+
+fn finds(scope: &Scope, name: &str, place: Option<usize>) -> bool {
+    scope.find(name) == place
+}
+
+fn is_two(alloc: Global, scope: &Scope) -> Result<bool, BaseError> {
+    Ok(*scope == two(alloc)?)
+}
+
 #[test]
 fn list_distinct_names(rt: HostRuntime) -> Result<(), Fail> {
-    let (two, same, turned) = (two(rt.alloc())?, two(rt.alloc())?, turned(rt.alloc())?);
-    assert!(rt; two.len() == 2);
-    assert!(rt; two.name(1) == "é" && two.dtype(1) == DType::Null);
-    assert!(rt; two.find("é") == Some(1) && two.find("b") == None);
-    assert!(rt; two == same && two != turned);
+    let two = two(rt.alloc())?;
+    assert!(rt; ends_in(&two, "é", DType::Null));
+    assert!(rt; finds(&two, "é", Some(1)));
+    assert!(rt; finds(&two, "b", None));
+    Ok(())
+}
+
+#[test]
+fn compare_in_their_order(rt: HostRuntime) -> Result<(), Fail> {
+    assert!(rt; is_two(rt.alloc(), &two(rt.alloc())?)?);
+    assert!(rt; !is_two(rt.alloc(), &turned(rt.alloc())?)?);
+    Ok(())
+}
+
+fn copy(scope: &Scope) -> Result<Scope, AllocError> {
+    scope.try_clone()
+}
+
+fn shared(alloc: Global, scope: Scope) -> Result<Scope, AllocError> {
+    scope.try_shared(alloc)
+}
+
+fn shared_two(alloc: Global) -> Result<Scope, BaseError> {
+    Ok(shared(alloc, two(alloc)?)?)
+}
+
+#[test]
+fn are_equal_to_their_clones(rt: HostRuntime) -> Result<(), Fail> {
+    assert!(rt; is_two(rt.alloc(), &copy(&two(rt.alloc())?)?)?);
     Ok(())
 }
 
 #[test]
 fn share_their_names_with_their_clones(rt: HostRuntime) -> Result<(), Fail> {
     let alloc = rt.alloc();
-    let same = two(alloc)?;
-    assert!(rt; same.try_clone()? == same);
-    let shared = two(alloc)?.try_shared(alloc)?;
-    assert!(rt; shared == same && shared.try_clone()? == same);
-    let again = shared.try_shared(alloc)?;
-    assert!(rt; again == same && again.find("é") == Some(1));
+    let shared_two = shared_two(alloc)?;
+    assert!(rt; is_two(alloc, &shared_two)?);
+    assert!(rt; is_two(alloc, &copy(&shared_two)?)?);
+    let again = shared(alloc, shared_two)?;
+    assert!(rt; is_two(alloc, &again)?);
+    assert!(rt; finds(&again, "é", Some(1)));
     Ok(())
 }
 

@@ -119,6 +119,11 @@ fn is_at_most(part: &Part, stat: Stat, value: ScalarValue) -> Result<bool, Stats
     Ok(statistic(part, stat)? == Precision::Inexact(value))
 }
 
+// Whether the first number is exactly the least, and the second at least the greatest.
+fn is_within(part: &Part, low: i32, high: i32) -> Result<bool, StatsError> {
+    Ok(is_exactly(part, Stat::Min, number(low))? && is_at_most(part, Stat::Max, number(high))?)
+}
+
 // The declared size of the first column.
 fn size(part: &Part) -> u64 {
     if part.chunk().scope().len() == 0 {
@@ -135,9 +140,17 @@ fn printed(alloc: Global, part: &Part) -> Result<String, StatsError> {
     Ok(format!(in alloc; "{part:?}")?)
 }
 
-// Whether two parts look alike.
-fn are_same(alloc: Global, left: &Part, right: &Part) -> Result<bool, StatsError> {
-    Ok(printed(alloc, left)? == printed(alloc, right)?)
+fn printed_two(alloc: Global, left: &Part, right: &Part) -> Result<String, StatsError> {
+    Ok(format!(in alloc; "{left:?} and {right:?}")?)
+}
+
+fn printed_parts(alloc: Global, left: Part, right: Part) -> Result<String, StatsError> {
+    printed_two(alloc, &left, &right)
+}
+
+// How two parts look.
+fn looks(alloc: Global, left: Made, right: Made) -> Result<String, StatsError> {
+    printed_parts(alloc, left?, right?)
 }
 
 #[test]
@@ -150,8 +163,7 @@ fn joins_the_first_run(rt: HostRuntime) -> Result<(), Fail> {
         &[Some(1), Some(5), Some(10), Some(8), None, Some(20)],
     );
     assert!(rt; size(&part) == 40);
-    assert!(rt; is_exactly(&part, Stat::Min, number(1))?);
-    assert!(rt; is_at_most(&part, Stat::Max, number(25))?);
+    assert!(rt; is_within(&part, 1, 25)?);
     Ok(())
 }
 
@@ -160,13 +172,17 @@ fn is_text(alloc: Global, part: &Part, stat: Stat, value: &str) -> Result<bool, 
     is_exactly(part, stat, text_value(alloc, value)?)
 }
 
+// Whether these are exactly the least and the greatest text.
+fn are_texts(alloc: Global, part: &Part, least: &str, greatest: &str) -> Result<bool, StatsError> {
+    Ok(is_text(alloc, part, Stat::Min, least)? && is_text(alloc, part, Stat::Max, greatest)?)
+}
+
 #[test]
 fn joins_texts(rt: HostRuntime) -> Result<(), Fail> {
     let alloc = rt.alloc();
-    let part = joined_part(alloc, text_part(alloc, "pear"), text_part(alloc, "apple"))?;
+    let part = joined_part(alloc, pear(alloc), apple(alloc))?;
     assert!(rt; rows(&part) == 2);
-    assert!(rt; is_text(alloc, &part, Stat::Min, "apple")?);
-    assert!(rt; is_text(alloc, &part, Stat::Max, "pear")?);
+    assert!(rt; are_texts(alloc, &part, "apple", "pear")?);
     Ok(())
 }
 
@@ -178,15 +194,10 @@ fn joins_sizes_up_to_the_greatest(rt: HostRuntime) -> Result<(), Fail> {
     Ok(())
 }
 
-// Whether a refused join handed back what looks like these.
-fn hands_back(
-    alloc: Global,
-    refused: &JoinRefused,
-    left: Made,
-    right: Made,
-) -> Result<bool, StatsError> {
-    let (left, right) = (left?, right?);
-    Ok(are_same(alloc, &refused.left, &left)? && are_same(alloc, &refused.right, &right)?)
+// Whether a refused join handed back two parts that look so.
+fn hands_back(alloc: Global, refused: &JoinRefused, looks: &str) -> Result<bool, StatsError> {
+    let back = printed_two(alloc, &refused.left, &refused.right)?;
+    Ok(back.as_str() == looks)
 }
 
 fn refused_join(alloc: Global, left: Made, right: Made) -> Result<JoinRefused, Fail> {
@@ -200,10 +211,10 @@ fn is_too_large(error: &StatsError) -> bool {
 #[test]
 fn refuses_sizes_past_their_type(rt: HostRuntime) -> Result<(), Fail> {
     let alloc = rt.alloc();
+    let looks = looks(alloc, first_part(alloc, u64::MAX), second_part(alloc, 1))?;
     let refused = refused_join(alloc, first_part(alloc, u64::MAX), second_part(alloc, 1))?;
     assert!(rt; is_too_large(&refused.error));
-    let (left, right) = (first_part(alloc, u64::MAX), second_part(alloc, 1));
-    assert!(rt; hands_back(alloc, &refused, left, right)?);
+    assert!(rt; hands_back(alloc, &refused, looks.as_str())?);
     Ok(())
 }
 
@@ -242,19 +253,27 @@ fn apart(part: Made) -> Result<(Chunk, Vec<StatsSet>), StatsError> {
     Ok(part?.into_inner())
 }
 
-fn together(chunk: Chunk, sets: Vec<StatsSet>) -> Made {
+fn together((chunk, sets): (Chunk, Vec<StatsSet>)) -> Made {
     match new_part(chunk, sets) {
         Ok(part) => Ok(part),
         Err(refused) => Err(refused.error),
     }
 }
 
+// The part of the chunk and the sets that a part came apart into.
+fn made_again(part: Made) -> Made {
+    together(apart(part)?)
+}
+
+fn printed_made(alloc: Global, part: Made) -> Result<String, StatsError> {
+    printed(alloc, &part?)
+}
+
 #[test]
 fn comes_apart_into_what_makes_it(rt: HostRuntime) -> Result<(), Fail> {
     let alloc = rt.alloc();
-    let (chunk, sets) = apart(first_part(alloc, 3))?;
-    let again = together(chunk, sets)?;
-    assert!(rt; are_same(alloc, &again, &first_part(alloc, 3)?)?);
+    let looks = printed_made(alloc, first_part(alloc, 3))?;
+    assert!(rt; printed_made(alloc, made_again(first_part(alloc, 3)))? == looks);
     Ok(())
 }
 
@@ -266,19 +285,15 @@ fn apple(alloc: Global) -> Made {
     text_part(alloc, "apple")
 }
 
-// Whether the parts are joined, or handed back as they were.
-fn joins_or_hands_back(
-    alloc: Global,
-    joined: Joined,
-    left: Made,
-    right: Made,
-) -> Result<bool, StatsError> {
+fn is_memory(error: &StatsError) -> bool {
+    matches!(error, StatsError::Memory(_))
+}
+
+// Whether the parts are joined, or handed back for memory, and look so.
+fn joins_or_hands_back(alloc: Global, joined: &Joined, looks: &str) -> Result<bool, StatsError> {
     match joined {
-        Ok(part) => Ok(rows(&part) == 2),
-        Err(refused) => {
-            let is_memory = matches!(refused.error, StatsError::Memory(_));
-            Ok(is_memory && hands_back(alloc, &refused, left, right)?)
-        }
+        Ok(part) => Ok(rows(part) == 2),
+        Err(refused) => Ok(is_memory(&refused.error) && hands_back(alloc, refused, looks)?),
     }
 }
 
@@ -287,9 +302,9 @@ fn joins_or_hands_back(
 fn refused_joins_hand_back(rt: HostRuntime) -> Result<(), Fail> {
     let alloc = rt.alloc();
     // What they are compared with is made before the join, so a refusal of its own ends the test.
-    let (left, right) = (pear(alloc), apple(alloc));
+    let looks = looks(alloc, pear(alloc), apple(alloc))?;
     let joined = joined(alloc, pear(alloc), apple(alloc))?;
-    assert!(rt; joins_or_hands_back(alloc, joined, left, right)?);
+    assert!(rt; joins_or_hands_back(alloc, &joined, looks.as_str())?);
     Ok(())
 }
 
@@ -302,8 +317,8 @@ fn one_number(alloc: Global, value: i32) -> Made {
 #[test]
 fn refused_joins_of_numbers_hand_back(rt: HostRuntime) -> Result<(), Fail> {
     let alloc = rt.alloc();
-    let (left, right) = (one_number(alloc, 1), one_number(alloc, 8));
+    let looks = looks(alloc, one_number(alloc, 1), one_number(alloc, 8))?;
     let joined = joined(alloc, one_number(alloc, 1), one_number(alloc, 8))?;
-    assert!(rt; joins_or_hands_back(alloc, joined, left, right)?);
+    assert!(rt; joins_or_hands_back(alloc, &joined, looks.as_str())?);
     Ok(())
 }

@@ -1,6 +1,6 @@
 //! Calls of which a request for memory may be refused: each gives its answer, or `Memory` alone.
 use crate::testing::*;
-use std::alloc::Global;
+use std::alloc::{AllocError, Global};
 use std::test::Fail;
 use vortex_base::{BoundExpression, Column};
 use vortex_prune::bind::bind_stats;
@@ -53,13 +53,34 @@ fn part(
     texts: (&str, &str),
     numbers: Result<Column, StatsError>,
 ) -> Result<Part, StatsError> {
-    let set = exactly(alloc, Stat::Min, text_value(alloc, texts.0)?);
-    let set = and_exactly(set, Stat::Max, text_value(alloc, texts.1)?);
-    let mut cells = one_value(alloc, Some(text_value(alloc, texts.0)?))?;
-    cells.push(Some(text_value(alloc, texts.1)?))?;
-    let chunk = chunk_of_two(alloc, scope(alloc), column(UTF8, Ok(cells), 0), numbers);
+    let column = column(UTF8, two_texts(alloc, texts.0, texts.1), 0);
+    let chunk = chunk_of_two(alloc, scope(alloc), column, numbers);
     let known = exactly(alloc, Stat::NullCount, count(0));
-    part_of_two(alloc, chunk, set, Ok(known))
+    part_of_two(
+        alloc,
+        chunk,
+        text_bounds(alloc, texts.0, texts.1),
+        Ok(known),
+    )
+}
+
+fn text_bounds(alloc: Global, least: &str, greatest: &str) -> Sets {
+    let set = exactly(alloc, Stat::Min, text_value(alloc, least)?);
+    and_exactly(set, Stat::Max, text_value(alloc, greatest)?)
+}
+
+fn two_texts(alloc: Global, first: &str, second: &str) -> Result<Cells, AllocError> {
+    and_text(
+        alloc,
+        one_value(alloc, Some(text_value(alloc, first)?))?,
+        second,
+    )
+}
+
+fn and_text(alloc: Global, cells: Cells, value: &str) -> Result<Cells, AllocError> {
+    let mut cells = cells;
+    cells.push(Some(text_value(alloc, value)?))?;
+    Ok(cells)
 }
 
 fn scope(alloc: Global) -> Result<vortex_base::Scope, StatsError> {
@@ -84,10 +105,7 @@ fn begins_with_pre(alloc: Global) -> Built {
 
 fn is_found(found: Found) -> bool {
     match found {
-        Ok(found) => {
-            found.skipped.as_slice() == [1].as_slice()
-                && found.selected.as_slice() == [(0, 1)].as_slice()
-        }
+        Ok(found) => has_found(&found, &[1], &[], &[(0, 1)]),
         Err(refused) => is_memory(&refused),
     }
 }

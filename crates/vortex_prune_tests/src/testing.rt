@@ -367,6 +367,18 @@ pub fn scanned(alloc: Global, zones: &Result<Zones, StatsError>, predicate: Buil
     scanned_by(alloc, zones, predicate, &Rules::builtin(alloc))
 }
 
+/// Whether the scan found these parts and rows.
+pub fn has_found(
+    found: &Scan,
+    skipped: &[usize],
+    whole: &[usize],
+    selected: &[(usize, usize)],
+) -> bool {
+    found.skipped.as_slice() == skipped
+        && found.whole.as_slice() == whole
+        && found.selected.as_slice() == selected
+}
+
 /// The scan skipped these parts and selected these rows.
 pub fn expect_found(
     rt: &impl Abort,

@@ -171,44 +171,94 @@ fn are_null(zones: &Zones, place: usize) -> bool {
     holds(zones, 0, place, None) && holds(zones, 1, place, None)
 }
 
+// Whether the table has so many columns and rows.
+fn has_shape(zones: &Zones, across: usize, down: usize) -> bool {
+    columns(zones) == across && rows(zones) == down
+}
+
+// Whether the columns of a number's greatest value, least value and sum stand first.
+fn has_values(zones: &Zones) -> bool {
+    is_column(zones, 0, "a#0", NUMBER)
+        && is_column(zones, 1, "a#1", NUMBER)
+        && is_column(zones, 2, "a#2", NUMBER)
+}
+
+// Whether the columns of a number's counts and truths stand behind them.
+fn has_counts(zones: &Zones) -> bool {
+    is_column(zones, 3, "a#3", COUNT) && is_column(zones, 4, "a#4", COUNT)
+}
+
+fn has_truths(zones: &Zones) -> bool {
+    is_column(zones, 5, "a#5", TRUTH) && is_column(zones, 6, "a#6", TRUTH)
+}
+
+// Whether a row has these bounds in the first two columns.
+fn has_bounds(zones: &Zones, row: usize, greatest: i64, least: i64) -> bool {
+    holds(zones, row, 0, number(greatest)) && holds(zones, row, 1, number(least))
+}
+
+// Whether both of the rows are null in the columns of sums, counts and truths.
+fn knows_bounds_alone(zones: &Zones) -> bool {
+    are_null(zones, 2) && are_null(zones, 3) && are_null(zones, 4) && knows_no_truth(zones)
+}
+
+fn knows_no_truth(zones: &Zones) -> bool {
+    are_null(zones, 5) && are_null(zones, 6)
+}
+
 #[test]
 fn numbers_have_all_aggregates(rt: HostRuntime) -> Result<(), Fail> {
-    let alloc = rt.alloc();
-    let zones = number_table(alloc)?;
-    assert_eq!(rt; columns(&zones), 7);
-    assert_eq!(rt; rows(&zones), 2);
-    assert!(rt; is_column(&zones, 0, "a#0", NUMBER) && is_column(&zones, 1, "a#1", NUMBER));
-    assert!(rt; is_column(&zones, 2, "a#2", NUMBER) && is_column(&zones, 3, "a#3", COUNT));
-    assert!(rt; is_column(&zones, 4, "a#4", COUNT) && is_column(&zones, 5, "a#5", TRUTH));
-    assert!(rt; is_column(&zones, 6, "a#6", TRUTH));
-    assert!(rt; holds(&zones, 0, 0, number(10)) && holds(&zones, 0, 1, number(1)));
-    assert!(rt; holds(&zones, 1, 0, number(25)) && holds(&zones, 1, 1, number(8)));
-    assert!(rt; are_null(&zones, 2) && are_null(&zones, 3) && are_null(&zones, 4));
-    assert!(rt; are_null(&zones, 5) && are_null(&zones, 6));
+    let zones = number_table(rt.alloc())?;
+    assert!(rt; has_shape(&zones, 7, 2));
+    assert!(rt; has_values(&zones));
+    assert!(rt; has_counts(&zones));
+    assert!(rt; has_truths(&zones));
     Ok(())
 }
 
 #[test]
+fn numbers_are_known_by_their_bounds(rt: HostRuntime) -> Result<(), Fail> {
+    let zones = number_table(rt.alloc())?;
+    assert!(rt; has_bounds(&zones, 0, 10, 1));
+    assert!(rt; has_bounds(&zones, 1, 25, 8));
+    assert!(rt; knows_bounds_alone(&zones));
+    Ok(())
+}
+
+// Whether the columns of the counts and truths of nulls are the only ones.
+fn has_counts_alone(zones: &Zones) -> bool {
+    columns(zones) == 4
+        && is_column(zones, 0, "n#3", COUNT)
+        && is_column(zones, 1, "n#4", COUNT)
+        && has_truths_of_nulls(zones)
+}
+
+fn has_truths_of_nulls(zones: &Zones) -> bool {
+    is_column(zones, 2, "n#5", TRUTH) && is_column(zones, 3, "n#6", TRUTH)
+}
+
+// Whether a row counts so many nulls, and whether all of its rows are null, and all are not.
+fn has_nulls(zones: &Zones, row: usize, nulls: u64, all_null: bool, all_non_null: bool) -> bool {
+    holds(zones, row, 0, counted(nulls))
+        && holds(zones, row, 2, truth(all_null))
+        && holds(zones, row, 3, truth(all_non_null))
+}
+
+#[test]
 fn nulls_have_counts_alone(rt: HostRuntime) -> Result<(), Fail> {
-    let alloc = rt.alloc();
-    let zones = null_table(alloc)?;
-    assert_eq!(rt; columns(&zones), 4);
-    assert!(rt; is_column(&zones, 0, "n#3", COUNT) && is_column(&zones, 1, "n#4", COUNT));
-    assert!(rt; is_column(&zones, 2, "n#5", TRUTH) && is_column(&zones, 3, "n#6", TRUTH));
-    assert!(rt; holds(&zones, 0, 0, counted(2)) && holds(&zones, 1, 0, counted(0)));
+    let zones = null_table(rt.alloc())?;
+    assert!(rt; has_counts_alone(&zones));
     assert!(rt; are_null(&zones, 1));
-    assert!(rt; holds(&zones, 0, 2, truth(true)) && holds(&zones, 0, 3, truth(false)));
+    assert!(rt; has_nulls(&zones, 0, 2, true, false));
     // Of no rows both are true.
-    assert!(rt; holds(&zones, 1, 2, truth(true)) && holds(&zones, 1, 3, truth(true)));
+    assert!(rt; has_nulls(&zones, 1, 0, true, true));
     Ok(())
 }
 
 #[test]
 fn without_parts_there_are_no_rows(rt: HostRuntime) -> Result<(), Fail> {
-    let alloc = rt.alloc();
-    let zones = empty_table(alloc)?;
-    assert_eq!(rt; columns(&zones), 7);
-    assert_eq!(rt; rows(&zones), 0);
+    let zones = empty_table(rt.alloc())?;
+    assert!(rt; has_shape(&zones, 7, 0));
     assert!(rt; zones.parts().is_empty());
     Ok(())
 }

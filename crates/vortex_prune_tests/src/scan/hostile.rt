@@ -120,46 +120,36 @@ fn two_rows(alloc: Global) -> Table {
     )
 }
 
+// The scan of the two for numbers above 10, with a binder for each.
+fn scanned_by_two(alloc: Global, binders: [Answerer; 2]) -> Found {
+    scanned_by_binders(alloc, &two_rows(alloc), above(alloc, 10), &binders)
+}
+
 // Binders are asked in the order of their parts.
 #[test]
 fn a_later_binder_faults(rt: HostRuntime) {
     let alloc = rt.alloc();
-    let found = scanned_by_binders(
-        alloc,
-        &two_rows(alloc),
-        above(alloc, 10),
-        &[Answerer::Quiet, Answerer::Faulty],
-    );
-    assert!(rt; is_wrong_type(found));
-    let found = scanned_by_binders(
-        alloc,
-        &two_rows(alloc),
-        above(alloc, 10),
-        &[Answerer::Faulty, Answerer::Quiet],
-    );
-    assert!(rt; is_fault(found));
-    let found = scanned_by_binders(
-        alloc,
-        &two_rows(alloc),
-        above(alloc, 10),
-        &[Answerer::Itself, Answerer::Faulty],
-    );
-    assert!(rt; is_open(found));
+    assert!(rt; is_wrong_type(scanned_by_two(alloc, [Answerer::Quiet, Answerer::Faulty])));
+    assert!(rt; is_fault(scanned_by_two(alloc, [Answerer::Faulty, Answerer::Quiet])));
+    assert!(rt; is_open(scanned_by_two(alloc, [Answerer::Itself, Answerer::Faulty])));
+}
+
+// The scan for numbers that aren't above 10.
+fn scanned_for_others(alloc: Global, parts: &Table, rules: &Rules) -> Found {
+    scanned_by(alloc, parts, not(alloc, above(alloc, 10)), rules)
 }
 
 #[test]
 fn a_column_of_another_scope_leaves_a_proof_open(rt: HostRuntime) -> Result<(), Fail> {
     let alloc = rt.alloc();
     let rules = rules_that_claim(alloc, ScalarFnId::Not, Claim::Column(7), Claim::Column(7))?;
-    let found = scanned_by(alloc, &twenty(alloc), not(alloc, above(alloc, 10)), &rules);
-    assert!(rt; is_open(found));
-    let found = scanned_by(
-        alloc,
-        &without_part(alloc),
-        not(alloc, above(alloc, 10)),
-        &rules,
-    );
-    expect_found(&rt, found, &[], &[])
+    assert!(rt; is_open(scanned_for_others(alloc, &twenty(alloc), &rules)));
+    expect_found(
+        &rt,
+        scanned_for_others(alloc, &without_part(alloc), &rules),
+        &[],
+        &[],
+    )
 }
 
 // Two nulls, whose least value is said to be above the greatest.

@@ -20,9 +20,7 @@ fn within(alloc: Global, low: i32, high: i32) -> Sets {
 // The one part is whole: both its rows are selected, and none was tested.
 fn expect_whole(rt: &impl Abort, found: Found) -> Result<(), Fail> {
     let found = found?;
-    assert!(rt; found.skipped.is_empty());
-    assert!(rt; found.whole.as_slice() == [0].as_slice());
-    assert!(rt; found.selected.as_slice() == [(0, 0), (0, 1)].as_slice());
+    assert!(rt; has_found(&found, &[], &[0], &[(0, 0), (0, 1)]));
     assert!(rt; found.evaluated == 0);
     Ok(())
 }
@@ -30,46 +28,52 @@ fn expect_whole(rt: &impl Abort, found: Found) -> Result<(), Fail> {
 // The one part of two rows is neither skipped nor whole: both were tested, and this one selected.
 fn expect_tested(rt: &impl Abort, found: Found, row: usize) -> Result<(), Fail> {
     let found = found?;
-    assert!(rt; found.skipped.is_empty());
-    assert!(rt; found.whole.is_empty());
-    assert!(rt; found.selected.as_slice() == [(0, row)].as_slice());
+    assert!(rt; has_found(&found, &[], &[], &[(0, row)]));
     assert!(rt; found.evaluated == 2);
     Ok(())
+}
+
+// The scan of one part for numbers above 10.
+fn above_10(alloc: Global, rows: &[Option<i32>], set: Sets) -> Found {
+    scanned(alloc, &table_of(alloc, rows, set), above(alloc, 10))
 }
 
 #[test]
 fn a_null_is_tested(rt: HostRuntime) -> Result<(), Fail> {
     let alloc = rt.alloc();
     let set = exactly(alloc, Stat::Min, number(20));
-    let parts = with_set(alloc, &[Some(20), None], set);
-    expect_tested(&rt, scanned(alloc, &parts, above(alloc, 10)), 0)
+    expect_tested(&rt, above_10(alloc, &[Some(20), None], Ok(set)), 0)
 }
 
 #[test]
 fn above_all_is_whole(rt: HostRuntime) -> Result<(), Fail> {
     let alloc = rt.alloc();
-    let parts = table_of(alloc, &[Some(20), Some(30)], from(alloc, 20, 0));
-    expect_whole(&rt, scanned(alloc, &parts, above(alloc, 10)))?;
-    let parts = table_of(alloc, &[Some(10), Some(30)], from(alloc, 10, 0));
-    expect_tested(&rt, scanned(alloc, &parts, above(alloc, 10)), 1)
+    let rows = [Some(20), Some(30)];
+    expect_whole(&rt, above_10(alloc, &rows, from(alloc, 20, 0)))?;
+    let rows = [Some(10), Some(30)];
+    expect_tested(&rt, above_10(alloc, &rows, from(alloc, 10, 0)), 1)
+}
+
+// The scan of the numbers 20 and 30 for those of a range.
+fn in_range(alloc: Global, options: BetweenOptions, lower: i32, upper: i32) -> Found {
+    let parts = table_of(alloc, &[Some(20), Some(30)], within(alloc, 20, 30));
+    scanned(alloc, &parts, range(alloc, options, lower, upper))
 }
 
 #[test]
 fn a_range_of_all_values_is_whole(rt: HostRuntime) -> Result<(), Fail> {
     let alloc = rt.alloc();
-    let parts = table_of(alloc, &[Some(20), Some(30)], within(alloc, 20, 30));
-    expect_whole(&rt, scanned(alloc, &parts, range(alloc, CLOSED, 20, 30)))?;
-    expect_whole(&rt, scanned(alloc, &parts, range(alloc, OPEN, 19, 31)))?;
-    expect_tested(&rt, scanned(alloc, &parts, range(alloc, CLOSED, 21, 30)), 1)?;
-    expect_tested(&rt, scanned(alloc, &parts, range(alloc, OPEN, 19, 30)), 0)
+    expect_whole(&rt, in_range(alloc, CLOSED, 20, 30))?;
+    expect_whole(&rt, in_range(alloc, OPEN, 19, 31))?;
+    expect_tested(&rt, in_range(alloc, CLOSED, 21, 30), 1)?;
+    expect_tested(&rt, in_range(alloc, OPEN, 19, 30), 0)
 }
 
 // Untrue statistics select rows that don't satisfy.
 #[test]
 fn all_rows_of_a_whole_part_are_selected(rt: HostRuntime) -> Result<(), Fail> {
     let alloc = rt.alloc();
-    let parts = table_of(alloc, &[Some(1), None], from(alloc, 20, 0));
-    expect_whole(&rt, scanned(alloc, &parts, above(alloc, 10)))
+    expect_whole(&rt, above_10(alloc, &[Some(1), None], from(alloc, 20, 0)))
 }
 
 #[test]
@@ -77,9 +81,7 @@ fn a_skipped_part_is_not_whole(rt: HostRuntime) -> Result<(), Fail> {
     let alloc = rt.alloc();
     let set = exactly(alloc, Stat::NullCount, count(0));
     let found = scanned(alloc, &with_set(alloc, &[], set), is_null(alloc, a(alloc)))?;
-    assert!(rt; found.skipped.as_slice() == [0].as_slice());
-    assert!(rt; found.whole.is_empty());
-    assert!(rt; found.selected.is_empty());
+    assert!(rt; has_found(&found, &[0], &[], &[]));
     assert!(rt; found.evaluated == 0);
     Ok(())
 }
@@ -106,10 +108,9 @@ fn four_parts(alloc: Global) -> Table {
 fn each_part_by_itself(rt: HostRuntime) -> Result<(), Fail> {
     let alloc = rt.alloc();
     let found = scanned(alloc, &four_parts(alloc), above(alloc, 10))?;
-    assert!(rt; found.skipped.as_slice() == [0].as_slice());
-    assert!(rt; found.whole.as_slice() == [1].as_slice());
+    let selected = [(1, 0), (1, 1), (2, 0), (3, 2)];
+    assert!(rt; has_found(&found, &[0], &[1], &selected));
     assert!(rt; found.evaluated == 4);
-    assert!(rt; found.selected.as_slice() == [(1, 0), (1, 1), (2, 0), (3, 2)].as_slice());
     Ok(())
 }
 
@@ -145,11 +146,10 @@ fn ends_in_x(alloc: Global) -> Built {
 #[test]
 fn one_side_makes_or_whole_but_not_and(rt: HostRuntime) -> Result<(), Fail> {
     let alloc = rt.alloc();
-    let parts = numbers_and_texts(alloc);
     let either = or(alloc, above(alloc, 10), ends_in_x(alloc));
-    expect_whole(&rt, scanned(alloc, &parts, either))?;
+    expect_whole(&rt, scanned(alloc, &numbers_and_texts(alloc), either))?;
     let both = and(alloc, above(alloc, 10), ends_in_x(alloc));
-    expect_tested(&rt, scanned(alloc, &parts, both), 0)
+    expect_tested(&rt, scanned(alloc, &numbers_and_texts(alloc), both), 0)
 }
 
 fn is_open(found: Found) -> bool {
@@ -160,17 +160,21 @@ fn is_fault(found: Found) -> bool {
     matches!(found, Err(StatsError::Rule(RuleFault::Own(3))))
 }
 
+// The scan for numbers above 10 by a rule whose satisfiers are open.
+fn by_open_satisfiers(alloc: Global, parts: Table) -> Found {
+    let rules = rules_that_claim(alloc, ScalarFnId::Binary, Claim::Nothing, Claim::Column(0))?;
+    scanned_by(alloc, &parts, above(alloc, 10), &rules)
+}
+
 // The satisfier is bound at the first part that isn't skipped: an open one is refused there.
 #[test]
 fn an_open_satisfier_ends_the_scan_at_a_kept_part(rt: HostRuntime) -> Result<(), Fail> {
     let alloc = rt.alloc();
-    let rules = rules_that_claim(alloc, ScalarFnId::Binary, Claim::Nothing, Claim::Column(0))?;
     let kept = bounded(alloc, &[Some(11)], 11, 11);
-    assert!(rt; is_open(scanned_by(alloc, &kept, above(alloc, 10), &rules)));
+    assert!(rt; is_open(by_open_satisfiers(alloc, kept)));
     let skipped = bounded(alloc, &[Some(1)], 1, 1);
-    let found = scanned_by(alloc, &skipped, above(alloc, 10), &rules);
-    expect_found(&rt, found, &[0], &[])?;
-    let found = scanned_by(alloc, &without_part(alloc), above(alloc, 10), &rules);
+    expect_found(&rt, by_open_satisfiers(alloc, skipped), &[0], &[])?;
+    let found = by_open_satisfiers(alloc, without_part(alloc));
     expect_found(&rt, found, &[], &[])
 }
 

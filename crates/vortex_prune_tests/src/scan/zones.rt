@@ -44,6 +44,11 @@ fn fruit(alloc: Global) -> Table {
     zones_of(alloc, scope(alloc), and_part(parts, part(alloc, "pear")))
 }
 
+// The scan of that table.
+fn in_fruit(alloc: Global, predicate: Built) -> Found {
+    scanned(alloc, &fruit(alloc), predicate)
+}
+
 fn n(alloc: Global) -> Built {
     col(alloc, 0, DType::Null)
 }
@@ -63,28 +68,26 @@ fn after_banana(alloc: Global) -> Built {
 #[test]
 fn texts_are_found_by_their_bounds(rt: HostRuntime) -> Result<(), Fail> {
     let alloc = rt.alloc();
-    let zones = fruit(alloc);
-    let found = scanned(alloc, &zones, after_banana(alloc));
+    let found = in_fruit(alloc, after_banana(alloc));
     expect_found(&rt, found, &[0, 1], &[(2, 0)])?;
     let starts = like(alloc, t(alloc), text_of(alloc, "b%"));
-    expect_found(&rt, scanned(alloc, &zones, starts), &[0, 2], &[(1, 0)])
+    expect_found(&rt, in_fruit(alloc, starts), &[0, 2], &[(1, 0)])
 }
 
 #[test]
 fn nulls_are_found_by_their_count(rt: HostRuntime) -> Result<(), Fail> {
     let alloc = rt.alloc();
-    let zones = fruit(alloc);
-    let found = scanned(alloc, &zones, is_not_null(alloc, n(alloc)));
+    let found = in_fruit(alloc, is_not_null(alloc, n(alloc)));
     expect_found(&rt, found, &[0, 1, 2], &[])?;
-    let found = scanned(alloc, &zones, is_null(alloc, n(alloc)));
+    let found = in_fruit(alloc, is_null(alloc, n(alloc)));
     expect_found(&rt, found, &[], &[(0, 0), (1, 0), (2, 0)])?;
-    let found = scanned(alloc, &zones, is_null(alloc, t(alloc)));
+    let found = in_fruit(alloc, is_null(alloc, t(alloc)));
     expect_found(&rt, found, &[0, 1, 2], &[])
 }
 
 #[test]
 fn without_a_falsifier_each_part_is_kept(rt: HostRuntime) -> Result<(), Fail> {
     let alloc = rt.alloc();
-    let found = scanned(alloc, &fruit(alloc), not(alloc, after_banana(alloc)));
+    let found = in_fruit(alloc, not(alloc, after_banana(alloc)));
     expect_found(&rt, found, &[], &[(0, 0), (1, 0)])
 }
