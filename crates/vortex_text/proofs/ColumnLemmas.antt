@@ -2,11 +2,11 @@
 use Rattle.std.proofs.Common.{◌≡◌, ◌<◌, ◌≤◌, ◌+◌, ℕ, zero, suc, List, [], ◌∷◌, ◌++◌, Option, None, Some, Result, Ok, Err, option_map, option_and_then, length, set, get_or, take, drop, refl, ap, sym, ◌∙◌, append_assoc, append-nil, add-one, drop-cons, arith}
 use Rattle.std.proofs.lemmas.List.{drop_all, take_all, take_more_set}
 use Rattle.vortex_base.specs.Data.Columns.{ColumnData}
+use Rattle.vortex_syntax.specs.Fails.{Changes, Fails, Gives}
+use Rattle.vortex_syntax.specs.Words.{Token, no_word}
+use Rattle.vortex_syntax.specs.declared.line_error.LineError.{LineError}
+use Rattle.vortex_syntax.specs.declared.line_error.LineError.TheVariants as errors
 use Rattle.vortex_text.specs.Columns.{taken, with_values}
-use Rattle.vortex_text.specs.Fails.{Changes, Fails, Gives}
-use Rattle.vortex_text.specs.Words.{Token, no_word}
-use Rattle.vortex_text.specs.declared.line_error.LineError.{LineError}
-use Rattle.vortex_text.specs.declared.line_error.LineError.TheVariants as errors
 
 -- columns in front of those that are to be read
 abbrev pub behind : List ColumnData → Option (List ColumnData) → Option (List ColumnData)

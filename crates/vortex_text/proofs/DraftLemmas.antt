@@ -1,17 +1,20 @@
 -- Steps of the lines of a text.
-use Rattle.std.proofs.Common.{◌≡◌, ◌<◌, ℕ, true, false, List, [], ◌∷◌, ◌++◌, Option, None, Some, String, is_some, length, option_map, refl, arith}
+use Rattle.std.proofs.Common.{◌≡◌, ◌<◌, ℕ, true, false, if◌then◌else◌, List, [], ◌∷◌, ◌++◌, Option, None, Some, String, is_some, length, option_map, refl, inl, inr, arith}
+use Rattle.std.proofs.lemmas.Bool.{cases_Bool}
 use Rattle.std.specs.declared.alloc.Global.{Global}
-use Rattle.vortex_base.specs.Data.Scopes.{named_columns}
+use Rattle.vortex_base.specs.Data.Scopes.{Named, named_columns, place_of}
 use Rattle.vortex_base.specs.Trees.Tree.{Tree, Place}
 use Rattle.vortex_base.specs.declared.dtype.DType.{DType}
 use Rattle.vortex_prune.specs.Part.{PartData}
+use Rattle.vortex_syntax.specs.Fails.{Fails}
+use Rattle.vortex_syntax.specs.LineKinds.{kind_of}
+use Rattle.vortex_syntax.specs.Names.{is_name}
+use Rattle.vortex_syntax.specs.Words.{Token, plain_word}
+use Rattle.vortex_syntax.specs.declared.line_error.LineError.{LineError}
+use Rattle.vortex_syntax.specs.declared.line_kind.LineKind.{LineKind}
 use Rattle.vortex_text.proofs.ColumnLemmas.{fails_on}
-use Rattle.vortex_text.specs.Fails.{Fails}
-use Rattle.vortex_text.specs.Lines.{Reading, and_current, has_part, is_new, kind_of, read_kind, read_words, with_column}
+use Rattle.vortex_text.specs.Lines.{Reading, and_current, has_part, is_new, read_kind, read_words, with_column}
 use Rattle.vortex_text.specs.OpenParts.{open_data}
-use Rattle.vortex_text.specs.Words.{Token, plain_word}
-use Rattle.vortex_text.specs.declared.line_error.LineError.{LineError}
-use Rattle.vortex_text.specs.declared.line_kind.LineKind.{LineKind}
 use Rattle.vortex_text.specs.declared.open_part.OpenPart.{OpenPart}
 
 pub has_last : (parts : List PartData) (part : PartData) → has_part (parts ++ part ∷ []) ≡ true
@@ -51,3 +54,14 @@ pub by_kind : (r : Reading) (ws rest : List Token) (name : List ℕ) (k : LineKi
     → read_words r ws ≡ read_kind k r rest
 by_kind r [] rest name k h plain kind = cc
 by_kind r (w ∷ ws) rest name k h plain kind = rw (h, plain, kind) refl
+
+-- a name that no column has yet has no place
+pub new_has_no_place : (scope : List Named) (name : List ℕ) → is_new scope name ≡ true → place_of name scope ≡ None
+new_has_no_place scope name new = elim (cases_Bool (is_name name)) [
+  | inl word ↦ none (place_of name scope) (rw word at new)
+  | inr other ↦ (let e = rw other at new in cc)
+]
+  where
+    none : (o : Option ℕ) → (if is_some o then false else true) ≡ true → o ≡ None
+    none None h = refl
+    none (Some i) h = cc

@@ -1,17 +1,10 @@
 pub mod BatchLemmas
 pub mod ColumnLemmas
 pub mod DraftLemmas
-pub mod FirstLine
 pub mod Fitting
-pub mod Found
 pub mod JoinLemmas
 pub mod NamedLines
-pub mod NumberLemmas
-pub mod PlaceLemmas
 pub mod QueryLemmas
 pub mod Refusals
 pub mod StartLemmas
-pub mod Steps
-pub mod Typed
-pub mod WordLemmas
 pub mod WorkedRows

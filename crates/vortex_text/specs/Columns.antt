@@ -5,9 +5,9 @@ use Rattle.vortex_base.specs.declared.scalar_value.ScalarValue.{ScalarValue}
 use Rattle.vortex_stats.specs.Sets.Entries.{with_entry}
 use Rattle.vortex_stats.specs.declared.precision.Precision.{Precision}
 use Rattle.vortex_stats.specs.declared.stat.Stat.{Stat}
-use Rattle.vortex_text.specs.Fails.{◌>>=◌}
-use Rattle.vortex_text.specs.Values.{optional_value_of}
-use Rattle.vortex_text.specs.Words.{Token, first_word, no_word}
+use Rattle.vortex_syntax.specs.Fails.{◌>>=◌}
+use Rattle.vortex_syntax.specs.Values.{optional_value_of}
+use Rattle.vortex_syntax.specs.Words.{Token, first_word, no_word}
 
 -- the column with one more value
 abbrev pub with_value : Option ScalarValue → ColumnData → ColumnData

@@ -1,6 +1,6 @@
 -- What the lines of a text say, one after another.
-use Rattle.std.specs.Prelude.{ℕ, Bool, true, false, nat_le, List, [], ◌∷◌, ◌++◌, Option, None, Some, codes, is_some, length, if◌then◌else◌}
-use Rattle.std.specs.Str.{bytes_eq, is_utf8}
+use Rattle.std.specs.Prelude.{ℕ, Bool, true, false, nat_le, List, [], ◌∷◌, ◌++◌, Option, None, Some, is_some, length, if◌then◌else◌}
+use Rattle.std.specs.Str.{is_utf8}
 use Rattle.vortex_base.specs.Data.Scopes.{Named, is_empty, place_of}
 use Rattle.vortex_base.specs.Trees.Tree.{Tree, Place}
 use Rattle.vortex_base.specs.declared.dtype.DType.{DType}
@@ -8,15 +8,16 @@ use Rattle.vortex_base.specs.declared.scalar_value.ScalarValue.{ScalarValue}
 use Rattle.vortex_prune.specs.Part.{PartData}
 use Rattle.vortex_stats.specs.declared.precision.Precision.{Precision}
 use Rattle.vortex_stats.specs.declared.stat.Stat.{Stat}
-use Rattle.vortex_text.specs.Expressions.{expression_of}
-use Rattle.vortex_text.specs.Fails.{◌>>=◌}
-use Rattle.vortex_text.specs.Names.{is_name, type_of}
-use Rattle.vortex_text.specs.Numbers.{in_64_bits, natural_of}
+use Rattle.vortex_syntax.specs.Expressions.{expression_of}
+use Rattle.vortex_syntax.specs.Fails.{◌>>=◌}
+use Rattle.vortex_syntax.specs.LineKinds.{kind_of}
+use Rattle.vortex_syntax.specs.Names.{is_name, type_of}
+use Rattle.vortex_syntax.specs.Numbers.{in_64_bits, natural_of}
+use Rattle.vortex_syntax.specs.Statistics.{claimed, claimed_value}
+use Rattle.vortex_syntax.specs.Words.{Token, no_word, plain_word, word_limit, words}
+use Rattle.vortex_syntax.specs.declared.line_kind.LineKind.{LineKind}
+use Rattle.vortex_syntax.specs.declared.line_kind.LineKind.TheVariants as kind
 use Rattle.vortex_text.specs.Rows.{empty_part, joined_at, with_row, with_statistic}
-use Rattle.vortex_text.specs.Statistics.{claimed, claimed_value}
-use Rattle.vortex_text.specs.Words.{Token, no_word, plain_word, word_limit, words}
-use Rattle.vortex_text.specs.declared.line_kind.LineKind.{LineKind}
-use Rattle.vortex_text.specs.declared.line_kind.LineKind.TheVariants as kind
 
 -- what lines say: the scope, the parts that take no more rows, the one that does, and the predicate
 pub record Reading : Type 0 where
@@ -42,16 +43,6 @@ has_part (p ∷ ps) = true
 
 abbrev pub when : {X : Type 0} → Bool → X → Option X
 when b x = if b then Some x else None
-
--- the kind of line that a word begins
-abbrev pub kind_of : List ℕ → Option LineKind
-kind_of word =
-    if bytes_eq word (codes "row") then Some kind.Row else (
-    if bytes_eq word (codes "stat") then Some kind.Stat else (
-    if bytes_eq word (codes "part") then Some kind.Part else (
-    if bytes_eq word (codes "join") then Some kind.Join else (
-    if bytes_eq word (codes "column") then Some kind.Column else (
-    if bytes_eq word (codes "where") then Some kind.Where else None)))))
 
 -- a name that no column has yet
 abbrev pub is_new : List Named → List ℕ → Bool

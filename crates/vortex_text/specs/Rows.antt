@@ -6,9 +6,9 @@ use Rattle.vortex_base.specs.declared.scalar_value.ScalarValue.{ScalarValue}
 use Rattle.vortex_prune.specs.Part.{PartData, joined}
 use Rattle.vortex_stats.specs.declared.precision.Precision.{Precision}
 use Rattle.vortex_stats.specs.declared.stat.Stat.{Stat}
+use Rattle.vortex_syntax.specs.Fails.{◌>>=◌}
+use Rattle.vortex_syntax.specs.Words.{Token}
 use Rattle.vortex_text.specs.Columns.{Entries, set_at, with_values}
-use Rattle.vortex_text.specs.Fails.{◌>>=◌}
-use Rattle.vortex_text.specs.Words.{Token}
 
 -- a column of a part that has no rows yet; its size is 0
 abbrev pub empty_column : Named → ColumnData

@@ -1,33 +1,33 @@
 //! What the lines of a text say, line by line.
 ghost use Rattle.std.specs.Prelude.{◌≡◌, IfOk, IfSome, OnOk, MatchOption, None, Some};
 ghost use Rattle.vortex_base.specs.Data.Scopes.{named_columns};
+ghost use Rattle.vortex_syntax.specs.Fails.{Changes};
+ghost use Rattle.vortex_syntax.specs.Words.{words};
 ghost use Rattle.vortex_text.specs.Drafts.{reading_of};
-ghost use Rattle.vortex_text.specs.Fails.{Changes};
 ghost use Rattle.vortex_text.specs.Fitting.{FitsTogether, IsQueryOver};
 ghost use Rattle.vortex_text.specs.Lines.{has_part, is_new, nothing_read, parts_of};
 ghost use Rattle.vortex_text.specs.Lines.{read_column, read_join, read_kind, read_line, read_part};
 ghost use Rattle.vortex_text.specs.Lines.{read_row, read_stat, read_where, read_words, with_column};
-ghost use Rattle.vortex_text.specs.Words.{words};
 
-use crate::columns::Columns;
-use crate::expression::read_expression;
-use crate::line_error::LineError;
-use crate::line_kind::{LineKind, kind_of};
-use crate::lines::is_utf8;
-use crate::names::{is_name, type_of};
-use crate::number::natural_of;
 use crate::open_column::push_row;
 use crate::open_part::{OpenPart, set_statistic};
 use crate::parts::Parts;
 use crate::query::Query;
 use crate::starts::{empty_part, scope_of};
-use crate::statistic::{read_claim, read_claimed};
-use crate::word::{is_short, no_word, plain_word, skip_spaces};
 use std::alloc::{AllocError, Global};
 use std::str;
 use vortex_base::bound_expression::BoundExpression;
 use vortex_base::dtype::DType;
 use vortex_base::scope::Scope;
+use vortex_syntax::columns::Columns;
+use vortex_syntax::expression::read_expression;
+use vortex_syntax::line_error::LineError;
+use vortex_syntax::line_kind::{LineKind, kind_of};
+use vortex_syntax::lines::is_utf8;
+use vortex_syntax::names::{is_name, type_of};
+use vortex_syntax::number::natural_of;
+use vortex_syntax::statistic::{read_claim, read_claimed};
+use vortex_syntax::word::{is_short, no_word, plain_word, skip_spaces};
 
 /// What the lines so far say.
 #[derive(Drop)]

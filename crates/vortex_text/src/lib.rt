@@ -2,17 +2,9 @@
 #![tactic(auto)]
 
 mod batches;
-mod columns;
 mod draft;
-mod expression;
-mod form;
 mod kept_part;
-mod line_error;
-mod line_kind;
-mod lines;
-mod names;
 pub mod naming;
-mod number;
 mod open_column;
 mod open_part;
 mod parts;
@@ -20,7 +12,4 @@ mod printing;
 pub mod program;
 mod query;
 mod starts;
-mod statistic;
 mod streams;
-mod value;
-mod word;

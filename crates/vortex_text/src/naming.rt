@@ -6,10 +6,10 @@ ghost use Rattle.vortex_text.specs.Fitting.{IsQuery, IsQueryOver};
 ghost use Rattle.vortex_text.specs.Naming.{IsFirstBad, IsNamed, NamesQuery, named};
 
 use crate::draft::Draft;
-use crate::line_error::LineError;
-use crate::lines::next_line;
 use crate::query::Query;
 use std::alloc::{AllocError, Global};
+use vortex_syntax::line_error::LineError;
+use vortex_syntax::lines::next_line;
 
 /// Why a text was not read.
 #[derive(Debug, Drop)]

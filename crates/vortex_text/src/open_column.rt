@@ -1,19 +1,19 @@
 //! A column of a part that still takes rows.
 ghost use Rattle.std.specs.Prelude.{◌≡◌, [], IfOk, OnOk};
 ghost use Rattle.vortex_base.specs.Data.Columns.{IsColumn};
+ghost use Rattle.vortex_syntax.specs.Fails.{Changes, GivesAndChanges};
+ghost use Rattle.vortex_syntax.specs.Words.{words};
 ghost use Rattle.vortex_text.specs.Columns.{taken, with_value, with_values};
-ghost use Rattle.vortex_text.specs.Fails.{Changes, GivesAndChanges};
-ghost use Rattle.vortex_text.specs.Words.{words};
 
-use crate::line_error::LineError;
-use crate::value::optional_value_of;
-use crate::word::{first_word, no_word};
 use std::alloc::{AllocError, Global};
 use std::marker::Model;
 use vortex_base::cells::Cells;
 use vortex_base::column::Column;
 use vortex_base::dtype::DType;
 use vortex_base::scalar_value::ScalarValue;
+use vortex_syntax::line_error::LineError;
+use vortex_syntax::value::optional_value_of;
+use vortex_syntax::word::{first_word, no_word};
 
 /// The values of a column so far. Its declared size is 0.
 #[derive(Debug, Drop)]

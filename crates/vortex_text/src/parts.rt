@@ -3,18 +3,18 @@ ghost use Rattle.std.specs.Prelude.{◌≡◌, ◌≤◌, ◌++◌, ◌∷◌, �
 ghost use Rattle.vortex_base.specs.Data.Columns.{sizes_fit};
 ghost use Rattle.vortex_base.specs.Data.Scopes.{Named};
 ghost use Rattle.vortex_prune.specs.Part.{PartData, joined};
-ghost use Rattle.vortex_text.specs.Fails.{Changes};
+ghost use Rattle.vortex_syntax.specs.Fails.{Changes};
+ghost use Rattle.vortex_syntax.specs.declared.line_error.LineError.TheVariants.{Memory};
 ghost use Rattle.vortex_text.specs.Fitting.{AreNeighbours, IsPartOf};
 ghost use Rattle.vortex_text.specs.Lines.{has_part};
 ghost use Rattle.vortex_text.specs.Rows.{joined_at};
-ghost use Rattle.vortex_text.specs.declared.line_error.LineError.TheVariants.{Memory};
 
 use crate::kept_part::KeptPart;
-use crate::line_error::LineError;
 use std::alloc::{AllocError, Global};
 use std::marker::Model;
 use vortex_prune::part::Part;
 use vortex_stats::error::StatsError;
+use vortex_syntax::line_error::LineError;
 
 /// Parts in order. They stand in two runs that meet where parts were last added or joined, so that
 /// a join there moves no other part.

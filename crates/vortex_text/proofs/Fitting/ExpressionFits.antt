@@ -12,12 +12,12 @@ use Rattle.vortex_base.specs.declared.dtype.DType.{DType}
 use Rattle.vortex_base.specs.declared.scalar_value.ScalarValue.{ScalarValue}
 use Rattle.vortex_base.specs.declared.like.LikeOptions.{LikeOptions}
 use Rattle.vortex_base.specs.declared.types.Operator.{Operator}
-use Rattle.vortex_text.specs.Expressions.{Read, expression_by, expression_of, expression_within, followed, form_of, read_between, read_column, read_literal, read_one, read_options, read_two, typed}
-use Rattle.vortex_text.specs.Names.{type_of as type_of_word}
-use Rattle.vortex_text.specs.Values.{optional_value_of}
-use Rattle.vortex_text.specs.Words.{Token, first_word, no_word, plain_word}
-use Rattle.vortex_text.specs.declared.form.Form.{Form}
-use Rattle.vortex_text.specs.declared.form.Form.TheVariants as form
+use Rattle.vortex_syntax.specs.Expressions.{Read, expression_by, expression_of, expression_within, followed, form_of, read_between, read_column, read_literal, read_one, read_options, read_two, typed}
+use Rattle.vortex_syntax.specs.Names.{type_of as type_of_word}
+use Rattle.vortex_syntax.specs.Values.{optional_value_of}
+use Rattle.vortex_syntax.specs.Words.{Token, first_word, no_word, plain_word}
+use Rattle.vortex_syntax.specs.declared.form.Form.{Form}
+use Rattle.vortex_syntax.specs.declared.form.Form.TheVariants as form
 
 -- a step that was made, and what follows it
 pub record Step {A B : Type 0} (o : Option A) (f : A → Option B) (y : B) : Type 0 where

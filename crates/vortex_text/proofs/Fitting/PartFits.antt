@@ -15,12 +15,12 @@ use Rattle.vortex_stats.proofs.Sets.Fitting.{entries_fit_with_entry}
 use Rattle.vortex_stats.specs.Sets.Entries.{entries_fit, value_fits, with_entry}
 use Rattle.vortex_stats.specs.declared.precision.Precision.{Precision}
 use Rattle.vortex_stats.specs.declared.stat.Stat.{Stat}
+use Rattle.vortex_syntax.specs.Words.{Token}
 use Rattle.vortex_text.proofs.Fitting.ExpressionFits.{one_made, step_of}
 use Rattle.vortex_text.proofs.Fitting.RowFits.{Grown, grown_alike, grown_count, grown_fit, grown_sets, grown_types, grown_unsized, row_grows}
 use Rattle.vortex_text.specs.Columns.{set_at, with_values}
 use Rattle.vortex_text.specs.Fitting.{IsPartOf, is_unsized}
 use Rattle.vortex_text.specs.Rows.{empty_column, empty_part, joined_at, no_entries, with_row, with_statistic}
-use Rattle.vortex_text.specs.Words.{Token}
 
 -- ---- the parts of the test of a part
 

@@ -13,12 +13,12 @@ use Rattle.vortex_base.specs.declared.dtype.DType.{DType}
 use Rattle.vortex_base.specs.declared.scalar_value.ScalarValue.{ScalarValue}
 use Rattle.vortex_prune.specs.Part.{Entries, sets_fit}
 use Rattle.vortex_stats.specs.Sets.Entries.{entries_fit}
+use Rattle.vortex_syntax.specs.Values.{optional_value_of}
+use Rattle.vortex_syntax.specs.Words.{Token, first_word, no_word}
 use Rattle.vortex_text.proofs.Fitting.ExpressionFits.{one_made, step_of}
 use Rattle.vortex_text.proofs.Fitting.ValueFits.{optional_value_fits}
 use Rattle.vortex_text.specs.Columns.{taken, with_value, with_values}
 use Rattle.vortex_text.specs.Fitting.{is_unsized}
-use Rattle.vortex_text.specs.Values.{optional_value_of}
-use Rattle.vortex_text.specs.Words.{Token, first_word, no_word}
 
 -- the second column is the first with one more value of its type
 pub record Grown (c d : ColumnData) : Type 0 where

@@ -13,10 +13,10 @@ use Rattle.vortex_base.specs.declared.dtype.DType.{DType}
 use Rattle.vortex_base.specs.declared.dtype.DType.TheVariants as dtype
 use Rattle.vortex_base.specs.declared.types.Nullability.{Nullability}
 use Rattle.vortex_base.specs.declared.types.Nullability.TheVariants.{Nullable, NonNullable}
-use Rattle.vortex_text.proofs.FirstLine.{none_found}
+use Rattle.vortex_syntax.proofs.FirstLine.{none_found}
+use Rattle.vortex_syntax.specs.Names.{begins_name, continues_name, is_name, kind_of, name_limit, ptype_of, type_of}
 use Rattle.vortex_text.proofs.Fitting.ValueFits.{mapped}
 use Rattle.vortex_text.specs.Lines.{is_new}
-use Rattle.vortex_text.specs.Names.{begins_name, continues_name, is_name, kind_of, name_limit, ptype_of, type_of}
 
 -- ---- the types that words name
 

@@ -13,10 +13,10 @@ use Rattle.vortex_base.specs.declared.types.PType.TheVariants as ptype
 use Rattle.vortex_base.specs.declared.pvalue.PValue.{PValue}
 use Rattle.vortex_base.specs.declared.scalar_value.ScalarValue.{ScalarValue}
 use Rattle.vortex_base.specs.declared.scalar_value.ScalarValue.TheVariants as value
+use Rattle.vortex_syntax.specs.Numbers.{bytes_of, in_type, number_of, sized, whole_of}
+use Rattle.vortex_syntax.specs.Values.{binary_of, null_or, optional_value_of, plain_value, quoted_value, text_of, truth_of, value_of}
+use Rattle.vortex_syntax.specs.Words.{Token, Plain, Quoted, Broken}
 use Rattle.vortex_text.proofs.Fitting.ExpressionFits.{step_of}
-use Rattle.vortex_text.specs.Numbers.{bytes_of, in_type, number_of, sized, whole_of}
-use Rattle.vortex_text.specs.Values.{binary_of, null_or, optional_value_of, plain_value, quoted_value, text_of, truth_of, value_of}
-use Rattle.vortex_text.specs.Words.{Token, Plain, Quoted, Broken}
 
 -- what was chosen by a test that holds, or didn't come of one that doesn't
 pub chosen : {X : Type 0} (b : Bool) (x y : X) → (if b then Some x else None) ≡ Some y → (b ≡ true) × (x ≡ y)

@@ -1,7 +1,7 @@
 use Rattle.std.proofs.Common.{get_or, refl, arith}
+use Rattle.vortex_syntax.specs.Words.{words}
 use Rattle.vortex_text.proofs.ColumnLemmas.{fails_on, row_ends, row_more, row_stops}
 use Rattle.vortex_text.specs.Columns.{taken, with_values}
-use Rattle.vortex_text.specs.Words.{words}
 use Rattle.vortex_text.proofs.open_column.push_row.Goals as goal
 
 pub returns-in-Err : goal.returns-in-Err

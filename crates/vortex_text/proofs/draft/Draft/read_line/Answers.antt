@@ -1,6 +1,6 @@
+use Rattle.vortex_syntax.specs.Words.{words}
 use Rattle.vortex_text.proofs.Fitting.LineFits.{left_fits}
 use Rattle.vortex_text.specs.Drafts.{reading_of}
-use Rattle.vortex_text.specs.Words.{words}
 use Rattle.vortex_text.proofs.draft.Draft.read_line.Goals as goal
 
 pub returns-clause-fits : goal.returns-clause-fits

@@ -1,11 +1,11 @@
 use Rattle.std.proofs.Common.{◌≡◌, ◌<◌, Option, true, false, is_some, length, subst, sym, ◌∙◌, arith}
 use Rattle.std.proofs.lemmas.Bool.Decides.{nat_tests}
+use Rattle.vortex_syntax.proofs.WordLemmas.{some_words}
+use Rattle.vortex_syntax.specs.Fails.{Changes}
+use Rattle.vortex_syntax.specs.Words.{words}
 use Rattle.vortex_text.proofs.DraftLemmas.{by_kind, fails_first, stops_after}
-use Rattle.vortex_text.proofs.WordLemmas.{some_words}
 use Rattle.vortex_text.specs.Drafts.{reading_of}
-use Rattle.vortex_text.specs.Fails.{Changes}
 use Rattle.vortex_text.specs.Lines.{Reading}
-use Rattle.vortex_text.specs.Words.{words}
 use Rattle.vortex_text.proofs.draft.Draft.read_words.Goals as goal
 
 pub returns-then-is_some : goal.returns-then-is_some

@@ -1,0 +1,4 @@
+-- Worked rows, found by computation alone.
+pub mod NameRows
+pub mod NumberRows
+pub mod WordRows

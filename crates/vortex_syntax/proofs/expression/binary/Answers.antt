@@ -1,0 +1,6 @@
+use Rattle.vortex_base.specs.Trees.Tree.{binary}
+use Rattle.vortex_syntax.proofs.Typed.{built_fault}
+use Rattle.vortex_syntax.proofs.expression.binary.Goals as goal
+
+pub returns-in-Err : goal.returns-in-Err
+returns-in-Err c = rw c.from.ensures (built_fault (binary c.args.operator c.args.left c.args.right) c.in-Err.fault c.in-Err.ensures)

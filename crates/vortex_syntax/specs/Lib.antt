@@ -1,0 +1,10 @@
+pub mod Expressions
+pub mod Fails
+pub mod LineKinds
+pub mod Names
+pub mod Numbers
+pub mod Places
+pub mod QuotedSteps
+pub mod Statistics
+pub mod Values
+pub mod Words

@@ -1,0 +1,14 @@
+//! The words of the language: names, types, values, numbers, statistics and expressions of a line.
+#![tactic(auto)]
+
+pub mod columns;
+pub mod expression;
+pub mod form;
+pub mod line_error;
+pub mod line_kind;
+pub mod lines;
+pub mod names;
+pub mod number;
+pub mod statistic;
+pub mod value;
+pub mod word;

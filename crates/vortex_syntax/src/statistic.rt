@@ -1,0 +1,118 @@
+//! The words of a `stat` line.
+ghost use Rattle.std.specs.Prelude.{◌≡◌};
+ghost use Rattle.vortex_base.specs.Data.Scopes.{named_columns};
+ghost use Rattle.vortex_syntax.specs.Fails.{Gives};
+ghost use Rattle.vortex_syntax.specs.Statistics.{claimed, claimed_value, precision_of, stat_of, truth_stat_of};
+ghost use Rattle.vortex_syntax.specs.Words.{words};
+
+use crate::columns::Columns;
+use crate::line_error::LineError;
+use crate::names::is;
+use crate::value::value_of;
+use crate::word::{first_word, no_word, plain_word};
+use std::alloc::Global;
+use vortex_base::dtype::DType;
+use vortex_base::scalar_value::ScalarValue;
+use vortex_stats::precision::Precision;
+use vortex_stats::stat::Stat;
+
+// The statistic of a name, among the three truths and the count that no type has.
+fn truth_stat_of(word: &[u8]) -> Option<Stat>
+    ensures { result ≡ truth_stat_of word.now }
+{
+    if is(word, Stat::IsConstant.name().as_bytes()) {
+        return Some(Stat::IsConstant);
+    }
+    if is(word, Stat::IsSorted.name().as_bytes()) {
+        return Some(Stat::IsSorted);
+    }
+    if is(word, Stat::IsStrictSorted.name().as_bytes()) {
+        return Some(Stat::IsStrictSorted);
+    }
+    if is(word, Stat::NaNCount.name().as_bytes()) {
+        return Some(Stat::NaNCount);
+    }
+    None
+}
+
+/// The statistic of a name.
+pub fn stat_of(word: &[u8]) -> Option<Stat>
+    ensures { result ≡ stat_of word.now }
+{
+    if is(word, Stat::Min.name().as_bytes()) {
+        return Some(Stat::Min);
+    }
+    if is(word, Stat::Max.name().as_bytes()) {
+        return Some(Stat::Max);
+    }
+    if is(word, Stat::NullCount.name().as_bytes()) {
+        return Some(Stat::NullCount);
+    }
+    if is(word, Stat::Sum.name().as_bytes()) {
+        return Some(Stat::Sum);
+    }
+    if is(word, Stat::UncompressedSizeInBytes.name().as_bytes()) {
+        return Some(Stat::UncompressedSizeInBytes);
+    }
+    truth_stat_of(word)
+}
+
+/// A value with the precision that a word names, `exact` or `inexact`.
+pub fn precision_of(word: &[u8], value: ScalarValue) -> Option<Precision<ScalarValue>>
+    ensures { result ≡ precision_of word.now value }
+{
+    if is(word, b"exact") {
+        return Some(Precision::Exact(value));
+    }
+    if is(word, b"inexact") {
+        return Some(Precision::Inexact(value));
+    }
+    None
+}
+
+/// A statistic that a line claims of a column.
+#[derive(Debug, Drop)]
+pub struct Claim {
+    /// The place of the column.
+    pub place: usize,
+    pub stat: Stat,
+    /// The type of the statistic's value.
+    pub dtype: DType,
+}
+
+/// The column and the statistic that a line begins with, and the line after them.
+pub fn read_claim<'a>(columns: &Columns, line: &'a [u8]) -> Result<(Claim, &'a [u8]), LineError>
+    ensures { Gives (λ x. ((x.0.place, x.0.stat, x.0.dtype), words x.1.now)) result
+        (claimed (named_columns columns.now) (words line.now)) }
+{
+    let (name, rest) = plain_word(line)?;
+    let Some((place, dtype)) = columns.find(name) else {
+        return Err(LineError::Bad);
+    };
+    let (word, rest) = plain_word(rest)?;
+    let Some(stat) = stat_of(word) else {
+        return Err(LineError::Bad);
+    };
+    let Some(dtype) = stat.dtype(&dtype) else {
+        return Err(LineError::Bad);
+    };
+    Ok((Claim { place, stat, dtype }, rest))
+}
+
+/// The value of a statistic, with its precision. Nothing may stand behind it.
+pub fn read_claimed(
+    alloc: Global,
+    dtype: DType,
+    line: &[u8],
+) -> Result<Precision<ScalarValue>, LineError>
+    ensures { Gives (λ p. p) result (claimed_value dtype (words line.now)) }
+{
+    let (precision, rest) = plain_word(line)?;
+    let (word, rest) = first_word(alloc, rest)?;
+    let value = value_of(alloc, dtype, word)?;
+    let Some(claimed) = precision_of(precision, value) else {
+        return Err(LineError::Bad);
+    };
+    no_word(rest)?;
+    Ok(claimed)
+}

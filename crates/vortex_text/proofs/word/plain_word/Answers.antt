@@ -1,8 +1,0 @@
-use Rattle.std.proofs.Common.{sym, ap, ◌∙◌, arith}
-use Rattle.vortex_text.proofs.WordLemmas.{begins_quoted}
-use Rattle.vortex_text.specs.Words.{plain_word}
-use Rattle.vortex_text.proofs.word.plain_word.Goals as goal
-
-pub returns-in-34-clause-word : goal.returns-in-34-clause-word
-returns-in-34-clause-word c =
-    ap plain_word (sym c.skip_spaces-text.ensures.same) ∙ begins_quoted c.skip_spaces-text.result.now (omega arith) (omega arith)
