@@ -1,5 +1,5 @@
 //! Worked rows of unions, intersections and comparisons of bounds, and clones that refuse.
-use crate::testing::text_of;
+use crate::testing::{is_yes, text_of};
 use std::alloc::{AllocError, Global};
 use std::cell::Cell;
 use std::cmp::Ordering;
@@ -27,30 +27,31 @@ fn unites<B: StatBound<i32>>(
     a: Precision<i32>,
     b: Precision<i32>,
     expected: Option<Precision<i32>>,
-) -> Result<bool, AllocError> {
-    let joined = B::lift(a).union(&B::lift(b))?;
-    Ok(joined.map(|bound| bound.into_value()) == expected)
+) -> bool {
+    match B::lift(a).union(&B::lift(b)) {
+        Ok(Some(bound)) => expected == Some(bound.into_value()),
+        Ok(None) => expected == None,
+        Err(_) => false,
+    }
 }
 
 #[test]
-fn unions_of_uppers(rt: HostRuntime) -> Result<(), Fail> {
-    assert!(rt; unites::<UpperBound<i32>>(INEXACT_10, EXACT_12, Some(EXACT_12))?);
-    assert!(rt; unites::<UpperBound<i32>>(INEXACT_12, EXACT_10, Some(INEXACT_12))?);
-    assert!(rt; unites::<UpperBound<i32>>(EXACT_10, INEXACT_12, Some(INEXACT_12))?);
-    assert!(rt; unites::<UpperBound<i32>>(EXACT_10, EXACT_12, Some(EXACT_12))?);
-    assert!(rt; unites::<UpperBound<i32>>(INEXACT_10, INEXACT_12, Some(INEXACT_12))?);
-    assert!(rt; unites::<UpperBound<i32>>(EXACT_12, Precision::Absent, None)?);
-    Ok(())
+fn unions_of_uppers(rt: HostRuntime) {
+    assert!(rt; unites::<UpperBound<i32>>(INEXACT_10, EXACT_12, Some(EXACT_12)));
+    assert!(rt; unites::<UpperBound<i32>>(INEXACT_12, EXACT_10, Some(INEXACT_12)));
+    assert!(rt; unites::<UpperBound<i32>>(EXACT_10, INEXACT_12, Some(INEXACT_12)));
+    assert!(rt; unites::<UpperBound<i32>>(EXACT_10, EXACT_12, Some(EXACT_12)));
+    assert!(rt; unites::<UpperBound<i32>>(INEXACT_10, INEXACT_12, Some(INEXACT_12)));
+    assert!(rt; unites::<UpperBound<i32>>(EXACT_12, Precision::Absent, None));
 }
 
 #[test]
-fn unions_of_lowers(rt: HostRuntime) -> Result<(), Fail> {
+fn unions_of_lowers(rt: HostRuntime) {
     let five = Precision::Exact(5);
-    assert!(rt; unites::<LowerBound<i32>>(INEXACT_4, five, Some(INEXACT_4))?);
-    assert!(rt; unites::<LowerBound<i32>>(INEXACT_5, five, Some(five))?);
-    assert!(rt; unites::<LowerBound<i32>>(Precision::Absent, INEXACT_12, None)?);
-    assert!(rt; unites::<Precision<i32>>(EXACT_12, INEXACT_10, Some(INEXACT_10))?);
-    Ok(())
+    assert!(rt; unites::<LowerBound<i32>>(INEXACT_4, five, Some(INEXACT_4)));
+    assert!(rt; unites::<LowerBound<i32>>(INEXACT_5, five, Some(five)));
+    assert!(rt; unites::<LowerBound<i32>>(Precision::Absent, INEXACT_12, None));
+    assert!(rt; unites::<Precision<i32>>(EXACT_12, INEXACT_10, Some(INEXACT_10)));
 }
 
 /// Whether this is the value of the intersection.
@@ -58,22 +59,21 @@ fn meets<B: StatBound<i32>>(
     a: Precision<i32>,
     b: Precision<i32>,
     expected: Precision<i32>,
-) -> Result<bool, AllocError> {
-    match B::lift(a).intersection(&B::lift(b))? {
-        Some(IntersectionResult::Value(bound)) => Ok(bound.into_value() == expected),
-        _ => Ok(false),
+) -> bool {
+    match B::lift(a).intersection(&B::lift(b)) {
+        Ok(Some(IntersectionResult::Value(bound))) => bound.into_value() == expected,
+        _ => false,
     }
 }
 
 #[test]
-fn intersections(rt: HostRuntime) -> Result<(), Fail> {
-    assert!(rt; meets::<UpperBound<i32>>(EXACT_10, INEXACT_12, EXACT_10)?);
-    assert!(rt; meets::<LowerBound<i32>>(EXACT_12, INEXACT_10, EXACT_12)?);
+fn intersections(rt: HostRuntime) {
+    assert!(rt; meets::<UpperBound<i32>>(EXACT_10, INEXACT_12, EXACT_10));
+    assert!(rt; meets::<LowerBound<i32>>(EXACT_12, INEXACT_10, EXACT_12));
     let three = Precision::Exact(3);
     let five = Precision::Exact(5);
-    assert!(rt; meets::<Precision<i32>>(three, INEXACT_5, Precision::Inexact(3))?);
-    assert!(rt; meets::<Precision<i32>>(five, Precision::Inexact(3), five)?);
-    Ok(())
+    assert!(rt; meets::<Precision<i32>>(three, INEXACT_5, Precision::Inexact(3)));
+    assert!(rt; meets::<Precision<i32>>(five, Precision::Inexact(3), five));
 }
 
 /// Whether the intersection is this, as the bounds compare.
@@ -81,26 +81,25 @@ fn is_met_in<B: StatBound<i32> + PartialEq>(
     a: Precision<i32>,
     b: Precision<i32>,
     expected: Option<IntersectionResult<B>>,
-) -> Result<bool, AllocError> {
-    Ok(B::lift(a).intersection(&B::lift(b))? == expected)
+) -> bool {
+    match B::lift(a).intersection(&B::lift(b)) {
+        Ok(found) => found == expected,
+        Err(_) => false,
+    }
 }
 
 /// Whether the bounds allow nothing in common.
-fn are_apart<B: StatBound<i32> + PartialEq>(
-    a: Precision<i32>,
-    b: Precision<i32>,
-) -> Result<bool, AllocError> {
+fn are_apart<B: StatBound<i32> + PartialEq>(a: Precision<i32>, b: Precision<i32>) -> bool {
     is_met_in::<B>(a, b, Some(IntersectionResult::Empty))
 }
 
 #[test]
-fn empty_intersections(rt: HostRuntime) -> Result<(), Fail> {
+fn empty_intersections(rt: HostRuntime) {
     let thirteen = Precision::Exact(13);
-    assert!(rt; are_apart::<UpperBound<i32>>(thirteen, INEXACT_12)?);
-    assert!(rt; are_apart::<LowerBound<i32>>(EXACT_12, Precision::Inexact(13))?);
-    assert!(rt; is_met_in::<LowerBound<i32>>(EXACT_12, Precision::Absent, None)?);
-    assert!(rt; are_apart::<Precision<i32>>(Precision::Absent, Precision::Exact(1))?);
-    Ok(())
+    assert!(rt; are_apart::<UpperBound<i32>>(thirteen, INEXACT_12));
+    assert!(rt; are_apart::<LowerBound<i32>>(EXACT_12, Precision::Inexact(13)));
+    assert!(rt; is_met_in::<LowerBound<i32>>(EXACT_12, Precision::Absent, None));
+    assert!(rt; are_apart::<Precision<i32>>(Precision::Absent, Precision::Exact(1)));
 }
 
 fn upper_equals(bound: Precision<i32>, value: i32) -> bool {
@@ -163,8 +162,8 @@ fn clones_equal_lowers(bound: Precision<i32>) -> Result<bool, StatsError> {
 fn results(rt: HostRuntime) -> Result<(), Fail> {
     assert!(rt; cloned_or_e(IntersectionResult::Value(10))? == Ok(10));
     assert!(rt; cloned_or_e(IntersectionResult::Empty)? == Err('e'));
-    assert!(rt; clones_equal_uppers(INEXACT_10)?);
-    assert!(rt; clones_equal_lowers(EXACT_10)?);
+    assert!(rt; is_yes(clones_equal_uppers(INEXACT_10)));
+    assert!(rt; is_yes(clones_equal_lowers(EXACT_10)));
     Ok(())
 }
 
@@ -173,18 +172,28 @@ fn bound<B: StatBound<Text>>(alloc: Global, value: &str) -> Result<B, AllocError
     Ok(B::lift(Precision::Inexact(text_of(alloc, value)?)))
 }
 
+fn unites_to<B: StatBound<Text> + PartialEq>(a: &B, b: &B, union: &B) -> bool {
+    match a.union(b) {
+        Ok(Some(bound)) => bound == *union,
+        _ => false,
+    }
+}
+
+fn meets_in<B: StatBound<Text> + PartialEq>(a: &B, b: &B, intersection: &B) -> bool {
+    match a.intersection(b) {
+        Ok(Some(IntersectionResult::Value(bound))) => bound == *intersection,
+        _ => false,
+    }
+}
+
 /// Whether the two bounds unite to the one and meet in the other.
 fn unite_and_meet<B: StatBound<Text> + PartialEq>(
     a: &B,
     b: &B,
     union: &B,
     intersection: &B,
-) -> Result<bool, AllocError> {
-    let united = a.union(b)?.is_some_and(|bound| bound == *union);
-    match a.intersection(b)? {
-        Some(IntersectionResult::Value(bound)) => Ok(united && bound == *intersection),
-        _ => Ok(false),
-    }
+) -> bool {
+    unites_to(a, b, union) && meets_in(a, b, intersection)
 }
 
 /// Whether the bounds on apple and pear unite to the one of the two and meet in the other.
@@ -197,62 +206,65 @@ fn orders_fruits<B: StatBound<Text> + PartialEq>(
     let pear: B = bound(alloc, "pear")?;
     let union = if unites_to_pear { &pear } else { &apple };
     let intersection = if meets_in_pear { &pear } else { &apple };
-    unite_and_meet(&apple, &pear, union, intersection)
+    Ok(unite_and_meet(&apple, &pear, union, intersection))
 }
 
 #[test]
-fn texts(rt: HostRuntime) -> Result<(), Fail> {
+fn texts(rt: HostRuntime) {
     let alloc = rt.alloc();
-    assert!(rt; orders_fruits::<UpperBound<Text>>(alloc, true, false)?);
-    assert!(rt; orders_fruits::<LowerBound<Text>>(alloc, false, true)?);
-    assert!(rt; orders_fruits::<Precision<Text>>(alloc, false, false)?);
-    Ok(())
+    assert!(rt; is_yes(orders_fruits::<UpperBound<Text>>(alloc, true, false)));
+    assert!(rt; is_yes(orders_fruits::<LowerBound<Text>>(alloc, false, true)));
+    assert!(rt; is_yes(orders_fruits::<Precision<Text>>(alloc, false, false)));
 }
 
-/// The order of an inexact upper bound and another text, to which it is never equal.
-fn upper_text_against(
+/// Whether an inexact upper bound is never equal to a value and stands in this order to it.
+fn is_upper_against(upper: &UpperBound<Text>, value: &Text, order: Option<Ordering>) -> bool {
+    !upper.eq_value(value) && upper.to_exact().is_none() && upper.partial_cmp_value(value) == order
+}
+
+/// The same of two texts.
+fn is_upper_text_against(
     alloc: Global,
     bound_text: &str,
     value: &str,
-) -> Result<Option<Ordering>, Fail> {
+    order: Option<Ordering>,
+) -> Result<bool, AllocError> {
     let upper: UpperBound<Text> = bound(alloc, bound_text)?;
-    let value = text_of(alloc, value)?;
-    if upper.eq_value(&value) || upper.to_exact().is_some() {
-        return Err(Fail::from("an inexact bound is exact"));
-    }
-    Ok(upper.partial_cmp_value(&value))
+    Ok(is_upper_against(&upper, &text_of(alloc, value)?, order))
 }
 
-/// The same of an inexact lower bound.
-fn lower_text_against(
+/// Whether an inexact lower bound is never equal to a value and stands in this order to it.
+fn is_lower_against(lower: &LowerBound<Text>, value: &Text, order: Option<Ordering>) -> bool {
+    !lower.eq_value(value) && !lower.is_exact() && lower.partial_cmp_value(value) == order
+}
+
+/// The same of two texts.
+fn is_lower_text_against(
     alloc: Global,
     bound_text: &str,
     value: &str,
-) -> Result<Option<Ordering>, Fail> {
+    order: Option<Ordering>,
+) -> Result<bool, AllocError> {
     let lower: LowerBound<Text> = bound(alloc, bound_text)?;
-    let value = text_of(alloc, value)?;
-    if lower.eq_value(&value) || lower.is_exact() {
-        return Err(Fail::from("an inexact bound is exact"));
-    }
-    Ok(lower.partial_cmp_value(&value))
+    Ok(is_lower_against(&lower, &text_of(alloc, value)?, order))
 }
 
 /// Whether a clone of a found text is the text, and none is taken for Empty.
-fn finds_clones(alloc: Global, value: &str) -> Result<bool, Fail> {
+fn finds_clones(alloc: Global, value: &str) -> Result<bool, StatsError> {
     let found = IntersectionResult::Value(text_of(alloc, value)?);
     let same = found.try_clone()? == found;
     Ok(same && found.ok_or_else(|| 'e').is_ok())
 }
 
 #[test]
-fn texts_against_values(rt: HostRuntime) -> Result<(), Fail> {
+fn texts_against_values(rt: HostRuntime) {
     let alloc = rt.alloc();
-    assert!(rt; upper_text_against(alloc, "apple", "banana")? == Some(Ordering::Less));
-    assert!(rt; upper_text_against(alloc, "pear", "banana")? == None);
-    assert!(rt; lower_text_against(alloc, "apple", "banana")? == None);
-    assert!(rt; lower_text_against(alloc, "pear", "banana")? == Some(Ordering::Greater));
-    assert!(rt; finds_clones(alloc, "banana")?);
-    Ok(())
+    let (less, greater) = (Some(Ordering::Less), Some(Ordering::Greater));
+    assert!(rt; is_yes(is_upper_text_against(alloc, "apple", "banana", less)));
+    assert!(rt; is_yes(is_upper_text_against(alloc, "pear", "banana", None)));
+    assert!(rt; is_yes(is_lower_text_against(alloc, "apple", "banana", None)));
+    assert!(rt; is_yes(is_lower_text_against(alloc, "pear", "banana", greater)));
+    assert!(rt; is_yes(finds_clones(alloc, "banana")));
 }
 
 /// A number that counts its clones.
@@ -283,15 +295,15 @@ fn counting<'a, B: StatBound<Counted<'a>>>(value: u32, clones: &'a Cell<u32>) ->
     B::lift(Precision::Exact(Counted { value, clones }))
 }
 
-/// How many values the union of two bounds clones; None where there is no union.
+/// Whether two bounds unite, and how many values that clones.
 fn clones_of_union<'a, B: StatBound<Counted<'a>>>(
     a: &B,
     b: &B,
     clones: &'a Cell<u32>,
-) -> Result<Option<u32>, AllocError> {
+) -> Result<(bool, u32), AllocError> {
     clones.set(0);
     let is_some = a.union(b)?.is_some();
-    Ok(if is_some { Some(clones.get()) } else { None })
+    Ok((is_some, clones.get()))
 }
 
 /// The same of the intersection.
@@ -299,37 +311,69 @@ fn clones_of_intersection<'a, B: StatBound<Counted<'a>>>(
     a: &B,
     b: &B,
     clones: &'a Cell<u32>,
-) -> Result<Option<u32>, AllocError> {
+) -> Result<(bool, u32), AllocError> {
     clones.set(0);
     let is_some = a.intersection(b)?.is_some();
-    Ok(if is_some { Some(clones.get()) } else { None })
+    Ok((is_some, clones.get()))
+}
+
+/// Whether two values unite to one with one clone.
+fn unites_by_a_clone<'a, B: StatBound<Counted<'a>>>(
+    first: u32,
+    other: u32,
+    clones: &'a Cell<u32>,
+) -> Result<bool, AllocError> {
+    let a: B = counting(first, clones);
+    let b: B = counting(other, clones);
+    Ok(clones_of_union(&a, &b, clones)? == (true, 1))
+}
+
+/// Whether two values meet in nothing, which is found without a clone.
+fn meets_in_nothing<'a, B: StatBound<Counted<'a>>>(
+    first: u32,
+    other: u32,
+    clones: &'a Cell<u32>,
+) -> Result<bool, AllocError> {
+    let a: B = counting(first, clones);
+    let b: B = counting(other, clones);
+    Ok(clones_of_intersection(&a, &b, clones)? == (true, 0))
+}
+
+/// Whether a bound and itself unite and meet with one clone each.
+fn clones_itself_once<'a, B: StatBound<Counted<'a>>>(
+    value: u32,
+    clones: &'a Cell<u32>,
+) -> Result<bool, AllocError> {
+    let a: B = counting(value, clones);
+    let unites = clones_of_union(&a, &a, clones)? == (true, 1);
+    Ok(unites && clones_of_intersection(&a, &a, clones)? == (true, 1))
+}
+
+/// Whether there is no union with an absent value, which is found without a clone.
+fn has_no_union<'a, B: StatBound<Counted<'a>>>(
+    value: u32,
+    clones: &'a Cell<u32>,
+) -> Result<bool, AllocError> {
+    let a: B = counting(value, clones);
+    let absent = B::lift(Precision::Absent);
+    Ok(clones_of_union(&a, &absent, clones)? == (false, 0))
 }
 
 /// An intersection that is Empty clones nothing.
 #[test]
-fn counted_clones_of_values(rt: HostRuntime) -> Result<(), Fail> {
+fn counted_clones_of_values(rt: HostRuntime) {
     let clones = Cell::new(0);
-    let three: Precision<Counted<'_>> = counting(3, &clones);
-    let five: Precision<Counted<'_>> = counting(5, &clones);
-    assert!(rt; clones_of_union(&three, &five, &clones)? == Some(1));
-    assert!(rt; clones_of_intersection(&three, &five, &clones)? == Some(0));
-    Ok(())
+    assert!(rt; is_yes(unites_by_a_clone::<Precision<Counted<'_>>>(3, 5, &clones)));
+    assert!(rt; is_yes(meets_in_nothing::<Precision<Counted<'_>>>(3, 5, &clones)));
 }
 
 /// A call clones the answer's value once, and nothing where there is no answer.
 #[test]
-fn counted_clones_of_bounds(rt: HostRuntime) -> Result<(), Fail> {
+fn counted_clones_of_bounds(rt: HostRuntime) {
     let clones = Cell::new(0);
-    let upper: UpperBound<Counted<'_>> = counting(3, &clones);
-    let lower: LowerBound<Counted<'_>> = counting(5, &clones);
-    assert!(rt; clones_of_union(&upper, &upper, &clones)? == Some(1));
-    assert!(rt; clones_of_union(&lower, &lower, &clones)? == Some(1));
-    assert!(rt; clones_of_intersection(&upper, &upper, &clones)? == Some(1));
-    assert!(rt; clones_of_intersection(&lower, &lower, &clones)? == Some(1));
-    let absent = UpperBound::lift(Precision::Absent);
-    assert!(rt; clones_of_union(&upper, &absent, &clones)? == None);
-    assert_eq!(rt; clones.get(), 0);
-    Ok(())
+    assert!(rt; is_yes(clones_itself_once::<UpperBound<Counted<'_>>>(3, &clones)));
+    assert!(rt; is_yes(clones_itself_once::<LowerBound<Counted<'_>>>(5, &clones)));
+    assert!(rt; is_yes(has_no_union::<UpperBound<Counted<'_>>>(3, &clones)));
 }
 
 /// A number whose clone is refused where the flag is set.

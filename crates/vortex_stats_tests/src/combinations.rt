@@ -1,105 +1,129 @@
 //! Combinations of sets by value and through a view, row by row.
 use crate::callers::combined_through_view;
-use crate::testing::{Entry, I32, Value, exact, inexact, sets};
+use crate::testing::{I32, PlainValue, Row, Sets, exact, inexact, sets};
 use std::alloc::Global;
-use std::test::Fail;
-use vortex_base::scalar_value::ScalarValue;
 use vortex_stats::error::StatsError;
 use vortex_stats::precision::Precision;
 use vortex_stats::stat::Stat;
 use vortex_stats::stats_set::StatsSet;
 
-/// Combines two sets that fit I32, and answers the statistic of a conflict.
-fn combine(set: &mut StatsSet, other: &StatsSet) -> Result<Option<Stat>, Fail> {
-    match sets::combine(set, other, &I32) {
-        Ok(()) => Ok(None),
-        Err(StatsError::Conflict(stat)) => Ok(Some(stat)),
-        Err(refused) => Err(Fail::from(refused)),
+/// Whether a combination stopped at this conflict, or at none.
+fn is_answered(answer: Result<(), StatsError>, conflict: Option<Stat>) -> bool {
+    match answer {
+        Ok(()) => conflict == None,
+        Err(StatsError::Conflict(stat)) => conflict == Some(stat),
+        Err(_) => false,
     }
 }
 
-/// Whether the first entries combined with the others are the last ones, and stop at this conflict.
-fn combines<const A: usize, const B: usize, const C: usize>(
+/// Combines the sets under I32, and refuses where that doesn't stop at this conflict.
+fn stops(set: &mut StatsSet, other: &StatsSet, conflict: Option<Stat>) -> Result<(), StatsError> {
+    if is_answered(sets::combine(set, other, &I32), conflict) {
+        Ok(())
+    } else {
+        Err(StatsError::Unsupported)
+    }
+}
+
+/// The first set combined with the other under I32, or none where that doesn't stop at this
+/// conflict.
+fn combined(set: Sets, other: Sets, conflict: Option<Stat>) -> Sets {
+    let other = other?;
+    let mut set = set?;
+    stops(&mut set, &other, conflict)?;
+    Ok(set)
+}
+
+/// Whether the first rows combined with the others are the last ones, and stop at this conflict.
+fn combines(
     alloc: Global,
-    first: [Entry; A],
-    other: [Entry; B],
-    expected: [Entry; C],
+    first: &[Row],
+    other: &[Row],
+    expected: &[Row],
     conflict: Option<Stat>,
-) -> Result<bool, Fail> {
-    let mut set = sets::of(alloc, first)?;
-    let found = combine(&mut set, &sets::of(alloc, other)?)?;
-    Ok(found == conflict && sets::is(alloc, set, expected)?)
+) -> bool {
+    let set = combined(sets::of(alloc, first), sets::of(alloc, other), conflict);
+    sets::is(alloc, set, expected)
 }
 
 #[test]
-fn conflict_at_min(rt: HostRuntime) -> Result<(), Fail> {
-    let first = [(Stat::Min, exact(5))];
+fn conflict_at_min(rt: HostRuntime) {
     let other = [
         (Stat::Max, exact(9)),
         (Stat::Min, exact(4)),
         (Stat::NullCount, exact(0u64)),
     ];
     let expected = [(Stat::Min, exact(5)), (Stat::Max, exact(9))];
-    assert!(rt; combines(rt.alloc(), first, other, expected, Some(Stat::Min))?);
-    Ok(())
+    let conflict = Some(Stat::Min);
+    assert!(rt;
+        combines(
+            rt.alloc(),
+            &[(Stat::Min, exact(5))],
+            &other,
+            &expected,
+            conflict
+        )
+    );
+}
+
+fn max(value: PlainValue) -> [Row; 1] {
+    [(Stat::Max, value)]
+}
+
+/// Max 3.
+fn three() -> [Row; 1] {
+    max(exact(3))
 }
 
 /// An entry of Max that is Absent.
-fn absent() -> [Entry; 1] {
-    [(Stat::Max, Precision::Absent)]
+fn absent() -> [Row; 1] {
+    max(Precision::Absent)
 }
 
 #[test]
-fn absent_entries(rt: HostRuntime) -> Result<(), Fail> {
+fn absent_entries(rt: HostRuntime) {
     let alloc = rt.alloc();
-    assert!(rt; combines(alloc, [], absent(), [], None)?);
-    assert!(rt; combines(alloc, absent(), absent(), [], None)?);
-    assert!(rt; combines(alloc, max(exact(3)), absent(), max(exact(3)), None)?);
-    assert!(rt; combines(alloc, absent(), max(exact(3)), max(exact(3)), None)?);
-    Ok(())
+    assert!(rt; combines(alloc, &[], &absent(), &[], None));
+    assert!(rt; combines(alloc, &absent(), &absent(), &[], None));
+    assert!(rt; combines(alloc, &three(), &absent(), &three(), None));
+    assert!(rt; combines(alloc, &absent(), &three(), &three(), None));
 }
 
 /// Whether two values of the statistic meet in the last one.
 fn meet(
     alloc: Global,
     stat: Stat,
-    first: Value,
-    other: Value,
-    expected: Value,
-) -> Result<bool, Fail> {
+    first: PlainValue,
+    other: PlainValue,
+    expected: PlainValue,
+) -> bool {
     combines(
         alloc,
-        [(stat, first)],
-        [(stat, other)],
-        [(stat, expected)],
+        &[(stat, first)],
+        &[(stat, other)],
+        &[(stat, expected)],
         None,
     )
 }
 
 /// Whether two values of the statistic contradict each other, and the first stays.
-fn conflict<T: Into<ScalarValue> + Copy>(
-    alloc: Global,
-    stat: Stat,
-    first: Precision<T>,
-    other: Value,
-) -> Result<bool, Fail> {
-    let entry = || [(stat, first.map(|value| value.into()))];
-    combines(alloc, entry(), [(stat, other)], entry(), Some(stat))
+fn conflict(alloc: Global, stat: Stat, first: PlainValue, other: PlainValue) -> bool {
+    let entry = [(stat, first)];
+    combines(alloc, &entry, &[(stat, other)], &entry, Some(stat))
 }
 
 #[test]
-fn truths(rt: HostRuntime) -> Result<(), Fail> {
+fn truths(rt: HostRuntime) {
     let alloc = rt.alloc();
     let stat = Stat::IsConstant;
-    assert!(rt; meet(alloc, stat, exact(true), exact(true), exact(true))?);
-    assert!(rt; meet(alloc, stat, exact(true), inexact(false), exact(true))?);
-    assert!(rt; meet(alloc, stat, exact(false), inexact(false), exact(false))?);
-    assert!(rt; meet(alloc, stat, exact(false), inexact(true), inexact(false))?);
-    Ok(())
+    assert!(rt; meet(alloc, stat, exact(true), exact(true), exact(true)));
+    assert!(rt; meet(alloc, stat, exact(true), inexact(false), exact(true)));
+    assert!(rt; meet(alloc, stat, exact(false), inexact(false), exact(false)));
+    assert!(rt; meet(alloc, stat, exact(false), inexact(true), inexact(false)));
 }
 
 /// Whether the rows are constant, and that they are sorted.
-fn sorted(is_constant: bool) -> [Entry; 2] {
+fn sorted(is_constant: bool) -> [Row; 2] {
     [
         (Stat::IsConstant, exact(is_constant)),
         (Stat::IsSorted, exact(true)),
@@ -107,30 +131,24 @@ fn sorted(is_constant: bool) -> [Entry; 2] {
 }
 
 #[test]
-fn conflict_of_truths(rt: HostRuntime) -> Result<(), Fail> {
+fn conflict_of_truths(rt: HostRuntime) {
     let alloc = rt.alloc();
     let stat = Some(Stat::IsConstant);
-    assert!(rt; combines(alloc, sorted(true), sorted(false), sorted(true), stat)?);
-    Ok(())
-}
-
-fn max(value: Value) -> [Entry; 1] {
-    [(Stat::Max, value)]
+    assert!(rt; combines(alloc, &sorted(true), &sorted(false), &sorted(true), stat));
 }
 
 #[test]
-fn bounds(rt: HostRuntime) -> Result<(), Fail> {
+fn bounds(rt: HostRuntime) {
     let alloc = rt.alloc();
-    assert!(rt; meet(alloc, Stat::Max, exact(5), inexact(7), exact(5))?);
-    assert!(rt; meet(alloc, Stat::Max, inexact(7), exact(5), exact(5))?);
-    assert!(rt; conflict(alloc, Stat::Max, Precision::Inexact(5), exact(7))?);
-    assert!(rt; meet(alloc, Stat::Max, inexact(7), inexact(5), inexact(5))?);
-    assert!(rt; conflict(alloc, Stat::Sum, Precision::Exact(1i64), exact(2i64))?);
-    Ok(())
+    assert!(rt; meet(alloc, Stat::Max, exact(5), inexact(7), exact(5)));
+    assert!(rt; meet(alloc, Stat::Max, inexact(7), exact(5), exact(5)));
+    assert!(rt; conflict(alloc, Stat::Max, inexact(5), exact(7)));
+    assert!(rt; meet(alloc, Stat::Max, inexact(7), inexact(5), inexact(5)));
+    assert!(rt; conflict(alloc, Stat::Sum, exact(1i64), exact(2i64)));
 }
 
 #[test]
-fn missing_stats(rt: HostRuntime) -> Result<(), Fail> {
+fn missing_stats(rt: HostRuntime) {
     let first = [
         (Stat::Min, exact(42)),
         (Stat::UncompressedSizeInBytes, exact(1000u64)),
@@ -142,8 +160,7 @@ fn missing_stats(rt: HostRuntime) -> Result<(), Fail> {
         (Stat::Max, exact(100)),
         (Stat::IsStrictSorted, exact(true)),
     ];
-    assert!(rt; combines(rt.alloc(), first, other, expected, None)?);
-    Ok(())
+    assert!(rt; combines(rt.alloc(), &first, &other, &expected, None));
 }
 
 /// Combines through a view, where both sets fit I32, and tells whether that is a conflict at Min.
@@ -155,12 +172,21 @@ fn conflicts_viewed(set: &mut StatsSet, other: &StatsSet) -> bool {
     matches!(answer, Err(StatsError::Conflict(Stat::Min)))
 }
 
-#[test]
-fn combines_through_a_view(rt: HostRuntime) -> Result<(), Fail> {
-    let alloc = rt.alloc();
+/// Min 5 combined through a view with the other set, or none where that is no conflict at Min.
+fn combined_viewed(alloc: Global, other: Sets) -> Sets {
+    let other = other?;
     let mut set = sets::one(alloc, Stat::Min, exact(5));
-    let other = sets::of(alloc, [(Stat::Max, exact(9)), (Stat::Min, exact(4))])?;
-    assert!(rt; conflicts_viewed(&mut set, &other));
-    assert!(rt; sets::is(alloc, set, [(Stat::Min, exact(5)), (Stat::Max, exact(9))])?);
-    Ok(())
+    if conflicts_viewed(&mut set, &other) {
+        Ok(set)
+    } else {
+        Err(StatsError::Unsupported)
+    }
+}
+
+#[test]
+fn combines_through_a_view(rt: HostRuntime) {
+    let alloc = rt.alloc();
+    let other = sets::of(alloc, &[(Stat::Max, exact(9)), (Stat::Min, exact(4))]);
+    let expected = [(Stat::Min, exact(5)), (Stat::Max, exact(9))];
+    assert!(rt; sets::is(alloc, combined_viewed(alloc, other), &expected));
 }

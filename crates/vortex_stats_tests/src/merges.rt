@@ -1,43 +1,34 @@
 //! Merges of sets by value and through views, row by row.
 use crate::callers::{merged_through_view, mixed_through_view};
-use crate::testing::{Entry, I32, I64, U8, UTF8, Value, exact, inexact, sets, text};
-use std::alloc::Global;
-use std::test::Fail;
+use crate::testing::{
+    Entry, I32, I64, PlainValue, Row, Sets, U8, UTF8, exact, inexact, is_yes, push_text, sets,
+};
+use std::alloc::{AllocError, Global};
 use vortex_base::dtype::DType;
-use vortex_base::scalar_value::ScalarValue;
 use vortex_stats::error::StatsError;
 use vortex_stats::precision::Precision;
 use vortex_stats::stat::Stat;
 use vortex_stats::stats_set::StatsSet;
 
-/// Whether the ordered merge of the two sets under the type has the last entries.
-fn merges_under<const A: usize, const B: usize, const C: usize>(
-    alloc: Global,
-    dtype: &DType,
-    first: [Entry; A],
-    other: [Entry; B],
-    expected: [Entry; C],
-) -> Result<bool, Fail> {
-    let other = sets::of(alloc, other)?;
-    let set = sets::merged(sets::of(alloc, first)?, &other, dtype)?;
-    Ok(sets::is(alloc, set, expected)?)
-}
-
-/// The same under the type I32.
-fn merges<const A: usize, const B: usize, const C: usize>(
-    alloc: Global,
-    first: [Entry; A],
-    other: [Entry; B],
-    expected: [Entry; C],
-) -> Result<bool, Fail> {
-    merges_under(alloc, &I32, first, other, expected)
+/// Whether the ordered merge of the two sets has the last rows.
+fn merges(alloc: Global, first: &[Row], other: &[Row], expected: &[Row]) -> bool {
+    let set = sets::merge(sets::of(alloc, first), sets::of(alloc, other), &I32);
+    sets::is(alloc, set, expected)
 }
 
 /// The set of the statistic's value, or of no entry.
-fn set_of(alloc: Global, stat: Stat, value: Option<Value>) -> StatsSet {
+fn set_of(alloc: Global, stat: Stat, value: Option<PlainValue>) -> Sets {
     match value {
-        Some(value) => sets::one(alloc, stat, value),
-        None => sets::empty(alloc),
+        Some(value) => Ok(sets::one(alloc, stat, value)),
+        None => Ok(sets::empty(alloc)),
+    }
+}
+
+/// Whether the set has that entry alone, or none.
+fn is_set_of(alloc: Global, set: Sets, stat: Stat, value: Option<PlainValue>) -> bool {
+    match value {
+        Some(value) => sets::is(alloc, set, &[(stat, value)]),
+        None => sets::is_left_empty(set),
     }
 }
 
@@ -47,242 +38,214 @@ fn merges_values(
     alloc: Global,
     dtype: &DType,
     stat: Stat,
-    first: Option<Value>,
-    other: Option<Value>,
-    expected: Option<Value>,
-) -> Result<bool, Fail> {
+    first: Option<PlainValue>,
+    other: Option<PlainValue>,
+    expected: Option<PlainValue>,
+) -> bool {
     let other = set_of(alloc, stat, other);
-    let set = sets::merged(set_of(alloc, stat, first), &other, dtype)?;
-    match expected {
-        Some(value) => Ok(sets::is(alloc, set, [(stat, value)])?),
-        None => Ok(set.is_empty()),
-    }
+    let set = sets::merge(set_of(alloc, stat, first), other, dtype);
+    is_set_of(alloc, set, stat, expected)
 }
 
 /// The sum of two sums in a column of the type, `None` where the entry is cleared.
 fn sums(
     alloc: Global,
     dtype: &DType,
-    first: Value,
-    other: Value,
-    expected: Option<Value>,
-) -> Result<bool, Fail> {
+    first: PlainValue,
+    other: PlainValue,
+    expected: Option<PlainValue>,
+) -> bool {
     merges_values(alloc, dtype, Stat::Sum, Some(first), Some(other), expected)
 }
 
 #[test]
-fn overflowing_sums(rt: HostRuntime) -> Result<(), Fail> {
+fn overflowing_sums(rt: HostRuntime) {
     let alloc = rt.alloc();
-    assert!(rt; sums(alloc, &I64, exact(i64::MAX), exact(i64::MAX), None)?);
-    assert!(rt; sums(alloc, &I64, exact(i64::MIN), exact(-1i64), None)?);
-    assert!(rt;
-        sums(
-            alloc,
-            &I64,
-            exact(i64::MIN),
-            exact(i64::MAX),
-            Some(exact(-1i64))
-        )?
-    );
-    assert!(rt; sums(alloc, &U8, exact(u64::MAX), exact(1u64), None)?);
-    assert!(rt;
-        sums(
-            alloc,
-            &U8,
-            exact(u64::MAX),
-            exact(0u64),
-            Some(exact(u64::MAX))
-        )?
-    );
-    assert!(rt; sums(alloc, &I32, exact(37i64), exact(42i64), Some(exact(79i64)))?);
-    assert!(rt; sums(alloc, &I32, exact(37i64), inexact(42i64), None)?);
-    Ok(())
+    let (least, most) = (exact(i64::MIN), exact(i64::MAX));
+    assert!(rt; sums(alloc, &I64, most, most, None));
+    assert!(rt; sums(alloc, &I64, least, exact(-1i64), None));
+    assert!(rt; sums(alloc, &I64, least, most, Some(exact(-1i64))));
+}
+
+#[test]
+fn overflowing_sums_of_bytes(rt: HostRuntime) {
+    let alloc = rt.alloc();
+    let most = exact(u64::MAX);
+    assert!(rt; sums(alloc, &U8, most, exact(1u64), None));
+    assert!(rt; sums(alloc, &U8, most, exact(0u64), Some(most)));
+}
+
+#[test]
+fn sums_that_stay(rt: HostRuntime) {
+    let alloc = rt.alloc();
+    assert!(rt; sums(alloc, &I32, exact(37i64), exact(42i64), Some(exact(79i64))));
+    assert!(rt; sums(alloc, &I32, exact(37i64), inexact(42i64), None));
 }
 
 /// Counts of the statistic that add up, overflow, or stand on one side alone.
-fn adds_counts(alloc: Global, stat: Stat) -> Result<bool, Fail> {
-    Ok(overflows(alloc, stat)? && adds_up(alloc, stat)? && needs_both_sides(alloc, stat)?)
+fn adds_counts(alloc: Global, stat: Stat) -> bool {
+    overflows(alloc, stat) && adds_up(alloc, stat) && is_cleared(alloc, stat, exact(3u64))
 }
 
-fn overflows(alloc: Global, stat: Stat) -> Result<bool, Fail> {
-    let most = || exact(u64::MAX);
-    let past = counts(alloc, stat, most().into_inexact(), exact(1u64), None)?;
-    Ok(past && counts(alloc, stat, most(), exact(0u64), Some(most()))?)
+fn overflows(alloc: Global, stat: Stat) -> bool {
+    let most = exact(u64::MAX);
+    counts(alloc, stat, most.into_inexact(), exact(1u64), None)
+        && counts(alloc, stat, most, exact(0u64), Some(most))
 }
 
-fn adds_up(alloc: Global, stat: Stat) -> Result<bool, Fail> {
-    let seven = || Some(inexact(7u64));
-    let other_inexact = counts(alloc, stat, exact(3u64), inexact(4u64), seven())?;
-    Ok(other_inexact && counts(alloc, stat, inexact(3u64), exact(4u64), seven())?)
-}
-
-fn needs_both_sides(alloc: Global, stat: Stat) -> Result<bool, Fail> {
-    let first_alone = merges_values(alloc, &I32, stat, Some(exact(3u64)), None, None)?;
-    Ok(first_alone && merges_values(alloc, &I32, stat, None, Some(exact(3u64)), None)?)
+fn adds_up(alloc: Global, stat: Stat) -> bool {
+    let seven = Some(inexact(7u64));
+    counts(alloc, stat, exact(3u64), inexact(4u64), seven)
+        && counts(alloc, stat, inexact(3u64), exact(4u64), seven)
 }
 
 /// The sum of two counts, `None` where the entry is cleared.
 fn counts(
     alloc: Global,
     stat: Stat,
-    first: Value,
-    other: Value,
-    expected: Option<Value>,
-) -> Result<bool, Fail> {
+    first: PlainValue,
+    other: PlainValue,
+    expected: Option<PlainValue>,
+) -> bool {
     merges_values(alloc, &I32, stat, Some(first), Some(other), expected)
 }
 
 #[test]
-fn overflowing_counts(rt: HostRuntime) -> Result<(), Fail> {
-    assert!(rt; adds_counts(rt.alloc(), Stat::NullCount)?);
-    assert!(rt; adds_counts(rt.alloc(), Stat::UncompressedSizeInBytes)?);
-    Ok(())
+fn overflowing_counts(rt: HostRuntime) {
+    assert!(rt; adds_counts(rt.alloc(), Stat::NullCount));
+    assert!(rt; adds_counts(rt.alloc(), Stat::UncompressedSizeInBytes));
 }
 
 /// A minimum and IsConstant.
-fn constant(min: Value, is_constant: Value) -> [Entry; 2] {
+fn constant(min: PlainValue, is_constant: PlainValue) -> [Row; 2] {
     [(Stat::Min, min), (Stat::IsConstant, is_constant)]
 }
 
 /// Of rows that are all 42.
-fn all_42() -> [Entry; 2] {
+fn all_42() -> [Row; 2] {
     constant(exact(42), exact(true))
 }
 
 /// Of rows from 42 on.
-fn from_42() -> [Entry; 2] {
+fn from_42() -> [Row; 2] {
     constant(exact(42), exact(false))
 }
 
 #[test]
-fn constants_that_differ(rt: HostRuntime) -> Result<(), Fail> {
+fn constants_that_differ(rt: HostRuntime) {
     let alloc = rt.alloc();
-    let unsure_min = constant(inexact(42), exact(true));
-    assert!(rt; merges(alloc, all_42(), unsure_min, [(Stat::Min, exact(42))])?);
     let all_7 = constant(exact(7), exact(true));
-    assert!(rt; merges(alloc, all_42(), all_7, constant(exact(7), exact(false)))?);
-    assert!(rt; merges(alloc, all_42(), all_42(), all_42())?);
-    assert!(rt; merges(alloc, from_42(), all_42(), from_42())?);
-    assert!(rt; merges(alloc, all_42(), from_42(), from_42())?);
-    let unsure = constant(exact(42), inexact(true));
-    assert!(rt; merges(alloc, unsure, all_42(), [(Stat::Min, exact(42))])?);
-    Ok(())
-}
-
-/// Whether an exact value on one side alone is cleared, whichever side that is.
-fn is_cleared<T: Into<ScalarValue> + Copy>(
-    alloc: Global,
-    stat: Stat,
-    value: T,
-) -> Result<bool, Fail> {
-    let first = merges_values(alloc, &I32, stat, Some(exact(value)), None, None)?;
-    Ok(first && merges_values(alloc, &I32, stat, None, Some(exact(value)), None)?)
+    assert!(rt; merges(alloc, &all_42(), &all_7, &constant(exact(7), exact(false))));
+    assert!(rt; merges(alloc, &all_42(), &all_42(), &all_42()));
+    assert!(rt; merges(alloc, &from_42(), &all_42(), &from_42()));
+    assert!(rt; merges(alloc, &all_42(), &from_42(), &from_42()));
 }
 
 #[test]
-fn one_side_absent(rt: HostRuntime) -> Result<(), Fail> {
+fn constants_of_unsure_sides(rt: HostRuntime) {
     let alloc = rt.alloc();
-    let varied = merges_values(
-        alloc,
-        &I32,
-        Stat::IsConstant,
-        None,
-        Some(exact(false)),
-        Some(exact(false)),
-    )?;
-    assert!(rt; varied);
-    assert!(rt; is_cleared(alloc, Stat::Min, 42)?);
-    assert!(rt; is_cleared(alloc, Stat::Max, 42)?);
-    assert!(rt; is_cleared(alloc, Stat::Sum, 42i64)?);
-    assert!(rt; is_cleared(alloc, Stat::IsStrictSorted, true)?);
-    Ok(())
+    let unsure_min = constant(inexact(42), exact(true));
+    assert!(rt; merges(alloc, &all_42(), &unsure_min, &[(Stat::Min, exact(42))]));
+    let unsure = constant(exact(42), inexact(true));
+    assert!(rt; merges(alloc, &unsure, &all_42(), &[(Stat::Min, exact(42))]));
+}
+
+/// Whether a value on one side alone is cleared, whichever side that is.
+fn is_cleared(alloc: Global, stat: Stat, value: PlainValue) -> bool {
+    merges_values(alloc, &I32, stat, Some(value), None, None)
+        && merges_values(alloc, &I32, stat, None, Some(value), None)
+}
+
+#[test]
+fn one_side_absent(rt: HostRuntime) {
+    let alloc = rt.alloc();
+    let varied = Some(exact(false));
+    assert!(rt; merges_values(alloc, &I32, Stat::IsConstant, None, varied, varied));
+    assert!(rt; is_cleared(alloc, Stat::Min, exact(42)));
+    assert!(rt; is_cleared(alloc, Stat::Max, exact(42)));
+    assert!(rt; is_cleared(alloc, Stat::Sum, exact(42i64)));
+    assert!(rt; is_cleared(alloc, Stat::IsStrictSorted, exact(true)));
 }
 
 /// Max 3, and that the rows are no constant.
-fn up_to_3() -> [Entry; 2] {
+fn up_to_3() -> [Row; 2] {
     [(Stat::Max, exact(3)), (Stat::IsConstant, exact(false))]
 }
 
 /// An entry of the left set that is Absent keeps its place, and a new one goes last.
 #[test]
-fn places_of_is_constant(rt: HostRuntime) -> Result<(), Fail> {
+fn places_of_is_constant(rt: HostRuntime) {
     let alloc = rt.alloc();
     let unknown = [(Stat::IsConstant, Precision::Absent), (Stat::Max, exact(1))];
     let known = [(Stat::IsConstant, exact(false)), (Stat::Max, exact(3))];
-    assert!(rt; merges(alloc, unknown, up_to_3(), known)?);
-    assert!(rt; merges(alloc, [(Stat::Max, exact(1))], up_to_3(), up_to_3())?);
-    Ok(())
+    assert!(rt; merges(alloc, &unknown, &up_to_3(), &known));
+    assert!(rt; merges(alloc, &[(Stat::Max, exact(1))], &up_to_3(), &up_to_3()));
 }
 
 /// Whether two values of a bound merge to the last one.
 fn joins(
     alloc: Global,
     stat: Stat,
-    first: Value,
-    other: Value,
-    expected: Value,
-) -> Result<bool, Fail> {
+    first: PlainValue,
+    other: PlainValue,
+    expected: PlainValue,
+) -> bool {
     merges_values(alloc, &I32, stat, Some(first), Some(other), Some(expected))
 }
 
 #[test]
-fn bounds(rt: HostRuntime) -> Result<(), Fail> {
+fn bounds(rt: HostRuntime) {
     let alloc = rt.alloc();
-    assert!(rt; joins(alloc, Stat::Min, exact(37), exact(42), exact(37))?);
-    assert!(rt; joins(alloc, Stat::Max, exact(37), exact(42), exact(42))?);
-    assert!(rt; joins(alloc, Stat::Max, exact(42), inexact(43), inexact(43))?);
-    assert!(rt; joins(alloc, Stat::Min, inexact(5), exact(5), exact(5))?);
-    assert!(rt; joins(alloc, Stat::Max, exact(43), inexact(42), exact(43))?);
-    Ok(())
+    assert!(rt; joins(alloc, Stat::Min, exact(37), exact(42), exact(37)));
+    assert!(rt; joins(alloc, Stat::Max, exact(37), exact(42), exact(42)));
+    assert!(rt; joins(alloc, Stat::Max, exact(42), inexact(43), inexact(43)));
+    assert!(rt; joins(alloc, Stat::Min, inexact(5), exact(5), exact(5)));
+    assert!(rt; joins(alloc, Stat::Max, exact(43), inexact(42), exact(43)));
 }
 
 /// Rows in strict order, with a bound.
-fn strict(stat: Stat, value: Value) -> [Entry; 2] {
+fn strict(stat: Stat, value: PlainValue) -> [Row; 2] {
     [(Stat::IsStrictSorted, exact(true)), (stat, value)]
 }
 
-/// Whether rows in strict order up to the first number and from the second one on stay so; where
-/// they don't, that is unknown.
-fn stays_strict(alloc: Global, max: i32, min: Value) -> Result<Option<bool>, Fail> {
-    let first = sets::of(alloc, strict(Stat::Max, exact(max)))?;
-    let other = sets::of(alloc, strict(Stat::Min, min))?;
-    let set = sets::merged(first, &other, &I32)?;
-    Ok(if sets::is(
-        alloc,
-        set.try_clone()?,
-        [(Stat::IsStrictSorted, exact(true))],
-    )? {
-        Some(true)
-    } else if sets::is(alloc, set, [(Stat::IsStrictSorted, inexact(false))])? {
-        Some(false)
-    } else {
-        None
-    })
+/// Whether rows in strict order up to the number and from the value on merge to rows of that
+/// strict order alone.
+fn merges_strict(alloc: Global, max: i32, min: PlainValue, order: PlainValue) -> bool {
+    let first = strict(Stat::Max, exact(max));
+    let other = strict(Stat::Min, min);
+    merges(alloc, &first, &other, &[(Stat::IsStrictSorted, order)])
 }
 
 #[test]
-fn strict_order_at_the_seam(rt: HostRuntime) -> Result<(), Fail> {
+fn strict_order_at_the_seam(rt: HostRuntime) {
     let alloc = rt.alloc();
-    assert!(rt; stays_strict(alloc, 2, exact(1))? == Some(false));
-    assert!(rt; stays_strict(alloc, 1, exact(1))? == Some(false));
-    assert!(rt; stays_strict(alloc, 1, inexact(2))? == Some(true));
-    assert!(rt; stays_strict(alloc, 1, exact(2))? == Some(true));
-    let first = strict(Stat::Max, exact(1));
+    assert!(rt; merges_strict(alloc, 2, exact(1), inexact(false)));
+    assert!(rt; merges_strict(alloc, 1, exact(1), inexact(false)));
+    assert!(rt; merges_strict(alloc, 1, inexact(2), exact(true)));
+    assert!(rt; merges_strict(alloc, 1, exact(2), exact(true)));
+}
+
+/// Whether the merge of rows in strict order up to 1 with the others has no entry.
+fn clears_strict(alloc: Global, other: &[Row]) -> bool {
+    merges(alloc, &strict(Stat::Max, exact(1)), other, &[])
+}
+
+#[test]
+fn order_without_a_seam(rt: HostRuntime) {
+    let alloc = rt.alloc();
     let unsorted = [(Stat::IsStrictSorted, exact(false)), (Stat::Min, exact(2))];
-    assert!(rt; merges(alloc, first, unsorted, [])?);
-    let first = strict(Stat::Max, exact(1));
-    assert!(rt; merges(alloc, first, [(Stat::IsStrictSorted, exact(true))], [])?);
+    assert!(rt; clears_strict(alloc, &unsorted));
+    assert!(rt; clears_strict(alloc, &[(Stat::IsStrictSorted, exact(true))]));
     let sorted = [(Stat::IsSorted, exact(true)), (Stat::Max, exact(1))];
     let other = [(Stat::IsSorted, exact(true)), (Stat::Min, exact(1))];
-    assert!(rt; merges(alloc, sorted, other, [(Stat::IsSorted, exact(true))])?);
-    Ok(())
+    assert!(rt; merges(alloc, &sorted, &other, &[(Stat::IsSorted, exact(true))]));
 }
 
 /// A set with every statistic but the sum.
-fn full(alloc: Global) -> Result<StatsSet, StatsError> {
+fn full(alloc: Global) -> Sets {
     sets::of(
         alloc,
-        [
+        &[
             (Stat::Min, exact(1)),
             (Stat::Max, exact(10000)),
             (Stat::NullCount, exact(2u64)),
@@ -295,13 +258,13 @@ fn full(alloc: Global) -> Result<StatsSet, StatsError> {
 }
 
 /// The unordered merge of the set with itself.
-fn mixed_with_itself(alloc: Global) -> Result<StatsSet, Fail> {
+fn mixed_with_itself(alloc: Global) -> Sets {
     let other = full(alloc)?;
-    Ok(sets::mixed(full(alloc)?, &other, &I32)?)
+    sets::told(sets::mixed(full(alloc)?, &other, &I32))
 }
 
 #[test]
-fn unordered_merge(rt: HostRuntime) -> Result<(), Fail> {
+fn unordered_merge(rt: HostRuntime) {
     let alloc = rt.alloc();
     let expected = [
         (Stat::Min, exact(1)),
@@ -310,8 +273,7 @@ fn unordered_merge(rt: HostRuntime) -> Result<(), Fail> {
         (Stat::UncompressedSizeInBytes, exact(50u64)),
         (Stat::IsConstant, exact(false)),
     ];
-    assert!(rt; sets::is(alloc, mixed_with_itself(alloc)?, expected)?);
-    Ok(())
+    assert!(rt; sets::is(alloc, mixed_with_itself(alloc), &expected));
 }
 
 /// The ordered merge through a view, where both sets fit the type.
@@ -330,49 +292,88 @@ pub fn mix_viewed(set: &mut StatsSet, other: &StatsSet, dtype: &DType) -> Result
     mixed_through_view(set, other, dtype)
 }
 
-fn merged_by_a_view(alloc: Global) -> Result<StatsSet, StatsError> {
+/// Whether the merged set has seven entries.
+fn is_merged(set: &StatsSet) -> bool {
+    sets::len(set) == 7
+        && sets::has(set, Stat::IsSorted, inexact(false))
+        && sets::has(set, Stat::NullCount, exact(4u64))
+}
+
+/// Whether the set that was mixed has five entries, and none of an order.
+fn is_mixed(set: &StatsSet) -> bool {
+    sets::len(set) == 5 && sets::has(set, Stat::IsSorted, Precision::Absent)
+}
+
+fn merges_viewed(set: &mut StatsSet, other: &StatsSet) -> bool {
+    merge_viewed(set, other, &I32).is_ok() && is_merged(set)
+}
+
+fn mixes_viewed(set: &mut StatsSet, other: &StatsSet) -> bool {
+    mix_viewed(set, other, &I32).is_ok() && is_mixed(set)
+}
+
+/// Whether the full set merges with itself through a view, in order or not.
+fn merges_full(alloc: Global, is_ordered: bool) -> Result<bool, StatsError> {
+    let other = full(alloc)?;
     let mut set = full(alloc)?;
-    merge_viewed(&mut set, &full(alloc)?, &I32)?;
-    Ok(set)
-}
-
-fn mixed_by_a_view(alloc: Global) -> Result<StatsSet, StatsError> {
-    let mut set = full(alloc)?;
-    mix_viewed(&mut set, &full(alloc)?, &I32)?;
-    Ok(set)
+    Ok(if is_ordered {
+        merges_viewed(&mut set, &other)
+    } else {
+        mixes_viewed(&mut set, &other)
+    })
 }
 
 #[test]
-fn merges_through_views(rt: HostRuntime) -> Result<(), Fail> {
-    let set = merged_by_a_view(rt.alloc())?;
-    assert_eq!(rt; sets::len(&set), 7);
-    assert!(rt; sets::has(&set, Stat::IsSorted, inexact(false))?);
-    assert!(rt; sets::has(&set, Stat::NullCount, exact(4u64))?);
-    Ok(())
+fn merges_through_views(rt: HostRuntime) {
+    assert!(rt; is_yes(merges_full(rt.alloc(), true)));
 }
 
 #[test]
-fn mixes_through_views(rt: HostRuntime) -> Result<(), Fail> {
-    let set = mixed_by_a_view(rt.alloc())?;
-    assert_eq!(rt; sets::len(&set), 5);
-    assert!(rt; sets::has(&set, Stat::IsSorted, Precision::Absent)?);
-    Ok(())
+fn mixes_through_views(rt: HostRuntime) {
+    assert!(rt; is_yes(merges_full(rt.alloc(), false)));
 }
 
-/// Two entries of texts.
-fn two_texts(alloc: Global, first: (Stat, &str), second: (Stat, &str)) -> Result<[Entry; 2], Fail> {
-    Ok([
-        (first.0, text(alloc, first.1)?),
-        (second.0, text(alloc, second.1)?),
-    ])
+/// The entries of two texts.
+fn two_texts(
+    alloc: Global,
+    first: (Stat, &str),
+    second: (Stat, &str),
+) -> Result<Vec<Entry>, AllocError> {
+    let mut entries = Vec::new(alloc);
+    push_text(&mut entries, alloc, first.0, first.1)?;
+    push_text(&mut entries, alloc, second.0, second.1)?;
+    Ok(entries)
+}
+
+/// The set of two texts.
+pub fn set_of_texts(alloc: Global, first: (Stat, &str), second: (Stat, &str)) -> Sets {
+    sets::of_entries(alloc, two_texts(alloc, first, second)?)
+}
+
+/// Whether the set is of the two texts.
+fn is_of_texts(alloc: Global, set: Sets, first: (Stat, &str), second: (Stat, &str)) -> bool {
+    match two_texts(alloc, first, second) {
+        Ok(expected) => sets::has_entries(alloc, set, expected.as_slice()),
+        Err(_) => false,
+    }
+}
+
+/// The merge of the texts from b to m with those from a to k.
+fn merged_texts(alloc: Global) -> Sets {
+    let first = set_of_texts(alloc, (Stat::Max, "m"), (Stat::Min, "b"));
+    let other = set_of_texts(alloc, (Stat::Min, "a"), (Stat::Max, "k"));
+    sets::merge(first, other, &UTF8)
 }
 
 #[test]
-fn texts(rt: HostRuntime) -> Result<(), Fail> {
+fn texts(rt: HostRuntime) {
     let alloc = rt.alloc();
-    let first = two_texts(alloc, (Stat::Max, "m"), (Stat::Min, "b"))?;
-    let other = two_texts(alloc, (Stat::Min, "a"), (Stat::Max, "k"))?;
-    let expected = two_texts(alloc, (Stat::Max, "m"), (Stat::Min, "a"))?;
-    assert!(rt; merges_under(alloc, &UTF8, first, other, expected)?);
-    Ok(())
+    assert!(rt;
+        is_of_texts(
+            alloc,
+            merged_texts(alloc),
+            (Stat::Max, "m"),
+            (Stat::Min, "a")
+        )
+    );
 }

@@ -1,7 +1,10 @@
 //! Worked rows of values with a precision.
-use crate::testing::{self, I32, UTF8, Value, text_of};
+use crate::testing::{
+    self, I32, UTF8, Value, is_exact_scalar, is_inexact_scalar, is_mismatch, is_yes, text_of,
+};
 use std::alloc::{AllocError, Global};
-use std::test::Fail;
+use vortex_base::dtype::DType;
+use vortex_base::scalar::Scalar;
 use vortex_base::scalar_value::ScalarValue;
 use vortex_base::text::Text;
 use vortex_stats::error::StatsError;
@@ -16,24 +19,23 @@ const INEXACT: Precision<u8> = Precision::Inexact(7);
 const ABSENT: Precision<u8> = Precision::Absent;
 
 /// Whether the value is shown as the text.
-fn is_shown_as(alloc: Global, value: Precision<u8>, text: &str) -> Result<bool, Fail> {
+fn is_shown_as(alloc: Global, value: Precision<u8>, text: &str) -> Result<bool, AllocError> {
     Ok(format!(in alloc; "{}", value)?.as_str() == text)
 }
 
 /// Whether the inexact name is shown behind a tilde.
-fn shows_inexact_name(alloc: Global) -> Result<bool, Fail> {
+fn shows_inexact_name(alloc: Global) -> Result<bool, AllocError> {
     let name = String::from_str(alloc, "a name")?;
     Ok(format!(in alloc; "{}", Precision::Inexact(name))?.as_str() == "~a name")
 }
 
 #[test]
-fn texts(rt: HostRuntime) -> Result<(), Fail> {
+fn texts(rt: HostRuntime) {
     let alloc = rt.alloc();
-    assert!(rt; is_shown_as(alloc, EXACT, "7")?);
-    assert!(rt; is_shown_as(alloc, INEXACT, "~7")?);
-    assert!(rt; is_shown_as(alloc, ABSENT, "{empty}")?);
-    assert!(rt; shows_inexact_name(alloc)?);
-    Ok(())
+    assert!(rt; is_yes(is_shown_as(alloc, EXACT, "7")));
+    assert!(rt; is_yes(is_shown_as(alloc, INEXACT, "~7")));
+    assert!(rt; is_yes(is_shown_as(alloc, ABSENT, "{empty}")));
+    assert!(rt; is_yes(shows_inexact_name(alloc)));
 }
 
 fn exact_u64(value: u8) -> Precision<u64> {
@@ -129,6 +131,13 @@ fn equals_itself(name: &Precision<Text>, same: &Text, other: &Text) -> bool {
     name.eq_value(same) && !name.eq_value(other) && name.is_exact()
 }
 
+/// Whether the exact name equals itself, and no other text.
+fn equals_no_other(alloc: Global, name: &str, other: &str) -> Result<bool, AllocError> {
+    let same = text_of(alloc, name)?;
+    let other = text_of(alloc, other)?;
+    Ok(equals_itself(&exact_name(alloc, name)?, &same, &other))
+}
+
 /// Whether a clone of the exact name is it.
 fn clones_to(name: &Precision<Text>, same: &Text) -> Result<bool, AllocError> {
     Ok(
@@ -137,6 +146,16 @@ fn clones_to(name: &Precision<Text>, same: &Text) -> Result<bool, AllocError> {
             .as_exact()
             .is_some_and(|text| text == *same),
     )
+}
+
+fn clones_to_itself(alloc: Global, name: &str) -> Result<bool, AllocError> {
+    clones_to(&exact_name(alloc, name)?, &text_of(alloc, name)?)
+}
+
+/// Whether the exact name has this length and first byte.
+fn is_of_bytes(alloc: Global, name: &str, length: usize, byte: u8) -> Result<bool, AllocError> {
+    let name = exact_name(alloc, name)?;
+    Ok(len(&name) == Precision::Exact(length) && first(&name) == Precision::Exact(byte))
 }
 
 fn len(name: &Precision<Text>) -> Precision<usize> {
@@ -153,6 +172,10 @@ fn clones_inexact(name: &Precision<Text>) -> Result<bool, AllocError> {
     Ok(!name.is_absent() && name.as_ref().cloned()?.as_inexact().is_some())
 }
 
+fn clones_to_inexact(alloc: Global, name: &str) -> Result<bool, AllocError> {
+    clones_inexact(&inexact_name(alloc, name)?)
+}
+
 /// Whether both names zipped hold the first one, which is given.
 fn zip_holds(names: Precision<Text>, others: Precision<Text>, same: &Text) -> bool {
     names
@@ -162,40 +185,42 @@ fn zip_holds(names: Precision<Text>, others: Precision<Text>, same: &Text) -> bo
         .is_some_and(|pair| pair.0 == *same)
 }
 
-fn is_ok_transposed(name: Precision<Text>) -> bool {
-    let tried: Precision<Result<Text, char>> = name.map(Ok);
-    tried.transpose().is_ok()
+/// Whether the exact name zipped with the other one, which is inexact, holds it.
+fn zip_holds_first(alloc: Global, name: &str, other: &str) -> Result<bool, AllocError> {
+    let same = text_of(alloc, name)?;
+    let other = inexact_name(alloc, other)?;
+    Ok(zip_holds(exact_name(alloc, name)?, other, &same))
+}
+
+fn is_ok_transposed(alloc: Global, name: &str) -> Result<bool, AllocError> {
+    let tried: Precision<Result<Text, char>> = exact_name(alloc, name)?.map(Ok);
+    Ok(tried.transpose().is_ok())
 }
 
 #[test]
-fn names(rt: HostRuntime) -> Result<(), Fail> {
+fn names(rt: HostRuntime) {
     let alloc = rt.alloc();
-    let name = text_of(alloc, "a name")?;
-    let other = text_of(alloc, "another name")?;
-    let exact: Precision<Text> = exactly(text_of(alloc, "a name")?);
-    assert!(rt; equals_itself(&exact, &name, &other));
-    assert!(rt; clones_to(&exact, &name)?);
-    assert!(rt; len(&exact) == Precision::Exact(6));
-    assert!(rt; first(&exact) == Precision::Exact(b'a'));
-    let inexact: Precision<Text> = inexactly(other);
-    assert!(rt; clones_inexact(&inexact)?);
-    assert!(rt; zip_holds(exactly(text_of(alloc, "a name")?), inexact, &name));
-    assert!(rt; is_ok_transposed(exact));
-    assert!(rt; has_upper(Precision::Exact(name)));
+    assert!(rt; is_yes(equals_no_other(alloc, "a name", "another name")));
+    assert!(rt; is_yes(clones_to_itself(alloc, "a name")));
+    assert!(rt; is_yes(is_of_bytes(alloc, "a name", 6, b'a')));
+    assert!(rt; is_yes(clones_to_inexact(alloc, "another name")));
+    assert!(rt; is_yes(zip_holds_first(alloc, "a name", "another name")));
+    assert!(rt; is_yes(is_ok_transposed(alloc, "a name")));
+    assert!(rt; is_yes(has_upper(alloc, "a name")));
     assert!(rt; !has_lower(Precision::<Text>::default()));
-    Ok(())
 }
 
-fn exactly(name: Text) -> Precision<Text> {
-    Precision::exact(name)
+fn exact_name(alloc: Global, name: &str) -> Result<Precision<Text>, AllocError> {
+    Ok(Precision::exact(text_of(alloc, name)?))
 }
 
-fn inexactly(name: Text) -> Precision<Text> {
-    Precision::inexact(name)
+fn inexact_name(alloc: Global, name: &str) -> Result<Precision<Text>, AllocError> {
+    Ok(Precision::inexact(text_of(alloc, name)?))
 }
 
-fn has_upper(name: Precision<Text>) -> bool {
-    name.bound::<Max>().is_some()
+fn has_upper(alloc: Global, name: &str) -> Result<bool, AllocError> {
+    let name = Precision::Exact(text_of(alloc, name)?);
+    Ok(name.bound::<Max>().is_some())
 }
 
 fn has_lower(name: Precision<Text>) -> bool {
@@ -221,37 +246,44 @@ fn bounds_of_statistics(rt: HostRuntime) {
     assert!(rt; is_read_as_it_is(Precision::Exact(true)));
 }
 
-/// Whether an inexact name has the scalar of the text by reference, under that type alone.
-fn makes_scalar_of_text(alloc: Global) -> Result<bool, Fail> {
-    let value = Precision::Inexact(testing::name(alloc, "a name")?);
-    let expected = testing::scalar(UTF8, testing::name(alloc, "a name")?)?;
-    let scalar = value.as_ref().into_scalar(UTF8)?;
-    let wrong = value.as_ref().into_scalar(I32);
-    Ok(scalar == Precision::Inexact(expected) && matches!(wrong, Err(StatsError::Mismatch)))
+/// The scalar of an inexact text by reference.
+fn scalar_by_reference(
+    alloc: Global,
+    text: &str,
+    dtype: DType,
+) -> Result<Precision<Scalar>, StatsError> {
+    let value = Precision::Inexact(testing::name(alloc, text)?);
+    value.as_ref().into_scalar(dtype)
+}
+
+/// Whether an inexact text has the scalar of the text by reference.
+fn makes_scalar_of_text(alloc: Global, text: &str) -> Result<bool, StatsError> {
+    let found = scalar_by_reference(alloc, text, UTF8);
+    Ok(is_inexact_scalar(found, UTF8, testing::name(alloc, text)?))
 }
 
 /// Whether the text is refused as a number.
-fn is_refused_as_number(value: Value) -> bool {
-    matches!(value.into_scalar(I32), Err(StatsError::Mismatch))
+fn is_refused_as_number(alloc: Global, text: &str) -> Result<bool, AllocError> {
+    let value: Value = Precision::Inexact(testing::name(alloc, text)?);
+    Ok(is_mismatch(value.into_scalar(I32)))
 }
 
 /// Whether the number has its scalar.
-fn makes_scalar_of_number(number: i32) -> Result<bool, Fail> {
-    let expected = testing::scalar(I32, ScalarValue::from(number))?;
-    let scalar = Precision::Exact(ScalarValue::from(number)).into_scalar(I32)?;
-    Ok(scalar == Precision::Exact(expected))
+fn makes_scalar_of_number(number: i32) -> bool {
+    let found = Precision::Exact(ScalarValue::from(number)).into_scalar(I32);
+    is_exact_scalar(found, I32, ScalarValue::from(number))
 }
 
-fn makes_absent(value: Value) -> Result<bool, Fail> {
+fn makes_absent(value: Value) -> Result<bool, StatsError> {
     Ok(value.into_scalar(I32)?.is_absent())
 }
 
 #[test]
-fn scalars(rt: HostRuntime) -> Result<(), Fail> {
+fn scalars(rt: HostRuntime) {
     let alloc = rt.alloc();
-    assert!(rt; makes_scalar_of_text(alloc)?);
-    assert!(rt; is_refused_as_number(Precision::Inexact(testing::name(alloc, "a name")?)));
-    assert!(rt; makes_scalar_of_number(7)?);
-    assert!(rt; makes_absent(Precision::Absent)?);
-    Ok(())
+    assert!(rt; is_yes(makes_scalar_of_text(alloc, "a name")));
+    assert!(rt; is_mismatch(scalar_by_reference(alloc, "a name", I32)));
+    assert!(rt; is_yes(is_refused_as_number(alloc, "a name")));
+    assert!(rt; makes_scalar_of_number(7));
+    assert!(rt; is_yes(makes_absent(Precision::Absent)));
 }

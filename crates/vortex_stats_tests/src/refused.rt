@@ -1,8 +1,9 @@
 //! Each call that takes memory, where every growth may be refused: `rt try --test --fail-alloc N`
 //! refuses the Nth. With ample memory no call is refused, and the test asserts all of them.
 
-use crate::testing::{exact, sets, text};
+use crate::testing::{Entry, exact, sets, text};
 use std::alloc::Global;
+use vortex_base::scalar_value::ScalarValue;
 use vortex_stats::error::StatsError;
 use vortex_stats::precision::Precision;
 use vortex_stats::stat::Stat;
@@ -13,10 +14,15 @@ fn sets_each(set: &mut StatsSet) -> bool {
     let mut is_each_set = true;
     for stat in Stat::all() {
         let before = set.len();
-        let is_set = set.set(stat, exact(7)).is_ok();
+        let is_set = sets::set(set, stat, exact(7)).is_ok();
         is_each_set = is_each_set && is_set && set.len() == before.saturating_add(1);
     }
     is_each_set
+}
+
+/// Whether an entry that is there is set once more.
+fn sets_again(set: &mut StatsSet) -> bool {
+    sets::set(set, Stat::IsConstant, Precision::Absent).is_ok()
 }
 
 #[test]
@@ -24,7 +30,7 @@ fn writes(rt: HostRuntime) {
     let mut set = sets::empty(rt.alloc());
     assert!(rt; sets_each(&mut set));
     assert_eq!(rt; sets::len(&set), 9);
-    assert!(rt; sets::set(&mut set, Stat::IsConstant, Precision::Absent).is_ok());
+    assert!(rt; sets_again(&mut set));
 }
 
 /// Whether the set's text is answered exactly, or refused.
@@ -45,25 +51,39 @@ fn clones_entry(set: &StatsSet) -> bool {
 
 /// Whether what the set lacks is answered as Absent.
 fn gets_absent(set: &StatsSet) -> bool {
-    set.get(Stat::Min).is_ok_and(|min| min.is_absent())
+    match set.get(Stat::Min) {
+        Ok(min) => min.is_absent(),
+        Err(_) => false,
+    }
+}
+
+/// Whether a set of a text alone answers so, or is refused.
+fn answers(set: &StatsSet) -> bool {
+    gets_text(set) && gets_absent(set) && clones_entry(set) && sets::len(set) == 1
+}
+
+/// Whether that is so of the set of the text, or the text is refused.
+fn answers_text(alloc: Global, first: &str) -> bool {
+    match text(alloc, first) {
+        Ok(value) => answers(&sets::one_value(alloc, Stat::Max, value)),
+        Err(_) => true,
+    }
 }
 
 #[test]
 fn gets(rt: HostRuntime) {
-    let Ok(value) = text(rt.alloc(), "a text") else {
-        return;
-    };
-    let set = sets::one(rt.alloc(), Stat::Max, value);
-    assert!(rt; gets_text(&set));
-    assert!(rt; gets_absent(&set));
-    assert!(rt; clones_entry(&set));
-    assert_eq!(rt; sets::len(&set), 1);
+    assert!(rt; answers_text(rt.alloc(), "a text"));
+}
+
+/// The entry of the statistic's own number.
+fn numbered(stat: Stat) -> Entry {
+    (stat, Precision::Exact(ScalarValue::from(stat.number())))
 }
 
 /// Whether a set takes an item of each statistic, or is refused with fewer.
 fn extends(alloc: Global) -> bool {
     let mut set = sets::one(alloc, Stat::Sum, Precision::Absent);
-    let items = Stat::all().map(|stat| (stat, exact(stat.number())));
+    let items = Stat::all().map(numbered);
     match set.try_extend(items) {
         Ok(()) => set.len() == 9,
         Err(_) => set.len() < 9,
@@ -72,7 +92,7 @@ fn extends(alloc: Global) -> bool {
 
 /// Whether a set is made of an item of each statistic, or refused for memory with those set so far.
 fn makes_of_items(alloc: Global) -> bool {
-    let items = Stat::all().map(|stat| (stat, exact(stat.number())));
+    let items = Stat::all().map(numbered);
     match StatsSet::try_from_iter(alloc, items) {
         Ok(set) => set.len() == 9,
         Err(refused) => {

@@ -1,48 +1,58 @@
 //! Merges and combination of sets of a text column with all its statistics, where every growth
 //! may be refused: `rt try --test --fail-alloc N` refuses the Nth. A refused call leaves its set as
 //! it was.
-use crate::merges::{merge_viewed, mix_viewed};
-use crate::testing::{Entry, UTF8, exact, sets, text};
-use std::alloc::Global;
+use crate::merges::{merge_viewed, mix_viewed, set_of_texts};
+use crate::testing::{Entry, PlainValue, Sets, UTF8, exact, made, push_row, push_text, sets, text};
+use std::alloc::{AllocError, Global};
 use vortex_stats::error::StatsError;
 use vortex_stats::stat::Stat;
 use vortex_stats::stats_set::{MergeRefused, StatsSet};
 
-/// All statistics of a text column but IsConstant, which a merge with `varied` adds.
-fn texts(alloc: Global, min: &str, max: &str) -> Result<StatsSet, StatsError> {
-    sets::of(
-        alloc,
-        [
-            (Stat::Max, text(alloc, max)?),
-            (Stat::IsSorted, exact(true)),
-            (Stat::Min, text(alloc, min)?),
-            (Stat::IsStrictSorted, exact(true)),
-            (Stat::NullCount, exact(1u64)),
-            (Stat::UncompressedSizeInBytes, exact(64u64)),
-        ],
-    )
+/// The entries of a text column but IsConstant, which a merge with `varied` adds.
+fn text_entries(alloc: Global, min: &str, max: &str) -> Result<Vec<Entry>, AllocError> {
+    let mut entries = Vec::new(alloc);
+    push_text(&mut entries, alloc, Stat::Max, max)?;
+    push_row(&mut entries, Stat::IsSorted, exact(true))?;
+    push_text(&mut entries, alloc, Stat::Min, min)?;
+    push_row(&mut entries, Stat::IsStrictSorted, exact(true))?;
+    push_row(&mut entries, Stat::NullCount, exact(1u64))?;
+    push_row(&mut entries, Stat::UncompressedSizeInBytes, exact(64u64))?;
+    Ok(entries)
+}
+
+/// The set of them.
+fn texts(alloc: Global, min: &str, max: &str) -> Sets {
+    sets::of_entries(alloc, text_entries(alloc, min, max)?)
 }
 
 /// The same, and not constant.
-fn varied(alloc: Global, min: &str, max: &str) -> Result<StatsSet, StatsError> {
+fn varied(alloc: Global, min: &str, max: &str) -> Sets {
     let mut set = texts(alloc, min, max)?;
-    set.set(Stat::IsConstant, exact(false))?;
+    sets::set(&mut set, Stat::IsConstant, exact(false))?;
     Ok(set)
 }
 
 /// Two sets, the first twice.
+#[derive(Drop)]
 struct Sides {
     set: StatsSet,
     before: StatsSet,
     other: StatsSet,
 }
 
+/// The sides, if memory was there.
+fn all_sides(set: Sets, before: Sets, other: Sets) -> Option<Sides> {
+    match (set, before, other) {
+        (Ok(set), Ok(before), Ok(other)) => Some(Sides { set, before, other }),
+        _ => None,
+    }
+}
+
 /// Sides that fit the type, if memory was there.
 fn make_sides(alloc: Global) -> Option<Sides> {
-    let set = texts(alloc, "b", "d").ok()?;
-    let before = texts(alloc, "b", "d").ok()?;
-    let other = varied(alloc, "a", "e").ok()?;
-    Some(Sides { set, before, other })
+    let set = texts(alloc, "b", "d");
+    let before = texts(alloc, "b", "d");
+    all_sides(set, before, varied(alloc, "a", "e"))
 }
 
 fn are_same(a: &StatsSet, b: &StatsSet) -> bool {
@@ -54,6 +64,10 @@ fn has(set: &StatsSet, wanted: &Entry) -> bool {
     set.iter().any(|entry| *entry == *wanted)
 }
 
+fn has_value(set: &StatsSet, stat: Stat, value: PlainValue) -> bool {
+    has(set, &(stat, made(value)))
+}
+
 /// Whether the set has the other's entry of the statistic.
 fn has_same(set: &StatsSet, other: &StatsSet, stat: Stat) -> bool {
     other.iter().any(|entry| entry.0 == stat && has(set, entry))
@@ -61,32 +75,39 @@ fn has_same(set: &StatsSet, other: &StatsSet, stat: Stat) -> bool {
 
 /// The merge took the other's values and IsConstant, and added the counts.
 fn is_merged(set: &StatsSet, other: &StatsSet) -> bool {
-    has(set, &(Stat::NullCount, exact(2u64)))
-        && has(set, &(Stat::UncompressedSizeInBytes, exact(128u64)))
+    has_value(set, Stat::NullCount, exact(2u64))
+        && has_value(set, Stat::UncompressedSizeInBytes, exact(128u64))
         && has_same(set, other, Stat::Max)
         && has_same(set, other, Stat::Min)
         && has_same(set, other, Stat::IsConstant)
+}
+
+/// Whether the call was refused for memory and left the set as it was.
+fn left_all(refused: StatsError, set: &StatsSet, before: &StatsSet) -> bool {
+    matches!(refused, StatsError::Memory(_)) && are_same(set, before)
 }
 
 /// Whether the merge took all, or was refused for memory and handed its set back as it was.
 fn took_all(answer: Result<StatsSet, MergeRefused>, before: &StatsSet, other: &StatsSet) -> bool {
     match answer {
         Ok(set) => is_merged(&set, other),
-        Err(refused) => {
-            matches!(refused.error, StatsError::Memory(_)) && are_same(&refused.set, before)
-        }
+        Err(refused) => left_all(refused.error, &refused.set, before),
+    }
+}
+
+/// An ordered merge or an unordered one.
+fn merge(set: StatsSet, other: &StatsSet, is_ordered: bool) -> Result<StatsSet, MergeRefused> {
+    if is_ordered {
+        sets::merged(set, other, &UTF8)
+    } else {
+        sets::mixed(set, other, &UTF8)
     }
 }
 
 /// The same of an ordered merge or an unordered one; `None` where the sides were refused.
 fn merges(alloc: Global, is_ordered: bool) -> Option<bool> {
     let Sides { set, before, other } = make_sides(alloc)?;
-    let answer = if is_ordered {
-        sets::merged(set, &other, &UTF8)
-    } else {
-        sets::mixed(set, &other, &UTF8)
-    };
-    Some(took_all(answer, &before, &other))
+    Some(took_all(merge(set, &other, is_ordered), &before, &other))
 }
 
 #[test]
@@ -95,22 +116,33 @@ fn merges_by_value(rt: HostRuntime) {
     assert!(rt; merges(rt.alloc(), false) != Some(false));
 }
 
-/// The same through a view, where a refused merge leaves the set that is viewed as it was.
-fn merges_viewed(alloc: Global, is_ordered: bool) -> Option<bool> {
-    let Sides {
-        mut set,
-        before,
-        other,
-    } = make_sides(alloc)?;
-    let answer = if is_ordered {
-        merge_viewed(&mut set, &other, &UTF8)
+/// A merge through a view.
+fn merge_by_a_view(
+    set: &mut StatsSet,
+    other: &StatsSet,
+    is_ordered: bool,
+) -> Result<(), StatsError> {
+    if is_ordered {
+        merge_viewed(set, other, &UTF8)
     } else {
-        mix_viewed(&mut set, &other, &UTF8)
-    };
-    Some(match answer {
-        Ok(()) => is_merged(&set, &other),
-        Err(refused) => matches!(refused, StatsError::Memory(_)) && are_same(&set, &before),
-    })
+        mix_viewed(set, other, &UTF8)
+    }
+}
+
+/// Whether the merge through a view took all, or was refused for memory and left the set that is
+/// viewed as it was.
+fn viewed_took_all(answer: Result<(), StatsError>, sides: &Sides) -> bool {
+    match answer {
+        Ok(()) => is_merged(&sides.set, &sides.other),
+        Err(refused) => left_all(refused, &sides.set, &sides.before),
+    }
+}
+
+/// `None` where the sides were refused.
+fn merges_viewed(alloc: Global, is_ordered: bool) -> Option<bool> {
+    let mut sides = make_sides(alloc)?;
+    let answer = merge_by_a_view(&mut sides.set, &sides.other, is_ordered);
+    Some(viewed_took_all(answer, &sides))
 }
 
 #[test]
@@ -120,33 +152,32 @@ fn merges_through_a_view(rt: HostRuntime) {
 }
 
 /// The first entry, which every set has.
-fn min_of(alloc: Global, min: &str) -> Result<StatsSet, StatsError> {
-    Ok(sets::one(alloc, Stat::Min, text(alloc, min)?))
+fn min_of(alloc: Global, min: &str) -> Sets {
+    Ok(sets::one_value(alloc, Stat::Min, text(alloc, min)?))
 }
 
-/// A maximum, and then a minimum.
-fn max_and_min(alloc: Global, max: &str, min: &str) -> Result<StatsSet, StatsError> {
-    sets::of(
-        alloc,
-        [
-            (Stat::Max, text(alloc, max)?),
-            (Stat::Min, text(alloc, min)?),
-        ],
-    )
+/// Whether the combination agreed, or conflicted at Min, as it is to do; or it was refused for
+/// memory with the set as it was.
+fn is_combined(answer: Result<(), StatsError>, sides: &Sides, agrees: bool) -> bool {
+    let is_of_two = sets::len(&sides.set) == 2;
+    match answer {
+        Ok(()) => agrees && is_of_two,
+        Err(StatsError::Conflict(stat)) => !agrees && stat == Stat::Min && is_of_two,
+        Err(refused) => left_all(refused, &sides.set, &sides.before),
+    }
 }
 
-/// Whether a combination with the set agrees, or conflicts at Min, as it is to do; or it was
-/// refused for memory with the set as it was.
+/// The sides of a minimum that is combined with a maximum and a minimum.
+fn combination_sides(alloc: Global, min: &str) -> Option<Sides> {
+    let other = set_of_texts(alloc, (Stat::Max, "m"), (Stat::Min, min));
+    all_sides(min_of(alloc, "e"), min_of(alloc, "e"), other)
+}
+
+/// The same of that combination; `None` where the sides were refused.
 fn combines(alloc: Global, min: &str, agrees: bool) -> Option<bool> {
-    let mut set = min_of(alloc, "e").ok()?;
-    let before = min_of(alloc, "e").ok()?;
-    let other = max_and_min(alloc, "m", min).ok()?;
-    Some(match sets::combine(&mut set, &other, &UTF8) {
-        Ok(()) => agrees && sets::len(&set) == 2,
-        Err(StatsError::Conflict(stat)) => { !agrees && stat == Stat::Min && sets::len(&set) == 2 }
-        Err(StatsError::Memory(_)) => are_same(&set, &before),
-        Err(_) => false,
-    })
+    let mut sides = combination_sides(alloc, min)?;
+    let answer = sets::combine(&mut sides.set, &sides.other, &UTF8);
+    Some(is_combined(answer, &sides, agrees))
 }
 
 #[test]

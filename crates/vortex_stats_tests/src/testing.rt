@@ -10,10 +10,51 @@ use vortex_stats::bitset;
 use vortex_stats::error::StatsError;
 use vortex_stats::precision::Precision;
 use vortex_stats::stat::Stat;
+use vortex_stats::stats_set::StatsSet;
 
 pub type Value = Precision<ScalarValue>;
 
 pub type Entry = (Stat, Value);
+
+/// A number or a truth. It is copied, so that a test's rows need no drop.
+#[derive(Clone, Copy)]
+pub enum Plain {
+    Bool(bool),
+    I32(i32),
+    I64(i64),
+    U64(u64),
+}
+
+impl From<bool> for Plain {
+    fn from(value: bool) -> Plain {
+        Plain::Bool(value)
+    }
+}
+
+impl From<i32> for Plain {
+    fn from(value: i32) -> Plain {
+        Plain::I32(value)
+    }
+}
+
+impl From<i64> for Plain {
+    fn from(value: i64) -> Plain {
+        Plain::I64(value)
+    }
+}
+
+impl From<u64> for Plain {
+    fn from(value: u64) -> Plain {
+        Plain::U64(value)
+    }
+}
+
+pub type PlainValue = Precision<Plain>;
+
+/// An entry of a plain value.
+pub type Row = (Stat, PlainValue);
+
+pub type Sets = Result<StatsSet, StatsError>;
 
 pub const I32: DType = DType::Primitive(PType::I32, Nullability::NonNullable);
 
@@ -23,12 +64,70 @@ pub const U8: DType = DType::Primitive(PType::U8, Nullability::NonNullable);
 
 pub const UTF8: DType = DType::Utf8(Nullability::NonNullable);
 
-pub fn exact<T: Into<ScalarValue>>(value: T) -> Value {
+pub fn exact<T: Into<Plain>>(value: T) -> PlainValue {
     Precision::Exact(value.into())
 }
 
-pub fn inexact<T: Into<ScalarValue>>(value: T) -> Value {
+pub fn inexact<T: Into<Plain>>(value: T) -> PlainValue {
     Precision::Inexact(value.into())
+}
+
+fn scalar_value(plain: Plain) -> ScalarValue {
+    match plain {
+        Plain::Bool(value) => ScalarValue::from(value),
+        Plain::I32(value) => ScalarValue::from(value),
+        Plain::I64(value) => ScalarValue::from(value),
+        Plain::U64(value) => ScalarValue::from(value),
+    }
+}
+
+/// The value of a set.
+pub fn made(value: PlainValue) -> Value {
+    value.map(scalar_value)
+}
+
+/// The entries of the rows, in order.
+pub fn entries(alloc: Global, rows: &[Row]) -> Result<Vec<Entry>, AllocError> {
+    let mut entries = Vec::new(alloc);
+    for row in rows {
+        push_row(&mut entries, row.0, row.1)?;
+    }
+    Ok(entries)
+}
+
+/// Adds the entry of an exact text of more bytes than stand in place.
+pub fn push_text(
+    entries: &mut Vec<Entry>,
+    alloc: Global,
+    stat: Stat,
+    first: &str,
+) -> Result<(), AllocError> {
+    entries.push((stat, text(alloc, first)?))?;
+    Ok(())
+}
+
+/// Adds the entry of a row.
+pub fn push_row(entries: &mut Vec<Entry>, stat: Stat, value: PlainValue) -> Result<(), AllocError> {
+    entries.push((stat, made(value)))?;
+    Ok(())
+}
+
+/// Whether the answer is yes, and not that memory was refused.
+pub fn is_yes<E: Drop>(answer: Result<bool, E>) -> bool {
+    match answer {
+        Ok(is) => is,
+        Err(_) => false,
+    }
+}
+
+/// Whether the call was refused for a mismatch.
+pub fn is_mismatch<T: Drop>(answer: Result<T, StatsError>) -> bool {
+    matches!(answer, Err(StatsError::Mismatch))
+}
+
+/// Whether the lists are the same.
+pub fn are<T: PartialEq>(list: &[T], expected: &[T]) -> bool {
+    list == expected
 }
 
 pub fn text_of(alloc: Global, text: &str) -> Result<Text, AllocError> {
@@ -48,10 +147,42 @@ pub fn text(alloc: Global, first: &str) -> Result<Value, AllocError> {
 }
 
 /// The scalar of a value and its type.
-pub fn scalar(dtype: DType, value: ScalarValue) -> Result<Scalar, StatsError> {
+fn scalar(dtype: DType, value: ScalarValue) -> Result<Scalar, StatsError> {
     match Scalar::try_new(dtype, Some(value)) {
         Ok(scalar) => Ok(scalar),
         Err(_) => Err(StatsError::Mismatch),
+    }
+}
+
+/// Whether the scalar was found as this one.
+fn is_found<E: Drop>(found: Result<Precision<Scalar>, E>, expected: Precision<Scalar>) -> bool {
+    match found {
+        Ok(found) => found == expected,
+        Err(_) => false,
+    }
+}
+
+/// Whether exactly the scalar of the value was found.
+pub fn is_exact_scalar<E: Drop>(
+    found: Result<Precision<Scalar>, E>,
+    dtype: DType,
+    value: ScalarValue,
+) -> bool {
+    match scalar(dtype, value) {
+        Ok(expected) => is_found(found, Precision::Exact(expected)),
+        Err(_) => false,
+    }
+}
+
+/// Whether inexactly the scalar of the value was found.
+pub fn is_inexact_scalar<E: Drop>(
+    found: Result<Precision<Scalar>, E>,
+    dtype: DType,
+    value: ScalarValue,
+) -> bool {
+    match scalar(dtype, value) {
+        Ok(expected) => is_found(found, Precision::Inexact(expected)),
+        Err(_) => false,
     }
 }
 
@@ -65,7 +196,7 @@ pub fn stats_in(alloc: Global, bytes: &[u8]) -> Result<Vec<Stat>, StatsError> {
 
 /// Sets.
 pub mod sets {
-    use super::{Entry, Value};
+    use super::{Entry, PlainValue, Row, Sets, Value, entries, is_yes, made};
     use std::alloc::Global;
     use vortex_base::dtype::DType;
     use vortex_base::from_scalar::FromScalar;
@@ -79,23 +210,33 @@ pub mod sets {
     }
 
     /// The set of one entry.
-    pub fn one(alloc: Global, stat: Stat, value: Value) -> StatsSet {
+    pub fn one(alloc: Global, stat: Stat, value: PlainValue) -> StatsSet {
+        StatsSet::of(alloc, stat, made(value))
+    }
+
+    /// The set of one entry whose value may be a text.
+    pub fn one_value(alloc: Global, stat: Stat, value: Value) -> StatsSet {
         StatsSet::of(alloc, stat, value)
     }
 
+    /// The set of these rows, in order.
+    pub fn of(alloc: Global, rows: &[Row]) -> Sets {
+        of_entries(alloc, entries(alloc, rows)?)
+    }
+
     /// The set of these entries, in order.
-    pub fn of<const N: usize>(alloc: Global, entries: [Entry; N]) -> Result<StatsSet, StatsError> {
+    pub fn of_entries(alloc: Global, entries: Vec<Entry>) -> Sets {
         let mut set = StatsSet::new(alloc);
-        set.try_extend(Vec::from_array(alloc, entries)?.into_iter())?;
+        set.try_extend(entries.into_iter())?;
         Ok(set)
     }
 
-    pub fn copy(set: &StatsSet) -> Result<StatsSet, StatsError> {
+    pub fn copy(set: &StatsSet) -> Sets {
         set.try_clone()
     }
 
-    pub fn set(set: &mut StatsSet, stat: Stat, value: Value) -> Result<(), StatsError> {
-        set.set(stat, value)
+    pub fn set(set: &mut StatsSet, stat: Stat, value: PlainValue) -> Result<(), StatsError> {
+        set.set(stat, made(value))
     }
 
     pub fn clear(set: &mut StatsSet, stat: Stat) {
@@ -114,13 +255,12 @@ pub mod sets {
         set.is_empty()
     }
 
-    pub fn get(set: &StatsSet, stat: Stat) -> Result<Value, StatsError> {
-        set.get(stat)
-    }
-
     /// Whether the set has the value at the statistic.
-    pub fn has(set: &StatsSet, stat: Stat, value: Value) -> Result<bool, StatsError> {
-        Ok(set.get(stat)? == value)
+    pub fn has(set: &StatsSet, stat: Stat, value: PlainValue) -> bool {
+        match set.get(stat) {
+            Ok(found) => found == made(value),
+            Err(_) => false,
+        }
     }
 
     pub fn get_as<T: FromScalar>(
@@ -157,6 +297,19 @@ pub mod sets {
         set.merge_unordered(other, dtype)
     }
 
+    /// A merge without the set that a refusal hands back.
+    pub fn told(answer: Result<StatsSet, MergeRefused>) -> Sets {
+        match answer {
+            Ok(set) => Ok(set),
+            Err(refused) => Err(refused.error),
+        }
+    }
+
+    /// The ordered merge, where both sets are there and fit the type.
+    pub fn merge(set: Sets, other: Sets, dtype: &DType) -> Sets {
+        told(merged(set?, &other?, dtype))
+    }
+
     /// Combines the sets, where both fit the type.
     pub fn combine(set: &mut StatsSet, other: &StatsSet, dtype: &DType) -> Result<(), StatsError> {
         if !set.fits(dtype) || !other.fits(dtype) {
@@ -165,14 +318,29 @@ pub mod sets {
         set.combine_sets(other, dtype)
     }
 
-    /// Whether the set has these entries, in order.
-    pub fn is<const N: usize>(
-        alloc: Global,
-        set: StatsSet,
-        entries: [Entry; N],
-    ) -> Result<bool, StatsError> {
-        let expected = Vec::from_array(alloc, entries)?;
-        let entries: Vec<Entry> = set.into_iter().collect(alloc)?;
-        Ok(entries.as_slice() == expected.as_slice())
+    fn lists(alloc: Global, set: Sets, expected: &[Entry]) -> Result<bool, StatsError> {
+        let entries: Vec<Entry> = set?.into_iter().collect(alloc)?;
+        Ok(entries.as_slice() == expected)
+    }
+
+    /// Whether the set is there and has these entries, in order.
+    pub fn has_entries(alloc: Global, set: Sets, expected: &[Entry]) -> bool {
+        is_yes(lists(alloc, set, expected))
+    }
+
+    /// Whether the set is there and has these rows, in order.
+    pub fn is(alloc: Global, set: Sets, rows: &[Row]) -> bool {
+        match entries(alloc, rows) {
+            Ok(expected) => has_entries(alloc, set, expected.as_slice()),
+            Err(_) => false,
+        }
+    }
+
+    /// Whether the set is there and has no entry.
+    pub fn is_left_empty(set: Sets) -> bool {
+        match set {
+            Ok(set) => set.is_empty(),
+            Err(_) => false,
+        }
     }
 }
