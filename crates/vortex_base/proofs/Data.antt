@@ -3,6 +3,7 @@ pub mod AppendLemmas
 pub mod ChunkLemmas
 pub mod MapLemmas
 pub mod OrderLemmas
+pub mod PairLemmas
 pub mod RowLemmas
 pub mod RowsFit
 pub mod ScopeLemmas

@@ -5,6 +5,7 @@ pub mod Exact
 pub mod Names
 pub mod Neighbours
 pub mod Orders
+pub mod Pairs
 pub mod Repeated
 pub mod Scalars
 pub mod Scopes

@@ -9,7 +9,6 @@ use crate::column::{Column, append_all};
 use crate::error::BaseError;
 use crate::row::Row;
 use crate::scope::Scope;
-use std::alloc::AllocError;
 use std::marker::Model;
 
 /// The columns of a scope, in its order and all of one length.
@@ -51,17 +50,6 @@ fn all_long(rows: usize, columns: &[Column]) -> bool
         }
     }
     true
-}
-
-fn append_columns(columns: &mut Vec<Column>, others: &mut Vec<Column>) -> Result<(), AllocError>
-    requires { IsTrue (spec.can_append columns.old.items others.old.items) }
-    ensures appended { OnOk result
-        (columns.new.items ≡ spec.all_appended columns.old.items others.old.items) }
-    ensures emptied { OnOk result (others.new.items ≡ map spec.emptied others.old.items) }
-    ensures columns { OnErr result (columns.new.items ≡ columns.old.items) }
-    ensures others { OnErr result (others.new.items ≡ others.old.items) }
-{
-    append_all(columns, others)
 }
 
 impl Chunk {
@@ -127,7 +115,7 @@ impl Chunk {
         ensures refused { OnErr result ((self.new ≡ self.old) × (other.new ≡ other.old)) }
         ensures memory { Makes tt result }
     {
-        append_columns(&mut self.columns, &mut other.columns)?;
+        append_all(&mut self.columns, &mut other.columns)?;
         self.rows = row_count(&self.columns);
         other.rows = 0;
         Ok(())

@@ -1,14 +1,17 @@
 //! The values of a column.
-ghost use Rattle.std.specs.Prelude.{◌≡◌, ◌<◌, IsTrue, OnErr, OnOk, length, map, option_map, slice_get, Some};
+ghost use Rattle.std.specs.Prelude.{◌≡◌, ◌<◌, IsTrue, length, option_map, slice_get, Some};
 ghost use Rattle.vortex_base.specs.Data.Cells.{cell_values, value_of};
-ghost use Rattle.vortex_base.specs.Data.Columns.{all_appended, all_fit, can_append, column_of, emptied, value_at, IsColumn};
+ghost use Rattle.vortex_base.specs.Data.Columns.{all_fit, column_of, value_at, IsColumn};
+
+mod append;
+mod pair;
 
 use crate::cells::Cells;
 use crate::dtype::DType;
 use crate::error::BaseError;
 use crate::scalar_value::ScalarValue;
 use crate::value_ref::ValueRef;
-use std::alloc::AllocError;
+pub(crate) use append::append_all;
 use std::marker::Model;
 
 /// Values of one type in order, `None` being null, with their declared size.
@@ -101,26 +104,4 @@ impl Column {
     {
         self.cells.value_at(i)
     }
-}
-
-/// Moves the values of each other column behind those of the column beside it, and with them its
-/// size. All room is made first, so that nothing has moved where memory is refused.
-pub(crate) fn append_all(columns: &mut [Column], others: &mut [Column]) -> Result<(), AllocError>
-    requires { IsTrue (can_append columns.old others.old) }
-    ensures appended { OnOk result (columns.new ≡ all_appended columns.old others.old) }
-    ensures emptied { OnOk result (others.new ≡ map emptied others.old) }
-    ensures refused { OnErr result ((columns.new ≡ columns.old) × (others.new ≡ others.old)) }
-{
-    let (Some((column, columns)), Some((other, others))) = (
-        columns.split_first_mut(),
-        others.split_first_mut(),
-    ) else {
-        return Ok(());
-    };
-    column.cells.make_room(&other.cells)?;
-    append_all(columns, others)?;
-    column.size += other.size;
-    other.size = 0;
-    column.cells.append(&mut other.cells);
-    Ok(())
 }

@@ -1,5 +1,7 @@
 -- The values of a column as they are kept, and a value as it is lent.
 use Rattle.std.specs.Prelude.{ℕ, ◌+◌, ◌≤◌, List, Option, Some, None, Bool, true, false, map, option_map, vec_len, vec_capacity}
+use Rattle.std.specs.Coded.{le_prop}
+use mathlib.Core.HLevel.{⊥_prop}
 use Rattle.vortex_base.specs.declared.cells.Cells.{Cells}
 use Rattle.vortex_base.specs.declared.cells.Cells.TheVariants.{Any, Short, Texts}
 use Rattle.vortex_base.specs.declared.cells.ShortCell.{ShortCell}
@@ -54,6 +56,18 @@ HasRoom (Any v) (Texts w) = vec_len v + vec_len w ≤ vec_capacity v
 HasRoom (Short v) (Short w) = vec_len v + vec_len w ≤ vec_capacity v
 HasRoom (Texts v) (Texts w) = vec_len v + vec_len w ≤ vec_capacity v
 HasRoom v w = ⊥
+
+-- there is room in one way at most
+pub HasRoom-prop : (c d : Cells) → IsProp (HasRoom c d)
+HasRoom-prop (Any v) (Any w) = le_prop
+HasRoom-prop (Any v) (Short w) = le_prop
+HasRoom-prop (Any v) (Texts w) = le_prop
+HasRoom-prop (Short v) (Any w) = ⊥_prop
+HasRoom-prop (Short v) (Short w) = le_prop
+HasRoom-prop (Short v) (Texts w) = ⊥_prop
+HasRoom-prop (Texts v) (Any w) = ⊥_prop
+HasRoom-prop (Texts v) (Short w) = ⊥_prop
+HasRoom-prop (Texts v) (Texts w) = le_prop
 
 -- the cells are of any kind, and there is room for some more
 abbrev pub HasWideRoom : Cells → ℕ → Type 0

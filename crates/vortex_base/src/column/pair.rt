@@ -1,0 +1,108 @@
+//! A column and the one whose values go behind its own.
+ghost use Rattle.std.specs.Prelude.{◌≡◌, ◌+◌, ◌<◌, ◌^◌, ◌∷◌, [], IfErr, IfOk, IsTrue};
+ghost use Rattle.vortex_base.specs.Data.Cells.{cell_values, HasRoom, HasRoom-prop};
+ghost use Rattle.vortex_base.specs.Data.Columns.{all_fit, appended, can_append, emptied};
+
+use crate::cells::Cells;
+use crate::column::Column;
+use crate::dtype::DType;
+
+/// Two columns of one type, taken apart, of which the first has room for the values of the second.
+/// A `Column` shows its values and not its room.
+#[derive(Drop)]
+pub(crate) struct Pair {
+    dtype: DType,
+    cells: Cells,
+    size: u64,
+    others: Cells,
+    other_size: u64,
+    ghost fits: { IsTrue (all_fit dtype (cell_values cells)) },
+    ghost others_fit: { IsTrue (all_fit dtype (cell_values others)) },
+    ghost room: { HasRoom cells others } by { HasRoom-prop cells others },
+    ghost sizes: { size + other_size < 2 ^ 64 },
+}
+
+impl Pair {
+    ghost use Rattle.vortex_base.specs.Data.Pairs.{first_of, second_of};
+
+    /// The pair of two columns, or both as they were where memory for the room is refused.
+    pub(crate) fn try_new(column: Column, other: Column) -> Result<Pair, (Column, Column)>
+        requires { IsTrue (can_append (column ∷ []) (other ∷ [])) }
+        ensures first { IfOk result (λ pair. first_of pair ≡ column) }
+        ensures second { IfOk result (λ pair. second_of pair ≡ other) }
+        ensures column { IfErr result (λ columns. columns.0 ≡ column) }
+        ensures other { IfErr result (λ columns. columns.1 ≡ other) }
+    {
+        let Column {
+            dtype,
+            mut cells,
+            size,
+        } = column;
+        let Column {
+            dtype: other_dtype,
+            cells: others,
+            size: other_size,
+        } = other;
+        if cells.make_room(&others).is_err() {
+            let column = Column { dtype, cells, size };
+            let other = Column {
+                dtype: other_dtype,
+                cells: others,
+                size: other_size,
+            };
+            return Err((column, other));
+        }
+        Ok(Pair {
+            dtype,
+            cells,
+            size,
+            others,
+            other_size,
+        })
+    }
+
+    /// Both columns as they were.
+    pub(crate) fn apart(self) -> (Column, Column)
+        ensures first { result.0 ≡ first_of self }
+        ensures second { result.1 ≡ second_of self }
+    {
+        let dtype = self.dtype;
+        let column = Column {
+            dtype,
+            cells: self.cells,
+            size: self.size,
+        };
+        let other = Column {
+            dtype,
+            cells: self.others,
+            size: self.other_size,
+        };
+        (column, other)
+    }
+
+    /// Both columns, with the values of the second moved behind those of the first, and its size.
+    pub(crate) fn appended(self) -> (Column, Column)
+        ensures first { result.0 ≡ appended (first_of self) (second_of self) }
+        ensures second { result.1 ≡ emptied (second_of self) }
+    {
+        let Pair {
+            dtype,
+            mut cells,
+            size,
+            mut others,
+            other_size,
+        } = self;
+        cells.append(&mut others);
+        let column = Column {
+            dtype,
+            cells,
+            size: size + other_size,
+        };
+        let other = Column {
+            dtype,
+            cells: others,
+            size: 0,
+        };
+        (column, other)
+    }
+}
