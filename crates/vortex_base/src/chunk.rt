@@ -1,7 +1,7 @@
 //! Columns of one length under a scope.
-ghost use Rattle.std.specs.Prelude.{◌≡◌, ◌<◌, IsTrue, OnErr, OnOk, length, map, slice_get, Some};
+ghost use Rattle.std.specs.Prelude.{◌≡◌, ◌+◌, ◌<◌, ◌^◌, IsTrue, OnErr, OnOk, length, nat_lt, slice_get, Some};
 ghost use Rattle.std.specs.Bool.{OnTrue};
-ghost use Rattle.std.specs.List.{list_all};
+ghost use Rattle.std.specs.List.{list_all, zip};
 ghost use Rattle.vortex_base.specs.Made.{Makes};
 ghost use Rattle.vortex_base.specs.Data.Columns as spec;
 
@@ -50,6 +50,22 @@ fn all_long(rows: usize, columns: &[Column]) -> bool
         }
     }
     true
+}
+
+// Whether two sizes add up to no more than `u64` has.
+fn fit_together(left: u64, right: u64) -> bool
+    ensures { result ≡ nat_lt (left + right) (2 ^ 64) }
+{
+    left.checked_add(right).is_some()
+}
+
+fn sizes_fit(columns: &[Column], others: &[Column]) -> bool
+    ensures { result ≡ list_all (λ p. nat_lt (p.0.size + p.1.size) (2 ^ 64)) (zip columns.now others.now) }
+{
+    columns.iter().zip(others.iter()).all(|(column, other)| fit_together(
+        column.size(),
+        other.size(),
+    ))
 }
 
 impl Chunk {
@@ -102,6 +118,14 @@ impl Chunk {
         ensures is_row { spec.IsRow result }
     {
         Row::of_columns(&self.columns, i)
+    }
+
+    /// Whether no two declared sizes of columns at one place add up past `u64`, so that the other
+    /// chunk's rows may be appended.
+    pub fn sizes_fit(&self, other: &Chunk) -> bool
+        ensures { result ≡ spec.sizes_fit self.now.columns other.now.columns }
+    {
+        sizes_fit(&self.columns, &other.columns)
     }
 
     /// Moves the rows of another chunk of the same scope behind this one's, and adds the declared

@@ -133,3 +133,44 @@ fn truth_and_null(alloc: Global) -> Result<Column, BaseError> {
 fn take_no_null_where_there_is_none(rt: HostRuntime) {
     assert!(rt; is_mismatch(truth_and_null(rt.alloc())));
 }
+
+// So many columns of one truth, by their names.
+fn named(alloc: Global, count: usize) -> Result<Scope, BaseError> {
+    let mut columns = Vec::new(alloc);
+    for place in 0..count {
+        columns.push((format!(in alloc; "c{place}")?, TRUTH))?;
+    }
+    Scope::try_new(columns)
+}
+
+fn wide(alloc: Global, scope: Scope) -> Result<Chunk, BaseError> {
+    let mut columns = Vec::new(alloc);
+    for _ in 0..scope.len() {
+        columns.push(truths(alloc, 1)?)?;
+    }
+    testing::chunk(scope, columns)
+}
+
+// Whether all columns have two rows, and the size of two.
+fn are_doubled(chunk: &Chunk) -> bool {
+    (0..chunk.scope().len()).all(|place| {
+        chunk.column(place).len() == 2 && chunk.column(place).size() == 2
+    })
+}
+
+fn are_emptied(chunk: &Chunk) -> bool {
+    (0..chunk.scope().len()).all(|place| {
+        chunk.column(place).len() == 0 && chunk.column(place).size() == 0
+    })
+}
+
+#[test]
+fn append_a_hundred_thousand_columns(rt: HostRuntime) -> Result<(), Fail> {
+    let scope = named(rt.alloc(), 100_000)?;
+    let mut other = wide(rt.alloc(), scope.try_clone()?)?;
+    let mut chunk = wide(rt.alloc(), scope)?;
+    assert!(rt; *chunk.scope() == *other.scope());
+    append(&mut chunk, &mut other)?;
+    assert!(rt; are_doubled(&chunk) && are_emptied(&other));
+    Ok(())
+}

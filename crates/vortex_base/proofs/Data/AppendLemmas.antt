@@ -1,7 +1,8 @@
 -- The values of two columns of one type fit it together.
-use Rattle.std.proofs.Common.{◌≡◌, Bool, true, false, cond, List, ◌∷◌, ◌++◌, Option, refl, sym, ap, subst, ◌∙◌}
+use Rattle.std.proofs.Common.{◌≡◌, ◌+◌, ◌^◌, ◌&&◌, nat_lt, [], Bool, true, false, cond, List, ◌∷◌, ◌++◌, Option, refl, sym, ap, subst, ◌∙◌}
 use Rattle.std.proofs.lemmas.List.Folds.{list_all-append}
-use Rattle.vortex_base.specs.Data.Columns.{ColumnData, all_fit, can_append}
+use Rattle.std.specs.List.{list_all, zip}
+use Rattle.vortex_base.specs.Data.Columns.{ColumnData, all_fit, can_append, sizes_fit}
 use Rattle.vortex_base.specs.Data.Exact.{both_true}
 use Rattle.vortex_base.specs.Data.Scalars.{is_optional_value}
 use Rattle.vortex_base.specs.Data.Types.{dtype_eq_is_exact}
@@ -24,3 +25,10 @@ appended_fit c d cs ds all others items b is-all is-others can p q is =
     let whole : all_fit c.dtype (cond b (c.values ++ d.values) c.values) ≡ true =
     elim b as (λ x. all_fit c.dtype (cond x (c.values ++ d.values) c.values) ≡ true) [ true ↦ both_fit c.dtype c.values d.values p r | false ↦ p ] in
     ap (all_fit c.dtype) is ∙ whole
+
+-- the sizes of all pairs of columns fit
+pub all_sizes_fit : (cs ds : List ColumnData) → list_all (λ p. nat_lt (p.0.size + p.1.size) (2 ^ 64)) (zip cs ds) ≡ sizes_fit cs ds
+all_sizes_fit [] [] = refl
+all_sizes_fit [] (d ∷ ds) = refl
+all_sizes_fit (c ∷ cs) [] = refl
+all_sizes_fit (c ∷ cs) (d ∷ ds) = ap (λ b. nat_lt (c.size + d.size) (2 ^ 64) && b) (all_sizes_fit cs ds)

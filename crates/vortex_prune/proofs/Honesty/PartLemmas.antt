@@ -63,25 +63,6 @@ inside (x ∷ xs) (suc i) c there = let h = inside xs i c there in omega arith
 rest_of : (cs : List ColumnData) (i : ℕ) (c : ColumnData) → slice_get cs i ≡ Some c → drop i cs ≡ c ∷ drop (i + 1) cs
 rest_of cs i c there = drop_more cs i c (inside cs i c there) ∙ ap (λ x. x ∷ drop (i + 1) cs) (get_or_from_slice_get cs i c c there)
 
--- from a place on the sizes fit if those of the first columns do and the rest do
-sizes_step : (cs ds : List ColumnData) (i : ℕ) (c d : ColumnData) → slice_get cs i ≡ Some c → slice_get ds i ≡ Some d
-    → sizes_fit (drop i cs) (drop i ds) ≡ (nat_lt (c.size + d.size) (2 ^ 64) && sizes_fit (drop (i + 1) cs) (drop (i + 1) ds))
-sizes_step cs ds i c d there there' = rw (rest_of cs i c there, rest_of ds i d there') refl
-
--- where the first don't fit, not all do
-pub sizes_stop : (cs ds : List ColumnData) (i : ℕ) (c d : ColumnData) (b : Bool) → slice_get cs i ≡ Some c → slice_get ds i ≡ Some d
-    → nat_lt (c.size + d.size) (2 ^ 64) ≡ false → sizes_fit (drop i cs) (drop i ds) ≡ b → false ≡ b
-sizes_stop cs ds i c d b there there' fails all = sym (sizes_step cs ds i c d there there' ∙ rw fails refl) ∙ all
-
--- where they do, the rest decide
-pub sizes_go_on : (cs ds : List ColumnData) (i : ℕ) (c d : ColumnData) (b : Bool) → slice_get cs i ≡ Some c → slice_get ds i ≡ Some d
-    → nat_lt (c.size + d.size) (2 ^ 64) ≡ true → sizes_fit (drop i cs) (drop i ds) ≡ b → sizes_fit (drop (i + 1) cs) (drop (i + 1) ds) ≡ b
-sizes_go_on cs ds i c d b there there' fits all = sym (sizes_step cs ds i c d there there' ∙ rw fits refl) ∙ all
-
--- past the last column nothing is left to fit
-pub sizes_done : (cs ds : List ColumnData) (i : ℕ) (b : Bool) → length cs ≤ i → sizes_fit (drop i cs) (drop i ds) ≡ b → true ≡ b
-sizes_done cs ds i b past all = sym (rw (drop_all i cs past) refl) ∙ all
-
 fits_at : (cs : List ColumnData) (ss : List Entries) (i : ℕ) (c : ColumnData) (es : Entries) → sets_fit cs ss ≡ true → slice_get cs i ≡ Some c → slice_get ss i ≡ Some es
     → entries_fit es c.dtype ≡ true
 fits_at [] ss i c es h there set = cc

@@ -1,5 +1,5 @@
 //! Parts joined to one.
-ghost use Rattle.std.specs.Prelude.{◌≡◌, ◌+◌, ◌<◌, ◌^◌, IfErr, IfOk, IsTrue, OnOk, length, nat_lt, slice_get, Some};
+ghost use Rattle.std.specs.Prelude.{◌≡◌, ◌<◌, IfErr, IfOk, IsTrue, OnOk, length, slice_get, Some};
 ghost use Rattle.std.specs.Bool.{MatchBool};
 ghost use Rattle.vortex_base.specs.Data.Columns.{sizes_fit};
 ghost use Rattle.vortex_prune.specs.Part.{Entries, IsPart, IsTruePart, joined, merged_sets};
@@ -9,29 +9,8 @@ ghost use Rattle.vortex_rewrite.specs.Answers.{IsMemory, OkOrMemory};
 
 use crate::part::{JoinRefused, Part};
 use std::alloc::{AllocError, Global};
-use vortex_base::chunk::Chunk;
 use vortex_stats::error::StatsError;
 use vortex_stats::stats_set::StatsSet;
-
-// Whether two sizes add up to no more than `u64` has.
-fn fit_together(left: u64, right: u64) -> bool
-    ensures { result ≡ nat_lt (left + right) (2 ^ 64) }
-{
-    left.checked_add(right).is_some()
-}
-
-// Whether no two declared sizes of columns at one place add up past `u64`.
-fn sizes_fit(left: &Chunk, right: &Chunk) -> bool
-    requires { left.now.scope ≡ right.now.scope }
-    ensures { result ≡ sizes_fit left.now.columns right.now.columns }
-{
-    for i in 0..left.scope().len() {
-        if !fit_together(left.column(i).size(), right.column(i).size()) {
-            return false;
-        }
-    }
-    true
-}
 
 // The set of one column of the joined part. The sets that it is made of stay as they are.
 fn merged_set(left: &Part, right: &Part, i: usize) -> Result<StatsSet, StatsError>
@@ -82,7 +61,7 @@ impl Part {
         // Where the statistics of both parts are true, so are those of the joined one.
         ensures truth { IfOk result (λ part. IsTruePart left → IsTruePart right → IsTruePart part) }
     {
-        if !sizes_fit(&left.chunk, &right.chunk) {
+        if !left.chunk.sizes_fit(&right.chunk) {
             let error = StatsError::TooLarge;
             return Err(JoinRefused { error, left, right });
         }

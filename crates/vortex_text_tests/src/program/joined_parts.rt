@@ -116,3 +116,34 @@ fn sums_and_sizes_past_64_bits(rt: HostRuntime) -> Result<(), Fail> {
     ";
     expect_each(&rt, rt.alloc(), front, cases)
 }
+
+// So many columns of small numbers, by their names.
+fn push_columns(text: &mut String, alloc: Global, count: usize) -> Result<(), Fail> {
+    for place in 0..count {
+        let line = format!(in alloc; "column c{place} u8\n")?;
+        text.push_str(line.as_str())?;
+    }
+    Ok(())
+}
+
+// A part with one row, which has this value in each column.
+fn push_part(text: &mut String, value: &str, count: usize) -> Result<(), Fail> {
+    text.push_str("part\nrow")?;
+    for _ in 0..count {
+        text.push_str(value)?;
+    }
+    text.push_str("\n")?;
+    Ok(())
+}
+
+#[test]
+fn parts_of_many_columns(rt: HostRuntime) -> Result<(), Fail> {
+    let (alloc, count) = (rt.alloc(), 100_000);
+    let mut text = String::new(alloc);
+    push_columns(&mut text, alloc, count)?;
+    text.push_str("part\npart\njoin 0\n")?;
+    push_part(&mut text, " 7", count)?;
+    push_part(&mut text, " 8", count)?;
+    text.push_str("join 1\nwhere eq col c99999 lit u8 8\n")?;
+    expect_answer(&rt, alloc, text.as_str(), 0, "skipped\nrows 1:1\n")
+}
