@@ -2,6 +2,7 @@
 pub mod AppendLemmas
 pub mod ChunkLemmas
 pub mod MapLemmas
+pub mod NameSets
 pub mod OrderLemmas
 pub mod PairLemmas
 pub mod RowLemmas

@@ -13,6 +13,7 @@ use crate::column::Column;
 use crate::dtype::DType;
 use crate::error::BaseError;
 use std::alloc::{AllocError, Global};
+use std::collections::BTreeSet;
 use std::marker::Model;
 use std::rc::Rc;
 
@@ -47,7 +48,23 @@ fn contains(columns: &[(String, DType)], name: &str) -> bool
     columns.iter().any(|c| c.0.as_str() == name)
 }
 
-fn has_duplicate(columns: &[(String, DType)]) -> bool
+// Whether some name stands twice, by the set of the names so far.
+fn has_duplicate_in_set(columns: &Vec<(String, DType)>) -> Result<bool, AllocError>
+    ensures { IfOk result (λ found.
+        found ≡ scopes.has_duplicate (scopes.named_columns columns.now.items)) }
+{
+    let mut names = BTreeSet::new(*columns.allocator());
+    for column in columns {
+        if !names.insert(column.0.as_str())? {
+            return Ok(true);
+        }
+    }
+    Ok(false)
+}
+
+// The same without memory, in a time that grows with the square of their number.
+#[inline(never)]
+fn has_duplicate_in_pairs(columns: &[(String, DType)]) -> bool
     ensures { result ≡ scopes.has_duplicate (scopes.named_columns columns.now) }
 {
     let mut rest = columns;
@@ -58,6 +75,15 @@ fn has_duplicate(columns: &[(String, DType)]) -> bool
         rest = later;
     }
     false
+}
+
+fn has_duplicate(columns: &Vec<(String, DType)>) -> bool
+    ensures { result ≡ scopes.has_duplicate (scopes.named_columns columns.now.items) }
+{
+    match has_duplicate_in_set(columns) {
+        Ok(found) => found,
+        Err(_) => has_duplicate_in_pairs(columns),
+    }
 }
 
 fn is_empty(columns: &[(String, DType)]) -> bool

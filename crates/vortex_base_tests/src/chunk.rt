@@ -170,7 +170,8 @@ fn append_a_hundred_thousand_columns(rt: HostRuntime) -> Result<(), Fail> {
     let mut other = wide(rt.alloc(), scope.try_clone()?)?;
     let mut chunk = wide(rt.alloc(), scope)?;
     assert!(rt; *chunk.scope() == *other.scope());
-    append(&mut chunk, &mut other)?;
+    assert!(rt; chunk.sizes_fit(&other));
+    chunk.append(&mut other)?;
     assert!(rt; are_doubled(&chunk) && are_emptied(&other));
     Ok(())
 }

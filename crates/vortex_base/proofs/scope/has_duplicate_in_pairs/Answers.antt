@@ -1,6 +1,6 @@
 use Rattle.std.proofs.Common.{◌∙◌}
 use Rattle.vortex_base.proofs.Data.ScopeLemmas.{duplicate_here, duplicate_later}
-use Rattle.vortex_base.proofs.scope.has_duplicate.Goals as goal
+use Rattle.vortex_base.proofs.scope.has_duplicate_in_pairs.Goals as goal
 
 pub returns-then-contains : goal.returns-then-contains
 returns-then-contains c =
