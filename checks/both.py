@@ -26,10 +26,10 @@ def build():
     subprocess.run(["rustc", "--edition", "2021", "-O", main, "-o", PLAIN], check=True)
 
 
-def answer(program, data, seconds):
+def answer(program, data, seconds, **settings):
     """The status and what is printed, or that no answer came in time."""
     try:
-        run = subprocess.run([program], input=data, stdout=subprocess.PIPE, stderr=subprocess.DEVNULL, timeout=seconds)
+        run = subprocess.run([program], input=data, stdout=subprocess.PIPE, stderr=subprocess.DEVNULL, timeout=seconds, **settings)
     except subprocess.TimeoutExpired:
         return f"no answer in {seconds} s"
     return run.returncode, run.stdout

@@ -1,6 +1,6 @@
 #!/usr/bin/env python3
 # Compares the built program with the plain one on hostile inputs: cut and spoilt ones, very long ones, very deep ones.
-# Each check prints one line. Each answer has to come within the seconds that its check allows.
+# Each check prints one line. Each answer has to come within the seconds and the memory that its check allows.
 # usage: checks/hostile-input.py
 import os
 import resource
@@ -8,7 +8,7 @@ import subprocess
 import time
 
 import shim
-from both import PROGRAM, TOP, build, end, faults_of
+from both import PROGRAM, TOP, answer, build, end, faults_of
 
 LIMIT = 16_777_216
 STACK = 8 << 20
@@ -32,9 +32,9 @@ def replaced_bytes():
 
 
 def long_numbers():
-    """Numbers of 10,000 digits: many zeros in front, or too large."""
+    """Numbers of a million digits: many zeros in front, or too large."""
     front = b"column a i64\ncolumn d u8\npart\n"
-    fine, large = b"0" * 9_999 + b"7", b"9" * 10_000
+    fine, large = b"0" * 999_999 + b"7", b"9" * 1_000_000
     where = b"where eq col a lit i64 7\n"
     for name, number in (("with zeros in front", fine), ("too large", large)):
         yield f"a row {name}", front + b"row " + number + b" 0\n" + where
@@ -100,9 +100,74 @@ def many_columns():
     yield "65,535 columns and a name used before", names + b"column c0 u8\n"
 
 
+def columns_of(count):
+    return b"".join(b"column c%d u8\n" % place for place in range(count))
+
+
+def joined_columns():
+    """Parts of 100,000 columns, joined."""
+    count = 100_000
+    names, where = columns_of(count), b"where eq col c99999 lit u8 7\n"
+    seven, eight = b"part\nrow" + b" 7" * count + b"\n", b"part\nrow" + b" 8" * count + b"\n"
+    stats = b"".join(b"stat c%d max exact 9\n" % place for place in range(count))
+    yield "parts without rows", names + b"part\npart\njoin 0\n" + where
+    yield "parts of one row", names + seven + eight + b"join 0\n" + seven + b"join 0\n" + where
+    yield "parts of one row with statistics", names + seven + stats + eight + stats + b"join 0\n" + where
+
+
+def late_statistics():
+    """65,535 columns, each with a statistic in the last part alone."""
+    count = 65_535
+    row = b"part\nrow" + b" 7" * count + b"\n"
+    stats = b"".join(b"stat c%d max exact 7\nstat c%d null_count exact 0\n" % (place, place) for place in range(count))
+    yield "one part before", columns_of(count) + row + b"part\n" + stats + b"where gt col c65534 lit u8 7\n"
+    yield "100 parts before", columns_of(count) + b"part\n" * 100 + stats + b"where gt col c65534 lit u8 7\n"
+
+
+def names_looked_up():
+    """Names of columns looked up hundreds of thousands of times, short ones and long ones that begin alike."""
+    count = 65_535
+    lines = b"".join(b"stat c%d max exact 7\n" % (place * 7919 % count) for place in range(600_000))
+    yield "600,000 of 65,535 names", columns_of(count) + b"part\n" + lines + b"where gt col c65534 lit u8 7\n"
+    yield "a million of one name", b"column c u8\npart\n" + b"stat c max exact 7\n" * 800_000 + b"where gt col c lit u8 7\n"
+    long = [b"c" * 58 + b"%06d" % place for place in range(65_535)]
+    names = b"".join(b"column " + name + b" u8\n" for name in long)
+    lines = b"".join(b"stat " + long[place * 7919 % count] + b" max exact 7\n" for place in range(120_000))
+    yield "120,000 of 65,535 names of 64 bytes", names + b"part\n" + lines + b"where gt col " + long[0] + b" lit u8 7\n"
+
+
+def long_patterns():
+    """LIKE where a search that goes back takes the pattern's length times the text's."""
+    texts = b"column s utf8\npart\nrow \"%s\"\nwhere %s col s lit utf8 \"%s\"\n"
+    runs = [("a run that is nowhere", b"a" * 40_000, b"%" + b"a" * 20_000 + b"b%"),
+            ("the same of megabytes", b"a" * 8_000_000, b"%" + b"a" * 4_000_000 + b"b%"),
+            ("a run at the very end", b"a" * 4_000_000 + b"b", b"%" + b"a" * 2_000_000 + b"b%"),
+            ("a last run that is elsewhere", b"a" * 4_000_000 + b"b", b"%" + b"a" * 4_000_000),
+            ("a last run with any characters", b"a" * 4_000_000 + b"b", b"%" + b"a_" * 1_000_000),
+            ("a run of escapes", b"a" * 4_000_000, b"%" + b"\\\\a" * 1_000_000 + b"b%"),
+            ("runs of two letters", b"ab" * 2_000_000, b"%" + b"ab" * 500_000 + b"aa%" + b"ba" * 500_000 + b"%"),
+            ("many short runs", b"ab" * 4_000_000, b"%" + b"aab%" * 1_000_000),
+            ("letters of two and four bytes", "\u00e9\U0001F600".encode() * 600_000, b"%" + "\u00e9\U0001F600".encode() * 300_000 + b"b%")]
+    for name, text, pattern in runs:
+        yield name, texts % (text, b"like", pattern)
+        yield name + ", of either case", texts % (text, b"ilike", pattern.upper())
+    rows = b"row \"aaaa\"\n" * 500_000
+    yield "a long pattern and many short rows", b"column s utf8\npart\n" + rows + b"where like col s lit utf8 \"%" + b"a" * 9_000_000 + b"b%\"\n"
+
+
+def many_tests():
+    """As many LIKEs and BETWEENs as a line holds, over one long text."""
+    text = b"column s utf8\npart\nrow \"" + b"aab" * 300_000 + b"\"\nwhere "
+    likes = [b"like col s lit utf8 \"%%%sbb%d%%\"" % (b"a" * (place % 9), place) for place in range(584)]
+    betweens = [b"between <= <= col s lit utf8 \"%s\" lit utf8 \"%s%d\"" % (b"aab" * 4_000 + b"b", b"aab" * 4_000 + b"b", place) for place in range(341)]
+    yield "584 LIKEs", text + b"or " * 583 + b" ".join(likes) + b"\n"
+    yield "341 BETWEENs", text + b"or " * 340 + b" ".join(betweens) + b"\n"
+
+
 def many_parts():
     count = 1_000_000
     yield "a million parts", b"column a i64\n" + b"part\n" * count + b"where eq col a lit i64 7\n"
+    yield "three million parts", b"column a i64\n" + b"part\n" * (3 * count) + b"where eq col a lit i64 7\n"
     yield "a million rows", b"column a i64\npart\n" + b"row 7\n" * count + b"where eq col a lit i64 7\n"
     yield "a million statistics", b"column a i64\npart\n" + b"stat a max exact 7\n" * (count * 4 // 5) + b"where gt col a lit i64 7\n"
     yield "parts joined one after the other", b"column a i64\npart\nrow 7\n" + b"part\njoin 0\n" * count + b"where eq col a lit i64 7\n"
@@ -132,16 +197,21 @@ def streams():
     return faults, len(runs)
 
 
-# Inputs for both programs by their name, and the seconds that each may take.
-INPUTS = [("every prefix of an input of 40 lines", prefixes, 20),
-          ("every byte of it replaced by eight others", replaced_bytes, 20),
-          ("numbers of 10,000 digits", long_numbers, 20),
-          ("lines of 16 million bytes", long_lines, 60),
-          ("deep predicates on 8 MiB of stack", deep_predicates, 20),
-          ("escapes", escapes, 20),
-          ("65,535 columns", many_columns, 120),
-          ("a million parts, rows and statistics", many_parts, 60),
-          ("inputs at the limit", limits, 60)]
+# Inputs for both programs by their name, the seconds that each may take, and the MiB that the proved one may ask for.
+INPUTS = [("every prefix of an input of 40 lines", prefixes, 20, 100),
+          ("every byte of it replaced by eight others", replaced_bytes, 20, 100),
+          ("numbers of a million digits", long_numbers, 20, 100),
+          ("lines of 16 million bytes", long_lines, 60, 200),
+          ("deep predicates on 8 MiB of stack", deep_predicates, 20, 100),
+          ("escapes", escapes, 20, 100),
+          ("65,535 columns", many_columns, 20, 300),
+          ("100,000 columns joined", joined_columns, 20, 500),
+          ("65,535 columns with late statistics", late_statistics, 20, 500),
+          ("names of columns", names_looked_up, 20, 300),
+          ("long patterns", long_patterns, 20, 200),
+          ("many LIKEs and BETWEENs", many_tests, 60, 100),
+          ("a million parts, rows and statistics", many_parts, 60, 700),
+          ("inputs at the limit", limits, 60, 300)]
 
 
 def byte_by_byte():
@@ -154,16 +224,26 @@ def byte_by_byte():
         except subprocess.TimeoutExpired:
             return f"no answer in {seconds} s"
 
-    told = [faults_of(inputs(), 180, answer_of) for _, inputs, _ in INPUTS]
+    told = [faults_of(inputs(), 180, answer_of) for _, inputs, _, _ in INPUTS]
     return [fault for faults, _ in told for fault in faults], sum(count for _, count in told)
 
 
-def compared(inputs, seconds):
-    return lambda: faults_of(inputs(), seconds)
+def within(mebibytes):
+    """An answer of a program that gets no more memory than this: it would say that memory was refused."""
+    room = mebibytes << 20
+
+    def answer_of(program, data, seconds):
+        return answer(program, data, seconds, preexec_fn=lambda: resource.setrlimit(resource.RLIMIT_AS, (room, room)))
+
+    return answer_of
+
+
+def compared(inputs, seconds, mebibytes):
+    return lambda: faults_of(inputs(), seconds, within(mebibytes))
 
 
 # Each check by its name; it gives what is wrong, and how many inputs there were.
-CHECKS = [(name, compared(inputs, seconds)) for name, inputs, seconds in INPUTS]
+CHECKS = [(name, compared(inputs, seconds, mebibytes)) for name, inputs, seconds, mebibytes in INPUTS]
 CHECKS += [("all of these, one byte a read and a write", byte_by_byte),
            ("inputs and outputs that fail", streams)]
 

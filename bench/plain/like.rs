@@ -7,8 +7,15 @@ pub enum Item {
     Literal(char),
 }
 
+/// The items between two runs.
+enum Piece {
+    Literals(String),
+    Mixed(Vec<Item>),
+}
+
 pub struct Pattern {
     items: Vec<Item>,
+    pieces: Vec<Piece>,
     ignores_case: bool,
 }
 
@@ -37,40 +44,27 @@ impl Pattern {
                 }
             }
         }
-        Pattern { items, ignores_case }
+        let pieces = items.split(|item| *item == Item::Run).map(Piece::of).collect();
+        Pattern { items, pieces, ignores_case }
     }
 
     pub fn matches(&self, text: &str) -> bool {
-        let mut at = text;
-        let mut items = &self.items[..];
-        let mut back: Option<(&str, &[Item])> = None;
-        loop {
-            match (items.split_first(), at.chars().next()) {
-                (Some((Item::Run, rest)), _) => {
-                    back = Some((at, rest));
-                    items = rest;
-                    continue;
-                }
-                (Some((Item::One, rest)), Some(c)) => {
-                    (items, at) = (rest, &at[c.len_utf8()..]);
-                    continue;
-                }
-                (Some((Item::Literal(l), rest)), Some(c)) if *l == self.seen(c) => {
-                    (items, at) = (rest, &at[c.len_utf8()..]);
-                    continue;
-                }
-                (None, None) => return true,
-                _ => {}
-            }
-            let Some((from, rest)) = back else { return false };
-            let Some(c) = from.chars().next() else { return false };
-            let from = &from[c.len_utf8()..];
-            (at, items, back) = (from, rest, Some((from, rest)));
+        if self.ignores_case {
+            self.matches_lowered(&text.to_ascii_lowercase())
+        } else {
+            self.matches_lowered(text)
         }
     }
 
-    fn seen(&self, c: char) -> char {
-        if self.ignores_case { c.to_ascii_lowercase() } else { c }
+    /// The first piece stands at the front, the last at the end, and each other one at the first place behind the one before.
+    fn matches_lowered(&self, text: &str) -> bool {
+        let Some(mut rest) = self.pieces[0].strip(text) else { return false };
+        let Some((last, middle)) = self.pieces[1..].split_last() else { return rest.is_empty() };
+        for piece in middle {
+            let Some(behind) = piece.skip_to(rest) else { return false };
+            rest = behind;
+        }
+        last.ends(rest)
     }
 
     pub fn range(&self) -> Option<Range> {
@@ -82,6 +76,55 @@ impl Pattern {
         let prefix = literal(&self.items[..wild]);
         let successor = successor(&prefix)?;
         Some(Range::Prefix { prefix, successor })
+    }
+}
+
+impl Piece {
+    fn of(items: &[Item]) -> Piece {
+        let literal = |item: &Item| if let Item::Literal(c) = item { Some(*c) } else { None };
+        match items.iter().map(literal).collect() {
+            Some(literals) => Piece::Literals(literals),
+            None => Piece::Mixed(items.to_vec()),
+        }
+    }
+
+    /// What follows it at the front of a text.
+    fn strip<'a>(&self, text: &'a str) -> Option<&'a str> {
+        let items = match self {
+            Piece::Literals(literals) => return text.strip_prefix(literals.as_str()),
+            Piece::Mixed(items) => items,
+        };
+        let mut chars = text.chars();
+        for item in items {
+            let c = chars.next()?;
+            if *item != Item::One && *item != Item::Literal(c) {
+                return None;
+            }
+        }
+        Some(chars.as_str())
+    }
+
+    /// What follows its first place in a text.
+    fn skip_to<'a>(&self, text: &'a str) -> Option<&'a str> {
+        match self {
+            Piece::Literals(literals) if literals.len() > text.len() => None,
+            Piece::Literals(literals) => text.find(literals.as_str()).map(|at| &text[at + literals.len()..]),
+            Piece::Mixed(_) => text.char_indices().find_map(|(at, _)| self.strip(&text[at..])),
+        }
+    }
+
+    /// Whether it stands at the end of a text.
+    fn ends(&self, text: &str) -> bool {
+        match self {
+            Piece::Literals(literals) => text.ends_with(literals.as_str()),
+            Piece::Mixed(items) => match text.chars().count().checked_sub(items.len()) {
+                None => false,
+                Some(before) => {
+                    let at = text.char_indices().nth(before).map_or(text.len(), |(at, _)| at);
+                    self.strip(&text[at..]) == Some("")
+                }
+            },
+        }
     }
 }
 
