@@ -60,7 +60,8 @@ fn fit_together(left: u64, right: u64) -> bool
 }
 
 fn sizes_fit(columns: &[Column], others: &[Column]) -> bool
-    ensures { result ≡ list_all (λ p. nat_lt (p.0.size + p.1.size) (2 ^ 64)) (zip columns.now others.now) }
+    ensures { result
+        ≡ list_all (λ p. nat_lt (p.0.size + p.1.size) (2 ^ 64)) (zip columns.now others.now) }
 {
     columns.iter().zip(others.iter()).all(|(column, other)| fit_together(
         column.size(),

@@ -17,8 +17,10 @@ fn pair_up(
     requires can { IsTrue (can_append columns.old.items others.old.items) }
     requires none { pairs.old.items ≡ [] }
     requires room { vec_len columns.old ≤ vec_capacity pairs.old }
-    ensures columns { columns.new.items ++ reverse (map first_of pairs.new.items) ≡ columns.old.items }
-    ensures others { others.new.items ++ reverse (map second_of pairs.new.items) ≡ others.old.items }
+    ensures columns { columns.new.items ++ reverse (map first_of pairs.new.items)
+        ≡ columns.old.items }
+    ensures others { others.new.items ++ reverse (map second_of pairs.new.items)
+        ≡ others.old.items }
     ensures columns_room { vec_len columns.new + vec_len pairs.new ≤ vec_capacity columns.new }
     ensures others_room { vec_len others.new + vec_len pairs.new ≤ vec_capacity others.new }
     ensures all { OnOk result ((columns.new.items ≡ []) × (others.new.items ≡ [])) }
@@ -43,8 +45,10 @@ fn pair_up(
 fn put_back(columns: &mut Vec<Column>, others: &mut Vec<Column>, mut pairs: Vec<Pair>, moved: bool)
     requires columns { vec_len columns.old + vec_len pairs ≤ vec_capacity columns.old }
     requires others { vec_len others.old + vec_len pairs ≤ vec_capacity others.old }
-    ensures columns { columns.new.items ≡ columns.old.items ++ reverse (map (first_after moved) pairs.items) }
-    ensures others { others.new.items ≡ others.old.items ++ reverse (map (second_after moved) pairs.items) }
+    ensures columns { columns.new.items
+        ≡ columns.old.items ++ reverse (map (first_after moved) pairs.items) }
+    ensures others { others.new.items
+        ≡ others.old.items ++ reverse (map (second_after moved) pairs.items) }
 {
     while let Some(pair) = pairs.pop() {
         let (column, other) = if moved { pair.appended() } else { pair.apart() };
