@@ -2,3 +2,4 @@
 pub mod Like
 pub mod LikeSearch
 pub mod Prefix
+pub mod Substring

@@ -104,3 +104,25 @@ fn many_runs_end_at_once(rt: HostRuntime) -> Result<(), Fail> {
     assert!(rt; !is_like(text.as_str(), "%a%a%a%a%a%a%a%a%b"));
     Ok(())
 }
+
+fn repeated(alloc: Global, part: &str, count: usize, last: &str) -> Result<String, AllocError> {
+    let mut text = String::new(alloc);
+    for _ in 0..count {
+        text.push_str(part)?;
+    }
+    text.push_str(last)?;
+    Ok(text)
+}
+
+#[test]
+fn a_long_run_of_letters_is_found(rt: HostRuntime) -> Result<(), Fail> {
+    let text = repeated(rt.alloc(), "a", 40000, "")?;
+    let needle = repeated(rt.alloc(), "a", 20000, "b%")?;
+    let pattern = repeated(rt.alloc(), "%", 1, needle.as_str())?;
+    assert!(rt; !is_like(text.as_str(), pattern.as_str()));
+    assert!(rt; !is_ilike(text.as_str(), pattern.as_str()));
+    let hit = repeated(rt.alloc(), text.as_str(), 1, "b")?;
+    assert!(rt; is_like(hit.as_str(), pattern.as_str()));
+    assert!(rt; is_ilike(hit.as_str(), pattern.as_str()));
+    Ok(())
+}
