@@ -1,8 +1,10 @@
 //! LIKE: whether a text matches a pattern.
 //!
 //! `%` stands for any run of characters, `_` for any one character, and `\` makes the next
-//! character literal. The search goes back to the last `%` alone, so it takes at most as many steps
-//! as the pattern has characters times the text's.
+//! character literal. The search goes back to the last `%` alone. Where its attempts take too many
+//! steps, a run of letters between two `%` is found by the two-way search, and what follows the last
+//! `%` is compared at the text's end alone. So the search takes linear time, but for a run with `_`
+//! between two `%`, which may take its length times the text's.
 ghost use Rattle.std.specs.Prelude.{◌≡◌, ◌<◌, ◌≤◌, ◌∷◌, [], List, length, MatchOption, IfSome};
 ghost use Rattle.std.specs.Str.{chars};
 ghost use Rattle.vortex_base.specs.Patterns.Like.{items, like, some_end};
@@ -87,6 +89,13 @@ impl<'a> Characters<'a> {
             text,
             ignore_case: false,
         }
+    }
+
+    // No fewer than the characters that are left.
+    fn most(self) -> usize
+        ensures { length (characters self.entry) ≤ result }
+    {
+        self.text.len()
     }
 
     // What is left at the text's end.
@@ -209,10 +218,13 @@ fn is_match_at_some_end<'a>(mut pattern: Characters<'a>, mut text: Characters<'a
                 pattern = next;
             }
             Front::Mismatch(steps) => match text.split_first() {
-                Some((_, rest)) if steps > patience => text = from_piece(pattern, rest),
                 Some((_, rest)) => {
-                    patience = (patience - steps).saturating_add(PATIENCE_AT_PLACE);
-                    text = from_chance(pattern, rest);
+                    if steps > patience {
+                        text = from_piece(pattern, rest);
+                    } else {
+                        patience = (patience - steps).saturating_add(PATIENCE_AT_PLACE);
+                        text = from_chance(pattern, rest);
+                    }
                 }
                 None => return false,
             },

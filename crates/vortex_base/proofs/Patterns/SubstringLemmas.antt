@@ -1,5 +1,5 @@
 -- Steps of the search for a run of letters.
-use Rattle.std.proofs.Common.{◌≡◌, ℕ, zero, suc, ◌+◌, ◌-◌, ◌<◌, ◌≤◌, Bool, true, false, List, [], ◌∷◌, length, drop, get_or, slice_index, refl, sym, ap, subst, ◌∙◌, arith, add-one, length-drop, max, ◌⊎◌, below_more, ⊎_elim}
+use Rattle.std.proofs.Common.{◌≡◌, ℕ, zero, suc, ◌+◌, ◌-◌, ◌<◌, ◌≤◌, Bool, true, false, List, [], ◌∷◌, length, drop, slice_index, refl, sym, ap, subst, ◌∙◌, arith, length-drop, ◌⊎◌, below_more, ⊎_elim}
 use Rattle.std.proofs.lemmas.List.{get_or-drop}
 use Rattle.std.proofs.lemmas.Bool.{cases_lt}
 use Rattle.std.proofs.Math.Seq.{drop-nil}
@@ -8,7 +8,6 @@ use Rattle.memchr.specs.Critical.{IsCritical, NoPeriodBelow}
 use Rattle.memchr.specs.TwoWay.{IsCut, OccursIn}
 use Rattle.memchr.specs.declared.arch.all.twoway.Shift.TheVariants.{Small, Large}
 use Rattle.memchr.proofs.lemmas.SearchLemmas.{Nowhere-right, Nowhere-left, IsShift-large, IsShift-small}
-use Rattle.vortex_base.specs.declared.like.substring.Cut.{Cut}
 use Rattle.vortex_base.specs.Patterns.Substring.{StandsAt, IsPast, AreSame, Precedes, IsCutOf}
 
 -- one more letter is read
@@ -43,6 +42,16 @@ StandsAt-drop xs ys i k le s =
       reads = λ j l.
           let place : i + (k - i + j) ≡ k + j = omega arith in
           get_or-drop i ys (k - i + j) 0 ∙ ap (slice_index ys) place ∙ s.reads j l;
+    }
+
+pub StandsAt-in : (xs ys : List ℕ) (k : ℕ) → k ≤ length ys → StandsAt xs (drop k ys) 0 → StandsAt xs ys k
+StandsAt-in xs ys k le s =
+    let f = s.fits in
+    record {
+      fits = omega (arith, length-drop k ys);
+      reads = λ j l.
+          let place : k + (0 + j) ≡ k + j = omega arith in
+          ap (slice_index ys) (sym place) ∙ sym (get_or-drop k ys (0 + j) 0) ∙ s.reads j l;
     }
 
 pub IsPast-none : (xs ys : List ℕ) → IsPast xs ys ys
@@ -121,7 +130,7 @@ module _ (xs bs : List ℕ) (m : ℕ) (size : m ≡ length xs) (c : ℕ) (critic
       let place : start + (k - start) ≡ k = omega arith in
       let place0 : start + (k - start) ≡ 0 + k = omega arith in
       ap (slice_index xs) (sym place) ∙ sym (get_or-drop start xs (k - start) 0) ∙ ap (λ v. slice_index v (k - start)) (sym e)
-          ∙ more (k - start) (omega arith) ∙ ap (λ v. slice_index v (k - start)) f ∙ get_or-drop start bs (k - start) 0 ∙ ap (slice_index bs) place0)
+      ∙ more (k - start) (omega arith) ∙ ap (λ v. slice_index v (k - start)) f ∙ get_or-drop start bs (k - start) 0 ∙ ap (slice_index bs) place0)
       (cases_lt k start)
 
   -- past a letter that differs right of the cut

@@ -1,4 +1,9 @@
 //! A piece of a pattern of LIKE, the items before its next `%`, and where in a text it may match.
+ghost use Rattle.std.specs.Prelude.{◌≡◌, ℕ, ◌≤◌, Bool, true, List, length};
+ghost use Rattle.vortex_base.specs.Patterns.Like.{items, like, some_end};
+ghost use Rattle.vortex_base.specs.Patterns.LikeSearch.{characters};
+ghost use Rattle.vortex_base.specs.Patterns.Piece.{IsPieceOf};
+
 use super::substring::{Letters, from_first};
 use super::{Characters, Front, Item, from_chance, match_front, next_item};
 
@@ -16,7 +21,10 @@ enum Piece {
 }
 
 // Reads the first piece, no further than the text goes.
-fn read_piece(mut pattern: Characters, mut text: Characters) -> Piece {
+fn read_piece(mut pattern: Characters, mut text: Characters) -> Piece
+    ensures { IsPieceOf (items (characters pattern.entry)) (characters text.entry) result }
+{
+    let most = text.most();
     let mut count = 0;
     let mut only_letters = true;
     while let Some((item, rest)) = next_item(pattern) {
@@ -31,13 +39,18 @@ fn read_piece(mut pattern: Characters, mut text: Characters) -> Piece {
         };
         pattern = rest;
         text = text_rest;
+        prove!(count < most);
         count += 1;
     }
     Piece::Last(count)
 }
 
 // The last characters of the text, so many or all.
-fn last_characters<'a>(mut text: Characters<'a>, count: usize) -> Characters<'a> {
+fn last_characters<'a>(mut text: Characters<'a>, count: usize) -> Characters<'a>
+    ensures same { (test : List ℕ → Bool) → ((ds : List ℕ) → test ds ≡ true → length ds ≡ count)
+        → some_end test (characters result) ≡ some_end test (characters text.entry) }
+    ensures shorter { length (characters result) ≤ length (characters text.entry) }
+{
     let mut ahead = Letters::of_text(text).skip(count).rest();
     while let (Some((_, ahead_rest)), Some((_, rest))) = (ahead.split_first(), text.split_first()) {
         ahead = ahead_rest;
@@ -47,7 +60,11 @@ fn last_characters<'a>(mut text: Characters<'a>, count: usize) -> Characters<'a>
 }
 
 // The text from the first place on at which the piece matches, each tried in turn.
-fn from_front<'a>(pattern: Characters<'a>, mut text: Characters<'a>) -> Characters<'a> {
+fn from_front<'a>(pattern: Characters<'a>, mut text: Characters<'a>) -> Characters<'a>
+    ensures same { let test = like (items (characters pattern.entry)) in
+        some_end test (characters result) ≡ some_end test (characters text.entry) }
+    ensures shorter { length (characters result) ≤ length (characters text.entry) }
+{
     while let Front::Mismatch(_) = match_front(pattern, text) {
         match text.split_first() {
             Some((_, rest)) => text = from_chance(pattern, rest),
@@ -58,7 +75,11 @@ fn from_front<'a>(pattern: Characters<'a>, mut text: Characters<'a>) -> Characte
 }
 
 /// The text from the first place on at which the first piece may match.
-pub(super) fn from_piece<'a>(pattern: Characters<'a>, text: Characters<'a>) -> Characters<'a> {
+pub(super) fn from_piece<'a>(pattern: Characters<'a>, text: Characters<'a>) -> Characters<'a>
+    ensures same { let test = like (items (characters pattern.entry)) in
+        some_end test (characters result) ≡ some_end test (characters text.entry) }
+    ensures shorter { length (characters result) ≤ length (characters text.entry) }
+{
     match read_piece(pattern, text) {
         Piece::Letters(0) => text,
         Piece::Letters(count) => {

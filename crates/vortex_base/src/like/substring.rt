@@ -1,6 +1,6 @@
 //! Where in a text a run of letters stands first: the two-way search of Crochemore and Perrin, in
 //! linear time and with no memory. Both are read forward alone, so the letters may be a pattern's.
-ghost use Rattle.std.specs.Prelude.{◌≡◌, ◌+◌, ◌<◌, ◌≤◌, ◌∷◌, ◌↔◌, [], true, false, length, drop, slice_index, IsTrue, MatchOption};
+ghost use Rattle.std.specs.Prelude.{◌≡◌, ◌+◌, ◌<◌, ◌≤◌, ◌∷◌, ◌↔◌, [], true, false, length, drop, slice_index, IsTrue, MatchOption, IfSome};
 ghost use Rattle.memchr.specs.Critical.{IsSuffixAt, IsCutPlace};
 ghost use Rattle.std.specs.declared.cmp.Ordering.TheVariants.{Less, Equal, Greater};
 ghost use Rattle.vortex_base.specs.Patterns.Like.{items};
@@ -47,7 +47,8 @@ enum Comparison<'a> {
 
 impl<'a> Letters<'a> {
     pub(super) fn of_pattern(pattern: Characters<'a>) -> Letters<'a>
-        ensures { letters result ≡ literal_prefix (items (characters pattern.entry)) }
+        ensures letters { letters result ≡ literal_prefix (items (characters pattern.entry)) }
+        ensures kind { result.of_pattern ≡ true }
     {
         Letters {
             rest: pattern,
@@ -72,7 +73,8 @@ impl<'a> Letters<'a> {
     }
 
     fn split_first(self) -> Option<(char, Letters<'a>)>
-        ensures { MatchOption result (letters self.entry ≡ []) (λ p. letters self.entry ≡ p.0 ∷ letters p.1) }
+        ensures first { MatchOption result (letters self.entry ≡ []) (λ p. letters self.entry ≡ p.0 ∷ letters p.1) }
+        ensures kind { IfSome result (λ p. p.1.of_pattern ≡ self.entry.of_pattern) }
     {
         if self.of_pattern {
             match next_item(self.rest) {
@@ -88,7 +90,8 @@ impl<'a> Letters<'a> {
     }
 
     fn end(self) -> Letters<'a>
-        ensures { letters result ≡ [] }
+        ensures left { letters result ≡ [] }
+        ensures kind { result.of_pattern ≡ self.entry.of_pattern }
     {
         Letters {
             rest: self.rest.end(),
@@ -97,7 +100,8 @@ impl<'a> Letters<'a> {
     }
 
     pub(super) fn skip(self, count: usize) -> Letters<'a>
-        ensures { letters result ≡ drop count (letters self.entry) }
+        ensures left { letters result ≡ drop count (letters self.entry) }
+        ensures kind { result.of_pattern ≡ self.entry.of_pattern }
     {
         let mut left = self;
         for _passed in 0..count {
@@ -247,7 +251,8 @@ fn cut_at(needle: Letters, count: usize, suffix: Suffix) -> Cut
 pub(super) fn from_first<'a>(needle: Letters<'a>, text: Letters<'a>, count: usize) -> Letters<'a>
     requires some { 0 < count }
     requires count { count ≡ length (letters needle) }
-    ensures { IsPast (letters needle.entry) (letters text.entry) (letters result) }
+    ensures kind { result.of_pattern ≡ text.entry.of_pattern }
+    ensures past { IsPast (letters needle.entry) (letters text.entry) (letters result) }
 {
     let Cut {
         critical,
@@ -264,7 +269,7 @@ pub(super) fn from_first<'a>(needle: Letters<'a>, text: Letters<'a>, count: usiz
     let mut compared = right;
     loop {
         match compare(compared, front, count - start) {
-            Comparison::Short => return front.end(),
+            Comparison::Short => return begin.end(),
             Comparison::Differs(same, rest) => {
                 begin = begin.skip(start - critical + same + 1);
                 front = rest;

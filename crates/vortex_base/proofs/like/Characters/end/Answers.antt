@@ -1,6 +1,5 @@
-use Rattle.std.proofs.Common.{◌≡◌, Bool, true, false, [], ap, sym, map, refl, ◌∙◌}
+use Rattle.std.proofs.Common.{◌≡◌, Bool, true, false, [], ap, refl, ◌∙◌}
 use Rattle.std.proofs.lemmas.Str.{chars-nil}
-use Rattle.std.specs.Str.{chars}
 use Rattle.vortex_base.specs.Patterns.Like.{folded}
 use Rattle.vortex_base.proofs.like.Characters.end.Goals as goal
 

@@ -1,14 +1,14 @@
-use Rattle.std.proofs.Common.{◌≡◌, ◌+◌, ◌-◌, ◌<◌, ◌≤◌, ◌⊎◌, inl, inr, ℕ, length, drop, max, slice_index, sym, ap, subst, ◌∙◌, arith, length-drop, ⊎_elim}
+use Rattle.std.proofs.Common.{◌≡◌, ◌+◌, ◌-◌, ◌<◌, ◌≤◌, ◌⊎◌, inl, inr, ℕ, length, drop, slice_index, sym, ap, subst, ◌∙◌, arith, length-drop, ⊎_elim}
 use Rattle.std.proofs.lemmas.List.{get_or-drop}
 use Rattle.std.proofs.lemmas.Bool.{cases_lt, false≢true}
 use Rattle.vortex_base.specs.Patterns.Substring.{letters, IsPast, StandsAt}
 use Rattle.vortex_base.proofs.Patterns.SubstringLemmas.{drop_sum, IsPast-then, right_same, past_difference, past_shift, past_all}
 use Rattle.vortex_base.proofs.like.substring.from_first.Goals as goal
 
-pub returns-in-Short : goal.returns-in-Short
-returns-in-Short c =
+pub returns-in-Short-clause-past : goal.returns-in-Short-clause-past
+returns-in-Short-clause-past c =
     let xs = letters c.args.needle in
-    let l = c.loop-front in
+    let l = c.loop-begin in
     let bs = letters l.begin in
     let v = l.invariant in
     let size = c.requires.count in
@@ -16,24 +16,24 @@ returns-in-Short c =
     let within = v.within in
     let front = ap length v.front in
     let left = length-drop l.start bs in
-    subst (IsPast xs (letters c.args.text)) (sym c.end.ensures) (IsPast-then v.past (past_all xs bs (omega arith)))
+    subst (IsPast xs (letters c.args.text)) (sym c.end.ensures.left) (IsPast-then v.past (past_all xs bs (omega arith)))
 
-pub loop-front-smaller-in-Differs : goal.loop-front-smaller-in-Differs
-loop-front-smaller-in-Differs c =
-    let l = c.loop-front in
+pub loop-begin-smaller-in-Differs : goal.loop-begin-smaller-in-Differs
+loop-begin-smaller-in-Differs c =
+    let l = c.loop-begin in
     let bs = letters l.begin in
     let v = l.invariant in
     let front = ap length v.front in
     let left = length-drop l.start bs in
     let room = c.in-Differs.ensures.1 in
-    let moved = ap length c.skip-begin.ensures in
+    let moved = ap length c.skip-begin.ensures.left in
     let fewer = length-drop (l.start - c.cut_in_two-critical.result.critical + c.in-Differs.same + 1) bs in
     omega arith
 
-pub loop-front-preserved-in-Differs : goal.loop-front-preserved-in-Differs
-loop-front-preserved-in-Differs c =
+pub loop-begin-preserved-in-Differs : goal.loop-begin-preserved-in-Differs
+loop-begin-preserved-in-Differs c =
     let xs = letters c.args.needle in
-    let l = c.loop-front in
+    let l = c.loop-begin in
     let bs = letters l.begin in
     let v = l.invariant in
     let critical = c.cut_in_two-critical.result.critical in
@@ -52,18 +52,19 @@ loop-front-preserved-in-Differs c =
     λ h. e.3 (ap (λ w. slice_index w i) v.compared ∙ get_or-drop l.start xs i 0 ∙ h ∙ ap (slice_index bs) place ∙ sym (get_or-drop l.start bs i 0) ∙ ap (λ w. slice_index w i) (sym v.front)) in
     let moved : l.start + (i + 1) ≡ s + critical = omega arith in
     record {
-      past = IsPast-then v.past (subst (IsPast xs bs) (sym c.skip-begin.ensures)
+      past = IsPast-then v.past (subst (IsPast xs bs) (sym c.skip-begin.ensures.left)
           (past_difference xs bs c.args.count c.requires.count critical cut.critical (l.start + i) s (omega arith) (omega arith) same differs (omega arith)));
+      kind = c.skip-begin.ensures.kind ∙ v.kind;
       known = λ k b. absurd (omega arith);
       start = omega arith;
       within = below;
-      compared = c.skip-right.ensures;
-      front = e.4 ∙ ap (drop (i + 1)) v.front ∙ drop_sum bs l.start (i + 1) ∙ ap (λ n. drop n bs) moved ∙ sym (drop_sum bs s critical) ∙ ap (drop critical) (sym c.skip-begin.ensures);
+      compared = c.skip-right.ensures.left;
+      front = e.4 ∙ ap (drop (i + 1)) v.front ∙ drop_sum bs l.start (i + 1) ∙ ap (λ n. drop n bs) moved ∙ sym (drop_sum bs s critical) ∙ ap (drop critical) (sym c.skip-begin.ensures.left);
     }
 
-pub loop-front-smaller : goal.loop-front-smaller
-loop-front-smaller c =
-    let l = c.loop-front in
+pub loop-begin-smaller : goal.loop-begin-smaller
+loop-begin-smaller c =
+    let l = c.loop-begin in
     let bs = letters l.begin in
     let v = l.invariant in
     let front = ap length v.front in
@@ -71,14 +72,14 @@ loop-front-smaller c =
     let within = v.within in
     let room = c.in-Same.ensures.0 in
     let some = c.cut_in_two-critical.ensures.some in
-    let moved = ap length c.skip-begin-in-Same.ensures in
+    let moved = ap length c.skip-begin-in-Same.ensures.left in
     let fewer = length-drop c.cut_in_two-critical.result.shift bs in
     omega arith
 
-pub loop-front-preserved : goal.loop-front-preserved
-loop-front-preserved c =
+pub loop-begin-preserved : goal.loop-begin-preserved
+loop-begin-preserved c =
     let xs = letters c.args.needle in
-    let l = c.loop-front in
+    let l = c.loop-begin in
     let bs = letters l.begin in
     let v = l.invariant in
     let m = c.args.count in
@@ -101,21 +102,22 @@ loop-front-preserved c =
     let right : (k : ℕ) → critical ≤ k → k < m → slice_index xs k ≡ slice_index bs (0 + k) = λ k a b. reads k a (omega arith) in
     let unlike : StandsAt xs bs 0 → ⊥ =
     λ o. false≢true (c.if-stands.ensures.1 (λ k b.
-        let known = c.if-known-critical.false in
-        let place : 0 + (l.known + k) ≡ l.known + k = omega arith in
-        ap (λ w. slice_index w k) c.skip.ensures ∙ get_or-drop l.known xs k 0 ∙ sym (o.reads (l.known + k) (omega arith)) ∙ ap (slice_index bs) place
-            ∙ sym (get_or-drop l.known bs k 0) ∙ ap (λ w. slice_index w k) (sym c.skip-in-Same.ensures))) in
+    let known = c.if-known-critical.false in
+    let place : 0 + (l.known + k) ≡ l.known + k = omega arith in
+    ap (λ w. slice_index w k) c.skip.ensures.left ∙ get_or-drop l.known xs k 0 ∙ sym (o.reads (l.known + k) (omega arith)) ∙ ap (slice_index bs) place
+    ∙ sym (get_or-drop l.known bs k 0) ∙ ap (λ w. slice_index w k) (sym c.skip-in-Same.ensures.left))) in
     let rest_at = c.max-most.result - (m - shift) in
     let there : m + rest_at ≡ shift + c.max-most.result = omega arith in
     record {
-      past = IsPast-then v.past (subst (IsPast xs bs) (sym c.skip-begin-in-Same.ensures) (past_shift xs bs m size critical cut.critical shift cut.none right unlike));
+      past = IsPast-then v.past (subst (IsPast xs bs) (sym c.skip-begin-in-Same.ensures.left) (past_shift xs bs m size critical cut.critical shift cut.none right unlike));
+      kind = c.skip-begin-in-Same.ensures.kind ∙ v.kind;
       known = λ k b.
           let kept = cut.kept k b in
           let place : 0 + (k + shift) ≡ shift + k = omega arith in
-          kept.1 ∙ right (k + shift) kept.0 (omega arith) ∙ ap (slice_index bs) place ∙ sym (get_or-drop shift bs k 0) ∙ ap (λ w. slice_index w k) (sym c.skip-begin-in-Same.ensures);
+          kept.1 ∙ right (k + shift) kept.0 (omega arith) ∙ ap (slice_index bs) place ∙ sym (get_or-drop shift bs k 0) ∙ ap (λ w. slice_index w k) (sym c.skip-begin-in-Same.ensures.left);
       start = most;
       within = omega arith;
-      compared = c.skip-beyond.ensures;
-      front = c.skip-front-in-Same.ensures ∙ ap (drop rest_at) (e.2 ∙ ap (drop i) v.front ∙ drop_sum bs l.start i ∙ ap (λ n. drop n bs) whole) ∙ drop_sum bs m rest_at
-          ∙ ap (λ n. drop n bs) there ∙ sym (drop_sum bs shift c.max-most.result) ∙ ap (drop c.max-most.result) (sym c.skip-begin-in-Same.ensures);
+      compared = c.skip-beyond.ensures.left;
+      front = c.skip-front-in-Same.ensures.left ∙ ap (drop rest_at) (e.2 ∙ ap (drop i) v.front ∙ drop_sum bs l.start i ∙ ap (λ n. drop n bs) whole) ∙ drop_sum bs m rest_at
+          ∙ ap (λ n. drop n bs) there ∙ sym (drop_sum bs shift c.max-most.result) ∙ ap (drop c.max-most.result) (sym c.skip-begin-in-Same.ensures.left);
     }

@@ -1,4 +1,4 @@
-use Rattle.std.proofs.Common.{◌≡◌, ◌+◌, ◌-◌, ◌<◌, ◌≤◌, ℕ, List, length, drop, slice_index, refl, sym, ap, subst, ◌∙◌, arith}
+use Rattle.std.proofs.Common.{◌≡◌, ◌+◌, ◌-◌, ◌≤◌, ℕ, List, drop, slice_index, refl, sym, ap, subst, ◌∙◌, arith}
 use Rattle.memchr.proofs.lemmas.SuffixLemmas.{IsScan, IsScan-accept, IsScan-skip, IsScan-push, IsScan-block, IsScan-end}
 use Rattle.vortex_base.specs.Patterns.Substring.{letters, Precedes}
 use Rattle.vortex_base.proofs.Patterns.SubstringLemmas.{IsStep-of, ended, drop_sum, Precedes-trans, Precedes-irrefl}
@@ -13,12 +13,12 @@ loop-current-preserved-in-Less c =
     let xs = letters c.args.needle in
     let l = c.loop-current in
     let v = l.invariant in
-    let a = IsStep-of xs (l.pos + l.offset) _ (letters l.before) (letters c.in-Some-Some.before_rest) v.before c.in-Some-Some.ensures in
-    let b = IsStep-of xs (l.candidate + l.offset) _ (letters l.after) (letters c.in-Some-Some.after_rest) v.after c.in-Some-Some.ensures' in
+    let a = IsStep-of xs (l.pos + l.offset) _ (letters l.before) (letters c.in-Some-Some.before_rest) v.before c.in-Some-Some.ensures.first in
+    let b = IsStep-of xs (l.candidate + l.offset) _ (letters l.after) (letters c.in-Some-Some.after_rest) v.after c.in-Some-Some.ensures'.first in
     let inside = b.inside in
     let size = c.requires.count in
     let won = c.in-Less.ensures.less refl in
-    let next = c.skip-at_candidate-in-Less.ensures ∙ ap (drop 1) v.at_candidate ∙ drop_sum xs l.candidate 1 in
+    let next = c.skip-at_candidate-in-Less.ensures.left ∙ ap (drop 1) v.at_candidate ∙ drop_sum xs l.candidate 1 in
     record {
       scan = IsScan-accept (Precedes r) (Precedes-trans r) (Precedes-irrefl r) (slice_index xs) c.args.count v.scan (omega arith)
           (subst (λ y. Precedes r y (slice_index xs (l.candidate + l.offset))) (sym a.is) (subst (Precedes r c.in-Some-Some.current) (sym b.is) won));
@@ -34,8 +34,8 @@ loop-current-preserved-in-Greater c =
     let xs = letters c.args.needle in
     let l = c.loop-current in
     let v = l.invariant in
-    let a = IsStep-of xs (l.pos + l.offset) _ (letters l.before) (letters c.in-Some-Some.before_rest) v.before c.in-Some-Some.ensures in
-    let b = IsStep-of xs (l.candidate + l.offset) _ (letters l.after) (letters c.in-Some-Some.after_rest) v.after c.in-Some-Some.ensures' in
+    let a = IsStep-of xs (l.pos + l.offset) _ (letters l.before) (letters c.in-Some-Some.before_rest) v.before c.in-Some-Some.ensures.first in
+    let b = IsStep-of xs (l.candidate + l.offset) _ (letters l.after) (letters c.in-Some-Some.after_rest) v.after c.in-Some-Some.ensures'.first in
     let inside = b.inside in
     let size = c.requires.count in
     let lost = c.in-Greater.ensures.greater refl in
@@ -56,8 +56,8 @@ loop-current-preserved-then-offset-period c =
     let xs = letters c.args.needle in
     let l = c.loop-current in
     let v = l.invariant in
-    let a = IsStep-of xs (l.pos + l.offset) _ (letters l.before) (letters c.in-Some-Some.before_rest) v.before c.in-Some-Some.ensures in
-    let b = IsStep-of xs (l.candidate + l.offset) _ (letters l.after) (letters c.in-Some-Some.after_rest) v.after c.in-Some-Some.ensures' in
+    let a = IsStep-of xs (l.pos + l.offset) _ (letters l.before) (letters c.in-Some-Some.before_rest) v.before c.in-Some-Some.ensures.first in
+    let b = IsStep-of xs (l.candidate + l.offset) _ (letters l.after) (letters c.in-Some-Some.after_rest) v.after c.in-Some-Some.ensures'.first in
     let inside = b.inside in
     let size = c.requires.count in
     let eq = a.is ∙ c.in-Equal.ensures.equal refl ∙ sym b.is in
@@ -76,8 +76,8 @@ loop-current-preserved c =
     let xs = letters c.args.needle in
     let l = c.loop-current in
     let v = l.invariant in
-    let a = IsStep-of xs (l.pos + l.offset) _ (letters l.before) (letters c.in-Some-Some.before_rest) v.before c.in-Some-Some.ensures in
-    let b = IsStep-of xs (l.candidate + l.offset) _ (letters l.after) (letters c.in-Some-Some.after_rest) v.after c.in-Some-Some.ensures' in
+    let a = IsStep-of xs (l.pos + l.offset) _ (letters l.before) (letters c.in-Some-Some.before_rest) v.before c.in-Some-Some.ensures.first in
+    let b = IsStep-of xs (l.candidate + l.offset) _ (letters l.after) (letters c.in-Some-Some.after_rest) v.after c.in-Some-Some.ensures'.first in
     let inside = b.inside in
     let size = c.requires.count in
     let eq = a.is ∙ c.in-Equal.ensures.equal refl ∙ sym b.is in
@@ -98,7 +98,7 @@ returns-in_default c =
     let xs = letters c.args.needle in
     let l = c.loop-current in
     let v = l.invariant in
-    let over = ended xs (l.candidate + l.offset) (letters l.after) v.after c.in_default.ensures' in
+    let over = ended xs (l.candidate + l.offset) (letters l.after) v.after c.in_default.ensures'.first in
     let size = c.requires.count in
     let within = v.scan.within in
     IsScan-end (Precedes r) (Precedes-trans r) (Precedes-irrefl r) (slice_index xs) c.args.count v.scan (omega arith)
@@ -109,7 +109,7 @@ returns-in_default-2 c =
     let xs = letters c.args.needle in
     let l = c.loop-current in
     let v = l.invariant in
-    let over = ended xs (l.pos + l.offset) (letters l.before) v.before c.in_default.ensures in
+    let over = ended xs (l.pos + l.offset) (letters l.before) v.before c.in_default.ensures.first in
     let size = c.requires.count in
     let within = v.scan.within in
     let ahead = v.scan.aligned in

@@ -1,4 +1,4 @@
-use Rattle.std.proofs.Common.{◌≡◌, ◌+◌, ◌-◌, ◌*◌, length, drop, slice_index}
+use Rattle.std.proofs.Common.{◌≡◌, ◌+◌, ◌-◌, ◌*◌, drop, slice_index}
 use Rattle.memchr.proofs.lemmas.SuffixLemmas.{IsScan}
 use Rattle.vortex_base.specs.Patterns.Substring.{letters, Precedes}
 use Rattle.vortex_base.proofs.like.substring.greatest_suffix.Given as goal
