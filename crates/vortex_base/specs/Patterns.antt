@@ -1,4 +1,6 @@
 -- Patterns of LIKE.
 pub mod Like
 pub mod LikeSearch
+pub mod Piece
 pub mod Prefix
+pub mod Substring

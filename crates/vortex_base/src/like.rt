@@ -1,14 +1,26 @@
 //! LIKE: whether a text matches a pattern.
 //!
 //! `%` stands for any run of characters, `_` for any one character, and `\` makes the next
-//! character literal. The search goes back to the last `%` alone, so it takes at most as many steps
-//! as the pattern has characters times the text's.
+//! character literal. The search goes back to the last `%` alone. Where its attempts take too many
+//! steps, a run of letters between two `%` is found by the two-way search, and what follows the last
+//! `%` is compared at the text's end alone. So the search takes linear time, but for a run with `_`
+//! between two `%`, which may take its length times the text's.
 ghost use Rattle.std.specs.Prelude.{◌≡◌, ◌<◌, ◌≤◌, ◌∷◌, [], List, length, MatchOption, IfSome};
 ghost use Rattle.std.specs.Str.{chars};
 ghost use Rattle.vortex_base.specs.Patterns.Like.{items, like, some_end};
 ghost use Rattle.vortex_base.specs.declared.like.Item.{Item};
 ghost use Rattle.vortex_base.specs.declared.like.Item.TheVariants.{Char};
 ghost use Rattle.vortex_base.specs.Patterns.LikeSearch.{characters, reached, stop};
+
+mod piece;
+mod substring;
+
+use piece::from_piece;
+
+// What the attempts at one place after another may spend at first, and for each place.
+const PATIENCE: usize = 256;
+
+const PATIENCE_AT_PLACE: usize = 4;
 
 /// How a text is compared with a pattern. The default regards case and is not negated.
 #[derive(Clone, Copy, Debug, Default, PartialEq, Eq)]
@@ -55,7 +67,8 @@ pub enum Item {
 /// Where the items before a pattern's first run end.
 #[derive(Clone, Copy)]
 enum Front<'a> {
-    Mismatch,
+    /// After so many items that matched.
+    Mismatch(usize),
     Whole,
     BeforeRun(Characters<'a>, Characters<'a>),
 }
@@ -75,6 +88,23 @@ impl<'a> Characters<'a> {
         Characters {
             text,
             ignore_case: false,
+        }
+    }
+
+    // No fewer than the characters that are left.
+    fn most(self) -> usize
+        ensures { length (characters self.entry) ≤ result }
+    {
+        self.text.len()
+    }
+
+    // What is left at the text's end.
+    fn end(self) -> Characters<'a>
+        ensures { characters result ≡ [] }
+    {
+        Characters {
+            text: "",
+            ignore_case: self.ignore_case,
         }
     }
 
@@ -114,22 +144,24 @@ pub(crate) fn next_item<'a>(pattern: Characters<'a>) -> Option<(Item, Characters
 fn match_front<'a>(mut pattern: Characters<'a>, mut text: Characters<'a>) -> Front<'a>
     ensures { reached result ≡ stop (items (characters pattern.entry)) (characters text.entry) }
 {
+    let mut steps: usize = 0;
     while let Some((item, rest)) = next_item(pattern) {
         pattern = rest;
         match item {
             Item::AnyRun => return Front::BeforeRun(pattern, text),
             Item::AnyChar => match text.split_first() {
                 Some((_, rest)) => text = rest,
-                None => return Front::Mismatch,
+                None => return Front::Mismatch(steps),
             },
             Item::Char(literal) => match text.split_first() {
                 Some((first, rest)) if first == literal => text = rest,
-                _ => return Front::Mismatch,
+                _ => return Front::Mismatch(steps),
             },
         }
+        steps = steps.saturating_add(1);
     }
     match text.split_first() {
-        Some(_) => Front::Mismatch,
+        Some(_) => Front::Mismatch(steps),
         None => Front::Whole,
     }
 }
@@ -138,7 +170,7 @@ fn is_match<'a>(pattern: Characters<'a>, text: Characters<'a>) -> bool
     ensures { result ≡ like (items (characters pattern.entry)) (characters text.entry) }
 {
     match match_front(pattern, text) {
-        Front::Mismatch => false,
+        Front::Mismatch(_) => false,
         Front::Whole => true,
         Front::BeforeRun(pattern, text) => is_match_at_some_end(pattern, text),
     }
@@ -177,6 +209,7 @@ fn from_chance<'a>(pattern: Characters<'a>, text: Characters<'a>) -> Characters<
 fn is_match_at_some_end<'a>(mut pattern: Characters<'a>, mut text: Characters<'a>) -> bool
     ensures { result ≡ some_end (like (items (characters pattern.entry))) (characters text.entry) }
 {
+    let mut patience = PATIENCE;
     loop {
         match match_front(pattern, text) {
             Front::Whole => return true,
@@ -184,8 +217,15 @@ fn is_match_at_some_end<'a>(mut pattern: Characters<'a>, mut text: Characters<'a
                 text = from_chance(next, rest);
                 pattern = next;
             }
-            Front::Mismatch => match text.split_first() {
-                Some((_, rest)) => text = from_chance(pattern, rest),
+            Front::Mismatch(steps) => match text.split_first() {
+                Some((_, rest)) => {
+                    if steps > patience {
+                        text = from_piece(pattern, rest);
+                    } else {
+                        patience = (patience - steps).saturating_add(PATIENCE_AT_PLACE);
+                        text = from_chance(pattern, rest);
+                    }
+                }
                 None => return false,
             },
         }

@@ -104,3 +104,105 @@ fn many_runs_end_at_once(rt: HostRuntime) -> Result<(), Fail> {
     assert!(rt; !is_like(text.as_str(), "%a%a%a%a%a%a%a%a%b"));
     Ok(())
 }
+
+fn repeated(alloc: Global, part: &str, count: usize, last: &str) -> Result<String, AllocError> {
+    let mut text = String::new(alloc);
+    for _ in 0..count {
+        text.push_str(part)?;
+    }
+    text.push_str(last)?;
+    Ok(text)
+}
+
+// `%`, the letters, and what follows them.
+fn anywhere(alloc: Global, letters: &str, count: usize, last: &str) -> Result<String, AllocError> {
+    let run = repeated(alloc, letters, count, last)?;
+    repeated(alloc, "%", 1, run.as_str())
+}
+
+#[test]
+fn a_long_run_of_letters_takes_linear_time(rt: HostRuntime) -> Result<(), Fail> {
+    let text = text_of_a(rt.alloc(), 40000)?;
+    let pattern = anywhere(rt.alloc(), "a", 20000, "b%")?;
+    assert!(rt; !is_like(text.as_str(), pattern.as_str()));
+    assert!(rt; !is_ilike(text.as_str(), pattern.as_str()));
+    Ok(())
+}
+
+#[test]
+fn a_periodic_run_is_found_at_the_end(rt: HostRuntime) -> Result<(), Fail> {
+    let text = repeated(rt.alloc(), "ab", 2000, "b")?;
+    let there = anywhere(rt.alloc(), "ab", 1000, "b%")?;
+    let missing = anywhere(rt.alloc(), "ab", 1000, "bb%")?;
+    assert!(rt; is_like(text.as_str(), there.as_str()));
+    assert!(rt; is_ilike(text.as_str(), there.as_str()));
+    assert!(rt; !is_like(text.as_str(), missing.as_str()));
+    assert!(rt; !is_ilike(text.as_str(), missing.as_str()));
+    Ok(())
+}
+
+#[test]
+fn pieces_do_not_overlap(rt: HostRuntime) -> Result<(), Fail> {
+    let front = repeated(rt.alloc(), "ab", 1000, "")?;
+    let twice = anywhere(rt.alloc(), "ab", 1000, "ba%ba%")?;
+    let overlapping = repeated(rt.alloc(), front.as_str(), 2, "ba")?;
+    let apart = repeated(rt.alloc(), front.as_str(), 2, "baba")?;
+    assert!(rt; !is_like(overlapping.as_str(), twice.as_str()));
+    assert!(rt; is_like(apart.as_str(), twice.as_str()));
+    assert!(rt; !is_like("xababax", "%aba%ba%"));
+    assert!(rt; is_like("xabababax", "%aba%ba%"));
+    Ok(())
+}
+
+#[test]
+fn a_long_run_may_have_escapes(rt: HostRuntime) -> Result<(), Fail> {
+    let text = repeated(rt.alloc(), "a%", 2000, "_b")?;
+    let there = anywhere(rt.alloc(), "\\a\\%", 1000, "\\_%")?;
+    let missing = anywhere(rt.alloc(), "\\a\\%", 1000, "\\_a%")?;
+    assert!(rt; is_like(text.as_str(), there.as_str()));
+    assert!(rt; !is_like(text.as_str(), missing.as_str()));
+    Ok(())
+}
+
+#[test]
+fn a_long_run_may_ignore_case(rt: HostRuntime) -> Result<(), Fail> {
+    let text = repeated(rt.alloc(), "aB", 2000, "Cx")?;
+    let pattern = anywhere(rt.alloc(), "Ab", 1000, "c%")?;
+    assert!(rt; is_ilike(text.as_str(), pattern.as_str()));
+    assert!(rt; !is_like(text.as_str(), pattern.as_str()));
+    Ok(())
+}
+
+#[test]
+fn a_long_run_may_have_characters_of_several_bytes(rt: HostRuntime) -> Result<(), Fail> {
+    let text = repeated(rt.alloc(), "é日", 2000, "😀é")?;
+    let there = anywhere(rt.alloc(), "é日", 1000, "😀%")?;
+    let missing = anywhere(rt.alloc(), "é日", 1000, "😀日%")?;
+    assert!(rt; is_like(text.as_str(), there.as_str()));
+    assert!(rt; !is_like(text.as_str(), missing.as_str()));
+    Ok(())
+}
+
+#[test]
+fn the_last_piece_is_compared_at_the_end(rt: HostRuntime) -> Result<(), Fail> {
+    let text = text_of_a(rt.alloc(), 4000)?;
+    let last = anywhere(rt.alloc(), "a", 2000, "")?;
+    let other = anywhere(rt.alloc(), "a", 2000, "b")?;
+    let any_char = anywhere(rt.alloc(), "a_", 1000, "")?;
+    let too_long = anywhere(rt.alloc(), "a", 4000, "b")?;
+    assert!(rt; is_like(text.as_str(), last.as_str()));
+    assert!(rt; !is_like(text.as_str(), other.as_str()));
+    assert!(rt; is_like(text.as_str(), any_char.as_str()));
+    assert!(rt; !is_like(text.as_str(), too_long.as_str()));
+    Ok(())
+}
+
+#[test]
+fn any_character_may_stand_in_a_long_piece(rt: HostRuntime) -> Result<(), Fail> {
+    let text = repeated(rt.alloc(), "a", 1000, "bc")?;
+    let there = anywhere(rt.alloc(), "a", 400, "_c%")?;
+    let missing = anywhere(rt.alloc(), "a", 400, "_d%")?;
+    assert!(rt; is_like(text.as_str(), there.as_str()));
+    assert!(rt; !is_like(text.as_str(), missing.as_str()));
+    Ok(())
+}

@@ -29,6 +29,6 @@ stop (AnyRun ∷ is) cs = BeforeRun is cs
 
 -- the stop that a front is
 abbrev pub reached : Front → Stop
-reached front.Mismatch = Mismatch
+reached (front.Mismatch steps) = Mismatch
 reached front.Whole = Whole
 reached (front.BeforeRun p t) = BeforeRun (items (characters p)) (characters t)

@@ -22,12 +22,19 @@ loop-next-preserved-in-BeforeRun c =
     (some_end-at_run (items (characters c.loop-next.pattern)) (items (characters c.in-BeforeRun.next)) (characters c.loop-next.text) (characters c.in-BeforeRun.rest)
     (sym c.in-BeforeRun.ensures)) ∙ c.loop-next.invariant
 
+pub loop-next-preserved-then-steps-patience : goal.loop-next-preserved-then-steps-patience
+loop-next-preserved-then-steps-patience c =
+    let is = items (characters c.loop-next.pattern) in
+    let text : characters c.loop-next.text ≡ c.in-Some.field-0-0 ∷ characters c.in-Some.rest = c.in-Some.ensures in
+    let here : stop is (c.in-Some.field-0-0 ∷ characters c.in-Some.rest) ≡ Mismatch = ap (stop is) (sym text) ∙ sym c.in-Mismatch.ensures in
+    c.from_piece-text.ensures.same ∙ sym (some_end-at_mismatch is c.in-Some.field-0-0 (characters c.in-Some.rest) here) ∙ ap (some_end (like is)) (sym text) ∙ c.loop-next.invariant
+
 pub loop-next-preserved : goal.loop-next-preserved
 loop-next-preserved c =
     let is = items (characters c.loop-next.pattern) in
     let text : characters c.loop-next.text ≡ c.in-Some.field-0-0 ∷ characters c.in-Some.rest = c.in-Some.ensures in
     let here : stop is (c.in-Some.field-0-0 ∷ characters c.in-Some.rest) ≡ Mismatch = ap (stop is) (sym text) ∙ sym c.in-Mismatch.ensures in
-    c.from_chance-text-in-Some.ensures.same ∙ sym (some_end-at_mismatch is c.in-Some.field-0-0 (characters c.in-Some.rest) here) ∙ ap (some_end (like is)) (sym text) ∙ c.loop-next.invariant
+    c.from_chance-text-else-steps-patience.ensures.same ∙ sym (some_end-at_mismatch is c.in-Some.field-0-0 (characters c.in-Some.rest) here) ∙ ap (some_end (like is)) (sym text) ∙ c.loop-next.invariant
 
 pub returns-in-None : goal.returns-in-None
 returns-in-None c =
