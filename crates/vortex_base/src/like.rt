@@ -2,9 +2,9 @@
 //!
 //! `%` stands for any run of characters, `_` for any one character, and `\` makes the next
 //! character literal. The search goes back to the last `%` alone. Where its attempts take too many
-//! steps, a run of letters between two `%` is found by the two-way search, and what follows the last
-//! `%` is compared at the text's end alone. So the search takes linear time, but for a run with `_`
-//! between two `%`, which may take its length times the text's.
+//! steps, a run of letters between two `%` is found by the two-way search, and what follows the
+//! last `%` is compared at the text's end alone. So the search takes linear time, but for a run
+//! with `_` between two `%`, which may take its length times the text's.
 ghost use Rattle.std.specs.Prelude.{◌≡◌, ◌<◌, ◌≤◌, ◌∷◌, [], List, length, MatchOption, IfSome};
 ghost use Rattle.std.specs.Str.{chars};
 ghost use Rattle.vortex_base.specs.Patterns.Like.{items, like, some_end};

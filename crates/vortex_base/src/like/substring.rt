@@ -73,7 +73,8 @@ impl<'a> Letters<'a> {
     }
 
     fn split_first(self) -> Option<(char, Letters<'a>)>
-        ensures first { MatchOption result (letters self.entry ≡ []) (λ p. letters self.entry ≡ p.0 ∷ letters p.1) }
+        ensures first { MatchOption result (letters self.entry ≡ [])
+            (λ p. letters self.entry ≡ p.0 ∷ letters p.1) }
         ensures kind { IfSome result (λ p. p.1.of_pattern ≡ self.entry.of_pattern) }
     {
         if self.of_pattern {
@@ -159,7 +160,8 @@ fn order(reversed: bool, a: char, b: char) -> Ordering
 fn greatest_suffix(needle: Letters, reversed: bool, count: usize) -> Suffix
     requires some { 0 < count }
     requires count { count ≡ length (letters needle) }
-    ensures { IsSuffixAt (Precedes reversed) (slice_index (letters needle.entry)) count result.pos result.period }
+    ensures { IsSuffixAt (Precedes reversed) (slice_index (letters needle.entry)) count
+        result.pos result.period }
 {
     let (mut pos, mut period) = (0, 1);
     let (mut candidate, mut offset) = (1, 0);
