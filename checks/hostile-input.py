@@ -120,8 +120,7 @@ def late_statistics():
     count = 65_535
     row = b"part\nrow" + b" 7" * count + b"\n"
     stats = b"".join(b"stat c%d max exact 7\nstat c%d null_count exact 0\n" % (place, place) for place in range(count))
-    yield "one part before", columns_of(count) + row + b"part\n" + stats + b"where gt col c65534 lit u8 7\n"
-    yield "100 parts before", columns_of(count) + b"part\n" * 100 + stats + b"where gt col c65534 lit u8 7\n"
+    yield "65,535 columns with late statistics", columns_of(count) + row + b"part\n" + stats + b"where gt col c65534 lit u8 7\n"
 
 
 def names_looked_up():
@@ -157,7 +156,7 @@ def long_patterns():
 
 def many_tests():
     """As many LIKEs and BETWEENs as a line holds, over one long text."""
-    text = b"column s utf8\npart\nrow \"" + b"aab" * 300_000 + b"\"\nwhere "
+    text = b"column s utf8\npart\nrow \"" + b"aab" * 100_000 + b"\"\nwhere "
     likes = [b"like col s lit utf8 \"%%%sbb%d%%\"" % (b"a" * (place % 9), place) for place in range(584)]
     betweens = [b"between <= <= col s lit utf8 \"%s\" lit utf8 \"%s%d\"" % (b"aab" * 4_000 + b"b", b"aab" * 4_000 + b"b", place) for place in range(341)]
     yield "584 LIKEs", text + b"or " * 583 + b" ".join(likes) + b"\n"
