@@ -5,7 +5,7 @@ set -eu
 here="$(cd "$(dirname "$0")" && pwd)"
 runs="${1:-5}"
 program="$here/../crates/vortex_scan/out/vortex_scan"
-[ -x "$program" ] || "$here/../scan" < "$here/../examples/first-run.txt" > /dev/null
+"$here/../scan" --build
 mkdir -p "$here/data"
 plain=()
 if command -v rustc > /dev/null; then
@@ -24,7 +24,7 @@ done
 # calls of a set of statistics. Then ten scans of 200,000 parts of one column, and of 2,000 parts of 30 columns, by a
 # binder for each part and by one for their table; the time to make parts and table alone stands beside them.
 layer="$here/../crates/vortex_bench/out/vortex_bench"
-[ -x "$layer" ] || (cd "$here/../crates/vortex_bench" && echo like | rt run > /dev/null 2>&1)
+"$here/../checks/build.py" vortex_bench
 for work in like evaluate set get merge narrow_table narrow_binders narrow_zones wide_table wide_binders wide_zones; do
     echo "$work" > "$here/data/$work.txt"
     python3 "$here/measure.py" "$runs" "$here/data/$work.txt" "$layer"

@@ -5,21 +5,21 @@ import sys
 from concurrent.futures import ThreadPoolExecutor
 
 TOP = os.path.dirname(os.path.dirname(os.path.abspath(__file__)))
-PROGRAM = os.environ.get("PROGRAM", os.path.join(TOP, "crates/vortex_scan/out/vortex_scan"))
+BUILT = os.path.join(TOP, "crates/vortex_scan/out/vortex_scan")
+PROGRAM = os.environ.get("PROGRAM", BUILT)
 PLAIN = os.path.join(TOP, "bench/data/plain")
 # How many runs go on side by side.
 WORKERS = 2
 
 
 def build_program():
-    """Proves and builds the program where it isn't built yet."""
-    if not os.access(PROGRAM, os.X_OK):
-        with open(os.path.join(TOP, "examples/first-run.txt"), "rb") as first:
-            subprocess.run([os.path.join(TOP, "scan")], stdin=first, stdout=subprocess.DEVNULL, check=True)
+    """Proves and builds the program where its sources have changed, unless another one is to be run."""
+    if PROGRAM == BUILT:
+        subprocess.run([os.path.join(TOP, "scan"), "--build"], check=True)
 
 
 def build():
-    """Builds both programs; the proved one only where it isn't there yet."""
+    """Builds both programs; the proved one only where its sources have changed."""
     build_program()
     os.makedirs(os.path.dirname(PLAIN), exist_ok=True)
     main = os.path.join(TOP, "bench/plain/main.rs")

@@ -3,7 +3,7 @@
 set -u
 here="$(cd "$(dirname "$0")" && pwd)"
 program="$here/../crates/vortex_scan/out/vortex_scan"
-[ -x "$program" ] || "$here/../scan" < "$here/first-run.txt" > /dev/null
+"$here/../scan" --build || exit
 passed=0
 failed=0
 for input in "$here"/*.txt; do

@@ -1,0 +1,225 @@
+#!/usr/bin/env python3
+"""Proves and builds a program of the repository where its sources have changed, and says on standard error how far it is.
+
+usage: checks/build.py [NAME]    builds crates/NAME/out/NAME, by default vortex_scan, and prints nothing on standard output
+       checks/build.py --run     builds vortex_scan, and runs it in its own place, on the same standard input
+
+Crates that don't stand on each other are proved side by side where memory allows. An interrupted build goes on where
+it was: `rt` keeps in each crate's out/ what it has proved. The status is 70 where something isn't proved or built.
+"""
+import fcntl
+import hashlib
+import os
+import re
+import shutil
+import signal
+import subprocess
+import sys
+import threading
+import time
+
+TOP = os.path.dirname(os.path.dirname(os.path.abspath(__file__)))
+SOURCES = ("src", "specs", "proofs")
+# The top of copies of crates, to prove one beside another: only one `rt` at a time works in a crate's folder and in those below it.
+BESIDE = os.path.join(TOP, "out")
+# What the proofs of vortex_scan take on one processor, and the memory that each of several processes takes.
+MINUTES = 40
+BYTES_A_JOB = 1_500_000_000
+NOT_BUILT = 70
+# How often a line is written where standard error is no terminal.
+SECONDS_A_LINE = 30
+
+
+def crates_below(program):
+    """The program and the crates of the repository below it, each with those that it names, lowest first."""
+    with open(f"{TOP}/crates.txt", encoding="utf-8") as listed:
+        rows = [line.partition("#")[0].partition(":") for line in listed]
+    named = {name.strip(): libraries.split() for name, colon, libraries in rows if colon}
+    found = {}
+
+    def visit(name):
+        own = [it for it in named[name] if it in named]
+        for it in own:
+            visit(it)
+        found[name] = own
+
+    visit(program)
+    return found
+
+
+def sum_of(crates, program):
+    """A sum of the built program, its sources and the toolchain, or None where nothing is built."""
+    if not os.access(program, os.X_OK):
+        return None
+    folders = [f"{TOP}/crates/{name}/{part}" for name in crates for part in SOURCES]
+    files = [f"{at}/{name}" for it in folders for at, _, names in os.walk(it) for name in names]
+    found = hashlib.sha256(subprocess.run(["rt", "version"], stdout=subprocess.PIPE, check=True).stdout)
+    for file in sorted([*files, f"{TOP}/crates.txt", program]):
+        with open(file, "rb") as it:
+            found.update(f"\n{os.path.relpath(file, TOP)} {os.path.getsize(file)}\n".encode() + it.read())
+    return found.hexdigest()
+
+
+def text_of(file):
+    if not os.path.isfile(file):
+        return None
+    with open(file, encoding="utf-8") as it:
+        return it.read()
+
+
+def free_bytes():
+    return 1024 * int(re.search(r"MemAvailable:\s+(\d+)", text_of("/proc/meminfo"))[1])
+
+
+def link(file, to):
+    """Gives a file a second name, or copies it where it can't have one."""
+    try:
+        os.link(file, to)
+    except OSError:
+        shutil.copy2(file, to)
+
+
+def put_beside(crates, name):
+    """Moves what is proved of a crate, and copies its sources and the built crates below it, so that it is proved there."""
+    below = set(crates[name])
+    for it in reversed(list(crates)):
+        below.update(crates[it] if it in below else ())
+    for it in (name, *below):
+        for part in (*SOURCES, *(("out/rlib",) if it in below else ())):
+            if os.path.isdir(f"{TOP}/crates/{it}/{part}"):
+                shutil.copytree(f"{TOP}/crates/{it}/{part}", f"{BESIDE}/crates/{it}/{part}", copy_function=link)
+    if os.path.isdir(f"{TOP}/crates/{name}/out"):
+        os.rename(f"{TOP}/crates/{name}/out", f"{BESIDE}/crates/{name}/out")
+    rows = [line for line in text_of(f"{TOP}/crates.txt").split("\n") if line.partition(":")[0] in (name, *below)]
+    with open(f"{BESIDE}/crates.txt", "w", encoding="utf-8") as it:
+        it.write("\n".join(rows) + "\n")
+
+
+def put_back():
+    """Moves what was proved beside other crates, whole or in part, to where it belongs."""
+    for name in os.listdir(f"{BESIDE}/crates") if os.path.isdir(f"{BESIDE}/crates") else ():
+        if not os.path.exists(f"{TOP}/crates/{name}/out") and os.path.isdir(f"{BESIDE}/crates/{name}/out"):
+            os.rename(f"{BESIDE}/crates/{name}/out", f"{TOP}/crates/{name}/out")
+    shutil.rmtree(BESIDE, ignore_errors=True)
+
+
+class Run:
+    """A run of `rt` on one crate, which says how many of its functions are checked."""
+
+    def __init__(self, name, is_program, top, jobs):
+        self.name, self.is_program, self.top, self.far, self.said = name, is_program, top, name, []
+        words = ["rt", "run" if is_program else "lib", "--jobs", str(jobs)]
+        # `rt run` tells of its work on standard error, and then runs the program.
+        streams = {"stdout": subprocess.DEVNULL, "stderr": subprocess.PIPE} if is_program else {"stdout": subprocess.PIPE, "stderr": subprocess.STDOUT}
+        how = {"cwd": f"{top}/crates/{name}", "stdin": subprocess.DEVNULL, "text": True, "errors": "replace"}
+        self.process = subprocess.Popen(words, **how, **streams)
+        self.reader = threading.Thread(target=self.read, daemon=True)
+        self.reader.start()
+
+    def read(self):
+        for line in self.process.stderr if self.is_program else self.process.stdout:
+            found = re.match(r"so far: (\d+) of (\d+) functions", line)
+            if found:
+                self.far = f"{self.name} {found[1]} of {found[2]} functions"
+            elif not re.match(r"fn \S+: proved$", line):
+                self.said.append(line)
+
+    def is_built(self):
+        """Whether an ended run has built its crate: the status of `rt run` can be the program's own."""
+        self.reader.join()
+        return any(it.startswith("rt: running ") for it in self.said) if self.is_program else self.process.returncode == 0
+
+
+class Progress:
+    """What is told of a build: one line that is written anew on a terminal, and else a line now and then."""
+
+    def __init__(self):
+        self.is_terminal, self.start, self.last = sys.stderr.isatty(), time.monotonic(), 0
+
+    def tell(self, text):
+        passed = int(time.monotonic() - self.start)
+        line = f"proving: {text}; {passed // 60}:{passed % 60:02}"
+        if self.is_terminal:
+            print("\r\x1b[K" + line[: shutil.get_terminal_size().columns - 1], end="", file=sys.stderr, flush=True)
+        elif passed >= self.last + SECONDS_A_LINE:
+            self.last = passed
+            print(line, file=sys.stderr, flush=True)
+
+    def end(self):
+        if self.is_terminal:
+            print(file=sys.stderr)
+
+
+def build(crates, jobs, progress):
+    """Proves and builds each crate once those below it are built, at most two at a time. Returns the run that failed, if one did."""
+    runs, done = [], []
+    try:
+        while len(done) < len(crates):
+            ready = [it for it in crates if it not in done and it not in [run.name for run in runs] and set(crates[it]) <= set(done)]
+            for name in ready:
+                is_shared = len(ready) + len(runs) > 1
+                share = jobs // 2 + 1 if is_shared else jobs
+                if len(runs) == 0 or len(runs) == 1 and free_bytes() > 2 * (share + 1) * BYTES_A_JOB:
+                    is_beside = any(run.top == TOP for run in runs)
+                    if is_beside:
+                        put_beside(crates, name)
+                    runs.append(Run(name, name == list(crates)[-1], BESIDE if is_beside else TOP, share))
+            time.sleep(0.2)
+            for run in [it for it in runs if it.process.poll() is not None]:
+                if not run.is_built():
+                    return run
+                runs.remove(run)
+                done.append(run.name)
+                if run.top == BESIDE:
+                    put_back()
+            progress.tell(", ".join([f"{len(done)} of {len(crates)} crates done", *[it.far for it in runs]]))
+    finally:
+        progress.end()
+        for run in runs:
+            run.process.terminate()
+        for run in runs:
+            run.process.wait()
+        put_back()
+    return None
+
+
+def built(name):
+    """Builds a program unless the built one is of the sources as they stand, and returns its file, or None if that fails."""
+    crates, program = crates_below(name), f"{TOP}/crates/{name}/out/{name}"
+    with open(f"{TOP}/crates.txt", encoding="utf-8") as held:
+        try:
+            fcntl.flock(held, fcntl.LOCK_EX | fcntl.LOCK_NB)
+        except BlockingIOError:
+            print("proving: another build is going on, which this one waits for", file=sys.stderr, flush=True)
+            fcntl.flock(held, fcntl.LOCK_EX)
+        put_back()
+        if text_of(f"{program}.sum") == (sum_of(crates, program) or ""):
+            return program
+        jobs = int(max(1, min(len(os.sched_getaffinity(0)), free_bytes() // BYTES_A_JOB - 1)))
+        print(
+            f"proving: {name} is proved before it runs. From nothing that takes about {MINUTES // jobs} minutes on"
+            f" {jobs} processors; an interrupted run goes on where it was.",
+            file=sys.stderr,
+            flush=True,
+        )
+        failed = build(crates, jobs, Progress())
+        if failed:
+            print(*failed.said, f"proving: {failed.name} is not proved or not built, as said above", sep="", file=sys.stderr)
+            return None
+        with open(f"{program}.sum", "w", encoding="utf-8") as it:
+            it.write(sum_of(crates, program))
+    return program
+
+
+def main(words):
+    for it in (signal.SIGTERM, signal.SIGHUP, signal.SIGINT):
+        signal.signal(it, lambda number, _: sys.exit(128 + number))
+    runs = words == ["--run"]
+    program = built("vortex_scan" if runs or not words else words[0])
+    if program and runs:
+        signal.signal(signal.SIGPIPE, signal.SIG_DFL)
+        os.execv(program, [program])
+    return 0 if program else NOT_BUILT
+
+
+sys.exit(main(sys.argv[1:]))
