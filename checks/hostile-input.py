@@ -156,7 +156,7 @@ def long_patterns():
 
 def many_tests():
     """As many LIKEs and BETWEENs as a line holds, over one long text."""
-    text = b"column s utf8\npart\nrow \"" + b"aab" * 100_000 + b"\"\nwhere "
+    text = b"column s utf8\npart\nrow \"" + b"aab" * 50_000 + b"\"\nwhere "
     likes = [b"like col s lit utf8 \"%%%sbb%d%%\"" % (b"a" * (place % 9), place) for place in range(584)]
     betweens = [b"between <= <= col s lit utf8 \"%s\" lit utf8 \"%s%d\"" % (b"aab" * 4_000 + b"b", b"aab" * 4_000 + b"b", place) for place in range(341)]
     yield "584 LIKEs", text + b"or " * 583 + b" ".join(likes) + b"\n"
