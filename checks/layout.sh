@@ -81,16 +81,43 @@ for number, row in enumerate(read("docs/DEFINITIONS.md").split("\n"), 1):
             faults.append(f"docs/DEFINITIONS.md:{number}: {name} is not in a file that the row names")
 
 
+def edit_fault(f):
+    """Why an edit can't be applied to the crate as it stands, or None."""
+    crate = f.split("/")[-3] if "/must-fail/" in f else f.split("/")[-2]
+    lines = read(f).rstrip("\n").split("\n")
+    texts, file, old = {}, None, None
+    for line in lines:
+        word, _, rest = line.partition(": ")
+        if word == "file":
+            file = f"crates/{crate}/{rest}"
+            if file not in sources:
+                return f"there is no file {rest}"
+            texts.setdefault(file, read(file))
+        elif word == "old":
+            old = rest
+            if texts[file].count(old) != 1:
+                return f"the text stands {texts[file].count(old)} times in its file: {old.strip()}"
+        elif word == "new":
+            texts[file] = texts[file].replace(old, rest)
+    return None
+
+
+for f in tracked:
+    fault = edit_fault(f) if f.endswith(".edit") else None
+    if fault:
+        faults.append(f"{f}: {fault}")
+
+
 def table(rows):
     return "| path | what it is |\n|---|---|\n" + "".join(f"| `{path}` | {what} |\n" for path, what in rows)
 
 
 def the_map():
-    tops = [(f, heading(f)) for f in tracked if re.match(r"(README\.md|docs/|checks/|bench/[^/]*$|examples/[^/]*\.sh|scan$|\.ci/run)", f)]
+    tops = [(f, heading(f)) for f in tracked if re.match(r"(README\.md|docs/|checks/[^/]*$|bench/[^/]*$|examples/[^/]*\.sh|scan$|\.ci/run)", f)]
     known = {"README.md": "what the product is for, how to run and test it, what is proved", "HANDLES": "which handles to the outside the gate allows: none",
              "LICENSE": "the licence", "NOTICE": "what was taken from the ported crate", "crates.txt": "the crates and what each stands on"}
     rows = [(f, known.get(f) or what) for f, what in tops] + [(f, known[f]) for f in ("HANDLES", "LICENSE", "NOTICE", "crates.txt")]
-    out = "# Map\n\nMade by `checks/layout.sh --map` from the first line of each file. What a function's proof needs stands in `proofs/MODULE/FUNCTION/`, wrong bodies that the prover has to refuse in `must-fail/`.\n\n" + table(rows)
+    out = "# Map\n\nMade by `checks/layout.sh --map` from the first line of each file. What a function's proof needs stands in `proofs/MODULE/FUNCTION/`, wrong bodies that the prover has to refuse in `must-fail/`, those that the gate doesn't try in `checks/edits/`.\n\n" + table(rows)
     for line in read("crates.txt").split("\n"):
         name = line.split(":")[0].strip()
         if name and not name.startswith("#"):
