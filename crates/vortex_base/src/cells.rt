@@ -1,14 +1,16 @@
 //! The values of a column as they are kept: short ones and texts in forms of their own.
 ghost use Rattle.std.specs.Prelude.{◌≡◌, ◌≤◌, ◌+◌, ◌++◌, ◌∷◌, [], IfOk, IfSome, IsTrue, OnErr, OnOk, Some, length, map, option_map, slice_get, vec_capacity, vec_len};
+ghost use Rattle.std.specs.List.{list_all};
+ghost use Rattle.vortex_base.specs.Data.Scalars.{is_optional_value};
 ghost use Rattle.vortex_base.specs.Data.Cells.{HasRoom, HasWideRoom, cell_values, is_text, short_value, text_value, value_of};
-ghost use Rattle.vortex_base.specs.Data.Columns.{value_at};
+ghost use Rattle.vortex_base.specs.Data.Columns.{all_fit, value_at};
 ghost use Rattle.vortex_base.specs.declared.scalar_value.ScalarValue.TheVariants as value;
 
 use crate::dtype::DType;
 use crate::pvalue::PValue;
 use crate::scalar_value::ScalarValue;
 use crate::text::Text;
-use crate::value_ref::{ValueRef, lend};
+use crate::value_ref::{ValueRef, fits, lend};
 use std::alloc::{AllocError, Global};
 use std::mem;
 
@@ -136,6 +138,33 @@ fn text_value(text: Option<Text>) -> Option<ScalarValue>
     }
 }
 
+// An optional text as an optional value, lent.
+#[inline]
+fn lend_text(text: &Option<Text>) -> Option<ValueRef<'_>>
+    ensures { option_map value_of result ≡ text_value text.now }
+{
+    match text {
+        Some(text) => Some(ValueRef::Utf8(text)),
+        None => None,
+    }
+}
+
+// Whether the value of each cell may stand under a type.
+fn all_short_fit(cells: &[ShortCell], dtype: &DType) -> bool
+    ensures { result
+        ≡ list_all (λ cell. is_optional_value (short_value cell) dtype.now) cells.now }
+{
+    cells.iter().all(|cell| fits(cell.lend(), dtype))
+}
+
+// Whether each optional text may stand under a type.
+fn all_texts_fit(texts: &[Option<Text>], dtype: &DType) -> bool
+    ensures { result
+        ≡ list_all (λ text. is_optional_value (text_value text) dtype.now) texts.now }
+{
+    texts.iter().all(|text| fits(lend_text(text), dtype))
+}
+
 // Whether an optional value is null or a text.
 #[inline]
 fn is_text(value: &Option<ScalarValue>) -> bool
@@ -253,6 +282,18 @@ impl Cells {
         }
     }
 
+    /// Whether each value may stand under the type: it fits the type, or it is null and the type
+    /// has null.
+    pub fn fits(&self, dtype: &DType) -> bool
+        ensures { result ≡ all_fit dtype.now (cell_values self.now) }
+    {
+        match self {
+            Cells::Any(values) => values.iter().all(|value| fits(lend(value.as_ref()), dtype)),
+            Cells::Short(cells) => all_short_fit(cells, dtype),
+            Cells::Texts(texts) => all_texts_fit(texts, dtype),
+        }
+    }
+
     // The cells as values of any kind, with room for some more.
     #[inline(never)]
     fn widen(&mut self, more: usize) -> Result<(), AllocError>
@@ -277,7 +318,8 @@ impl Cells {
     // Adds a value to cells of which one of them isn't short.
     #[inline(never)]
     fn push_any(&mut self, value: Option<ScalarValue>) -> Result<(), AllocError>
-        ensures { OnOk result (cell_values self.new ≡ cell_values self.old ++ value ∷ []) }
+        ensures pushed { OnOk result (cell_values self.new ≡ cell_values self.old ++ value ∷ []) }
+        ensures refused { OnErr result (cell_values self.new ≡ cell_values self.old) }
     {
         self.widen(1)?;
         match self {
@@ -286,10 +328,11 @@ impl Cells {
         }
     }
 
-    /// Adds a value.
+    /// Adds a value. If memory is refused, the values are as they were.
     #[inline]
     pub fn push(&mut self, value: Option<ScalarValue>) -> Result<(), AllocError>
-        ensures { OnOk result (cell_values self.new ≡ cell_values self.old ++ value ∷ []) }
+        ensures pushed { OnOk result (cell_values self.new ≡ cell_values self.old ++ value ∷ []) }
+        ensures refused { OnErr result (cell_values self.new ≡ cell_values self.old) }
     {
         match self {
             Cells::Short(cells) => {

@@ -34,18 +34,13 @@ impl Model for Column {
     ghost invariant = { λ a. IsTrue (all_fit a.dtype (cell_values a.cells)) };
 }
 
-fn all_fit(dtype: &DType, values: &[Option<ScalarValue>]) -> bool
-    ensures { result ≡ all_fit dtype.now values.now }
-{
-    values.iter().all(|v| match v {
-        None => dtype.is_nullable(),
-        Some(v) => v.fits(dtype),
-    })
-}
-
 impl Column {
     /// The column of a type, its values and its size in bytes, which is taken as declared.
     /// `Mismatch` if a value does not fit the type, or a null stands where the type has none.
+    ///
+    /// The values stay in the vector that was handed in, 40 bytes each, so that no memory is taken.
+    /// `Cells::new` and `Cells::push` keep truths and numbers in 16 bytes each and texts in 32, and
+    /// `new_unchecked` makes the column of them.
     pub fn try_new(
         dtype: DType,
         values: Vec<Option<ScalarValue>>,
@@ -53,14 +48,15 @@ impl Column {
     ) -> Result<Column, BaseError>
         ensures { result ≡ column_of dtype values.items size }
     {
-        if !all_fit(&dtype, &values) {
+        let cells = Cells::Any(values);
+        if !cells.fits(&dtype) {
             return Err(BaseError::Mismatch);
         }
-        let cells = Cells::Any(values);
         Ok(Column { dtype, cells, size })
     }
 
-    /// The column of values that are known to fit the type, as their reader has tested each.
+    /// The column of values that are known to fit the type, as their reader has tested each, or as
+    /// `Cells::fits` tells.
     pub fn new_unchecked(dtype: DType, cells: Cells, size: u64) -> Column
         requires { IsTrue (all_fit dtype (cell_values cells)) }
         ensures { result ≡ record { dtype = dtype; values = cell_values cells; size = size } }
@@ -88,6 +84,13 @@ impl Column {
         ensures { result ≡ self.now.size }
     {
         self.size
+    }
+
+    /// The values as they are kept.
+    pub fn cells(&self) -> &Cells
+        ensures { cell_values result.now ≡ self.now.values }
+    {
+        &self.cells
     }
 
     /// The value at a place, which `len` tells to be in range, or `None` for null.

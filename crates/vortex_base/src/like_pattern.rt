@@ -1,5 +1,5 @@
 //! What a pattern of LIKE says of the texts that it matches, and a text above all with a beginning.
-ghost use Rattle.std.specs.Prelude.{◌≡◌, ◌++◌, ◌∷◌, ◌+◌, ◌<◌, [], length, IfOk, IfSome, MatchOption, true, false};
+ghost use Rattle.std.specs.Prelude.{◌≡◌, ◌++◌, ◌∷◌, ◌+◌, ◌<◌, [], length, IfOk, IfSome, IsSome, MatchOption, OnErr, true, false};
 ghost use Rattle.std.specs.Prelude.{encode_utf8_all, option_copied, option_map, string_bytes};
 ghost use Rattle.std.specs.Str.{chars, IsUtf8};
 ghost use Rattle.vortex_base.specs.Answer.{Makes};
@@ -96,10 +96,12 @@ fn split_last_char(text: &str) -> Option<(char, &str)>
 /// A text above each that begins with this one: its longest beginning whose last character has a
 /// next one, with that character raised by one. Raising an earlier character gives a greater text.
 /// `None` where no character has a next one, as U+D7FF, which no character but a surrogate follows,
-/// and U+10FFFF have none.
+/// and U+10FFFF have none. Memory
+/// is taken only for a text that is answered.
 pub fn successor(alloc: Global, text: &str) -> Result<Option<String>, AllocError>
-    ensures { IfOk result (λ s. option_map string_bytes s
+    ensures value { IfOk result (λ s. option_map string_bytes s
         ≡ option_map encode_utf8_all (successor_of (chars text.now))) }
+    ensures memory { OnErr result (IsSome (successor_of (chars text.now))) }
 {
     let mut rest = text;
     while let Some((last, before)) = split_last_char(rest) {

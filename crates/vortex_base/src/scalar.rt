@@ -1,10 +1,11 @@
 //! Values or null, with their types.
-ghost use Rattle.std.specs.Prelude.{◌≡◌, ◌↔◌, IsTrue, IsNone, option_copied};
+ghost use Rattle.std.specs.Prelude.{◌≡◌, ◌↔◌, IsTrue, IsNone, OnErr, option_copied};
 ghost use Rattle.std.specs.Cmp.{partial_equiv_from_equiv};
 ghost use Rattle.vortex_base.specs.Made.{Makes};
 ghost use Rattle.vortex_base.specs.Data.Exact.{exact_equivalence};
 ghost use Rattle.vortex_base.specs.Data.Types.{is_nullable};
 ghost use Rattle.vortex_base.specs.Data.Scalars.{constant_eq, constant_eq_is_exact, constant_of, null_of, IsConstant};
+ghost use Rattle.vortex_base.specs.Meanings.Meaning.{is_long};
 
 use crate::dtype::DType;
 use crate::error::BaseError;
@@ -84,9 +85,10 @@ impl Scalar {
         self.value.is_none()
     }
 
-    /// A copy, by the allocator that the value holds.
+    /// A copy, by the allocator that the value holds. A text or bytes alone take memory.
     pub fn try_clone(&self) -> Result<Scalar, BaseError>
-        ensures { Makes self.now result }
+        ensures made { Makes self.now result }
+        ensures memory { OnErr result (IsTrue (is_long self.now.value)) }
     {
         let value = match &self.value {
             None => None,

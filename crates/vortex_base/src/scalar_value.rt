@@ -1,7 +1,8 @@
 //! The values of columns that are not null, and their one total order.
-ghost use Rattle.std.specs.Prelude.{◌≡◌};
+ghost use Rattle.std.specs.Prelude.{◌≡◌, IsTrue, OnErr, Some};
 ghost use Rattle.vortex_base.specs.Made.{Makes};
 ghost use Rattle.vortex_base.specs.Data.Values.{is_value};
+ghost use Rattle.vortex_base.specs.Meanings.Meaning.{is_long};
 ghost use Rattle.vortex_base.specs.declared.pvalue.PValue.TheVariants as number;
 ghost use Rattle.vortex_base.specs.declared.scalar_value.ScalarValue.TheVariants as value;
 
@@ -22,30 +23,19 @@ pub enum ScalarValue {
 }
 
 impl ScalarValue {
-    /// A copy, by the allocator that the value holds.
+    /// A copy, by the allocator that the value holds. A text or bytes alone take memory.
     pub fn try_clone(&self) -> Result<ScalarValue, BaseError>
-        ensures { Makes self.now result }
+        ensures made { Makes self.now result }
+        ensures memory { OnErr result (IsTrue (is_long (Some self.now))) }
     {
-        Ok(self.clone()?)
+        Ok(self.lend().to_value()?)
     }
 
     /// Whether this is a value of the type: of its kind and, for a number, of its `PType`.
     pub fn fits(&self, dtype: &DType) -> bool
         ensures { result ≡ is_value self.now dtype.now }
     {
-        match (self, dtype) {
-            (ScalarValue::Bool(_), DType::Bool(_)) => true,
-            (ScalarValue::Primitive(number), DType::Primitive(ptype, _)) => {
-                number.ptype() == *ptype
-            }
-            (ScalarValue::Utf8(text), DType::Utf8(_)) => {
-                // A text is UTF-8, as its string slice tells.
-                let _text = text.as_str();
-                true
-            }
-            (ScalarValue::Binary(_), DType::Binary(_)) => true,
-            _ => false,
-        }
+        self.lend().fits(dtype)
     }
 }
 

@@ -1,10 +1,12 @@
 //! Values that are lent, in whatever form their owner keeps them.
 ghost use Rattle.std.specs.Prelude.{◌≡◌, IfOk, IsTrue, OnErr, Some, option_copied, option_map};
 ghost use Rattle.vortex_base.specs.Data.Cells.{value_of};
-ghost use Rattle.vortex_base.specs.Data.Values.{kind_index, value_cmp};
+ghost use Rattle.vortex_base.specs.Data.Scalars.{is_optional_value};
+ghost use Rattle.vortex_base.specs.Data.Values.{is_value, kind_index, value_cmp};
 ghost use Rattle.vortex_base.specs.Meanings.Meaning.{is_long};
 
 use crate::bytes::Bytes;
+use crate::dtype::DType;
 use crate::pvalue::PValue;
 use crate::scalar_value::ScalarValue;
 use crate::text::Text;
@@ -60,8 +62,25 @@ impl<'a> ValueRef<'a> {
         }
     }
 
+    /// Whether this is a value of the type: of its kind and, for a number, of its `PType`.
+    pub fn fits(self, dtype: &DType) -> bool
+        ensures { result ≡ is_value (value_of self.entry) dtype.now }
+    {
+        match (self, dtype) {
+            (ValueRef::Bool(_), DType::Bool(_)) => true,
+            (ValueRef::Primitive(number), DType::Primitive(ptype, _)) => number.ptype() == *ptype,
+            (ValueRef::Utf8(text), DType::Utf8(_)) => {
+                // A text is UTF-8, as its string slice tells.
+                let _text = text.as_str();
+                true
+            }
+            (ValueRef::Binary(_), DType::Binary(_)) => true,
+            _ => false,
+        }
+    }
+
     /// How two values compare in their one total order.
-    pub(crate) fn order(self, other: ValueRef<'_>) -> Ordering
+    pub fn order(self, other: ValueRef<'_>) -> Ordering
         ensures { result ≡ value_cmp (value_of self.entry) (value_of other.entry) }
     {
         match (self, other) {
@@ -82,5 +101,17 @@ pub(crate) fn lend(value: Option<&ScalarValue>) -> Option<ValueRef<'_>>
     match value {
         Some(value) => Some(value.lend()),
         None => None,
+    }
+}
+
+/// Whether an optional value, lent, may stand under the type: it fits, or it is null and the type
+/// has null.
+#[inline]
+pub(crate) fn fits(value: Option<ValueRef<'_>>, dtype: &DType) -> bool
+    ensures { result ≡ is_optional_value (option_map value_of value.entry) dtype.now }
+{
+    match value {
+        Some(value) => value.fits(dtype),
+        None => dtype.is_nullable(),
     }
 }

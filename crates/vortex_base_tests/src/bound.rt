@@ -15,8 +15,6 @@ const U64: DType = DType::Primitive(PType::U64, Nullability::NonNullable);
 
 const U64_OR_NULL: DType = DType::Primitive(PType::U64, Nullability::Nullable);
 
-const BINARY: DType = DType::Binary(Nullability::NonNullable);
-
 const STATE: DType = DType::MinMaxState(Element::Bool, Nullability::Nullable);
 
 const CLOSED: BetweenOptions = BetweenOptions {

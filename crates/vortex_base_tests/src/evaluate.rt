@@ -192,9 +192,9 @@ fn on_row(x: Built, chunk: &Chunk, row: usize) -> Value {
     evaluated(&x?, &chunk.row(row), 2)
 }
 
-fn is_text(value: Value, text: &ScalarValue) -> bool {
+fn is_value(value: Value, expected: &ScalarValue) -> bool {
     match value {
-        Ok(Some(value)) => value == *text,
+        Ok(Some(value)) => value == *expected,
         _ => false,
     }
 }
@@ -205,8 +205,33 @@ fn columns_are_read_at_the_row(rt: HostRuntime) -> Result<(), Fail> {
     let chunk = texts(alloc)?;
     assert!(rt; chunk.rows() == 2);
     let y = text_value(alloc, "y")?;
-    assert!(rt; is_text(on_row(placed::col(alloc, 0, UTF8_OR_NULL), &chunk, 1), &y));
+    assert!(rt; is_value(on_row(placed::col(alloc, 0, UTF8_OR_NULL), &chunk, 1), &y));
     assert!(rt; is_row_shape(on_row(a(alloc), &chunk, 0)));
+    Ok(())
+}
+
+fn two_strings(alloc: Global) -> Result<Vec<Option<ScalarValue>>, BaseError> {
+    let mut values = Vec::new(alloc);
+    values.push(Some(bytes_value(alloc, &[0xC1, 0xA1])?))?;
+    values.push(Some(bytes_value(alloc, &[])?))?;
+    Ok(values)
+}
+
+// a chunk of two strings of bytes, of which the second is empty
+fn strings(alloc: Global) -> Result<Chunk, BaseError> {
+    let mut columns = Vec::new(alloc);
+    columns.push(column(BINARY, two_strings(alloc)?, 2)?)?;
+    chunk(scope(alloc, &[("b", BINARY)])?, columns)
+}
+
+#[test]
+fn columns_of_bytes_are_read_at_the_row(rt: HostRuntime) -> Result<(), Fail> {
+    let alloc = rt.alloc();
+    let chunk = strings(alloc)?;
+    let (first, second) = (bytes_value(alloc, &[0xC1, 0xA1])?, bytes_value(alloc, &[])?);
+    assert!(rt; is_value(on_row(placed::col(alloc, 0, BINARY), &chunk, 0), &first));
+    assert!(rt; is_value(on_row(placed::col(alloc, 0, BINARY), &chunk, 1), &second));
+    assert!(rt; !is_value(on_row(placed::col(alloc, 0, BINARY), &chunk, 1), &first));
     Ok(())
 }
 

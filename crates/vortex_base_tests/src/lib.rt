@@ -10,6 +10,8 @@ mod bound_expression;
 #[cfg(test)]
 mod bytes;
 #[cfg(test)]
+mod cells;
+#[cfg(test)]
 mod chunk;
 #[cfg(test)]
 mod constant_array;

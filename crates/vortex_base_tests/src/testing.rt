@@ -24,6 +24,8 @@ pub const UTF8: DType = DType::Utf8(Nullability::NonNullable);
 
 pub const UTF8_OR_NULL: DType = DType::Utf8(Nullability::Nullable);
 
+pub const BINARY: DType = DType::Binary(Nullability::NonNullable);
+
 pub fn copy(x: &BoundExpression) -> Built {
     x.try_clone()
 }

@@ -1,5 +1,7 @@
 -- Worked rows, found by computation alone.
+pub mod AskingRows
 pub mod CompleteRows
+pub mod HonestRows
 pub mod StatRows
 pub mod WholeRows
 pub mod ZoneTableRows

@@ -8,8 +8,9 @@ ghost use Rattle.vortex_prune.specs.Scanning.Selection.{AreByStatistics, AreFait
 ghost use Rattle.vortex_prune.specs.Scanning.Selection.{answered, any_binder, full, selected_rows};
 ghost use Rattle.vortex_prune.specs.Scanning.Selection.{skipped_parts, tested_rows, whole_parts};
 ghost use Rattle.vortex_rewrite.specs.Causes.{Causes, IsRefusal, either_causes};
-ghost use Rattle.vortex_prune.specs.Scanning.ScanRefusals.{AreClosed, KeptAreClosed, binder_causes};
-ghost use Rattle.vortex_prune.specs.Scanning.ScanRefusals.{faithful_causes, if_faithful, scan_causes};
+ghost use Rattle.vortex_prune.specs.Scanning.ScanRefusals.{AreClosed, KeptAreClosed};
+ghost use Rattle.vortex_prune.specs.Scanning.ScanRefusals.{asking_causes, binder_causes};
+ghost use Rattle.vortex_prune.specs.Scanning.ScanRefusals.{faithful_causes, kept_binders, scan_causes};
 ghost use Rattle.vortex_rewrite.specs.Rewriting.ReadOnce.{is_read_once};
 ghost use Rattle.vortex_prune.specs.Scanning.Complete.{SkipsExactly};
 ghost use Rattle.vortex_rewrite.specs.Rewriting.Own.{own_rules};
@@ -57,7 +58,7 @@ impl<'a, B: StatBinder> PartTest for ByBinders<'a, B> {
         (option_copied s.falsifier) (option_copied s.satisfier) s.binders.now B.value };
 
     ghost refuses = { λ s. binder_refuses B.answer B.is_missing B.is_faithful_over
-        (option_copied s.falsifier) (option_copied s.satisfier) s.binders.now B.can_fault };
+        (option_copied s.falsifier) (option_copied s.satisfier) s.binders.now B.value B.can_fault };
 
     fn verdict(&mut self, alloc: Global, place: usize, part: &Part) -> Result<Verdict, StatsError> {
         verdict(
@@ -103,11 +104,11 @@ fn scan_by<B: StatBinder>(
         binder_causes B.answer B.is_missing B.can_fault proof binders.now in
         IfErr result (IsRefusal (either_causes (causes (option_copied falsifier.entry))
         (causes (option_copied satisfier.entry)))) }
-    ensures faithful { let causes : Option (Tree Place) → Causes = λ proof. if_faithful proof
-        (binder_causes B.answer B.is_missing B.can_fault proof binders.now) in
-        IfErr result (λ f. AreFaithful B.is_faithful_over parts.now binders.now
-        → IsRefusal (either_causes (causes (option_copied falsifier.entry))
-        (causes (option_copied satisfier.entry))) f) }
+    ensures faithful { let causes = asking_causes B.answer B.is_missing B.can_fault in
+        let f = option_copied falsifier.entry in
+        IfErr result (λ e. AreFaithful B.is_faithful_over parts.now binders.now
+        → IsRefusal (either_causes (causes f binders.now) (causes (option_copied satisfier.entry)
+        (kept_binders B.value f parts.now binders.now))) e) }
 {
     let mut test = ByBinders {
         falsifier,
@@ -199,12 +200,12 @@ pub fn scan<B: StatBinder>(
         own_rules ⟦<dyn StatsRewriteRule as StatsRewriteRule>⟧ rules.now.own.items in
         let causes = scan_causes B.answer B.is_missing B.can_fault own predicate.now binders.now in
         IsTrue (is_predicate predicate.now) → IfErr result (IsRefusal causes) }
+    // Faithful binders are asked for the satisfier only where the falsifier isn't true of the part.
     ensures faithful { let own =
         own_rules ⟦<dyn StatsRewriteRule as StatsRewriteRule>⟧ rules.now.own.items in
-        let causes =
-        faithful_causes B.answer B.is_missing B.can_fault own predicate.now binders.now in
+        let causes = faithful_causes B.answer B.is_missing B.can_fault B.value own predicate.now in
         IsTrue (is_predicate predicate.now) → AreFaithful B.is_faithful_over parts.now binders.now
-        → IfErr result (IsRefusal causes) }
+        → IfErr result (IsRefusal (causes parts.now binders.now)) }
 {
     let falsifier = falsify(alloc, predicate, rules)?;
     let satisfier = satisfy(alloc, predicate, rules)?;

@@ -1,20 +1,17 @@
 //! Binding by binders that know a count of nulls or nothing, and by ones that fault.
-ghost use Rattle.std.specs.Prelude.{◌&&◌, false, Some, None, refl, if◌then◌else◌};
-ghost use Rattle.std.proofs.Common.{sym};
-ghost use mathlib.Core.Bool.{true≢false};
-ghost use Rattle.vortex_base.specs.declared.aggregate.AggregateFnRef.TheVariants as aggregate;
-ghost use Rattle.vortex_base.specs.declared.dtype.DType.TheVariants as dtype;
-ghost use Rattle.vortex_base.specs.declared.types.Nullability.TheVariants.{NonNullable};
-ghost use Rattle.vortex_base.specs.declared.types.PType.TheVariants as ptype;
-ghost use Rattle.vortex_base.specs.Trees.Tree.{column};
+ghost use Rattle.std.specs.Prelude.{◌≡◌, ℕ, List, IsTrue, false, refl, slice_get};
+ghost use Rattle.vortex_base.specs.Data.Scalars.{Constant};
+ghost use Rattle.vortex_base.specs.Meanings.Fitting.{is_cell_of};
+ghost use Rattle.vortex_prune.specs.Binding.Binders.{IsHonestOver};
 ghost use Rattle.vortex_prune.specs.Binding.PartBinder.{IsNullOf};
+ghost use Rattle.vortex_prune_tests.specs.Counting.{is_first, one_null, three_numbers};
 
 use crate::hooks::Answerer;
 use crate::testing::*;
 use std::alloc::Global;
 use std::process::Abort;
 use std::test::Fail;
-use vortex_base::{AggregateFnRef, BoundExpression, DType, bound};
+use vortex_base::{AggregateFnRef, BoundExpression, DType, Parts, bound};
 use vortex_prune::bind::bind_stats;
 use vortex_prune::{HookFault, StatBinder};
 use vortex_rewrite::expr::bound as placed;
@@ -61,17 +58,27 @@ fn expect_bound<B: StatBinder>(
     Ok(())
 }
 
-// Answers the count of nulls of any input by the second column of a table of statistics, if it
-// knows that, and nothing else.
-struct NullCounts {
+// Answers the count of nulls of the first column, of numbers, by the second column of a table of
+// statistics, if it knows that, and nothing else.
+#[derive(Drop)]
+pub struct NullCounts {
     are_known: bool,
 }
 
+fn is_first(x: &BoundExpression) -> bool
+    ensures { result ≡ is_first x.now }
+{
+    match x.parts() {
+        Parts::Column(place, dtype) => place == 0 && dtype == I32,
+        _ => false,
+    }
+}
+
 impl StatBinder for NullCounts {
-    ghost answer = { λ b f x t.
-        if b.are_known && (⟦<AggregateFnRef as PartialEq>⟧.eq f aggregate.NullCount)
-        then Some (column (record { index = 1; dtype = dtype.Primitive ptype.U64 NonNullable }))
-        else None };
+    ghost use Rattle.vortex_prune_tests.specs.Counting.{counted, counted_is_faithful};
+    ghost use Rattle.vortex_prune_tests.specs.Counting.{counted_value, has_count};
+
+    ghost answer = { λ b. counted b.are_known };
 
     ghost is_missing = { λ b. IsNullOf };
 
@@ -79,20 +86,20 @@ impl StatBinder for NullCounts {
 
     ghost can_fault = { λ b k. false };
 
-    ghost value = { λ b row n f x. None };
+    ghost value = { λ b row n. counted_value b.are_known row };
 
-    ghost is_faithful_over = { λ b row n. false };
+    ghost is_faithful_over = { λ b row n. has_count row };
 
-    ghost is_faithful = { λ b row n h. absurd (true≢false (sym h)) };
+    ghost is_faithful = { λ b row n h. counted_is_faithful b.are_known row n h };
 
     fn bind_aggregate(
         &self,
         alloc: Global,
-        _input: &BoundExpression,
+        input: &BoundExpression,
         aggregate: &AggregateFnRef,
         _stat_dtype: &DType,
     ) -> Result<Option<BoundExpression>, HookFault> {
-        if self.are_known && *aggregate == AggregateFnRef::NullCount {
+        if *aggregate == AggregateFnRef::NullCount && self.are_known && is_first(input) {
             Ok(Some(bound::col(alloc, 1, U64)?))
         } else {
             Ok(None)
@@ -100,25 +107,38 @@ impl StatBinder for NullCounts {
     }
 }
 
+// The binder that knows the counts.
+fn knowing() -> NullCounts
+    // It is faithful over each row of statistics whose second cell is a count.
+    ensures faithful { (row : List Constant) (n : ℕ) → IsTrue (is_cell_of U64 (slice_get row 1))
+        → IsTrue (⟦<NullCounts as StatBinder>⟧.is_faithful_over result row n) }
+    // It is honest for three numbers, over a row that counts their nulls.
+    ensures honest { IsHonestOver (⟦<NullCounts as StatBinder>⟧.is_faithful_over result)
+        (⟦<NullCounts as StatBinder>⟧.value result) one_null three_numbers }
+{
+    NullCounts { are_known: true }
+}
+
 const KNOWN: NullCounts = NullCounts { are_known: true };
 
-const UNKNOWN: NullCounts = NullCounts { are_known: false };
+/// A binder that knows nothing.
+pub const UNKNOWN: NullCounts = NullCounts { are_known: false };
 
 const FAULTY: Answerer = Answerer::Faulty;
 
-// Knows nothing, and answers a count for what is missing.
+// Knows nothing, and answers the null of a count for what is missing.
 const QUIET: Answerer = Answerer::Quiet;
+
+// Knows nothing, and answers the count 0 for what is missing.
+const ZERO: Answerer = Answerer::Zero;
 
 #[test]
 fn a_count_of_nulls_is_a_column(rt: HostRuntime) -> Result<(), Fail> {
     let alloc = rt.alloc();
-    expect_bound(
-        &rt,
-        alloc,
-        null_count(alloc, a(alloc)),
-        &KNOWN,
-        counts(alloc),
-    )
+    let count = null_count(alloc, a(alloc));
+    expect_bound(&rt, alloc, count, &knowing(), counts(alloc))?;
+    let elsewhere = null_count(alloc, col(alloc, 1, I32));
+    expect_bound(&rt, alloc, elsewhere, &knowing(), null_of(alloc, U64))
 }
 
 #[test]
@@ -152,8 +172,8 @@ fn what_holds_no_placeholder_is_kept(rt: HostRuntime) -> Result<(), Fail> {
 #[test]
 fn an_inner_placeholder_is_not_met(rt: HostRuntime) -> Result<(), Fail> {
     let alloc = rt.alloc();
-    let outer = null_count(alloc, max(alloc, a(alloc)));
-    expect_bound(&rt, alloc, outer, &KNOWN, counts(alloc))
+    let outer = null_count(alloc, null_count(alloc, a(alloc)));
+    expect_bound(&rt, alloc, outer, &KNOWN, null_of(alloc, U64))
 }
 
 fn is_own(answer: Built) -> bool {
@@ -176,4 +196,16 @@ fn faults_are_the_binders(rt: HostRuntime) -> Result<(), Fail> {
     let right = bound_by(alloc, null_count(alloc, a(alloc)), &QUIET);
     assert!(rt; dtype_of(right)? == U64.as_nullable());
     Ok(())
+}
+
+// What stands for a missing answer is what the binder says: null is not put in its place.
+#[test]
+fn what_is_missing_is_asked_for(rt: HostRuntime) -> Result<(), Fail> {
+    let alloc = rt.alloc();
+    let zero = lit(alloc, U64, count(0));
+    expect_bound(&rt, alloc, null_count(alloc, a(alloc)), &ZERO, zero)?;
+    assert!(rt; is_wrong_type(bound_by(alloc, all_null(alloc), &ZERO)));
+    assert!(rt; is_wrong_type(bound_by(alloc, min(alloc, a(alloc)), &ZERO)));
+    let null = null_of(alloc, U64);
+    expect_bound(&rt, alloc, null_count(alloc, a(alloc)), &QUIET, null)
 }

@@ -8,7 +8,8 @@ ghost use Rattle.vortex_prune_tests.specs.Hooks.{answered};
 
 use std::alloc::{AllocError, Global};
 use vortex_base::{
-    AggregateFnRef, BaseError, BoundExpression, DType, Nullability, PType, Scalar, bound,
+    AggregateFnRef, BaseError, BoundExpression, DType, Nullability, PType, Scalar, ScalarValue,
+    bound,
 };
 use vortex_prune::{HookFault, StatBinder};
 use vortex_rewrite_tests::hooks::truth_answer;
@@ -26,8 +27,10 @@ pub enum Answerer {
     Input,
     /// A truth.
     Truth,
-    /// Nothing, for which a count stands in.
+    /// Nothing, for which the null of a count stands in.
     Quiet,
+    /// Nothing, for which the count 0 stands in.
+    Zero,
     /// Its fault.
     Faulty,
     /// That memory was refused.
@@ -77,13 +80,19 @@ impl StatBinder for Answerer {
             Answerer::Least => placed(alloc, input, AggregateFnRef::Min),
             Answerer::Input => Ok(Some(input.try_clone()?)),
             Answerer::Truth => truth_answer(alloc, true),
-            Answerer::Quiet => Ok(None),
+            Answerer::Quiet | Answerer::Zero => Ok(None),
             Answerer::Faulty => Err(HookFault::Own(7)),
             Answerer::Forgetful => Err(HookFault::Memory(AllocError)),
         }
     }
 
     fn missing_stat(&self, alloc: Global, _dtype: DType) -> Result<BoundExpression, HookFault> {
-        Ok(bound::lit(alloc, Scalar::null(U64.as_nullable()))?)
+        match self {
+            Answerer::Zero => {
+                let zero = Scalar::try_new(U64, Some(ScalarValue::from(0u64)))?;
+                Ok(bound::lit(alloc, zero)?)
+            }
+            _ => Ok(bound::lit(alloc, Scalar::null(U64.as_nullable()))?),
+        }
     }
 }

@@ -289,11 +289,32 @@ fn is_memory(error: &StatsError) -> bool {
     matches!(error, StatsError::Memory(_))
 }
 
-// Whether the parts are joined, or handed back for memory, and look so.
+// Whether a refused join handed back for memory two parts that look so.
+fn hands_back_for_memory(
+    alloc: Global,
+    refused: &JoinRefused,
+    looks: &str,
+) -> Result<bool, StatsError> {
+    Ok(is_memory(&refused.error) && hands_back(alloc, refused, looks)?)
+}
+
+// Whether the two texts are joined with their bounds, or handed back for memory and look so.
 fn joins_or_hands_back(alloc: Global, joined: &Joined, looks: &str) -> Result<bool, StatsError> {
     match joined {
-        Ok(part) => Ok(rows(part) == 2),
-        Err(refused) => Ok(is_memory(&refused.error) && hands_back(alloc, refused, looks)?),
+        Ok(part) => Ok(rows(part) == 2 && are_texts(alloc, part, "apple", "pear")?),
+        Err(refused) => hands_back_for_memory(alloc, refused, looks),
+    }
+}
+
+// Whether the six numbers are joined with these bounds, or handed back for memory and look so.
+fn joins_numbers_or_hands_back(
+    alloc: Global,
+    joined: &Joined,
+    looks: &str,
+) -> Result<bool, StatsError> {
+    match joined {
+        Ok(part) => Ok(rows(part) == 6 && size(part) == 40 && is_within(part, 1, 25)?),
+        Err(refused) => hands_back_for_memory(alloc, refused, looks),
     }
 }
 
@@ -308,17 +329,11 @@ fn refused_joins_hand_back(rt: HostRuntime) -> Result<(), Fail> {
     Ok(())
 }
 
-fn one_number(alloc: Global, value: i32) -> Made {
-    let column = column(I32_OR_NULL, numbers(alloc, &[Some(value)]), 8);
-    let chunk = chunk_of(alloc, scope_of(alloc, I32_OR_NULL), column);
-    part_of(alloc, chunk, bounds(alloc, value, value))
-}
-
 #[test]
 fn refused_joins_of_numbers_hand_back(rt: HostRuntime) -> Result<(), Fail> {
     let alloc = rt.alloc();
-    let looks = looks(alloc, one_number(alloc, 1), one_number(alloc, 8))?;
-    let joined = joined(alloc, one_number(alloc, 1), one_number(alloc, 8))?;
-    assert!(rt; joins_or_hands_back(alloc, &joined, looks.as_str())?);
+    let looks = looks(alloc, first_part(alloc, 24), second_part(alloc, 16))?;
+    let joined = joined(alloc, first_part(alloc, 24), second_part(alloc, 16))?;
+    assert!(rt; joins_numbers_or_hands_back(alloc, &joined, looks.as_str())?);
     Ok(())
 }

@@ -1,10 +1,12 @@
 //! Calls of which a request for memory may be refused: each gives its answer, or `Memory` alone.
+use crate::bind::UNKNOWN;
 use crate::testing::*;
 use std::alloc::{AllocError, Global};
 use std::test::Fail;
-use vortex_base::{BoundExpression, Column};
+use vortex_base::{BoundExpression, Column, DType, Nullability, PType, ScalarValue, Scope};
 use vortex_prune::bind::bind_stats;
 use vortex_prune::{Part, Rules, StatsBinder, Zones};
+use vortex_rewrite::expr::bound as placed;
 use vortex_rewrite::rewrite::{falsify, falsify_counted, satisfy};
 use vortex_rewrite_tests::nodes::*;
 use vortex_stats::{Stat, StatsError};
@@ -83,7 +85,7 @@ fn and_text(alloc: Global, cells: Cells, value: &str) -> Result<Cells, AllocErro
     Ok(cells)
 }
 
-fn scope(alloc: Global) -> Result<vortex_base::Scope, StatsError> {
+fn scope(alloc: Global) -> Result<Scope, StatsError> {
     scope_of_two(alloc, ("s", UTF8), ("n", I32_OR_NULL))
 }
 
@@ -149,5 +151,95 @@ fn refused_bindings(rt: HostRuntime) -> Result<(), Fail> {
     let alloc = rt.alloc();
     let (zones, e) = (two_parts(alloc)?, least_text(alloc)?);
     assert!(rt; is_bound(bound_by_first(alloc, e, &zones)));
+    Ok(())
+}
+
+fn all_null(alloc: Global) -> Built {
+    placed::all_null(alloc, a(alloc)?)
+}
+
+// Whether it is bound to this expression, or memory was refused.
+fn is_bound_to(answer: Built, expected: &BoundExpression) -> bool {
+    match answer {
+        Ok(bound) => bound == *expected,
+        Err(refused) => is_memory(&refused),
+    }
+}
+
+// What is bound by a binder that knows nothing isn't reduced, whichever growth is refused.
+#[test]
+fn refused_bindings_of_the_unknown(rt: HostRuntime) -> Result<(), Fail> {
+    let alloc = rt.alloc();
+    let e = and(alloc, truth(alloc, false), all_null(alloc))?;
+    let kept = and(alloc, truth(alloc, false), null_of(alloc, BOOL))?;
+    assert!(rt; is_bound_to(bind_stats(alloc, e, &UNKNOWN), &kept));
+    Ok(())
+}
+
+const U8_OR_NULL: DType = DType::Primitive(PType::U8, Nullability::Nullable);
+
+fn texts_and_numbers(alloc: Global) -> Result<Scope, StatsError> {
+    scope_of_two(alloc, ("s", UTF8), ("n", U8_OR_NULL))
+}
+
+fn three_and_null(alloc: Global) -> Result<Cells, AllocError> {
+    let mut cells = one_value(alloc, Some(ScalarValue::from(3u8)))?;
+    cells.push(None)?;
+    Ok(cells)
+}
+
+// The rows `apple` and 3, `pear` and null, of which the texts' bounds are known.
+fn apple_to_pear(alloc: Global) -> Result<Part, StatsError> {
+    let texts = column(UTF8, two_texts(alloc, "apple", "pear"), 0);
+    let numbers = column(U8_OR_NULL, three_and_null(alloc), 0);
+    let chunk = chunk_of_two(alloc, texts_and_numbers(alloc), texts, numbers);
+    let known = text_bounds(alloc, "apple", "pear");
+    part_of_two(alloc, chunk, known, Ok(no_statistics(alloc)))
+}
+
+fn q_to_rose(alloc: Global) -> Sets {
+    let least = at_most(alloc, Stat::Min, text_value(alloc, "q")?);
+    and_exactly(least, Stat::Max, text_value(alloc, "rose")?)
+}
+
+fn one_text(alloc: Global, value: &str) -> Result<Cells, AllocError> {
+    one_value(alloc, Some(text_value(alloc, value)?))
+}
+
+// The row `rose` and 7, without a null and with no text before `q`.
+fn rose(alloc: Global) -> Result<Part, StatsError> {
+    let texts = column(UTF8, one_text(alloc, "rose"), 0);
+    let seven = one_value(alloc, Some(ScalarValue::from(7u8)));
+    let numbers = column(U8_OR_NULL, seven, 0);
+    let chunk = chunk_of_two(alloc, texts_and_numbers(alloc), texts, numbers);
+    let no_null = exactly(alloc, Stat::NullCount, count(0));
+    part_of_two(alloc, chunk, q_to_rose(alloc), Ok(no_null))
+}
+
+fn texts_and_nulls(alloc: Global) -> Result<Zones, StatsError> {
+    let parts = and_part(one_part(alloc, apple_to_pear(alloc)), rose(alloc));
+    zones_of(alloc, texts_and_numbers(alloc), parts)
+}
+
+fn begins_with_pre_or_null(alloc: Global) -> Built {
+    let begins = like(alloc, col(alloc, 0, UTF8), text(alloc, "pre%"));
+    or(alloc, begins, is_null(alloc, col(alloc, 1, U8_OR_NULL)))
+}
+
+// Whether the row with the null was found, and the part without one skipped.
+fn is_null_found(found: Found) -> bool {
+    match found {
+        Ok(found) => has_found(&found, &[1], &[], &[(0, 1)]),
+        Err(refused) => is_memory(&refused),
+    }
+}
+
+#[test]
+fn refused_scans_of_texts_and_nulls(rt: HostRuntime) -> Result<(), Fail> {
+    let alloc = rt.alloc();
+    let (zones, predicate) = (texts_and_nulls(alloc)?, begins_with_pre_or_null(alloc)?);
+    let rules = Rules::builtin(alloc);
+    assert!(rt; is_null_found(scanned_by_part(alloc, zones.parts(), &predicate, &rules)));
+    assert!(rt; is_null_found(scanned_by_table(alloc, &zones, &predicate, &rules)));
     Ok(())
 }

@@ -3,6 +3,7 @@ use crate::testing::*;
 use std::alloc::Global;
 use std::process::Abort;
 use std::test::Fail;
+use vortex_base::types::Element;
 use vortex_base::{
     AggregateFnRef, ConstantArray, DType, Nullability, PType, Scalar, ScalarFnId, ScalarValue,
 };
@@ -198,4 +199,63 @@ fn all_non_null_by_the_count(rt: HostRuntime) -> Result<(), Fail> {
     expect_truth(&rt, nulls_at_most(alloc, 0), no_null, 3, Some(true))?;
     expect_truth(&rt, nulls_at_most(alloc, 2), no_null, 4, None)?;
     expect_truth(&rt, exact_nulls(alloc, 0), no_null, 4, Some(true))
+}
+
+// What a declared size is answered by.
+fn expect_size(rt: &impl Abort, set: StatsSet, value: Option<ScalarValue>) -> Result<(), Fail> {
+    expect(
+        rt,
+        set,
+        AggregateFnRef::UncompressedSizeInBytes,
+        3,
+        COUNT,
+        value,
+    )
+}
+
+#[test]
+fn sizes_are_exact_or_null(rt: HostRuntime) -> Result<(), Fail> {
+    let (alloc, size) = (rt.alloc(), Stat::UncompressedSizeInBytes);
+    expect_size(&rt, exactly(alloc, size, count(12)), Some(count(12)))?;
+    expect_size(&rt, at_most(alloc, size, count(12)), None)?;
+    expect_size(&rt, at_most(alloc, size, count(0)), None)?;
+    expect_size(&rt, no_statistics(alloc), None)
+}
+
+const STATE: DType = DType::MinMaxState(Element::Primitive(PType::I32), Nullability::Nullable);
+
+// The least value 1 and the greatest 3, both exact.
+fn exact_extremes(alloc: Global) -> Sets {
+    and_exactly(exactly(alloc, Stat::Min, number(1)), Stat::Max, number(3))
+}
+
+#[test]
+fn exact_extremes_are_bounds_too(rt: HostRuntime) -> Result<(), Fail> {
+    let (alloc, min, max) = (rt.alloc(), AggregateFnRef::Min, AggregateFnRef::Max);
+    let set = exact_extremes(alloc)?;
+    expect(&rt, set, min, 3, I32_OR_NULL, Some(number(1)))?;
+    let set = exact_extremes(alloc)?;
+    expect(&rt, set, max, 3, I32_OR_NULL, Some(number(3)))?;
+    expect(&rt, no_statistics(alloc), max, 3, I32_OR_NULL, None)
+}
+
+#[test]
+fn a_pair_of_extremes_is_null(rt: HostRuntime) -> Result<(), Fail> {
+    let (alloc, pair) = (rt.alloc(), AggregateFnRef::MinMax);
+    expect(&rt, exact_extremes(alloc)?, pair, 3, STATE, None)?;
+    expect(&rt, extremes(alloc)?, pair, 3, STATE, None)?;
+    expect(&rt, no_statistics(alloc), pair, 3, STATE, None)
+}
+
+// An exact count of nulls tells both ways.
+#[test]
+fn some_rows_are_null_by_the_count(rt: HostRuntime) -> Result<(), Fail> {
+    let alloc = rt.alloc();
+    let (all_null, no_null) = (AggregateFnRef::AllNull, AggregateFnRef::AllNonNull);
+    expect_truth(&rt, exact_nulls(alloc, 2), all_null, 3, Some(false))?;
+    expect_truth(&rt, exact_nulls(alloc, 0), all_null, 3, Some(false))?;
+    expect_truth(&rt, exact_nulls(alloc, 0), all_null, 0, Some(true))?;
+    expect_truth(&rt, exact_nulls(alloc, 2), no_null, 3, Some(false))?;
+    expect_truth(&rt, exact_nulls(alloc, 3), no_null, 3, Some(false))?;
+    expect_truth(&rt, no_statistics(alloc), all_null, 3, None)
 }

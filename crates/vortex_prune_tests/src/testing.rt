@@ -16,7 +16,7 @@ use vortex_prune::{
 };
 use vortex_rewrite_tests::hooks::{Claim, Claiming};
 use vortex_rewrite_tests::nodes::*;
-use vortex_stats::{Precision, Stat, StatsError, StatsSet};
+use vortex_stats::{Precision, RuleFault, Stat, StatsError, StatsSet};
 
 pub type Sets = Result<StatsSet, StatsError>;
 
@@ -281,9 +281,21 @@ fn found_alike(one: Scan, other: Scan) -> Found {
     }
 }
 
+// Whether two scans were refused for the same, the fault of a rule or a binder included.
+fn is_same_refusal(one: &StatsError, other: &StatsError) -> bool {
+    match (one, other) {
+        (StatsError::Rule(RuleFault::Own(one)), StatsError::Rule(RuleFault::Own(other))) => {
+            one == other
+        }
+        (StatsError::Rule(RuleFault::NotBool), StatsError::Rule(RuleFault::NotBool)) => true,
+        (StatsError::Rule(_), StatsError::Rule(_)) => false,
+        _ => one.number() == other.number(),
+    }
+}
+
 // What two scans were refused for alike; `Mismatch` where they differ.
 fn refused_alike(one: StatsError, other: StatsError) -> StatsError {
-    if matches!(one, StatsError::Memory(_)) || one.number() == other.number() {
+    if matches!(one, StatsError::Memory(_)) || is_same_refusal(&one, &other) {
         one
     } else if matches!(other, StatsError::Memory(_)) {
         other

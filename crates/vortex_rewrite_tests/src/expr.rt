@@ -4,7 +4,9 @@ use std::alloc::Global;
 use std::process::Abort;
 use std::test::Fail;
 use vortex_base::{AggregateFnRef, Expression, Scope};
-use vortex_rewrite::expr::{all_non_null, all_null, min_max, null_count, stat as aggregated, sum};
+use vortex_rewrite::expr::{
+    all_non_null, all_null, bound as placed, min_max, null_count, stat as aggregated, sum,
+};
 use vortex_stats::StatsError;
 
 mod bound;
@@ -70,4 +72,23 @@ fn are_bound_to_placeholders(rt: HostRuntime) -> Result<(), Fail> {
     expect_aggregate(&rt, alloc, all_non_null_of_a(alloc), AllNonNull)?;
     expect_aggregate(&rt, alloc, min_max_of_a(alloc), MinMax)?;
     expect_aggregate(&rt, alloc, max_of_a(alloc), Max)
+}
+
+fn placed_sum(alloc: Global) -> Built {
+    placed::sum(alloc, col(alloc, 0, I32)?)
+}
+
+fn placed_null_count(alloc: Global) -> Built {
+    placed::null_count(alloc, col(alloc, 0, I32)?)
+}
+
+// What is made over a name and bound is what is made over the bound column.
+#[test]
+fn are_those_over_bound_columns(rt: HostRuntime) -> Result<(), Fail> {
+    let alloc = rt.alloc();
+    let found = bound_to_a(alloc, sum_of_a(alloc));
+    assert!(rt; are_same(found, placed_sum(alloc))?);
+    let found = bound_to_a(alloc, null_count_of_a(alloc));
+    assert!(rt; are_same(found, placed_null_count(alloc))?);
+    Ok(())
 }

@@ -28,6 +28,10 @@ fn s(alloc: Global) -> Built {
     col(alloc, 2, UTF8)
 }
 
+fn t(alloc: Global) -> Built {
+    col(alloc, 3, UTF8)
+}
+
 fn min_a(alloc: Global) -> Built {
     min(alloc, a(alloc))
 }
@@ -152,6 +156,15 @@ fn equality_of_columns(rt: HostRuntime) -> Result<(), Fail> {
     let high = eq(alloc, max_a(alloc), min(alloc, b(alloc)));
     let e = not_eq(alloc, a(alloc), b(alloc));
     expect_falsifier(&rt, alloc, e, and(alloc, low, high))
+}
+
+#[test]
+fn equality_of_text_columns(rt: HostRuntime) -> Result<(), Fail> {
+    let alloc = rt.alloc();
+    let above = gt(alloc, min(alloc, s(alloc)), max(alloc, t(alloc)));
+    let below = gt(alloc, min(alloc, t(alloc)), max(alloc, s(alloc)));
+    let e = eq(alloc, s(alloc), t(alloc));
+    expect_falsifier(&rt, alloc, e, or(alloc, above, below))
 }
 
 #[test]
@@ -435,4 +448,15 @@ fn rewriting_is_refused_for_memory_alone(rt: HostRuntime) {
     assert!(rt; is_counted(counted(alloc, chain(alloc), &rules), 31));
     let null = is_null(alloc, chain(alloc));
     assert!(rt; is_found(satisfied(alloc, null, &rules)));
+}
+
+// The same of the chain itself, which is kept and asked about again.
+#[test]
+fn refused_proofs_of_a_chain(rt: HostRuntime) -> Result<(), Fail> {
+    let alloc = rt.alloc();
+    let (rules, chain) = (Rules::builtin(alloc), chain(alloc)?);
+    assert!(rt; is_found(falsify(alloc, &chain, &rules)));
+    assert!(rt; is_found(satisfy(alloc, &chain, &rules)));
+    assert!(rt; is_counted(falsify_counted(alloc, &chain, &rules), 31));
+    Ok(())
 }

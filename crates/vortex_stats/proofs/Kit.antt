@@ -4,5 +4,7 @@ pub use Rattle.vortex_stats.proofs.Sets.Fitting.{entry_value-fits}
 -- A merge of sets that fit fits, and one of sets that are true of two columns is true of the appended column.
 pub use Rattle.vortex_stats.proofs.Merging.MergedFits.{merged_ordered-fits}
 pub use Rattle.vortex_stats.proofs.Truth.MergedTruth.{merged_ordered_is_true}
+-- What is measured of a column is true of it.
+pub use Rattle.vortex_stats.proofs.Measuring.MeasuredTruth.{measured_is_true}
 -- What a list contains at its front and behind it.
 pub use Rattle.vortex_stats.proofs.Bounds.Ascending.{contains_first, contains_later}

@@ -2,6 +2,8 @@ pub mod Bounds
 pub mod Copied
 pub mod Kit
 pub mod Logic
+pub mod Measuring
 pub mod Merging
 pub mod Sets
 pub mod Truth
+pub mod WorkedRows

@@ -1,5 +1,6 @@
 -- Which merges and combinations copy a text or bytes: these alone can be refused for memory.
 use Rattle.std.specs.Prelude.{Bool, true, false, not, ◌&&◌, ◌||◌, List, [], ◌∷◌, Option, Some, None}
+use Rattle.std.specs.List.{list_any}
 use Rattle.vortex_base.specs.declared.dtype.DType.{DType}
 use Rattle.vortex_base.specs.declared.dtype.DType.TheVariants as dtype
 use Rattle.vortex_base.specs.declared.scalar_value.ScalarValue.{ScalarValue}
@@ -19,6 +20,10 @@ use Rattle.vortex_stats.specs.Precision.{present_value}
 -- the value is a text or bytes, so that a copy of it takes memory
 abbrev pub is_copied : Precision ScalarValue → Bool
 is_copied p = is_long (present_value p)
+
+-- the set has a text or bytes among its values, so that a copy of it takes memory
+abbrev pub set_copies : List (Stat × Precision ScalarValue) → Bool
+set_copies es = list_any (λ e. is_copied e.1) es
 
 -- both are in the same case, with equal values
 abbrev pub are_same : Precision ScalarValue → Precision ScalarValue → Bool

@@ -1,5 +1,6 @@
 pub mod Bounds
 pub mod Copies
+pub mod Measuring
 pub mod Merging
 pub mod Precision
 pub mod Scalars

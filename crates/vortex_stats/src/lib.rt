@@ -11,6 +11,7 @@ mod chosen;
 mod combine;
 pub mod error;
 pub mod laws;
+mod measure;
 mod merge;
 pub mod precision;
 pub mod provider;

@@ -54,7 +54,7 @@ fn truth(holds: bool) -> Precision<ScalarValue>
     Precision::Exact(ScalarValue::Bool(holds))
 }
 
-fn is_exact_truth(holds: bool, value: Precision<&ScalarValue>) -> bool
+pub(crate) fn is_exact_truth(holds: bool, value: Precision<&ScalarValue>) -> bool
     ensures { result ≡ is_exact_truth holds (precision_map (λ v. v.now) value.entry) }
 {
     match value {

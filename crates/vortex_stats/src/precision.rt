@@ -7,6 +7,7 @@ ghost use Rattle.vortex_stats.specs.Bounds.Bound.{ClonesEqual};
 ghost use Rattle.vortex_stats.specs.Scalars.{precise_scalar, checked_scalar, IsAnswerOrMemory};
 ghost use Rattle.vortex_base.specs.Meanings.Meaning.{is_long};
 ghost use Rattle.vortex_stats.specs.Copies.{is_copied};
+ghost use Rattle.vortex_stats.specs.StatsError.{OnMemory};
 ghost use Rattle.vortex_stats.specs.Precision.{
   is_exact,
   is_absent,
@@ -246,10 +247,12 @@ impl Precision<ScalarValue> {
 impl Precision<&ScalarValue> {
     /// The same case around the scalar of this type and a clone of the value. `Mismatch` if the
     /// value is none of the type, which is found before anything is cloned; `Memory` if the clone
-    /// is refused.
+    /// of a text or bytes is refused.
     pub fn into_scalar(self, dtype: DType) -> Result<Precision<Scalar>, StatsError>
-        ensures { let value = precision_map (λ v. v.now) self.entry in
+        ensures answer { let value = precision_map (λ v. v.now) self.entry in
             IsAnswerOrMemory (precise_scalar value dtype) result }
+        ensures memory { let value = precision_map (λ v. v.now) self.entry in
+            OnMemory result (IsTrue (is_copied value)) }
     {
         match self {
             Precision::Exact(v) => Ok(Precision::Exact(typed_clone(v, dtype)?)),
@@ -295,7 +298,8 @@ pub(crate) fn copied(value: Precision<&ScalarValue>) -> Result<Precision<ScalarV
 
 /// The scalar of a clone of a value and its type.
 fn typed_clone(value: &ScalarValue, dtype: DType) -> Result<Scalar, StatsError>
-    ensures { IsAnswerOrMemory (checked_scalar value.now dtype) result }
+    ensures answer { IsAnswerOrMemory (checked_scalar value.now dtype) result }
+    ensures memory { OnMemory result (IsTrue (is_long (Some value.now))) }
 {
     if !value.fits(&dtype) {
         return Err(StatsError::Mismatch);

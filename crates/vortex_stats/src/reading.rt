@@ -15,7 +15,7 @@ pub(crate) fn read_precision<T: FromScalar>(
     dtype: DType,
 ) -> Result<Precision<T>, StatsError>
     ensures { let read = precision_map (λ v. v.now) value.entry in
-        IsPreciselyReadAs T.can_read T.reads dtype read result }
+        IsPreciselyReadAs T.can_read T.reads T.takes_memory dtype read result }
 {
     match value {
         Precision::Exact(v) => Ok(Precision::Exact(read_value(v, dtype)?)),
@@ -26,7 +26,7 @@ pub(crate) fn read_precision<T: FromScalar>(
 
 /// What the value is read as, under this type.
 fn read_value<T: FromScalar>(value: &ScalarValue, dtype: DType) -> Result<T, StatsError>
-    ensures { IsReadAs T.can_read T.reads dtype value.now result }
+    ensures { IsReadAs T.can_read T.reads T.takes_memory dtype value.now result }
 {
     if !value.fits(&dtype) {
         return Err(StatsError::Mismatch);

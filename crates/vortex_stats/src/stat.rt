@@ -48,7 +48,7 @@ pub enum Stat {
 }
 
 /// All statistics in the order of their numbers.
-const ALL: &[Stat] = &[
+pub const ALL_STATS: &[Stat] = &[
     Stat::IsConstant,
     Stat::IsSorted,
     Stat::IsStrictSorted,
@@ -75,7 +75,7 @@ impl Stat {
     pub fn all() -> StatAll
         ensures { result ≡ all_stats }
     {
-        StatAll { rest: ALL }
+        StatAll { rest: ALL_STATS }
     }
 
     /// The number of the statistic, from 0 to 8.

@@ -60,9 +60,11 @@ pub trait StatBound<T: Ord + Clone>: Sized + Drop {
 
     // An exact bound allows what compares equal to its value alone, an absent one everything.
     ghost allows_law: { TiesAllowed T.cmp allows };
-    // A union of present bounds allows the pick of any two values that the operands allow.
+    // A union of present bounds allows the pick of any two values that the operands allow, and is
+    // exact where both are and tie.
     ghost union_law: { IsUnion allows pick union };
-    // An intersection of present bounds allows what both allow, or is Empty where that is nothing.
+    // An intersection of present bounds allows what both allow, and is exact where both are and
+    // tie, or it is Empty where nothing is allowed by both.
     ghost intersection_law: { IsIntersection allows intersection };
 }
 

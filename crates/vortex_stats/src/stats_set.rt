@@ -4,7 +4,8 @@ ghost use Rattle.std.specs.Prelude.{IsTrue, alloc_error, length};
 ghost use Rattle.std.specs.List.{list_any};
 ghost use Rattle.std.specs.Iterator.{YieldsFirst, YieldsFirstRef, item_count, IsFinite};
 ghost use Rattle.vortex_stats.specs.Sets.Reading.{IsPreciselyReadAs};
-ghost use Rattle.vortex_stats.specs.Precision.{is_present, precision_map};
+ghost use Rattle.vortex_stats.specs.Copies.{is_copied, set_copies};
+ghost use Rattle.vortex_stats.specs.Precision.{precision_map};
 ghost use Rattle.vortex_stats.specs.Stat.{stat_eq, stat_number};
 ghost use Rattle.vortex_stats.specs.Sets.Slots.{slot_of, IsFiled};
 ghost use Rattle.vortex_stats.specs.declared.error.StatsError.TheVariants.{Memory};
@@ -13,7 +14,7 @@ ghost use Rattle.vortex_stats.specs.Sets.Entries.{value_fits, entries_fit, AreDi
 ghost use Rattle.vortex_stats.specs.Sets.Entries.{is_value_of as value_is_of};
 
 use crate::error::StatsError;
-use crate::precision::Precision;
+use crate::precision::{self, Precision};
 use crate::reading;
 use crate::stat::Stat;
 use smallvec::SmallVec;
@@ -145,24 +146,26 @@ impl StatsSet {
         }
     }
 
-    /// A clone of the statistic's value, and Absent where there is no entry.
+    /// A clone of the statistic's value, and Absent where there is no entry. A text or bytes alone
+    /// take memory.
     pub fn get(&self, stat: Stat) -> Result<Precision<ScalarValue>, StatsError>
         ensures value { IfOk result (λ value. value ≡ entry_value stat self.now) }
-        ensures refused { OnErr result (IsTrue (is_present (entry_value stat self.now))) }
+        ensures refused { OnErr result (IsTrue (is_copied (entry_value stat self.now))) }
         ensures memory { IfErr result (λ error. error ≡ Memory alloc_error) }
     {
-        Ok(self.find(stat).cloned()?)
+        Ok(precision::copied(self.find(stat))?)
     }
 
     /// The statistic's value, read under this type, and Absent where there is no entry. `Mismatch`
-    /// if the value is none of the type, or is no `T`; `Memory` if a clone is refused.
+    /// if the value is none of the type, or is no `T`; `Memory` if the copy of a text
+    /// or bytes is refused, or `T`'s reading is.
     pub fn get_as<T: FromScalar>(
         &self,
         stat: Stat,
         dtype: &DType,
     ) -> Result<Precision<T>, StatsError>
         ensures { let value = entry_value stat self.now in
-            IsPreciselyReadAs T.can_read T.reads dtype.now value result }
+            IsPreciselyReadAs T.can_read T.reads T.takes_memory dtype.now value result }
     {
         reading::read_precision(self.find(stat), *dtype)
     }
@@ -226,14 +229,16 @@ impl StatsSet {
         Ok(set)
     }
 
-    /// An equal set, with the same allocator.
+    /// An equal set, with the same allocator. The texts and bytes among its values alone take
+    /// memory.
     pub fn try_clone(&self) -> Result<Self, StatsError>
         ensures value { IfOk result (λ set. set ≡ self.now) }
+        ensures refused { OnErr result (IsTrue (set_copies self.now)) }
         ensures memory { IfErr result (λ error. error ≡ Memory alloc_error) }
     {
         let mut set = StatsSet::new(self.allocator());
         for entry in self.iter() {
-            set.put(entry.0, entry.1.as_ref().cloned()?);
+            set.put(entry.0, precision::copied(entry.1.as_ref())?);
         }
         Ok(set)
     }

@@ -1,13 +1,14 @@
 //! Views of a set under the type of its column, which its values fit.
-ghost use Rattle.std.specs.Prelude.{◌≡◌, IfOk, IfErr, OnErr, IsOk, IsTrue, alloc_error};
+ghost use Rattle.std.specs.Prelude.{◌≡◌, IfOk, IfErr, OnErr, IsOk, IsTrue, Some, alloc_error};
 ghost use Rattle.vortex_stats.specs.declared.error.StatsError.TheVariants.{Memory};
 ghost use Rattle.vortex_stats.specs.Merging.Merges.{merged_ordered, merged_unordered};
 ghost use Rattle.vortex_stats.specs.Merging.Combined.{combined, Combines};
-ghost use Rattle.vortex_stats.specs.Copies.{merge_copies, combination_copies};
+ghost use Rattle.vortex_base.specs.Meanings.Meaning.{is_long};
+ghost use Rattle.vortex_stats.specs.Copies.{is_copied, merge_copies, combination_copies};
 ghost use Rattle.vortex_stats.specs.StatsError.{OnMemory};
 ghost use Rattle.std.specs.Borrow.{sem};
 ghost use Rattle.vortex_base.specs.Data.Values.{is_value};
-ghost use Rattle.vortex_stats.specs.Precision.{is_present, precision_map, IfPresent};
+ghost use Rattle.vortex_stats.specs.Precision.{precision_map, IfPresent};
 ghost use Rattle.vortex_stats.specs.Scalars.{scalar_of};
 ghost use Rattle.vortex_stats.specs.Sets.Reading.{IsReadFrom};
 ghost use Rattle.vortex_stats.specs.Sets.Entries.{entry_value, entries_fit, value_fits, AreDistinct};
@@ -74,9 +75,10 @@ impl<'a> TypedStatsSetRef<'a> {
     }
 
     /// The statistic's value, read under the statistic's type, and Absent where there is no entry.
-    /// `Mismatch` if the value is no `T`; `Memory` if a clone is refused.
+    /// `Mismatch` if the value is no `T`; `Memory` if the copy of a text or bytes is
+    /// refused, or `T`'s reading is.
     pub fn get_as<T: FromScalar>(&self, stat: Stat) -> Result<Precision<T>, StatsError>
-        ensures { IsReadFrom T.can_read T.reads stat self.now result }
+        ensures { IsReadFrom T.can_read T.reads T.takes_memory stat self.now result }
     {
         match stat.dtype(&self.dtype) {
             Some(expected) => reading::read_precision(self.values.find(stat), expected),
@@ -102,7 +104,7 @@ fn get_typed(values: &StatsSet, dtype: &DType, stat: Stat) -> Result<Precision<S
     requires { IsTrue (entries_fit values.now dtype.now) }
     ensures value { IfOk result (λ p. p ≡ typed_value stat
         (record { values = values.now; dtype = dtype.now })) }
-    ensures refused { OnErr result (IsTrue (is_present (entry_value stat values.now))) }
+    ensures refused { OnErr result (IsTrue (is_copied (entry_value stat values.now))) }
 {
     match stat.dtype(dtype) {
         Some(expected) => scalar_of_found(values.find(stat), expected),
@@ -117,7 +119,7 @@ fn scalar_of_found(
 ) -> Result<Precision<Scalar>, AllocError>
     requires { IfPresent value (λ v. IsTrue (is_value v.now dtype)) }
     ensures value { IfOk result (λ p. p ≡ precision_map (λ v. scalar_of v.now dtype) value.entry) }
-    ensures refused { OnErr result (IsTrue (is_present value.entry)) }
+    ensures refused { OnErr result (IsTrue (is_copied (precision_map (λ v. v.now) value.entry))) }
 {
     match value {
         Precision::Exact(v) => Ok(Precision::Exact(scalar_of_clone(v, dtype)?)),
@@ -128,7 +130,8 @@ fn scalar_of_found(
 
 fn scalar_of_clone(value: &ScalarValue, dtype: DType) -> Result<Scalar, AllocError>
     requires { IsTrue (is_value value.now dtype) }
-    ensures { IfOk result (λ s. s ≡ scalar_of value.now dtype) }
+    ensures value { IfOk result (λ s. s ≡ scalar_of value.now dtype) }
+    ensures refused { OnErr result (IsTrue (is_long (Some value.now))) }
 {
     match Scalar::try_new(dtype, Some(copy_of(value)?)) {
         Ok(scalar) => Ok(scalar),
@@ -201,9 +204,10 @@ impl<'a> MutTypedStatsSetRef<'a> {
     }
 
     /// The statistic's value, read under the statistic's type, and Absent where there is no entry.
-    /// `Mismatch` if the value is no `T`; `Memory` if a clone is refused.
+    /// `Mismatch` if the value is no `T`; `Memory` if the copy of a text or bytes is
+    /// refused, or `T`'s reading is.
     pub fn get_as<T: FromScalar>(&self, stat: Stat) -> Result<Precision<T>, StatsError>
-        ensures { IsReadFrom T.can_read T.reads stat (typed_stats self.now) result }
+        ensures { IsReadFrom T.can_read T.reads T.takes_memory stat (typed_stats self.now) result }
     {
         match stat.dtype(&self.dtype) {
             Some(expected) => reading::read_precision(self.values.find(stat), expected),

@@ -6,8 +6,9 @@ ghost use Rattle.vortex_stats.specs.declared.error.StatsError.TheVariants.{Memor
 ghost use Rattle.vortex_stats.specs.Sets.Claims.{IsTrueOf};
 ghost use Rattle.vortex_stats.specs.Merging.Merges.{merged_ordered, merged_unordered};
 ghost use Rattle.vortex_stats.specs.Merging.Combined.{combined, Combines};
-ghost use Rattle.vortex_stats.specs.Copies.{holds_long};
-ghost use Rattle.vortex_stats.specs.Sets.Entries.{entries_fit, value_fits, with_entry, without_entry};
+ghost use Rattle.vortex_stats.specs.Copies.{holds_long, is_copied, set_copies};
+ghost use Rattle.vortex_stats.specs.Sets.Entries.{entries_fit, entry_value, value_fits};
+ghost use Rattle.vortex_stats.specs.Sets.Entries.{with_entry, without_entry};
 
 use std::alloc::{AllocError, Global};
 use vortex_base::dtype::DType;
@@ -183,6 +184,41 @@ pub fn is_out_of_memory(set: &mut StatsSet, other: &StatsSet, dtype: &DType) -> 
     match set.combine_sets(other, dtype) {
         Err(StatsError::Memory(_)) => true,
         _ => false,
+    }
+}
+
+/// The same through a view.
+pub fn is_out_of_memory_through_view(set: &mut StatsSet, other: &StatsSet, dtype: &DType) -> bool
+    requires left_fits { IsTrue (entries_fit set.old dtype.now) }
+    requires other_fits { IsTrue (entries_fit other.now dtype.now) }
+    ensures { IsTrue result → set.new ≡ set.old }
+{
+    let mut view = set.as_mut_typed_ref(dtype);
+    match view.combine_sets(&other.as_typed_ref(dtype)) {
+        Err(StatsError::Memory(_)) => true,
+        _ => false,
+    }
+}
+
+/// A set without a text or bytes is always copied.
+pub fn copied_numbers(set: &StatsSet) -> StatsSet
+    requires { set_copies set.now ≡ false }
+    ensures { result ≡ set.now }
+{
+    match set.try_clone() {
+        Ok(copy) => copy,
+        Err(_) => unreachable!(),
+    }
+}
+
+/// A value that is neither is always answered.
+pub fn number_at(set: &StatsSet, stat: Stat) -> Precision<ScalarValue>
+    requires { is_copied (entry_value stat set.now) ≡ false }
+    ensures { result ≡ entry_value stat set.now }
+{
+    match set.get(stat) {
+        Ok(value) => value,
+        Err(_) => unreachable!(),
     }
 }
 

@@ -147,6 +147,52 @@ fn bounds(rt: HostRuntime) {
     assert!(rt; conflict(alloc, Stat::Sum, exact(1i64), exact(2i64)));
 }
 
+/// Values of a count meet as upper bounds do.
+fn meet_as_counts(alloc: Global, stat: Stat) -> bool {
+    meet(alloc, stat, exact(5u64), inexact(7u64), exact(5u64))
+        && meet(alloc, stat, inexact(7u64), exact(5u64), exact(5u64))
+        && meet(alloc, stat, exact(5u64), inexact(5u64), exact(5u64))
+        && meet(alloc, stat, inexact(5u64), inexact(7u64), inexact(5u64))
+}
+
+fn conflict_as_counts(alloc: Global, stat: Stat) -> bool {
+    conflict(alloc, stat, exact(5u64), inexact(3u64))
+        && conflict(alloc, stat, inexact(3u64), exact(5u64))
+        && conflict(alloc, stat, exact(5u64), exact(3u64))
+}
+
+#[test]
+fn counts(rt: HostRuntime) {
+    let alloc = rt.alloc();
+    assert!(rt; meet_as_counts(alloc, Stat::NullCount));
+    assert!(rt; meet_as_counts(alloc, Stat::UncompressedSizeInBytes));
+    assert!(rt; conflict_as_counts(alloc, Stat::NullCount));
+    assert!(rt; conflict_as_counts(alloc, Stat::UncompressedSizeInBytes));
+}
+
+/// An exact value stays where an inexact one of the other set agrees, and takes the place of an
+/// inexact one; a statistic of the other set alone is added.
+#[test]
+fn inexact_bounds(rt: HostRuntime) {
+    let first = [
+        (Stat::Min, exact(42)),
+        (Stat::Max, inexact(100)),
+        (Stat::IsConstant, exact(false)),
+    ];
+    let other = [
+        (Stat::Min, inexact(40)),
+        (Stat::Max, exact(90)),
+        (Stat::IsSorted, exact(true)),
+    ];
+    let expected = [
+        (Stat::Min, exact(42)),
+        (Stat::Max, exact(90)),
+        (Stat::IsConstant, exact(false)),
+        (Stat::IsSorted, exact(true)),
+    ];
+    assert!(rt; combines(rt.alloc(), &first, &other, &expected, None));
+}
+
 #[test]
 fn missing_stats(rt: HostRuntime) {
     let first = [

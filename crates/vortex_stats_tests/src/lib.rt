@@ -12,6 +12,8 @@ mod callers;
 #[cfg(test)]
 mod combinations;
 #[cfg(test)]
+mod measures;
+#[cfg(test)]
 mod merge_rows;
 #[cfg(test)]
 mod merges;

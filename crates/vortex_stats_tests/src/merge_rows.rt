@@ -45,6 +45,20 @@ fn counts()
         ≡ (stats.NullCount, Inexact (u64 3)) ∷ [] }
 {}
 
+/// A count of NaNs is cleared, whatever the two sides know.
+fn counts_of_nans()
+    ensures exact { merged_ordered
+        ((stats.NaNCount, Exact (u64 0)) ∷ [])
+        ((stats.NaNCount, Exact (u64 0)) ∷ [])
+        ≡ [] }
+    ensures left_alone { merged_ordered ((stats.NaNCount, Inexact (u64 2)) ∷ []) [] ≡ [] }
+    ensures right_alone { merged_ordered [] ((stats.NaNCount, Exact (u64 2)) ∷ []) ≡ [] }
+    ensures unordered { merged_unordered
+        ((stats.NaNCount, Exact (u64 0)) ∷ [])
+        ((stats.NaNCount, Exact (u64 0)) ∷ [])
+        ≡ [] }
+{}
+
 /// Constants are compared by their exact minima.
 fn constants_that_differ()
     ensures inexact_min { merged_ordered
@@ -172,6 +186,64 @@ fn conflict_at_min()
           entries = (stats.Min, Exact (i32 5)) ∷ (stats.Max, Exact (i32 9))
               ∷ [];
           conflict = Some stats.Min;
+        } }
+{}
+
+/// A count meets another value of it as an upper bound does: an exact one within an inexact one
+/// stays, and one above it is a conflict.
+fn counts_that_meet()
+    ensures nulls_within { combined
+        ((stats.NullCount, Exact (u64 5)) ∷ [])
+        ((stats.NullCount, Inexact (u64 7)) ∷ [])
+        ≡ record { entries = (stats.NullCount, Exact (u64 5)) ∷ []; conflict = None } }
+    ensures nulls_above { combined
+        ((stats.NullCount, Exact (u64 5)) ∷ [])
+        ((stats.NullCount, Inexact (u64 3)) ∷ [])
+        ≡ record {
+          entries = (stats.NullCount, Exact (u64 5)) ∷ [];
+          conflict = Some stats.NullCount;
+        } }
+    ensures size_within { combined
+        ((stats.UncompressedSizeInBytes, Inexact (u64 7)) ∷ [])
+        ((stats.UncompressedSizeInBytes, Exact (u64 5)) ∷ [])
+        ≡ record {
+          entries = (stats.UncompressedSizeInBytes, Exact (u64 5)) ∷ [];
+          conflict = None;
+        } }
+    ensures size_above { combined
+        ((stats.UncompressedSizeInBytes, Inexact (u64 3)) ∷ [])
+        ((stats.UncompressedSizeInBytes, Exact (u64 5)) ∷ [])
+        ≡ record {
+          entries = (stats.UncompressedSizeInBytes, Inexact (u64 3)) ∷ [];
+          conflict = Some stats.UncompressedSizeInBytes;
+        } }
+    ensures inexact { combined
+        ((stats.NullCount, Inexact (u64 7)) ∷ (stats.UncompressedSizeInBytes, Inexact (u64 5)) ∷ [])
+        ((stats.NullCount, Inexact (u64 5)) ∷ (stats.UncompressedSizeInBytes, Inexact (u64 7)) ∷ [])
+        ≡ record {
+          entries = (stats.NullCount, Inexact (u64 5))
+              ∷ (stats.UncompressedSizeInBytes, Inexact (u64 5)) ∷ [];
+          conflict = None;
+        } }
+    ensures nans { combined
+        ((stats.NaNCount, Exact (u64 5)) ∷ [])
+        ((stats.NaNCount, Inexact (u64 3)) ∷ [])
+        ≡ record {
+          entries = (stats.NaNCount, Exact (u64 5)) ∷ [];
+          conflict = Some stats.NaNCount;
+        } }
+{}
+
+/// Exact values stay where inexact ones of the other set agree, and take the place of inexact ones.
+fn inexact_bounds_that_meet()
+    ensures { combined
+        ((stats.Min, Exact (i32 42)) ∷ (stats.Max, Inexact (i32 100))
+        ∷ (stats.IsConstant, fails) ∷ [])
+        ((stats.Min, Inexact (i32 40)) ∷ (stats.Max, Exact (i32 90)) ∷ (stats.IsSorted, holds) ∷ [])
+        ≡ record {
+          entries = (stats.Min, Exact (i32 42)) ∷ (stats.Max, Exact (i32 90))
+              ∷ (stats.IsConstant, fails) ∷ (stats.IsSorted, holds) ∷ [];
+          conflict = None;
         } }
 {}
 

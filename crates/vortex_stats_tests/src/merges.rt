@@ -182,6 +182,16 @@ fn places_of_is_constant(rt: HostRuntime) {
     assert!(rt; merges(alloc, &[(Stat::Max, exact(1))], &up_to_3(), &up_to_3()));
 }
 
+/// No count of NaNs fits the column, so that an entry of it is Absent, and a merge clears it.
+#[test]
+fn counts_of_nans(rt: HostRuntime) {
+    let alloc = rt.alloc();
+    let unknown = [(Stat::NaNCount, Precision::Absent), (Stat::Max, exact(1))];
+    let other = [(Stat::Max, exact(3)), (Stat::NaNCount, Precision::Absent)];
+    assert!(rt; merges(alloc, &unknown, &other, &[(Stat::Max, exact(3))]));
+    assert!(rt; merges(alloc, &[(Stat::NaNCount, Precision::Absent)], &[], &[]));
+}
+
 /// Whether two values of a bound merge to the last one.
 fn joins(
     alloc: Global,
@@ -200,6 +210,7 @@ fn bounds(rt: HostRuntime) {
     assert!(rt; joins(alloc, Stat::Max, exact(37), exact(42), exact(42)));
     assert!(rt; joins(alloc, Stat::Max, exact(42), inexact(43), inexact(43)));
     assert!(rt; joins(alloc, Stat::Min, inexact(5), exact(5), exact(5)));
+    assert!(rt; joins(alloc, Stat::Min, inexact(4), exact(5), inexact(4)));
     assert!(rt; joins(alloc, Stat::Max, exact(43), inexact(42), exact(43)));
 }
 

@@ -48,10 +48,14 @@ fn all_sides(set: Sets, before: Sets, other: Sets) -> Option<Sides> {
     }
 }
 
-/// Sides that fit the type, if memory was there.
-fn make_sides(alloc: Global) -> Option<Sides> {
-    let set = texts(alloc, "b", "d");
-    let before = texts(alloc, "b", "d");
+/// Sides that fit the type, if memory was there. The first set tells that it isn't constant, or
+/// nothing of that.
+fn make_sides(alloc: Global, is_told: bool) -> Option<Sides> {
+    let (set, before) = if is_told {
+        (varied(alloc, "b", "d"), varied(alloc, "b", "d"))
+    } else {
+        (texts(alloc, "b", "d"), texts(alloc, "b", "d"))
+    };
     all_sides(set, before, varied(alloc, "a", "e"))
 }
 
@@ -105,15 +109,21 @@ fn merge(set: StatsSet, other: &StatsSet, is_ordered: bool) -> Result<StatsSet, 
 }
 
 /// The same of an ordered merge or an unordered one; `None` where the sides were refused.
-fn merges(alloc: Global, is_ordered: bool) -> Option<bool> {
-    let Sides { set, before, other } = make_sides(alloc)?;
+fn merges(alloc: Global, is_ordered: bool, is_told: bool) -> Option<bool> {
+    let Sides { set, before, other } = make_sides(alloc, is_told)?;
     Some(took_all(merge(set, &other, is_ordered), &before, &other))
 }
 
 #[test]
 fn merges_by_value(rt: HostRuntime) {
-    assert!(rt; merges(rt.alloc(), true) != Some(false));
-    assert!(rt; merges(rt.alloc(), false) != Some(false));
+    assert!(rt; merges(rt.alloc(), true, false) != Some(false));
+    assert!(rt; merges(rt.alloc(), false, false) != Some(false));
+}
+
+#[test]
+fn merges_where_both_tell_of_constants(rt: HostRuntime) {
+    assert!(rt; merges(rt.alloc(), true, true) != Some(false));
+    assert!(rt; merges(rt.alloc(), false, true) != Some(false));
 }
 
 /// A merge through a view.
@@ -139,16 +149,22 @@ fn viewed_took_all(answer: Result<(), StatsError>, sides: &Sides) -> bool {
 }
 
 /// `None` where the sides were refused.
-fn merges_viewed(alloc: Global, is_ordered: bool) -> Option<bool> {
-    let mut sides = make_sides(alloc)?;
+fn merges_viewed(alloc: Global, is_ordered: bool, is_told: bool) -> Option<bool> {
+    let mut sides = make_sides(alloc, is_told)?;
     let answer = merge_by_a_view(&mut sides.set, &sides.other, is_ordered);
     Some(viewed_took_all(answer, &sides))
 }
 
 #[test]
 fn merges_through_a_view(rt: HostRuntime) {
-    assert!(rt; merges_viewed(rt.alloc(), true) != Some(false));
-    assert!(rt; merges_viewed(rt.alloc(), false) != Some(false));
+    assert!(rt; merges_viewed(rt.alloc(), true, false) != Some(false));
+    assert!(rt; merges_viewed(rt.alloc(), false, false) != Some(false));
+}
+
+#[test]
+fn merges_through_a_view_where_both_tell_of_constants(rt: HostRuntime) {
+    assert!(rt; merges_viewed(rt.alloc(), true, true) != Some(false));
+    assert!(rt; merges_viewed(rt.alloc(), false, true) != Some(false));
 }
 
 /// The first entry, which every set has.
@@ -156,20 +172,37 @@ fn min_of(alloc: Global, min: &str) -> Sets {
     Ok(sets::one_value(alloc, Stat::Min, text(alloc, min)?))
 }
 
-/// Whether the combination agreed, or conflicted at Min, as it is to do; or it was refused for
-/// memory with the set as it was.
+/// Whether the set has its own minimum, the other's maximum, and so many entries.
+fn has_extremes(sides: &Sides, count: usize) -> bool {
+    sets::len(&sides.set) == count
+        && has_same(&sides.set, &sides.before, Stat::Min)
+        && has_same(&sides.set, &sides.other, Stat::Max)
+}
+
+/// Whether the combination agreed and took the count of nulls, or conflicted at Min, as it is to
+/// do, and took nothing that follows; or it was refused for memory with the set as it was.
 fn is_combined(answer: Result<(), StatsError>, sides: &Sides, agrees: bool) -> bool {
-    let is_of_two = sets::len(&sides.set) == 2;
     match answer {
-        Ok(()) => agrees && is_of_two,
-        Err(StatsError::Conflict(stat)) => !agrees && stat == Stat::Min && is_of_two,
+        Ok(()) => {
+            agrees && has_extremes(sides, 3) && has_same(&sides.set, &sides.other, Stat::NullCount)
+        }
+        Err(StatsError::Conflict(stat)) => {
+            !agrees && stat == Stat::Min && has_extremes(sides, 2)
+        }
         Err(refused) => left_all(refused, &sides.set, &sides.before),
     }
 }
 
-/// The sides of a minimum that is combined with a maximum and a minimum.
+/// A maximum, a minimum and a count of nulls, in this order.
+fn extremes_and_nulls(alloc: Global, min: &str) -> Sets {
+    let mut set = set_of_texts(alloc, (Stat::Max, "m"), (Stat::Min, min))?;
+    sets::set(&mut set, Stat::NullCount, exact(0u64))?;
+    Ok(set)
+}
+
+/// The sides of a minimum that is combined with a maximum, a minimum and a count of nulls.
 fn combination_sides(alloc: Global, min: &str) -> Option<Sides> {
-    let other = set_of_texts(alloc, (Stat::Max, "m"), (Stat::Min, min));
+    let other = extremes_and_nulls(alloc, min);
     all_sides(min_of(alloc, "e"), min_of(alloc, "e"), other)
 }
 

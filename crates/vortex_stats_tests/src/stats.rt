@@ -85,6 +85,7 @@ fn stat_of(aggregate: AggregateFnRef) -> Option<Stat> {
 #[test]
 fn aggregates_of_no_statistic(rt: HostRuntime) {
     assert!(rt; stat_of(AggregateFnRef::AllNull).is_none());
+    assert!(rt; stat_of(AggregateFnRef::AllNonNull).is_none());
     assert!(rt; stat_of(AggregateFnRef::MinMax).is_none());
 }
 
@@ -102,9 +103,8 @@ fn has_type(stat: Stat, column: DType, expected: Option<DType>) -> bool {
 #[test]
 fn types(rt: HostRuntime) {
     let nullable = Nullability::Nullable;
+    assert!(rt; has_type(Stat::IsConstant, DType::Null, Some(DType::Bool(PLAIN))));
     assert!(rt; has_type(Stat::IsSorted, NUMBER, Some(DType::Bool(PLAIN))));
-    assert!(rt; has_type(Stat::Max, NUMBER, Some(NUMBER)));
-    assert!(rt; has_type(Stat::Min, DType::Null, None));
     let sum = DType::Primitive(PType::I64, nullable);
     assert!(rt; has_type(Stat::Sum, NUMBER, Some(sum)));
     let trues = DType::Primitive(PType::U64, nullable);
@@ -113,6 +113,21 @@ fn types(rt: HostRuntime) {
     assert!(rt; has_type(Stat::NullCount, DType::Null, Some(COUNT)));
     assert!(rt; has_type(Stat::UncompressedSizeInBytes, NUMBER, Some(COUNT)));
     assert!(rt; has_type(Stat::NaNCount, NUMBER, None));
+}
+
+/// Whether Max and Min have the column's own type.
+fn have_own_type(column: DType) -> bool {
+    has_type(Stat::Max, column, Some(column)) && has_type(Stat::Min, column, Some(column))
+}
+
+#[test]
+fn types_of_extremes(rt: HostRuntime) {
+    assert!(rt; have_own_type(NUMBER));
+    assert!(rt; have_own_type(DType::Bool(Nullability::Nullable)));
+    assert!(rt; have_own_type(DType::Utf8(Nullability::Nullable)));
+    assert!(rt; have_own_type(DType::Binary(PLAIN)));
+    assert!(rt; has_type(Stat::Max, DType::Null, None));
+    assert!(rt; has_type(Stat::Min, DType::Null, None));
 }
 
 fn number(error: StatsError) -> u8 {

@@ -72,7 +72,7 @@ pub fn inexact<T: Into<Plain>>(value: T) -> PlainValue {
     Precision::Inexact(value.into())
 }
 
-fn scalar_value(plain: Plain) -> ScalarValue {
+pub fn scalar_value(plain: Plain) -> ScalarValue {
     match plain {
         Plain::Bool(value) => ScalarValue::from(value),
         Plain::I32(value) => ScalarValue::from(value),

@@ -1,11 +1,14 @@
 //! Worked rows of the definitions of unions, found by computation alone, and bounds that are not
 //! the tightest.
-ghost use Rattle.std.specs.Prelude.{◌≡◌, [], ◌∷◌, Some, None};
+ghost use Rattle.std.specs.Prelude.{◌≡◌, [], ◌∷◌, Some, None, option_map};
 ghost use Rattle.std.specs.Ordering.{nat_cmp};
 ghost use Rattle.vortex_stats.specs.declared.precision.Precision.TheVariants.{Exact, Inexact, Absent};
+ghost use Rattle.vortex_stats.specs.Precision.{inexact_of};
+ghost use Rattle.vortex_stats.specs.Bounds.Bound.{IsUnion, IsIntersection, intersection_map};
 ghost use Rattle.vortex_stats.specs.Bounds.Order.{greater, lesser};
 ghost use Rattle.vortex_stats.specs.Bounds.UpperBound.{upper_allows, upper_union};
 ghost use Rattle.vortex_stats.specs.Bounds.LowerBound.{lower_allows, lower_union};
+ghost use Rattle.vortex_stats.specs.Bounds.PointBound.{point_allows, point_union, point_intersection};
 ghost use Rattle.vortex_stats.specs.Bounds.Tightest.{leaf, fork, tree_union, IsTightestAt, IsGreatestOf, IsLeastOf};
 
 /// Three upper bounds in several groupings and orders: the greatest value is exact where an exact
@@ -51,4 +54,13 @@ fn other_bounds_are_not_the_greatest()
     ensures exact { ¬ IsGreatestOf nat_cmp (Exact 10 ∷ Inexact 12 ∷ []) (Exact 12) }
     ensures lesser { ¬ IsGreatestOf nat_cmp (Exact 10 ∷ Exact 12 ∷ []) (Exact 10) }
     ensures greater { ¬ IsLeastOf nat_cmp (Exact 10 ∷ Exact 12 ∷ []) (Exact 12) }
+{}
+
+/// A union, or an intersection, that is never exact is none, also where an inexact bound allows
+/// everything.
+fn always_inexact_bounds_break_the_laws()
+    ensures union { ¬ IsUnion (point_allows nat_cmp) (lesser nat_cmp)
+        (λ a b. option_map inexact_of (point_union nat_cmp a b)) }
+    ensures intersection { ¬ IsIntersection (point_allows nat_cmp)
+        (λ a b. option_map (intersection_map inexact_of) (point_intersection nat_cmp a b)) }
 {}

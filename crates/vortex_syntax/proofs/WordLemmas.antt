@@ -4,6 +4,7 @@ use Rattle.std.proofs.lemmas.Bool.{cases_Bool}
 use Rattle.std.proofs.lemmas.Bool.Decides.{nat_tests}
 use Rattle.std.proofs.lemmas.List.{drop_all, take_all}
 use Rattle.std.specs.List.{position_or_len}
+use Rattle.vortex_syntax.specs.Copies.{first_is_copied}
 use Rattle.vortex_syntax.specs.QuotedSteps.{escape_of, step_of}
 use Rattle.vortex_syntax.specs.Words.{Token, Plain, Broken, Place, between, closed, plain, quoted, escaped, no_word, plain_word, words, words_from}
 
@@ -145,3 +146,42 @@ counted (w ∷ ws) none = omega arith
 
 pub some_words : (text : List ℕ) → 0 < length text → (get_or text 0 0 == 32) ≡ false → 0 < length (words text)
 some_words text some no_space = counted (words text) (has_word text some no_space)
+
+-- a text between quotes that has a byte so far, or is about to have one
+abbrev pub has_byte : Place → Bool
+has_byte between = false
+has_byte (plain w) = false
+has_byte (quoted []) = false
+has_byte (quoted (b ∷ bs)) = true
+has_byte (escaped w) = true
+has_byte (closed []) = false
+has_byte (closed (b ∷ bs)) = true
+
+one_byte_more : (w : List ℕ) (b : ℕ) → has_byte (quoted (w ++ b ∷ [])) ≡ true
+one_byte_more [] b = refl
+one_byte_more (c ∷ w) b = refl
+
+-- it is copied
+copied : (bs : List ℕ) (p : Place) → has_byte p ≡ true → first_is_copied (words_from bs p) ≡ true
+copied [] between h = cc
+copied [] (plain w) h = cc
+copied [] (quoted []) h = cc
+copied [] (quoted (c ∷ w)) h = refl
+copied [] (escaped w) h = refl
+copied [] (closed []) h = cc
+copied [] (closed (c ∷ w)) h = refl
+copied (b ∷ bs) between h = cc
+copied (b ∷ bs) (plain w) h = cc
+copied (b ∷ bs) (quoted []) h = cc
+copied (b ∷ bs) (quoted (c ∷ w)) h = elim (cases_Bool (b == 34)) [
+  | inl is ↦ rw is (copied bs (closed (c ∷ w)) refl)
+  | inr isnt ↦ (elim (cases_Bool (b == 92)) [ inl is ↦ rw (isnt, is) (copied bs (escaped (c ∷ w)) refl) | inr none ↦ rw (isnt, none) (copied bs (quoted (c ∷ (w ++ b ∷ []))) refl) ])
+]
+copied (b ∷ bs) (escaped w) h = elim (cases_Bool (b == 34 || b == 92)) [ inl is ↦ rw is (copied bs (quoted (w ++ b ∷ [])) (one_byte_more w b)) | inr isnt ↦ rw isnt refl ]
+copied (b ∷ bs) (closed []) h = cc
+copied (b ∷ bs) (closed (c ∷ w)) h = elim (cases_Bool (b == 32)) [ inl is ↦ rw is refl | inr isnt ↦ rw isnt refl ]
+
+-- a text between quotes to which a byte is added is copied
+pub quoted_copied : (bytes rest after w : List ℕ) (b : ℕ) → step_of rest ≡ Some (Some b, after) → words_from bytes (quoted []) ≡ words_from rest (quoted w)
+    → first_is_copied (words_from bytes (quoted [])) ≡ true
+quoted_copied bytes rest after w b step h = ap first_is_copied (quoted_more bytes rest after w b step h) ∙ copied after (quoted (w ++ b ∷ [])) (one_byte_more w b)

@@ -1,4 +1,5 @@
 -- Worked rows, found by computation alone.
 pub mod NameRows
 pub mod NumberRows
+pub mod ValueRows
 pub mod WordRows

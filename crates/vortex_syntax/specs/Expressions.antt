@@ -1,5 +1,5 @@
 -- Expressions in prefix form.
-use Rattle.std.specs.Prelude.{ℕ, zero, suc, true, false, List, Option, Some, None, codes, is_ok, length, if◌then◌else◌}
+use Rattle.std.specs.Prelude.{ℕ, zero, suc, Bool, true, false, List, ◌∷◌, Option, Some, None, codes, is_ok, is_some, length, if◌then◌else◌}
 use Rattle.std.specs.Str.{bytes_eq}
 use Rattle.vortex_base.specs.Meanings.Binding.{find_column}
 use Rattle.vortex_base.specs.Data.Scopes.{Named}
@@ -16,7 +16,7 @@ use Rattle.vortex_base.specs.declared.types.Operator.TheVariants as operator
 use Rattle.vortex_syntax.specs.Fails.{◌>>=◌}
 use Rattle.vortex_syntax.specs.Names.{type_of}
 use Rattle.vortex_syntax.specs.Values.{optional_value_of}
-use Rattle.vortex_syntax.specs.Words.{Token, first_word, no_word, plain_word}
+use Rattle.vortex_syntax.specs.Words.{Token, Plain, first_word, no_word, plain_word}
 use Rattle.vortex_syntax.specs.declared.form.Form.{Form}
 use Rattle.vortex_syntax.specs.declared.form.Form.TheVariants as form
 use Rattle.vortex_syntax.specs.declared.line_error.LineError.{LineError}
@@ -57,6 +57,11 @@ form_of word =
     if bytes_eq word (codes "isnull") then Some form.IsNull else (
     if bytes_eq word (codes "notnull") then Some form.IsNotNull else (
     if bytes_eq word (codes "not") then Some form.Not else other_form (operator_of word) (like_of word))))))
+
+-- the first word begins an expression
+abbrev pub begins_expression : List Token → Bool
+begins_expression (Plain word ∷ ws) = is_some (form_of word)
+begins_expression ws = false
 
 -- whether an end of a BETWEEN is left out
 abbrev pub strictness_of : List ℕ → Option StrictComparison

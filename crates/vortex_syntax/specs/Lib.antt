@@ -1,3 +1,4 @@
+pub mod Copies
 pub mod Expressions
 pub mod Fails
 pub mod LineKinds
@@ -5,6 +6,7 @@ pub mod Names
 pub mod Numbers
 pub mod Places
 pub mod QuotedSteps
+pub mod Spelling
 pub mod Statistics
 pub mod Values
 pub mod Words

@@ -1,5 +1,5 @@
 //! Expressions in prefix form.
-ghost use Rattle.std.specs.Prelude.{◌≡◌, ◌<◌, ◌≤◌, ℕ, IfOk, length};
+ghost use Rattle.std.specs.Prelude.{◌≡◌, ◌<◌, ◌≤◌, ℕ, IfOk, IsErrOf, IsTrue, length};
 ghost use Rattle.vortex_base.specs.Data.Scopes.{named_columns};
 ghost use Rattle.vortex_base.specs.Trees.Tree as tree;
 ghost use Rattle.vortex_syntax.specs.Expressions as spec;
@@ -271,6 +271,8 @@ pub fn read_expression<'a>(
     ensures read { (most : ℕ) → length (words line.now) ≤ most
         → Gives (λ x. (x.0, words x.1.now)) result
         (spec.expression_within (named_columns columns.now) most (words line.now)) }
+    ensures memory { IsErrOf result LineError.Memory
+        → IsTrue (spec.begins_expression (words line.now)) }
     ensures fewer { IfOk result (λ x. length (words x.1.now) < length (words line.now)) }
 {
     let (word, rest) = plain_word(line)?;

@@ -4,6 +4,7 @@
 pub mod columns;
 pub mod expression;
 pub mod form;
+pub mod laws;
 pub mod line_error;
 pub mod line_kind;
 pub mod lines;

@@ -1,9 +1,11 @@
 //! The words of a `stat` line.
-ghost use Rattle.std.specs.Prelude.{◌≡◌};
+ghost use Rattle.std.specs.Prelude.{◌≡◌, IfErr, IsErrOf, IsTrue};
 ghost use Rattle.vortex_base.specs.Data.Scopes.{named_columns};
+ghost use Rattle.vortex_syntax.specs.Copies.{claim_takes};
 ghost use Rattle.vortex_syntax.specs.Fails.{Gives};
 ghost use Rattle.vortex_syntax.specs.Statistics.{claimed, claimed_value, precision_of, stat_of, truth_stat_of};
 ghost use Rattle.vortex_syntax.specs.Words.{words};
+ghost use Rattle.vortex_syntax.specs.declared.line_error.LineError.TheVariants.{Bad};
 
 use crate::columns::Columns;
 use crate::line_error::LineError;
@@ -82,8 +84,9 @@ pub struct Claim {
 
 /// The column and the statistic that a line begins with, and the line after them.
 pub fn read_claim<'a>(columns: &Columns, line: &'a [u8]) -> Result<(Claim, &'a [u8]), LineError>
-    ensures { Gives (λ x. ((x.0.place, x.0.stat, x.0.dtype), words x.1.now)) result
+    ensures claim { Gives (λ x. ((x.0.place, x.0.stat, x.0.dtype), words x.1.now)) result
         (claimed (named_columns columns.now) (words line.now)) }
+    ensures bad { IfErr result (λ e. e ≡ Bad) }
 {
     let (name, rest) = plain_word(line)?;
     let Some((place, dtype)) = columns.find(name) else {
@@ -105,7 +108,9 @@ pub fn read_claimed(
     dtype: DType,
     line: &[u8],
 ) -> Result<Precision<ScalarValue>, LineError>
-    ensures { Gives (λ p. p) result (claimed_value dtype (words line.now)) }
+    ensures value { Gives (λ p. p) result (claimed_value dtype (words line.now)) }
+    ensures memory { IsErrOf result LineError.Memory
+        → IsTrue (claim_takes dtype (words line.now)) }
 {
     let (precision, rest) = plain_word(line)?;
     let (word, rest) = first_word(alloc, rest)?;

@@ -1,9 +1,11 @@
 //! The values that words write.
-ghost use Rattle.std.specs.Prelude.{◌≡◌, [], None};
+ghost use Rattle.std.specs.Prelude.{◌≡◌, ◌<◌, ◌≤◌, [], None, IfErr, IsErrOf, IsTrue, length, slice_index};
+ghost use Rattle.vortex_syntax.specs.Copies.{makes_bytes};
 ghost use Rattle.vortex_syntax.specs.Fails.{Gives};
 ghost use Rattle.vortex_syntax.specs.Numbers.{byte_of, bytes_of, hexadecimal_of};
 ghost use Rattle.vortex_syntax.specs.Values.{binary_of, optional_value_of, plain_value, quoted_value, text_of, truth_of, value_of};
-ghost use Rattle.vortex_syntax.specs.Words.{token_of};
+ghost use Rattle.vortex_syntax.specs.Words.{Plain, token_of};
+ghost use Rattle.vortex_syntax.specs.declared.line_error.LineError.TheVariants.{Bad};
 
 use crate::line_error::LineError;
 use crate::names::is;
@@ -47,7 +49,8 @@ fn byte_of(high: u8, low: u8) -> Option<u8>
 
 // The bytes that pairs of hexadecimal digits write.
 fn bytes_of(alloc: Global, digits: &[u8]) -> Result<Vec<u8>, LineError>
-    ensures { Gives (λ v. v.items) result (bytes_of digits.now) }
+    ensures bytes { Gives (λ v. v.items) result (bytes_of digits.now) }
+    ensures memory { IsErrOf result LineError.Memory → 2 ≤ length digits.now }
 {
     let mut bytes = Vec::with_capacity(alloc, digits.len() / 2)?;
     let mut rest = digits;
@@ -67,7 +70,9 @@ fn bytes_of(alloc: Global, digits: &[u8]) -> Result<Vec<u8>, LineError>
 
 // Bytes: an `x` and then their digits.
 fn binary_of(alloc: Global, word: &[u8]) -> Result<ScalarValue, LineError>
-    ensures { Gives (λ v. v) result (binary_of word.now) }
+    ensures value { Gives (λ v. v) result (binary_of word.now) }
+    ensures x { IsErrOf result LineError.Memory → slice_index word.now 0 ≡ 120 }
+    ensures digits { IsErrOf result LineError.Memory → 2 < length word.now }
 {
     match word {
         [b'x', digits @ ..] => Ok(ScalarValue::Binary(Bytes::new(bytes_of(alloc, digits)?))),
@@ -78,7 +83,9 @@ fn binary_of(alloc: Global, word: &[u8]) -> Result<ScalarValue, LineError>
 // The value other than null that a word without quotes writes.
 #[inline(always)]
 fn plain_value(alloc: Global, dtype: DType, word: &[u8]) -> Result<ScalarValue, LineError>
-    ensures { Gives (λ v. v) result (plain_value dtype word.now) }
+    ensures value { Gives (λ v. v) result (plain_value dtype word.now) }
+    ensures memory { IsErrOf result LineError.Memory
+        → IsTrue (makes_bytes dtype (Plain word.now)) }
 {
     match dtype {
         DType::Bool(_) => truth_of(word).ok_or(LineError::Bad),
@@ -108,7 +115,8 @@ fn text_of(bytes: Vec<u8>) -> Option<Text>
 
 // The text that stands between quotes.
 fn quoted_value(dtype: DType, text: Vec<u8>) -> Result<ScalarValue, LineError>
-    ensures { Gives (λ v. v) result (quoted_value dtype text.items) }
+    ensures value { Gives (λ v. v) result (quoted_value dtype text.items) }
+    ensures bad { IfErr result (λ e. e ≡ Bad) }
 {
     match dtype {
         DType::Utf8(_) => match text_of(text) {
@@ -121,7 +129,9 @@ fn quoted_value(dtype: DType, text: Vec<u8>) -> Result<ScalarValue, LineError>
 
 /// The value other than null that a word writes.
 pub fn value_of(alloc: Global, dtype: DType, word: Word) -> Result<ScalarValue, LineError>
-    ensures { Gives (λ v. v) result (value_of dtype (token_of word.entry)) }
+    ensures value { Gives (λ v. v) result (value_of dtype (token_of word.entry)) }
+    ensures memory { IsErrOf result LineError.Memory
+        → IsTrue (makes_bytes dtype (token_of word.entry)) }
 {
     match word {
         Word::Plain(word) => plain_value(alloc, dtype, word),
@@ -136,7 +146,9 @@ pub fn optional_value_of(
     dtype: DType,
     word: Word,
 ) -> Result<Option<ScalarValue>, LineError>
-    ensures { Gives (λ v. v) result (optional_value_of dtype (token_of word.entry)) }
+    ensures value { Gives (λ v. v) result (optional_value_of dtype (token_of word.entry)) }
+    ensures memory { IsErrOf result LineError.Memory
+        → IsTrue (makes_bytes dtype (token_of word.entry)) }
 {
     match word {
         Word::Plain(word) if !is(word, b"null") => Ok(Some(plain_value(alloc, dtype, word)?)),

@@ -1,9 +1,11 @@
 //! The words of a line, some of them between quotes.
-ghost use Rattle.std.specs.Prelude.{◌≡◌, ◌+◌, ◌<◌, ◌≤◌, ◌==◌, ◌∷◌, ℕ, List, Option, false, IfErr, IfOk, IfSome, IsErrOf, length, nat_le, option_map, position, slice_index};
+ghost use Rattle.std.specs.Prelude.{◌≡◌, ◌+◌, ◌<◌, ◌≤◌, ◌==◌, ◌∷◌, ℕ, [], List, Option, false, IfErr, IfOk, IfSome, IsErrOf, IsTrue, length, nat_le, option_map, position, slice_index};
+ghost use Rattle.std.specs.List.{list_any};
+ghost use Rattle.vortex_syntax.specs.Copies.{first_is_copied, is_copied};
 ghost use Rattle.vortex_syntax.specs.Fails.{Gives};
 ghost use Rattle.vortex_syntax.specs.QuotedSteps.{Closes, step_of};
-ghost use Rattle.vortex_syntax.specs.declared.line_error.LineError.TheVariants.{Memory};
-ghost use Rattle.vortex_syntax.specs.Words.{word_limit, Plain, first_word, no_word, plain_word, token_of, words};
+ghost use Rattle.vortex_syntax.specs.declared.line_error.LineError.TheVariants.{Bad, Memory};
+ghost use Rattle.vortex_syntax.specs.Words.{word_limit, Plain, first_word, no_word, plain_word, quoted, token_of, words, words_from};
 
 use crate::line_error::LineError;
 use std::alloc::Global;
@@ -35,6 +37,8 @@ fn step_of(bytes: &[u8]) -> Option<(Option<u8>, &[u8])>
 // The text behind a quote, and what follows the quote that closes it.
 fn quoted_at(alloc: Global, bytes: &[u8]) -> Result<(Vec<u8>, &[u8]), LineError>
     ensures text { Closes (λ x. (x.0.items, x.1.now)) bytes.now result }
+    ensures memory { IsErrOf result LineError.Memory
+        → IsTrue (first_is_copied (words_from bytes.now (quoted []))) }
     ensures shorter { IfOk result (λ x. length x.1.now < length bytes.now) }
 {
     let mut text = Vec::new(alloc);
@@ -93,6 +97,7 @@ fn split_word(text: &[u8]) -> (&[u8], &[u8])
 pub fn first_word(alloc: Global, line: &[u8]) -> Result<(Word<'_>, &[u8]), LineError>
     ensures word { Gives (λ x. (token_of x.0, words x.1.now)) result (first_word (words line.now)) }
     ensures broken { IsErrOf result LineError.Bad → length (words line.now) ≤ 1 }
+    ensures memory { IsErrOf result LineError.Memory → IsTrue (first_is_copied (words line.now)) }
     ensures fewer { IfOk result (λ x. length (words x.1.now) < length (words line.now)) }
 {
     let text = skip_spaces(line);
@@ -115,6 +120,7 @@ pub fn first_word(alloc: Global, line: &[u8]) -> Result<(Word<'_>, &[u8]), LineE
 /// The first word of a line, which has to be one without quotes, and the line after it.
 pub fn plain_word(line: &[u8]) -> Result<(&[u8], &[u8]), LineError>
     ensures word { Gives (λ x. (x.0.now, words x.1.now)) result (plain_word (words line.now)) }
+    ensures bad { IfErr result (λ e. e ≡ Bad) }
     ensures fewer { IfOk result (λ x. length (words x.1.now) < length (words line.now)) }
 {
     let text = skip_spaces(line);
@@ -128,7 +134,8 @@ pub fn plain_word(line: &[u8]) -> Result<(&[u8], &[u8]), LineError>
 /// A line has no further word.
 #[inline]
 pub fn no_word(line: &[u8]) -> Result<(), LineError>
-    ensures { Gives (λ x. x) result (no_word (words line.now)) }
+    ensures word { Gives (λ x. x) result (no_word (words line.now)) }
+    ensures bad { IfErr result (λ e. e ≡ Bad) }
 {
     if skip_spaces(line).is_empty() {
         Ok(())
@@ -147,6 +154,9 @@ fn skip_word(alloc: Global, line: &[u8]) -> Result<&[u8], LineError>
     ensures one { IfOk result (λ rest. length (words rest.now) + 1 ≡ length (words line.now)) }
     ensures next { IfOk result (λ rest. (slice_index rest.now 0 == 32) ≡ false) }
     ensures memory { IfErr result (λ e. e ≡ Memory) }
+    ensures copies { IfErr result (λ _. IsTrue (list_any is_copied (words line.now))) }
+    ensures later { IfOk result (λ rest. IsTrue (list_any is_copied (words rest.now))
+        → IsTrue (list_any is_copied (words line.now))) }
 {
     let rest = match first_word(alloc, line) {
         Ok((_, rest)) => rest,
@@ -160,6 +170,7 @@ fn skip_word(alloc: Global, line: &[u8]) -> Result<&[u8], LineError>
 pub fn is_short(alloc: Global, line: &[u8]) -> Result<bool, LineError>
     ensures short { IfOk result (λ short. short ≡ nat_le (length (words line.now)) word_limit) }
     ensures memory { IfErr result (λ e. e ≡ Memory) }
+    ensures copies { IfErr result (λ _. IsTrue (list_any is_copied (words line.now))) }
 {
     let mut rest = skip_spaces(line);
     let mut count = 0;

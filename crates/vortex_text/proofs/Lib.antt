@@ -3,6 +3,7 @@ pub mod ColumnLemmas
 pub mod DraftLemmas
 pub mod Fitting
 pub mod JoinLemmas
+pub mod MemoryLemmas
 pub mod NamedLines
 pub mod QueryLemmas
 pub mod Refusals

@@ -1,21 +1,53 @@
 -- A run that ends without an answer, and one whose answer has the rows of the full scan.
-use Rattle.std.proofs.Common.{◌≡◌, ◌<◌, ℕ, List, Option, None, Some, IfSome, length, ◌⊎◌, inl, inr, subst}
+use Rattle.std.proofs.Common.{◌≡◌, ◌<◌, ◌+◌, ℕ, zero, suc, Bool, true, false, List, [], ◌∷◌, Option, None, Some, IfSome, length, ◌⊎◌, inl, inr, ap, sym, subst, refl, append-nil, arith}
 use Rattle.std.specs.Io.KnownBytes.{Appends}
 use Rattle.vortex_text.specs.declared.streams.TheConstants.{INPUT_LIMIT}
 use Rattle.vortex_text.specs.Program.{Answers, IsFullScan, IsReason, Stops, WritesFullScan}
-use Rattle.vortex_text.specs.Streams.{AppendsFront}
+use Rattle.vortex_text.specs.Streams.{AppendsProperFront, AppendsUnlessFailed, MayHaveFailed, TellsFailure}
+
+-- a call that failed leaves a stream that may have failed
+pub may_have_failed : (old new : Option Bool) → TellsFailure old new true → MayHaveFailed new
+may_have_failed None new told = λ fine. absurd (cc)
+may_have_failed (Some before) new told = λ fine. absurd (cc)
+
+-- all bytes were written
+pub whole_appended : (failed : Option Bool) (old new : Option (List ℕ)) (bytes : List ℕ) → Appends old new bytes → AppendsUnlessFailed failed old new bytes
+whole_appended None old new bytes written = (bytes, [], sym (append-nil bytes), written)
+whole_appended (Some true) old new bytes written = (bytes, [], sym (append-nil bytes), written)
+whole_appended (Some false) old new bytes written = written
+
+-- a front of the bytes was written, and a write failed
+pub front_appended : (failed : Option Bool) (old new : Option (List ℕ)) (bytes : List ℕ) → MayHaveFailed failed → AppendsProperFront old new bytes → AppendsUnlessFailed failed old new bytes
+front_appended None old new bytes may (front, rest, same, some, written) = (front, rest, same, written)
+front_appended (Some true) old new bytes may (front, rest, same, some, written) = (front, rest, same, written)
+front_appended (Some false) old new bytes may cut = absurd (may refl)
 
 -- the word says why, whatever the input
-pub stops_at_word : (known old new : Option (List ℕ)) (word : List ℕ) → ((input : List ℕ) → IsReason input word) → AppendsFront old new word
-    → IfSome known (λ input. Answers input 1 old new ⊎ Stops input old new)
-stops_at_word None old new word is front = tt
-stops_at_word (Some input) old new word is front = inr (inl (word, is input, front))
+pub stops_at_word : (known old new : Option (List ℕ)) (read_failed write_failed : Option Bool) (word : List ℕ) → ((input : List ℕ) → IsReason input read_failed word)
+    → AppendsUnlessFailed write_failed old new word → IfSome known (λ input. Answers input 1 old new ⊎ Stops input read_failed write_failed old new)
+stops_at_word None old new read_failed write_failed word is written = tt
+stops_at_word (Some input) old new read_failed write_failed word is written = inr (inl (word, is input, written))
 
 -- the word says so of an input that is too long
-pub stops_too_long : (known old new : Option (List ℕ)) (word : List ℕ) → ((input : List ℕ) → INPUT_LIMIT < length input → IsReason input word)
-    → IfSome known (λ input. INPUT_LIMIT < length input) → AppendsFront old new word → IfSome known (λ input. Answers input 1 old new ⊎ Stops input old new)
-stops_too_long None old new word is long front = tt
-stops_too_long (Some input) old new word is long front = inr (inl (word, is input long, front))
+pub stops_too_long : (known old new : Option (List ℕ)) (read_failed write_failed : Option Bool) (word : List ℕ) → ((input : List ℕ) → INPUT_LIMIT < length input → IsReason input read_failed word)
+    → IfSome known (λ input. INPUT_LIMIT < length input) → AppendsUnlessFailed write_failed old new word
+    → IfSome known (λ input. Answers input 1 old new ⊎ Stops input read_failed write_failed old new)
+stops_too_long None old new read_failed write_failed word is long written = tt
+stops_too_long (Some input) old new read_failed write_failed word is long written = inr (inl (word, is input long, written))
+
+-- an input of any length
+zeros : ℕ → List ℕ
+zeros zero = []
+zeros (suc n) = 0 ∷ zeros n
+
+zeros_length : (n : ℕ) → length (zeros n) ≡ n
+unfolding zeros
+zeros_length zero = refl
+zeros_length (suc n) = ap suc (zeros_length n)
+
+-- some input is too long
+pub too_long : (input : List ℕ) × (INPUT_LIMIT < length input)
+too_long = (zeros (INPUT_LIMIT + 1), subst (λ (n : ℕ). INPUT_LIMIT < n) (sym (zeros_length (INPUT_LIMIT + 1))) (omega arith))
 
 -- what was printed of all bytes that were read
 pub writes_full_scan : (known old new : Option (List ℕ)) (read printed bytes : List ℕ) → IfSome known (λ input. read ≡ input) → bytes ≡ printed → IsFullScan read printed → Appends old new bytes

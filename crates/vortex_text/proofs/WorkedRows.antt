@@ -1,3 +1,4 @@
 -- Worked rows, found by computation alone.
 pub mod BadRows
+pub mod MemoryRows
 pub mod TextRows

@@ -3,6 +3,7 @@ pub mod Columns
 pub mod Drafts
 pub mod Fitting
 pub mod Lines
+pub mod MemoryTaken
 pub mod Naming
 pub mod OpenParts
 pub mod Printing

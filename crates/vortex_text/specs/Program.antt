@@ -1,5 +1,5 @@
 -- What the program answers to its input.
-use Rattle.std.specs.Prelude.{◌≡◌, ◌≤◌, ◌<◌, ◌⊎◌, ℕ, List, [], ◌∷◌, ◌++◌, Option, Result, Ok, Err, IsTrue, codes, length, map, if◌then◌else◌}
+use Rattle.std.specs.Prelude.{◌≡◌, ◌≤◌, ◌<◌, ◌⊎◌, ℕ, Bool, List, [], ◌∷◌, ◌++◌, Option, Result, Ok, Err, IsTrue, codes, length, map, if◌then◌else◌}
 use Rattle.std.specs.Io.KnownBytes.{Appends}
 use Rattle.std.specs.List.{AllByRecursion}
 use Rattle.vortex_base.specs.Trees.Tree.{Tree, Place}
@@ -11,7 +11,7 @@ use Rattle.vortex_prune.specs.Scanning.Selection.{Answered, full, selected_rows,
 use Rattle.vortex_text.specs.declared.streams.TheConstants.{INPUT_LIMIT}
 use Rattle.vortex_text.specs.Naming.{Query, named}
 use Rattle.vortex_text.specs.Printing.{bad_text, scan_text}
-use Rattle.vortex_text.specs.Streams.{AppendsFront, AppendsProperFront}
+use Rattle.vortex_text.specs.Streams.{AppendsProperFront, AppendsUnlessFailed, MayHaveFailed}
 
 -- a part with what its own statistics answer
 abbrev pub by_statistics : PartData → Answered
@@ -44,14 +44,15 @@ pub record Answers (input : List ℕ) (status : ℕ) (old new : Option (List ℕ
   pub same_status : status ≡ (reply_to input).0
   pub written : Appends old new (reply_to input).1
 
--- a word that says why there is no answer; `input` only past the limit
-abbrev pub IsReason : List ℕ → List ℕ → Type 0
-IsReason input word =
-    (word ≡ codes "memory" ++ 10 ∷ []) ⊎ (word ≡ codes "read" ++ 10 ∷ []) ⊎ ((INPUT_LIMIT < length input) × (word ≡ codes "input" ++ 10 ∷ []))
+-- a word that says why there is no answer: `read` only where a read failed, as far as the reader tells, and `input` only past the limit
+abbrev pub IsReason : List ℕ → (read_failed : Option Bool) → List ℕ → Type 0
+IsReason input read_failed word =
+    (word ≡ codes "memory" ++ 10 ∷ []) ⊎ (MayHaveFailed read_failed × (word ≡ codes "read" ++ 10 ∷ [])) ⊎ ((INPUT_LIMIT < length input) × (word ≡ codes "input" ++ 10 ∷ []))
 
--- Such a word was written, or a front of it where a write failed. Or the reply was cut off, since a write failed.
-abbrev pub Stops : List ℕ → Option (List ℕ) → Option (List ℕ) → Type 0
-Stops input old new = ((word : List ℕ) × IsReason input word × AppendsFront old new word) ⊎ AppendsProperFront old new (reply_to input).1
+-- Such a word was written, all of it unless a write failed. Or a write failed and cut the reply off. Both as far as the writer tells its failures.
+abbrev pub Stops : List ℕ → (read_failed : Option Bool) → (write_failed : Option Bool) → Option (List ℕ) → Option (List ℕ) → Type 0
+Stops input read_failed write_failed old new =
+    ((word : List ℕ) × IsReason input read_failed word × AppendsUnlessFailed write_failed old new word) ⊎ (MayHaveFailed write_failed × AppendsProperFront old new (reply_to input).1)
 
 -- where all statistics of the parts that a text names are true, these bytes tell the rows of the full scan
 abbrev pub IsFullScan : List ℕ → List ℕ → Type 0

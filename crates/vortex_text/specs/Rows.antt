@@ -31,7 +31,7 @@ with_row part ws = do
 abbrev pub with_statistic : ℕ → Stat → Precision ScalarValue → PartData → PartData
 with_statistic i s p part = record { chunk = part.chunk; stats = set_at i s p part.stats (slice_get part.stats i) }
 
--- the parts with the one at a place and the one behind it joined, and the later ones moved up
+-- the parts with the one at a place and the one behind it joined, and the later ones moved down by one
 abbrev pub joined_at : ℕ → List PartData → Option (List PartData)
 joined_at i parts = do
   left ← slice_get parts i

@@ -1,5 +1,5 @@
--- What a writer has taken.
-use Rattle.std.specs.Prelude.{◌≡◌, ◌<◌, ℕ, List, ◌++◌, Option, length}
+-- What a writer has taken, and what streams tell of their failures.
+use Rattle.std.specs.Prelude.{◌≡◌, ◌≢◌, ◌<◌, ℕ, Bool, true, false, List, ◌++◌, Option, None, Some, length}
 use Rattle.std.specs.Io.KnownBytes.{Appends}
 
 -- a front of the bytes was written, perhaps the whole
@@ -9,3 +9,18 @@ AppendsFront old new bytes = (front : List ℕ) × (rest : List ℕ) × (bytes �
 -- a front of the bytes was written that isn't the whole
 abbrev pub AppendsProperFront : Option (List ℕ) → Option (List ℕ) → List ℕ → Type 0
 AppendsProperFront old new bytes = (front : List ℕ) × (rest : List ℕ) × (bytes ≡ front ++ rest) × (0 < length rest) × Appends old new front
+
+-- A stream tells whether a call of it has failed, `Some`, or doesn't tell, `None`. This is what a call makes of it that failed or not.
+abbrev pub TellsFailure : Option Bool → Option Bool → (failed : Bool) → Type 0
+TellsFailure None new failed = new ≡ None
+TellsFailure (Some before) new true = new ≡ Some true
+TellsFailure (Some before) new false = new ≡ Some before
+
+-- a call has failed, as far as the stream tells
+abbrev pub MayHaveFailed : Option Bool → Type 0
+MayHaveFailed has_failed = has_failed ≢ Some false
+
+-- the bytes were written, all of them if no call has failed, and else a front
+abbrev pub AppendsUnlessFailed : (has_failed : Option Bool) → Option (List ℕ) → Option (List ℕ) → List ℕ → Type 0
+AppendsUnlessFailed (Some false) old new bytes = Appends old new bytes
+AppendsUnlessFailed has_failed old new bytes = AppendsFront old new bytes

@@ -1,5 +1,5 @@
 //! What the lines of a text say, line by line.
-ghost use Rattle.std.specs.Prelude.{◌≡◌, IfOk, IfSome, OnOk, MatchOption, None, Some};
+ghost use Rattle.std.specs.Prelude.{◌≡◌, ◌||◌, IfOk, IfSome, IsErrOf, IsTrue, OnErr, OnOk, MatchOption, None, Some, is_some};
 ghost use Rattle.vortex_base.specs.Data.Scopes.{named_columns};
 ghost use Rattle.vortex_syntax.specs.Fails.{Changes};
 ghost use Rattle.vortex_syntax.specs.Words.{words};
@@ -8,6 +8,7 @@ ghost use Rattle.vortex_text.specs.Fitting.{FitsTogether, IsQueryOver};
 ghost use Rattle.vortex_text.specs.Lines.{has_part, is_new, nothing_read, parts_of};
 ghost use Rattle.vortex_text.specs.Lines.{read_column, read_join, read_kind, read_line, read_part};
 ghost use Rattle.vortex_text.specs.Lines.{read_row, read_stat, read_where, read_words, with_column};
+ghost use Rattle.vortex_text.specs.MemoryTaken.{kind_takes, line_takes, words_take};
 
 use crate::open_column::push_row;
 use crate::open_part::{OpenPart, set_statistic};
@@ -71,9 +72,10 @@ impl Draft {
     // The current part takes no more rows.
     fn end_part(&mut self, alloc: Global) -> Result<(), AllocError>
         requires { FitsTogether (reading_of self.old) }
-        ensures { let old = reading_of self.old in
+        ensures ended { let old = reading_of self.old in
             let ended = record old { ended = parts_of old; current = None } in
             OnOk result (reading_of self.new ≡ ended) }
+        ensures memory { OnErr result (IsTrue (is_some (reading_of self.old).current)) }
     {
         let Some(part) = self.current.take() else {
             return Ok(());
@@ -86,8 +88,10 @@ impl Draft {
 
     // Adds a column.
     fn add_column(&mut self, alloc: Global, name: &[u8], dtype: DType) -> Result<(), LineError>
-        ensures { let old = reading_of self.old in
+        ensures read { let old = reading_of self.old in
             Changes result (with_column old name.now dtype) (reading_of self.new) }
+        ensures memory { IsErrOf result LineError.Memory
+            → IsTrue (is_some (with_column (reading_of self.old) name.now dtype)) }
     {
         if self.has_part() || !self.is_new(name) {
             return Err(LineError::Bad);
@@ -102,8 +106,10 @@ impl Draft {
 
     // `column NAME TYPE`
     fn read_column(&mut self, alloc: Global, line: &[u8]) -> Result<(), LineError>
-        ensures { let old = reading_of self.old in
+        ensures read { let old = reading_of self.old in
             Changes result (read_column old (words line.now)) (reading_of self.new) }
+        ensures memory { IsErrOf result LineError.Memory
+            → IsTrue (kind_takes LineKind.Column (reading_of self.old) (words line.now)) }
     {
         let (name, rest) = plain_word(line)?;
         let (kind, rest) = plain_word(rest)?;
@@ -126,8 +132,10 @@ impl Draft {
     // `part`
     fn read_part(&mut self, alloc: Global, line: &[u8]) -> Result<(), LineError>
         requires { FitsTogether (reading_of self.old) }
-        ensures { let old = reading_of self.old in
+        ensures read { let old = reading_of self.old in
             Changes result (read_part old (words line.now)) (reading_of self.new) }
+        ensures memory { IsErrOf result LineError.Memory
+            → IsTrue (kind_takes LineKind.Part (reading_of self.old) (words line.now)) }
     {
         no_word(line)?;
         if self.columns.as_slice().is_empty() {
@@ -141,8 +149,10 @@ impl Draft {
 
     // `stat NAME STAT PRECISION VALUE`
     fn read_stat(&mut self, alloc: Global, line: &[u8]) -> Result<(), LineError>
-        ensures { let old = reading_of self.old in
+        ensures read { let old = reading_of self.old in
             Changes result (read_stat old (words line.now)) (reading_of self.new) }
+        ensures memory { IsErrOf result LineError.Memory
+            → IsTrue (kind_takes LineKind.Stat (reading_of self.old) (words line.now)) }
     {
         let (claim, rest) = read_claim(&self.columns, line)?;
         let value = read_claimed(alloc, claim.dtype, rest)?;
@@ -156,8 +166,10 @@ impl Draft {
 
     // `row VALUE ..`
     fn read_row(&mut self, alloc: Global, line: &[u8]) -> Result<(), LineError>
-        ensures { let old = reading_of self.old in
+        ensures read { let old = reading_of self.old in
             Changes result (read_row old (words line.now)) (reading_of self.new) }
+        ensures memory { IsErrOf result LineError.Memory
+            → IsTrue (kind_takes LineKind.Row (reading_of self.old) (words line.now)) }
     {
         let Some(mut part) = self.current.take() else {
             return Err(LineError::Bad);
@@ -170,8 +182,10 @@ impl Draft {
     // `join N`
     fn read_join(&mut self, alloc: Global, line: &[u8]) -> Result<(), LineError>
         requires { FitsTogether (reading_of self.old) }
-        ensures { let old = reading_of self.old in
+        ensures read { let old = reading_of self.old in
             Changes result (read_join old (words line.now)) (reading_of self.new) }
+        ensures memory { IsErrOf result LineError.Memory
+            → IsTrue (kind_takes LineKind.Join (reading_of self.old) (words line.now)) }
     {
         let (place, rest) = plain_word(line)?;
         no_word(rest)?;
@@ -184,8 +198,10 @@ impl Draft {
 
     // `where EXPR`
     fn read_where(&mut self, alloc: Global, line: &[u8]) -> Result<(), LineError>
-        ensures { let old = reading_of self.old in
+        ensures read { let old = reading_of self.old in
             Changes result (read_where old (words line.now)) (reading_of self.new) }
+        ensures memory { IsErrOf result LineError.Memory
+            → IsTrue (kind_takes LineKind.Where (reading_of self.old) (words line.now)) }
     {
         if !is_short(alloc, line)? {
             return Err(LineError::Bad);
@@ -202,8 +218,10 @@ impl Draft {
     // The words of a line behind the first, which says its kind.
     fn read_kind(&mut self, alloc: Global, kind: LineKind, line: &[u8]) -> Result<(), LineError>
         requires { FitsTogether (reading_of self.old) }
-        ensures { let old = reading_of self.old in
+        ensures read { let old = reading_of self.old in
             Changes result (read_kind kind old (words line.now)) (reading_of self.new) }
+        ensures memory { IsErrOf result LineError.Memory
+            → IsTrue (kind_takes kind (reading_of self.old) (words line.now)) }
     {
         match kind {
             LineKind::Row => self.read_row(alloc, line),
@@ -218,8 +236,10 @@ impl Draft {
     // The words of one line.
     fn read_words(&mut self, alloc: Global, line: &[u8]) -> Result<(), LineError>
         requires { FitsTogether (reading_of self.old) }
-        ensures { let old = reading_of self.old in
+        ensures read { let old = reading_of self.old in
             Changes result (read_words old (words line.now)) (reading_of self.new) }
+        ensures memory { IsErrOf result LineError.Memory
+            → IsTrue (words_take (reading_of self.old) (words line.now)) }
     {
         if skip_spaces(line).is_empty() {
             return Ok(());
@@ -243,6 +263,8 @@ impl Draft {
         ensures read { let old = reading_of self.old in
             Changes result (read_line old line.now) (reading_of self.new) }
         ensures fits { OnOk result (FitsTogether (reading_of self.new)) }
+        ensures memory { IsErrOf result LineError.Memory
+            → IsTrue (line_takes (reading_of self.old) line.now) }
     {
         if !is_utf8(line) {
             return Err(LineError::Bad);
@@ -258,6 +280,8 @@ impl Draft {
             (λ q. (read.predicate ≡ Some q.predicate) × (q.parts.items ≡ parts_of read))) }
         ensures fits { IfOk result (λ o. IfSome o
             (λ q. IsQueryOver q.scope q.parts.items q.predicate)) }
+        ensures memory { let read = reading_of self in
+            OnErr result (IsTrue (is_some read.current || is_some read.predicate)) }
     {
         let mut draft = self;
         draft.end_part(alloc)?;

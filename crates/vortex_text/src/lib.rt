@@ -12,4 +12,4 @@ mod printing;
 pub mod program;
 mod query;
 mod starts;
-mod streams;
+pub mod streams;

@@ -1,8 +1,9 @@
 //! What a whole text names.
-ghost use Rattle.std.specs.Prelude.{◌≡◌, ◌↔◌, ℕ, List, IfOk, Ok, Err};
+ghost use Rattle.std.specs.Prelude.{◌≡◌, ◌↔◌, ℕ, List, IfOk, IsErrOf, Ok, Err};
 ghost use Rattle.vortex_base.specs.Trees.Tree.{Tree, Place};
 ghost use Rattle.vortex_prune.specs.Part.{PartData};
 ghost use Rattle.vortex_text.specs.Fitting.{IsQuery, IsQueryOver};
+ghost use Rattle.vortex_text.specs.MemoryTaken.{TakesMemory};
 ghost use Rattle.vortex_text.specs.Naming.{IsFirstBad, IsNamed, NamesQuery, named};
 
 use crate::draft::Draft;
@@ -25,6 +26,7 @@ pub enum InputError {
 pub fn read_input(alloc: Global, text: &[u8]) -> Result<Query, InputError>
     ensures named { IsNamed (λ q. (q.parts.items, q.predicate)) result (named text.now) }
     ensures fits { IfOk result (λ q. IsQueryOver q.scope q.parts.items q.predicate) }
+    ensures memory { IsErrOf result InputError.Memory → TakesMemory text.now }
 {
     let mut draft = Draft::new(alloc);
     let mut rest = text;

@@ -1,5 +1,5 @@
 //! The parts of a text so far, of which neighbours may be joined.
-ghost use Rattle.std.specs.Prelude.{◌≡◌, ◌≤◌, ◌++◌, ◌∷◌, ◌+◌, [], All, IfOk, IsTrue, List, MatchResult, OnOk, length, reverse};
+ghost use Rattle.std.specs.Prelude.{◌≡◌, ◌≤◌, ◌++◌, ◌∷◌, ◌+◌, [], All, IfOk, IsErrOf, IsTrue, List, MatchResult, OnOk, is_some, length, reverse};
 ghost use Rattle.vortex_base.specs.Data.Columns.{sizes_fit};
 ghost use Rattle.vortex_base.specs.Data.Scopes.{Named};
 ghost use Rattle.vortex_prune.specs.Part.{PartData, joined};
@@ -116,7 +116,9 @@ impl Parts {
     /// Joins the part at a place and the one behind it. There have to be two.
     pub fn join_at(&mut self, alloc: Global, place: usize) -> Result<(), LineError>
         requires { AreNeighbours self.old }
-        ensures { Changes result (joined_at place self.old) self.new }
+        ensures joined { Changes result (joined_at place self.old) self.new }
+        ensures memory { IsErrOf result LineError.Memory
+            → IsTrue (is_some (joined_at place self.old)) }
     {
         let count = self.front.len() + self.back.len();
         if count < 2 || place > count - 2 {

@@ -1,14 +1,13 @@
 //! From the bytes that come in to those that go out.
 ghost use Rattle.std.specs.Prelude.{◌≡◌, ◌≢◌, ◌⊎◌, [], ℕ, List, IfOk, IfSome, string_bytes};
 ghost use Rattle.vortex_text.specs.Program.{Answers, IsFullScan, Stops, WritesFullScan, reply_to};
-ghost use Rattle.vortex_text.specs.Streams.{AppendsFront};
+ghost use Rattle.vortex_text.specs.Streams.{AppendsUnlessFailed};
 
 use crate::naming::{InputError, read_input};
 use crate::printing::{print_bad, print_scan};
 use crate::query::scan_query;
-use crate::streams::{ReadError, read_all, write_out};
+use crate::streams::{ReadError, Sink, Source, read_all, write_out};
 use std::alloc::{AllocError, Global};
-use std::io::{Read, Write};
 
 // The status of a text and what is printed of it. The text is let go once it is read.
 fn reply_to(alloc: Global, text: Vec<u8>) -> Result<(u8, String), AllocError>
@@ -30,9 +29,11 @@ fn reply_to(alloc: Global, text: Vec<u8>) -> Result<(u8, String), AllocError>
 }
 
 // Says why there is no answer.
-fn refuse<W: Write>(writer: &mut W, word: &[u8]) -> u8
+fn refuse<W: Sink>(writer: &mut W, word: &[u8]) -> u8
     ensures status { result ≡ 1 }
-    ensures front { AppendsFront (W.contents writer.old) (W.contents writer.new) word.now }
+    // All of it, unless a write failed.
+    ensures written { AppendsUnlessFailed (W.has_failed writer.new) (W.contents writer.old)
+        (W.contents writer.new) word.now }
 {
     let _ = write_out(writer, word);
     1
@@ -41,7 +42,7 @@ fn refuse<W: Write>(writer: &mut W, word: &[u8]) -> u8
 /// Reads the whole input, and writes the answer to it and nothing else. The status is 0 for a scan,
 /// 2 for a bad line, and 1 where the predicate isn't of type Bool, or memory, a read or a write was
 /// refused, or the input goes past its limit.
-pub fn run<R: Read, W: Write>(alloc: Global, reader: &mut R, writer: &mut W) -> u8
+pub fn run<R: Source, W: Sink>(alloc: Global, reader: &mut R, writer: &mut W) -> u8
     // The whole answer was written.
     ensures answered { result ≢ 1 → IfSome (R.remaining reader.old)
         (λ input. Answers input result (W.contents writer.old) (W.contents writer.new)) }
@@ -49,10 +50,16 @@ pub fn run<R: Read, W: Write>(alloc: Global, reader: &mut R, writer: &mut W) -> 
     ensures some_input { result ≢ 1 → (input : List ℕ)
         × Answers input result (W.contents writer.old) (W.contents writer.new) }
     // Status 1 is the answer that the predicate isn't of type Bool, or a word says why there is no
-    // answer, or a write failed and cut the answer off.
+    // answer, or a write failed and cut the word or the answer off.
     ensures refused { result ≡ 1 → IfSome (R.remaining reader.old)
         (λ input. Answers input 1 (W.contents writer.old) (W.contents writer.new)
-        ⊎ Stops input (W.contents writer.old) (W.contents writer.new)) }
+        ⊎ Stops input (R.has_failed reader.new) (W.has_failed writer.new)
+        (W.contents writer.old) (W.contents writer.new)) }
+    // So it is of some input also where the reader doesn't tell its bytes.
+    ensures some_refused { result ≡ 1 → (input : List ℕ)
+        × (Answers input 1 (W.contents writer.old) (W.contents writer.new)
+        ⊎ Stops input (R.has_failed reader.new) (W.has_failed writer.new)
+        (W.contents writer.old) (W.contents writer.new)) }
     // Where all statistics that the input names are true, the answer has the full scan's rows.
     ensures lossless { result ≡ 0 → IfSome (R.remaining reader.old)
         (λ input. WritesFullScan input (W.contents writer.old) (W.contents writer.new)) }

@@ -13,6 +13,7 @@ mod joined_parts;
 mod nulls;
 mod ranges;
 mod skipping;
+mod telling;
 mod text_lines;
 mod typed_values;
 mod whole;
@@ -235,6 +236,70 @@ fn a_run_that_is_refused(rt: HostRuntime) -> Result<(), Fail> {
     };
     assert_eq!(rt; writer.written(), wanted.as_bytes());
     Ok(())
+}
+
+#[test]
+fn a_reader_that_fails_after_20_bytes(rt: HostRuntime) -> Result<(), Fail> {
+    let Some(bytes) = FIRST_RUN.as_bytes().get(..20) else {
+        return Err(Fail::from("a shorter text"));
+    };
+    let mut reader = Slow {
+        bytes,
+        step: 65_536,
+        fails: true,
+    };
+    let mut written = Vec::new(rt.alloc());
+    assert_eq!(rt; run(rt.alloc(), &mut reader, &mut written), 1);
+    assert_eq!(rt; written.as_slice(), b"read\n".as_slice());
+    Ok(())
+}
+
+// Gives a text and then so many spaces.
+#[derive(Drop)]
+struct Padded<'a> {
+    text: &'a [u8],
+    spaces: usize,
+}
+
+impl Read for Padded<'_> {
+    fn read(&mut self, buf: &mut [u8]) -> io::Result<usize> {
+        if !self.text.is_empty() {
+            return self.text.read(buf);
+        }
+        let count = self.spaces.min(buf.len());
+        for place in &mut buf[..count] {
+            *place = b' ';
+        }
+        self.spaces -= count;
+        Ok(count)
+    }
+}
+
+// A run of the first text behind which spaces stand, so many bytes in all.
+fn expect_padded(
+    rt: &impl Abort,
+    alloc: Global,
+    len: usize,
+    status: u8,
+    want: &str,
+) -> Result<(), Fail> {
+    let text = FIRST_RUN.as_bytes();
+    let mut reader = Padded {
+        text,
+        spaces: len.saturating_sub(text.len()),
+    };
+    let mut written = Vec::new(alloc);
+    assert_eq!(rt; run(alloc, &mut reader, &mut written), status);
+    assert_eq!(rt; written.as_slice(), want.as_bytes());
+    Ok(())
+}
+
+#[test]
+fn an_input_of_the_limit_and_one_byte_more(rt: HostRuntime) -> Result<(), Fail> {
+    let alloc = rt.alloc();
+    expect_padded(&rt, alloc, 16_777_215, 0, FIRST_ANSWER)?;
+    expect_padded(&rt, alloc, 16_777_216, 0, FIRST_ANSWER)?;
+    expect_padded(&rt, alloc, 16_777_217, 1, "input\n")
 }
 
 // A reader without an end, which fails once its bytes are past the limit.

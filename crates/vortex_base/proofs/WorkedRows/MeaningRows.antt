@@ -12,8 +12,9 @@ use Rattle.vortex_base.specs.declared.types.BetweenOptions.{BetweenOptions}
 use Rattle.vortex_base.specs.declared.types.StrictComparison.TheVariants.{Strict}
 use Rattle.vortex_base.specs.declared.like.LikeOptions.{LikeOptions}
 use Rattle.vortex_base.specs.Patterns.Like.{plain}
-use Rattle.vortex_base.specs.Meanings.Meaning.{satisfies}
+use Rattle.vortex_base.specs.Meanings.Meaning.{is_long, satisfies}
 use Rattle.vortex_base.specs.Trees.Tree.{Tree, Place, literal, binary, between, is_null, is_not_null, not, like, row_count}
+use Rattle.vortex_base.specs.Worked.Examples.{i32_value}
 use Rattle.vortex_base.specs.Worked.ExpressionExamples.{closed_ends, int, no_value, null_int, on_empty, open_lower, open_upper, truth, yes_value}
 
 abbrev yes : Option ScalarValue
@@ -125,3 +126,9 @@ like_row = refl
 not_like_row : liked (record { negated = true; case_insensitive = false }) ≡ no ∷ yes ∷ null ∷ null ∷ []
 unfolding chars
 not_like_row = refl
+
+-- ---- the values of which a copy takes memory: texts and bytes, empty ones too
+
+long_row : map is_long (null ∷ yes ∷ Some (i32_value 5) ∷ Some (value.Utf8 []) ∷ Some (value.Utf8 (codes "ab")) ∷ Some (value.Binary []) ∷ Some (value.Binary (codes "ab")) ∷ [])
+    ≡ false ∷ false ∷ false ∷ true ∷ true ∷ true ∷ true ∷ []
+long_row = refl

@@ -10,12 +10,19 @@ use Rattle.vortex_base.specs.declared.pvalue.PValue.TheVariants.{U8, U16, U32, U
 use Rattle.vortex_base.specs.declared.scalar_value.ScalarValue.TheVariants as value
 use Rattle.vortex_base.specs.Data.Values.{is_value, least, greatest, ptype_of}
 use Rattle.vortex_base.specs.Data.Neighbours.{next_number, prev_number}
+use Rattle.vortex_base.specs.Meanings.Typing.{is_signed}
 
 abbrev unsigned : List PType
 unsigned = ptype.U8 ∷ ptype.U16 ∷ ptype.U32 ∷ ptype.U64 ∷ []
 
 abbrev signed : List PType
 signed = ptype.I8 ∷ ptype.I16 ∷ ptype.I32 ∷ ptype.I64 ∷ []
+
+no_sign : map is_signed unsigned ≡ false ∷ false ∷ false ∷ false ∷ []
+no_sign = refl
+
+sign : map is_signed signed ≡ true ∷ true ∷ true ∷ true ∷ []
+sign = refl
 
 least_unsigned : map least unsigned ≡ pos 0 ∷ pos 0 ∷ pos 0 ∷ pos 0 ∷ []
 least_unsigned = refl

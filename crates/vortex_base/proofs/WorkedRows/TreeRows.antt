@@ -1,13 +1,16 @@
 -- Worked rows of what a tree holds, with one subtree at each place of each node.
 use Rattle.std.proofs.Common.{refl}
-use Rattle.std.specs.Prelude.{◌≡◌, Bool, true, false, List, [], ◌∷◌, map, length, not as not_b}
+use Rattle.std.specs.Prelude.{◌≡◌, Bool, true, false, List, [], ◌∷◌, Some, None, codes, map, length, not as not_b}
 use Rattle.vortex_base.specs.declared.types.Operator.TheVariants as operator
 use Rattle.vortex_base.specs.declared.aggregate.AggregateFnRef.TheVariants as aggregate
+use Rattle.vortex_base.specs.declared.types.ExprKind.TheVariants as kind
+use Rattle.vortex_base.specs.declared.types.ScalarFnId.TheVariants as function
 use Rattle.vortex_base.specs.Worked.Examples.{column_a, i32_or_null}
 use Rattle.vortex_base.specs.Worked.ExpressionExamples.{a_at_0, closed_ends, int, of_type, row_of_5, u64_type}
 use Rattle.vortex_base.specs.Meanings.Fitting.{fits_row, fits_scope}
 use Rattle.vortex_base.specs.Patterns.Like.{plain}
-use Rattle.vortex_base.specs.Trees.Tree.{Tree, Place, binary, between, is_null, is_not_null, not, like, stat, row_count, children, has_bare_column, has_column, has_placeholder, has_row_count, is_closed, is_plain}
+use Rattle.vortex_base.specs.Trees.ScalarFns.{name_of}
+use Rattle.vortex_base.specs.Trees.Tree.{Tree, Place, column, binary, between, is_null, is_not_null, not, like, stat, row_count, children, has_bare_column, has_column, has_placeholder, has_row_count, is_closed, is_plain, kind_of, scalar_fn_of}
 
 abbrev one : Tree Place
 one = int 1
@@ -105,3 +108,21 @@ one_child = refl
 
 no_child : map (λ e. length (children e)) (a_at_0 ∷ one ∷ row_count ∷ []) ≡ 0 ∷ 0 ∷ 0 ∷ []
 no_child = refl
+
+-- ---- what the top node is: one of each of the ten
+
+abbrev nodes : List (Tree Place)
+nodes = column (record { index = 3; dtype = u64_type }) ∷ one ∷ binary operator.Gte one one ∷ between closed_ends one one one ∷ is_null one ∷ is_not_null one
+    ∷ not one ∷ like plain one one ∷ greatest ∷ row_count ∷ []
+
+kinds : map kind_of nodes ≡ kind.Column 3 ∷ kind.Literal ∷ kind.Binary operator.Gte ∷ kind.Between closed_ends ∷ kind.IsNull ∷ kind.IsNotNull
+    ∷ kind.Not ∷ kind.Like plain ∷ kind.Stat aggregate.Max ∷ kind.RowCount ∷ []
+kinds = refl
+
+functions : map scalar_fn_of nodes ≡ None ∷ Some function.Literal ∷ Some function.Binary ∷ Some function.Between ∷ Some function.IsNull ∷ Some function.IsNotNull
+    ∷ Some function.Not ∷ Some function.Like ∷ Some function.Stat ∷ Some function.RowCount ∷ []
+functions = refl
+
+function_names : map name_of (function.Literal ∷ function.Binary ∷ function.Between ∷ function.IsNull ∷ function.IsNotNull ∷ function.Not ∷ function.Like ∷ function.Stat ∷ function.RowCount ∷ [])
+    ≡ codes "literal" ∷ codes "binary" ∷ codes "between" ∷ codes "is_null" ∷ codes "is_not_null" ∷ codes "not" ∷ codes "like" ∷ codes "vortex.stat" ∷ codes "row_count" ∷ []
+function_names = refl

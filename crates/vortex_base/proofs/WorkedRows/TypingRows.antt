@@ -1,7 +1,8 @@
 -- Worked rows of the typing table: null at each place of a node's operands, and a wrong type there.
 use Rattle.std.proofs.Common.{refl}
-use Rattle.std.specs.Prelude.{◌≡◌, true, List, [], ◌∷◌, Result, Ok, Err, Some, None, map}
+use Rattle.std.specs.Prelude.{◌≡◌, true, List, [], ◌∷◌, Option, Result, Ok, Err, Some, None, map}
 use Rattle.vortex_base.specs.declared.types.Nullability.TheVariants.{Nullable, NonNullable}
+use Rattle.vortex_base.specs.declared.types.Element.TheVariants as element
 use Rattle.vortex_base.specs.declared.types.PType.TheVariants as ptype
 use Rattle.vortex_base.specs.declared.dtype.DType.{DType}
 use Rattle.vortex_base.specs.declared.dtype.DType.TheVariants as dtype
@@ -12,7 +13,7 @@ use Rattle.vortex_base.specs.declared.types.Operator.TheVariants as operator
 use Rattle.vortex_base.specs.declared.aggregate.AggregateFnRef.TheVariants as aggregate
 use Rattle.vortex_base.specs.Patterns.Like.{plain}
 use Rattle.vortex_base.specs.Trees.Tree.{Tree, Place, literal, binary, between, is_null, is_not_null, not, like, stat}
-use Rattle.vortex_base.specs.Meanings.Typing.{type_of}
+use Rattle.vortex_base.specs.Meanings.Typing.{element_of, state_dtype, type_of}
 use Rattle.vortex_base.specs.Worked.Examples.{i32_type, i32_or_null, state_type}
 use Rattle.vortex_base.specs.Worked.ExpressionExamples.{bool_type, bool_or_null, closed_ends, of_type, u64_type}
 
@@ -124,3 +125,24 @@ literal_row : map type_of (literal (record { dtype = bool_type; value = Some (va
     ∷ literal (record { dtype = bool_type; value = None }) ∷ literal (record { dtype = i32_type; value = Some (value.Bool true) }) ∷ [])
     ≡ plain_truth ∷ truth_or_null ∷ Err Mismatch ∷ Err Mismatch ∷ []
 literal_row = refl
+
+-- ---- the values that aggregates are of: none, truths, numbers, texts, bytes, and pairs of extremes
+
+abbrev columns : List DType
+columns = dtype.Null ∷ bool_type ∷ u64_type ∷ text_or_null ∷ dtype.Binary NonNullable ∷ state_type ∷ []
+
+elements : map element_of columns ≡ None ∷ Some element.Bool ∷ Some (element.Primitive ptype.U64) ∷ Some element.Utf8 ∷ Some element.Binary ∷ None ∷ []
+elements = refl
+
+extremes : map (state_dtype aggregate.MinMax) columns ≡ None ∷ Some (dtype.MinMaxState element.Bool Nullable) ∷ Some (dtype.MinMaxState (element.Primitive ptype.U64) Nullable)
+    ∷ Some (dtype.MinMaxState element.Utf8 Nullable) ∷ Some (dtype.MinMaxState element.Binary Nullable) ∷ None ∷ []
+extremes = refl
+
+abbrev own_or_null : List (Option DType)
+own_or_null = None ∷ Some bool_or_null ∷ Some (dtype.Primitive ptype.U64 Nullable) ∷ Some text_or_null ∷ Some (dtype.Binary Nullable) ∷ None ∷ []
+
+greatest_row : map (state_dtype aggregate.Max) columns ≡ own_or_null
+greatest_row = refl
+
+least_row : map (state_dtype aggregate.Min) columns ≡ own_or_null
+least_row = refl

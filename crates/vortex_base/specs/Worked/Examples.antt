@@ -84,6 +84,7 @@ pub record OrderExamples : Type 0 where
   pub by_type_first : value_cmp (value.Primitive (number.U8 255)) (value.Primitive (number.I8 (negsuc 127))) ≡ Less
   pub u64_before_i8 : value_cmp (value.Primitive (number.I8 (pos 0))) (value.Primitive (number.U64 1)) ≡ Greater
   pub shorter_first : value_cmp (value.Utf8 text_a) (value.Utf8 (97 ∷ 98 ∷ [])) ≡ Less
+  pub bytes_before_length : value_cmp (value.Utf8 (98 ∷ [])) (value.Utf8 (97 ∷ 98 ∷ [])) ≡ Greater
   pub by_bytes : value_cmp (value.Utf8 text_e_acute) (value.Utf8 (122 ∷ [])) ≡ Greater
   pub kinds_in_order : value_cmp (value.Utf8 (122 ∷ [])) (value.Binary text_a) ≡ Less
   pub same : value_cmp (value.Binary text_a) (value.Binary text_a) ≡ Equal

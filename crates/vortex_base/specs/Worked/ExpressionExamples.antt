@@ -39,8 +39,10 @@ pub record LikeExamples : Type 0 where
   pub one_of_two_bytes : like_text false (codes "_") text_e_acute ≡ true
   pub not_two_of_two_bytes : like_text false (codes "__") text_e_acute ≡ false
   pub ascii_case : like_text true (codes "PRE%") (codes "prefix") ≡ true
+  pub ascii_case_of_the_text : like_text true (codes "pre%") (codes "PreFIX") ≡ true
   pub case_regarded : like_text false (codes "PRE%") (codes "prefix") ≡ false
   pub other_case : like_text true (195 ∷ 137 ∷ []) text_e_acute ≡ false
+  pub case_of_the_text_regarded : like_text false (codes "pre%") (codes "PreFIX") ≡ false
   pub negated : matches (record { negated = true; case_insensitive = false }) (codes "a%") (codes "b") ≡ true
 
 abbrev pub bool_type : DType

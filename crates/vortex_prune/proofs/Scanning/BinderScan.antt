@@ -6,14 +6,14 @@ use Rattle.vortex_base.specs.Data.Columns.{row_count as rows_of}
 use Rattle.vortex_base.specs.Data.Scalars.{Constant}
 use Rattle.vortex_base.specs.Trees.Tree.{Place, Tree}
 use Rattle.vortex_base.specs.declared.dtype.DType.{DType}
-use Rattle.vortex_prune.proofs.Scanning.ScanLemmas.{answered_long, faithful_one, faithful_refusal_in, refusal_in}
-use Rattle.vortex_rewrite.proofs.Rewriting.CauseLemmas.{either-refusal}
+use Rattle.vortex_prune.proofs.Scanning.ScanLemmas.{answered_long, asking_in, faithful_one, kept_there, refusal_in, refused-if}
+use Rattle.vortex_rewrite.proofs.Rewriting.CauseLemmas.{either-refusal, refusal-more}
 use Rattle.vortex_prune.specs.Binding.Binders.{BinderAnswer}
 use Rattle.vortex_rewrite.specs.Causes.{Causes, IsRefusal, either_causes}
 use Rattle.vortex_prune.specs.Part.{PartData}
 use Rattle.vortex_prune.specs.Scanning.PartScans.{AreTold, IsListed, IsRefusedAt, TellsOf, UnlessSkipped, binder_refuses, binder_tells}
 use Rattle.vortex_rewrite.specs.Rewriting.Proof.{Assignment}
-use Rattle.vortex_prune.specs.Scanning.ScanRefusals.{AreClosed, IsClosed, KeptAreClosed, binder_causes, if_faithful, proof_causes}
+use Rattle.vortex_prune.specs.Scanning.ScanRefusals.{AreClosed, IsClosed, KeptAreClosed, asking_causes, binder_causes, kept_binders, proof_causes, verdict_causes}
 use Rattle.vortex_prune.specs.Scanning.Selection.{Answered, AreFaithful, answered, verdict}
 use Rattle.vortex_prune.specs.declared.scan.verdict.Verdict.{Verdict}
 use Rattle.vortex_prune.specs.declared.scan.verdict.Verdict.TheVariants.{Skipped, Whole, Tested}
@@ -84,17 +84,17 @@ module _ {S : Type 0} (answer : S → BinderAnswer) (IsMissing : S → DType →
         → IfOk r (λ _. IsClosed (answer s) (IsMissing s) falsifier) → IfOk r (λ v. UnlessSkipped v (IsClosed (answer s) (IsMissing s) satisfier))
         → IfErr r (IsRefusal (either_causes (proof_causes (answer s) (IsMissing s) (can_fault s) falsifier) (proof_causes (answer s) (IsMissing s) (can_fault s) satisfier)))
         → IfErr r (λ f. IsTrue (over s [] (rows_of part.chunk.columns))
-        → IsRefusal (either_causes (if_faithful falsifier (proof_causes (answer s) (IsMissing s) (can_fault s) falsifier)) (if_faithful satisfier (proof_causes (answer s) (IsMissing s) (can_fault s) satisfier))) f)
-        → MatchResult r (binder_tells answer IsMissing over falsifier satisfier binders value i part) (binder_refuses answer IsMissing over falsifier satisfier binders can_fault i part)
+        → IsRefusal (verdict_causes (answer s) (IsMissing s) (can_fault s) falsifier satisfier part (value s [] (rows_of part.chunk.columns))) f)
+        → MatchResult r (binder_tells answer IsMissing over falsifier satisfier binders value i part) (binder_refuses answer IsMissing over falsifier satisfier binders value can_fault i part)
     binder_told can_fault i part s (Ok v) at told closed kept refused faithful = (s, at, told, closed, kept)
     binder_told can_fault i part s (Err f) at told closed kept refused faithful = (s, at, refused, faithful)
 
-  module _ (can_fault : S → ℕ → Bool) (parts : List PartData) where
+  module _ (value : S → List Constant → ℕ → Assignment) (can_fault : S → ℕ → Bool) (parts : List PartData) where
     abbrev pub causes : Option (Tree Place) → Causes
     causes proof = binder_causes answer IsMissing can_fault proof binders
 
     -- what one of them is refused for, the scan is
-    pub binders_refused : (f : StatsError) → IsRefusedAt (binder_refuses answer IsMissing over falsifier satisfier binders can_fault) parts f → IsRefusal (either_causes (causes falsifier) (causes satisfier)) f
+    pub binders_refused : (f : StatsError) → IsRefusedAt (binder_refuses answer IsMissing over falsifier satisfier binders value can_fault) parts f → IsRefusal (either_causes (causes falsifier) (causes satisfier)) f
     binders_refused f (inl memory) = subst (IsRefusal (either_causes (causes falsifier) (causes satisfier))) (sym memory) tt
     binders_refused f (inr h) =
         let s = h.3.0 in
@@ -102,18 +102,21 @@ module _ {S : Type 0} (answer : S → BinderAnswer) (IsMissing : S → DType →
         let at = sym (get_or_from_slice_get binders h.0 s s h.3.1) in
         either-refusal _ _ (causes falsifier) (causes satisfier) f (refusal_in answer IsMissing can_fault falsifier binders h.0 s f less at) (refusal_in answer IsMissing can_fault satisfier binders h.0 s f less at) h.3.2
 
-    abbrev pub faithful_causes : Option (Tree Place) → Causes
-    faithful_causes proof = if_faithful proof (causes proof)
+    abbrev pub asking : Option (Tree Place) → List S → Causes
+    asking proof asked = asking_causes answer IsMissing can_fault proof asked
 
-    pub binders_refused_faithful : (f : StatsError) → length binders ≡ length parts → AreFaithful over parts binders → IsRefusedAt (binder_refuses answer IsMissing over falsifier satisfier binders can_fault) parts f
-        → IsRefusal (either_causes (faithful_causes falsifier) (faithful_causes satisfier)) f
-    binders_refused_faithful f long faithful (inl memory) = subst (IsRefusal (either_causes (faithful_causes falsifier) (faithful_causes satisfier))) (sym memory) tt
+    -- where they are faithful, for the satisfier only by those of parts that aren't skipped
+    pub binders_refused_faithful : (f : StatsError) → length binders ≡ length parts → AreFaithful over parts binders → IsRefusedAt (binder_refuses answer IsMissing over falsifier satisfier binders value can_fault) parts f
+        → IsRefusal (either_causes (asking falsifier binders) (asking satisfier (kept_binders value falsifier parts binders))) f
+    binders_refused_faithful f long faithful (inl memory) = subst (IsRefusal (either_causes (asking falsifier binders) (asking satisfier (kept_binders value falsifier parts binders)))) (sym memory) tt
     binders_refused_faithful f long faithful (inr h) =
         let s = h.3.0 in
         let less = slice_get_within parts h.0 h.1 h.2 in
         let at = sym (get_or_from_slice_get parts h.0 h.1 h.1 h.2) in
         let own = sym (get_or_from_slice_get binders h.0 s s h.3.1) in
         let over_it = faithful_one over parts binders h.0 h.1 s long less at own faithful in
-        either-refusal _ _ (faithful_causes falsifier) (faithful_causes satisfier) f
-        (λ r. faithful_refusal_in answer IsMissing can_fault falsifier over parts binders h.0 h.1 s f long less at own (λ _. r) faithful)
-        (λ r. faithful_refusal_in answer IsMissing can_fault satisfier over parts binders h.0 h.1 s f long less at own (λ _. r) faithful) (h.3.3 over_it)
+        either-refusal _ _ (asking falsifier binders) (asking satisfier (kept_binders value falsifier parts binders)) f
+        (refusal-more _ (asking falsifier binders) f (asking_in answer IsMissing can_fault falsifier binders h.0 s (slice_get_within binders h.0 s h.3.1) own))
+        (refused-if _ _ (asking satisfier (kept_binders value falsifier parts binders)) f
+        (λ kept. let k = kept_there value falsifier parts binders h.0 h.1 s h.2 h.3.1 kept in asking_in answer IsMissing can_fault satisfier (kept_binders value falsifier parts binders) k.0 s k.1 k.2))
+        (h.3.3 over_it)

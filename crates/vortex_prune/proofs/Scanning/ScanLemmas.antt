@@ -3,20 +3,20 @@ use Rattle.std.proofs.Common.{◌≡◌, ◌<◌, ◌≤◌, ◌+◌, ℕ, zero,
 use Rattle.std.proofs.Math.Nat.{eq-or-lt_of_le}
 use Rattle.std.proofs.lemmas.Option.{same_Some, slice_get_read, slice_get_within}
 use Rattle.std.specs.List.{enumerate_from, filter, flat_map}
-use Rattle.std.specs.Prelude.{slice_get}
+use Rattle.std.specs.Prelude.{if◌then◌else◌, slice_get}
 use Rattle.vortex_base.specs.Data.Columns.{row_count as rows_of}
 use Rattle.vortex_base.specs.Data.Scalars.{Constant}
 use Rattle.vortex_base.specs.Trees.Tree.{Place, Tree}
 use Rattle.vortex_prune.specs.Part.{AreParts, IsPart, PartData}
 use Rattle.vortex_rewrite.specs.Rewriting.Proof.{Assignment}
 use Rattle.vortex_prune.specs.Binding.Binders.{BinderAnswer}
-use Rattle.vortex_rewrite.specs.Causes.{IsRefusal}
-use Rattle.vortex_prune.specs.Scanning.ScanRefusals.{binder_causes, if_faithful, proof_causes}
-use Rattle.vortex_rewrite.proofs.Rewriting.CauseLemmas.{refusal-more}
+use Rattle.vortex_rewrite.specs.Causes.{Causes, IsRefusal}
+use Rattle.vortex_prune.specs.Scanning.ScanRefusals.{asking_causes, binder_causes, causes_if, if_faithful, kept_binders, proof_causes}
+use Rattle.vortex_rewrite.proofs.Rewriting.CauseLemmas.{BringAbout, refusal-more}
 use Rattle.vortex_base.specs.declared.dtype.DType.{DType}
-use Rattle.vortex_prune.specs.Scanning.Selection.{Answered, AreFaithful, answered, any_binder, is_proved, is_whole, place_if, rows_by, rows_tested, selected_rows, skipped_parts, tested_rows, verdict, whole_parts}
+use Rattle.vortex_prune.specs.Scanning.Selection.{Answered, AreFaithful, answered, answers_for, any_binder, is_proved, is_whole, place_if, rows_by, rows_tested, selected_rows, skipped_parts, tested_rows, verdict, whole_parts}
 use Rattle.vortex_stats.specs.declared.error.StatsError.{StatsError}
-use Rattle.std.proofs.lemmas.Bool.{or_left, or_right}
+use Rattle.std.proofs.lemmas.Bool.{or_from, or_left, or_parts, or_right}
 
 -- ---- lists made of the elements of a list and their places
 
@@ -133,16 +133,67 @@ module _ {S : Type 0} where
           open_proof = λ x. (n, b, h, sym is, x);
         }) r
 
-    pub faithful_refusal_in : (over : S → List Constant → ℕ → Bool) (parts : List PartData) (binders : List S) (n : ℕ) (part : PartData) (b : S) (f : StatsError)
-        → length binders ≡ length parts → n < length parts → part ≡ get_or parts n part → b ≡ get_or binders n b
-        → (IsTrue (over b [] (rows_of part.chunk.columns)) → IsRefusal (if_faithful proof (proof_causes (answer b) (IsMissing b) (can_fault b) proof)) f)
-        → AreFaithful over parts binders → IsRefusal (if_faithful proof (binder_causes answer IsMissing can_fault proof binders)) f
-    faithful_refusal_in over parts binders n part b f long h is is_b r faithful =
-        let own : IsTrue (over b [] (rows_of part.chunk.columns)) = faithful_one over parts binders n part b long h is is_b faithful in
-        refusal-more _ (if_faithful proof (binder_causes answer IsMissing can_fault proof binders)) f (record {
-          rule = λ k x. x;
-          not_bool = λ x. x;
-          binder = λ k x. (n, b, omega (arith, long, h), sym is_b, x);
-          wrong_type = λ x. x;
-          open_proof = λ x. x;
-        }) (r own)
+    -- and so with faithful binders
+    pub asking_in : (binders : List S) (n : ℕ) (b : S) → n < length binders → b ≡ get_or binders n b
+        → BringAbout (if_faithful proof (proof_causes (answer b) (IsMissing b) (can_fault b) proof)) (asking_causes answer IsMissing can_fault proof binders)
+    asking_in binders n b h is = record {
+      rule = λ k x. x;
+      not_bool = λ x. x;
+      binder = λ k x. (n, b, h, sym is, x);
+      wrong_type = λ x. x;
+      open_proof = λ x. (x.0, (n, b, h, sym is, x.1));
+    }
+
+-- what is refused for causes that are there if something is so, is refused for what they bring about then
+pub refused-if : (P : Type 0) (c d : Causes) (f : StatsError) → (P → BringAbout c d) → IsRefusal (causes_if P c) f → IsRefusal d f
+refused-if P c d f more =
+    refusal-more (causes_if P c) d f (record {
+      rule = λ k x. (more x.0).rule k x.1;
+      not_bool = λ x. (more x.0).not_bool x.1;
+      binder = λ k x. (more x.0).binder k x.1;
+      wrong_type = λ x. (more x.0).wrong_type x.1;
+      open_proof = λ x. (more x.0).open_proof x.1;
+    })
+
+-- ---- the binders of the parts that aren't skipped
+
+module _ {S : Type 0} (value : S → List Constant → ℕ → Assignment) (falsifier : Option (Tree Place)) where
+  IsIn : S → List S → Type 0
+  IsIn s binders = (n : ℕ) × (n < length binders) × (s ≡ get_or binders n s)
+
+  in_later : (t : Bool) (b s : S) (rest : List S) → IsIn s rest → IsIn s (if t then rest else b ∷ rest)
+  unfolding IsIn
+  in_later true b s rest h = h
+  in_later false b s rest h = (suc h.0, omega (arith, h.1), h.2)
+
+  in_now : (t : Bool) (b s : S) (rest : List S) → t ≡ false → b ≡ s → IsIn s (if t then rest else b ∷ rest)
+  unfolding IsIn
+  in_now true b s rest kept same = absurd cc
+  in_now false b s rest kept same = (0, omega arith, sym same)
+
+  -- of a part of which the falsifier isn't true the binder is among them
+  pub kept_there : (parts : List PartData) (binders : List S) (i : ℕ) (part : PartData) (s : S) → slice_get parts i ≡ Some part → slice_get binders i ≡ Some s
+      → is_proved falsifier part (answers_for (value s) part) ≡ false
+      → (n : ℕ) × (n < length (kept_binders value falsifier parts binders)) × (s ≡ get_or (kept_binders value falsifier parts binders) n s)
+  unfolding IsIn
+  kept_there [] binders i part s e k untrue = absurd cc
+  kept_there (p ∷ parts) [] i part s e k untrue = absurd cc
+  kept_there (p ∷ parts) (b ∷ binders) zero part s e k untrue =
+      in_now (is_proved falsifier p (answers_for (value b) p)) b s (kept_binders value falsifier parts binders)
+      (subst (λ (t : S). is_proved falsifier p (answers_for (value t) p) ≡ false) (sym (same_Some b s k)) (subst (λ (q : PartData). is_proved falsifier q (answers_for (value s) q) ≡ false) (sym (same_Some p part e)) untrue))
+      (same_Some b s k)
+  kept_there (p ∷ parts) (b ∷ binders) (suc i) part s e k untrue =
+      in_later (is_proved falsifier p (answers_for (value b) p)) b s (kept_binders value falsifier parts binders) (kept_there parts binders i part s e k untrue)
+
+  quiet_if : (can_fault : S → ℕ → Bool) (k : ℕ) (t : Bool) (b : S) (rest : List S) → can_fault b k ≡ false → any_binder can_fault rest k ≡ false → any_binder can_fault (if t then rest else b ∷ rest) k ≡ false
+  quiet_if can_fault k true b rest own more = more
+  quiet_if can_fault k false b rest own more = or_from (can_fault b k) (any_binder can_fault rest k) own more
+
+  -- and where no binder names a fault none of them does
+  pub kept_quiet : (can_fault : S → ℕ → Bool) (k : ℕ) (parts : List PartData) (binders : List S) → any_binder can_fault binders k ≡ false
+      → any_binder can_fault (kept_binders value falsifier parts binders) k ≡ false
+  kept_quiet can_fault k [] binders h = refl
+  kept_quiet can_fault k (p ∷ parts) [] h = refl
+  kept_quiet can_fault k (p ∷ parts) (b ∷ binders) h =
+      let both = or_parts (can_fault b k) (any_binder can_fault binders k) h in
+      quiet_if can_fault k (is_proved falsifier p (answers_for (value b) p)) b (kept_binders value falsifier parts binders) both.0 (kept_quiet can_fault k parts binders both.1)

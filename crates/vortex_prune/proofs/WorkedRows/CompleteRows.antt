@@ -1,5 +1,7 @@
 -- Worked rows of predicates that bounds decide, found by computation alone.
-use Rattle.std.specs.Prelude.{◌≡◌, ◌==◌, ℕ, Bool, true, false, if◌then◌else◌, [], ◌∷◌, Some, None, pos, codes, refl}
+use Rattle.std.specs.Prelude.{◌≡◌, ◌==◌, ◌↔◌, ℕ, zero, suc, Bool, true, false, Contains, IsTrue, List, if◌then◌else◌, [], ◌∷◌, Some, None, pos, codes, refl, slice_get}
+use Rattle.std.proofs.Common.{arith, subst}
+use Rattle.std.proofs.lemmas.Option.{same_Some}
 use Rattle.vortex_base.specs.declared.types.BetweenOptions.{BetweenOptions}
 use Rattle.vortex_base.specs.declared.types.StrictComparison.TheVariants.{Strict, NonStrict}
 use Rattle.vortex_base.specs.declared.dtype.DType.{DType}
@@ -10,14 +12,16 @@ use Rattle.vortex_base.specs.declared.types.PType.TheVariants as ptype
 use Rattle.vortex_base.specs.declared.pvalue.PValue.TheVariants as number
 use Rattle.vortex_base.specs.declared.scalar_value.ScalarValue.{ScalarValue}
 use Rattle.vortex_base.specs.declared.scalar_value.ScalarValue.TheVariants as value
+use Rattle.vortex_base.specs.Data.Columns.{row_count as rows_of}
 use Rattle.vortex_base.specs.Data.Scalars.{Constant}
 use Rattle.vortex_base.specs.Trees.Tree.{Tree, Place, column, literal, binary, between, is_null, not}
 use Rattle.vortex_base.specs.Meanings.Typing.{truth_type}
 use Rattle.vortex_prune.proofs.Scanning.Boxes.{skipping_is_complete}
-use Rattle.vortex_rewrite.specs.Rewriting.ReadOnce.{Box, IsSatisfiable, is_read_once}
+use Rattle.vortex_rewrite.specs.Rewriting.ReadOnce.{Box, IsInOrder, IsSatisfiable, is_read_once}
 use Rattle.vortex_prune.specs.Part.{Entries, IsPart, PartData}
 use Rattle.vortex_prune.specs.Binding.PartAnswers.{part_values}
 use Rattle.vortex_rewrite.specs.Rewriting.Falsifiers.{bool_literal, falsifier, reduce_balanced, node}
+use Rattle.vortex_prune.specs.Scanning.Complete.{IsBoxOf, SkipsExactly}
 use Rattle.vortex_prune.specs.Scanning.Selection.{is_proved}
 use Rattle.vortex_stats.specs.declared.precision.Precision.TheVariants.{Exact, Inexact}
 use Rattle.vortex_stats.specs.declared.stat.Stat.TheVariants.{Max, Min}
@@ -244,3 +248,55 @@ fives = (
   ),
   refl,
 )
+
+-- ---- a box whose low is its high
+
+abbrev fives_box : Box
+fives_box = record { low = λ i. num 5; high = λ i. num 5 }
+
+one_value_part : IsPart (part (bounds 5 5) (bounds 5 5))
+one_value_part = (refl, refl)
+
+-- two columns of one value, the same, don't differ
+none_differ : ¬ IsSatisfiable unequal fives_box 1
+unfolding node reduce_balanced
+none_differ = (skipping_is_complete unequal (truth_type true) (part (bounds 5 5) (bounds 5 5)) fives_box refl refl one_value_part refl refl ((refl, refl), ((refl, refl), tt)) (refl, (refl, tt))).0 refl
+
+-- and are in order
+one_choice : IsSatisfiable at_most fives_box 1
+one_choice = (
+  cell (num 5) ∷ cell (num 5) ∷ [],
+  (
+    record { chosen = num 5; cell = refl; of_type = refl; above_low = refl; below_high = refl },
+    (record { chosen = num 5; cell = refl; of_type = refl; above_low = refl; below_high = refl }, tt),
+  ),
+  refl,
+)
+
+-- ---- the skipped places are those and no others
+
+abbrev one_part : List PartData
+one_part = part (bounds 5 9) (bounds 1 5) ∷ []
+
+-- what no values satisfy has to be skipped
+less_not_listed : SkipsExactly less one_part [] → ⊥
+less_not_listed h = absurd (omega (arith, ((h 0 (part (bounds 5 9) (bounds 1 5)) first_box refl ((refl, refl), ((refl, refl), tt)) (refl, (refl, tt))).1 none_ascend).1))
+
+-- and what some do may not be
+at_most_listed : SkipsExactly at_most one_part (0 ∷ []) → ⊥
+at_most_listed h = (h 0 (part (bounds 5 9) (bounds 1 5)) first_box refl ((refl, refl), ((refl, refl), tt)) (refl, (refl, tt))).0 (0, omega arith, refl) fives
+
+skips_less : (i : ℕ) (p : PartData) (box : Box) → slice_get one_part i ≡ Some p → IsBoxOf p less box → IsInOrder less box → Contains (0 ∷ []) i ↔ ¬ IsSatisfiable less box (rows_of p.chunk.columns)
+unfolding node reduce_balanced
+skips_less zero p box there known order =
+    let own : part (bounds 5 9) (bounds 1 5) ≡ p = same_Some (part (bounds 5 9) (bounds 1 5)) p there in
+    let complete : IsTrue (is_proved (falsifier [] less) p (part_values p)) ↔ ¬ IsSatisfiable less box (rows_of p.chunk.columns) =
+    subst (λ (q : PartData). IsBoxOf q less box → IsTrue (is_proved (falsifier [] less) q (part_values q)) ↔ ¬ IsSatisfiable less box (rows_of q.chunk.columns)) own
+    (λ k. skipping_is_complete less (truth_type true) (part (bounds 5 9) (bounds 1 5)) box refl refl some_part refl refl k order) known in (
+      λ c. complete.0 (subst (λ (q : PartData). is_proved (falsifier [] less) q (part_values q) ≡ true) own refl),
+      λ n. (0, omega arith, refl),
+    )
+skips_less (suc i) p box there known order = absurd cc
+
+exactly : SkipsExactly less one_part (0 ∷ [])
+exactly = skips_less

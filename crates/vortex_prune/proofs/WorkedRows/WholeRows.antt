@@ -14,7 +14,7 @@ use Rattle.vortex_base.specs.Trees.Tree.{Tree, Place, column, literal, binary, b
 use Rattle.vortex_prune.specs.Binding.PartAnswers.{part_values}
 use Rattle.vortex_prune.specs.Part.{Entries, PartData}
 use Rattle.vortex_rewrite.specs.Rewriting.Falsifiers.{falsifier, node, reduce_balanced, satisfier}
-use Rattle.vortex_prune.specs.Scanning.Selection.{Answered, is_proved, selected_rows, skipped_parts, tested_rows, verdict, whole_parts}
+use Rattle.vortex_prune.specs.Scanning.Selection.{Answered, full, is_proved, selected_rows, skipped_parts, tested_rows, verdict, whole_parts}
 use Rattle.vortex_prune.specs.declared.scan.verdict.Verdict.TheVariants.{Skipped}
 use Rattle.vortex_stats.specs.declared.precision.Precision.TheVariants.{Exact, Inexact}
 use Rattle.vortex_stats.specs.declared.stat.Stat.TheVariants.{Max, Min, NullCount}
@@ -172,3 +172,15 @@ none_whole = refl
 rows_of_two : tested_rows None (satisfier [] above_ten) three_parts ≡ 4
 unfolding node reduce_balanced
 rows_of_two = refl
+
+-- ---- the full scan has each satisfying row, the first and the last of a part among them
+
+full_scan : full above_ten (part (Some (num 11) ∷ Some (num 5) ∷ Some (num 12) ∷ []) (None ∷ None ∷ None ∷ []) [] ∷ part [] [] [] ∷ part (Some (num 13) ∷ []) (None ∷ []) [] ∷ []) ≡ (0, 0) ∷ (0, 2) ∷ (2, 0) ∷ []
+full_scan = refl
+
+-- statistics are no matter to it
+full_with_untrue_statistics : full above_ten (part (Some (num 11) ∷ []) (None ∷ []) ((Max, Exact (num 1)) ∷ []) ∷ []) ≡ (0, 0) ∷ []
+full_with_untrue_statistics = refl
+
+full_of_no_parts : full above_ten [] ≡ []
+full_of_no_parts = refl

@@ -13,7 +13,7 @@ use Rattle.vortex_prune.specs.Part.{PartData}
 use Rattle.vortex_rewrite.specs.Rewriting.Falsifiers.{falsifier, satisfier}
 use Rattle.vortex_rewrite.specs.Answers.{IsMemory}
 use Rattle.vortex_rewrite.specs.Rewriting.Proof.{is_open}
-use Rattle.vortex_prune.specs.Scanning.ZoneScans.{is_left_open, open_causes, zone_causes}
+use Rattle.vortex_prune.specs.Scanning.ZoneScans.{is_left_open, kept_parts, open_causes, zone_causes}
 use Rattle.vortex_stats.specs.declared.error.BinderFault.TheVariants as binder_fault
 use Rattle.vortex_stats.specs.declared.error.RuleFault.TheVariants as rule_fault
 use Rattle.vortex_stats.specs.declared.error.StatsError.{StatsError}
@@ -64,11 +64,12 @@ module _ (answer : BinderAnswer) (IsMissing : DType → Tree Place → Type 0) (
 module _ (rules : List OwnRule) (p : Tree Place) (parts : List PartData) where
   -- a falsifier that is left open
   pub open_refuses : (proof : Option (Tree Place)) (f : StatsError) → proof ≡ falsifier rules p → IsRefusal (open_causes proof parts) f → IsRefusal (zone_causes rules p parts) f
-  open_refuses proof f same h = asking_refused (λ e. open_causes e parts) rules p proof (satisfier rules p) f same refl (either-left _ _ f h)
+  open_refuses proof f same h = asking_refused (λ e. open_causes e parts) (λ e. open_causes e (kept_parts (falsifier rules p) parts)) rules p proof (satisfier rules p) f same refl (either-left _ _ f h)
 
-  -- a satisfier that is
-  pub open_satisfier_refuses : (proof : Option (Tree Place)) (f : StatsError) → proof ≡ satisfier rules p → IsRefusal (open_causes proof parts) f → IsRefusal (zone_causes rules p parts) f
-  open_satisfier_refuses proof f same h = asking_refused (λ e. open_causes e parts) rules p (falsifier rules p) proof f refl same (either-right _ _ f h)
+  -- a satisfier that is, and a part that isn't skipped
+  pub open_satisfier_refuses : (proof : Option (Tree Place)) (f : StatsError) → proof ≡ satisfier rules p → IsRefusal (open_causes proof (kept_parts (falsifier rules p) parts)) f → IsRefusal (zone_causes rules p parts) f
+  open_satisfier_refuses proof f same h =
+      asking_refused (λ e. open_causes e parts) (λ e. open_causes e (kept_parts (falsifier rules p) parts)) rules p (falsifier rules p) proof f refl same (either-right _ _ f h)
 
 -- by built-in rules it is refused for memory alone
 left_shut_always : (parts : List PartData) (proof : Option (Tree Place)) → is_open proof ≡ false → is_left_open proof parts ≡ false
@@ -91,4 +92,4 @@ memory_alone parts proof fault.TooLarge shut h = absurd h
 pub zones_refused_for_memory : {X : Type 0} (rules : List OwnRule) (p : Tree Place) (parts : List PartData) (r : Result X StatsError) → rules ≡ [] → IfErr r (IsRefusal (zone_causes rules p parts)) → IfErr r IsMemory
 zones_refused_for_memory rules p parts (Ok x) none h = tt
 zones_refused_for_memory rules p parts (Err f) none h =
-    memory_alone_by (λ proof. open_causes proof parts) p (memory_alone parts) f (subst (λ rs. IsRefusal (zone_causes rs p parts) f) none h)
+    memory_alone_by (λ proof. open_causes proof parts) (λ proof. open_causes proof (kept_parts (falsifier [] p) parts)) p (memory_alone parts) (memory_alone (kept_parts (falsifier [] p) parts)) f (subst (λ rs. IsRefusal (zone_causes rs p parts) f) none h)

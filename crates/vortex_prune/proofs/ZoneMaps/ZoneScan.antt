@@ -1,5 +1,5 @@
 -- A scan by a table of zones finds what one by each part's own statistics does.
-use Rattle.std.proofs.Common.{◌≡◌, All, ℕ, zero, suc, Bool, true, false, not, List, [], ◌∷◌, Option, Some, None, arith, inl, inr, length, map, refl, subst, sym, ap, ◌∙◌}
+use Rattle.std.proofs.Common.{◌≡◌, All, ℕ, zero, suc, Bool, true, false, not, not as not_b, List, [], ◌∷◌, Option, Some, None, arith, inl, inr, length, map, refl, subst, sym, ap, ◌∙◌}
 use Rattle.std.specs.Prelude.{◌<◌, Err, IfOk, Ok, Result, if◌then◌else◌, slice_get, IsTrue}
 use Rattle.std.proofs.lemmas.List.{length-map}
 use Rattle.std.proofs.lemmas.Option.{same_Some, slice_get_within}
@@ -18,16 +18,17 @@ use Rattle.vortex_prune.proofs.ZoneMaps.ZoneRows.{row_is_zone_row, values_same}
 use Rattle.vortex_prune.specs.declared.scan.outcome.Scan.{Scan}
 use Rattle.vortex_stats.specs.declared.error.StatsError.{StatsError}
 use Rattle.vortex_prune.specs.Binding.BoundTo.{HasNoColumnOn, WhereFaithful}
-use Rattle.vortex_prune.specs.Part.{IsPart, PartData}
+use Rattle.vortex_prune.specs.Part.{AreParts, IsPart, PartData}
 use Rattle.vortex_prune.specs.Scanning.PartScans.{AreTold, IsRefusedAt, TellsOf}
 use Rattle.vortex_prune.specs.Binding.PartAnswers.{part_values}
 use Rattle.vortex_rewrite.specs.Rewriting.Proof.{Assignment, value_under}
 use Rattle.vortex_prune.specs.Scanning.Selection.{Answered, is_proved, verdict}
-use Rattle.vortex_rewrite.specs.Causes.{IsRefusal}
+use Rattle.vortex_rewrite.proofs.Rewriting.CauseLemmas.{refusal-more}
+use Rattle.vortex_rewrite.specs.Causes.{IsRefusal, no_causes}
 use Rattle.vortex_rewrite.specs.Rewriting.Proof.{is_open}
 use Rattle.vortex_prune.specs.declared.scan.verdict.Verdict.{Verdict}
 use Rattle.vortex_prune.specs.declared.scan.verdict.Verdict.TheVariants.{Skipped, Whole, Tested}
-use Rattle.vortex_prune.specs.Scanning.ZoneScans.{CanTell, IsBoundOnce, IsShutIfKept, TellsAs, open_causes, statistics_answers, table_tells, table_verdict, zone_truth}
+use Rattle.vortex_prune.specs.Scanning.ZoneScans.{CanTell, IsBoundOnce, IsShutIfKept, TellsAs, is_left_open, kept_parts, open_causes, statistics_answers, table_refuses, table_tells, table_verdict, zone_truth}
 use Rattle.vortex_prune.specs.Zones.{HaveScope, Head, ZonesData, heads, is_zone_row, named_head, zone_column, zone_columns, zone_table, zone_values}
 
 -- ---- a scan by the rows of the table, as one part by part
@@ -61,10 +62,37 @@ answers_tell bound f s z tells = record {
 pub tables_tell : (bound f s : Option (Tree Place)) (z : ZonesData) (parts : List PartData) → parts ≡ z.parts → TellsAs bound f z → TellsOf (table_tells bound s z) f s parts (statistics_answers z.parts)
 tables_tell bound f s z parts same tells = subst (λ (ps : List PartData). TellsOf (table_tells bound s z) f s ps (statistics_answers z.parts)) (sym same) (answers_tell bound f s z tells)
 
--- a refusal at some part is for memory, or since the satisfier is left open
-pub refused_open : (satisfier : Option (Tree Place)) (zoned parts : List PartData) (f : StatsError) → IsRefusedAt (λ i part. IsRefusal (open_causes satisfier zoned)) parts f → IsRefusal (open_causes satisfier zoned) f
-refused_open satisfier zoned parts f (inl memory) = subst (IsRefusal (open_causes satisfier zoned)) (sym memory) tt
-refused_open satisfier zoned parts f (inr h) = h.3
+-- a part of which the falsifier isn't true is among those that aren't skipped, so an open satisfier is left open there
+open_if : (t : Bool) (s : Option (Tree Place)) (part : PartData) (rest : List PartData) → t ≡ false → is_open s ≡ true → is_left_open s (if not_b t then part ∷ rest else rest) ≡ true
+open_if true s part rest kept open_one = absurd cc
+open_if false s part rest kept open_one = open_one
+
+open_later : (t : Bool) (s : Option (Tree Place)) (part : PartData) (rest : List PartData) → is_left_open s rest ≡ true → is_open s ≡ true → is_left_open s (if not_b t then part ∷ rest else rest) ≡ true
+open_later true s part rest h open_one = h
+open_later false s part rest h open_one = open_one
+
+kept_open : (f s : Option (Tree Place)) (parts : List PartData) (i : ℕ) (part : PartData) → slice_get parts i ≡ Some part → is_proved f part (part_values part) ≡ false → is_open s ≡ true
+    → is_left_open s (kept_parts f parts) ≡ true
+kept_open f s [] i part at untrue open_one = absurd cc
+kept_open f s (q ∷ parts) zero part at untrue open_one =
+    open_if (is_proved f q (part_values q)) s q (kept_parts f parts) (ap (λ (p : PartData). is_proved f p (part_values p)) (same_Some q part at) ∙ untrue) open_one
+kept_open f s (q ∷ parts) (suc i) part at untrue open_one = open_later (is_proved f q (part_values q)) s q (kept_parts f parts) (kept_open f s parts i part at untrue open_one) open_one
+
+-- a refusal at some part is for memory, or since the satisfier is left open and a part isn't skipped
+pub refused_open : (bound s f : Option (Tree Place)) (z : ZonesData) (parts : List PartData) (e : StatsError) → parts ≡ z.parts → AreParts z.parts → TellsAs bound f z → IsRefusedAt (table_refuses bound s z) parts e
+    → IsRefusal (open_causes s (kept_parts f z.parts)) e
+refused_open bound s f z parts e same are tells (inl memory) = subst (IsRefusal (open_causes s (kept_parts f z.parts))) (sym memory) tt
+refused_open bound s f z parts e same are tells (inr h) =
+    let at = sym (ap (λ (l : List PartData). slice_get l h.0) same) ∙ h.2 in
+    refusal-more (record no_causes { open_proof = (zone_truth bound z h.0 (rows_of h.1.chunk.columns) ≡ false) × (is_open s ≡ true) }) (open_causes s (kept_parts f z.parts)) e
+    (record {
+      rule = λ k x. x;
+      not_bool = λ x. x;
+      binder = λ k x. x;
+      wrong_type = λ x. x;
+      open_proof = λ x. kept_open f s z.parts h.0 h.1 at (sym (tells h.0 h.1 at (are h.0 h.1 at)) ∙ x.0) x.1;
+    })
+    h.3
 
 -- ---- the satisfier is bound where it is needed
 

@@ -8,7 +8,7 @@ use Rattle.vortex_prune.specs.Binding.Binders.{BinderAnswer}
 use Rattle.vortex_rewrite.specs.Causes.{IsRefusal, either_causes}
 use Rattle.vortex_prune.specs.Part.{IsPart, PartData}
 use Rattle.vortex_rewrite.specs.Rewriting.Proof.{Assignment}
-use Rattle.vortex_prune.specs.Scanning.ScanRefusals.{IsClosed, if_faithful, proof_causes}
+use Rattle.vortex_prune.specs.Scanning.ScanRefusals.{IsClosed, proof_causes, verdict_causes}
 use Rattle.vortex_prune.specs.Scanning.Selection.{Answered, verdict}
 use Rattle.vortex_prune.specs.declared.scan.verdict.Verdict.{Verdict}
 use Rattle.vortex_prune.specs.declared.scan.verdict.Verdict.TheVariants.{Skipped, Whole, Tested}
@@ -57,10 +57,9 @@ module _ {S : Type 0} (answer : S → BinderAnswer) (IsMissing : S → DType →
       (IsTrue (is_faithful_over s [] (rows_of part.chunk.columns)) → v ≡ verdict falsifier satisfier part (value s [] (rows_of part.chunk.columns))) ×
       IsClosed (answer s) (IsMissing s) falsifier × UnlessSkipped v (IsClosed (answer s) (IsMissing s) satisfier)
 
-  -- it is refused for what that binder may cause
-  abbrev pub binder_refuses : (can_fault : S → ℕ → Bool) → ℕ → PartData → StatsError → Type 0
-  binder_refuses can_fault i part f =
+  -- it is refused for what that binder may cause; where it is faithful it is asked for the satisfier only if the falsifier isn't true of the part
+  abbrev pub binder_refuses : (value : S → List Constant → ℕ → Assignment) → (can_fault : S → ℕ → Bool) → ℕ → PartData → StatsError → Type 0
+  binder_refuses value can_fault i part f =
       (s : S) × (slice_get binders i ≡ Some s) ×
       IsRefusal (either_causes (proof_causes (answer s) (IsMissing s) (can_fault s) falsifier) (proof_causes (answer s) (IsMissing s) (can_fault s) satisfier)) f ×
-      (IsTrue (is_faithful_over s [] (rows_of part.chunk.columns))
-      → IsRefusal (either_causes (if_faithful falsifier (proof_causes (answer s) (IsMissing s) (can_fault s) falsifier)) (if_faithful satisfier (proof_causes (answer s) (IsMissing s) (can_fault s) satisfier))) f)
+      (IsTrue (is_faithful_over s [] (rows_of part.chunk.columns)) → IsRefusal (verdict_causes (answer s) (IsMissing s) (can_fault s) falsifier satisfier part (value s [] (rows_of part.chunk.columns))) f)

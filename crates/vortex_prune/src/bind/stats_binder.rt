@@ -5,7 +5,9 @@ ghost use Rattle.vortex_base.specs.Data.Columns.{row_count};
 ghost use Rattle.vortex_base.specs.Data.Scalars.{Constant};
 ghost use Rattle.vortex_rewrite.specs.declared.hook_fault.HookFault.TheVariants as fault;
 ghost use Rattle.vortex_rewrite.specs.Facts.{is_column_of};
+ghost use Rattle.vortex_prune.specs.Binding.Binders.{IsHonestOver};
 ghost use Rattle.vortex_prune.specs.Binding.PartBinder as spec;
+ghost use Rattle.vortex_prune.specs.Part.{IsTruePart};
 
 use crate::bind::stat_binder::StatBinder;
 use crate::part::Part;
@@ -38,9 +40,15 @@ impl<'a> StatsBinder<'a> {
     /// The binder of a part.
     pub fn new(part: &'a Part) -> StatsBinder<'a>
         ensures part { result ≡ part.now }
+        // It is faithful over each row of statistics, with each row count.
         ensures faithful { (row : List Constant) (n : ℕ)
             → IsTrue (⟦<StatsBinder<'a> as StatBinder>⟧.is_faithful_over result row n) }
+        // It is honest for its part, where the part's statistics are true.
+        ensures honest { IsTruePart part.now → (row : List Constant)
+            → IsHonestOver (⟦<StatsBinder<'a> as StatBinder>⟧.is_faithful_over result)
+            (⟦<StatsBinder<'a> as StatBinder>⟧.value result) row part.now.chunk }
     {
+        let _chunk = part.chunk();
         StatsBinder { part }
     }
 }

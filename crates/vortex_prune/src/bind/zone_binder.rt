@@ -17,7 +17,9 @@ use vortex_base::dtype::DType;
 use vortex_rewrite::hook_fault::HookFault;
 
 /// Binds the placeholders of a proof to the columns of a table of zones, so that one bound proof is
-/// evaluated on the row of each part.
+/// evaluated on the row of each part. What it answers is read on the rows of its own table alone:
+/// over the row with no columns, on which `scan` evaluates, it isn't faithful. It is for
+/// `scan_zones`, and for who evaluates on the rows of `Zones::table`.
 #[derive(Drop)]
 pub struct ZoneBinder<'a> {
     zones: &'a Zones,

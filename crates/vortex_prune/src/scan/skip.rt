@@ -1,16 +1,17 @@
 //! What becomes of a part: its proofs are bound to what its binder answers, and evaluated.
-ghost use Rattle.std.specs.Prelude.{◌≡◌, false, true, IfOk, IfErr, IsTrue, Option, Some, alloc_error, option_copied};
+ghost use Rattle.std.specs.Prelude.{◌≡◌, false, true, IfOk, IfErr, IsTrue, Some, alloc_error, option_copied};
 ghost use Rattle.vortex_base.specs.Data.Columns.{row_count};
 ghost use Rattle.vortex_base.specs.Meanings.Fitting.{fits_row};
 ghost use Rattle.vortex_base.specs.Meanings.Meaning.{is_true as value_is_true, meaning};
-ghost use Rattle.vortex_base.specs.Trees.Tree.{Place, Tree, has_placeholder};
+ghost use Rattle.vortex_base.specs.Trees.Tree.{has_placeholder};
 ghost use Rattle.vortex_rewrite.specs.Rewriting.Proof.{proves};
 ghost use Rattle.vortex_prune.specs.Scanning.PartScans.{UnlessSkipped};
 ghost use Rattle.vortex_prune.specs.Scanning.Selection.{IsFaithfulFor, answers_for};
 ghost use Rattle.vortex_prune.specs.Scanning.Selection.{is_proved as is_proved_of, verdict as verdict_of};
 ghost use Rattle.vortex_prune.specs.Binding.BoundTo.{IsBoundTo};
-ghost use Rattle.vortex_rewrite.specs.Causes.{Causes, IsRefusal, either_causes};
+ghost use Rattle.vortex_rewrite.specs.Causes.{IsRefusal, either_causes};
 ghost use Rattle.vortex_prune.specs.Scanning.ScanRefusals.{IsClosed, if_faithful, proof_causes};
+ghost use Rattle.vortex_prune.specs.Scanning.ScanRefusals.{verdict_causes};
 ghost use Rattle.vortex_stats.specs.declared.error.StatsError.TheVariants.{Memory};
 
 use crate::bind::bind_stats_of;
@@ -121,12 +122,10 @@ pub(crate) fn verdict<B: StatBinder>(
         (B.is_missing binder.now) (B.can_fault binder.now) in
         IfErr result (IsRefusal (either_causes (causes (option_copied falsifier.entry))
         (causes (option_copied satisfier.entry)))) }
-    ensures faithful { let causes : Option (Tree Place) → Causes = λ proof. if_faithful proof
-        (proof_causes (B.answer binder.now) (B.is_missing binder.now) (B.can_fault binder.now)
-        proof) in
+    ensures faithful { let causes = verdict_causes (B.answer binder.now) (B.is_missing binder.now)
+        (B.can_fault binder.now) (option_copied falsifier.entry) (option_copied satisfier.entry) in
         IfErr result (λ f. IsFaithfulFor (B.is_faithful_over binder.now) part.now
-        → IsRefusal (either_causes (causes (option_copied falsifier.entry))
-        (causes (option_copied satisfier.entry))) f) }
+        → IsRefusal (causes part.now (answers_for (B.value binder.now) part.now)) f) }
 {
     if is_proved_by(alloc, falsifier, part, binder)? {
         return Ok(Verdict::Skipped);

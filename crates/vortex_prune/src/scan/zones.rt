@@ -16,7 +16,7 @@ ghost use Rattle.vortex_rewrite.specs.Answers.{IsMemory};
 ghost use Rattle.vortex_prune.specs.Scanning.Selection.{answered, full, selected_rows};
 ghost use Rattle.vortex_prune.specs.Scanning.Selection.{skipped_parts, tested_rows, whole_parts};
 ghost use Rattle.vortex_prune.specs.Scanning.ZoneScans.{CanTell, IsBoundOnce, IsShutIfKept, TellsAs};
-ghost use Rattle.vortex_prune.specs.Scanning.ZoneScans.{is_left_open, open_causes};
+ghost use Rattle.vortex_prune.specs.Scanning.ZoneScans.{is_left_open, kept_parts, open_causes};
 ghost use Rattle.vortex_prune.specs.Scanning.ZoneScans.{statistics_answers, zone_causes, zone_truth};
 ghost use Rattle.vortex_rewrite.specs.Rewriting.Proof.{is_open};
 ghost use Rattle.vortex_prune.specs.Zones.{HaveScope};
@@ -141,9 +141,8 @@ struct ByTable<'a> {
 
 impl<'a> PartTest for ByTable<'a> {
     ghost use Rattle.std.specs.Prelude.{◌≡◌, ◌<◌, length, option_copied};
-    ghost use Rattle.vortex_rewrite.specs.Causes.{IsRefusal};
-    ghost use Rattle.vortex_prune.specs.Scanning.ZoneScans.{CanTell, IsBoundOnce, open_causes};
-    ghost use Rattle.vortex_prune.specs.Scanning.ZoneScans.{table_tells};
+    ghost use Rattle.vortex_prune.specs.Scanning.ZoneScans.{CanTell, IsBoundOnce};
+    ghost use Rattle.vortex_prune.specs.Scanning.ZoneScans.{table_refuses, table_tells};
 
     ghost able = { λ s i. (i < length s.zones.now.parts)
         × CanTell (option_copied s.falsifier) s.zones.now
@@ -152,8 +151,8 @@ impl<'a> PartTest for ByTable<'a> {
     ghost tells = { λ s. table_tells (option_copied s.falsifier) (option_copied s.satisfier)
         s.zones.now };
 
-    ghost refuses = { λ s i part. IsRefusal
-        (open_causes (option_copied s.satisfier) s.zones.now.parts) };
+    ghost refuses = { λ s. table_refuses (option_copied s.falsifier) (option_copied s.satisfier)
+        s.zones.now };
 
     fn verdict(&mut self, alloc: Global, place: usize, part: &Part) -> Result<Verdict, StatsError> {
         let rows = part.chunk().rows() as u64;
@@ -196,8 +195,10 @@ fn scan_bound(
         ≡ min (tested_rows f s (statistics_answers zones.now.parts)) (2 ^ 64 - 1)) }
     ensures kept_closed { let s = option_copied satisfier.entry in
         IfOk result (λ scan. IsShutIfKept scan.skipped.items s zones.now.parts) }
-    ensures refusal { let causes = open_causes (option_copied satisfier.entry) zones.now.parts in
-        IfErr result (IsRefusal causes) }
+    ensures refusal { let s = option_copied satisfier.entry in
+        IfErr result (λ e. (f : Option (Tree Place))
+        → TellsAs (option_copied falsifier.entry) f zones.now
+        → IsRefusal (open_causes s (kept_parts f zones.now.parts)) e) }
 {
     let mut test = ByTable {
         zones,
@@ -328,7 +329,8 @@ pub fn scan_zones<'a>(
     ensures kept_closed { let M = ⟦<dyn StatsRewriteRule as StatsRewriteRule>⟧ in
         let s = satisfier_of (own_rules M rules.now.own.items) predicate.now in
         IfOk result (λ scan. IsShutIfKept scan.skipped.items s zones.now.parts) }
-    // A refusal has its cause: a rule asked at a visited node, or such a proof and a part.
+    // A refusal has its cause: a rule asked at a visited node, such a falsifier and a part, or such
+    // a satisfier and a part that isn't skipped.
     ensures refusal { let M = ⟦<dyn StatsRewriteRule as StatsRewriteRule>⟧ in
         let causes = zone_causes (own_rules M rules.now.own.items) predicate.now zones.now.parts in
         IsTrue (is_predicate predicate.now) → IfErr result (IsRefusal causes) }

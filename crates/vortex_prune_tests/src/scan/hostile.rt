@@ -5,7 +5,7 @@ use vortex_base::{AggregateFnRef, ScalarFnId};
 use vortex_prune::Rules;
 use vortex_prune::bind::bind_stats;
 use vortex_rewrite_tests::hooks::Claim;
-use vortex_stats::BinderFault;
+use vortex_stats::{BinderFault, RuleFault};
 
 // The scan by the built-in rules and these binders.
 fn scanned_by_binders(
@@ -73,6 +73,12 @@ fn a_count_is_no_greatest_value(rt: HostRuntime) {
 }
 
 #[test]
+fn what_stands_for_a_missing_value_has_its_type(rt: HostRuntime) {
+    let alloc = rt.alloc();
+    assert!(rt; is_wrong_type(scanned_by_one(alloc, above(alloc, 10), Answerer::Zero)));
+}
+
+#[test]
 fn a_truth_is_no_greatest_value(rt: HostRuntime) {
     let alloc = rt.alloc();
     assert!(rt; is_wrong_type(scanned_by_one(alloc, above(alloc, 10), Answerer::Truth)));
@@ -101,6 +107,48 @@ fn a_rule_without_memory_ends_the_scan(rt: HostRuntime) -> Result<(), Fail> {
     let opposite = not(alloc, above(alloc, 10));
     assert!(rt; is_memory(scanned_by(alloc, &twenty(alloc), opposite, &rules)));
     Ok(())
+}
+
+fn is_not_bool(found: Found) -> bool {
+    matches!(found, Err(StatsError::Rule(RuleFault::NotBool)))
+}
+
+// The scan of the one number for those above 10, by a rule that claims so of each comparison.
+fn scanned_by_claims(alloc: Global, falsifier: Claim, satisfier: Claim) -> Found {
+    let rules = rules_that_claim(alloc, ScalarFnId::Binary, falsifier, satisfier)?;
+    scanned_by(alloc, &twenty(alloc), above(alloc, 10), &rules)
+}
+
+#[test]
+fn a_number_is_no_proof(rt: HostRuntime) {
+    let alloc = rt.alloc();
+    assert!(rt; is_not_bool(scanned_by_claims(alloc, Claim::Number, Claim::Nothing)));
+    assert!(rt; is_not_bool(scanned_by_claims(alloc, Claim::Nothing, Claim::Number)));
+}
+
+fn is_fault_of_rule(found: Found) -> bool {
+    matches!(found, Err(StatsError::Rule(RuleFault::Own(3))))
+}
+
+// Both proofs are made before either is bound: so the satisfier's fault comes before the falsifier
+// that is open.
+#[test]
+fn a_fault_of_the_satisfier_comes_before_an_open_falsifier(rt: HostRuntime) {
+    let alloc = rt.alloc();
+    let found = scanned_by_claims(alloc, Claim::Column(0), Claim::Fault);
+    assert!(rt; is_fault_of_rule(found));
+    let found = scanned_by_claims(alloc, Claim::Fault, Claim::Column(0));
+    assert!(rt; is_fault_of_rule(found));
+    assert!(rt; is_open(scanned_by_claims(alloc, Claim::Column(0), Claim::Nothing)));
+    assert!(rt; is_open(scanned_by_claims(alloc, Claim::Nothing, Claim::Column(0))));
+}
+
+// The falsifier's fault comes before the satisfier's number, and its number before a fault.
+#[test]
+fn the_falsifier_is_made_first(rt: HostRuntime) {
+    let alloc = rt.alloc();
+    assert!(rt; is_fault_of_rule(scanned_by_claims(alloc, Claim::Fault, Claim::Number)));
+    assert!(rt; is_not_bool(scanned_by_claims(alloc, Claim::Number, Claim::Fault)));
 }
 
 // Without a falsifier and a satisfier no binder is asked.

@@ -7,7 +7,7 @@ use super::*;
 use std::alloc::AllocError;
 use vortex_base::{BoundExpression, Parts, ScalarFnId};
 use vortex_prune::{HookFault, Rules, StatsRewriteRule};
-use vortex_rewrite_tests::hooks::{Claim, truth_answer};
+use vortex_rewrite_tests::hooks::{Claim, ValueTests, truth_answer};
 use vortex_stats::RuleFault;
 
 // Whether it is IS NULL of a column whose type has no null.
@@ -92,6 +92,30 @@ fn a_rule_may_rest_on_a_type(rt: HostRuntime) -> Result<(), Fail> {
     let found = scanned_by(alloc, &parts, null_test(alloc), &rules);
     expect_found(&rt, found, &[0], &[])?;
     expect_found(&rt, scanned(alloc, &parts, null_test(alloc)), &[], &[])
+}
+
+fn value_test_rules(alloc: Global) -> Result<Rules, AllocError> {
+    rules_of(alloc, Box::new(alloc, ValueTests)?)
+}
+
+// The scan for rows of which it is said that they aren't null, by a rule for that.
+fn scanned_for_values(alloc: Global, rows: &[Option<i32>], nulls: u64) -> Found {
+    let rules = value_test_rules(alloc)?;
+    let parts = with_set(alloc, rows, exactly(alloc, Stat::NullCount, count(nulls)));
+    scanned_by(alloc, &parts, not(alloc, is_null(alloc, a(alloc))), &rules)
+}
+
+// The rule's proofs are true by facts of the part: that all rows are null, or that none is.
+#[test]
+fn a_rule_may_rest_on_facts(rt: HostRuntime) -> Result<(), Fail> {
+    let alloc = rt.alloc();
+    let found = scanned_for_values(alloc, &[None, None], 2)?;
+    assert!(rt; has_found(&found, &[0], &[], &[]));
+    let found = scanned_for_values(alloc, &[Some(1), Some(2)], 0)?;
+    assert!(rt; has_found(&found, &[], &[0], &[(0, 0), (0, 1)]));
+    let found = scanned_for_values(alloc, &[Some(1), None], 1)?;
+    assert!(rt; has_found(&found, &[], &[], &[(0, 0)]));
+    Ok(())
 }
 
 fn is_open(found: Found) -> bool {

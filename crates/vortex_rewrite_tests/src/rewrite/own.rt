@@ -4,7 +4,7 @@ ghost use Rattle.vortex_rewrite.specs.Rewriting.Falsifiers.{bool_literal};
 ghost use Rattle.vortex_rewrite_tests.specs.RuleExamples.{at_opposite};
 
 use super::*;
-use crate::hooks::{Claim, truth_answer};
+use crate::hooks::{Claim, ValueTests, truth_answer};
 use crate::rules::{new_claiming, rules_of, two_rules};
 use std::alloc::AllocError;
 use vortex_base::{Parts, ScalarFnId};
@@ -154,7 +154,54 @@ fn without_a_rule_of_its_own_not_has_no_proof(rt: HostRuntime) -> Result<(), Fai
     expect_no_falsifier(&rt, alloc, not_true(alloc))?;
     expect_none(
         &rt,
+        satisfied(alloc, not_true(alloc), &Rules::builtin(alloc)),
+    )?;
+    expect_none(
+        &rt,
         satisfied(alloc, not_false(alloc), &Rules::builtin(alloc)),
+    )
+}
+
+fn value_test_rules(alloc: Global) -> Result<Rules, AllocError> {
+    rules_of(alloc, Box::new(alloc, ValueTests)?)
+}
+
+fn all_null(alloc: Global) -> Built {
+    stat(alloc, a(alloc), AggregateFnRef::AllNull)
+}
+
+// A rule's proof may hold placeholders, and be true by what answers them.
+#[test]
+fn a_rule_proves_by_placeholders(rt: HostRuntime) -> Result<(), Fail> {
+    let alloc = rt.alloc();
+    let rules = value_test_rules(alloc)?;
+    let found = falsified(alloc, not(alloc, null_test(alloc)), &rules);
+    expect_proof(&rt, found, all_null(alloc))?;
+    let found = satisfied(alloc, not(alloc, null_test(alloc)), &rules);
+    expect_proof(&rt, found, all_non_null(alloc))?;
+    expect_none(&rt, falsified(alloc, not_true(alloc), &rules))
+}
+
+fn truths(alloc: Global) -> Built {
+    col(alloc, 0, BOOL)
+}
+
+// A column of truths is of type Bool: rewriting takes it for a proof, though no scan does.
+#[test]
+fn a_bare_column_is_answered(rt: HostRuntime) -> Result<(), Fail> {
+    let alloc = rt.alloc();
+    let column = Claim::Column(0);
+    let rule = new_claiming(alloc, ScalarFnId::Not, column, column, 3)?;
+    let rules = rules_of(alloc, rule)?;
+    expect_proof(
+        &rt,
+        falsified(alloc, not_true(alloc), &rules),
+        truths(alloc),
+    )?;
+    expect_proof(
+        &rt,
+        satisfied(alloc, not_true(alloc), &rules),
+        truths(alloc),
     )
 }
 
@@ -303,6 +350,85 @@ fn the_first_fault_ends_the_call(rt: HostRuntime) -> Result<(), Fail> {
     let e = or(alloc, null_test(alloc), not_true(alloc));
     expect_fault(&rt, satisfied(alloc, e, &rules), 4);
     Ok(())
+}
+
+// A rule of this list is asked first that stands first.
+fn two_of_one_function(
+    alloc: Global,
+    first: (Claim, u32),
+    second: (Claim, u32),
+) -> Result<Rules, AllocError> {
+    let function = ScalarFnId::Not;
+    let one = new_claiming(alloc, function, first.0, first.0, first.1)?;
+    let other = new_claiming(alloc, function, second.0, second.0, second.1)?;
+    two_rules(alloc, one, other)
+}
+
+#[test]
+fn rules_of_one_node_are_asked_in_their_order(rt: HostRuntime) -> Result<(), Fail> {
+    let alloc = rt.alloc();
+    let rules = two_of_one_function(alloc, (Claim::Fault, 4), (Claim::Fault, 3))?;
+    expect_fault(&rt, falsified(alloc, not_true(alloc), &rules), 4);
+    expect_fault(&rt, satisfied(alloc, not_true(alloc), &rules), 4);
+    let rules = two_of_one_function(alloc, (Claim::Number, 4), (Claim::Fault, 3))?;
+    assert!(rt; is_not_bool(falsified(alloc, not_true(alloc), &rules)));
+    assert!(rt; is_not_bool(satisfied(alloc, not_true(alloc), &rules)));
+    let rules = two_of_one_function(alloc, (Claim::Fault, 4), (Claim::Number, 3))?;
+    expect_fault(&rt, falsified(alloc, not_true(alloc), &rules), 4);
+    expect_fault(&rt, satisfied(alloc, not_true(alloc), &rules), 4);
+    // A proof of the first doesn't keep the second from being asked.
+    let rules = two_of_one_function(alloc, (Claim::False, 4), (Claim::Fault, 3))?;
+    expect_fault(&rt, falsified(alloc, not_true(alloc), &rules), 3);
+    expect_fault(&rt, satisfied(alloc, not_true(alloc), &rules), 3);
+    Ok(())
+}
+
+// A rule for connectives and comparisons that faults by 5, before one for NOT that faults by 3.
+fn faulty_above(alloc: Global, function: ScalarFnId) -> Result<Rules, AllocError> {
+    let above = new_faulty(alloc, function, 5)?;
+    two_rules(alloc, above, new_faulty(alloc, ScalarFnId::Not, 3)?)
+}
+
+// A predicate in which both rules would be asked meets this fault, by both calls.
+fn expect_first(
+    rt: &impl Abort,
+    alloc: Global,
+    rules: &Rules,
+    predicate: Built,
+    fault: u32,
+) -> Result<(), Fail> {
+    let predicate = predicate?;
+    expect_fault(rt, falsify(alloc, &predicate, rules), fault);
+    expect_fault(rt, satisfy(alloc, &predicate, rules), fault);
+    Ok(())
+}
+
+// A node is asked about after its children, wherever its rule stands in the list.
+#[test]
+fn children_are_asked_before_their_parent(rt: HostRuntime) -> Result<(), Fail> {
+    let alloc = rt.alloc();
+    let rules = faulty_above(alloc, ScalarFnId::Binary)?;
+    let e = and(alloc, not_true(alloc), truth(alloc, true));
+    expect_first(&rt, alloc, &rules, e, 3)?;
+    let e = and(alloc, truth(alloc, true), not_true(alloc));
+    expect_first(&rt, alloc, &rules, e, 3)?;
+    let e = or(alloc, not_true(alloc), truth(alloc, true));
+    expect_first(&rt, alloc, &rules, e, 3)?;
+    let e = or(alloc, truth(alloc, true), not_true(alloc));
+    expect_first(&rt, alloc, &rules, e, 3)?;
+    // The AND on the left is asked about before the NOT on the right.
+    let left = and(alloc, truth(alloc, true), truth(alloc, true));
+    let e = or(alloc, left, not_true(alloc));
+    expect_first(&rt, alloc, &rules, e, 5)
+}
+
+// A BETWEEN is asked about after the comparisons that it stands for.
+#[test]
+fn comparisons_are_asked_before_their_between(rt: HostRuntime) -> Result<(), Fail> {
+    let alloc = rt.alloc();
+    let above = new_faulty(alloc, ScalarFnId::Between, 5)?;
+    let rules = two_rules(alloc, above, new_faulty(alloc, ScalarFnId::Binary, 3)?)?;
+    expect_first(&rt, alloc, &rules, closed_range(alloc, 1, 2), 3)
 }
 
 #[test]

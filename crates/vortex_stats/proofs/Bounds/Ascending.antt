@@ -53,12 +53,12 @@ module _ (test : ScalarValue → ScalarValue → Bool) where
       and_from (test v u) (ascends ((u ∷ vs) ++ ws)) parts.0
       (ascends-append (u ∷ vs) ws parts.1 k (λ x w i j. f x w (contains_later v x (u ∷ vs) i) j))
 
-sorted_is : (vs : List ScalarValue) → is_sorted vs ≡ ascends is_at_most vs
+pub sorted_is : (vs : List ScalarValue) → is_sorted vs ≡ ascends is_at_most vs
 sorted_is [] = refl
 sorted_is (v ∷ []) = refl
 sorted_is (v ∷ w ∷ vs) = ap (λ b. not (is_gt (value_cmp v w)) && b) (sorted_is (w ∷ vs))
 
-strict_is : (vs : List ScalarValue) → is_strict_sorted vs ≡ ascends is_below vs
+pub strict_is : (vs : List ScalarValue) → is_strict_sorted vs ≡ ascends is_below vs
 strict_is [] = refl
 strict_is (v ∷ []) = refl
 strict_is (v ∷ w ∷ vs) = ap (λ b. is_lt (value_cmp v w) && b) (strict_is (w ∷ vs))

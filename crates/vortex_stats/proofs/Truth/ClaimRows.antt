@@ -118,7 +118,7 @@ rows = record { dtype = dtype.Primitive ptype.I32 Nullable; values = some (pos 3
 abbrev told : List (Stat × Precision ScalarValue)
 told =
     (NullCount, Exact (count_value 1)) ∷ (Max, Exact (int (pos 7))) ∷ (Min, Inexact (int (negsuc 0))) ∷ (Sum, Exact (long (pos 10)))
-    ∷ (UncompressedSizeInBytes, Inexact (count_value 16)) ∷ (IsConstant, Exact (value.Bool false)) ∷ (IsSorted, Exact (value.Bool true)) ∷ (IsStrictSorted, Inexact (value.Bool false)) ∷ []
+    ∷ (UncompressedSizeInBytes, Exact (count_value 12)) ∷ (IsConstant, Exact (value.Bool false)) ∷ (IsSorted, Exact (value.Bool true)) ∷ (IsStrictSorted, Inexact (value.Bool false)) ∷ []
 
 told_claims : (s : Stat) → Claims s (entry_value s told) rows
 told_claims IsConstant = refl
@@ -128,11 +128,47 @@ told_claims Max = ((2, omega arith, refl), none_above (int (pos 7)) (rows.values
 told_claims Min = none_below (int (negsuc 0)) (rows.values) refl
 told_claims Sum = refl
 told_claims NullCount = refl
-told_claims UncompressedSizeInBytes = (16, refl, omega arith)
+told_claims UncompressedSizeInBytes = refl
 told_claims NaNCount = tt
 
 told_is_true : IsTrueOf told rows
 told_is_true = record { fits = refl; claims = told_claims }
+
+-- a value that is inexact bounds a count from above, and says nothing of a sum or a test
+abbrev loosely_told : List (Stat × Precision ScalarValue)
+loosely_told =
+    (NullCount, Inexact (count_value 2)) ∷ (UncompressedSizeInBytes, Inexact (count_value 16)) ∷ (Sum, Inexact (long (pos 11)))
+    ∷ (IsConstant, Inexact (value.Bool true)) ∷ (IsSorted, Inexact (value.Bool false)) ∷ []
+
+loose_claims : (s : Stat) → Claims s (entry_value s loosely_told) rows
+loose_claims IsConstant = tt
+loose_claims IsSorted = tt
+loose_claims IsStrictSorted = tt
+loose_claims Max = tt
+loose_claims Min = tt
+loose_claims Sum = tt
+loose_claims NullCount = (2, refl, omega arith)
+loose_claims UncompressedSizeInBytes = (16, refl, omega arith)
+loose_claims NaNCount = tt
+
+loosely_told_is_true : IsTrueOf loosely_told rows
+loosely_told_is_true = record { fits = refl; claims = loose_claims }
+
+-- 1, 1 ascends, and not strictly
+abbrev ties : ColumnData
+ties = record { dtype = dtype.Primitive ptype.I32 Nullable; values = some (pos 1) ∷ some (pos 1) ∷ []; size = 8 }
+
+abbrev told_of_ties : List (Stat × Precision ScalarValue)
+told_of_ties = (IsConstant, Exact (value.Bool true)) ∷ (IsSorted, Exact (value.Bool true)) ∷ (IsStrictSorted, Exact (value.Bool false)) ∷ []
+
+claims_of_ties : (s : Stat) → Claims s (entry_value s told_of_ties) ties
+claims_of_ties IsConstant = refl
+claims_of_ties IsSorted = refl
+claims_of_ties IsStrictSorted = refl
+claims_of_ties s = tt
+
+ties_are_told : IsTrueOf told_of_ties ties
+ties_are_told = record { fits = refl; claims = claims_of_ties }
 
 -- ---- sets that are not true
 
@@ -147,6 +183,12 @@ no_fewer m e l = let same : 0 ≡ m = cc in omega arith
 
 truths_differ : value.Bool true ≡ value.Bool false → ⊥
 truths_differ e = cc
+
+count_of_value : (n m : ℕ) → count_value n ≡ count_value m → n ≡ m
+count_of_value n m e = cc
+
+counts_differ : count_value 16 ≡ count_value 12 → ⊥
+counts_differ e = omega (arith, count_of_value 16 12 e)
 
 -- an exact maximum is a value of the column, also where it is an upper bound
 max_is_a_value : IsTrueOf ((Max, Exact (int (pos 8))) ∷ []) rows → ⊥
@@ -163,6 +205,25 @@ too_few_nulls h = no_fewer (h.claims NullCount).0 (h.claims NullCount).1 (h.clai
 
 another_sum : IsTrueOf ((Sum, Exact (long (pos 11))) ∷ []) rows → ⊥
 another_sum h = absurd (omega (arith, ints, h.claims Sum))
+
+another_size : IsTrueOf ((UncompressedSizeInBytes, Exact (count_value 16)) ∷ []) rows → ⊥
+another_size h = counts_differ (h.claims UncompressedSizeInBytes)
+
+size_too_small : IsTrueOf ((UncompressedSizeInBytes, Inexact (count_value 11)) ∷ []) rows → ⊥
+size_too_small h =
+    let bound = h.claims UncompressedSizeInBytes in
+    let same : 11 ≡ bound.0 = count_of_value 11 bound.0 bound.1 in
+    absurd (omega arith)
+
+-- a sum does not wrap
+abbrev wide : ColumnData
+wide = record { dtype = dtype.Primitive ptype.U64 Nullable; values = Some (count_value 18446744073709551615) ∷ Some (count_value 1) ∷ []; size = 16 }
+
+wrapped_sum : IsTrueOf ((Sum, Exact (count_value 0)) ∷ []) wide → ⊥
+wrapped_sum h = absurd (omega (arith, ints, h.claims Sum))
+
+strict_with_a_tie : IsTrueOf ((IsStrictSorted, Exact (value.Bool true)) ∷ []) ties → ⊥
+strict_with_a_tie h = truths_differ (h.claims IsStrictSorted)
 
 -- a sum of signed numbers is no unsigned one
 sum_of_another_type : IsTrueOf ((Sum, Exact (count_value 10)) ∷ []) rows → ⊥

@@ -49,12 +49,13 @@ pub record TiesAllowed {T : Type 0} (cmp : T → T → Ordering) (allows : Preci
   pub exact : (v z : T) → allows (Exact v) z ↔ (cmp v z ≡ Equal)
   pub absent : (z : T) → allows Absent z
 
--- r has the value of a or of b, and is exact only if one of the two is
-pub record IsMadeOf {T : Type 0} (a b r : Precision T) : Type 0 where
-  pub value : (present_value r ≡ present_value a) ⊎ (present_value r ≡ present_value b)
-  pub exact : IsTrue (is_exact r) → IsTrue (is_exact a) ⊎ IsTrue (is_exact b)
-
 module _ {T : Type 0} (allows : Precision T → T → Type 0) where
+  -- r has the value of a or of b, is exact only if one of the two is, and is exact if both are and tie, which is where some value is allowed by both
+  pub record IsMadeOf (a b r : Precision T) : Type 0 where
+    pub value : (present_value r ≡ present_value a) ⊎ (present_value r ≡ present_value b)
+    pub exact : IsTrue (is_exact r) → IsTrue (is_exact a) ⊎ IsTrue (is_exact b)
+    pub tied : (z : T) → IsTrue (is_exact a) → IsTrue (is_exact b) → allows a z → allows b z → IsTrue (is_exact r)
+
   -- r allows the pick of any two values that a and b allow
   pub record IsUnionAt (pick : T → T → T) (a b r : Precision T) : Type 0 where
     pub allowed : (x y : T) → allows a x → allows b y → allows r (pick x y)

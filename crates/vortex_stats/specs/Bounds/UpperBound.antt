@@ -59,14 +59,14 @@ module _ {T : Type 0} {R : T → T → Ordering} (o : IsTotalOrder R) where
         let above : AtMost R e (greater R x y) = AtMost-trans o e x (greater R x y) (AtMost-of_equal o e x p) (greater-above o x y).0 in
         let x_below : AtMost R x e = AtMost-of_equal o x e (tied_back o e x p) in
         equal-of_both o e (greater R x y) above (greater-least o x y e x_below (AtMost-trans o y i e q l));
-    made = record { value = inl refl; exact = λ h. inl refl };
+    made = record { value = inl refl; exact = λ h. inl refl; tied = λ z h k p q. refl };
   }
 
   union_at-mixed : (e i : T) (c : Ordering) → R e i ≡ c
       → IsUnionAt (upper_allows R) (greater R) (Exact e) (Inexact i) (if is_lt c then Inexact i else Exact e)
   union_at-mixed e i Less l = record {
     allowed = λ x y p q. greater-least o x y i (AtMost-equal_left o x e i p (AtMost-of_less o e i l)) q;
-    made = record { value = inr refl; exact = λ h. inl refl };
+    made = record { value = inr refl; exact = λ h. inl refl; tied = λ z h k p q. absurd (true≢false (sym k)) };
   }
   union_at-mixed e i Equal l = union_at-reached e i (AtMost-of_equal o i e (tied_back o e i l))
   union_at-mixed e i Greater l = union_at-reached e i (AtMost-of_greater o e i l)
@@ -77,14 +77,14 @@ module _ {T : Type 0} {R : T → T → Ordering} (o : IsTotalOrder R) where
         let above : AtMost R e (greater R x y) = AtMost-trans o e y (greater R x y) (AtMost-of_equal o e y q) (greater-above o x y).1 in
         let y_below : AtMost R y e = AtMost-of_equal o y e (tied_back o e y q) in
         equal-of_both o e (greater R x y) above (greater-least o x y e (AtMost-trans o x i e p l) y_below);
-    made = record { value = inr refl; exact = λ h. inr refl };
+    made = record { value = inr refl; exact = λ h. inr refl; tied = λ z h k p q. refl };
   }
 
   union_at-mixed_back : (e i : T) (c : Ordering) → R e i ≡ c
       → IsUnionAt (upper_allows R) (greater R) (Inexact i) (Exact e) (if is_lt c then Inexact i else Exact e)
   union_at-mixed_back e i Less l = record {
     allowed = λ x y p q. greater-least o x y i p (AtMost-equal_left o y e i q (AtMost-of_less o e i l));
-    made = record { value = inl refl; exact = λ h. inr refl };
+    made = record { value = inl refl; exact = λ h. inr refl; tied = λ z h k p q. absurd (true≢false (sym h)) };
   }
   union_at-mixed_back e i Equal l = union_at-reached_back e i (AtMost-of_equal o i e (tied_back o e i l))
   union_at-mixed_back e i Greater l = union_at-reached_back e i (AtMost-of_greater o e i l)
@@ -95,13 +95,13 @@ module _ {T : Type 0} {R : T → T → Ordering} (o : IsTotalOrder R) where
         equal-of_both o (greater R a b) (greater R x y)
         (greater-rises o x y a b (AtMost-of_equal o a x p) (AtMost-of_equal o b y q))
         (greater-rises o a b x y (AtMost-of_equal o x a (tied_back o a x p)) (AtMost-of_equal o y b (tied_back o b y q)));
-    made = record { value = greater-one_of Some R a b; exact = λ h. inl refl };
+    made = record { value = greater-one_of Some R a b; exact = λ h. inl refl; tied = λ z h k p q. refl };
   }
 
   union_at-inexact : (a b : T) → IsUnionAt (upper_allows R) (greater R) (Inexact a) (Inexact b) (Inexact (greater R a b))
   union_at-inexact a b = record {
     allowed = λ x y p q. greater-rises o a b x y p q;
-    made = record { value = greater-one_of Some R a b; exact = λ h. absurd (true≢false (sym h)) };
+    made = record { value = greater-one_of Some R a b; exact = λ h. absurd (true≢false (sym h)); tied = λ z h k p q. absurd (true≢false (sym h)) };
   }
 
   union_at : (a b : Precision T) → IsTrue (is_present a) → IsTrue (is_present b)
@@ -122,7 +122,7 @@ module _ {T : Type 0} {R : T → T → Ordering} (o : IsTotalOrder R) where
     allowed = λ z p q. p;
     only = λ z p. (p, AtMost-equal_left o z e i p l);
     own = (equal-of_both o e e (AtMost-refl o e) (AtMost-refl o e), l);
-    made = record { value = inl refl; exact = λ h. inl refl };
+    made = record { value = inl refl; exact = λ h. inl refl; tied = λ z h k p q. refl };
   }
 
   meet_at-mixed : (e i : T) (c : Ordering) → R i e ≡ c
@@ -141,7 +141,7 @@ module _ {T : Type 0} {R : T → T → Ordering} (o : IsTotalOrder R) where
     allowed = λ z p q. p;
     only = λ z p. (p, o.congr b a z (tied_back o a b l) ∙ p);
     own = (equal-of_both o a a (AtMost-refl o a) (AtMost-refl o a), tied_back o a b l);
-    made = record { value = inl refl; exact = λ h. inl refl };
+    made = record { value = inl refl; exact = λ h. inl refl; tied = λ z h k p q. refl };
   }
   meet_at-exact a b Greater l = λ z p q. greater_not_equal o a b l (o.congr a z b p ∙ tied_back o b z q)
 
@@ -151,7 +151,7 @@ module _ {T : Type 0} {R : T → T → Ordering} (o : IsTotalOrder R) where
     only = λ z p.
         (AtMost-trans o z (lesser R a b) a p (lesser-below o a b).0, AtMost-trans o z (lesser R a b) b p (lesser-below o a b).1);
     own = lesser-below o a b;
-    made = record { value = lesser-one_of Some R a b; exact = λ h. absurd (true≢false (sym h)) };
+    made = record { value = lesser-one_of Some R a b; exact = λ h. absurd (true≢false (sym h)); tied = λ z h k p q. absurd (true≢false (sym h)) };
   }
 
   turned : (e i : T) → IsTightIntersectionAt (upper_allows R) (Exact e) (Inexact i) (Exact e)
@@ -160,7 +160,7 @@ module _ {T : Type 0} {R : T → T → Ordering} (o : IsTotalOrder R) where
     allowed = λ z p q. h.allowed z q p;
     only = λ z p. ((h.only z p).1, (h.only z p).0);
     own = (h.own.1, h.own.0);
-    made = record { value = ⊎_elim inr inl h.made.value; exact = λ e. ⊎_elim inr inl (h.made.exact e) };
+    made = record { value = ⊎_elim inr inl h.made.value; exact = λ e. ⊎_elim inr inl (h.made.exact e); tied = λ z x y p q. h.made.tied z y x q p };
   }
 
   -- the same for the operands in the other order

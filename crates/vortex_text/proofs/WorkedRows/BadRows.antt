@@ -297,3 +297,31 @@ half_of_a_pair = refl
 past_the_last_character : named (codes "column s utf8\npart\nrow \"" ++ 244 ∷ 144 ∷ 128 ∷ 128 ∷ codes "\"\n") ≡ Err 3
 unfolding is_utf8 chars lib.Utf8.encode
 past_the_last_character = refl
+
+name_with_a_dot : named (codes "column a.b i64\n") ≡ Err 1
+unfolding is_utf8 chars lib.Utf8.encode
+name_with_a_dot = refl
+
+bytes_in_quotes : named (codes "column x binary\npart\nrow \"x00\"\n") ≡ Err 3
+unfolding is_utf8 chars lib.Utf8.encode
+bytes_in_quotes = refl
+
+claimed_bytes_in_quotes : named (codes "column x binary?\npart\nstat x min exact \"x00\"\n") ≡ Err 3
+unfolding is_utf8 chars lib.Utf8.encode
+claimed_bytes_in_quotes = refl
+
+tab_between_words : named (codes "column\ta i64\n") ≡ Err 1
+unfolding is_utf8 chars lib.Utf8.encode
+tab_between_words = refl
+
+escaped_n : named (codes "column s utf8\npart\nrow \"a\\n\"\n") ≡ Err 3
+unfolding is_utf8 chars lib.Utf8.encode
+escaped_n = refl
+
+column_after_a_join : named (codes "column a i64\npart\npart\njoin 0\ncolumn b i64\n") ≡ Err 5
+unfolding is_utf8 chars lib.Utf8.encode
+column_after_a_join = refl
+
+literal_of_another_type : named (codes "column a i32\nwhere eq col a lit i64 1\n") ≡ Err 2
+unfolding is_utf8 chars lib.Utf8.encode
+literal_of_another_type = refl

@@ -137,3 +137,35 @@ no_truth = refl
 cut_short : reply_to (codes "column a i64\npart\nrow 1\nwhere gt col a") ≡ (2, codes "line 4: bad\n")
 unfolding is_utf8 chars lib.Utf8.encode digits rewriting.node rewriting.reduce_balanced
 cut_short = refl
+
+below_five : reply_to (codes "column a i32?\npart\nrow 4\nrow 5\nrow 6\nwhere lt col a lit i32 5\n") ≡ (0, codes "skipped\nrows 0:0\n")
+unfolding is_utf8 chars lib.Utf8.encode digits rewriting.node rewriting.reduce_balanced
+below_five = refl
+
+at_most_five : reply_to (codes "column a i32?\npart\nrow 4\nrow 5\nrow 6\nwhere le col a lit i32? 5\n") ≡ (0, codes "skipped\nrows 0:0 0:1\n")
+unfolding is_utf8 chars lib.Utf8.encode digits rewriting.node rewriting.reduce_balanced
+at_most_five = refl
+
+below_the_least : reply_to (codes "column a i32?\npart\nrow 4\nrow 5\nrow 6\nstat a min exact 4\nwhere lt col a lit i32 4\n") ≡ (0, codes "skipped 0\nrows\n")
+unfolding is_utf8 chars lib.Utf8.encode digits rewriting.node rewriting.reduce_balanced
+below_the_least = refl
+
+exact_count_of_nulls : reply_to (codes "column a i32?\npart\nrow null\nrow null\nstat a null_count exact 2\nwhere notnull col a\n") ≡ (0, codes "skipped 0\nrows\n")
+unfolding is_utf8 chars lib.Utf8.encode digits rewriting.node rewriting.reduce_balanced
+exact_count_of_nulls = refl
+
+inexact_count_of_nulls : reply_to (codes "column a i32?\npart\nrow null\nrow null\nstat a null_count inexact 2\nwhere notnull col a\n") ≡ (0, codes "skipped\nrows\n")
+unfolding is_utf8 chars lib.Utf8.encode digits rewriting.node rewriting.reduce_balanced
+inexact_count_of_nulls = refl
+
+inexact_count_after_an_exact_one : reply_to (codes "column a i32?\npart\nrow null\nrow null\nstat a null_count exact 2\nstat a null_count inexact 2\nwhere isnull col a\n") ≡ (0, codes "skipped\nrows 0:0 0:1\n")
+unfolding is_utf8 chars lib.Utf8.encode digits rewriting.node rewriting.reduce_balanced
+inexact_count_after_an_exact_one = refl
+
+null_literal_is_null : reply_to (codes "column a i64\npart\nrow 1\npart\nrow 2\nrow 3\nwhere isnull lit i64? null\n") ≡ (0, codes "skipped\nrows 0:0 1:0 1:1\nwhole 0\n")
+unfolding is_utf8 chars lib.Utf8.encode digits rewriting.node rewriting.reduce_balanced
+null_literal_is_null = refl
+
+literal_is_not_null : reply_to (codes "column a i64\npart\nrow 1\npart\nrow 2\nrow 3\nwhere notnull lit i64 7\n") ≡ (0, codes "skipped\nrows 0:0 1:0 1:1\nwhole 0 1\n")
+unfolding is_utf8 chars lib.Utf8.encode digits rewriting.node rewriting.reduce_balanced
+literal_is_not_null = refl

@@ -15,6 +15,18 @@ fn other_first_words_and_numbers_of_words(rt: HostRuntime) -> Result<(), Fail> {
     expect_each(&rt, rt.alloc(), "", cases)
 }
 
+// Lines are counted past a thousand, those without words too.
+#[test]
+fn a_bad_line_past_the_thousandth(rt: HostRuntime) -> Result<(), Fail> {
+    let alloc = rt.alloc();
+    let mut text = String::from_str(alloc, "column a i64\npart\n")?;
+    for _ in 0..1000 {
+        text.push_str("row 1\n\n")?;
+    }
+    text.push_str("row\n")?;
+    expect_answer(&rt, alloc, text.as_str(), 2, "line 2003: bad\n")
+}
+
 #[test]
 fn lines_out_of_order(rt: HostRuntime) -> Result<(), Fail> {
     let cases = "

@@ -50,6 +50,17 @@ fn nested_at_the_right(rt: HostRuntime) -> Result<(), Fail> {
     expect_nested(&rt, rt.alloc(), "or lit bool false ", "", 1023)
 }
 
+// 4,096 words, and one more.
+#[test]
+fn the_most_words(rt: HostRuntime) -> Result<(), Fail> {
+    let alloc = rt.alloc();
+    let longest = nested(alloc, "and col t ", "", 1364)?;
+    let longest = longest.replace(alloc, "where ", "where not not ")?;
+    expect_answer(&rt, alloc, longest.as_str(), 0, "skipped\nrows 0:0\n")?;
+    let longer = longest.replace(alloc, "where ", "where not ")?;
+    expect_answer(&rt, alloc, longer.as_str(), 2, "line 4: bad\n")
+}
+
 #[test]
 fn nested_in_between(rt: HostRuntime) -> Result<(), Fail> {
     expect_nested(

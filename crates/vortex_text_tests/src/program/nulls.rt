@@ -60,12 +60,33 @@ fn no_parts_and_no_rows(rt: HostRuntime) -> Result<(), Fail> {
     expect_each(&rt, rt.alloc(), "column a i32?\n", cases)
 }
 
+// Of two counts of one column the later is taken, with its own precision.
+#[test]
+fn exact_counts_beside_inexact_ones(rt: HostRuntime) -> Result<(), Fail> {
+    let front = "column a i32?\npart\nrow null\nrow null\n";
+    let cases = "
+        stat a null_count exact 2 / where notnull col a => skipped 0 / rows
+        stat a null_count inexact 2 / where notnull col a => skipped / rows
+        stat a null_count exact 2 / where isnull col a => skipped / rows 0:0 0:1 / whole 0
+        stat a null_count inexact 2 / where isnull col a => skipped / rows 0:0 0:1
+        stat a null_count exact 2 / stat a null_count inexact 2
+        where notnull col a => skipped / rows
+        stat a null_count inexact 2 / stat a null_count exact 2
+        where notnull col a => skipped 0 / rows
+    ";
+    expect_each(&rt, rt.alloc(), front, cases)
+}
+
 // The null count of a null literal is taken to be 1, whatever the rows.
 #[test]
 fn null_tests_of_literals(rt: HostRuntime) -> Result<(), Fail> {
     let front = "column a i64\npart\nrow 1\npart\nrow 2\nrow 3\n";
     let cases = "
         where notnull lit i64? null => skipped 0 / rows
+        where isnull lit i64? null => skipped / rows 0:0 1:0 1:1 / whole 0
+        where notnull lit i64 7 => skipped / rows 0:0 1:0 1:1 / whole 0 1
+        where notnull lit i64? 7 => skipped / rows 0:0 1:0 1:1 / whole 0 1
+        part / where notnull lit i64 7 => skipped 2 / rows 0:0 1:0 1:1 / whole 0 1
         where isnull lit i64 7 => skipped 0 1 / rows
         where isnull lit i64? 7 => skipped 0 1 / rows
         where and notnull lit i64 7 eq col a lit i64 2 => skipped / rows 1:0

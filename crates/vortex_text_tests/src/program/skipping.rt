@@ -19,6 +19,21 @@ fn comparisons_with_a_literal(rt: HostRuntime) -> Result<(), Fail> {
     expect_each(&rt, rt.alloc(), front, cases)
 }
 
+// Row by row, with no bounds.
+#[test]
+fn comparisons_at_equality(rt: HostRuntime) -> Result<(), Fail> {
+    let front = "column a i32\npart\nrow 4\nrow 5\nrow 6\n";
+    let cases = "
+        where lt col a lit i32 5 => skipped / rows 0:0
+        where le col a lit i32 5 => skipped / rows 0:0 0:1
+        where gt col a lit i32 5 => skipped / rows 0:2
+        where ge col a lit i32 5 => skipped / rows 0:1 0:2
+        where eq col a lit i32 5 => skipped / rows 0:1
+        where ne col a lit i32 5 => skipped / rows 0:0 0:2
+    ";
+    expect_each(&rt, rt.alloc(), front, cases)
+}
+
 #[test]
 fn comparisons_of_two_columns(rt: HostRuntime) -> Result<(), Fail> {
     let front = "column a i32\ncolumn b i32\npart\nstat a min exact 5\nstat a max exact 9\n\

@@ -76,6 +76,10 @@ fn quoted_words_that_are_none(rt: HostRuntime) -> Result<(), Fail> {
         row "a\" => line 3: bad
         row "a\n" => line 3: bad
         row "a\ b" => line 3: bad
+        row "a\t" => line 3: bad
+        row "a\u0041" => line 3: bad
+        row "\x41" => line 3: bad
+        row "\' " => line 3: bad
         row "a"b => line 3: bad
         row "a""b" => line 3: bad
         row "a" " => line 3: bad
@@ -182,6 +186,9 @@ fn other_white_space(rt: HostRuntime) -> Result<(), Fail> {
         where eq col s lit utf8 \"\t\0\r\u{A0}\u{2028}\"\n";
     expect_answer(&rt, alloc, text, 0, "skipped\nrows 0:0\n")?;
     expect_answer(&rt, alloc, "column\ta i64\n", 2, "line 1: bad\n")?;
+    expect_answer(&rt, alloc, "column a\ti64\n", 2, "line 1: bad\n")?;
+    let tab = "column a i64\npart\nrow 1\t\n";
+    expect_answer(&rt, alloc, tab, 2, "line 3: bad\n")?;
     expect_answer(&rt, alloc, "column a i64\n\u{A0}\n", 2, "line 2: bad\n")?;
     expect_answer(&rt, alloc, "column a i64\n\0\n", 2, "line 2: bad\n")?;
     expect_answer(

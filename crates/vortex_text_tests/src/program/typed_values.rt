@@ -78,6 +78,68 @@ fn bytes_in_hexadecimal_digits(rt: HostRuntime) -> Result<(), Fail> {
     expect_each(&rt, rt.alloc(), "column x binary\npart\n", cases)
 }
 
+// A quoted word is a text, and bytes stand in no quotes.
+#[test]
+fn quoted_words_of_bytes(rt: HostRuntime) -> Result<(), Fail> {
+    let cases = r#"
+        row "x00" => line 3: bad
+        row "" => line 3: bad
+        stat x min exact "x00" => line 3: bad
+        where eq col x lit binary "x00" => line 3: bad
+    "#;
+    expect_each(&rt, rt.alloc(), "column x binary\npart\n", cases)
+}
+
+#[test]
+fn nullable_bytes(rt: HostRuntime) -> Result<(), Fail> {
+    let front = "column x binary?\npart\nrow x00\nrow null\nrow x\n";
+    let cases = "
+        where eq col x lit binary x00 => skipped / rows 0:0
+        where isnull col x => skipped / rows 0:1
+        where eq col x lit binary? x => skipped / rows 0:2
+        stat x min exact x00 / stat x max exact x00
+        where gt col x lit binary x00 => skipped 0 / rows
+    ";
+    expect_each(&rt, rt.alloc(), front, cases)
+}
+
+// Each type of numbers by its own word, with null and without.
+#[test]
+fn words_of_the_number_types(rt: HostRuntime) -> Result<(), Fail> {
+    let cases = "
+        column a u8 / part / row 1 / where eq col a lit u8 1 => skipped / rows 0:0
+        column a u16 / part / row 1 / where eq col a lit u16 1 => skipped / rows 0:0
+        column a u32 / part / row 1 / where eq col a lit u32 1 => skipped / rows 0:0
+        column a u64 / part / row 1 / where eq col a lit u64 1 => skipped / rows 0:0
+        column a i8 / part / row 1 / where eq col a lit i8 1 => skipped / rows 0:0
+        column a i16 / part / row 1 / where eq col a lit i16 1 => skipped / rows 0:0
+        column a i32 / part / row 1 / where eq col a lit i32 1 => skipped / rows 0:0
+        column a i64 / part / row 1 / where eq col a lit i64 1 => skipped / rows 0:0
+        column a u8 / part / row 1 / where eq col a lit u16 1 => line 4: bad
+        column a u16 / part / row 1 / where eq col a lit u32 1 => line 4: bad
+        column a u32 / part / row 1 / where eq col a lit u64 1 => line 4: bad
+        column a u64 / part / row 1 / where eq col a lit i64 1 => line 4: bad
+        column a i8 / part / row 1 / where eq col a lit i16 1 => line 4: bad
+        column a i16 / part / row 1 / where eq col a lit i32 1 => line 4: bad
+        column a i32 / part / row 1 / where eq col a lit i64 1 => line 4: bad
+    ";
+    expect_each(&rt, rt.alloc(), "", cases)
+}
+
+#[test]
+fn words_of_types_with_null(rt: HostRuntime) -> Result<(), Fail> {
+    let front =
+        "column a u16?\ncolumn b u32?\ncolumn c u64?\ncolumn d i16?\ncolumn e bool?\npart\n";
+    let cases = "
+        row null null null null null / where isnull col c => skipped / rows 0:0
+        row 1 2 3 -4 false / where eq col c lit u64 3 => skipped / rows 0:0
+        row 1 2 3 -4 false / where eq col d lit i16? -4 => skipped / rows 0:0
+        row 1 2 3 -4 null / where isnull col e => skipped / rows 0:0
+        row 1 2 3 4 0 => line 7: bad
+    ";
+    expect_each(&rt, rt.alloc(), front, cases)
+}
+
 #[test]
 fn truths_and_nulls(rt: HostRuntime) -> Result<(), Fail> {
     let front = "column t bool?\ncolumn s utf8\npart\n";
@@ -115,6 +177,8 @@ fn words_that_are_no_names(rt: HostRuntime) -> Result<(), Fail> {
         column a-b i64 => line 1: bad
         column \u{E4} i64 => line 1: bad
         column a? i64 => line 1: bad
+        column a.b i64 => line 1: bad
+        column . i64 => line 1: bad
         column A i64 / column a i64 / column A u8 => line 3: bad
     ";
     expect_each(&rt, rt.alloc(), "", cases)

@@ -39,6 +39,7 @@ returns-clause-order c = record {
   by_type_first = refl;
   u64_before_i8 = refl;
   shorter_first = refl;
+  bytes_before_length = refl;
   by_bytes = refl;
   kinds_in_order = refl;
   same = refl;

@@ -20,8 +20,10 @@ returns-clause-like c = record {
   one_of_two_bytes = refl;
   not_two_of_two_bytes = refl;
   ascii_case = refl;
+  ascii_case_of_the_text = refl;
   case_regarded = refl;
   other_case = refl;
+  case_of_the_text_regarded = refl;
   negated = refl;
 }
 

@@ -86,19 +86,19 @@ returns-clause-complete g c =
 pub returns-clause-refusal : goal.returns-clause-refusal
 returns-clause-refusal g c = λ predicate.
     let own = own_rules (λ i. (g.dyn-1.0.entry i).1) c.args.rules.now.own.items in
-    by_binders g.B.StatBinder.answer g.B.StatBinder.is_missing g.B.StatBinder.can_fault c.args.binders.now c.args.predicate.now own (option_copied c.as_ref.result) (option_copied c.as_ref-2.result) c.scan_by.result
+    by_binders g.B.StatBinder.answer g.B.StatBinder.is_missing g.B.StatBinder.can_fault g.B.StatBinder.value c.args.parts.now c.args.binders.now c.args.predicate.now own (option_copied c.as_ref.result) (option_copied c.as_ref-2.result) c.scan_by.result
     (c.as_ref.ensures.value ∙ c.in_ok-falsifier.ensures.answer) (c.as_ref-2.ensures.value ∙ c.in_ok-satisfier.ensures.answer) c.scan_by.ensures.refusal
 
 pub returns-clause-faithful : goal.returns-clause-faithful
 returns-clause-faithful g c = λ predicate faithful.
     let own = own_rules (λ i. (g.dyn-1.0.entry i).1) c.args.rules.now.own.items in
-    by_faithful g.B.StatBinder.answer g.B.StatBinder.is_missing g.B.StatBinder.can_fault c.args.binders.now c.args.predicate.now own (option_copied c.as_ref.result) (option_copied c.as_ref-2.result) c.scan_by.result
+    by_faithful g.B.StatBinder.answer g.B.StatBinder.is_missing g.B.StatBinder.can_fault g.B.StatBinder.value c.args.parts.now c.args.binders.now c.args.predicate.now own (option_copied c.as_ref.result) (option_copied c.as_ref-2.result) c.scan_by.result
     (c.as_ref.ensures.value ∙ c.in_ok-falsifier.ensures.answer) (c.as_ref-2.ensures.value ∙ c.in_ok-satisfier.ensures.answer) c.scan_by.ensures.faithful faithful
 
 pub returns-clause-memory : goal.returns-clause-memory
 returns-clause-memory g c = λ predicate none faithful quiet.
     let own = own_rules (λ i. (g.dyn-1.0.entry i).1) c.args.rules.now.own.items in
     let B = g.B.StatBinder in
-    refused_for_memory B.answer B.is_missing B.can_fault c.args.binders.now c.args.predicate.now own c.scan_by.result (ap (map (own_rule (λ i. (g.dyn-1.0.entry i).1))) none) quiet
-    (by_faithful B.answer B.is_missing B.can_fault c.args.binders.now c.args.predicate.now own (option_copied c.as_ref.result) (option_copied c.as_ref-2.result) c.scan_by.result
+    refused_for_memory B.answer B.is_missing B.can_fault B.value c.args.parts.now c.args.binders.now c.args.predicate.now own c.scan_by.result (ap (map (own_rule (λ i. (g.dyn-1.0.entry i).1))) none) quiet
+    (by_faithful B.answer B.is_missing B.can_fault B.value c.args.parts.now c.args.binders.now c.args.predicate.now own (option_copied c.as_ref.result) (option_copied c.as_ref-2.result) c.scan_by.result
     (c.as_ref.ensures.value ∙ c.in_ok-falsifier.ensures.answer) (c.as_ref-2.ensures.value ∙ c.in_ok-satisfier.ensures.answer) c.scan_by.ensures.faithful faithful)

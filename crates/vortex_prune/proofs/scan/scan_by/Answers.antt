@@ -62,7 +62,7 @@ pub returns-clause-refusal : goal.returns-clause-refusal
 returns-clause-refusal g c =
     let B = g.B.StatBinder in
     IfErr-weaker c.scan_parts.result _ _
-    (binders_refused B.answer B.is_missing B.is_faithful_over (option_copied c.args.falsifier) (option_copied c.args.satisfier) c.args.binders.now B.can_fault c.args.parts.now)
+    (binders_refused B.answer B.is_missing B.is_faithful_over (option_copied c.args.falsifier) (option_copied c.args.satisfier) c.args.binders.now B.value B.can_fault c.args.parts.now)
     c.scan_parts.ensures.refusal
 
 pub returns-clause-faithful : goal.returns-clause-faithful
@@ -70,5 +70,5 @@ returns-clause-faithful g c =
     let B = g.B.StatBinder in
     IfErr-weaker c.scan_parts.result _ _
     (λ f refused faithful.
-    binders_refused_faithful B.answer B.is_missing B.is_faithful_over (option_copied c.args.falsifier) (option_copied c.args.satisfier) c.args.binders.now B.can_fault c.args.parts.now f c.requires.binders faithful refused)
+    binders_refused_faithful B.answer B.is_missing B.is_faithful_over (option_copied c.args.falsifier) (option_copied c.args.satisfier) c.args.binders.now B.value B.can_fault c.args.parts.now f c.requires.binders faithful refused)
     c.scan_parts.ensures.refusal

@@ -8,3 +8,6 @@ pub returns-then-count-eq-WORD_LIMIT-clause-short : goal.returns-then-count-eq-W
 returns-then-count-eq-WORD_LIMIT-clause-short c =
     let more : 0 < length (words c.words.rest.now) = some_words c.words.rest.now (grind (arith, nat_tests)) c.words.invariant.at_word in
     grind (arith, nat_tests)
+
+pub returns-in_default-clause-copies : goal.returns-in_default-clause-copies
+returns-in_default-clause-copies c = c.words.invariant.later c.in_default.ensures.copies

@@ -4,6 +4,6 @@ use Rattle.vortex_syntax.proofs.WordLemmas.{has_word}
 use Rattle.vortex_syntax.specs.Words.{no_word}
 use Rattle.vortex_syntax.proofs.word.no_word.Goals as goal
 
-pub returns-else-is_empty : goal.returns-else-is_empty
-returns-else-is_empty c =
+pub returns-else-is_empty-clause-word : goal.returns-else-is_empty-clause-word
+returns-else-is_empty-clause-word c =
     ap no_word (sym c.skip_spaces.ensures.same) ∙ has_word c.skip_spaces.result.now (grind (arith, nat_tests)) c.skip_spaces.ensures.at_word

@@ -24,4 +24,4 @@ loop-column-preserved c =
 
 pub returns : goal.returns
 returns c =
-    row_ends c.loop-column.columns c.args.columns.now c.loop-column.column-index (words c.loop-column.rest.now) (words c.args.line.now) c.no_word.result (omega arith) c.no_word.ensures c.loop-column.invariant.same
+    row_ends c.loop-column.columns c.args.columns.now c.loop-column.column-index (words c.loop-column.rest.now) (words c.args.line.now) c.no_word.result (omega arith) c.no_word.ensures.word c.loop-column.invariant.same

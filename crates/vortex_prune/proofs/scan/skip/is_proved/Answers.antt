@@ -9,8 +9,10 @@ use Rattle.vortex_prune.proofs.scan.skip.is_proved.Goals as goal
 pub returns-then-not-is_closed-clause-faithful : goal.returns-then-not-is_closed-clause-faithful
 returns-then-not-is_closed-clause-faithful g c = λ faithful.
     let n = row_count c.args.part.now.chunk.columns in
-    open_is_bare c.args.proof.now c.in_ok-bound.bound (c.in_ok-bound.ensures.free [] n faithful) (c.in_ok-bound.ensures.fits [] n faithful)
-    (sym c.is_closed.ensures ∙ c.if-not-is_closed.true)
+    let not_closed = sym c.is_closed.ensures ∙ c.if-not-is_closed.true in (
+      open_is_bare c.args.proof.now c.in_ok-bound.bound (c.in_ok-bound.ensures.free [] n faithful) (c.in_ok-bound.ensures.fits [] n faithful) not_closed,
+      (c.in_ok-bound.bound, c.in_ok-bound.ensures.bound, not_closed),
+    )
 
 pub is_true_on-requires-clause-free : goal.is_true_on-requires-clause-free
 is_true_on-requires-clause-free g c = closed_free c.in_ok-bound.bound (sym c.is_closed.ensures ∙ c.if-not-is_closed.false)

@@ -54,4 +54,7 @@ returns-clause-kept_closed c =
     c.scan_parts.ensures.told
 
 pub returns-clause-refusal : goal.returns-clause-refusal
-returns-clause-refusal c = IfErr-weaker c.scan_parts.result _ _ (refused_open (option_copied c.args.satisfier) c.args.zones.now.parts c.parts.result.now) c.scan_parts.ensures.refusal
+returns-clause-refusal c =
+    IfErr-weaker c.scan_parts.result _ _
+    (λ e refused f tells. refused_open (option_copied c.args.falsifier) (option_copied c.args.satisfier) f c.args.zones.now c.parts.result.now e c.parts.ensures.value c.parts.ensures.are_parts tells refused)
+    c.scan_parts.ensures.refusal

@@ -8,22 +8,22 @@ use Rattle.vortex_text.specs.Drafts.{reading_of}
 use Rattle.vortex_text.specs.Lines.{Reading}
 use Rattle.vortex_text.proofs.draft.Draft.read_words.Goals as goal
 
-pub returns-then-is_some : goal.returns-then-is_some
-returns-then-is_some c =
+pub returns-then-is_some-clause-read : goal.returns-then-is_some-clause-read
+returns-then-is_some-clause-read c =
     let at_word : 0 < length (words c.skip_spaces.result.now) = some_words c.skip_spaces.result.now (grind (arith, nat_tests)) c.skip_spaces.ensures.at_word in
     let more : 0 < length (words c.args.line.now) = rw c.skip_spaces.ensures.same at at_word in
     let done : is_some c.args.self.now.predicate ≡ true = (cc) in
     stops_after (reading_of c.args.self.now) (words c.args.line.now) more done
 
-pub returns-in-Err : goal.returns-in-Err
-returns-in-Err c =
+pub returns-in-Err-clause-read : goal.returns-in-Err-clause-read
+returns-in-Err-clause-read c =
     let at_word : 0 < length (words c.skip_spaces.result.now) = some_words c.skip_spaces.result.now (grind (arith, nat_tests)) c.skip_spaces.ensures.at_word in
     let more : 0 < length (words c.args.line.now) = rw c.skip_spaces.ensures.same at at_word in
     let open_yet : is_some c.args.self.now.predicate ≡ false = (cc) in
     fails_first c.in-Err.e (reading_of c.args.self.now) (words c.args.line.now) more open_yet c.in-Err.ensures.word
 
-pub returns : goal.returns
-returns c =
+pub returns-clause-read : goal.returns-clause-read
+returns-clause-read c =
     let open_yet : is_some c.args.self.now.predicate ≡ false = (cc) in
     let P : Option Reading → Type 0 = λ o. Changes c.read_kind.result o (reading_of c.read_kind.new.self) in
-    subst P (sym (by_kind (reading_of c.args.self.now) (words c.args.line.now) (words c.in-Ok.found.1.now) c.in-Ok.found.0.now c.in-Some.kind open_yet c.in-Ok.ensures.word (sym c.kind_of.ensures ∙ c.in-Some.is))) c.read_kind.ensures
+    subst P (sym (by_kind (reading_of c.args.self.now) (words c.args.line.now) (words c.in-Ok.found.1.now) c.in-Ok.found.0.now c.in-Some.kind open_yet c.in-Ok.ensures.word (sym c.kind_of.ensures ∙ c.in-Some.is))) c.read_kind.ensures.read

@@ -1,0 +1,13 @@
+use Rattle.std.proofs.Common.{◌≡◌, ◌*◌, ◌^◌, ◌≤◌, map, pos, take}
+use Rattle.vortex_base.specs.Data.Cells.{short_value}
+use Rattle.vortex_stats.specs.Measuring.Codes.{unsigned_code}
+use Rattle.vortex_stats.specs.Measuring.Tallies.{IsTallyOf}
+use Rattle.vortex_stats.specs.Sets.Claims.{present, sum_of}
+use Rattle.vortex_stats.proofs.measure.pass.unsigned_cells.Given as goal
+
+abbrev pub invariant-loop-i : goal.invariant-loop-i
+invariant-loop-i l = record {
+  told : IsTallyOf unsigned_code l.fn.dtype l.tally (take l.i (map short_value l.cells));
+  summed : pos l.sum ≡ sum_of (present (take l.i (map short_value l.cells)));
+  high : l.sum ≤ 2 ^ 64 * l.i;
+}
