@@ -29,6 +29,7 @@ CODE = {f: text for f, text in TEXTS.items() if f.endswith(".rt")}
 # A trait may be imported for its methods alone.
 TRAITS = {"Read", "Write"} | {name for text in CODE.values() for name in re.findall(r"^pub trait (\w+)", text, re.M)}
 KNOWN = {
+    "docs/MAP.md": "this map",
     "README.md": "what the product is for, how to run and test it, what is proved",
     "HANDLES": "which handles to the outside the gate allows: none",
     "LICENSE": "the licence",
