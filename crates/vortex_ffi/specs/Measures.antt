@@ -2,6 +2,8 @@
 use Rattle.std.specs.Prelude.{ℕ, List, Option, None, Some, Result, Ok, Err, length, map, slice_index}
 use Rattle.vortex_base.specs.declared.dtype.DType.{DType}
 use Rattle.vortex_base.specs.Data.Columns.{ColumnData}
+use Rattle.vortex_base.specs.declared.scalar_value.ScalarValue.{ScalarValue}
+use Rattle.vortex_stats.specs.declared.precision.Precision.{Precision}
 use Rattle.vortex_stats.specs.declared.stat.Stat.{Stat}
 use Rattle.vortex_stats.specs.Measuring.Measured.{measured as measured_entries}
 use Rattle.vortex_stats.specs.Sets.Entries.{entry_value}
@@ -32,9 +34,13 @@ stat_of t n = supported t (stat_at n)
 abbrev pub wanted_of : DType → List ℕ → Result (List Stat) Refusal
 wanted_of t numbers = all_read at_entry (λ i. stat_of t (slice_index numbers i)) (length numbers)
 
--- the wanted statistics of a column in order
+-- the wanted statistics of a set of a column of a type in order
+abbrev pub slots_in : DType → List (Stat × Precision ScalarValue) → List Stat → List Slot
+slots_in t set wanted = map (λ s. slot_of t s (entry_value s set)) wanted
+
+-- the wanted statistics of a column
 abbrev pub slots_of : ColumnData → List Stat → List Slot
-slots_of c wanted = map (λ s. slot_of c.dtype s (entry_value s (measured_entries wanted c))) wanted
+slots_of c wanted = slots_in c.dtype (measured_entries wanted c) wanted
 
 -- the statistics of values of a type, where its numbers and the values are in order
 abbrev pub measured_as : Values → List ℕ → DType → Result (List Slot) Refusal

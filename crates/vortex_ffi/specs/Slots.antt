@@ -59,6 +59,12 @@ pub record AreSlots (s : Slots) (slots : List Slot) : Type 0 where
   pub ends : s.ends.items ≡ ends_from 0 slots
   pub values : s.values.items ≡ heap slots
 
+-- these are the statistics, and the bytes of one more stand behind their values
+pub record IsOpen (s : Slots) (slots : List Slot) (bytes : List ℕ) : Type 0 where
+  pub known : s.known.items ≡ map (λ x. x.0) slots
+  pub ends : s.ends.items ≡ ends_from 0 slots
+  pub values : s.values.items ≡ heap slots ++ bytes
+
 -- three arrays of a caller's
 pub record Arrays : Type 0 where
   pub known : List ℕ

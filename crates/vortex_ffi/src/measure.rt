@@ -43,19 +43,31 @@ fn wanted_of(alloc: Global, dtype: DType, numbers: &[u8]) -> Result<Vec<Stat>, R
     Ok(wanted)
 }
 
-// The statistics of a column.
-fn slots_of(alloc: Global, column: &Column, wanted: &[Stat]) -> Result<Slots, Refusal>
-    ensures { Makes result (Ok (spec.slots_of column.now wanted.now)) }
+// The wanted statistics of a set of a column of this type.
+fn slots_in(
+    alloc: Global,
+    dtype: DType,
+    set: &StatsSet,
+    wanted: &[Stat],
+) -> Result<Slots, Refusal>
+    ensures { Makes result (Ok (spec.slots_in dtype set.now wanted.now)) }
 {
-    let set = StatsSet::of_column(alloc, column, wanted)?;
     let mut slots = Slots::new(alloc);
     for stat in wanted {
         let Ok(value) = set.get(*stat) else {
             return Err(Refusal::from(AllocError));
         };
-        slots.push(column.dtype(), *stat, &value)?;
+        slots.push(dtype, *stat, &value)?;
     }
     Ok(slots)
+}
+
+// The statistics of a column.
+fn slots_of(alloc: Global, column: &Column, wanted: &[Stat]) -> Result<Slots, Refusal>
+    ensures { Makes result (Ok (spec.slots_of column.now wanted.now)) }
+{
+    let set = StatsSet::of_column(alloc, column, wanted)?;
+    slots_in(alloc, column.dtype(), &set, wanted)
 }
 
 // The statistics of the values that a caller hands in.

@@ -1,7 +1,7 @@
 //! Statistics as bytes, one behind the other, and the arrays that they are written to.
-ghost use Rattle.std.specs.Prelude.{◌≡◌, ◌++◌, ◌∷◌, ◌≤◌, [], List, OnOk, Result, drop, length, vec_len};
+ghost use Rattle.std.specs.Prelude.{◌≡◌, ◌++◌, ◌∷◌, ◌≤◌, ℕ, [], List, OnOk, Result, drop, length};
 ghost use Rattle.vortex_ffi.specs.Slots as spec;
-ghost use Rattle.vortex_ffi.specs.Slots.{AreSlots, IsTold, IsWritten, Makes, Slot};
+ghost use Rattle.vortex_ffi.specs.Slots.{AreSlots, IsOpen, IsTold, IsWritten, Makes, Slot};
 ghost use Rattle.vortex_ffi.specs.declared.fault.Refusal.{Refusal};
 
 use crate::encoding::push_value;
@@ -35,6 +35,14 @@ fn blank_len(stat: Stat, dtype: DType) -> usize
     }
 }
 
+// Adds so many zeros.
+fn push_zeros(bytes: &mut Vec<u8>, len: usize) -> Result<(), AllocError>
+    requires { len ≤ 8 }
+    ensures { OnOk result (bytes.new.items ≡ bytes.old.items ++ spec.zeros len) }
+{
+    bytes.extend_from_slice(&BLANK[..len])
+}
+
 // Copies bytes to the front of an array.
 fn copy_front(bytes: &[u8], array: &mut [u8])
     requires { length bytes.now ≤ length array.old }
@@ -63,13 +71,21 @@ impl Slots {
         self.close(known)
     }
 
+    // Adds a statistic that isn't known, for whose value stand so many zeros.
+    fn push_blank(&mut self, len: usize) -> Result<(), AllocError>
+        requires { len ≤ 8 }
+        ensures { (slots : List Slot) → AreSlots self.old slots
+            → OnOk result (AreSlots self.new (slots ++ (0, spec.zeros len) ∷ [])) }
+    {
+        push_zeros(&mut self.values, len)?;
+        self.close(0)
+    }
+
     // Ends the value whose bytes were added, and tells how it is known.
+    #[tactic(auto, using(crate::proofs::SlotLemmas::slots_closed))]
     fn close(&mut self, known: u8) -> Result<(), AllocError>
-        ensures values { self.new.values ≡ self.old.values }
-        ensures known { OnOk result
-            (self.new.known.items ≡ self.old.known.items ++ known ∷ []) }
-        ensures ends { OnOk result
-            (self.new.ends.items ≡ self.old.ends.items ++ vec_len self.old.values ∷ []) }
+        ensures { (slots : List Slot) → (bytes : List ℕ) → IsOpen self.old slots bytes
+            → OnOk result (AreSlots self.new (slots ++ (known, bytes) ∷ [])) }
     {
         self.ends.push(self.values.len() as u64)?;
         Ok(self.known.push(known)?)
@@ -86,10 +102,7 @@ impl Slots {
             → OnOk result (AreSlots self.new (slots ++ spec.slot_of dtype stat value.now ∷ [])) }
     {
         match value {
-            Precision::Absent => {
-                self.values.extend_from_slice(&BLANK[..blank_len(stat, dtype)])?;
-                self.close(0)
-            }
+            Precision::Absent => self.push_blank(blank_len(stat, dtype)),
             Precision::Exact(value) => self.push_known(1, value),
             Precision::Inexact(value) => self.push_known(2, value),
         }
@@ -97,6 +110,7 @@ impl Slots {
 
     // Writes the statistics to arrays that have room, and how many bytes the values take in any
     // case.
+    #[tactic(auto, using(crate::proofs::SlotLemmas::length_ends))]
     fn write(
         &self,
         known: &mut [u8],
@@ -110,7 +124,10 @@ impl Slots {
                 (record { known = known.new; ends = ends.new; values = values.new }) len.new }
     {
         *len = self.values.len();
-        if known.len() != self.known.len() || ends.len() != self.ends.len() {
+        if known.len() != self.known.len() {
+            return Err(Status::BadLength);
+        }
+        if ends.len() != self.ends.len() {
             return Err(Status::BadLength);
         }
         if values.len() < self.values.len() {
