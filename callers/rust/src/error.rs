@@ -7,6 +7,8 @@ use std::fmt;
 pub enum Error {
     /// Memory was refused.
     NoMemory,
+    /// The column is of another type.
+    BadKind,
     /// The column's type has no such statistic: which of those that were asked for.
     BadStat { entry: usize },
     /// A byte that says how a value is known is above 2.
@@ -30,6 +32,7 @@ impl Error {
         let Fault { row, entry, .. } = *fault;
         match status {
             4 => Error::NoMemory,
+            5 => Error::BadKind,
             6 => Error::BadStat { entry },
             7 => Error::BadKnown { zone: row, entry },
             8 => Error::BadLength { row, entry },
@@ -46,6 +49,7 @@ impl fmt::Display for Error {
     fn fmt(&self, f: &mut fmt::Formatter<'_>) -> fmt::Result {
         match self {
             Error::NoMemory => write!(f, "memory was refused"),
+            Error::BadKind => write!(f, "the column is of another type"),
             Error::BadStat { entry } => write!(f, "statistic {entry} isn't one of the column's type"),
             Error::BadKnown { zone, entry } => write!(f, "statistic {entry} of zone {zone} is known in no known way"),
             Error::BadLength { row, entry } => write!(f, "an array of statistic {entry} ends before row {row}"),

@@ -4,11 +4,13 @@
 //! answers the types that a Rust program expects. Every answer is the library's.
 mod column;
 mod error;
+mod footers;
 mod raw;
 mod stat;
 
 pub use column::{Column, DType, Kind, Number};
 pub use error::Error;
+pub use footers::Footers;
 pub use stat::{Precision, Stat, Value};
 
 /// What the program answers to a text.
@@ -39,7 +41,7 @@ pub fn run(text: &[u8]) -> Reply {
 }
 
 /// The statistics of a column, as bytes: how each is known, where its value ends, and the values.
-fn measured_bytes(column: &Column<'_>, stats: &[Stat]) -> Result<(Vec<u8>, Vec<u64>, Vec<u8>), Error> {
+pub(crate) fn measured_bytes(column: &Column<'_>, stats: &[Stat]) -> Result<(Vec<u8>, Vec<u64>, Vec<u8>), Error> {
     let numbers: Vec<u8> = stats.iter().map(|stat| *stat as u8).collect();
     let mut known = vec![0; stats.len()];
     let mut ends = vec![0; stats.len()];

@@ -1,5 +1,5 @@
 //! Every field and type of what crosses.
-use foalmorrow::{measure, run, Column, Error, Precision, Reply, Stat, Value};
+use foalmorrow::{measure, run, Column, Error, Footers, Precision, Reply, Stat, Value};
 
 const EVERY: [Stat; 8] = [
     Stat::IsConstant,
@@ -97,4 +97,75 @@ fn calls_run_side_by_side() {
             });
         }
     });
+}
+
+#[test]
+fn what_is_measured_is_true_and_is_kept() {
+    let numbers = [Column::numbers(&[3i16, -4]), Column::numbers(&[7i16]), Column::numbers::<i16>(&[])];
+    let mut footers = Footers::new(numbers[0].dtype(), &EVERY);
+    let words = [Column::texts("oneseven", &[3, 8]), Column::texts("", &[]), Column::texts("zz", &[2])];
+    let bounds = [Stat::Min, Stat::Max, Stat::NullCount];
+    let mut texts = Footers::new(words[0].dtype(), &bounds);
+    for (number, word) in numbers.iter().zip(&words) {
+        footers.push(number).unwrap();
+        texts.push(word).unwrap();
+    }
+    for zone in 0..3 {
+        assert_eq!(footers.check(zone, &numbers[zone]), Ok(()));
+        assert_eq!(texts.check(zone, &words[zone]), Ok(()));
+    }
+    assert_eq!(footers.check(0, &numbers[1]), Err(Error::Untrue { entry: 0 }));
+    assert_eq!(texts.check(2, &words[0]), Err(Error::Untrue { entry: 0 }));
+    assert_eq!(texts.check(3, &words[0]), Err(Error::BadLength { row: 3, entry: 0 }));
+    assert_eq!(footers.get(0, Stat::Min), Some(Precision::Exact(Value::Signed(-4))));
+    assert_eq!(footers.get(2, Stat::Min), Some(Precision::Absent));
+    assert_eq!(texts.get(0, Stat::Max), Some(Precision::Exact(Value::Utf8("seven".to_owned()))));
+    assert_eq!(texts.get(2, Stat::Max), Some(Precision::Exact(Value::Utf8("zz".to_owned()))));
+    assert_eq!(texts.push(&numbers[0]), Err(Error::BadKind));
+}
+
+struct Dice(u64);
+
+impl Dice {
+    fn roll(&mut self, sides: u64) -> u64 {
+        self.0 ^= self.0 << 13;
+        self.0 ^= self.0 >> 7;
+        self.0 ^= self.0 << 17;
+        self.0 % sides
+    }
+}
+
+// Statistics of random columns beside those of a plain pass, and a reader that goes by them beside a direct filter.
+#[test]
+fn random_columns_beside_a_direct_filter() {
+    let mut dice = Dice(88_172_645_463_325_252);
+    let mut unread = 0;
+    for _ in 0..10_000 {
+        let rows = dice.roll(6) as usize;
+        let numbers: Vec<i32> = (0..rows).map(|_| dice.roll(21) as i32 - 10).collect();
+        let nulls: Vec<u8> = (0..rows).map(|_| u8::from(dice.roll(4) == 0)).collect();
+        let there: Vec<i64> =
+            numbers.iter().zip(&nulls).filter(|(_, null)| **null == 0).map(|(number, _)| i64::from(*number)).collect();
+        let column = Column::numbers(&numbers).with_nulls(&nulls);
+        let told = |value: Option<i64>| value.map_or(Precision::Absent, |value| Precision::Exact(Value::Signed(value)));
+        let expected = vec![
+            told(there.iter().copied().max()),
+            told(there.iter().copied().min()),
+            told(Some(there.iter().sum())),
+            Precision::Exact(Value::Unsigned((rows - there.len()) as u64)),
+        ];
+        let wanted = [Stat::Max, Stat::Min, Stat::Sum, Stat::NullCount];
+        assert_eq!(measure(&column, &wanted), Ok(expected));
+        let mut footers = Footers::new(column.dtype(), &wanted);
+        footers.push(&column).unwrap();
+        assert_eq!(footers.check(0, &column), Ok(()));
+        let limit = dice.roll(21) as i64 - 10;
+        if let Some(Precision::Exact(Value::Signed(greatest))) = footers.get(0, Stat::Max) {
+            if greatest <= limit {
+                unread += 1;
+                assert!(!there.iter().any(|value| *value > limit));
+            }
+        }
+    }
+    assert!(unread > 1_000, "{unread}");
 }

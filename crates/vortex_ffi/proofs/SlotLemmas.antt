@@ -1,5 +1,5 @@
 -- One more statistic behind others.
-use Rattle.std.proofs.Common.{◌≡◌, ℕ, suc, ◌+◌, List, [], ◌∷◌, ◌++◌, length, map, refl, sym, ◌∙◌, ap, arith, length-append, add_assoc}
+use Rattle.std.proofs.Common.{◌≡◌, ℕ, suc, ◌+◌, List, [], ◌∷◌, ◌++◌, length, map, refl, sym, ◌∙◌, ap, arith, length-append, add_assoc, zero-add}
 use Rattle.std.proofs.lemmas.Grind.{common_steps}
 use Rattle.std.proofs.lemmas.List.{map-append}
 use Rattle.vortex_ffi.specs.declared.slots.Slots.{Slots}
@@ -22,6 +22,8 @@ length_ends n (s ∷ slots) = ap suc (length_ends (n + length s.1) slots)
 pub slots_closed : (s t : Slots) (slots : List Slot) (k : ℕ) (bytes : List ℕ) → IsOpen s slots bytes → t.values.items ≡ s.values.items → t.known.items ≡ s.known.items ++ k ∷ [] → t.ends.items ≡ s.ends.items ++ length s.values.items ∷ [] → AreSlots t (slots ++ (k, bytes) ∷ [])
 slots_closed s t slots k bytes opened v w e = record {
   known = w ∙ ap (λ l. l ++ k ∷ []) opened.known ∙ sym (map-append (λ (x : Slot). x.0) slots ((k, bytes) ∷ []));
-  ends = e ∙ rw (opened.ends, opened.values, length-append (heap slots) bytes) (sym (ends_more 0 slots (k, bytes)));
+  ends =
+      let more : ends_from 0 (slots ++ (k, bytes) ∷ []) ≡ ends_from 0 slots ++ (length (heap slots) + length bytes) ∷ [] = ends_more 0 slots (k, bytes) ∙ ap (λ n. ends_from 0 slots ++ (n + length bytes) ∷ []) (zero-add (length (heap slots))) in
+      e ∙ rw (opened.ends, opened.values, length-append (heap slots) bytes) (sym more);
   values = v ∙ opened.values ∙ sym (heap_more slots (k, bytes));
 }

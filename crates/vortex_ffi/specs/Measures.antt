@@ -12,11 +12,10 @@ use Rattle.vortex_ffi.specs.declared.fault.Refusal.{Refusal}
 use Rattle.vortex_ffi.specs.declared.status.Status.{Status}
 use Rattle.vortex_ffi.specs.declared.status.Status.TheVariants.{BadStat}
 use Rattle.vortex_ffi.specs.declared.values.Values.{Values}
-use Rattle.vortex_ffi.specs.Refusals.{all_read, followed, placed}
+use Rattle.vortex_ffi.specs.Refusals.{all_read, followed}
 use Rattle.vortex_ffi.specs.Slots.{Slot, slot_of}
 use Rattle.vortex_ffi.specs.Statuses.{at_entry}
-use Rattle.vortex_ffi.specs.Types.{dtype_of}
-use Rattle.vortex_ffi.specs.Values.{column}
+use Rattle.vortex_ffi.specs.Values.{column, type_given}
 
 abbrev pub with_dtype : Stat → Option DType → Result Stat Status
 with_dtype s None = Err BadStat
@@ -47,4 +46,4 @@ abbrev pub measured_as : Values → List ℕ → DType → Result (List Slot) Re
 measured_as v numbers t = followed (wanted_of t numbers) (λ wanted. followed (column t v) (λ c. Ok (slots_of c wanted)))
 
 abbrev pub measured : Values → List ℕ → Result (List Slot) Refusal
-measured v numbers = followed (placed (λ s. at_entry s 0) (dtype_of v.kind v.nullable)) (measured_as v numbers)
+measured v numbers = followed (type_given v) (measured_as v numbers)

@@ -11,8 +11,9 @@ use Rattle.vortex_ffi.specs.declared.status.Status.TheVariants.{BadLength, BadNu
 use Rattle.vortex_ffi.specs.declared.values.Values.{Values}
 use Rattle.vortex_ffi.specs.Encoding.{value_of}
 use Rattle.vortex_ffi.specs.Given.{bytes_at}
-use Rattle.vortex_ffi.specs.Refusals.{all_read, followed}
-use Rattle.vortex_ffi.specs.Statuses.{at_row}
+use Rattle.vortex_ffi.specs.Refusals.{all_read, followed, placed}
+use Rattle.vortex_ffi.specs.Statuses.{at_entry, at_row}
+use Rattle.vortex_ffi.specs.Types.{dtype_of}
 
 abbrev pub null_byte : Option ℕ → Result Bool Status
 null_byte None = Err BadLength
@@ -59,3 +60,11 @@ column_of t size vs = if all_fit t vs then Ok (record { dtype = t; values = vs; 
 
 abbrev pub column : DType → Values → Result ColumnData Refusal
 column t v = followed (cells t v.values.now v.start v.ends.now v.nulls.now v.rows) (column_of t v.size)
+
+-- the type that is handed in with values
+abbrev pub type_given : Values → Result DType Refusal
+type_given v = placed (λ s. at_entry s 0) (dtype_of v.kind v.nullable)
+
+-- the column that is handed in
+abbrev pub given_column : Values → Result ColumnData Refusal
+given_column v = followed (type_given v) (λ t. column t v)

@@ -8,7 +8,6 @@ ghost use Rattle.vortex_ffi.specs.declared.status.Status.TheVariants.{NoMemory};
 use crate::fault::{Fault, Refusal};
 use crate::slots::{Slots, tell};
 use crate::status::Status;
-use crate::types::dtype_of;
 use crate::values::Values;
 use std::alloc::{AllocError, Global};
 use vortex_base::column::Column;
@@ -74,10 +73,7 @@ fn slots_of(alloc: Global, column: &Column, wanted: &[Stat]) -> Result<Slots, Re
 fn measured(alloc: Global, values: &Values<'_>, numbers: &[u8]) -> Result<Slots, Refusal>
     ensures { Makes result (spec.measured values.now numbers.now) }
 {
-    let dtype = match dtype_of(values.kind, values.nullable) {
-        Ok(dtype) => dtype,
-        Err(status) => return Err(Refusal::at_entry(status, 0)),
-    };
+    let dtype = values.dtype()?;
     let wanted = wanted_of(alloc, dtype, numbers)?;
     let column = values.column(alloc, dtype)?;
     slots_of(alloc, &column, &wanted)

@@ -10,6 +10,7 @@ use crate::encoding::value_of;
 use crate::fault::Refusal;
 use crate::given::Given;
 use crate::status::Status;
+use crate::types::dtype_of;
 use std::alloc::Global;
 use vortex_base::cells::Cells;
 use vortex_base::column::Column;
@@ -62,8 +63,8 @@ fn null_of(dtype: DType) -> Result<Option<ScalarValue>, Status>
     }
 }
 
-// The value of a row that isn't null.
-fn value_at(
+/// The value at a place, which isn't null.
+pub(crate) fn value_at(
     alloc: Global,
     given: &Given<'_>,
     dtype: DType,
@@ -116,6 +117,26 @@ impl Values<'_> {
             }
         }
         Ok(cells)
+    }
+
+    /// The type of the values.
+    pub(crate) fn dtype(&self) -> Result<DType, Refusal>
+        ensures { result ≡ spec.type_given self.now }
+    {
+        match dtype_of(self.kind, self.nullable) {
+            Ok(dtype) => Ok(dtype),
+            Err(status) => Err(Refusal::at_entry(status, 0)),
+        }
+    }
+
+    /// The column that is handed in.
+    pub(crate) fn given_column(&self, alloc: Global) -> Result<Column, Refusal>
+        ensures { Answers (λ c. c) result (spec.given_column self.now) }
+    {
+        match self.dtype() {
+            Ok(dtype) => self.column(alloc, dtype),
+            Err(refusal) => Err(refusal),
+        }
     }
 
     /// The column of a type.
