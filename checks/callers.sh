@@ -36,5 +36,7 @@ fi
 # Python, where its package stands.
 if [ -d callers/python/tests ]; then
     FOALMORROW_LIBRARY="$PWD/$out/libvortex_ffi.so" python3 -W error -m unittest discover -q callers/python/tests
+    echo "callers: C, Rust and Python agree with the library"
+else
+    echo "callers: C and Rust agree with the library"
 fi
-echo "callers: C, Rust and Python agree with the library"

@@ -34,14 +34,22 @@ static void measure(size_t chunk) {
     }
 }
 
+/* Reads a chunk: its temperatures above a limit. */
+static void print_above(size_t chunk, int64_t limit) {
+    printf("chunk %zu:", chunk);
+    for (size_t row = 0; row < ROWS; row++)
+        if (table[chunk][row] > limit) printf(" %lld", (long long)table[chunk][row]);
+    printf("\n");
+}
+
 int main(void) {
+    /* A writer keeps the statistics of each chunk. */
     for (size_t chunk = 0; chunk < CHUNKS; chunk++) measure(chunk);
-    vortex_statistic stats[3];
-    for (size_t i = 0; i < 3; i++)
-        stats[i] = (vortex_statistic){.stat = wanted[i], .known = known[i], .known_len = CHUNKS,
-                                      .values = (const uint8_t *)kept[i], .values_len = sizeof kept[i]};
-    for (size_t i = 0; i < CHUNKS; i++)
-        printf("chunk %zu: %lld to %lld\n", i, (long long)kept[0][i], (long long)kept[1][i]);
-    (void)stats;
+    /* A reader that wants temperatures above 20 leaves a chunk unread whose greatest one isn't above it. */
+    for (size_t chunk = 0; chunk < CHUNKS; chunk++)
+        if (known[1][chunk] == VORTEX_EXACT && kept[1][chunk] <= 20)
+            printf("chunk %zu: left unread\n", chunk);
+        else
+            print_above(chunk, 20);
     return 0;
 }

@@ -9,6 +9,6 @@ use Rattle.vortex_ffi.specs.Refusals.{all_read, one_more}
 pub stops : {X : Type 0} (at : Status → ℕ → Refusal) (f : ℕ → Result X Status) (i n : ℕ) (xs : List X) (s : Status) → all_read at f i ≡ Ok xs → f i ≡ Err s → i < n → all_read at f n ≡ Err (at s i)
 stops at f i zero xs s before stopped h = absurd (omega (arith, h))
 stops at f i (suc n) xs s before stopped h = elim (eq-or-lt_of_le {n = i} {m = n} (omega (arith, h))) [
-  inl same ↦ rw (sym same) (rw (before, stopped) refl)
+  | inl same ↦ rw (sym same) (rw (before, stopped) refl)
   | inr less ↦ rw (stops at f i n xs s before stopped less) refl
 ]

@@ -63,9 +63,9 @@ impl<'a> Given<'a> {
     pub(crate) fn bytes_at(&self, dtype: DType, i: usize) -> Result<&'a [u8], Status>
         ensures { MatchResult result
             (λ s. spec.bytes_at dtype self.now.values.now self.now.start self.now.ends.now i
-                ≡ Ok s.now)
+            ≡ Ok s.now)
             (λ e. spec.bytes_at dtype self.now.values.now self.now.start self.now.ends.now i
-                ≡ Err e) }
+            ≡ Err e) }
     {
         match width(dtype) {
             Some(width) => match fixed(self.values, width, i) {

@@ -1,9 +1,8 @@
 //! The statistics of a column of values.
-ghost use Rattle.std.specs.Prelude.{◌≡◌, IfOk};
+ghost use Rattle.std.specs.Prelude.{◌≡◌};
 ghost use Rattle.vortex_ffi.specs.Measures as spec;
 ghost use Rattle.vortex_ffi.specs.Refusals.{Answers};
 ghost use Rattle.vortex_ffi.specs.Slots.{IsTold, Makes};
-ghost use Rattle.vortex_ffi.specs.declared.status.Status.TheVariants.{NoMemory};
 
 use crate::fault::{Fault, Refusal};
 use crate::slots::{Slots, tell};
@@ -43,12 +42,7 @@ fn wanted_of(alloc: Global, dtype: DType, numbers: &[u8]) -> Result<Vec<Stat>, R
 }
 
 // The wanted statistics of a set of a column of this type.
-fn slots_in(
-    alloc: Global,
-    dtype: DType,
-    set: &StatsSet,
-    wanted: &[Stat],
-) -> Result<Slots, Refusal>
+fn slots_in(alloc: Global, dtype: DType, set: &StatsSet, wanted: &[Stat]) -> Result<Slots, Refusal>
     ensures { Makes result (Ok (spec.slots_in dtype set.now wanted.now)) }
 {
     let mut slots = Slots::new(alloc);
@@ -97,5 +91,12 @@ pub extern "C" fn vortex_measure(
         (record { known = known.old; ends = ends.old; values = values.old }) result
         (record { known = known.new; ends = ends.new; values = values.new }) len.new fault.new }
 {
-    tell(measured(alloc, column, stats), known, ends, values, len, fault)
+    tell(
+        measured(alloc, column, stats),
+        known,
+        ends,
+        values,
+        len,
+        fault,
+    )
 }

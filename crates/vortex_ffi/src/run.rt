@@ -1,5 +1,5 @@
 //! The program's answer to a text.
-ghost use Rattle.std.specs.Prelude.{◌≡◌, ◌≢◌, take};
+ghost use Rattle.std.specs.Prelude.{◌≡◌, take};
 ghost use Rattle.vortex_ffi.specs.Runs.{IsDelivered, Replies};
 ghost use Rattle.vortex_text.specs.Program.{IsFullScan};
 
@@ -22,12 +22,7 @@ fn deliver(status: u8, answer: &[u8], output: &mut [u8], len: &mut usize) -> u8
 /// Answers a text as the program does, `vortex_run` of the header. The statuses are the program's,
 /// or 3 where the array is too short for the answer.
 #[unsafe(no_mangle)]
-pub extern "C" fn vortex_run(
-    alloc: Global,
-    input: &[u8],
-    output: &mut [u8],
-    len: &mut usize,
-) -> u8
+pub extern "C" fn vortex_run(alloc: Global, input: &[u8], output: &mut [u8], len: &mut usize) -> u8
     // An answer of the program to the text with its status, which stands in the array or is too
     // long for it.
     ensures answered { Replies input.now output.old result output.new len.new }

@@ -62,6 +62,13 @@ impl Slots {
         }
     }
 
+    // How many bytes the values take.
+    fn heap_len(&self) -> u64
+        ensures { result ≡ length self.now.values.items }
+    {
+        self.values.len() as u64
+    }
+
     // Adds a value that is known so.
     fn push_known(&mut self, known: u8, value: &ScalarValue) -> Result<(), AllocError>
         ensures { (slots : List Slot) → AreSlots self.old slots
@@ -82,12 +89,12 @@ impl Slots {
     }
 
     // Ends the value whose bytes were added, and tells how it is known.
-    #[tactic(auto, using(crate::proofs::SlotLemmas::slots_closed))]
     fn close(&mut self, known: u8) -> Result<(), AllocError>
         ensures { (slots : List Slot) → (bytes : List ℕ) → IsOpen self.old slots bytes
             → OnOk result (AreSlots self.new (slots ++ (known, bytes) ∷ [])) }
     {
-        self.ends.push(self.values.len() as u64)?;
+        let end = self.heap_len();
+        self.ends.push(end)?;
         Ok(self.known.push(known)?)
     }
 
@@ -120,8 +127,8 @@ impl Slots {
     ) -> Result<(), Status>
         ensures { (slots : List Slot) → AreSlots self.now slots
             → IsWritten slots
-                (record { known = known.old; ends = ends.old; values = values.old }) result
-                (record { known = known.new; ends = ends.new; values = values.new }) len.new }
+            (record { known = known.old; ends = ends.old; values = values.old }) result
+            (record { known = known.new; ends = ends.new; values = values.new }) len.new }
     {
         *len = self.values.len();
         if known.len() != self.known.len() {
@@ -151,8 +158,8 @@ pub(crate) fn tell(
 ) -> u8
     ensures { (told : Result (List Slot) Refusal) → Makes found told
         → IsTold told (record { known = known.old; ends = ends.old; values = values.old }) result
-            (record { known = known.new; ends = ends.new; values = values.new }) len.new
-            fault.new }
+        (record { known = known.new; ends = ends.new; values = values.new }) len.new
+        fault.new }
 {
     match found {
         Ok(slots) => match slots.write(known, ends, values, len) {

@@ -1,10 +1,8 @@
 //! A column of values as a caller hands it in.
-ghost use Rattle.std.specs.Prelude.{◌≡◌, ◌≤◌, IfOk, IsTrue};
+ghost use Rattle.std.specs.Prelude.{◌≡◌};
 ghost use Rattle.vortex_base.specs.Data.Cells.{cell_values};
-ghost use Rattle.vortex_base.specs.Data.Columns.{IsColumn};
 ghost use Rattle.vortex_ffi.specs.Refusals.{Answers, Gives};
 ghost use Rattle.vortex_ffi.specs.Values as spec;
-ghost use Rattle.vortex_ffi.specs.declared.status.Status.TheVariants.{NoMemory};
 
 use crate::encoding::value_of;
 use crate::fault::Refusal;
@@ -63,8 +61,8 @@ fn null_of(dtype: DType) -> Result<Option<ScalarValue>, Status>
     }
 }
 
-/// The value at a place, which isn't null.
-pub(crate) fn value_at(
+// The value of a row that isn't null.
+fn value_at(
     alloc: Global,
     given: &Given<'_>,
     dtype: DType,
@@ -81,12 +79,7 @@ pub(crate) fn value_at(
 
 impl Values<'_> {
     // The value of a row, or `None` for null. In a column of nulls each row is one.
-    fn cell(
-        &self,
-        alloc: Global,
-        dtype: DType,
-        row: usize,
-    ) -> Result<Option<ScalarValue>, Status>
+    fn cell(&self, alloc: Global, dtype: DType, row: usize) -> Result<Option<ScalarValue>, Status>
         ensures { Gives result (spec.cell dtype self.now.values.now self.now.start
             self.now.ends.now self.now.nulls.now row) }
     {
@@ -126,16 +119,6 @@ impl Values<'_> {
         match dtype_of(self.kind, self.nullable) {
             Ok(dtype) => Ok(dtype),
             Err(status) => Err(Refusal::at_entry(status, 0)),
-        }
-    }
-
-    /// The column that is handed in.
-    pub(crate) fn given_column(&self, alloc: Global) -> Result<Column, Refusal>
-        ensures { Answers (λ c. c) result (spec.given_column self.now) }
-    {
-        match self.dtype() {
-            Ok(dtype) => self.column(alloc, dtype),
-            Err(refusal) => Err(refusal),
         }
     }
 

@@ -1,5 +1,4 @@
-use Rattle.std.proofs.Common.{map, take}
-use Rattle.vortex_stats.specs.Sets.Entries.{entry_value}
+use Rattle.std.proofs.Common.{take}
 use Rattle.vortex_ffi.specs.Measures.{slots_in}
 use Rattle.vortex_ffi.specs.Slots.{AreSlots}
 use Rattle.vortex_ffi.proofs.measure.slots_in.Given as goal
