@@ -3,7 +3,7 @@ use Rattle.std.proofs.Common.{◌≡◌, ◌<◌, ℕ, zero, suc, List, Result, 
 use Rattle.std.proofs.Math.Nat.{eq-or-lt_of_le}
 use Rattle.vortex_ffi.specs.declared.fault.Refusal.{Refusal}
 use Rattle.vortex_ffi.specs.declared.status.Status.{Status}
-use Rattle.vortex_ffi.specs.Refusals.{all_read, one_more}
+use Rattle.vortex_ffi.specs.Refusals.{all_read}
 
 -- the first place that is refused decides of all
 pub stops : {X : Type 0} (at : Status → ℕ → Refusal) (f : ℕ → Result X Status) (i n : ℕ) (xs : List X) (s : Status) → all_read at f i ≡ Ok xs → f i ≡ Err s → i < n → all_read at f n ≡ Err (at s i)
