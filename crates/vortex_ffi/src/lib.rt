@@ -14,5 +14,7 @@ pub mod run;
 mod slots;
 pub mod statistic;
 mod status;
+#[cfg(test)]
+mod tests;
 mod types;
 pub mod values;
