@@ -22,6 +22,7 @@ ghost use Rattle.vortex_rewrite.specs.Answers.{IsMemory};
 
 pub mod outcome;
 mod part_scan;
+pub mod prune;
 mod select;
 mod skip;
 pub(crate) mod verdict;

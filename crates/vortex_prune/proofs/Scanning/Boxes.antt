@@ -14,8 +14,6 @@ use Rattle.vortex_rewrite.proofs.Completeness.Ranges.{Halved, halved, moved_deci
 use Rattle.std.proofs.lemmas.Bool.{and_parts}
 use Rattle.std.proofs.lemmas.Option.{same_Some, none-some, slice_get_within}
 use Rattle.vortex_base.proofs.Meanings.PlacedTypes.{with_types-ok}
-use Rattle.vortex_base.specs.Data.Columns.{ColumnData, has_types, row_count as rows_of}
-use Rattle.vortex_base.specs.Data.Exact.{both_true}
 use Rattle.vortex_base.specs.Meanings.Fitting.{fits_scope, is_of_type}
 use Rattle.vortex_base.specs.Meanings.Meaning.{holds, is_true}
 use Rattle.vortex_base.specs.Data.Scalars.{Constant, is_optional_value}
@@ -38,16 +36,16 @@ use Rattle.vortex_rewrite.proofs.Completeness.Choices.{AreInside, IsBetween, all
 use Rattle.vortex_rewrite.proofs.Completeness.Decided.{Decided, and_decided, comparison_decided, or_decided, truth_decided}
 use Rattle.vortex_rewrite.proofs.Completeness.Interval.{is_comparison}
 use Rattle.vortex_rewrite.proofs.Completeness.Operands.{IsInterval, if_ok, if_typed, operand, operand_type, same_operands, same_values, some_value}
-use Rattle.vortex_prune.proofs.Honesty.PartLemmas.{part_set_fits}
+use Rattle.vortex_prune.proofs.Honesty.ZoneLemmas.{zone_set_fits}
 use Rattle.vortex_rewrite.proofs.Soundness.TruthLogic.{clash}
 use Rattle.vortex_rewrite.proofs.Soundness.ValueTests.{le_refl}
 use Rattle.vortex_rewrite.specs.Rewriting.ReadOnce.{Box, IsInOrder, IsSatisfiable, are_distinct, columns_of, has_closed_end, is_number_type, is_operand, is_range, is_simple, is_truth}
-use Rattle.vortex_prune.specs.Scanning.Complete.{FalsifiersAreComplete, IsBoxOf, IsKnownBy, SkippingIsComplete}
-use Rattle.vortex_prune.specs.Part.{Entries, IsPart, PartData}
-use Rattle.vortex_prune.specs.Binding.PartAnswers.{column_value, part_values}
+use Rattle.vortex_prune.specs.Scanning.Complete.{FalsifiersAreComplete, IsBoxIn, IsKnownBy, SkippingIsComplete}
+use Rattle.vortex_prune.specs.Part.{Entries, IsZone, ZoneData}
+use Rattle.vortex_prune.specs.Binding.PartAnswers.{column_value, told_values}
 use Rattle.vortex_rewrite.specs.Rewriting.Proof.{Assignment, proves}
 use Rattle.vortex_rewrite.specs.Rewriting.Falsifiers.{closed, ends, falsifier, high_size, is_crossed, literal_ends, low_size, number_literal}
-use Rattle.vortex_prune.specs.Scanning.Selection.{is_proved}
+use Rattle.vortex_prune.specs.Scanning.Selection.{proves_of}
 use Rattle.vortex_stats.proofs.Kit.{entry_value-fits}
 use Rattle.vortex_stats.specs.Bounds.Order.{AtMost}
 use Rattle.vortex_stats.specs.Sets.Entries.{entry_value, is_value_of, value_fits}
@@ -277,11 +275,10 @@ module _ (box : Box) (A : Assignment) (m n : ℕ) where
 
 -- ---- what a part's sets answer for the columns of a predicate
 
-column_there : (ns : List Named) (cs : List ColumnData) (i : ℕ) (t : DType) → has_types ns cs ≡ true → is_of_type t (slice_get ns i) ≡ true → (d : ColumnData) × (slice_get cs i ≡ Some d) × (d.dtype ≡ t)
-column_there [] cs i t h k = cc
-column_there (x ∷ ns) [] i t h k = cc
-column_there (x ∷ ns) (d ∷ cs) zero t h k = (d, refl, sym ((dtype_eq_is_exact x.1 d.dtype).0 (both_true _ _ h).0) ∙ (dtype_eq_is_exact x.1 t).0 k)
-column_there (x ∷ ns) (d ∷ cs) (suc i) t h k = column_there ns cs i t (both_true _ _ h).1 k
+column_there : (ns : List Named) (i : ℕ) (t : DType) → is_of_type t (slice_get ns i) ≡ true → (c : Named) × (slice_get ns i ≡ Some c) × (c.1 ≡ t)
+column_there [] i t k = cc
+column_there (x ∷ ns) zero t k = (x, refl, (dtype_eq_is_exact x.1 t).0 k)
+column_there (x ∷ ns) (suc i) t k = column_there ns i t k
 
 set_there : (P : Entries → Type 0) (o : Option Entries) → MatchOption o ⊥ P → (es : Entries) × (o ≡ Some es) × P es
 set_there P (Some es) h = (es, refl, h)
@@ -300,49 +297,45 @@ extreme_fits (dtype.Utf8 n) v h = h
 extreme_fits (dtype.Binary n) v h = h
 extreme_fits (dtype.MinMaxState e n) v h = h
 
-module _ (part : PartData) (box : Box) (is_part : IsPart part) where
-  abbrev rows : ℕ
-  rows = rows_of part.chunk.columns
-
+module _ (scope : List Named) (zone : ZoneData) (box : Box) (is_zone : IsZone scope zone) where
   -- the column's bounds are those of the box, whose values are of its type
-  interval_at : (c : Place) (d : ColumnData) (es : Entries) → slice_get part.chunk.columns c.index ≡ Some d → d.dtype ≡ c.dtype → slice_get part.stats c.index ≡ Some es → IsKnownBy box c.index es
-      → AtMost value_cmp (box.low c.index) (box.high c.index) → IsInterval box (part_values part) (length part.stats) rows c
+  interval_at : (c : Place) (d : Named) (es : Entries) → slice_get scope c.index ≡ Some d → d.1 ≡ c.dtype → slice_get zone.stats c.index ≡ Some es → IsKnownBy box c.index es
+      → AtMost value_cmp (box.low c.index) (box.high c.index) → IsInterval box (told_values scope zone) (length zone.stats) zone.rows c
   interval_at c d es there same set known order =
-      let fits = part_set_fits part c.index d es is_part there set in
-      let suits : eq_ignore_nullability d.dtype c.dtype ≡ true = (dtype_eq_is_exact (as_nullable d.dtype) (as_nullable c.dtype)).1 (ap as_nullable same) in
-      let low = extreme_fits d.dtype (box.low c.index) (present_fits Min d.dtype (entry_value Min es) (box.low c.index) known.0 (entry_value-fits Min d.dtype es fits)) in
-      let high = extreme_fits d.dtype (box.high c.index) (present_fits Max d.dtype (entry_value Max es) (box.high c.index) known.1 (entry_value-fits Max d.dtype es fits)) in
+      let fits = zone_set_fits scope zone.stats c.index d es is_zone there set in
+      let suits : eq_ignore_nullability d.1 c.dtype ≡ true = (dtype_eq_is_exact (as_nullable d.1) (as_nullable c.dtype)).1 (ap as_nullable same) in
+      let low = extreme_fits d.1 (box.low c.index) (present_fits Min d.1 (entry_value Min es) (box.low c.index) known.0 (entry_value-fits Min d.1 es fits)) in
+      let high = extreme_fits d.1 (box.high c.index) (present_fits Max d.1 (entry_value Max es) (box.high c.index) known.1 (entry_value-fits Max d.1 es fits)) in
       record {
-        inside = slice_get_within part.stats c.index es set;
-        min_told = (λ i. column_value aggregate.Min c.dtype (there i) (set i) rows) ∙ ap (λ (b : Bool). if b then present_value (entry_value Min es) else None) suits ∙ known.0;
-        max_told = (λ i. column_value aggregate.Max c.dtype (there i) (set i) rows) ∙ ap (λ (b : Bool). if b then present_value (entry_value Max es) else None) suits ∙ known.1;
+        inside = slice_get_within zone.stats c.index es set;
+        min_told = (λ i. column_value aggregate.Min c.dtype (there i) (set i) zone.rows) ∙ ap (λ (b : Bool). if b then present_value (entry_value Min es) else None) suits ∙ known.0;
+        max_told = (λ i. column_value aggregate.Max c.dtype (there i) (set i) zone.rows) ∙ ap (λ (b : Bool). if b then present_value (entry_value Max es) else None) suits ∙ known.1;
         low = subst (λ t. is_value (box.low c.index) t ≡ true) same low;
         high = subst (λ t. is_value (box.high c.index) t ≡ true) same high;
         order = ap not_b order;
       }
 
   -- each column of a list
-  intervals : (cs : List Place) → AllByRecursion (λ c. is_of_type c.dtype (slice_get part.chunk.scope c.index) ≡ true) cs → AllByRecursion (λ c. MatchOption (slice_get part.stats c.index) ⊥ (IsKnownBy box c.index)) cs
-      → AllByRecursion (λ c. AtMost value_cmp (box.low c.index) (box.high c.index)) cs → AllByRecursion (IsInterval box (part_values part) (length part.stats) rows) cs
+  intervals : (cs : List Place) → AllByRecursion (λ c. is_of_type c.dtype (slice_get scope c.index) ≡ true) cs → AllByRecursion (λ c. MatchOption (slice_get zone.stats c.index) ⊥ (IsKnownBy box c.index)) cs
+      → AllByRecursion (λ c. AtMost value_cmp (box.low c.index) (box.high c.index)) cs → AllByRecursion (IsInterval box (told_values scope zone) (length zone.stats) zone.rows) cs
   intervals [] fit known order = tt
   intervals (c ∷ cs) fit known order =
-      let types = (both_true _ _ (both_true _ _ (both_true _ _ is_part.0).1).1).0 in
-      let d = column_there part.chunk.scope part.chunk.columns c.index c.dtype types fit.0 in
-      let es = set_there (IsKnownBy box c.index) (slice_get part.stats c.index) known.0 in
+      let d = column_there scope c.index c.dtype fit.0 in
+      let es = set_there (IsKnownBy box c.index) (slice_get zone.stats c.index) known.0 in
       (interval_at c d.0 es.0 d.1 d.2 es.1 es.2 order.0, intervals cs fit.1 known.1 order.1)
 
-  falsifiers_complete : (p : Tree Place) → is_ok (type_of p) ≡ true → is_simple p ≡ true → are_distinct (columns_of p) ≡ true → IsTrue (fits_scope p part.chunk.scope) → IsBoxOf part p box → IsInOrder p box
-      → (e : Tree Place) × (falsifier [] p ≡ Some e) × (IsTrue (proves e (part_values part) rows) ↔ ¬ IsSatisfiable p box rows)
+  falsifiers_complete : (p : Tree Place) → is_ok (type_of p) ≡ true → is_simple p ≡ true → are_distinct (columns_of p) ≡ true → IsTrue (fits_scope p scope) → IsBoxIn zone.stats p box → IsInOrder p box
+      → (e : Tree Place) × (falsifier [] p ≡ Some e) × (IsTrue (proves e (told_values scope zone) zone.rows) ↔ ¬ IsSatisfiable p box zone.rows)
   falsifiers_complete p ok simple distinct fits is_box order =
-      let known = intervals (columns_of p) (each_column (λ c. is_of_type c.dtype (slice_get part.chunk.scope c.index)) p fits) is_box order in
-      decides box (part_values part) (length part.stats) rows p known (decided box (part_values part) (length part.stats) rows p simple distinct ok known)
+      let known = intervals (columns_of p) (each_column (λ c. is_of_type c.dtype (slice_get scope c.index)) p fits) is_box order in
+      decides box (told_values scope zone) (length zone.stats) zone.rows p known (decided box (told_values scope zone) (length zone.stats) zone.rows p simple distinct ok known)
 
 pub falsifiers_are_complete : FalsifiersAreComplete
-falsifiers_are_complete p t part box typed bool is_part fits once is_box order =
+falsifiers_are_complete p t scope zone box typed bool is_zone fits once is_box order =
     let h = and_parts (is_simple p) (are_distinct (columns_of p)) once in
-    falsifiers_complete part box is_part p (ap is_ok typed) h.0 h.1 fits is_box order
+    falsifiers_complete scope zone box is_zone p (ap is_ok typed) h.0 h.1 fits is_box order
 
 pub skipping_is_complete : SkippingIsComplete
-skipping_is_complete p t part box typed bool is_part fits once is_box order =
-    let c = falsifiers_are_complete p t part box typed bool is_part fits once is_box order in
-    subst (λ o. IsTrue (is_proved o part (part_values part)) ↔ ¬ IsSatisfiable p box (rows_of part.chunk.columns)) (sym c.1) c.2
+skipping_is_complete p t scope zone box typed bool is_zone fits once is_box order =
+    let c = falsifiers_are_complete p t scope zone box typed bool is_zone fits once is_box order in
+    subst (λ o. IsTrue (proves_of o zone.rows (told_values scope zone)) ↔ ¬ IsSatisfiable p box zone.rows) (sym c.1) c.2
