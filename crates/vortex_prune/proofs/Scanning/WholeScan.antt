@@ -16,7 +16,7 @@ use Rattle.vortex_prune.proofs.Binding.BoundValues.{has_a_type}
 use Rattle.vortex_prune.proofs.Scanning.BinderScan.{element_there}
 use Rattle.vortex_prune.proofs.Scanning.Lossless.{IsAnswered, selected_full}
 use Rattle.vortex_prune.proofs.Scanning.SkippedParts.{scans_skip_exactly}
-use Rattle.vortex_rewrite.specs.Rewriting.ReadOnce.{IsSatisfiable, is_read_once}
+use Rattle.vortex_rewrite.specs.Rewriting.ReadOnce.{IsSatisfiable, is_apart}
 use Rattle.vortex_prune.specs.Scanning.Complete.{IsBoxIn, SkipsExactly, by_own_statistics}
 use Rattle.vortex_rewrite.specs.Rewriting.Lawful.{OwnRule}
 use Rattle.vortex_prune.specs.Part.{AreParts, IsPart, PartData, ZoneData, zone_of}
@@ -79,9 +79,9 @@ module _ {S : Type 0} (value : S → List Constant → ℕ → Assignment) where
   by_statistics (q ∷ parts) (b ∷ binders) long own =
       ap (λ (a : Assignment). (q, a) ∷ answered value parts binders) own.0 ∙ ap (λ l. (q, part_values q) ∷ l) (by_statistics parts binders (omega (arith, long)) own.1)
 
-  -- by built-in rules and the parts' own statistics a read-once predicate skips exactly what its bounds rule out
+  -- by built-in rules and the parts' own statistics a predicate whose ANDs are apart skips exactly what its bounds rule out
   pub skips_exactly : (p : Tree Place) (parts : List PartData) (binders : List S) (skipped : List ℕ) → length binders ≡ length parts → IsTrue (is_predicate p) → All (Fits p) parts → AreParts parts
-      → AreByStatistics value parts binders → IsTrue (is_read_once p) → skipped ≡ skipped_parts (falsifier [] p) (answered value parts binders) → SkipsExactly p parts skipped
+      → AreByStatistics value parts binders → IsTrue (is_apart p) → skipped ≡ skipped_parts (falsifier [] p) (answered value parts binders) → SkipsExactly p parts skipped
   skips_exactly p parts binders skipped long predicate fits are own once is i zone box there is_box order =
       let t = typed_bool p (type_of p) refl predicate in
       let same : skipped ≡ skipped_parts (falsifier [] p) (by_own_statistics parts) = is ∙ ap (skipped_parts (falsifier [] p)) (by_statistics parts binders long own) in

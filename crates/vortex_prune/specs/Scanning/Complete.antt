@@ -1,4 +1,4 @@
--- Which parts the bounds of their columns decide: read-once predicates, over the box that a part's statistics know.
+-- Which parts the bounds of their columns decide: predicates whose ANDs are apart, over the box that a part's statistics know.
 use Rattle.std.specs.Prelude.{◌≡◌, ◌↔◌, ℕ, List, [], Some, Ok, IsTrue, MatchOption, slice_get, map, Contains}
 use Rattle.std.specs.List.{AllByRecursion}
 use Rattle.vortex_base.specs.declared.dtype.DType.{DType}
@@ -16,7 +16,7 @@ use Rattle.vortex_prune.specs.Zones.{zones_of}
 use Rattle.vortex_rewrite.specs.Rewriting.Proof.{proves}
 use Rattle.vortex_rewrite.specs.Rewriting.Falsifiers.{falsifier}
 use Rattle.vortex_prune.specs.Scanning.Selection.{Answered, proves_of, skipped_parts}
-use Rattle.vortex_rewrite.specs.Rewriting.ReadOnce.{Box, IsInOrder, IsSatisfiable, columns_of, is_read_once}
+use Rattle.vortex_rewrite.specs.Rewriting.ReadOnce.{Box, IsInOrder, IsSatisfiable, columns_of, is_apart}
 
 -- ---- the boxes of parts
 
@@ -34,18 +34,18 @@ IsBoxOf part p box = IsBoxIn part.stats p box
 
 -- ---- the theorems
 
--- over the sets of a zone that know a box in order, a read-once predicate has a falsifier, and that is true exactly if no choice within the box satisfies the predicate
+-- over the sets of a zone that know a box in order, a predicate whose ANDs are apart has a falsifier, and that is true exactly if no choice within the box satisfies the predicate
 abbrev pub FalsifiersAreComplete : Type 0
 FalsifiersAreComplete =
     (p : Tree Place) (t : DType) (scope : List Named) (zone : ZoneData) (box : Box) → type_of p ≡ Ok t → IsTrue (is_bool t) → IsZone scope zone → IsTrue (fits_scope p scope) →
-    IsTrue (is_read_once p) → IsBoxIn zone.stats p box → IsInOrder p box →
+    IsTrue (is_apart p) → IsBoxIn zone.stats p box → IsInOrder p box →
     (e : Tree Place) × (falsifier [] p ≡ Some e) × (IsTrue (proves e (told_values scope zone) zone.rows) ↔ ¬ IsSatisfiable p box zone.rows)
 
--- so a zone is skipped under a read-once predicate exactly if no choice within its box satisfies the predicate
+-- so a zone is skipped under a predicate whose ANDs are apart exactly if no choice within its box satisfies the predicate
 abbrev pub SkippingIsComplete : Type 0
 SkippingIsComplete =
     (p : Tree Place) (t : DType) (scope : List Named) (zone : ZoneData) (box : Box) → type_of p ≡ Ok t → IsTrue (is_bool t) → IsZone scope zone → IsTrue (fits_scope p scope) →
-    IsTrue (is_read_once p) → IsBoxIn zone.stats p box → IsInOrder p box →
+    IsTrue (is_apart p) → IsBoxIn zone.stats p box → IsInOrder p box →
     IsTrue (proves_of (falsifier [] p) zone.rows (told_values scope zone)) ↔ ¬ IsSatisfiable p box zone.rows
 
 -- the parts, each with the answers of its own statistics
@@ -56,7 +56,7 @@ by_own_statistics parts = map (λ part. (part, part_values part)) parts
 abbrev pub ScansSkipExactly : Type 0
 ScansSkipExactly =
     (p : Tree Place) (t : DType) (parts : List PartData) (i : ℕ) (part : PartData) (box : Box) → type_of p ≡ Ok t → IsTrue (is_bool t) →
-    slice_get parts i ≡ Some part → IsPart part → IsTrue (fits_scope p part.chunk.scope) → IsTrue (is_read_once p) → IsBoxOf part p box → IsInOrder p box →
+    slice_get parts i ≡ Some part → IsPart part → IsTrue (fits_scope p part.chunk.scope) → IsTrue (is_apart p) → IsBoxOf part p box → IsInOrder p box →
     Contains (skipped_parts (falsifier [] p) (by_own_statistics parts)) i ↔ ¬ IsSatisfiable p box (rows_of part.chunk.columns)
 
 -- the skipped zones are those for which no choice within the box satisfies the predicate, wherever the box is known and in order

@@ -10,7 +10,7 @@ ghost use Rattle.vortex_rewrite.specs.Rewriting.Falsifiers.{satisfier as satisfi
 ghost use Rattle.vortex_rewrite.specs.Rewriting.Own.{own_rules};
 ghost use Rattle.vortex_rewrite.specs.Rewriting.Predicates.{is_predicate};
 ghost use Rattle.vortex_rewrite.specs.Rewriting.Proof.{is_open};
-ghost use Rattle.vortex_rewrite.specs.Rewriting.ReadOnce.{is_read_once};
+ghost use Rattle.vortex_rewrite.specs.Rewriting.ReadOnce.{is_apart};
 ghost use Rattle.vortex_prune.specs.Part.{ZoneData};
 ghost use Rattle.vortex_prune.specs.Scanning.Complete.{ZonesSkipExactly};
 ghost use Rattle.vortex_prune.specs.Scanning.Selection.{is_skipped, is_whole, place_if};
@@ -332,10 +332,10 @@ pub fn prune(
         let s = satisfier_of (own_rules M rules.now.own.items) predicate.now in
         IfOk result (λ pruned. (zones : List ZoneData) → IsMapOf zones map.now
         → pruned.whole.items ≡ whole_zones f s map.now.scope zones) }
-    // By built-in rules a read-once predicate skips a zone exactly if no values within its bounds
+    // By built-in rules a predicate whose ANDs are apart skips a zone exactly if no values within its bounds
     // satisfy it.
     ensures complete { IfOk result (λ pruned. (zones : List ZoneData) → IsMapOf zones map.now
-        → rules.now.own.items ≡ [] → IsTrue (is_read_once predicate.now)
+        → rules.now.own.items ≡ [] → IsTrue (is_apart predicate.now)
         → ZonesSkipExactly predicate.now zones pruned.skipped.items) }
     // By built-in rules a predicate is refused for memory alone.
     ensures memory { IsTrue (is_predicate predicate.now) → rules.now.own.items ≡ []

@@ -5,7 +5,7 @@ ghost use Rattle.std.specs.List.{AllByRecursion};
 ghost use Rattle.vortex_base.specs.Meanings.Fitting.{fits_scope};
 ghost use Rattle.vortex_base.specs.Trees.Tree.{Place, Tree, is_plain};
 ghost use Rattle.vortex_rewrite.specs.Causes.{IsRefusal};
-ghost use Rattle.vortex_rewrite.specs.Rewriting.ReadOnce.{is_read_once};
+ghost use Rattle.vortex_rewrite.specs.Rewriting.ReadOnce.{is_apart};
 ghost use Rattle.vortex_prune.specs.Scanning.Complete.{SkipsExactly};
 ghost use Rattle.vortex_rewrite.specs.Rewriting.Own.{own_rules};
 ghost use Rattle.vortex_prune.specs.Part.{AreParts, IsTruePart};
@@ -193,10 +193,10 @@ pub fn scan_zones<'a>(
         let s = satisfier_of (own_rules M rules.now.own.items) predicate.now in
         let answers = answered values zones.now.parts zones.now.parts in
         IfOk result (λ scan. scan.evaluated ≡ min (tested_rows f s answers) (2 ^ 64 - 1)) }
-    // By built-in rules a read-once predicate skips a part exactly if no values within its bounds
+    // By built-in rules a predicate whose ANDs are apart skips a part exactly if no values within its bounds
     // satisfy it.
     ensures complete { IfOk result (λ scan. rules.now.own.items ≡ []
-        → IsTrue (is_read_once predicate.now)
+        → IsTrue (is_apart predicate.now)
         → SkipsExactly predicate.now zones.now.parts scan.skipped.items) }
     // By built-in rules a predicate is refused for memory alone.
     ensures memory { IsTrue (is_predicate predicate.now) → rules.now.own.items ≡ []
