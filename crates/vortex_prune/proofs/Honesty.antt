@@ -1,8 +1,10 @@
 -- True statistics answer honestly.
 pub mod HonestParts
 pub mod HonestStats
+pub mod OwnValues
 pub mod StatisticsBinders
 pub mod PartLemmas
 pub mod PartLiterals
 pub mod StatFits
 pub mod StatTypes
+pub mod ZoneLemmas
