@@ -1,6 +1,7 @@
 -- True statistics answer honestly.
 pub mod HonestParts
 pub mod HonestStats
+pub mod MeasuredParts
 pub mod StatisticsBinders
 pub mod PartLemmas
 pub mod PartLiterals

@@ -1,11 +1,13 @@
 -- Parts: the columns of some rows, with a set of statistics for each.
-use Rattle.std.specs.Prelude.{◌≡◌, ℕ, Some, slice_get, Bool, List, [], ◌∷◌, IsTrue, ⊤}
+use Rattle.std.specs.Prelude.{◌≡◌, ℕ, Some, slice_get, Bool, List, [], ◌∷◌, IsTrue, ⊤, map}
 use lib.Pointwise.{pointwise}
 use Rattle.vortex_base.specs.declared.scalar_value.ScalarValue.{ScalarValue}
 use Rattle.vortex_base.specs.Data.Columns.{ChunkData, ColumnData, IsChunk, appended_chunk}
 use Rattle.vortex_stats.specs.Sets.Claims.{IsTrueOf}
 use Rattle.vortex_stats.specs.Sets.Entries.{entries_fit}
 use Rattle.vortex_stats.specs.Merging.Merges.{merged_ordered}
+use Rattle.vortex_stats.specs.Measuring.Measured.{measured}
+use Rattle.vortex_stats.specs.Stat.{all_stats}
 use Rattle.vortex_stats.specs.declared.precision.Precision.{Precision}
 use Rattle.vortex_stats.specs.declared.stat.Stat.{Stat}
 
@@ -47,3 +49,11 @@ merged_sets as' bs = []
 -- the rows of one part after those of another of its scope
 abbrev pub joined : PartData → PartData → PartData
 joined p q = record { chunk = appended_chunk p.chunk q.chunk; stats = merged_sets p.stats q.stats }
+
+-- all statistics of each column, made from its values
+abbrev pub measured_sets : List ColumnData → List Entries
+measured_sets cs = map (measured all_stats) cs
+
+-- the columns with the statistics that they have
+abbrev pub measured_part : ChunkData → PartData
+measured_part k = record { chunk = k; stats = measured_sets k.columns }
