@@ -31,7 +31,7 @@ first_example() {
     return "$status"
 }
 
-check "layout" checks/layout.sh
+check "layout" checks/layout.py
 check "program" first_example
 check "examples" examples/compare.sh
 check "random inputs" checks/random-inputs.py

@@ -1,12 +1,11 @@
-#!/usr/bin/env bash
-# Runs the gate in a clone of the last commit, and prints what it cost: processor minutes of each crate's proof, tests and must-fail edits.
-# It looks at the processes of the gate once a second, so of a process that ends less than a second is lost. It takes
-# as long as the gate, and fails if the gate fails.
-# usage: checks/gate-cost.sh [LOG]    LOG keeps what the gate prints
-set -u
-LOG="$(realpath -m "${1:-/dev/null}")"
-cd "$(dirname "$0")/.." || exit 1
-exec python3 - "$LOG" <<'PY'
+#!/usr/bin/env python3
+"""Runs the gate in a clone of the last commit, and prints what it cost: processor minutes of each crate's proof, tests and must-fail edits.
+
+usage: checks/gate-cost.py [LOG]    LOG keeps what the gate prints
+
+It looks at the processes of the gate once a second, so of a process that ends less than a second is lost. It takes as long as
+the gate, and fails if the gate fails.
+"""
 import collections
 import os
 import re
@@ -15,7 +14,8 @@ import sys
 import tempfile
 import time
 
-TOP = os.getcwd()
+TOP = os.path.dirname(os.path.dirname(os.path.abspath(__file__)))
+LOG = sys.argv[1] if len(sys.argv) > 1 else os.devnull
 TICKS = os.sysconf("SC_CLK_TCK")
 
 
@@ -81,7 +81,7 @@ def main():
             minutes = (time.time() - began) / 60
             log.seek(0)
             told = log.read().rstrip()
-    with open(sys.argv[1], "w") as kept:
+    with open(LOG, "w") as kept:
         kept.write(told + "\n")
     print("| crate | proof | tests | edits | minutes |\n|---|---|---|---|---|")
     for crate in sorted(cost):
@@ -93,4 +93,3 @@ def main():
 
 
 main()
-PY

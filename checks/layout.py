@@ -1,0 +1,219 @@
+#!/usr/bin/env python3
+"""Looks at the layout of the repository, and keeps docs/MAP.md in step with its files.
+
+usage: checks/layout.py          says what is wrong, one line each, and fails if anything is
+       checks/layout.py --map    prints docs/MAP.md, made from the first sentence of each file
+"""
+import os
+import re
+import subprocess
+import sys
+
+os.chdir(os.path.dirname(os.path.dirname(os.path.abspath(__file__))))
+
+
+def read(f):
+    with open(f, encoding="utf-8") as file:
+        return file.read()
+
+
+def tracked_files():
+    told = subprocess.run(["git", "ls-files"], capture_output=True, text=True, check=True).stdout
+    return [f for f in told.split("\n") if f and os.path.exists(f)]
+
+
+TRACKED = tracked_files()
+SOURCES = sorted(f for f in TRACKED if f.startswith("crates/") and f.endswith((".rt", ".antt")))
+TEXTS = {f: read(f) for f in SOURCES}
+CODE = {f: text for f, text in TEXTS.items() if f.endswith(".rt")}
+# A trait may be imported for its methods alone.
+TRAITS = {"Read", "Write"} | {name for text in CODE.values() for name in re.findall(r"^pub trait (\w+)", text, re.M)}
+KNOWN = {
+    "docs/MAP.md": "this map",
+    "README.md": "what the product is for, how to run and test it, what is proved",
+    "HANDLES": "which handles to the outside the gate allows: none",
+    "LICENSE": "the licence",
+    "NOTICE": "what was taken from the ported crate",
+    "crates.txt": "the crates and what each stands on",
+}
+
+
+def is_listed(f):
+    """Whether the map has a row for a file: what a function's proof needs is in a folder of its name, and Lib.antt lists the files beside it."""
+    return not re.search(r"/(Lib|Answers|Invariants|Proof)\.antt$", f)
+
+
+def first_sentence(f):
+    """The first sentence of a file's first comment, or None where there is none or it doesn't end."""
+    lines = []
+    for line in TEXTS[f].split("\n"):
+        found = re.match(r"(?://!|//|--)(?: (\S.*))?$", line)
+        if not found or not found.group(1):
+            break
+        lines.append(found.group(1))
+    found = re.match(r"(.*?[.:])(?: |$)", " ".join(lines))
+    return found.group(1).replace(":", ".") if found else None
+
+
+def heading(f):
+    """The first line of a script or a document that says what it is for."""
+    for line in read(f).split("\n")[:3]:
+        found = re.match(r'(?:# |""")(\S.*)', line)
+        if found and not line.startswith("#!"):
+            return found.group(1)
+    return None
+
+
+def imports(text):
+    """The names that each import brings, by the place that it begins at; those that are handed on are no import."""
+    form = r"^\s*(?:pub )?(?:ghost )?use ([^;{\n]*?)(?:\.|::)?(?:\{([^}]*)\}|(\w+))?(?: as (\w+))?\s*;?$"
+    for found in re.finditer(form, text, re.M):
+        path, names, last, alias = found.groups()
+        if found.group(0).lstrip().startswith("pub "):
+            continue
+        given = [alias or last or path] if names is None else [it.strip() for it in names.split(",") if it.strip()]
+        yield found, [it.split(" as ")[-1].split("::")[-1] for it in given]
+
+
+def is_used(name, rest):
+    # The notation `do` stands for this operator.
+    if name == "◌>>=◌" and re.search(r"\bdo\b", rest):
+        return True
+    parts = [it for it in name.split("◌") if it] if "◌" in name else [name]
+    return all(re.search(r"(?<![\w-])" + re.escape(it) + r"(?![\w-])" if re.match(r"\w", it) else re.escape(it), rest) for it in parts)
+
+
+def import_faults(f):
+    """Imports that nothing uses, those of `ghost use` among them."""
+    text = TEXTS[f]
+    # Modules below may take what this one imports, by `super::*`.
+    below = "".join(text for it, text in TEXTS.items() if it.startswith(f[:-3] + "/")) if f.endswith(".rt") else ""
+    for found, names in imports(text):
+        rest = text[: found.start()] + text[found.end() :] + below
+        number = text[: found.start()].count("\n") + 1
+        for name in names:
+            if name not in ("*", "self", "") and re.match(r"[\w◌]", name) and name not in TRAITS and not is_used(name, rest):
+                yield f"{f}:{number}: nothing uses {name}"
+
+
+def source_faults():
+    for f, text in TEXTS.items():
+        if is_listed(f) and not first_sentence(f):
+            yield f"{f}:1: no first sentence that says what lives there"
+        for number, line in enumerate(text.split("\n"), 1):
+            if f.endswith(".rt") and len(line) > 100 and not re.match(r"\s*(ghost use|///)", line):
+                yield f"{f}:{number}: {len(line)} columns"
+        if len(text.split("\n")) > 801:
+            yield f"{f}: over 800 lines"
+        if not f.endswith("/Lib.antt"):
+            yield from import_faults(f)
+
+
+def rows_of(document):
+    """The rows of a document's tables: their line numbers and cells."""
+    for number, row in enumerate(read(document).split("\n"), 1):
+        cells = [it.strip() for it in re.split(r"(?<!\\)\|", row)[1:-1]]
+        if len(cells) > 1 and not set(cells[0]) <= set("-: "):
+            yield number, cells
+
+
+def definition_faults():
+    """Rows of the definitions whose names don't stand in the file that the row names."""
+    for number, cells in rows_of("docs/DEFINITIONS.md"):
+        if not cells[0].startswith("`"):
+            continue
+        text = TEXTS.get(cells[-1].strip("`"), "")
+        for name in re.findall(r"`([^`]+)`", cells[0]):
+            if len(cells) != 3 or not is_used(name, text):
+                yield f"docs/DEFINITIONS.md:{number}: {name} is not in a file that the row names"
+
+
+def promise_faults():
+    """Contracts and clauses that the promises cite and that don't exist."""
+    named = set(re.findall(r"\b(?:fn|struct|enum|trait|mod|type|const) (\w+)", "".join(CODE.values())))
+    named |= {re.sub(r"\.rt$", "", part) for f in CODE for part in f.split("/")}
+    clauses = set(re.findall(r"\b(?:ensures|requires|ghost) (\w+) [={]", "".join(CODE.values())))
+    clauses |= set(re.findall(r"\bghost (\w+)", "".join(CODE.values())))
+    variants = set(re.findall(r"^    (\w+)(?:\(|,| \{)", "".join(CODE.values()), re.M))
+    for number, cells in rows_of("docs/PROMISES.md"):
+        for cited in re.findall(r"`([^`]+)`", cells[-1]):
+            plain = re.sub(r"<[^>]*>", "", cited)
+            for name in re.findall(r"\w+", plain.split("::", 1)[1] if "::" in plain else plain):
+                if name not in named | clauses | variants | {"for", "rt", "Model", "Display", "IntoIterator", "Iterator", "From"}:
+                    yield f"docs/PROMISES.md:{number}: there is no {name}, of {cited}"
+
+
+def link_faults():
+    """Links of the documents that lead nowhere, and paths that they name and that don't exist."""
+    for f in (it for it in TRACKED if it.endswith(".md")):
+        for number, line in enumerate(read(f).split("\n"), 1):
+            links = [it.split("#")[0] for it in re.findall(r"\]\(([^)\s]+)\)", line) if not it.startswith(("http://", "https://"))]
+            for link in links:
+                if link and not os.path.exists(os.path.join(os.path.dirname(f), link)):
+                    yield f"{f}:{number}: nothing is at {link}"
+            for path in re.findall(r"(?<![\w/])(?:docs|checks|examples|bench|callers)/[\w./-]*\w", line):
+                if not os.path.exists(path) and not os.path.exists(os.path.join(os.path.dirname(f), path)) and "/NAME" not in path and "/CRATE" not in path:
+                    yield f"{f}:{number}: nothing is at {path}"
+
+
+def edit_fault(f):
+    """Why an edit can't be applied to the crate as it stands, or None."""
+    crate = f.split("/")[-3] if "/must-fail/" in f else f.split("/")[-2]
+    texts, file = {}, None
+    old = None
+    for line in read(f).rstrip("\n").split("\n"):
+        word, _, rest = line.partition(": ")
+        if word == "file":
+            file = f"crates/{crate}/{rest}"
+            if file not in TEXTS:
+                return f"there is no file {rest}"
+            texts.setdefault(file, TEXTS[file])
+        elif word == "old":
+            old = rest
+            if texts[file].count(old) != 1:
+                return f"the text stands {texts[file].count(old)} times in its file: {old.strip()}"
+        elif word == "new":
+            texts[file] = texts[file].replace(old, rest)
+    return None
+
+
+def edit_faults():
+    for f in TRACKED:
+        fault = edit_fault(f) if f.endswith(".edit") else None
+        if fault:
+            yield f"{f}: {fault}"
+
+
+def table(rows):
+    return "| path | what it is |\n|---|---|\n" + "".join(f"| `{path}` | {what} |\n" for path, what in rows)
+
+
+def the_map():
+    of_top = r"(README\.md|docs/|checks/[^/]*$|bench/[^/]*$|examples/[^/]*\.sh|scan$|\.ci/run)"
+    tops = [(f, KNOWN.get(f) or heading(f)) for f in TRACKED if re.match(of_top, f)]
+    tops += [(f, KNOWN[f]) for f in ("HANDLES", "LICENSE", "NOTICE", "crates.txt")]
+    out = (
+        "# Map\n\nMade by `checks/layout.py --map` from the first sentence of each file. What a function's proof needs stands in "
+        "`proofs/MODULE/FUNCTION/`, wrong bodies that the prover has to refuse in `must-fail/`, those that the gate doesn't try in "
+        "`checks/edits/`.\n\n"
+    ) + table(tops)
+    for line in read("crates.txt").split("\n"):
+        name = line.split(":")[0].strip()
+        if name and not name.startswith("#"):
+            front = f"crates/{name}/"
+            out += f"\n## crates/{name}\n\n" + table([(f[len(front) :], first_sentence(f) or "") for f in SOURCES if f.startswith(front) and is_listed(f)])
+    return out
+
+
+def main():
+    if sys.argv[1:] == ["--map"]:
+        print(the_map(), end="")
+        return 0
+    faults = [*source_faults(), *definition_faults(), *promise_faults(), *link_faults(), *edit_faults()]
+    if read("docs/MAP.md") != the_map():
+        faults.append("docs/MAP.md: out of step; write it anew by checks/layout.py --map > docs/MAP.md")
+    print("\n".join(faults) or "layout: every file is in order")
+    return 1 if faults else 0
+
+
+sys.exit(main())

@@ -1,0 +1,22 @@
+#!/usr/bin/env bash
+# Formats one crate after an edit and looks at it: its layout, its proof, and its tests without a proof of them.
+# usage: checks/quick.sh CRATE    as checks/quick.sh vortex_prune; a minute or two where little has changed
+set -u
+cd "$(dirname "$0")/.." || exit 1
+crate="${1:-}"
+[ -d "crates/$crate/src" ] || { echo "quick: there is no crate $crate; usage: checks/quick.sh CRATE" >&2; exit 2; }
+
+# The crate of its tests, which for the two that read texts is one.
+tests="${crate}_tests"
+[ "$crate" = vortex_syntax ] && tests=vortex_text_tests
+[ -d "crates/$tests" ] || tests="$crate"
+
+status=0
+for folder in "crates/$crate" "crates/$tests"; do
+    (cd "$folder" && rt fmt) || status=1
+done
+checks/layout.py || status=1
+(cd "crates/$crate" && rt check) || status=1
+(cd "crates/$tests" && rt try --test) || status=1
+[ "$status" -eq 0 ] && echo "quick: $crate is in order"
+exit "$status"
