@@ -1,6 +1,7 @@
 -- True statistics answer honestly.
 pub mod HonestParts
 pub mod HonestStats
+pub mod MeasuredParts
 pub mod OwnValues
 pub mod StatisticsBinders
 pub mod PartLemmas

@@ -9,6 +9,8 @@ use Rattle.vortex_base.specs.Data.Scopes.{Named}
 use Rattle.vortex_stats.specs.Sets.Claims.{IsTrueOf}
 use Rattle.vortex_stats.specs.Sets.Entries.{entries_fit}
 use Rattle.vortex_stats.specs.Merging.Merges.{merged_ordered}
+use Rattle.vortex_stats.specs.Measuring.Measured.{measured}
+use Rattle.vortex_stats.specs.Stat.{all_stats}
 use Rattle.vortex_stats.specs.declared.precision.Precision.{Precision}
 use Rattle.vortex_stats.specs.declared.stat.Stat.{Stat}
 
@@ -84,3 +86,11 @@ merged_sets as' bs = []
 -- the rows of one part after those of another of its scope
 abbrev pub joined : PartData → PartData → PartData
 joined p q = record { chunk = appended_chunk p.chunk q.chunk; stats = merged_sets p.stats q.stats }
+
+-- all statistics of each column, made from its values
+abbrev pub measured_sets : List ColumnData → List Entries
+measured_sets cs = map (measured all_stats) cs
+
+-- the columns with the statistics that they have
+abbrev pub measured_part : ChunkData → PartData
+measured_part k = record { chunk = k; stats = measured_sets k.columns }

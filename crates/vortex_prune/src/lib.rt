@@ -13,7 +13,7 @@ pub mod zones;
 pub use bind::stat_binder::StatBinder;
 pub use bind::stats_binder::StatsBinder;
 pub use bind::zone_binder::ZoneBinder;
-pub use part::{JoinRefused, Part, PartRefused};
+pub use part::{JoinRefused, MeasureRefused, Part, PartRefused};
 pub use scan::outcome::Scan;
 pub use scan::prune::{Pruned, prune};
 pub use stat_fn::{StatFn, StatOptions};

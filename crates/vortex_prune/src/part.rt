@@ -5,8 +5,10 @@ ghost use Rattle.vortex_stats.specs.declared.error.StatsError.TheVariants.{Misma
 ghost use Rattle.vortex_prune.specs.Part.{IsPart, fits_zone, sets_fit, zone_of};
 
 mod join;
+mod measure;
 
 use crate::zone::Zone;
+use std::alloc::AllocError;
 use std::marker::Model;
 use vortex_base::chunk::Chunk;
 use vortex_base::scope::Scope;
@@ -133,4 +135,13 @@ pub struct JoinRefused {
     pub left: Part,
     /// The second part as it was given.
     pub right: Part,
+}
+
+/// A chunk that was not measured, handed back beside the cause, which is memory alone.
+#[derive(Debug, Drop)]
+pub struct MeasureRefused {
+    /// The refused request.
+    pub error: AllocError,
+    /// The chunk as it was given.
+    pub chunk: Chunk,
 }

@@ -2,7 +2,7 @@
 use Rattle.std.proofs.Common.{◌≡◌, ◌<◌, ◌&&◌, ◌+◌, ℕ, zero, suc, Bool, true, false, List, [], ◌∷◌, ◌++◌, append_assoc, Option, Some, None, length, map, get_or, drop, refl, sym, ap, subst, ◌∙◌, arith}
 use Rattle.std.specs.Prelude.{option_map, slice_get}
 use Rattle.std.proofs.lemmas.List.{drop_more, length-map}
-use Rattle.std.proofs.lemmas.Option.{get_or_from_slice_get, same_Some, slice_get-get_or, slice_get_read}
+use Rattle.std.proofs.lemmas.Option.{get_or_from_slice_get, same_Some, slice_get-get_or, slice_get_read, slice_get_within}
 use lib.Pointwise.{pointwise_long}
 use Rattle.vortex_base.proofs.Data.ChunkLemmas.{equal_numbers}
 use Rattle.vortex_base.specs.Data.Columns.{ChunkData, ColumnData, IsChunk, has_types}
@@ -60,15 +60,9 @@ pub sets_go_on : (cs : List Named) (ss : List Entries) (i : ℕ) (t : DType) (es
     → entries_fit es t ≡ true → fits_zone (drop i cs) (drop i ss) ≡ b → fits_zone (drop (i + 1) cs) (drop (i + 1) ss) ≡ b
 sets_go_on cs ss i t es b typed within long is fits all = sym (sets_step cs ss i t es typed within long is ∙ rw fits refl) ∙ all
 
--- a place with an element is inside
-inside : (cs : List ColumnData) (i : ℕ) (c : ColumnData) → slice_get cs i ≡ Some c → i < length cs
-inside [] i c there = cc
-inside (x ∷ xs) zero c there = omega arith
-inside (x ∷ xs) (suc i) c there = let h = inside xs i c there in omega arith
-
--- the rest of the columns from a place on
-rest_of : (cs : List ColumnData) (i : ℕ) (c : ColumnData) → slice_get cs i ≡ Some c → drop i cs ≡ c ∷ drop (i + 1) cs
-rest_of cs i c there = drop_more cs i c (inside cs i c there) ∙ ap (λ x. x ∷ drop (i + 1) cs) (get_or_from_slice_get cs i c c there)
+-- the rest of a list from a place on
+pub rest_of : {A : Type 0} (xs : List A) (i : ℕ) (x : A) → slice_get xs i ≡ Some x → drop i xs ≡ x ∷ drop (i + 1) xs
+rest_of xs i x there = drop_more xs i x (slice_get_within xs i x there) ∙ ap (λ y. y ∷ drop (i + 1) xs) (get_or_from_slice_get xs i x x there)
 
 fits_at : (cs : List ColumnData) (ss : List Entries) (i : ℕ) (c : ColumnData) (es : Entries) → sets_fit cs ss ≡ true → slice_get cs i ≡ Some c → slice_get ss i ≡ Some es
     → entries_fit es c.dtype ≡ true
