@@ -1,11 +1,12 @@
 -- Parts: the columns of some rows, with a set of statistics for each; and zones, which are what is known of them without the rows.
-use Rattle.std.specs.Prelude.{◌≡◌, ℕ, Some, slice_get, Bool, List, [], ◌∷◌, IsTrue, map, ⊤}
+use Rattle.std.specs.Prelude.{◌≡◌, ℕ, Some, slice_get, Bool, List, [], ◌∷◌, IsTrue, MatchOption, map, ⊤}
 use Rattle.std.specs.List.{list_all}
 use lib.Pointwise.{pointwise}
 use Rattle.vortex_base.specs.declared.dtype.DType.{DType}
 use Rattle.vortex_base.specs.declared.scalar_value.ScalarValue.{ScalarValue}
 use Rattle.vortex_base.specs.Data.Columns.{ChunkData, ColumnData, IsChunk, appended_chunk, row_count as rows_of}
 use Rattle.vortex_base.specs.Data.Scopes.{Named}
+use Rattle.vortex_stats.specs.Copies.{holds_long}
 use Rattle.vortex_stats.specs.Sets.Claims.{IsTrueOf}
 use Rattle.vortex_stats.specs.Sets.Entries.{entries_fit}
 use Rattle.vortex_stats.specs.Merging.Merges.{merged_ordered}
@@ -94,3 +95,7 @@ measured_sets cs = map (measured all_stats) cs
 -- the columns with the statistics that they have
 abbrev pub measured_part : ChunkData → PartData
 measured_part k = record { chunk = k; stats = measured_sets k.columns }
+
+-- the column at the place is there, and holds texts or bytes
+abbrev pub HoldsLongAt : ChunkData → ℕ → Type 0
+HoldsLongAt k i = MatchOption (slice_get k.columns i) ⊥ (λ c. IsTrue (holds_long c.dtype))

@@ -142,6 +142,9 @@ pub struct JoinRefused {
 pub struct MeasureRefused {
     /// The refused request.
     pub error: AllocError,
+    /// The column of which the greatest or the least value wasn't copied, a text or bytes. None
+    /// where the list of sets wasn't made.
+    pub column: Option<usize>,
     /// The chunk as it was given.
     pub chunk: Chunk,
 }
