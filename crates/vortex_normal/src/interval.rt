@@ -65,7 +65,8 @@ impl<'a> Cut<'a> {
 
 impl<'a> Interval<'a> {
     fn intersection(self, other: Interval<'a>) -> Interval<'a>
-        ensures { interval_of result ≡ spec.intersection (interval_of self.entry) (interval_of other.entry) }
+        ensures { interval_of result
+            ≡ spec.intersection (interval_of self.entry) (interval_of other.entry) }
     {
         Interval {
             low: self.low.higher(other.low),
@@ -86,7 +87,8 @@ impl<'a> Interval<'a> {
     }
 
     fn hull(self, other: Interval<'a>) -> Interval<'a>
-        ensures { interval_of result ≡ spec.hull (interval_of self.entry) (interval_of other.entry) }
+        ensures { interval_of result
+            ≡ spec.hull (interval_of self.entry) (interval_of other.entry) }
     {
         Interval {
             low: self.low.lower(other.low),
@@ -206,8 +208,8 @@ pub(crate) fn one<'a>(
     low: Cut<'a>,
     high: Cut<'a>,
 ) -> Result<Vec<Interval<'a>>, StatsError>
-    ensures { OkOrMemory result
-        (λ set. map interval_of set.items ≡ spec.interval (cut_of low.entry) (cut_of high.entry) ∷ []) }
+    ensures { OkOrMemory result (λ set. map interval_of set.items
+        ≡ spec.interval (cut_of low.entry) (cut_of high.entry) ∷ []) }
 {
     let mut set = Vec::new(alloc);
     set.push(Interval { low, high })?;

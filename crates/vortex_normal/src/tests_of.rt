@@ -44,8 +44,8 @@ fn compared(
 ) -> Result<Predicate, StatsError>
     requires value { IsTrue (is_value value.now dtype) }
     requires comparison { is_connective operator ≡ false }
-    ensures { let column = spec.place_at place dtype in
-        Makes (tree.binary operator (tree.column column) (spec.literal_as column value.now)) result }
+    ensures { let column = spec.place_at place dtype in Makes
+        (tree.binary operator (tree.column column) (spec.literal_as column value.now)) result }
 {
     let column = built(bound::col(alloc, place, dtype))?;
     let literal = literal_as(alloc, dtype, value)?;
