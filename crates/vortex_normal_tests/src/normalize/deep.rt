@@ -1,6 +1,7 @@
 // Chains of as many words as a predicate may have, and refused memory.
 use super::*;
 
+// Comparisons in a chain: of three nodes each, joined, they make 4,091.
 const LINKS: i32 = 1023;
 
 // An AND of one comparison after the other, at the left or at the right.
@@ -51,13 +52,24 @@ fn deep_not(alloc: Global) -> Built {
 }
 
 #[test]
-fn deep_chains(rt: HostRuntime) -> Result<(), Fail> {
+fn deep_at_the_left(rt: HostRuntime) -> Result<(), Fail> {
     let alloc = rt.alloc();
     let greatest = LINKS.saturating_sub(1);
     expect(&rt, alloc, deep_and(alloc, true), a_gt(alloc, greatest))?;
+    expect(&rt, alloc, deep_or(alloc, true), a_lt(alloc, greatest))
+}
+
+#[test]
+fn deep_at_the_right(rt: HostRuntime) -> Result<(), Fail> {
+    let alloc = rt.alloc();
+    let greatest = LINKS.saturating_sub(1);
     expect(&rt, alloc, deep_and(alloc, false), a_gt(alloc, greatest))?;
-    expect(&rt, alloc, deep_or(alloc, true), a_lt(alloc, greatest))?;
-    expect(&rt, alloc, deep_or(alloc, false), a_lt(alloc, greatest))?;
+    expect(&rt, alloc, deep_or(alloc, false), a_lt(alloc, greatest))
+}
+
+#[test]
+fn deep_in_not(rt: HostRuntime) -> Result<(), Fail> {
+    let alloc = rt.alloc();
     expect(&rt, alloc, deep_not(alloc), a_lt(alloc, 5))
 }
 
