@@ -24,9 +24,9 @@ fn measured_sets(alloc: Global, chunk: &Chunk) -> Result<Vec<StatsSet>, Option<u
         let Ok(set) = StatsSet::of_column(alloc, chunk.column(i), ALL_STATS) else {
             return Err(Some(i));
         };
-        if sets.push(set).is_err() {
+        let Ok(()) = sets.push(set) else {
             return Err(None);
-        }
+        };
     }
     Ok(sets)
 }
