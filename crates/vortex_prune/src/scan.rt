@@ -173,8 +173,8 @@ pub fn scan<B: StatBinder>(
         (satisfier_of own predicate.now) (answered B.value parts.now binders.now)) (2 ^ 64 - 1)) }
     // What was looked at are parts, as `statistics_binders_are_honest` asks.
     ensures parts { IfOk result (λ _. AreParts parts.now) }
-    // By built-in rules and the parts' own statistics, a predicate whose ANDs are apart skips a part exactly
-    // if no values within its bounds satisfy it.
+    // By built-in rules and the parts' own statistics, a predicate whose ANDs are apart skips a
+    // part exactly if no values within its bounds satisfy it.
     ensures complete { IfOk result (λ scan. rules.now.own.items ≡ []
         → AreFaithful B.is_faithful_over parts.now binders.now
         → AreByStatistics B.value parts.now binders.now

@@ -1,6 +1,6 @@
 //! Parts of one scope, with the map of their statistics.
 ghost use Rattle.std.specs.Prelude.{◌≡◌, IfErr, IfOk, alloc_error, map};
-ghost use Rattle.vortex_prune.specs.Part.{AreParts, zone_of};
+ghost use Rattle.vortex_prune.specs.Part.{AreParts};
 ghost use Rattle.vortex_prune.specs.Zones as spec;
 ghost use Rattle.vortex_prune.specs.Zones.{HaveScope, IsMapOf, zone_map, zone_table, zones_of};
 ghost use Rattle.vortex_stats.specs.declared.error.StatsError.TheVariants.{Memory};

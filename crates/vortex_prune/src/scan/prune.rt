@@ -332,8 +332,8 @@ pub fn prune(
         let s = satisfier_of (own_rules M rules.now.own.items) predicate.now in
         IfOk result (λ pruned. (zones : List ZoneData) → IsMapOf zones map.now
         → pruned.whole.items ≡ whole_zones f s map.now.scope zones) }
-    // By built-in rules a predicate whose ANDs are apart skips a zone exactly if no values within its bounds
-    // satisfy it.
+    // By built-in rules a predicate whose ANDs are apart skips a zone exactly if no values within
+    // its bounds satisfy it.
     ensures complete { IfOk result (λ pruned. (zones : List ZoneData) → IsMapOf zones map.now
         → rules.now.own.items ≡ [] → IsTrue (is_apart predicate.now)
         → ZonesSkipExactly predicate.now zones pruned.skipped.items) }

@@ -193,8 +193,8 @@ pub fn scan_zones<'a>(
         let s = satisfier_of (own_rules M rules.now.own.items) predicate.now in
         let answers = answered values zones.now.parts zones.now.parts in
         IfOk result (λ scan. scan.evaluated ≡ min (tested_rows f s answers) (2 ^ 64 - 1)) }
-    // By built-in rules a predicate whose ANDs are apart skips a part exactly if no values within its bounds
-    // satisfy it.
+    // By built-in rules a predicate whose ANDs are apart skips a part exactly if no values within
+    // its bounds satisfy it.
     ensures complete { IfOk result (λ scan. rules.now.own.items ≡ []
         → IsTrue (is_apart predicate.now)
         → SkipsExactly predicate.now zones.now.parts scan.skipped.items) }

@@ -1,7 +1,7 @@
 -- A predicate over a known box in order: either its falsifier is true and no row within the box satisfies it, or one does.
-use Rattle.std.proofs.Common.{◌≡◌, ◌<◌, ℕ, Bool, true, false, not as not_b, ◌&&◌, ◌||◌, List, [], ◌∷◌, ◌++◌, Option, Some, refl, sym, ap, ap₂, ◌∙◌, ◌⊎◌, inl, inr, ⊎_elim, option_to_list}
+use Rattle.std.proofs.Common.{◌≡◌, ◌<◌, ℕ, Bool, true, false, not as not_b, ◌&&◌, ◌||◌, List, [], ◌∷◌, ◌++◌, Option, Some, refl, sym, ap, ◌∙◌, option_to_list}
 use Rattle.std.specs.List.{AllByRecursion}
-use Rattle.std.proofs.lemmas.Bool.{not-true, not-false, and_parts, and_cases, and_left, and_right, or_cases, or_parts}
+use Rattle.std.proofs.lemmas.Bool.{not-true, not-false}
 use Rattle.vortex_base.specs.declared.dtype.DType.{DType}
 use Rattle.vortex_base.specs.declared.types.Operator.{Operator}
 use Rattle.vortex_base.specs.declared.types.Operator.TheVariants.{Eq, NotEq, Gt, Gte, Lt, Lte, And, Or}
@@ -12,13 +12,12 @@ use Rattle.vortex_base.specs.Data.Scalars.{Constant}
 use Rattle.vortex_base.specs.Trees.Tree.{Tree, Place, literal, binary, has_bare_column}
 use Rattle.vortex_base.specs.Data.Types.{eq_ignore_nullability}
 use Rattle.vortex_base.specs.Data.Values.{is_value}
-use Rattle.vortex_rewrite.proofs.Completeness.Choices.{Agree, AreInside, Choice, IsBetween, all_back, all_front, between_agreed, chosen_agreed, combined, combined_back, combined_front, row_with, satisfies_agreed}
+use Rattle.vortex_rewrite.proofs.Completeness.Choices.{Agree, AreInside, Choice, IsBetween, all_back, all_front, between_agreed, chosen_agreed, combined, combined_back, combined_front, row_with}
 use Rattle.vortex_rewrite.proofs.Completeness.Interval.{Found, apart, find, is_comparison, refute, test}
 use Rattle.vortex_rewrite.proofs.Completeness.Operands.{Operand, same_values}
-use Rattle.vortex_rewrite.proofs.Soundness.TruthLogic.{clash, true_and, true_or}
 use Rattle.vortex_rewrite.specs.Rewriting.ReadOnce.{Box, IsWithin, are_distinct, columns_of}
 use Rattle.vortex_rewrite.specs.Rewriting.Proof.{Assignment, value_under}
-use Rattle.vortex_rewrite.specs.Rewriting.Falsifiers.{binary_node, bool_literal, both_of, comparison_falsifier, either_of, falsifier, node, proved, reduce_balanced}
+use Rattle.vortex_rewrite.specs.Rewriting.Falsifiers.{binary_node, bool_literal, both_of, comparison_falsifier, falsifier, node, proved, reduce_balanced}
 use Rattle.vortex_rewrite.specs.declared.rewrite.side.Side.TheVariants.{Falsify}
 use Rattle.vortex_rewrite.proofs.Logic.{all_append}
 
