@@ -47,6 +47,11 @@ fits_zone scope ss = each_fits (map (λ c. c.1) scope) ss
 abbrev pub IsZone : List Named → ZoneData → Type 0
 IsZone scope zone = IsTrue (fits_zone scope zone.stats)
 
+-- a zone beside the scope of its columns
+pub record ScopedZone : Type 0 where
+  pub scope : List Named
+  pub zone : ZoneData
+
 -- each of a list of zones
 abbrev pub AreZonesOf : List Named → List ZoneData → Type 0
 AreZonesOf scope zones = (i : ℕ) (zone : ZoneData) → slice_get zones i ≡ Some zone → IsZone scope zone

@@ -11,7 +11,7 @@ pub mod zone_map;
 pub mod zones;
 
 pub use bind::stat_binder::StatBinder;
-pub use bind::stats_binder::StatsBinder;
+pub use bind::stats_binder::{StatsBinder, ZoneStatsBinder};
 pub use bind::zone_binder::ZoneBinder;
 pub use part::{JoinRefused, MeasureRefused, Part, PartRefused};
 pub use scan::outcome::Scan;

@@ -1,5 +1,5 @@
 //! Maps of zones: how many rows each zone has, and a table of their statistics with one row a zone.
-ghost use Rattle.std.specs.Prelude.{◌≡◌, ◌<◌, ◌++◌, ℕ, IfErr, IfOk, List, MatchOption, OnErr, OnOk, Ok, Some};
+ghost use Rattle.std.specs.Prelude.{◌≡◌, ◌<◌, ◌++◌, ◌∷◌, ℕ, IfErr, IfOk, List, MatchOption, OnErr, OnOk, Ok, Some};
 ghost use Rattle.std.specs.Prelude.{◌+◌, ◌≤◌, [], vec_capacity, vec_len};
 ghost use Rattle.std.specs.Prelude.{alloc_error, false, length, map, option_map, slice_get, string_bytes};
 ghost use Rattle.std.specs.Bool.{MatchBool};
@@ -19,6 +19,7 @@ use crate::stat_fn::stat_value;
 use crate::zone::Zone;
 use std::alloc::{AllocError, Global};
 use std::marker::Model;
+use std::slice;
 use vortex_base::aggregate::AggregateFnRef;
 use vortex_base::cells::Cells;
 use vortex_base::chunk::Chunk;
@@ -414,6 +415,18 @@ impl ZoneMap {
             Ok(mut more) => self.append(&mut more),
             Err(refused) => Err(refused.error),
         }
+    }
+
+    /// Adds one zone behind those that there are, as `extend` does. For many zones `extend` by
+    /// batches is quicker: each call makes the names of the table's columns.
+    pub fn push(&mut self, alloc: Global, zone: &Zone<'_>) -> Result<(), StatsError>
+        ensures is_map { OnOk result ((known : List ZoneData) → IsMapOf known self.old
+            → IsMapOf (known ++ zone.now ∷ []) self.new) }
+        ensures refused { OnErr result (self.new ≡ self.old) }
+        ensures error { IfErr result (λ f. MatchBool (zones_fit self.old.scope (zone.now ∷ []))
+            (IsMemory f) (f ≡ Mismatch)) }
+    {
+        self.extend(alloc, slice::from_ref(zone))
     }
 
     /// The scope of the zones.

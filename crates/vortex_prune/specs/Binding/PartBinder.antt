@@ -1,17 +1,16 @@
--- What the statistics of a part answer to placeholders, as literals.
-use Rattle.std.specs.Prelude.{◌≡◌, ℕ, Option, Some, None, Result, Ok, Err, slice_get, if◌then◌else◌}
+-- What the statistics of a zone, and so of a part, answer to placeholders, as literals.
+use Rattle.std.specs.Prelude.{◌≡◌, ℕ, List, Option, Some, None, Result, Ok, Err, slice_get, if◌then◌else◌}
 use Rattle.vortex_base.specs.declared.aggregate.AggregateFnRef.{AggregateFnRef}
 use Rattle.vortex_base.specs.declared.dtype.DType.{DType}
 use Rattle.vortex_base.specs.declared.error.BaseError.{BaseError}
 use Rattle.vortex_base.specs.declared.scalar_value.ScalarValue.{ScalarValue}
-use Rattle.vortex_base.specs.Data.Columns.{row_count as rows_of}
 use Rattle.vortex_base.specs.Data.Scopes.{Named}
 use Rattle.vortex_base.specs.Data.Scalars.{null_of}
 use Rattle.vortex_base.specs.Trees.Tree.{Tree, Place, column, literal}
 use Rattle.vortex_base.specs.Data.Types.{as_nullable}
 use Rattle.vortex_base.specs.Meanings.Typing.{stat_type}
 use Rattle.vortex_prune.specs.Binding.Binders.{BinderAnswer}
-use Rattle.vortex_prune.specs.Part.{Entries, PartData}
+use Rattle.vortex_prune.specs.Part.{Entries, PartData, ZoneData, zone_of}
 use Rattle.vortex_prune.specs.Binding.PartAnswers.{declares}
 use Rattle.vortex_prune.specs.Binding.StatValues.{stat_value}
 
@@ -25,13 +24,14 @@ abbrev pub column_literal : AggregateFnRef → Option Named → Option Entries �
 column_literal f (Some c) (Some es) n = literal_if (stat_type f c.1) (stat_value f es n)
 column_literal f c es n = None
 
--- the answers that the sets of a part give to columns of their types, nullability aside; of an input that is no column nothing is known
+-- the answers that the sets of a zone give to columns of their types, nullability aside; of an input that is no column nothing is known
+abbrev pub told_answer : List Named → ZoneData → BinderAnswer
+told_answer scope zone f (column c) t = if declares c.dtype (slice_get scope c.index) then column_literal f (slice_get scope c.index) (slice_get zone.stats c.index) zone.rows else None
+told_answer scope zone f x t = None
+
+-- those that the sets of a part give
 abbrev pub part_answer : PartData → BinderAnswer
-part_answer p f (column c) t =
-    if declares c.dtype (slice_get p.chunk.scope c.index)
-    then column_literal f (slice_get p.chunk.scope c.index) (slice_get p.stats c.index) (rows_of p.chunk.columns)
-    else None
-part_answer p f x t = None
+part_answer p = told_answer p.chunk.scope (zone_of p)
 
 -- null of the type, made nullable
 abbrev pub IsNullOf : DType → Tree Place → Type 0
