@@ -1,7 +1,6 @@
 -- A scan of what was measured has the rows of the chunks.
-use Rattle.std.proofs.Common.{◌≡◌, ◌<◌, ◌+◌, ◌++◌, ℕ, zero, suc, All, IfOk, IsTrue, List, [], ◌∷◌, Result, Ok, Err, append_assoc, arith, ap, length, map, refl, subst, sym, ◌∙◌}
+use Rattle.std.proofs.Common.{◌≡◌, ◌+◌, ◌++◌, ℕ, zero, suc, All, IfOk, IsTrue, List, [], ◌∷◌, Result, Ok, Err, arith, ap, map, refl, ◌∙◌}
 use Rattle.std.specs.List.{AllByRecursion, enumerate_from, flat_map}
-use Rattle.std.specs.Prelude.{slice_index_or}
 use Rattle.vortex_base.specs.Data.Columns.{ChunkData}
 use Rattle.vortex_base.specs.Meanings.Fitting.{fits_scope}
 use Rattle.vortex_base.specs.Trees.Tree.{Place, Tree}

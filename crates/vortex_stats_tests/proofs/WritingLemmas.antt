@@ -1,9 +1,7 @@
 -- On batches that are written one behind another.
-use Rattle.std.proofs.Common.{◌≡◌, ◌<◌, ◌+◌, ◌++◌, ℕ, All, IsTrue, List, [], ◌∷◌, ap, get_or, length, refl, subst, sym, take, ◌∙◌}
+use Rattle.std.proofs.Common.{◌≡◌, ◌<◌, ◌+◌, ◌++◌, ℕ, All, List, [], ◌∷◌, ap, get_or, length, refl, sym, take, ◌∙◌}
 use Rattle.std.proofs.lemmas.List.{take_more}
 use Rattle.vortex_base.specs.Data.Columns.{ColumnData, appended}
-use Rattle.vortex_base.specs.declared.dtype.DType.{DType}
-use Rattle.vortex_stats.specs.Sets.Claims.{IsTrueOf}
 use Rattle.vortex_stats_tests.specs.Writing.{written}
 
 written_type : (c : ColumnData) (ds : List ColumnData) → (written c ds).dtype ≡ c.dtype

@@ -1,5 +1,3 @@
-use Rattle.std.proofs.Common.{All, IsTrue, subst, sym, ◌∙◌}
-use Rattle.vortex_base.specs.Meanings.Fitting.{fits_scope}
 use Rattle.vortex_prune_tests.proofs.MeasuredScans.{measured_fit, measured_rows}
 use Rattle.vortex_prune_tests.proofs.scan.measured.scan_measured.Goals as goal
 
