@@ -1,14 +1,14 @@
 -- The cases of what a leaf or a connective becomes.
-use Rattle.std.proofs.Common.{◌≡◌, Bool, true, false, not, ◌&&◌, ◌||◌, ◌⊎◌, List, [], Option, Some, None, refl, sym, ap, ◌∙◌, if◌then◌else◌}
-use Rattle.std.proofs.lemmas.Bool.{or_cases, or_parts, and_parts, not-true, not-false}
-use Rattle.vortex_base.specs.Trees.Tree.{Tree, Place, literal, binary, is_null, is_not_null, like, has_bare_column, has_placeholder, has_row_count, is_plain}
+use Rattle.std.proofs.Common.{◌≡◌, Bool, true, false, not, ◌&&◌, ◌||◌, ◌⊎◌, [], Option, Some, None, refl, if◌then◌else◌}
+use Rattle.std.proofs.lemmas.Bool.{or_cases}
+use Rattle.vortex_base.specs.Trees.Tree.{Tree, Place, binary, is_not_null, like, has_bare_column, has_placeholder, has_row_count, is_plain}
 use Rattle.vortex_base.specs.Trees.TreeEq.{tree_eq, tree_eq_is_exact}
 use Rattle.vortex_base.specs.Meanings.Meaning.{satisfies}
 use Rattle.vortex_base.specs.declared.types.Operator.{Operator}
 use Rattle.vortex_base.specs.declared.types.Operator.TheVariants.{And, Or}
 use Rattle.vortex_base.specs.declared.like.LikeOptions.{LikeOptions}
 use Rattle.vortex_rewrite.specs.Rewriting.Falsifiers.{bool_literal}
-use Rattle.vortex_normal.specs.Pushed.{all_by, all_of, any_by, any_of, comparison, connected, decided, is_null_literal, is_reflexive, liked, null_test, settled}
+use Rattle.vortex_normal.specs.Pushed.{all_by, all_of, any_by, any_of, comparison, connected, decided, is_null_literal, is_reflexive, liked, settled}
 
 pub if_as : (P : Tree Place → Type 0) (b : Bool) (x y : Tree Place) → (b ≡ true → P x) → (b ≡ false → P y) → P (if b then x else y)
 if_as P true x y f g = f refl

@@ -1,26 +1,24 @@
 -- What is said of one column, in one place, is satisfied by the same rows.
-use Rattle.std.proofs.Common.{◌≡◌, ℕ, Bool, true, false, not as not_b, ◌&&◌, ◌||◌, List, [], ◌∷◌, Option, Some, None, refl, sym, ap, ap₂, subst, ◌∙◌, if◌then◌else◌}
+use Rattle.std.proofs.Common.{◌≡◌, ℕ, Bool, true, false, not as not_b, ◌&&◌, ◌||◌, List, [], ◌∷◌, ◌++◌, Option, Some, None, refl, sym, ap, ap₂, ◌∙◌, if◌then◌else◌}
 use Rattle.std.specs.Prelude.{slice_get, is_none}
 use Rattle.vortex_base.specs.Data.Columns.{cell_value}
 use Rattle.vortex_base.specs.Data.Scalars.{Constant}
 use Rattle.vortex_base.specs.Data.Values.{value_cmp}
-use Rattle.vortex_base.specs.Meanings.Meaning.{both, compared, either, holds, is_true, meaning, satisfies, truth, truth_value}
-use Rattle.vortex_base.specs.Trees.Tree.{Tree, Place, column, literal, binary, between, is_null, is_not_null, not, like, stat, row_count}
+use Rattle.vortex_base.specs.Meanings.Meaning.{both, compared, holds, is_true, meaning, satisfies, truth_value}
+use Rattle.vortex_base.specs.Trees.Tree.{Tree, Place, column, literal, binary, is_null, is_not_null}
+use Rattle.vortex_base.specs.declared.types.StrictComparison.TheVariants.{NonStrict}
+use Rattle.vortex_rewrite.specs.Rewriting.Falsifiers.{bool_literal}
 use Rattle.vortex_base.specs.Trees.TreeEq.{place_eq, tree_eq_is_exact}
 use Rattle.vortex_base.specs.declared.scalar_value.ScalarValue.{ScalarValue}
-use Rattle.vortex_base.specs.declared.scalar_value.ScalarValue.TheVariants as value
 use Rattle.vortex_base.specs.declared.types.Operator.{Operator}
 use Rattle.vortex_base.specs.declared.types.Operator.TheVariants.{Eq, NotEq, Gt, Gte, Lt, Lte, And, Or}
-use Rattle.std.proofs.lemmas.Option.{same_Some, none-some}
+use Rattle.std.proofs.lemmas.Bool.{and_parts}
 use Rattle.vortex_rewrite.proofs.Completeness.Decided.{comparison_applied}
 use Rattle.vortex_rewrite.proofs.Completeness.Interval.{is_comparison}
 use Rattle.vortex_rewrite.proofs.Soundness.TruthLogic.{true_and, true_or}
-use Rattle.vortex_rewrite.proofs.Soundness.ValueTests.{holds_by_le}
-use Rattle.vortex_normal.specs.declared.interval.Cut.{Cut}
-use Rattle.vortex_normal.specs.declared.interval.Cut.TheVariants.{Lowest, Before, After, Highest}
-use Rattle.vortex_normal.specs.declared.interval.Interval.{Interval}
-use Rattle.vortex_normal.specs.Intervals.{above, at_most, between_cuts, combined, comparison_set, contains, in_set, interval, literal_as, set_test, swapped}
-use Rattle.vortex_normal.specs.Groups.{Item, inside, other, add, add_all, as_one, binary_item, binary_items, chained, compared_item, grouped, item_test, items_of, items_test, leaf_item, merged, not_null_item, put_first}
+use Rattle.vortex_rewrite.proofs.Soundness.ValueTests.{holds_by_le, le_trans}
+use Rattle.vortex_normal.specs.Intervals.{Cut, Lowest, Before, After, Highest, Interval, above, all_but, at_most, between_cuts, cuts_all, hole_by, is_full, literal_as, range_of, values_test, combined, comparison_set, contains, in_set, interval, set_test, swapped}
+use Rattle.vortex_normal.specs.Groups.{Item, inside, other, add, add_set, as_one, binary_item, both_nulls, collected, compared_item, grouped, is_of, item_test, items_test, joined_test, leaf_item, not_null_item, null_item, widened}
 use Rattle.vortex_normal.proofs.Told.{connected_told, joined}
 use Rattle.vortex_normal.proofs.Sets.{holds_swapped, in_combined, in_comparison}
 
@@ -54,13 +52,22 @@ abbrev pub is_in : List Interval → Option ScalarValue → Bool
 is_in is None = false
 is_in is (Some v) = in_set is v
 
-none_joined : (w : Bool) → false ≡ joined w false false
-none_joined true = refl
-none_joined false = refl
+-- an optional value in a set, or null where that counts
+abbrev pub is_among : (with_null : Bool) → List Interval → Option ScalarValue → Bool
+is_among n is None = n
+is_among n is (Some v) = in_set is v
 
-is_in_combined : (w : Bool) (is js : List Interval) (v : Option ScalarValue) → is_in (combined w is js) v ≡ joined w (is_in is v) (is_in js v)
-is_in_combined w is js None = none_joined w
-is_in_combined w is js (Some v) = in_combined v w is js
+among_values : (is : List Interval) (v : Option ScalarValue) → is_among false is v ≡ is_in is v
+among_values is None = refl
+among_values is (Some v) = refl
+
+nulls_joined : (w m n : Bool) → both_nulls w m n ≡ joined w m n
+nulls_joined true m n = refl
+nulls_joined false m n = refl
+
+among_combined : (w m n : Bool) (is js : List Interval) (v : Option ScalarValue) → is_among (both_nulls w m n) (combined w is js) v ≡ joined w (is_among m is v) (is_among n js v)
+among_combined w m n is js None = nulls_joined w m n
+among_combined w m n is js (Some v) = in_combined v w is js
 
 -- ---- an interval as a predicate of its column
 
@@ -97,6 +104,15 @@ known_both : (a b : Bool) → is_true (truth_value (both (Some a) (Some b))) ≡
 known_both true b = refl
 known_both false b = refl
 
+same_truth : (a b : Bool) → (a ≡ true → b ≡ true) → (b ≡ true → a ≡ true) → a ≡ b
+same_truth true b f g = sym (f refl)
+same_truth false true f g = g refl
+same_truth false false f g = refl
+
+-- two values that are one are at least the same values
+at_most_same : (x l u : ScalarValue) → at_most u l ≡ true → at_most l u ≡ true → at_most x l ≡ at_most x u
+at_most_same x l u h k = same_truth (at_most x l) (at_most x u) (λ e. le_trans x l u e k) (λ e. le_trans x u l e h)
+
 abbrev pub in_cuts : Cut → Cut → Option ScalarValue → Bool
 in_cuts l u None = false
 in_cuts l u (Some v) = above l v && not_b (above u v)
@@ -122,6 +138,49 @@ range_by : (o p : Operator) (l u : ScalarValue) (low high : Cut) → ((x : Scala
     → (v : Option ScalarValue) → is_true (truth_value (both (compared o (Some l) v) (compared p v (Some u)))) ≡ in_cuts low high v
 range_by o p l u low high f g None = refl
 range_by o p l u low high f g (Some x) = known_both (holds o (value_cmp l x)) (holds p (value_cmp x u)) ∙ ap₂ ◌&&◌ (f x) (g x)
+
+equal_cases : (a b : Bool) → (a && b) ≡ (b && not_b (not_b a))
+equal_cases true true = refl
+equal_cases true false = refl
+equal_cases false true = refl
+equal_cases false false = refl
+
+-- an equality by the cuts round its value, the one named by another that is the same
+equal_by : (l u : ScalarValue) → at_most u l ≡ true → at_most l u ≡ true → (v : Option ScalarValue) → is_true (truth_value (compared Eq v (Some l))) ≡ in_cuts (Before l) (After u) v
+equal_by l u h k None = refl
+equal_by l u h k (Some x) =
+    holds_by_le Eq x l
+    ∙ ap (λ b. b && at_most l x) (at_most_same x l u h k)
+    ∙ equal_cases (at_most x u) (at_most l x)
+
+unequal_cases : (a b : Bool) → not_b (a && b) ≡ ((true && not_b b) || (not_b a && true))
+unequal_cases true true = refl
+unequal_cases true false = refl
+unequal_cases false true = refl
+unequal_cases false false = refl
+
+unequal_by : (u l : ScalarValue) → at_most u l ≡ true → at_most l u ≡ true → (v : Option ScalarValue) → is_true (truth_value (compared NotEq v (Some u))) ≡ (in_cuts Lowest (Before u) v || in_cuts (After l) Highest v)
+unequal_by u l h k None = refl
+unequal_by u l h k (Some x) =
+    holds_by_le NotEq x u
+    ∙ ap (λ b. not_b (b && at_most u x)) (at_most_same x u l k h)
+    ∙ unequal_cases (at_most x l) (at_most u x)
+
+null_by : (v : Option ScalarValue) → is_none v ≡ is_among true [] v
+null_by None = refl
+null_by (Some x) = refl
+
+null_more : (is : List Interval) (v : Option ScalarValue) → (is_none v || is_in is v) ≡ is_among true is v
+null_more is None = refl
+null_more is (Some x) = refl
+
+full_cuts : (a b : Cut) (x : ScalarValue) → cuts_all a b ≡ true → (above a x && not_b (above b x)) ≡ true
+full_cuts Lowest Highest x h = refl
+full_cuts a b x h = cc
+
+full_in : (i : Interval) (is : List Interval) (v : Option ScalarValue) → is_full (i ∷ is) ≡ true → true ≡ is_among true (i ∷ is) v
+full_in i is None h = refl
+full_in i is (Some x) h = sym (ap (λ b. b || in_set is x) (full_cuts i.low i.high x h))
 
 not_null_by : (v : Option ScalarValue) → not_b (is_none v) ≡ in_cuts Lowest Highest v
 not_null_by None = refl
@@ -176,6 +235,11 @@ module _ (row : List Constant) (n : ℕ) where
   abbrev cell : Place → Option ScalarValue
   cell c = cell_value (slice_get row c.index)
 
+  closed_if : (c : Place) (l u : ScalarValue) (b : Bool) → (at_most u l && at_most l u) ≡ b
+      → satisfies (if b then binary Eq (column c) (literal_as c l) else range_of c (record { lower_strict = NonStrict; upper_strict = NonStrict }) l u) row n ≡ in_cuts (Before l) (After u) (cell c)
+  closed_if c l u true e = let k = and_parts (at_most u l) (at_most l u) e in equal_by l u k.0 k.1 (cell c)
+  closed_if c l u false e = range_by Lte Lte l u (Before l) (After u) (λ x. lte l x) (λ x. lte x u ∙ not_twice (at_most x u)) (cell c)
+
   cuts_told : (c : Place) (l u : Cut) → satisfies (between_cuts c l u) row n ≡ in_cuts l u (cell c)
   cuts_told c Lowest Highest = not_null_by (cell c)
   cuts_told c Lowest (Before u) = below_by u (cell c)
@@ -183,7 +247,7 @@ module _ (row : List Constant) (n : ℕ) where
   cuts_told c (Before l) Highest = from_by l (cell c)
   cuts_told c (After l) Highest = above_by l (cell c)
   cuts_told c (Before l) (Before u) = range_by Lte Lt l u (Before l) (Before u) (λ x. lte l x) (λ x. lt x u) (cell c)
-  cuts_told c (Before l) (After u) = range_by Lte Lte l u (Before l) (After u) (λ x. lte l x) (λ x. lte x u ∙ not_twice (at_most x u)) (cell c)
+  cuts_told c (Before l) (After u) = closed_if c l u (at_most u l && at_most l u) refl
   cuts_told c (After l) (Before u) = range_by Lt Lt l u (After l) (Before u) (λ x. lt l x) (λ x. lt x u) (cell c)
   cuts_told c (After l) (After u) = range_by Lt Lte l u (After l) (After u) (λ x. lt l x) (λ x. lte x u ∙ not_twice (at_most x u)) (cell c)
   cuts_told c Lowest Lowest = none_below Lowest (cell c)
@@ -194,44 +258,86 @@ module _ (row : List Constant) (n : ℕ) where
   cuts_told c Highest (After u) = none_above (After u) (cell c)
   cuts_told c Highest Highest = none_above Highest (cell c)
 
+  either_told : (c : Place) (a b d e : Cut) → satisfies (binary Or (between_cuts c a b) (between_cuts c d e)) row n ≡ (in_cuts a b (cell c) || in_cuts d e (cell c))
+  either_told c a b d e = true_or (meaning (between_cuts c a b) row n) (meaning (between_cuts c d e) row n) ∙ ap₂ ◌||◌ (cuts_told c a b) (cuts_told c d e)
+
+  hole_if : (c : Place) (u l : ScalarValue) (b : Bool) → (at_most u l && at_most l u) ≡ b
+      → satisfies (all_but c (if b then Some u else None) (binary Or (between_cuts c Lowest (Before u)) (between_cuts c (After l) Highest))) row n
+      ≡ (in_cuts Lowest (Before u) (cell c) || in_cuts (After l) Highest (cell c))
+  hole_if c u l true e = let k = and_parts (at_most u l) (at_most l u) e in unequal_by u l k.0 k.1 (cell c)
+  hole_if c u l false e = either_told c Lowest (Before u) (After l) Highest
+
+  hole_told : (c : Place) (a b d e : Cut) → satisfies (all_but c (hole_by a b d e) (binary Or (between_cuts c a b) (between_cuts c d e))) row n ≡ (in_cuts a b (cell c) || in_cuts d e (cell c))
+  hole_told c Lowest (Before u) (After l) Highest = hole_if c u l (at_most u l && at_most l u) refl
+  hole_told c a b d e = either_told c a b d e
+
   pub set_told : (c : Place) (is : List Interval) → satisfies (set_test c is) row n ≡ is_in is (cell c)
   set_told c [] = none_in (cell c)
   set_told c (i ∷ []) = cuts_told c i.low i.high ∙ one_in i (cell c)
-  set_told c (i ∷ j ∷ is) =
-      true_or (meaning (between_cuts c i.low i.high) row n) (meaning (set_test c (j ∷ is)) row n)
-      ∙ ap₂ ◌||◌ (cuts_told c i.low i.high) (set_told c (j ∷ is))
-      ∙ more_in i (j ∷ is) (cell c)
+  set_told c (i ∷ j ∷ []) =
+      hole_told c i.low i.high j.low j.high
+      ∙ ap (λ b. in_cuts i.low i.high (cell c) || b) (one_in j (cell c))
+      ∙ more_in i (j ∷ []) (cell c)
+  set_told c (i ∷ j ∷ k ∷ is) =
+      true_or (meaning (between_cuts c i.low i.high) row n) (meaning (set_test c (j ∷ k ∷ is)) row n)
+      ∙ ap₂ ◌||◌ (cuts_told c i.low i.high) (set_told c (j ∷ k ∷ is))
+      ∙ more_in i (j ∷ k ∷ is) (cell c)
+
+  null_if : (c : Place) (i : Interval) (is : List Interval) (b : Bool) → is_full (i ∷ is) ≡ b
+      → satisfies (if b then bool_literal true else binary Or (is_null (column c)) (set_test c (i ∷ is))) row n ≡ is_among true (i ∷ is) (cell c)
+  null_if c i is true e = full_in i is (cell c) e
+  null_if c i is false e =
+      true_or (meaning (is_null (column c)) row n) (meaning (set_test c (i ∷ is)) row n)
+      ∙ ap (λ b. is_none (cell c) || b) (set_told c (i ∷ is))
+      ∙ null_more (i ∷ is) (cell c)
+
+  values_told : (c : Place) (m : Bool) (is : List Interval) → satisfies (values_test c m is) row n ≡ is_among m is (cell c)
+  values_told c false is = set_told c is ∙ sym (among_values is (cell c))
+  values_told c true [] = null_by (cell c)
+  values_told c true (i ∷ is) = null_if c i is (is_full (i ∷ is)) refl
 
   -- ---- items
 
   abbrev pub told : Item → Bool
-  told (inside c is) = is_in is (cell c)
+  told (inside c m is) = is_among m is (cell c)
   told (other e) = satisfies e row n
 
+  abbrev pub all_with : (is_and : Bool) → List Item → Bool → Bool
+  all_with w [] b = b
+  all_with w (i ∷ is) b = joined w (told i) (all_with w is b)
+
   abbrev pub all_told : (is_and : Bool) → List Item → Bool
-  all_told w [] = w
-  all_told w (i ∷ is) = joined w (told i) (all_told w is)
+  all_told w is = all_with w is w
 
   item_told : (i : Item) → satisfies (item_test i) row n ≡ told i
-  item_told (inside c is) = set_told c is
+  item_told (inside c m is) = values_told c m is
   item_told (other e) = refl
 
+  joined_told : (w : Bool) (is : List Item) (e : Tree Place) → satisfies (joined_test w is e) row n ≡ all_with w is (satisfies e row n)
+  joined_told w [] e = refl
+  joined_told w (i ∷ is) e = connected_told row n w (item_test i) (joined_test w is e) ∙ ap₂ (joined w) (item_told i) (joined_told w is e)
+
+  literal_told : (w : Bool) → satisfies (bool_literal w) row n ≡ w
+  literal_told true = refl
+  literal_told false = refl
+
   items_told : (w : Bool) (is : List Item) → satisfies (items_test w is) row n ≡ all_told w is
-  items_told w [] = refl
-  items_told w (i ∷ []) = item_told i ∙ sym (joined_unit w (told i))
-  items_told w (i ∷ j ∷ is) = connected_told row n w (item_test i) (items_test w (j ∷ is)) ∙ ap₂ (joined w) (item_told i) (items_told w (j ∷ is))
+  items_told w is = joined_told w is (bool_literal w) ∙ ap (all_with w is) (literal_told w)
 
   -- ---- leaves
+
+  values_in : (c : Place) (is : List Interval) (b : Bool) → is_in is (cell c) ≡ b → told (inside c false is) ≡ b
+  values_in c is b e = among_values is (cell c) ∙ e
 
   compared_told : (o : Operator) (c : Place) (v : Option ScalarValue) (e : Tree Place) → (is_comparison o ≡ true → satisfies e row n ≡ is_true (truth_value (compared o (cell c) v))) → told (compared_item o c v e) ≡ satisfies e row n
   compared_told And c v e f = refl
   compared_told Or c v e f = refl
-  compared_told Eq c (Some v) e f = compared_in Eq v (cell c) refl ∙ sym (f refl)
-  compared_told NotEq c (Some v) e f = compared_in NotEq v (cell c) refl ∙ sym (f refl)
-  compared_told Gt c (Some v) e f = compared_in Gt v (cell c) refl ∙ sym (f refl)
-  compared_told Gte c (Some v) e f = compared_in Gte v (cell c) refl ∙ sym (f refl)
-  compared_told Lt c (Some v) e f = compared_in Lt v (cell c) refl ∙ sym (f refl)
-  compared_told Lte c (Some v) e f = compared_in Lte v (cell c) refl ∙ sym (f refl)
+  compared_told Eq c (Some v) e f = values_in c (comparison_set Eq v) (satisfies e row n) (compared_in Eq v (cell c) refl ∙ sym (f refl))
+  compared_told NotEq c (Some v) e f = values_in c (comparison_set NotEq v) (satisfies e row n) (compared_in NotEq v (cell c) refl ∙ sym (f refl))
+  compared_told Gt c (Some v) e f = values_in c (comparison_set Gt v) (satisfies e row n) (compared_in Gt v (cell c) refl ∙ sym (f refl))
+  compared_told Gte c (Some v) e f = values_in c (comparison_set Gte v) (satisfies e row n) (compared_in Gte v (cell c) refl ∙ sym (f refl))
+  compared_told Lt c (Some v) e f = values_in c (comparison_set Lt v) (satisfies e row n) (compared_in Lt v (cell c) refl ∙ sym (f refl))
+  compared_told Lte c (Some v) e f = values_in c (comparison_set Lte v) (satisfies e row n) (compared_in Lte v (cell c) refl ∙ sym (f refl))
   compared_told Eq c None e f = refl
   compared_told NotEq c None e f = refl
   compared_told Gt c None e f = refl
@@ -259,12 +365,17 @@ module _ (row : List Constant) (n : ℕ) where
       (λ k. plain_compared o (literal d) (column c) (comparison_of_swapped o k) ∙ compared_swapped o d.value (cell c))
   binary_told o l r = refl
 
+  null_told : (x : Tree Place) → told (null_item x (is_null x)) ≡ satisfies (is_null x) row n
+  null_told (column c) = sym (null_by (cell c))
+  null_told x = refl
+
   not_null_told : (x : Tree Place) → told (not_null_item x (is_not_null x)) ≡ satisfies (is_not_null x) row n
-  not_null_told (column c) = all_in (cell c)
+  not_null_told (column c) = values_in c (interval Lowest Highest ∷ []) (not_b (is_none (cell c))) (all_in (cell c))
   not_null_told x = refl
 
   leaf_told : (e : Tree Place) → told (leaf_item e) ≡ satisfies e row n
   leaf_told (binary o l r) = binary_told o l r
+  leaf_told (is_null x) = null_told x
   leaf_told (is_not_null x) = not_null_told x
   leaf_told e = refl
 
@@ -273,72 +384,75 @@ module _ (row : List Constant) (n : ℕ) where
   same_cell : (c d : Place) → place_eq c d ≡ true → cell c ≡ cell d
   same_cell c d h = ap (λ e. meaning e row n) ((tree_eq_is_exact (column c) (column d)).0 h)
 
-  merged_by : (w : Bool) (c d : Place) (is js : List Interval) (b : Bool) (m : Item) → place_eq c d ≡ b → (if b then Some (inside d (combined w is js)) else None) ≡ Some m
-      → told m ≡ joined w (is_in is (cell c)) (is_in js (cell d))
-  merged_by w c d is js true m e h =
-      sym (ap told (same_Some _ _ h))
-      ∙ is_in_combined w is js (cell d)
-      ∙ sym (ap (λ v. joined w (is_in is v) (is_in js (cell d))) (same_cell c d e))
-  merged_by w c d is js false m e h = absurd (none-some m h)
+  widened_told : (w : Bool) (c : Place) (m : Bool) (is : List Interval) (j : Item) → is_of c j ≡ true → told (widened w m is j) ≡ joined w (is_among m is (cell c)) (told j)
+  widened_told w c m is (inside d k js) h =
+      among_combined w m k is js (cell d)
+      ∙ sym (ap (λ v. joined w (is_among m is v) (is_among k js (cell d))) (same_cell c d h))
+  widened_told w c m is (other e) h = cc
 
-  merged_told : (w : Bool) (i j m : Item) → merged w i j ≡ Some m → told m ≡ joined w (told i) (told j)
-  merged_told w (inside c is) (inside d js) m h = merged_by w c d is js (place_eq c d) m refl h
-  merged_told w (inside c is) (other e) m h = absurd (none-some m h)
-  merged_told w (other e) j m h = absurd (none-some m h)
+  add_if : (w : Bool) (c : Place) (m : Bool) (is : List Interval) (j : Item) (js : List Item) (b : Bool) → is_of c j ≡ b
+      → all_told w (add_set w c m is js) ≡ joined w (is_among m is (cell c)) (all_told w js)
+      → all_told w (if b then widened w m is j ∷ js else j ∷ add_set w c m is js) ≡ joined w (is_among m is (cell c)) (joined w (told j) (all_told w js))
+  add_if w c m is j js true e h = ap (λ b. joined w b (all_told w js)) (widened_told w c m is j e) ∙ joined_assoc w (is_among m is (cell c)) (told j) (all_told w js)
+  add_if w c m is j js false e h = ap (joined w (told j)) h ∙ joined_swap w (is_among m is (cell c)) (told j) (all_told w js)
 
-  put_told : (w : Bool) (i j : Item) (js rest : List Item) (o : Option Item) → merged w i j ≡ o → all_told w rest ≡ joined w (told i) (all_told w js)
-      → all_told w (put_first o j js rest) ≡ joined w (told i) (joined w (told j) (all_told w js))
-  put_told w i j js rest (Some m) h k = ap (λ b. joined w b (all_told w js)) (merged_told w i j m h) ∙ joined_assoc w (told i) (told j) (all_told w js)
-  put_told w i j js rest None h k = ap (joined w (told j)) k ∙ joined_swap w (told i) (told j) (all_told w js)
+  add_set_told : (w : Bool) (c : Place) (m : Bool) (is : List Interval) (js : List Item) → all_told w (add_set w c m is js) ≡ joined w (is_among m is (cell c)) (all_told w js)
+  add_set_told w c m is [] = refl
+  add_set_told w c m is (j ∷ js) = add_if w c m is j js (is_of c j) refl (add_set_told w c m is js)
+
+  last_told : (w : Bool) (i : Item) (js : List Item) → all_told w (js ++ i ∷ []) ≡ joined w (told i) (all_told w js)
+  last_told w i [] = refl
+  last_told w i (j ∷ js) = ap (joined w (told j)) (last_told w i js) ∙ joined_swap w (told i) (told j) (all_told w js)
 
   add_told : (w : Bool) (i : Item) (js : List Item) → all_told w (add w i js) ≡ joined w (told i) (all_told w js)
-  add_told w i [] = refl
-  add_told w i (j ∷ js) = put_told w i j js (add w i js) (merged w i j) refl (add_told w i js)
+  add_told w (inside c m is) js = add_set_told w c m is js
+  add_told w (other e) js = last_told w (other e) js
 
-  joined_left : (w a : Bool) → a ≡ joined w w a
-  joined_left true a = refl
-  joined_left false a = refl
+  as_one_told : (w : Bool) (is : List Item) → told (as_one w is) ≡ all_told w is
+  as_one_told w [] = items_told w []
+  as_one_told w (i ∷ []) = sym (joined_unit w (told i))
+  as_one_told w (i ∷ j ∷ is) = items_told w (i ∷ j ∷ is)
 
-  add_all_told : (w : Bool) (is js : List Item) → all_told w (add_all w is js) ≡ joined w (all_told w is) (all_told w js)
-  add_all_told w [] js = joined_left w (all_told w js)
-  add_all_told w (i ∷ is) js =
-      add_told w i (add_all w is js)
-      ∙ ap (joined w (told i)) (add_all_told w is js)
-      ∙ sym (joined_assoc w (told i) (all_told w is) (all_told w js))
+  -- the items of two sides, one after the other
+  sides_told : (w a b : Bool) (is js ks : List Item) → all_told w js ≡ joined w a (all_told w is) → all_told w ks ≡ joined w b (all_told w js) → all_told w ks ≡ joined w (joined w a b) (all_told w is)
+  sides_told w a b is js ks h k = k ∙ ap (joined w b) h ∙ joined_swap w a b (all_told w is) ∙ sym (joined_assoc w a b (all_told w is))
 
-  as_one_told : (w v : Bool) (is : List Item) → all_told w (as_one v is) ≡ all_told v is
-  as_one_told w v [] = joined_unit w v
-  as_one_told w v (i ∷ []) = joined_unit w (told i) ∙ sym (joined_unit v (told i))
-  as_one_told w v (i ∷ j ∷ is) = joined_unit w (satisfies (items_test v (i ∷ j ∷ is)) row n) ∙ items_told v (i ∷ j ∷ is)
+  -- the items of two sides as one item of another chain
+  inner_told : (w v a b : Bool) (is js ks : List Item) → all_told v js ≡ joined v a v → all_told v ks ≡ joined v b (all_told v js) → all_told w (add w (as_one v ks) is) ≡ joined w (joined v a b) (all_told w is)
+  inner_told w v a b is js ks h k =
+      add_told w (as_one v ks) is
+      ∙ ap (λ c. joined w c (all_told w is)) (as_one_told v ks ∙ sides_told v a b [] js ks h k ∙ joined_unit v (joined v a b))
 
-  chained_told : (w v : Bool) (is : List Item) → all_told w (chained w v is) ≡ all_told v is
-  chained_told true true is = refl
-  chained_told false false is = refl
-  chained_told true false is = as_one_told true false is
-  chained_told false true is = as_one_told false true is
+  both_sides : (l r : Tree Place) → (satisfies l row n && satisfies r row n) ≡ satisfies (binary And l r) row n
+  both_sides l r = sym (true_and (meaning l row n) (meaning r row n))
 
-  lone_told : (w : Bool) (e : Tree Place) → all_told w (leaf_item e ∷ []) ≡ satisfies e row n
-  lone_told w e = joined_unit w (told (leaf_item e)) ∙ leaf_told e
+  either_side : (l r : Tree Place) → (satisfies l row n || satisfies r row n) ≡ satisfies (binary Or l r) row n
+  either_side l r = sym (true_or (meaning l row n) (meaning r row n))
 
-  items_of_told : (w : Bool) (e : Tree Place) → all_told w (items_of w e) ≡ satisfies e row n
-  items_of_told w (binary And l r) =
-      chained_told w true (add_all true (items_of true l) (items_of true r))
-      ∙ add_all_told true (items_of true l) (items_of true r)
-      ∙ ap₂ ◌&&◌ (items_of_told true l) (items_of_told true r)
-      ∙ sym (true_and (meaning l row n) (meaning r row n))
-  items_of_told w (binary Or l r) =
-      chained_told w false (add_all false (items_of false l) (items_of false r))
-      ∙ add_all_told false (items_of false l) (items_of false r)
-      ∙ ap₂ ◌||◌ (items_of_told false l) (items_of_told false r)
-      ∙ sym (true_or (meaning l row n) (meaning r row n))
-  items_of_told w (binary Eq l r) = lone_told w (binary Eq l r)
-  items_of_told w (binary NotEq l r) = lone_told w (binary NotEq l r)
-  items_of_told w (binary Gt l r) = lone_told w (binary Gt l r)
-  items_of_told w (binary Gte l r) = lone_told w (binary Gte l r)
-  items_of_told w (binary Lt l r) = lone_told w (binary Lt l r)
-  items_of_told w (binary Lte l r) = lone_told w (binary Lte l r)
-  items_of_told w e = lone_told w e
+  lone_told : (w : Bool) (e : Tree Place) (is : List Item) → all_told w (add w (leaf_item e) is) ≡ joined w (satisfies e row n) (all_told w is)
+  lone_told w e is = add_told w (leaf_item e) is ∙ ap (λ b. joined w b (all_told w is)) (leaf_told e)
+
+  collected_told : (w : Bool) (e : Tree Place) (is : List Item) → all_told w (collected w e is) ≡ joined w (satisfies e row n) (all_told w is)
+  collected_told true (binary And l r) is =
+      sides_told true (satisfies l row n) (satisfies r row n) is (collected true l is) (collected true r (collected true l is)) (collected_told true l is) (collected_told true r (collected true l is))
+      ∙ ap (λ b. joined true b (all_told true is)) (both_sides l r)
+  collected_told false (binary And l r) is =
+      inner_told false true (satisfies l row n) (satisfies r row n) is (collected true l []) (collected true r (collected true l [])) (collected_told true l []) (collected_told true r (collected true l []))
+      ∙ ap (λ b. joined false b (all_told false is)) (both_sides l r)
+  collected_told true (binary Or l r) is =
+      inner_told true false (satisfies l row n) (satisfies r row n) is (collected false l []) (collected false r (collected false l [])) (collected_told false l []) (collected_told false r (collected false l []))
+      ∙ ap (λ b. joined true b (all_told true is)) (either_side l r)
+  collected_told false (binary Or l r) is =
+      sides_told false (satisfies l row n) (satisfies r row n) is (collected false l is) (collected false r (collected false l is)) (collected_told false l is) (collected_told false r (collected false l is))
+      ∙ ap (λ b. joined false b (all_told false is)) (either_side l r)
+  collected_told w (binary Eq l r) is = lone_told w (binary Eq l r) is
+  collected_told w (binary NotEq l r) is = lone_told w (binary NotEq l r) is
+  collected_told w (binary Gt l r) is = lone_told w (binary Gt l r) is
+  collected_told w (binary Gte l r) is = lone_told w (binary Gte l r) is
+  collected_told w (binary Lt l r) is = lone_told w (binary Lt l r) is
+  collected_told w (binary Lte l r) is = lone_told w (binary Lte l r) is
+  collected_told w e is = lone_told w e is
 
   -- what is said of one column in one place, the same rows satisfy
   pub grouped_told : (e : Tree Place) → satisfies (grouped e) row n ≡ satisfies e row n
-  grouped_told e = items_told true (items_of true e) ∙ items_of_told true e
+  grouped_told e = items_told true (collected true e []) ∙ collected_told true e [] ∙ joined_unit true (satisfies e row n)

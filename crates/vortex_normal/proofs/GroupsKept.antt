@@ -1,19 +1,15 @@
 -- A predicate's groups have no column and no placeholder that it had not.
-use Rattle.std.proofs.Common.{◌≡◌, Bool, true, false, not as not_b, ◌&&◌, ◌||◌, List, [], ◌∷◌, Option, Some, None, IsTrue, refl, sym, ap, subst, ◌∙◌, if◌then◌else◌}
+use Rattle.std.proofs.Common.{◌≡◌, Bool, true, false, not as not_b, ◌&&◌, List, [], ◌∷◌, ◌++◌, Option, Some, None, IsTrue, ap, if◌then◌else◌}
 use Rattle.std.proofs.lemmas.Bool.{and_parts, or_parts, not-true}
-use Rattle.std.proofs.lemmas.Option.{same_Some, none-some}
 use Rattle.vortex_base.specs.Data.Exact.{both_hold}
-use Rattle.vortex_base.specs.Trees.Tree.{Tree, Place, all_columns, column, literal, binary, between, is_null, is_not_null, not, like, stat, row_count, some_node, has_placeholder, has_row_count, is_placeholder, is_plain, is_row_count}
-use Rattle.vortex_base.specs.Trees.TreeEq.{place_eq}
+use Rattle.vortex_base.specs.Trees.Tree.{Tree, Place, all_columns, column, literal, binary, is_null, is_not_null, some_node, has_placeholder, has_row_count, is_placeholder, is_plain, is_row_count}
 use Rattle.vortex_base.specs.declared.scalar_value.ScalarValue.{ScalarValue}
 use Rattle.vortex_base.specs.declared.types.Operator.{Operator}
 use Rattle.vortex_base.specs.declared.types.Operator.TheVariants.{Eq, NotEq, Gt, Gte, Lt, Lte, And, Or}
 use Rattle.vortex_base.specs.declared.types.StrictComparison.TheVariants.{Strict, NonStrict}
-use Rattle.vortex_normal.specs.declared.interval.Cut.{Cut}
-use Rattle.vortex_normal.specs.declared.interval.Cut.TheVariants.{Lowest, Before, After, Highest}
-use Rattle.vortex_normal.specs.declared.interval.Interval.{Interval}
-use Rattle.vortex_normal.specs.Groups.{Item, inside, other, add, add_all, as_one, binary_item, chained, compared_item, grouped, item_test, items_of, items_test, leaf_item, merged, not_null_item, put_first}
-use Rattle.vortex_normal.specs.Intervals.{between_cuts, combined, literal_as, set_test, swapped}
+use Rattle.vortex_normal.specs.Groups.{Item, inside, other, add, add_set, as_one, binary_item, collected, compared_item, grouped, is_of, item_test, items_test, joined_test, leaf_item, not_null_item, null_item, widened}
+use Rattle.vortex_normal.specs.Intervals.{Cut, Lowest, Before, After, Highest, Interval, all_but, at_most, between_cuts, hole_by, is_full, literal_as, range_of, set_test, swapped, values_test}
+use Rattle.vortex_rewrite.specs.Rewriting.Falsifiers.{bool_literal}
 use Rattle.vortex_normal.specs.Pushed.{connected}
 use Rattle.vortex_normal.proofs.Forms.{connected_kept}
 use Rattle.vortex_normal.proofs.Kept.{Holds, IsInherited, IsOfLeaves, Lacks, columns_inherited, nodes_inherited, operands_lack, placeholders, row_counts}
@@ -21,16 +17,21 @@ use Rattle.vortex_normal.proofs.Kept.{Holds, IsInherited, IsOfLeaves, Lacks, col
 -- a property that the children of a node have which has it
 pub record IsPassedDown (P : Tree Place → Type 0) : Type 0 where
   pub of_sides : (o : Operator) (l r : Tree Place) → P (binary o l r) → P l × P r
+  pub of_null_operand : (x : Tree Place) → P (is_null x) → P x
   pub of_operand : (x : Tree Place) → P (is_not_null x) → P x
 
 module _ (P : Tree Place → Type 0) (i : IsInherited P) (d : IsPassedDown P) where
   abbrev Has : Item → Type 0
-  Has (inside c is) = P (column c)
+  Has (inside c m is) = P (column c)
   Has (other e) = P e
 
   abbrev Have : List Item → Type 0
   Have [] = Unit {0}
   Have (x ∷ xs) = Has x × Have xs
+
+  closed_if : (c : Place) → P (column c) → (l u : ScalarValue) (b : Bool) → P (if b then binary Eq (column c) (literal_as c l) else range_of c (record { lower_strict = NonStrict; upper_strict = NonStrict }) l u)
+  closed_if c h l u true = i.of_binary Eq (column c) (literal_as c l) h (i.of_literal _)
+  closed_if c h l u false = i.of_between (record { lower_strict = NonStrict; upper_strict = NonStrict }) (column c) (literal_as c l) (literal_as c u) h (i.of_literal _) (i.of_literal _)
 
   cuts_have : (c : Place) → P (column c) → (l u : Cut) → P (between_cuts c l u)
   cuts_have c h Lowest Highest = i.of_not_null (column c) h
@@ -39,7 +40,7 @@ module _ (P : Tree Place → Type 0) (i : IsInherited P) (d : IsPassedDown P) wh
   cuts_have c h (Before l) Highest = i.of_binary Gte (column c) (literal_as c l) h (i.of_literal _)
   cuts_have c h (After l) Highest = i.of_binary Gt (column c) (literal_as c l) h (i.of_literal _)
   cuts_have c h (Before l) (Before u) = i.of_between (record { lower_strict = NonStrict; upper_strict = Strict }) (column c) (literal_as c l) (literal_as c u) h (i.of_literal _) (i.of_literal _)
-  cuts_have c h (Before l) (After u) = i.of_between (record { lower_strict = NonStrict; upper_strict = NonStrict }) (column c) (literal_as c l) (literal_as c u) h (i.of_literal _) (i.of_literal _)
+  cuts_have c h (Before l) (After u) = closed_if c h l u (at_most u l && at_most l u)
   cuts_have c h (After l) (Before u) = i.of_between (record { lower_strict = Strict; upper_strict = Strict }) (column c) (literal_as c l) (literal_as c u) h (i.of_literal _) (i.of_literal _)
   cuts_have c h (After l) (After u) = i.of_between (record { lower_strict = Strict; upper_strict = NonStrict }) (column c) (literal_as c l) (literal_as c u) h (i.of_literal _) (i.of_literal _)
   cuts_have c h Lowest Lowest = i.of_literal _
@@ -50,22 +51,40 @@ module _ (P : Tree Place → Type 0) (i : IsInherited P) (d : IsPassedDown P) wh
   cuts_have c h Highest (After u) = i.of_literal _
   cuts_have c h Highest Highest = i.of_literal _
 
+  hole_has : (c : Place) → P (column c) → (v : Option ScalarValue) (e : Tree Place) → P e → P (all_but c v e)
+  hole_has c h (Some v) e k = i.of_binary NotEq (column c) (literal_as c v) h (i.of_literal _)
+  hole_has c h None e k = k
+
   set_has : (c : Place) → P (column c) → (is : List Interval) → P (set_test c is)
   set_has c h [] = i.of_literal _
   set_has c h (x ∷ []) = cuts_have c h x.low x.high
-  set_has c h (x ∷ y ∷ xs) = i.of_binary Or (between_cuts c x.low x.high) (set_test c (y ∷ xs)) (cuts_have c h x.low x.high) (set_has c h (y ∷ xs))
+  set_has c h (x ∷ y ∷ []) =
+      hole_has c h (hole_by x.low x.high y.low y.high) (binary Or (between_cuts c x.low x.high) (between_cuts c y.low y.high))
+      (i.of_binary Or (between_cuts c x.low x.high) (between_cuts c y.low y.high) (cuts_have c h x.low x.high) (cuts_have c h y.low y.high))
+  set_has c h (x ∷ y ∷ z ∷ xs) = i.of_binary Or (between_cuts c x.low x.high) (set_test c (y ∷ z ∷ xs)) (cuts_have c h x.low x.high) (set_has c h (y ∷ z ∷ xs))
+
+  null_if : (c : Place) → P (column c) → (is : List Interval) (b : Bool) → P (if b then bool_literal true else binary Or (is_null (column c)) (set_test c is))
+  null_if c h is true = i.of_literal _
+  null_if c h is false = i.of_binary Or (is_null (column c)) (set_test c is) (i.of_null (column c) h) (set_has c h is)
+
+  values_have : (c : Place) → P (column c) → (m : Bool) (is : List Interval) → P (values_test c m is)
+  values_have c h false is = set_has c h is
+  values_have c h true [] = i.of_null (column c) h
+  values_have c h true (x ∷ xs) = null_if c h (x ∷ xs) (is_full (x ∷ xs))
 
   item_has : (x : Item) → Has x → P (item_test x)
-  item_has (inside c is) h = set_has c h is
+  item_has (inside c m is) h = values_have c h m is
   item_has (other e) h = h
 
   joined_has : (w : Bool) (l r : Tree Place) → P l → P r → P (connected w l r)
   joined_has w l r h k = connected_kept P l r h k w (i.of_binary And l r h k) (i.of_binary Or l r h k)
 
+  all_have : (w : Bool) (xs : List Item) (e : Tree Place) → Have xs → P e → P (joined_test w xs e)
+  all_have w [] e h k = k
+  all_have w (x ∷ xs) e h k = joined_has w (item_test x) (joined_test w xs e) (item_has x h.0) (all_have w xs e h.1 k)
+
   items_have : (w : Bool) (xs : List Item) → Have xs → P (items_test w xs)
-  items_have w [] h = i.of_literal _
-  items_have w (x ∷ []) h = item_has x h.0
-  items_have w (x ∷ y ∷ xs) h = joined_has w (item_test x) (items_test w (y ∷ xs)) (item_has x h.0) (items_have w (y ∷ xs) h.1)
+  items_have w xs h = all_have w xs (bool_literal w) h (i.of_literal _)
 
   compared_has : (o : Operator) (c : Place) (v : Option ScalarValue) (e : Tree Place) → P (column c) → P e → Has (compared_item o c v e)
   compared_has And c v e h k = k
@@ -88,73 +107,80 @@ module _ (P : Tree Place → Type 0) (i : IsInherited P) (d : IsPassedDown P) wh
   binary_has o (literal v) (column c) h = compared_has (swapped o) c v.value (binary o (literal v) (column c)) (d.of_sides o (literal v) (column c) h).1 h
   binary_has o l r h = h
 
+  null_has : (x : Tree Place) → P (is_null x) → Has (null_item x (is_null x))
+  null_has (column c) h = d.of_null_operand (column c) h
+  null_has x h = h
+
   not_null_has : (x : Tree Place) → P (is_not_null x) → Has (not_null_item x (is_not_null x))
   not_null_has (column c) h = d.of_operand (column c) h
   not_null_has x h = h
 
   leaf_has : (e : Tree Place) → P e → Has (leaf_item e)
   leaf_has (binary o l r) h = binary_has o l r h
+  leaf_has (is_null x) h = null_has x h
   leaf_has (is_not_null x) h = not_null_has x h
   leaf_has e h = h
 
-  merged_by : (w : Bool) (c e : Place) (is js : List Interval) (b : Bool) (m : Item) → P (column e) → (if b then Some (inside e (combined w is js)) else None) ≡ Some m → Has m
-  merged_by w c e is js true m h k = subst Has (same_Some _ _ k) h
-  merged_by w c e is js false m h k = absurd (none-some m k)
+  widened_has : (w m : Bool) (is : List Interval) (x : Item) → Has x → Has (widened w m is x)
+  widened_has w m is (inside c k js) h = h
+  widened_has w m is (other e) h = h
 
-  merged_has : (w : Bool) (x y m : Item) → Has y → merged w x y ≡ Some m → Has m
-  merged_has w (inside c is) (inside e js) m h k = merged_by w c e is js (place_eq c e) m h k
-  merged_has w (inside c is) (other e) m h k = absurd (none-some m k)
-  merged_has w (other e) y m h k = absurd (none-some m k)
+  add_if : (w : Bool) (c : Place) (m : Bool) (is : List Interval) (y : Item) (ys : List Item) (b : Bool) → Has y → Have ys → Have (add_set w c m is ys)
+      → Have (if b then widened w m is y ∷ ys else y ∷ add_set w c m is ys)
+  add_if w c m is y ys true h k r = (widened_has w m is y h, k)
+  add_if w c m is y ys false h k r = (h, r)
 
-  put_has : (w : Bool) (x y : Item) (ys rest : List Item) (o : Option Item) → merged w x y ≡ o → Has y → Have ys → Have rest → Have (put_first o y ys rest)
-  put_has w x y ys rest (Some m) e h k r = (merged_has w x y m h e, k)
-  put_has w x y ys rest None e h k r = (h, r)
+  add_set_has : (w : Bool) (c : Place) (m : Bool) (is : List Interval) (ys : List Item) → P (column c) → Have ys → Have (add_set w c m is ys)
+  add_set_has w c m is [] h k = (h, tt)
+  add_set_has w c m is (y ∷ ys) h k = add_if w c m is y ys (is_of c y) k.0 k.1 (add_set_has w c m is ys h k.1)
+
+  last_has : (x : Item) (ys : List Item) → Has x → Have ys → Have (ys ++ x ∷ [])
+  last_has x [] h k = (h, tt)
+  last_has x (y ∷ ys) h k = (k.0, last_has x ys h k.1)
 
   add_has : (w : Bool) (x : Item) (ys : List Item) → Has x → Have ys → Have (add w x ys)
-  add_has w x [] h k = (h, tt)
-  add_has w x (y ∷ ys) h k = put_has w x y ys (add w x ys) (merged w x y) refl k.0 k.1 (add_has w x ys h k.1)
+  add_has w (inside c m is) ys h k = add_set_has w c m is ys h k
+  add_has w (other e) ys h k = last_has (other e) ys h k
 
-  add_all_has : (w : Bool) (xs ys : List Item) → Have xs → Have ys → Have (add_all w xs ys)
-  add_all_has w [] ys h k = k
-  add_all_has w (x ∷ xs) ys h k = add_has w x (add_all w xs ys) h.0 (add_all_has w xs ys h.1 k)
+  as_one_has : (v : Bool) (xs : List Item) → Have xs → Has (as_one v xs)
+  as_one_has v [] h = items_have v [] h
+  as_one_has v (x ∷ []) h = h.0
+  as_one_has v (x ∷ y ∷ xs) h = items_have v (x ∷ y ∷ xs) h
 
-  as_one_has : (v : Bool) (xs : List Item) → Have xs → Have (as_one v xs)
-  as_one_has v [] h = (i.of_literal _, tt)
-  as_one_has v (x ∷ []) h = h
-  as_one_has v (x ∷ y ∷ xs) h = (items_have v (x ∷ y ∷ xs) h, tt)
+  lone_has : (w : Bool) (e : Tree Place) (xs : List Item) → P e → Have xs → Have (add w (leaf_item e) xs)
+  lone_has w e xs h k = add_has w (leaf_item e) xs (leaf_has e h) k
 
-  chained_has : (w v : Bool) (xs : List Item) → Have xs → Have (chained w v xs)
-  chained_has true true xs h = h
-  chained_has false false xs h = h
-  chained_has true false xs h = as_one_has false xs h
-  chained_has false true xs h = as_one_has true xs h
-
-  lone_has : (e : Tree Place) → P e → Have (leaf_item e ∷ [])
-  lone_has e h = (leaf_has e h, tt)
-
-  items_of_have : (w : Bool) (e : Tree Place) → P e → Have (items_of w e)
-  items_of_have w (binary And l r) h =
-      let k = d.of_sides And l r h in
-      chained_has w true (add_all true (items_of true l) (items_of true r)) (add_all_has true (items_of true l) (items_of true r) (items_of_have true l k.0) (items_of_have true r k.1))
-  items_of_have w (binary Or l r) h =
-      let k = d.of_sides Or l r h in
-      chained_has w false (add_all false (items_of false l) (items_of false r)) (add_all_has false (items_of false l) (items_of false r) (items_of_have false l k.0) (items_of_have false r k.1))
-  items_of_have w (binary Eq l r) h = lone_has (binary Eq l r) h
-  items_of_have w (binary NotEq l r) h = lone_has (binary NotEq l r) h
-  items_of_have w (binary Gt l r) h = lone_has (binary Gt l r) h
-  items_of_have w (binary Gte l r) h = lone_has (binary Gte l r) h
-  items_of_have w (binary Lt l r) h = lone_has (binary Lt l r) h
-  items_of_have w (binary Lte l r) h = lone_has (binary Lte l r) h
-  items_of_have w e h = lone_has e h
+  collected_have : (w : Bool) (e : Tree Place) (xs : List Item) → P e → Have xs → Have (collected w e xs)
+  collected_have true (binary And l r) xs h k =
+      let p = d.of_sides And l r h in
+      collected_have true r (collected true l xs) p.1 (collected_have true l xs p.0 k)
+  collected_have false (binary And l r) xs h k =
+      let p = d.of_sides And l r h in
+      let inner = collected true r (collected true l []) in
+      add_has false (as_one true inner) xs (as_one_has true inner (collected_have true r (collected true l []) p.1 (collected_have true l [] p.0 tt))) k
+  collected_have true (binary Or l r) xs h k =
+      let p = d.of_sides Or l r h in
+      let inner = collected false r (collected false l []) in
+      add_has true (as_one false inner) xs (as_one_has false inner (collected_have false r (collected false l []) p.1 (collected_have false l [] p.0 tt))) k
+  collected_have false (binary Or l r) xs h k =
+      let p = d.of_sides Or l r h in
+      collected_have false r (collected false l xs) p.1 (collected_have false l xs p.0 k)
+  collected_have w (binary Eq l r) xs h k = lone_has w (binary Eq l r) xs h k
+  collected_have w (binary NotEq l r) xs h k = lone_has w (binary NotEq l r) xs h k
+  collected_have w (binary Gt l r) xs h k = lone_has w (binary Gt l r) xs h k
+  collected_have w (binary Gte l r) xs h k = lone_has w (binary Gte l r) xs h k
+  collected_have w (binary Lt l r) xs h k = lone_has w (binary Lt l r) xs h k
+  collected_have w (binary Lte l r) xs h k = lone_has w (binary Lte l r) xs h k
+  collected_have w e xs h k = lone_has w e xs h k
 
   pub grouped_has : (e : Tree Place) → P e → P (grouped e)
-  grouped_has e h = items_have true (items_of true e) (items_of_have true e h)
+  grouped_has e h = items_have true (collected true e []) (collected_have true e [] h tt)
 
 columns_down : (test : Place → Bool) → IsPassedDown (Holds test)
-columns_down test = record { of_sides = λ o l r h. and_parts (all_columns test l) (all_columns test r) h; of_operand = λ x h. h }
+columns_down test = record { of_sides = λ o l r h. and_parts (all_columns test l) (all_columns test r) h; of_null_operand = λ x h. h; of_operand = λ x h. h }
 
 nodes_down : (test : Tree Place → Bool) (t : IsOfLeaves test) → IsPassedDown (Lacks test t)
-nodes_down test t = record { of_sides = λ o l r h. operands_lack test t o l r h; of_operand = λ x h. (or_parts (test (is_not_null x)) (some_node test x) h).1 }
+nodes_down test t = record { of_sides = λ o l r h. operands_lack test t o l r h; of_null_operand = λ x h. (or_parts (test (is_null x)) (some_node test x) h).1; of_operand = λ x h. (or_parts (test (is_not_null x)) (some_node test x) h).1 }
 
 pub grouped_columns : (test : Place → Bool) (e : Tree Place) → all_columns test e ≡ true → all_columns test (grouped e) ≡ true
 grouped_columns test e h = grouped_has (Holds test) (columns_inherited test) (columns_down test) e h

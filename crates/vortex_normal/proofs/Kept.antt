@@ -1,5 +1,5 @@
 -- A predicate pushed down has no column and no placeholder that it had not.
-use Rattle.std.proofs.Common.{◌≡◌, Bool, true, false, not as not_b, ◌&&◌, ◌||◌, ⊎_elim, IsTrue, refl, sym, ap, ap₂, ◌∙◌}
+use Rattle.std.proofs.Common.{◌≡◌, Bool, true, false, not as not_b, ◌&&◌, ◌||◌, IsTrue, refl, ap}
 use Rattle.std.proofs.lemmas.Bool.{and_parts, or_parts, not-true}
 use Rattle.vortex_base.specs.Data.Exact.{both_hold}
 use Rattle.vortex_base.specs.Trees.Between.{to_operator}

@@ -1,9 +1,10 @@
-pub mod Fits
-pub mod Forms
-pub mod Grouped
-pub mod GroupsKept
-pub mod Kept
-pub mod Sets
-pub mod Steps
-pub mod Told
-pub mod Worked
+mod Adding
+mod Fits
+mod Forms
+mod Grouped
+mod GroupsKept
+mod Kept
+mod Sets
+mod Steps
+mod Told
+mod Worked

@@ -1,5 +1,5 @@
 -- What is in the sets that are made of sets.
-use Rattle.std.proofs.Common.{◌≡◌, Bool, true, false, not as not_b, ◌&&◌, ◌||◌, List, [], ◌∷◌, ◌++◌, Option, Some, None, refl, sym, ap, ap₂, ◌∙◌, if◌then◌else◌}
+use Rattle.std.proofs.Common.{◌≡◌, Bool, true, false, not as not_b, ◌&&◌, ◌||◌, List, [], ◌∷◌, ◌++◌, refl, sym, ap, ap₂, ◌∙◌, if◌then◌else◌}
 use Rattle.std.proofs.lemmas.Bool.{and_parts, not-true, not-false}
 use Rattle.vortex_base.specs.declared.scalar_value.ScalarValue.{ScalarValue}
 use Rattle.vortex_base.specs.declared.types.Operator.{Operator}
@@ -9,10 +9,7 @@ use Rattle.vortex_base.specs.Data.Values.{value_cmp}
 use Rattle.vortex_rewrite.proofs.Completeness.Interval.{is_comparison}
 use Rattle.vortex_rewrite.proofs.Soundness.TruthLogic.{clash, refuted}
 use Rattle.vortex_rewrite.proofs.Soundness.ValueTests.{by_le, holds_by_le, le_total, le_trans}
-use Rattle.vortex_normal.specs.declared.interval.Cut.{Cut}
-use Rattle.vortex_normal.specs.declared.interval.Cut.TheVariants.{Lowest, Before, After, Highest}
-use Rattle.vortex_normal.specs.declared.interval.Interval.{Interval}
-use Rattle.vortex_normal.specs.Intervals.{above, at_most, combined, comparison_set, contains, cut_le, higher, hull, in_set, insert, intersection, is_empty, lower, meet, meet_one, swapped, touches, union, unless_empty}
+use Rattle.vortex_normal.specs.Intervals.{Cut, Lowest, Before, After, Highest, Interval, above, at_most, combined, comparison_set, contains, cut_le, higher, hull, in_set, insert, intersection, is_empty, lower, meet, meet_one, swapped, touches, union}
 use Rattle.vortex_normal.proofs.Told.{joined}
 
 -- ---- cuts are in a total order, and a value is above all cuts up to some place

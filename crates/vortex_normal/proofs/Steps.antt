@@ -1,5 +1,5 @@
 -- The parts of a predicate fit what they become.
-use Rattle.std.proofs.Common.{◌≡◌, Bool, true, false, not as not_b, ◌&&◌, Result, Ok, Err, IsOk, IsTrue, refl, sym, ap, subst, ◌∙◌}
+use Rattle.std.proofs.Common.{◌≡◌, Bool, true, false, not as not_b, ◌&&◌, Result, Ok, Err, IsOk, IsTrue, refl, ap, subst}
 use Rattle.std.specs.Prelude.{Some}
 use Rattle.std.proofs.lemmas.Bool.{and_parts}
 use Rattle.vortex_base.specs.Data.Exact.{both_hold}
@@ -8,9 +8,9 @@ use Rattle.vortex_base.specs.declared.scalar_value.ScalarValue.{ScalarValue}
 use Rattle.vortex_base.specs.declared.scalar_value.ScalarValue.TheVariants as value
 use Rattle.vortex_normal.specs.Intervals.{literal_as, range_of}
 use Rattle.vortex_base.specs.Trees.Between.{to_operator}
-use Rattle.vortex_base.specs.Trees.Tree.{Tree, Place, column, literal, binary, between, not, like}
-use Rattle.vortex_base.specs.Meanings.Typing.{are_comparable, between_type, binary_type, connective_type, comparison_type, is_bool, is_state, not_type, type_if, type_of, truth_type, with_type, with_types}
-use Rattle.vortex_base.specs.Data.Types.{as_nullable, dtype_eq_is_exact, is_nullable}
+use Rattle.vortex_base.specs.Trees.Tree.{Tree, Place, column, literal, binary, between, not}
+use Rattle.vortex_base.specs.Meanings.Typing.{are_comparable, between_type, binary_type, comparison_type, is_bool, is_state, not_type, type_if, type_of, truth_type, with_type, with_types}
+use Rattle.vortex_base.specs.Data.Types.{as_nullable, dtype_eq_is_exact}
 use Rattle.vortex_base.specs.declared.dtype.DType.{DType}
 use Rattle.vortex_base.specs.declared.dtype.DType.TheVariants as dtype
 use Rattle.vortex_base.specs.declared.error.BaseError.{BaseError}

@@ -1,5 +1,5 @@
 -- What a predicate pushed down is satisfied by: the rows where the given one has the wanted truth.
-use Rattle.std.proofs.Common.{◌≡◌, ◌<◌, ◌^◌, ℕ, Bool, true, false, not as not_b, ◌&&◌, ◌||◌, ◌⊎◌, ⊎_elim, List, [], Option, Some, None, Result, Ok, Err, IsTrue, refl, sym, ap, ap₂, subst, ◌∙◌, if◌then◌else◌}
+use Rattle.std.proofs.Common.{◌≡◌, ◌<◌, ◌^◌, ℕ, Bool, true, false, not as not_b, ◌&&◌, ◌||◌, ⊎_elim, List, [], Option, Some, None, Result, Ok, Err, IsTrue, refl, sym, ap, ap₂, ◌∙◌, if◌then◌else◌}
 use Rattle.std.specs.Prelude.{is_none}
 use Rattle.std.proofs.lemmas.Bool.{and_parts, or_parts}
 use Rattle.std.proofs.lemmas.Option.{same_Some, none-some}
@@ -14,10 +14,10 @@ use Rattle.vortex_base.specs.Data.Scalars.{Constant, is_optional_value}
 use Rattle.vortex_base.specs.Data.Types.{as_nullable}
 use Rattle.vortex_base.specs.Data.Values.{value_cmp}
 use Rattle.vortex_base.specs.Meanings.Fitting.{fits_row}
-use Rattle.vortex_base.specs.Meanings.Meaning.{applied, both, compared, either, holds, is_like, is_true, liked as liked_values, meaning, opposite, satisfies, truth, truth_value, unless_null, within}
+use Rattle.vortex_base.specs.Meanings.Meaning.{applied, both, compared, either, holds, is_true, liked as liked_values, meaning, opposite, satisfies, truth, truth_value, within}
 use Rattle.vortex_base.specs.Meanings.RowTest.{is_wanted}
-use Rattle.vortex_base.specs.Meanings.Typing.{is_bool, is_utf8, like_type, type_if, truth_type, type_of, with_type, with_types}
-use Rattle.vortex_base.specs.Patterns.Like.{like_text, matches}
+use Rattle.vortex_base.specs.Meanings.Typing.{is_bool, is_utf8, like_type, type_if, type_of, with_types}
+use Rattle.vortex_base.specs.Patterns.Like.{like_text}
 use Rattle.vortex_base.specs.Trees.Tree.{Tree, Place, column, literal, binary, between, is_null, is_not_null, not, like, stat, row_count, has_bare_column, has_row_count}
 use Rattle.vortex_base.specs.declared.dtype.DType.{DType}
 use Rattle.vortex_base.specs.declared.dtype.DType.TheVariants as dtype
@@ -25,7 +25,6 @@ use Rattle.vortex_base.specs.declared.error.BaseError.{BaseError}
 use Rattle.vortex_base.specs.declared.like.LikeOptions.{LikeOptions}
 use Rattle.vortex_base.specs.declared.scalar_value.ScalarValue.{ScalarValue}
 use Rattle.vortex_base.specs.declared.scalar_value.ScalarValue.TheVariants as value
-use Rattle.vortex_base.specs.declared.types.BetweenOptions.{BetweenOptions}
 use Rattle.vortex_base.specs.declared.types.Operator.{Operator}
 use Rattle.vortex_base.specs.declared.types.Operator.TheVariants.{Eq, NotEq, Gt, Gte, Lt, Lte, And, Or}
 use Rattle.vortex_base.specs.declared.types.StrictComparison.{StrictComparison}
@@ -33,11 +32,10 @@ use Rattle.vortex_base.specs.declared.types.StrictComparison.TheVariants.{Strict
 use Rattle.vortex_rewrite.proofs.Completeness.Decided.{comparison_applied}
 use Rattle.vortex_rewrite.proofs.Completeness.Interval.{is_comparison}
 use Rattle.vortex_rewrite.proofs.Soundness.TruthLogic.{true_and, true_or, truth_back}
-use Rattle.vortex_rewrite.specs.Rewriting.Falsifiers.{bool_literal}
 use Rattle.vortex_rewrite.specs.Rewriting.Predicates.{has_type, is_predicate}
-use Rattle.vortex_normal.specs.Pushed.{all_by, all_of, any_by, any_of, comparison, connected, decided, is_null_literal, is_reflexive, like_as, liked, null_test, opposite_of, operator_as, pushed, settled}
+use Rattle.vortex_normal.specs.Pushed.{all_by, all_of, any_by, any_of, comparison, connected, decided, is_null_literal, is_reflexive, like_as, liked, null_test, operator_as, pushed, settled}
 use Rattle.vortex_normal.proofs.Forms.{comparison_as, liked_as, settled_as}
-use Rattle.vortex_normal.proofs.Steps.{operand, sides, typed}
+use Rattle.vortex_normal.proofs.Steps.{operand, sides}
 
 -- ---- wanted truths
 

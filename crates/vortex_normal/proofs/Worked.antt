@@ -1,18 +1,7 @@
 -- Worked rows, found by computation alone.
-use Rattle.std.proofs.Common.{◌≡◌, true, false, Some, None, refl}
-use Rattle.vortex_base.specs.declared.dtype.DType.TheVariants as dtype
-use Rattle.vortex_base.specs.declared.types.PType.TheVariants.{U8}
-use Rattle.vortex_base.specs.declared.types.Nullability.TheVariants.{Nullable}
-use Rattle.vortex_base.specs.declared.pvalue.PValue.TheVariants as number
-use Rattle.vortex_base.specs.declared.scalar_value.ScalarValue.TheVariants as value
-use Rattle.vortex_base.specs.declared.types.Operator.{Operator}
-use Rattle.vortex_base.specs.declared.types.Operator.TheVariants.{Eq, NotEq, Gt, Gte, Lt, Lte, And, Or}
-use Rattle.vortex_base.specs.declared.types.StrictComparison.TheVariants.{Strict, NonStrict}
-use Rattle.vortex_base.specs.Trees.Tree.{Tree, Place, column, literal, binary, between, is_not_null, not}
-use Rattle.vortex_rewrite.specs.Rewriting.Falsifiers.{bool_literal}
-use Rattle.vortex_normal.specs.Groups.{normal}
+use Rattle.std.proofs.Common.{refl}
 use Rattle.vortex_normal.specs.Pushed.{all_of, any_of, comparison, settled}
-use Rattle.vortex_normal.specs.Worked.{a, b, compare, null_number, range, FormExamples}
+use Rattle.vortex_normal.specs.Worked.{FormExamples}
 
 pub form_examples : FormExamples
 unfolding all_of any_of comparison settled
@@ -26,4 +15,20 @@ form_examples = record {
   null = refl;
   settled_sides = refl;
   all_values = refl;
+  not_null_operand = refl;
+  itself_at_most = refl;
+  equal = refl;
+  equal_by_ranges = refl;
+  unequal = refl;
+  not_unequal = refl;
+  open_ends = refl;
+  touching = refl;
+  between_two = refl;
+  apart = refl;
+  literal_first = refl;
+  null_and_value = refl;
+  some_and_value = refl;
+  null_or_not = refl;
+  null_or_value = refl;
+  inner_chain = refl;
 }

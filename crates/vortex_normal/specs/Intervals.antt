@@ -8,16 +8,30 @@ use Rattle.vortex_base.specs.declared.types.Operator.{Operator}
 use Rattle.vortex_base.specs.declared.types.Operator.TheVariants.{Eq, NotEq, Gt, Gte, Lt, Lte, And, Or}
 use Rattle.vortex_base.specs.declared.scalar_value.ScalarValue.{ScalarValue}
 use Rattle.vortex_base.specs.Data.Values.{value_cmp}
-use Rattle.vortex_base.specs.Trees.Tree.{Tree, Place, column, literal, binary, between, is_not_null}
+use Rattle.vortex_base.specs.Trees.Tree.{Tree, Place, column, literal, binary, between, is_null, is_not_null}
 use Rattle.vortex_rewrite.specs.Rewriting.Falsifiers.{bool_literal}
-use Rattle.vortex_normal.specs.declared.interval.Cut.{Cut}
-use Rattle.vortex_normal.specs.declared.interval.Cut.TheVariants.{Lowest, Before, After, Highest}
-use Rattle.vortex_normal.specs.declared.interval.Interval.{Interval}
+use Rattle.vortex_normal.specs.declared.interval.Cut.{Cut as LentCut}
+use Rattle.vortex_normal.specs.declared.interval.Cut.TheVariants as lent
+use Rattle.vortex_normal.specs.declared.interval.Interval.{Interval as LentInterval}
 
 abbrev pub at_most : ScalarValue → ScalarValue → Bool
 at_most x y = not_b (is_gt (value_cmp x y))
 
 -- ---- cuts
+
+-- a place between values, in their order: below all of them, just below a value, just above one, above all
+pub data Cut : Type 0 where
+  Lowest : Cut
+  Before : ScalarValue → Cut
+  After : ScalarValue → Cut
+  Highest : Cut
+
+-- a cut that lends its value
+abbrev pub cut_of : LentCut → Cut
+cut_of lent.Lowest = Lowest
+cut_of (lent.Before v) = Before v.now
+cut_of (lent.After v) = After v.now
+cut_of lent.Highest = Highest
 
 -- the value lies above the cut
 abbrev pub above : Cut → ScalarValue → Bool
@@ -47,6 +61,14 @@ abbrev pub lower : Cut → Cut → Cut
 lower c d = if cut_le c d then c else d
 
 -- ---- intervals
+
+-- the values above one cut and not above another
+pub record Interval : Type 0 where
+  pub low : Cut
+  pub high : Cut
+
+abbrev pub interval_of : LentInterval → Interval
+interval_of i = record { low = cut_of i.low; high = cut_of i.high }
 
 abbrev pub contains : Interval → ScalarValue → Bool
 contains i v = above i.low v && not_b (above i.high v)
@@ -124,12 +146,34 @@ swapped o = o
 abbrev pub place_at : (index : ℕ) → DType → Place
 place_at i t = record { index = i; dtype = t }
 
+-- the one value that two intervals leave out, if there is nothing else that they do
+abbrev pub hole_by : Cut → Cut → Cut → Cut → Option ScalarValue
+hole_by Lowest (Before u) (After l) Highest = if at_most u l && at_most l u then Some u else None
+hole_by a b c d = None
+
+abbrev pub only_hole : Interval → Interval → Option ScalarValue
+only_hole i j = hole_by i.low i.high j.low j.high
+
+abbrev pub cuts_all : Cut → Cut → Bool
+cuts_all Lowest Highest = true
+cuts_all a b = false
+
+-- all values are in the set, by the cuts of its first interval
+abbrev pub is_full : List Interval → Bool
+is_full [] = false
+is_full (i ∷ is) = cuts_all i.low i.high
+
 module _ (c : Place) where
   abbrev pub literal_as : ScalarValue → Tree Place
   literal_as v = literal (record { dtype = c.dtype; value = Some v })
 
   abbrev pub range_of : BetweenOptions → (l u : ScalarValue) → Tree Place
   range_of o l u = between o (column c) (literal_as l) (literal_as u)
+
+  -- from the one value to the other: an equality if they are one
+  abbrev pub closed_range : ScalarValue → ScalarValue → Tree Place
+  closed_range l u = if at_most u l && at_most l u then binary Eq (column c) (literal_as l)
+      else range_of (record { lower_strict = NonStrict; upper_strict = NonStrict }) l u
 
   abbrev pub between_cuts : Cut → Cut → Tree Place
   between_cuts Lowest Highest = is_not_null (column c)
@@ -138,12 +182,34 @@ module _ (c : Place) where
   between_cuts (Before l) Highest = binary Gte (column c) (literal_as l)
   between_cuts (After l) Highest = binary Gt (column c) (literal_as l)
   between_cuts (Before l) (Before u) = range_of (record { lower_strict = NonStrict; upper_strict = Strict }) l u
-  between_cuts (Before l) (After u) = range_of (record { lower_strict = NonStrict; upper_strict = NonStrict }) l u
+  between_cuts (Before l) (After u) = closed_range l u
   between_cuts (After l) (Before u) = range_of (record { lower_strict = Strict; upper_strict = Strict }) l u
   between_cuts (After l) (After u) = range_of (record { lower_strict = Strict; upper_strict = NonStrict }) l u
   between_cuts i j = bool_literal false
 
+  -- every value but this one
+  abbrev pub all_but : Option ScalarValue → Tree Place → Tree Place
+  all_but (Some v) e = binary NotEq (column c) (literal_as v)
+  all_but None e = e
+
+  abbrev pub either_test : Interval → Tree Place → Tree Place
+  either_test i e = binary Or (between_cuts i.low i.high) e
+
+  abbrev pub two_test : (i j : Interval) → Tree Place
+  two_test i j = all_but (only_hole i j) (either_test i (between_cuts j.low j.high))
+
   abbrev pub set_test : List Interval → Tree Place
   set_test [] = bool_literal false
   set_test (i ∷ []) = between_cuts i.low i.high
-  set_test (i ∷ is) = binary Or (between_cuts i.low i.high) (set_test is)
+  set_test (i ∷ j ∷ []) = two_test i j
+  set_test (i ∷ is) = either_test i (set_test is)
+
+  -- null, or a value in the set
+  abbrev pub null_or : List Interval → Tree Place
+  null_or [] = is_null (column c)
+  null_or (i ∷ is) = if is_full (i ∷ is) then bool_literal true else binary Or (is_null (column c)) (set_test (i ∷ is))
+
+  -- the column has a value in the set, or is null where that counts
+  abbrev pub values_test : (with_null : Bool) → List Interval → Tree Place
+  values_test true is = null_or is
+  values_test false is = set_test is

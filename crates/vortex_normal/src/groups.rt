@@ -1,16 +1,16 @@
 //! AND and OR chains, with what is said of one column in one place.
-ghost use Rattle.std.specs.Prelude.{◌≡◌, ◌++◌, ◌∷◌, [], IsTrue, map, option_map};
-ghost use Rattle.vortex_base.specs.Trees.Tree as tree;
+ghost use Rattle.std.specs.Prelude.{◌≡◌, ◌<◌, [], IfSome, IsTrue, length, map};
+ghost use Rattle.std.specs.List.{position};
 ghost use Rattle.vortex_rewrite.specs.Answers.{Makes, OkOrMemory};
 ghost use Rattle.vortex_rewrite.specs.Rewriting.Predicates.{is_predicate};
 ghost use Rattle.vortex_normal.specs.Groups as spec;
-ghost use Rattle.vortex_normal.specs.Intervals.{place_at};
+ghost use Rattle.vortex_normal.specs.Intervals.{interval_of, place_at};
 ghost use Rattle.vortex_normal.specs.Groups.{item_fits, item_of, items_fit};
 
-use crate::interval::{Cut, Interval, combined, comparison_set, copied, one, swapped};
+use crate::interval::{Cut, Interval, combined, comparison_set, one, swapped};
 use crate::leaves::connected;
 use crate::predicate::Predicate;
-use crate::tests_of::set_test;
+use crate::tests_of::values_test;
 use std::alloc::Global;
 use vortex_base::bound_expression::BoundExpression;
 use vortex_base::bound_expression::parts::Parts;
@@ -19,67 +19,93 @@ use vortex_base::scalar::Scalar;
 use vortex_base::types::Operator;
 use vortex_stats::error::StatsError;
 
+/// The column at a place, of a type, is null where that counts, or has a value in a set.
+#[derive(Drop)]
+pub(crate) struct Values<'a> {
+    place: usize,
+    dtype: DType,
+    with_null: bool,
+    set: Vec<Interval<'a>>,
+}
+
 /// One predicate of a chain.
 #[derive(Drop)]
-pub(crate) enum Item {
-    /// The values of the column at a place, of a type, are in a set.
-    Inside(usize, DType, Vec<Interval>),
+pub(crate) enum Item<'a> {
+    /// What is said of a column.
+    Inside(Values<'a>),
     /// Any other.
     Other(Predicate),
 }
 
-fn item_copied(alloc: Global, item: &Item) -> Result<Item, StatsError>
-    ensures { OkOrMemory result (λ copy. item_of copy ≡ item_of item.now) }
-{
-    Ok(match item {
-        Item::Inside(place, dtype, set) => Item::Inside(*place, *dtype, copied(alloc, set)?),
-        Item::Other(predicate) => Item::Other(Predicate::copied(predicate.expression())?),
-    })
-}
-
 /// The predicate that an item is.
-fn item_test(alloc: Global, item: &Item) -> Result<Predicate, StatsError>
-    requires { IsTrue (item_fits (item_of item.now)) }
-    ensures { Makes (spec.item_test (item_of item.now)) result }
+fn item_test(alloc: Global, item: Item<'_>) -> Result<Predicate, StatsError>
+    requires { IsTrue (item_fits (item_of item)) }
+    ensures { Makes (spec.item_test (item_of item.entry)) result }
 {
     match item {
-        Item::Inside(place, dtype, set) => set_test(alloc, *place, *dtype, set),
-        Item::Other(predicate) => Predicate::copied(predicate.expression()),
+        Item::Inside(said) => {
+            values_test(alloc, said.place, said.dtype, said.with_null, &said.set)
+        }
+        Item::Other(predicate) => Ok(predicate),
     }
+}
+
+/// The predicate that items make up with one that is there, joined by AND or by OR.
+fn joined_test(
+    alloc: Global,
+    is_and: bool,
+    items: Vec<Item<'_>>,
+    made: Predicate,
+) -> Result<Predicate, StatsError>
+    requires { IsTrue (items_fit (map item_of items.items)) }
+    ensures { Makes (spec.joined_test is_and (map item_of items.entry.items) made) result }
+{
+    let mut made = made;
+    let mut left = items;
+    while let Some(last) = left.pop() {
+        let test = item_test(alloc, last)?;
+        made = connected(alloc, is_and, test, made)?;
+    }
+    Ok(made)
 }
 
 /// The predicate that items make up, joined by AND or by OR.
-fn items_test(alloc: Global, is_and: bool, items: &[Item]) -> Result<Predicate, StatsError>
-    requires { IsTrue (items_fit (map item_of items.now)) }
-    ensures { Makes (spec.items_test is_and (map item_of items.now)) result }
+fn items_test(alloc: Global, is_and: bool, items: Vec<Item<'_>>) -> Result<Predicate, StatsError>
+    requires { IsTrue (items_fit (map item_of items.items)) }
+    ensures { Makes (spec.items_test is_and (map item_of items.entry.items)) result }
 {
-    match items {
-        [] => Predicate::truth(alloc, is_and),
-        [only] => item_test(alloc, only),
-        [first, rest @ ..] => {
-            let first = item_test(alloc, first)?;
-            let rest = items_test(alloc, is_and, rest)?;
-            connected(alloc, is_and, first, rest)
-        }
-    }
+    let made = Predicate::truth(alloc, is_and)?;
+    joined_test(alloc, is_and, items, made)
 }
 
-fn other(e: &BoundExpression) -> Result<Item, StatsError>
+fn other<'a>(e: &BoundExpression) -> Result<Item<'a>, StatsError>
     requires { IsTrue (is_predicate e.now) }
     ensures { OkOrMemory result (λ item. item_of item ≡ spec.other e.now) }
 {
     Ok(Item::Other(Predicate::copied(e)?))
 }
 
+fn inside<'a>(place: usize, dtype: DType, with_null: bool, set: Vec<Interval<'a>>) -> Item<'a>
+    ensures { item_of result
+        ≡ spec.inside (place_at place dtype) with_null (map interval_of set.entry.items) }
+{
+    Item::Inside(Values {
+        place,
+        dtype,
+        with_null,
+        set,
+    })
+}
+
 /// A comparison of a column with a literal; `e` is the whole.
-fn compared_item(
+fn compared_item<'a>(
     alloc: Global,
     operator: Operator,
     place: usize,
     dtype: DType,
-    literal: &Scalar,
-    e: &BoundExpression,
-) -> Result<Item, StatsError>
+    literal: &'a Scalar,
+    e: &'a BoundExpression,
+) -> Result<Item<'a>, StatsError>
     requires { IsTrue (is_predicate e.now) }
     ensures { let column = place_at place dtype in OkOrMemory result
         (λ item. item_of item ≡ spec.compared_item operator column literal.now.value e.now) }
@@ -90,13 +116,13 @@ fn compared_item(
             None => other(e),
             Some(value) => {
                 let set = comparison_set(alloc, operator, value)?;
-                Ok(Item::Inside(place, dtype, set))
+                Ok(inside(place, dtype, false, set))
             }
         },
     }
 }
 
-fn leaf_item(alloc: Global, e: &BoundExpression) -> Result<Item, StatsError>
+fn leaf_item<'a>(alloc: Global, e: &'a BoundExpression) -> Result<Item<'a>, StatsError>
     requires { IsTrue (is_predicate e.now) }
     ensures { OkOrMemory result (λ item. item_of item ≡ spec.leaf_item e.now) }
 {
@@ -110,10 +136,14 @@ fn leaf_item(alloc: Global, e: &BoundExpression) -> Result<Item, StatsError>
             }
             _ => other(e),
         },
+        Parts::IsNull(x) => match x.parts() {
+            Parts::Column(place, dtype) => { Ok(inside(place, dtype, true, Vec::new(alloc))) }
+            _ => other(e),
+        },
         Parts::IsNotNull(x) => match x.parts() {
             Parts::Column(place, dtype) => {
                 let all = one(alloc, Cut::Lowest, Cut::Highest)?;
-                Ok(Item::Inside(place, dtype, all))
+                Ok(inside(place, dtype, false, all))
             }
             _ => other(e),
         },
@@ -121,133 +151,144 @@ fn leaf_item(alloc: Global, e: &BoundExpression) -> Result<Item, StatsError>
     }
 }
 
-/// Two items as one, if both are of one column.
-fn merged(
+impl<'a> Item<'a> {
+    /// Whether this says something of the column at a place, of a type.
+    fn is_of(&self, place: usize, dtype: DType) -> bool
+        ensures { result ≡ spec.is_of (place_at place dtype) (item_of self.now) }
+    {
+        match self {
+            Item::Inside(said) => place == said.place && dtype == said.dtype,
+            Item::Other(_) => false,
+        }
+    }
+}
+
+/// An item with what is said of the same column joined to it.
+fn widened<'a>(
     alloc: Global,
     is_and: bool,
-    left: &Item,
-    right: &Item,
-) -> Result<Option<Item>, StatsError>
-    ensures { OkOrMemory result (λ item.
-        option_map item_of item ≡ spec.merged is_and (item_of left.now) (item_of right.now)) }
+    said: &Values<'a>,
+    item: &Item<'a>,
+) -> Result<Item<'a>, StatsError>
+    ensures { OkOrMemory result (λ wider. item_of wider ≡ spec.widened is_and said.now.with_null
+        (map interval_of said.now.set.items) (item_of item.now)) }
 {
-    match (left, right) {
-        (Item::Inside(i, s, left), Item::Inside(j, t, right)) => {
-            if *i == *j && *s == *t {
-                let set = combined(alloc, is_and, left, right)?;
-                Ok(Some(Item::Inside(*j, *t, set)))
+    match item {
+        Item::Inside(here) => {
+            let with_null = if is_and {
+                said.with_null && here.with_null
             } else {
-                Ok(None)
-            }
+                said.with_null || here.with_null
+            };
+            let set = combined(alloc, is_and, &said.set, &here.set)?;
+            Ok(inside(here.place, here.dtype, with_null, set))
         }
-        _ => Ok(None),
+        Item::Other(predicate) => Ok(Item::Other(Predicate::copied(predicate.expression())?)),
     }
 }
 
-fn copy_items(alloc: Global, items: &[Item], out: &mut Vec<Item>) -> Result<(), StatsError>
-    ensures { OkOrMemory result
-        (λ _. map item_of out.new.items ≡ map item_of out.old.items ++ map item_of items.now) }
+fn place_of(items: &[Item<'_>], place: usize, dtype: DType) -> Option<usize>
+    ensures value { result
+        ≡ position (λ item. spec.is_of (place_at place dtype) (item_of item)) items.now }
+    ensures in_range { IfSome result (λ i. i < length items.now) }
 {
-    match items {
-        [] => Ok(()),
-        [first, rest @ ..] => {
-            out.push(item_copied(alloc, first)?)?;
-            copy_items(alloc, rest, out)
-        }
-    }
+    items.iter().position(|item| item.is_of(place, dtype))
 }
 
-/// Appends items with one more, which is merged with the first of its column.
-fn add(
+/// Joins to the items of a chain what a set says of a column.
+fn add_set<'a>(
     alloc: Global,
     is_and: bool,
-    item: &Item,
-    items: &[Item],
-    out: &mut Vec<Item>,
+    said: Values<'a>,
+    items: &mut Vec<Item<'a>>,
 ) -> Result<(), StatsError>
-    ensures { OkOrMemory result (λ _. map item_of out.new.items
-        ≡ map item_of out.old.items ++ spec.add is_and (item_of item.now) (map item_of items.now)) }
+    ensures { OkOrMemory result (λ _. map item_of items.new.items
+        ≡ spec.add_set is_and (place_at said.entry.place said.entry.dtype) said.entry.with_null
+        (map interval_of said.entry.set.items) (map item_of items.old.items)) }
 {
-    match items {
-        [] => {
-            out.push(item_copied(alloc, item)?)?;
+    match place_of(items, said.place, said.dtype) {
+        Some(found) => {
+            let wider = widened(alloc, is_and, &said, &items[found])?;
+            items[found] = wider;
             Ok(())
         }
-        [first, rest @ ..] => match merged(alloc, is_and, item, first)? {
-            Some(both) => {
-                out.push(both)?;
-                copy_items(alloc, rest, out)
-            }
-            None => {
-                out.push(item_copied(alloc, first)?)?;
-                add(alloc, is_and, item, rest, out)
-            }
-        },
-    }
-}
-
-fn add_all(
-    alloc: Global,
-    is_and: bool,
-    left: &[Item],
-    right: Vec<Item>,
-) -> Result<Vec<Item>, StatsError>
-    ensures { OkOrMemory result (λ items. map item_of items.items
-        ≡ spec.add_all is_and (map item_of left.now) (map item_of right.items)) }
-{
-    match left {
-        [] => Ok(right),
-        [first, rest @ ..] => {
-            let items = add_all(alloc, is_and, rest, right)?;
-            let mut all = Vec::new(alloc);
-            add(alloc, is_and, first, &items, &mut all)?;
-            Ok(all)
+        None => {
+            items.push(Item::Inside(said))?;
+            Ok(())
         }
     }
 }
 
-/// The items of a chain of one connective, as those of a chain that is wanted.
-fn chained(
+fn add<'a>(
     alloc: Global,
-    wanted: bool,
     is_and: bool,
-    items: Vec<Item>,
-) -> Result<Vec<Item>, StatsError>
-    requires { IsTrue (items_fit (map item_of items.items)) }
-    ensures { OkOrMemory result
-        (λ r. map item_of r.items ≡ spec.chained wanted is_and (map item_of items.items)) }
+    item: Item<'a>,
+    items: &mut Vec<Item<'a>>,
+) -> Result<(), StatsError>
+    ensures { OkOrMemory result (λ _. map item_of items.new.items
+        ≡ spec.add is_and (item_of item.entry) (map item_of items.old.items)) }
 {
-    if wanted == is_and || items.len() == 1 {
-        return Ok(items);
+    match item {
+        Item::Inside(said) => add_set(alloc, is_and, said, items),
+        Item::Other(predicate) => {
+            items.push(Item::Other(predicate))?;
+            Ok(())
+        }
     }
-    let whole = items_test(alloc, is_and, &items)?;
-    let mut one = Vec::new(alloc);
-    one.push(Item::Other(whole))?;
-    Ok(one)
 }
 
-/// The items of the AND chain that a predicate is, or of the OR chain.
-fn items_of(alloc: Global, is_and: bool, e: &BoundExpression) -> Result<Vec<Item>, StatsError>
+/// The items of a whole chain as one of another.
+fn as_one<'a>(alloc: Global, is_and: bool, items: Vec<Item<'a>>) -> Result<Item<'a>, StatsError>
+    requires { IsTrue (items_fit (map item_of items.items)) }
+    ensures { OkOrMemory result
+        (λ item. item_of item ≡ spec.as_one is_and (map item_of items.entry.items)) }
+{
+    let mut items = items;
+    if items.len() == 1 {
+        if let Some(only) = items.pop() {
+            return Ok(only);
+        }
+    }
+    Ok(Item::Other(items_test(alloc, is_and, items)?))
+}
+
+/// Joins a predicate to the items of a chain.
+fn collect<'a>(
+    alloc: Global,
+    is_and: bool,
+    e: &'a BoundExpression,
+    items: &mut Vec<Item<'a>>,
+) -> Result<(), StatsError>
     requires { IsTrue (is_predicate e.now) }
-    ensures { OkOrMemory result (λ items. map item_of items.items ≡ spec.items_of is_and e.now) }
+    ensures { OkOrMemory result (λ _. map item_of items.new.items
+        ≡ spec.collected is_and e.now (map item_of items.old.items)) }
 {
     match e.parts() {
         Parts::Binary(Operator::And, left, right) => {
-            let left = items_of(alloc, true, left)?;
-            let right = items_of(alloc, true, right)?;
-            let items = add_all(alloc, true, &left, right)?;
-            chained(alloc, is_and, true, items)
+            if is_and {
+                collect(alloc, true, left, items)?;
+                collect(alloc, true, right, items)
+            } else {
+                let mut inner = Vec::new(alloc);
+                collect(alloc, true, left, &mut inner)?;
+                collect(alloc, true, right, &mut inner)?;
+                add(alloc, false, as_one(alloc, true, inner)?, items)
+            }
         }
         Parts::Binary(Operator::Or, left, right) => {
-            let left = items_of(alloc, false, left)?;
-            let right = items_of(alloc, false, right)?;
-            let items = add_all(alloc, false, &left, right)?;
-            chained(alloc, is_and, false, items)
+            if is_and {
+                let mut inner = Vec::new(alloc);
+                collect(alloc, false, left, &mut inner)?;
+                collect(alloc, false, right, &mut inner)?;
+                add(alloc, true, as_one(alloc, false, inner)?, items)
+            } else {
+                collect(alloc, false, left, items)?;
+                collect(alloc, false, right, items)
+            }
         }
         _ => {
-            let mut one = Vec::new(alloc);
-            one.push(leaf_item(alloc, e)?)?;
-            Ok(one)
+            let item = leaf_item(alloc, e)?;
+            add(alloc, is_and, item, items)
         }
     }
 }
@@ -257,6 +298,7 @@ pub(crate) fn grouped(alloc: Global, e: &BoundExpression) -> Result<Predicate, S
     requires { IsTrue (is_predicate e.now) }
     ensures { Makes (spec.grouped e.now) result }
 {
-    let items = items_of(alloc, true, e)?;
-    items_test(alloc, true, &items)
+    let mut items = Vec::new(alloc);
+    collect(alloc, true, e, &mut items)?;
+    items_test(alloc, true, items)
 }

@@ -1,44 +1,44 @@
 //! Intervals of values, by the cuts between values that bound them.
-ghost use Rattle.std.specs.Prelude.{◌≡◌, ◌++◌, ◌∷◌, []};
-ghost use Rattle.vortex_rewrite.specs.Answers.{Makes, OkOrMemory};
+ghost use Rattle.std.specs.Prelude.{◌≡◌, ◌++◌, ◌∷◌, [], map};
+ghost use Rattle.vortex_rewrite.specs.Answers.{OkOrMemory};
 ghost use Rattle.vortex_normal.specs.Intervals as spec;
+ghost use Rattle.vortex_normal.specs.Intervals.{cut_of, interval_of};
 
 use std::alloc::Global;
 use vortex_base::scalar_value::ScalarValue;
 use vortex_base::types::Operator;
-use vortex_rewrite::built::built;
 use vortex_stats::error::StatsError;
 
-/// A place between values, in their order.
-#[derive(Debug, Drop)]
-pub enum Cut {
+/// A place between values, in their order; the values are lent by the predicate that names them.
+#[derive(Clone, Copy)]
+pub(crate) enum Cut<'a> {
     /// Below all values.
     Lowest,
     /// Just below a value.
-    Before(ScalarValue),
+    Before(&'a ScalarValue),
     /// Just above a value.
-    After(ScalarValue),
+    After(&'a ScalarValue),
     /// Above all values.
     Highest,
 }
 
-/// The values above one cut and below another.
-#[derive(Debug, Drop)]
-pub struct Interval {
-    pub low: Cut,
-    pub high: Cut,
+/// The values above one cut and not above another.
+#[derive(Clone, Copy)]
+pub(crate) struct Interval<'a> {
+    pub(crate) low: Cut<'a>,
+    pub(crate) high: Cut<'a>,
 }
 
-fn is_at_most(a: &ScalarValue, b: &ScalarValue) -> bool
+pub(crate) fn is_at_most(a: &ScalarValue, b: &ScalarValue) -> bool
     ensures { result ≡ spec.at_most a.now b.now }
 {
     !a.cmp(b).is_gt()
 }
 
-impl Cut {
+impl<'a> Cut<'a> {
     /// Whether this cut is at most the other.
-    fn is_at_most(&self, other: &Cut) -> bool
-        ensures { result ≡ spec.cut_le self.now other.now }
+    fn is_at_most(self, other: Cut<'a>) -> bool
+        ensures { result ≡ spec.cut_le (cut_of self.entry) (cut_of other.entry) }
     {
         match (self, other) {
             (Cut::Lowest, _) | (_, Cut::Highest) => true,
@@ -50,102 +50,61 @@ impl Cut {
         }
     }
 
-    fn try_clone(&self) -> Result<Cut, StatsError>
-        ensures { Makes self.now result }
+    fn higher(self, other: Cut<'a>) -> Cut<'a>
+        ensures { cut_of result ≡ spec.higher (cut_of self.entry) (cut_of other.entry) }
     {
-        Ok(match self {
-            Cut::Lowest => Cut::Lowest,
-            Cut::Before(value) => Cut::Before(built(value.try_clone())?),
-            Cut::After(value) => Cut::After(built(value.try_clone())?),
-            Cut::Highest => Cut::Highest,
-        })
+        if self.is_at_most(other) { other } else { self }
     }
 
-    fn higher(&self, other: &Cut) -> Result<Cut, StatsError>
-        ensures { Makes (spec.higher self.now other.now) result }
+    fn lower(self, other: Cut<'a>) -> Cut<'a>
+        ensures { cut_of result ≡ spec.lower (cut_of self.entry) (cut_of other.entry) }
     {
-        if self.is_at_most(other) {
-            other.try_clone()
-        } else {
-            self.try_clone()
-        }
-    }
-
-    fn lower(&self, other: &Cut) -> Result<Cut, StatsError>
-        ensures { Makes (spec.lower self.now other.now) result }
-    {
-        if self.is_at_most(other) {
-            self.try_clone()
-        } else {
-            other.try_clone()
-        }
+        if self.is_at_most(other) { self } else { other }
     }
 }
 
-impl Interval {
-    fn try_clone(&self) -> Result<Interval, StatsError>
-        ensures { Makes self.now result }
+impl<'a> Interval<'a> {
+    fn intersection(self, other: Interval<'a>) -> Interval<'a>
+        ensures { interval_of result
+            ≡ spec.intersection (interval_of self.entry) (interval_of other.entry) }
     {
-        let low = self.low.try_clone()?;
-        let high = self.high.try_clone()?;
-        Ok(Interval { low, high })
-    }
-
-    fn intersection(&self, other: &Interval) -> Result<Interval, StatsError>
-        ensures { Makes (spec.intersection self.now other.now) result }
-    {
-        let low = self.low.higher(&other.low)?;
-        let high = self.high.lower(&other.high)?;
-        Ok(Interval { low, high })
-    }
-
-    fn is_empty(&self) -> bool
-        ensures { result ≡ spec.is_empty self.now }
-    {
-        self.high.is_at_most(&self.low)
-    }
-
-    fn touches(&self, other: &Interval) -> bool
-        ensures { result ≡ spec.touches self.now other.now }
-    {
-        self.low.is_at_most(&other.high) && other.low.is_at_most(&self.high)
-    }
-
-    fn hull(&self, other: &Interval) -> Result<Interval, StatsError>
-        ensures { Makes (spec.hull self.now other.now) result }
-    {
-        let low = self.low.lower(&other.low)?;
-        let high = self.high.higher(&other.high)?;
-        Ok(Interval { low, high })
-    }
-}
-
-/// Appends copies of intervals.
-fn copy_all(set: &[Interval], out: &mut Vec<Interval>) -> Result<(), StatsError>
-    ensures { OkOrMemory result (λ _. out.new.items ≡ out.old.items ++ set.now) }
-{
-    match set {
-        [] => Ok(()),
-        [first, rest @ ..] => {
-            out.push(first.try_clone()?)?;
-            copy_all(rest, out)
+        Interval {
+            low: self.low.higher(other.low),
+            high: self.high.lower(other.high),
         }
     }
-}
 
-/// A copy of a set.
-pub(crate) fn copied(alloc: Global, set: &[Interval]) -> Result<Vec<Interval>, StatsError>
-    ensures { OkOrMemory result (λ copy. copy.items ≡ set.now) }
-{
-    let mut copy = Vec::new(alloc);
-    copy_all(set, &mut copy)?;
-    Ok(copy)
+    fn is_empty(self) -> bool
+        ensures { result ≡ spec.is_empty (interval_of self.entry) }
+    {
+        self.high.is_at_most(self.low)
+    }
+
+    fn touches(self, other: Interval<'a>) -> bool
+        ensures { result ≡ spec.touches (interval_of self.entry) (interval_of other.entry) }
+    {
+        self.low.is_at_most(other.high) && other.low.is_at_most(self.high)
+    }
+
+    fn hull(self, other: Interval<'a>) -> Interval<'a>
+        ensures { interval_of result
+            ≡ spec.hull (interval_of self.entry) (interval_of other.entry) }
+    {
+        Interval {
+            low: self.low.lower(other.low),
+            high: self.high.higher(other.high),
+        }
+    }
 }
 
 /// Appends a set with one more interval, which takes in those that it touches.
-fn insert(interval: Interval, set: &[Interval], out: &mut Vec<Interval>) -> Result<(), StatsError>
-    ensures { OkOrMemory result
-        (λ _. out.new.items ≡ out.old.items ++ spec.insert interval set.now) }
+fn insert<'a>(
+    interval: Interval<'a>,
+    set: &[Interval<'a>],
+    out: &mut Vec<Interval<'a>>,
+) -> Result<(), StatsError>
+    ensures { OkOrMemory result (λ _. map interval_of out.new.items ≡ map interval_of out.old.items
+        ++ spec.insert (interval_of interval.entry) (map interval_of set.now)) }
 {
     match set {
         [] => {
@@ -153,11 +112,10 @@ fn insert(interval: Interval, set: &[Interval], out: &mut Vec<Interval>) -> Resu
             Ok(())
         }
         [first, rest @ ..] => {
-            if interval.touches(first) {
-                let wider = interval.hull(first)?;
-                insert(wider, rest, out)
+            if interval.touches(*first) {
+                insert(interval.hull(*first), rest, out)
             } else {
-                out.push(first.try_clone()?)?;
+                out.push(*first)?;
                 insert(interval, rest, out)
             }
         }
@@ -165,33 +123,38 @@ fn insert(interval: Interval, set: &[Interval], out: &mut Vec<Interval>) -> Resu
 }
 
 /// The values in either set.
-fn union(alloc: Global, left: &[Interval], right: &[Interval]) -> Result<Vec<Interval>, StatsError>
-    ensures { OkOrMemory result (λ set. set.items ≡ spec.union left.now right.now) }
+fn union<'a>(
+    alloc: Global,
+    left: &[Interval<'a>],
+    right: &[Interval<'a>],
+) -> Result<Vec<Interval<'a>>, StatsError>
+    ensures { OkOrMemory result (λ set. map interval_of set.items
+        ≡ spec.union (map interval_of left.now) (map interval_of right.now)) }
 {
     match left {
-        [] => copied(alloc, right),
+        [] => Ok(Vec::from_slice(alloc, right)?),
         [first, rest @ ..] => {
             let set = union(alloc, rest, right)?;
             let mut wider = Vec::new(alloc);
-            insert(first.try_clone()?, &set, &mut wider)?;
+            insert(*first, &set, &mut wider)?;
             Ok(wider)
         }
     }
 }
 
 /// Appends the intersections of one interval with each of a set, save those that are empty.
-fn meet_one(
-    interval: &Interval,
-    set: &[Interval],
-    out: &mut Vec<Interval>,
+fn meet_one<'a>(
+    interval: Interval<'a>,
+    set: &[Interval<'a>],
+    out: &mut Vec<Interval<'a>>,
 ) -> Result<(), StatsError>
-    ensures { OkOrMemory result
-        (λ _. out.new.items ≡ out.old.items ++ spec.meet_one interval.now set.now) }
+    ensures { OkOrMemory result (λ _. map interval_of out.new.items ≡ map interval_of out.old.items
+        ++ spec.meet_one (interval_of interval.entry) (map interval_of set.now)) }
 {
     match set {
         [] => Ok(()),
         [first, rest @ ..] => {
-            let common = interval.intersection(first)?;
+            let common = interval.intersection(*first);
             if common.is_empty() {
                 meet_one(interval, rest, out)
             } else {
@@ -203,27 +166,32 @@ fn meet_one(
 }
 
 /// Appends the values in both sets.
-fn meet(left: &[Interval], right: &[Interval], out: &mut Vec<Interval>) -> Result<(), StatsError>
-    ensures { OkOrMemory result
-        (λ _. out.new.items ≡ out.old.items ++ spec.meet left.now right.now) }
+fn meet<'a>(
+    left: &[Interval<'a>],
+    right: &[Interval<'a>],
+    out: &mut Vec<Interval<'a>>,
+) -> Result<(), StatsError>
+    ensures { OkOrMemory result (λ _. map interval_of out.new.items ≡ map interval_of out.old.items
+        ++ spec.meet (map interval_of left.now) (map interval_of right.now)) }
 {
     match left {
         [] => Ok(()),
         [first, rest @ ..] => {
-            meet_one(first, right, out)?;
+            meet_one(*first, right, out)?;
             meet(rest, right, out)
         }
     }
 }
 
 /// The values in both sets, or those in either.
-pub(crate) fn combined(
+pub(crate) fn combined<'a>(
     alloc: Global,
     is_and: bool,
-    left: &[Interval],
-    right: &[Interval],
-) -> Result<Vec<Interval>, StatsError>
-    ensures { OkOrMemory result (λ set. set.items ≡ spec.combined is_and left.now right.now) }
+    left: &[Interval<'a>],
+    right: &[Interval<'a>],
+) -> Result<Vec<Interval<'a>>, StatsError>
+    ensures { OkOrMemory result (λ set. map interval_of set.items
+        ≡ spec.combined is_and (map interval_of left.now) (map interval_of right.now)) }
 {
     if is_and {
         let mut set = Vec::new(alloc);
@@ -235,50 +203,43 @@ pub(crate) fn combined(
 }
 
 /// The values between two cuts.
-pub(crate) fn one(alloc: Global, low: Cut, high: Cut) -> Result<Vec<Interval>, StatsError>
+pub(crate) fn one<'a>(
+    alloc: Global,
+    low: Cut<'a>,
+    high: Cut<'a>,
+) -> Result<Vec<Interval<'a>>, StatsError>
     ensures { OkOrMemory result
-        (λ set. set.items ≡ spec.interval low high ∷ []) }
+        (λ set. map interval_of set.items
+        ≡ spec.interval (cut_of low.entry) (cut_of high.entry) ∷ []) }
 {
     let mut set = Vec::new(alloc);
     set.push(Interval { low, high })?;
     Ok(set)
 }
 
-fn before(value: &ScalarValue) -> Result<Cut, StatsError>
-    ensures { Makes (Cut.Before value.now) result }
-{
-    Ok(Cut::Before(built(value.try_clone())?))
-}
-
-fn after(value: &ScalarValue) -> Result<Cut, StatsError>
-    ensures { Makes (Cut.After value.now) result }
-{
-    Ok(Cut::After(built(value.try_clone())?))
-}
-
 /// The values of which a comparison with a value is true.
-pub(crate) fn comparison_set(
+pub(crate) fn comparison_set<'a>(
     alloc: Global,
     operator: Operator,
-    value: &ScalarValue,
-) -> Result<Vec<Interval>, StatsError>
-    ensures { OkOrMemory result (λ set. set.items ≡ spec.comparison_set operator value.now) }
+    value: &'a ScalarValue,
+) -> Result<Vec<Interval<'a>>, StatsError>
+    ensures { OkOrMemory result
+        (λ set. map interval_of set.items ≡ spec.comparison_set operator value.now) }
 {
     match operator {
-        Operator::Eq => one(alloc, before(value)?, after(value)?),
+        Operator::Eq => one(alloc, Cut::Before(value), Cut::After(value)),
         Operator::NotEq => {
-            let mut set = one(alloc, Cut::Lowest, before(value)?)?;
-            let low = after(value)?;
+            let mut set = one(alloc, Cut::Lowest, Cut::Before(value))?;
             set.push(Interval {
-                low,
+                low: Cut::After(value),
                 high: Cut::Highest,
             })?;
             Ok(set)
         }
-        Operator::Gt => one(alloc, after(value)?, Cut::Highest),
-        Operator::Gte => one(alloc, before(value)?, Cut::Highest),
-        Operator::Lt => one(alloc, Cut::Lowest, before(value)?),
-        Operator::Lte => one(alloc, Cut::Lowest, after(value)?),
+        Operator::Gt => one(alloc, Cut::After(value), Cut::Highest),
+        Operator::Gte => one(alloc, Cut::Before(value), Cut::Highest),
+        Operator::Lt => one(alloc, Cut::Lowest, Cut::Before(value)),
+        Operator::Lte => one(alloc, Cut::Lowest, Cut::After(value)),
         Operator::And | Operator::Or => Ok(Vec::new(alloc)),
     }
 }

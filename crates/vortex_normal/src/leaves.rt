@@ -1,9 +1,8 @@
 //! Leaves and connectives of a normal form.
-ghost use Rattle.std.specs.Prelude.{◌≡◌, IsOk, IsTrue, false};
+ghost use Rattle.std.specs.Prelude.{◌≡◌, IsOk, false};
 ghost use Rattle.vortex_base.specs.Trees.Tree as tree;
 ghost use Rattle.vortex_base.specs.Meanings.Typing.{type_of};
 ghost use Rattle.vortex_rewrite.specs.Answers.{Makes};
-ghost use Rattle.vortex_rewrite.specs.Rewriting.Predicates.{is_connective};
 ghost use Rattle.vortex_normal.specs.Pushed as normal;
 
 use crate::predicate::Predicate;

@@ -2,7 +2,7 @@
 #![tactic(auto)]
 
 mod groups;
-pub mod interval;
+mod interval;
 pub mod laws;
 mod leaves;
 pub mod normalize;

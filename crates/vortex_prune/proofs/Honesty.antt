@@ -2,8 +2,10 @@
 pub mod HonestParts
 pub mod HonestStats
 pub mod MeasuredParts
+pub mod OwnValues
 pub mod StatisticsBinders
 pub mod PartLemmas
 pub mod PartLiterals
 pub mod StatFits
 pub mod StatTypes
+pub mod ZoneLemmas

@@ -1,8 +1,11 @@
--- Parts: the columns of some rows, with a set of statistics for each.
-use Rattle.std.specs.Prelude.{◌≡◌, ℕ, Some, slice_get, Bool, List, [], ◌∷◌, IsTrue, MatchOption, ⊤, map}
+-- Parts: the columns of some rows, with a set of statistics for each; and zones, which are what is known of them without the rows.
+use Rattle.std.specs.Prelude.{◌≡◌, ℕ, Some, slice_get, Bool, List, [], ◌∷◌, IsTrue, MatchOption, map, ⊤}
+use Rattle.std.specs.List.{list_all}
 use lib.Pointwise.{pointwise}
+use Rattle.vortex_base.specs.declared.dtype.DType.{DType}
 use Rattle.vortex_base.specs.declared.scalar_value.ScalarValue.{ScalarValue}
-use Rattle.vortex_base.specs.Data.Columns.{ChunkData, ColumnData, IsChunk, appended_chunk}
+use Rattle.vortex_base.specs.Data.Columns.{ChunkData, ColumnData, IsChunk, appended_chunk, row_count as rows_of}
+use Rattle.vortex_base.specs.Data.Scopes.{Named}
 use Rattle.vortex_stats.specs.Copies.{holds_long}
 use Rattle.vortex_stats.specs.Sets.Claims.{IsTrueOf}
 use Rattle.vortex_stats.specs.Sets.Entries.{entries_fit}
@@ -21,12 +24,46 @@ pub record PartData : Type 0 where
   pub chunk : ChunkData
   pub stats : List Entries
 
+-- there is one set a type, and each fits it
+abbrev pub each_fits : List DType → List Entries → Bool
+each_fits ts ss = pointwise (λ t es. entries_fit es t) ts ss
+
 -- there is one set a column, and each fits its column's type
 abbrev pub sets_fit : List ColumnData → List Entries → Bool
-sets_fit cs ss = pointwise (λ c es. entries_fit es c.dtype) cs ss
+sets_fit cs ss = each_fits (map (λ c. c.dtype) cs) ss
 
 abbrev pub IsPart : PartData → Type 0
 IsPart p = IsChunk p.chunk × IsTrue (sets_fit p.chunk.columns p.stats)
+
+-- a zone: a number of rows, and a set for each of their columns, without the rows
+pub record ZoneData : Type 0 where
+  pub rows : ℕ
+  pub stats : List Entries
+
+-- there is one set for each column of a scope, and each fits its column's type
+abbrev pub fits_zone : List Named → List Entries → Bool
+fits_zone scope ss = each_fits (map (λ c. c.1) scope) ss
+
+abbrev pub IsZone : List Named → ZoneData → Type 0
+IsZone scope zone = IsTrue (fits_zone scope zone.stats)
+
+-- each of a list of zones
+abbrev pub AreZonesOf : List Named → List ZoneData → Type 0
+AreZonesOf scope zones = (i : ℕ) (zone : ZoneData) → slice_get zones i ≡ Some zone → IsZone scope zone
+
+-- those of each of a list of zones
+abbrev pub zones_fit : List Named → List ZoneData → Bool
+zones_fit scope zones = list_all (λ zone. fits_zone scope zone.stats) zones
+
+-- what is known of a part without its rows
+abbrev pub zone_of : PartData → ZoneData
+zone_of p = record { rows = rows_of p.chunk.columns; stats = p.stats }
+
+-- the part may be what stands in a zone: it has the scope, the number of rows and the statistics
+pub record IsPartOf (scope : List Named) (zone : ZoneData) (p : PartData) : Type 0 where
+  pub is_part : IsPart p
+  pub scoped : p.chunk.scope ≡ scope
+  pub known : zone_of p ≡ zone
 
 -- each of a list of parts
 abbrev pub AreParts : List PartData → Type 0

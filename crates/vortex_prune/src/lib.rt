@@ -6,6 +6,8 @@ pub mod laws;
 pub mod part;
 pub mod scan;
 pub mod stat_fn;
+pub mod zone;
+pub mod zone_map;
 pub mod zones;
 
 pub use bind::stat_binder::StatBinder;
@@ -13,6 +15,9 @@ pub use bind::stats_binder::StatsBinder;
 pub use bind::zone_binder::ZoneBinder;
 pub use part::{JoinRefused, MeasureRefused, Part, PartRefused};
 pub use scan::outcome::Scan;
+pub use scan::prune::{Pruned, prune};
 pub use stat_fn::{StatFn, StatOptions};
 pub use vortex_rewrite::{BuiltinRule, HookFault, Rules, StatsRewriteRule, StatsRewriteRuleRef};
+pub use zone::Zone;
+pub use zone_map::{ZoneMap, ZoneMapRefused};
 pub use zones::{Zones, ZonesRefused};

@@ -4,14 +4,15 @@ use Rattle.vortex_base.specs.declared.aggregate.AggregateFnRef.{AggregateFnRef}
 use Rattle.vortex_base.specs.declared.dtype.DType.{DType}
 use Rattle.vortex_base.specs.declared.error.BaseError.{BaseError}
 use Rattle.vortex_base.specs.declared.scalar_value.ScalarValue.{ScalarValue}
-use Rattle.vortex_base.specs.Data.Columns.{ColumnData, row_count as rows_of}
+use Rattle.vortex_base.specs.Data.Columns.{row_count as rows_of}
+use Rattle.vortex_base.specs.Data.Scopes.{Named}
 use Rattle.vortex_base.specs.Data.Scalars.{null_of}
 use Rattle.vortex_base.specs.Trees.Tree.{Tree, Place, column, literal}
 use Rattle.vortex_base.specs.Data.Types.{as_nullable}
 use Rattle.vortex_base.specs.Meanings.Typing.{stat_type}
 use Rattle.vortex_prune.specs.Binding.Binders.{BinderAnswer}
-use Rattle.vortex_rewrite.specs.Facts.{is_column_of}
 use Rattle.vortex_prune.specs.Part.{Entries, PartData}
+use Rattle.vortex_prune.specs.Binding.PartAnswers.{declares}
 use Rattle.vortex_prune.specs.Binding.StatValues.{stat_value}
 
 -- the literal of a value, where the aggregate supports the type
@@ -20,15 +21,15 @@ literal_if (Ok t) v = Some (literal (record { dtype = t; value = v }))
 literal_if (Err f) v = None
 
 -- what the set of a column tells of it, if it is there and the aggregate supports it
-abbrev pub column_literal : AggregateFnRef → Option ColumnData → Option Entries → (n : ℕ) → Option (Tree Place)
-column_literal f (Some c) (Some es) n = literal_if (stat_type f c.dtype) (stat_value f es n)
+abbrev pub column_literal : AggregateFnRef → Option Named → Option Entries → (n : ℕ) → Option (Tree Place)
+column_literal f (Some c) (Some es) n = literal_if (stat_type f c.1) (stat_value f es n)
 column_literal f c es n = None
 
 -- the answers that the sets of a part give to columns of their types, nullability aside; of an input that is no column nothing is known
 abbrev pub part_answer : PartData → BinderAnswer
 part_answer p f (column c) t =
-    if is_column_of c.dtype (slice_get p.chunk.columns c.index)
-    then column_literal f (slice_get p.chunk.columns c.index) (slice_get p.stats c.index) (rows_of p.chunk.columns)
+    if declares c.dtype (slice_get p.chunk.scope c.index)
+    then column_literal f (slice_get p.chunk.scope c.index) (slice_get p.stats c.index) (rows_of p.chunk.columns)
     else None
 part_answer p f x t = None
 

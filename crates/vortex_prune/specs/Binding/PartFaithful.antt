@@ -6,7 +6,8 @@ use Rattle.vortex_base.specs.declared.dtype.DType.{DType}
 use Rattle.vortex_base.specs.declared.error.BaseError.{BaseError}
 use Rattle.vortex_base.specs.declared.error.BaseError.TheVariants.{Mismatch}
 use Rattle.vortex_base.specs.declared.scalar_value.ScalarValue.{ScalarValue}
-use Rattle.vortex_base.specs.Data.Columns.{ColumnData, row_count as rows_of}
+use Rattle.vortex_base.specs.Data.Columns.{row_count as rows_of}
+use Rattle.vortex_base.specs.Data.Scopes.{Named}
 use Rattle.vortex_base.specs.Meanings.Fitting.{fits_row}
 use Rattle.vortex_base.specs.Meanings.Meaning.{meaning}
 use Rattle.vortex_base.specs.Data.Scalars.{Constant, is_optional_value, null_of}
@@ -14,9 +15,8 @@ use Rattle.vortex_base.specs.Trees.Tree.{Tree, Place, column, literal, stat, has
 use Rattle.vortex_base.specs.Data.Types.{as_nullable, dtype_eq_is_exact, eq_ignore_nullability}
 use Rattle.vortex_base.specs.Meanings.Typing.{stat_type, type_of}
 use Rattle.vortex_prune.specs.Binding.Binders.{IsAnswerOf, IsFaithful}
-use Rattle.vortex_rewrite.specs.Facts.{is_column_of}
 use Rattle.vortex_prune.specs.Part.{Entries, PartData}
-use Rattle.vortex_prune.specs.Binding.PartAnswers.{column_value, part_values}
+use Rattle.vortex_prune.specs.Binding.PartAnswers.{column_value, declares, part_values}
 use Rattle.vortex_prune.specs.Binding.PartBinder.{IsNullOf, column_literal, literal_if, part_answer}
 use Rattle.vortex_rewrite.specs.StateTypes.{as_nullable-again, same_stat_type}
 use Rattle.vortex_prune.specs.Binding.StatValues.{stat_value}
@@ -53,33 +53,33 @@ literal_made (Err f) t v h e = cc
 
 -- of a column that the set is of
 module _ (f : AggregateFnRef) (s t : DType) (supported : stat_type f s ≡ Ok t) (n : ℕ) where
-  own_type : (d : ColumnData) → eq_ignore_nullability d.dtype s ≡ true → stat_type f d.dtype ≡ Ok t
-  own_type d h = same_stat_type f d.dtype s ((dtype_eq_is_exact (as_nullable d.dtype) (as_nullable s)).0 h) ∙ supported
+  own_type : (d : Named) → eq_ignore_nullability d.1 s ≡ true → stat_type f d.1 ≡ Ok t
+  own_type d h = same_stat_type f d.1 s ((dtype_eq_is_exact (as_nullable d.1) (as_nullable s)).0 h) ∙ supported
 
-  column_answered : (c : Option ColumnData) (es : Option Entries) (r : Tree Place) (b : Bool) → is_column_of s c ≡ b → (if b then column_literal f c es n else None) ≡ Some r → r ≡ literal (constant t (column_value f s c es n))
+  column_answered : (c : Option Named) (es : Option Entries) (r : Tree Place) (b : Bool) → declares s c ≡ b → (if b then column_literal f c es n else None) ≡ Some r → r ≡ literal (constant t (column_value f s c es n))
   column_answered None es r b h e = cc
   column_answered (Some d) None r true h e = cc
   column_answered (Some d) None r false h e = cc
   column_answered (Some d) (Some es) r true h e =
-      literal_of_type (stat_type f d.dtype) t (stat_value f es n) r (own_type d h) e ∙
+      literal_of_type (stat_type f d.1) t (stat_value f es n) r (own_type d h) e ∙
       ap (λ b. literal (constant t (if b then stat_value f es n else None))) (sym h)
   column_answered (Some d) (Some es) r false h e = cc
 
-  column_unknown : (c : Option ColumnData) (es : Option Entries) (b : Bool) → is_column_of s c ≡ b → (if b then column_literal f c es n else None) ≡ None → column_value f s c es n ≡ None
+  column_unknown : (c : Option Named) (es : Option Entries) (b : Bool) → declares s c ≡ b → (if b then column_literal f c es n else None) ≡ None → column_value f s c es n ≡ None
   column_unknown None es b h e = refl
   column_unknown (Some d) None b h e = refl
-  column_unknown (Some d) (Some es) true h e = absurd (literal_made (stat_type f d.dtype) t (stat_value f es n) (own_type d h) e)
+  column_unknown (Some d) (Some es) true h e = absurd (literal_made (stat_type f d.1) t (stat_value f es n) (own_type d h) e)
   column_unknown (Some d) (Some es) false h e = ap (λ b. if b then stat_value f es n else None) h
 
 -- the literal of the named value, where there is an answer
 answer_is_literal : (p : PartData) (f : AggregateFnRef) (x : Tree Place) (t : DType) (r : Tree Place) → type_of (stat f x) ≡ Ok t → part_answer p f x t ≡ Some r → r ≡ literal (constant t (part_values p f x))
 answer_is_literal p f (column c) t r h e =
-    column_answered f c.dtype t h (rows_of p.chunk.columns) (slice_get p.chunk.columns c.index) (slice_get p.stats c.index) r (is_column_of c.dtype (slice_get p.chunk.columns c.index)) refl e
+    column_answered f c.dtype t h (rows_of p.chunk.columns) (slice_get p.chunk.scope c.index) (slice_get p.stats c.index) r (declares c.dtype (slice_get p.chunk.scope c.index)) refl e
 answer_is_literal p f _ t r h e = cc
 
 unknown_is_null : (p : PartData) (f : AggregateFnRef) (x : Tree Place) (t : DType) → type_of (stat f x) ≡ Ok t → part_answer p f x t ≡ None → part_values p f x ≡ None
 unknown_is_null p f (column c) t h e =
-    column_unknown f c.dtype t h (rows_of p.chunk.columns) (slice_get p.chunk.columns c.index) (slice_get p.stats c.index) (is_column_of c.dtype (slice_get p.chunk.columns c.index)) refl e
+    column_unknown f c.dtype t h (rows_of p.chunk.columns) (slice_get p.chunk.scope c.index) (slice_get p.stats c.index) (declares c.dtype (slice_get p.chunk.scope c.index)) refl e
 unknown_is_null p f _ t h e = refl
 
 pub part_is_faithful : (p : PartData) (row : List Constant) (n : ℕ) → IsFaithful (part_answer p) IsNullOf (part_values p) row n

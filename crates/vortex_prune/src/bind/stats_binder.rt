@@ -4,8 +4,8 @@ ghost use Rattle.std.specs.Bool.{OnTrue};
 ghost use Rattle.vortex_base.specs.Data.Columns.{row_count};
 ghost use Rattle.vortex_base.specs.Data.Scalars.{Constant};
 ghost use Rattle.vortex_rewrite.specs.declared.hook_fault.HookFault.TheVariants as fault;
-ghost use Rattle.vortex_rewrite.specs.Facts.{is_column_of};
 ghost use Rattle.vortex_prune.specs.Binding.Binders.{IsHonestOver};
+ghost use Rattle.vortex_prune.specs.Binding.PartAnswers.{declares};
 ghost use Rattle.vortex_prune.specs.Binding.PartBinder as spec;
 ghost use Rattle.vortex_prune.specs.Part.{IsTruePart};
 
@@ -55,11 +55,11 @@ impl<'a> StatsBinder<'a> {
 
 // Whether the part has a column of this place and type, nullability aside.
 fn has_column(part: &Part, place: usize, dtype: DType) -> bool
-    ensures value { result ≡ is_column_of dtype (slice_get part.now.chunk.columns place) }
+    ensures value { result ≡ declares dtype (slice_get part.now.chunk.scope place) }
     ensures within { OnTrue result (place < length part.now.chunk.scope) }
 {
-    let chunk = part.chunk();
-    place < chunk.scope().len() && chunk.column(place).dtype().eq_ignore_nullability(&dtype)
+    let scope = part.chunk().scope();
+    place < scope.len() && scope.dtype(place).eq_ignore_nullability(&dtype)
 }
 
 // The literal of what a column's set tells, or `None` where the aggregate does not support the
@@ -72,14 +72,14 @@ fn column_literal(
 ) -> Result<Option<BoundExpression>, HookFault>
     requires { place < length part.now.chunk.scope }
     ensures { let p = part.now in
-        let column = slice_get p.chunk.columns place in
+        let column = slice_get p.chunk.scope place in
         let known = spec.column_literal aggregate column (slice_get p.stats place) in
         MatchResult result (λ o. o ≡ known (row_count p.chunk.columns))
         (λ f. f ≡ fault.Memory alloc_error) }
 {
     let chunk = part.chunk();
     let rows = chunk.rows() as u64;
-    let dtype = chunk.column(place).dtype();
+    let dtype = chunk.scope().dtype(place);
     match scalar_of(aggregate, part.stats(place), &dtype, rows) {
         Ok(value) => Ok(Some(bound::lit(alloc, value)?)),
         Err(StatsError::Memory(refused)) => Err(HookFault::Memory(refused)),
