@@ -1,0 +1,9 @@
+pub mod Fits
+pub mod Forms
+pub mod Grouped
+pub mod GroupsKept
+pub mod Kept
+pub mod Sets
+pub mod Steps
+pub mod Told
+pub mod Worked
