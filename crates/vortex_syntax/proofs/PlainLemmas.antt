@@ -1,28 +1,24 @@
 -- Values in plain form, digit by digit.
-use Rattle.std.proofs.Common.{◌≡◌, ◌<◌, ◌≤◌, ◌+◌, ◌-◌, ◌*◌, ◌^◌, ◌==◌, ◌&&◌, ℕ, ℤ, pos, neg_ℤ, Bool, true, false, List, [], ◌∷◌, ◌++◌, Option, None, Some, length, length-append, nat_lt, option_and_then, option_map, codes, append_assoc, take, drop, get_or, int_le, refl, ap, sym, subst, ◌∙◌, inl, inr, arith}
-use Rattle.std.proofs.lemmas.Bool.{and_from, and_parts, cases_Bool, false_from_ne_true}
+use Rattle.std.proofs.Common.{◌≡◌, ◌<◌, ◌≤◌, ◌+◌, ◌-◌, ◌*◌, ◌&&◌, ℕ, ℤ, pos, neg_ℤ, Bool, true, List, [], ◌∷◌, ◌++◌, None, Some, length, length-append, nat_lt, option_map, codes, append_assoc, take, drop, get_or, int_le, refl, ap, sym, subst, ◌∙◌, inl, inr, arith}
+use Rattle.std.proofs.lemmas.Bool.{and_from, and_parts, cases_Bool}
 use Rattle.std.proofs.lemmas.Bool.Decides.{nat_tests}
 use Rattle.std.proofs.lemmas.Int.Digits.{digits_value_push}
 use Rattle.std.proofs.lemmas.List.{take_rest}
-use Rattle.std.proofs.lemmas.Slice.Eq.{bytes_eq-Decides}
 use Rattle.std.specs.Char.{is_ascii_digit}
 use Rattle.std.specs.List.{list_all}
-use Rattle.std.specs.Str.{all_ascii_digits, bytes_eq}
+use Rattle.std.specs.Str.{all_ascii_digits}
 use Rattle.std.specs.Str.Parse.{digits_value}
 use Rattle.vortex_base.specs.Data.Values.{greatest, least}
-use Rattle.vortex_base.specs.Meanings.Typing.{is_signed}
 use Rattle.vortex_base.specs.declared.dtype.DType.{DType}
 use Rattle.vortex_base.specs.declared.dtype.DType.TheVariants as dtype
 use Rattle.vortex_base.specs.Data.Types.{is_nullable}
-use Rattle.vortex_base.specs.declared.types.Nullability.{Nullability}
-use Rattle.vortex_base.specs.declared.pvalue.PValue.{PValue}
 use Rattle.vortex_base.specs.declared.scalar_value.ScalarValue.{ScalarValue}
 use Rattle.vortex_base.specs.declared.scalar_value.ScalarValue.TheVariants as value
 use Rattle.vortex_base.specs.declared.types.PType.{PType}
 use Rattle.vortex_base.specs.declared.types.PType.TheVariants as ptype
 use Rattle.vortex_syntax.proofs.NumberLemmas.{all_push, digit_is}
-use Rattle.vortex_syntax.specs.Numbers.{in_64_bits_signed, in_type, natural_of, number_of, whole_of}
-use Rattle.vortex_syntax.specs.Plain.{BeginsNatural, BeginsNumber, BeginsSigned, BeginsValue, BeginsWord, EndsWord, is_word_byte}
+use Rattle.vortex_syntax.specs.Numbers.{in_64_bits_signed}
+use Rattle.vortex_syntax.specs.Plain.{BeginsNatural, BeginsSigned, BeginsValue, EndsWord, is_word_byte}
 
 -- the text begins with digits, maybe none, that write this number
 pub record BeginsDigits (text : List ℕ) (n : ℕ) (rest : List ℕ) : Type 0 where
@@ -61,18 +57,7 @@ natural_begins text rest n so_far shorter =
     let all = so_far.all in
     (so_far.digits, record { split = so_far.split; some = some; is_plain = word_digits so_far.digits all }, rw (all, long) (ap Some so_far.value))
 
--- ---- numbers of a type
-
-bind_some : {A B : Type 0} (o : Option A) (x : A) (f : A → Option B) → o ≡ Some x → option_and_then f o ≡ f x
-bind_some o x f e = ap (option_and_then f) e
-
--- a number without a minus is a signed one too
-pub signed_up : (text rest : List ℕ) (n : ℕ) → BeginsNatural text n rest → (get_or text 0 0 == 45) ≡ false → BeginsSigned text (pos n) rest
-signed_up text rest n ([], begins, is) other = cc
-signed_up text rest n (d ∷ word, begins, is) other =
-    let split = begins.split in
-    let first : (d == 45) ≡ false = ap (λ b. b == 45) (sym (ap (λ l. get_or l 0 0) split)) ∙ other in
-    (d ∷ word, begins, rw first (ap (option_map (λ k. pos k)) is))
+-- ---- signed numbers
 
 -- a list with this first element
 pub uncons : (text : List ℕ) (b : ℕ) → 1 ≤ length text → get_or text 0 0 ≡ b → text ≡ b ∷ take (length text - 1) (drop 1 text)
@@ -86,36 +71,13 @@ signed_behind : (behind rest : List ℕ) (n : ℕ) → BeginsNatural behind n re
 signed_behind behind rest n (word, begins, is) =
     (45 ∷ word, record { split = ap (λ l. 45 ∷ l) begins.split; some = omega arith; is_plain = and_from _ _ refl begins.is_plain }, ap (option_map (λ k. neg_ℤ (pos k))) is)
 
+-- digits behind a minus
 pub signed_down : (text rest : List ℕ) (n : ℕ) (z : ℤ) → 1 ≤ length text → get_or text 0 0 ≡ 45 → BeginsNatural (take (length text - 1) (drop 1 text)) n rest → in_64_bits_signed (neg_ℤ (pos n)) ≡ Some z
     → BeginsSigned text z rest
 signed_down text rest n z some first begins held =
     subst (λ t. BeginsSigned t z rest) (sym (uncons text 45 some first)) (subst (λ v. BeginsSigned (45 ∷ take (length text - 1) (drop 1 text)) v rest) (held_signed (neg_ℤ (pos n)) z held) (signed_behind _ rest n begins))
 
-pub number_signed : (p : PType) (text rest : List ℕ) (z : ℤ) (v : PValue) → BeginsSigned text z rest → is_signed p ≡ true → in_type p z ≡ Some v → BeginsNumber p text v rest
-number_signed p text rest z v (word, begins, is) signs within =
-    (word, begins, rw signs (bind_some (whole_of true word) z (in_type p) is ∙ within))
-
-pub number_natural : (p : PType) (text rest : List ℕ) (n : ℕ) (v : PValue) → BeginsNatural text n rest → is_signed p ≡ false → in_type p (pos n) ≡ Some v → BeginsNumber p text v rest
-number_natural p text rest n v (word, begins, is) signs within =
-    (word, begins, rw signs (bind_some (option_map (λ k. pos k) (natural_of word)) (pos n) (in_type p) (ap (option_map (λ k. pos k)) is) ∙ within))
-
--- ---- values
-
-null_is_none : (p : PType) → number_of p (codes "null") ≡ None
-null_is_none p = elim (cases_Bool (is_signed p)) [ inl is ↦ rw is refl | inr isnt ↦ rw isnt refl ]
-
-not_null : (p : PType) (word : List ℕ) (v : PValue) → number_of p word ≡ Some v → bytes_eq word (codes "null") ≡ false
-not_null p word v is = false_from_ne_true _ (λ e. let same : word ≡ codes "null" = (bytes_eq-Decides word (codes "null")).0 e in let none = ap (number_of p) same ∙ null_is_none p in cc)
-
--- a number and the end of its word
-pub value_number : (p : PType) (n : Nullability) (text rest : List ℕ) (v : PValue) → BeginsNumber p text v rest → EndsWord rest → BeginsValue (dtype.Primitive p n) (32 ∷ text) (Some (value.Primitive v)) rest
-value_number p n text rest v (word, begins, is) ends =
-    (word, ap (λ l. 32 ∷ l) begins.split, begins.is_plain, begins.some, ends, rw (not_null p word v is, is) refl)
-
-pub value_number_at : (t : DType) (p : PType) (n : Nullability) (text rest : List ℕ) (v : PValue) → t ≡ dtype.Primitive p n → 1 ≤ length text → get_or text 0 0 ≡ 32 → BeginsNumber p (take (length text - 1) (drop 1 text)) v rest → EndsWord rest
-    → BeginsValue t text (Some (value.Primitive v)) rest
-value_number_at t p n text rest v is some first begins ends =
-    rw is (subst (λ l. BeginsValue (dtype.Primitive p n) l (Some (value.Primitive v)) rest) (sym (uncons text 32 some first)) (value_number p n _ rest v begins ends))
+-- ---- null
 
 null_front : (word : List ℕ) → 4 ≤ length word → get_or word 0 0 ≡ 110 → get_or word 1 0 ≡ 117 → get_or word 2 0 ≡ 108 → get_or word 3 0 ≡ 108
     → word ≡ codes "null" ++ take (length word - 4) (drop 4 word)

@@ -1,5 +1,5 @@
 -- What the first line of a text says, in terms of all its lines.
-use Rattle.std.proofs.Common.{◌≡◌, ◌<◌, ◌≤◌, ◌+◌, ◌-◌, ◌==◌, ℕ, Bool, true, false, List, [], ◌∷◌, ◌++◌, Option, None, Some, Result, Ok, Err, length, is_some, not, option_and_then, option_map, get_or, take, drop, codes, refl, ap, sym, subst, ◌∙◌, inl, inr, arith}
+use Rattle.std.proofs.Common.{◌≡◌, ◌<◌, ◌≤◌, ◌+◌, ◌-◌, ◌==◌, ℕ, Bool, true, false, List, [], ◌∷◌, ◌++◌, Option, None, Some, Err, length, is_some, not, option_and_then, option_map, get_or, take, drop, codes, refl, ap, sym, subst, ◌∙◌, inl, inr, arith}
 use Rattle.std.proofs.lemmas.Bool.{cases_Bool}
 use Rattle.std.proofs.lemmas.List.{take_rest}
 use Rattle.std.proofs.lemmas.List.Splits.{length-slice_split}
@@ -11,20 +11,17 @@ use Rattle.vortex_base.specs.Data.Scopes.{Named}
 use Rattle.vortex_prune.specs.Part.{PartData}
 use Rattle.vortex_syntax.proofs.FirstLine.{ends, lines_of_parts-more}
 use Rattle.vortex_syntax.proofs.Spelling.{word_back}
-use Rattle.vortex_syntax.specs.Fails.{Changes, Fails, GivesAndChanges, ◌>>=◌}
 use Rattle.vortex_syntax.specs.Plain.{EndsWord}
 use Rattle.vortex_syntax.specs.Words.{Plain, words}
-use Rattle.vortex_syntax.specs.declared.line_error.LineError.{LineError}
-use Rattle.vortex_text.proofs.ColumnLemmas.{fails_on}
 use Rattle.vortex_text.proofs.Fitting.LineFits.{line_fits}
 use Rattle.vortex_text.proofs.FirstLineLemmas.{is_spelled, line_parted, one_line, lines_behind, utf8_behind}
 use Rattle.vortex_text.proofs.MemoryLemmas.{taken_in}
 use Rattle.vortex_text.specs.Columns.{with_values}
-use Rattle.vortex_text.specs.FirstLines.{first_read, first_row, first_values, may_take}
+use Rattle.vortex_text.specs.FirstLines.{first_read, first_values, may_take}
 use Rattle.vortex_text.specs.Fitting.{FitsTogether}
-use Rattle.vortex_text.specs.Lines.{Reading, nothing_read, read_line, read_row, read_words, when}
+use Rattle.vortex_text.specs.Lines.{Reading, nothing_read, read_line, read_row}
 use Rattle.vortex_text.specs.MemoryTaken.{TakesMemory, line_takes}
-use Rattle.vortex_text.specs.Naming.{Query, Reads, go_on, named_from}
+use Rattle.vortex_text.specs.Naming.{Reads, go_on, named_from}
 
 -- ---- a text with a byte has a line
 

@@ -1,6 +1,6 @@
 -- A row at the front of a text.
-use Rattle.std.proofs.Common.{◌≡◌, ◌<◌, ◌≤◌, ◌+◌, ◌-◌, ◌&&◌, ◌==◌, ℕ, Bool, true, false, List, [], ◌∷◌, ◌++◌, Option, None, Some, Result, Ok, Err, length, length-drop, option_and_then, option_map, append_assoc, append-nil, take, drop, get_or, set, refl, ap, sym, ◌∙◌, inl, inr, arith}
-use Rattle.std.proofs.lemmas.Bool.{and_from, and_parts, cases_Bool}
+use Rattle.std.proofs.Common.{◌≡◌, ◌<◌, ◌≤◌, ◌+◌, ◌-◌, ℕ, true, false, List, [], ◌∷◌, ◌++◌, Option, None, Some, length, length-drop, option_and_then, option_map, append_assoc, append-nil, take, drop, get_or, set, refl, ap, sym, ◌∙◌, arith}
+use Rattle.std.proofs.lemmas.Bool.{and_from, and_parts}
 use Rattle.std.proofs.lemmas.List.{drop_all, take_all, take_rest}
 use borrow.Rule.Slice.PartMut.{put_mid}
 use Rattle.std.proofs.lemmas.Bool.Decides.{nat_tests}
@@ -11,16 +11,14 @@ use Rattle.std.specs.Str.{is_utf8}
 use Rattle.std.specs.Str.Lines.{lines}
 use Rattle.vortex_base.specs.Data.Columns.{ColumnData}
 use Rattle.vortex_base.specs.declared.scalar_value.ScalarValue.{ScalarValue}
-use Rattle.vortex_syntax.specs.Fails.{Changes, Fails, GivesAndChanges, ◌>>=◌}
-use Rattle.vortex_syntax.specs.Plain.{BeginsValue, EndsWord, is_word_byte}
+use Rattle.vortex_syntax.specs.Plain.{EndsWord, is_word_byte}
 use Rattle.vortex_syntax.specs.Spelling.{IsParted}
 use Rattle.vortex_syntax.specs.Values.{optional_value_of}
-use Rattle.vortex_syntax.specs.Words.{Token, Plain, words}
+use Rattle.vortex_syntax.specs.Words.{Plain, words}
 use Rattle.vortex_text.proofs.ColumnLemmas.{row_more}
 use Rattle.vortex_text.proofs.FirstLineLemmas.{line_parted, lines_behind, lines_ended, utf8_behind, word_first}
 use Rattle.vortex_text.specs.Columns.{behind, taken, with_value, with_values}
 use Rattle.vortex_text.specs.FirstLines.{BeginsRow, TakesValue, first_row, is_line_byte}
-use Rattle.vortex_text.specs.Lines.{when}
 
 behind_nothing : (read : Option (List ColumnData)) → read ≡ behind [] read
 behind_nothing None = refl
@@ -50,9 +48,9 @@ row_one_more old cs text rest after i c new d within is (v, (word, split, plain,
   split = so_far.split ∙ ap (λ l. so_far.front ++ l) split ∙ sym (append_assoc so_far.front (32 ∷ word) after);
   clean = list_all-append is_line_byte so_far.front (32 ∷ word) ∙ and_from _ _ so_far.clean (line_bytes word plain);
   row = λ tail parted.
-    let took : taken c (words (32 ∷ (word ++ tail))) ≡ Some (new, words tail) = taken_plain c word tail v plain some parted value ∙ ap (λ x. Some (x, words tail)) (sym made) in
-    ap (λ l. with_values old (words l)) (append_assoc so_far.front (32 ∷ word) tail)
-    ∙ sym (row_more cs old i (words (32 ∷ (word ++ tail))) (words tail) (words (so_far.front ++ 32 ∷ (word ++ tail))) c new d within is took (sym (so_far.row (32 ∷ (word ++ tail)) refl)));
+      let took : taken c (words (32 ∷ (word ++ tail))) ≡ Some (new, words tail) = taken_plain c word tail v plain some parted value ∙ ap (λ x. Some (x, words tail)) (sym made) in
+      ap (λ l. with_values old (words l)) (append_assoc so_far.front (32 ∷ word) tail)
+      ∙ sym (row_more cs old i (words (32 ∷ (word ++ tail))) (words tail) (words (so_far.front ++ 32 ∷ (word ++ tail))) c new d within is took (sym (so_far.row (32 ∷ (word ++ tail)) refl)));
 }
 
 -- what follows the value that a column took

@@ -1,5 +1,5 @@
 -- The first line of a text, and the lines after it.
-use Rattle.std.specs.Prelude.{◌≡◌, ◌&&◌, ◌||◌, ℕ, Bool, false, nat_le, nat_lt, List, [], ◌∷◌, ◌++◌, Option, None, Some, IsTrue, drop, is_some, option_map, take}
+use Rattle.std.specs.Prelude.{◌≡◌, ◌&&◌, ◌||◌, ℕ, Bool, nat_le, nat_lt, List, [], ◌∷◌, ◌++◌, Option, None, Some, IsTrue, drop, is_some, option_map, take}
 use Rattle.std.specs.List.{list_all}
 use Rattle.std.specs.Str.{is_utf8}
 use Rattle.vortex_base.specs.Data.Columns.{ColumnData}

@@ -278,11 +278,7 @@ impl Draft {
     }
 
     // The row that a text begins with, behind its first word. The text after the line comes back.
-    fn read_first_row<'a>(
-        &mut self,
-        alloc: Global,
-        values: &'a [u8],
-    ) -> Result<&'a [u8], LineError>
+    fn read_first_row<'a>(&mut self, alloc: Global, values: &'a [u8]) -> Result<&'a [u8], LineError>
         requires { EndsWord values.now }
         ensures read { let old = reading_of self.old in
             GivesAndChanges (λ rest. lines rest.now) result
@@ -298,11 +294,7 @@ impl Draft {
     }
 
     // The first line of a text, whatever it is. The text after it comes back.
-    fn read_any_first<'a>(
-        &mut self,
-        alloc: Global,
-        text: &'a [u8],
-    ) -> Result<&'a [u8], LineError>
+    fn read_any_first<'a>(&mut self, alloc: Global, text: &'a [u8]) -> Result<&'a [u8], LineError>
         requires some { 0 < length text.now }
         requires fits { FitsTogether (reading_of self.old) }
         ensures read { let old = reading_of self.old in
@@ -321,11 +313,7 @@ impl Draft {
 
     /// Reads the first line of a text. The text after it comes back. A line that isn't UTF-8 is
     /// bad.
-    pub fn read_first<'a>(
-        &mut self,
-        alloc: Global,
-        text: &'a [u8],
-    ) -> Result<&'a [u8], LineError>
+    pub fn read_first<'a>(&mut self, alloc: Global, text: &'a [u8]) -> Result<&'a [u8], LineError>
         requires some { 0 < length text.now }
         requires fits { FitsTogether (reading_of self.old) }
         ensures read { let old = reading_of self.old in

@@ -1,5 +1,5 @@
 //! The row at the front of a text, whose line isn't cut out before.
-ghost use Rattle.std.specs.Prelude.{◌≡◌, ◌<◌, ◌≤◌, IfOk, length, slice_index};
+ghost use Rattle.std.specs.Prelude.{◌<◌, ◌≤◌, IfOk, length};
 ghost use Rattle.std.specs.Str.Lines.{lines};
 ghost use Rattle.vortex_syntax.specs.Fails.{GivesAndChanges};
 ghost use Rattle.vortex_syntax.specs.Plain.{EndsWord};

@@ -9,7 +9,8 @@ fn plain_rows_and_rows_with_more_spaces(rt: HostRuntime) -> Result<(), Fail> {
     let cases = "
         row 1 2 3 / row  1 2 3 / row 1  2 3 / row 1 2  3 / row 1 2 3  /  row 1 2 3 / row 9 2 3
         where eq col a lit i64 1 => skipped / rows 0:0 0:1 0:2 0:3 0:4 0:5
-        row 1 2 3\r / row  1 2 3\r / row 1 2 3 / where eq col c lit i32 3 => skipped / rows 0:0 0:1 0:2
+        row 1 2 3\r / row  1 2 3\r / row 1 2 3
+        where eq col c lit i32 3 => skipped / rows 0:0 0:1 0:2
         row -1 2 -3 / row 1 2 3 / where lt col c lit i32 0 => skipped / rows 0:0
         row 01 002 0003 / row -0 2 -0 / where eq col a lit i64 0 => skipped / rows 0:1
         row null 2 3 / row  null 2 3 / row 1 2 null / where isnull col a => skipped / rows 0:0 0:1
@@ -23,9 +24,12 @@ fn long_numbers_in_each_place(rt: HostRuntime) -> Result<(), Fail> {
     let cases = "
         row 9223372036854775807 255 2147483647 / row -9223372036854775808 0 -2147483648
         where gt col a lit i64 0 => skipped / rows 0:0
-        row 000000000000000000000000000001 2 3 / row 1 2 3 / where eq col a lit i64 1 => skipped / rows 0:0 0:1
-        row 1 000000000000000000000000000002 3 / row 1 2 3 / where eq col b lit u8 2 => skipped / rows 0:0 0:1
-        row 1 2 -000000000000000000000000000003 / row 1 2 3 / where eq col c lit i32 -3 => skipped / rows 0:0
+        row 000000000000000000000000000001 2 3 / row 1 2 3
+        where eq col a lit i64 1 => skipped / rows 0:0 0:1
+        row 1 000000000000000000000000000002 3 / row 1 2 3
+        where eq col b lit u8 2 => skipped / rows 0:0 0:1
+        row 1 2 -000000000000000000000000000003 / row 1 2 3
+        where eq col c lit i32 -3 => skipped / rows 0:0
         row 9223372036854775808 2 3 => line 5: bad
         row -9223372036854775809 2 3 => line 5: bad
         row 18446744073709551616 2 3 => line 5: bad
@@ -94,7 +98,8 @@ fn rows_with_other_ends_and_bytes(rt: HostRuntime) -> Result<(), Fail> {
 fn numbers_before_and_behind_a_text(rt: HostRuntime) -> Result<(), Fail> {
     let front = "column a i64\ncolumn s utf8?\ncolumn c u16?\npart\n";
     let cases = "
-        row 1 \"x y\" 3 / row 2 null 4 / row 3 \"\u{e9}\" null / where ge col a lit i64 2 => skipped / rows 0:1 0:2
+        row 1 \"x y\" 3 / row 2 null 4 / row 3 \"\u{e9}\" null
+        where ge col a lit i64 2 => skipped / rows 0:1 0:2
         row 1 \"x\" 3 / row 2 \"y\" 4 / where eq col c lit u16 4 => skipped / rows 0:1
         row 1 \"x\" +3 => line 5: bad
         row 1 \"x\" 65536 => line 5: bad

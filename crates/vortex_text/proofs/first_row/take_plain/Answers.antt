@@ -1,5 +1,5 @@
 use Rattle.std.proofs.Common.{get_or, refl, arith}
-use Rattle.vortex_text.proofs.FirstRows.{row_begun, row_one_more, taken_ends}
+use Rattle.vortex_text.proofs.FirstRows.{row_one_more, taken_ends}
 use Rattle.vortex_text.proofs.first_row.take_plain.Goals as goal
 
 pub loop-column-preserved : goal.loop-column-preserved

@@ -1,9 +1,6 @@
-use Rattle.std.proofs.Common.{◌≡◌, ◌-◌, None, Option, get_or, length, take, drop, subst, sym, arith, List, ℕ}
-use Rattle.std.specs.Str.Lines.{lines}
-use Rattle.vortex_syntax.specs.Fails.{GivesAndChanges}
+use Rattle.std.proofs.Common.{◌≡◌, ◌-◌, None, get_or, length, take, drop, arith}
 use Rattle.vortex_text.proofs.FirstReads.{none_told, row_front, row_text}
 use Rattle.vortex_text.specs.Drafts.{reading_of}
-use Rattle.vortex_text.specs.Lines.{Reading}
 use Rattle.vortex_text.proofs.draft.Draft.read_first.Goals as goal
 
 pub returns-then-ends_word-clause-read : goal.returns-then-ends_word-clause-read
