@@ -80,10 +80,7 @@ fn batch_of(alloc: Global, size: Size, from: i64) -> Result<Vec<Vec<StatsSet>>, 
     Ok(sets)
 }
 
-fn zones_of<'a>(
-    alloc: Global,
-    sets: &'a [Vec<StatsSet>],
-) -> Result<Vec<Zone<'a>>, AllocError> {
+fn zones_of<'a>(alloc: Global, sets: &'a [Vec<StatsSet>]) -> Result<Vec<Zone<'a>>, AllocError> {
     let mut zones = Vec::with_capacity(alloc, sets.len())?;
     for set in sets {
         zones.push(Zone::new(ROWS, set))?;
@@ -121,7 +118,11 @@ fn leaves_of(alloc: Global, size: Size, leaves: usize) -> Result<BoundExpression
     let mut all = above(alloc, 0, if leaves == 1 { last } else { 0 })?;
     for leaf in 1..leaves {
         let number = if leaf + 1 == leaves { last } else { 0 };
-        let place = if size.columns > 0 { leaf % size.columns } else { 0 };
+        let place = if size.columns > 0 {
+            leaf % size.columns
+        } else {
+            0
+        };
         all = bound::and(alloc, all, above(alloc, place, number)?)?;
     }
     Ok(all)

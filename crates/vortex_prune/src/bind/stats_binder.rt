@@ -168,10 +168,7 @@ impl<'a> Model for ZoneStatsBinder<'a> {
 impl<'a> ZoneStatsBinder<'a> {
     /// The binder of a zone, by the scope of its columns. `Mismatch` unless the zone has one set a
     /// column that fits its column's type. No memory is taken.
-    pub fn try_new(
-        scope: &'a Scope,
-        zone: &'a Zone<'a>,
-    ) -> Result<ZoneStatsBinder<'a>, StatsError>
+    pub fn try_new(scope: &'a Scope, zone: &'a Zone<'a>) -> Result<ZoneStatsBinder<'a>, StatsError>
         ensures made { IfOk result (λ b. b ≡ record { scope = scope.now; zone = zone.now }) }
         ensures fits { is_ok result ≡ fits_zone scope.now zone.now.stats }
         ensures error { IfErr result (λ f. f ≡ Mismatch) }
