@@ -176,19 +176,6 @@ fn no_rows_and_nulls_alone_are_measured(rt: HostRuntime) -> Result<(), Fail> {
     Ok(())
 }
 
-fn no_columns(alloc: Global) -> Result<Chunk, StatsError> {
-    let scope = told(Scope::try_new(Vec::new(alloc)))?;
-    told(Chunk::try_new(scope, Vec::new(alloc)))
-}
-
-#[test]
-fn a_chunk_without_columns_is_measured(rt: HostRuntime) -> Result<(), Fail> {
-    let part = measured(rt.alloc(), no_columns(rt.alloc()))?;
-    assert!(rt; rows(&part) == 0);
-    assert!(rt; part.is_true());
-    Ok(())
-}
-
 // A text, a null and another text.
 fn texts(alloc: Global) -> Result<Chunk, StatsError> {
     let values = around_null(
