@@ -1,0 +1,211 @@
+/*
+ * The proved library from C: crates/vortex_ffi.
+ *
+ * Link with callers/out/libvortex_ffi.a or libvortex_ffi.so, which checks/callers.sh builds. They need malloc, realloc
+ * and free of the C library and nothing else.
+ *
+ * Of the calls below the library has vortex_run and vortex_measure so far; the others are declared so that callers can be
+ * written for them.
+ *
+ * Who owns what. Every array is the caller's. A call reads the arrays that it is handed, writes the ones that are not
+ * const, and keeps nothing: no handle, no state, nothing to free. An array is a pointer and a number of elements; of no
+ * elements the pointer may be null. No array that is written may overlap another one of the same call.
+ *
+ * Statuses. A call returns one of the codes of vortex_status. VORTEX_OK is an answer. After every other one the arrays
+ * of the caller are as they were, and where a vortex_fault was handed in it says which row or zone, which column and
+ * which statistic was meant; a place that has no part in it is 0. A vortex_fault is written on a refusal alone.
+ *
+ * Threads. Calls may run side by side, as long as no array that one of them writes is used by another one. No call may
+ * come from a signal handler, or from the forked child of a process with threads.
+ *
+ * Types. A column has a kind of values, and is nullable or not: a null is a value of a nullable type alone, and of
+ * VORTEX_NULL, which has no other one.
+ *
+ * Values stand one behind the other, without padding: numbers in little-endian order and in the width of their type, a
+ * truth in one byte, 0 or 1. A null, or a statistic that isn't known, takes the same room, and its bytes aren't read.
+ * Texts (UTF-8) and bytes stand in one heap, and `ends` says where each of them ends in it: value i runs from ends[i - 1]
+ * to ends[i], the first one from `start`, which is mostly 0. So the offsets of an Arrow array serve as `ends` from their
+ * second element on, with the first as `start`. For other types `ends` is empty. A column of VORTEX_NULL has no values.
+ *
+ * Statistics. Each has a number, vortex_stat. Its value is of the column's own kind (VORTEX_MAX, VORTEX_MIN), a truth
+ * (VORTEX_IS_CONSTANT, VORTEX_IS_SORTED, VORTEX_IS_STRICT_SORTED), a count of 64 bits without a sign (VORTEX_NULL_COUNT,
+ * VORTEX_UNCOMPRESSED_SIZE_IN_BYTES) or a sum (VORTEX_SUM): 64 bits, with a sign for columns of numbers with one, and
+ * without one for the others and for truths. Columns of texts, bytes and nulls have no sum, those of nulls no greatest
+ * and no least value. No type of today has VORTEX_NAN_COUNT. A byte says how a value is known: VORTEX_ABSENT not at all,
+ * VORTEX_EXACT exactly, VORTEX_INEXACT as a bound: an inexact greatest value or count is at least the true one, an inexact
+ * least value is at most the true one, and of the others an inexact value says nothing.
+ */
+#ifndef VORTEX_H
+#define VORTEX_H
+
+#include <stddef.h>
+#include <stdint.h>
+
+#ifdef __cplusplus
+extern "C" {
+#endif
+
+/* What a call returns. */
+enum vortex_status {
+    VORTEX_OK = 0,              /* the call has answered */
+    VORTEX_NO_ANSWER = 1,       /* vortex_run: there is no scan, and the output says why in a word */
+    VORTEX_BAD_LINE = 2,        /* vortex_run: the output says which line is bad; vortex_prune: the predicate is no
+                                   expression over these columns */
+    VORTEX_TOO_SHORT = 3,       /* `output` or `values` is too short: *len says how long it has to be */
+    VORTEX_NO_MEMORY = 4,       /* memory was refused */
+    VORTEX_BAD_KIND = 5,        /* a kind above VORTEX_BINARY, or a `nullable` above 1: which column */
+    VORTEX_BAD_STAT = 6,        /* no statistic's number, or the column's type has no such statistic: which statistic */
+    VORTEX_BAD_KNOWN = 7,       /* a byte above VORTEX_INEXACT says how a value is known: which zone and statistic */
+    VORTEX_BAD_LENGTH = 8,      /* an array is too short or too long: which column or statistic */
+    VORTEX_BAD_ENDS = 9,        /* a text begins behind its end, or ends behind the heap: which row, or zone and statistic */
+    VORTEX_BAD_VALUE = 10,      /* a text isn't UTF-8, or a truth is above 1: which row, or zone and statistic */
+    VORTEX_BAD_NULL = 11,       /* a null in a column that isn't nullable: which row */
+    VORTEX_UNTRUE = 12,         /* vortex_check: the first statistic that isn't true of the values */
+    VORTEX_BAD_COLUMN = 13,     /* vortex_prune: a statistic of a column that isn't there: which statistic */
+    VORTEX_BAD_NAME = 14,       /* vortex_prune: a name that is none, or a name twice: which column */
+    VORTEX_NOT_A_PREDICATE = 15, /* vortex_prune: the expression isn't of type bool */
+    VORTEX_BAD_FLAG = 16        /* vortex_prune: a flag that isn't known */
+};
+
+/* The kinds of values. */
+enum vortex_kind {
+    VORTEX_NULL = 0,
+    VORTEX_BOOL = 1,
+    VORTEX_U8 = 2,
+    VORTEX_U16 = 3,
+    VORTEX_U32 = 4,
+    VORTEX_U64 = 5,
+    VORTEX_I8 = 6,
+    VORTEX_I16 = 7,
+    VORTEX_I32 = 8,
+    VORTEX_I64 = 9,
+    VORTEX_UTF8 = 10,
+    VORTEX_BINARY = 11
+};
+
+/* The numbers of the statistics. */
+enum vortex_stat {
+    VORTEX_IS_CONSTANT = 0,
+    VORTEX_IS_SORTED = 1,
+    VORTEX_IS_STRICT_SORTED = 2,
+    VORTEX_MAX = 3,
+    VORTEX_MIN = 4,
+    VORTEX_SUM = 5,
+    VORTEX_NULL_COUNT = 6,
+    VORTEX_UNCOMPRESSED_SIZE_IN_BYTES = 7,
+    VORTEX_NAN_COUNT = 8
+};
+
+/* How a statistic's value is known. */
+enum vortex_known { VORTEX_ABSENT = 0, VORTEX_EXACT = 1, VORTEX_INEXACT = 2 };
+
+/* What is to be done with a zone. */
+enum vortex_answer {
+    VORTEX_READ = 0, /* read it: rows of it may satisfy the predicate, and others may not */
+    VORTEX_SKIP = 1, /* no row of it satisfies the predicate */
+    VORTEX_WHOLE = 2 /* every row of it satisfies the predicate */
+};
+
+/* Flags of vortex_prune. */
+enum vortex_flag { VORTEX_NORMALIZE = 1 /* normalize the predicate first, which may prune more */ };
+
+/* Where a call was refused. */
+typedef struct vortex_fault {
+    size_t row;    /* the row of a column of values, or the zone of a table */
+    size_t column; /* the column */
+    size_t entry;  /* the statistic, by its place among those that were handed in */
+} vortex_fault;
+
+/* The values of a column. */
+typedef struct vortex_values {
+    uint8_t kind;          /* a vortex_kind */
+    uint8_t nullable;      /* 0 or 1 */
+    size_t rows;           /* the number of values */
+    uint64_t size;         /* the declared size in bytes, which VORTEX_UNCOMPRESSED_SIZE_IN_BYTES tells */
+    uint64_t start;        /* where the first text or bytes begin in `values`; 0 for other types */
+    const uint8_t *values; /* rows times the width of the type in bytes, or the heap */
+    size_t values_len;
+    const uint64_t *ends; /* an end for each row, or nothing */
+    size_t ends_len;
+    const uint8_t *nulls; /* a byte for each row: 0 for a value, else null; or nothing where no row is null */
+    size_t nulls_len;
+} vortex_values;
+
+/* One statistic of one column in each zone of a table. What isn't handed in is absent. */
+typedef struct vortex_statistic {
+    size_t column;        /* the column's place in the scope; 0 where a call is about one column */
+    uint8_t stat;         /* a vortex_stat */
+    uint64_t start;       /* where the first text or bytes begin in `values`; 0 for other types */
+    const uint8_t *known; /* a vortex_known for each zone */
+    size_t known_len;
+    const uint8_t *values; /* zones times the width of the statistic's type in bytes, or the heap */
+    size_t values_len;
+    const uint64_t *ends; /* an end for each zone, or nothing */
+    size_t ends_len;
+} vortex_statistic;
+
+/* A column of a scope. */
+typedef struct vortex_field {
+    const uint8_t *name; /* an ASCII letter or _, then ASCII letters, digits or _; 64 bytes at most */
+    size_t name_len;
+    uint8_t kind;     /* a vortex_kind */
+    uint8_t nullable; /* 0 or 1 */
+} vortex_field;
+
+/*
+ * Answers a text as the program does (docs/LANGUAGE.md): the answer stands at the front of `output`, and *len is its
+ * length. VORTEX_OK, VORTEX_NO_ANSWER and VORTEX_BAD_LINE each come with an answer; with VORTEX_TOO_SHORT `output` is as
+ * it was, and *len is how long it has to be. Where memory was refused the answer is "memory", or a front of it.
+ */
+uint8_t vortex_run(const uint8_t *input, size_t input_len, uint8_t *output, size_t output_len, size_t *len);
+
+/*
+ * The statistics of a column of values: of each of the `stats` (a vortex_stat each) in order
+ *   known[i]    VORTEX_EXACT, or VORTEX_ABSENT where the column has none: there is no least and no greatest of no values,
+ *               and no sum that leaves 64 bits;
+ *   ends[i]     where its value ends in `values`; it begins where the one before ends, the first at 0.
+ * So entry i is what a table of one zone holds. `known` and `ends` have as many elements as `stats`. *len is how many
+ * bytes of `values` are written, or with VORTEX_TOO_SHORT how many there have to be: at most 64 and two values.
+ */
+uint8_t vortex_measure(const vortex_values *column, const uint8_t *stats, size_t stats_len, uint8_t *known,
+                       size_t known_len, uint64_t *ends, size_t ends_len, uint8_t *values, size_t values_len, size_t *len,
+                       vortex_fault *fault);
+
+/*
+ * The statistics of chunks of a column, each of them a chunk of `left` followed by the chunk of `right` at the same
+ * place. Both have the same statistics in the same order, of a column of this kind, over so many zones; of two of the same
+ * number the later counts. The merged statistic i in zone z is at place i * zones + z of
+ *   known       how it is known;
+ *   ends        where its value ends in `values`; it begins where the one before ends, the first at 0.
+ * So the statistic i of the next table has known + i * zones and ends + i * zones; of types with a width its values begin
+ * at the end before ends[i * zones] (0 for the first); of texts and bytes its heap is all of `values`, and `start` is that
+ * end. `known` and `ends` have stats times zones elements. *len as in vortex_measure: never more than the lengths of the
+ * values of both sides together. The rows of two chunks add up, which is the caller's to do. A call takes 504 bytes of
+ * memory a zone while it runs.
+ */
+uint8_t vortex_merge(uint8_t kind, uint8_t nullable, size_t zones, const vortex_statistic *left, size_t left_len,
+                     const vortex_statistic *right, size_t right_len, uint8_t *known, size_t known_len, uint64_t *ends,
+                     size_t ends_len, uint8_t *values, size_t values_len, size_t *len, vortex_fault *fault);
+
+/*
+ * Whether what a table says of a zone is true of a column's values: VORTEX_OK if each of the statistics is, and
+ * VORTEX_UNTRUE if one isn't, with the place of the first such in fault->entry.
+ */
+uint8_t vortex_check(const vortex_values *column, const vortex_statistic *stats, size_t stats_len, size_t zone,
+                     vortex_fault *fault);
+
+/*
+ * What to do with each zone under a predicate: a vortex_answer for each of them in `answers`. The zones have so many
+ * `rows`, and the statistics are of the columns of the scope. The predicate is an expression as a `where` line of
+ * docs/LANGUAGE.md has it, without the word `where`: "gt col a lit i64 10". Of whatever rows the statistics are true, no
+ * row of a zone that is skipped satisfies the predicate, and each row of a zone that is whole does. A table may be cut
+ * into pieces that are pruned apart, in threads of their own, with the same answers.
+ */
+uint8_t vortex_prune(const vortex_field *scope, size_t scope_len, const uint64_t *rows, size_t rows_len,
+                     const vortex_statistic *stats, size_t stats_len, const uint8_t *predicate, size_t predicate_len,
+                     uint8_t flags, uint8_t *answers, size_t answers_len, vortex_fault *fault);
+
+#ifdef __cplusplus
+}
+#endif
+#endif

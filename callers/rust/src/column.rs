@@ -1,0 +1,158 @@
+//! Types, and columns of values that are lent.
+use crate::raw;
+use std::marker::PhantomData;
+
+/// A kind of values. The numbers are the header's.
+#[derive(Clone, Copy, Debug, PartialEq, Eq, Hash)]
+#[repr(u8)]
+pub enum Kind {
+    Null,
+    Bool,
+    U8,
+    U16,
+    U32,
+    U64,
+    I8,
+    I16,
+    I32,
+    I64,
+    Utf8,
+    Binary,
+}
+
+impl Kind {
+    /// How many bytes each value takes; `None` of texts and bytes.
+    #[must_use]
+    pub fn width(self) -> Option<usize> {
+        match self {
+            Kind::Null => Some(0),
+            Kind::Bool | Kind::U8 | Kind::I8 => Some(1),
+            Kind::U16 | Kind::I16 => Some(2),
+            Kind::U32 | Kind::I32 => Some(4),
+            Kind::U64 | Kind::I64 => Some(8),
+            Kind::Utf8 | Kind::Binary => None,
+        }
+    }
+}
+
+/// The type of a column: a kind of values, and whether null is one of them.
+#[derive(Clone, Copy, Debug, PartialEq, Eq, Hash)]
+pub struct DType {
+    pub kind: Kind,
+    pub nullable: bool,
+}
+
+/// Numbers that stand in memory as the library reads them.
+pub trait Number: Copy + private::Sealed {
+    const KIND: Kind;
+}
+
+mod private {
+    pub trait Sealed {}
+}
+
+macro_rules! numbers {
+    ($($number:ty => $kind:ident),*) => {
+        $(impl private::Sealed for $number {}
+        impl Number for $number {
+            const KIND: Kind = Kind::$kind;
+        })*
+    };
+}
+
+numbers!(u8 => U8, u16 => U16, u32 => U32, u64 => U64, i8 => I8, i16 => I16, i32 => I32, i64 => I64);
+
+/// A column of values that the caller keeps: numbers, truths, or texts and bytes with their ends.
+#[derive(Clone, Copy, Debug)]
+pub struct Column<'a> {
+    dtype: DType,
+    rows: usize,
+    size: u64,
+    start: u64,
+    values: &'a [u8],
+    ends: &'a [u64],
+    nulls: &'a [u8],
+}
+
+impl<'a> Column<'a> {
+    fn new(kind: Kind, rows: usize, values: &'a [u8], ends: &'a [u64]) -> Self {
+        let dtype = DType { kind, nullable: false };
+        Column { dtype, rows, size: values.len() as u64, start: 0, values, ends, nulls: &[] }
+    }
+
+    /// A column of numbers, without a copy.
+    #[must_use]
+    pub fn numbers<T: Number>(numbers: &'a [T]) -> Self {
+        // SAFETY: a `Number` is an integer, whose bytes may be read as such. On machines that keep the lowest byte
+        // first, they are in the order that the library reads.
+        let bytes = unsafe { std::slice::from_raw_parts(numbers.as_ptr().cast::<u8>(), std::mem::size_of_val(numbers)) };
+        Column::new(T::KIND, numbers.len(), bytes, &[])
+    }
+
+    /// A column of truths.
+    #[must_use]
+    pub fn truths(truths: &'a [bool]) -> Self {
+        // SAFETY: a `bool` is one byte, 0 or 1.
+        let bytes = unsafe { std::slice::from_raw_parts(truths.as_ptr().cast::<u8>(), truths.len()) };
+        Column::new(Kind::Bool, truths.len(), bytes, &[])
+    }
+
+    /// A column of texts, which stand in one heap: text i runs from the end before it to `ends[i]`.
+    #[must_use]
+    pub fn texts(heap: &'a str, ends: &'a [u64]) -> Self {
+        Column::new(Kind::Utf8, ends.len(), heap.as_bytes(), ends)
+    }
+
+    /// A column of strings of bytes.
+    #[must_use]
+    pub fn binary(heap: &'a [u8], ends: &'a [u64]) -> Self {
+        Column::new(Kind::Binary, ends.len(), heap, ends)
+    }
+
+    /// So many nulls, of the type that has no other value.
+    #[must_use]
+    pub fn nulls(rows: usize) -> Self {
+        let column = Column::new(Kind::Null, rows, &[], &[]);
+        Column { dtype: DType { kind: Kind::Null, nullable: true }, ..column }
+    }
+
+    /// The same column, nullable; a byte a row says which are null: 0 for a value. Of no bytes no row is null.
+    #[must_use]
+    pub fn with_nulls(self, nulls: &'a [u8]) -> Self {
+        let dtype = DType { nullable: true, ..self.dtype };
+        Column { dtype, nulls, ..self }
+    }
+
+    /// The same column with another declared size in bytes.
+    #[must_use]
+    pub fn with_size(self, size: u64) -> Self {
+        Column { size, ..self }
+    }
+
+    #[must_use]
+    pub fn dtype(&self) -> DType {
+        self.dtype
+    }
+
+    #[must_use]
+    pub fn rows(&self) -> usize {
+        self.rows
+    }
+
+    pub(crate) fn raw(&self) -> raw::Values<'a> {
+        raw::Values {
+            kind: self.dtype.kind as u8,
+            nullable: u8::from(self.dtype.nullable),
+            rows: self.rows,
+            size: self.size,
+            start: self.start,
+            values: self.values.as_ptr(),
+            values_len: self.values.len(),
+            ends: self.ends.as_ptr(),
+            ends_len: self.ends.len(),
+            nulls: self.nulls.as_ptr(),
+            nulls_len: self.nulls.len(),
+            lent: PhantomData,
+        }
+    }
+}

@@ -1,0 +1,57 @@
+//! Why a call was refused.
+use crate::raw::Fault;
+use std::fmt;
+
+/// Why a call was refused, and where. The header `vortex.h` says more of each.
+#[derive(Clone, Copy, Debug, PartialEq, Eq)]
+pub enum Error {
+    /// Memory was refused.
+    NoMemory,
+    /// The column is of another type.
+    BadKind,
+    /// The column's type has no such statistic: which of those that were asked for.
+    BadStat { entry: usize },
+    /// An array is too short.
+    BadLength { row: usize, entry: usize },
+    /// A text begins behind its end, or ends behind the heap.
+    BadEnds { row: usize, entry: usize },
+    /// A text isn't UTF-8, or a truth is above 1.
+    BadValue { row: usize, entry: usize },
+    /// A null in a column that isn't nullable.
+    BadNull { row: usize },
+    /// A status that this crate doesn't expect of the call.
+    Other(u8),
+}
+
+impl Error {
+    pub(crate) fn of(status: u8, fault: &Fault) -> Error {
+        let Fault { row, entry, .. } = *fault;
+        match status {
+            4 => Error::NoMemory,
+            5 => Error::BadKind,
+            6 => Error::BadStat { entry },
+            8 => Error::BadLength { row, entry },
+            9 => Error::BadEnds { row, entry },
+            10 => Error::BadValue { row, entry },
+            11 => Error::BadNull { row },
+            other => Error::Other(other),
+        }
+    }
+}
+
+impl fmt::Display for Error {
+    fn fmt(&self, f: &mut fmt::Formatter<'_>) -> fmt::Result {
+        match self {
+            Error::NoMemory => write!(f, "memory was refused"),
+            Error::BadKind => write!(f, "the column is of another type"),
+            Error::BadStat { entry } => write!(f, "statistic {entry} isn't one of the column's type"),
+            Error::BadLength { row, entry } => write!(f, "an array of statistic {entry} ends before row {row}"),
+            Error::BadEnds { row, entry } => write!(f, "the text of statistic {entry} in row {row} has no place"),
+            Error::BadValue { row, entry } => write!(f, "the value of statistic {entry} in row {row} is none of its type"),
+            Error::BadNull { row } => write!(f, "row {row} is null in a column without null"),
+            Error::Other(status) => write!(f, "status {status}"),
+        }
+    }
+}
+
+impl std::error::Error for Error {}

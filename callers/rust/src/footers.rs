@@ -1,0 +1,84 @@
+//! The statistics of a column's zones, as arrays that are kept.
+use crate::column::{Column, DType};
+use crate::error::Error;
+use crate::measured_bytes;
+use crate::stat::{Precision, Stat, Value};
+
+/// One statistic in each zone: how it is known, and the values one behind the other.
+#[derive(Clone, Debug, PartialEq, Eq)]
+struct Entry {
+    stat: Stat,
+    known: Vec<u8>,
+    values: Vec<u8>,
+    /// Where each text or bytes end; empty where all values take as many bytes.
+    ends: Vec<u64>,
+}
+
+/// The statistics of a column in each zone of a table, zone by zone as they are measured.
+#[derive(Clone, Debug, PartialEq, Eq)]
+pub struct Footers {
+    dtype: DType,
+    zones: usize,
+    entries: Vec<Entry>,
+}
+
+impl Footers {
+    /// No zones yet, of a column of this type of which these statistics are kept.
+    #[must_use]
+    pub fn new(dtype: DType, stats: &[Stat]) -> Self {
+        let entry = |stat: &Stat| Entry { stat: *stat, known: Vec::new(), values: Vec::new(), ends: Vec::new() };
+        Footers { dtype, zones: 0, entries: stats.iter().map(entry).collect() }
+    }
+
+    #[must_use]
+    pub fn zones(&self) -> usize {
+        self.zones
+    }
+
+    /// Measures one more zone.
+    ///
+    /// # Errors
+    /// As [`crate::measure`], and `BadKind` for a column of another type. The footers stay as they were.
+    pub fn push(&mut self, column: &Column<'_>) -> Result<(), Error> {
+        if column.dtype() != self.dtype {
+            return Err(Error::BadKind);
+        }
+        let stats: Vec<Stat> = self.entries.iter().map(|entry| entry.stat).collect();
+        let (known, ends, values) = measured_bytes(column, &stats)?;
+        let mut rest = values.as_slice();
+        let mut start = 0;
+        for ((entry, known), end) in self.entries.iter_mut().zip(known).zip(ends) {
+            let (value, after) = rest.split_at(usize::try_from(end - start).map_err(|_| Error::NoMemory)?);
+            entry.known.push(known);
+            entry.values.extend_from_slice(value);
+            if entry.stat.kind(self.dtype).is_some_and(|kind| kind.width().is_none()) {
+                entry.ends.push(entry.values.len() as u64);
+            }
+            rest = after;
+            start = end;
+        }
+        self.zones += 1;
+        Ok(())
+    }
+
+    /// A statistic of a zone, `None` where it isn't kept or there is no such zone.
+    #[must_use]
+    pub fn get(&self, zone: usize, stat: Stat) -> Option<Precision<Value>> {
+        let entry = self.entries.iter().find(|entry| entry.stat == stat)?;
+        let known = *entry.known.get(zone)?;
+        let kind = stat.kind(self.dtype)?;
+        let place = match kind.width() {
+            Some(width) => zone * width..zone * width + width,
+            None => {
+                let start = zone.checked_sub(1).map_or(Some(0), |before| entry.ends.get(before).copied())?;
+                usize::try_from(start).ok()?..usize::try_from(*entry.ends.get(zone)?).ok()?
+            }
+        };
+        let bytes = entry.values.get(place)?;
+        Some(match known {
+            1 => Precision::Exact(Value::read(kind, bytes)?),
+            2 => Precision::Inexact(Value::read(kind, bytes)?),
+            _ => Precision::Absent,
+        })
+    }
+}

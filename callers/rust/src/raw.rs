@@ -1,0 +1,53 @@
+//! What crosses to the library, as callers/c/vortex.h declares it.
+use std::marker::PhantomData;
+
+/// `vortex_fault`.
+#[repr(C)]
+#[derive(Clone, Copy, Debug, Default)]
+pub struct Fault {
+    pub row: usize,
+    pub column: usize,
+    pub entry: usize,
+}
+
+/// `vortex_values`, whose arrays are lent for `'a`.
+#[repr(C)]
+#[derive(Clone, Copy, Debug)]
+pub struct Values<'a> {
+    pub kind: u8,
+    pub nullable: u8,
+    pub rows: usize,
+    pub size: u64,
+    pub start: u64,
+    pub values: *const u8,
+    pub values_len: usize,
+    pub ends: *const u64,
+    pub ends_len: usize,
+    pub nulls: *const u8,
+    pub nulls_len: usize,
+    pub lent: PhantomData<&'a [u8]>,
+}
+
+unsafe extern "C" {
+    pub fn vortex_run(
+        input: *const u8,
+        input_len: usize,
+        output: *mut u8,
+        output_len: usize,
+        len: *mut usize,
+    ) -> u8;
+
+    pub fn vortex_measure(
+        column: *const Values<'_>,
+        stats: *const u8,
+        stats_len: usize,
+        known: *mut u8,
+        known_len: usize,
+        ends: *mut u64,
+        ends_len: usize,
+        values: *mut u8,
+        values_len: usize,
+        len: *mut usize,
+        fault: *mut Fault,
+    ) -> u8;
+}

@@ -1,0 +1,76 @@
+//! Statistics and their values.
+use crate::column::{DType, Kind};
+
+/// A kind of statistic. The numbers are the header's.
+#[derive(Clone, Copy, Debug, PartialEq, Eq, Hash)]
+#[repr(u8)]
+pub enum Stat {
+    IsConstant,
+    IsSorted,
+    IsStrictSorted,
+    Max,
+    Min,
+    Sum,
+    NullCount,
+    UncompressedSizeInBytes,
+}
+
+impl Stat {
+    /// The kind of the statistic's value in a column of this type; `None` where the type has no such statistic.
+    #[must_use]
+    pub fn kind(self, dtype: DType) -> Option<Kind> {
+        match self {
+            Stat::IsConstant | Stat::IsSorted | Stat::IsStrictSorted => Some(Kind::Bool),
+            Stat::Max | Stat::Min => (dtype.kind != Kind::Null).then_some(dtype.kind),
+            Stat::Sum => match dtype.kind {
+                Kind::Bool | Kind::U8 | Kind::U16 | Kind::U32 | Kind::U64 => Some(Kind::U64),
+                Kind::I8 | Kind::I16 | Kind::I32 | Kind::I64 => Some(Kind::I64),
+                Kind::Null | Kind::Utf8 | Kind::Binary => None,
+            },
+            Stat::NullCount | Stat::UncompressedSizeInBytes => Some(Kind::U64),
+        }
+    }
+}
+
+/// How a statistic's value is known.
+#[derive(Clone, Copy, Debug, PartialEq, Eq, Hash)]
+pub enum Precision<T> {
+    Absent,
+    Exact(T),
+    /// A bound: at least the greatest value or the count, at most the least value; of other statistics it says nothing.
+    Inexact(T),
+}
+
+/// A value of a column or a statistic.
+#[derive(Clone, Debug, PartialEq, Eq, Hash)]
+pub enum Value {
+    Bool(bool),
+    /// A number of a type without a sign.
+    Unsigned(u64),
+    /// A number of a type with one.
+    Signed(i64),
+    Utf8(String),
+    Binary(Vec<u8>),
+}
+
+impl Value {
+    // The value of a kind that the library wrote.
+    pub(crate) fn read(kind: Kind, bytes: &[u8]) -> Option<Value> {
+        let unsigned = || {
+            let mut all = [0; 8];
+            all.get_mut(..bytes.len())?.copy_from_slice(bytes);
+            Some(u64::from_le_bytes(all))
+        };
+        Some(match kind {
+            Kind::Null => return None,
+            Kind::Bool => Value::Bool(*bytes.first()? != 0),
+            Kind::U8 | Kind::U16 | Kind::U32 | Kind::U64 => Value::Unsigned(unsigned()?),
+            Kind::I8 | Kind::I16 | Kind::I32 | Kind::I64 => {
+                let shift = 64 - 8 * u32::try_from(bytes.len()).ok()?;
+                Value::Signed((unsigned()? << shift).cast_signed() >> shift)
+            }
+            Kind::Utf8 => Value::Utf8(String::from_utf8(bytes.to_vec()).ok()?),
+            Kind::Binary => Value::Binary(bytes.to_vec()),
+        })
+    }
+}

@@ -1,0 +1,42 @@
+#!/usr/bin/env bash
+# Builds the archive and the shared object of crates/vortex_ffi and all callers of them, and runs their examples and tests.
+# usage: checks/callers.sh      proves and builds the library first if it isn't built yet
+set -eu
+cd "$(dirname "$0")/.."
+out=callers/out
+mkdir -p "$out/parts"
+
+(cd crates/vortex_ffi && rt lib)
+
+# The toolchain's own C, which calls malloc, realloc and free, goes into the same archive.
+kit="$(dirname "$(rt doc | head -n 1)")"
+rm -rf "$out/parts" "$out/libvortex_ffi.a"
+mkdir -p "$out/parts"
+(cd "$out/parts" && ar x ../../../crates/vortex_ffi/out/libvortex_ffi.a && ar x "$kit/c/liblibc_c.a")
+ar rcs "$out/libvortex_ffi.a" "$out"/parts/*
+cc -shared -o "$out/libvortex_ffi.so" -Wl,--whole-archive "$out/libvortex_ffi.a" -Wl,--no-whole-archive
+
+# C: with warnings as errors, and once as C++ reads the header.
+for program in round_trip example; do
+    cc -std=c11 -O1 -Wall -Wextra -Wpedantic -Werror -o "$out/$program" "callers/c/$program.c" "$out/libvortex_ffi.a"
+done
+c++ -fsyntax-only -Wall -Wextra -Werror -x c++ callers/c/vortex.h
+"$out/round_trip"
+"$out/example"
+if command -v valgrind > /dev/null; then
+    valgrind -q --error-exitcode=9 --leak-check=full "$out/round_trip" > /dev/null
+    valgrind -q --error-exitcode=9 --leak-check=full "$out/example" > /dev/null
+    echo "callers: no fault under valgrind"
+fi
+
+# Rust, without a network.
+(cd callers/rust && export CARGO_TARGET_DIR=../out/rust RUSTFLAGS=-Dwarnings
+ cargo test --offline --quiet && cargo run --offline --quiet --example footers)
+
+# Python, where its package stands.
+if [ -d callers/python/tests ]; then
+    FOALMORROW_LIBRARY="$PWD/$out/libvortex_ffi.so" python3 -W error -m unittest discover -q callers/python/tests
+    echo "callers: C, Rust and Python agree with the library"
+else
+    echo "callers: C and Rust agree with the library"
+fi

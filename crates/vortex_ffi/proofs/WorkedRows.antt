@@ -1,0 +1,2 @@
+-- Worked rows, found by computation alone.
+pub mod CallRows

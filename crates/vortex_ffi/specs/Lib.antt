@@ -1,0 +1,9 @@
+pub mod Encoding
+pub mod Given
+pub mod Measures
+pub mod Refusals
+pub mod Runs
+pub mod Slots
+pub mod Statuses
+pub mod Types
+pub mod Values

@@ -1,0 +1,16 @@
+//! The library for callers in C and in whatever calls C: arrays of bytes and numbers in, arrays
+//! out.
+//!
+//! `callers/c/vortex.h` declares what crosses and says what each call needs. No call keeps
+//! anything, and every array is the caller's.
+#![tactic(auto)]
+
+mod encoding;
+pub mod fault;
+mod given;
+pub mod measure;
+pub mod run;
+mod slots;
+mod status;
+mod types;
+pub mod values;

@@ -1,0 +1,67 @@
+//! What a call returns.
+ghost use Rattle.std.specs.Prelude.{◌≡◌};
+ghost use Rattle.vortex_ffi.specs.Statuses.{status_number};
+ghost use Rattle.vortex_ffi.specs.declared.status.Status.TheVariants.{NoMemory};
+
+use std::alloc::{AllocError, AllocFailed};
+
+/// Why a call was refused. The header's `vortex_status` has the numbers.
+#[derive(Clone, Copy, Debug, PartialEq, Eq)]
+pub enum Status {
+    /// 3: an array of bytes is too short for the answer.
+    TooShort,
+    /// 4: memory was refused.
+    NoMemory,
+    /// 5: no kind of values, or neither 0 nor 1 for nullable.
+    BadKind,
+    /// 6: no statistic, or none that the type has.
+    BadStat,
+    /// 7: no precision.
+    BadKnown,
+    /// 8: an array is too short or, where it is written, too long.
+    BadLength,
+    /// 9: a text begins behind its end, or ends behind the heap.
+    BadEnds,
+    /// 10: a text isn't UTF-8, or a truth is above 1.
+    BadValue,
+    /// 11: a null in a type that has none.
+    BadNull,
+    /// 12: a statistic isn't true.
+    Untrue,
+}
+
+impl Status {
+    /// The number of the status.
+    pub fn number(self) -> u8
+        ensures { result ≡ status_number self }
+    {
+        match self {
+            Status::TooShort => 3,
+            Status::NoMemory => 4,
+            Status::BadKind => 5,
+            Status::BadStat => 6,
+            Status::BadKnown => 7,
+            Status::BadLength => 8,
+            Status::BadEnds => 9,
+            Status::BadValue => 10,
+            Status::BadNull => 11,
+            Status::Untrue => 12,
+        }
+    }
+}
+
+impl From<AllocError> for Status {
+    ghost from_gives = { λ _ s. s ≡ NoMemory };
+
+    fn from(_refused: AllocError) -> Status {
+        Status::NoMemory
+    }
+}
+
+impl<T: Drop> From<AllocFailed<T>> for Status {
+    ghost from_gives = { λ _ s. s ≡ NoMemory };
+
+    fn from(_refused: AllocFailed<T>) -> Status {
+        Status::NoMemory
+    }
+}

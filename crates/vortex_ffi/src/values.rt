@@ -1,0 +1,135 @@
+//! A column of values as a caller hands it in.
+ghost use Rattle.std.specs.Prelude.{◌≡◌};
+ghost use Rattle.vortex_base.specs.Data.Cells.{cell_values};
+ghost use Rattle.vortex_ffi.specs.Refusals.{Answers, Gives};
+ghost use Rattle.vortex_ffi.specs.Values as spec;
+
+use crate::encoding::value_of;
+use crate::fault::Refusal;
+use crate::given::Given;
+use crate::status::Status;
+use crate::types::dtype_of;
+use std::alloc::Global;
+use vortex_base::cells::Cells;
+use vortex_base::column::Column;
+use vortex_base::dtype::DType;
+use vortex_base::scalar_value::ScalarValue;
+
+/// The values of a column: `vortex_values` of the header.
+#[repr(C)]
+#[derive(Clone, Copy)]
+pub struct Values<'a> {
+    /// The kind of the values.
+    pub kind: u8,
+    /// 1 for a type that has null, else 0.
+    pub nullable: u8,
+    /// The number of values.
+    pub rows: usize,
+    /// The declared size in bytes.
+    pub size: u64,
+    /// Where the first text or bytes begin.
+    pub start: u64,
+    /// The values, one behind the other.
+    pub values: &'a [u8],
+    /// Where each text or bytes end.
+    pub ends: &'a [u64],
+    /// For each row 0 or else null, or nothing.
+    pub nulls: &'a [u8],
+}
+
+// Whether a row is null by the bytes that say so.
+fn is_null(nulls: &[u8], row: usize) -> Result<bool, Status>
+    ensures { result ≡ spec.is_null nulls.now row }
+{
+    if nulls.is_empty() {
+        return Ok(false);
+    }
+    match nulls.get(row) {
+        Some(byte) => Ok(*byte != 0),
+        None => Err(Status::BadLength),
+    }
+}
+
+// A null, where the type has it.
+fn null_of(dtype: DType) -> Result<Option<ScalarValue>, Status>
+    ensures { result ≡ spec.null_of dtype }
+{
+    if dtype.is_nullable() {
+        Ok(None)
+    } else {
+        Err(Status::BadNull)
+    }
+}
+
+// The value of a row that isn't null.
+fn value_at(
+    alloc: Global,
+    given: &Given<'_>,
+    dtype: DType,
+    row: usize,
+) -> Result<ScalarValue, Status>
+    ensures { Gives result
+        (spec.value_at dtype given.now.values.now given.now.start given.now.ends.now row) }
+{
+    match given.bytes_at(dtype, row) {
+        Ok(bytes) => value_of(alloc, dtype, bytes),
+        Err(status) => Err(status),
+    }
+}
+
+impl Values<'_> {
+    // The value of a row, or `None` for null. In a column of nulls each row is one.
+    fn cell(&self, alloc: Global, dtype: DType, row: usize) -> Result<Option<ScalarValue>, Status>
+        ensures { Gives result (spec.cell dtype self.now.values.now self.now.start
+            self.now.ends.now self.now.nulls.now row) }
+    {
+        if dtype == DType::Null || is_null(self.nulls, row)? {
+            return null_of(dtype);
+        }
+        let given = Given {
+            values: self.values,
+            start: self.start,
+            ends: self.ends,
+        };
+        match value_at(alloc, &given, dtype, row) {
+            Ok(value) => Ok(Some(value)),
+            Err(status) => Err(status),
+        }
+    }
+
+    // The values of all rows.
+    fn cells(&self, alloc: Global, dtype: DType) -> Result<Cells, Refusal>
+        ensures { Answers cell_values result (spec.cells dtype self.now.values.now self.now.start
+            self.now.ends.now self.now.nulls.now self.now.rows) }
+    {
+        let mut cells = Cells::with_capacity(alloc, dtype, self.rows)?;
+        for row in 0..self.rows {
+            match self.cell(alloc, dtype, row) {
+                Ok(cell) => cells.push(cell)?,
+                Err(status) => return Err(Refusal::at_row(status, row)),
+            }
+        }
+        Ok(cells)
+    }
+
+    /// The type of the values.
+    pub(crate) fn dtype(&self) -> Result<DType, Refusal>
+        ensures { result ≡ spec.type_given self.now }
+    {
+        match dtype_of(self.kind, self.nullable) {
+            Ok(dtype) => Ok(dtype),
+            Err(status) => Err(Refusal::at_entry(status, 0)),
+        }
+    }
+
+    /// The column of a type.
+    pub(crate) fn column(&self, alloc: Global, dtype: DType) -> Result<Column, Refusal>
+        ensures { Answers (λ c. c) result (spec.column dtype self.now) }
+    {
+        let cells = self.cells(alloc, dtype)?;
+        if !cells.fits(&dtype) {
+            return Err(Refusal::at_row(Status::BadValue, 0));
+        }
+        Ok(Column::new_unchecked(dtype, cells, self.size))
+    }
+}
