@@ -8,9 +8,12 @@ program="$here/../crates/vortex_scan/out/vortex_scan"
 "$here/../scan" --build
 mkdir -p "$here/data"
 plain=()
+plain_measures=()
 if command -v rustc > /dev/null; then
     rustc --edition 2021 -O "$here/plain/main.rs" -o "$here/data/plain"
     plain=("$here/data/plain")
+    rustc --edition 2021 -O "$here/plain/measures.rs" -o "$here/data/plain_measures"
+    plain_measures=("$here/data/plain_measures")
 fi
 
 # Least processor time of some runs and most memory held: both programs, and what the proved one is of the plain one
@@ -28,4 +31,25 @@ layer="$here/../crates/vortex_bench/out/vortex_bench"
 for work in like evaluate set get merge narrow_table narrow_binders narrow_zones wide_table wide_binders wide_zones; do
     echo "$work" > "$here/data/$work.txt"
     python3 "$here/measure.py" "$runs" "$here/data/$work.txt" "$layer"
+done
+
+# Pruning by maps of zones without rows, ten times: 1,000,000 zones of one column and 20,000 of 30, under one comparison and
+# under 16 leaves, beside plain loops over arrays of bounds; the time to make the map alone stands first.
+loops=()
+if command -v rustc > /dev/null; then
+    rustc --edition 2021 -O "$here/plain/zones.rs" -o "$here/data/zones"
+    loops=("$here/data/zones")
+fi
+for work in long_map long_comparison long_leaves broad_map broad_comparison broad_leaves; do
+    echo "$work" > "$here/data/$work.txt"
+    python3 "$here/measure.py" "$runs" "$here/data/$work.txt" "$layer" "${loops[@]}"
+done
+
+# The statistics of 2 million numbers and of 300,000 texts, nulls among them: the columns made alone, measured fifty
+# times, and checked fifty times against their statistics.
+for column in numbers texts; do
+    for work in made measured checked; do
+        echo "${work}_$column" > "$here/data/${work}_$column.txt"
+        python3 "$here/measure.py" "$runs" "$here/data/${work}_$column.txt" "$layer" "${plain_measures[@]}"
+    done
 done

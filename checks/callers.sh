@@ -33,10 +33,7 @@ fi
 (cd callers/rust && export CARGO_TARGET_DIR=../out/rust RUSTFLAGS=-Dwarnings
  cargo test --offline --quiet && cargo run --offline --quiet --example footers)
 
-# Python, where its package stands.
-if [ -d callers/python/tests ]; then
-    FOALMORROW_LIBRARY="$PWD/$out/libvortex_ffi.so" python3 -W error -m unittest discover -q callers/python/tests
-    echo "callers: C, Rust and Python agree with the library"
-else
-    echo "callers: C and Rust agree with the library"
-fi
+# Python: the tests with warnings as errors, and the example.
+(cd callers/python && export FOALMORROW_LIBRARY="$PWD/../out/libvortex_ffi.so" PYTHONDONTWRITEBYTECODE=1 PYTHONPATH=.
+ python3 -W error -m unittest discover -q -s tests -t . && python3 examples/footers.py)
+echo "callers: C, Rust and Python agree with the library"

@@ -1,7 +1,10 @@
 // Work for timing the layers: LIKE on a text that tempts a search to go back, comparisons, the
-// calls of a set of statistics, and scans of many small parts.
+// calls of a set of statistics, statistics of large columns, scans of many small parts, and pruning
+// of many zones.
 #![tactic(auto)]
 
+mod measures;
+mod pruning;
 mod scans;
 mod workload;
 
@@ -19,12 +22,24 @@ fn main(rt: HostRuntime) -> Result<()> {
         "set" => workload::set_often(alloc)?,
         "get" => workload::get_often(alloc)?,
         "merge" => workload::merge_often(alloc)?,
+        "made_numbers" => measures::numbers(alloc)?.len(),
+        "measured_numbers" => measures::measured_often(alloc, &measures::numbers(alloc)?)?,
+        "checked_numbers" => measures::checked_often(alloc, &measures::numbers(alloc)?)?,
+        "made_texts" => measures::texts(alloc)?.len(),
+        "measured_texts" => measures::measured_often(alloc, &measures::texts(alloc)?)?,
+        "checked_texts" => measures::checked_often(alloc, &measures::texts(alloc)?)?,
         "narrow_table" => scans::only_tabled(alloc, scans::NARROW)?,
         "narrow_binders" => scans::scanned_by_binders(alloc, scans::NARROW)?,
         "narrow_zones" => scans::scanned_by_table(alloc, scans::NARROW)?,
         "wide_table" => scans::only_tabled(alloc, scans::WIDE)?,
         "wide_binders" => scans::scanned_by_binders(alloc, scans::WIDE)?,
         "wide_zones" => scans::scanned_by_table(alloc, scans::WIDE)?,
+        "long_map" => pruning::only_mapped(alloc, pruning::LONG)?,
+        "long_comparison" => pruning::pruned(alloc, pruning::LONG, 1)?,
+        "long_leaves" => pruning::pruned(alloc, pruning::LONG, 16)?,
+        "broad_map" => pruning::only_mapped(alloc, pruning::BROAD)?,
+        "broad_comparison" => pruning::pruned(alloc, pruning::BROAD, 1)?,
+        "broad_leaves" => pruning::pruned(alloc, pruning::BROAD, 16)?,
         _ => 0,
     };
     println!(rt; "{count}")?;

@@ -1,6 +1,9 @@
 -- On tables of zones.
+pub mod ZoneAppended
+pub mod ZoneKept
 pub mod ZoneNames
 pub mod ZonePlaces
+pub mod ZonePruned
 pub mod ZoneRefusals
 pub mod ZoneRows
 pub mod ZoneScan

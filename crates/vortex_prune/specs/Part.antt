@@ -1,11 +1,17 @@
--- Parts: the columns of some rows, with a set of statistics for each.
-use Rattle.std.specs.Prelude.{◌≡◌, ℕ, Some, slice_get, Bool, List, [], ◌∷◌, IsTrue, ⊤}
+-- Parts: the columns of some rows, with a set of statistics for each; and zones, which are what is known of them without the rows.
+use Rattle.std.specs.Prelude.{◌≡◌, ℕ, Some, slice_get, Bool, List, [], ◌∷◌, IsTrue, MatchOption, map, ⊤}
+use Rattle.std.specs.List.{list_all}
 use lib.Pointwise.{pointwise}
+use Rattle.vortex_base.specs.declared.dtype.DType.{DType}
 use Rattle.vortex_base.specs.declared.scalar_value.ScalarValue.{ScalarValue}
-use Rattle.vortex_base.specs.Data.Columns.{ChunkData, ColumnData, IsChunk, appended_chunk}
+use Rattle.vortex_base.specs.Data.Columns.{ChunkData, ColumnData, IsChunk, appended_chunk, row_count as rows_of}
+use Rattle.vortex_base.specs.Data.Scopes.{Named}
+use Rattle.vortex_stats.specs.Copies.{holds_long}
 use Rattle.vortex_stats.specs.Sets.Claims.{IsTrueOf}
 use Rattle.vortex_stats.specs.Sets.Entries.{entries_fit}
 use Rattle.vortex_stats.specs.Merging.Merges.{merged_ordered}
+use Rattle.vortex_stats.specs.Measuring.Measured.{measured}
+use Rattle.vortex_stats.specs.Stat.{all_stats}
 use Rattle.vortex_stats.specs.declared.precision.Precision.{Precision}
 use Rattle.vortex_stats.specs.declared.stat.Stat.{Stat}
 
@@ -18,12 +24,51 @@ pub record PartData : Type 0 where
   pub chunk : ChunkData
   pub stats : List Entries
 
+-- there is one set a type, and each fits it
+abbrev pub each_fits : List DType → List Entries → Bool
+each_fits ts ss = pointwise (λ t es. entries_fit es t) ts ss
+
 -- there is one set a column, and each fits its column's type
 abbrev pub sets_fit : List ColumnData → List Entries → Bool
-sets_fit cs ss = pointwise (λ c es. entries_fit es c.dtype) cs ss
+sets_fit cs ss = each_fits (map (λ c. c.dtype) cs) ss
 
 abbrev pub IsPart : PartData → Type 0
 IsPart p = IsChunk p.chunk × IsTrue (sets_fit p.chunk.columns p.stats)
+
+-- a zone: a number of rows, and a set for each of their columns, without the rows
+pub record ZoneData : Type 0 where
+  pub rows : ℕ
+  pub stats : List Entries
+
+-- there is one set for each column of a scope, and each fits its column's type
+abbrev pub fits_zone : List Named → List Entries → Bool
+fits_zone scope ss = each_fits (map (λ c. c.1) scope) ss
+
+abbrev pub IsZone : List Named → ZoneData → Type 0
+IsZone scope zone = IsTrue (fits_zone scope zone.stats)
+
+-- a zone beside the scope of its columns
+pub record ScopedZone : Type 0 where
+  pub scope : List Named
+  pub zone : ZoneData
+
+-- each of a list of zones
+abbrev pub AreZonesOf : List Named → List ZoneData → Type 0
+AreZonesOf scope zones = (i : ℕ) (zone : ZoneData) → slice_get zones i ≡ Some zone → IsZone scope zone
+
+-- those of each of a list of zones
+abbrev pub zones_fit : List Named → List ZoneData → Bool
+zones_fit scope zones = list_all (λ zone. fits_zone scope zone.stats) zones
+
+-- what is known of a part without its rows
+abbrev pub zone_of : PartData → ZoneData
+zone_of p = record { rows = rows_of p.chunk.columns; stats = p.stats }
+
+-- the part may be what stands in a zone: it has the scope, the number of rows and the statistics
+pub record IsPartOf (scope : List Named) (zone : ZoneData) (p : PartData) : Type 0 where
+  pub is_part : IsPart p
+  pub scoped : p.chunk.scope ≡ scope
+  pub known : zone_of p ≡ zone
 
 -- each of a list of parts
 abbrev pub AreParts : List PartData → Type 0
@@ -47,3 +92,15 @@ merged_sets as' bs = []
 -- the rows of one part after those of another of its scope
 abbrev pub joined : PartData → PartData → PartData
 joined p q = record { chunk = appended_chunk p.chunk q.chunk; stats = merged_sets p.stats q.stats }
+
+-- all statistics of each column, made from its values
+abbrev pub measured_sets : List ColumnData → List Entries
+measured_sets cs = map (measured all_stats) cs
+
+-- the columns with the statistics that they have
+abbrev pub measured_part : ChunkData → PartData
+measured_part k = record { chunk = k; stats = measured_sets k.columns }
+
+-- the column at the place is there, and holds texts or bytes
+abbrev pub HoldsLongAt : ChunkData → ℕ → Type 0
+HoldsLongAt k i = MatchOption (slice_get k.columns i) ⊥ (λ c. IsTrue (holds_long c.dtype))

@@ -1,6 +1,6 @@
--- A table of zones: the statistics of parts of one scope, as one row a part.
-use Rattle.std.specs.Prelude.{◌≡◌, ℕ, zero, suc, ◌+◌, Bool, true, false, List, [], ◌∷◌, ◌++◌, Option, Some, None, Result, Ok, Err, length, map, codes, position, option_map, All, slice_get, if◌then◌else◌}
-use Rattle.std.specs.List.{filter}
+-- A map of zones: how many rows each has, and a table of their statistics with one row a zone.
+use Rattle.std.specs.Prelude.{◌≡◌, ◌==◌, ℕ, zero, suc, ◌+◌, Bool, true, false, List, [], ◌∷◌, ◌++◌, Option, Some, None, Result, Ok, Err, length, map, codes, position, option_map, All, IsTrue, slice_get, if◌then◌else◌}
+use Rattle.std.specs.List.{filter, list_all}
 use lib.Pointwise.{pointwise}
 use Rattle.vortex_base.specs.declared.aggregate.AggregateFnRef.{AggregateFnRef}
 use Rattle.vortex_base.specs.declared.aggregate.AggregateFnRef.TheVariants.{Max, Min, Sum, NullCount, NanCount, UncompressedSizeInBytes, AllNull, AllNonNull, MinMax}
@@ -8,17 +8,24 @@ use Rattle.vortex_base.specs.declared.dtype.DType.{DType}
 use Rattle.vortex_base.specs.declared.dtype.DType.TheVariants as dtype
 use Rattle.vortex_base.specs.declared.error.BaseError.{BaseError}
 use Rattle.vortex_base.specs.declared.scalar_value.ScalarValue.{ScalarValue}
-use Rattle.vortex_base.specs.Data.Columns.{ChunkData, ColumnData, cell_value, row_count as rows_of}
+use Rattle.vortex_base.specs.Data.Columns.{ChunkData, ColumnData, appended_chunk, cell_value, emptied_chunk, row_count as rows_of}
 use Rattle.vortex_base.specs.Data.Scalars.{Constant}
 use Rattle.vortex_base.specs.Data.Scopes.{Named}
 use Rattle.vortex_base.specs.Trees.Tree.{column}
 use Rattle.vortex_base.specs.Trees.TreeEq.{aggregate_eq}
 use Rattle.vortex_base.specs.Data.Types.{dtype_eq, eq_ignore_nullability}
 use Rattle.vortex_base.specs.Meanings.Typing.{stat_type}
+use Rattle.vortex_stats.specs.Sets.Entries.{entries_fit}
 use Rattle.vortex_prune.specs.Binding.Binders.{BinderAnswer}
-use Rattle.vortex_prune.specs.Part.{AreParts, Entries, PartData}
+use Rattle.vortex_prune.specs.Part.{AreParts, AreZonesOf, Entries, PartData, ZoneData, zone_of}
 use Rattle.vortex_rewrite.specs.Rewriting.Proof.{Assignment}
 use Rattle.vortex_prune.specs.Binding.StatValues.{stat_value}
+
+-- what is kept of zones of one scope: how many rows each has, and the table of their statistics
+pub record MapData : Type 0 where
+  pub scope : List Named
+  pub rows : List ℕ
+  pub table : ChunkData
 
 -- parts of one scope
 pub record ZonesData : Type 0 where
@@ -93,9 +100,11 @@ starts_from n (c ∷ cs) = n ∷ starts_from (n + length (supporting c.1)) cs
 abbrev pub TellsOf : List Named → Head → Type 0
 TellsOf scope h = (c : Named) × (slice_get scope h.source ≡ Some c) × (stat_type h.aggregate c.1 ≡ Ok h.dtype)
 
--- it tells so of the scope of each of the parts
-abbrev pub EachTells : List PartData → Head → Type 0
-EachTells parts h = (i : ℕ) (part : PartData) → slice_get parts i ≡ Some part → TellsOf part.chunk.scope h
+-- each zone has a set where the head tells of, and that fits a type that its aggregate supports
+abbrev pub EachTells : List ZoneData → Head → Type 0
+EachTells zones h =
+    (i : ℕ) (zone : ZoneData) → slice_get zones i ≡ Some zone →
+    (t : DType) × (es : Entries) × (slice_get zone.stats h.source ≡ Some es) × IsTrue (entries_fit es t) × (stat_type h.aggregate t ≡ Ok h.dtype)
 
 -- ---- its values
 
@@ -103,19 +112,40 @@ abbrev pub set_value : AggregateFnRef → Option Entries → (n : ℕ) → Optio
 set_value f None n = None
 set_value f (Some es) n = stat_value f es n
 
--- what a part's set of a column tells, by the part's row count
-abbrev pub zone_value : AggregateFnRef → ℕ → PartData → Option ScalarValue
-zone_value f i p = set_value f (slice_get p.stats i) (rows_of p.chunk.columns)
+-- what a zone's set of a column tells, by the zone's row count
+abbrev pub zone_value : AggregateFnRef → ℕ → ZoneData → Option ScalarValue
+zone_value f i zone = set_value f (slice_get zone.stats i) zone.rows
 
-abbrev pub zone_column : List PartData → Head → ColumnData
-zone_column parts h = record { dtype = h.dtype; values = map (zone_value h.aggregate h.source) parts; size = 0 }
+abbrev pub zone_column : List ZoneData → Head → ColumnData
+zone_column zones h = record { dtype = h.dtype; values = map (zone_value h.aggregate h.source) zones; size = 0 }
 
-abbrev pub zone_columns : ZonesData → List ColumnData
-zone_columns z = map (zone_column z.parts) (heads z.scope)
+abbrev pub zone_columns : List Named → List ZoneData → List ColumnData
+zone_columns scope zones = map (zone_column zones) (heads scope)
 
--- the table: one row a part, in order
-abbrev pub zone_table : ZonesData → ChunkData
-zone_table z = record { scope = map named_head (heads z.scope); columns = zone_columns z }
+-- the table: one row a zone, in order
+abbrev pub zone_table : List Named → List ZoneData → ChunkData
+zone_table scope zones = record { scope = map named_head (heads scope); columns = zone_columns scope zones }
+
+-- the map
+abbrev pub zone_map : List Named → List ZoneData → MapData
+zone_map scope zones = record { scope = scope; rows = map (λ zone. zone.rows) zones; table = zone_table scope zones }
+
+-- the zones of one map after those of another of its scope
+abbrev pub appended_map : MapData → MapData → MapData
+appended_map m k = record { scope = m.scope; rows = m.rows ++ k.rows; table = appended_chunk m.table k.table }
+
+-- a map that has lost its zones
+abbrev pub emptied_map : MapData → MapData
+emptied_map m = record { scope = m.scope; rows = []; table = emptied_chunk m.table }
+
+-- it is the map of these zones
+pub record IsMapOf (zones : List ZoneData) (m : MapData) : Type 0 where
+  pub are_zones : AreZonesOf m.scope zones
+  pub same : m ≡ zone_map m.scope zones
+
+-- what is known of parts
+abbrev pub zones_of : List PartData → List ZoneData
+zones_of parts = map zone_of parts
 
 -- ---- its binder
 
@@ -147,13 +177,19 @@ zone_values scope row f x = None
 abbrev pub is_zone_row : List Named → List Constant → Bool
 is_zone_row scope row = pointwise (λ h c. dtype_eq h.dtype c.dtype) (heads scope) row
 
+-- what every map keeps: its table is of the scope, has as many rows as there are zones and declares no sizes, and where the columns start is known that tell of each column of the scope
+pub record IsMap (m : MapData) (starts : List ℕ) : Type 0 where
+  pub named : m.table.scope ≡ map named_head (heads m.scope)
+  pub counted : length m.rows ≡ rows_of m.table.columns
+  pub sizeless : IsTrue (list_all (λ c. c.size == 0) m.table.columns)
+  pub started : starts ≡ starts_from 0 m.scope
+
 -- the parts have this scope
 abbrev pub HaveScope : List Named → List PartData → Type 0
 HaveScope scope parts = All (λ part. part.chunk.scope ≡ scope) parts
 
--- what is kept of parts of one scope: their table, and where the columns start that tell of each column of the scope
-pub record AreZones (z : ZonesData) (table : ChunkData) (starts : List ℕ) : Type 0 where
+-- what is kept of parts of one scope: beside them the map of what is known of them
+pub record AreZones (z : ZonesData) (m : MapData) : Type 0 where
   pub scoped : HaveScope z.scope z.parts
   pub are_parts : AreParts z.parts
-  pub tabled : table ≡ zone_table z
-  pub started : starts ≡ starts_from 0 z.scope
+  pub mapped : m ≡ zone_map z.scope (zones_of z.parts)

@@ -16,7 +16,7 @@ pub fn statistics_are_honest()
 {}
 
 /// Over columns whose least and greatest values are known and in order, the falsifier of a
-/// read-once predicate is there, and true exactly if no values within them satisfy the predicate.
+/// predicate whose ANDs are apart is there, and true exactly if no values within them satisfy it.
 pub fn falsifiers_are_complete()
     ensures { FalsifiersAreComplete }
 {}

@@ -2,12 +2,16 @@
 ghost use Rattle.std.specs.Prelude.{◌≡◌, ◌<◌, IfErr, IfOk, IsOk, IsTrue, length, slice_get, Some};
 ghost use Rattle.vortex_base.specs.Data.Columns.{IsChunk};
 ghost use Rattle.vortex_stats.specs.declared.error.StatsError.TheVariants.{Mismatch};
-ghost use Rattle.vortex_prune.specs.Part.{IsPart, sets_fit};
+ghost use Rattle.vortex_prune.specs.Part.{IsPart, fits_zone, sets_fit, zone_of};
 
 mod join;
+mod measure;
 
+use crate::zone::Zone;
+use std::alloc::AllocError;
 use std::marker::Model;
 use vortex_base::chunk::Chunk;
+use vortex_base::scope::Scope;
 use vortex_stats::error::StatsError;
 use vortex_stats::stats_set::StatsSet;
 
@@ -39,20 +43,27 @@ pub struct PartRefused {
     pub stats: Vec<StatsSet>,
 }
 
-// Whether there is one set a column that fits its type.
-fn sets_fit(chunk: &Chunk, stats: &[StatsSet]) -> bool
-    ensures value { result ≡ sets_fit chunk.now.columns stats.now }
-    ensures is_chunk { IsChunk chunk.now }
+// Whether there is one set a column of a scope that fits its type.
+pub(crate) fn sets_fit(scope: &Scope, stats: &[StatsSet]) -> bool
+    ensures { result ≡ fits_zone scope.now stats.now }
 {
-    if chunk.scope().len() != stats.len() {
+    if scope.len() != stats.len() {
         return false;
     }
     for (i, set) in stats.iter().enumerate() {
-        if !set.fits(&chunk.column(i).dtype()) {
+        if !set.fits(&scope.dtype(i)) {
             return false;
         }
     }
     true
+}
+
+// Whether there is one set a column of a chunk that fits its type.
+fn chunk_fits(chunk: &Chunk, stats: &[StatsSet]) -> bool
+    ensures value { result ≡ sets_fit chunk.now.columns stats.now }
+    ensures is_chunk { IsChunk chunk.now }
+{
+    sets_fit(chunk.scope(), stats)
 }
 
 impl Part {
@@ -66,7 +77,7 @@ impl Part {
         ensures chunk_back { IfErr result (λ refused. refused.chunk ≡ chunk) }
         ensures stats_back { IfErr result (λ refused. refused.stats ≡ stats) }
     {
-        if sets_fit(&chunk, &stats) {
+        if chunk_fits(&chunk, &stats) {
             Ok(Part { chunk, stats })
         } else {
             Err(PartRefused {
@@ -96,6 +107,14 @@ impl Part {
         &sets[i]
     }
 
+    /// What is known of it without its rows.
+    pub fn zone(&self) -> Zone<'_>
+        ensures value { result ≡ zone_of self.now }
+        ensures is_part { IsPart self.now }
+    {
+        Zone::new(self.chunk.rows() as u64, &self.stats)
+    }
+
     /// The rows, and the statistics of the columns in order. They make a part again.
     pub fn into_inner(self) -> (Chunk, Vec<StatsSet>)
         ensures chunk { result.0 ≡ self.chunk }
@@ -116,4 +135,16 @@ pub struct JoinRefused {
     pub left: Part,
     /// The second part as it was given.
     pub right: Part,
+}
+
+/// A chunk that was not measured, handed back beside the cause, which is memory alone.
+#[derive(Debug, Drop)]
+pub struct MeasureRefused {
+    /// The refused request.
+    pub error: AllocError,
+    /// The column of which the greatest or the least value wasn't copied, a text or bytes. None
+    /// where the list of sets wasn't made.
+    pub column: Option<usize>,
+    /// The chunk as it was given.
+    pub chunk: Chunk,
 }

@@ -11,7 +11,7 @@ ghost use Rattle.vortex_rewrite.specs.Causes.{Causes, IsRefusal, either_causes};
 ghost use Rattle.vortex_prune.specs.Scanning.ScanRefusals.{AreClosed, KeptAreClosed};
 ghost use Rattle.vortex_prune.specs.Scanning.ScanRefusals.{asking_causes, binder_causes};
 ghost use Rattle.vortex_prune.specs.Scanning.ScanRefusals.{faithful_causes, kept_binders, scan_causes};
-ghost use Rattle.vortex_rewrite.specs.Rewriting.ReadOnce.{is_read_once};
+ghost use Rattle.vortex_rewrite.specs.Rewriting.ReadOnce.{is_apart};
 ghost use Rattle.vortex_prune.specs.Scanning.Complete.{SkipsExactly};
 ghost use Rattle.vortex_rewrite.specs.Rewriting.Own.{own_rules};
 ghost use Rattle.vortex_rewrite.specs.Rewriting.Predicates.{is_predicate};
@@ -22,6 +22,7 @@ ghost use Rattle.vortex_rewrite.specs.Answers.{IsMemory};
 
 pub mod outcome;
 mod part_scan;
+pub mod prune;
 mod select;
 mod skip;
 pub(crate) mod verdict;
@@ -172,12 +173,12 @@ pub fn scan<B: StatBinder>(
         (satisfier_of own predicate.now) (answered B.value parts.now binders.now)) (2 ^ 64 - 1)) }
     // What was looked at are parts, as `statistics_binders_are_honest` asks.
     ensures parts { IfOk result (λ _. AreParts parts.now) }
-    // By built-in rules and the parts' own statistics, a read-once predicate skips a part exactly
-    // if no values within its bounds satisfy it.
+    // By built-in rules and the parts' own statistics, a predicate whose ANDs are apart skips a
+    // part exactly if no values within its bounds satisfy it.
     ensures complete { IfOk result (λ scan. rules.now.own.items ≡ []
         → AreFaithful B.is_faithful_over parts.now binders.now
         → AreByStatistics B.value parts.now binders.now
-        → IsTrue (is_read_once predicate.now)
+        → IsTrue (is_apart predicate.now)
         → SkipsExactly predicate.now parts.now scan.skipped.items) }
     // By built-in rules, and binders that are faithful and name no fault of their own, as those of
     // the parts' own statistics, a predicate is refused for memory alone.

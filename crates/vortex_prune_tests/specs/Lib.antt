@@ -1,3 +1,4 @@
 pub mod Counting
 pub mod Hooks
+pub mod Measuring
 pub mod RuleExamples

@@ -15,4 +15,6 @@ mod stat_fn;
 #[cfg(test)]
 mod testing;
 #[cfg(test)]
+mod zone_map;
+#[cfg(test)]
 mod zones;

@@ -11,6 +11,8 @@ use vortex_prune::{JoinRefused, Part, PartRefused};
 use vortex_rewrite_tests::nodes::*;
 use vortex_stats::{Precision, Stat, StatsError, StatsSet};
 
+mod measured;
+
 type Made = Result<Part, StatsError>;
 
 type Joined = Result<Part, JoinRefused>;

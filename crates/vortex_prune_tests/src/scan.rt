@@ -10,6 +10,7 @@ use vortex_stats::{Stat, StatsError, StatsSet};
 
 mod callers;
 mod hostile;
+mod measured;
 mod own;
 mod table;
 mod whole;

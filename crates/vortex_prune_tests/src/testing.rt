@@ -12,7 +12,8 @@ use vortex_base::{BoundExpression, Chunk, Column, DType, ScalarFnId, ScalarValue
 use vortex_prune::scan::scan;
 use vortex_prune::scan::zones::scan_zones;
 use vortex_prune::{
-    Part, PartRefused, Rules, Scan, StatBinder, StatsBinder, StatsRewriteRuleRef, Zones,
+    Part, PartRefused, Pruned, Rules, Scan, StatBinder, StatsBinder, StatsRewriteRuleRef, Zone,
+    ZoneMap, Zones, prune,
 };
 use vortex_rewrite_tests::hooks::{Claim, Claiming};
 use vortex_rewrite_tests::nodes::*;
@@ -354,14 +355,84 @@ pub fn scanned_by_table(
     scan_zones(alloc, zones, predicate, rules)
 }
 
-// The scan in both ways; `Mismatch` where the two differ.
+/// What is known of the parts without their rows.
+pub fn known_of<'a>(alloc: Global, parts: &'a [Part]) -> Result<Vec<Zone<'a>>, AllocError> {
+    let mut zones = Vec::new(alloc);
+    for part in parts {
+        zones.push(part.zone())?;
+    }
+    Ok(zones)
+}
+
+/// The map of these zones.
+pub fn map_of(alloc: Global, scope: Scope, zones: &[Zone<'_>]) -> Result<ZoneMap, StatsError> {
+    match ZoneMap::try_new(alloc, scope, zones) {
+        Ok(map) => Ok(map),
+        Err(refused) => Err(refused.error),
+    }
+}
+
+/// Pruning by a map; `Mismatch` where the predicate doesn't fit it.
+pub fn pruned_by(
+    alloc: Global,
+    map: &ZoneMap,
+    predicate: &BoundExpression,
+    rules: &Rules,
+) -> Result<Pruned, StatsError> {
+    if !predicate.is_plain() || !predicate.fits_scope(map.scope()) {
+        return Err(StatsError::Mismatch);
+    }
+    prune(alloc, map, predicate, rules)
+}
+
+// Pruning by what is known of the parts without their rows.
+fn pruned_without_rows(
+    alloc: Global,
+    zones: &Zones,
+    predicate: &BoundExpression,
+    rules: &Rules,
+) -> Result<Pruned, StatsError> {
+    let known = known_of(alloc, zones.parts())?;
+    let map = map_of(alloc, zones.scope().try_clone()?, &known)?;
+    pruned_by(alloc, &map, predicate, rules)
+}
+
+// Whether pruning lists the parts that a scan does.
+fn lists_the_same(found: &Scan, pruned: &Pruned) -> bool {
+    found.skipped.as_slice() == pruned.skipped.as_slice()
+        && found.whole.as_slice() == pruned.whole.as_slice()
+}
+
+// What a scan found and pruning alike; `Mismatch` where they differ.
+fn also_pruned(found: Scan, pruned: Pruned) -> Found {
+    if lists_the_same(&found, &pruned) {
+        Ok(found)
+    } else {
+        Err(StatsError::Mismatch)
+    }
+}
+
+// What a scan and pruning found or were refused for alike; `Mismatch` where they differ.
+fn pruned_alike(found: Found, pruned: Result<Pruned, StatsError>) -> Found {
+    match (found, pruned) {
+        (Ok(found), Ok(pruned)) => also_pruned(found, pruned),
+        (Err(one), Err(other)) => Err(refused_alike(one, other)),
+        (Err(StatsError::Memory(refused)), _) | (_, Err(StatsError::Memory(refused))) => {
+            Err(StatsError::Memory(refused))
+        }
+        _ => Err(StatsError::Mismatch),
+    }
+}
+
+// The scan in both ways, and what pruning does without the rows; `Mismatch` where two differ.
 fn both_scans(alloc: Global, zones: &Zones, predicate: &BoundExpression, rules: &Rules) -> Found {
     let found = scanned_by_part(alloc, zones.parts(), predicate, rules);
-    agreed(found, scanned_by_table(alloc, zones, predicate, rules))
+    let found = agreed(found, scanned_by_table(alloc, zones, predicate, rules));
+    pruned_alike(found, pruned_without_rows(alloc, zones, predicate, rules))
 }
 
 /// The scan of the parts by these rules and their own statistics: with a binder for each part, and
-/// with one for their table. `Mismatch` where the two differ.
+/// with one for their table; and pruning without their rows. `Mismatch` where two differ.
 pub fn scanned_by(
     alloc: Global,
     zones: &Result<Zones, StatsError>,

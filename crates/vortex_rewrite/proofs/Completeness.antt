@@ -1,4 +1,5 @@
 -- Falsifiers of read-once predicates miss nothing.
+pub mod Apart
 pub mod Choices
 pub mod Decided
 pub mod Interval

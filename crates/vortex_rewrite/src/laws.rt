@@ -1,5 +1,5 @@
 //! Laws of rewriting, in the words of its definitions. The functions carry them by their contracts.
-ghost use Rattle.vortex_rewrite.specs.Laws.{FalsifiersAreSound, SatisfiersAreSound};
+ghost use Rattle.vortex_rewrite.specs.Laws.{FalsifiersAreSound, ReadOnceIsApart, SatisfiersAreSound};
 ghost use Rattle.vortex_rewrite.specs.Rewriting.BuiltInRules.{ProofsAreInOrder, RulesAreOfFunctions};
 
 /// Where a falsifier is true under facts, no row satisfies the predicate, whichever lawful rules
@@ -19,4 +19,10 @@ pub fn satisfiers_are_sound()
 pub fn built_in_rules_are_in_order()
     ensures order { ProofsAreInOrder }
     ensures functions { RulesAreOfFunctions }
+{}
+
+/// A read-once predicate is one whose ANDs are apart: so what bounds decide of these they decide of
+/// those.
+pub fn read_once_is_apart()
+    ensures { ReadOnceIsApart }
 {}

@@ -33,3 +33,5 @@ mod testing;
 mod unions;
 #[cfg(test)]
 mod views;
+#[cfg(test)]
+mod writers;

@@ -2,6 +2,7 @@ pub mod FirstLine
 pub mod Found
 pub mod NumberLemmas
 pub mod PlaceLemmas
+pub mod PlainLemmas
 pub mod Spelling
 pub mod Steps
 pub mod Typed

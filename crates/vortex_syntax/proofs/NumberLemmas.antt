@@ -11,7 +11,7 @@ use Rattle.std.specs.Str.{all_ascii_digits}
 use Rattle.std.specs.Str.Parse.{digits_value}
 use Rattle.vortex_syntax.specs.Numbers.{in_64_bits, byte_of, bytes_of, in_front, natural_of, with_digit}
 
-all_push : (ds : List ℕ) (d : ℕ) → all_ascii_digits ds ≡ true → is_ascii_digit d ≡ true → all_ascii_digits (ds ++ d ∷ []) ≡ true
+pub all_push : (ds : List ℕ) (d : ℕ) → all_ascii_digits ds ≡ true → is_ascii_digit d ≡ true → all_ascii_digits (ds ++ d ∷ []) ≡ true
 all_push [] d all one = and_from _ _ one refl
 all_push (x ∷ xs) d all one = let (first, rest) = and_parts _ _ all in and_from _ _ first (all_push xs d rest one)
 
@@ -20,7 +20,7 @@ all_at [] i all within = absurd (omega arith)
 all_at (x ∷ xs) zero all within = (and_parts _ _ all).0
 all_at (x ∷ xs) (suc i) all within = all_at xs i ((and_parts _ _ all).1) (omega arith)
 
-digit_is : (d : ℕ) → is_ascii_digit d ≡ true → digit_value d ≡ d - 48
+pub digit_is : (d : ℕ) → is_ascii_digit d ≡ true → digit_value d ≡ d - 48
 digit_is d one =
     let low : 48 ≤ d = grind (arith, nat_tests, one) in
     let high : d ≤ 57 = grind (arith, nat_tests, one) in

@@ -57,7 +57,7 @@ quoted_back w (c ∷ t) rest parted =
 quotes_open : (f rest : List ℕ) → (34 ∷ (f ++ 34 ∷ [])) ++ rest ≡ 34 ∷ (f ++ 34 ∷ rest)
 quotes_open f rest = ap (λ l. 34 ∷ l) (append_assoc f (34 ∷ []) rest)
 
-word_back : (w : Token) (rest : List ℕ) → CanBeSpelled w → IsParted rest → words (spelled w ++ rest) ≡ w ∷ words rest
+pub word_back : (w : Token) (rest : List ℕ) → CanBeSpelled w → IsParted rest → words (spelled w ++ rest) ≡ w ∷ words rest
 word_back (Plain []) rest can parted = absurd can
 word_back (Plain (b ∷ bs)) rest can parted = rw (ne_eqb b 32 can.1.0, ne_eqb b 34 can.0) (plain_back (b ∷ []) bs rest can.1.1 parted)
 word_back (Quoted t) rest can parted = ap words (quotes_open (flat_map spelled_byte t) rest) ∙ quoted_back [] t rest parted

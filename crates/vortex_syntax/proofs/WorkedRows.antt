@@ -1,5 +1,6 @@
 -- Worked rows, found by computation alone.
 pub mod NameRows
 pub mod NumberRows
+pub mod PlainRows
 pub mod ValueRows
 pub mod WordRows

@@ -5,6 +5,7 @@ pub mod LineKinds
 pub mod Names
 pub mod Numbers
 pub mod Places
+pub mod Plain
 pub mod QuotedSteps
 pub mod Spelling
 pub mod Statistics

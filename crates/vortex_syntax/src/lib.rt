@@ -10,6 +10,7 @@ pub mod line_kind;
 pub mod lines;
 pub mod names;
 pub mod number;
+pub mod plain;
 pub mod statistic;
 pub mod value;
 pub mod word;

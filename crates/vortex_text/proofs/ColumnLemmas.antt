@@ -6,11 +6,7 @@ use Rattle.vortex_syntax.specs.Fails.{Changes, Fails, Gives}
 use Rattle.vortex_syntax.specs.Words.{Token, no_word}
 use Rattle.vortex_syntax.specs.declared.line_error.LineError.{LineError}
 use Rattle.vortex_syntax.specs.declared.line_error.LineError.TheVariants as errors
-use Rattle.vortex_text.specs.Columns.{taken, with_values}
-
--- columns in front of those that are to be read
-abbrev pub behind : List ColumnData → Option (List ColumnData) → Option (List ColumnData)
-behind front read = option_map (λ more. front ++ more) read
+use Rattle.vortex_text.specs.Columns.{behind, taken, with_values}
 
 behind_push : (front : List ColumnData) (c : ColumnData) (read : Option (List ColumnData)) → behind (front ++ c ∷ []) read ≡ behind front (option_map (λ more. c ∷ more) read)
 behind_push front c None = refl

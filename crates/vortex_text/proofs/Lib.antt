@@ -1,6 +1,9 @@
 pub mod BatchLemmas
 pub mod ColumnLemmas
 pub mod DraftLemmas
+pub mod FirstLineLemmas
+pub mod FirstReads
+pub mod FirstRows
 pub mod Fitting
 pub mod JoinLemmas
 pub mod MemoryLemmas

@@ -1,4 +1,5 @@
 -- Worked rows, found by computation alone.
 pub mod BadRows
+pub mod FirstRows
 pub mod MemoryRows
 pub mod TextRows

@@ -1,5 +1,5 @@
 -- The columns of a part and their sets, as lines add to them.
-use Rattle.std.specs.Prelude.{ℕ, List, [], ◌∷◌, ◌++◌, Option, Some, None, slice_set}
+use Rattle.std.specs.Prelude.{ℕ, List, [], ◌∷◌, ◌++◌, Option, Some, None, option_map, slice_set}
 use Rattle.vortex_base.specs.Data.Columns.{ColumnData}
 use Rattle.vortex_base.specs.declared.scalar_value.ScalarValue.{ScalarValue}
 use Rattle.vortex_stats.specs.Sets.Entries.{with_entry}
@@ -29,6 +29,10 @@ with_values (c ∷ cs) ws = do
   longer ← taken c ws
   more ← with_values cs longer.1
   Some (longer.0 ∷ more)
+
+-- columns in front of those that are to be read
+abbrev pub behind : List ColumnData → Option (List ColumnData) → Option (List ColumnData)
+behind front read = option_map (λ more. front ++ more) read
 
 -- a set of statistics, as the list of its entries
 abbrev pub Entries : Type 0

@@ -1,6 +1,7 @@
 pub mod Batches
 pub mod Columns
 pub mod Drafts
+pub mod FirstLines
 pub mod Fitting
 pub mod Lines
 pub mod MemoryTaken

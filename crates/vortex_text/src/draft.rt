@@ -1,15 +1,19 @@
 //! What the lines of a text say, line by line.
-ghost use Rattle.std.specs.Prelude.{◌≡◌, ◌||◌, IfOk, IfSome, IsErrOf, IsTrue, OnErr, OnOk, MatchOption, None, Some, is_some};
+ghost use Rattle.std.specs.Prelude.{◌≡◌, ◌<◌, ◌||◌, IfOk, IfSome, IsErrOf, IsTrue, OnErr, OnOk, MatchOption, None, Some, is_some, length};
+ghost use Rattle.std.specs.Str.Lines.{lines};
 ghost use Rattle.vortex_base.specs.Data.Scopes.{named_columns};
-ghost use Rattle.vortex_syntax.specs.Fails.{Changes};
+ghost use Rattle.vortex_syntax.specs.Fails.{Changes, GivesAndChanges};
+ghost use Rattle.vortex_syntax.specs.Plain.{EndsWord};
 ghost use Rattle.vortex_syntax.specs.Words.{words};
 ghost use Rattle.vortex_text.specs.Drafts.{reading_of};
+ghost use Rattle.vortex_text.specs.FirstLines.{first_read, first_values, may_take};
 ghost use Rattle.vortex_text.specs.Fitting.{FitsTogether, IsQueryOver};
 ghost use Rattle.vortex_text.specs.Lines.{has_part, is_new, nothing_read, parts_of};
 ghost use Rattle.vortex_text.specs.Lines.{read_column, read_join, read_kind, read_line, read_part};
 ghost use Rattle.vortex_text.specs.Lines.{read_row, read_stat, read_where, read_words, with_column};
 ghost use Rattle.vortex_text.specs.MemoryTaken.{kind_takes, line_takes, words_take};
 
+use crate::first_row::push_first_row;
 use crate::open_column::push_row;
 use crate::open_part::{OpenPart, set_statistic};
 use crate::parts::Parts;
@@ -24,9 +28,10 @@ use vortex_syntax::columns::Columns;
 use vortex_syntax::expression::read_expression;
 use vortex_syntax::line_error::LineError;
 use vortex_syntax::line_kind::{LineKind, kind_of};
-use vortex_syntax::lines::is_utf8;
+use vortex_syntax::lines::{is_utf8, next_line};
 use vortex_syntax::names::{is_name, type_of};
 use vortex_syntax::number::natural_of;
+use vortex_syntax::plain::ends_word;
 use vortex_syntax::statistic::{read_claim, read_claimed};
 use vortex_syntax::word::{is_short, no_word, plain_word, skip_spaces};
 
@@ -270,6 +275,63 @@ impl Draft {
             return Err(LineError::Bad);
         }
         self.read_words(alloc, line)
+    }
+
+    // The row that a text begins with, behind its first word. The text after the line comes back.
+    fn read_first_row<'a>(&mut self, alloc: Global, values: &'a [u8]) -> Result<&'a [u8], LineError>
+        requires { EndsWord values.now }
+        ensures read { let old = reading_of self.old in
+            GivesAndChanges (λ rest. lines rest.now) result
+            (first_values old (lines values.now)) (reading_of self.new) }
+        ensures memory { IsErrOf result LineError.Memory
+            → IsTrue (is_some (reading_of self.old).current) }
+        ensures shorter { IfOk result (λ rest. length rest.now < length values.now) }
+    {
+        match &mut self.current {
+            Some(part) => push_first_row(alloc, &mut part.columns, values),
+            None => Err(LineError::Bad),
+        }
+    }
+
+    // The first line of a text, whatever it is. The text after it comes back.
+    fn read_any_first<'a>(&mut self, alloc: Global, text: &'a [u8]) -> Result<&'a [u8], LineError>
+        requires some { 0 < length text.now }
+        requires fits { FitsTogether (reading_of self.old) }
+        ensures read { let old = reading_of self.old in
+            GivesAndChanges (λ rest. lines rest.now) result (first_read old (lines text.now))
+            (reading_of self.new) }
+        ensures memory { IsErrOf result LineError.Memory
+            → IsTrue (may_take (reading_of self.old) (lines text.now)) }
+        ensures shorter { IfOk result (λ rest. length rest.now < length text.now) }
+    {
+        let (line, rest) = next_line(text);
+        match self.read_line(alloc, line) {
+            Ok(()) => Ok(rest),
+            Err(e) => Err(e),
+        }
+    }
+
+    /// Reads the first line of a text. The text after it comes back. A line that isn't UTF-8 is
+    /// bad.
+    pub fn read_first<'a>(&mut self, alloc: Global, text: &'a [u8]) -> Result<&'a [u8], LineError>
+        requires some { 0 < length text.now }
+        requires fits { FitsTogether (reading_of self.old) }
+        ensures read { let old = reading_of self.old in
+            GivesAndChanges (λ rest. lines rest.now) result (first_read old (lines text.now))
+            (reading_of self.new) }
+        // Memory is refused to a line that takes some, or while a part takes rows.
+        ensures memory { IsErrOf result LineError.Memory
+            → IsTrue (may_take (reading_of self.old) (lines text.now)) }
+        ensures shorter { IfOk result (λ rest. length rest.now < length text.now) }
+    {
+        if self.predicate.is_none() {
+            if let [b'r', b'o', b'w', values @ ..] = text {
+                if ends_word(values) {
+                    return self.read_first_row(alloc, values);
+                }
+            }
+        }
+        self.read_any_first(alloc, text)
     }
 
     /// All the parts and the predicate, if there is one.

@@ -3,6 +3,7 @@
 
 mod batches;
 mod draft;
+mod first_row;
 mod kept_part;
 pub mod naming;
 mod open_column;

@@ -10,7 +10,6 @@ use crate::draft::Draft;
 use crate::query::Query;
 use std::alloc::{AllocError, Global};
 use vortex_syntax::line_error::LineError;
-use vortex_syntax::lines::next_line;
 
 /// Why a text was not read.
 #[derive(Debug, Drop)]
@@ -32,14 +31,12 @@ pub fn read_input(alloc: Global, text: &[u8]) -> Result<Query, InputError>
     let mut rest = text;
     let mut number = 1;
     while !rest.is_empty() {
-        let (line, next) = next_line(rest);
-        match draft.read_line(alloc, line) {
-            Ok(()) => {}
+        rest = match draft.read_first(alloc, rest) {
+            Ok(after) => after,
             Err(LineError::Memory) => return Err(InputError::Memory),
             Err(LineError::Bad) => return Err(InputError::BadLine(number)),
-        }
+        };
         number += 1;
-        rest = next;
     }
     match draft.into_query(alloc) {
         Ok(Some(query)) => Ok(query),

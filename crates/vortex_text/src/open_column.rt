@@ -1,9 +1,10 @@
 //! A column of a part that still takes rows.
-ghost use Rattle.std.specs.Prelude.{◌≡◌, [], IfOk, OnOk};
+ghost use Rattle.std.specs.Prelude.{◌≡◌, ◌<◌, [], IfOk, IfSome, MatchOption, OnOk, length};
 ghost use Rattle.vortex_base.specs.Data.Columns.{IsColumn};
 ghost use Rattle.vortex_syntax.specs.Fails.{Changes, GivesAndChanges};
 ghost use Rattle.vortex_syntax.specs.Words.{words};
 ghost use Rattle.vortex_text.specs.Columns.{taken, with_value, with_values};
+ghost use Rattle.vortex_text.specs.FirstLines.{TakesValue};
 
 use std::alloc::{AllocError, Global};
 use std::marker::Model;
@@ -12,6 +13,7 @@ use vortex_base::column::Column;
 use vortex_base::dtype::DType;
 use vortex_base::scalar_value::ScalarValue;
 use vortex_syntax::line_error::LineError;
+use vortex_syntax::plain::plain_value;
 use vortex_syntax::value::optional_value_of;
 use vortex_syntax::word::{first_word, no_word};
 
@@ -73,6 +75,22 @@ impl OpenColumn {
         let value = optional_value_of(alloc, self.dtype, word)?;
         self.push(value)?;
         Ok(rest)
+    }
+
+    // Adds the value in plain form that a text begins with, behind a space. The text after it comes
+    // back, or none where anything else stands there.
+    #[inline(always)]
+    pub fn take_plain<'a>(&mut self, text: &'a [u8]) -> Result<Option<&'a [u8]>, AllocError>
+        ensures taken { IfOk result (λ o. MatchOption o (self.new ≡ self.old)
+            (λ rest. TakesValue self.old text.now self.new rest.now)) }
+        ensures shorter { IfOk result (λ o. IfSome o
+            (λ rest. length rest.now < length text.now)) }
+    {
+        let Some((value, rest)) = plain_value(self.dtype, text) else {
+            return Ok(None);
+        };
+        self.push(value)?;
+        Ok(Some(rest))
     }
 }
 

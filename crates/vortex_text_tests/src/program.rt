@@ -11,6 +11,7 @@ mod batches;
 mod deep;
 mod joined_parts;
 mod nulls;
+mod plain_rows;
 mod ranges;
 mod skipping;
 mod telling;

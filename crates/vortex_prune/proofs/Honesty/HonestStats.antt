@@ -27,7 +27,7 @@ use Rattle.vortex_stats.specs.declared.precision.Precision.TheVariants.{Exact, I
 use Rattle.vortex_stats.specs.declared.stat.Stat.TheVariants.{Max, Min, Sum, NullCount, UncompressedSizeInBytes}
 use Rattle.vortex_rewrite.specs.Facts.{IsFact, IsNumber, is_column_of, is_over, meanings, size_of}
 use Rattle.vortex_prune.specs.Part.{AreTrueSets, Entries, PartData}
-use Rattle.vortex_prune.specs.Binding.PartAnswers.{column_value, part_values}
+use Rattle.vortex_prune.proofs.Honesty.OwnValues.{column_told, own_values}
 use Rattle.vortex_prune.specs.Binding.StatValues.{all_non_null_value, all_null_value, exact_value, null_count_value, stat_value}
 use Rattle.vortex_base.proofs.Data.ChunkLemmas.{equal_numbers}
 
@@ -151,11 +151,11 @@ module _ (p : PartData) (long : all_long (rows_of p.chunk.columns) p.chunk.colum
   suited c d es false there set = refl
 
   column_fact : (c : Place) (o : Option ColumnData) (q : Option Entries) → slice_get p.chunk.columns c.index ≡ o → slice_get p.stats c.index ≡ q
-      → MatchBool (is_column_of c.dtype o) (IsFact f (column_value f c.dtype o q (rows_of p.chunk.columns)) (meanings (column c) p.chunk.columns) (option_map (λ (d : ColumnData). d.size) o)) (column_value f c.dtype o q (rows_of p.chunk.columns) ≡ None)
+      → MatchBool (is_column_of c.dtype o) (IsFact f (column_told f c.dtype o q (rows_of p.chunk.columns)) (meanings (column c) p.chunk.columns) (option_map (λ (d : ColumnData). d.size) o)) (column_told f c.dtype o q (rows_of p.chunk.columns) ≡ None)
   column_fact c None q there set = refl
   column_fact c (Some d) None there set = no_fact (eq_ignore_nullability d.dtype c.dtype) f (meanings (column c) p.chunk.columns) (Some d.size)
   column_fact c (Some d) (Some es) there set = suited c d es (eq_ignore_nullability d.dtype c.dtype) there set
 
-  pub part_fact : (x : Tree Place) → MatchBool (is_over x p.chunk.columns) (IsFact f (part_values p f x) (meanings x p.chunk.columns) (size_of x p.chunk.columns)) (part_values p f x ≡ None)
+  pub part_fact : (x : Tree Place) → MatchBool (is_over x p.chunk.columns) (IsFact f (own_values p f x) (meanings x p.chunk.columns) (size_of x p.chunk.columns)) (own_values p f x ≡ None)
   part_fact (column c) = column_fact c (slice_get p.chunk.columns c.index) (slice_get p.stats c.index) refl refl
   part_fact x = no_fact (is_over x p.chunk.columns) f (meanings x p.chunk.columns) (size_of x p.chunk.columns)

@@ -1,8 +1,8 @@
 -- A part has as many sets as columns.
-use Rattle.std.proofs.Common.{◌≡◌, ◌<◌, ◌&&◌, ◌+◌, ℕ, zero, suc, Bool, true, false, List, [], ◌∷◌, ◌++◌, append_assoc, Some, length, get_or, drop, refl, sym, ap, subst, ◌∙◌, arith}
-use Rattle.std.specs.Prelude.{slice_get}
-use Rattle.std.proofs.lemmas.List.{drop_more}
-use Rattle.std.proofs.lemmas.Option.{get_or_from_slice_get, slice_get-get_or, slice_get_read}
+use Rattle.std.proofs.Common.{◌≡◌, ◌<◌, ◌&&◌, ◌+◌, ℕ, zero, suc, Bool, true, false, List, [], ◌∷◌, ◌++◌, append_assoc, Option, Some, None, length, map, get_or, drop, refl, sym, ap, subst, ◌∙◌, arith}
+use Rattle.std.specs.Prelude.{option_map, slice_get}
+use Rattle.std.proofs.lemmas.List.{drop_more, length-map}
+use Rattle.std.proofs.lemmas.Option.{get_or_from_slice_get, same_Some, slice_get-get_or, slice_get_read, slice_get_within}
 use lib.Pointwise.{pointwise_long}
 use Rattle.vortex_base.proofs.Data.ChunkLemmas.{equal_numbers}
 use Rattle.vortex_base.specs.Data.Columns.{ChunkData, ColumnData, IsChunk, has_types}
@@ -10,7 +10,7 @@ use Rattle.vortex_base.specs.Data.Exact.{both_true}
 use Rattle.vortex_base.specs.Data.Scopes.{Named}
 use Rattle.vortex_base.specs.Data.Types.{dtype_eq, dtype_eq_is_exact}
 use Rattle.vortex_base.specs.declared.dtype.DType.{DType}
-use Rattle.vortex_prune.specs.Part.{Entries, IsPart, PartData, merged_sets, sets_fit}
+use Rattle.vortex_prune.specs.Part.{Entries, IsPart, PartData, fits_zone, merged_sets, sets_fit}
 use Rattle.vortex_stats.specs.Sets.Entries.{entries_fit}
 use Rattle.vortex_stats.specs.Merging.Merges.{merged_ordered}
 
@@ -22,7 +22,8 @@ scope_long k h = equal_numbers (length k.scope) (length k.columns) (both_true _ 
 pub stats_within : (p : PartData) (i : ℕ) → IsPart p → i < length p.chunk.scope → i < length p.stats
 stats_within p i h within =
     let scope = scope_long p.chunk h.0 in
-    let columns = pointwise_long (λ c es. entries_fit es c.dtype) p.chunk.columns p.stats h.1 in
+    let types = pointwise_long (λ t es. entries_fit es t) (map (λ (c : ColumnData). c.dtype) p.chunk.columns) p.stats h.1 in
+    let columns = length-map p.chunk.columns (λ (c : ColumnData). c.dtype) in
     omega arith
 
 -- the same of a part as it is seen
@@ -35,33 +36,33 @@ stats_there p seen i es is h within there =
     let q = seen_within p seen i is h within in
     ap (λ (x : PartData). slice_get x.stats i) (sym is) ∙ slice_get_read p.stats (length p.stats) i es refl q there
 
+-- a column of this type is there
+pub named_at : (o : Option Named) (t : DType) → option_map (λ (c : Named). c.1) o ≡ Some t → (c : Named) × (o ≡ Some c) × (c.1 ≡ t)
+named_at None t h = absurd cc
+named_at (Some c) t h = (c, refl, same_Some c.1 t h)
+
 -- of two lists from a place on, the sets fit the columns if the first does and the rest do
-pub sets_step : (cs : List ColumnData) (ss : List Entries) (i : ℕ) (c : ColumnData) (es : Entries) → slice_get cs i ≡ Some c → i < length cs → i < length ss → es ≡ get_or ss i es
-    → sets_fit (drop i cs) (drop i ss) ≡ (entries_fit es c.dtype && sets_fit (drop (i + 1) cs) (drop (i + 1) ss))
-sets_step cs ss i c es there within long is =
-    let first : drop i cs ≡ c ∷ drop (i + 1) cs = drop_more cs i c within ∙ ap (λ x. x ∷ drop (i + 1) cs) (get_or_from_slice_get cs i c c there) in
+pub sets_step : (cs : List Named) (ss : List Entries) (i : ℕ) (t : DType) (es : Entries) → option_map (λ (c : Named). c.1) (slice_get cs i) ≡ Some t → i < length cs → i < length ss → es ≡ get_or ss i es
+    → fits_zone (drop i cs) (drop i ss) ≡ (entries_fit es t && fits_zone (drop (i + 1) cs) (drop (i + 1) ss))
+sets_step cs ss i t es typed within long is =
+    let c = named_at (slice_get cs i) t typed in
+    let first : drop i cs ≡ c.0 ∷ drop (i + 1) cs = drop_more cs i c.0 within ∙ ap (λ x. x ∷ drop (i + 1) cs) (get_or_from_slice_get cs i c.0 c.0 c.1) in
     let second : drop i ss ≡ es ∷ drop (i + 1) ss = drop_more ss i es long ∙ ap (λ x. x ∷ drop (i + 1) ss) (sym is) in
-    rw (first, second) refl
+    rw (first, second) (ap (λ u. entries_fit es u && fits_zone (drop (i + 1) cs) (drop (i + 1) ss)) c.2)
 
 -- the same, where the first set doesn't fit
-pub sets_stop : (cs : List ColumnData) (ss : List Entries) (i : ℕ) (c : ColumnData) (es : Entries) (b : Bool) → slice_get cs i ≡ Some c → i < length cs → i < length ss → es ≡ get_or ss i es
-    → entries_fit es c.dtype ≡ false → sets_fit (drop i cs) (drop i ss) ≡ b → false ≡ b
-sets_stop cs ss i c es b there within long is fails all = sym (sets_step cs ss i c es there within long is ∙ rw fails refl) ∙ all
+pub sets_stop : (cs : List Named) (ss : List Entries) (i : ℕ) (t : DType) (es : Entries) (b : Bool) → option_map (λ (c : Named). c.1) (slice_get cs i) ≡ Some t → i < length cs → i < length ss → es ≡ get_or ss i es
+    → entries_fit es t ≡ false → fits_zone (drop i cs) (drop i ss) ≡ b → false ≡ b
+sets_stop cs ss i t es b typed within long is fails all = sym (sets_step cs ss i t es typed within long is ∙ rw fails refl) ∙ all
 
 -- where it does, the rest decide
-pub sets_go_on : (cs : List ColumnData) (ss : List Entries) (i : ℕ) (c : ColumnData) (es : Entries) (b : Bool) → slice_get cs i ≡ Some c → i < length cs → i < length ss → es ≡ get_or ss i es
-    → entries_fit es c.dtype ≡ true → sets_fit (drop i cs) (drop i ss) ≡ b → sets_fit (drop (i + 1) cs) (drop (i + 1) ss) ≡ b
-sets_go_on cs ss i c es b there within long is fits all = sym (sets_step cs ss i c es there within long is ∙ rw fits refl) ∙ all
+pub sets_go_on : (cs : List Named) (ss : List Entries) (i : ℕ) (t : DType) (es : Entries) (b : Bool) → option_map (λ (c : Named). c.1) (slice_get cs i) ≡ Some t → i < length cs → i < length ss → es ≡ get_or ss i es
+    → entries_fit es t ≡ true → fits_zone (drop i cs) (drop i ss) ≡ b → fits_zone (drop (i + 1) cs) (drop (i + 1) ss) ≡ b
+sets_go_on cs ss i t es b typed within long is fits all = sym (sets_step cs ss i t es typed within long is ∙ rw fits refl) ∙ all
 
--- a place with an element is inside
-inside : (cs : List ColumnData) (i : ℕ) (c : ColumnData) → slice_get cs i ≡ Some c → i < length cs
-inside [] i c there = cc
-inside (x ∷ xs) zero c there = omega arith
-inside (x ∷ xs) (suc i) c there = let h = inside xs i c there in omega arith
-
--- the rest of the columns from a place on
-rest_of : (cs : List ColumnData) (i : ℕ) (c : ColumnData) → slice_get cs i ≡ Some c → drop i cs ≡ c ∷ drop (i + 1) cs
-rest_of cs i c there = drop_more cs i c (inside cs i c there) ∙ ap (λ x. x ∷ drop (i + 1) cs) (get_or_from_slice_get cs i c c there)
+-- the rest of a list from a place on
+pub rest_of : {A : Type 0} (xs : List A) (i : ℕ) (x : A) → slice_get xs i ≡ Some x → drop i xs ≡ x ∷ drop (i + 1) xs
+rest_of xs i x there = drop_more xs i x (slice_get_within xs i x there) ∙ ap (λ y. y ∷ drop (i + 1) xs) (get_or_from_slice_get xs i x x there)
 
 fits_at : (cs : List ColumnData) (ss : List Entries) (i : ℕ) (c : ColumnData) (es : Entries) → sets_fit cs ss ≡ true → slice_get cs i ≡ Some c → slice_get ss i ≡ Some es
     → entries_fit es c.dtype ≡ true
@@ -92,7 +93,7 @@ other_fits_at (n ∷ ns) (x ∷ xs) (d ∷ ds) (s ∷ ss) zero c es p q h there 
 other_fits_at (n ∷ ns) (x ∷ xs) (d ∷ ds) (s ∷ ss) (suc i) c es p q h there set =
     other_fits_at ns xs ds ss i c es (both_true _ _ p).1 (both_true _ _ q).1 (both_true _ _ h).1 there set
 
-types_of : (k : ChunkData) → IsChunk k → has_types k.scope k.columns ≡ true
+pub types_of : (k : ChunkData) → IsChunk k → has_types k.scope k.columns ≡ true
 types_of k h = (both_true _ _ (both_true _ _ (both_true _ _ h).1).1).0
 
 -- the set of a column of another part of the same scope fits it too

@@ -1,26 +1,40 @@
--- What the set of a part's column tells, as a literal.
-use Rattle.std.proofs.Common.{◌≡◌, ℕ, Option, Some, sym, ap, ap₂, ◌∙◌}
-use Rattle.std.specs.Prelude.{IsTrue, Result, Ok, Err, slice_get}
+-- What the set of a zone's column tells, as a literal.
+use Rattle.std.proofs.Common.{◌≡◌, ◌<◌, ℕ, List, Option, Some, arith, length, map, subst, sym, ap, ap₂, ◌∙◌}
+use Rattle.std.specs.Prelude.{Bool, IsTrue, MatchResult, Result, Ok, Err, alloc_error, option_map, slice_get}
+use Rattle.std.proofs.lemmas.List.{length-map}
+use lib.Pointwise.{pointwise_long}
 use Rattle.vortex_base.specs.declared.aggregate.AggregateFnRef.{AggregateFnRef}
 use Rattle.vortex_base.specs.declared.dtype.DType.{DType}
 use Rattle.vortex_base.specs.declared.error.BaseError.{BaseError}
 use Rattle.vortex_base.specs.declared.scalar_value.ScalarValue.{ScalarValue}
-use Rattle.vortex_base.specs.Data.Columns.{ChunkData, ColumnData}
 use Rattle.vortex_base.specs.Data.Scalars.{Constant}
+use Rattle.vortex_base.specs.Data.Scopes.{Named}
 use Rattle.vortex_base.specs.Trees.Tree.{Tree, Place, literal}
 use Rattle.vortex_base.specs.Meanings.Typing.{stat_type}
 use Rattle.vortex_stats.specs.declared.error.StatsError.{StatsError}
 use Rattle.vortex_stats.specs.Sets.Entries.{entries_fit}
 use Rattle.vortex_rewrite.specs.Answers.{IfSupported}
-use Rattle.vortex_prune.specs.Part.{Entries, IsPart, PartData}
+use Rattle.vortex_rewrite.specs.HookFaults.{IsHookFault}
+use Rattle.vortex_rewrite.specs.declared.hook_fault.HookFault.{HookFault}
+use Rattle.vortex_rewrite.specs.declared.hook_fault.HookFault.TheVariants as fault
+use Rattle.vortex_prune.specs.Part.{Entries, IsZone, ZoneData}
 use Rattle.vortex_prune.specs.Binding.PartBinder.{column_literal, literal_if}
 use Rattle.vortex_prune.specs.Binding.StatValues.{stat_value}
-use Rattle.vortex_prune.proofs.Honesty.PartLemmas.{part_set_fits}
+use Rattle.vortex_prune.proofs.Honesty.PartLemmas.{named_at}
+use Rattle.vortex_prune.proofs.Honesty.ZoneLemmas.{zone_set_fits}
 
--- the set fits the column's type, however the chunk and the type are given
-pub set_fits_type : (p : PartData) (k : ChunkData) (i : ℕ) (c : ColumnData) (es : Entries) (t : DType) → IsPart p → k ≡ p.chunk → slice_get k.columns i ≡ Some c → slice_get p.stats i ≡ Some es → t ≡ c.dtype → IsTrue (entries_fit es t)
-set_fits_type p k i c es t h e there set typed =
-    ap (entries_fit es) typed ∙ part_set_fits p i c es h (sym (ap (λ (x : ChunkData). slice_get x.columns i) e) ∙ there) set
+-- a zone has a set for each column
+pub set_within : (scope : List Named) (zone : ZoneData) (i : ℕ) → IsZone scope zone → i < length scope → i < length zone.stats
+set_within scope zone i h within =
+    let types = pointwise_long (λ t es. entries_fit es t) (map (λ (c : Named). c.1) scope) zone.stats h in
+    let columns = length-map scope (λ (c : Named). c.1) in
+    omega arith
+
+-- and that fits the column's type
+pub set_fits_type : (scope : List Named) (zone : ZoneData) (i : ℕ) (es : Entries) (t : DType) → IsZone scope zone → option_map (λ (c : Named). c.1) (slice_get scope i) ≡ Some t → slice_get zone.stats i ≡ Some es → IsTrue (entries_fit es t)
+set_fits_type scope zone i es t h there set =
+    let c = named_at (slice_get scope i) t there in
+    ap (entries_fit es) (sym c.2) ∙ zone_set_fits scope zone.stats i c.0 es h c.1 set
 
 abbrev answer : Constant → Result Constant StatsError
 answer s = Ok s
@@ -30,8 +44,14 @@ made_literal (Ok t) v s h = ap (λ x. Some (literal x)) h
 made_literal (Err f) v s h = cc
 
 -- and the literal of what it tells is the one that is wanted
-pub literal_known : (p : PartData) (k : ChunkData) (f : AggregateFnRef) (i n : ℕ) (c : ColumnData) (es : Entries) (t : DType) (s : Constant) (e : Tree Place) → k ≡ p.chunk → slice_get k.columns i ≡ Some c → slice_get p.stats i ≡ Some es → t ≡ c.dtype
-    → IfSupported (stat_type f t) (λ u. record { dtype = u; value = stat_value f es n }) (answer s) → e ≡ literal s → Some e ≡ column_literal f (slice_get p.chunk.columns i) (slice_get p.stats i) n
-literal_known p k f i n c es t s e is there set typed made built =
-    ap Some built ∙ made_literal (stat_type f t) (stat_value f es n) s made ∙ ap (λ u. literal_if (stat_type f u) (stat_value f es n)) typed ∙
-    sym (ap₂ (λ x y. column_literal f x y n) (sym (ap (λ (x : ChunkData). slice_get x.columns i) is) ∙ there) set)
+pub literal_known : (scope : List Named) (zone : ZoneData) (f : AggregateFnRef) (i n : ℕ) (es : Entries) (t : DType) (s : Constant) (e : Tree Place) → option_map (λ (c : Named). c.1) (slice_get scope i) ≡ Some t → slice_get zone.stats i ≡ Some es
+    → IfSupported (stat_type f t) (λ u. record { dtype = u; value = stat_value f es n }) (answer s) → e ≡ literal s → Some e ≡ column_literal f (slice_get scope i) (slice_get zone.stats i) n
+literal_known scope zone f i n es t s e there set made built =
+    let c = named_at (slice_get scope i) t there in
+    ap Some built ∙ made_literal (stat_type f t) (stat_value f es n) s made ∙ ap (λ u. literal_if (stat_type f u) (stat_value f es n)) (sym c.2) ∙
+    sym (ap₂ (λ x y. column_literal f x y n) c.1 set)
+
+-- a binder that is refused for memory alone names no fault
+pub for_memory_alone : {X : Type 0} (r : Result X HookFault) (P Q : X → Type 0) (can_fault : ℕ → Bool) → ((x : X) → P x → Q x) → MatchResult r P (λ f. f ≡ fault.Memory alloc_error) → MatchResult r Q (IsHookFault can_fault)
+for_memory_alone (Ok x) P Q can_fault f h = f x h
+for_memory_alone (Err e) P Q can_fault f h = subst (IsHookFault can_fault) (sym h) tt

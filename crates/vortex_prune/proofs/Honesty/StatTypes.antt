@@ -12,7 +12,7 @@ use Rattle.vortex_rewrite.proofs.NullErasure.{placeholder_null, typed_null}
 use Rattle.vortex_prune.proofs.Honesty.PartLemmas.{part_set_fits}
 use Rattle.vortex_prune.proofs.Honesty.StatFits.{stat_value-fits}
 use Rattle.vortex_prune.specs.Part.{Entries, IsPart, PartData}
-use Rattle.vortex_prune.specs.Binding.PartAnswers.{column_value, part_values}
+use Rattle.vortex_prune.proofs.Honesty.OwnValues.{column_told, own_values}
 use Rattle.vortex_prune.specs.Binding.StatValues.{stat_value}
 use Rattle.vortex_rewrite.specs.StateTypes.{same_stat_type}
 
@@ -22,7 +22,7 @@ same_placeholder f s t u h e = same_stat_type f s t ((dtype_eq_is_exact (as_null
 
 module _ (p : PartData) (part : IsPart p) (f : AggregateFnRef) where
   column_fits : (c : Place) (t : DType) (o : Option ColumnData) (q : Option Entries) (n : ℕ) → stat_type f c.dtype ≡ Ok t
-      → slice_get p.chunk.columns c.index ≡ o → slice_get p.stats c.index ≡ q → is_optional_value (column_value f c.dtype o q n) t ≡ true
+      → slice_get p.chunk.columns c.index ≡ o → slice_get p.stats c.index ≡ q → is_optional_value (column_told f c.dtype o q n) t ≡ true
   column_fits c t None q n h there set = placeholder_null (state_dtype f c.dtype) t h
   column_fits c t (Some d) None n h there set = placeholder_null (state_dtype f c.dtype) t h
   column_fits c t (Some d) (Some es) n h there set = by (eq_ignore_nullability d.dtype c.dtype) refl
@@ -31,6 +31,6 @@ module _ (p : PartData) (part : IsPart p) (f : AggregateFnRef) where
       by true e = stat_value-fits f es n d.dtype t (part_set_fits p c.index d es part there set) (same_placeholder f d.dtype c.dtype t e h)
       by false e = placeholder_null (state_dtype f c.dtype) t h
 
-  pub part_type : (x : Tree Place) (t : DType) → type_of (stat f x) ≡ Ok t → is_optional_value (part_values p f x) t ≡ true
+  pub part_type : (x : Tree Place) (t : DType) → type_of (stat f x) ≡ Ok t → is_optional_value (own_values p f x) t ≡ true
   part_type (column c) t h = column_fits c t (slice_get p.chunk.columns c.index) (slice_get p.stats c.index) _ h refl refl
   part_type x t h = typed_null f (type_of x) t h

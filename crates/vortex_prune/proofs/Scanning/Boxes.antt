@@ -1,5 +1,5 @@
--- The falsifiers of read-once predicates are complete over known boxes in order.
-use Rattle.std.proofs.Common.{◌≡◌, ◌<◌, ◌↔◌, ◌||◌, ◌⊎◌, inl, inr, ⊎_elim, int_le, ℕ, zero, suc, Bool, true, false, not as not_b, ◌&&◌, List, [], ◌∷◌, ◌++◌, length, Option, Some, None, refl, sym, ap, ◌∙◌, subst, subst₂, if◌then◌else◌}
+-- The falsifiers of predicates whose ANDs are apart are complete over known boxes in order.
+use Rattle.std.proofs.Common.{◌≡◌, ◌↔◌, ◌||◌, ◌⊎◌, inl, inr, ⊎_elim, int_le, ℕ, zero, suc, Bool, true, false, not as not_b, ◌&&◌, List, [], ◌∷◌, ◌++◌, length, Option, Some, None, refl, sym, ap, ◌∙◌, subst, subst₂, if◌then◌else◌}
 use Rattle.std.specs.Prelude.{IsTrue, MatchOption, is_ok, slice_get}
 use Rattle.std.specs.List.{AllByRecursion}
 use Rattle.std.specs.Option.{is_some}
@@ -14,8 +14,6 @@ use Rattle.vortex_rewrite.proofs.Completeness.Ranges.{Halved, halved, moved_deci
 use Rattle.std.proofs.lemmas.Bool.{and_parts}
 use Rattle.std.proofs.lemmas.Option.{same_Some, none-some, slice_get_within}
 use Rattle.vortex_base.proofs.Meanings.PlacedTypes.{with_types-ok}
-use Rattle.vortex_base.specs.Data.Columns.{ColumnData, has_types, row_count as rows_of}
-use Rattle.vortex_base.specs.Data.Exact.{both_true}
 use Rattle.vortex_base.specs.Meanings.Fitting.{fits_scope, is_of_type}
 use Rattle.vortex_base.specs.Meanings.Meaning.{holds, is_true}
 use Rattle.vortex_base.specs.Data.Scalars.{Constant, is_optional_value}
@@ -34,20 +32,20 @@ use Rattle.vortex_base.specs.declared.types.Operator.{Operator}
 use Rattle.vortex_base.specs.declared.types.Operator.TheVariants.{Eq, NotEq, Gt, Gte, Lt, Lte, And, Or}
 use Rattle.vortex_base.specs.declared.scalar_value.ScalarValue.{ScalarValue}
 use Rattle.vortex_base.specs.declared.scalar_value.ScalarValue.TheVariants as value
-use Rattle.vortex_rewrite.proofs.Completeness.Choices.{AreInside, IsBetween, all_back, all_front, all_map, distinct_back, distinct_front, row_with, row_within}
-use Rattle.vortex_rewrite.proofs.Completeness.Decided.{Decided, and_decided, comparison_decided, or_decided, truth_decided}
+use Rattle.vortex_rewrite.proofs.Completeness.Apart.{Known, all_inside, and_apart, or_shared}
+use Rattle.vortex_rewrite.proofs.Completeness.Choices.{all_back, all_front, row_with, row_within}
+use Rattle.vortex_rewrite.proofs.Completeness.Decided.{Decided, comparison_decided, truth_decided}
 use Rattle.vortex_rewrite.proofs.Completeness.Interval.{is_comparison}
 use Rattle.vortex_rewrite.proofs.Completeness.Operands.{IsInterval, if_ok, if_typed, operand, operand_type, same_operands, same_values, some_value}
-use Rattle.vortex_prune.proofs.Honesty.PartLemmas.{part_set_fits}
+use Rattle.vortex_prune.proofs.Honesty.ZoneLemmas.{zone_set_fits}
 use Rattle.vortex_rewrite.proofs.Soundness.TruthLogic.{clash}
-use Rattle.vortex_rewrite.proofs.Soundness.ValueTests.{le_refl}
-use Rattle.vortex_rewrite.specs.Rewriting.ReadOnce.{Box, IsInOrder, IsSatisfiable, are_distinct, columns_of, has_closed_end, is_number_type, is_operand, is_range, is_simple, is_truth}
-use Rattle.vortex_prune.specs.Scanning.Complete.{FalsifiersAreComplete, IsBoxOf, IsKnownBy, SkippingIsComplete}
-use Rattle.vortex_prune.specs.Part.{Entries, IsPart, PartData}
-use Rattle.vortex_prune.specs.Binding.PartAnswers.{column_value, part_values}
+use Rattle.vortex_rewrite.specs.Rewriting.ReadOnce.{Box, IsInOrder, IsSatisfiable, are_apart, are_distinct, are_sides_apart, columns_of, has_closed_end, is_number_type, is_operand, is_range, is_simple, is_truth}
+use Rattle.vortex_prune.specs.Scanning.Complete.{FalsifiersAreComplete, IsBoxIn, IsKnownBy, SkippingIsComplete}
+use Rattle.vortex_prune.specs.Part.{Entries, IsZone, ZoneData}
+use Rattle.vortex_prune.specs.Binding.PartAnswers.{column_value, told_values}
 use Rattle.vortex_rewrite.specs.Rewriting.Proof.{Assignment, proves}
 use Rattle.vortex_rewrite.specs.Rewriting.Falsifiers.{closed, ends, falsifier, high_size, is_crossed, literal_ends, low_size, number_literal}
-use Rattle.vortex_prune.specs.Scanning.Selection.{is_proved}
+use Rattle.vortex_prune.specs.Scanning.Selection.{proves_of}
 use Rattle.vortex_stats.proofs.Kit.{entry_value-fits}
 use Rattle.vortex_stats.specs.Bounds.Order.{AtMost}
 use Rattle.vortex_stats.specs.Sets.Entries.{entry_value, is_value_of, value_fits}
@@ -113,24 +111,15 @@ each_column test (like o x q) h =
 each_column test (stat f x) h = tt
 each_column test row_count h = tt
 
--- ---- every read-once predicate
+-- ---- every such predicate
 
 module _ (box : Box) (A : Assignment) (m n : ℕ) where
-  abbrev Known : List Place → Type 0
-  Known cs = AllByRecursion (IsInterval box A m n) cs
-
-  all_inside : (cs : List Place) → Known cs → AreInside m cs
-  all_inside cs h = all_map (IsInterval box A m n) (λ c. c.index < m) cs (λ c k. k.inside) h
-
-  low_between : (cs : List Place) → Known cs → AllByRecursion (IsBetween box box.low) cs
-  low_between cs h = all_map (IsInterval box A m n) (IsBetween box box.low) cs (λ c k. record { of_type = k.low; above_low = le_refl (box.low c.index); below_high = k.order }) h
-
   literal_node : (c : Constant) → is_truth c.value ≡ true → Decided box A m n (literal c)
   literal_node c h =
       let t = truth_is c.value h in
       subst (λ o. Decided box A m n (literal (record { dtype = c.dtype; value = o }))) (sym t.1) (truth_decided box A m n c.dtype t.0)
 
-  module _ (x y : Tree Place) (known : Known (columns_of x ++ columns_of y)) (distinct : are_distinct (columns_of x ++ columns_of y) ≡ true) where
+  module _ (x y : Tree Place) (known : Known box A m n (columns_of x ++ columns_of y)) (distinct : are_distinct (columns_of x ++ columns_of y) ≡ true) where
     comparison : (o : Operator) → is_comparison o ≡ true → (is_operand x && is_operand y) ≡ true → is_ok (with_types comparison_type (type_of x) (type_of y)) ≡ true → Decided box A m n (binary o x y)
     comparison o k simple ok =
         let h = and_parts (is_operand x) (is_operand y) simple in
@@ -138,14 +127,14 @@ module _ (box : Box) (A : Assignment) (m n : ℕ) where
         comparison_decided box A m n x y (operand_type x) (operand_type y)
         (operand box A m n x h.0 t.0 (all_front (IsInterval box A m n) (columns_of x) (columns_of y) known))
         (operand box A m n y h.1 t.1 (all_back (IsInterval box A m n) (columns_of x) (columns_of y) known))
-        o k (same_operands x y h.0 h.1 t.0 t.1 ok) (all_inside (columns_of x ++ columns_of y) known) distinct
+        o k (same_operands x y h.0 h.1 t.0 t.1 ok) (all_inside box A m n (columns_of x ++ columns_of y) known) distinct
 
     at_end : (s : StrictComparison) → (is_operand x && is_operand y) ≡ true → is_ok (with_types (binary_type (to_operator s)) (type_of x) (type_of y)) ≡ true → Decided box A m n (binary (to_operator s) x y)
     at_end Strict simple ok = comparison Lt refl simple ok
     at_end NonStrict simple ok = comparison Lte refl simple ok
 
   -- a column between two literals
-  module _ (c : Place) (known : Known (c ∷ [])) where
+  module _ (c : Place) (known : Known box A m n (c ∷ [])) where
     abbrev range_of : BetweenOptions → (d e : Constant) → Tree Place
     range_of o d e = between o (column c) (literal d) (literal e)
 
@@ -226,62 +215,60 @@ module _ (box : Box) (A : Assignment) (m n : ℕ) where
         let u = some_value e.value some.1 in
         of_values o d e ok k.0 l.0 u.0 l.1 u.1
 
-  decided : (p : Tree Place) → is_simple p ≡ true → are_distinct (columns_of p) ≡ true → is_ok (type_of p) ≡ true → Known (columns_of p) → Decided box A m n p
-  decided (column c) simple distinct ok known = cc
-  decided (literal c) simple distinct ok known = literal_node c simple
-  decided (binary Eq x y) simple distinct ok known = comparison x y known distinct Eq refl simple ok
-  decided (binary NotEq x y) simple distinct ok known = comparison x y known distinct NotEq refl simple ok
-  decided (binary Gt x y) simple distinct ok known = comparison x y known distinct Gt refl simple ok
-  decided (binary Gte x y) simple distinct ok known = comparison x y known distinct Gte refl simple ok
-  decided (binary Lt x y) simple distinct ok known = comparison x y known distinct Lt refl simple ok
-  decided (binary Lte x y) simple distinct ok known = comparison x y known distinct Lte refl simple ok
-  decided (binary And x y) simple distinct ok known =
+  decided : (p : Tree Place) → is_simple p ≡ true → are_sides_apart p ≡ true → is_ok (type_of p) ≡ true → Known box A m n (columns_of p) → Decided box A m n p
+  decided (column c) simple apart ok known = cc
+  decided (literal c) simple apart ok known = literal_node c simple
+  decided (binary Eq x y) simple apart ok known = comparison x y known apart Eq refl simple ok
+  decided (binary NotEq x y) simple apart ok known = comparison x y known apart NotEq refl simple ok
+  decided (binary Gt x y) simple apart ok known = comparison x y known apart Gt refl simple ok
+  decided (binary Gte x y) simple apart ok known = comparison x y known apart Gte refl simple ok
+  decided (binary Lt x y) simple apart ok known = comparison x y known apart Lt refl simple ok
+  decided (binary Lte x y) simple apart ok known = comparison x y known apart Lte refl simple ok
+  decided (binary And x y) simple apart ok known =
       let h = and_parts (is_simple x) (is_simple y) simple in
-      let t = with_types-ok connective_type (type_of x) (type_of y) ok in
-      and_decided box A m n x y
-      (decided x h.0 (distinct_front (columns_of x) (columns_of y) distinct) t.0 (all_front (IsInterval box A m n) (columns_of x) (columns_of y) known))
-      (decided y h.1 (distinct_back (columns_of x) (columns_of y) distinct) t.1 (all_back (IsInterval box A m n) (columns_of x) (columns_of y) known))
-      (all_inside (columns_of x ++ columns_of y) known) distinct
-  decided (binary Or x y) simple distinct ok known =
-      let h = and_parts (is_simple x) (is_simple y) simple in
+      let a = and_parts (are_apart (columns_of x) (columns_of y)) (are_sides_apart x && are_sides_apart y) apart in
+      let b = and_parts (are_sides_apart x) (are_sides_apart y) a.1 in
       let t = with_types-ok connective_type (type_of x) (type_of y) ok in
       let known_x = all_front (IsInterval box A m n) (columns_of x) (columns_of y) known in
       let known_y = all_back (IsInterval box A m n) (columns_of x) (columns_of y) known in
-      or_decided box A m n x y
-      (decided x h.0 (distinct_front (columns_of x) (columns_of y) distinct) t.0 known_x)
-      (decided y h.1 (distinct_back (columns_of x) (columns_of y) distinct) t.1 known_y)
-      (all_inside (columns_of x ++ columns_of y) known) distinct (low_between (columns_of x) known_x) (low_between (columns_of y) known_y)
-  decided (between o (column c) (literal d) (literal e)) simple distinct ok known = range c known o d e ok simple
-  decided (between o x l u) simple distinct ok known = cc
-  decided (is_null x) simple distinct ok known = cc
-  decided (is_not_null x) simple distinct ok known = cc
-  decided (not x) simple distinct ok known = cc
-  decided (like o x q) simple distinct ok known = cc
-  decided (stat f x) simple distinct ok known = cc
-  decided row_count simple distinct ok known = cc
+      and_apart box A m n x y (decided x h.0 b.0 t.0 known_x) (decided y h.1 b.1 t.1 known_y) known_x known_y a.0
+  decided (binary Or x y) simple apart ok known =
+      let h = and_parts (is_simple x) (is_simple y) simple in
+      let b = and_parts (are_sides_apart x) (are_sides_apart y) apart in
+      let t = with_types-ok connective_type (type_of x) (type_of y) ok in
+      let known_x = all_front (IsInterval box A m n) (columns_of x) (columns_of y) known in
+      let known_y = all_back (IsInterval box A m n) (columns_of x) (columns_of y) known in
+      or_shared box A m n x y (decided x h.0 b.0 t.0 known_x) (decided y h.1 b.1 t.1 known_y) known_x known_y
+  decided (between o (column c) (literal d) (literal e)) simple apart ok known = range c known o d e ok simple
+  decided (between o x l u) simple apart ok known = cc
+  decided (is_null x) simple apart ok known = cc
+  decided (is_not_null x) simple apart ok known = cc
+  decided (not x) simple apart ok known = cc
+  decided (like o x q) simple apart ok known = cc
+  decided (stat f x) simple apart ok known = cc
+  decided row_count simple apart ok known = cc
 
   holds_true : (b : Bool) → (b ≡ false → ⊥) → b ≡ true
   holds_true true f = refl
   holds_true false f = absurd (f refl)
 
-  decides : (p : Tree Place) → Known (columns_of p) → Decided box A m n p → (e : Tree Place) × (falsifier [] p ≡ Some e) × (IsTrue (proves e A n) ↔ ¬ IsSatisfiable p box n)
+  decides : (p : Tree Place) → Known box A m n (columns_of p) → Decided box A m n p → (e : Tree Place) × (falsifier [] p ≡ Some e) × (IsTrue (proves e A n) ↔ ¬ IsSatisfiable p box n)
   decides p known d =
       let says : proves d.proof A n ≡ d.says = λ i. is_true (if d.closed i then None else d.proof_told i) in (
         d.proof,
         d.proof_is,
         (
           (λ t sat. clash sat.2 (d.refutes (sym says ∙ t) sat.0 sat.1)),
-          (λ none. says ∙ holds_true d.says (λ e. let f = d.finds e in none (row_with f.0 m, row_within box f.0 m (columns_of p) (all_inside (columns_of p) known) f.1, f.2))),
+          (λ none. says ∙ holds_true d.says (λ e. let f = d.finds e in none (row_with f.0 m, row_within box f.0 m (columns_of p) (all_inside box A m n (columns_of p) known) f.1, f.2))),
         ),
       )
 
 -- ---- what a part's sets answer for the columns of a predicate
 
-column_there : (ns : List Named) (cs : List ColumnData) (i : ℕ) (t : DType) → has_types ns cs ≡ true → is_of_type t (slice_get ns i) ≡ true → (d : ColumnData) × (slice_get cs i ≡ Some d) × (d.dtype ≡ t)
-column_there [] cs i t h k = cc
-column_there (x ∷ ns) [] i t h k = cc
-column_there (x ∷ ns) (d ∷ cs) zero t h k = (d, refl, sym ((dtype_eq_is_exact x.1 d.dtype).0 (both_true _ _ h).0) ∙ (dtype_eq_is_exact x.1 t).0 k)
-column_there (x ∷ ns) (d ∷ cs) (suc i) t h k = column_there ns cs i t (both_true _ _ h).1 k
+column_there : (ns : List Named) (i : ℕ) (t : DType) → is_of_type t (slice_get ns i) ≡ true → (c : Named) × (slice_get ns i ≡ Some c) × (c.1 ≡ t)
+column_there [] i t k = cc
+column_there (x ∷ ns) zero t k = (x, refl, (dtype_eq_is_exact x.1 t).0 k)
+column_there (x ∷ ns) (suc i) t k = column_there ns i t k
 
 set_there : (P : Entries → Type 0) (o : Option Entries) → MatchOption o ⊥ P → (es : Entries) × (o ≡ Some es) × P es
 set_there P (Some es) h = (es, refl, h)
@@ -300,49 +287,45 @@ extreme_fits (dtype.Utf8 n) v h = h
 extreme_fits (dtype.Binary n) v h = h
 extreme_fits (dtype.MinMaxState e n) v h = h
 
-module _ (part : PartData) (box : Box) (is_part : IsPart part) where
-  abbrev rows : ℕ
-  rows = rows_of part.chunk.columns
-
+module _ (scope : List Named) (zone : ZoneData) (box : Box) (is_zone : IsZone scope zone) where
   -- the column's bounds are those of the box, whose values are of its type
-  interval_at : (c : Place) (d : ColumnData) (es : Entries) → slice_get part.chunk.columns c.index ≡ Some d → d.dtype ≡ c.dtype → slice_get part.stats c.index ≡ Some es → IsKnownBy box c.index es
-      → AtMost value_cmp (box.low c.index) (box.high c.index) → IsInterval box (part_values part) (length part.stats) rows c
+  interval_at : (c : Place) (d : Named) (es : Entries) → slice_get scope c.index ≡ Some d → d.1 ≡ c.dtype → slice_get zone.stats c.index ≡ Some es → IsKnownBy box c.index es
+      → AtMost value_cmp (box.low c.index) (box.high c.index) → IsInterval box (told_values scope zone) (length zone.stats) zone.rows c
   interval_at c d es there same set known order =
-      let fits = part_set_fits part c.index d es is_part there set in
-      let suits : eq_ignore_nullability d.dtype c.dtype ≡ true = (dtype_eq_is_exact (as_nullable d.dtype) (as_nullable c.dtype)).1 (ap as_nullable same) in
-      let low = extreme_fits d.dtype (box.low c.index) (present_fits Min d.dtype (entry_value Min es) (box.low c.index) known.0 (entry_value-fits Min d.dtype es fits)) in
-      let high = extreme_fits d.dtype (box.high c.index) (present_fits Max d.dtype (entry_value Max es) (box.high c.index) known.1 (entry_value-fits Max d.dtype es fits)) in
+      let fits = zone_set_fits scope zone.stats c.index d es is_zone there set in
+      let suits : eq_ignore_nullability d.1 c.dtype ≡ true = (dtype_eq_is_exact (as_nullable d.1) (as_nullable c.dtype)).1 (ap as_nullable same) in
+      let low = extreme_fits d.1 (box.low c.index) (present_fits Min d.1 (entry_value Min es) (box.low c.index) known.0 (entry_value-fits Min d.1 es fits)) in
+      let high = extreme_fits d.1 (box.high c.index) (present_fits Max d.1 (entry_value Max es) (box.high c.index) known.1 (entry_value-fits Max d.1 es fits)) in
       record {
-        inside = slice_get_within part.stats c.index es set;
-        min_told = (λ i. column_value aggregate.Min c.dtype (there i) (set i) rows) ∙ ap (λ (b : Bool). if b then present_value (entry_value Min es) else None) suits ∙ known.0;
-        max_told = (λ i. column_value aggregate.Max c.dtype (there i) (set i) rows) ∙ ap (λ (b : Bool). if b then present_value (entry_value Max es) else None) suits ∙ known.1;
+        inside = slice_get_within zone.stats c.index es set;
+        min_told = (λ i. column_value aggregate.Min c.dtype (there i) (set i) zone.rows) ∙ ap (λ (b : Bool). if b then present_value (entry_value Min es) else None) suits ∙ known.0;
+        max_told = (λ i. column_value aggregate.Max c.dtype (there i) (set i) zone.rows) ∙ ap (λ (b : Bool). if b then present_value (entry_value Max es) else None) suits ∙ known.1;
         low = subst (λ t. is_value (box.low c.index) t ≡ true) same low;
         high = subst (λ t. is_value (box.high c.index) t ≡ true) same high;
         order = ap not_b order;
       }
 
   -- each column of a list
-  intervals : (cs : List Place) → AllByRecursion (λ c. is_of_type c.dtype (slice_get part.chunk.scope c.index) ≡ true) cs → AllByRecursion (λ c. MatchOption (slice_get part.stats c.index) ⊥ (IsKnownBy box c.index)) cs
-      → AllByRecursion (λ c. AtMost value_cmp (box.low c.index) (box.high c.index)) cs → AllByRecursion (IsInterval box (part_values part) (length part.stats) rows) cs
+  intervals : (cs : List Place) → AllByRecursion (λ c. is_of_type c.dtype (slice_get scope c.index) ≡ true) cs → AllByRecursion (λ c. MatchOption (slice_get zone.stats c.index) ⊥ (IsKnownBy box c.index)) cs
+      → AllByRecursion (λ c. AtMost value_cmp (box.low c.index) (box.high c.index)) cs → AllByRecursion (IsInterval box (told_values scope zone) (length zone.stats) zone.rows) cs
   intervals [] fit known order = tt
   intervals (c ∷ cs) fit known order =
-      let types = (both_true _ _ (both_true _ _ (both_true _ _ is_part.0).1).1).0 in
-      let d = column_there part.chunk.scope part.chunk.columns c.index c.dtype types fit.0 in
-      let es = set_there (IsKnownBy box c.index) (slice_get part.stats c.index) known.0 in
+      let d = column_there scope c.index c.dtype fit.0 in
+      let es = set_there (IsKnownBy box c.index) (slice_get zone.stats c.index) known.0 in
       (interval_at c d.0 es.0 d.1 d.2 es.1 es.2 order.0, intervals cs fit.1 known.1 order.1)
 
-  falsifiers_complete : (p : Tree Place) → is_ok (type_of p) ≡ true → is_simple p ≡ true → are_distinct (columns_of p) ≡ true → IsTrue (fits_scope p part.chunk.scope) → IsBoxOf part p box → IsInOrder p box
-      → (e : Tree Place) × (falsifier [] p ≡ Some e) × (IsTrue (proves e (part_values part) rows) ↔ ¬ IsSatisfiable p box rows)
-  falsifiers_complete p ok simple distinct fits is_box order =
-      let known = intervals (columns_of p) (each_column (λ c. is_of_type c.dtype (slice_get part.chunk.scope c.index)) p fits) is_box order in
-      decides box (part_values part) (length part.stats) rows p known (decided box (part_values part) (length part.stats) rows p simple distinct ok known)
+  falsifiers_complete : (p : Tree Place) → is_ok (type_of p) ≡ true → is_simple p ≡ true → are_sides_apart p ≡ true → IsTrue (fits_scope p scope) → IsBoxIn zone.stats p box → IsInOrder p box
+      → (e : Tree Place) × (falsifier [] p ≡ Some e) × (IsTrue (proves e (told_values scope zone) zone.rows) ↔ ¬ IsSatisfiable p box zone.rows)
+  falsifiers_complete p ok simple apart fits is_box order =
+      let known = intervals (columns_of p) (each_column (λ c. is_of_type c.dtype (slice_get scope c.index)) p fits) is_box order in
+      decides box (told_values scope zone) (length zone.stats) zone.rows p known (decided box (told_values scope zone) (length zone.stats) zone.rows p simple apart ok known)
 
 pub falsifiers_are_complete : FalsifiersAreComplete
-falsifiers_are_complete p t part box typed bool is_part fits once is_box order =
-    let h = and_parts (is_simple p) (are_distinct (columns_of p)) once in
-    falsifiers_complete part box is_part p (ap is_ok typed) h.0 h.1 fits is_box order
+falsifiers_are_complete p t scope zone box typed bool is_zone fits apart is_box order =
+    let h = and_parts (is_simple p) (are_sides_apart p) apart in
+    falsifiers_complete scope zone box is_zone p (ap is_ok typed) h.0 h.1 fits is_box order
 
 pub skipping_is_complete : SkippingIsComplete
-skipping_is_complete p t part box typed bool is_part fits once is_box order =
-    let c = falsifiers_are_complete p t part box typed bool is_part fits once is_box order in
-    subst (λ o. IsTrue (is_proved o part (part_values part)) ↔ ¬ IsSatisfiable p box (rows_of part.chunk.columns)) (sym c.1) c.2
+skipping_is_complete p t scope zone box typed bool is_zone fits apart is_box order =
+    let c = falsifiers_are_complete p t scope zone box typed bool is_zone fits apart is_box order in
+    subst (λ o. IsTrue (proves_of o zone.rows (told_values scope zone)) ↔ ¬ IsSatisfiable p box zone.rows) (sym c.1) c.2

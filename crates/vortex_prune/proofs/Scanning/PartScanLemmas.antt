@@ -42,7 +42,7 @@ listed_now Skipped xs i = Contains-push xs i
 listed_now Whole xs i = tt
 listed_now Tested xs i = tt
 
-skipped_by : (b w : Bool) → is_skipped (if b then Skipped else if w then Whole else Tested) ≡ b
+pub skipped_by : (b w : Bool) → is_skipped (if b then Skipped else if w then Whole else Tested) ≡ b
 skipped_by true w = refl
 skipped_by false true = refl
 skipped_by false false = refl

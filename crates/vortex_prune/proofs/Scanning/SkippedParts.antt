@@ -5,11 +5,13 @@ use Rattle.std.specs.List.{enumerate_from}
 use Rattle.std.proofs.lemmas.Map.Made.{Contains-tail}
 use Rattle.std.proofs.lemmas.Option.{same_Some, slice_get-map}
 use Rattle.vortex_base.specs.Trees.Tree.{Tree, Place}
+use Rattle.vortex_prune.proofs.Honesty.ZoneLemmas.{part_is_zone}
 use Rattle.vortex_prune.proofs.Scanning.Boxes.{skipping_is_complete}
+use Rattle.vortex_prune.specs.Part.{zone_of}
 use Rattle.vortex_prune.specs.Scanning.Complete.{ScansSkipExactly, by_own_statistics}
 use Rattle.vortex_prune.specs.Binding.PartAnswers.{part_values}
 use Rattle.vortex_rewrite.specs.Rewriting.Falsifiers.{falsifier}
-use Rattle.vortex_prune.specs.Scanning.Selection.{Answered, is_proved, skipped_parts}
+use Rattle.vortex_prune.specs.Scanning.Selection.{Answered, is_proved, places_where, skipped_parts}
 use Rattle.vortex_stats.proofs.Kit.{contains_first, contains_later}
 
 module _ {X : Type 0} (test : X → Bool) where
@@ -58,17 +60,21 @@ module _ {X : Type 0} (test : X → Bool) where
       let at : n + suc i ≡ n + 1 + i = omega arith in
       back ys (n + 1) i x is (subst (Contains (passing (n + 1) ys)) at (first_place (test y) n (n + suc i) y (filter (λ e. test e.1) (enumerate_from (n + 1) ys)) h (λ same. absurd (omega (arith, same)))))
 
+-- the place of an element is listed exactly if it passes
+pub place_listed : {X : Type 0} (test : X → Bool) (xs : List X) (i : ℕ) (x : X) → slice_get xs i ≡ Some x → Contains (places_where test xs) i ↔ IsTrue (test x)
+place_listed test xs i x is =
+    let at : 0 + i ≡ i = omega arith in (
+      (λ h. back test xs 0 i x is (subst (Contains (places_where test xs)) (sym at) h)),
+      (λ h. subst (Contains (places_where test xs)) at (there test xs 0 i x is h)),
+    )
+
 -- a part's place is skipped exactly if the proof is true of the part
 pub skipped_part : (proof : Option (Tree Place)) (parts : List Answered) (i : ℕ) (part : Answered) → slice_get parts i ≡ Some part → Contains (skipped_parts proof parts) i ↔ IsTrue (is_proved proof part.0 part.1)
-skipped_part proof parts i part is =
-    let at : 0 + i ≡ i = omega arith in (
-      (λ h. back (λ e. is_proved proof e.0 e.1) parts 0 i part is (subst (Contains (skipped_parts proof parts)) (sym at) h)),
-      (λ h. subst (Contains (skipped_parts proof parts)) at (there (λ e. is_proved proof e.0 e.1) parts 0 i part is h)),
-    )
+skipped_part proof parts i part is = place_listed (λ (d : Answered). is_proved proof d.0 d.1) parts i part is
 
 pub scans_skip_exactly : ScansSkipExactly
 scans_skip_exactly p t parts i part box typed bool is is_part fits once is_box order =
-    let whole = skipping_is_complete p t part box typed bool is_part fits once is_box order in
+    let whole = skipping_is_complete p t part.chunk.scope (zone_of part) box typed bool (part_is_zone part is_part) fits once is_box order in
     let own : slice_get (by_own_statistics parts) i ≡ Some (part, part_values part) =
     slice_get-map (λ q. (q, part_values q)) parts i ∙ ap (option_map (λ q. (q, part_values q))) is in
     let one = skipped_part (falsifier [] p) (by_own_statistics parts) i (part, part_values part) own in

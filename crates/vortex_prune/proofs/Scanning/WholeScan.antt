@@ -1,9 +1,10 @@
 -- A scan with honest binders selects what the full scan does, and one by the parts' own statistics skips exactly what they rule out.
 use Rattle.std.proofs.Common.{◌≡◌, ◌↔◌, ℕ, zero, suc, true, List, [], ◌∷◌, Ok, Err, Some, Result, IsTrue, IsOk, IfOk, All, map, length, refl, sym, ap, subst, ◌∙◌, arith}
 use Rattle.std.specs.List.{AllByRecursion}
-use Rattle.std.specs.Prelude.{Contains, slice_get}
+use Rattle.std.specs.Prelude.{Contains, option_map, slice_get}
+use Rattle.std.proofs.lemmas.List.{length-map}
 use Rattle.std.proofs.lemmas.List.Elements.{recursion_from_All}
-use Rattle.std.proofs.lemmas.Option.{same_Some}
+use Rattle.std.proofs.lemmas.Option.{same_Some, slice_get-map, slice_get_within}
 use Rattle.vortex_base.specs.Data.Columns.{row_count as rows_of}
 use Rattle.vortex_base.specs.Meanings.Fitting.{fits_scope}
 use Rattle.vortex_base.specs.Data.Scalars.{Constant}
@@ -12,12 +13,14 @@ use Rattle.vortex_base.specs.Meanings.Typing.{is_bool, type_of}
 use Rattle.vortex_base.specs.declared.dtype.DType.{DType}
 use Rattle.vortex_base.specs.declared.error.BaseError.{BaseError}
 use Rattle.vortex_prune.proofs.Binding.BoundValues.{has_a_type}
+use Rattle.vortex_prune.proofs.Scanning.BinderScan.{element_there}
 use Rattle.vortex_prune.proofs.Scanning.Lossless.{IsAnswered, selected_full}
 use Rattle.vortex_prune.proofs.Scanning.SkippedParts.{scans_skip_exactly}
-use Rattle.vortex_rewrite.specs.Rewriting.ReadOnce.{IsSatisfiable, is_read_once}
-use Rattle.vortex_prune.specs.Scanning.Complete.{SkipsExactly, by_own_statistics}
+use Rattle.vortex_rewrite.specs.Rewriting.ReadOnce.{IsSatisfiable, is_apart}
+use Rattle.vortex_prune.specs.Scanning.Complete.{IsBoxIn, SkipsExactly, by_own_statistics}
 use Rattle.vortex_rewrite.specs.Rewriting.Lawful.{OwnRule}
-use Rattle.vortex_prune.specs.Part.{AreParts, IsPart, PartData}
+use Rattle.vortex_prune.specs.Part.{AreParts, IsPart, PartData, ZoneData, zone_of}
+use Rattle.vortex_prune.specs.Zones.{zones_of}
 use Rattle.vortex_prune.specs.Binding.PartAnswers.{part_values}
 use Rattle.vortex_rewrite.specs.Rewriting.Predicates.{has_type, is_predicate}
 use Rattle.vortex_rewrite.specs.Rewriting.Proof.{Assignment}
@@ -36,9 +39,13 @@ all_at P [] i part h e = absurd cc
 all_at P (q ∷ parts) zero part h e = subst P (same_Some q part e) h.0
 all_at P (q ∷ parts) (suc i) part h e = all_at P parts i part h.1 e
 
-predicate_typed : (t : Result DType BaseError) → has_type is_bool t ≡ true → IsOk t
+pub predicate_typed : (t : Result DType BaseError) → has_type is_bool t ≡ true → IsOk t
 predicate_typed (Ok t) h = has_a_type (Ok t) t refl
 predicate_typed (Err f) h = absurd cc
+
+pub typed_bool : (p : Tree Place) (r : Result DType BaseError) → type_of p ≡ r → has_type is_bool r ≡ true → (t : DType) × (type_of p ≡ Ok t) × IsTrue (is_bool t)
+typed_bool p (Ok t) e h = (t, e, h)
+typed_bool p (Err f) e h = absurd cc
 
 -- what follows from two things that are so of an answer is so of it
 pub of_two : {X E : Type 0} (r : Result X E) (P Q T : X → Type 0) → ((x : X) → P x → Q x → T x) → IfOk r P → IfOk r Q → IfOk r T
@@ -72,15 +79,16 @@ module _ {S : Type 0} (value : S → List Constant → ℕ → Assignment) where
   by_statistics (q ∷ parts) (b ∷ binders) long own =
       ap (λ (a : Assignment). (q, a) ∷ answered value parts binders) own.0 ∙ ap (λ l. (q, part_values q) ∷ l) (by_statistics parts binders (omega (arith, long)) own.1)
 
-  typed_bool : (p : Tree Place) (r : Result DType BaseError) → type_of p ≡ r → has_type is_bool r ≡ true → (t : DType) × (type_of p ≡ Ok t) × IsTrue (is_bool t)
-  typed_bool p (Ok t) e h = (t, e, h)
-  typed_bool p (Err f) e h = absurd cc
-
-  -- by built-in rules and the parts' own statistics a read-once predicate skips exactly what its bounds rule out
+  -- by built-in rules and the parts' own statistics a predicate whose ANDs are apart skips exactly what its bounds rule out
   pub skips_exactly : (p : Tree Place) (parts : List PartData) (binders : List S) (skipped : List ℕ) → length binders ≡ length parts → IsTrue (is_predicate p) → All (Fits p) parts → AreParts parts
-      → AreByStatistics value parts binders → IsTrue (is_read_once p) → skipped ≡ skipped_parts (falsifier [] p) (answered value parts binders) → SkipsExactly p parts skipped
-  skips_exactly p parts binders skipped long predicate fits are own once is i part box there is_box order =
+      → AreByStatistics value parts binders → IsTrue (is_apart p) → skipped ≡ skipped_parts (falsifier [] p) (answered value parts binders) → SkipsExactly p parts skipped
+  skips_exactly p parts binders skipped long predicate fits are own once is i zone box there is_box order =
       let t = typed_bool p (type_of p) refl predicate in
       let same : skipped ≡ skipped_parts (falsifier [] p) (by_own_statistics parts) = is ∙ ap (skipped_parts (falsifier [] p)) (by_statistics parts binders long own) in
-      subst (λ (l : List ℕ). Contains l i ↔ ¬ IsSatisfiable p box (rows_of part.chunk.columns)) (sym same)
-      (scans_skip_exactly p t.0 parts i part box t.1 t.2 there (are i part there) (all_at (Fits p) parts i part (recursion_from_All (Fits p) parts fits) there) once is_box order)
+      let q = element_there parts i (omega (arith, slice_get_within (zones_of parts) i zone there, length-map parts zone_of)) in
+      let stands : zone_of q.0 ≡ zone = same_Some (zone_of q.0) zone (sym (slice_get-map zone_of parts i ∙ ap (option_map zone_of) q.1) ∙ there) in
+      subst (λ (z : ZoneData). IsBoxIn z.stats p box → Contains skipped i ↔ ¬ IsSatisfiable p box z.rows) stands
+      (λ known.
+      subst (λ (l : List ℕ). Contains l i ↔ ¬ IsSatisfiable p box (rows_of q.0.chunk.columns)) (sym same)
+      (scans_skip_exactly p t.0 parts i q.0 box t.1 t.2 q.1 (are i q.0 q.1) (all_at (Fits p) parts i q.0 (recursion_from_All (Fits p) parts fits) q.1) once known order))
+      is_box

@@ -23,7 +23,7 @@ use Rattle.vortex_prune.specs.Binding.PartBinder.{IsNullOf}
 use Rattle.vortex_prune.specs.Part.{PartData}
 use Rattle.vortex_prune.specs.Scanning.ScanRefusals.{faithful_causes, kept_binders, verdict_causes}
 use Rattle.vortex_prune.specs.Scanning.ZoneScans.{is_left_open, kept_parts, table_refuses, zone_causes}
-use Rattle.vortex_prune.specs.Zones.{ZonesData}
+use Rattle.vortex_prune.specs.Zones.{MapData, zone_map, zones_of}
 use Rattle.vortex_stats.specs.declared.error.StatsError.TheVariants.{OpenProof}
 use mathlib.Core.Bool.{true≢false}
 
@@ -174,23 +174,23 @@ closed_if_skipped (inl (inr h)) = h
 closed_if_skipped (inr (inl h)) = true≢false (sym h.0)
 closed_if_skipped (inr (inr h)) = absurd (omega (arith, h.1.2))
 
--- ---- one part of a table
+-- ---- one zone of a table
 
-abbrev table : ZonesData
-table = record { scope = (codes "a", i32_type) ∷ []; parts = parts }
+abbrev table : MapData
+table = zone_map ((codes "a", i32_type) ∷ []) (zones_of parts)
 
-refused_at_a_kept_part : table_refuses (Some (bool_literal false)) (Some a) table 0 (up_to 20) OpenProof
-refused_at_a_kept_part = (refl, refl)
+refused_at_a_kept_zone : table_refuses (Some (bool_literal false)) (Some a) table 0 OpenProof
+refused_at_a_kept_zone = ((λ n at. refl), refl)
 
-not_at_a_skipped_one : table_refuses (Some (bool_literal true)) (Some a) table 0 (up_to 20) OpenProof → ⊥
-not_at_a_skipped_one h = true≢false h.0
+not_at_a_skipped_one : table_refuses (Some (bool_literal true)) (Some a) table 0 OpenProof → ⊥
+not_at_a_skipped_one h = true≢false (h.0 1 refl)
 
-not_by_a_shut_satisfier : table_refuses (Some (bool_literal false)) (Some (stat Max a)) table 0 (up_to 20) OpenProof → ⊥
+not_by_a_shut_satisfier : table_refuses (Some (bool_literal false)) (Some (stat Max a)) table 0 OpenProof → ⊥
 not_by_a_shut_satisfier h = true≢false (sym h.1)
 
--- the greatest values that the table tells are read on the part's own row
-at_its_own_row : table_refuses (Some (binary Lte (column (record { index = 0; dtype = i32_type })) (literal (record { dtype = i32_type; value = Some (num 10) })))) (Some a) table 0 (up_to 20) OpenProof
-at_its_own_row = (refl, refl)
+-- the greatest values that the table tells are read on the zone's own row
+at_its_own_row : table_refuses (Some (binary Lte (column (record { index = 0; dtype = i32_type })) (literal (record { dtype = i32_type; value = Some (num 10) })))) (Some a) table 0 OpenProof
+at_its_own_row = ((λ n at. refl), refl)
 
-at_another_row : table_refuses (Some (binary Lte (column (record { index = 0; dtype = i32_type })) (literal (record { dtype = i32_type; value = Some (num 10) })))) (Some a) table 1 (up_to 10) OpenProof → ⊥
-at_another_row h = true≢false h.0
+at_another_row : table_refuses (Some (binary Lte (column (record { index = 0; dtype = i32_type })) (literal (record { dtype = i32_type; value = Some (num 10) })))) (Some a) table 1 OpenProof → ⊥
+at_another_row h = true≢false (h.0 1 refl)

@@ -12,17 +12,17 @@ use Rattle.vortex_base.specs.declared.types.PType.TheVariants as ptype
 use Rattle.vortex_base.specs.declared.pvalue.PValue.TheVariants as number
 use Rattle.vortex_base.specs.declared.scalar_value.ScalarValue.{ScalarValue}
 use Rattle.vortex_base.specs.declared.scalar_value.ScalarValue.TheVariants as value
-use Rattle.vortex_base.specs.Data.Columns.{row_count as rows_of}
 use Rattle.vortex_base.specs.Data.Scalars.{Constant}
 use Rattle.vortex_base.specs.Trees.Tree.{Tree, Place, column, literal, binary, between, is_null, not}
 use Rattle.vortex_base.specs.Meanings.Typing.{truth_type}
 use Rattle.vortex_prune.proofs.Scanning.Boxes.{skipping_is_complete}
 use Rattle.vortex_rewrite.specs.Rewriting.ReadOnce.{Box, IsInOrder, IsSatisfiable, is_read_once}
-use Rattle.vortex_prune.specs.Part.{Entries, IsPart, PartData}
-use Rattle.vortex_prune.specs.Binding.PartAnswers.{part_values}
+use Rattle.vortex_prune.specs.Part.{Entries, IsPart, IsZone, PartData, ZoneData, zone_of}
+use Rattle.vortex_prune.specs.Binding.PartAnswers.{part_values, told_values}
 use Rattle.vortex_rewrite.specs.Rewriting.Falsifiers.{bool_literal, falsifier, reduce_balanced, node}
-use Rattle.vortex_prune.specs.Scanning.Complete.{IsBoxOf, SkipsExactly}
-use Rattle.vortex_prune.specs.Scanning.Selection.{is_proved}
+use Rattle.vortex_prune.specs.Scanning.Complete.{IsBoxIn, SkipsExactly}
+use Rattle.vortex_prune.specs.Scanning.Selection.{is_proved, proves_of}
+use Rattle.vortex_prune.specs.Zones.{zones_of}
 use Rattle.vortex_stats.specs.declared.precision.Precision.TheVariants.{Exact, Inexact}
 use Rattle.vortex_stats.specs.declared.stat.Stat.TheVariants.{Max, Min}
 
@@ -64,6 +64,9 @@ skips p as' bs = is_proved (falsifier [] p) (part as' bs) (part_values (part as'
 
 some_part : IsPart (part (bounds 5 9) (bounds 1 5))
 some_part = (refl, refl)
+
+some_zone : IsZone (part (bounds 5 9) (bounds 1 5)).chunk.scope (zone_of (part (bounds 5 9) (bounds 1 5)))
+some_zone = refl
 
 -- ---- two columns
 
@@ -233,7 +236,7 @@ first_box = record { low = λ i. if i == 0 then num 5 else num 1; high = λ i. i
 -- no values from 5 to 9 and from 1 to 5 ascend
 none_ascend : ¬ IsSatisfiable less first_box 1
 unfolding node reduce_balanced
-none_ascend = (skipping_is_complete less (truth_type true) (part (bounds 5 9) (bounds 1 5)) first_box refl refl some_part refl refl ((refl, refl), ((refl, refl), tt)) (refl, (refl, tt))).0 refl
+none_ascend = (skipping_is_complete less (truth_type true) (part (bounds 5 9) (bounds 1 5)).chunk.scope (zone_of (part (bounds 5 9) (bounds 1 5))) first_box refl refl some_zone refl refl ((refl, refl), ((refl, refl), tt)) (refl, (refl, tt))).0 refl
 
 -- 5 and 5 are in order
 abbrev cell : ScalarValue → Constant
@@ -254,13 +257,13 @@ fives = (
 abbrev fives_box : Box
 fives_box = record { low = λ i. num 5; high = λ i. num 5 }
 
-one_value_part : IsPart (part (bounds 5 5) (bounds 5 5))
-one_value_part = (refl, refl)
+one_value_zone : IsZone (part (bounds 5 5) (bounds 5 5)).chunk.scope (zone_of (part (bounds 5 5) (bounds 5 5)))
+one_value_zone = refl
 
 -- two columns of one value, the same, don't differ
 none_differ : ¬ IsSatisfiable unequal fives_box 1
 unfolding node reduce_balanced
-none_differ = (skipping_is_complete unequal (truth_type true) (part (bounds 5 5) (bounds 5 5)) fives_box refl refl one_value_part refl refl ((refl, refl), ((refl, refl), tt)) (refl, (refl, tt))).0 refl
+none_differ = (skipping_is_complete unequal (truth_type true) (part (bounds 5 5) (bounds 5 5)).chunk.scope (zone_of (part (bounds 5 5) (bounds 5 5))) fives_box refl refl one_value_zone refl refl ((refl, refl), ((refl, refl), tt)) (refl, (refl, tt))).0 refl
 
 -- and are in order
 one_choice : IsSatisfiable at_most fives_box 1
@@ -275,28 +278,31 @@ one_choice = (
 
 -- ---- the skipped places are those and no others
 
+abbrev one : PartData
+one = part (bounds 5 9) (bounds 1 5)
+
 abbrev one_part : List PartData
-one_part = part (bounds 5 9) (bounds 1 5) ∷ []
+one_part = one ∷ []
 
 -- what no values satisfy has to be skipped
 less_not_listed : SkipsExactly less one_part [] → ⊥
-less_not_listed h = absurd (omega (arith, ((h 0 (part (bounds 5 9) (bounds 1 5)) first_box refl ((refl, refl), ((refl, refl), tt)) (refl, (refl, tt))).1 none_ascend).1))
+less_not_listed h = absurd (omega (arith, ((h 0 (zone_of one) first_box refl ((refl, refl), ((refl, refl), tt)) (refl, (refl, tt))).1 none_ascend).1))
 
 -- and what some do may not be
 at_most_listed : SkipsExactly at_most one_part (0 ∷ []) → ⊥
-at_most_listed h = (h 0 (part (bounds 5 9) (bounds 1 5)) first_box refl ((refl, refl), ((refl, refl), tt)) (refl, (refl, tt))).0 (0, omega arith, refl) fives
+at_most_listed h = (h 0 (zone_of one) first_box refl ((refl, refl), ((refl, refl), tt)) (refl, (refl, tt))).0 (0, omega arith, refl) fives
 
-skips_less : (i : ℕ) (p : PartData) (box : Box) → slice_get one_part i ≡ Some p → IsBoxOf p less box → IsInOrder less box → Contains (0 ∷ []) i ↔ ¬ IsSatisfiable less box (rows_of p.chunk.columns)
+skips_less : (i : ℕ) (z : ZoneData) (box : Box) → slice_get (zones_of one_part) i ≡ Some z → IsBoxIn z.stats less box → IsInOrder less box → Contains (0 ∷ []) i ↔ ¬ IsSatisfiable less box z.rows
 unfolding node reduce_balanced
-skips_less zero p box there known order =
-    let own : part (bounds 5 9) (bounds 1 5) ≡ p = same_Some (part (bounds 5 9) (bounds 1 5)) p there in
-    let complete : IsTrue (is_proved (falsifier [] less) p (part_values p)) ↔ ¬ IsSatisfiable less box (rows_of p.chunk.columns) =
-    subst (λ (q : PartData). IsBoxOf q less box → IsTrue (is_proved (falsifier [] less) q (part_values q)) ↔ ¬ IsSatisfiable less box (rows_of q.chunk.columns)) own
-    (λ k. skipping_is_complete less (truth_type true) (part (bounds 5 9) (bounds 1 5)) box refl refl some_part refl refl k order) known in (
-      λ c. complete.0 (subst (λ (q : PartData). is_proved (falsifier [] less) q (part_values q) ≡ true) own refl),
+skips_less zero z box there known order =
+    let own : zone_of one ≡ z = same_Some (zone_of one) z there in
+    let complete : IsTrue (proves_of (falsifier [] less) z.rows (told_values one.chunk.scope z)) ↔ ¬ IsSatisfiable less box z.rows =
+    subst (λ (q : ZoneData). IsBoxIn q.stats less box → IsTrue (proves_of (falsifier [] less) q.rows (told_values one.chunk.scope q)) ↔ ¬ IsSatisfiable less box q.rows) own
+    (λ k. skipping_is_complete less (truth_type true) one.chunk.scope (zone_of one) box refl refl some_zone refl refl k order) known in (
+      λ c. complete.0 (subst (λ (q : ZoneData). proves_of (falsifier [] less) q.rows (told_values one.chunk.scope q) ≡ true) own refl),
       λ n. (0, omega arith, refl),
     )
-skips_less (suc i) p box there known order = absurd cc
+skips_less (suc i) z box there known order = absurd cc
 
 exactly : SkipsExactly less one_part (0 ∷ [])
 exactly = skips_less

@@ -1,7 +1,6 @@
 -- Worked rows: over which row and row count a binder has to be faithful and its values facts, to be honest for a chunk.
 use Rattle.std.specs.Prelude.{◌≡◌, ◌==◌, ℕ, Bool, true, false, MatchBool, List, [], ◌∷◌, Option, Some, None, pos, codes, if◌then◌else◌, refl, ⊤}
 use Rattle.std.proofs.Common.{sym}
-use Rattle.vortex_base.specs.declared.aggregate.AggregateFnRef.{AggregateFnRef}
 use Rattle.vortex_base.specs.declared.aggregate.AggregateFnRef.TheVariants.{NullCount}
 use Rattle.vortex_base.specs.declared.dtype.DType.{DType}
 use Rattle.vortex_base.specs.declared.dtype.DType.TheVariants as dtype

@@ -19,7 +19,7 @@ use Rattle.vortex_stats.specs.declared.precision.Precision.TheVariants.{Exact, I
 use Rattle.vortex_stats.specs.declared.stat.Stat.TheVariants as stats
 use Rattle.vortex_prune.specs.Part.{Entries, PartData}
 use Rattle.vortex_prune.specs.Scanning.ZoneScans.{CanTell, is_left_open}
-use Rattle.vortex_prune.specs.Zones.{ZonesData, is_zone_row, starts_from, zone_answer, zone_columns, zone_place, zone_table}
+use Rattle.vortex_prune.specs.Zones.{ZonesData, is_zone_row, starts_from, zone_answer, zone_columns, zone_place, zone_table, zones_of}
 
 abbrev i64_type : DType
 i64_type = dtype.Primitive ptype.I64 Nullable
@@ -57,7 +57,7 @@ first_run = record {
       part (codes "a") i64_type (num 8 ∷ None ∷ num 20 ∷ []) ((stats.Min, Exact (value.Primitive (number.I64 (pos 8)))) ∷ (stats.Max, Inexact (value.Primitive (number.I64 (pos 25)))) ∷ []) ∷ [];
 }
 
-first_table : zone_table first_run ≡ record {
+first_table : zone_table first_run.scope (zones_of first_run.parts) ≡ record {
   scope =
       (codes "a#0", i64_type) ∷ (codes "a#1", i64_type) ∷ (codes "a#2", i64_type) ∷ (codes "a#3", count_type) ∷ (codes "a#4", count_type) ∷
       (codes "a#5", bool_type) ∷ (codes "a#6", bool_type) ∷ [];
@@ -68,13 +68,13 @@ first_table : zone_table first_run ≡ record {
 first_table = refl
 
 -- the cells of a row
-first_cells : map (λ c. c.value) (row_of 0 (zone_columns first_run)) ≡ num 10 ∷ num 1 ∷ None ∷ None ∷ None ∷ None ∷ None ∷ []
+first_cells : map (λ c. c.value) (row_of 0 (zone_columns first_run.scope (zones_of first_run.parts))) ≡ num 10 ∷ num 1 ∷ None ∷ None ∷ None ∷ None ∷ None ∷ []
 first_cells = refl
 
-second_cells : map (λ c. c.value) (row_of 1 (zone_columns first_run)) ≡ num 25 ∷ num 8 ∷ None ∷ None ∷ None ∷ None ∷ None ∷ []
+second_cells : map (λ c. c.value) (row_of 1 (zone_columns first_run.scope (zones_of first_run.parts))) ≡ num 25 ∷ num 8 ∷ None ∷ None ∷ None ∷ None ∷ None ∷ []
 second_cells = refl
 
-first_row_typed : is_zone_row first_run.scope (row_of 0 (zone_columns first_run)) ≡ true
+first_row_typed : is_zone_row first_run.scope (row_of 0 (zone_columns first_run.scope (zones_of first_run.parts))) ≡ true
 first_row_typed = refl
 
 other_row : is_zone_row first_run.scope [] ≡ false
@@ -90,7 +90,7 @@ nulls = record {
       part (codes "n") dtype.Null [] ((stats.NullCount, Exact (count_value 0)) ∷ []) ∷ [];
 }
 
-null_table : zone_table nulls ≡ record {
+null_table : zone_table nulls.scope (zones_of nulls.parts) ≡ record {
   scope = (codes "n#3", count_type) ∷ (codes "n#4", count_type) ∷ (codes "n#5", bool_type) ∷ (codes "n#6", bool_type) ∷ [];
   columns =
       values count_type (Some (count_value 2) ∷ Some (count_value 0) ∷ []) ∷ values count_type (None ∷ None ∷ []) ∷
@@ -100,7 +100,7 @@ null_table = refl
 
 -- ---- no parts: the columns stay, and there is no row
 
-without_parts : zone_table (record { scope = (codes "n", dtype.Null) ∷ []; parts = [] }) ≡ record {
+without_parts : zone_table ((codes "n", dtype.Null) ∷ []) [] ≡ record {
   scope = (codes "n#3", count_type) ∷ (codes "n#4", count_type) ∷ (codes "n#5", bool_type) ∷ (codes "n#6", bool_type) ∷ [];
   columns = values count_type [] ∷ values count_type [] ∷ values bool_type [] ∷ values bool_type [] ∷ [];
 }
@@ -155,7 +155,7 @@ column_left = refl
 no_column_left : is_left_open (Some (binary Gt (stat Max a) (stat Min a))) first_run.parts ≡ false
 no_column_left = refl
 
-no_part_left : is_left_open (Some a) [] ≡ false
+no_part_left : is_left_open {X = PartData} (Some a) [] ≡ false
 no_part_left = refl
 
 -- ---- what can be evaluated on each row of the table: references to its columns, and no placeholder
@@ -163,20 +163,20 @@ no_part_left = refl
 abbrev reference : ℕ → DType → Tree Place
 reference i t = column (record { index = i; dtype = t })
 
-greatest_told : CanTell (Some (binary Gt (reference 0 i64_type) (reference 1 i64_type))) first_run
+greatest_told : CanTell (Some (binary Gt (reference 0 i64_type) (reference 1 i64_type))) (zone_columns first_run.scope (zones_of first_run.parts))
 greatest_told = (refl, λ r. refl)
 
-nothing_told : CanTell None first_run
+nothing_told : CanTell None (zone_columns first_run.scope (zones_of first_run.parts))
 nothing_told = tt
 
-placeholder_left : CanTell (Some (binary Gt (reference 0 i64_type) (stat Min (reference 0 i64_type)))) first_run → ⊥
+placeholder_left : CanTell (Some (binary Gt (reference 0 i64_type) (stat Min (reference 0 i64_type)))) (zone_columns first_run.scope (zones_of first_run.parts)) → ⊥
 placeholder_left h = true≢false h.0
 
-of_another_type : CanTell (Some (reference 0 bool_type)) first_run → ⊥
+of_another_type : CanTell (Some (reference 0 bool_type)) (zone_columns first_run.scope (zones_of first_run.parts)) → ⊥
 of_another_type h = true≢false (sym (h.1 0))
 
-past_the_table : CanTell (Some (reference 7 bool_type)) first_run → ⊥
+past_the_table : CanTell (Some (reference 7 bool_type)) (zone_columns first_run.scope (zones_of first_run.parts)) → ⊥
 past_the_table h = true≢false (sym (h.1 0))
 
-last_column : CanTell (Some (reference 6 bool_type)) first_run
+last_column : CanTell (Some (reference 6 bool_type)) (zone_columns first_run.scope (zones_of first_run.parts))
 last_column = (refl, λ r. refl)

@@ -1,5 +1,5 @@
 -- The columns of a table of zones make a scope, and with their values a chunk.
-use Rattle.std.proofs.Common.{◌≡◌, ◌<◌, ◌||◌, ◌+◌, ◌++◌, ◌==◌, ℕ, zero, suc, Bool, true, false, not, List, [], ◌∷◌, Option, Some, None, Ok, Result, arith, length, map, refl, subst, sym, ap, take, ◌∙◌}
+use Rattle.std.proofs.Common.{◌≡◌, ◌<◌, ◌||◌, ◌+◌, ◌++◌, ◌==◌, ℕ, zero, suc, Bool, true, false, not, List, [], ◌∷◌, Option, Some, Ok, Result, arith, length, map, refl, subst, sym, ap, take, ◌∙◌}
 use Rattle.std.specs.Prelude.{Err, IsTrue, bytes_eq, slice_get}
 use Rattle.std.specs.List.{AllByRecursion, list_any}
 use Rattle.std.proofs.Math.Seq.{take-append_seam}
@@ -20,12 +20,9 @@ use Rattle.vortex_base.specs.declared.error.BaseError.{BaseError}
 use Rattle.vortex_base.specs.declared.scalar_value.ScalarValue.{ScalarValue}
 use Rattle.vortex_stats.specs.Sets.Entries.{entries_fit}
 use Rattle.vortex_prune.proofs.Honesty.StatFits.{stat_value-fits}
-use Rattle.vortex_rewrite.proofs.NullErasure.{placeholder_null}
-use Rattle.vortex_prune.specs.Part.{AreParts, Entries, IsPart, PartData, sets_fit}
-use Rattle.vortex_prune.specs.Zones.{EachTells, Head, TellsOf, head, named_head, heads, heads_from, set_value, suffix, supporting, zone_column, zone_table, zone_type, zone_value, HaveScope}
-use Rattle.std.proofs.lemmas.List.Elements.{recursion_from_All}
-use Rattle.vortex_prune.proofs.Scanning.WholeScan.{all_at}
-use Rattle.vortex_base.specs.Meanings.Typing.{state_dtype}
+use Rattle.vortex_prune.proofs.Honesty.ZoneLemmas.{set_of_zone}
+use Rattle.vortex_prune.specs.Part.{AreZonesOf, Entries, ZoneData}
+use Rattle.vortex_prune.specs.Zones.{EachTells, Head, TellsOf, head, named_head, heads, heads_from, set_value, suffix, supporting, zone_column, zone_table, zone_type, zone_value}
 
 both_false : (a b : Bool) → a ≡ false → b ≡ false → (a || b) ≡ false
 both_false true b h k = cc
@@ -175,25 +172,25 @@ has_heads cs hs is all = subst (λ (l : List Head). 0 < length l) (sym all) (som
 
 -- ---- the chunk
 
-long_as : (parts : List PartData) (n : ℕ) (hs : List Head) → length parts ≡ n → all_long n (map (zone_column parts) hs) ≡ true
-long_as parts n [] e = refl
-long_as parts n (h ∷ hs) e =
-    let k : length (map (zone_value h.aggregate h.source) parts) ≡ n = length-map parts (zone_value h.aggregate h.source) ∙ e in
-    let test : (length (map (zone_value h.aggregate h.source) parts) == n) ≡ true = grind (arith, nat_tests) in
-    both_hold _ _ test (long_as parts n hs e)
+long_as : (zones : List ZoneData) (n : ℕ) (hs : List Head) → length zones ≡ n → all_long n (map (zone_column zones) hs) ≡ true
+long_as zones n [] e = refl
+long_as zones n (h ∷ hs) e =
+    let k : length (map (zone_value h.aggregate h.source) zones) ≡ n = length-map zones (zone_value h.aggregate h.source) ∙ e in
+    let test : (length (map (zone_value h.aggregate h.source) zones) == n) ≡ true = grind (arith, nat_tests) in
+    both_hold _ _ test (long_as zones n hs e)
 
-all_as_long : (parts : List PartData) (hs : List Head) → all_long (rows_of (map (zone_column parts) hs)) (map (zone_column parts) hs) ≡ true
-all_as_long parts [] = refl
-all_as_long parts (h ∷ hs) = long_as parts (length (map (zone_value h.aggregate h.source) parts)) (h ∷ hs) (sym (length-map parts (zone_value h.aggregate h.source)))
+all_as_long : (zones : List ZoneData) (hs : List Head) → all_long (rows_of (map (zone_column zones) hs)) (map (zone_column zones) hs) ≡ true
+all_as_long zones [] = refl
+all_as_long zones (h ∷ hs) = long_as zones (length (map (zone_value h.aggregate h.source) zones)) (h ∷ hs) (sym (length-map zones (zone_value h.aggregate h.source)))
 
-as_many : (parts : List PartData) (hs : List Head) → (length (map named_head hs) == length (map (zone_column parts) hs)) ≡ true
-as_many parts hs =
-    let k : length (map named_head hs) ≡ length (map (zone_column parts) hs) = length-map hs named_head ∙ sym (length-map hs (zone_column parts)) in
+as_many : (zones : List ZoneData) (hs : List Head) → (length (map named_head hs) == length (map (zone_column zones) hs)) ≡ true
+as_many zones hs =
+    let k : length (map named_head hs) ≡ length (map (zone_column zones) hs) = length-map hs named_head ∙ sym (length-map hs (zone_column zones)) in
     grind (arith, nat_tests)
 
-all_typed : (parts : List PartData) (hs : List Head) → has_types (map named_head hs) (map (zone_column parts) hs) ≡ true
-all_typed parts [] = refl
-all_typed parts (h ∷ hs) = both_hold _ _ ((dtype_eq_is_exact h.dtype h.dtype).1 refl) (all_typed parts hs)
+all_typed : (zones : List ZoneData) (hs : List Head) → has_types (map named_head hs) (map (zone_column zones) hs) ≡ true
+all_typed zones [] = refl
+all_typed zones (h ∷ hs) = both_hold _ _ ((dtype_eq_is_exact h.dtype h.dtype).1 refl) (all_typed zones hs)
 
 abbrev chunk : List Named → List ColumnData → ChunkData
 chunk s cs = record { scope = s; columns = cs }
@@ -201,34 +198,21 @@ chunk s cs = record { scope = s; columns = cs }
 abbrev ok_chunk : ChunkData → Result ChunkData BaseError
 ok_chunk k = Ok k
 
-pub columns_are_chunk : (parts : List PartData) (hs : List Head) → chunk_of (map named_head hs) (map (zone_column parts) hs) ≡ ok_chunk (chunk (map named_head hs) (map (zone_column parts) hs))
-columns_are_chunk parts hs =
-    let shape : has_shape (map named_head hs) (map (zone_column parts) hs) ≡ true = both_hold _ _ (as_many parts hs) (all_as_long parts hs) in
-    rw (shape, all_typed parts hs) refl
+pub columns_are_chunk : (zones : List ZoneData) (hs : List Head) → chunk_of (map named_head hs) (map (zone_column zones) hs) ≡ ok_chunk (chunk (map named_head hs) (map (zone_column zones) hs))
+columns_are_chunk zones hs =
+    let shape : has_shape (map named_head hs) (map (zone_column zones) hs) ≡ true = both_hold _ _ (as_many zones hs) (all_as_long zones hs) in
+    rw (shape, all_typed zones hs) refl
 
 -- ---- its values fit
 
-set_fits : (ns : List Named) (ds : List ColumnData) (ss : List Entries) (i : ℕ) (c : Named) (es : Entries) → has_types ns ds ≡ true → sets_fit ds ss ≡ true → slice_get ns i ≡ Some c → slice_get ss i ≡ Some es → entries_fit es c.1 ≡ true
-set_fits [] ds ss i c es h g there set = cc
-set_fits (n ∷ ns) [] ss i c es h g there set = cc
-set_fits (n ∷ ns) (d ∷ ds) [] i c es h g there set = cc
-set_fits (n ∷ ns) (d ∷ ds) (s ∷ ss) zero c es h g there set =
-    let same : d.dtype ≡ c.1 = sym ((dtype_eq_is_exact n.1 d.dtype).0 (both_true _ _ h).0) ∙ ap (λ (x : Named). x.1) (same_Some n c there) in
-    ap (λ e. entries_fit e c.1) (sym (same_Some s es set)) ∙ ap (entries_fit s) (sym same) ∙ (both_true _ _ g).0
-set_fits (n ∷ ns) (d ∷ ds) (s ∷ ss) (suc i) c es h g there set = set_fits ns ds ss i c es (both_true _ _ h).1 (both_true _ _ g).1 there set
+value_fits : (f : AggregateFnRef) (t u : DType) (n : ℕ) (o : Option Entries) (es : Entries) → o ≡ Some es → stat_type f t ≡ Ok u → entries_fit es t ≡ true → is_optional_value (set_value f o n) u ≡ true
+value_fits f t u n o es there e h = ap (λ x. is_optional_value (set_value f x n) u) there ∙ stat_value-fits f es n t u h e
 
-value_fits : (f : AggregateFnRef) (t u : DType) (n : ℕ) (o : Option Entries) → stat_type f t ≡ Ok u → ((es : Entries) → o ≡ Some es → entries_fit es t ≡ true) → is_optional_value (set_value f o n) u ≡ true
-value_fits f t u n None e h = placeholder_null (state_dtype f t) u e
-value_fits f t u n (Some es) e h = stat_value-fits f es n t u (h es refl) e
-
-part_fits : (p : PartData) (h : Head) → IsPart p → TellsOf p.chunk.scope h → is_optional_value (zone_value h.aggregate h.source p) h.dtype ≡ true
-part_fits p h is tells =
-    let types = (both_true _ _ (both_true _ _ (both_true _ _ is.0).1).1).0 in
-    value_fits h.aggregate tells.0.1 h.dtype (rows_of p.chunk.columns) (slice_get p.stats h.source) tells.2 (λ es there. set_fits p.chunk.scope p.chunk.columns p.stats h.source tells.0 es types is.1 tells.1 there)
-
-pub values_fit : (parts : List PartData) (h : Head) → AreParts parts → EachTells parts h → all_fit h.dtype (map (zone_value h.aggregate h.source) parts) ≡ true
-values_fit [] h are tells = refl
-values_fit (p ∷ parts) h are tells = both_hold _ _ (part_fits p h (are 0 p refl) (tells 0 p refl)) (values_fit parts h (λ i part e. are (suc i) part e) (λ i part e. tells (suc i) part e))
+pub values_fit : (zones : List ZoneData) (h : Head) → EachTells zones h → all_fit h.dtype (map (zone_value h.aggregate h.source) zones) ≡ true
+values_fit [] h tells = refl
+values_fit (z ∷ zones) h tells =
+    let own = tells 0 z refl in
+    both_hold _ _ (value_fits h.aggregate own.0 h.dtype z.rows (slice_get z.stats h.source) own.1 own.2 own.4 own.3) (values_fit zones h (λ i zone e. tells (suc i) zone e))
 
 -- ---- what the columns of the table tell of
 
@@ -256,15 +240,16 @@ tells_from m whole (c ∷ cs) same k h at =
     group_tells m whole c (ap (slice_get whole) (sym first) ∙ same 0) (supporting c.1) (heads_from (m + 1) cs) (all_supported c.1)
     (tells_from (m + 1) whole cs (λ j. let e : m + 1 + j ≡ m + suc j = omega arith in ap (slice_get whole) e ∙ same (suc j))) k h at
 
--- the columns of the table tell of the columns of the scope, and so of those of each part
-pub all_tell : (scope : List Named) (parts : List PartData) → HaveScope scope parts → (k : ℕ) (h : Head) → slice_get (heads scope) k ≡ Some h → EachTells parts h
-all_tell scope parts have k h there i part at =
+-- the columns of the table tell of the columns of the scope, for which each zone has a set that fits
+pub all_tell : (scope : List Named) (zones : List ZoneData) → AreZonesOf scope zones → (k : ℕ) (h : Head) → slice_get (heads scope) k ≡ Some h → EachTells zones h
+all_tell scope zones are k h there i zone at =
     let tells = tells_from 0 scope scope (λ j. let e : 0 + j ≡ j = omega arith in ap (slice_get scope) e) k h there in
-    subst (λ (ss : List Named). TellsOf ss h) (sym (all_at (λ q. q.chunk.scope ≡ scope) parts i part (recursion_from_All (λ q. q.chunk.scope ≡ scope) parts have) at)) tells
+    let set = set_of_zone scope zone.stats h.source tells.0 (are i zone at) tells.1 in
+    (tells.0.1, set.0, set.1, set.2, tells.2)
 
-pub column_is_made : (parts : List PartData) (h : Head) (t : DType) (vs : List (Option ScalarValue)) → AreParts parts → EachTells parts h → t ≡ h.dtype → vs ≡ map (zone_value h.aggregate h.source) parts
+pub column_is_made : (zones : List ZoneData) (h : Head) (t : DType) (vs : List (Option ScalarValue)) → EachTells zones h → t ≡ h.dtype → vs ≡ map (zone_value h.aggregate h.source) zones
     → IsTrue (all_fit t vs)
-column_is_made parts h t vs are tells typed made = ap (λ x. all_fit x vs) typed ∙ ap (all_fit h.dtype) made ∙ values_fit parts h are tells
+column_is_made zones h t vs tells typed made = ap (λ x. all_fit x vs) typed ∙ ap (all_fit h.dtype) made ∙ values_fit zones h tells
 
 -- ---- no fault is found in them
 
@@ -277,12 +262,12 @@ apart_chunk f k h = absurd cc
 same_chunk : (s t : ChunkData) → ok_chunk s ≡ ok_chunk t → s ≡ t
 same_chunk s t h = cc
 
-module _ (cs ns : List Named) (hs : List Head) (parts : List PartData) (columns : List ColumnData) (all : hs ≡ heads cs) (named : ns ≡ map named_head hs) (own : columns ≡ map (zone_column parts) hs) where
-  table_made : chunk_of ns columns ≡ ok_chunk (chunk (map named_head hs) (map (zone_column parts) hs))
-  table_made = ap (λ s. chunk_of s columns) named ∙ ap (chunk_of (map named_head hs)) own ∙ columns_are_chunk parts hs
+module _ (cs ns : List Named) (hs : List Head) (zones : List ZoneData) (columns : List ColumnData) (all : hs ≡ heads cs) (named : ns ≡ map named_head hs) (own : columns ≡ map (zone_column zones) hs) where
+  table_made : chunk_of ns columns ≡ ok_chunk (chunk (map named_head hs) (map (zone_column zones) hs))
+  table_made = ap (λ s. chunk_of s columns) named ∙ ap (chunk_of (map named_head hs)) own ∙ columns_are_chunk zones hs
 
   pub chunk_is_made : (f : BaseError) → err_chunk f ≡ chunk_of ns columns → ⊥
-  chunk_is_made f refused = apart_chunk f (chunk (map named_head hs) (map (zone_column parts) hs)) (refused ∙ table_made)
+  chunk_is_made f refused = apart_chunk f (chunk (map named_head hs) (map (zone_column zones) hs)) (refused ∙ table_made)
 
-  pub table_is_made : (table : ChunkData) → ok_chunk table ≡ chunk_of ns columns → table ≡ zone_table (record { scope = cs; parts = parts })
-  table_is_made table done = same_chunk table (chunk (map named_head hs) (map (zone_column parts) hs)) (done ∙ table_made) ∙ ap (λ l. chunk (map named_head l) (map (zone_column parts) l)) all
+  pub table_is_made : (table : ChunkData) → ok_chunk table ≡ chunk_of ns columns → table ≡ zone_table cs zones
+  table_is_made table done = same_chunk table (chunk (map named_head hs) (map (zone_column zones) hs)) (done ∙ table_made) ∙ ap (λ l. chunk (map named_head l) (map (zone_column zones) l)) all

@@ -1,14 +1,14 @@
--- A row of a table of zones has the table's types, and tells what its part's statistics do.
+-- A row of the table of a map of zones has the table's types, and tells what its zone's statistics do.
 use Rattle.std.proofs.Common.{◌≡◌, ℕ, zero, suc, Bool, true, false, List, [], ◌∷◌, Option, Some, None, map, refl, subst, sym, ap, ◌∙◌}
 use Rattle.std.specs.Prelude.{◌+◌, IsTrue, if◌then◌else◌, length, option_map, slice_get}
-use Rattle.std.proofs.lemmas.Option.{same_Some, slice_get-map}
+use Rattle.std.proofs.lemmas.Option.{slice_get-map}
 use lib.Pointwise.{pointwise}
-use Rattle.vortex_base.specs.Data.Columns.{ColumnData, cell_value, has_types, row_count as rows_of, row_of, value_at}
+use Rattle.vortex_base.specs.Data.Columns.{ChunkData, ColumnData, IsChunk, cell_value, has_types, row_of, value_at}
 use Rattle.vortex_base.specs.Data.Exact.{both_hold, both_true}
 use Rattle.vortex_base.specs.Data.Scalars.{Constant}
 use Rattle.vortex_base.specs.Data.Scopes.{Named}
 use Rattle.vortex_base.specs.Trees.Tree.{Place, Tree, column}
-use Rattle.vortex_base.specs.Data.Types.{dtype_eq, dtype_eq_is_exact, eq_ignore_nullability}
+use Rattle.vortex_base.specs.Data.Types.{dtype_eq, eq_ignore_nullability}
 use Rattle.vortex_base.specs.declared.aggregate.AggregateFnRef.{AggregateFnRef}
 use Rattle.vortex_base.specs.declared.aggregate.AggregateFnRef.TheVariants as aggregate
 use Rattle.vortex_base.specs.declared.dtype.DType.{DType}
@@ -26,38 +26,38 @@ use Rattle.vortex_stats.specs.declared.precision.Precision.TheVariants.{Exact, I
 use Rattle.vortex_stats.specs.declared.stat.Stat.{Stat}
 use Rattle.vortex_stats.specs.declared.stat.Stat.TheVariants.{Max, Min, Sum}
 use Rattle.vortex_prune.proofs.Honesty.HonestParts.{part_is_honest}
+use Rattle.vortex_prune.proofs.Honesty.PartLemmas.{types_of}
 use Rattle.vortex_prune.specs.Binding.Binders.{IsHonestOver}
 use Rattle.vortex_rewrite.specs.Facts.{IsHonest}
-use Rattle.vortex_prune.specs.Part.{Entries, IsPart, IsTruePart, PartData, sets_fit}
-use Rattle.vortex_prune.specs.Binding.PartAnswers.{column_value, part_values}
+use Rattle.vortex_prune.specs.Part.{Entries, IsPartOf, IsTruePart, PartData, ZoneData, fits_zone, zone_of}
+use Rattle.vortex_prune.specs.Binding.PartAnswers.{column_value, part_values, told_values}
 use Rattle.vortex_rewrite.specs.Rewriting.Proof.{Assignment}
 use Rattle.vortex_prune.specs.Binding.StatValues.{exact_value, stat_value}
 use Rattle.vortex_prune.specs.Binding.ZoneFaithful.{place_of}
-use Rattle.vortex_prune.specs.Zones.{Head, ZonesData, cell_at, head, heads, is_zone_row, offset, set_value, supporting, zone_column, zone_columns, zone_place, zone_value, zone_values}
+use Rattle.vortex_prune.specs.Zones.{Head, IsMapOf, MapData, cell_at, head, heads, is_zone_row, named_head, offset, set_value, supporting, zone_column, zone_columns, zone_place, zone_value, zone_values}
 
 -- ---- the row's types
 
-dtype_same : (t : DType) → dtype_eq t t ≡ true
-dtype_same t = (dtype_eq_is_exact t t).1 refl
+row_types : (hs : List Head) (cs : List ColumnData) (r : ℕ) → has_types (map named_head hs) cs ≡ true → pointwise (λ (h : Head) (c : Constant). dtype_eq h.dtype c.dtype) hs (row_of r cs) ≡ true
+row_types [] [] r h = refl
+row_types [] (c ∷ cs) r h = cc
+row_types (x ∷ hs) [] r h = cc
+row_types (x ∷ hs) (c ∷ cs) r h = both_hold _ _ (both_true _ _ h).0 (row_types hs cs r (both_true _ _ h).1)
 
-row_types : (hs : List Head) (parts : List PartData) (r : ℕ) → pointwise (λ (h : Head) (c : Constant). dtype_eq h.dtype c.dtype) hs (row_of r (map (zone_column parts) hs)) ≡ true
-row_types [] parts r = refl
-row_types (h ∷ hs) parts r = both_hold _ _ (dtype_same h.dtype) (row_types hs parts r)
-
-pub row_is_zone_row : (z : ZonesData) (r : ℕ) → IsTrue (is_zone_row z.scope (row_of r (zone_columns z)))
-row_is_zone_row z r = row_types (heads z.scope) z.parts r
+pub row_is_zone_row : (scope : List Named) (table : ChunkData) (r : ℕ) → IsChunk table → table.scope ≡ map named_head (heads scope) → IsTrue (is_zone_row scope (row_of r table.columns))
+row_is_zone_row scope table r is named = row_types (heads scope) table.columns r (ap (λ ns. has_types ns table.columns) (sym named) ∙ types_of table is)
 
 -- ---- the row's cells
 
 abbrev cell_of : ℕ → ColumnData → Constant
 cell_of r c = record { dtype = c.dtype; value = value_at (slice_get c.values r) }
 
-cell_is : (hs : List Head) (parts : List PartData) (r k : ℕ) (h : Head) (p : PartData) → slice_get hs k ≡ Some h → slice_get parts r ≡ Some p
-    → cell_value (slice_get (row_of r (map (zone_column parts) hs)) k) ≡ zone_value h.aggregate h.source p
-cell_is hs parts r k h p there part =
-    let one : slice_get (row_of r (map (zone_column parts) hs)) k ≡ Some (cell_of r (zone_column parts h)) =
-    slice_get-map (cell_of r) (map (zone_column parts) hs) k ∙ ap (option_map (cell_of r)) (slice_get-map (zone_column parts) hs k ∙ ap (option_map (zone_column parts)) there) in
-    ap cell_value one ∙ ap value_at (slice_get-map (zone_value h.aggregate h.source) parts r ∙ ap (option_map (zone_value h.aggregate h.source)) part)
+cell_is : (hs : List Head) (zones : List ZoneData) (r k : ℕ) (h : Head) (z : ZoneData) → slice_get hs k ≡ Some h → slice_get zones r ≡ Some z
+    → cell_value (slice_get (row_of r (map (zone_column zones) hs)) k) ≡ zone_value h.aggregate h.source z
+cell_is hs zones r k h z there zone =
+    let one : slice_get (row_of r (map (zone_column zones) hs)) k ≡ Some (cell_of r (zone_column zones h)) =
+    slice_get-map (cell_of r) (map (zone_column zones) hs) k ∙ ap (option_map (cell_of r)) (slice_get-map (zone_column zones) hs k ∙ ap (option_map (zone_column zones)) there) in
+    ap cell_value one ∙ ap value_at (slice_get-map (zone_value h.aggregate h.source) zones r ∙ ap (option_map (zone_value h.aggregate h.source)) zone)
 
 -- ---- an aggregate that has no column in the table has no value
 
@@ -107,57 +107,59 @@ outside_is_null aggregate.AllNonNull t es n h fits = elim t as (λ u. offset agg
 outside_is_null aggregate.MinMax t es n h fits = refl
 outside_is_null aggregate.NanCount t es n h fits = refl
 
--- ---- the row's values are those that the part's statistics answer
+-- ---- the row's values are those that the zone's statistics answer
 
 module _ (f : AggregateFnRef) (t : DType) (n : ℕ) where
-  column_unknown : (c : Named) (d : ColumnData) (es : Entries) (b : Bool) → c.1 ≡ d.dtype → entries_fit es d.dtype ≡ true → eq_ignore_nullability c.1 t ≡ b → (if b then offset f c.1 else None) ≡ None
-      → column_value f t (Some d) (Some es) n ≡ None
-  column_unknown c d es true same fits e h =
-      ap (λ b. if b then stat_value f es n else None) (ap (λ s. eq_ignore_nullability s t) (sym same) ∙ e) ∙ outside_is_null f c.1 es n h (ap (entries_fit es) same ∙ fits)
-  column_unknown c d es false same fits e h = ap (λ b. if b then stat_value f es n else None) (ap (λ s. eq_ignore_nullability s t) (sym same) ∙ e)
+  column_unknown : (c : Named) (es : Entries) (b : Bool) → entries_fit es c.1 ≡ true → eq_ignore_nullability c.1 t ≡ b → (if b then offset f c.1 else None) ≡ None
+      → column_value f t (Some c) (Some es) n ≡ None
+  column_unknown c es true fits e h = ap (λ b. if b then stat_value f es n else None) e ∙ outside_is_null f c.1 es n h fits
+  column_unknown c es false fits e h = ap (λ b. if b then stat_value f es n else None) e
 
   left_none : (w : ℕ) (o : Option ℕ) → option_map (λ k. w + k) o ≡ None → o ≡ None
   left_none w None h = refl
   left_none w (Some k) h = cc
 
-  unknown_at : (cs : List Named) (ds : List ColumnData) (ss : List Entries) (i : ℕ) → has_types cs ds ≡ true → sets_fit ds ss ≡ true → zone_place cs i f t ≡ None → column_value f t (slice_get ds i) (slice_get ss i) n ≡ None
-  unknown_at cs [] ss i h g e = refl
-  unknown_at [] (d ∷ ds) ss i h g e = cc
-  unknown_at (c ∷ cs) (d ∷ ds) [] i h g e = cc
-  unknown_at (c ∷ cs) (d ∷ ds) (es ∷ ss) zero h g e = column_unknown c d es (eq_ignore_nullability c.1 t) ((dtype_eq_is_exact c.1 d.dtype).0 (both_true _ _ h).0) (both_true _ _ g).0 refl e
-  unknown_at (c ∷ cs) (d ∷ ds) (es ∷ ss) (suc i) h g e = unknown_at cs ds ss i (both_true _ _ h).1 (both_true _ _ g).1 (left_none (length (supporting c.1)) (zone_place cs i f t) e)
+  unknown_at : (cs : List Named) (ss : List Entries) (i : ℕ) → fits_zone cs ss ≡ true → zone_place cs i f t ≡ None → column_value f t (slice_get cs i) (slice_get ss i) n ≡ None
+  unknown_at [] ss i h e = refl
+  unknown_at (c ∷ cs) [] i h e = cc
+  unknown_at (c ∷ cs) (es ∷ ss) zero h e = column_unknown c es (eq_ignore_nullability c.1 t) (both_true _ _ h).0 refl e
+  unknown_at (c ∷ cs) (es ∷ ss) (suc i) h e = unknown_at cs ss i (both_true _ _ h).1 (left_none (length (supporting c.1)) (zone_place cs i f t) e)
 
-  known_at : (cs : List Named) (ds : List ColumnData) (ss : List Entries) (i : ℕ) (c : Named) → has_types cs ds ≡ true → sets_fit ds ss ≡ true → slice_get cs i ≡ Some c → eq_ignore_nullability c.1 t ≡ true
-      → set_value f (slice_get ss i) n ≡ column_value f t (slice_get ds i) (slice_get ss i) n
-  known_at [] ds ss i c h g there e = cc
-  known_at (a ∷ cs) [] ss i c h g there e = cc
-  known_at (a ∷ cs) (d ∷ ds) [] i c h g there e = cc
-  known_at (a ∷ cs) (d ∷ ds) (es ∷ ss) zero c h g there e =
-      let same : d.dtype ≡ c.1 = sym ((dtype_eq_is_exact a.1 d.dtype).0 (both_true _ _ h).0) ∙ ap (λ (x : Named). x.1) (same_Some a c there) in
-      ap (λ b. if b then stat_value f es n else None) (sym (ap (λ s. eq_ignore_nullability s t) same ∙ e))
-  known_at (a ∷ cs) (d ∷ ds) (es ∷ ss) (suc i) c h g there e = known_at cs ds ss i c (both_true _ _ h).1 (both_true _ _ g).1 there e
+  known_set : (c : Named) (o : Option Entries) → eq_ignore_nullability c.1 t ≡ true → set_value f o n ≡ column_value f t (Some c) o n
+  known_set c None e = refl
+  known_set c (Some es) e = ap (λ b. if b then stat_value f es n else None) (sym e)
 
-types_of : (p : PartData) → IsPart p → has_types p.chunk.scope p.chunk.columns ≡ true
-types_of p h = (both_true _ _ (both_true _ _ (both_true _ _ h.0).1).1).0
+  known_at : (cs : List Named) (o : Option Entries) (i : ℕ) (c : Named) → slice_get cs i ≡ Some c → eq_ignore_nullability c.1 t ≡ true → set_value f o n ≡ column_value f t (slice_get cs i) o n
+  known_at cs o i c there e = known_set c o e ∙ ap (λ x. column_value f t x o n) (sym there)
 
-module _ (z : ZonesData) (r : ℕ) (p : PartData) (part : slice_get z.parts r ≡ Some p) (scope : p.chunk.scope ≡ z.scope) (is : IsPart p) where
-  typed : has_types z.scope p.chunk.columns ≡ true
-  typed = ap (λ (ss : List Named). has_types ss p.chunk.columns) (sym scope) ∙ types_of p is
-
-  column_same : (f : AggregateFnRef) (i : ℕ) (t : DType) (o : Option ℕ) → zone_place z.scope i f t ≡ o
-      → cell_at (row_of r (zone_columns z)) o ≡ column_value f t (slice_get p.chunk.columns i) (slice_get p.stats i) (rows_of p.chunk.columns)
-  column_same f i t None e = sym (unknown_at f t (rows_of p.chunk.columns) z.scope p.chunk.columns p.stats i typed is.1 e)
+module _ (scope : List Named) (zones : List ZoneData) (r : ℕ) (z : ZoneData) (zone : slice_get zones r ≡ Some z) (is : fits_zone scope z.stats ≡ true) where
+  column_same : (f : AggregateFnRef) (i : ℕ) (t : DType) (o : Option ℕ) → zone_place scope i f t ≡ o
+      → cell_at (row_of r (zone_columns scope zones)) o ≡ column_value f t (slice_get scope i) (slice_get z.stats i) z.rows
+  column_same f i t None e = sym (unknown_at f t z.rows scope z.stats i is e)
   column_same f i t (Some k) e =
-      let q = place_of z.scope i f t k e in
-      cell_is (heads z.scope) z.parts r k (head i q.0 f) p q.3 part ∙ known_at f t (rows_of p.chunk.columns) z.scope p.chunk.columns p.stats i q.0 typed is.1 q.1 q.2
+      let q = place_of scope i f t k e in
+      cell_is (heads scope) zones r k (head i q.0 f) z q.3 zone ∙ known_at f t z.rows scope (slice_get z.stats i) i q.0 q.1 q.2
 
-  value_same : (f : AggregateFnRef) (x : Tree Place) → zone_values z.scope (row_of r (zone_columns z)) f x ≡ part_values p f x
-  value_same f (column c) = column_same f c.index c.dtype (zone_place z.scope c.index f c.dtype) refl
+  value_same : (f : AggregateFnRef) (x : Tree Place) → zone_values scope (row_of r (zone_columns scope zones)) f x ≡ told_values scope z f x
+  value_same f (column c) = column_same f c.index c.dtype (zone_place scope c.index f c.dtype) refl
   value_same f _ = refl
 
-  pub values_same : zone_values z.scope (row_of r (zone_columns z)) ≡ part_values p
-  values_same = λ i f x. value_same f x i
+  table_values : zone_values scope (row_of r (zone_columns scope zones)) ≡ told_values scope z
+  table_values = λ i f x. value_same f x i
 
-  -- so over the row of a true part the values are facts of it
-  pub row_is_honest : IsTruePart p → IsHonestOver (λ row n. is_zone_row z.scope row) (λ row n. zone_values z.scope row) (row_of r (zone_columns z)) p.chunk
-  row_is_honest true_part = (row_is_zone_row z r, subst (λ (a : Assignment). IsHonest a p.chunk.columns) (sym values_same) (part_is_honest p is true_part))
+-- in a map of zones
+pub values_same : (m : MapData) (zones : List ZoneData) (r : ℕ) (z : ZoneData) → IsMapOf zones m → slice_get zones r ≡ Some z → zone_values m.scope (row_of r m.table.columns) ≡ told_values m.scope z
+values_same m zones r z is there =
+    ap (λ (x : MapData). zone_values m.scope (row_of r x.table.columns)) is.same ∙ table_values m.scope zones r z there (is.are_zones r z there)
+
+told_same : (scope : List Named) (z : ZoneData) (p : PartData) → IsPartOf scope z p → told_values scope z ≡ part_values p
+told_same scope z p of = ap (told_values scope) (sym of.known) ∙ ap (λ ns. told_values ns (zone_of p)) (sym of.scoped)
+
+-- so for whatever stands in a zone, whose statistics are true of it, the values are facts of it
+pub told_is_honest : (scope : List Named) (z : ZoneData) (p : PartData) → IsPartOf scope z p → IsTruePart p → IsHonest (told_values scope z) p.chunk.columns
+told_is_honest scope z p of is_true = subst (λ (a : Assignment). IsHonest a p.chunk.columns) (sym (told_same scope z p of)) (part_is_honest p of.is_part is_true)
+
+pub row_is_honest : (m : MapData) (zones : List ZoneData) (r : ℕ) (z : ZoneData) (p : PartData) → IsTrue (is_zone_row m.scope (row_of r m.table.columns)) → IsMapOf zones m → slice_get zones r ≡ Some z → IsPartOf m.scope z p → IsTruePart p
+    → IsHonestOver (λ row n. is_zone_row m.scope row) (λ row n. zone_values m.scope row) (row_of r m.table.columns) p.chunk
+row_is_honest m zones r z p typed is there of is_true =
+    (typed, subst (λ (a : Assignment). IsHonest a p.chunk.columns) (sym (values_same m zones r z is there)) (told_is_honest m.scope z p of is_true))

@@ -4,10 +4,11 @@ use Rattle.std.specs.Prelude.{slice_get}
 use Rattle.std.specs.List.{filter}
 use Rattle.std.proofs.lemmas.List.{drop_more, length-append, length-map, map-append}
 use Rattle.std.proofs.Math.Seq.{take-suc}
-use Rattle.std.proofs.lemmas.Option.{get_or_from_slice_get, slice_get-get_or, slice_get_within}
+use Rattle.std.proofs.lemmas.Option.{get_or_from_slice_get, slice_get-get_or}
 use Rattle.vortex_base.specs.Data.Scopes.{Named}
 use Rattle.vortex_base.specs.Meanings.Typing.{stat_type}
 use Rattle.vortex_base.specs.declared.aggregate.AggregateFnRef.{AggregateFnRef}
+use Rattle.vortex_prune.proofs.Honesty.PartLemmas.{rest_of}
 use Rattle.vortex_prune.specs.Zones.{Head, head, head_if, heads_from, is_typed, starts_from, supporting}
 
 -- ---- the heads as they are listed
@@ -28,10 +29,6 @@ module _ (i : ℕ) (c : Named) where
       let rest = headed (drop (k + 1) fs) in
       let split : headed (drop k fs) ≡ first ++ rest = ap headed (drop_more fs k f h ∙ ap (λ x. x ∷ drop (k + 1) fs) (sym is)) ∙ one_headed (is_typed (stat_type f c.1)) f (filter (λ g. is_typed (stat_type g c.1)) (drop (k + 1) fs)) in
       ap (λ l. l ++ rest) pushed ∙ append_assoc old first rest ∙ ap (λ l. old ++ l) (sym split) ∙ before
-
--- the rest of a scope from a place on
-rest_of : (cs : List Named) (i : ℕ) (c : Named) → slice_get cs i ≡ Some c → drop i cs ≡ c ∷ drop (i + 1) cs
-rest_of cs i c there = drop_more cs i c (slice_get_within cs i c there) ∙ ap (λ x. x ∷ drop (i + 1) cs) (get_or_from_slice_get cs i c c there)
 
 -- one more column of the scope was looked at
 pub heads_more : (cs : List Named) (i : ℕ) (c : Named) (old new all : List Head) → slice_get cs i ≡ Some c → new ≡ old ++ map (head i c) (supporting c.1) → old ++ heads_from i (drop i cs) ≡ all

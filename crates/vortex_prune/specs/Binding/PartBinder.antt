@@ -1,17 +1,17 @@
--- What the statistics of a part answer to placeholders, as literals.
-use Rattle.std.specs.Prelude.{◌≡◌, ℕ, Option, Some, None, Result, Ok, Err, slice_get, if◌then◌else◌}
+-- What the statistics of a zone, and so of a part, answer to placeholders, as literals.
+use Rattle.std.specs.Prelude.{◌≡◌, ℕ, List, Option, Some, None, Result, Ok, Err, slice_get, if◌then◌else◌}
 use Rattle.vortex_base.specs.declared.aggregate.AggregateFnRef.{AggregateFnRef}
 use Rattle.vortex_base.specs.declared.dtype.DType.{DType}
 use Rattle.vortex_base.specs.declared.error.BaseError.{BaseError}
 use Rattle.vortex_base.specs.declared.scalar_value.ScalarValue.{ScalarValue}
-use Rattle.vortex_base.specs.Data.Columns.{ColumnData, row_count as rows_of}
+use Rattle.vortex_base.specs.Data.Scopes.{Named}
 use Rattle.vortex_base.specs.Data.Scalars.{null_of}
 use Rattle.vortex_base.specs.Trees.Tree.{Tree, Place, column, literal}
 use Rattle.vortex_base.specs.Data.Types.{as_nullable}
 use Rattle.vortex_base.specs.Meanings.Typing.{stat_type}
 use Rattle.vortex_prune.specs.Binding.Binders.{BinderAnswer}
-use Rattle.vortex_rewrite.specs.Facts.{is_column_of}
-use Rattle.vortex_prune.specs.Part.{Entries, PartData}
+use Rattle.vortex_prune.specs.Part.{Entries, PartData, ZoneData, zone_of}
+use Rattle.vortex_prune.specs.Binding.PartAnswers.{declares}
 use Rattle.vortex_prune.specs.Binding.StatValues.{stat_value}
 
 -- the literal of a value, where the aggregate supports the type
@@ -20,17 +20,18 @@ literal_if (Ok t) v = Some (literal (record { dtype = t; value = v }))
 literal_if (Err f) v = None
 
 -- what the set of a column tells of it, if it is there and the aggregate supports it
-abbrev pub column_literal : AggregateFnRef → Option ColumnData → Option Entries → (n : ℕ) → Option (Tree Place)
-column_literal f (Some c) (Some es) n = literal_if (stat_type f c.dtype) (stat_value f es n)
+abbrev pub column_literal : AggregateFnRef → Option Named → Option Entries → (n : ℕ) → Option (Tree Place)
+column_literal f (Some c) (Some es) n = literal_if (stat_type f c.1) (stat_value f es n)
 column_literal f c es n = None
 
--- the answers that the sets of a part give to columns of their types, nullability aside; of an input that is no column nothing is known
+-- the answers that the sets of a zone give to columns of their types, nullability aside; of an input that is no column nothing is known
+abbrev pub told_answer : List Named → ZoneData → BinderAnswer
+told_answer scope zone f (column c) t = if declares c.dtype (slice_get scope c.index) then column_literal f (slice_get scope c.index) (slice_get zone.stats c.index) zone.rows else None
+told_answer scope zone f x t = None
+
+-- those that the sets of a part give
 abbrev pub part_answer : PartData → BinderAnswer
-part_answer p f (column c) t =
-    if is_column_of c.dtype (slice_get p.chunk.columns c.index)
-    then column_literal f (slice_get p.chunk.columns c.index) (slice_get p.stats c.index) (rows_of p.chunk.columns)
-    else None
-part_answer p f x t = None
+part_answer p = told_answer p.chunk.scope (zone_of p)
 
 -- null of the type, made nullable
 abbrev pub IsNullOf : DType → Tree Place → Type 0

@@ -1,4 +1,4 @@
--- The binder over the statistics of a part is faithful.
+-- The binders over the statistics of a zone and of a part are faithful.
 use Rattle.std.specs.Prelude.{◌≡◌, ℕ, Bool, true, false, List, Option, Some, None, Result, Ok, Err, slice_get, if◌then◌else◌, refl}
 use Rattle.std.proofs.Common.{cond, sym, ap, ◌∙◌}
 use Rattle.vortex_base.specs.declared.aggregate.AggregateFnRef.{AggregateFnRef}
@@ -6,7 +6,7 @@ use Rattle.vortex_base.specs.declared.dtype.DType.{DType}
 use Rattle.vortex_base.specs.declared.error.BaseError.{BaseError}
 use Rattle.vortex_base.specs.declared.error.BaseError.TheVariants.{Mismatch}
 use Rattle.vortex_base.specs.declared.scalar_value.ScalarValue.{ScalarValue}
-use Rattle.vortex_base.specs.Data.Columns.{ColumnData, row_count as rows_of}
+use Rattle.vortex_base.specs.Data.Scopes.{Named}
 use Rattle.vortex_base.specs.Meanings.Fitting.{fits_row}
 use Rattle.vortex_base.specs.Meanings.Meaning.{meaning}
 use Rattle.vortex_base.specs.Data.Scalars.{Constant, is_optional_value, null_of}
@@ -14,10 +14,9 @@ use Rattle.vortex_base.specs.Trees.Tree.{Tree, Place, column, literal, stat, has
 use Rattle.vortex_base.specs.Data.Types.{as_nullable, dtype_eq_is_exact, eq_ignore_nullability}
 use Rattle.vortex_base.specs.Meanings.Typing.{stat_type, type_of}
 use Rattle.vortex_prune.specs.Binding.Binders.{IsAnswerOf, IsFaithful}
-use Rattle.vortex_rewrite.specs.Facts.{is_column_of}
-use Rattle.vortex_prune.specs.Part.{Entries, PartData}
-use Rattle.vortex_prune.specs.Binding.PartAnswers.{column_value, part_values}
-use Rattle.vortex_prune.specs.Binding.PartBinder.{IsNullOf, column_literal, literal_if, part_answer}
+use Rattle.vortex_prune.specs.Part.{Entries, PartData, ZoneData, zone_of}
+use Rattle.vortex_prune.specs.Binding.PartAnswers.{column_value, declares, part_values, told_values}
+use Rattle.vortex_prune.specs.Binding.PartBinder.{IsNullOf, column_literal, literal_if, part_answer, told_answer}
 use Rattle.vortex_rewrite.specs.StateTypes.{as_nullable-again, same_stat_type}
 use Rattle.vortex_prune.specs.Binding.StatValues.{stat_value}
 
@@ -53,40 +52,42 @@ literal_made (Err f) t v h e = cc
 
 -- of a column that the set is of
 module _ (f : AggregateFnRef) (s t : DType) (supported : stat_type f s ≡ Ok t) (n : ℕ) where
-  own_type : (d : ColumnData) → eq_ignore_nullability d.dtype s ≡ true → stat_type f d.dtype ≡ Ok t
-  own_type d h = same_stat_type f d.dtype s ((dtype_eq_is_exact (as_nullable d.dtype) (as_nullable s)).0 h) ∙ supported
+  own_type : (d : Named) → eq_ignore_nullability d.1 s ≡ true → stat_type f d.1 ≡ Ok t
+  own_type d h = same_stat_type f d.1 s ((dtype_eq_is_exact (as_nullable d.1) (as_nullable s)).0 h) ∙ supported
 
-  column_answered : (c : Option ColumnData) (es : Option Entries) (r : Tree Place) (b : Bool) → is_column_of s c ≡ b → (if b then column_literal f c es n else None) ≡ Some r → r ≡ literal (constant t (column_value f s c es n))
+  column_answered : (c : Option Named) (es : Option Entries) (r : Tree Place) (b : Bool) → declares s c ≡ b → (if b then column_literal f c es n else None) ≡ Some r → r ≡ literal (constant t (column_value f s c es n))
   column_answered None es r b h e = cc
   column_answered (Some d) None r true h e = cc
   column_answered (Some d) None r false h e = cc
   column_answered (Some d) (Some es) r true h e =
-      literal_of_type (stat_type f d.dtype) t (stat_value f es n) r (own_type d h) e ∙
+      literal_of_type (stat_type f d.1) t (stat_value f es n) r (own_type d h) e ∙
       ap (λ b. literal (constant t (if b then stat_value f es n else None))) (sym h)
   column_answered (Some d) (Some es) r false h e = cc
 
-  column_unknown : (c : Option ColumnData) (es : Option Entries) (b : Bool) → is_column_of s c ≡ b → (if b then column_literal f c es n else None) ≡ None → column_value f s c es n ≡ None
+  column_unknown : (c : Option Named) (es : Option Entries) (b : Bool) → declares s c ≡ b → (if b then column_literal f c es n else None) ≡ None → column_value f s c es n ≡ None
   column_unknown None es b h e = refl
   column_unknown (Some d) None b h e = refl
-  column_unknown (Some d) (Some es) true h e = absurd (literal_made (stat_type f d.dtype) t (stat_value f es n) (own_type d h) e)
+  column_unknown (Some d) (Some es) true h e = absurd (literal_made (stat_type f d.1) t (stat_value f es n) (own_type d h) e)
   column_unknown (Some d) (Some es) false h e = ap (λ b. if b then stat_value f es n else None) h
 
 -- the literal of the named value, where there is an answer
-answer_is_literal : (p : PartData) (f : AggregateFnRef) (x : Tree Place) (t : DType) (r : Tree Place) → type_of (stat f x) ≡ Ok t → part_answer p f x t ≡ Some r → r ≡ literal (constant t (part_values p f x))
-answer_is_literal p f (column c) t r h e =
-    column_answered f c.dtype t h (rows_of p.chunk.columns) (slice_get p.chunk.columns c.index) (slice_get p.stats c.index) r (is_column_of c.dtype (slice_get p.chunk.columns c.index)) refl e
-answer_is_literal p f _ t r h e = cc
+module _ (scope : List Named) (zone : ZoneData) where
+  answer_is_literal : (f : AggregateFnRef) (x : Tree Place) (t : DType) (r : Tree Place) → type_of (stat f x) ≡ Ok t → told_answer scope zone f x t ≡ Some r → r ≡ literal (constant t (told_values scope zone f x))
+  answer_is_literal f (column c) t r h e = column_answered f c.dtype t h zone.rows (slice_get scope c.index) (slice_get zone.stats c.index) r (declares c.dtype (slice_get scope c.index)) refl e
+  answer_is_literal f _ t r h e = cc
 
-unknown_is_null : (p : PartData) (f : AggregateFnRef) (x : Tree Place) (t : DType) → type_of (stat f x) ≡ Ok t → part_answer p f x t ≡ None → part_values p f x ≡ None
-unknown_is_null p f (column c) t h e =
-    column_unknown f c.dtype t h (rows_of p.chunk.columns) (slice_get p.chunk.columns c.index) (slice_get p.stats c.index) (is_column_of c.dtype (slice_get p.chunk.columns c.index)) refl e
-unknown_is_null p f _ t h e = refl
+  unknown_is_null : (f : AggregateFnRef) (x : Tree Place) (t : DType) → type_of (stat f x) ≡ Ok t → told_answer scope zone f x t ≡ None → told_values scope zone f x ≡ None
+  unknown_is_null f (column c) t h e = column_unknown f c.dtype t h zone.rows (slice_get scope c.index) (slice_get zone.stats c.index) (declares c.dtype (slice_get scope c.index)) refl e
+  unknown_is_null f _ t h e = refl
+
+  pub told_is_faithful : (row : List Constant) (n : ℕ) → IsFaithful (told_answer scope zone) IsNullOf (told_values scope zone) row n
+  told_is_faithful row n = record {
+    answers = λ f x t r h e. literal_is_answer (constant t (told_values scope zone f x)) t row r (answer_is_literal f x t r h e) refl;
+    named = λ f x t r h e. ap (λ y. meaning y row n) (answer_is_literal f x t r h e);
+    unknown = unknown_is_null;
+    missing = λ t r h. literal_is_answer (null_of (as_nullable t)) t row r h (as_nullable-again t);
+    null = λ t r h. ap (λ y. meaning y row n) h;
+  }
 
 pub part_is_faithful : (p : PartData) (row : List Constant) (n : ℕ) → IsFaithful (part_answer p) IsNullOf (part_values p) row n
-part_is_faithful p row n = record {
-  answers = λ f x t r h e. literal_is_answer (constant t (part_values p f x)) t row r (answer_is_literal p f x t r h e) refl;
-  named = λ f x t r h e. ap (λ y. meaning y row n) (answer_is_literal p f x t r h e);
-  unknown = unknown_is_null p;
-  missing = λ t r h. literal_is_answer (null_of (as_nullable t)) t row r h (as_nullable-again t);
-  null = λ t r h. ap (λ y. meaning y row n) h;
-}
+part_is_faithful p row n = told_is_faithful p.chunk.scope (zone_of p) row n

@@ -32,10 +32,14 @@ row_if satisfied place row = if satisfied then (place, row) ∷ [] else []
 abbrev pub full : Tree Place → List PartData → List (ℕ × ℕ)
 full p parts = flat_map (λ e. satisfying_rows p e.0 e.1.chunk) (enumerate_from 0 parts)
 
--- the proof, if there is one, is true of the part under these answers
+-- the proof, if there is one, is true of n rows under these answers
+abbrev pub proves_of : Option (Tree Place) → (n : ℕ) → Assignment → Bool
+proves_of None n A = false
+proves_of (Some e) n A = proves e A n
+
+-- it is true of the part
 abbrev pub is_proved : Option (Tree Place) → PartData → Assignment → Bool
-is_proved None part A = false
-is_proved (Some e) part A = proves e A (rows_of part.chunk.columns)
+is_proved proof part A = proves_of proof (rows_of part.chunk.columns) A
 
 -- a part beside the answers that its placeholders get
 abbrev pub Answered : Type 0
@@ -45,15 +49,22 @@ Answered = PartData × Assignment
 abbrev pub place_if : Bool → (place : ℕ) → List ℕ
 place_if skipped place = if skipped then place ∷ [] else []
 
+-- the places of the elements that pass a test, ascending
+abbrev pub places_where : {X : Type 0} → (X → Bool) → List X → List ℕ
+places_where test xs = map (λ e. e.0) (filter (λ e. test e.1) (enumerate_from 0 xs))
+
 -- the places of the parts that are skipped, ascending
 abbrev pub skipped_parts : Option (Tree Place) → List Answered → List ℕ
-skipped_parts proof parts = map (λ e. e.0) (filter (λ e. is_proved proof e.1.0 e.1.1) (enumerate_from 0 parts))
+skipped_parts proof parts = places_where (λ d. is_proved proof d.0 d.1) parts
 
 -- ---- what becomes of a part
 
--- it is skipped if the falsifier is true of it, else it is whole if the satisfier is, else its rows are tested
+-- n rows are skipped if the falsifier is true of them, else they are whole if the satisfier is, else they are tested
+abbrev pub verdict_of : (falsifier satisfier : Option (Tree Place)) → (n : ℕ) → Assignment → Verdict
+verdict_of falsifier satisfier n A = if proves_of falsifier n A then Skipped else if proves_of satisfier n A then Whole else Tested
+
 abbrev pub verdict : (falsifier satisfier : Option (Tree Place)) → PartData → Assignment → Verdict
-verdict falsifier satisfier part A = if is_proved falsifier part A then Skipped else if is_proved satisfier part A then Whole else Tested
+verdict falsifier satisfier part A = verdict_of falsifier satisfier (rows_of part.chunk.columns) A
 
 abbrev pub is_skipped : Verdict → Bool
 is_skipped Skipped = true
@@ -80,7 +91,7 @@ rows_tested Tested k = rows_of k.columns
 module _ (falsifier satisfier : Option (Tree Place)) where
   -- the places of the parts that are whole, ascending
   abbrev pub whole_parts : List Answered → List ℕ
-  whole_parts parts = map (λ e. e.0) (filter (λ e. is_whole (verdict falsifier satisfier e.1.0 e.1.1)) (enumerate_from 0 parts))
+  whole_parts parts = places_where (λ d. is_whole (verdict falsifier satisfier d.0 d.1)) parts
 
   -- the rows that are selected, whatever the statistics claim
   abbrev pub selected_rows : Tree Place → List Answered → List (ℕ × ℕ)

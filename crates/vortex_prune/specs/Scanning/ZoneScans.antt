@@ -1,79 +1,152 @@
--- Scans over a table of zones: what they evaluate, and what they may be refused for.
-use Rattle.std.specs.Prelude.{◌≡◌, ◌<◌, ◌⊎◌, ℕ, Bool, true, false, not as not_b, Contains, List, [], ◌∷◌, Option, Some, None, IsTrue, ⊤, if◌then◌else◌, filter, length, slice_get}
-use Rattle.vortex_base.specs.Data.Columns.{row_count as rows_of, row_of}
+-- Pruning by a map of zones: what is evaluated, what has to be found, and what it may be refused for.
+use Rattle.std.specs.Prelude.{◌≡◌, ◌<◌, ◌⊎◌, ℕ, Bool, true, false, not as not_b, Contains, List, [], ◌∷◌, Option, Some, None, IsTrue, ⊤, if◌then◌else◌, alloc_error, filter, length, map, slice_get}
+use Rattle.vortex_base.specs.Data.Columns.{ChunkData, ColumnData, row_count as rows_of, row_of}
+use Rattle.vortex_base.specs.Data.Scopes.{Named}
 use Rattle.vortex_base.specs.Meanings.Fitting.{fits_row}
-use Rattle.vortex_base.specs.Meanings.Meaning.{is_true, meaning}
+use Rattle.vortex_base.specs.Meanings.Meaning.{is_true, meaning, satisfies}
 use Rattle.vortex_base.specs.Trees.Tree.{Tree, Place, has_placeholder}
 use Rattle.vortex_rewrite.specs.Causes.{Causes, IsRefusal, no_causes}
 use Rattle.vortex_rewrite.specs.Rewriting.Lawful.{OwnRule}
-use Rattle.vortex_prune.specs.Part.{IsPart, PartData}
-use Rattle.vortex_prune.specs.Binding.PartAnswers.{part_values}
+use Rattle.vortex_prune.specs.Part.{IsPartOf, IsTruePart, PartData, ZoneData}
+use Rattle.vortex_prune.specs.Binding.PartAnswers.{part_values, told_values}
 use Rattle.vortex_rewrite.specs.Rewriting.Proof.{is_open}
 use Rattle.vortex_rewrite.specs.Rewriting.Falsifiers.{falsifier}
 use Rattle.vortex_prune.specs.Scanning.ScanRefusals.{causes_by}
 use Rattle.vortex_prune.specs.Scanning.PartScans.{UnlessSkipped}
-use Rattle.vortex_prune.specs.Scanning.Selection.{Answered, answered, is_proved}
+use Rattle.vortex_prune.specs.Scanning.Selection.{Answered, answered, is_whole, is_proved, places_where, proves_of, verdict_of}
 use Rattle.vortex_prune.specs.declared.scan.verdict.Verdict.{Verdict}
 use Rattle.vortex_prune.specs.declared.scan.verdict.Verdict.TheVariants.{Skipped, Whole, Tested}
-use Rattle.vortex_prune.specs.Zones.{ZonesData, zone_columns}
+use Rattle.vortex_prune.specs.Zones.{IsMapOf, MapData}
 use Rattle.vortex_stats.specs.declared.error.StatsError.{StatsError}
+use Rattle.vortex_stats.specs.declared.error.StatsError.TheVariants.{Memory}
 
--- what a bound proof, if there is one, tells on a row of the table
-abbrev pub zone_truth : Option (Tree Place) → ZonesData → (r n : ℕ) → Bool
-zone_truth None z r n = false
-zone_truth (Some b) z r n = is_true (meaning b (row_of r (zone_columns z)) n)
+-- ---- what pruning has to find
 
--- it can be evaluated on each row of the table
-abbrev pub CanTell : Option (Tree Place) → ZonesData → Type 0
-CanTell None z = ⊤
-CanTell (Some b) z = (has_placeholder b ≡ false) × ((r : ℕ) → IsTrue (fits_row b (row_of r (zone_columns z))))
+-- what becomes of a zone by what its statistics answer
+abbrev pub zone_verdict : (falsifier satisfier : Option (Tree Place)) → List Named → ZoneData → Verdict
+zone_verdict falsifier satisfier scope zone = verdict_of falsifier satisfier zone.rows (told_values scope zone)
+
+abbrev pub zone_verdicts : (falsifier satisfier : Option (Tree Place)) → List Named → List ZoneData → List Verdict
+zone_verdicts falsifier satisfier scope zones = map (zone_verdict falsifier satisfier scope) zones
+
+-- the places of the zones of which the falsifier is true, ascending
+abbrev pub skipped_zones : Option (Tree Place) → List Named → List ZoneData → List ℕ
+skipped_zones proof scope zones = places_where (λ zone. proves_of proof zone.rows (told_values scope zone)) zones
+
+-- the places of the others of which the satisfier is, ascending
+abbrev pub whole_zones : (falsifier satisfier : Option (Tree Place)) → List Named → List ZoneData → List ℕ
+whole_zones falsifier satisfier scope zones = places_where (λ zone. is_whole (zone_verdict falsifier satisfier scope zone)) zones
+
+-- each row of a chunk satisfies the predicate, or each doesn't
+abbrev pub EachSatisfies : Bool → Tree Place → ChunkData → Type 0
+EachSatisfies b p k = (r : ℕ) → r < rows_of k.columns → satisfies p (row_of r k.columns) (rows_of k.columns) ≡ b
+
+-- whatever rows stand in a zone, if its statistics are true of them: none satisfies the predicate where the zone is skipped, and each does where it is whole
+abbrev pub IsSoundPruning : Tree Place → List Named → List ZoneData → (skipped whole : List ℕ) → Type 0
+IsSoundPruning p scope zones skipped whole =
+    (i : ℕ) (zone : ZoneData) (part : PartData) → slice_get zones i ≡ Some zone → IsPartOf scope zone part → IsTruePart part →
+    (Contains skipped i → EachSatisfies false p part.chunk) × (Contains whole i → EachSatisfies true p part.chunk)
 
 -- the parts, each with the answers of its own statistics, as a scan has them
 abbrev pub statistics_answers : List PartData → List Answered
 statistics_answers parts = answered (λ (p : PartData) row n. part_values p) parts parts
 
--- on the row of each part it tells what the proof does of the part, by its own statistics
-abbrev pub TellsAs : (bound proof : Option (Tree Place)) → ZonesData → Type 0
-TellsAs bound proof z =
-    (r : ℕ) (part : PartData) → slice_get z.parts r ≡ Some part → IsPart part → zone_truth bound z r (rows_of part.chunk.columns) ≡ is_proved proof part (part_values part)
+-- ---- proofs that are bound to the table
 
--- the verdict by a falsifier that was bound, on the row of the part, and by a satisfier
-abbrev pub table_verdict : (bound satisfier : Option (Tree Place)) → ZonesData → ℕ → PartData → Verdict
-table_verdict bound satisfier z r part =
-    if zone_truth bound z r (rows_of part.chunk.columns) then Skipped else if is_proved satisfier part (part_values part) then Whole else Tested
+-- what a bound proof, if there is one, tells on a row of these columns
+abbrev pub zone_truth : Option (Tree Place) → List ColumnData → (r n : ℕ) → Bool
+zone_truth None cs r n = false
+zone_truth (Some b) cs r n = is_true (meaning b (row_of r cs) n)
 
--- this is told of the part at a place, and the satisfier has no column outside its placeholders, if the part isn't skipped
-abbrev pub table_tells : (bound satisfier : Option (Tree Place)) → ZonesData → ℕ → PartData → Verdict → Type 0
-table_tells bound satisfier z r part v =
-    (slice_get z.parts r ≡ Some part → IsPart part → v ≡ table_verdict bound satisfier z r part) × UnlessSkipped v (is_open satisfier ≡ false)
+-- it can be evaluated on each row
+abbrev pub CanTell : Option (Tree Place) → List ColumnData → Type 0
+CanTell None cs = ⊤
+CanTell (Some b) cs = (has_placeholder b ≡ false) × ((r : ℕ) → IsTrue (fits_row b (row_of r cs)))
+
+-- on the row of each zone of which the map is, it tells what the proof does by the zone's statistics
+abbrev pub TellsAs : (bound proof : Option (Tree Place)) → MapData → Type 0
+TellsAs bound proof m =
+    (zones : List ZoneData) (r : ℕ) (zone : ZoneData) → IsMapOf zones m → slice_get zones r ≡ Some zone → zone_truth bound m.table.columns r zone.rows ≡ proves_of proof zone.rows (told_values m.scope zone)
+
+-- the verdict by a falsifier that was bound, on the row of the zone, and by a satisfier
+abbrev pub table_verdict : (bound satisfier : Option (Tree Place)) → MapData → ℕ → ZoneData → Verdict
+table_verdict bound satisfier m r zone =
+    if zone_truth bound m.table.columns r zone.rows then Skipped else if proves_of satisfier zone.rows (told_values m.scope zone) then Whole else Tested
+
+-- this is told of the zone at a place, and the satisfier has no column outside its placeholders, if the zone isn't skipped
+abbrev pub table_tells : (bound satisfier : Option (Tree Place)) → MapData → ℕ → Verdict → Type 0
+table_tells bound satisfier m r v =
+    ((zones : List ZoneData) (zone : ZoneData) → IsMapOf zones m → slice_get zones r ≡ Some zone → v ≡ table_verdict bound satisfier m r zone) × UnlessSkipped v (is_open satisfier ≡ false)
+
+-- it was told of each zone
+abbrev pub AllTold : (bound satisfier : Option (Tree Place)) → MapData → List Verdict → Type 0
+AllTold bound satisfier m vs = (r : ℕ) (v : Verdict) → slice_get vs r ≡ Some v → table_tells bound satisfier m r v
 
 -- the satisfier was bound to the table, if it was
-abbrev pub IsBoundOnce : (bound satisfier : Option (Tree Place)) → ZonesData → Type 0
-IsBoundOnce None satisfier z = ⊤
-IsBoundOnce (Some b) satisfier z = CanTell (Some b) z × TellsAs (Some b) satisfier z × (is_open satisfier ≡ false)
+abbrev pub IsBoundOnce : (bound satisfier : Option (Tree Place)) → MapData → Type 0
+IsBoundOnce None satisfier m = ⊤
+IsBoundOnce (Some b) satisfier m = CanTell (Some b) m.table.columns × TellsAs (Some b) satisfier m × (is_open satisfier ≡ false)
+
+-- ---- refusals
 
 -- the proof, if there is one, has a column outside its placeholders, and there are parts for which it would be bound
-abbrev pub is_left_open : Option (Tree Place) → List PartData → Bool
+abbrev pub is_left_open : {X : Type 0} → Option (Tree Place) → List X → Bool
 is_left_open proof [] = false
 is_left_open proof (part ∷ parts) = is_open proof
 
 -- so binding it to the table is refused
-abbrev pub open_causes : Option (Tree Place) → List PartData → Causes
+abbrev pub open_causes : {X : Type 0} → Option (Tree Place) → List X → Causes
 open_causes proof parts = record no_causes { open_proof = is_left_open proof parts ≡ true }
+
+-- what is left where this tells what is skipped
+abbrev pub kept : {X : Type 0} → (X → Bool) → List X → List X
+kept skips xs = filter (λ x. not_b (skips x)) xs
+
+-- what may be refused over parts or zones of which this tells what is proved: what the rules cause at the nodes that are visited, a falsifier that is left open, and such a satisfier, if one of them isn't skipped
+abbrev pub causes_over : {X : Type 0} → (Option (Tree Place) → X → Bool) → List OwnRule → Tree Place → List X → Causes
+causes_over proved rules p xs = causes_by (λ proof. open_causes proof xs) (λ proof. open_causes proof (kept (proved (falsifier rules p)) xs)) rules p
+
+-- the proof is true of the zone by its statistics
+abbrev pub is_proved_zone : List Named → Option (Tree Place) → ZoneData → Bool
+is_proved_zone scope proof zone = proves_of proof zone.rows (told_values scope zone)
+
+-- the zones that aren't skipped: those of which the falsifier isn't true
+abbrev pub kept_zones : (falsifier : Option (Tree Place)) → List Named → List ZoneData → List ZoneData
+kept_zones falsifier scope zones = kept (is_proved_zone scope falsifier) zones
+
+-- what pruning may be refused for
+abbrev pub pruning_causes : List OwnRule → Tree Place → List Named → List ZoneData → Causes
+pruning_causes rules p scope zones = causes_over (is_proved_zone scope) rules p zones
+
+-- it is true of the part by its own
+abbrev pub is_proved_part : Option (Tree Place) → PartData → Bool
+is_proved_part proof part = is_proved proof part (part_values part)
 
 -- the parts that aren't skipped: those of which the falsifier isn't true, by their own statistics
 abbrev pub kept_parts : (falsifier : Option (Tree Place)) → List PartData → List PartData
-kept_parts falsifier parts = filter (λ part. not_b (is_proved falsifier part (part_values part))) parts
+kept_parts falsifier parts = kept (is_proved_part falsifier) parts
 
--- what a scan of the table may be refused for: what its rules cause at the nodes that are visited, a falsifier that is left open, and such a satisfier, if a part isn't skipped
+-- what a scan of parts with their map may be refused for
 abbrev pub zone_causes : List OwnRule → Tree Place → List PartData → Causes
-zone_causes rules p parts = causes_by (λ proof. open_causes proof parts) (λ proof. open_causes proof (kept_parts (falsifier rules p) parts)) rules p
+zone_causes rules p parts = causes_over is_proved_part rules p parts
 
--- the test of a part by the table is refused where the falsifier that was bound isn't true on the part's row, and the satisfier has a column outside its placeholders
-abbrev pub table_refuses : (bound satisfier : Option (Tree Place)) → ZonesData → ℕ → PartData → StatsError → Type 0
-table_refuses bound satisfier z r part =
-    IsRefusal (record no_causes { open_proof = (zone_truth bound z r (rows_of part.chunk.columns) ≡ false) × (is_open satisfier ≡ true) })
+-- what it may be refused for at most, whatever is skipped
+abbrev pub most_causes : {X : Type 0} → List OwnRule → Tree Place → List X → Causes
+most_causes rules p xs = causes_by (λ proof. open_causes proof xs) (λ proof. open_causes proof xs) rules p
+
+-- a row of the table is refused where the falsifier that was bound isn't true on it, and the satisfier has a column outside its placeholders
+abbrev pub table_refuses : (bound satisfier : Option (Tree Place)) → MapData → ℕ → StatsError → Type 0
+table_refuses bound satisfier m r =
+    IsRefusal (record no_causes { open_proof = ((n : ℕ) → slice_get m.rows r ≡ Some n → zone_truth bound m.table.columns r n ≡ false) × (is_open satisfier ≡ true) })
+
+-- memory was refused, or some row
+abbrev pub IsTableRefused : (bound satisfier : Option (Tree Place)) → MapData → StatsError → Type 0
+IsTableRefused bound satisfier m f = (f ≡ Memory alloc_error) ⊎ ((r : ℕ) × (r < length m.rows) × table_refuses bound satisfier m r f)
 
 -- the satisfier has no column outside its placeholders, if some part isn't skipped
-abbrev pub IsShutIfKept : (skipped : List ℕ) → (satisfier : Option (Tree Place)) → List PartData → Type 0
+abbrev pub IsShutIfKept : {X : Type 0} → (skipped : List ℕ) → (satisfier : Option (Tree Place)) → List X → Type 0
 IsShutIfKept skipped satisfier parts = (i : ℕ) → i < length parts → Contains skipped i ⊎ (is_open satisfier ≡ false)
+
+-- the same, where the verdicts are listed
+abbrev pub IsShutIfVerdict : (satisfier : Option (Tree Place)) → List Verdict → Type 0
+IsShutIfVerdict satisfier vs = (i : ℕ) (v : Verdict) → slice_get vs i ≡ Some v → UnlessSkipped v (is_open satisfier ≡ false)

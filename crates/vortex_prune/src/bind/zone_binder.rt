@@ -1,12 +1,13 @@
-//! The binder over the rows of a table of zones.
+//! The binder over the rows of the table of a map of zones.
 ghost use Rattle.std.specs.Prelude.{◌≡◌, ℕ, IsTrue, Some, slice_get};
 ghost use Rattle.vortex_base.specs.Data.Columns.{row_of};
 ghost use Rattle.vortex_prune.specs.Binding.Binders.{IsHonestOver};
-ghost use Rattle.vortex_prune.specs.Part.{IsTruePart, PartData};
-ghost use Rattle.vortex_prune.specs.Zones.{zone_table};
+ghost use Rattle.std.specs.Prelude.{List};
+ghost use Rattle.vortex_prune.specs.Part.{IsPartOf, IsTruePart, PartData, ZoneData};
+ghost use Rattle.vortex_prune.specs.Zones.{IsMapOf};
 
 use crate::bind::stat_binder::StatBinder;
-use crate::zones::Zones;
+use crate::zone_map::ZoneMap;
 use std::alloc::Global;
 use std::marker::Model;
 use vortex_base::aggregate::AggregateFnRef;
@@ -16,39 +17,43 @@ use vortex_base::bound_expression::parts::Parts;
 use vortex_base::dtype::DType;
 use vortex_rewrite::hook_fault::HookFault;
 
-/// Binds the placeholders of a proof to the columns of a table of zones, so that one bound proof is
-/// evaluated on the row of each part. What it answers is read on the rows of its own table alone:
-/// over the row with no columns, on which `scan` evaluates, it isn't faithful. It is for
-/// `scan_zones`, and for who evaluates on the rows of `Zones::table`.
+/// Binds the placeholders of a proof to the columns of the table of a map of zones, so that one
+/// bound proof is evaluated on the row of each zone. What it answers is read on the rows of its own
+/// table alone: over the row with no columns, on which `scan` evaluates, it isn't faithful. It is
+/// for `prune` and `scan_zones`, and for who evaluates on the rows of `ZoneMap::table`.
 #[derive(Drop)]
 pub struct ZoneBinder<'a> {
-    zones: &'a Zones,
+    map: &'a ZoneMap,
 }
 
 impl<'a> Model for ZoneBinder<'a> {
-    ghost use Rattle.vortex_prune.specs.Zones.{ZonesData};
+    ghost use Rattle.vortex_prune.specs.Zones.{MapData};
 
-    ghost Value = { ZonesData };
+    ghost Value = { MapData };
 
-    ghost view = { λ b. b.zones.now };
+    ghost view = { λ b. b.map.now };
 }
 
 impl<'a> ZoneBinder<'a> {
-    /// The binder of a table. It answers by a reference to a column of the table, where a
+    /// The binder of a map. It answers by a reference to a column of the table, where a
     /// `StatsBinder` of a part would answer by a literal.
-    pub fn new(zones: &'a Zones) -> ZoneBinder<'a>
-        ensures zones { result ≡ zones.now }
+    pub fn new(map: &'a ZoneMap) -> ZoneBinder<'a>
+        ensures map { result ≡ map.now }
         // It is faithful over each row of the table, with each row count.
-        ensures faithful { (r n : ℕ) → let row = row_of r (zone_table zones.now).columns in
+        ensures faithful { (r n : ℕ) → let row = row_of r map.now.table.columns in
             IsTrue (⟦<ZoneBinder<'a> as StatBinder>⟧.is_faithful_over result row n) }
-        // It is honest for a part whose statistics are true, and the part's row.
-        ensures honest { (r : ℕ) (part : PartData) → slice_get zones.now.parts r ≡ Some part
-            → IsTruePart part → let row = row_of r (zone_table zones.now).columns in
+        // It is honest for whatever rows stand in a zone, if the zone's statistics are true of
+        // them, and the zone's row.
+        ensures honest { (zones : List ZoneData) (r : ℕ) (zone : ZoneData) (part : PartData)
+            → IsMapOf zones map.now → slice_get zones r ≡ Some zone
+            → IsPartOf map.now.scope zone part → IsTruePart part
+            → let row = row_of r map.now.table.columns in
             IsHonestOver (⟦<ZoneBinder<'a> as StatBinder>⟧.is_faithful_over result)
             (⟦<ZoneBinder<'a> as StatBinder>⟧.value result) row part.chunk }
     {
-        let _parts = zones.parts();
-        ZoneBinder { zones }
+        let table = map.table();
+        let _rows = table.rows();
+        ZoneBinder { map }
     }
 }
 
@@ -80,7 +85,7 @@ impl<'a> StatBinder for ZoneBinder<'a> {
         _stat_dtype: &DType,
     ) -> Result<Option<BoundExpression>, HookFault> {
         match input.parts() {
-            Parts::Column(place, dtype) => match self.zones.place_of(place, *aggregate, dtype) {
+            Parts::Column(place, dtype) => match self.map.place_of(place, *aggregate, dtype) {
                 None => Ok(None),
                 Some((at, dtype)) => Ok(Some(bound::col(alloc, at, dtype)?)),
             },

@@ -15,7 +15,7 @@ use vortex_prune::scan::scan;
 use vortex_prune::{Rules, Scan};
 
 // The scan by the built-in rules and the parts' own statistics.
-fn scan_by_statistics(
+pub(super) fn scan_by_statistics(
     alloc: Global,
     parts: &[Part],
     predicate: &BoundExpression,

@@ -1,4 +1,4 @@
-//! Read-once predicates over two columns of bounds: which parts they skip.
+//! Predicates over two columns of bounds: which parts they skip.
 use super::*;
 
 // The scope of the columns `a` and `b`.
@@ -70,4 +70,33 @@ fn connectives_take_the_sides_as_they_are(rt: HostRuntime) -> Result<(), Fail> {
     expect_skip(&rt, alloc, pair(alloc, (0, 0), (9, 7)), both, true)?;
     let either = or(alloc, compare(alloc, Operator::Eq, 3), over_seven(alloc));
     expect_skip(&rt, alloc, pair(alloc, (0, 0), (9, 7)), either, false)
+}
+
+fn outside(alloc: Global) -> Built {
+    let below = compare(alloc, Operator::Lt, 3);
+    or(alloc, below, compare(alloc, Operator::Gt, 7))
+}
+
+// The sides of an OR may be of one column, also under an AND with another column.
+#[test]
+fn an_or_may_share_a_column(rt: HostRuntime) -> Result<(), Fail> {
+    let alloc = rt.alloc();
+    expect_skip(
+        &rt,
+        alloc,
+        pair(alloc, (3, 0), (7, 9)),
+        outside(alloc),
+        true,
+    )?;
+    expect_skip(
+        &rt,
+        alloc,
+        pair(alloc, (3, 0), (8, 9)),
+        outside(alloc),
+        false,
+    )?;
+    let both = and(alloc, outside(alloc), over_seven(alloc));
+    expect_skip(&rt, alloc, pair(alloc, (2, 0), (7, 7)), both, true)?;
+    let both = and(alloc, outside(alloc), over_seven(alloc));
+    expect_skip(&rt, alloc, pair(alloc, (2, 0), (7, 8)), both, false)
 }

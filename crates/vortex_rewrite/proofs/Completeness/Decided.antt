@@ -1,7 +1,7 @@
--- A read-once predicate over a known box in order: either its falsifier is true and no row within the box satisfies it, or one does.
-use Rattle.std.proofs.Common.{◌≡◌, ◌<◌, ℕ, Bool, true, false, not as not_b, ◌&&◌, ◌||◌, List, [], ◌∷◌, ◌++◌, Option, Some, refl, sym, ap, ap₂, ◌∙◌, ◌⊎◌, inl, inr, ⊎_elim, option_to_list}
+-- A predicate over a known box in order: either its falsifier is true and no row within the box satisfies it, or one does.
+use Rattle.std.proofs.Common.{◌≡◌, ◌<◌, ℕ, Bool, true, false, not as not_b, ◌&&◌, ◌||◌, List, [], ◌∷◌, ◌++◌, Option, Some, refl, sym, ap, ◌∙◌, option_to_list}
 use Rattle.std.specs.List.{AllByRecursion}
-use Rattle.std.proofs.lemmas.Bool.{not-true, not-false, and_parts, and_cases, and_left, and_right, or_cases, or_parts}
+use Rattle.std.proofs.lemmas.Bool.{not-true, not-false}
 use Rattle.vortex_base.specs.declared.dtype.DType.{DType}
 use Rattle.vortex_base.specs.declared.types.Operator.{Operator}
 use Rattle.vortex_base.specs.declared.types.Operator.TheVariants.{Eq, NotEq, Gt, Gte, Lt, Lte, And, Or}
@@ -12,13 +12,12 @@ use Rattle.vortex_base.specs.Data.Scalars.{Constant}
 use Rattle.vortex_base.specs.Trees.Tree.{Tree, Place, literal, binary, has_bare_column}
 use Rattle.vortex_base.specs.Data.Types.{eq_ignore_nullability}
 use Rattle.vortex_base.specs.Data.Values.{is_value}
-use Rattle.vortex_rewrite.proofs.Completeness.Choices.{Agree, AreInside, Choice, IsBetween, all_back, all_front, between_agreed, chosen_agreed, combined, combined_back, combined_front, row_with, satisfies_agreed}
+use Rattle.vortex_rewrite.proofs.Completeness.Choices.{Agree, AreInside, Choice, IsBetween, all_back, all_front, between_agreed, chosen_agreed, combined, combined_back, combined_front, row_with}
 use Rattle.vortex_rewrite.proofs.Completeness.Interval.{Found, apart, find, is_comparison, refute, test}
 use Rattle.vortex_rewrite.proofs.Completeness.Operands.{Operand, same_values}
-use Rattle.vortex_rewrite.proofs.Soundness.TruthLogic.{clash, true_and, true_or}
 use Rattle.vortex_rewrite.specs.Rewriting.ReadOnce.{Box, IsWithin, are_distinct, columns_of}
 use Rattle.vortex_rewrite.specs.Rewriting.Proof.{Assignment, value_under}
-use Rattle.vortex_rewrite.specs.Rewriting.Falsifiers.{binary_node, bool_literal, both_of, comparison_falsifier, either_of, falsifier, node, proved, reduce_balanced}
+use Rattle.vortex_rewrite.specs.Rewriting.Falsifiers.{binary_node, bool_literal, both_of, comparison_falsifier, falsifier, node, proved, reduce_balanced}
 use Rattle.vortex_rewrite.specs.declared.rewrite.side.Side.TheVariants.{Falsify}
 use Rattle.vortex_rewrite.proofs.Logic.{all_append}
 
@@ -54,13 +53,9 @@ pub either_known : (s t : Bool) → either (Some s) (Some t) ≡ Some (s || t)
 either_known true t = refl
 either_known false t = refl
 
-both_known : (s t : Bool) → both (Some s) (Some t) ≡ Some (s && t)
+pub both_known : (s t : Bool) → both (Some s) (Some t) ≡ Some (s && t)
 both_known true t = refl
 both_known false t = refl
-
-either_holds : (s t : Bool) → (s ≡ true) ⊎ (t ≡ true) → (s || t) ≡ true
-either_holds true t h = refl
-either_holds false t h = ⊎_elim (λ e. clash e refl) (λ e. e) h
 
 -- ---- the falsifier of a comparison, of the proofs of both operands' ends
 
@@ -171,80 +166,6 @@ module _ (box : Box) (A : Assignment) (m n : ℕ) where
               satisfied_as row bx.0 by.0 bx.1 by.1 ∙ refute ox.lo ox.hi oy.lo oy.hi ox.order oy.order bx.0 by.0 bx.2 bx.3 by.2 by.3 o h;
           finds = λ h. found (find ox.lo ox.hi oy.lo oy.hi ox.order oy.order (λ v. is_value v s ≡ true) ox.lo_fits ox.hi_fits (same_values oy.lo s t same ∙ oy.lo_fits) (same_values oy.hi s t same ∙ oy.hi_fits) o k h);
         }
-
-  -- ---- AND and OR
-
-  module _ (x y : Tree Place) (dx : Decided x) (dy : Decided y) (inside : AreInside m (columns_of x ++ columns_of y)) (distinct : are_distinct (columns_of x ++ columns_of y) ≡ true) where
-    module _ (f g : Choice) where
-      joint : Choice
-      joint = combined f g (columns_of y)
-
-      -- a choice for both sides, of one for each
-      joint_between : Between f (columns_of x) → Between g (columns_of y) → Between joint (columns_of x ++ columns_of y)
-      unfolding joint
-      joint_between bf bg =
-          all_append (IsBetween box joint) (columns_of x) (columns_of y)
-          (between_agreed box joint f (columns_of x) (combined_front f g (columns_of x) (columns_of y) distinct) bf)
-          (between_agreed box joint g (columns_of y) (combined_back f g (columns_of y)) bg)
-
-      left_same : satisfies x (row_with joint m) n ≡ satisfies x (row_with f m) n
-      unfolding joint
-      left_same = satisfies_agreed joint f m n x (all_front (λ c. c.index < m) (columns_of x) (columns_of y) inside) (combined_front f g (columns_of x) (columns_of y) distinct)
-
-      right_same : satisfies y (row_with joint m) n ≡ satisfies y (row_with g m) n
-      unfolding joint
-      right_same = satisfies_agreed joint g m n y (all_back (λ c. c.index < m) (columns_of x) (columns_of y) inside) (combined_back f g (columns_of y))
-
-    pub and_decided : Decided (binary And x y)
-    and_decided = record {
-      proof = binary Or dx.proof dy.proof;
-      proof_is =
-          (λ i. proved Falsify [] (binary And x y) (option_to_list (either_of (binary Or) (dx.proof_is i) (dy.proof_is i))))
-          ∙ one_proof (binary And x y) (binary Or dx.proof dy.proof);
-      closed = λ i. dx.closed i || dy.closed i;
-      says = dx.says || dy.says;
-      proof_told = (λ i. truth_value (either (truth (dx.proof_told i)) (truth (dy.proof_told i)))) ∙ ap truth_value (either_known dx.says dy.says);
-      refutes = λ h row within.
-          true_and (meaning x row n) (meaning y row n)
-          ∙ ⊎_elim
-          (λ k. and_left (satisfies x row n) (satisfies y row n) (dx.refutes k row (all_front (IsWithin box row) (columns_of x) (columns_of y) within)))
-          (λ k. and_right (satisfies x row n) (satisfies y row n) (dy.refutes k row (all_back (IsWithin box row) (columns_of x) (columns_of y) within)))
-          (or_cases dx.says dy.says h);
-      finds = λ h.
-          let k = or_parts dx.says dy.says h in
-          let cx = dx.finds k.0 in
-          let cy = dy.finds k.1 in
-          let row = row_with (joint cx.0 cy.0) m in
-          (joint cx.0 cy.0, joint_between cx.0 cy.0 cx.1 cy.1, true_and (meaning x row n) (meaning y row n) ∙ ap₂ ◌&&◌ (left_same cx.0 cy.0 ∙ cx.2) (right_same cx.0 cy.0 ∙ cy.2));
-    }
-
-    module _ (low_x : Between box.low (columns_of x)) (low_y : Between box.low (columns_of y)) where
-      -- for the other side the low values will do
-      from_left : Choosable x → Choosable (binary Or x y)
-      from_left c =
-          let row = row_with (joint c.0 box.low) m in
-          (joint c.0 box.low, joint_between c.0 box.low c.1 low_y, true_or (meaning x row n) (meaning y row n) ∙ either_holds (satisfies x row n) (satisfies y row n) (inl (left_same c.0 box.low ∙ c.2)))
-
-      from_right : Choosable y → Choosable (binary Or x y)
-      from_right c =
-          let row = row_with (joint box.low c.0) m in
-          (joint box.low c.0, joint_between box.low c.0 low_x c.1, true_or (meaning x row n) (meaning y row n) ∙ either_holds (satisfies x row n) (satisfies y row n) (inr (right_same box.low c.0 ∙ c.2)))
-
-      pub or_decided : Decided (binary Or x y)
-      or_decided = record {
-        proof = binary And dx.proof dy.proof;
-        proof_is =
-            (λ i. proved Falsify [] (binary Or x y) (option_to_list (both_of (binary And) (dx.proof_is i) (dy.proof_is i))))
-            ∙ one_proof (binary Or x y) (binary And dx.proof dy.proof);
-        closed = λ i. dx.closed i || dy.closed i;
-        says = dx.says && dy.says;
-        proof_told = (λ i. truth_value (both (truth (dx.proof_told i)) (truth (dy.proof_told i)))) ∙ ap truth_value (both_known dx.says dy.says);
-        refutes = λ h row within.
-            let k = and_parts dx.says dy.says h in
-            true_or (meaning x row n) (meaning y row n)
-            ∙ ap₂ ◌||◌ (dx.refutes k.0 row (all_front (IsWithin box row) (columns_of x) (columns_of y) within)) (dy.refutes k.1 row (all_back (IsWithin box row) (columns_of x) (columns_of y) within));
-        finds = λ h. ⊎_elim (λ k. from_left (dx.finds k)) (λ k. from_right (dy.finds k)) (and_cases dx.says dy.says h);
-      }
 
   -- ---- truths
 

@@ -1,4 +1,4 @@
--- Read-once predicates, and the boxes of values that they are asked over.
+-- Predicates that bounds decide, and the boxes of values that they are asked over.
 use Rattle.std.specs.Prelude.{◌≡◌, ◌==◌, ℕ, Bool, true, false, not as not_b, ◌&&◌, ◌||◌, List, [], ◌∷◌, ◌++◌, Option, Some, IsTrue, slice_get}
 use Rattle.std.specs.List.{AllByRecursion}
 use Rattle.std.specs.Option.{is_some}
@@ -87,6 +87,27 @@ is_simple row_count = false
 
 abbrev pub is_read_once : Tree Place → Bool
 is_read_once p = is_simple p && are_distinct (columns_of p)
+
+-- ---- predicates whose ANDs are apart
+
+-- no column of the first list is one of the second
+abbrev pub are_apart : (cs ds : List Place) → Bool
+are_apart [] ds = true
+are_apart (c ∷ cs) ds = not_b (has_index c.index ds) && are_apart cs ds
+
+-- the sides of an AND have no column in common, those of an OR may share any, and a comparison has no column twice
+abbrev pub is_binary_apart : Operator → (left right : List Place) → (sides : Bool) → Bool
+is_binary_apart And left right sides = are_apart left right && sides
+is_binary_apart Or left right sides = sides
+is_binary_apart o left right sides = are_distinct (left ++ right)
+
+-- so at each node
+abbrev pub are_sides_apart : Tree Place → Bool
+are_sides_apart (binary o l r) = is_binary_apart o (columns_of l) (columns_of r) (are_sides_apart l && are_sides_apart r)
+are_sides_apart e = are_distinct (columns_of e)
+
+abbrev pub is_apart : Tree Place → Bool
+is_apart p = is_simple p && are_sides_apart p
 
 -- ---- boxes
 

@@ -1,7 +1,6 @@
 use Rattle.std.proofs.Common.{◌≡◌, drop, take}
 use Rattle.vortex_syntax.specs.Words.{words}
-use Rattle.vortex_text.specs.Columns.{with_values}
-use Rattle.vortex_text.proofs.ColumnLemmas.{behind}
+use Rattle.vortex_text.specs.Columns.{behind, with_values}
 use Rattle.vortex_text.proofs.open_column.push_row.Given as goal
 
 -- the columns so far have their values, and those to come take the words that are left

@@ -1,18 +1,16 @@
 use Rattle.std.proofs.Common.{ap, ◌∙◌}
-use Rattle.vortex_base.specs.Data.Columns.{ChunkData, row_count}
 use Rattle.std.specs.Prelude.{slice_get}
 use Rattle.vortex_prune.specs.Binding.PartBinder as spec
-use Rattle.vortex_prune.proofs.Honesty.PartLiterals.{literal_known, set_fits_type}
+use Rattle.vortex_prune.proofs.Honesty.PartLiterals.{literal_known, set_fits_type, set_within}
 use Rattle.vortex_prune.proofs.bind.stats_binder.column_literal.Goals as goal
 
+pub set-set-requires : goal.set-set-requires
+set-set-requires c = set_within c.args.scope.now c.args.zone.now c.args.place c.requires.fits c.requires.within
+
 pub scalar_of-requires : goal.scalar_of-requires
-scalar_of-requires c =
-    set_fits_type c.args.part.now c.chunk-chunk.result.now c.args.place c.column.result.now c.stats.result.now c.dtype-dtype.result c.chunk-chunk.ensures.is_part c.chunk-chunk.ensures.value c.column.ensures c.stats.ensures.value c.dtype-dtype.ensures.value
+scalar_of-requires c = set_fits_type c.args.scope.now c.args.zone.now c.args.place c.set-set.result.now c.dtype-dtype.result c.requires.fits c.dtype-dtype.ensures c.set-set.ensures
 
 pub returns-in_ok-lit-in-Ok : goal.returns-in_ok-lit-in-Ok
 returns-in_ok-lit-in-Ok c =
-    let p = c.args.part.now in
-    let i = c.args.place in
-    let f = c.args.aggregate in
-    literal_known p c.chunk-chunk.result.now f i c.rows-rows.result c.column.result.now c.stats.result.now c.dtype-dtype.result c.in-Ok.value c.in_ok-lit-in-Ok.field-0 c.chunk-chunk.ensures.value c.column.ensures c.stats.ensures.value c.dtype-dtype.ensures.value c.in-Ok.ensures c.in_ok-lit-in-Ok.ensures ∙
-    ap (λ n. spec.column_literal f (slice_get p.chunk.columns i) (slice_get p.stats i) n) (c.rows-rows.ensures.value ∙ ap (λ (k : ChunkData). row_count k.columns) c.chunk-chunk.ensures.value)
+    literal_known c.args.scope.now c.args.zone.now c.args.aggregate c.args.place c.rows.result c.set-set.result.now c.dtype-dtype.result c.in-Ok.value c.in_ok-lit-in-Ok.field-0 c.dtype-dtype.ensures c.set-set.ensures c.in-Ok.ensures c.in_ok-lit-in-Ok.ensures
+    ∙ ap (λ n. spec.column_literal c.args.aggregate (slice_get c.args.scope.now c.args.place) (slice_get c.args.zone.now.stats c.args.place) n) c.rows.ensures

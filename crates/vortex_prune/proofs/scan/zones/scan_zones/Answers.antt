@@ -8,7 +8,7 @@ use Rattle.vortex_prune.specs.Part.{PartData}
 use Rattle.vortex_prune.specs.Binding.PartAnswers.{part_values}
 use Rattle.vortex_rewrite.specs.Rewriting.Falsifiers.{falsifier}
 use Rattle.vortex_prune.specs.Scanning.Selection.{skipped_parts}
-use Rattle.vortex_prune.specs.Scanning.ZoneScans.{statistics_answers}
+use Rattle.vortex_prune.specs.Scanning.ZoneScans.{is_proved_part, statistics_answers}
 use Rattle.vortex_prune.proofs.scan.zones.scan_zones.Goals as goal
 
 pub returns-clause-selected : goal.returns-clause-selected
@@ -33,5 +33,5 @@ returns-clause-complete g c =
 
 pub returns-clause-memory : goal.returns-clause-memory
 returns-clause-memory g c = λ predicate none.
-    zones_refused_for_memory (own_rules (λ i. (g.dyn-1.0.entry i).1) c.args.rules.now.own.items) c.args.predicate.now c.args.zones.now.parts c.scan_rules.result (ap (map (own_rule (λ i. (g.dyn-1.0.entry i).1))) none)
+    zones_refused_for_memory is_proved_part (own_rules (λ i. (g.dyn-1.0.entry i).1) c.args.rules.now.own.items) c.args.predicate.now c.args.zones.now.parts c.scan_rules.result (ap (map (own_rule (λ i. (g.dyn-1.0.entry i).1))) none)
     (c.scan_rules.ensures.refusal predicate)

@@ -1,0 +1,149 @@
+// Pruning by maps of zones, without rows.
+use anyhow::Result;
+use std::alloc::{AllocError, Global};
+use vortex_base::bound;
+use vortex_base::bound_expression::BoundExpression;
+use vortex_base::dtype::DType;
+use vortex_base::error::BaseError;
+use vortex_base::scalar::Scalar;
+use vortex_base::scalar_value::ScalarValue;
+use vortex_base::scope::Scope;
+use vortex_base::types::{Nullability, PType};
+use vortex_prune::scan::prune::prune;
+use vortex_prune::zone::Zone;
+use vortex_prune::zone_map::ZoneMap;
+use vortex_rewrite::rewrite::rules::Rules;
+use vortex_stats::error::StatsError;
+use vortex_stats::precision::Precision;
+use vortex_stats::stat::Stat;
+use vortex_stats::stats_set::StatsSet;
+
+const NUMBER: DType = DType::Primitive(PType::I64, Nullability::NonNullable);
+
+const REPEATS: u32 = 10;
+
+const ROWS: u64 = 10_000;
+
+/// How many zones there are, in how many batches they are added, and of how many columns.
+#[derive(Clone, Copy)]
+pub struct Size {
+    pub batches: i64,
+    pub batch: i64,
+    pub columns: usize,
+}
+
+/// 1,000,000 zones of one column.
+pub const LONG: Size = Size {
+    batches: 100,
+    batch: 10_000,
+    columns: 1,
+};
+
+/// 20,000 zones of 30 columns.
+pub const BROAD: Size = Size {
+    batches: 20,
+    batch: 1_000,
+    columns: 30,
+};
+
+fn scope_of(alloc: Global, size: Size) -> Result<Scope> {
+    let mut columns = Vec::new(alloc);
+    for place in 0..size.columns {
+        columns.push((format!(in alloc; "c{place}")?, NUMBER))?;
+    }
+    Ok(Scope::try_new(columns)?)
+}
+
+// The values of a zone's columns lie from its place to 100 above it.
+fn set_of(alloc: Global, place: i64) -> Result<StatsSet, StatsError> {
+    let low = Precision::Exact(ScalarValue::from(place));
+    let high = Precision::Exact(ScalarValue::from(place.saturating_add(100)));
+    let mut set = StatsSet::of(alloc, Stat::Min, low);
+    set.set(Stat::Max, high)?;
+    Ok(set)
+}
+
+fn sets_of(alloc: Global, size: Size, place: i64) -> Result<Vec<StatsSet>, StatsError> {
+    let mut sets = Vec::with_capacity(alloc, size.columns)?;
+    for _ in 0..size.columns {
+        sets.push(set_of(alloc, place)?)?;
+    }
+    Ok(sets)
+}
+
+// The sets of a batch of zones from a place on.
+fn batch_of(alloc: Global, size: Size, from: i64) -> Result<Vec<Vec<StatsSet>>, StatsError> {
+    let mut sets = Vec::new(alloc);
+    for place in 0..size.batch {
+        sets.push(sets_of(alloc, size, from.saturating_add(place))?)?;
+    }
+    Ok(sets)
+}
+
+fn zones_of<'a>(alloc: Global, sets: &'a [Vec<StatsSet>]) -> Result<Vec<Zone<'a>>, AllocError> {
+    let mut zones = Vec::with_capacity(alloc, sets.len())?;
+    for set in sets {
+        zones.push(Zone::new(ROWS, set))?;
+    }
+    Ok(zones)
+}
+
+fn empty_map(alloc: Global, size: Size) -> Result<ZoneMap> {
+    match ZoneMap::try_new(alloc, scope_of(alloc, size)?, &[]) {
+        Ok(map) => Ok(map),
+        Err(refused) => Err(refused.error.into()),
+    }
+}
+
+// The map of all zones, batch by batch.
+fn map_of(alloc: Global, size: Size) -> Result<ZoneMap> {
+    let mut map = empty_map(alloc, size)?;
+    for batch in 0..size.batches {
+        let sets = batch_of(alloc, size, batch.saturating_mul(size.batch))?;
+        map.extend(alloc, &zones_of(alloc, &sets)?)?;
+    }
+    Ok(map)
+}
+
+fn above(alloc: Global, place: usize, number: i64) -> Result<BoundExpression, BaseError> {
+    let column = bound::col(alloc, place, NUMBER)?;
+    let least = Scalar::try_new(NUMBER, Some(ScalarValue::from(number)))?;
+    bound::gt(alloc, column, bound::lit(alloc, least)?)
+}
+
+// So many comparisons joined by AND, of one column after another, of which most zones fail the
+// last alone.
+fn leaves_of(alloc: Global, size: Size, leaves: usize) -> Result<BoundExpression> {
+    let last = size.batches.saturating_mul(size.batch).saturating_sub(100);
+    let mut all = above(alloc, 0, if leaves == 1 { last } else { 0 })?;
+    for leaf in 1..leaves {
+        let number = if leaf + 1 == leaves { last } else { 0 };
+        let place = if size.columns > 0 {
+            leaf % size.columns
+        } else {
+            0
+        };
+        all = bound::and(alloc, all, above(alloc, place, number)?)?;
+    }
+    Ok(all)
+}
+
+/// The zones of a map that is made and not pruned.
+pub fn only_mapped(alloc: Global, size: Size) -> Result<usize> {
+    Ok(map_of(alloc, size)?.len())
+}
+
+/// The zones that the last of some prunings under so many comparisons skips.
+pub fn pruned(alloc: Global, size: Size, leaves: usize) -> Result<usize> {
+    let map = map_of(alloc, size)?;
+    let predicate = leaves_of(alloc, size, leaves)?;
+    if !predicate.is_plain() || !predicate.fits_scope(map.scope()) {
+        return Err(StatsError::Mismatch.into());
+    }
+    let rules = Rules::builtin(alloc);
+    let mut skipped = 0;
+    for _ in 0..REPEATS {
+        skipped = prune(alloc, &map, &predicate, &rules)?.skipped.len();
+    }
+    Ok(skipped)
+}

@@ -1,0 +1,379 @@
+-- The items of a predicate fit: the values in their sets are of their columns' types, and what they make up is a predicate.
+use Rattle.std.proofs.Common.{◌≡◌, Bool, true, false, ◌&&◌, List, [], ◌∷◌, ◌++◌, Option, Some, None, Result, Ok, Err, IsOk, map, refl, sym, ap, ◌∙◌, if◌then◌else◌}
+use Rattle.std.proofs.Common.{◌<◌, ◌≤◌, ◌-◌, length, take, drop, get_or, arith}
+use Rattle.std.proofs.lemmas.Grind.{common_steps}
+use Rattle.std.proofs.lemmas.Bool.{and_parts}
+use Rattle.std.proofs.lemmas.Option.{none-some, same_Some}
+use Rattle.vortex_base.proofs.Meanings.MeaningFits.{is_value-as_nullable}
+use Rattle.vortex_base.specs.Data.Exact.{both_hold}
+use Rattle.vortex_base.specs.Data.Scalars.{Constant, is_optional_value}
+use Rattle.vortex_base.specs.Data.Types.{as_nullable}
+use Rattle.vortex_base.specs.Data.Values.{is_value}
+use Rattle.vortex_base.specs.Meanings.Typing.{binary_type, comparison_type, type_of, with_types}
+use Rattle.vortex_base.specs.Trees.Tree.{Tree, Place, column, literal, binary, is_null, is_not_null}
+use Rattle.vortex_base.specs.Trees.TreeEq.{place_eq, tree_eq_is_exact}
+use Rattle.vortex_base.specs.declared.dtype.DType.{DType}
+use Rattle.vortex_base.specs.declared.error.BaseError.{BaseError}
+use Rattle.vortex_base.specs.declared.error.BaseError.TheVariants.{Mismatch}
+use Rattle.vortex_base.specs.declared.scalar_value.ScalarValue.{ScalarValue}
+use Rattle.vortex_base.specs.declared.types.Operator.{Operator}
+use Rattle.vortex_base.specs.declared.types.StrictComparison.TheVariants.{Strict, NonStrict}
+use Rattle.vortex_base.specs.declared.types.Operator.TheVariants.{Eq, NotEq, Gt, Gte, Lt, Lte, And, Or}
+use Rattle.vortex_rewrite.proofs.Completeness.Interval.{is_comparison}
+use Rattle.vortex_rewrite.proofs.Rewriting.ProofTypes.{AreComparable, alike_turned, are_alike, binary_is_predicate, predicates_connect}
+use Rattle.vortex_rewrite.specs.Rewriting.Predicates.{is_connective, is_predicate}
+use Rattle.vortex_normal.specs.Groups.{Item, inside, other, add, add_set, as_one, binary_item, collected, compared_item, cut_fits, interval_fits, is_of, item_fits, item_of, item_test, items_fit, items_test, joined_test, leaf_item, not_null_item, null_item, set_fits, widened}
+use Rattle.vortex_normal.specs.Intervals.{Cut, Lowest, Before, After, Highest, Interval, all_but, at_most, between_cuts, combined, comparison_set, cut_le, cut_of, hole_by, hull, insert, intersection, interval_of, is_empty, is_full, literal_as, meet, meet_one, only_hole, range_of, set_test, swapped, touches, union, values_test}
+use Rattle.vortex_normal.specs.declared.groups.Item.{Item as Kept}
+use Rattle.vortex_normal.specs.declared.interval.Interval.{Interval as LentInterval}
+use Rattle.vortex_rewrite.specs.Rewriting.Falsifiers.{bool_literal}
+use Rattle.vortex_normal.specs.Pushed.{connected}
+use Rattle.vortex_normal.proofs.Forms.{connected_kept}
+use Rattle.vortex_normal.proofs.Steps.{range_is_predicate, sides, typed, value_compares}
+
+-- ---- sets
+
+module _ (t : DType) where
+  cut_if : (b : Bool) (c d : Cut) → cut_fits t c ≡ true → cut_fits t d ≡ true → cut_fits t (if b then c else d) ≡ true
+  cut_if true c d h k = h
+  cut_if false c d h k = k
+
+  intersection_fits : (i j : Interval) → interval_fits t i ≡ true → interval_fits t j ≡ true → interval_fits t (intersection i j) ≡ true
+  intersection_fits i j h k =
+      let a = and_parts (cut_fits t i.low) (cut_fits t i.high) h in
+      let b = and_parts (cut_fits t j.low) (cut_fits t j.high) k in
+      both_hold _ _ (cut_if (cut_le i.low j.low) j.low i.low b.0 a.0) (cut_if (cut_le i.high j.high) i.high j.high a.1 b.1)
+
+  hull_fits : (i j : Interval) → interval_fits t i ≡ true → interval_fits t j ≡ true → interval_fits t (hull i j) ≡ true
+  hull_fits i j h k =
+      let a = and_parts (cut_fits t i.low) (cut_fits t i.high) h in
+      let b = and_parts (cut_fits t j.low) (cut_fits t j.high) k in
+      both_hold _ _ (cut_if (cut_le i.low j.low) i.low j.low a.0 b.0) (cut_if (cut_le i.high j.high) j.high i.high b.1 a.1)
+
+  set_if : (b : Bool) (is js : List Interval) → set_fits t is ≡ true → set_fits t js ≡ true → set_fits t (if b then is else js) ≡ true
+  set_if true is js h k = h
+  set_if false is js h k = k
+
+  insert_fits : (js : List Interval) (i : Interval) → interval_fits t i ≡ true → set_fits t js ≡ true → set_fits t (insert i js) ≡ true
+  insert_fits [] i h k = both_hold _ _ h refl
+  insert_fits (j ∷ js) i h k =
+      let w = and_parts (interval_fits t j) (set_fits t js) k in
+      set_if (touches i j) (insert (hull i j) js) (j ∷ insert i js) (insert_fits js (hull i j) (hull_fits i j h w.0) w.1) (both_hold _ _ w.0 (insert_fits js i h w.1))
+
+  union_fits : (is js : List Interval) → set_fits t is ≡ true → set_fits t js ≡ true → set_fits t (union is js) ≡ true
+  union_fits [] js h k = k
+  union_fits (i ∷ is) js h k = let w = and_parts (interval_fits t i) (set_fits t is) h in insert_fits (union is js) i w.0 (union_fits is js w.1 k)
+
+  append_fits : (is js : List Interval) → set_fits t is ≡ true → set_fits t js ≡ true → set_fits t (is ++ js) ≡ true
+  append_fits [] js h k = k
+  append_fits (i ∷ is) js h k = let w = and_parts (interval_fits t i) (set_fits t is) h in both_hold _ _ w.0 (append_fits is js w.1 k)
+
+  meet_one_fits : (i : Interval) (js : List Interval) → interval_fits t i ≡ true → set_fits t js ≡ true → set_fits t (meet_one i js) ≡ true
+  meet_one_fits i [] h k = refl
+  meet_one_fits i (j ∷ js) h k =
+      let w = and_parts (interval_fits t j) (set_fits t js) k in
+      let rest = meet_one_fits i js h w.1 in
+      set_if (is_empty (intersection i j)) (meet_one i js) (intersection i j ∷ meet_one i js) rest (both_hold _ _ (intersection_fits i j h w.0) rest)
+
+  meet_fits : (is js : List Interval) → set_fits t is ≡ true → set_fits t js ≡ true → set_fits t (meet is js) ≡ true
+  meet_fits [] js h k = refl
+  meet_fits (i ∷ is) js h k =
+      let w = and_parts (interval_fits t i) (set_fits t is) h in
+      append_fits (meet_one i js) (meet is js) (meet_one_fits i js w.0 k) (meet_fits is js w.1 k)
+
+  combined_fits : (w : Bool) (is js : List Interval) → set_fits t is ≡ true → set_fits t js ≡ true → set_fits t (combined w is js) ≡ true
+  combined_fits true is js h k = meet_fits is js h k
+  combined_fits false is js h k = union_fits is js h k
+
+  comparison_set_fits : (o : Operator) (v : ScalarValue) → is_value v t ≡ true → set_fits t (comparison_set o v) ≡ true
+  comparison_set_fits Eq v h = both_hold _ _ (both_hold _ _ h h) refl
+  comparison_set_fits NotEq v h = both_hold _ _ h (both_hold _ _ (both_hold _ _ h refl) refl)
+  comparison_set_fits Gt v h = both_hold _ _ (both_hold _ _ h refl) refl
+  comparison_set_fits Gte v h = both_hold _ _ (both_hold _ _ h refl) refl
+  comparison_set_fits Lt v h = both_hold _ _ h refl
+  comparison_set_fits Lte v h = both_hold _ _ h refl
+  comparison_set_fits And v h = refl
+  comparison_set_fits Or v h = refl
+
+-- ---- the predicates that they are
+
+module _ (c : Place) where
+  compared_is : (o : Operator) (v : ScalarValue) → is_connective o ≡ false → is_value v c.dtype ≡ true → is_predicate (binary o (column c) (literal_as c v)) ≡ true
+  compared_is o v k h = binary_is_predicate o (column c) (literal_as c v) (value_compares o c v k h)
+
+  closed_if : (l u : ScalarValue) (b : Bool) → is_value l c.dtype ≡ true → is_value u c.dtype ≡ true
+      → is_predicate (if b then binary Eq (column c) (literal_as c l) else range_of c (record { lower_strict = NonStrict; upper_strict = NonStrict }) l u) ≡ true
+  closed_if l u true h k = compared_is Eq l refl h
+  closed_if l u false h k = range_is_predicate (record { lower_strict = NonStrict; upper_strict = NonStrict }) c l u h k
+
+  cuts_are : (l u : Cut) → cut_fits c.dtype l ≡ true → cut_fits c.dtype u ≡ true → is_predicate (between_cuts c l u) ≡ true
+  cuts_are Lowest Highest h k = refl
+  cuts_are Lowest (Before u) h k = compared_is Lt u refl k
+  cuts_are Lowest (After u) h k = compared_is Lte u refl k
+  cuts_are (Before l) Highest h k = compared_is Gte l refl h
+  cuts_are (After l) Highest h k = compared_is Gt l refl h
+  cuts_are (Before l) (Before u) h k = range_is_predicate (record { lower_strict = NonStrict; upper_strict = Strict }) c l u h k
+  cuts_are (Before l) (After u) h k = closed_if l u (at_most u l && at_most l u) h k
+  cuts_are (After l) (Before u) h k = range_is_predicate (record { lower_strict = Strict; upper_strict = Strict }) c l u h k
+  cuts_are (After l) (After u) h k = range_is_predicate (record { lower_strict = Strict; upper_strict = NonStrict }) c l u h k
+  cuts_are Lowest Lowest h k = refl
+  cuts_are (Before l) Lowest h k = refl
+  cuts_are (After l) Lowest h k = refl
+  cuts_are Highest Lowest h k = refl
+  cuts_are Highest (Before u) h k = refl
+  cuts_are Highest (After u) h k = refl
+  cuts_are Highest Highest h k = refl
+
+  two_are : (o : Operator) (l r : Tree Place) → is_connective o ≡ true → is_predicate l ≡ true → is_predicate r ≡ true → is_predicate (binary o l r) ≡ true
+  two_are o l r k h i = binary_is_predicate o l r (predicates_connect o l r k h i)
+
+  -- the value of a hole is of the type, as the cut below it is
+  pub hole_fits : (a b d e : Cut) (v : ScalarValue) → cut_fits c.dtype b ≡ true → hole_by a b d e ≡ Some v → is_value v c.dtype ≡ true
+  hole_fits Lowest (Before u) (After l) Highest v h k = of_if (at_most u l && at_most l u) k
+    where
+      of_if : (b : Bool) → (if b then Some u else None) ≡ Some v → is_value v c.dtype ≡ true
+      of_if true k = sym (ap (λ x. is_value x c.dtype) (same_Some u v k)) ∙ h
+      of_if false k = absurd (none-some v k)
+  hole_fits a b d e v h k = absurd (none-some v k)
+
+  all_but_is : (o : Option ScalarValue) (e : Tree Place) → ((v : ScalarValue) → o ≡ Some v → is_value v c.dtype ≡ true) → is_predicate e ≡ true → is_predicate (all_but c o e) ≡ true
+  all_but_is (Some v) e f h = compared_is NotEq v refl (f v refl)
+  all_but_is None e f h = h
+
+  set_is : (is : List Interval) → set_fits c.dtype is ≡ true → is_predicate (set_test c is) ≡ true
+  set_is [] h = refl
+  set_is (i ∷ []) h =
+      let w = and_parts (cut_fits c.dtype i.low) (cut_fits c.dtype i.high) (and_parts (interval_fits c.dtype i) true h).0 in
+      cuts_are i.low i.high w.0 w.1
+  set_is (i ∷ j ∷ []) h =
+      let a = and_parts (interval_fits c.dtype i) (set_fits c.dtype (j ∷ [])) h in
+      let w = and_parts (cut_fits c.dtype i.low) (cut_fits c.dtype i.high) a.0 in
+      let x = and_parts (cut_fits c.dtype j.low) (cut_fits c.dtype j.high) (and_parts (interval_fits c.dtype j) true a.1).0 in
+      all_but_is (only_hole i j) (binary Or (between_cuts c i.low i.high) (between_cuts c j.low j.high)) (λ v e. hole_fits i.low i.high j.low j.high v w.1 e)
+      (two_are Or (between_cuts c i.low i.high) (between_cuts c j.low j.high) refl (cuts_are i.low i.high w.0 w.1) (cuts_are j.low j.high x.0 x.1))
+  set_is (i ∷ j ∷ k ∷ is) h =
+      let a = and_parts (interval_fits c.dtype i) (set_fits c.dtype (j ∷ k ∷ is)) h in
+      let w = and_parts (cut_fits c.dtype i.low) (cut_fits c.dtype i.high) a.0 in
+      two_are Or (between_cuts c i.low i.high) (set_test c (j ∷ k ∷ is)) refl (cuts_are i.low i.high w.0 w.1) (set_is (j ∷ k ∷ is) a.1)
+
+  null_if : (is : List Interval) (b : Bool) → is_predicate (set_test c is) ≡ true → is_predicate (if b then bool_literal true else binary Or (is_null (column c)) (set_test c is)) ≡ true
+  null_if is true h = refl
+  null_if is false h = two_are Or (is_null (column c)) (set_test c is) refl refl h
+
+  values_are : (m : Bool) (is : List Interval) → set_fits c.dtype is ≡ true → is_predicate (values_test c m is) ≡ true
+  values_are false is h = set_is is h
+  values_are true [] h = refl
+  values_are true (i ∷ is) h = null_if (i ∷ is) (is_full (i ∷ is)) (set_is (i ∷ is) h)
+
+item_is : (i : Item) → item_fits i ≡ true → is_predicate (item_test i) ≡ true
+item_is (inside c m is) h = values_are c m is h
+item_is (other e) h = h
+
+connected_is : (w : Bool) (l r : Tree Place) → is_predicate l ≡ true → is_predicate r ≡ true → is_predicate (connected w l r) ≡ true
+connected_is w l r h k =
+    connected_kept (λ e. is_predicate e ≡ true) l r h k w
+    (binary_is_predicate And l r (predicates_connect And l r refl h k))
+    (binary_is_predicate Or l r (predicates_connect Or l r refl h k))
+
+truth_is : (w : Bool) → is_predicate (bool_literal w) ≡ true
+truth_is true = refl
+truth_is false = refl
+
+joined_is : (w : Bool) (is : List Item) (e : Tree Place) → items_fit is ≡ true → is_predicate e ≡ true → is_predicate (joined_test w is e) ≡ true
+joined_is w [] e h k = k
+joined_is w (i ∷ is) e h k =
+    let a = and_parts (item_fits i) (items_fit is) h in
+    connected_is w (item_test i) (joined_test w is e) (item_is i a.0) (joined_is w is e a.1 k)
+
+items_are : (w : Bool) (is : List Item) → items_fit is ≡ true → is_predicate (items_test w is) ≡ true
+items_are w is h = joined_is w is (bool_literal w) h (truth_is w)
+
+-- ---- leaves
+
+as_comparison : (o : Operator) (a b : Result DType BaseError) → is_comparison o ≡ true → IsOk (with_types (binary_type o) a b) → IsOk (with_types comparison_type a b)
+as_comparison Eq a b c h = h
+as_comparison NotEq a b c h = h
+as_comparison Gt a b c h = h
+as_comparison Gte a b c h = h
+as_comparison Lt a b c h = h
+as_comparison Lte a b c h = h
+as_comparison And a b c h = cc
+as_comparison Or a b c h = cc
+
+abbrev checked : Bool → DType → Result DType BaseError
+checked b t = if b then Ok t else Err Mismatch
+
+literal_by : (b : Bool) (s t : DType) → checked b s ≡ Ok t → (b ≡ true) × (s ≡ t)
+literal_by true s t h = (refl, cc)
+literal_by false s t h = absurd cc
+
+same_type : (s t : DType) → type_of (column (record { index = 0; dtype = s })) ≡ Ok t → s ≡ t
+same_type s t h = cc
+
+-- a literal that is compared with a column is of its type
+of_column : (c : Place) (d : Constant) (v : ScalarValue) → AreComparable (column c) (literal d) → d.value ≡ Some v → is_value v c.dtype ≡ true
+of_column c d v a e =
+    let k = literal_by (is_optional_value d.value d.dtype) d.dtype a.right_type a.right in
+    let left : c.dtype ≡ a.left_type = same_type c.dtype a.left_type a.left in
+    let valued : is_value v d.dtype ≡ true = sym (ap (λ o. is_optional_value o d.dtype) e) ∙ k.0 in
+    sym (is_value-as_nullable v c.dtype)
+    ∙ ap (λ t. is_value v (as_nullable t)) left
+    ∙ ap (is_value v) a.same
+    ∙ ap (λ t. is_value v (as_nullable t)) (sym k.1)
+    ∙ is_value-as_nullable v d.dtype
+    ∙ valued
+
+compared_item_fits : (o : Operator) (c : Place) (v : Option ScalarValue) (e : Tree Place) → (is_comparison o ≡ true → (x : ScalarValue) → v ≡ Some x → is_value x c.dtype ≡ true) → is_predicate e ≡ true
+    → item_fits (compared_item o c v e) ≡ true
+compared_item_fits And c v e f h = h
+compared_item_fits Or c v e f h = h
+compared_item_fits Eq c (Some v) e f h = comparison_set_fits c.dtype Eq v (f refl v refl)
+compared_item_fits NotEq c (Some v) e f h = comparison_set_fits c.dtype NotEq v (f refl v refl)
+compared_item_fits Gt c (Some v) e f h = comparison_set_fits c.dtype Gt v (f refl v refl)
+compared_item_fits Gte c (Some v) e f h = comparison_set_fits c.dtype Gte v (f refl v refl)
+compared_item_fits Lt c (Some v) e f h = comparison_set_fits c.dtype Lt v (f refl v refl)
+compared_item_fits Lte c (Some v) e f h = comparison_set_fits c.dtype Lte v (f refl v refl)
+compared_item_fits Eq c None e f h = h
+compared_item_fits NotEq c None e f h = h
+compared_item_fits Gt c None e f h = h
+compared_item_fits Gte c None e f h = h
+compared_item_fits Lt c None e f h = h
+compared_item_fits Lte c None e f h = h
+
+of_swapped : (o : Operator) → is_comparison (swapped o) ≡ true → is_comparison o ≡ true
+of_swapped Eq c = refl
+of_swapped NotEq c = refl
+of_swapped Gt c = refl
+of_swapped Gte c = refl
+of_swapped Lt c = refl
+of_swapped Lte c = refl
+of_swapped And c = cc
+of_swapped Or c = cc
+
+alike : (o : Operator) (l r : Tree Place) → is_comparison o ≡ true → is_predicate (binary o l r) ≡ true → AreComparable l r
+alike o l r c h = are_alike l r (as_comparison o (type_of l) (type_of r) c (typed (binary o l r) h))
+
+binary_item_fits : (o : Operator) (l r : Tree Place) → is_predicate (binary o l r) ≡ true → item_fits (binary_item o l r (binary o l r)) ≡ true
+binary_item_fits o (column c) (literal d) h =
+    compared_item_fits o c d.value (binary o (column c) (literal d)) (λ k x e. of_column c d x (alike o (column c) (literal d) k h) e) h
+binary_item_fits o (literal d) (column c) h =
+    compared_item_fits (swapped o) c d.value (binary o (literal d) (column c))
+    (λ k x e. of_column c d x (alike_turned (literal d) (column c) (alike o (literal d) (column c) (of_swapped o k) h)) e) h
+binary_item_fits o l r h = h
+
+null_fits : (x : Tree Place) → is_predicate (is_null x) ≡ true → item_fits (null_item x (is_null x)) ≡ true
+null_fits (column c) h = refl
+null_fits x h = h
+
+not_null_fits : (x : Tree Place) → is_predicate (is_not_null x) ≡ true → item_fits (not_null_item x (is_not_null x)) ≡ true
+not_null_fits (column c) h = refl
+not_null_fits x h = h
+
+leaf_fits : (e : Tree Place) → is_predicate e ≡ true → item_fits (leaf_item e) ≡ true
+leaf_fits (binary o l r) h = binary_item_fits o l r h
+leaf_fits (is_null x) h = null_fits x h
+leaf_fits (is_not_null x) h = not_null_fits x h
+leaf_fits e h = h
+
+-- ---- chains
+
+same_dtype : (c d : Place) → place_eq c d ≡ true → c.dtype ≡ d.dtype
+same_dtype c d h = let e : column c ≡ column d = (tree_eq_is_exact (column c) (column d)).0 h in same_type c.dtype d.dtype (ap type_of e)
+
+widened_fits : (w : Bool) (c : Place) (m : Bool) (is : List Interval) (j : Item) → is_of c j ≡ true → set_fits c.dtype is ≡ true → item_fits j ≡ true → item_fits (widened w m is j) ≡ true
+widened_fits w c m is (inside d n js) e h k = combined_fits d.dtype w is js (sym (ap (λ t. set_fits t is) (same_dtype c d e)) ∙ h) k
+widened_fits w c m is (other x) e h k = k
+
+add_if : (w : Bool) (c : Place) (m : Bool) (is : List Interval) (j : Item) (js : List Item) (b : Bool) → is_of c j ≡ b → set_fits c.dtype is ≡ true → item_fits j ≡ true → items_fit js ≡ true
+    → items_fit (add_set w c m is js) ≡ true → items_fit (if b then widened w m is j ∷ js else j ∷ add_set w c m is js) ≡ true
+add_if w c m is j js true e h k a r = both_hold _ _ (widened_fits w c m is j e h k) a
+add_if w c m is j js false e h k a r = both_hold _ _ k r
+
+add_set_fits : (w : Bool) (c : Place) (m : Bool) (is : List Interval) (js : List Item) → set_fits c.dtype is ≡ true → items_fit js ≡ true → items_fit (add_set w c m is js) ≡ true
+add_set_fits w c m is [] h k = both_hold _ _ h refl
+add_set_fits w c m is (j ∷ js) h k =
+    let a = and_parts (item_fits j) (items_fit js) k in
+    add_if w c m is j js (is_of c j) refl h a.0 a.1 (add_set_fits w c m is js h a.1)
+
+last_fits : (i : Item) (js : List Item) → item_fits i ≡ true → items_fit js ≡ true → items_fit (js ++ i ∷ []) ≡ true
+last_fits i [] h k = both_hold _ _ h refl
+last_fits i (j ∷ js) h k = let a = and_parts (item_fits j) (items_fit js) k in both_hold _ _ a.0 (last_fits i js h a.1)
+
+add_fits : (w : Bool) (i : Item) (js : List Item) → item_fits i ≡ true → items_fit js ≡ true → items_fit (add w i js) ≡ true
+add_fits w (inside c m is) js h k = add_set_fits w c m is js h k
+add_fits w (other e) js h k = last_fits (other e) js h k
+
+as_one_fits : (v : Bool) (is : List Item) → items_fit is ≡ true → item_fits (as_one v is) ≡ true
+as_one_fits v [] h = truth_is v
+as_one_fits v (i ∷ []) h = (and_parts (item_fits i) true h).0
+as_one_fits v (i ∷ j ∷ is) h = items_are v (i ∷ j ∷ is) h
+
+lone_fits : (w : Bool) (e : Tree Place) (is : List Item) → is_predicate e ≡ true → items_fit is ≡ true → items_fit (add w (leaf_item e) is) ≡ true
+lone_fits w e is h k = add_fits w (leaf_item e) is (leaf_fits e h) k
+
+pub collected_fit : (w : Bool) (e : Tree Place) (is : List Item) → is_predicate e ≡ true → items_fit is ≡ true → items_fit (collected w e is) ≡ true
+collected_fit true (binary And l r) is h k =
+    let p = sides And l r refl h in
+    collected_fit true r (collected true l is) p.1 (collected_fit true l is p.0 k)
+collected_fit false (binary And l r) is h k =
+    let p = sides And l r refl h in
+    let inner = collected true r (collected true l []) in
+    add_fits false (as_one true inner) is (as_one_fits true inner (collected_fit true r (collected true l []) p.1 (collected_fit true l [] p.0 refl))) k
+collected_fit true (binary Or l r) is h k =
+    let p = sides Or l r refl h in
+    let inner = collected false r (collected false l []) in
+    add_fits true (as_one false inner) is (as_one_fits false inner (collected_fit false r (collected false l []) p.1 (collected_fit false l [] p.0 refl))) k
+collected_fit false (binary Or l r) is h k =
+    let p = sides Or l r refl h in
+    collected_fit false r (collected false l is) p.1 (collected_fit false l is p.0 k)
+collected_fit w (binary Eq l r) is h k = lone_fits w (binary Eq l r) is h k
+collected_fit w (binary NotEq l r) is h k = lone_fits w (binary NotEq l r) is h k
+collected_fit w (binary Gt l r) is h k = lone_fits w (binary Gt l r) is h k
+collected_fit w (binary Gte l r) is h k = lone_fits w (binary Gte l r) is h k
+collected_fit w (binary Lt l r) is h k = lone_fits w (binary Lt l r) is h k
+collected_fit w (binary Lte l r) is h k = lone_fits w (binary Lte l r) is h k
+collected_fit w e is h k = lone_fits w e is h k
+
+-- what is collected of two sides fits
+pub both_fit : (v : Bool) (l r : Tree Place) → is_predicate l ≡ true → is_predicate r ≡ true → items_fit (collected v r (collected v l [])) ≡ true
+both_fit v l r h k = collected_fit v r (collected v l []) k (collected_fit v l [] h refl)
+
+-- ---- slices of what fits
+
+behind : {A : Type 0} (x : A) (s : List A) → take (length (x ∷ s) - 1) (drop 1 (x ∷ s)) ≡ s
+behind x s = grind (arith, common_steps)
+
+pub rest_set_fits : (t : DType) (s : List LentInterval) → set_fits t (map interval_of s) ≡ true → set_fits t (map interval_of (take (length s - 1) (drop 1 s))) ≡ true
+rest_set_fits t [] h = refl
+rest_set_fits t (i ∷ is) h = ap (λ r. set_fits t (map interval_of r)) (behind i is) ∙ (and_parts (interval_fits t (interval_of i)) (set_fits t (map interval_of is)) h).1
+
+pub first_fits : (t : DType) (s : List LentInterval) (i d : LentInterval) → 1 ≤ length s → i ≡ get_or s 0 d → set_fits t (map interval_of s) ≡ true → interval_fits t (interval_of i) ≡ true
+first_fits t [] i d l e h = absurd (omega arith)
+first_fits t (j ∷ js) i d l e h = ap (λ k. interval_fits t (interval_of k)) e ∙ (and_parts (interval_fits t (interval_of j)) (set_fits t (map interval_of js)) h).0
+
+pub first_low_fits : (t : DType) (s : List LentInterval) (i d : LentInterval) → 1 ≤ length s → i ≡ get_or s 0 d → set_fits t (map interval_of s) ≡ true → cut_fits t (cut_of i.low) ≡ true
+first_low_fits t s i d l e h = (and_parts (cut_fits t (cut_of i.low)) (cut_fits t (cut_of i.high)) (first_fits t s i d l e h)).0
+
+pub first_high_fits : (t : DType) (s : List LentInterval) (i d : LentInterval) → 1 ≤ length s → i ≡ get_or s 0 d → set_fits t (map interval_of s) ≡ true → cut_fits t (cut_of i.high) ≡ true
+first_high_fits t s i d l e h = (and_parts (cut_fits t (cut_of i.low)) (cut_fits t (cut_of i.high)) (first_fits t s i d l e h)).1
+
+pub second_fits : (t : DType) (s : List LentInterval) (i d : LentInterval) → 2 ≤ length s → i ≡ get_or s 1 d → set_fits t (map interval_of s) ≡ true → interval_fits t (interval_of i) ≡ true
+second_fits t [] i d l e h = absurd (omega arith)
+second_fits t (j ∷ js) i d l e h = first_fits t js i d (omega arith) e (and_parts (interval_fits t (interval_of j)) (set_fits t (map interval_of js)) h).1
+
+pub shorter : {A : Type 0} (s : List A) → 1 ≤ length s → length (take (length s - 1) (drop 1 s)) < length s
+shorter [] l = absurd (omega arith)
+shorter (x ∷ s) l = let e = behind x s in rw e (omega arith)
+
+-- ---- the last of some items
+
+pub last_joined : (w : Bool) (ks : List Kept) (k : Kept) (e : Tree Place) → joined_test w (map item_of (ks ++ k ∷ [])) e ≡ joined_test w (map item_of ks) (connected w (item_test (item_of k)) e)
+last_joined w [] k e = refl
+last_joined w (j ∷ ks) k e = ap (connected w (item_test (item_of j))) (last_joined w ks k e)
+
+pub last_fit : (ks : List Kept) (k : Kept) → items_fit (map item_of (ks ++ k ∷ [])) ≡ true → (items_fit (map item_of ks) ≡ true) × (item_fits (item_of k) ≡ true)
+last_fit [] k h = (refl, (and_parts (item_fits (item_of k)) true h).0)
+last_fit (j ∷ ks) k h =
+    let a = and_parts (item_fits (item_of j)) (items_fit (map item_of (ks ++ k ∷ []))) h in
+    let b = last_fit ks k a.1 in
+    (both_hold _ _ a.0 b.0, b.1)

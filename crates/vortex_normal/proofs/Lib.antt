@@ -1,0 +1,10 @@
+mod Adding
+mod Fits
+mod Forms
+mod Grouped
+mod GroupsKept
+mod Kept
+mod Sets
+mod Steps
+mod Told
+mod Worked

@@ -1,0 +1,6 @@
+pub mod Groups
+pub mod Intervals
+pub mod Laws
+pub mod Pushed
+pub mod Same
+pub mod Worked

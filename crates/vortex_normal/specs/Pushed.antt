@@ -1,0 +1,126 @@
+-- A predicate with its NOTs pushed down to the leaves, and its leaves settled where their values don't matter.
+use Rattle.std.specs.Prelude.{Bool, true, false, ◌||◌, not as not_b, [], Option, Some, None, is_none, if◌then◌else◌}
+use Rattle.std.specs.declared.cmp.Ordering.TheVariants.{Equal}
+use Rattle.vortex_base.specs.declared.types.Operator.{Operator}
+use Rattle.vortex_base.specs.declared.types.Operator.TheVariants.{Eq, NotEq, Gt, Gte, Lt, Lte, And, Or}
+use Rattle.vortex_base.specs.declared.types.BetweenOptions.{BetweenOptions}
+use Rattle.vortex_base.specs.declared.like.LikeOptions.{LikeOptions}
+use Rattle.vortex_base.specs.Trees.Between.{to_operator}
+use Rattle.vortex_base.specs.Trees.Tree.{Tree, Place, column, literal, binary, between, is_null, is_not_null, not, like, has_bare_column, is_plain}
+use Rattle.vortex_base.specs.Trees.TreeEq.{tree_eq}
+use Rattle.vortex_base.specs.Meanings.Meaning.{holds, is_true, satisfies, truth}
+use Rattle.vortex_base.specs.Meanings.RowTest.{is_wanted}
+use Rattle.vortex_rewrite.specs.Rewriting.Falsifiers.{bool_literal}
+
+-- ---- leaves
+
+-- the comparison that is false of two values where the given one is true, and the other connective
+abbrev pub opposite_of : Operator → Operator
+opposite_of Eq = NotEq
+opposite_of NotEq = Eq
+opposite_of Gt = Lte
+opposite_of Gte = Lt
+opposite_of Lt = Gte
+opposite_of Lte = Gt
+opposite_of And = Or
+opposite_of Or = And
+
+abbrev pub operator_as : (wanted : Bool) → Operator → Operator
+operator_as true o = o
+operator_as false o = opposite_of o
+
+-- the comparison holds of a value and itself
+abbrev pub is_reflexive : Operator → Bool
+is_reflexive o = holds o Equal
+
+abbrev pub is_null_literal : Tree Place → Bool
+is_null_literal (literal c) = is_none c.value
+is_null_literal e = false
+
+abbrev pub is_literal : Tree Place → Bool
+is_literal (literal c) = true
+is_literal e = false
+
+-- a predicate that means the same on every row becomes the truth of whether it is satisfied
+unfoldable pub settled : Tree Place → Tree Place
+settled q = if has_bare_column q || not_b (is_plain q) then q else bool_literal (satisfies q [] 0)
+
+-- a comparison: never true of null, and of an operand and itself a test of null or false
+unfoldable pub comparison : Operator → (l r : Tree Place) → Tree Place
+comparison o l r =
+    if is_null_literal l || is_null_literal r then bool_literal false
+    else (if tree_eq l r then (if is_reflexive o then settled (is_not_null l) else bool_literal false)
+    else settled (binary o l r))
+
+unfoldable pub liked : LikeOptions → (text pattern : Tree Place) → Tree Place
+liked o x p = if is_null_literal x || is_null_literal p then bool_literal false else settled (like o x p)
+
+abbrev pub like_as : (wanted : Bool) → LikeOptions → LikeOptions
+like_as true o = o
+like_as false o = record { negated = not_b o.negated; case_insensitive = o.case_insensitive }
+
+abbrev pub null_test : (wanted : Bool) → Tree Place → Tree Place
+null_test true x = settled (is_null x)
+null_test false x = settled (is_not_null x)
+
+-- ---- connectives
+
+-- whether a literal is true
+abbrev pub decided : Tree Place → Option Bool
+decided (literal c) = Some (is_true c.value)
+decided e = None
+
+abbrev pub all_by : (a b : Option Bool) → (l r : Tree Place) → Tree Place
+all_by (Some true) b l r = r
+all_by (Some false) b l r = l
+all_by None (Some true) l r = l
+all_by None (Some false) l r = r
+all_by None None l r = binary And l r
+
+abbrev pub any_by : (a b : Option Bool) → (l r : Tree Place) → Tree Place
+any_by (Some true) b l r = l
+any_by (Some false) b l r = r
+any_by None (Some true) l r = r
+any_by None (Some false) l r = l
+any_by None None l r = binary Or l r
+
+-- the AND of two predicates, without those that are literals
+unfoldable pub all_of : (l r : Tree Place) → Tree Place
+all_of l r = all_by (decided l) (decided r) l r
+
+-- and the OR
+unfoldable pub any_of : (l r : Tree Place) → Tree Place
+any_of l r = any_by (decided l) (decided r) l r
+
+abbrev pub connected : (is_and : Bool) → (l r : Tree Place) → Tree Place
+connected true l r = all_of l r
+connected false l r = any_of l r
+
+-- ---- the whole
+
+-- a comparison or a connective, from its operands and those pushed down
+abbrev pub pushed_binary : (wanted : Bool) → Operator → (l r pushed_l pushed_r : Tree Place) → Tree Place
+pushed_binary w And l r a b = connected w a b
+pushed_binary w Or l r a b = connected (not_b w) a b
+pushed_binary w o l r a b = comparison (operator_as w o) l r
+
+-- a BETWEEN: the AND of its comparisons, or the OR of them turned
+abbrev pub pushed_between : (wanted : Bool) → BetweenOptions → (x l u : Tree Place) → Tree Place
+pushed_between w o x l u =
+    connected w (comparison (operator_as w (to_operator o.lower_strict)) l x) (comparison (operator_as w (to_operator o.upper_strict)) x u)
+
+abbrev pub or_not : (wanted : Bool) → Tree Place → Tree Place
+or_not true e = e
+or_not false e = not e
+
+-- a predicate that is satisfied where the given one has the wanted truth
+abbrev pub pushed : (wanted : Bool) → Tree Place → Tree Place
+pushed w (column c) = binary Eq (column c) (bool_literal w)
+pushed w (literal c) = bool_literal (is_wanted w (truth c.value))
+pushed w (binary o l r) = pushed_binary w o l r (pushed w l) (pushed w r)
+pushed w (between o x l u) = pushed_between w o x l u
+pushed w (is_null x) = null_test w x
+pushed w (is_not_null x) = null_test (not_b w) x
+pushed w (not x) = pushed (not_b w) x
+pushed w (like o x p) = liked (like_as w o) x p
+pushed w e = or_not w e

@@ -1,0 +1,170 @@
+//! Leaves and connectives of a normal form.
+ghost use Rattle.std.specs.Prelude.{◌≡◌, IsOk, false};
+ghost use Rattle.vortex_base.specs.Trees.Tree as tree;
+ghost use Rattle.vortex_base.specs.Meanings.Typing.{type_of};
+ghost use Rattle.vortex_rewrite.specs.Answers.{Makes};
+ghost use Rattle.vortex_normal.specs.Pushed as normal;
+
+use crate::predicate::Predicate;
+use std::alloc::Global;
+use vortex_base::bound_expression::BoundExpression;
+use vortex_base::bound_expression::parts::Parts;
+use vortex_base::like::LikeOptions;
+use vortex_base::row::Row;
+use vortex_base::scalar_value::ScalarValue;
+use vortex_base::types::Operator;
+use vortex_stats::error::StatsError;
+
+/// The comparison that is false of two values where the given one is true; of a connective the
+/// other one.
+pub(crate) fn opposite(operator: Operator) -> Operator
+    ensures { result ≡ normal.opposite_of operator }
+{
+    match operator {
+        Operator::Eq => Operator::NotEq,
+        Operator::NotEq => Operator::Eq,
+        Operator::Gt => Operator::Lte,
+        Operator::Gte => Operator::Lt,
+        Operator::Lt => Operator::Gte,
+        Operator::Lte => Operator::Gt,
+        Operator::And => Operator::Or,
+        Operator::Or => Operator::And,
+    }
+}
+
+pub(crate) fn operator_as(wanted: bool, operator: Operator) -> Operator
+    ensures { result ≡ normal.operator_as wanted operator }
+{
+    if wanted { operator } else { opposite(operator) }
+}
+
+fn is_reflexive(operator: Operator) -> bool
+    ensures { result ≡ normal.is_reflexive operator }
+{
+    matches!(operator, Operator::Eq | Operator::Gte | Operator::Lte)
+}
+
+fn is_null_literal(e: &BoundExpression) -> bool
+    ensures { result ≡ normal.is_null_literal e.now }
+{
+    match e.parts() {
+        Parts::Literal(value) => value.value().is_none(),
+        _ => false,
+    }
+}
+
+/// A predicate that means the same on every row becomes the truth of whether it is satisfied.
+#[tactic(auto, unfolding(crate::specs::Pushed::settled))]
+fn settled(alloc: Global, predicate: Predicate) -> Result<Predicate, StatsError>
+    ensures { Makes (normal.settled predicate) result }
+{
+    let e = predicate.expression();
+    if e.has_bare_column() || !e.is_plain() {
+        return Ok(predicate);
+    }
+    let truth = e.is_satisfied(&Row::empty(), 0);
+    Predicate::truth(alloc, truth)
+}
+
+/// A comparison. Of null it is never true; of an operand and itself it is a test of null or false.
+#[tactic(auto, unfolding(crate::specs::Pushed::comparison))]
+pub(crate) fn comparison(
+    alloc: Global,
+    operator: Operator,
+    left: &BoundExpression,
+    right: &BoundExpression,
+) -> Result<Predicate, StatsError>
+    requires { IsOk (type_of (tree.binary operator left.now right.now)) }
+    ensures { Makes (normal.comparison operator left.now right.now) result }
+{
+    if is_null_literal(left) || is_null_literal(right) {
+        return Predicate::truth(alloc, false);
+    }
+    if *left == *right {
+        if is_reflexive(operator) {
+            settled(alloc, Predicate::is_not_null(alloc, left)?)
+        } else {
+            Predicate::truth(alloc, false)
+        }
+    } else {
+        let compared = Predicate::compare(alloc, operator, left, right)?;
+        settled(alloc, compared)
+    }
+}
+
+/// A LIKE, which of null is never true.
+#[tactic(auto, unfolding(crate::specs::Pushed::liked))]
+pub(crate) fn liked(
+    alloc: Global,
+    options: LikeOptions,
+    text: &BoundExpression,
+    pattern: &BoundExpression,
+) -> Result<Predicate, StatsError>
+    requires { IsOk (type_of (tree.like options text.now pattern.now)) }
+    ensures { Makes (normal.liked options text.now pattern.now) result }
+{
+    if is_null_literal(text) || is_null_literal(pattern) {
+        return Predicate::truth(alloc, false);
+    }
+    settled(alloc, Predicate::like(alloc, options, text, pattern)?)
+}
+
+pub(crate) fn like_as(wanted: bool, options: LikeOptions) -> LikeOptions
+    ensures { result ≡ normal.like_as wanted options }
+{
+    if wanted {
+        options
+    } else {
+        LikeOptions {
+            negated: !options.negated,
+            case_insensitive: options.case_insensitive,
+        }
+    }
+}
+
+/// Whether an operand is null, or whether it isn't.
+pub(crate) fn null_test(
+    alloc: Global,
+    wanted: bool,
+    x: &BoundExpression,
+) -> Result<Predicate, StatsError>
+    ensures { Makes (normal.null_test wanted x.now) result }
+{
+    if wanted {
+        settled(alloc, Predicate::is_null(alloc, x)?)
+    } else {
+        settled(alloc, Predicate::is_not_null(alloc, x)?)
+    }
+}
+
+fn decided(e: &BoundExpression) -> Option<bool>
+    ensures { result ≡ normal.decided e.now }
+{
+    match e.parts() {
+        Parts::Literal(value) => match value.value() {
+            Some(ScalarValue::Bool(truth)) => Some(*truth),
+            _ => Some(false),
+        },
+        _ => None,
+    }
+}
+
+/// The AND of two predicates, or the OR, without those that are literals.
+#[tactic(auto, unfolding(crate::specs::Pushed::all_of, crate::specs::Pushed::any_of))]
+pub(crate) fn connected(
+    alloc: Global,
+    is_and: bool,
+    left: Predicate,
+    right: Predicate,
+) -> Result<Predicate, StatsError>
+    ensures { Makes (normal.connected is_and left right) result }
+{
+    if let Some(truth) = decided(left.expression()) {
+        return Ok(if truth == is_and { right } else { left });
+    }
+    if let Some(truth) = decided(right.expression()) {
+        return Ok(if truth == is_and { left } else { right });
+    }
+    let connective = if is_and { Operator::And } else { Operator::Or };
+    Predicate::connect(alloc, connective, left, right)
+}

@@ -1,0 +1,11 @@
+//! Predicates in a normal form that is satisfied by the same rows, and that the rules see through.
+#![tactic(auto)]
+
+mod groups;
+mod interval;
+pub mod laws;
+mod leaves;
+pub mod normalize;
+mod predicate;
+mod pushed;
+mod tests_of;

@@ -1,0 +1,7 @@
+//! Laws of scans by normal forms, in the words of the definitions.
+ghost use Rattle.vortex_normal_scan.specs.Full.{SameSelectsTheSame};
+
+/// Two predicates that are satisfied by the same rows select the same rows of parts.
+pub fn same_selects_the_same()
+    ensures { SameSelectsTheSame }
+{}

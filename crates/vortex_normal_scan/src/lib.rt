@@ -1,0 +1,5 @@
+//! Scans by the normal form of a predicate.
+#![tactic(auto)]
+
+pub mod laws;
+pub mod scan;

@@ -1,0 +1,129 @@
+// Chains of as many words as a predicate may have, and refused memory.
+use super::*;
+
+// Comparisons in a chain: of three nodes each, joined, they make 4,091.
+const LINKS: i32 = 1023;
+
+// An AND of one comparison after the other, at the left or at the right.
+fn deep_and(alloc: Global, is_left: bool) -> Built {
+    let mut deep = a_gt(alloc, 0)?;
+    for value in 1..LINKS {
+        deep = if is_left {
+            and(alloc, Ok(deep), a_gt(alloc, value))?
+        } else {
+            and(alloc, a_gt(alloc, value), Ok(deep))?
+        };
+    }
+    Ok(deep)
+}
+
+// The same of an OR, each of one value and none beside another.
+fn deep_or(alloc: Global, is_left: bool) -> Built {
+    let mut deep = a_lt(alloc, 0)?;
+    for value in 1..LINKS {
+        deep = if is_left {
+            or(alloc, Ok(deep), a_lt(alloc, value))?
+        } else {
+            or(alloc, a_lt(alloc, value), Ok(deep))?
+        };
+    }
+    Ok(deep)
+}
+
+// AND and OR by turns, so that no chain has more than two links.
+fn deep_turns(alloc: Global) -> Built {
+    let mut deep = b_lt(alloc, 0)?;
+    for value in 0..LINKS {
+        deep = if value % 2 == 0 {
+            and(alloc, Ok(deep), a_lt(alloc, value))?
+        } else {
+            or(alloc, Ok(deep), a_lt(alloc, value))?
+        };
+    }
+    Ok(deep)
+}
+
+fn deep_not(alloc: Global) -> Built {
+    let mut deep = a_lt(alloc, 5)?;
+    for _ in 0..4092 {
+        deep = not(alloc, Ok(deep))?;
+    }
+    Ok(deep)
+}
+
+#[test]
+fn deep_at_the_left(rt: HostRuntime) -> Result<(), Fail> {
+    let alloc = rt.alloc();
+    let greatest = LINKS.saturating_sub(1);
+    expect(&rt, alloc, deep_and(alloc, true), a_gt(alloc, greatest))?;
+    expect(&rt, alloc, deep_or(alloc, true), a_lt(alloc, greatest))
+}
+
+#[test]
+fn deep_at_the_right(rt: HostRuntime) -> Result<(), Fail> {
+    let alloc = rt.alloc();
+    let greatest = LINKS.saturating_sub(1);
+    expect(&rt, alloc, deep_and(alloc, false), a_gt(alloc, greatest))?;
+    expect(&rt, alloc, deep_or(alloc, false), a_lt(alloc, greatest))
+}
+
+#[test]
+fn deep_in_not(rt: HostRuntime) -> Result<(), Fail> {
+    let alloc = rt.alloc();
+    expect(&rt, alloc, deep_not(alloc), a_lt(alloc, 5))
+}
+
+#[test]
+fn deep_turns_are_answered(rt: HostRuntime) -> Result<(), Fail> {
+    let alloc = rt.alloc();
+    let found = normal(alloc, &deep_turns(alloc)?)?;
+    assert!(rt; found.is_plain());
+    Ok(())
+}
+
+// As many values as a chain can name, none beside another.
+fn points(alloc: Global) -> Built {
+    let mut chain = a_eq(alloc, 0)?;
+    for value in 1..LINKS {
+        chain = or(alloc, Ok(chain), a_eq(alloc, value))?;
+    }
+    Ok(chain)
+}
+
+#[test]
+fn many_values(rt: HostRuntime) -> Result<(), Fail> {
+    let alloc = rt.alloc();
+    let found = normal(alloc, &points(alloc)?)?;
+    assert!(rt; found.is_plain());
+    let none = and(alloc, points(alloc), a_lt(alloc, 0));
+    expect(&rt, alloc, none, never(alloc))
+}
+
+// An answer, or a refusal of memory.
+fn is_answer(found: Built, expected: Built) -> bool {
+    match (found, expected) {
+        (Ok(found), Ok(expected)) => found == expected,
+        (Err(StatsError::Memory(_)), _) | (_, Err(StatsError::Memory(_))) => true,
+        _ => false,
+    }
+}
+
+// With a growth refused, as `rt try --test --fail-alloc` refuses one,
+// a normal form is refused for memory and nothing else.
+#[test]
+fn refused_normal_forms(rt: HostRuntime) -> Result<(), Fail> {
+    let alloc = rt.alloc();
+    let outside = or(alloc, a_lt(alloc, 3), a_gt(alloc, 7));
+    let like_a = like(alloc, s(alloc), text(alloc, "a%"));
+    let chain = and(
+        alloc,
+        and(alloc, outside, not(alloc, like_a)),
+        a_gt(alloc, 1),
+    )?;
+    let found = normal(alloc, &chain);
+    assert!(rt; matches!(found, Ok(_) | Err(StatsError::Memory(_))));
+    let range = between(alloc, a(alloc), num(alloc, 3), num(alloc, 9), CLOSED);
+    let both = and(alloc, range, a_lt_eq(alloc, 5))?;
+    assert!(rt; is_answer(normal(alloc, &both), a_within(alloc, 3, 5)));
+    Ok(())
+}

@@ -1,0 +1,30 @@
+use Rattle.std.proofs.Common.{ap, map, ◌∙◌}
+use Rattle.vortex_prune.proofs.Scanning.WholeScan.{of_two}
+use Rattle.vortex_prune.proofs.ZoneMaps.ZonePruned.{of_three, pruning_is_complete, pruning_is_sound}
+use Rattle.vortex_prune.proofs.ZoneMaps.ZoneRefusals.{most_refused_for_memory}
+use Rattle.vortex_prune.specs.Scanning.ZoneScans.{skipped_zones}
+use Rattle.vortex_rewrite.specs.Rewriting.Falsifiers.{falsifier}
+use Rattle.vortex_rewrite.specs.Rewriting.Own.{own_rule, own_rules}
+use Rattle.vortex_prune.proofs.scan.prune.prune.Goals as goal
+
+pub returns-clause-sound : goal.returns-clause-sound
+returns-clause-sound g c =
+    let m = c.args.map.now in
+    of_three c.prune_rules.result _ _ _ _
+    (λ found skipped whole predicate zones of.
+    pruning_is_sound (own_rules (λ i. (g.dyn-1.0.entry i).1) c.args.rules.now.own.items) c.args.predicate.now m.scope zones found.skipped.items found.whole.items predicate c.requires.plain c.requires.fits (skipped zones of) (whole zones of))
+    c.prune_rules.ensures.skipped c.prune_rules.ensures.whole c.prune_rules.ensures.predicate
+
+pub returns-clause-complete : goal.returns-clause-complete
+returns-clause-complete g c =
+    let m = c.args.map.now in
+    of_two c.prune_rules.result _ _ _
+    (λ found skipped predicate zones of none once.
+    pruning_is_complete c.args.predicate.now m.scope zones found.skipped.items predicate c.requires.fits of.are_zones once
+    (skipped zones of ∙ ap (λ bs. skipped_zones (falsifier (own_rules (λ i. (g.dyn-1.0.entry i).1) bs) c.args.predicate.now) m.scope zones) none))
+    c.prune_rules.ensures.skipped c.prune_rules.ensures.predicate
+
+pub returns-clause-memory : goal.returns-clause-memory
+returns-clause-memory g c = λ predicate none.
+    most_refused_for_memory (own_rules (λ i. (g.dyn-1.0.entry i).1) c.args.rules.now.own.items) c.args.predicate.now c.args.map.now.rows c.prune_rules.result (ap (map (own_rule (λ i. (g.dyn-1.0.entry i).1))) none)
+    (c.prune_rules.ensures.at_most predicate)

@@ -1,0 +1,361 @@
+//! Pruning by a map of zones: each proof is bound once, for all zones.
+ghost use Rattle.std.specs.Prelude.{◌≡◌, ◌<◌, ◌++◌, ℕ, List, [], Err, IfErr, IfOk, IsTrue, OnOk};
+ghost use Rattle.std.specs.Prelude.{Some, alloc_error, false, length, option_copied, slice_get};
+ghost use Rattle.vortex_base.specs.Meanings.Fitting.{fits_scope};
+ghost use Rattle.vortex_base.specs.Trees.Tree.{has_bare_column, is_plain};
+ghost use Rattle.vortex_rewrite.specs.Answers.{IsMemory};
+ghost use Rattle.vortex_rewrite.specs.Causes.{IsRefusal};
+ghost use Rattle.vortex_rewrite.specs.Rewriting.Falsifiers.{falsifier as falsifier_of};
+ghost use Rattle.vortex_rewrite.specs.Rewriting.Falsifiers.{satisfier as satisfier_of};
+ghost use Rattle.vortex_rewrite.specs.Rewriting.Own.{own_rules};
+ghost use Rattle.vortex_rewrite.specs.Rewriting.Predicates.{is_predicate};
+ghost use Rattle.vortex_rewrite.specs.Rewriting.Proof.{is_open};
+ghost use Rattle.vortex_rewrite.specs.Rewriting.ReadOnce.{is_apart};
+ghost use Rattle.vortex_prune.specs.Part.{ZoneData};
+ghost use Rattle.vortex_prune.specs.Scanning.Complete.{ZonesSkipExactly};
+ghost use Rattle.vortex_prune.specs.Scanning.Selection.{is_skipped, is_whole, place_if};
+ghost use Rattle.vortex_prune.specs.Scanning.Selection.{places_where};
+ghost use Rattle.vortex_prune.specs.Scanning.ZoneScans.{AllTold, CanTell, IsBoundOnce};
+ghost use Rattle.vortex_prune.specs.Scanning.ZoneScans.{IsShutIfKept, IsShutIfVerdict};
+ghost use Rattle.vortex_prune.specs.Scanning.ZoneScans.{IsSoundPruning, TellsAs, is_left_open};
+ghost use Rattle.vortex_prune.specs.Scanning.ZoneScans.{IsTableRefused, most_causes, open_causes};
+ghost use Rattle.vortex_prune.specs.Scanning.ZoneScans.{pruning_causes, skipped_zones};
+ghost use Rattle.vortex_prune.specs.Scanning.ZoneScans.{table_refuses, table_tells, whole_zones};
+ghost use Rattle.vortex_prune.specs.Scanning.ZoneScans.{zone_truth};
+ghost use Rattle.vortex_prune.specs.Scanning.ZoneScans.{zone_verdicts};
+ghost use Rattle.vortex_prune.specs.Zones.{IsMapOf};
+ghost use Rattle.vortex_stats.specs.declared.error.StatsError.TheVariants.{Memory, NotPredicate};
+
+use crate::bind::bind_stats_of;
+use crate::bind::zone_binder::ZoneBinder;
+use crate::scan::skip::is_true_on;
+use crate::scan::verdict::Verdict;
+use crate::zone_map::ZoneMap;
+use std::alloc::Global;
+use vortex_base::bound_expression::BoundExpression;
+use vortex_rewrite::rewrite::rule::StatsRewriteRule;
+use vortex_rewrite::rewrite::rules::Rules;
+use vortex_rewrite::rewrite::{falsify, satisfy};
+use vortex_stats::error::StatsError;
+
+// A proof bound to the table. `OpenProof` if it has a column outside its placeholders, which would
+// be read in the table.
+fn bound_proof(
+    alloc: Global,
+    map: &ZoneMap,
+    proof: &BoundExpression,
+) -> Result<BoundExpression, StatsError>
+    ensures can_tell { IfOk result (λ b. CanTell (Some b) map.now.table.columns) }
+    ensures tells { IfOk result (λ b. TellsAs (Some b) (Some proof.now) map.now) }
+    ensures shut { IfOk result (λ _. has_bare_column proof.now ≡ false) }
+    ensures refusal { let causes = open_causes (Some proof.now) map.now.rows in
+        0 < length map.now.rows → IfErr result (IsRefusal causes) }
+{
+    if proof.has_bare_column() {
+        return Err(StatsError::OpenProof);
+    }
+    let binder = ZoneBinder::new(map);
+    bind_stats_of(alloc, proof, &binder)
+}
+
+// The same of a proof, if there is one and a zone to be proved by it; else nothing is bound.
+fn bound_once(
+    alloc: Global,
+    map: &ZoneMap,
+    proof: Option<&BoundExpression>,
+) -> Result<Option<BoundExpression>, StatsError>
+    ensures can_tell { IfOk result (λ b. CanTell b map.now.table.columns) }
+    ensures tells { IfOk result (λ b. TellsAs b (option_copied proof.entry) map.now) }
+    ensures shut { let left_open = is_left_open (option_copied proof.entry) map.now.rows in
+        IfOk result (λ _. left_open ≡ false) }
+    ensures refusal { let causes = open_causes (option_copied proof.entry) map.now.rows in
+        IfErr result (IsRefusal causes) }
+{
+    match proof {
+        Some(proof) if map.len() > 0 => Ok(Some(bound_proof(alloc, map, proof)?)),
+        _ => Ok(None),
+    }
+}
+
+// Whether a bound proof, if there is one, is true on the table's row of a zone.
+fn is_true_at(
+    map: &ZoneMap,
+    place: usize,
+    bound: Option<&BoundExpression>,
+) -> Result<bool, StatsError>
+    requires within { place < length map.now.rows }
+    requires tells { CanTell (option_copied bound) map.now.table.columns }
+    ensures value { IfOk result (λ b. (n : ℕ) → slice_get map.now.rows place ≡ Some n
+        → b ≡ zone_truth (option_copied bound.entry) map.now.table.columns place n) }
+    ensures memory { IfErr result (λ f. f ≡ Memory alloc_error) }
+{
+    match bound {
+        None => Ok(false),
+        Some(bound) => {
+            let table = map.table();
+            let _rows = table.rows();
+            is_true_on(bound, &table.row(place), map.rows(place))
+        }
+    }
+}
+
+// Binds a satisfier to the table, if there is one, where that wasn't done.
+fn bind_satisfier(
+    alloc: Global,
+    map: &ZoneMap,
+    satisfier: Option<&BoundExpression>,
+    bound: &mut Option<BoundExpression>,
+) -> Result<(), StatsError>
+    requires zones { 0 < length map.now.rows }
+    requires before { IsBoundOnce bound.old (option_copied satisfier) map.now }
+    ensures bound { OnOk result (IsBoundOnce bound.new (option_copied satisfier.entry) map.now) }
+    ensures can_tell { OnOk result (CanTell bound.new map.now.table.columns) }
+    ensures as_satisfier { OnOk result
+        (TellsAs bound.new (option_copied satisfier.entry) map.now) }
+    ensures shut { OnOk result (is_open (option_copied satisfier.entry) ≡ false) }
+    ensures refusal { let causes = open_causes (option_copied satisfier.entry) map.now.rows in
+        IfErr result (IsRefusal causes) }
+{
+    if bound.is_some() {
+        return Ok(());
+    }
+    if let Some(satisfier) = satisfier {
+        *bound = Some(bound_proof(alloc, map, satisfier)?);
+    }
+    Ok(())
+}
+
+// What becomes of a zone by a falsifier that was bound, if there is one, and by a satisfier, which
+// is bound at the first zone that isn't skipped.
+fn verdict_at(
+    alloc: Global,
+    map: &ZoneMap,
+    place: usize,
+    falsifier: Option<&BoundExpression>,
+    satisfier: Option<&BoundExpression>,
+    bound: &mut Option<BoundExpression>,
+) -> Result<Verdict, StatsError>
+    requires within { place < length map.now.rows }
+    requires tells { CanTell (option_copied falsifier) map.now.table.columns }
+    requires before { IsBoundOnce bound.old (option_copied satisfier) map.now }
+    ensures verdict { IfOk result (table_tells (option_copied falsifier.entry)
+        (option_copied satisfier.entry) map.now place) }
+    ensures bound { OnOk result (IsBoundOnce bound.new (option_copied satisfier.entry) map.now) }
+    ensures refusal { IfErr result (table_refuses (option_copied falsifier.entry)
+        (option_copied satisfier.entry) map.now place) }
+{
+    if is_true_at(map, place, falsifier)? {
+        return Ok(Verdict::Skipped);
+    }
+    bind_satisfier(alloc, map, satisfier, bound)?;
+    if is_true_at(map, place, bound.as_ref())? {
+        return Ok(Verdict::Whole);
+    }
+    Ok(Verdict::Tested)
+}
+
+// What becomes of each zone by these.
+fn verdicts_by(
+    alloc: Global,
+    map: &ZoneMap,
+    falsifier: Option<&BoundExpression>,
+    satisfier: Option<&BoundExpression>,
+) -> Result<Vec<Verdict>, StatsError>
+    requires tells { CanTell (option_copied falsifier) map.now.table.columns }
+    ensures told { IfOk result (λ vs. AllTold (option_copied falsifier.entry)
+        (option_copied satisfier.entry) map.now vs.items) }
+    ensures long { IfOk result (λ vs. length vs.items ≡ length map.now.rows) }
+    ensures refusal { IfErr result (IsTableRefused (option_copied falsifier.entry)
+        (option_copied satisfier.entry) map.now) }
+{
+    let mut bound = None;
+    let mut verdicts = Vec::with_capacity(alloc, map.len())?;
+    for place in 0..map.len() {
+        let verdict = verdict_at(alloc, map, place, falsifier, satisfier, &mut bound)?;
+        verdicts.push(verdict)?;
+    }
+    Ok(verdicts)
+}
+
+// What becomes of each zone by the falsifier and the satisfier of the predicate.
+pub(crate) fn verdicts(
+    alloc: Global,
+    map: &ZoneMap,
+    predicate: &BoundExpression,
+    rules: &Rules,
+) -> Result<Vec<Verdict>, StatsError>
+    ensures verdicts { let M = ⟦<dyn StatsRewriteRule as StatsRewriteRule>⟧ in
+        let f = falsifier_of (own_rules M rules.now.own.items) predicate.now in
+        let s = satisfier_of (own_rules M rules.now.own.items) predicate.now in
+        IfOk result (λ vs. (zones : List ZoneData) → IsMapOf zones map.now
+        → vs.items ≡ zone_verdicts f s map.now.scope zones) }
+    ensures long { IfOk result (λ vs. length vs.items ≡ length map.now.rows) }
+    ensures predicate { IfOk result (λ _. IsTrue (is_predicate predicate.now)) }
+    ensures not_predicate { is_predicate predicate.now ≡ false → result ≡ Err NotPredicate }
+    ensures closed { let M = ⟦<dyn StatsRewriteRule as StatsRewriteRule>⟧ in
+        let proof = falsifier_of (own_rules M rules.now.own.items) predicate.now in
+        IfOk result (λ _. is_left_open proof map.now.rows ≡ false) }
+    ensures kept_closed { let M = ⟦<dyn StatsRewriteRule as StatsRewriteRule>⟧ in
+        let s = satisfier_of (own_rules M rules.now.own.items) predicate.now in
+        IfOk result (λ vs. IsShutIfVerdict s vs.items) }
+    ensures refusal { let M = ⟦<dyn StatsRewriteRule as StatsRewriteRule>⟧ in
+        let own = own_rules M rules.now.own.items in
+        IsTrue (is_predicate predicate.now) → IfErr result (λ e. (zones : List ZoneData)
+        → IsMapOf zones map.now
+        → IsRefusal (pruning_causes own predicate.now map.now.scope zones) e) }
+    ensures at_most { let M = ⟦<dyn StatsRewriteRule as StatsRewriteRule>⟧ in
+        let causes = most_causes (own_rules M rules.now.own.items) predicate.now map.now.rows in
+        IsTrue (is_predicate predicate.now) → IfErr result (IsRefusal causes) }
+{
+    let falsifier = falsify(alloc, predicate, rules)?;
+    let satisfier = satisfy(alloc, predicate, rules)?;
+    let bound = bound_once(alloc, map, falsifier.as_ref())?;
+    verdicts_by(alloc, map, bound.as_ref(), satisfier.as_ref())
+}
+
+/// What pruning found. Zones count from 0.
+#[derive(Debug, PartialEq, Eq, Drop)]
+pub struct Pruned {
+    /// The zones of which no row satisfies the predicate, ascending.
+    pub skipped: Vec<usize>,
+    /// The zones of which every row does, ascending.
+    pub whole: Vec<usize>,
+}
+
+impl Pruned {
+    // Records what becomes of a zone.
+    fn record(&mut self, place: usize, verdict: Verdict) -> Result<(), StatsError>
+        ensures skipped { OnOk result (self.new.skipped.items
+            ≡ self.old.skipped.items ++ place_if (is_skipped verdict) place) }
+        ensures whole { OnOk result (self.new.whole.items
+            ≡ self.old.whole.items ++ place_if (is_whole verdict) place) }
+        ensures memory { IfErr result (λ f. f ≡ Memory alloc_error) }
+    {
+        match verdict {
+            Verdict::Skipped => Ok(self.skipped.push(place)?),
+            Verdict::Whole => Ok(self.whole.push(place)?),
+            Verdict::Tested => Ok(()),
+        }
+    }
+}
+
+// The places of the zones that are skipped, and of those that are whole.
+fn listed(alloc: Global, verdicts: &[Verdict]) -> Result<Pruned, StatsError>
+    ensures skipped { IfOk result (λ pruned.
+        pruned.skipped.items ≡ places_where is_skipped verdicts.now) }
+    ensures whole { IfOk result (λ pruned.
+        pruned.whole.items ≡ places_where is_whole verdicts.now) }
+    ensures memory { IfErr result (λ f. f ≡ Memory alloc_error) }
+{
+    let mut pruned = Pruned {
+        skipped: Vec::new(alloc),
+        whole: Vec::new(alloc),
+    };
+    for place in 0..verdicts.len() {
+        let verdict = &verdicts[place];
+        pruned.record(place, *verdict)?;
+    }
+    Ok(pruned)
+}
+
+// Pruning by the falsifier and the satisfier of the predicate.
+fn prune_rules(
+    alloc: Global,
+    map: &ZoneMap,
+    predicate: &BoundExpression,
+    rules: &Rules,
+) -> Result<Pruned, StatsError>
+    ensures skipped { let M = ⟦<dyn StatsRewriteRule as StatsRewriteRule>⟧ in
+        let proof = falsifier_of (own_rules M rules.now.own.items) predicate.now in
+        IfOk result (λ pruned. (zones : List ZoneData) → IsMapOf zones map.now
+        → pruned.skipped.items ≡ skipped_zones proof map.now.scope zones) }
+    ensures whole { let M = ⟦<dyn StatsRewriteRule as StatsRewriteRule>⟧ in
+        let f = falsifier_of (own_rules M rules.now.own.items) predicate.now in
+        let s = satisfier_of (own_rules M rules.now.own.items) predicate.now in
+        IfOk result (λ pruned. (zones : List ZoneData) → IsMapOf zones map.now
+        → pruned.whole.items ≡ whole_zones f s map.now.scope zones) }
+    ensures predicate { IfOk result (λ _. IsTrue (is_predicate predicate.now)) }
+    ensures not_predicate { is_predicate predicate.now ≡ false → result ≡ Err NotPredicate }
+    ensures closed { let M = ⟦<dyn StatsRewriteRule as StatsRewriteRule>⟧ in
+        let proof = falsifier_of (own_rules M rules.now.own.items) predicate.now in
+        IfOk result (λ _. is_left_open proof map.now.rows ≡ false) }
+    ensures kept_closed { let M = ⟦<dyn StatsRewriteRule as StatsRewriteRule>⟧ in
+        let s = satisfier_of (own_rules M rules.now.own.items) predicate.now in
+        IfOk result (λ pruned. IsShutIfKept pruned.skipped.items s map.now.rows) }
+    ensures refusal { let M = ⟦<dyn StatsRewriteRule as StatsRewriteRule>⟧ in
+        let own = own_rules M rules.now.own.items in
+        IsTrue (is_predicate predicate.now) → IfErr result (λ e. (zones : List ZoneData)
+        → IsMapOf zones map.now
+        → IsRefusal (pruning_causes own predicate.now map.now.scope zones) e) }
+    ensures at_most { let M = ⟦<dyn StatsRewriteRule as StatsRewriteRule>⟧ in
+        let causes = most_causes (own_rules M rules.now.own.items) predicate.now map.now.rows in
+        IsTrue (is_predicate predicate.now) → IfErr result (IsRefusal causes) }
+{
+    let verdicts = verdicts(alloc, map, predicate, rules)?;
+    listed(alloc, &verdicts)
+}
+
+/// Tells by a map of zones which of them hold no row that satisfies a predicate, and which hold
+/// none that doesn't. No row is at hand: these are what statistics prove. The predicate is
+/// rewritten once into a falsifier and a satisfier, and each is bound once: the falsifier at first,
+/// the satisfier at the first zone that isn't skipped. Then each zone costs an evaluation or two on
+/// a row of the table. Without zones nothing is bound.
+///
+/// The caller knows that the predicate is plain (`BoundExpression::is_plain`) and fits the scope
+/// (`BoundExpression::fits_scope`).
+///
+/// `NotPredicate` if the predicate isn't of type Bool, also where there are no zones. `Rule` if a
+/// rule of the user failed or proved by an expression that isn't of type Bool, `OpenProof` if a
+/// proof that is about to be bound has a column outside its placeholders, which would be read in
+/// the table.
+pub fn prune(
+    alloc: Global,
+    map: &ZoneMap,
+    predicate: &BoundExpression,
+    rules: &Rules,
+) -> Result<Pruned, StatsError>
+    requires plain { IsTrue (is_plain predicate.now) }
+    requires fits { IsTrue (fits_scope predicate.now map.now.scope) }
+    // Whatever rows stand in a zone, if its statistics are true of them: of a skipped zone none
+    // satisfies the predicate and of a whole one each does, whichever lawful rules took part.
+    ensures sound { IfOk result (λ pruned. (zones : List ZoneData) → IsMapOf zones map.now
+        → IsSoundPruning predicate.now map.now.scope zones pruned.skipped.items
+        pruned.whole.items) }
+    // A zone is skipped exactly if the falsifier is true by its statistics.
+    ensures skipped { let M = ⟦<dyn StatsRewriteRule as StatsRewriteRule>⟧ in
+        let proof = falsifier_of (own_rules M rules.now.own.items) predicate.now in
+        IfOk result (λ pruned. (zones : List ZoneData) → IsMapOf zones map.now
+        → pruned.skipped.items ≡ skipped_zones proof map.now.scope zones) }
+    // And whole exactly if it isn't skipped and the satisfier is.
+    ensures whole { let M = ⟦<dyn StatsRewriteRule as StatsRewriteRule>⟧ in
+        let f = falsifier_of (own_rules M rules.now.own.items) predicate.now in
+        let s = satisfier_of (own_rules M rules.now.own.items) predicate.now in
+        IfOk result (λ pruned. (zones : List ZoneData) → IsMapOf zones map.now
+        → pruned.whole.items ≡ whole_zones f s map.now.scope zones) }
+    // By built-in rules a predicate whose ANDs are apart skips a zone exactly if no values within
+    // its bounds satisfy it.
+    ensures complete { IfOk result (λ pruned. (zones : List ZoneData) → IsMapOf zones map.now
+        → rules.now.own.items ≡ [] → IsTrue (is_apart predicate.now)
+        → ZonesSkipExactly predicate.now zones pruned.skipped.items) }
+    // By built-in rules a predicate is refused for memory alone.
+    ensures memory { IsTrue (is_predicate predicate.now) → rules.now.own.items ≡ []
+        → IfErr result IsMemory }
+    ensures not_predicate { is_predicate predicate.now ≡ false → result ≡ Err NotPredicate }
+    // No falsifier that has a column outside its placeholders was bound.
+    ensures closed { let M = ⟦<dyn StatsRewriteRule as StatsRewriteRule>⟧ in
+        let proof = falsifier_of (own_rules M rules.now.own.items) predicate.now in
+        IfOk result (λ _. is_left_open proof map.now.rows ≡ false) }
+    // Nor such a satisfier, for a zone that isn't skipped.
+    ensures kept_closed { let M = ⟦<dyn StatsRewriteRule as StatsRewriteRule>⟧ in
+        let s = satisfier_of (own_rules M rules.now.own.items) predicate.now in
+        IfOk result (λ pruned. IsShutIfKept pruned.skipped.items s map.now.rows) }
+    // A refusal has its cause: a rule asked at a visited node, such a falsifier and a zone, or such
+    // a satisfier and a zone that isn't skipped.
+    ensures refusal { let M = ⟦<dyn StatsRewriteRule as StatsRewriteRule>⟧ in
+        let own = own_rules M rules.now.own.items in
+        IsTrue (is_predicate predicate.now) → IfErr result (λ e. (zones : List ZoneData)
+        → IsMapOf zones map.now
+        → IsRefusal (pruning_causes own predicate.now map.now.scope zones) e) }
+{
+    prune_rules(alloc, map, predicate, rules)
+}

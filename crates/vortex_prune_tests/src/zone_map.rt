@@ -1,0 +1,365 @@
+//! Maps of zones without rows, what is pruned by them, and maps put together.
+use crate::testing::*;
+use std::alloc::{AllocError, Global};
+use std::process::Abort;
+use std::test::Fail;
+use vortex_base::Scope;
+use vortex_prune::{Pruned, Rules, Zone, ZoneMap, ZoneMapRefused};
+use vortex_rewrite_tests::nodes::*;
+use vortex_stats::{Stat, StatsError, StatsSet};
+
+type SetsOfZones = Result<Vec<Vec<StatsSet>>, StatsError>;
+
+fn scope(alloc: Global) -> Result<Scope, StatsError> {
+    scope_of(alloc, I32_OR_NULL)
+}
+
+fn no_sets(alloc: Global) -> SetsOfZones {
+    Ok(Vec::new(alloc))
+}
+
+// The sets of zones of one column, with those of one more.
+fn and_set(alloc: Global, sets: SetsOfZones, set: Sets) -> SetsOfZones {
+    let mut sets = sets?;
+    sets.push(one_set(alloc, set?)?)?;
+    Ok(sets)
+}
+
+// Those with no set for the column of one more.
+fn and_no_set(alloc: Global, sets: SetsOfZones) -> SetsOfZones {
+    let mut sets = sets?;
+    sets.push(Vec::new(alloc))?;
+    Ok(sets)
+}
+
+// Zones of so many rows each.
+fn zones_of<'a>(
+    alloc: Global,
+    rows: u64,
+    sets: &'a [Vec<StatsSet>],
+) -> Result<Vec<Zone<'a>>, AllocError> {
+    let mut zones = Vec::new(alloc);
+    for set in sets {
+        zones.push(Zone::new(rows, set))?;
+    }
+    Ok(zones)
+}
+
+fn map_with(alloc: Global, rows: u64, sets: &[Vec<StatsSet>]) -> Result<ZoneMap, StatsError> {
+    map_of(alloc, scope(alloc)?, &zones_of(alloc, rows, sets)?)
+}
+
+fn pruned(
+    alloc: Global,
+    rows: u64,
+    sets: SetsOfZones,
+    predicate: Built,
+) -> Result<Pruned, StatsError> {
+    let map = map_with(alloc, rows, &sets?)?;
+    pruned_by(alloc, &map, &predicate?, &Rules::builtin(alloc))
+}
+
+fn lists(found: &Pruned, skipped: &[usize], whole: &[usize]) -> bool {
+    found.skipped.as_slice() == skipped && found.whole.as_slice() == whole
+}
+
+// These zones are skipped and these are whole.
+fn expect_pruned(
+    rt: &impl Abort,
+    found: Result<Pruned, StatsError>,
+    skipped: &[usize],
+    whole: &[usize],
+) -> Result<(), Fail> {
+    let found = found?;
+    assert!(rt; lists(&found, skipped, whole));
+    Ok(())
+}
+
+fn a(alloc: Global) -> Built {
+    col(alloc, 0, I32_OR_NULL)
+}
+
+fn above(alloc: Global, least: i32) -> Built {
+    gt(alloc, a(alloc), int(alloc, least))
+}
+
+fn nulls(alloc: Global, nulls: u64) -> Sets {
+    Ok(exactly(alloc, Stat::NullCount, count(nulls)))
+}
+
+fn bounded_without_null(alloc: Global, low: i32, high: i32) -> Sets {
+    and_exactly(bounds(alloc, low, high)?, Stat::NullCount, count(0))
+}
+
+// Zones from 0 to 5, of which nothing is known, and from 20 to 30 without a null.
+fn three_zones(alloc: Global) -> SetsOfZones {
+    let first = and_set(alloc, no_sets(alloc), bounds(alloc, 0, 5));
+    let second = and_set(alloc, first, Ok(no_statistics(alloc)));
+    and_set(alloc, second, bounded_without_null(alloc, 20, 30))
+}
+
+#[test]
+fn zones_are_pruned_without_rows(rt: HostRuntime) -> Result<(), Fail> {
+    let alloc = rt.alloc();
+    let found = pruned(alloc, 100, three_zones(alloc), above(alloc, 10));
+    expect_pruned(&rt, found, &[0], &[2])?;
+    let found = pruned(alloc, 100, three_zones(alloc), above(alloc, 40));
+    expect_pruned(&rt, found, &[0, 2], &[])
+}
+
+#[test]
+fn without_zones_nothing_is_pruned(rt: HostRuntime) -> Result<(), Fail> {
+    let alloc = rt.alloc();
+    let found = pruned(alloc, 100, no_sets(alloc), above(alloc, 10));
+    expect_pruned(&rt, found, &[], &[])
+}
+
+fn is_not_predicate(found: Result<Pruned, StatsError>) -> bool {
+    matches!(found, Err(StatsError::NotPredicate))
+}
+
+#[test]
+fn what_is_no_predicate_is_refused(rt: HostRuntime) -> Result<(), Fail> {
+    let alloc = rt.alloc();
+    assert!(rt; is_not_predicate(pruned(alloc, 100, no_sets(alloc), a(alloc))));
+    assert!(rt; is_not_predicate(pruned(alloc, 100, three_zones(alloc), a(alloc))));
+    Ok(())
+}
+
+// A zone of which the number of nulls alone is known.
+fn counted_nulls(alloc: Global, count: u64) -> SetsOfZones {
+    and_set(alloc, no_sets(alloc), nulls(alloc, count))
+}
+
+// The row count is the zone's own: no null among no rows is each of them.
+#[test]
+fn nulls_are_compared_with_the_row_count(rt: HostRuntime) -> Result<(), Fail> {
+    let alloc = rt.alloc();
+    let present = is_not_null(alloc, a(alloc));
+    let found = pruned(alloc, 0, counted_nulls(alloc, 0), present);
+    expect_pruned(&rt, found, &[0], &[])?;
+    let present = is_not_null(alloc, a(alloc));
+    let found = pruned(alloc, 1, counted_nulls(alloc, 0), present);
+    expect_pruned(&rt, found, &[], &[0])
+}
+
+#[test]
+fn zones_have_up_to_all_rows(rt: HostRuntime) -> Result<(), Fail> {
+    let alloc = rt.alloc();
+    let present = is_not_null(alloc, a(alloc));
+    let found = pruned(alloc, u64::MAX, counted_nulls(alloc, u64::MAX), present);
+    expect_pruned(&rt, found, &[0], &[])?;
+    let absent = is_null(alloc, a(alloc));
+    let found = pruned(alloc, u64::MAX, counted_nulls(alloc, u64::MAX), absent);
+    expect_pruned(&rt, found, &[], &[0])?;
+    let present = is_not_null(alloc, a(alloc));
+    let found = pruned(alloc, u64::MAX, counted_nulls(alloc, u64::MAX - 1), present);
+    expect_pruned(&rt, found, &[], &[])
+}
+
+// A set of a text's greatest value.
+fn of_texts(alloc: Global) -> Sets {
+    Ok(exactly(alloc, Stat::Max, text_value(alloc, "z")?))
+}
+
+// Three zones, of which the one at this place has a set of another type.
+fn one_of_texts(alloc: Global, place: usize) -> SetsOfZones {
+    let mut sets = no_sets(alloc);
+    for i in 0..3 {
+        let set = if i == place {
+            of_texts(alloc)
+        } else {
+            bounds(alloc, 0, 5)
+        };
+        sets = and_set(alloc, sets, set);
+    }
+    sets
+}
+
+// Three zones, of which the one at this place has no set.
+fn one_without(alloc: Global, place: usize) -> SetsOfZones {
+    let mut sets = no_sets(alloc);
+    for i in 0..3 {
+        sets = if i == place {
+            and_no_set(alloc, sets)
+        } else {
+            and_set(alloc, sets, bounds(alloc, 0, 5))
+        };
+    }
+    sets
+}
+
+// Whether the sets fit no map, and the scope comes back.
+fn is_misfit(alloc: Global, sets: SetsOfZones) -> Result<bool, StatsError> {
+    let sets = sets?;
+    let zones = zones_of(alloc, 7, &sets)?;
+    match ZoneMap::try_new(alloc, scope(alloc)?, &zones) {
+        Ok(_) => Ok(false),
+        Err(refused) => Ok(is_mismatch(&refused.error) && refused.scope == scope(alloc)?),
+    }
+}
+
+fn is_mismatch(refused: &StatsError) -> bool {
+    matches!(refused, StatsError::Mismatch)
+}
+
+#[test]
+fn sets_of_another_type_do_not_fit(rt: HostRuntime) -> Result<(), Fail> {
+    let alloc = rt.alloc();
+    assert!(rt; is_misfit(alloc, one_of_texts(alloc, 0))?);
+    assert!(rt; is_misfit(alloc, one_of_texts(alloc, 1))?);
+    assert!(rt; is_misfit(alloc, one_of_texts(alloc, 2))?);
+    assert!(rt; !is_misfit(alloc, one_of_texts(alloc, 3))?);
+    Ok(())
+}
+
+#[test]
+fn a_set_too_few_does_not_fit(rt: HostRuntime) -> Result<(), Fail> {
+    let alloc = rt.alloc();
+    assert!(rt; is_misfit(alloc, one_without(alloc, 0))?);
+    assert!(rt; is_misfit(alloc, one_without(alloc, 1))?);
+    assert!(rt; is_misfit(alloc, one_without(alloc, 2))?);
+    Ok(())
+}
+
+fn printed(alloc: Global, map: &ZoneMap) -> Result<String, StatsError> {
+    Ok(format!(in alloc; "{map:?}")?)
+}
+
+// Whether two maps look alike.
+fn are_same(alloc: Global, one: &ZoneMap, other: &ZoneMap) -> Result<bool, StatsError> {
+    Ok(printed(alloc, one)? == printed(alloc, other)?)
+}
+
+// The first zone, and the others.
+fn first_zone(alloc: Global) -> SetsOfZones {
+    and_set(alloc, no_sets(alloc), bounds(alloc, 0, 5))
+}
+
+fn other_zones(alloc: Global) -> SetsOfZones {
+    let second = and_set(alloc, no_sets(alloc), Ok(no_statistics(alloc)));
+    and_set(alloc, second, bounded_without_null(alloc, 20, 30))
+}
+
+// The zones of the other map behind those of the one, if they are of one scope.
+fn append(one: &mut ZoneMap, other: &mut ZoneMap) -> Result<(), StatsError> {
+    if *one.scope() != *other.scope() {
+        return Err(StatsError::Mismatch);
+    }
+    one.append(other)
+}
+
+// Maps appended are the map of all zones, and the other is left without any.
+#[test]
+fn appended_maps_are_one(rt: HostRuntime) -> Result<(), Fail> {
+    let alloc = rt.alloc();
+    let all = map_with(alloc, 9, &three_zones(alloc)?)?;
+    let none = map_with(alloc, 9, &no_sets(alloc)?)?;
+    let mut one = map_with(alloc, 9, &first_zone(alloc)?)?;
+    let mut other = map_with(alloc, 9, &other_zones(alloc)?)?;
+    append(&mut one, &mut other)?;
+    assert!(rt; are_same(alloc, &one, &all)?);
+    assert!(rt; are_same(alloc, &other, &none)?);
+    Ok(())
+}
+
+#[test]
+fn extended_maps_are_one(rt: HostRuntime) -> Result<(), Fail> {
+    let alloc = rt.alloc();
+    let all = map_with(alloc, 9, &three_zones(alloc)?)?;
+    let mut one = map_with(alloc, 9, &first_zone(alloc)?)?;
+    let more = other_zones(alloc)?;
+    one.extend(alloc, &zones_of(alloc, 9, &more)?)?;
+    assert!(rt; are_same(alloc, &one, &all)?);
+    Ok(())
+}
+
+// A map that zones don't fit stays as it was.
+#[test]
+fn maps_are_not_extended_by_misfits(rt: HostRuntime) -> Result<(), Fail> {
+    let alloc = rt.alloc();
+    let same = map_with(alloc, 9, &three_zones(alloc)?)?;
+    let mut map = map_with(alloc, 9, &three_zones(alloc)?)?;
+    let more = one_of_texts(alloc, 1)?;
+    let refused = map.extend(alloc, &zones_of(alloc, 9, &more)?);
+    assert!(rt; matches!(refused, Err(StatsError::Mismatch)));
+    assert!(rt; are_same(alloc, &map, &same)?);
+    Ok(())
+}
+
+fn is_memory(refused: &StatsError) -> bool {
+    matches!(refused, StatsError::Memory(_))
+}
+
+// Whether a map has three zones, or memory was refused and the scope came back.
+fn is_made(made: Result<ZoneMap, ZoneMapRefused>, same: &Scope) -> bool {
+    match made {
+        Ok(map) => map.len() == 3 && *map.scope() == *same,
+        Err(refused) => is_memory(&refused.error) && refused.scope == *same,
+    }
+}
+
+#[test]
+fn refused_maps_hand_back(rt: HostRuntime) -> Result<(), Fail> {
+    let alloc = rt.alloc();
+    let (same, given, sets) = (scope(alloc)?, scope(alloc)?, three_zones(alloc)?);
+    let zones = zones_of(alloc, 9, &sets)?;
+    assert!(rt; is_made(ZoneMap::try_new(alloc, given, &zones), &same));
+    Ok(())
+}
+
+// Whether a call made the one map, or was refused for memory and left it as the other.
+fn is_grown(
+    alloc: Global,
+    told: Result<(), StatsError>,
+    map: &ZoneMap,
+    (grown, same): (&ZoneMap, &ZoneMap),
+) -> Result<bool, StatsError> {
+    match told {
+        Ok(()) => are_same(alloc, map, grown),
+        Err(refused) => Ok(is_memory(&refused) && are_same(alloc, map, same)?),
+    }
+}
+
+#[test]
+fn refused_appends_change_nothing(rt: HostRuntime) -> Result<(), Fail> {
+    let alloc = rt.alloc();
+    let all = map_with(alloc, 9, &three_zones(alloc)?)?;
+    let same = map_with(alloc, 9, &first_zone(alloc)?)?;
+    let mut one = map_with(alloc, 9, &first_zone(alloc)?)?;
+    let mut other = map_with(alloc, 9, &other_zones(alloc)?)?;
+    let told = append(&mut one, &mut other);
+    let left = if told.is_ok() { 0 } else { 2 };
+    assert!(rt; is_grown(alloc, told, &one, (&all, &same))?);
+    assert!(rt; other.len() == left);
+    Ok(())
+}
+
+#[test]
+fn refused_extensions_change_nothing(rt: HostRuntime) -> Result<(), Fail> {
+    let alloc = rt.alloc();
+    let all = map_with(alloc, 9, &three_zones(alloc)?)?;
+    let same = map_with(alloc, 9, &first_zone(alloc)?)?;
+    let mut one = map_with(alloc, 9, &first_zone(alloc)?)?;
+    let sets = other_zones(alloc)?;
+    let more = zones_of(alloc, 9, &sets)?;
+    let told = one.extend(alloc, &more);
+    assert!(rt; is_grown(alloc, told, &one, (&all, &same))?);
+    Ok(())
+}
+
+fn is_pruned(found: Result<Pruned, StatsError>) -> bool {
+    match found {
+        Ok(found) => lists(&found, &[0], &[2]),
+        Err(refused) => is_memory(&refused),
+    }
+}
+
+#[test]
+fn refused_prunings(rt: HostRuntime) -> Result<(), Fail> {
+    let alloc = rt.alloc();
+    let map = map_with(alloc, 9, &three_zones(alloc)?)?;
+    let (rules, predicate) = (Rules::builtin(alloc), above(alloc, 10)?);
+    assert!(rt; is_pruned(pruned_by(alloc, &map, &predicate, &rules)));
+    Ok(())
+}

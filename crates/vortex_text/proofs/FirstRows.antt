@@ -1,0 +1,108 @@
+-- A row at the front of a text.
+use Rattle.std.proofs.Common.{◌≡◌, ◌<◌, ◌≤◌, ◌+◌, ◌-◌, ℕ, true, false, List, [], ◌∷◌, ◌++◌, Option, None, Some, length, length-drop, option_and_then, option_map, append_assoc, append-nil, take, drop, get_or, set, refl, ap, sym, ◌∙◌, arith}
+use Rattle.std.proofs.lemmas.Bool.{and_from, and_parts}
+use Rattle.std.proofs.lemmas.List.{drop_all, take_all, take_rest}
+use borrow.Rule.Slice.PartMut.{put_mid}
+use Rattle.std.proofs.lemmas.Bool.Decides.{nat_tests}
+use Rattle.std.proofs.lemmas.List.Folds.{list_all-append}
+use Rattle.std.proofs.lemmas.Str.{IsUtf8-nil, is_utf8-from_IsUtf8}
+use Rattle.std.specs.List.{list_all}
+use Rattle.std.specs.Str.{is_utf8}
+use Rattle.std.specs.Str.Lines.{lines}
+use Rattle.vortex_base.specs.Data.Columns.{ColumnData}
+use Rattle.vortex_base.specs.declared.scalar_value.ScalarValue.{ScalarValue}
+use Rattle.vortex_syntax.specs.Plain.{EndsWord, is_word_byte}
+use Rattle.vortex_syntax.specs.Spelling.{IsParted}
+use Rattle.vortex_syntax.specs.Values.{optional_value_of}
+use Rattle.vortex_syntax.specs.Words.{Plain, words}
+use Rattle.vortex_text.proofs.ColumnLemmas.{row_more}
+use Rattle.vortex_text.proofs.FirstLineLemmas.{line_parted, lines_behind, lines_ended, utf8_behind, word_first}
+use Rattle.vortex_text.specs.Columns.{behind, taken, with_value, with_values}
+use Rattle.vortex_text.specs.FirstLines.{BeginsRow, TakesValue, first_row, is_line_byte}
+
+behind_nothing : (read : Option (List ColumnData)) → read ≡ behind [] read
+behind_nothing None = refl
+behind_nothing (Some more) = refl
+
+-- no column has a value yet
+pub row_begun : (cs : List ColumnData) (text : List ℕ) → BeginsRow cs cs text text 0
+row_begun cs text = record { front = []; split = refl; clean = refl; row = λ tail parted. behind_nothing (with_values cs (words tail)) }
+
+line_bytes : (word : List ℕ) → list_all is_word_byte word ≡ true → list_all is_line_byte word ≡ true
+line_bytes [] all = refl
+line_bytes (b ∷ word) all =
+    let (one, more) = and_parts _ _ all in
+    let first : is_word_byte b ≡ true = one in
+    let fine : is_line_byte b ≡ true = grind (arith, nat_tests, first) in
+    and_from _ _ fine (line_bytes word more)
+
+taken_plain : (c : ColumnData) (word tail : List ℕ) (v : Option ScalarValue) → list_all is_word_byte word ≡ true → 0 < length word → IsParted tail → optional_value_of c.dtype (Plain word) ≡ Some v
+    → taken c (words (32 ∷ (word ++ tail))) ≡ Some (with_value v c, words tail)
+taken_plain c word tail v plain some parted is = rw (word_first word tail plain some parted, is) refl
+
+-- one more column has a value
+pub row_one_more : (old cs : List ColumnData) (text rest after : List ℕ) (i : ℕ) (c new d : ColumnData) → i < length cs → c ≡ get_or cs i d → TakesValue c rest new after → BeginsRow old cs text rest i
+    → BeginsRow old (set cs i new) text after (i + 1)
+row_one_more old cs text rest after i c new d within is (v, (word, split, plain, some, ends, value), made) so_far = record {
+  front = so_far.front ++ 32 ∷ word;
+  split = so_far.split ∙ ap (λ l. so_far.front ++ l) split ∙ sym (append_assoc so_far.front (32 ∷ word) after);
+  clean = list_all-append is_line_byte so_far.front (32 ∷ word) ∙ and_from _ _ so_far.clean (line_bytes word plain);
+  row = λ tail parted.
+      let took : taken c (words (32 ∷ (word ++ tail))) ≡ Some (new, words tail) = taken_plain c word tail v plain some parted value ∙ ap (λ x. Some (x, words tail)) (sym made) in
+      ap (λ l. with_values old (words l)) (append_assoc so_far.front (32 ∷ word) tail)
+      ∙ sym (row_more cs old i (words (32 ∷ (word ++ tail))) (words tail) (words (so_far.front ++ 32 ∷ (word ++ tail))) c new d within is took (sym (so_far.row (32 ∷ (word ++ tail)) refl)));
+}
+
+-- what follows the value that a column took
+pub taken_ends : (c new : ColumnData) (text rest : List ℕ) → TakesValue c text new rest → EndsWord rest
+taken_ends c new text rest (v, (word, split, plain, some, ends, value), made) = ends
+
+read_first : (cs longer : List ColumnData) (l : List ℕ) (ls : List (List ℕ)) → is_utf8 l ≡ true → with_values cs (words l) ≡ Some longer → first_row cs (l ∷ ls) ≡ Some (longer, ls)
+read_first cs longer l ls utf8 read = rw (utf8, read) refl
+
+-- every column has a value, and the line ends
+pub row_ends_plain : (old new : List ColumnData) (text rest after : List ℕ) (i : ℕ) → BeginsRow old new text rest i → length new ≤ i → rest ≡ 10 ∷ after → first_row old (lines text) ≡ Some (new, lines after)
+row_ends_plain old new text rest after i so_far past is =
+    let line : lines text ≡ (so_far.front ++ []) ∷ lines after =
+    ap lines (so_far.split ∙ ap (λ l. so_far.front ++ l) is) ∙ lines_behind so_far.front (10 ∷ after) [] (lines after) so_far.clean (lines_ended after) in
+    let utf8 : is_utf8 (so_far.front ++ []) ≡ true = utf8_behind so_far.front [] so_far.clean ∙ is_utf8-from_IsUtf8 [] IsUtf8-nil in
+    let read : with_values old (words (so_far.front ++ [])) ≡ Some new =
+    so_far.row [] tt ∙ rw (drop_all i new past, take_all i new past) (ap Some (append-nil new)) in
+    ap (first_row old) line ∙ read_first old new (so_far.front ++ []) (lines after) utf8 read
+
+-- the words of what follows the plain values
+pub row_goes_on : (old new : List ColumnData) (text rest l : List ℕ) (ls : List (List ℕ)) (i : ℕ) → BeginsRow old new text rest i → EndsWord rest → lines rest ≡ l ∷ ls → is_utf8 l ≡ true
+    → first_row old (lines text) ≡ option_map (λ longer. (longer, ls)) (behind (take i new) (with_values (drop i new) (words l)))
+row_goes_on old new text rest l ls i so_far ends is utf8 =
+    ap (λ t. first_row old (lines t)) so_far.split
+    ∙ ap (first_row old) (lines_behind so_far.front rest l ls so_far.clean is)
+    ∙ rw (utf8_behind so_far.front l so_far.clean, utf8) (ap (λ o. option_and_then {U = List ColumnData × List (List ℕ)} (λ longer. Some (longer, ls)) o) (so_far.row l (line_parted rest l ls ends is)) ∙ mapped _)
+  where
+    mapped : (o : Option (List ColumnData)) → option_and_then {U = List ColumnData × List (List ℕ)} (λ longer. Some (longer, ls)) o ≡ option_map (λ longer. (longer, ls)) o
+    mapped None = refl
+    mapped (Some longer) = refl
+
+pub row_not_utf8 : (old new : List ColumnData) (text rest l : List ℕ) (ls : List (List ℕ)) (i : ℕ) → BeginsRow old new text rest i → lines rest ≡ l ∷ ls → is_utf8 l ≡ false
+    → first_row old (lines text) ≡ None
+row_not_utf8 old new text rest l ls i so_far is broken =
+    ap (λ t. first_row old (lines t)) so_far.split
+    ∙ ap (first_row old) (lines_behind so_far.front rest l ls so_far.clean is)
+    ∙ rw (utf8_behind so_far.front l so_far.clean, broken) refl
+
+-- the words of it give the other columns their values
+pub row_whole_line : (old new ys : List ColumnData) (text rest l : List ℕ) (ls : List (List ℕ)) (i : ℕ) → BeginsRow old new text rest i → EndsWord rest → lines rest ≡ l ∷ ls → is_utf8 l ≡ true → i ≤ length new
+    → with_values (take (length new - i) (drop i new)) (words l) ≡ Some ys → first_row old (lines text) ≡ Some (put_mid i (length new - i) new ys, ls)
+row_whole_line old new ys text rest l ls i so_far ends is utf8 within read =
+    let others : with_values (drop i new) (words l) ≡ Some ys = rw (take_rest new i) at read in
+    let none : drop (length new - i) (drop i new) ≡ [] = drop_all (length new - i) (drop i new) (omega (arith, length-drop i new)) in
+    row_goes_on old new text rest l ls i so_far ends is utf8
+    ∙ ap (λ o. option_map (λ longer. (longer, ls)) (behind (take i new) o)) others
+    ∙ ap (λ z. Some (take i new ++ z, ls)) (sym (ap (λ d. ys ++ d) none ∙ append-nil ys))
+
+-- or they don't
+pub row_broken : (old new : List ColumnData) (text rest l : List ℕ) (ls : List (List ℕ)) (i : ℕ) → BeginsRow old new text rest i → EndsWord rest → lines rest ≡ l ∷ ls → is_utf8 l ≡ true
+    → with_values (take (length new - i) (drop i new)) (words l) ≡ None → first_row old (lines text) ≡ None
+row_broken old new text rest l ls i so_far ends is utf8 read =
+    let others : with_values (drop i new) (words l) ≡ None = rw (take_rest new i) at read in
+    row_goes_on old new text rest l ls i so_far ends is utf8
+    ∙ ap (λ o. option_map (λ longer. (longer, ls)) (behind (take i new) o)) others

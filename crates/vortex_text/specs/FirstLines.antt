@@ -1,0 +1,54 @@
+-- The first line of a text, and the lines after it.
+use Rattle.std.specs.Prelude.{◌≡◌, ◌&&◌, ◌||◌, ℕ, Bool, nat_le, nat_lt, List, [], ◌∷◌, ◌++◌, Option, None, Some, IsTrue, drop, is_some, option_map, take}
+use Rattle.std.specs.List.{list_all}
+use Rattle.std.specs.Str.{is_utf8}
+use Rattle.vortex_base.specs.Data.Columns.{ColumnData}
+use Rattle.vortex_base.specs.declared.scalar_value.ScalarValue.{ScalarValue}
+use Rattle.vortex_syntax.specs.Fails.{◌>>=◌}
+use Rattle.vortex_syntax.specs.Plain.{BeginsValue}
+use Rattle.vortex_syntax.specs.Spelling.{IsParted}
+use Rattle.vortex_syntax.specs.Words.{words}
+use Rattle.vortex_text.specs.Columns.{behind, with_value, with_values}
+use Rattle.vortex_text.specs.Lines.{Reading, read_line, when}
+use Rattle.vortex_text.specs.MemoryTaken.{line_takes}
+
+-- what the first of some lines says, after those that gave r, and the lines after it
+abbrev pub first_read : Reading → List (List ℕ) → Option (Reading × List (List ℕ))
+first_read r [] = None
+first_read r (line ∷ more) = option_map (λ next. (next, more)) (read_line r line)
+
+-- a part takes rows, or the first line takes memory
+abbrev pub may_take : Reading → List (List ℕ) → Bool
+may_take r [] = is_some r.current
+may_take r (line ∷ more) = is_some r.current || line_takes r line
+
+-- the columns with the values of the first line, of which the word `row` was passed, and the lines after it
+abbrev pub first_row : List ColumnData → List (List ℕ) → Option (List ColumnData × List (List ℕ))
+first_row cs [] = None
+first_row cs (line ∷ more) = do
+  text ← when (is_utf8 line) line
+  longer ← with_values cs (words text)
+  Some (longer, more)
+
+-- the reading with the row of the first line, of which the word `row` was passed, and the lines after it
+abbrev pub first_values : Reading → List (List ℕ) → Option (Reading × List (List ℕ))
+first_values r ls = do
+  part ← r.current
+  row ← first_row part.chunk.columns ls
+  Some (record r { current = Some (record { chunk = record { scope = part.chunk.scope; columns = row.0 }; stats = part.stats }) }, row.1)
+
+-- a byte that ends no line, and is ASCII
+abbrev pub is_line_byte : ℕ → Bool
+is_line_byte b = nat_le 32 b && nat_lt b 127
+
+-- the column takes a value in plain form at the front of a text, and what follows that is the rest
+abbrev pub TakesValue : ColumnData → List ℕ → ColumnData → List ℕ → Type 0
+TakesValue old text new rest = (v : Option ScalarValue) × BeginsValue old.dtype text v rest × (new ≡ with_value v old)
+
+-- So many columns took values at the front of a text, and what follows those is the rest. Whatever the line ends with, the others are to take the words of that.
+pub record BeginsRow (old new : List ColumnData) (text rest : List ℕ) (count : ℕ) : Type 0 where
+  pub front : List ℕ
+  pub split : text ≡ front ++ rest
+  pub clean : IsTrue (list_all is_line_byte front)
+  pub row : (tail : List ℕ) → IsParted tail
+      → with_values old (words (front ++ tail)) ≡ behind (take count new) (with_values (drop count new) (words tail))
