@@ -21,7 +21,7 @@ PARTS = ("src", "specs", "proofs")
 
 def listed_crates():
     with open(f"{TOP}/crates.txt", encoding="utf-8") as listed:
-        return [it.partition(":")[0].strip() for it in listed if ":" in it.partition("#")[0]]
+        return [it.partition(":")[0].split()[0] for it in listed if ":" in it.partition("#")[0]]
 
 
 def named_goals():
