@@ -1,0 +1,5 @@
+pub mod Known
+pub mod KnownFaithful
+pub mod KnownParts
+pub mod NullOperands
+pub mod NullOperandsLaw
