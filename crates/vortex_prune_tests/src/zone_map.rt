@@ -274,6 +274,23 @@ fn extended_maps_are_one(rt: HostRuntime) -> Result<(), Fail> {
     Ok(())
 }
 
+fn push_all(alloc: Global, map: &mut ZoneMap, sets: &[Vec<StatsSet>]) -> Result<(), StatsError> {
+    for set in sets {
+        map.push(alloc, &Zone::new(9, set))?;
+    }
+    Ok(())
+}
+
+#[test]
+fn pushed_zones_are_one_map(rt: HostRuntime) -> Result<(), Fail> {
+    let alloc = rt.alloc();
+    let all = map_with(alloc, 9, &three_zones(alloc)?)?;
+    let mut map = map_with(alloc, 9, &no_sets(alloc)?)?;
+    push_all(alloc, &mut map, &three_zones(alloc)?)?;
+    assert!(rt; are_same(alloc, &map, &all)?);
+    Ok(())
+}
+
 // A map that zones don't fit stays as it was.
 #[test]
 fn maps_are_not_extended_by_misfits(rt: HostRuntime) -> Result<(), Fail> {
@@ -345,6 +362,18 @@ fn refused_extensions_change_nothing(rt: HostRuntime) -> Result<(), Fail> {
     let more = zones_of(alloc, 9, &sets)?;
     let told = one.extend(alloc, &more);
     assert!(rt; is_grown(alloc, told, &one, (&all, &same))?);
+    Ok(())
+}
+
+#[test]
+fn refused_pushes_change_nothing(rt: HostRuntime) -> Result<(), Fail> {
+    let alloc = rt.alloc();
+    let one_zone = map_with(alloc, 9, &first_zone(alloc)?)?;
+    let same = map_with(alloc, 9, &no_sets(alloc)?)?;
+    let mut map = map_with(alloc, 9, &no_sets(alloc)?)?;
+    let sets = first_zone(alloc)?;
+    let told = push_all(alloc, &mut map, &sets);
+    assert!(rt; is_grown(alloc, told, &map, (&one_zone, &same))?);
     Ok(())
 }
 
