@@ -110,6 +110,37 @@ static void every_refusal(void) {
     assert(known[0] == 99 && ends[0] == 99 && bytes[0] == 99);
 }
 
+/* Every field of a statistic counts, and a call about a zone looks at that zone alone. */
+static void every_statistic(void) {
+    const uint64_t column_ends[2] = {3, 6}, least_ends[2] = {4, 5}, nulls_ends[1] = {0};
+    vortex_values column = {.kind = VORTEX_UTF8, .rows = 2, .values = (const uint8_t *)"abcabd", .values_len = 6,
+                            .ends = column_ends, .ends_len = 2};
+    const uint8_t known[2] = {VORTEX_EXACT, VORTEX_INEXACT};
+    const uint64_t null_counts[2] = {0, 5};
+    vortex_statistic stats[2] = {
+        {.stat = VORTEX_MIN, .start = 1, .known = known, .known_len = 2, .values = (const uint8_t *)"?abca", .values_len = 5,
+         .ends = least_ends, .ends_len = 2},
+        {.stat = VORTEX_NULL_COUNT, .known = known, .known_len = 2, .values = (const uint8_t *)null_counts, .values_len = 16,
+         .ends = nulls_ends, .ends_len = 0},
+    };
+    assert(vortex_check(&column, stats, 2, 0, &fault) == VORTEX_OK);
+    assert(vortex_check(&column, stats, 2, 1, &fault) == VORTEX_OK);
+    stats[0].stat = VORTEX_MAX;
+    refused(vortex_check(&column, stats, 2, 0, &fault), VORTEX_UNTRUE, 0, 0);
+    stats[0].stat = VORTEX_MIN, stats[0].start = 0;
+    refused(vortex_check(&column, stats, 2, 0, &fault), VORTEX_UNTRUE, 0, 0);
+    stats[0].start = 5;
+    refused(vortex_check(&column, stats, 2, 0, &fault), VORTEX_BAD_ENDS, 0, 0);
+    stats[0].start = 1, stats[1].known = (const uint8_t *)"\1\3";
+    refused(vortex_check(&column, stats, 2, 1, &fault), VORTEX_BAD_KNOWN, 1, 1);
+    stats[1].known = known, stats[1].values_len = 15;
+    refused(vortex_check(&column, stats, 2, 1, &fault), VORTEX_BAD_LENGTH, 1, 1);
+    refused(vortex_check(&column, stats, 2, 2, &fault), VORTEX_BAD_LENGTH, 2, 0);
+    stats[1].stat = VORTEX_SUM;
+    refused(vortex_check(&column, stats, 2, 0, &fault), VORTEX_BAD_STAT, 0, 1);
+    assert(vortex_check(&column, NULL, 0, 7, &fault) == VORTEX_OK);
+}
+
 static void program(void) {
     const char *text = "column a i64?\npart\nstat a max exact 10\nrow 10\npart\nrow 20\nwhere gt col a lit i64 10\n";
     uint8_t output[32];
@@ -126,6 +157,7 @@ int main(void) {
     every_number();
     every_field();
     every_refusal();
+    every_statistic();
     program();
     puts("round trip: each field, type and status is as the header says");
     return 0;

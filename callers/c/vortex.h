@@ -4,8 +4,8 @@
  * Link with callers/out/libvortex_ffi.a or libvortex_ffi.so, which checks/callers.sh builds. They need malloc, realloc
  * and free of the C library and nothing else.
  *
- * Of the calls below the library has vortex_run and vortex_measure so far; the others are declared so that callers can be
- * written for them.
+ * Of the calls below the library has vortex_run, vortex_measure and vortex_check so far; vortex_merge and vortex_prune are
+ * declared so that callers can be written for them.
  *
  * Who owns what. Every array is the caller's. A call reads the arrays that it is handed, writes the ones that are not
  * const, and keeps nothing: no handle, no state, nothing to free. An array is a pointer and a number of elements; of no

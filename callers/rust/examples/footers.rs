@@ -1,4 +1,4 @@
-//! Keeps the statistics of a table's chunks, and later reads only the chunks that they don't rule out.
+//! Keeps the statistics of a table's chunks, and checks them against the values that they came from.
 use foalmorrow::{Column, DType, Error, Footers, Kind, Precision, Stat, Value};
 
 const TEMPERATURE: DType = DType { kind: Kind::I64, nullable: false };
@@ -19,5 +19,10 @@ fn main() -> Result<(), Error> {
             _ => println!("chunk {zone}: {:?}", chunk.iter().filter(|value| **value > 20).collect::<Vec<_>>()),
         }
     }
+
+    // What is told of a chunk is true of it, and not of another one.
+    footers.check(1, &Column::numbers(chunks[1]))?;
+    let other = footers.check(1, &Column::numbers(chunks[2]));
+    println!("chunk 1 by the values of chunk 2: {}", other.expect_err("they differ"));
     Ok(())
 }

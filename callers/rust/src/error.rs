@@ -11,6 +11,8 @@ pub enum Error {
     BadKind,
     /// The column's type has no such statistic: which of those that were asked for.
     BadStat { entry: usize },
+    /// A byte that says how a value is known is above 2.
+    BadKnown { zone: usize, entry: usize },
     /// An array is too short.
     BadLength { row: usize, entry: usize },
     /// A text begins behind its end, or ends behind the heap.
@@ -19,6 +21,8 @@ pub enum Error {
     BadValue { row: usize, entry: usize },
     /// A null in a column that isn't nullable.
     BadNull { row: usize },
+    /// A statistic isn't true of the values: the first such.
+    Untrue { entry: usize },
     /// A status that this crate doesn't expect of the call.
     Other(u8),
 }
@@ -30,10 +34,12 @@ impl Error {
             4 => Error::NoMemory,
             5 => Error::BadKind,
             6 => Error::BadStat { entry },
+            7 => Error::BadKnown { zone: row, entry },
             8 => Error::BadLength { row, entry },
             9 => Error::BadEnds { row, entry },
             10 => Error::BadValue { row, entry },
             11 => Error::BadNull { row },
+            12 => Error::Untrue { entry },
             other => Error::Other(other),
         }
     }
@@ -45,10 +51,12 @@ impl fmt::Display for Error {
             Error::NoMemory => write!(f, "memory was refused"),
             Error::BadKind => write!(f, "the column is of another type"),
             Error::BadStat { entry } => write!(f, "statistic {entry} isn't one of the column's type"),
+            Error::BadKnown { zone, entry } => write!(f, "statistic {entry} of zone {zone} is known in no known way"),
             Error::BadLength { row, entry } => write!(f, "an array of statistic {entry} ends before row {row}"),
             Error::BadEnds { row, entry } => write!(f, "the text of statistic {entry} in row {row} has no place"),
             Error::BadValue { row, entry } => write!(f, "the value of statistic {entry} in row {row} is none of its type"),
             Error::BadNull { row } => write!(f, "row {row} is null in a column without null"),
+            Error::Untrue { entry } => write!(f, "statistic {entry} isn't true of the values"),
             Error::Other(status) => write!(f, "status {status}"),
         }
     }

@@ -2,7 +2,9 @@
 use crate::column::{Column, DType};
 use crate::error::Error;
 use crate::measured_bytes;
+use crate::raw;
 use crate::stat::{Precision, Stat, Value};
+use std::marker::PhantomData;
 
 /// One statistic in each zone: how it is known, and the values one behind the other.
 #[derive(Clone, Debug, PartialEq, Eq)]
@@ -80,5 +82,38 @@ impl Footers {
             2 => Precision::Inexact(Value::read(kind, bytes)?),
             _ => Precision::Absent,
         })
+    }
+
+    /// Whether each statistic of a zone is true of a column's values.
+    ///
+    /// # Errors
+    /// `Untrue` with the place of the first that isn't.
+    pub fn check(&self, zone: usize, column: &Column<'_>) -> Result<(), Error> {
+        let stats = self.raw(0);
+        let mut fault = raw::Fault::default();
+        // SAFETY: the arrays of the footers and of the column are lent for as long as the call takes.
+        let status = unsafe { raw::vortex_check(&column.raw(), stats.as_ptr(), stats.len(), zone, &mut fault) };
+        if status == 0 {
+            Ok(())
+        } else {
+            Err(Error::of(status, &fault))
+        }
+    }
+
+    // The statistics as they cross.
+    fn raw(&self, column: usize) -> Vec<raw::Statistic<'_>> {
+        let lend = |entry: &Entry| raw::Statistic {
+            column,
+            stat: entry.stat as u8,
+            start: 0,
+            known: entry.known.as_ptr(),
+            known_len: entry.known.len(),
+            values: entry.values.as_ptr(),
+            values_len: entry.values.len(),
+            ends: entry.ends.as_ptr(),
+            ends_len: entry.ends.len(),
+            lent: PhantomData,
+        };
+        self.entries.iter().map(lend).collect()
     }
 }

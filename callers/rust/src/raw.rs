@@ -28,6 +28,22 @@ pub struct Values<'a> {
     pub lent: PhantomData<&'a [u8]>,
 }
 
+/// `vortex_statistic`, whose arrays are lent for `'a`.
+#[repr(C)]
+#[derive(Clone, Copy, Debug)]
+pub struct Statistic<'a> {
+    pub column: usize,
+    pub stat: u8,
+    pub start: u64,
+    pub known: *const u8,
+    pub known_len: usize,
+    pub values: *const u8,
+    pub values_len: usize,
+    pub ends: *const u64,
+    pub ends_len: usize,
+    pub lent: PhantomData<&'a [u8]>,
+}
+
 unsafe extern "C" {
     pub fn vortex_run(
         input: *const u8,
@@ -48,6 +64,14 @@ unsafe extern "C" {
         values: *mut u8,
         values_len: usize,
         len: *mut usize,
+        fault: *mut Fault,
+    ) -> u8;
+
+    pub fn vortex_check(
+        column: *const Values<'_>,
+        stats: *const Statistic<'_>,
+        stats_len: usize,
+        zone: usize,
         fault: *mut Fault,
     ) -> u8;
 }

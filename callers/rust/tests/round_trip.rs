@@ -100,7 +100,7 @@ fn calls_run_side_by_side() {
 }
 
 #[test]
-fn what_is_measured_is_kept() {
+fn what_is_measured_is_true_and_is_kept() {
     let numbers = [Column::numbers(&[3i16, -4]), Column::numbers(&[7i16]), Column::numbers::<i16>(&[])];
     let mut footers = Footers::new(numbers[0].dtype(), &EVERY);
     let words = [Column::texts("oneseven", &[3, 8]), Column::texts("", &[]), Column::texts("zz", &[2])];
@@ -110,6 +110,13 @@ fn what_is_measured_is_kept() {
         footers.push(number).unwrap();
         texts.push(word).unwrap();
     }
+    for zone in 0..3 {
+        assert_eq!(footers.check(zone, &numbers[zone]), Ok(()));
+        assert_eq!(texts.check(zone, &words[zone]), Ok(()));
+    }
+    assert_eq!(footers.check(0, &numbers[1]), Err(Error::Untrue { entry: 0 }));
+    assert_eq!(texts.check(2, &words[0]), Err(Error::Untrue { entry: 0 }));
+    assert_eq!(texts.check(3, &words[0]), Err(Error::BadLength { row: 3, entry: 0 }));
     assert_eq!(footers.get(0, Stat::Min), Some(Precision::Exact(Value::Signed(-4))));
     assert_eq!(footers.get(2, Stat::Min), Some(Precision::Absent));
     assert_eq!(texts.get(0, Stat::Max), Some(Precision::Exact(Value::Utf8("seven".to_owned()))));
@@ -151,6 +158,7 @@ fn random_columns_beside_a_direct_filter() {
         assert_eq!(measure(&column, &wanted), Ok(expected));
         let mut footers = Footers::new(column.dtype(), &wanted);
         footers.push(&column).unwrap();
+        assert_eq!(footers.check(0, &column), Ok(()));
         let limit = dice.roll(21) as i64 - 10;
         if let Some(Precision::Exact(Value::Signed(greatest))) = footers.get(0, Stat::Max) {
             if greatest <= limit {

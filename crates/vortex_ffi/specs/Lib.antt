@@ -1,9 +1,11 @@
+pub mod Checks
 pub mod Encoding
 pub mod Given
 pub mod Measures
 pub mod Refusals
 pub mod Runs
 pub mod Slots
+pub mod Statistics
 pub mod Statuses
 pub mod Types
 pub mod Values

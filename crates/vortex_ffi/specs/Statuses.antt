@@ -20,6 +20,10 @@ status_number Untrue = 12
 abbrev pub at_row : Status → ℕ → Refusal
 at_row s n = record { status = s; fault = record { row = n; column = 0; entry = 0 } }
 
+-- refused in a zone at a statistic
+abbrev pub in_zone : ℕ → Status → ℕ → Refusal
+in_zone zone s n = record { status = s; fault = record { row = zone; column = 0; entry = n } }
+
 -- refused at a statistic
 abbrev pub at_entry : Status → ℕ → Refusal
 at_entry s n = record { status = s; fault = record { row = 0; column = 0; entry = n } }

@@ -64,3 +64,7 @@ column t v = followed (cells t v.values.now v.start v.ends.now v.nulls.now v.row
 -- the type that is handed in with values
 abbrev pub type_given : Values → Result DType Refusal
 type_given v = placed (λ s. at_entry s 0) (dtype_of v.kind v.nullable)
+
+-- the column that is handed in
+abbrev pub given_column : Values → Result ColumnData Refusal
+given_column v = followed (type_given v) (λ t. column t v)

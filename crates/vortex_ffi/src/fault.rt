@@ -1,6 +1,6 @@
 //! Where a call was refused.
 ghost use Rattle.std.specs.Prelude.{◌≡◌};
-ghost use Rattle.vortex_ffi.specs.Statuses.{at_entry, at_row};
+ghost use Rattle.vortex_ffi.specs.Statuses.{at_entry, at_row, in_zone};
 
 use crate::status::Status;
 use std::alloc::{AllocError, AllocFailed};
@@ -33,6 +33,18 @@ impl Refusal {
             row,
             column: 0,
             entry: 0,
+        };
+        Refusal { status, fault }
+    }
+
+    /// In this zone, at this statistic.
+    pub(crate) fn in_zone(status: Status, zone: usize, entry: usize) -> Refusal
+        ensures { result ≡ in_zone zone status entry }
+    {
+        let fault = Fault {
+            row: zone,
+            column: 0,
+            entry,
         };
         Refusal { status, fault }
     }

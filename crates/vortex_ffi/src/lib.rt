@@ -5,12 +5,14 @@
 //! anything, and every array is the caller's.
 #![tactic(auto)]
 
+pub mod check;
 mod encoding;
 pub mod fault;
 mod given;
 pub mod measure;
 pub mod run;
 mod slots;
+pub mod statistic;
 mod status;
 mod types;
 pub mod values;

@@ -61,8 +61,8 @@ fn null_of(dtype: DType) -> Result<Option<ScalarValue>, Status>
     }
 }
 
-// The value of a row that isn't null.
-fn value_at(
+/// The value at a place, which isn't null.
+pub(crate) fn value_at(
     alloc: Global,
     given: &Given<'_>,
     dtype: DType,
@@ -119,6 +119,16 @@ impl Values<'_> {
         match dtype_of(self.kind, self.nullable) {
             Ok(dtype) => Ok(dtype),
             Err(status) => Err(Refusal::at_entry(status, 0)),
+        }
+    }
+
+    /// The column that is handed in.
+    pub(crate) fn given_column(&self, alloc: Global) -> Result<Column, Refusal>
+        ensures { Answers (λ c. c) result (spec.given_column self.now) }
+    {
+        match self.dtype() {
+            Ok(dtype) => self.column(alloc, dtype),
+            Err(refusal) => Err(refusal),
         }
     }
 
