@@ -1,4 +1,4 @@
-"""Footers: the statistics of a table's zones as arrays, measured and kept in a file."""
+"""Footers: the statistics of a table's zones as arrays, measured, checked and kept in a file."""
 from __future__ import annotations
 
 import json
@@ -118,6 +118,16 @@ class Footers:
         if least is None or greatest is None or not (least.known[zone] and greatest.known[zone]):
             return None
         return least.values[zone], greatest.values[zone]
+
+    def check(self, zone: int, chunk: Mapping[str, object]) -> tuple[str, Stat] | None:
+        """The first statistic of a zone that isn't true of a chunk's values, or None where all are."""
+        for column in self.columns:
+            values, nulls = _column_values(column, chunk)
+            known = {stat: self.statistics[name, stat].at(zone) for name, stat in self.statistics if name == column.name}
+            fault = library.check(column, values, nulls, {stat: found for stat, found in known.items() if found[0]})
+            if fault is not None:
+                return column.name, fault
+        return None
 
     def slice(self, start: int, stop: int) -> Footers:
         """The footers of the zones from one up to another."""

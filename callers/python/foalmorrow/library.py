@@ -6,11 +6,15 @@ import enum
 import os
 import pathlib
 from array import array
-from collections.abc import Sequence
+from collections.abc import Mapping, Sequence
 from ctypes import POINTER, Structure, c_size_t, c_uint8, c_uint64
+from typing import TYPE_CHECKING
 
 from .arrays import Values
 from .kinds import Column, Precision, Stat, stat_dtype
+
+if TYPE_CHECKING:
+    from .footers import Statistic
 
 try:
     import numpy
@@ -91,6 +95,20 @@ class CValues(Structure):
     ]
 
 
+class CStatistic(Structure):
+    _fields_ = [
+        ("column", c_size_t),
+        ("stat", c_uint8),
+        ("start", c_uint64),
+        ("known", ctypes.c_void_p),
+        ("known_len", c_size_t),
+        ("values", ctypes.c_void_p),
+        ("values_len", c_size_t),
+        ("ends", ctypes.c_void_p),
+        ("ends_len", c_size_t),
+    ]
+
+
 class _Lent:
     """Addresses of buffers, which are kept as long as a call needs them."""
 
@@ -123,6 +141,7 @@ def _load() -> ctypes.CDLL:
     byte, size, place = ctypes.c_void_p, c_size_t, POINTER(Fault)
     calls = {
         "vortex_run": [byte, size, byte, size, POINTER(size)],
+        "vortex_check": [POINTER(CValues), byte, size, size, place],
         "vortex_measure": [POINTER(CValues), byte, size, byte, size, byte, size, byte, size, POINTER(size), place],
     }
     for name, types in calls.items():
@@ -192,3 +211,34 @@ def measure(column: Column, values: Values, nulls: memoryview | None, wanted: Se
             found[stat] = (Precision(precision), Values(dtype, piece, places, 1)[0])
         start = end
     return found
+
+
+def _statistic(lent: _Lent, place: int, stat: Stat, statistic: Statistic) -> CStatistic:
+    it = statistic.values
+    known = (lent.at(statistic.known), statistic.known.nbytes)
+    return CStatistic(place, stat, 0, *known, lent.at(it.data), it.data.nbytes, lent.at(it.ends), len(it) if it.dtype.has_ends else 0)
+
+
+def _table(statistics: Sequence[CStatistic]) -> ctypes.Array[CStatistic]:
+    return (CStatistic * len(statistics))(*statistics)
+
+
+def check(column: Column, values: Values, nulls: memoryview | None, known: Mapping[Stat, tuple[Precision, object]]) -> Stat | None:
+    """The first statistic that isn't true of a column's values, or None where each is."""
+    from .footers import Statistic
+
+    lent, fault = _Lent(), Fault()
+    stats = list(known)
+    entries = []
+    for stat in stats:
+        precision, value = known[stat]
+        dtype = stat_dtype(stat, column.dtype)
+        assert dtype is not None
+        entries.append(_statistic(lent, 0, stat, Statistic(memoryview(bytes([precision])), Values.of(dtype, [value]))))  # type: ignore[list-item]
+    table = _table(entries)
+    given = _values(lent, column, values, nulls, values.data.nbytes + values.ends.nbytes)
+    status = _library().vortex_check(ctypes.byref(given), table, len(entries), 0, ctypes.byref(fault))
+    if status == Status.UNTRUE:
+        return stats[fault.entry]
+    _answered(status, fault)
+    return None

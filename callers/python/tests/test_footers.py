@@ -104,6 +104,13 @@ class Measuring(unittest.TestCase):
         with self.assertRaises(ValueFault):
             Footers.measure([A], [{"a": [2**63]}])
 
+    def test_checked(self) -> None:
+        footers = two_zones()
+        self.assertIsNone(footers.check(0, {"a": [1, 5, 10]}))
+        self.assertEqual(footers.check(0, {"a": [1, 5, 11]}), ("a", Stat.MAX))
+        self.assertEqual(footers.check(1, {"a": [9, None, 20]}), ("a", Stat.MIN))
+        self.assertIsNone(footers.check(1, {"a": [8, None, 20]}))
+
 
 if __name__ == "__main__":
     unittest.main()

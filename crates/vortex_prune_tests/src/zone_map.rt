@@ -241,6 +241,35 @@ fn other_zones(alloc: Global) -> SetsOfZones {
     and_set(alloc, second, bounded_without_null(alloc, 20, 30))
 }
 
+fn no_zones_map(alloc: Global) -> Result<ZoneMap, StatsError> {
+    map_with(alloc, 9, &no_sets(alloc)?)
+}
+
+fn first_map(alloc: Global) -> Result<ZoneMap, StatsError> {
+    map_with(alloc, 9, &first_zone(alloc)?)
+}
+
+fn others_map(alloc: Global) -> Result<ZoneMap, StatsError> {
+    map_with(alloc, 9, &other_zones(alloc)?)
+}
+
+fn whole_map(alloc: Global) -> Result<ZoneMap, StatsError> {
+    map_with(alloc, 9, &three_zones(alloc)?)
+}
+
+// Whether the map looks like that of the first zone, of all zones, or of none.
+fn is_first(alloc: Global, map: &ZoneMap) -> Result<bool, StatsError> {
+    are_same(alloc, map, &first_map(alloc)?)
+}
+
+fn is_whole(alloc: Global, map: &ZoneMap) -> Result<bool, StatsError> {
+    are_same(alloc, map, &whole_map(alloc)?)
+}
+
+fn is_empty(alloc: Global, map: &ZoneMap) -> Result<bool, StatsError> {
+    are_same(alloc, map, &no_zones_map(alloc)?)
+}
+
 // The zones of the other map behind those of the one, if they are of one scope.
 fn append(one: &mut ZoneMap, other: &mut ZoneMap) -> Result<(), StatsError> {
     if *one.scope() != *other.scope() {
@@ -253,24 +282,42 @@ fn append(one: &mut ZoneMap, other: &mut ZoneMap) -> Result<(), StatsError> {
 #[test]
 fn appended_maps_are_one(rt: HostRuntime) -> Result<(), Fail> {
     let alloc = rt.alloc();
-    let all = map_with(alloc, 9, &three_zones(alloc)?)?;
-    let none = map_with(alloc, 9, &no_sets(alloc)?)?;
-    let mut one = map_with(alloc, 9, &first_zone(alloc)?)?;
-    let mut other = map_with(alloc, 9, &other_zones(alloc)?)?;
+    let mut one = first_map(alloc)?;
+    let mut other = others_map(alloc)?;
     append(&mut one, &mut other)?;
-    assert!(rt; are_same(alloc, &one, &all)?);
-    assert!(rt; are_same(alloc, &other, &none)?);
+    assert!(rt; is_whole(alloc, &one)?);
+    assert!(rt; is_empty(alloc, &other)?);
     Ok(())
+}
+
+// The map, extended by zones of these sets.
+fn extend(alloc: Global, map: &mut ZoneMap, sets: &[Vec<StatsSet>]) -> Result<(), StatsError> {
+    let zones = zones_of(alloc, 9, sets)?;
+    map.extend(alloc, &zones)
 }
 
 #[test]
 fn extended_maps_are_one(rt: HostRuntime) -> Result<(), Fail> {
     let alloc = rt.alloc();
-    let all = map_with(alloc, 9, &three_zones(alloc)?)?;
-    let mut one = map_with(alloc, 9, &first_zone(alloc)?)?;
-    let more = other_zones(alloc)?;
-    one.extend(alloc, &zones_of(alloc, 9, &more)?)?;
-    assert!(rt; are_same(alloc, &one, &all)?);
+    let mut one = first_map(alloc)?;
+    extend(alloc, &mut one, &other_zones(alloc)?)?;
+    assert!(rt; is_whole(alloc, &one)?);
+    Ok(())
+}
+
+fn push_all(alloc: Global, map: &mut ZoneMap, sets: &[Vec<StatsSet>]) -> Result<(), StatsError> {
+    for set in sets {
+        map.push(alloc, &Zone::new(9, set))?;
+    }
+    Ok(())
+}
+
+#[test]
+fn pushed_zones_are_one_map(rt: HostRuntime) -> Result<(), Fail> {
+    let alloc = rt.alloc();
+    let mut map = no_zones_map(alloc)?;
+    push_all(alloc, &mut map, &three_zones(alloc)?)?;
+    assert!(rt; is_whole(alloc, &map)?);
     Ok(())
 }
 
@@ -278,12 +325,10 @@ fn extended_maps_are_one(rt: HostRuntime) -> Result<(), Fail> {
 #[test]
 fn maps_are_not_extended_by_misfits(rt: HostRuntime) -> Result<(), Fail> {
     let alloc = rt.alloc();
-    let same = map_with(alloc, 9, &three_zones(alloc)?)?;
-    let mut map = map_with(alloc, 9, &three_zones(alloc)?)?;
-    let more = one_of_texts(alloc, 1)?;
-    let refused = map.extend(alloc, &zones_of(alloc, 9, &more)?);
+    let mut map = whole_map(alloc)?;
+    let refused = extend(alloc, &mut map, &one_of_texts(alloc, 1)?);
     assert!(rt; matches!(refused, Err(StatsError::Mismatch)));
-    assert!(rt; are_same(alloc, &map, &same)?);
+    assert!(rt; is_whole(alloc, &map)?);
     Ok(())
 }
 
@@ -308,29 +353,26 @@ fn refused_maps_hand_back(rt: HostRuntime) -> Result<(), Fail> {
     Ok(())
 }
 
-// Whether a call made the one map, or was refused for memory and left it as the other.
+// Whether a call made the map of all zones, or was refused for memory and left that of the first.
 fn is_grown(
     alloc: Global,
     told: Result<(), StatsError>,
     map: &ZoneMap,
-    (grown, same): (&ZoneMap, &ZoneMap),
 ) -> Result<bool, StatsError> {
     match told {
-        Ok(()) => are_same(alloc, map, grown),
-        Err(refused) => Ok(is_memory(&refused) && are_same(alloc, map, same)?),
+        Ok(()) => is_whole(alloc, map),
+        Err(refused) => Ok(is_memory(&refused) && is_first(alloc, map)?),
     }
 }
 
 #[test]
 fn refused_appends_change_nothing(rt: HostRuntime) -> Result<(), Fail> {
     let alloc = rt.alloc();
-    let all = map_with(alloc, 9, &three_zones(alloc)?)?;
-    let same = map_with(alloc, 9, &first_zone(alloc)?)?;
-    let mut one = map_with(alloc, 9, &first_zone(alloc)?)?;
-    let mut other = map_with(alloc, 9, &other_zones(alloc)?)?;
+    let mut one = first_map(alloc)?;
+    let mut other = others_map(alloc)?;
     let told = append(&mut one, &mut other);
     let left = if told.is_ok() { 0 } else { 2 };
-    assert!(rt; is_grown(alloc, told, &one, (&all, &same))?);
+    assert!(rt; is_grown(alloc, told, &one)?);
     assert!(rt; other.len() == left);
     Ok(())
 }
@@ -338,13 +380,30 @@ fn refused_appends_change_nothing(rt: HostRuntime) -> Result<(), Fail> {
 #[test]
 fn refused_extensions_change_nothing(rt: HostRuntime) -> Result<(), Fail> {
     let alloc = rt.alloc();
-    let all = map_with(alloc, 9, &three_zones(alloc)?)?;
-    let same = map_with(alloc, 9, &first_zone(alloc)?)?;
-    let mut one = map_with(alloc, 9, &first_zone(alloc)?)?;
-    let sets = other_zones(alloc)?;
-    let more = zones_of(alloc, 9, &sets)?;
-    let told = one.extend(alloc, &more);
-    assert!(rt; is_grown(alloc, told, &one, (&all, &same))?);
+    let mut one = first_map(alloc)?;
+    let told = extend(alloc, &mut one, &other_zones(alloc)?);
+    assert!(rt; is_grown(alloc, told, &one)?);
+    Ok(())
+}
+
+// Whether a zone was pushed to a map without any, or memory was refused and there is none.
+fn is_pushed(
+    alloc: Global,
+    told: Result<(), StatsError>,
+    map: &ZoneMap,
+) -> Result<bool, StatsError> {
+    match told {
+        Ok(()) => is_first(alloc, map),
+        Err(refused) => Ok(is_memory(&refused) && is_empty(alloc, map)?),
+    }
+}
+
+#[test]
+fn refused_pushes_change_nothing(rt: HostRuntime) -> Result<(), Fail> {
+    let alloc = rt.alloc();
+    let mut map = no_zones_map(alloc)?;
+    let told = push_all(alloc, &mut map, &first_zone(alloc)?);
+    assert!(rt; is_pushed(alloc, told, &map)?);
     Ok(())
 }
 

@@ -6,7 +6,7 @@ use std::test::Fail;
 use vortex_base::evaluate::evaluate;
 use vortex_base::{BaseError, BoundExpression, DType, Nullability, Row, ScalarValue};
 use vortex_prune::bind::bind_stats;
-use vortex_prune::{Part, StatsBinder};
+use vortex_prune::{Part, StatsBinder, Zone, ZoneStatsBinder};
 use vortex_rewrite::expr::bound as placed;
 use vortex_rewrite_tests::nodes::*;
 use vortex_stats::{Stat, StatsError};
@@ -98,5 +98,41 @@ fn a_proof_can_be_evaluated(rt: HostRuntime) -> Result<(), Fail> {
     let max = max(alloc, col(alloc, 0, I32));
     let bound = bound_to_part(alloc, lt_eq(alloc, max, int_or_null(alloc, 25)));
     assert!(rt; value_of(bound, 3)? == Some(ScalarValue::Bool(true)));
+    Ok(())
+}
+
+// The expression, bound by the statistics of the zone that the part stands for, without its rows.
+fn bound_without_rows(alloc: Global, e: BoundExpression, part: &Part) -> Built {
+    let zone = part.zone();
+    let binder = ZoneStatsBinder::try_new(part.chunk().scope(), &zone)?;
+    bind_stats(alloc, e, &binder)
+}
+
+// A placeholder that the statistics answer, and one that they don't.
+fn greatest_and_least(alloc: Global) -> Built {
+    gt(alloc, max(alloc, a(alloc)), min(alloc, a(alloc)))
+}
+
+#[test]
+fn zones_answer_as_their_parts(rt: HostRuntime) -> Result<(), Fail> {
+    let alloc = rt.alloc();
+    let part = part(alloc)?;
+    let by_zone = bound_without_rows(alloc, greatest_and_least(alloc)?, &part)?;
+    assert!(rt; by_zone == bound_by(alloc, greatest_and_least(alloc)?, &part)?);
+    let by_zone = bound_without_rows(alloc, all_null(alloc, a(alloc))?, &part)?;
+    assert!(rt; by_zone == bound_by(alloc, all_null(alloc, a(alloc))?, &part)?);
+    Ok(())
+}
+
+fn is_misfit(part: &Part, zone: &Zone<'_>) -> bool {
+    let made = ZoneStatsBinder::try_new(part.chunk().scope(), zone);
+    matches!(made, Err(StatsError::Mismatch))
+}
+
+#[test]
+fn a_zone_without_sets_has_no_binder(rt: HostRuntime) -> Result<(), Fail> {
+    let part = part(rt.alloc())?;
+    assert!(rt; is_misfit(&part, &Zone::new(3, &[])));
+    assert!(rt; !is_misfit(&part, &part.zone()));
     Ok(())
 }

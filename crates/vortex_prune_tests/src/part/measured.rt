@@ -228,15 +228,19 @@ fn refused_measures_of_numbers_hand_back(rt: HostRuntime) -> Result<(), Fail> {
     Ok(())
 }
 
-fn named(alloc: Global, name: &str) -> Result<(String, DType), AllocError> {
-    Ok((String::from_str(alloc, name)?, I32_OR_NULL))
+fn chunk_with(scope: Scope, columns: Vec<Column>) -> Result<Chunk, StatsError> {
+    told(Chunk::try_new(scope, columns))
+}
+
+fn add_name(columns: &mut Vec<(String, DType)>, name: String) -> Result<(), AllocError> {
+    Ok(columns.push((name, I32_OR_NULL))?)
 }
 
 fn scope_of_three(alloc: Global) -> Result<Scope, StatsError> {
     let mut columns = Vec::new(alloc);
-    columns.push(named(alloc, "a")?)?;
-    columns.push(named(alloc, "b")?)?;
-    columns.push(named(alloc, "c")?)?;
+    for name in ["a", "b", "c"] {
+        add_name(&mut columns, String::from_str(alloc, name)?)?;
+    }
     told(Scope::try_new(columns))
 }
 
@@ -245,12 +249,20 @@ fn one_to_three(alloc: Global) -> Result<Column, StatsError> {
     column(I32_OR_NULL, numbers(alloc, &[Some(1), None, Some(3)]), 12)
 }
 
-fn three_columns(alloc: Global) -> Result<Chunk, StatsError> {
+fn add_column(columns: &mut Vec<Column>, column: Column) -> Result<(), AllocError> {
+    Ok(columns.push(column)?)
+}
+
+fn same_columns(alloc: Global) -> Result<Vec<Column>, StatsError> {
     let mut columns = Vec::new(alloc);
     for _ in 0..3 {
-        columns.push(one_to_three(alloc)?)?;
+        add_column(&mut columns, one_to_three(alloc)?)?;
     }
-    told(Chunk::try_new(scope_of_three(alloc)?, columns))
+    Ok(columns)
+}
+
+fn three_columns(alloc: Global) -> Result<Chunk, StatsError> {
+    chunk_with(scope_of_three(alloc)?, same_columns(alloc)?)
 }
 
 // That so many rows are null, that no value is above this, and that 1 is the least.
