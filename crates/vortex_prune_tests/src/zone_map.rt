@@ -272,10 +272,11 @@ fn is_empty(alloc: Global, map: &ZoneMap) -> Result<bool, StatsError> {
 
 // The zones of the other map behind those of the one, if they are of one scope.
 fn append(one: &mut ZoneMap, other: &mut ZoneMap) -> Result<(), StatsError> {
-    if *one.scope() != *other.scope() {
-        return Err(StatsError::Mismatch);
+    if *one.scope() == *other.scope() {
+        one.append(other)
+    } else {
+        Err(StatsError::Mismatch)
     }
-    one.append(other)
 }
 
 // Maps appended are the map of all zones, and the other is left without any.
