@@ -398,8 +398,8 @@ impl ZoneMap {
         }
     }
 
-    /// Adds zones behind those that there are: `Mismatch` unless each has one set a column that fits
-    /// its column's type, and else `Memory` alone. From a refusal the map is as it was.
+    /// Adds zones behind those that there are. `Mismatch` unless each has one set a column that
+    /// fits its column's type, and else `Memory` alone. From a refusal the map is as it was.
     pub fn extend(&mut self, alloc: Global, zones: &[Zone<'_>]) -> Result<(), StatsError>
         ensures is_map { OnOk result ((known : List ZoneData) → IsMapOf known self.old
             → IsMapOf (known ++ zones.now) self.new) }
