@@ -35,7 +35,13 @@ fi
 (cd callers/rust && export CARGO_TARGET_DIR=../out/rust RUSTFLAGS=-Dwarnings
  cargo test --offline --quiet && cargo run --offline --quiet --example footers)
 
-# Python: the tests with warnings as errors, and the example.
-(cd callers/python && export FOALMORROW_LIBRARY="$PWD/../out/libvortex_ffi.so" PYTHONDONTWRITEBYTECODE=1 PYTHONPATH=.
- python3 -W error -m unittest -q tests.test_predicate tests.test_footers tests.test_random && python3 examples/footers.py)
+# Python: the tests with warnings as errors, and the example; once more with numpy, which Debian's own python3 may see alone.
+python_tests() {
+    (cd callers/python && export FOALMORROW_LIBRARY="$PWD/../out/libvortex_ffi.so" PYTHONDONTWRITEBYTECODE=1 PYTHONPATH=.
+     "$1" -W error -m unittest -q tests.test_predicate tests.test_footers tests.test_random tests.test_prune
+     "$1" examples/footers.py)
+}
+python_tests python3
+has_numpy() { "$1" -c "import numpy" 2> /dev/null; }
+if ! has_numpy python3 && has_numpy /usr/bin/python3; then python_tests /usr/bin/python3; fi
 echo "callers: C, Rust and Python agree with the library"

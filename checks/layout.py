@@ -27,7 +27,7 @@ SOURCES = sorted(f for f in TRACKED if f.startswith("crates/") and f.endswith(("
 TEXTS = {f: read(f) for f in SOURCES}
 CODE = {f: text for f, text in TEXTS.items() if f.endswith(".rt")}
 # A trait may be imported for its methods alone.
-TRAITS = {"Read", "Write"} | {name for text in CODE.values() for name in re.findall(r"^pub trait (\w+)", text, re.M)}
+TRAITS = {"BufRead", "Read", "Write"} | {name for text in CODE.values() for name in re.findall(r"^pub trait (\w+)", text, re.M)}
 KNOWN = {
     "docs/MAP.md": "this map",
     "README.md": "what the product is for, how to run and test it, what is proved",
@@ -156,6 +156,14 @@ def link_faults():
                     yield f"{f}:{number}: nothing is at {path}"
 
 
+def quote_faults():
+    """Code in a library's page for callers that doesn't stand in the file that its first line names."""
+    for f in (it for it in TRACKED if it.endswith("/CALLING.md")):
+        for place, code in re.findall(r"```rust\n// (\S+)\n(.*?)```", read(f), re.S):
+            if place not in TEXTS or code not in TEXTS[place]:
+                yield f"{f}: the code that is said to be of {place} doesn't stand there"
+
+
 def edit_fault(f):
     """Why an edit can't be applied to the crate as it stands, or None."""
     crate = f.split("/")[-3] if "/must-fail/" in f else f.split("/")[-2]
@@ -209,7 +217,7 @@ def main():
     if sys.argv[1:] == ["--map"]:
         print(the_map(), end="")
         return 0
-    faults = [*source_faults(), *definition_faults(), *promise_faults(), *link_faults(), *edit_faults()]
+    faults = [*source_faults(), *definition_faults(), *promise_faults(), *link_faults(), *quote_faults(), *edit_faults()]
     if read("docs/MAP.md") != the_map():
         faults.append("docs/MAP.md: out of step; write it anew by checks/layout.py --map > docs/MAP.md")
     print("\n".join(faults) or "layout: every file is in order")

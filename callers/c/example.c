@@ -7,10 +7,11 @@
 enum { CHUNKS = 4, ROWS = 3 };
 
 /* Temperatures in four chunks. */
-static const int64_t table[CHUNKS][ROWS] = {{12, 15, 11}, {18, 25, 22}, {30, 28, 31}, {9, 4, 10}};
+static const int64_t table[CHUNKS][ROWS] = {{12, 15, 11}, {18, 25, 22}, {24, 28, 21}, {9, 4, 10}};
 
-/* What is kept of the chunks: least and greatest value of each, and how many are null. */
+/* What is kept of the chunks: how many rows each has, its least and greatest value, and how many are null. */
 static const uint8_t wanted[3] = {VORTEX_MIN, VORTEX_MAX, VORTEX_NULL_COUNT};
+static uint64_t rows[CHUNKS];
 static uint8_t known[3][CHUNKS];
 static int64_t kept[3][CHUNKS];
 
@@ -28,28 +29,44 @@ static void measure(size_t chunk) {
     vortex_fault fault;
     uint8_t status = vortex_measure(&column, wanted, 3, how, 3, ends, 3, bytes, sizeof bytes, &len, &fault);
     if (status != VORTEX_OK) fail("measure", status, &fault);
+    rows[chunk] = ROWS;
     for (size_t i = 0; i < 3; i++) {
         known[i][chunk] = how[i];
         memcpy(&kept[i][chunk], bytes + 8 * i, 8);
     }
 }
 
-/* Reads a chunk: its temperatures above a limit. */
-static void print_above(size_t chunk, int64_t limit) {
-    printf("chunk %zu:", chunk);
+/* What to do with each chunk under a predicate, by what is kept. */
+static void prune(const char *predicate, uint8_t *answers) {
+    const vortex_field scope[1] = {{.name = (const uint8_t *)"t", .name_len = 1, .kind = VORTEX_I64, .nullable = 1}};
+    vortex_statistic stats[3];
+    for (size_t i = 0; i < 3; i++)
+        stats[i] = (vortex_statistic){.stat = wanted[i], .known = known[i], .known_len = CHUNKS,
+                                      .values = (const uint8_t *)kept[i], .values_len = sizeof kept[i]};
+    vortex_fault fault;
+    uint8_t status = vortex_prune(scope, 1, rows, CHUNKS, stats, 3, (const uint8_t *)predicate, strlen(predicate),
+                                  VORTEX_NORMALIZE, answers, CHUNKS, &fault);
+    if (status != VORTEX_OK) fail("prune", status, &fault);
+}
+
+/* Reads a chunk: its temperatures from 20 to 29. All of them if each is known to be. */
+static void read(size_t chunk, int whole) {
+    printf("chunk %zu%s:", chunk, whole ? ", whole" : "");
     for (size_t row = 0; row < ROWS; row++)
-        if (table[chunk][row] > limit) printf(" %lld", (long long)table[chunk][row]);
+        if (whole || (table[chunk][row] >= 20 && table[chunk][row] <= 29)) printf(" %lld", (long long)table[chunk][row]);
     printf("\n");
 }
 
 int main(void) {
     /* A writer keeps the statistics of each chunk. */
     for (size_t chunk = 0; chunk < CHUNKS; chunk++) measure(chunk);
-    /* A reader that wants temperatures above 20 leaves a chunk unread whose greatest one isn't above it. */
+    /* A reader that wants temperatures from 20 to 29 leaves the chunks unread that hold none. */
+    uint8_t answers[CHUNKS];
+    prune("between <= <= col t lit i64 20 lit i64 29", answers);
     for (size_t chunk = 0; chunk < CHUNKS; chunk++)
-        if (known[1][chunk] == VORTEX_EXACT && kept[1][chunk] <= 20)
+        if (answers[chunk] == VORTEX_SKIP)
             printf("chunk %zu: left unread\n", chunk);
         else
-            print_above(chunk, 20);
+            read(chunk, answers[chunk] == VORTEX_WHOLE);
     return 0;
 }

@@ -32,6 +32,8 @@ static void layout(void) {
                        offsetof(vortex_statistic, known) == 24 && offsetof(vortex_statistic, known_len) == 32 &&
                        offsetof(vortex_statistic, values) == 40 && offsetof(vortex_statistic, values_len) == 48 &&
                        offsetof(vortex_statistic, ends) == 56 && offsetof(vortex_statistic, ends_len) == 64, "vortex_statistic");
+    _Static_assert(sizeof(vortex_field) == 24 && offsetof(vortex_field, name) == 0 && offsetof(vortex_field, name_len) == 8 &&
+                       offsetof(vortex_field, kind) == 16 && offsetof(vortex_field, nullable) == 17, "vortex_field");
 }
 
 /* The least and the greatest of the two numbers, whatever the type. */
@@ -141,6 +143,157 @@ static void every_statistic(void) {
     assert(vortex_check(&column, NULL, 0, 7, &fault) == VORTEX_OK);
 }
 
+/* Two tables of texts and counts of two zones each, merged zone by zone; every field of a statistic counts. */
+static void every_merge(void) {
+    const uint64_t left_ends[2] = {4, 6}, right_ends[2] = {1, 3};
+    const uint64_t left_nulls[2] = {1, 5}, right_nulls[2] = {2, 7};
+    vortex_statistic left[2] = {
+        {.stat = VORTEX_MIN, .start = 1, .known = (const uint8_t *)"\1\1", .known_len = 2, .values = (const uint8_t *)"?beeab",
+         .values_len = 6, .ends = left_ends, .ends_len = 2},
+        {.stat = VORTEX_NULL_COUNT, .known = (const uint8_t *)"\1\2", .known_len = 2, .values = (const uint8_t *)left_nulls,
+         .values_len = 16},
+    };
+    vortex_statistic right[2] = {
+        {.stat = VORTEX_MIN, .known = (const uint8_t *)"\1\2", .known_len = 2, .values = (const uint8_t *)"caa", .values_len = 3,
+         .ends = right_ends, .ends_len = 2},
+        {.stat = VORTEX_NULL_COUNT, .known = (const uint8_t *)"\1\0", .known_len = 2, .values = (const uint8_t *)right_nulls,
+         .values_len = 16},
+    };
+#define MERGE(zones, stats) \
+    vortex_merge(VORTEX_UTF8, 1, zones, left, stats, right, stats, known, 2 * (stats), ends, 2 * (stats), bytes, sizeof bytes, &len, \
+                 &fault)
+    assert(MERGE(2, 2) == VORTEX_OK && len == 21);
+    assert(memcmp(known, "\1\2\1\0", 4) == 0 && ends[0] == 3 && ends[1] == 5 && ends[2] == 13 && ends[3] == 21);
+    assert(memcmp(bytes, "beeaa\3\0\0\0\0\0\0\0", 13) == 0);
+    assert(MERGE(0, 0) == VORTEX_OK && len == 0);
+    known[0] = 99, ends[0] = 99, bytes[0] = 99;
+    refused(MERGE(3, 2), VORTEX_BAD_LENGTH, 2, 0);
+    right[1].stat = VORTEX_SUM;
+    refused(MERGE(2, 2), VORTEX_BAD_STAT, 0, 1);
+    left[1].stat = VORTEX_SUM;
+    refused(MERGE(2, 2), VORTEX_BAD_STAT, 0, 1);
+    left[1].stat = right[1].stat = VORTEX_NULL_COUNT, right[1].known = (const uint8_t *)"\1\3";
+    assert(MERGE(2, 2) == VORTEX_BAD_KNOWN && fault.row == 1 && fault.column == 1 && fault.entry == 1);
+    right[1].known_len = 1;
+    assert(MERGE(2, 2) == VORTEX_BAD_LENGTH && fault.row == 1 && fault.column == 1 && fault.entry == 1);
+    right[1].known_len = 2, right[1].known = (const uint8_t *)"\1\0", left[0].start = 5;
+    refused(MERGE(2, 2), VORTEX_BAD_ENDS, 0, 0);
+    left[0].start = 1, left[0].values = (const uint8_t *)"?\xff..ab";
+    refused(MERGE(2, 2), VORTEX_BAD_VALUE, 0, 0);
+    left[0].values = (const uint8_t *)"?beeab";
+    assert(vortex_merge(12, 1, 2, left, 2, right, 2, known, 4, ends, 4, bytes, sizeof bytes, &len, &fault) == VORTEX_BAD_KIND);
+    refused(vortex_merge(VORTEX_UTF8, 1, 2, left, 2, right, 1, known, 4, ends, 4, bytes, sizeof bytes, &len, &fault),
+            VORTEX_BAD_LENGTH, 0, 1);
+    assert(vortex_merge(VORTEX_UTF8, 1, 2, left, 2, right, 2, known, 3, ends, 4, bytes, sizeof bytes, &len, &fault) == VORTEX_BAD_LENGTH);
+    assert(vortex_merge(VORTEX_UTF8, 1, 2, left, 2, right, 2, known, 4, ends, 4, bytes, 20, &len, &fault) == VORTEX_TOO_SHORT && len == 21);
+    assert(known[0] == 99 && ends[0] == 99 && bytes[0] == 99);
+#undef MERGE
+}
+
+static uint8_t answers[4];
+
+static uint8_t prune(const vortex_field *scope, size_t columns, const uint64_t *rows, size_t zones, const vortex_statistic *stats,
+                     size_t count, const char *predicate, uint8_t flags) {
+    return vortex_prune(scope, columns, rows, zones, stats, count, (const uint8_t *)predicate, strlen(predicate), flags, answers,
+                        zones, &fault);
+}
+
+/* Every field of a column of a scope, of a zone and of a statistic counts, and each answer is given. */
+static void every_pruning(void) {
+    vortex_field scope[2] = {{.name = (const uint8_t *)"ab", .name_len = 1, .kind = VORTEX_I32, .nullable = 0},
+                             {.name = (const uint8_t *)"b", .name_len = 1, .kind = VORTEX_UTF8, .nullable = 1}};
+    const uint64_t rows[3] = {4, 4, 7};
+    const int32_t least[3] = {-5, 10, 20}, greatest[3] = {5, 15, 30};
+    const uint64_t nulls[3] = {0, 4, 4}, none[3] = {0, 0, 0}, text_ends[3] = {2, 3, 6};
+    vortex_statistic stats[5] = {
+        {.column = 0, .stat = VORTEX_MIN, .known = (const uint8_t *)"\1\1\2", .known_len = 3, .values = (const uint8_t *)least,
+         .values_len = 12},
+        {.column = 0, .stat = VORTEX_MAX, .known = (const uint8_t *)"\1\2\0", .known_len = 3, .values = (const uint8_t *)greatest,
+         .values_len = 12},
+        {.column = 1, .stat = VORTEX_NULL_COUNT, .known = (const uint8_t *)"\1\1\1", .known_len = 3,
+         .values = (const uint8_t *)nulls, .values_len = 24},
+        {.column = 1, .stat = VORTEX_MAX, .start = 1, .known = (const uint8_t *)"\1\0\1", .known_len = 3,
+         .values = (const uint8_t *)"?cxbee", .values_len = 6, .ends = text_ends, .ends_len = 3},
+        {.column = 0, .stat = VORTEX_NULL_COUNT, .known = (const uint8_t *)"\1\1\1", .known_len = 3,
+         .values = (const uint8_t *)none, .values_len = 24},
+    };
+#define PRUNE(predicate, flags) prune(scope, 2, rows, 3, stats, 5, predicate, flags)
+#define ANSWERS(a, b, c) assert(answers[0] == (a) && answers[1] == (b) && answers[2] == (c))
+    assert(PRUNE("gt col a lit i32 9", 0) == VORTEX_OK);
+    ANSWERS(VORTEX_SKIP, VORTEX_WHOLE, VORTEX_WHOLE);
+    assert(PRUNE("gt col a lit i32 10", 0) == VORTEX_OK);
+    ANSWERS(VORTEX_SKIP, VORTEX_READ, VORTEX_WHOLE);
+    assert(PRUNE("lt col a lit i32 6", 0) == VORTEX_OK);
+    ANSWERS(VORTEX_WHOLE, VORTEX_SKIP, VORTEX_SKIP);
+    assert(PRUNE("isnull col b", 0) == VORTEX_OK);
+    ANSWERS(VORTEX_SKIP, VORTEX_WHOLE, VORTEX_READ);
+    assert(PRUNE("gt col b lit utf8 \"bz\"", 0) == VORTEX_OK);
+    ANSWERS(VORTEX_READ, VORTEX_READ, VORTEX_SKIP);
+    assert(PRUNE("and gt col a lit i32 12 lt col a lit i32 12", 0) == VORTEX_OK);
+    ANSWERS(VORTEX_SKIP, VORTEX_READ, VORTEX_SKIP);
+    assert(PRUNE("and gt col a lit i32 12 lt col a lit i32 12", VORTEX_NORMALIZE) == VORTEX_OK);
+    ANSWERS(VORTEX_SKIP, VORTEX_SKIP, VORTEX_SKIP);
+    /* Shards. */
+    for (size_t zone = 0; zone < 3; zone++) {
+        vortex_statistic shard[5];
+        uint8_t alone;
+        for (size_t i = 0; i < 5; i++) {
+            size_t width = i < 2 ? 4 : 8;
+            shard[i] = stats[i];
+            shard[i].known += zone, shard[i].known_len = 1;
+            if (i != 3)
+                shard[i].values += zone * width, shard[i].values_len = width;
+            else
+                shard[i].start = zone ? text_ends[zone - 1] : 1, shard[i].ends += zone, shard[i].ends_len = 1;
+        }
+        const char *predicate = "or gt col a lit i32 12 gt col b lit utf8 \"bz\"";
+        assert(PRUNE(predicate, 0) == VORTEX_OK);
+        assert(vortex_prune(scope, 2, rows + zone, 1, shard, 5, (const uint8_t *)predicate, strlen(predicate), 0, &alone, 1,
+                            &fault) == VORTEX_OK);
+        assert(alone == answers[zone]);
+    }
+    assert(prune(scope, 2, NULL, 0, NULL, 0, "isnull col b", 0) == VORTEX_OK);
+
+    memset(answers, 9, sizeof answers);
+    refused(PRUNE("isnull col b", 2), VORTEX_BAD_FLAG, 0, 0);
+    refused(vortex_prune(scope, 2, rows, 3, stats, 4, (const uint8_t *)"isnull col b", 12, 0, answers, 4, &fault),
+            VORTEX_BAD_LENGTH, 0, 0);
+    refused(PRUNE("isnull col c", 0), VORTEX_BAD_LINE, 0, 0);
+    refused(PRUNE("", 0), VORTEX_BAD_LINE, 0, 0);
+    refused(PRUNE("isnull col b \xff", 0), VORTEX_BAD_LINE, 0, 0);
+    refused(prune(scope, 0, rows, 3, stats, 4, "lit bool true", 0), VORTEX_BAD_LINE, 0, 0);
+    refused(PRUNE("col a", 0), VORTEX_NOT_A_PREDICATE, 0, 0);
+    refused(PRUNE("col a", VORTEX_NORMALIZE), VORTEX_NOT_A_PREDICATE, 0, 0);
+    scope[1].name = (const uint8_t *)"a";
+    assert(PRUNE("isnull col a", 0) == VORTEX_BAD_NAME && fault.row == 0 && fault.column == 1 && fault.entry == 0);
+    scope[1].name = (const uint8_t *)"1";
+    assert(PRUNE("isnull col a", 0) == VORTEX_BAD_NAME && fault.column == 1);
+    scope[1].name_len = 0;
+    assert(PRUNE("isnull col a", 0) == VORTEX_BAD_NAME && fault.column == 1);
+    scope[1].name = (const uint8_t *)"b", scope[1].name_len = 1, scope[1].kind = 12;
+    assert(PRUNE("isnull col a", 0) == VORTEX_BAD_KIND && fault.column == 1);
+    scope[1].kind = VORTEX_UTF8, scope[1].nullable = 2;
+    assert(PRUNE("isnull col a", 0) == VORTEX_BAD_KIND && fault.column == 1);
+    scope[1].nullable = 1, stats[3].column = 2;
+    refused(PRUNE("isnull col b", 0), VORTEX_BAD_COLUMN, 0, 3);
+    stats[3].column = 1, stats[3].stat = VORTEX_SUM;
+    refused(PRUNE("isnull col b", 0), VORTEX_BAD_STAT, 0, 3);
+    stats[3].stat = VORTEX_MAX, stats[3].known = (const uint8_t *)"\1\0\3";
+    assert(PRUNE("isnull col b", 0) == VORTEX_BAD_KNOWN && fault.row == 2 && fault.column == 1 && fault.entry == 3);
+    stats[3].known = (const uint8_t *)"\1\0\1", stats[1].values_len = 8;
+    assert(PRUNE("isnull col b", 0) == VORTEX_OK);
+    stats[1].values_len = 4;
+    memset(answers, 9, sizeof answers);
+    assert(PRUNE("isnull col b", 0) == VORTEX_BAD_LENGTH && fault.row == 1 && fault.column == 0 && fault.entry == 1);
+    stats[1].values_len = 12, stats[3].start = 3;
+    assert(PRUNE("isnull col b", 0) == VORTEX_BAD_ENDS && fault.row == 0 && fault.column == 1 && fault.entry == 3);
+    stats[3].start = 1, stats[3].values = (const uint8_t *)"?\xffxbee";
+    assert(PRUNE("isnull col b", 0) == VORTEX_BAD_VALUE && fault.row == 0 && fault.column == 1 && fault.entry == 3);
+    ANSWERS(9, 9, 9);
+#undef PRUNE
+#undef ANSWERS
+}
+
 static void program(void) {
     const char *text = "column a i64?\npart\nstat a max exact 10\nrow 10\npart\nrow 20\nwhere gt col a lit i64 10\n";
     uint8_t output[32];
@@ -158,6 +311,8 @@ int main(void) {
     every_field();
     every_refusal();
     every_statistic();
+    every_merge();
+    every_pruning();
     program();
     puts("round trip: each field, type and status is as the header says");
     return 0;

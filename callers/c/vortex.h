@@ -4,9 +4,6 @@
  * Link with callers/out/libvortex_ffi.a or libvortex_ffi.so, which checks/callers.sh builds. They need malloc, realloc
  * and free of the C library and nothing else.
  *
- * Of the calls below the library has vortex_run, vortex_measure and vortex_check so far; vortex_merge and vortex_prune are
- * declared so that callers can be written for them.
- *
  * Who owns what. Every array is the caller's. A call reads the arrays that it is handed, writes the ones that are not
  * const, and keeps nothing: no handle, no state, nothing to free. An array is a pointer and a number of elements; of no
  * elements the pointer may be null. No array that is written may overlap another one of the same call.
@@ -112,7 +109,7 @@ enum vortex_flag { VORTEX_NORMALIZE = 1 /* normalize the predicate first, which 
 /* Where a call was refused. */
 typedef struct vortex_fault {
     size_t row;    /* the row of a column of values, or the zone of a table */
-    size_t column; /* the column */
+    size_t column; /* the column; of vortex_merge 0 for the left table and 1 for the right one */
     size_t entry;  /* the statistic, by its place among those that were handed in */
 } vortex_fault;
 
@@ -174,14 +171,14 @@ uint8_t vortex_measure(const vortex_values *column, const uint8_t *stats, size_t
 /*
  * The statistics of chunks of a column, each of them a chunk of `left` followed by the chunk of `right` at the same
  * place. Both have the same statistics in the same order, of a column of this kind, over so many zones; of two of the same
- * number the later counts. The merged statistic i in zone z is at place i * zones + z of
+ * number the later counts. Where they aren't the same VORTEX_BAD_LENGTH or VORTEX_BAD_STAT tells the first place. The merged statistic i in zone z is at place i * zones + z of
  *   known       how it is known;
  *   ends        where its value ends in `values`; it begins where the one before ends, the first at 0.
  * So the statistic i of the next table has known + i * zones and ends + i * zones; of types with a width its values begin
  * at the end before ends[i * zones] (0 for the first); of texts and bytes its heap is all of `values`, and `start` is that
  * end. `known` and `ends` have stats times zones elements. *len as in vortex_measure: never more than the lengths of the
  * values of both sides together. The rows of two chunks add up, which is the caller's to do. A call takes 504 bytes of
- * memory a zone while it runs.
+ * memory a zone while it runs, and what it answers.
  */
 uint8_t vortex_merge(uint8_t kind, uint8_t nullable, size_t zones, const vortex_statistic *left, size_t left_len,
                      const vortex_statistic *right, size_t right_len, uint8_t *known, size_t known_len, uint64_t *ends,
@@ -199,7 +196,10 @@ uint8_t vortex_check(const vortex_values *column, const vortex_statistic *stats,
  * `rows`, and the statistics are of the columns of the scope. The predicate is an expression as a `where` line of
  * docs/LANGUAGE.md has it, without the word `where`: "gt col a lit i64 10". Of whatever rows the statistics are true, no
  * row of a zone that is skipped satisfies the predicate, and each row of a zone that is whole does. A table may be cut
- * into pieces that are pruned apart, in threads of their own, with the same answers.
+ * into pieces that are pruned apart, in threads of their own, with the same answers. `answers` has an element for each of
+ * the `rows`, or VORTEX_BAD_LENGTH is returned. Of several faults the first is told, in this order: the flags, the length
+ * of `answers`, the scope, the predicate, the columns and numbers of the statistics, and their values zone by zone. While
+ * it runs a call takes a byte a zone, and some 500 bytes for each column of a batch of zones.
  */
 uint8_t vortex_prune(const vortex_field *scope, size_t scope_len, const uint64_t *rows, size_t rows_len,
                      const vortex_statistic *stats, size_t stats_len, const uint8_t *predicate, size_t predicate_len,

@@ -1,9 +1,9 @@
-"""A table in chunks: each measured once, and the footers kept in a file that a reader opens before it reads any row."""
+"""A table in chunks: each measured once, the footers kept in a file, and later the chunks alone read that a predicate doesn't rule out."""
 import os
 import random
 import tempfile
 
-from foalmorrow import Column, DType, Footers, Stat
+from foalmorrow import Answer, Column, DType, Footers, Stat, col
 
 COLUMNS = [Column("day", DType.U16), Column("price", DType.I64, nullable=True), Column("city", DType.UTF8)]
 
@@ -22,14 +22,21 @@ def main() -> None:
         # A writer: the statistics of each chunk, true of it by proof.
         Footers.measure(COLUMNS, (chunk(day) for day in range(30))).save(path)
 
-        # A reader, later: what is known of the chunks.
+        # A reader, later: which chunks it has to fetch for a predicate, before it has any row.
         footers = Footers.load(path)
-        for zone in (0, 29):
-            known = footers.at(zone)
-            print(f"chunk {zone}: price from {known['price', Stat.MIN][1]} to {known['price', Stat.MAX][1]}, {known['price', Stat.NULL_COUNT][1]} nulls")
-        for column in COLUMNS:
-            depth = footers.overlap(column.name)
-            print(f"a value of {column.name} may lie in {depth.mean:.1f} of {len(footers)} chunks, in {depth.most} at the most")
+        wanted = (col("price") > 2720) & col("city").like("B%") | (col("day") == 3)
+        answers = footers.prune(wanted)
+        for zone in answers.kept:
+            rows = chunk(zone)
+            cells = zip(rows["price"], rows["city"], rows["day"])
+            found = sum(price is not None and price > 2720 and city.startswith("B") or day == 3 for price, city, day in cells)
+            print(f"chunk {zone}: {found} rows" + (", all of them" if answers[zone] == Answer.WHOLE else ""))
+        print(f"{len(answers.skipped)} of {len(answers)} chunks are left unread")
+
+        # Why those were read, and how well the table is sorted for it.
+        print(footers.slice(26, 30).explain(wanted))
+        print(f"a price may lie in {footers.overlap('price').most} of {len(footers)} chunks at the most")
+        print("the greatest price of all:", footers.merged().at(0)["price", Stat.MAX][1])
 
 
 if __name__ == "__main__":

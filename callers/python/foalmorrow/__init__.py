@@ -1,20 +1,26 @@
 """Footers of a table's zones: statistics that are true of their rows by proof, as arrays and in a file; and the program's answers."""
+from .answers import Answers
 from .arrays import ValueFault, Values
-from .footers import ALL, FooterError, Footers, Nullable, Statistic
+from .explain import Explanation
+from .footers import ALL, PRUNING, FooterError, Footers, Nullable, Statistic
 from .library import LibraryError, Refused, run
 from .overlap import Overlap
 from .predicate import Predicate, PredicateError, col
-from .kinds import Column, DType, Precision, Stat
+from .kinds import Answer, Column, DType, Precision, Stat
 
 __all__ = [
     "ALL",
+    "Answer",
+    "Answers",
     "Column",
     "DType",
+    "Explanation",
     "FooterError",
     "Footers",
     "LibraryError",
     "Nullable",
     "Overlap",
+    "PRUNING",
     "Precision",
     "Predicate",
     "PredicateError",

@@ -10,8 +10,14 @@ import sys
 from array import array
 from collections.abc import Iterable, Sequence
 from dataclasses import dataclass
+from itertools import accumulate
 
 from .kinds import DType
+
+try:
+    import numpy
+except ImportError:
+    numpy = None  # type: ignore[assignment]
 
 Value = bool | int | str | bytes | None
 
@@ -43,10 +49,14 @@ class Values:
 
     @classmethod
     def of(cls, dtype: DType, values: object) -> Values:
-        """The values of a list, an ``array`` or a numpy array. A None of a list takes a place as any value would.
+        """The values of a list, an ``array``, a numpy array or ``Values`` as they are. A None of a list takes a place as any value would.
 
         ValueFault where a value is none of the type, or a buffer's items haven't the type's width.
         """
+        if isinstance(values, Values):
+            if values.dtype != dtype:
+                raise ValueFault(f"values of {values.dtype.word} are no {dtype.word}")
+            return values
         if dtype == DType.NULL:
             return cls(dtype, memoryview(b""), memoryview(b""), len(values))  # type: ignore[arg-type]
         if dtype.has_ends:
@@ -102,30 +112,50 @@ class Values:
             ends = self.ends.cast("Q")
             piece = bytes(self.data[ends[place - 1] if place else 0 : ends[place]])
             return piece.decode() if self.dtype == DType.UTF8 else piece
-        return struct.unpack_from("<" + _CODES[self.dtype], self.data, place * self.dtype.width)[0]
+        found: bool | int = struct.unpack_from("<" + _CODES[self.dtype], self.data, place * self.dtype.width)[0]
+        return found
 
     def slice(self, start: int, stop: int) -> Values:
         """The values from one place up to another, without a copy but of the ends of texts."""
         if self.dtype.has_ends:
             ends = self.ends.cast("Q")
             first = ends[start - 1] if start else 0
-            moved = array("Q", (end - first for end in ends[start:stop]))
-            return Values(self.dtype, self.data[first : ends[stop - 1] if stop > start else first], memoryview(moved).cast("B"), stop - start)
+            last = ends[stop - 1] if stop > start else first
+            return Values(self.dtype, self.data[first:last], moved(ends[start:stop], -first), stop - start)
         width = self.dtype.width
         return Values(self.dtype, self.data[start * width : stop * width], self.ends, stop - start)
+
+
+    def take(self, places: range) -> Values:
+        """The values at places that ascend by one step, as a copy."""
+        if self.dtype.has_ends:
+            ends, heap, at = self.ends.cast("Q"), bytearray(), array("Q")
+            for place in places:
+                heap += self.data[ends[place - 1] if place else 0 : ends[place]]
+                at.append(len(heap))
+            return Values(self.dtype, memoryview(heap), memoryview(at).cast("B"), len(places))
+        width, code = self.dtype.width, _CODES.get(self.dtype, "B")
+        view = self.data.cast(code) if width else self.data
+        picked = view[places.start : places.stop : places.step].tobytes() if width else b""
+        return Values(self.dtype, memoryview(picked), memoryview(b""), len(places))
 
 
 def joined(pieces: Sequence[Values]) -> Values:
     """The values of some pieces of one type, one piece behind the other."""
     dtype = pieces[0].dtype
     data = b"".join(piece.data for piece in pieces)
-    ends = array("Q")
-    if dtype.has_ends:
-        start = 0
-        for piece in pieces:
-            ends.extend(start + end for end in piece.ends.cast("Q"))
-            start += piece.data.nbytes
-    return Values(dtype, memoryview(data), memoryview(ends).cast("B"), sum(len(piece) for piece in pieces))
+    starts = accumulate((piece.data.nbytes for piece in pieces), initial=0)
+    ends = b"".join(moved(piece.ends.cast("Q"), start) for piece, start in zip(pieces, starts)) if dtype.has_ends else b""
+    return Values(dtype, memoryview(data), memoryview(ends), sum(len(piece) for piece in pieces))
+
+
+def moved(ends: memoryview | array[int], by: int) -> memoryview:
+    """The ends of texts in a heap that begins so much later."""
+    if not len(ends):
+        return memoryview(b"")
+    if numpy is not None:
+        return memoryview(numpy.frombuffer(ends, dtype="<i8") + by).cast("B")  # type: ignore[arg-type]
+    return memoryview(array("Q", (end + by for end in ends))).cast("B")
 
 
 def _plain(dtype: DType, value: Value) -> bool | int:
@@ -143,7 +173,10 @@ def _text(dtype: DType, value: Value) -> bytes:
     if value is None:
         return b""
     if dtype == DType.UTF8 and isinstance(value, str):
-        return value.encode()
+        try:
+            return value.encode()
+        except UnicodeEncodeError as fault:
+            raise ValueFault(f"{value!r} is no utf8: {fault.reason}") from fault
     if dtype == DType.BINARY and isinstance(value, (bytes, bytearray)):
         return bytes(value)
     raise ValueFault(f"{value!r} is no {dtype.word}")

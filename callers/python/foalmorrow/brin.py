@@ -2,26 +2,38 @@
 
 What a BRIN index keeps of a range are a least and a greatest value of each column and whether there are nulls. They were true when
 they were written and rows that were deleted since don't shrink them, so both are inexact. How many rows a range has isn't kept.
+
+``read`` and ``select`` belong into one ``session``: rows that others write meanwhile widen ranges that were read already.
 """
 from __future__ import annotations
 
+import contextlib
+import json
+import os
+import re
 import subprocess
+import uuid
 from array import array
-from collections.abc import Callable, Sequence
+from collections.abc import Callable, Iterator, Sequence
 from dataclasses import dataclass, field
+from typing import Any
 
 from .footers import Footers
 from .kinds import Column, DType, Precision, Stat
+from .predicate import Predicate
 
 #: Asks the server, and answers rows of texts, None being null.
 Query = Callable[[str], list[list[str | None]]]
 
-_TYPES = {"smallint": DType.I16, "integer": DType.I32, "bigint": DType.I64, "text": DType.UTF8, "character varying": DType.UTF8, "bytea": DType.BINARY}
+_TYPES = {"smallint": DType.I16, "integer": DType.I32, "bigint": DType.I64, "bytea": DType.BINARY}
+_TYPES |= {"text": DType.UTF8, "character varying": DType.UTF8}
 _GREATEST_TEXT = "\U0010ffff" * 16
+#: How many runs of pages one statement asks for.
+_RUNS = 200
 
 
 class BrinError(ValueError):
-    """An index that isn't read: it is of another kind, or has a column that has no counterpart."""
+    """What isn't read: an index of another kind, or with a column that has no counterpart; or what the server refused."""
 
 
 @dataclass(frozen=True)
@@ -33,6 +45,8 @@ class Brin:
     pages_per_range: int
     pages: int
     footers: Footers
+    #: The transaction that it was read in.
+    moment: str = ""
 
     def pages_of(self, zone: int) -> tuple[int, int]:
         """The pages of a zone: the first, and the one behind the last."""
@@ -40,52 +54,187 @@ class Brin:
         return start, min(start + self.pages_per_range, self.pages)
 
 
+@dataclass(frozen=True)
+class Selected:
+    """The rows that satisfy a predicate, texts as the server writes them and None for null, and how many pages were read for them."""
+
+    rows: list[list[str | None]]
+    pages: int
+
+
+_ESCAPES = {b"b": b"\b", b"f": b"\f", b"n": b"\n", b"r": b"\r", b"t": b"\t", b"v": b"\v"}
+
+
+def _client(folder: str, database: str, user: str | None) -> subprocess.Popen[bytes]:
+    words = ["psql", "-X", "-q", "-A", "-t", "-v", "ON_ERROR_STOP=1", "-h", folder, "-d", database, *(["-U", user] if user else [])]
+    environment = {**os.environ, "PGCLIENTENCODING": "UTF8"}
+    try:
+        return subprocess.Popen(words, stdin=subprocess.PIPE, stdout=subprocess.PIPE, stderr=subprocess.PIPE, env=environment)
+    except FileNotFoundError as fault:
+        raise BrinError("PostgreSQL's client psql isn't installed (Debian: postgresql-client)") from fault
+
+
+def _spoken(sql: str) -> bytes:
+    """A statement as it is sent: what a SELECT answers comes in the text form of COPY, in which no value can be taken for a separator."""
+    return (f"COPY ({sql}) TO STDOUT;\n" if sql.lstrip()[:6].upper() == "SELECT" else f"{sql};\n").encode()
+
+
+def _rows(sql: str, answer: bytes) -> list[list[str | None]]:
+    if sql.lstrip()[:6].upper() != "SELECT":
+        return [[answer.decode()]] if answer.strip() else []
+    return [[_cell(cell) for cell in line.split(b"\t")] for line in answer.split(b"\n")[:-1]]
+
+
+def _cell(cell: bytes) -> str | None:
+    if b"\\" not in cell:
+        return cell.decode()
+    if cell == b"\\N":
+        return None
+    return re.sub(rb"\\(.)", lambda found: _ESCAPES.get(found[1], found[1]), cell, flags=re.DOTALL).decode()
+
+
 def psql(folder: str, database: str = "postgres", user: str | None = None) -> Query:
-    """Asks by PostgreSQL's own client over the socket in a folder. ConnectionError where the server doesn't answer."""
+    """Asks by PostgreSQL's own client over the socket in a folder, each time anew.
+
+    ConnectionError where the server doesn't answer, BrinError where it refuses.
+    """
 
     def query(sql: str) -> list[list[str | None]]:
-        words = ["psql", "-X", "-q", "-A", "-t", "-v", "ON_ERROR_STOP=1", "-h", folder, "-d", database, "-P", "null=\x02", "-F", "\x01", "-R", "\x03"]
-        ran = subprocess.run(words + (["-U", user] if user else []), input=sql, capture_output=True, text=True, check=False)
-        if ran.returncode == 2:
-            raise ConnectionError(ran.stderr.strip())
-        if ran.returncode:
-            raise BrinError(ran.stderr.strip())
-        lines = ran.stdout.removesuffix("\n").split("\x03") if ran.stdout.strip("\n") else []
-        return [[None if cell == "\x02" else cell for cell in line.split("\x01")] for line in lines]
+        client = _client(folder, database, user)
+        answer, said = client.communicate(_spoken(sql))
+        if client.returncode:
+            raise _fault(client.returncode, said)
+        return _rows(sql, answer)
 
     return query
+
+
+def _fault(status: int, said: bytes) -> Exception:
+    text = said.decode(errors="replace").strip()
+    # psql ends with 3 where a statement was refused, and with 2 where there is no connection, or none any more.
+    return BrinError(text) if status == 3 else ConnectionError(text or "the server doesn't answer")
+
+
+@contextlib.contextmanager
+def session(folder: str, database: str = "postgres", user: str | None = None) -> Iterator[Query]:
+    """Asks in one transaction that reads alone, of the level REPEATABLE READ. Errors are those of ``psql``; after one the session is over."""
+    client = _client(folder, database, user)
+    mark = uuid.uuid4().hex.encode() + b"\n"
+    assert client.stdin is not None and client.stdout is not None and client.stderr is not None
+    to, answers, said = client.stdin, client.stdout, client.stderr
+
+    def query(sql: str) -> list[list[str | None]]:
+        lines: list[bytes] = []
+        with contextlib.suppress(BrokenPipeError):
+            to.write(_spoken(sql) + b"\\echo " + mark)
+            to.flush()
+            for line in answers:
+                if line == mark:
+                    return _rows(sql, b"".join(lines))
+                lines.append(line)
+        raise _fault(client.wait(), said.read())
+
+    try:
+        query("BEGIN ISOLATION LEVEL REPEATABLE READ READ ONLY")
+        yield query
+    finally:
+        with contextlib.suppress(BrokenPipeError):
+            to.close()
+        client.wait()
+        answers.close()
+        said.close()
 
 
 def read(query: Query, index: str) -> Brin:
     """Reads a BRIN index by pageinspect.
 
-    BrinError where the index isn't BRIN, has an expression or an operator class that keeps no least and greatest value, a column of a
-    type without a counterpart, or texts of a collation that isn't C or in another encoding than UTF-8.
+    BrinError where the index isn't BRIN, is partial or not valid, has an expression or an operator class that keeps no least and greatest
+    value, a column of a type without a counterpart, or texts of a collation that isn't C or in another encoding than UTF-8.
     """
     table, columns = _columns(query, index)
-    ((per_range, _),) = query(f"SELECT pagesperrange, lastrevmappage FROM brin_metapage_info(get_raw_page('{index}', 0))")
-    ((pages,),) = query(f"SELECT pg_relation_size('{table}') / current_setting('block_size')::int")
+    named = index.replace("'", "''")
+    # In a transaction this keeps others from writing the table anew, which would move its rows.
+    query(f"SELECT 1 FROM ONLY {table} LIMIT 0")
+    ((per_range, _),) = query(f"SELECT pagesperrange, lastrevmappage FROM brin_metapage_info(get_raw_page('{named}', 0))")
+    sized = table.replace("'", "''")
+    ((pages, moment),) = query(f"SELECT pg_relation_size('{sized}') / current_setting('block_size')::int, {_MOMENT}")
     building = _Ranges(columns, int(per_range or 1), int(pages or 0))
-    for row in query(_items(index)):
+    for row in query(_items(named)):
         building.add(row)
-    return Brin(index, table, building.per_range, building.pages, building.footers())
+    return Brin(index, table, building.per_range, building.pages, building.footers(), moment or "")
+
+
+#: A transaction, and nothing where each statement sees rows of its own.
+_MOMENT = (
+    "CASE WHEN current_setting('transaction_isolation') IN ('repeatable read', 'serializable') "
+    "THEN pg_backend_pid() || ' ' || extract(epoch FROM now()) ELSE '' END"
+)
+
+
+def select(query: Query, index: Brin, predicate: Predicate, what: Sequence[str] | None = None, also: str | None = None) -> Selected:
+    """The rows of the index's table that satisfy a predicate, read from the ranges that aren't ruled out.
+
+    ``what`` are the expressions of SQL that are wanted of each row, by default the index's columns; ``also`` is a condition of SQL that
+    the rows have to satisfy too. Rows of tables that inherit from this one aren't read.
+
+    BrinError where the index was read in another transaction; PredicateError where the predicate names what the index hasn't.
+    """
+    ((moment,),) = query(f"SELECT {_MOMENT}")
+    if not moment or moment != index.moment:
+        raise BrinError(f"{index.index} was read in another transaction: read it and the rows in one session")
+    columns = index.footers.columns
+    condition = predicate.sql(columns) + (f" AND ({also})" if also else "")
+    wanted = ", ".join(what if what is not None else ['"' + column.name.replace('"', '""') + '"' for column in columns])
+    # The one form skips ranges of nulls alone that the other one doesn't, which skips more otherwise.
+    answers = index.footers.prune(predicate) | index.footers.prune(predicate, normalize=True)
+    runs = [(index.pages_of(start)[0], index.pages_of(end - 1)[1]) for start, end in answers.runs()]
+    rows: list[list[str | None]] = []
+    for at in range(0, len(runs), _RUNS):
+        pieces = [
+            f"SELECT {wanted} FROM ONLY {index.table} WHERE ctid >= '({start},0)'::tid AND ctid < '({end},0)'::tid AND {condition}"
+            for start, end in runs[at : at + _RUNS]
+        ]
+        rows += query(" UNION ALL ".join(pieces))
+    return Selected(rows, sum(end - start for start, end in runs))
+
+
+def server_pages(query: Query, table: str, condition: str) -> int | None:
+    """How many pages the server's own bitmap scan reads for a condition of SQL; None where it uses no index for it."""
+    query("SET enable_seqscan = off")
+    ((told,),) = query(f"EXPLAIN (ANALYZE, TIMING OFF, FORMAT JSON) SELECT 1 FROM ONLY {table} WHERE {condition}")
+    query("RESET enable_seqscan")
+    return _lossy_pages(json.loads(told or "[]")[0]["Plan"])
+
+
+def _lossy_pages(plan: dict[str, Any]) -> int | None:
+    if plan["Node Type"] == "Bitmap Heap Scan":
+        return int(plan.get("Lossy Heap Blocks", 0)) + int(plan.get("Exact Heap Blocks", 0))
+    found = [pages for it in plan.get("Plans", []) if (pages := _lossy_pages(it)) is not None]
+    # A condition that is never true becomes a plan that reads nothing.
+    return sum(found) if found else (0 if plan.get("One-Time Filter") == "false" else None)
 
 
 def _columns(query: Query, index: str) -> tuple[str, list[Column]]:
+    named = index.replace("'", "''")
     rows = query(
         "SELECT am.amname, i.indrelid::regclass, a.attname, format_type(t.atttypid, NULL), t.attnotnull, oc.opcname, co.collname, "
-        "pg_encoding_to_char(d.encoding), d.datcollate FROM pg_index i JOIN pg_class c ON c.oid = i.indexrelid JOIN pg_am am ON am.oid = c.relam "
+        "pg_encoding_to_char(d.encoding), d.datcollate, i.indpred IS NOT NULL, i.indisvalid AND i.indisready AND c.relkind = 'i' "
+        "FROM pg_index i JOIN pg_class c ON c.oid = i.indexrelid JOIN pg_am am ON am.oid = c.relam "
         "JOIN pg_attribute a ON a.attrelid = i.indexrelid LEFT JOIN pg_attribute t ON t.attrelid = i.indrelid AND t.attnum = i.indkey[a.attnum - 1] "
         "AND t.attnum > 0 LEFT JOIN pg_opclass oc ON oc.oid = i.indclass[a.attnum - 1] LEFT JOIN pg_collation co ON co.oid = a.attcollation "
-        f"JOIN pg_database d ON d.datname = current_database() WHERE i.indexrelid = '{index}'::regclass ORDER BY a.attnum"
+        f"JOIN pg_database d ON d.datname = current_database() WHERE i.indexrelid = '{named}'::regclass ORDER BY a.attnum"
     )
     if not rows:
         raise BrinError(f"{index} is no index")
     columns = []
-    for kind, table, name, dtype, not_null, opclass, collation, encoding, default in rows:
+    for kind, table, name, dtype, not_null, opclass, collation, encoding, default, partial, valid in rows:
         place = f"{index}, column {name}"
         if kind != "brin":
             raise BrinError(f"{index} is an index of kind {kind}, not brin")
+        if partial == "t":
+            raise BrinError(f"{index} is partial: of the rows outside its condition it tells nothing")
+        if valid != "t":
+            raise BrinError(f"{index} isn't valid: its building was broken off, or it is a partitioned table's")
         if dtype is None:
             raise BrinError(f"{place}: an expression has no column")
         if dtype not in _TYPES:
@@ -133,7 +282,9 @@ class _Ranges:
     def __post_init__(self) -> None:
         self.count = -(-self.pages // self.per_range)
         for _ in self.columns:
-            self.told.append(_Told([None] * self.count, [None] * self.count, bytearray(self.count), array("Q", bytes(8 * self.count)), bytearray(self.count)))
+            least: list[object] = [None] * self.count
+            greatest: list[object] = [None] * self.count
+            self.told.append(_Told(least, greatest, bytearray(self.count), array("Q", bytes(8 * self.count)), bytearray(self.count)))
 
     def add(self, row: Sequence[str | None]) -> None:
         block, place, all_nulls, has_nulls, placeholder, value = row
@@ -161,7 +312,7 @@ class _Ranges:
         A proof reads the number of rows only to compare it with a null count, and of that only 0 and all are known: so with one row each
         test answers what it would with the true number.
         """
-        given = {}
+        given: dict[tuple[str, Stat], tuple[object, object]] = {}
         for column, told in zip(self.columns, self.told):
             given[column.name, Stat.MIN] = (told.least, told.bounded)
             given[column.name, Stat.MAX] = (told.greatest, told.bounded)
@@ -178,12 +329,20 @@ def _none_between(dtype: DType) -> tuple[object, object]:
 
 
 def _bounds(dtype: DType, value: str) -> tuple[object, object] | None:
-    """The least and the greatest value of ``{least .. greatest}``, or None where it can't be told where the one ends."""
-    pieces = value.removeprefix("{").removesuffix("}").split(" .. ")
-    if len(pieces) != 2:
+    """The least and the greatest value of ``{least .. greatest}``, or None where there are none.
+
+    Of texts that hold `` .. `` themselves it can't be told where the least one ends. Then the shortest candidate is the least of them, and
+    the greatest of all candidates is taken for the other.
+    """
+    inner = value.removeprefix("{").removesuffix("}")
+    seams = [found.start() for found in re.finditer(r"(?= \.\. )", inner)]
+    if not seams or (len(seams) > 1 and dtype != DType.UTF8):
         return None
     if dtype == DType.UTF8:
-        return pieces[0], pieces[1]
-    if dtype == DType.BINARY:
-        return tuple(bytes.fromhex(piece.removeprefix("\\x")) for piece in pieces)  # type: ignore[return-value]
-    return int(pieces[0]), int(pieces[1])
+        return inner[: seams[0]], max(inner[seam + 4 :] for seam in seams)
+    least, greatest = inner[: seams[0]], inner[seams[0] + 4 :]
+    if dtype != DType.BINARY:
+        return int(least), int(greatest)
+    # The setting bytea_output may have them in another form.
+    is_hex = least.startswith("\\x") and greatest.startswith("\\x")
+    return (bytes.fromhex(least[2:]), bytes.fromhex(greatest[2:])) if is_hex else None

@@ -5,6 +5,7 @@ Of the other columns it keeps nothing: their footers are measured here part by p
 """
 from __future__ import annotations
 
+import http.client as http_client
 import json
 import pathlib
 import re
@@ -15,10 +16,15 @@ import urllib.request
 from array import array
 from collections.abc import Callable, Iterator, Sequence
 from dataclasses import dataclass, field
+from itertools import accumulate
+from typing import Any
 
+from .answers import Answers
 from .arrays import Values
 from .footers import ALL, FooterError, Footers, Nullable
-from .kinds import Column, DType, Precision, Stat
+from .kinds import Answer, Column, DType, Precision, Stat
+from .library import Refused
+from .predicate import Dialect, Predicate, PredicateError, sql_literal
 
 #: Asks the server, and answers its bytes.
 Query = Callable[[str], bytes]
@@ -29,7 +35,51 @@ _CODES = {DType.U8: "B", DType.U16: "H", DType.U32: "I", DType.U64: "Q", DType.I
 
 
 class ClickHouseError(ValueError):
-    """A table that isn't read: of another engine, with a key or a column that has no counterpart, or with files of another form."""
+    """A table that isn't read: of another engine, with a key or a column that has no counterpart, or with files of another form; or what the
+    server refused."""
+
+
+@dataclass(frozen=True)
+class Spelling(Dialect):
+    """How the server spells a condition: a backslash in a text is doubled, and a day of a Date isn't a number.
+
+    Its AND and OR take null for false here and there, as ``NOT (a OR NULL)``, so conditions have no NOT before them.
+    """
+
+    dates: frozenset[str] = frozenset()
+    has_null = False
+
+    def name(self, column: Column) -> str:
+        return _name(column.name)
+
+    def literal(self, column: Column, value: bool | int | str | bytes | None) -> str:
+        if isinstance(value, str):
+            sql_literal(column, value)
+            return _text(value)
+        spelled = sql_literal(column, value)
+        return f"toDate({spelled})" if column.name in self.dates and value is not None else spelled
+
+    def like(self, column: Column, pattern: str, negated: bool, ignore_case: bool) -> str:
+        name, same = self.name(column), _pattern(column, pattern)
+        if ignore_case:
+            name, same = f"lower({name})", "".join(it.lower() if it.isascii() else it for it in same)
+        return f"({name} {'NOT ' * negated}LIKE {self.literal(column, same)})"
+
+
+def _pattern(column: Column, pattern: str) -> str:
+    """The same pattern with a backslash before ``%``, ``_`` and itself alone: before other characters the server takes it as one of the text."""
+    pieces = re.findall(r"\\.|[^\\]|\\$", pattern, flags=re.DOTALL)
+    if pieces and pieces[-1] == "\\":
+        raise PredicateError(f"column {column.name}: the pattern {pattern!r} ends with a backslash")
+    return "".join(it[1] if len(it) == 2 and it[1] not in "%_\\" else it for it in pieces)
+
+
+def _text(value: str) -> str:
+    return "'" + value.replace("\\", "\\\\").replace("'", "\\'") + "'"
+
+
+def _name(value: str) -> str:
+    return "`" + value.replace("\\", "\\\\").replace("`", "\\`") + "`"
 
 
 def http(url: str, timeout: float = 60) -> Query:
@@ -40,10 +90,11 @@ def http(url: str, timeout: float = 60) -> Query:
             # Without the setting a WHERE becomes a PREWHERE, and the rows that were read count something else.
             settings = urllib.parse.urlencode({"optimize_move_to_prewhere": 0, "max_threads": 1})
             with urllib.request.urlopen(f"{url}/?{settings}", sql.encode(), timeout) as answer:
-                return answer.read()
+                found: bytes = answer.read()
+                return found
         except urllib.error.HTTPError as fault:
             raise ClickHouseError(fault.read().decode(errors="replace").strip()) from fault
-        except (urllib.error.URLError, TimeoutError) as fault:
+        except (OSError, http_client.HTTPException) as fault:
             raise ConnectionError(f"the server at {url} doesn't answer: {fault}") from fault
 
     return query
@@ -59,8 +110,8 @@ class Counted:
 
 def count(query: Query, table: str, condition: str) -> Counted:
     """Counts the rows of a table that satisfy a condition of SQL."""
-    told = json.loads(query(f"SELECT count() AS n FROM {table} WHERE {condition} FORMAT JSON"))
-    return Counted(int(told["data"][0]["n"]), int(told["statistics"]["rows_read"]))
+    told = json.loads(query(f"SELECT count() FROM {table} WHERE {condition} FORMAT JSON"))
+    return Counted(int(told["data"][0]["count()"]), int(told["statistics"]["rows_read"]))
 
 
 @dataclass(frozen=True)
@@ -82,20 +133,26 @@ def granules(query: Query, database: str, table: str) -> Granules:
     size = _granularity(query, database, table)
     names, rows, least, greatest = [], array("Q"), [], []
     for name, path, count_of in _parts(query, database, table):
-        marks = _marks(pathlib.Path(path), column, place)
-        bounds = _partition_bounds(pathlib.Path(path), column)
+        marks, bounds = _files_of(pathlib.Path(path), column, place)
+        if len(marks) != -(-count_of // size):
+            raise ClickHouseError(f"{place}: the part {name} has {len(marks)} marks for {count_of} rows, so its granules aren't of {size} rows each")
         for i, mark in enumerate(marks):
             names.append(name)
             rows.append(min(size, count_of - i * size))
             least.append(mark)
             greatest.append(marks[i + 1] if i + 1 < len(marks) else bounds[1] if bounds else None)
     known = bytes(Precision.ABSENT if value is None else Precision.INEXACT for value in greatest)
-    given = {(column.name, Stat.MIN): (least, Precision.EXACT), (column.name, Stat.MAX): (greatest, known), (column.name, Stat.NULL_COUNT): (array("Q", bytes(8 * len(rows))), Precision.EXACT)}
+    given = {
+        (column.name, Stat.MIN): (least, Precision.EXACT),
+        (column.name, Stat.MAX): (greatest, known),
+        (column.name, Stat.NULL_COUNT): (array("Q", bytes(8 * len(rows))), Precision.EXACT),
+    }
     return Granules(tuple(names), Footers.of_values([column], rows, given))
 
 
 def _key_column(query: Query, database: str, table: str) -> Column:
-    told = query(f"SELECT engine, primary_key FROM system.tables WHERE database = '{database}' AND name = '{table}' FORMAT TabSeparated").decode()
+    where = f"database = {_text(database)} AND name = {_text(table)}"
+    told = query(f"SELECT engine, primary_key FROM system.tables WHERE {where} FORMAT TabSeparated").decode()
     if not told.strip():
         raise ClickHouseError(f"there is no table {database}.{table}")
     engine, key = told.rstrip("\n").split("\t")
@@ -104,7 +161,7 @@ def _key_column(query: Query, database: str, table: str) -> Column:
     if "," in key:
         raise ClickHouseError(f"{database}.{table}: the key {key} has several columns, and only one of one column is read")
     first = key.strip()
-    (found,) = [it for it in columns_of(query, database, table) if it.name == first] or [None]
+    found = next((it for it in columns_of(query, database, table) if it.name == first), None)
     if found is None:
         raise ClickHouseError(f"{database}.{table}: the key {key} is no column that has a counterpart")
     if found.nullable:
@@ -112,9 +169,16 @@ def _key_column(query: Query, database: str, table: str) -> Column:
     return found
 
 
+def spelling(query: Query, database: str, table: str) -> Spelling:
+    """How conditions on a table's columns are spelled."""
+    where = f"database = {_text(database)} AND table = {_text(table)} AND type LIKE '%Date%'"
+    told = query(f"SELECT name FROM system.columns WHERE {where} FORMAT TabSeparatedRaw")
+    return Spelling(frozenset(told.decode().splitlines()))
+
+
 def columns_of(query: Query, database: str, table: str) -> list[Column]:
     """The columns of a table that have a counterpart."""
-    told = query(f"SELECT name, type FROM system.columns WHERE database = '{database}' AND table = '{table}' FORMAT TabSeparated").decode()
+    told = query(f"SELECT name, type FROM system.columns WHERE database = {_text(database)} AND table = {_text(table)} FORMAT TabSeparated").decode()
     found = []
     for line in told.splitlines():
         name, kind = line.split("\t")
@@ -126,7 +190,8 @@ def columns_of(query: Query, database: str, table: str) -> list[Column]:
 
 
 def _granularity(query: Query, database: str, table: str) -> int:
-    told = query(f"SELECT create_table_query FROM system.tables WHERE database = '{database}' AND name = '{table}' FORMAT TabSeparatedRaw").decode()
+    where = f"database = {_text(database)} AND name = {_text(table)}"
+    told = query(f"SELECT create_table_query FROM system.tables WHERE {where} FORMAT TabSeparatedRaw").decode()
     found = re.search(r"index_granularity = (\d+)", told)
     if found is None:
         raise ClickHouseError(f"{database}.{table}: its granularity isn't told")
@@ -134,12 +199,26 @@ def _granularity(query: Query, database: str, table: str) -> int:
 
 
 def _parts(query: Query, database: str, table: str) -> Iterator[tuple[str, str, int]]:
-    told = query(
-        f"SELECT name, path, rows FROM system.parts WHERE database = '{database}' AND table = '{table}' AND active ORDER BY name FORMAT TabSeparated"
-    ).decode()
-    for line in told.splitlines():
-        name, path, rows = line.split("\t")
+    for name, path, rows, _, _ in _part_lines(query, database, table):
         yield name, path, int(rows)
+
+
+def _part_lines(query: Query, database: str, table: str) -> list[list[str]]:
+    told = query(
+        "SELECT name, path, rows, bytes_on_disk, toUInt32(modification_time) FROM system.parts "
+        f"WHERE database = {_text(database)} AND table = {_text(table)} AND active ORDER BY name FORMAT TabSeparatedRaw"
+    ).decode()
+    return [line.split("\t") for line in told.splitlines()]
+
+
+def _files_of(folder: pathlib.Path, column: Column, place: str) -> tuple[list[object], tuple[int, int] | None]:
+    """The marks of a part, and the partition's bounds of the column, where it is there still."""
+    try:
+        return _marks(folder, column, place), _partition_bounds(folder, column)
+    except OSError as fault:
+        raise ClickHouseError(f"{place}: the part {folder.name} can't be read, or was merged meanwhile: {fault}") from fault
+    except struct.error as fault:
+        raise ClickHouseError(f"{place}: minmax_{column.name}.idx of the part {folder.name} is cut short") from fault
 
 
 def _marks(folder: pathlib.Path, column: Column, place: str) -> list[object]:
@@ -156,7 +235,8 @@ def _marks(folder: pathlib.Path, column: Column, place: str) -> list[object]:
 
 
 def _texts(data: bytes, place: str, part: str) -> list[object]:
-    found, at = [], 0
+    found: list[object] = []
+    at = 0
     while at < len(data):
         length, shift = 0, 0
         while True:
@@ -186,6 +266,10 @@ def _partition_bounds(folder: pathlib.Path, column: Column) -> tuple[int, int] |
     return least, greatest
 
 
+#: How often parts may be merged while they are measured.
+_TRIES = 5
+
+
 @dataclass
 class PartFooters:
     """Footers of some columns of a table, a zone a part, by the parts' names. A part's rows never change, and a merge makes a new name."""
@@ -195,6 +279,8 @@ class PartFooters:
     columns: tuple[Column, ...]
     parts: list[str] = field(default_factory=list)
     footers: Footers | None = None
+    #: Of each part its rows, its bytes and the time of its change, by which a part of another table with this name is told from it.
+    stamps: list[tuple[int, int, int]] = field(default_factory=list)
 
     @classmethod
     def of(cls, query: Query, database: str, table: str, names: Sequence[str]) -> PartFooters:
@@ -205,56 +291,102 @@ class PartFooters:
             raise ClickHouseError(f"{database}.{table}: the column {missing[0]} isn't there or has no counterpart")
         return cls(database, table, tuple(known[name] for name in names))
 
-    def refresh(self, query: Query) -> tuple[list[str], list[str]]:
-        """Measures the parts that aren't known yet and forgets those that are gone. Answers the names of both."""
-        active = [name for name, _, _ in _parts(query, self.database, self.table)]
-        fresh = [name for name in active if name not in self.parts]
-        gone = [name for name in self.parts if name not in active]
-        pieces = [self.footers.slice(i, i + 1) for i, name in enumerate(self.parts) if name in active] if self.footers is not None else []
-        kept = [name for name in self.parts if name in active]
-        if fresh:
-            pieces.append(Footers.measure(self.columns, (self._chunk(query, name) for name in fresh), ALL))
-        self.parts, self.footers = kept + fresh, Footers.joined(pieces) if pieces else None
-        return fresh, gone
+    def refresh(self, query: Query, wanted: Sequence[Stat] = ALL) -> tuple[list[str], list[str]]:
+        """Measures the parts that aren't known yet and forgets those that are gone. Answers the names of both.
 
-    def _chunk(self, query: Query, part: str) -> dict[str, object]:
-        return {column.name: self._column(query, part, column) for column in self.columns}
+        ClickHouseError where the columns are others than they were, or parts are merged faster than they are measured.
+        """
+        types = {column.name: column for column in columns_of(query, self.database, self.table)}
+        changed = [column.name for column in self.columns if types.get(column.name) != column]
+        if changed:
+            raise ClickHouseError(f"{self.database}.{self.table}: the column {changed[0]} isn't there any more, or is of another type")
+        for _ in range(_TRIES):
+            active = {name: (int(rows), int(size), int(time)) for name, _, rows, size, time in _part_lines(query, self.database, self.table)}
+            known = {name: place for place, name in enumerate(self.parts) if active.get(name) == self.stamps[place]}
+            fresh, gone = [name for name in active if name not in known], [name for name in self.parts if name not in known]
+            try:
+                measured = [Footers.measure(self.columns, [self._chunk(query, name, active[name][0])], wanted) for name in fresh]
+            except _Merged:
+                continue
+            except Refused as fault:
+                raise ClickHouseError(f"{self.database}.{self.table}: {fault}") from fault
+            pieces = [self.footers.slice(place, place + 1) for place in known.values()] if self.footers is not None else []
+            self.parts = [*known, *fresh]
+            self.stamps = [active[name] for name in self.parts]
+            self.footers = Footers.joined(pieces + measured) if pieces or measured else None
+            return fresh, gone
+        raise ClickHouseError(f"{self.database}.{self.table}: its parts are merged faster than they are measured")
 
-    def _column(self, query: Query, part: str, column: Column) -> object:
-        def read(what: str) -> bytes:
-            return query(f"SELECT {what} FROM {self.database}.{self.table} WHERE _part = '{part}' FORMAT RowBinary")
+    def prune(self, predicate: Predicate) -> Answers:
+        """What to do with each part, in the order of ``parts``."""
+        if self.footers is None:
+            return Answers(b"")
+        return self.footers.prune(predicate) | self.footers.prune(predicate, normalize=True)
 
-        name = column.name
+    def condition(self, query: Query, predicate: Predicate) -> str:
+        """The predicate as a condition of SQL that leaves out the parts that are ruled out.
+
+        It names the parts that need not be read and not those that have to be, so that a part that came since, also by a merge, is read.
+        ``refresh`` first, and don't use it with FINAL, where rows of one part hang on those of another, or where the query gives a name of a
+        column to another expression.
+        """
+        text = predicate.sql(self.columns, spelling(query, self.database, self.table))
+        skipped = [_text(name) for name, answer in zip(self.parts, self.prune(predicate)) if answer == Answer.SKIP]
+        return f"_part NOT IN ({', '.join(skipped)}) AND {text}" if skipped else text
+
+    def _chunk(self, query: Query, part: str, rows: int) -> dict[str, object]:
+        return {column.name: self._column(query, part, column, rows) for column in self.columns}
+
+    def _column(self, query: Query, part: str, column: Column, rows: int) -> object:
+        source = f"FROM {_name(self.database)}.{_name(self.table)} WHERE _part = {_text(part)}"
+
+        def read(what: str, width: int) -> bytes:
+            found = query(f"SELECT {what} {source} FORMAT RowBinary")
+            if len(found) != rows * width:
+                raise _Merged
+            return found
+
+        name = _name(column.name)
+        there = f"assumeNotNull({name})" if column.nullable else name
         if column.dtype.has_ends:
-            lengths = array("Q", read(f"toUInt64(length(ifNull({name}, '')))"))
-            heap = query(f"SELECT arrayStringConcat(groupArray(ifNull({name}, ''))) FROM {self.database}.{self.table} WHERE _part = '{part}' FORMAT TabSeparatedRaw")
-            values: object = _of_lengths(column.dtype, heap.removesuffix(b"\n"), lengths)
+            lengths = array("Q", read(f"toUInt64(length({there}))", 8))
+            heap = query(f"SELECT arrayStringConcat(groupArray({there})) {source} FORMAT TabSeparatedRaw").removesuffix(b"\n")
+            if sum(lengths) != len(heap):
+                raise _Merged
+            values: object = Values.of_heap(column.dtype, heap, array("Q", accumulate(lengths)))
         else:
-            values = array(_CODES[column.dtype], read(f"ifNull({name}, 0)" if column.nullable else name))
-        return Nullable(values, read(f"isNull({name})")) if column.nullable else values
+            values = array(_CODES[column.dtype], read(there, column.dtype.width))
+        return Nullable(values, read(f"isNull({name})", 1)) if column.nullable else values
 
     def save(self, path: str) -> None:
-        """Keeps the footers in one file, with the table and the parts in another beside it, whole or not at all."""
+        """Keeps the footers in one file, with the table's name and the parts', whole or not at all."""
         if self.footers is None:
             raise FooterError("there is nothing to keep yet")
-        told = {"database": self.database, "table": self.table, "parts": self.parts}
-        self.footers.save(path, json.dumps(told))
+        self.footers.save(path, json.dumps({"database": self.database, "table": self.table, "parts": self.parts, "stamps": self.stamps}))
 
     @classmethod
     def load(cls, path: str, database: str, table: str) -> PartFooters:
         """Reads them back. FooterError where the file is another table's, or as of ``Footers.load``."""
         footers, note = Footers.load_with_note(path)
-        told = json.loads(note or "{}")
+        told = _told(note)
         if (told.get("database"), told.get("table")) != (database, table):
-            raise FooterError(f"{path} has the footers of {told.get('database')}.{told.get('table')}")
-        return cls(database, table, footers.columns, told["parts"], footers)
+            raise FooterError(f"{path} has the footers of {told.get('database')}.{told.get('table')}, not of {database}.{table}")
+        try:
+            parts, stamps = [str(name) for name in told["parts"]], [(int(rows), int(size), int(time)) for rows, size, time in told["stamps"]]
+        except (KeyError, TypeError, ValueError) as fault:
+            raise FooterError(f"{path} doesn't say which parts it is of") from fault
+        if not len(parts) == len(stamps) == len(footers):
+            raise FooterError(f"{path} has {len(footers)} footers for {len(parts)} parts")
+        return cls(database, table, footers.columns, parts, footers, stamps)
 
 
-def _of_lengths(dtype: DType, heap: bytes, lengths: Sequence[int]) -> Values:
-    ends, at = array("Q"), 0
-    for length in lengths:
-        at += length
-        ends.append(at)
-    if at != len(heap):
-        raise ClickHouseError("the server told texts and lengths that don't fit")
-    return Values.of_heap(dtype, heap, ends)
+class _Merged(Exception):
+    """A part isn't there any more, since it was merged with others."""
+
+
+def _told(note: str) -> dict[str, Any]:
+    try:
+        told = json.loads(note or "{}")
+    except json.JSONDecodeError:
+        told = {}
+    return told if isinstance(told, dict) else {}

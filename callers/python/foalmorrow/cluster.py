@@ -1,23 +1,38 @@
-"""A cluster (Dask): a table of more files than a machine holds, measured where its partitions lie.
+"""A cluster (Dask): a table of more files than a machine holds, measured, merged, pruned and read where its partitions lie.
 
 Only footers travel: each worker measures its own partitions. The footers of a table stand in one file beside it; a partition that was
-changed since is measured anew.
+changed since is measured anew. A worker writes nothing, and what one that dies had in hand another does again.
 """
 from __future__ import annotations
 
+import asyncio
+import contextlib
 import json
 import os
 import pathlib
-from collections.abc import Callable, Mapping, Sequence
+import warnings
+from collections import deque
+from collections.abc import Callable, Iterator, Mapping, Sequence
+from concurrent.futures import CancelledError
 from dataclasses import dataclass
+from typing import Any
 
 from dask import delayed
-from distributed import Client
+from distributed import Client, KilledWorker
 
-from .footers import ALL, FooterError, Footers
-from .kinds import Column, Stat
+from .answers import Answers
+from .footers import ALL, PRUNING, FooterError, Footers, Nullable
+from .kinds import Answer, Column, DType, Stat
+from .predicate import Predicate
 
 Chunk = Mapping[str, object]
+#: Reads a partition to a chunk's columns.
+Reader = Callable[[str, tuple[Column, ...]], Chunk]
+
+#: Zones that are pruned or merged in one task.
+_SHARD = 100_000
+#: The statistics whose merge is the same whatever the tree's shape.
+SHAPELESS = (*PRUNING, Stat.UNCOMPRESSED_SIZE_IN_BYTES)
 
 
 class TableError(ValueError):
@@ -30,7 +45,7 @@ class Table:
 
     columns: tuple[Column, ...]
     files: tuple[str, ...]
-    read: Callable[[str, tuple[Column, ...]], Chunk]
+    read: Reader
 
     def stamps(self) -> list[tuple[int, int]]:
         """The size and the time of change of each partition. TableError where one is gone."""
@@ -61,20 +76,55 @@ class Kept:
     def load(cls, path: str | os.PathLike[str]) -> Kept:
         """Reads them back. FooterError as of ``Footers.load``, or where the file is of no table of files."""
         footers, note = Footers.load_with_note(path)
-        told = json.loads(note or "{}")
-        if "files" not in told or not len(told["files"]) == len(told["stamps"]) == len(footers):
-            raise FooterError(f"{path} has the footers of no table of files")
-        return cls(told["files"], [(size, time) for size, time in told["stamps"]], footers)
+        try:
+            told = json.loads(note)
+            files, stamps = [str(file) for file in told["files"]], [(int(size), int(time)) for size, time in told["stamps"]]
+        except (ValueError, KeyError, TypeError) as fault:
+            raise FooterError(f"{path} has the footers of no table of files") from fault
+        if not len(files) == len(stamps) == len(footers):
+            raise FooterError(f"{path} has {len(footers)} footers for {len(files)} files")
+        return cls(files, stamps, footers)
 
 
-def _measured(table: Table, file: str, wanted: Sequence[Stat]) -> bytes:
-    return Footers.measure(table.columns, [table.read(file, table.columns)], wanted).to_bytes()
+@contextlib.contextmanager
+def _asked() -> Iterator[None]:
+    """A cluster that went away is a ConnectionError, as a server is elsewhere."""
+    try:
+        yield
+    except (KilledWorker, CancelledError, asyncio.CancelledError, asyncio.TimeoutError) as fault:
+        raise ConnectionError(f"the cluster doesn't answer: {fault!r}") from fault
+    except OSError as fault:
+        if isinstance(fault, (FileNotFoundError, PermissionError)):
+            raise
+        raise ConnectionError(f"the cluster doesn't answer: {fault!r}") from fault
 
 
-def measure(client: Client, table: Table, kept: Kept | None = None, wanted: Sequence[Stat] = ALL) -> tuple[Kept, list[str]]:
+@contextlib.contextmanager
+def _reading(file: str) -> Iterator[None]:
+    """What is wrong with a partition is told with its name."""
+    try:
+        yield
+    except TableError:
+        raise
+    except (ValueError, OSError) as fault:
+        raise TableError(f"{file}: {fault}") from fault
+
+
+def _measured(read: Reader, columns: tuple[Column, ...], file: str, wanted: Sequence[Stat]) -> bytes:
+    with _reading(file):
+        return Footers.measure(columns, [read(file, columns)], wanted).to_bytes()
+
+
+def measure(
+    client: Client, table: Table, kept: Kept | None = None, wanted: Sequence[Stat] = ALL, watch: Callable[[list[Any]], object] | None = None
+) -> tuple[Kept, list[str]]:
     """The footers of all partitions, measured where they lie, and the files that were measured now.
 
-    A partition whose file is what it was in ``kept`` keeps its footer. What a worker that dies had measured is measured again.
+    A partition whose file is what it was in ``kept`` keeps its footer. What a worker that dies had measured is measured again. ``watch`` is
+    handed the tasks before they are waited for, as ``distributed.progress`` takes them.
+
+    TableError, with the file, where a partition is gone, lacks a column or has a value that isn't of its column's type; FooterError where
+    ``kept`` is of other columns; ConnectionError where the cluster goes away.
     """
     stamps = table.stamps()
     known: dict[str, tuple[tuple[int, int], Footers]] = {}
@@ -83,10 +133,114 @@ def measure(client: Client, table: Table, kept: Kept | None = None, wanted: Sequ
             raise FooterError("the footers are of a table with other columns")
         known = {file: (kept.stamps[i], kept.footers.slice(i, i + 1)) for i, file in enumerate(kept.files)}
     fresh = [file for file, stamp in zip(table.files, stamps) if file not in known or known[file][0] != stamp]
-    told = client.gather(client.compute([delayed(_measured)(table, file, wanted) for file in fresh])) if fresh else []
+    with _asked():
+        tasks = [client.submit(_measured, table.read, table.columns, file, tuple(wanted), pure=False) for file in fresh]
+        if watch is not None:
+            watch(tasks)
+        told = client.gather(tasks)
     new = dict(zip(fresh, (Footers.from_bytes(data)[0] for data in told)))
     pieces = [new[file] if file in new else known[file][1] for file in table.files]
     return Kept(list(table.files), stamps, Footers.joined(pieces)), fresh
+
+
+def merge(client: Client, footers: Footers, wanted: Sequence[Stat] = SHAPELESS, shard: int = _SHARD, fan: int = 8) -> Footers:
+    """The footers of all zones as one, merged by the workers: each a shard of neighbours, and what they answer up a tree of ``fan`` at a time.
+
+    The least and greatest values, the counts of nulls and the sizes are what merging from left to right gives, whatever the shape; of the other
+    statistics, which hang on it where a sum leaves its type on the way or a chunk has no values, those alone that are ``wanted``.
+    """
+    if not len(footers):
+        return footers.only(wanted)
+    with _asked():
+        level = [_sent(client, _merged, piece.to_bytes()) for piece in footers.only(wanted).shards(shard)]
+        while len(level) > 1:
+            level = [client.submit(_merged, *level[at : at + fan], pure=False) for at in range(0, len(level), fan)]
+        return Footers.from_bytes(level[0].result())[0]
+
+
+def _sent(client: Client, work: Callable[..., bytes], *given: object) -> Any:
+    """Work on footers that travel with the task, so that another worker can do it again. Dask warns of arguments of more than a megabyte."""
+    with warnings.catch_warnings():
+        warnings.filterwarnings("ignore", message="Large object")
+        return client.submit(work, *given, pure=False)
+
+
+def _merged(*pieces: bytes) -> bytes:
+    return Footers.joined([Footers.from_bytes(piece)[0] for piece in pieces]).merged().to_bytes()
+
+
+def prune(client: Client, footers: Footers, predicate: Predicate, normalize: bool = True, shard: int = _SHARD) -> Answers:
+    """What to do with each zone, as ``Footers.prune`` answers, by the workers where there are more zones than a shard.
+
+    Of the footers what pruning reads of the predicate's columns travels, a few shards at a time.
+    """
+    if len(footers) <= shard:
+        return footers.prune(predicate, normalize)
+    text, names = predicate.text(footers.columns), set(predicate.names())
+    columns = [column for column in footers.columns if column.name in names]
+    known = {key: it for key, it in footers.statistics.items() if key[0] in names and key[1] in PRUNING}
+    pieces = Footers(columns, footers.rows, known).shards(shard)
+    with _asked():
+        room = 2 * max(len(client.scheduler_info()["workers"]), 1)
+        pending: deque[Any] = deque()
+        codes: list[bytes] = []
+        for piece in pieces:
+            if len(pending) == room:
+                codes.append(pending.popleft().result())
+            pending.append(_sent(client, _pruned, piece.to_bytes(), text, normalize))
+        codes += [future.result() for future in pending]
+    return Answers(b"".join(codes))
+
+
+def _pruned(data: bytes, text: str, normalize: bool) -> bytes:
+    return bytes(Footers.from_bytes(data)[0].prune(text, normalize).codes)
+
+
+@dataclass(frozen=True)
+class Selected:
+    """The partitions that are read for a predicate, each as a delayed frame of the rows that satisfy it."""
+
+    columns: tuple[Column, ...]
+    files: list[str]
+    #: Those of them that were changed since they were measured, or weren't measured: read whatever is known of them.
+    changed: list[str]
+    parts: list[Any]
+
+    def frame(self) -> Any:
+        """All of them as one dask.dataframe."""
+        import dask.dataframe
+
+        from .frames import frame_of
+
+        meta = frame_of(self.columns, {column.name: [] for column in self.columns})
+        if not self.parts:
+            return dask.dataframe.from_pandas(meta, npartitions=1)
+        return dask.dataframe.from_delayed(self.parts, meta=meta, verify_meta=False)
+
+
+def select(client: Client, table: Table, kept: Kept, predicate: Predicate) -> Selected:
+    """The rows that satisfy a predicate, of the partitions that aren't ruled out: what a filter of all partitions answers.
+
+    Nothing is read yet: ``frame`` and ``parts`` are Dask's, to go on with. A partition that isn't what it was when it was measured is among
+    those that are read. PredicateError where the predicate doesn't fit the table; FooterError where ``kept`` is of other columns.
+    """
+    if kept.footers.columns != table.columns:
+        raise FooterError("the footers are of a table with other columns")
+    answers = prune(client, kept.footers, predicate)
+    skipped = {(file, kept.stamps[zone]) for zone, (file, answer) in enumerate(zip(kept.files, answers)) if answer == Answer.SKIP}
+    measured = set(zip(kept.files, kept.stamps))
+    told = list(zip(table.files, table.stamps()))
+    files = [file for file, stamp in told if (file, stamp) not in skipped]
+    changed = [file for file, stamp in told if (file, stamp) not in measured]
+    parts = [delayed(_filtered)(table.read, table.columns, file, predicate) for file in files]
+    return Selected(table.columns, files, changed, parts)
+
+
+def _filtered(read: Reader, columns: tuple[Column, ...], file: str, predicate: Predicate) -> Any:
+    from .frames import frame_of, rows
+
+    with _reading(file):
+        return rows(predicate, columns, frame_of(columns, read(file, columns)))
 
 
 def csv_table(folder: str | os.PathLike[str], columns: Sequence[Column]) -> Table:
@@ -127,7 +281,10 @@ def _cell(file: str, row: int, column: Column, text: str | None) -> object:
         return None
     try:
         if column.dtype.range is not None:
-            return int(text)
+            number, (least, greatest) = int(text), column.dtype.range
+            if not least <= number <= greatest:
+                raise ValueError(text)
+            return number
         if column.dtype.word == "bool":
             return {"true": True, "false": False}[text.lower()]
         return text if column.dtype.word == "utf8" else bytes.fromhex(text)
@@ -136,13 +293,24 @@ def _cell(file: str, row: int, column: Column, text: str | None) -> object:
 
 
 def read_npy(folder: str, columns: tuple[Column, ...]) -> Chunk:
-    """The columns of a folder of arrays. TableError where one is missing."""
+    """The columns of a folder of arrays; NAME.null.npy, where it is there, says which rows of a column are null.
+
+    TableError where an array is missing, or has items of another type than its column.
+    """
     import numpy
 
-    found = {}
+    found: dict[str, object] = {}
     for column in columns:
-        file = pathlib.Path(folder) / f"{column.name}.npy"
+        file, nulls = (pathlib.Path(folder) / f"{column.name}{ending}" for ending in (".npy", ".null.npy"))
         if not file.exists():
             raise TableError(f"{folder} has no file {file.name}")
-        found[column.name] = numpy.load(file)
+        values = numpy.load(file)
+        if values.dtype.kind not in _KINDS[column.dtype] or (column.dtype.width and values.dtype.itemsize != column.dtype.width):
+            raise TableError(f"{file}: items of form {values.dtype} are no {column.dtype.word}")
+        found[column.name] = Nullable(values, numpy.load(nulls)) if nulls.exists() else values
     return found
+
+
+#: The kinds of numpy's items that are values of a type.
+_KINDS = {dtype: "i" if dtype >= DType.I8 else "u" for dtype in DType if dtype.range is not None}
+_KINDS |= {DType.BOOL: "b", DType.UTF8: "U", DType.BINARY: "S", DType.NULL: ""}

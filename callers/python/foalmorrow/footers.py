@@ -1,7 +1,8 @@
-"""Footers: the statistics of a table's zones as arrays, measured, checked and kept in a file."""
+"""Footers: the statistics of a table's zones as arrays, measured, merged, checked, kept in a file, and pruned by."""
 from __future__ import annotations
 
 import json
+import operator
 import os
 import tempfile
 import zlib
@@ -9,16 +10,24 @@ from array import array
 from collections.abc import Iterable, Iterator, Mapping, Sequence
 from dataclasses import dataclass
 from itertools import pairwise
+from typing import Any
 
 from . import library
+from .answers import Answers
 from .arrays import ValueFault, Values, joined
+from .explain import Explanation
 from .kinds import Column, DType, Precision, Stat, stat_dtype
 from .overlap import Overlap, overlap
+from .predicate import Predicate
 
 MAGIC = b"foalmorrow footers 1\n"
 
 #: The statistics that a measured footer has where the column's type has them.
 ALL = (Stat.MIN, Stat.MAX, Stat.NULL_COUNT, Stat.SUM, Stat.IS_CONSTANT, Stat.IS_SORTED, Stat.IS_STRICT_SORTED)
+
+
+#: The statistics that pruning reads. Merged up a tree they are the same whatever the tree's shape.
+PRUNING = (Stat.MIN, Stat.MAX, Stat.NULL_COUNT)
 
 
 class FooterError(ValueError):
@@ -39,6 +48,9 @@ class Statistic:
 
     def slice(self, start: int, stop: int) -> Statistic:
         return Statistic(self.known[start:stop], self.values.slice(start, stop))
+
+    def take(self, zones: range) -> Statistic:
+        return Statistic(memoryview(self.known[zones.start : zones.stop : zones.step].tobytes()), self.values.take(zones))
 
 
 @dataclass(frozen=True)
@@ -109,6 +121,78 @@ class Footers:
         """What is known of a zone."""
         return {key: statistic.at(zone) for key, statistic in self.statistics.items() if statistic.known[zone]}
 
+    def prune(self, predicate: Predicate | str, normalize: bool = False) -> Answers:
+        """What to do with each zone: of whatever rows the statistics are true, no row of a skipped zone satisfies the predicate and each
+        row of a whole one does.
+
+        A predicate is built from columns (``col("a") > 3``) or the words of a ``where`` line. With ``normalize`` it is brought into a
+        normal form first, which mostly skips more and takes longer to prepare. The arrays are handed over as they are.
+
+        PredicateError where the predicate names a column that isn't there, compares a column with a value that isn't of its type, or isn't
+        of type bool; Refused, with the column, the statistic and the zone, where an array says what can't be.
+        """
+        text = predicate if isinstance(predicate, str) else predicate.text(self.columns)
+        return Answers(library.prune(self.columns, self.rows, self.statistics, text, normalize))
+
+    def merge(self, right: Footers) -> Footers:
+        """Footers of zones that each are a zone of these followed by the zone of ``right`` at the same place.
+
+        FooterError where the columns differ, the numbers of zones do, or a zone's rows leave 64 bits; Refused as of ``prune``.
+        """
+        if self.columns != right.columns:
+            raise FooterError("the footers are of tables with different columns")
+        if len(self) != len(right):
+            raise FooterError(f"{len(self)} zones and {len(right)} zones don't stand side by side")
+        try:
+            rows = array("Q", map(operator.add, self.rows, right.rows))
+        except OverflowError as fault:
+            raise FooterError("the rows of a merged zone leave 64 bits") from fault
+        statistics: dict[tuple[str, Stat], Statistic] = {}
+        for column in self.columns:
+            stats = sorted({stat for side in (self, right) for name, stat in side.statistics if name == column.name})
+            sides = [{stat: side._or_absent(column.name, stat, column.dtype) for stat in stats} for side in (self, right)]
+            found = library.merge(column, len(self), *sides) if stats else {}
+            statistics |= {(column.name, stat): it for stat, it in found.items()}
+        return Footers(self.columns, rows, statistics)
+
+    def merged(self) -> Footers:
+        """The footers of all zones as one zone, merged pair by pair up a tree; of no zones there are none.
+
+        Of ``PRUNING`` and the sizes the answer is what merging from left to right gives. A sum that leaves its type on the way, and the truths
+        beside a chunk without values, hang on which zones come together first: another order may know them where this one doesn't.
+        """
+        found = self
+        while len(found) > 1:
+            pairs = len(found) // 2 * 2
+            halves = found.take(range(0, pairs, 2)).merge(found.take(range(1, pairs, 2)))
+            found = halves if pairs == len(found) else Footers.joined([halves, found.slice(pairs, len(found))])
+        return found
+
+    def only(self, wanted: Sequence[Stat]) -> Footers:
+        """The footers with some of the statistics alone."""
+        return Footers(self.columns, self.rows, {key: it for key, it in self.statistics.items() if key[1] in wanted})
+
+    def take(self, zones: range) -> Footers:
+        """The footers of zones that ascend by one step, as a copy."""
+        return Footers(self.columns, self.rows[zones.start : zones.stop : zones.step], {key: it.take(zones) for key, it in self.statistics.items()})
+
+    def explain(self, predicate: Predicate, normalize: bool = False) -> Explanation:
+        """Why a zone is read: what each comparison of the predicate by itself tells of each zone, and what isn't known.
+
+        Errors are those of ``prune``.
+        """
+        return Explanation(self, predicate, normalize)
+
+    def plot(self, column: str, predicate: Predicate, axes: Any = None) -> Any:
+        """Draws each zone's bounds of a column as a bar: skipped, whole and zones to be read in their colours, and the values of the column that
+        may satisfy the predicate as a band. Answers matplotlib's axes, by default new ones.
+
+        ImportError where matplotlib isn't there; PredicateError where the table hasn't the column, and as of ``prune``.
+        """
+        from .plot import plot
+
+        return plot(self, column, predicate, axes)
+
     def overlap(self, column: str) -> Overlap:
         """In how many zones a value of a column may lie."""
         return overlap([self._bounds(column, zone) for zone in range(len(self))])
@@ -148,7 +232,7 @@ class Footers:
         keys = sorted({key for piece in pieces for key in piece.statistics})
         types = {column.name: column.dtype for column in columns}
         statistics = {(name, stat): _joined([piece._or_absent(name, stat, types[name]) for piece in pieces]) for name, stat in keys}
-        return cls(columns, array("Q", (count for piece in pieces for count in piece.rows)), statistics)
+        return cls(columns, array("Q", b"".join(bytes(piece.rows) for piece in pieces)), statistics)
 
     def save(self, path: str | os.PathLike[str], note: str = "") -> None:
         """Writes the footers to one file, whole or not at all, with a note that ``load_with_note`` gives back."""
@@ -193,11 +277,18 @@ class Footers:
             raise FooterError("this is no file of footers, or of another version")
         if len(data) < len(MAGIC) + 12 or zlib.crc32(data[:-4]) != int.from_bytes(data[-4:], "little"):
             raise FooterError("the file of footers is cut short or was changed")
-        start = len(MAGIC) + 8
-        size = int.from_bytes(data[len(MAGIC) : start], "little")
-        header, view = json.loads(data[start : start + size]), memoryview(data)[start + size : -4]
+        try:
+            return cls._of_body(memoryview(data)[len(MAGIC) : -4])
+        except (ValueError, KeyError, TypeError, IndexError) as fault:
+            raise fault if isinstance(fault, FooterError) else FooterError(f"the header of the footers is none: {fault!r}") from fault
+
+    @classmethod
+    def _of_body(cls, body: memoryview) -> tuple[Footers, str]:
+        size = int.from_bytes(body[:8], "little")
+        header, view = json.loads(bytes(body[8 : 8 + size])), body[8 + size :]
         columns = [Column(it["name"], DType[it["type"]], it["nullable"]) for it in header["columns"]]
-        rows, at = array("Q", bytes(view[: 8 * header["zones"]])), 8 * header["zones"]
+        zones = header["zones"]
+        rows, at = array("Q", bytes(view[: 8 * zones])), 8 * zones
         types, statistics = {column.name: column.dtype for column in columns}, {}
         for it in header["statistics"]:
             pieces = []
@@ -207,7 +298,9 @@ class Footers:
             dtype = stat_dtype(Stat[it["stat"]], types[it["column"]])
             if dtype is None:
                 raise FooterError(f"column {it['column']}: {types[it['column']].word} has no {it['stat'].lower()}")
-            statistics[it["column"], Stat[it["stat"]]] = Statistic(pieces[0], Values(dtype, pieces[1], pieces[2], header["zones"]))
+            if len(pieces[2]) != (8 * zones if dtype.has_ends else 0) or (not dtype.has_ends and len(pieces[1]) != dtype.width * zones):
+                raise FooterError(f"column {it['column']}: {it['stat'].lower()} isn't of {zones} zones")
+            statistics[it["column"], Stat[it["stat"]]] = Statistic(pieces[0], Values(dtype, pieces[1], pieces[2], zones))
         return cls(columns, rows, statistics), header["note"]
 
     def __eq__(self, other: object) -> bool:
@@ -229,6 +322,7 @@ class Footers:
         assert kind is not None
         ends = memoryview(bytes(8 * count)) if kind.has_ends else memoryview(b"")
         return Statistic(memoryview(bytes(count)), Values(kind, memoryview(bytes(kind.width * count)), ends, count))
+
 
 def _joined(pieces: Sequence[Statistic]) -> Statistic:
     return Statistic(memoryview(b"".join(piece.known for piece in pieces)), joined([piece.values for piece in pieces]))
@@ -281,6 +375,6 @@ class _Building:
         for (name, stat), told in self.told.items():
             dtype = stat_dtype(stat, types[name])
             assert dtype is not None
-            values = Values.of(dtype, [value for _, value in told])  # type: ignore[misc]
+            values = Values.of(dtype, [value for _, value in told])
             statistics[name, stat] = Statistic(memoryview(bytes(precision for precision, _ in told)), values)
         return Footers(self.columns, self.rows, statistics)

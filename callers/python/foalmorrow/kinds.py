@@ -1,4 +1,4 @@
-"""Types of columns, kinds of statistics and how a value of one is known, by the numbers that the library takes."""
+"""Types of columns, kinds of statistics, how a value of one is known, and answers, by the numbers that the library takes."""
 from __future__ import annotations
 
 import enum
@@ -80,6 +80,17 @@ class Precision(enum.IntEnum):
     ABSENT = 0
     EXACT = 1
     INEXACT = 2
+
+
+class Answer(enum.IntEnum):
+    """What to do with a zone under a predicate."""
+
+    #: Rows of it may satisfy the predicate and others may not: read it and test them.
+    READ = 0
+    #: No row of it satisfies the predicate.
+    SKIP = 1
+    #: Every row of it satisfies the predicate.
+    WHOLE = 2
 
 
 @dataclass(frozen=True)

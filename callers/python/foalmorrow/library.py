@@ -10,8 +10,9 @@ from collections.abc import Mapping, Sequence
 from ctypes import POINTER, Structure, c_size_t, c_uint8, c_uint64
 from typing import TYPE_CHECKING
 
-from .arrays import Values
+from .arrays import Values, moved
 from .kinds import Column, Precision, Stat, stat_dtype
+from .predicate import PredicateError
 
 if TYPE_CHECKING:
     from .footers import Statistic
@@ -67,12 +68,28 @@ class LibraryError(OSError):
 
 
 class Refused(ValueError):
-    """What the library refused, with the place: a row or a zone, a column, and a statistic by its place."""
+    """What the library refused: the status, and the place as far as there is one.
 
-    def __init__(self, status: Status, fault: Fault):
-        super().__init__(f"{_SENTENCES.get(status, status.name.lower())} (row or zone {fault.row}, column {fault.column}, statistic {fault.entry})")
-        self.status = status
-        self.row, self.column, self.entry = fault.row, fault.column, fault.entry
+    ``row`` is a row of the values that were handed in, ``zone`` a zone of the footers, ``column`` the name of a column, ``stat`` a statistic,
+    and ``side`` the footers that are merged, ``left`` or ``right``.
+    """
+
+    def __init__(
+        self,
+        status: Status,
+        *,
+        column: str | None = None,
+        stat: Stat | None = None,
+        zone: int | None = None,
+        row: int | None = None,
+        side: str | None = None,
+    ):
+        self.status, self.column, self.stat, self.zone, self.row, self.side = status, column, stat, zone, row, side
+        places = [f"{word} {found}" for word, found in [("column", column), ("row", row), ("zone", zone)] if found is not None]
+        places += [stat.name.lower()] if stat is not None else []
+        places += [f"of the {side} footers"] if side is not None else []
+        sentence = _SENTENCES.get(status, status.name.lower())
+        super().__init__(f"{', '.join(places)}: {sentence}" if places else sentence)
 
 
 class Fault(Structure):
@@ -109,6 +126,10 @@ class CStatistic(Structure):
     ]
 
 
+class CField(Structure):
+    _fields_ = [("name", ctypes.c_void_p), ("name_len", c_size_t), ("kind", c_uint8), ("nullable", c_uint8)]
+
+
 class _Lent:
     """Addresses of buffers, which are kept as long as a call needs them."""
 
@@ -130,6 +151,11 @@ class _Lent:
         self.kept.append(room)
         return ctypes.addressof(room)
 
+    def numbers_at(self, buffer: memoryview | array[int]) -> int | None:
+        """Where a buffer of 64-bit numbers stands. One that doesn't begin at a multiple of 8, as in the middle of a file, is copied."""
+        found = self.at(buffer)
+        return found if found is None or found % 8 == 0 else self.at(array("Q", bytes(buffer)))
+
 
 def _load() -> ctypes.CDLL:
     default = pathlib.Path(__file__).resolve().parents[2] / "out" / "libvortex_ffi.so"
@@ -143,6 +169,8 @@ def _load() -> ctypes.CDLL:
         "vortex_run": [byte, size, byte, size, POINTER(size)],
         "vortex_check": [POINTER(CValues), byte, size, size, place],
         "vortex_measure": [POINTER(CValues), byte, size, byte, size, byte, size, byte, size, POINTER(size), place],
+        "vortex_merge": [c_uint8, c_uint8, size, byte, size, byte, size, byte, size, byte, size, byte, size, POINTER(size), place],
+        "vortex_prune": [byte, size, byte, size, byte, size, byte, size, c_uint8, byte, size, place],
     }
     for name, types in calls.items():
         call = getattr(loaded, name, None)
@@ -162,11 +190,45 @@ def _library() -> ctypes.CDLL:
     return _loaded
 
 
-def _answered(status: int, fault: Fault) -> None:
+#: The statuses whose fault names a row or a zone.
+_PLACED = (Status.BAD_KNOWN, Status.BAD_LENGTH, Status.BAD_ENDS, Status.BAD_VALUE, Status.BAD_NULL)
+
+
+def _answered(status: int, fault: Fault, column: str | None = None, stats: Sequence[Stat] = ()) -> None:
+    """Nothing where a call about one column's values has answered, and else what was refused."""
     if status == Status.NO_MEMORY:
         raise MemoryError
     if status != Status.OK:
-        raise Refused(Status(status), fault)
+        found = Status(status)
+        stat = stats[fault.entry] if found == Status.BAD_STAT and fault.entry < len(stats) else None
+        raise Refused(found, column=column, stat=stat, row=fault.row if found in _PLACED else None)
+
+
+def _answered_merge(status: int, fault: Fault, column: Column, stats: Sequence[Stat]) -> None:
+    """Nothing where a merge has answered, and else what was refused."""
+    if status == Status.NO_MEMORY:
+        raise MemoryError
+    if status != Status.OK:
+        found = Status(status)
+        stat = stats[fault.entry] if fault.entry < len(stats) else None
+        side = "left" if fault.column == 0 else "right"
+        raise Refused(found, column=column.name, stat=stat, zone=fault.row if found in _PLACED else None, side=side)
+
+
+def _answered_zones(status: int, fault: Fault, columns: Sequence[Column], keys: Sequence[tuple[str, Stat]]) -> None:
+    """Nothing where a call about a table of zones has answered, and else what was refused."""
+    if status == Status.NO_MEMORY:
+        raise MemoryError
+    if status == Status.OK:
+        return
+    found = Status(status)
+    if found in (Status.BAD_LINE, Status.NOT_A_PREDICATE):
+        raise PredicateError(_SENTENCES[found])
+    zone = fault.row if found in _PLACED else None
+    if found in (Status.BAD_KIND, Status.BAD_NAME):
+        raise Refused(found, column=columns[fault.column].name)
+    name, stat = keys[fault.entry] if fault.entry < len(keys) else (None, None)
+    raise Refused(found, column=name, stat=stat, zone=zone)
 
 
 def run(text: bytes) -> tuple[int, bytes]:
@@ -184,7 +246,7 @@ def run(text: bytes) -> tuple[int, bytes]:
 def _values(lent: _Lent, column: Column, values: Values, nulls: memoryview | None, size: int) -> CValues:
     none = nulls if nulls is not None else memoryview(b"")
     data, ends = values.data, values.ends
-    counts = (data.nbytes, lent.at(ends), len(values) if column.dtype.has_ends else 0, lent.at(none), none.nbytes)
+    counts = (data.nbytes, lent.numbers_at(ends), len(values) if column.dtype.has_ends else 0, lent.at(none), none.nbytes)
     return CValues(column.dtype, column.nullable, len(values), size, 0, lent.at(data), *counts)
 
 
@@ -201,8 +263,9 @@ def measure(column: Column, values: Values, nulls: memoryview | None, wanted: Se
         if status != Status.TOO_SHORT:
             break
         room = length.value
-    _answered(status, fault)
-    found, start = {}, 0
+    _answered(status, fault, column.name, wanted)
+    found: dict[Stat, tuple[Precision, object]] = {}
+    start = 0
     for stat, precision, end in zip(wanted, known, ends):
         dtype = stat_dtype(stat, column.dtype)
         if precision and dtype is not None:
@@ -216,7 +279,7 @@ def measure(column: Column, values: Values, nulls: memoryview | None, wanted: Se
 def _statistic(lent: _Lent, place: int, stat: Stat, statistic: Statistic) -> CStatistic:
     it = statistic.values
     known = (lent.at(statistic.known), statistic.known.nbytes)
-    return CStatistic(place, stat, 0, *known, lent.at(it.data), it.data.nbytes, lent.at(it.ends), len(it) if it.dtype.has_ends else 0)
+    return CStatistic(place, stat, 0, *known, lent.at(it.data), it.data.nbytes, lent.numbers_at(it.ends), len(it) if it.dtype.has_ends else 0)
 
 
 def _table(statistics: Sequence[CStatistic]) -> ctypes.Array[CStatistic]:
@@ -234,11 +297,62 @@ def check(column: Column, values: Values, nulls: memoryview | None, known: Mappi
         precision, value = known[stat]
         dtype = stat_dtype(stat, column.dtype)
         assert dtype is not None
-        entries.append(_statistic(lent, 0, stat, Statistic(memoryview(bytes([precision])), Values.of(dtype, [value]))))  # type: ignore[list-item]
+        entries.append(_statistic(lent, 0, stat, Statistic(memoryview(bytes([precision])), Values.of(dtype, [value]))))
     table = _table(entries)
     given = _values(lent, column, values, nulls, values.data.nbytes + values.ends.nbytes)
     status = _library().vortex_check(ctypes.byref(given), table, len(entries), 0, ctypes.byref(fault))
     if status == Status.UNTRUE:
-        return stats[fault.entry]
-    _answered(status, fault)
+        untrue: Stat = stats[fault.entry]
+        return untrue
+    _answered(status, fault, column.name, stats)
     return None
+
+
+def merge(column: Column, zones: int, left: Mapping[Stat, Statistic], right: Mapping[Stat, Statistic]) -> dict[Stat, Statistic]:
+    """The statistics of zones of a column, each a zone of ``left`` followed by the one of ``right`` at the same place.
+
+    Both have the same statistics.
+    """
+    from .footers import Statistic
+
+    lent, length, fault, stats = _Lent(), c_size_t(), Fault(), list(left)
+    sides = [_table([_statistic(lent, 0, stat, side[stat]) for stat in stats]) for side in (left, right)]
+    known, ends = bytearray(len(stats) * zones), array("Q", bytes(8 * len(stats) * zones))
+    room = sum(side[stat].values.data.nbytes for side in (left, right) for stat in stats)
+    while True:
+        output = bytearray(room)
+        outs = (lent.at(known), len(known), lent.at(ends), len(ends), lent.at(output), room, ctypes.byref(length), ctypes.byref(fault))
+        status = _library().vortex_merge(column.dtype, column.nullable, zones, sides[0], len(stats), sides[1], len(stats), *outs)
+        if status != Status.TOO_SHORT:
+            break
+        room = length.value
+    _answered_merge(status, fault, column, stats)
+    found, start, heap = {}, 0, memoryview(output)
+    for place, stat in enumerate(stats):
+        dtype, here = stat_dtype(stat, column.dtype), slice(place * zones, (place + 1) * zones)
+        assert dtype is not None
+        end = ends[here.stop - 1] if zones else start
+        values = Values(dtype, heap[start:end], moved(ends[here], -start) if dtype.has_ends else memoryview(b""), zones)
+        found[stat] = Statistic(memoryview(known)[here], values)
+        start = end
+    return found
+
+
+def prune(
+    columns: Sequence[Column], rows: array[int], statistics: Mapping[tuple[str, Stat], Statistic], predicate: str, normalize: bool
+) -> bytearray:
+    """What to do with each zone under a predicate, a byte each."""
+    lent, fault, keys = _Lent(), Fault(), list(statistics)
+    places = {column.name: place for place, column in enumerate(columns)}
+    names = [column.name.encode(errors="replace") for column in columns]
+    scope = (CField * len(columns))(*[CField(lent.at(name), len(name), it.dtype, it.nullable) for name, it in zip(names, columns)])
+    table = _table([_statistic(lent, places[name], stat, statistics[name, stat]) for name, stat in keys])
+    try:
+        text = predicate.encode()
+    except UnicodeEncodeError as wrong:
+        raise PredicateError(f"the predicate is no Unicode text: {wrong}") from wrong
+    answers = bytearray(len(rows))
+    given = (scope, len(columns), lent.at(rows), len(rows), table, len(keys), lent.at(text), len(text), int(normalize))
+    status = _library().vortex_prune(*given, lent.at(answers), len(answers), ctypes.byref(fault))
+    _answered_zones(status, fault, columns, keys)
+    return answers

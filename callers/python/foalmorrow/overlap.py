@@ -24,5 +24,5 @@ def overlap(bounds: Sequence[tuple[object, object] | None]) -> Overlap:
     anywhere = sum(it is None for it in bounds)
     starts, ends = sorted(it[0] for it in known), sorted(it[1] for it in known)  # type: ignore[type-var]
     # Zones that begin at a value or before it, without those that end before it.
-    depths = [anywhere + bisect.bisect_right(starts, value) - bisect.bisect_left(ends, value) for value in starts] or [anywhere]  # type: ignore[type-var]
+    depths = [anywhere + bisect.bisect_right(starts, value) - bisect.bisect_left(ends, value) for value in starts] or [anywhere]  # type: ignore[call-overload]
     return Overlap(sum(depths) / len(depths), max(depths))

@@ -4,8 +4,8 @@
 >>> wanted = (col("qty") > 9000) & col("name").like("pre%")
 >>> wanted.text(columns)
 'and gt col qty lit i64? 9000 like col name lit utf8 "pre%"'
->>> wanted.sql(columns)
-"((qty > 9000) AND (name LIKE 'pre%'))"
+>>> print(wanted.sql(columns))
+(("qty" > 9000) AND ("name" LIKE 'pre%'))
 
 A literal has the type of the column that it is compared with. ``None`` is null. Python's ``and``, ``or`` and ``not`` can't be
 given another meaning: ``&``, ``|`` and ``~`` stand for them, with parentheses round comparisons.
@@ -21,10 +21,33 @@ Value = bool | int | str | bytes | None
 Columns = dict[str, Column]
 
 _OPERATORS = {"eq": "=", "ne": "<>", "gt": ">", "ge": ">=", "lt": "<", "le": "<="}
+_TURNED = {"eq": "ne", "ne": "eq", "gt": "le", "le": "gt", "ge": "lt", "lt": "ge"}
 
 
 class PredicateError(ValueError):
     """A predicate that names what the table hasn't, or compares a column with a value that isn't of its type."""
+
+
+class Dialect:
+    """How a database spells names, values and patterns: here as SQL and PostgreSQL do."""
+
+    #: Whether AND, OR and NOT tell null from false. Else conditions are spelled without NOT before AND and OR, where it makes no difference.
+    has_null = True
+
+    def name(self, column: Column) -> str:
+        """The column's name."""
+        return '"' + column.name.replace('"', '""') + '"'
+
+    def literal(self, column: Column, value: Value) -> str:
+        """A value as a literal. PredicateError where it is none of the column's values."""
+        return sql_literal(column, value)
+
+    def like(self, column: Column, pattern: str, negated: bool, ignore_case: bool) -> str:
+        """Whether a text matches a pattern, in which a backslash makes the next character plain."""
+        return f"({self.name(column)} {'NOT ' * negated}{'ILIKE' if ignore_case else 'LIKE'} {self.literal(column, pattern)})"
+
+
+SQL = Dialect()
 
 
 class Predicate:
@@ -34,14 +57,31 @@ class Predicate:
         """The words of the ``where`` line over these columns. PredicateError where the predicate doesn't fit them."""
         return self._text({column.name: column for column in columns})
 
-    def sql(self, columns: Sequence[Column]) -> str:
-        """The same as a condition of SQL, texts as bytes where the column is of bytes."""
-        return self._sql({column.name: column for column in columns})
+    def sql(self, columns: Sequence[Column], dialect: Dialect = SQL) -> str:
+        """The same as a condition of SQL. PredicateError as of ``text``."""
+        spelled = self if dialect.has_null else self.without_not()
+        return spelled._sql({column.name: column for column in columns}, dialect)
+
+    def without_not(self) -> Predicate:
+        """The same predicate without NOT: each comparison under one is turned round, and null stays null."""
+        return self
+
+    def _turned(self) -> Predicate:
+        """This predicate turned round, without NOT."""
+        raise NotImplementedError
+
+    def leaves(self) -> list[Predicate]:
+        """The conditions that are joined and turned round, from left to right."""
+        return [self]
+
+    def names(self) -> list[str]:
+        """The columns that are named, from left to right; a column that is named twice stands twice."""
+        return [name for leaf in self.leaves() for name in leaf.names()]
 
     def _text(self, columns: Columns) -> str:
         raise NotImplementedError
 
-    def _sql(self, columns: Columns) -> str:
+    def _sql(self, columns: Columns, dialect: Dialect) -> str:
         raise NotImplementedError
 
     def __and__(self, other: Predicate) -> Predicate:
@@ -68,8 +108,17 @@ class Joined(Predicate):
     def _text(self, columns: Columns) -> str:
         return f"{self.word} {self.left._text(columns)} {self.right._text(columns)}"
 
-    def _sql(self, columns: Columns) -> str:
-        return f"({self.left._sql(columns)} {self.word.upper()} {self.right._sql(columns)})"
+    def _sql(self, columns: Columns, dialect: Dialect) -> str:
+        return f"({self.left._sql(columns, dialect)} {self.word.upper()} {self.right._sql(columns, dialect)})"
+
+    def leaves(self) -> list[Predicate]:
+        return self.left.leaves() + self.right.leaves()
+
+    def without_not(self) -> Predicate:
+        return Joined(self.word, self.left.without_not(), self.right.without_not())
+
+    def _turned(self) -> Predicate:
+        return Joined("or" if self.word == "and" else "and", self.left._turned(), self.right._turned())
 
 
 @dataclass(frozen=True)
@@ -81,8 +130,17 @@ class Not(Predicate):
     def _text(self, columns: Columns) -> str:
         return f"not {self.of._text(columns)}"
 
-    def _sql(self, columns: Columns) -> str:
-        return f"(NOT {self.of._sql(columns)})"
+    def _sql(self, columns: Columns, dialect: Dialect) -> str:
+        return f"(NOT {self.of._sql(columns, dialect)})"
+
+    def leaves(self) -> list[Predicate]:
+        return self.of.leaves()
+
+    def without_not(self) -> Predicate:
+        return self.of._turned()
+
+    def _turned(self) -> Predicate:
+        return self.of.without_not()
 
 
 @dataclass(frozen=True)
@@ -96,13 +154,25 @@ class Compared(Predicate):
     def _text(self, columns: Columns) -> str:
         column = _column(columns, self.name)
         if isinstance(self.other, ColumnOf):
-            return f"{self.operator} col {self.name} col {_column(columns, self.other.name).name}"
+            other = _column(columns, self.other.name)
+            if other.dtype != column.dtype:
+                raise PredicateError(f"column {column.name} is {column.word}, and column {other.name} is {other.word}")
+            return f"{self.operator} col {self.name} col {other.name}"
         return f"{self.operator} col {self.name} {literal(column, self.other)}"
 
-    def _sql(self, columns: Columns) -> str:
+    def _sql(self, columns: Columns, dialect: Dialect) -> str:
         column = _column(columns, self.name)
-        right = _column(columns, self.other.name).name if isinstance(self.other, ColumnOf) else sql_literal(column, self.other)
-        return f"({self.name} {_OPERATORS[self.operator]} {right})"
+        if isinstance(self.other, ColumnOf):
+            right = dialect.name(_column(columns, self.other.name))
+        else:
+            right = dialect.literal(column, self.other)
+        return f"({dialect.name(column)} {_OPERATORS[self.operator]} {right})"
+
+    def names(self) -> list[str]:
+        return [self.name, self.other.name] if isinstance(self.other, ColumnOf) else [self.name]
+
+    def _turned(self) -> Predicate:
+        return Compared(_TURNED[self.operator], self.name, self.other)
 
 
 @dataclass(frozen=True)
@@ -120,10 +190,19 @@ class Between(Predicate):
         ends = f"{'<' if self.low_strict else '<='} {'<' if self.high_strict else '<='}"
         return f"between {ends} col {self.name} {literal(column, self.low)} {literal(column, self.high)}"
 
-    def _sql(self, columns: Columns) -> str:
+    def _sql(self, columns: Columns, dialect: Dialect) -> str:
+        return self.ends()._sql(columns, dialect)
+
+    def ends(self) -> Predicate:
+        """The two comparisons that it stands for."""
         low = Compared("gt" if self.low_strict else "ge", self.name, self.low)
-        high = Compared("lt" if self.high_strict else "le", self.name, self.high)
-        return (low & high)._sql(columns)
+        return low & Compared("lt" if self.high_strict else "le", self.name, self.high)
+
+    def names(self) -> list[str]:
+        return [self.name]
+
+    def _turned(self) -> Predicate:
+        return self.ends()._turned()
 
 
 @dataclass(frozen=True)
@@ -136,8 +215,14 @@ class NullTest(Predicate):
     def _text(self, columns: Columns) -> str:
         return f"{'isnull' if self.wanted else 'notnull'} col {_column(columns, self.name).name}"
 
-    def _sql(self, columns: Columns) -> str:
-        return f"({_column(columns, self.name).name} IS {'' if self.wanted else 'NOT '}NULL)"
+    def _sql(self, columns: Columns, dialect: Dialect) -> str:
+        return f"({dialect.name(_column(columns, self.name))} IS {'' if self.wanted else 'NOT '}NULL)"
+
+    def names(self) -> list[str]:
+        return [self.name]
+
+    def _turned(self) -> Predicate:
+        return NullTest(self.name, not self.wanted)
 
 
 @dataclass(frozen=True)
@@ -159,9 +244,14 @@ class Like(Predicate):
         word = ("not" if self.negated else "") + ("ilike" if self.ignore_case else "like")
         return f"{word} col {self.name} {literal(self._column(columns), self.pattern)}"
 
-    def _sql(self, columns: Columns) -> str:
-        word = ("NOT " if self.negated else "") + ("ILIKE" if self.ignore_case else "LIKE")
-        return f"({self.name} {word} {sql_literal(self._column(columns), self.pattern)})"
+    def _sql(self, columns: Columns, dialect: Dialect) -> str:
+        return dialect.like(self._column(columns), self.pattern, self.negated, self.ignore_case)
+
+    def names(self) -> list[str]:
+        return [self.name]
+
+    def _turned(self) -> Predicate:
+        return Like(self.name, self.pattern, not self.negated, self.ignore_case)
 
 
 @dataclass(frozen=True, eq=False)
@@ -198,10 +288,11 @@ class ColumnOf:
         """The column is one of the values, of which there has to be one."""
         if not values:
             raise PredicateError(f"column {self.name}: is_in needs a value")
-        found = self == values[0]
-        for value in values[1:]:
-            found = found | (self == value)
-        return found
+        found: list[Predicate] = [self == value for value in values]
+        while len(found) > 1:
+            # Joined pair by pair, so that a long list doesn't nest deep.
+            found = [joined_by_or(found[place : place + 2]) for place in range(0, len(found), 2)]
+        return found[0]
 
     def is_null(self) -> Predicate:
         """The column is null."""
@@ -214,6 +305,11 @@ class ColumnOf:
     def like(self, pattern: str, *, negated: bool = False, ignore_case: bool = False) -> Predicate:
         """The text matches a pattern: ``%`` is any run of characters, ``_`` any one, ``\\`` makes the next one plain."""
         return Like(self.name, pattern, negated, ignore_case)
+
+
+def joined_by_or(pair: Sequence[Predicate]) -> Predicate:
+    """The one predicate, or the OR of two."""
+    return pair[0] if len(pair) == 1 else pair[0] | pair[1]
 
 
 def col(name: str) -> ColumnOf:

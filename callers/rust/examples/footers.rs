@@ -1,28 +1,40 @@
-//! Keeps the statistics of a table's chunks, and checks them against the values that they came from.
-use foalmorrow::{Column, DType, Error, Footers, Kind, Precision, Stat, Value};
+//! Measures the chunks of a table, keeps their statistics, and later reads the chunks alone that a predicate doesn't
+//! rule out.
+use foalmorrow::{col, Answer, Column, DType, Error, Kind, Predicate, Stat, ZoneMap};
 
-const TEMPERATURE: DType = DType { kind: Kind::I64, nullable: false };
+const SCOPE: [(&str, DType); 2] = [
+    ("temperature", DType { kind: Kind::I64, nullable: false }),
+    ("city", DType { kind: Kind::Utf8, nullable: false }),
+];
+
+/// The rows of a chunk, as a reader would bring them: temperatures, and the cities as one text with where each of
+/// them ends.
+fn chunk(day: i64) -> (Vec<i64>, String, Vec<u64>) {
+    let temperatures = (0..6).map(|hour| 4 * day + hour).collect();
+    let cities = ["Bern", "Bonn", "Brno"].map(|city| format!("{city}{day}"));
+    let ends = (0..6).scan(0, |end, row| {
+        *end += cities[row % 3].len() as u64;
+        Some(*end)
+    });
+    (temperatures, (0..6).map(|row| cities[row % 3].as_str()).collect(), ends.collect())
+}
 
 fn main() -> Result<(), Error> {
-    let chunks: [&[i64]; 4] = [&[12, 15, 11], &[18, 25, 22], &[30, 28, 31], &[9, 4, 10]];
-
-    // A writer keeps of each chunk what a reader will ask for.
-    let mut footers = Footers::new(TEMPERATURE, &[Stat::Min, Stat::Max, Stat::NullCount]);
-    for chunk in chunks {
-        footers.push(&Column::numbers(chunk))?;
+    // A writer: the statistics of each chunk, true of it by proof.
+    let mut map = ZoneMap::new(&SCOPE, &[Stat::Min, Stat::Max, Stat::NullCount]);
+    for day in 0..6 {
+        let (temperatures, cities, ends) = chunk(day);
+        map.push(&[Column::numbers(&temperatures), Column::texts(&cities, &ends)])?;
     }
 
-    // A reader that wants temperatures above 20 reads only the chunks whose greatest value is above it.
-    for (zone, chunk) in chunks.iter().enumerate() {
-        match footers.get(zone, Stat::Max) {
-            Some(Precision::Exact(Value::Signed(greatest))) if greatest <= 20 => println!("chunk {zone}: left unread"),
-            _ => println!("chunk {zone}: {:?}", chunk.iter().filter(|value| **value > 20).collect::<Vec<_>>()),
+    // A reader, later: which chunks it has to fetch for a predicate.
+    let wanted: Predicate = col("temperature").gt(20_i64).and(col("city").like("B%"));
+    for (day, answer) in (0..).zip(map.prune(&wanted)?) {
+        match answer {
+            Answer::Skip => println!("day {day}: left unread"),
+            Answer::Read => println!("day {day}: {:?}", chunk(day).0.iter().filter(|it| **it > 20).collect::<Vec<_>>()),
+            Answer::Whole => println!("day {day}: all of {:?}", chunk(day).0),
         }
     }
-
-    // What is told of a chunk is true of it, and not of another one.
-    footers.check(1, &Column::numbers(chunks[1]))?;
-    let other = footers.check(1, &Column::numbers(chunks[2]));
-    println!("chunk 1 by the values of chunk 2: {}", other.expect_err("they differ"));
     Ok(())
 }

@@ -35,6 +35,26 @@ impl Kind {
     }
 }
 
+impl std::fmt::Display for Kind {
+    /// The kind's word in the language of predicates.
+    fn fmt(&self, f: &mut std::fmt::Formatter<'_>) -> std::fmt::Result {
+        f.write_str(match self {
+            Kind::Null => "null",
+            Kind::Bool => "bool",
+            Kind::U8 => "u8",
+            Kind::U16 => "u16",
+            Kind::U32 => "u32",
+            Kind::U64 => "u64",
+            Kind::I8 => "i8",
+            Kind::I16 => "i16",
+            Kind::I32 => "i32",
+            Kind::I64 => "i64",
+            Kind::Utf8 => "utf8",
+            Kind::Binary => "binary",
+        })
+    }
+}
+
 /// The type of a column: a kind of values, and whether null is one of them.
 #[derive(Clone, Copy, Debug, PartialEq, Eq, Hash)]
 pub struct DType {
@@ -85,7 +105,8 @@ impl<'a> Column<'a> {
     pub fn numbers<T: Number>(numbers: &'a [T]) -> Self {
         // SAFETY: a `Number` is an integer, whose bytes may be read as such. On machines that keep the lowest byte
         // first, they are in the order that the library reads.
-        let bytes = unsafe { std::slice::from_raw_parts(numbers.as_ptr().cast::<u8>(), std::mem::size_of_val(numbers)) };
+        let bytes =
+            unsafe { std::slice::from_raw_parts(numbers.as_ptr().cast::<u8>(), std::mem::size_of_val(numbers)) };
         Column::new(T::KIND, numbers.len(), bytes, &[])
     }
 

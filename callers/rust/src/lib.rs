@@ -5,13 +5,17 @@
 mod column;
 mod error;
 mod footers;
+mod predicate;
 mod raw;
 mod stat;
+mod zone_map;
 
 pub use column::{Column, DType, Kind, Number};
 pub use error::Error;
 pub use footers::Footers;
+pub use predicate::{col, ColumnName, Literal, Operand, Operator, Predicate};
 pub use stat::{Precision, Stat, Value};
+pub use zone_map::{Answer, ZoneMap};
 
 /// What the program answers to a text.
 #[derive(Clone, Debug, PartialEq, Eq)]
@@ -28,9 +32,7 @@ pub fn run(text: &[u8]) -> Reply {
     loop {
         let mut len = 0;
         // SAFETY: the arrays are as long as is said, and the output is lent to this call alone.
-        let status = unsafe {
-            raw::vortex_run(text.as_ptr(), text.len(), output.as_mut_ptr(), output.len(), &mut len)
-        };
+        let status = unsafe { raw::vortex_run(text.as_ptr(), text.len(), output.as_mut_ptr(), output.len(), &mut len) };
         if status == 3 {
             output.resize(len, 0);
             continue;

@@ -44,14 +44,19 @@ pub struct Statistic<'a> {
     pub lent: PhantomData<&'a [u8]>,
 }
 
+/// `vortex_field`, whose name is lent for `'a`.
+#[repr(C)]
+#[derive(Clone, Copy, Debug)]
+pub struct Field<'a> {
+    pub name: *const u8,
+    pub name_len: usize,
+    pub kind: u8,
+    pub nullable: u8,
+    pub lent: PhantomData<&'a str>,
+}
+
 unsafe extern "C" {
-    pub fn vortex_run(
-        input: *const u8,
-        input_len: usize,
-        output: *mut u8,
-        output_len: usize,
-        len: *mut usize,
-    ) -> u8;
+    pub fn vortex_run(input: *const u8, input_len: usize, output: *mut u8, output_len: usize, len: *mut usize) -> u8;
 
     pub fn vortex_measure(
         column: *const Values<'_>,
@@ -72,6 +77,39 @@ unsafe extern "C" {
         stats: *const Statistic<'_>,
         stats_len: usize,
         zone: usize,
+        fault: *mut Fault,
+    ) -> u8;
+
+    pub fn vortex_merge(
+        kind: u8,
+        nullable: u8,
+        zones: usize,
+        left: *const Statistic<'_>,
+        left_len: usize,
+        right: *const Statistic<'_>,
+        right_len: usize,
+        known: *mut u8,
+        known_len: usize,
+        ends: *mut u64,
+        ends_len: usize,
+        values: *mut u8,
+        values_len: usize,
+        len: *mut usize,
+        fault: *mut Fault,
+    ) -> u8;
+
+    pub fn vortex_prune(
+        scope: *const Field<'_>,
+        scope_len: usize,
+        rows: *const u64,
+        rows_len: usize,
+        stats: *const Statistic<'_>,
+        stats_len: usize,
+        predicate: *const u8,
+        predicate_len: usize,
+        flags: u8,
+        answers: *mut u8,
+        answers_len: usize,
         fault: *mut Fault,
     ) -> u8;
 }

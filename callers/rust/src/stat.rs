@@ -37,8 +37,20 @@ impl Stat {
 pub enum Precision<T> {
     Absent,
     Exact(T),
-    /// A bound: at least the greatest value or the count, at most the least value; of other statistics it says nothing.
+    /// A bound: at least the greatest value or the count, at most the least value; of other statistics it says
+    /// nothing.
     Inexact(T),
+}
+
+impl Precision<Value> {
+    // How it is known, and its bytes; what is absent takes the same room. `None` where the value isn't of this kind.
+    pub(crate) fn bytes(&self, kind: Kind) -> Option<(u8, Vec<u8>)> {
+        Some(match self {
+            Precision::Absent => (0, vec![0; kind.width().unwrap_or(0)]),
+            Precision::Exact(value) => (1, value.bytes(kind)?),
+            Precision::Inexact(value) => (2, value.bytes(kind)?),
+        })
+    }
 }
 
 /// A value of a column or a statistic.
@@ -72,5 +84,24 @@ impl Value {
             Kind::Utf8 => Value::Utf8(String::from_utf8(bytes.to_vec()).ok()?),
             Kind::Binary => Value::Binary(bytes.to_vec()),
         })
+    }
+
+    // The bytes of a value of a kind.
+    fn bytes(&self, kind: Kind) -> Option<Vec<u8>> {
+        let width = kind.width();
+        match (self, kind) {
+            (Value::Bool(truth), Kind::Bool) => Some(vec![u8::from(*truth)]),
+            (Value::Utf8(text), Kind::Utf8) => Some(text.as_bytes().to_vec()),
+            (Value::Binary(bytes), Kind::Binary) => Some(bytes.clone()),
+            (Value::Unsigned(number), Kind::U8 | Kind::U16 | Kind::U32 | Kind::U64) => {
+                let bytes = number.to_le_bytes();
+                bytes[width?..].iter().all(|byte| *byte == 0).then(|| bytes[..width.unwrap_or(8)].to_vec())
+            }
+            (Value::Signed(number), Kind::I8 | Kind::I16 | Kind::I32 | Kind::I64) => {
+                let bytes = number.to_le_bytes()[..width?].to_vec();
+                (Value::read(kind, &bytes) == Some(self.clone())).then_some(bytes)
+            }
+            _ => None,
+        }
     }
 }

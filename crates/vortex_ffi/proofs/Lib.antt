@@ -1,4 +1,10 @@
 pub mod CheckLemmas
+pub mod MarkLemmas
+pub mod MergeLemmas
+pub mod NormalLemmas
+pub mod PruneLemmas
 pub mod ReadLemmas
+pub mod ScopeLemmas
 pub mod SlotLemmas
+pub mod TableLemmas
 pub mod WorkedRows

@@ -1,2 +1,3 @@
 -- Worked rows, found by computation alone.
 pub mod CallRows
+pub mod TableRows

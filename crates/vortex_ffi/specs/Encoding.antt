@@ -1,7 +1,9 @@
 -- Values as bytes.
-use Rattle.std.specs.Prelude.{ℕ, ◌==◌, Bool, true, false, List, [], ◌∷◌, Option, None, Some, Result, Ok, Err, if◌then◌else◌, length, nat_le, take}
+use Rattle.std.specs.Prelude.{ℕ, ◌==◌, ◌&&◌, Bool, true, false, List, [], ◌∷◌, Option, None, Some, Result, Ok, Err, if◌then◌else◌, length, nat_le, take}
 use Rattle.std.specs.Int.{cast_signed, cast_unsigned, from_le_bytes, to_le_bytes, w8, w16, w32, w64}
 use Rattle.std.specs.Str.{is_utf8}
+use Rattle.vortex_base.specs.Data.Types.{ptype_index}
+use Rattle.vortex_base.specs.Data.Values.{in_range, ptype_of}
 use Rattle.vortex_base.specs.declared.dtype.DType.{DType}
 use Rattle.vortex_base.specs.declared.dtype.DType.TheVariants as dtype
 use Rattle.vortex_base.specs.declared.types.PType.{PType}
@@ -29,6 +31,10 @@ number_of ptype.I8 bytes = made_of 1 (λ bs. number.I8 (cast_signed w8 (from_le_
 number_of ptype.I16 bytes = made_of 2 (λ bs. number.I16 (cast_signed w16 (from_le_bytes w16 bs))) bytes
 number_of ptype.I32 bytes = made_of 4 (λ bs. number.I32 (cast_signed w32 (from_le_bytes w32 bs))) bytes
 number_of ptype.I64 bytes = made_of 8 (λ bs. number.I64 (cast_signed w64 (from_le_bytes w64 bs))) bytes
+
+-- the number is one of the type
+abbrev pub is_number : PType → PValue → Bool
+is_number t p = (ptype_index (ptype_of p) == ptype_index t) && in_range p
 
 -- the truth of the first byte
 abbrev pub truth_of : List ℕ → Option Bool

@@ -1,11 +1,16 @@
 pub mod Checks
 pub mod Encoding
 pub mod Given
+pub mod Laws
 pub mod Measures
+pub mod Merges
+pub mod Prunes
 pub mod Refusals
 pub mod Runs
+pub mod Scopes
 pub mod Slots
 pub mod Statistics
 pub mod Statuses
+pub mod Tables
 pub mod Types
 pub mod Values

@@ -30,6 +30,29 @@ abbrev pub followed : {X Y : Type 0} → Result X Refusal → (X → Result Y Re
 followed (Err r) f = Err r
 followed (Ok x) f = f x
 
+-- what the first n steps make of x in turn, or the first of them that is refused
+abbrev pub stepped : {X : Type 0} → (ℕ → X → Result X Refusal) → X → ℕ → Result X Refusal
+stepped f x zero = Ok x
+stepped f x (suc n) = followed (stepped f x n) (f n)
+
+-- one more item behind those that were found
+abbrev pub found_more : {X : Type 0} → (ℕ → Result X Refusal) → ℕ → List X → Result (List X) Refusal
+found_more f n xs = followed (f n) (λ x. Ok (xs ++ x ∷ []))
+
+-- the items of the first n places in order, or the first refusal, which has a place of its own
+abbrev pub all_found : {X : Type 0} → (ℕ → Result X Refusal) → ℕ → Result (List X) Refusal
+all_found f n = stepped (found_more f) [] n
+
+-- a call made of x what is to be made of it
+abbrev pub Leaves : {X : Type 0} → Result (Unit {0}) Refusal → Result X Refusal → X → Type 0
+Leaves (Ok u) made new = made ≡ Ok new
+Leaves (Err r) made new = r.status ≢ NoMemory → made ≡ Err r
+
+-- the same of a call that tells no place
+abbrev pub Changes : {X : Type 0} → Result (Unit {0}) Status → Result X Status → X → Type 0
+Changes (Ok u) made new = made ≡ Ok new
+Changes (Err s) made new = s ≢ NoMemory → made ≡ Err s
+
 -- what is read is told to be refused at a place
 abbrev pub placed : {X : Type 0} → (Status → Refusal) → Result X Status → Result X Refusal
 placed at (Ok x) = Ok x

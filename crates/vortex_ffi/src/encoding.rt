@@ -1,5 +1,6 @@
 //! Values as bytes.
-ghost use Rattle.std.specs.Prelude.{◌≡◌, ◌++◌, OnOk};
+ghost use Rattle.std.specs.Prelude.{◌≡◌, ◌++◌, IfOk, IfSome, IsTrue, OnOk};
+ghost use Rattle.vortex_base.specs.Data.Values.{is_value};
 ghost use Rattle.vortex_ffi.specs.Encoding as spec;
 ghost use Rattle.vortex_ffi.specs.Refusals.{Gives};
 ghost use Rattle.vortex_ffi.specs.declared.status.Status.TheVariants.{NoMemory};
@@ -17,7 +18,8 @@ use vortex_syntax::word::Word;
 
 // The number that the bytes begin with, where there are enough.
 fn number_of(ptype: PType, bytes: &[u8]) -> Option<PValue>
-    ensures { result ≡ spec.number_of ptype bytes.now }
+    ensures read { result ≡ spec.number_of ptype bytes.now }
+    ensures fits { IfSome result (λ number. IsTrue (spec.is_number ptype number)) }
 {
     match ptype {
         PType::U8 => Some(PValue::U8(u8::from_le_bytes(*bytes.first_chunk()?))),
@@ -44,19 +46,21 @@ fn truth_of(bytes: &[u8]) -> Option<bool>
 
 // The text of the bytes, where they are UTF-8. The value of a quoted word is such a text.
 fn text_of(alloc: Global, dtype: DType, bytes: &[u8]) -> Result<ScalarValue, Status>
-    ensures { Gives result (spec.text_of dtype bytes.now) }
+    ensures read { Gives result (spec.text_of dtype bytes.now) }
+    ensures fits { IfOk result (λ value. IsTrue (is_value value dtype)) }
 {
     let bytes = Vec::from_slice(alloc, bytes)?;
-    match value::value_of(alloc, dtype, Word::Quoted(bytes)) {
+    match value::value_of(alloc, dtype, Word::Quoted(bytes), 0) {
         Ok(text) => Ok(text),
-        Err(LineError::Bad) => Err(Status::BadValue),
+        Err(LineError::Bad(_)) => Err(Status::BadValue),
         Err(LineError::Memory) => Err(Status::NoMemory),
     }
 }
 
 /// The value of a type that the bytes are.
 pub(crate) fn value_of(alloc: Global, dtype: DType, bytes: &[u8]) -> Result<ScalarValue, Status>
-    ensures { Gives result (spec.value_of dtype bytes.now) }
+    ensures read { Gives result (spec.value_of dtype bytes.now) }
+    ensures fits { IfOk result (λ value. IsTrue (is_value value dtype)) }
 {
     match dtype {
         DType::Bool(_) => match truth_of(bytes) {

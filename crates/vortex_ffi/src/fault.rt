@@ -1,6 +1,6 @@
 //! Where a call was refused.
 ghost use Rattle.std.specs.Prelude.{◌≡◌};
-ghost use Rattle.vortex_ffi.specs.Statuses.{at_entry, at_row, in_zone};
+ghost use Rattle.vortex_ffi.specs.Statuses.{at_column, at_entry, at_row, in_column, in_zone};
 
 use crate::status::Status;
 use std::alloc::{AllocError, AllocFailed};
@@ -44,6 +44,30 @@ impl Refusal {
         let fault = Fault {
             row: zone,
             column: 0,
+            entry,
+        };
+        Refusal { status, fault }
+    }
+
+    /// At this column of a scope.
+    pub(crate) fn at_column(status: Status, column: usize) -> Refusal
+        ensures { result ≡ at_column status column }
+    {
+        let fault = Fault {
+            row: 0,
+            column,
+            entry: 0,
+        };
+        Refusal { status, fault }
+    }
+
+    /// In this zone, at this statistic of a column.
+    pub(crate) fn in_column(status: Status, zone: usize, column: usize, entry: usize) -> Refusal
+        ensures { result ≡ in_column zone column status entry }
+    {
+        let fault = Fault {
+            row: zone,
+            column,
             entry,
         };
         Refusal { status, fault }

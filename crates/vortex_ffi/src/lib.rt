@@ -8,12 +8,19 @@
 pub mod check;
 mod encoding;
 pub mod fault;
+pub mod field;
 mod given;
+pub mod laws;
+mod marks;
 pub mod measure;
+pub mod merge;
+mod predicate;
+pub mod prune;
 pub mod run;
 mod slots;
 pub mod statistic;
 mod status;
+mod table;
 #[cfg(test)]
 mod tests;
 mod types;

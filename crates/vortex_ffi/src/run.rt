@@ -5,6 +5,7 @@ ghost use Rattle.vortex_text.specs.Program.{IsFullScan};
 
 use crate::status::Status;
 use std::alloc::Global;
+use std::io;
 use vortex_text::program::run;
 
 // Writes an answer to the front of an array that is long enough for it, and its length in any case.
@@ -31,6 +32,6 @@ pub extern "C" fn vortex_run(alloc: Global, input: &[u8], output: &mut [u8], len
 {
     let mut reader = input;
     let mut answer = Vec::new(alloc);
-    let status = run(alloc, &mut reader, &mut answer);
+    let status = run(alloc, &mut reader, &mut answer, &mut io::sink());
     deliver(status, &answer, output, len)
 }

@@ -1,6 +1,9 @@
 //! Statistics of zones as a caller hands them in.
+ghost use Rattle.std.specs.Prelude.{IfOk, IsTrue};
 ghost use Rattle.vortex_ffi.specs.Refusals.{Gives};
 ghost use Rattle.vortex_ffi.specs.Statistics as spec;
+ghost use Rattle.vortex_stats.specs.Sets.Entries.{is_value_of, value_fits};
+ghost use Rattle.vortex_stats.specs.Stat.{stat_dtype};
 
 use crate::given::Given;
 use crate::measure::stat_of;
@@ -42,8 +45,9 @@ impl Statistic<'_> {
         stat: Stat,
         zone: usize,
     ) -> Result<ScalarValue, Status>
-        ensures { Gives result (spec.present_value dtype stat self.now.values.now self.now.start
-            self.now.ends.now zone) }
+        ensures read { Gives result (spec.present_value dtype stat self.now.values.now
+            self.now.start self.now.ends.now zone) }
+        ensures fits { IfOk result (λ value. IsTrue (is_value_of (stat_dtype stat dtype) value)) }
     {
         let given = Given {
             values: self.values,
@@ -56,16 +60,17 @@ impl Statistic<'_> {
         }
     }
 
-    // What the table says of a statistic in a zone.
-    fn value_in(
+    /// What the table says of a statistic in a zone.
+    pub(crate) fn value_in(
         &self,
         alloc: Global,
         dtype: DType,
         stat: Stat,
         zone: usize,
     ) -> Result<Precision<ScalarValue>, Status>
-        ensures { Gives result (spec.value_in dtype stat self.now.known.now self.now.values.now
-            self.now.start self.now.ends.now zone) }
+        ensures read { Gives result (spec.value_in dtype stat self.now.known.now
+            self.now.values.now self.now.start self.now.ends.now zone) }
+        ensures fits { IfOk result (λ value. IsTrue (value_fits stat dtype value)) }
     {
         match self.known.get(zone) {
             None => Err(Status::BadLength),
@@ -84,7 +89,8 @@ impl Statistic<'_> {
 
     /// The statistic and its value in a zone.
     pub(crate) fn entry(&self, alloc: Global, dtype: DType, zone: usize) -> Result<Entry, Status>
-        ensures { Gives result (spec.entry dtype zone self.now) }
+        ensures read { Gives result (spec.entry dtype zone self.now) }
+        ensures fits { IfOk result (λ entry. IsTrue (value_fits entry.0 dtype entry.1)) }
     {
         let stat = stat_of(dtype, self.stat)?;
         match self.value_in(alloc, dtype, stat, zone) {

@@ -4,10 +4,13 @@ ghost use Rattle.vortex_ffi.specs.Statuses.{status_number};
 ghost use Rattle.vortex_ffi.specs.declared.status.Status.TheVariants.{NoMemory};
 
 use std::alloc::{AllocError, AllocFailed};
+use vortex_syntax::line_error::LineError;
 
 /// Why a call was refused. The header's `vortex_status` has the numbers.
 #[derive(Clone, Copy, Debug, PartialEq, Eq)]
 pub enum Status {
+    /// 2: a text is no expression over the columns.
+    BadLine,
     /// 3: an array of bytes is too short for the answer.
     TooShort,
     /// 4: memory was refused.
@@ -28,6 +31,14 @@ pub enum Status {
     BadNull,
     /// 12: a statistic isn't true.
     Untrue,
+    /// 13: a statistic of a column that isn't there.
+    BadColumn,
+    /// 14: a column's name is none, or another column has it.
+    BadName,
+    /// 15: the expression isn't of type Bool.
+    NotAPredicate,
+    /// 16: a flag that isn't known.
+    BadFlag,
 }
 
 impl Status {
@@ -36,6 +47,7 @@ impl Status {
         ensures { result ≡ status_number self }
     {
         match self {
+            Status::BadLine => 2,
             Status::TooShort => 3,
             Status::NoMemory => 4,
             Status::BadKind => 5,
@@ -46,6 +58,10 @@ impl Status {
             Status::BadValue => 10,
             Status::BadNull => 11,
             Status::Untrue => 12,
+            Status::BadColumn => 13,
+            Status::BadName => 14,
+            Status::NotAPredicate => 15,
+            Status::BadFlag => 16,
         }
     }
 }
@@ -63,5 +79,18 @@ impl<T: Drop> From<AllocFailed<T>> for Status {
 
     fn from(_refused: AllocFailed<T>) -> Status {
         Status::NoMemory
+    }
+}
+
+impl From<LineError> for Status {
+    ghost use Rattle.vortex_ffi.specs.Statuses.{status_of_line};
+
+    ghost from_gives = { λ e s. s ≡ status_of_line e };
+
+    fn from(e: LineError) -> Status {
+        match e {
+            LineError::Memory => Status::NoMemory,
+            LineError::Bad(_) => Status::BadLine,
+        }
     }
 }

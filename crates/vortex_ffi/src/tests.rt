@@ -1,7 +1,10 @@
 //! Each call once, as a caller in C makes it.
 use crate::check::vortex_check;
 use crate::fault::Fault;
+use crate::field::Field;
 use crate::measure::vortex_measure;
+use crate::merge::vortex_merge;
+use crate::prune::vortex_prune;
 use crate::run::vortex_run;
 use crate::statistic::Statistic;
 use crate::values::Values;
@@ -93,4 +96,86 @@ fn a_statistic_is_checked(rt: HostRuntime) {
         8
     );
     assert_eq!(rt; fault.row, 2);
+}
+
+// The greatest numbers of 16 bits of two zones, of which the second is a bound.
+const GREATEST: Statistic<'static> = Statistic {
+    column: 0,
+    stat: 3,
+    start: 0,
+    known: &[1, 2],
+    values: &[5, 0, 7, 0],
+    ends: &[],
+};
+
+#[test]
+fn neighbours_are_merged(rt: HostRuntime) {
+    let mut known = [9u8; 2];
+    let mut ends = [9u64; 2];
+    let mut values = [9u8; 5];
+    let mut len = 0;
+    let mut fault = NOWHERE;
+    let mut right = GREATEST;
+    right.values = &[6, 0, 4, 0];
+    let status = vortex_merge(
+        rt.alloc(),
+        7,
+        1,
+        2,
+        &[GREATEST],
+        &[right],
+        &mut known,
+        &mut ends,
+        &mut values,
+        &mut len,
+        &mut fault,
+    );
+    assert_eq!(rt; status, 0);
+    assert_eq!(rt; len, 4);
+    assert!(rt; known == [1, 2]);
+    assert!(rt; ends == [2, 4]);
+    assert!(rt; values == [6, 0, 7, 0, 9]);
+}
+
+const SCOPE: [Field<'static>; 1] = [Field {
+    name: b"a",
+    kind: 7,
+    nullable: 0,
+}];
+
+#[test]
+fn zones_are_pruned(rt: HostRuntime) {
+    let mut answers = [9u8; 2];
+    let mut fault = NOWHERE;
+    let status = vortex_prune(
+        rt.alloc(),
+        &SCOPE,
+        &[3, 3],
+        &[GREATEST],
+        b"gt col a lit i16 5",
+        0,
+        &mut answers,
+        &mut fault,
+    );
+    assert_eq!(rt; status, 0);
+    assert!(rt; answers == [1, 0]);
+}
+
+#[test]
+fn a_predicate_that_is_none_leaves_the_answers(rt: HostRuntime) {
+    let mut answers = [9u8; 2];
+    let mut fault = NOWHERE;
+    let status = vortex_prune(
+        rt.alloc(),
+        &SCOPE,
+        &[3, 3],
+        &[GREATEST],
+        b"col a",
+        1,
+        &mut answers,
+        &mut fault,
+    );
+    assert_eq!(rt; status, 15);
+    assert!(rt; answers == [9, 9]);
+    assert_eq!(rt; fault.entry, 0);
 }

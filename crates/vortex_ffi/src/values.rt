@@ -1,6 +1,7 @@
 //! A column of values as a caller hands it in.
-ghost use Rattle.std.specs.Prelude.{◌≡◌};
+ghost use Rattle.std.specs.Prelude.{◌≡◌, IfOk, IsTrue};
 ghost use Rattle.vortex_base.specs.Data.Cells.{cell_values};
+ghost use Rattle.vortex_base.specs.Data.Values.{is_value};
 ghost use Rattle.vortex_ffi.specs.Refusals.{Answers, Gives};
 ghost use Rattle.vortex_ffi.specs.Values as spec;
 
@@ -68,8 +69,9 @@ pub(crate) fn value_at(
     dtype: DType,
     row: usize,
 ) -> Result<ScalarValue, Status>
-    ensures { Gives result
+    ensures read { Gives result
         (spec.value_at dtype given.now.values.now given.now.start given.now.ends.now row) }
+    ensures fits { IfOk result (λ value. IsTrue (is_value value dtype)) }
 {
     match given.bytes_at(dtype, row) {
         Ok(bytes) => value_of(alloc, dtype, bytes),

@@ -40,7 +40,7 @@ joined_swap false true false c = refl
 joined_swap false false true c = refl
 joined_swap false false false c = refl
 
-joined_unit : (w a : Bool) → joined w a w ≡ a
+pub joined_unit : (w a : Bool) → joined w a w ≡ a
 joined_unit true true = refl
 joined_unit true false = refl
 joined_unit false true = refl
@@ -174,7 +174,7 @@ null_more : (is : List Interval) (v : Option ScalarValue) → (is_none v || is_i
 null_more is None = refl
 null_more is (Some x) = refl
 
-full_cuts : (a b : Cut) (x : ScalarValue) → cuts_all a b ≡ true → (above a x && not_b (above b x)) ≡ true
+pub full_cuts : (a b : Cut) (x : ScalarValue) → cuts_all a b ≡ true → (above a x && not_b (above b x)) ≡ true
 full_cuts Lowest Highest x h = refl
 full_cuts a b x h = cc
 
@@ -432,7 +432,7 @@ module _ (row : List Constant) (n : ℕ) where
   lone_told : (w : Bool) (e : Tree Place) (is : List Item) → all_told w (add w (leaf_item e) is) ≡ joined w (satisfies e row n) (all_told w is)
   lone_told w e is = add_told w (leaf_item e) is ∙ ap (λ b. joined w b (all_told w is)) (leaf_told e)
 
-  collected_told : (w : Bool) (e : Tree Place) (is : List Item) → all_told w (collected w e is) ≡ joined w (satisfies e row n) (all_told w is)
+  pub collected_told : (w : Bool) (e : Tree Place) (is : List Item) → all_told w (collected w e is) ≡ joined w (satisfies e row n) (all_told w is)
   collected_told true (binary And l r) is =
       sides_told true (satisfies l row n) (satisfies r row n) is (collected true l is) (collected true r (collected true l is)) (collected_told true l is) (collected_told true r (collected true l is))
       ∙ ap (λ b. joined true b (all_told true is)) (both_sides l r)

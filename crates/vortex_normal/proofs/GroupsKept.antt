@@ -21,11 +21,11 @@ pub record IsPassedDown (P : Tree Place → Type 0) : Type 0 where
   pub of_operand : (x : Tree Place) → P (is_not_null x) → P x
 
 module _ (P : Tree Place → Type 0) (i : IsInherited P) (d : IsPassedDown P) where
-  abbrev Has : Item → Type 0
+  abbrev pub Has : Item → Type 0
   Has (inside c m is) = P (column c)
   Has (other e) = P e
 
-  abbrev Have : List Item → Type 0
+  abbrev pub Have : List Item → Type 0
   Have [] = Unit {0}
   Have (x ∷ xs) = Has x × Have xs
 
@@ -72,14 +72,14 @@ module _ (P : Tree Place → Type 0) (i : IsInherited P) (d : IsPassedDown P) wh
   values_have c h true [] = i.of_null (column c) h
   values_have c h true (x ∷ xs) = null_if c h (x ∷ xs) (is_full (x ∷ xs))
 
-  item_has : (x : Item) → Has x → P (item_test x)
+  pub item_has : (x : Item) → Has x → P (item_test x)
   item_has (inside c m is) h = values_have c h m is
   item_has (other e) h = h
 
   joined_has : (w : Bool) (l r : Tree Place) → P l → P r → P (connected w l r)
   joined_has w l r h k = connected_kept P l r h k w (i.of_binary And l r h k) (i.of_binary Or l r h k)
 
-  all_have : (w : Bool) (xs : List Item) (e : Tree Place) → Have xs → P e → P (joined_test w xs e)
+  pub all_have : (w : Bool) (xs : List Item) (e : Tree Place) → Have xs → P e → P (joined_test w xs e)
   all_have w [] e h k = k
   all_have w (x ∷ xs) e h k = joined_has w (item_test x) (joined_test w xs e) (item_has x h.0) (all_have w xs e h.1 k)
 
@@ -115,7 +115,7 @@ module _ (P : Tree Place → Type 0) (i : IsInherited P) (d : IsPassedDown P) wh
   not_null_has (column c) h = d.of_operand (column c) h
   not_null_has x h = h
 
-  leaf_has : (e : Tree Place) → P e → Has (leaf_item e)
+  pub leaf_has : (e : Tree Place) → P e → Has (leaf_item e)
   leaf_has (binary o l r) h = binary_has o l r h
   leaf_has (is_null x) h = null_has x h
   leaf_has (is_not_null x) h = not_null_has x h
@@ -142,7 +142,7 @@ module _ (P : Tree Place → Type 0) (i : IsInherited P) (d : IsPassedDown P) wh
   add_has w (inside c m is) ys h k = add_set_has w c m is ys h k
   add_has w (other e) ys h k = last_has (other e) ys h k
 
-  as_one_has : (v : Bool) (xs : List Item) → Have xs → Has (as_one v xs)
+  pub as_one_has : (v : Bool) (xs : List Item) → Have xs → Has (as_one v xs)
   as_one_has v [] h = items_have v [] h
   as_one_has v (x ∷ []) h = h.0
   as_one_has v (x ∷ y ∷ xs) h = items_have v (x ∷ y ∷ xs) h
@@ -150,7 +150,7 @@ module _ (P : Tree Place → Type 0) (i : IsInherited P) (d : IsPassedDown P) wh
   lone_has : (w : Bool) (e : Tree Place) (xs : List Item) → P e → Have xs → Have (add w (leaf_item e) xs)
   lone_has w e xs h k = add_has w (leaf_item e) xs (leaf_has e h) k
 
-  collected_have : (w : Bool) (e : Tree Place) (xs : List Item) → P e → Have xs → Have (collected w e xs)
+  pub collected_have : (w : Bool) (e : Tree Place) (xs : List Item) → P e → Have xs → Have (collected w e xs)
   collected_have true (binary And l r) xs h k =
       let p = d.of_sides And l r h in
       collected_have true r (collected true l xs) p.1 (collected_have true l xs p.0 k)
@@ -176,7 +176,7 @@ module _ (P : Tree Place → Type 0) (i : IsInherited P) (d : IsPassedDown P) wh
   pub grouped_has : (e : Tree Place) → P e → P (grouped e)
   grouped_has e h = items_have true (collected true e []) (collected_have true e [] h tt)
 
-columns_down : (test : Place → Bool) → IsPassedDown (Holds test)
+pub columns_down : (test : Place → Bool) → IsPassedDown (Holds test)
 columns_down test = record { of_sides = λ o l r h. and_parts (all_columns test l) (all_columns test r) h; of_null_operand = λ x h. h; of_operand = λ x h. h }
 
 nodes_down : (test : Tree Place → Bool) (t : IsOfLeaves test) → IsPassedDown (Lacks test t)

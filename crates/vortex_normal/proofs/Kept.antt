@@ -9,8 +9,8 @@ use Rattle.vortex_base.specs.declared.types.BetweenOptions.{BetweenOptions}
 use Rattle.vortex_base.specs.declared.like.LikeOptions.{LikeOptions}
 use Rattle.vortex_base.specs.declared.types.Operator.{Operator}
 use Rattle.vortex_base.specs.declared.types.Operator.TheVariants.{Eq, NotEq, Gt, Gte, Lt, Lte, And, Or}
-use Rattle.vortex_normal.specs.Pushed.{comparison, connected, like_as, liked, null_test, operator_as, pushed, settled}
-use Rattle.vortex_normal.proofs.Forms.{comparison_as, connected_kept, liked_as, settled_as}
+use Rattle.vortex_normal.specs.Pushed.{comparison, comparison_of, connected, folded, like_as, liked, null_test, operator_as, pushed, settled}
+use Rattle.vortex_normal.proofs.Forms.{comparison_as, connected_kept, folded_as, liked_as, settled_as}
 
 -- a property of predicates that each literal has, each node with the children of one that has it, and each child
 pub record IsInherited (P : Tree Place → Type 0) : Type 0 where
@@ -26,9 +26,16 @@ module _ (P : Tree Place → Type 0) (i : IsInherited P) where
   settled_kept : (q : Tree Place) → P q → P (settled q)
   settled_kept q h = settled_as P q h (λ _ _. i.of_literal _)
 
-  comparison_kept : (o : Operator) (l r : Tree Place) → P l → P r → P (comparison o l r)
-  comparison_kept o l r h k =
+  folded_kept : (e : Tree Place) → P e → P (folded e)
+  folded_kept e h = folded_as P e h (λ _ _ _. i.of_literal _)
+
+  of_kept : (o : Operator) (l r : Tree Place) → P l → P r → P (comparison_of o l r)
+  of_kept o l r h k =
       comparison_as P o l r (λ _. i.of_literal _) (λ _ _. settled_kept (is_not_null l) (i.of_not_null l h)) (λ _ _. i.of_literal _) (settled_kept (binary o l r) (i.of_binary o l r h k))
+
+  comparison_kept : (o : Operator) (l r : Tree Place) → P l → P r → P (comparison o l r)
+  unfolding comparison
+  comparison_kept o l r h k = of_kept o (folded l) (folded r) (folded_kept l h) (folded_kept r k)
 
   liked_kept : (o : LikeOptions) (x p : Tree Place) → P x → P p → P (liked o x p)
   liked_kept o x p h k = liked_as P o x p (λ _. i.of_literal _) (settled_kept (like o x p) (i.of_like o x p h k))

@@ -69,6 +69,18 @@ bool_operand (Err f) h = cc
 pub operand : (e x : Tree Place) → e ≡ not x → IsTrue (is_predicate e) → IsTrue (is_predicate x)
 operand e x is h = bool_operand (type_of x) (subst (λ y. IsTrue (is_predicate y)) is h)
 
+negated : (a : Result DType BaseError) → has_type is_bool a ≡ true → has_type is_bool (with_type not_type a) ≡ true
+negated (Ok (dtype.Bool n)) h = refl
+negated (Ok dtype.Null) h = cc
+negated (Ok (dtype.Primitive p n)) h = cc
+negated (Ok (dtype.Utf8 n)) h = cc
+negated (Ok (dtype.Binary n)) h = cc
+negated (Ok (dtype.MinMaxState e n)) h = cc
+negated (Err f) h = cc
+
+pub negated_predicate : (x : Tree Place) → is_predicate x ≡ true → is_predicate (not x) ≡ true
+negated_predicate x h = negated (type_of x) h
+
 -- ---- comparisons
 
 turned_type : (o : Operator) (a b : Result DType BaseError) → IsOk (with_types (binary_type o) a b) → IsOk (with_types (binary_type (opposite_of o)) a b)

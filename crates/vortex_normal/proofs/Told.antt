@@ -33,8 +33,8 @@ use Rattle.vortex_rewrite.proofs.Completeness.Decided.{comparison_applied}
 use Rattle.vortex_rewrite.proofs.Completeness.Interval.{is_comparison}
 use Rattle.vortex_rewrite.proofs.Soundness.TruthLogic.{true_and, true_or, truth_back}
 use Rattle.vortex_rewrite.specs.Rewriting.Predicates.{has_type, is_predicate}
-use Rattle.vortex_normal.specs.Pushed.{all_by, all_of, any_by, any_of, comparison, connected, decided, is_null_literal, is_reflexive, like_as, liked, null_test, operator_as, pushed, settled}
-use Rattle.vortex_normal.proofs.Forms.{comparison_as, liked_as, settled_as}
+use Rattle.vortex_normal.specs.Pushed.{all_by, all_of, any_by, any_of, comparison, comparison_of, connected, decided, folded, is_null_literal, is_reflexive, like_as, liked, null_test, operator_as, pushed, settled}
+use Rattle.vortex_normal.proofs.Forms.{comparison_as, folded_as, liked_as, settled_as}
 use Rattle.vortex_normal.proofs.Steps.{operand, sides}
 
 -- ---- wanted truths
@@ -119,7 +119,7 @@ compared_as w o (Some a) (Some b) c = holds_as w o (value_cmp a b) c
 compared_as w o (Some a) None c = null_unwanted w
 compared_as w o None b c = null_unwanted w
 
-still_compares : (w : Bool) (o : Operator) → is_comparison o ≡ true → is_comparison (operator_as w o) ≡ true
+pub still_compares : (w : Bool) (o : Operator) → is_comparison o ≡ true → is_comparison (operator_as w o) ≡ true
 still_compares true o c = c
 still_compares false Eq c = refl
 still_compares false NotEq c = refl
@@ -130,7 +130,7 @@ still_compares false Lte c = refl
 still_compares false And c = cc
 still_compares false Or c = cc
 
-end_compares : (s : StrictComparison) → is_comparison (to_operator s) ≡ true
+pub end_compares : (s : StrictComparison) → is_comparison (to_operator s) ≡ true
 end_compares Strict = refl
 end_compares NonStrict = refl
 
@@ -270,8 +270,8 @@ module _ (row : List Constant) (n : ℕ) where
   null_meaning (stat f x) h = cc
   null_meaning row_count h = cc
 
-  comparison_told : (o : Operator) (l r : Tree Place) → is_comparison o ≡ true → satisfies (comparison o l r) row n ≡ is_wanted true (compared o (meaning l row n) (meaning r row n))
-  comparison_told o l r c =
+  of_told : (o : Operator) (l r : Tree Place) → is_comparison o ≡ true → satisfies (comparison_of o l r) row n ≡ is_wanted true (compared o (meaning l row n) (meaning r row n))
+  of_told o l r c =
       let a = meaning l row n in
       let b = meaning r row n in
       comparison_as (λ e. satisfies e row n ≡ is_wanted true (compared o (meaning l row n) (meaning r row n))) o l r
@@ -281,6 +281,13 @@ module _ (row : List Constant) (n : ℕ) where
       (λ same h. settled_told (is_not_null l) ∙ itself o true (meaning l row n) h ∙ ap (λ e. is_wanted true (compared o (meaning l row n) (meaning e row n))) same)
       (λ same h. itself o false (meaning l row n) h ∙ ap (λ e. is_wanted true (compared o (meaning l row n) (meaning e row n))) same)
       (settled_told (binary o l r) ∙ ap (λ t. is_true (truth_value t)) (comparison_applied o (meaning l row n) (meaning r row n) c) ∙ yes (compared o (meaning l row n) (meaning r row n)))
+
+  folded_meaning : (e : Tree Place) → meaning (folded e) row n ≡ meaning e row n
+  folded_meaning e = folded_as (λ x. meaning x row n ≡ meaning e row n) e refl (λ h _ k. meaning_settled e h k)
+
+  comparison_told : (o : Operator) (l r : Tree Place) → is_comparison o ≡ true → satisfies (comparison o l r) row n ≡ is_wanted true (compared o (meaning l row n) (meaning r row n))
+  unfolding comparison
+  comparison_told o l r c = of_told o (folded l) (folded r) c ∙ ap₂ (λ a b. is_wanted true (compared o a b)) (folded_meaning l) (folded_meaning r)
 
   -- the comparison with its operator as is wanted
   turned_told : (w : Bool) (o : Operator) (l r : Tree Place) → is_comparison o ≡ true → satisfies (comparison (operator_as w o) l r) row n ≡ is_wanted w (compared o (meaning l row n) (meaning r row n))

@@ -1,10 +1,10 @@
 -- Worked rows, found by computation alone.
 use Rattle.std.proofs.Common.{refl}
-use Rattle.vortex_normal.specs.Pushed.{all_of, any_of, comparison, settled}
+use Rattle.vortex_normal.specs.Pushed.{all_of, any_of, comparison, comparison_of, folded, settled}
 use Rattle.vortex_normal.specs.Worked.{FormExamples}
 
 pub form_examples : FormExamples
-unfolding all_of any_of comparison settled
+unfolding all_of any_of comparison comparison_of folded settled
 form_examples = record {
   negation = refl;
   of_range = refl;
@@ -31,4 +31,8 @@ form_examples = record {
   null_or_not = refl;
   null_or_value = refl;
   inner_chain = refl;
+  folded_operand = refl;
+  folded_first = refl;
+  folded_null = refl;
+  folded_end = refl;
 }

@@ -4,11 +4,13 @@ use Rattle.std.specs.declared.cmp.Ordering.TheVariants.{Equal}
 use Rattle.vortex_base.specs.declared.types.Operator.{Operator}
 use Rattle.vortex_base.specs.declared.types.Operator.TheVariants.{Eq, NotEq, Gt, Gte, Lt, Lte, And, Or}
 use Rattle.vortex_base.specs.declared.types.BetweenOptions.{BetweenOptions}
+use Rattle.vortex_base.specs.declared.dtype.DType.TheVariants as dtype
 use Rattle.vortex_base.specs.declared.like.LikeOptions.{LikeOptions}
+use Rattle.vortex_base.specs.declared.types.Nullability.TheVariants.{Nullable}
 use Rattle.vortex_base.specs.Trees.Between.{to_operator}
 use Rattle.vortex_base.specs.Trees.Tree.{Tree, Place, column, literal, binary, between, is_null, is_not_null, not, like, has_bare_column, is_plain}
 use Rattle.vortex_base.specs.Trees.TreeEq.{tree_eq}
-use Rattle.vortex_base.specs.Meanings.Meaning.{holds, is_true, satisfies, truth}
+use Rattle.vortex_base.specs.Meanings.Meaning.{holds, is_true, meaning, satisfies, truth}
 use Rattle.vortex_base.specs.Meanings.RowTest.{is_wanted}
 use Rattle.vortex_rewrite.specs.Rewriting.Falsifiers.{bool_literal}
 
@@ -45,12 +47,20 @@ is_literal e = false
 unfoldable pub settled : Tree Place → Tree Place
 settled q = if has_bare_column q || not_b (is_plain q) then q else bool_literal (satisfies q [] 0)
 
+-- an operand without a column and without placeholders becomes the literal of its value: what isn't a literal already is of type Bool
+unfoldable pub folded : Tree Place → Tree Place
+folded e = if is_literal e || (has_bare_column e || not_b (is_plain e)) then e else literal (record { dtype = dtype.Bool Nullable; value = meaning e [] 0 })
+
 -- a comparison: never true of null, and of an operand and itself a test of null or false
-unfoldable pub comparison : Operator → (l r : Tree Place) → Tree Place
-comparison o l r =
+unfoldable pub comparison_of : Operator → (l r : Tree Place) → Tree Place
+comparison_of o l r =
     if is_null_literal l || is_null_literal r then bool_literal false
     else (if tree_eq l r then (if is_reflexive o then settled (is_not_null l) else bool_literal false)
     else settled (binary o l r))
+
+-- of folded operands
+unfoldable pub comparison : Operator → (l r : Tree Place) → Tree Place
+comparison o l r = comparison_of o (folded l) (folded r)
 
 unfoldable pub liked : LikeOptions → (text pattern : Tree Place) → Tree Place
 liked o x p = if is_null_literal x || is_null_literal p then bool_literal false else settled (like o x p)

@@ -1,10 +1,24 @@
 //! Laws of normal forms.
 ghost use Rattle.vortex_normal.specs.Laws.{GroupsAreSame};
+ghost use Rattle.vortex_normal.specs.OneColumn.{JoiningsAreApart, OneColumnIsApart};
 ghost use Rattle.vortex_normal.specs.Worked.{FormExamples};
 
 /// What is said of one column in one place is satisfied by the same rows.
 pub fn groups_are_same()
     ensures { GroupsAreSame }
+{}
+
+/// The normal form of a predicate over one column is one that bounds decide, where neither null nor
+/// every value satisfies the predicate; of texts, bytes and truths where it comes to no range that
+/// is open at both ends.
+pub fn one_column_is_apart()
+    ensures { OneColumnIsApart }
+{}
+
+/// So is that of a joining of such predicates by AND, OR and NOT, where the sides of each AND and OR
+/// have no column in common.
+pub fn joinings_are_apart()
+    ensures { JoiningsAreApart }
 {}
 
 /// Worked normal forms.

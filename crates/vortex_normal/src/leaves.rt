@@ -1,18 +1,27 @@
 //! Leaves and connectives of a normal form.
-ghost use Rattle.std.specs.Prelude.{◌≡◌, IsOk, false};
+ghost use Rattle.std.specs.Prelude.{◌≡◌, [], IsOk, IsTrue, false};
 ghost use Rattle.vortex_base.specs.Trees.Tree as tree;
+ghost use Rattle.vortex_base.specs.Trees.Tree.{has_bare_column, is_plain};
+ghost use Rattle.vortex_base.specs.Data.Scalars.{is_optional_value};
+ghost use Rattle.vortex_base.specs.Meanings.Meaning.{meaning};
 ghost use Rattle.vortex_base.specs.Meanings.Typing.{type_of};
+ghost use Rattle.vortex_base.specs.declared.types.Nullability.TheVariants.{Nullable};
 ghost use Rattle.vortex_rewrite.specs.Answers.{Makes};
 ghost use Rattle.vortex_normal.specs.Pushed as normal;
 
 use crate::predicate::Predicate;
 use std::alloc::Global;
+use vortex_base::bound;
 use vortex_base::bound_expression::BoundExpression;
 use vortex_base::bound_expression::parts::Parts;
+use vortex_base::dtype::DType;
+use vortex_base::evaluate::evaluate;
 use vortex_base::like::LikeOptions;
 use vortex_base::row::Row;
+use vortex_base::scalar::Scalar;
 use vortex_base::scalar_value::ScalarValue;
-use vortex_base::types::Operator;
+use vortex_base::types::{Nullability, Operator};
+use vortex_rewrite::built::{built, cloned};
 use vortex_stats::error::StatsError;
 
 /// The comparison that is false of two values where the given one is true; of a connective the
@@ -66,7 +75,76 @@ fn settled(alloc: Global, predicate: Predicate) -> Result<Predicate, StatsError>
     Predicate::truth(alloc, truth)
 }
 
+fn is_literal(e: &BoundExpression) -> bool
+    ensures { result ≡ normal.is_literal e.now }
+{
+    matches!(e.parts(), Parts::Literal(_))
+}
+
+/// The literal of a truth or null.
+fn nullable_truth(alloc: Global, value: Option<ScalarValue>) -> Result<BoundExpression, StatsError>
+    requires { IsTrue (is_optional_value value (DType.Bool Nullable)) }
+    ensures { Makes (tree.literal (record { dtype = DType.Bool Nullable; value = value })) result }
+{
+    match Scalar::try_new(DType::Bool(Nullability::Nullable), value) {
+        Ok(scalar) => built(bound::lit(alloc, scalar)),
+        Err(_) => unreachable!(),
+    }
+}
+
+/// The literal of what an expression without columns and placeholders means, which is a truth or
+/// null.
+fn truth_of(alloc: Global, e: &BoundExpression) -> Result<BoundExpression, StatsError>
+    requires constant { has_bare_column e.now ≡ false }
+    requires plain { IsTrue (is_plain e.now) }
+    requires node { normal.is_literal e.now ≡ false }
+    ensures { let value = meaning e.now [] 0 in
+        Makes (tree.literal (record { dtype = DType.Bool Nullable; value = value })) result }
+{
+    let _typed = e.dtype();
+    let value = built(evaluate(e, &Row::empty(), 0))?;
+    nullable_truth(alloc, value)
+}
+
+/// An operand, as the literal of its value if it has no column and no placeholder.
+#[tactic(auto, unfolding(crate::specs::Pushed::folded))]
+fn folded(alloc: Global, e: &BoundExpression) -> Result<BoundExpression, StatsError>
+    ensures { Makes (normal.folded e.now) result }
+{
+    if is_literal(e) || e.has_bare_column() || !e.is_plain() {
+        cloned(e)
+    } else {
+        truth_of(alloc, e)
+    }
+}
+
 /// A comparison. Of null it is never true; of an operand and itself it is a test of null or false.
+#[tactic(auto, unfolding(crate::specs::Pushed::comparison_of))]
+fn comparison_of(
+    alloc: Global,
+    operator: Operator,
+    left: BoundExpression,
+    right: BoundExpression,
+) -> Result<Predicate, StatsError>
+    requires { IsOk (type_of (tree.binary operator left right)) }
+    ensures { Makes (normal.comparison_of operator left right) result }
+{
+    if is_null_literal(&left) || is_null_literal(&right) {
+        return Predicate::truth(alloc, false);
+    }
+    if left == right {
+        if is_reflexive(operator) {
+            settled(alloc, Predicate::is_not_null(alloc, &left)?)
+        } else {
+            Predicate::truth(alloc, false)
+        }
+    } else {
+        let compared = Predicate::binary(alloc, operator, left, right)?;
+        settled(alloc, compared)
+    }
+}
+
+/// A comparison of two operands, folded.
 #[tactic(auto, unfolding(crate::specs::Pushed::comparison))]
 pub(crate) fn comparison(
     alloc: Global,
@@ -77,19 +155,9 @@ pub(crate) fn comparison(
     requires { IsOk (type_of (tree.binary operator left.now right.now)) }
     ensures { Makes (normal.comparison operator left.now right.now) result }
 {
-    if is_null_literal(left) || is_null_literal(right) {
-        return Predicate::truth(alloc, false);
-    }
-    if *left == *right {
-        if is_reflexive(operator) {
-            settled(alloc, Predicate::is_not_null(alloc, left)?)
-        } else {
-            Predicate::truth(alloc, false)
-        }
-    } else {
-        let compared = Predicate::compare(alloc, operator, left, right)?;
-        settled(alloc, compared)
-    }
+    let left = folded(alloc, left)?;
+    let right = folded(alloc, right)?;
+    comparison_of(alloc, operator, left, right)
 }
 
 /// A LIKE, which of null is never true.

@@ -88,21 +88,6 @@ impl Predicate {
         Ok(Predicate { expression })
     }
 
-    /// Copies of two operands that fit, compared.
-    pub(crate) fn compare(
-        alloc: Global,
-        operator: Operator,
-        left: &BoundExpression,
-        right: &BoundExpression,
-    ) -> Result<Predicate, StatsError>
-        requires { IsOk (type_of (tree.binary operator left.now right.now)) }
-        ensures { Makes (tree.binary operator left.now right.now) result }
-    {
-        let left = cloned(left)?;
-        let right = cloned(right)?;
-        Predicate::binary(alloc, operator, left, right)
-    }
-
     /// Two predicates joined by AND or OR.
     pub(crate) fn connect(
         alloc: Global,

@@ -19,7 +19,7 @@ use Rattle.vortex_normal_scan.specs.Full.{IsFitted, SameSelectsTheSame}
 
 -- without row counts, the number of rows doesn't matter
 module _ (row : List Constant) (n m : ℕ) where
-  any_count : (e : Tree Place) → has_row_count e ≡ false → meaning e row n ≡ meaning e row m
+  pub any_count : (e : Tree Place) → has_row_count e ≡ false → meaning e row n ≡ meaning e row m
   any_count (column c) h = refl
   any_count (literal c) h = refl
   any_count (binary o l r) h =
@@ -41,7 +41,7 @@ module _ (row : List Constant) (n m : ℕ) where
   any_count (stat f x) h = refl
   any_count row_count h = cc
 
-no_count : (p : Tree Place) → is_plain p ≡ true → has_row_count p ≡ false
+pub no_count : (p : Tree Place) → is_plain p ≡ true → has_row_count p ≡ false
 no_count p h = not-true (has_row_count p) (and_parts (not_b (has_placeholder p)) (not_b (has_row_count p)) h).1
 
 passing : (test other : ℕ → Bool) (a n : ℕ) → ((i : ℕ) → i < a + n → test i ≡ other i) → filter test (range_with_len a n) ≡ filter other (range_with_len a n)
@@ -51,7 +51,7 @@ passing test other a (suc n) same =
     ∙ ap (λ l. if other a then a ∷ l else l) (passing test other (a + 1) n (λ i h. same i (omega arith)))
 
 module _ (p q : Tree Place) (plain_p : is_plain p ≡ true) (plain_q : is_plain q ≡ true) (same : Same p q) where
-  at_row : (k : ChunkData) (i : ℕ) → IsChunk k → IsTrue (fits_scope p k.scope) → i < rows_of k.columns → satisfies q (row_of i k.columns) (rows_of k.columns) ≡ satisfies p (row_of i k.columns) (rows_of k.columns)
+  pub at_row : (k : ChunkData) (i : ℕ) → IsChunk k → IsTrue (fits_scope p k.scope) → i < rows_of k.columns → satisfies q (row_of i k.columns) (rows_of k.columns) ≡ satisfies p (row_of i k.columns) (rows_of k.columns)
   at_row k i chunk fits here =
       let row = row_of i k.columns in
       ap is_true (any_count row (rows_of k.columns) 0 q (no_count q plain_q))

@@ -1,7 +1,14 @@
 //! Laws of scans by normal forms, in the words of the definitions.
+ghost use Rattle.vortex_normal_scan.specs.Carried.{SatisfiabilityIsCarried};
 ghost use Rattle.vortex_normal_scan.specs.Full.{SameSelectsTheSame};
 
 /// Two predicates that are satisfied by the same rows select the same rows of parts.
 pub fn same_selects_the_same()
     ensures { SameSelectsTheSame }
+{}
+
+/// Values within bounds satisfy a predicate exactly if some satisfy one that the same rows satisfy,
+/// also where that has fewer columns.
+pub fn satisfiability_is_carried()
+    ensures { SatisfiabilityIsCarried }
 {}

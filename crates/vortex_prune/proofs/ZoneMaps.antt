@@ -1,6 +1,7 @@
 -- On tables of zones.
 pub mod ZoneAppended
 pub mod ZoneKept
+pub mod ZoneMarks
 pub mod ZoneNames
 pub mod ZonePlaces
 pub mod ZonePruned
@@ -8,3 +9,4 @@ pub mod ZoneRefusals
 pub mod ZoneRows
 pub mod ZoneScan
 pub mod ZoneTables
+pub mod ZoneVerdicts

@@ -1,4 +1,5 @@
 // Reads parts and a predicate from standard input, and prints the skipped parts and selected rows.
+// Standard error gets a line that says why there is no answer.
 #![tactic(auto)]
 
 use std::io;
@@ -8,5 +9,7 @@ use vortex_text::program;
 fn main(rt: HostRuntime) -> ExitCode {
     let mut reader = rt.reader();
     let mut writer = io::writer(&rt);
-    ExitCode::from(program::run(rt.alloc(), &mut reader, &mut writer))
+    let mut reasons = rt.stderr();
+    let status = program::run(rt.alloc(), &mut reader, &mut writer, &mut reasons);
+    ExitCode::from(status)
 }

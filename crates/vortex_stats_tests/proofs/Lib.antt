@@ -1,1 +1,2 @@
+pub mod ExactEntries
 pub mod WritingLemmas

@@ -1,8 +1,13 @@
 //! A writer's accumulator: the batches of a column are measured, and merged as they are written.
 ghost use Rattle.std.specs.Prelude.{◌≡◌, All, IfErr, IfOk, IsTrue, alloc_error};
 ghost use Rattle.vortex_base.specs.Data.Columns.{ColumnData};
+ghost use Rattle.vortex_base.specs.declared.scalar_value.ScalarValue.{ScalarValue};
+ghost use Rattle.vortex_stats.specs.Measuring.Measured.{measured};
 ghost use Rattle.vortex_stats.specs.Sets.Claims.{IsTrueOf, appended};
-ghost use Rattle.vortex_stats.specs.Sets.Entries.{entries_fit};
+ghost use Rattle.vortex_stats.specs.Sets.Entries.{entries_fit, entry_value};
+ghost use Rattle.vortex_stats.specs.Stat.{all_stats};
+ghost use Rattle.vortex_stats.specs.declared.precision.Precision.TheVariants.{Exact};
+ghost use Rattle.vortex_stats.specs.declared.stat.Stat.{Stat};
 ghost use Rattle.vortex_stats.specs.declared.error.StatsError.TheVariants.{Memory};
 ghost use Rattle.vortex_stats_tests.specs.Writing.{written};
 
@@ -30,10 +35,16 @@ pub fn with_batch(alloc: Global, set: StatsSet, batch: &Column) -> Result<StatsS
 }
 
 /// The statistics of all batches of a column, whatever their number, each measured by itself: they
-/// are true of the batches one behind another.
+/// are true of the batches one behind another, and those that are exact are those that are measured
+/// of these. A statistic that isn't exact, or is missing, may be measured all the same: a batch
+/// without values leaves no bounds, and a sum that left its type on the way none, even if it came
+/// back later.
 pub fn accumulated(alloc: Global, first: &Column, more: &[Column]) -> Result<StatsSet, StatsError>
     requires { All (λ batch. batch.dtype ≡ first.now.dtype) more.now }
     ensures truth { IfOk result (λ set. IsTrueOf set (written first.now more.now)) }
+    ensures exact { IfOk result (λ set. (s : Stat) (v : ScalarValue)
+        → entry_value s set ≡ Exact v
+        → entry_value s (measured all_stats (written first.now more.now)) ≡ Exact v) }
     ensures memory { IfErr result (λ e. e ≡ Memory alloc_error) }
 {
     let mut set = StatsSet::of_column(alloc, first, ALL_STATS)?;

@@ -4,6 +4,8 @@ pub mod NumberLemmas
 pub mod PlaceLemmas
 pub mod PlainLemmas
 pub mod Spelling
+pub mod BadLemmas
+pub mod LiteralLemmas
 pub mod Steps
 pub mod Typed
 pub mod WordLemmas

@@ -6,24 +6,21 @@ use Rattle.vortex_base.specs.Meanings.Typing.{type_of}
 use Rattle.vortex_base.specs.declared.dtype.DType.{DType}
 use Rattle.vortex_base.specs.declared.error.BaseError.{BaseError}
 use Rattle.vortex_base.specs.declared.error.BaseError.TheVariants as fault
-use Rattle.vortex_syntax.specs.Expressions.{line_error_of, typed}
+use Rattle.vortex_syntax.specs.Expressions.{IsRefusedAs, typed}
 use Rattle.vortex_syntax.specs.Fails.{Fails}
+use Rattle.vortex_syntax.specs.declared.line_error.LineError.{LineError}
+use Rattle.vortex_syntax.specs.declared.line_error.LineError.TheVariants as errors
 
-fails_none : (Y : Type 0) (f : BaseError) → Fails {Y = Y} (line_error_of f) None
-fails_none Y (fault.Memory e) = tt
-fails_none Y fault.UnknownColumn = refl
-fails_none Y fault.DuplicateColumn = refl
-fails_none Y fault.EmptyScope = refl
-fails_none Y fault.TypeFault = refl
-fails_none Y fault.Unsupported = refl
-fails_none Y fault.Mismatch = refl
-fails_none Y fault.RowShape = refl
-fails_none Y fault.Placeholder = refl
+pub fails_none : (Y : Type 0) (f : BaseError) (r : LineError) → IsRefusedAs f r → Fails {Y = Y} r None
+fails_none Y (fault.Memory e) errors.Memory h = tt
+fails_none Y (fault.Memory e) (errors.Bad b) h = refl
+fails_none Y f errors.Memory h = tt
+fails_none Y f (errors.Bad b) h = refl
 
-by_type : (e : Tree Place) (f : BaseError) (t : Result DType BaseError) → type_of e ≡ t → Answers t e (Err f) → Fails (line_error_of f) (typed e)
-by_type e f (Err g) same h = rw same (fails_none (Tree Place) f)
-by_type e f (Ok t) same h = rw h tt
+by_type : (e : Tree Place) (f : BaseError) (r : LineError) (t : Result DType BaseError) → type_of e ≡ t → Answers t e (Err f) → IsRefusedAs f r → Fails r (typed e)
+by_type e f r (Err g) same h refused = rw same (fails_none (Tree Place) f r refused)
+by_type e f r (Ok t) same h refused = rw (rw h at refused) tt
 
 -- an expression that can't be built has no type, or memory was refused
-pub built_fault : (e : Tree Place) (f : BaseError) → Builds e (Err f) → Fails (line_error_of f) (typed e)
-built_fault e f h = by_type e f (type_of e) refl h
+pub built_fault : (e : Tree Place) (f : BaseError) (r : LineError) → Builds e (Err f) → IsRefusedAs f r → Fails r (typed e)
+built_fault e f r h refused = by_type e f r (type_of e) refl h refused

@@ -1,5 +1,5 @@
 -- Expressions in prefix form.
-use Rattle.std.specs.Prelude.{ℕ, zero, suc, Bool, true, false, List, ◌∷◌, Option, Some, None, codes, is_ok, is_some, length, if◌then◌else◌}
+use Rattle.std.specs.Prelude.{◌≡◌, ℕ, zero, suc, Bool, true, false, List, ◌∷◌, Option, Some, None, codes, is_ok, is_some, length, if◌then◌else◌}
 use Rattle.std.specs.Str.{bytes_eq}
 use Rattle.vortex_base.specs.Meanings.Binding.{find_column}
 use Rattle.vortex_base.specs.Data.Scopes.{Named}
@@ -13,7 +13,7 @@ use Rattle.vortex_base.specs.declared.error.BaseError.TheVariants as fault
 use Rattle.vortex_base.specs.declared.like.LikeOptions.{LikeOptions}
 use Rattle.vortex_base.specs.declared.types.Operator.{Operator}
 use Rattle.vortex_base.specs.declared.types.Operator.TheVariants as operator
-use Rattle.vortex_syntax.specs.Fails.{◌>>=◌}
+use Rattle.vortex_syntax.specs.Fails.{◌>>=◌, IsBad}
 use Rattle.vortex_syntax.specs.Names.{type_of}
 use Rattle.vortex_syntax.specs.Values.{optional_value_of}
 use Rattle.vortex_syntax.specs.Words.{Token, Plain, first_word, no_word, plain_word}
@@ -152,7 +152,7 @@ expression_of scope ws = do
   none ← no_word e.1
   Some e.0
 
--- a fault of the layer below: memory was refused, or the expression has no type
-abbrev pub line_error_of : BaseError → LineError
-line_error_of (fault.Memory e) = errors.Memory
-line_error_of e = errors.Bad
+-- a fault of the layer below: memory was refused, or the line is bad, since the operands of an operator don't fit
+abbrev pub IsRefusedAs : BaseError → LineError → Type 0
+IsRefusedAs (fault.Memory e) r = r ≡ errors.Memory
+IsRefusedAs e r = IsBad r

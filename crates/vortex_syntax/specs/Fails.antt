@@ -3,10 +3,15 @@ use Rattle.std.specs.Prelude.{◌≡◌, Option, None, Some, Result, Ok, Err, op
 use Rattle.vortex_syntax.specs.declared.line_error.LineError.{LineError}
 use Rattle.vortex_syntax.specs.declared.line_error.LineError.TheVariants as errors
 
+-- a line is bad, wherever that is
+abbrev pub IsBad : LineError → Type 0
+IsBad errors.Memory = ⊥
+IsBad (errors.Bad fault) = ⊤
+
 -- there is nothing to be read where the line is bad; memory may be refused
 abbrev pub Fails : {Y : Type 0} → LineError → Option Y → Type 0
 Fails errors.Memory read = ⊤
-Fails errors.Bad read = read ≡ None
+Fails (errors.Bad fault) read = read ≡ None
 
 -- what a call returned, seen by view, is what is to be read
 abbrev pub Gives : {X Y : Type 0} → (X → Y) → Result X LineError → Option Y → Type 0

@@ -17,5 +17,5 @@ step_of (b ∷ bs) = if b == 34 then Some (None, bs) else (if b == 92 then escap
 -- the text between quotes that bytes begin with, and what follows its last quote; or the word is broken
 abbrev pub Closes : {X : Type 0} → (X → List ℕ × List ℕ) → List ℕ → Result X LineError → Type 0
 Closes view bytes (Ok x) = words_from bytes (quoted []) ≡ words_from ((view x).1) (closed ((view x).0))
-Closes view bytes (Err errors.Bad) = words_from bytes (quoted []) ≡ Broken ∷ []
+Closes view bytes (Err (errors.Bad fault)) = words_from bytes (quoted []) ≡ Broken ∷ []
 Closes view bytes (Err errors.Memory) = ⊤

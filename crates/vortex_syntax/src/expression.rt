@@ -1,5 +1,5 @@
 //! Expressions in prefix form.
-ghost use Rattle.std.specs.Prelude.{◌≡◌, ◌<◌, ◌≤◌, ℕ, IfOk, IsErrOf, IsTrue, length};
+ghost use Rattle.std.specs.Prelude.{◌<◌, ◌≤◌, ℕ, IfOk, IsErrOf, IsTrue, length};
 ghost use Rattle.vortex_base.specs.Data.Scopes.{named_columns};
 ghost use Rattle.vortex_base.specs.Trees.Tree as tree;
 ghost use Rattle.vortex_syntax.specs.Expressions as spec;
@@ -7,6 +7,7 @@ ghost use Rattle.vortex_syntax.specs.Fails.{Gives};
 ghost use Rattle.vortex_syntax.specs.Words.{words};
 
 use crate::columns::Columns;
+use crate::expected::Expected;
 use crate::form::{Form, form_of, strictness_of};
 use crate::line_error::LineError;
 use crate::names::type_of;
@@ -16,76 +17,92 @@ use std::alloc::Global;
 use vortex_base::bound;
 use vortex_base::bound_expression::BoundExpression;
 use vortex_base::dtype::DType;
-use vortex_base::error::BaseError;
 use vortex_base::like::LikeOptions;
 use vortex_base::scalar::Scalar;
 use vortex_base::scalar_value::ScalarValue;
 use vortex_base::types::{BetweenOptions, Operator};
 
-impl From<BaseError> for LineError {
-    ghost from_gives = { λ e r. r ≡ spec.line_error_of e };
-
-    fn from(e: BaseError) -> LineError {
-        match e {
-            BaseError::Memory(_) => LineError::Memory,
-            _ => LineError::Bad,
-        }
-    }
-}
-
+#[inline(never)]
 fn binary(
     alloc: Global,
     operator: Operator,
     left: BoundExpression,
     right: BoundExpression,
+    behind: usize,
 ) -> Result<BoundExpression, LineError>
     ensures { Gives (λ e. e) result (spec.typed (tree.binary operator left right)) }
 {
     match bound::binary(alloc, operator, left, right) {
         Ok(e) => Ok(e),
-        Err(fault) => Err(LineError::from(fault)),
+        Err(refusal) => Err(LineError::of_operands(behind, refusal)),
     }
 }
 
+#[inline(never)]
 fn between(
     alloc: Global,
     options: BetweenOptions,
     x: BoundExpression,
     lower: BoundExpression,
     upper: BoundExpression,
+    behind: usize,
 ) -> Result<BoundExpression, LineError>
     ensures { Gives (λ e. e) result (spec.typed (tree.between options x lower upper)) }
 {
-    Ok(bound::between(alloc, x, lower, upper, options)?)
+    match bound::between(alloc, x, lower, upper, options) {
+        Ok(e) => Ok(e),
+        Err(refusal) => Err(LineError::of_operands(behind, refusal)),
+    }
 }
 
+#[inline(never)]
 fn like(
     alloc: Global,
     options: LikeOptions,
     text: BoundExpression,
     pattern: BoundExpression,
+    behind: usize,
 ) -> Result<BoundExpression, LineError>
     ensures { Gives (λ e. e) result (spec.typed (tree.like options text pattern)) }
 {
-    Ok(bound::like_with(alloc, text, pattern, options)?)
+    match bound::like_with(alloc, text, pattern, options) {
+        Ok(e) => Ok(e),
+        Err(refusal) => Err(LineError::of_operands(behind, refusal)),
+    }
 }
 
-fn not(alloc: Global, x: BoundExpression) -> Result<BoundExpression, LineError>
+#[inline(never)]
+fn not(alloc: Global, x: BoundExpression, behind: usize) -> Result<BoundExpression, LineError>
     ensures { Gives (λ e. e) result (spec.typed (tree.not x)) }
 {
-    Ok(bound::not(alloc, x)?)
+    match bound::not(alloc, x) {
+        Ok(e) => Ok(e),
+        Err(refusal) => Err(LineError::of_operands(behind, refusal)),
+    }
 }
 
-fn is_null(alloc: Global, x: BoundExpression) -> Result<BoundExpression, LineError>
+#[inline(never)]
+fn is_null(alloc: Global, x: BoundExpression, behind: usize) -> Result<BoundExpression, LineError>
     ensures { Gives (λ e. e) result (spec.typed (tree.is_null x)) }
 {
-    Ok(bound::is_null(alloc, x)?)
+    match bound::is_null(alloc, x) {
+        Ok(e) => Ok(e),
+        Err(refusal) => Err(LineError::of_operands(behind, refusal)),
+    }
 }
 
-fn is_not_null(alloc: Global, x: BoundExpression) -> Result<BoundExpression, LineError>
+#[inline(never)]
+fn is_not_null(
+    alloc: Global,
+    x: BoundExpression,
+    behind: usize,
+) -> Result<BoundExpression, LineError>
     ensures { Gives (λ e. e) result (spec.typed (tree.is_not_null x)) }
 {
-    Ok(bound::is_not_null(alloc, x)?)
+    match bound::is_not_null(alloc, x) {
+        Ok(e) => Ok(e),
+        Err(refusal) => Err(LineError::of_operands(behind, refusal)),
+    }
 }
 
 // `NAME`: a column.
@@ -98,23 +115,38 @@ fn read_column<'a>(
         (spec.read_column (named_columns columns.now) (words line.now)) }
     ensures fewer { IfOk result (λ x. length (words x.1.now) < length (words line.now)) }
 {
-    let (name, rest) = plain_word(line)?;
+    let (name, rest) = plain_word(line, Expected::Column)?;
     let Some((place, dtype)) = columns.find(name) else {
-        return Err(LineError::Bad);
+        return Err(LineError::at(line.len(), Expected::Column));
     };
-    Ok((bound::col(alloc, place, dtype)?, rest))
+    match bound::col(alloc, place, dtype) {
+        Ok(column) => Ok((column, rest)),
+        Err(refusal) => Err(LineError::of_operands(line.len(), refusal)),
+    }
+}
+
+fn constant(alloc: Global, scalar: Scalar, behind: usize) -> Result<BoundExpression, LineError>
+    ensures { Gives (λ e. e) result (spec.typed (tree.literal scalar)) }
+{
+    match bound::lit(alloc, scalar) {
+        Ok(e) => Ok(e),
+        Err(refusal) => Err(LineError::of_operands(behind, refusal)),
+    }
 }
 
 fn literal(
     alloc: Global,
     dtype: DType,
     value: Option<ScalarValue>,
+    behind: usize,
 ) -> Result<BoundExpression, LineError>
     ensures { Gives (λ e. e) result
         (spec.typed (tree.literal (record { dtype = dtype; value = value }))) }
 {
-    let scalar = Scalar::try_new(dtype, value)?;
-    Ok(bound::lit(alloc, scalar)?)
+    match Scalar::try_new(dtype, value) {
+        Ok(scalar) => constant(alloc, scalar, behind),
+        Err(refusal) => Err(LineError::of_operands(behind, refusal)),
+    }
 }
 
 // `TYPE VALUE`: a literal.
@@ -122,13 +154,13 @@ fn read_literal(alloc: Global, line: &[u8]) -> Result<(BoundExpression, &[u8]), 
     ensures read { Gives (λ x. (x.0, words x.1.now)) result (spec.read_literal (words line.now)) }
     ensures fewer { IfOk result (λ x. length (words x.1.now) < length (words line.now)) }
 {
-    let (kind, rest) = plain_word(line)?;
+    let (kind, behind) = plain_word(line, Expected::Type)?;
     let Some(dtype) = type_of(kind) else {
-        return Err(LineError::Bad);
+        return Err(LineError::at(line.len(), Expected::Type));
     };
-    let (word, rest) = first_word(alloc, rest)?;
-    let value = optional_value_of(alloc, dtype, word)?;
-    Ok((literal(alloc, dtype, value)?, rest))
+    let (word, rest) = first_word(alloc, behind, Expected::ValueOrNull(dtype))?;
+    let value = optional_value_of(alloc, dtype, word, behind.len())?;
+    Ok((literal(alloc, dtype, value, line.len())?, rest))
 }
 
 // `LOP UOP`: how the ends of a BETWEEN are compared.
@@ -136,13 +168,13 @@ fn read_options(line: &[u8]) -> Result<(BetweenOptions, &[u8]), LineError>
     ensures read { Gives (λ x. (x.0, words x.1.now)) result (spec.read_options (words line.now)) }
     ensures fewer { IfOk result (λ x. length (words x.1.now) < length (words line.now)) }
 {
-    let (lower, rest) = plain_word(line)?;
+    let (lower, behind) = plain_word(line, Expected::Strictness)?;
     let Some(lower_strict) = strictness_of(lower) else {
-        return Err(LineError::Bad);
+        return Err(LineError::at(line.len(), Expected::Strictness));
     };
-    let (upper, rest) = plain_word(rest)?;
+    let (upper, rest) = plain_word(behind, Expected::Strictness)?;
     let Some(upper_strict) = strictness_of(upper) else {
-        return Err(LineError::Bad);
+        return Err(LineError::at(behind.len(), Expected::Strictness));
     };
     let options = BetweenOptions {
         lower_strict,
@@ -150,6 +182,9 @@ fn read_options(line: &[u8]) -> Result<(BetweenOptions, &[u8]), LineError>
     };
     Ok((options, rest))
 }
+
+// What follows calls itself by way of `read_expression`, as deep as an expression nests: it matches
+// on what its callees answer, since `?` makes the frame of each call larger.
 
 // Two operands of an operator, one after the other.
 #[cycle(expression)]
@@ -165,9 +200,18 @@ fn read_binary<'a>(
         (tree.binary operator) (words line.now)) }
     ensures fewer { IfOk result (λ x. length (words x.1.now) < length (words line.now)) }
 {
-    let (left, rest) = read_expression(alloc, columns, line)?;
-    let (right, rest) = read_expression(alloc, columns, rest)?;
-    Ok((binary(alloc, operator, left, right)?, rest))
+    let (left, rest) = match read_expression(alloc, columns, line) {
+        Ok(found) => found,
+        Err(e) => return Err(e),
+    };
+    let (right, rest) = match read_expression(alloc, columns, rest) {
+        Ok(found) => found,
+        Err(e) => return Err(e),
+    };
+    match binary(alloc, operator, left, right, line.len()) {
+        Ok(e) => Ok((e, rest)),
+        Err(e) => Err(e),
+    }
 }
 
 // A text and a pattern.
@@ -184,9 +228,18 @@ fn read_like<'a>(
         (tree.like options) (words line.now)) }
     ensures fewer { IfOk result (λ x. length (words x.1.now) < length (words line.now)) }
 {
-    let (text, rest) = read_expression(alloc, columns, line)?;
-    let (pattern, rest) = read_expression(alloc, columns, rest)?;
-    Ok((like(alloc, options, text, pattern)?, rest))
+    let (text, rest) = match read_expression(alloc, columns, line) {
+        Ok(found) => found,
+        Err(e) => return Err(e),
+    };
+    let (pattern, rest) = match read_expression(alloc, columns, rest) {
+        Ok(found) => found,
+        Err(e) => return Err(e),
+    };
+    match like(alloc, options, text, pattern, line.len()) {
+        Ok(e) => Ok((e, rest)),
+        Err(e) => Err(e),
+    }
 }
 
 // How the ends of a BETWEEN are compared, its operand and its ends.
@@ -202,11 +255,26 @@ fn read_between<'a>(
         (words line.now)) }
     ensures fewer { IfOk result (λ x. length (words x.1.now) < length (words line.now)) }
 {
-    let (options, rest) = read_options(line)?;
-    let (x, rest) = read_expression(alloc, columns, rest)?;
-    let (lower, rest) = read_expression(alloc, columns, rest)?;
-    let (upper, rest) = read_expression(alloc, columns, rest)?;
-    Ok((between(alloc, options, x, lower, upper)?, rest))
+    let (options, rest) = match read_options(line) {
+        Ok(found) => found,
+        Err(e) => return Err(e),
+    };
+    let (x, rest) = match read_expression(alloc, columns, rest) {
+        Ok(found) => found,
+        Err(e) => return Err(e),
+    };
+    let (lower, rest) = match read_expression(alloc, columns, rest) {
+        Ok(found) => found,
+        Err(e) => return Err(e),
+    };
+    let (upper, rest) = match read_expression(alloc, columns, rest) {
+        Ok(found) => found,
+        Err(e) => return Err(e),
+    };
+    match between(alloc, options, x, lower, upper, line.len()) {
+        Ok(e) => Ok((e, rest)),
+        Err(e) => Err(e),
+    }
 }
 
 // The operand of a NOT.
@@ -222,8 +290,14 @@ fn read_not<'a>(
         tree.not (words line.now)) }
     ensures fewer { IfOk result (λ x. length (words x.1.now) < length (words line.now)) }
 {
-    let (x, rest) = read_expression(alloc, columns, line)?;
-    Ok((not(alloc, x)?, rest))
+    let (x, rest) = match read_expression(alloc, columns, line) {
+        Ok(found) => found,
+        Err(e) => return Err(e),
+    };
+    match not(alloc, x, line.len()) {
+        Ok(e) => Ok((e, rest)),
+        Err(e) => Err(e),
+    }
 }
 
 // The operand of an IS NULL.
@@ -239,8 +313,14 @@ fn read_is_null<'a>(
         tree.is_null (words line.now)) }
     ensures fewer { IfOk result (λ x. length (words x.1.now) < length (words line.now)) }
 {
-    let (x, rest) = read_expression(alloc, columns, line)?;
-    Ok((is_null(alloc, x)?, rest))
+    let (x, rest) = match read_expression(alloc, columns, line) {
+        Ok(found) => found,
+        Err(e) => return Err(e),
+    };
+    match is_null(alloc, x, line.len()) {
+        Ok(e) => Ok((e, rest)),
+        Err(e) => Err(e),
+    }
 }
 
 // The operand of an IS NOT NULL.
@@ -256,8 +336,14 @@ fn read_is_not_null<'a>(
         tree.is_not_null (words line.now)) }
     ensures fewer { IfOk result (λ x. length (words x.1.now) < length (words line.now)) }
 {
-    let (x, rest) = read_expression(alloc, columns, line)?;
-    Ok((is_not_null(alloc, x)?, rest))
+    let (x, rest) = match read_expression(alloc, columns, line) {
+        Ok(found) => found,
+        Err(e) => return Err(e),
+    };
+    match is_not_null(alloc, x, line.len()) {
+        Ok(e) => Ok((e, rest)),
+        Err(e) => Err(e),
+    }
 }
 
 /// The expression that a line begins with, and the line after it. Each call reads a word, so a line
@@ -275,9 +361,12 @@ pub fn read_expression<'a>(
         → IsTrue (spec.begins_expression (words line.now)) }
     ensures fewer { IfOk result (λ x. length (words x.1.now) < length (words line.now)) }
 {
-    let (word, rest) = plain_word(line)?;
+    let (word, rest) = match plain_word(line, Expected::Expression) {
+        Ok(found) => found,
+        Err(e) => return Err(e),
+    };
     let Some(form) = form_of(word) else {
-        return Err(LineError::Bad);
+        return Err(LineError::at(line.len(), Expected::Expression));
     };
     match form {
         Form::Column => read_column(alloc, columns, rest),

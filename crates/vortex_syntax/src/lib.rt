@@ -2,6 +2,7 @@
 #![tactic(auto)]
 
 pub mod columns;
+pub mod expected;
 pub mod expression;
 pub mod form;
 pub mod laws;

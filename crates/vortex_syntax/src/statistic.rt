@@ -2,12 +2,12 @@
 ghost use Rattle.std.specs.Prelude.{◌≡◌, IfErr, IsErrOf, IsTrue};
 ghost use Rattle.vortex_base.specs.Data.Scopes.{named_columns};
 ghost use Rattle.vortex_syntax.specs.Copies.{claim_takes};
-ghost use Rattle.vortex_syntax.specs.Fails.{Gives};
+ghost use Rattle.vortex_syntax.specs.Fails.{Gives, IsBad};
 ghost use Rattle.vortex_syntax.specs.Statistics.{claimed, claimed_value, precision_of, stat_of, truth_stat_of};
 ghost use Rattle.vortex_syntax.specs.Words.{words};
-ghost use Rattle.vortex_syntax.specs.declared.line_error.LineError.TheVariants.{Bad};
 
 use crate::columns::Columns;
+use crate::expected::Expected;
 use crate::line_error::LineError;
 use crate::names::is;
 use crate::value::value_of;
@@ -86,18 +86,18 @@ pub struct Claim {
 pub fn read_claim<'a>(columns: &Columns, line: &'a [u8]) -> Result<(Claim, &'a [u8]), LineError>
     ensures claim { Gives (λ x. ((x.0.place, x.0.stat, x.0.dtype), words x.1.now)) result
         (claimed (named_columns columns.now) (words line.now)) }
-    ensures bad { IfErr result (λ e. e ≡ Bad) }
+    ensures bad { IfErr result IsBad }
 {
-    let (name, rest) = plain_word(line)?;
-    let Some((place, dtype)) = columns.find(name) else {
-        return Err(LineError::Bad);
+    let (name, named) = plain_word(line, Expected::Column)?;
+    let Some((place, column)) = columns.find(name) else {
+        return Err(LineError::at(line.len(), Expected::Column));
     };
-    let (word, rest) = plain_word(rest)?;
+    let (word, rest) = plain_word(named, Expected::Stat)?;
     let Some(stat) = stat_of(word) else {
-        return Err(LineError::Bad);
+        return Err(LineError::at(named.len(), Expected::Stat));
     };
-    let Some(dtype) = stat.dtype(&dtype) else {
-        return Err(LineError::Bad);
+    let Some(dtype) = stat.dtype(&column) else {
+        return Err(LineError::at(named.len(), Expected::StatOf(column)));
     };
     Ok((Claim { place, stat, dtype }, rest))
 }
@@ -112,11 +112,11 @@ pub fn read_claimed(
     ensures memory { IsErrOf result LineError.Memory
         → IsTrue (claim_takes dtype (words line.now)) }
 {
-    let (precision, rest) = plain_word(line)?;
-    let (word, rest) = first_word(alloc, rest)?;
-    let value = value_of(alloc, dtype, word)?;
+    let (precision, behind) = plain_word(line, Expected::Precision)?;
+    let (word, rest) = first_word(alloc, behind, Expected::Value(dtype))?;
+    let value = value_of(alloc, dtype, word, behind.len())?;
     let Some(claimed) = precision_of(precision, value) else {
-        return Err(LineError::Bad);
+        return Err(LineError::at(line.len(), Expected::Precision));
     };
     no_word(rest)?;
     Ok(claimed)

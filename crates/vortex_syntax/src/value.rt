@@ -1,13 +1,13 @@
 //! The values that words write.
 ghost use Rattle.std.specs.Prelude.{◌≡◌, ◌<◌, ◌≤◌, [], None, IfErr, IsErrOf, IsTrue, length, slice_index};
 ghost use Rattle.vortex_syntax.specs.Copies.{makes_bytes};
-ghost use Rattle.vortex_syntax.specs.Fails.{Gives};
+ghost use Rattle.vortex_syntax.specs.Fails.{Gives, IsBad};
 ghost use Rattle.vortex_syntax.specs.Numbers.{byte_of, bytes_of, hexadecimal_of};
 ghost use Rattle.vortex_syntax.specs.Values.{binary_of, optional_value_of, plain_value, quoted_value, text_of, truth_of, value_of};
 ghost use Rattle.vortex_syntax.specs.Words.{Plain, token_of};
-ghost use Rattle.vortex_syntax.specs.declared.line_error.LineError.TheVariants.{Bad};
 
-use crate::line_error::LineError;
+use crate::expected::Expected;
+use crate::line_error::{Fault, LineError};
 use crate::names::is;
 use crate::number::number_of;
 use crate::word::Word;
@@ -47,8 +47,8 @@ fn byte_of(high: u8, low: u8) -> Option<u8>
     Some(16 * digit_of(high)? + digit_of(low)?)
 }
 
-// The bytes that pairs of hexadecimal digits write.
-fn bytes_of(alloc: Global, digits: &[u8]) -> Result<Vec<u8>, LineError>
+// The bytes that pairs of hexadecimal digits write, or the fault of a word that isn't such.
+fn bytes_of(alloc: Global, digits: &[u8], fault: Fault) -> Result<Vec<u8>, LineError>
     ensures bytes { Gives (λ v. v.items) result (bytes_of digits.now) }
     ensures memory { IsErrOf result LineError.Memory → 2 ≤ length digits.now }
 {
@@ -56,7 +56,7 @@ fn bytes_of(alloc: Global, digits: &[u8]) -> Result<Vec<u8>, LineError>
     let mut rest = digits;
     'pairs: while let [high, low, after @ ..] = rest {
         let Some(byte) = byte_of(*high, *low) else {
-            return Err(LineError::Bad);
+            return Err(LineError::Bad(fault));
         };
         bytes.push(byte)?;
         rest = after;
@@ -64,37 +64,45 @@ fn bytes_of(alloc: Global, digits: &[u8]) -> Result<Vec<u8>, LineError>
     if rest.is_empty() {
         Ok(bytes)
     } else {
-        Err(LineError::Bad)
+        Err(LineError::Bad(fault))
     }
 }
 
 // Bytes: an `x` and then their digits.
-fn binary_of(alloc: Global, word: &[u8]) -> Result<ScalarValue, LineError>
+fn binary_of(alloc: Global, word: &[u8], fault: Fault) -> Result<ScalarValue, LineError>
     ensures value { Gives (λ v. v) result (binary_of word.now) }
     ensures x { IsErrOf result LineError.Memory → slice_index word.now 0 ≡ 120 }
     ensures digits { IsErrOf result LineError.Memory → 2 < length word.now }
 {
     match word {
-        [b'x', digits @ ..] => Ok(ScalarValue::Binary(Bytes::new(bytes_of(alloc, digits)?))),
-        _ => Err(LineError::Bad),
+        [b'x', digits @ ..] => {
+            let bytes = bytes_of(alloc, digits, fault)?;
+            Ok(ScalarValue::Binary(Bytes::new(bytes)))
+        }
+        _ => Err(LineError::Bad(fault)),
     }
 }
 
 // The value other than null that a word without quotes writes.
 #[inline(always)]
-fn plain_value(alloc: Global, dtype: DType, word: &[u8]) -> Result<ScalarValue, LineError>
+fn plain_value(
+    alloc: Global,
+    dtype: DType,
+    word: &[u8],
+    fault: Fault,
+) -> Result<ScalarValue, LineError>
     ensures value { Gives (λ v. v) result (plain_value dtype word.now) }
     ensures memory { IsErrOf result LineError.Memory
         → IsTrue (makes_bytes dtype (Plain word.now)) }
 {
     match dtype {
-        DType::Bool(_) => truth_of(word).ok_or(LineError::Bad),
+        DType::Bool(_) => truth_of(word).ok_or(LineError::Bad(fault)),
         DType::Primitive(ptype, _) => match number_of(ptype, word) {
             Some(number) => Ok(ScalarValue::Primitive(number)),
-            None => Err(LineError::Bad),
+            None => Err(LineError::Bad(fault)),
         },
-        DType::Binary(_) => binary_of(alloc, word),
-        DType::Null | DType::Utf8(_) | DType::MinMaxState(_, _) => Err(LineError::Bad),
+        DType::Binary(_) => binary_of(alloc, word, fault),
+        DType::Null | DType::Utf8(_) | DType::MinMaxState(_, _) => Err(LineError::Bad(fault)),
     }
 }
 
@@ -114,46 +122,58 @@ fn text_of(bytes: Vec<u8>) -> Option<Text>
 }
 
 // The text that stands between quotes.
-fn quoted_value(dtype: DType, text: Vec<u8>) -> Result<ScalarValue, LineError>
+fn quoted_value(dtype: DType, text: Vec<u8>, fault: Fault) -> Result<ScalarValue, LineError>
     ensures value { Gives (λ v. v) result (quoted_value dtype text.items) }
-    ensures bad { IfErr result (λ e. e ≡ Bad) }
+    ensures bad { IfErr result IsBad }
 {
     match dtype {
         DType::Utf8(_) => match text_of(text) {
             Some(text) => Ok(ScalarValue::Utf8(text)),
-            None => Err(LineError::Bad),
+            None => Err(LineError::Bad(fault)),
         },
-        _ => Err(LineError::Bad),
+        _ => Err(LineError::Bad(fault)),
     }
 }
 
-/// The value other than null that a word writes.
-pub fn value_of(alloc: Global, dtype: DType, word: Word) -> Result<ScalarValue, LineError>
+/// The value other than null that a word writes, at whose beginning so many bytes of the line are
+/// left.
+pub fn value_of(
+    alloc: Global,
+    dtype: DType,
+    word: Word,
+    left: usize,
+) -> Result<ScalarValue, LineError>
     ensures value { Gives (λ v. v) result (value_of dtype (token_of word.entry)) }
     ensures memory { IsErrOf result LineError.Memory
         → IsTrue (makes_bytes dtype (token_of word.entry)) }
 {
+    let fault = Fault::at(left, Expected::Value(dtype));
     match word {
-        Word::Plain(word) => plain_value(alloc, dtype, word),
-        Word::Quoted(text) => quoted_value(dtype, text),
+        Word::Plain(word) => plain_value(alloc, dtype, word, fault),
+        Word::Quoted(text) => quoted_value(dtype, text, fault),
     }
 }
 
-/// The value that a word writes, or `None` for `null` where the type has it.
+/// The value that a word writes, or `None` for `null` where the type has it. So many bytes of the
+/// line are left at the word's beginning.
 #[inline(always)]
 pub fn optional_value_of(
     alloc: Global,
     dtype: DType,
     word: Word,
+    left: usize,
 ) -> Result<Option<ScalarValue>, LineError>
     ensures value { Gives (λ v. v) result (optional_value_of dtype (token_of word.entry)) }
     ensures memory { IsErrOf result LineError.Memory
         → IsTrue (makes_bytes dtype (token_of word.entry)) }
 {
+    let fault = Fault::at(left, Expected::ValueOrNull(dtype));
     match word {
-        Word::Plain(word) if !is(word, b"null") => Ok(Some(plain_value(alloc, dtype, word)?)),
+        Word::Plain(word) if !is(word, b"null") => {
+            Ok(Some(plain_value(alloc, dtype, word, fault)?))
+        }
         Word::Plain(_) if dtype.is_nullable() => Ok(None),
-        Word::Plain(_) => Err(LineError::Bad),
-        Word::Quoted(text) => Ok(Some(quoted_value(dtype, text)?)),
+        Word::Plain(_) => Err(LineError::Bad(fault)),
+        Word::Quoted(text) => Ok(Some(quoted_value(dtype, text, fault)?)),
     }
 }

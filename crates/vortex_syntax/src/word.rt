@@ -2,11 +2,12 @@
 ghost use Rattle.std.specs.Prelude.{◌≡◌, ◌+◌, ◌<◌, ◌≤◌, ◌==◌, ◌∷◌, ℕ, [], List, Option, false, IfErr, IfOk, IfSome, IsErrOf, IsTrue, length, nat_le, option_map, position, slice_index};
 ghost use Rattle.std.specs.List.{list_any};
 ghost use Rattle.vortex_syntax.specs.Copies.{first_is_copied, is_copied};
-ghost use Rattle.vortex_syntax.specs.Fails.{Gives};
+ghost use Rattle.vortex_syntax.specs.Fails.{Gives, IsBad};
 ghost use Rattle.vortex_syntax.specs.QuotedSteps.{Closes, step_of};
-ghost use Rattle.vortex_syntax.specs.declared.line_error.LineError.TheVariants.{Bad, Memory};
+ghost use Rattle.vortex_syntax.specs.declared.line_error.LineError.TheVariants.{Memory};
 ghost use Rattle.vortex_syntax.specs.Words.{word_limit, Plain, first_word, no_word, plain_word, quoted, token_of, words, words_from};
 
+use crate::expected::Expected;
 use crate::line_error::LineError;
 use std::alloc::Global;
 
@@ -34,8 +35,9 @@ fn step_of(bytes: &[u8]) -> Option<(Option<u8>, &[u8])>
     }
 }
 
-// The text behind a quote, and what follows the quote that closes it.
-fn quoted_at(alloc: Global, bytes: &[u8]) -> Result<(Vec<u8>, &[u8]), LineError>
+// The text behind a quote, and what follows the quote that closes it. So many bytes of the line are
+// left at the quote.
+fn quoted_at(alloc: Global, bytes: &[u8], left: usize) -> Result<(Vec<u8>, &[u8]), LineError>
     ensures text { Closes (λ x. (x.0.items, x.1.now)) bytes.now result }
     ensures memory { IsErrOf result LineError.Memory
         → IsTrue (first_is_copied (words_from bytes.now (quoted []))) }
@@ -45,7 +47,7 @@ fn quoted_at(alloc: Global, bytes: &[u8]) -> Result<(Vec<u8>, &[u8]), LineError>
     let mut rest = bytes;
     'bytes: while !rest.is_empty() {
         let Some((byte, after)) = step_of(rest) else {
-            return Err(LineError::Bad);
+            return Err(LineError::at(left, Expected::ClosingQuote));
         };
         let Some(byte) = byte else {
             return Ok((text, after));
@@ -53,7 +55,7 @@ fn quoted_at(alloc: Global, bytes: &[u8]) -> Result<(Vec<u8>, &[u8]), LineError>
         text.push(byte)?;
         rest = after;
     }
-    Err(LineError::Bad)
+    Err(LineError::at(left, Expected::ClosingQuote))
 }
 
 /// A line without the spaces in front.
@@ -92,22 +94,27 @@ fn split_word(text: &[u8]) -> (&[u8], &[u8])
     }
 }
 
-/// The first word of a line, and the line after it. There has to be one.
+/// The first word of a line, and the line after it. There has to be one, which is what is expected
+/// where there is none.
 #[inline(always)]
-pub fn first_word(alloc: Global, line: &[u8]) -> Result<(Word<'_>, &[u8]), LineError>
+pub fn first_word(
+    alloc: Global,
+    line: &[u8],
+    expected: Expected,
+) -> Result<(Word<'_>, &[u8]), LineError>
     ensures word { Gives (λ x. (token_of x.0, words x.1.now)) result (first_word (words line.now)) }
-    ensures broken { IsErrOf result LineError.Bad → length (words line.now) ≤ 1 }
+    ensures broken { IfErr result (λ e. IsBad e → length (words line.now) ≤ 1) }
     ensures memory { IsErrOf result LineError.Memory → IsTrue (first_is_copied (words line.now)) }
     ensures fewer { IfOk result (λ x. length (words x.1.now) < length (words line.now)) }
 {
     let text = skip_spaces(line);
     match text {
-        [] => Err(LineError::Bad),
+        [] => Err(LineError::at(0, expected)),
         [b'"', quoted @ ..] => {
-            let (word, rest) = quoted_at(alloc, quoted)?;
+            let (word, rest) = quoted_at(alloc, quoted, text.len())?;
             match rest {
                 [] | [b' ', ..] => Ok((Word::Quoted(word), rest)),
-                _ => Err(LineError::Bad),
+                _ => Err(LineError::at(text.len(), Expected::SpaceBehindQuote)),
             }
         }
         _ => {
@@ -117,16 +124,17 @@ pub fn first_word(alloc: Global, line: &[u8]) -> Result<(Word<'_>, &[u8]), LineE
     }
 }
 
-/// The first word of a line, which has to be one without quotes, and the line after it.
-pub fn plain_word(line: &[u8]) -> Result<(&[u8], &[u8]), LineError>
+/// The first word of a line, which has to be one without quotes, and the line after it. What is
+/// expected is told where there is no such word.
+pub fn plain_word(line: &[u8], expected: Expected) -> Result<(&[u8], &[u8]), LineError>
     ensures word { Gives (λ x. (x.0.now, words x.1.now)) result (plain_word (words line.now)) }
-    ensures bad { IfErr result (λ e. e ≡ Bad) }
+    ensures bad { IfErr result IsBad }
     ensures fewer { IfOk result (λ x. length (words x.1.now) < length (words line.now)) }
 {
     let text = skip_spaces(line);
     match text {
-        [] => Err(LineError::Bad),
-        [b'"', ..] => Err(LineError::Bad),
+        [] => Err(LineError::at(0, expected)),
+        [b'"', ..] => Err(LineError::at(text.len(), expected)),
         _ => Ok(split_word(text)),
     }
 }
@@ -135,12 +143,13 @@ pub fn plain_word(line: &[u8]) -> Result<(&[u8], &[u8]), LineError>
 #[inline]
 pub fn no_word(line: &[u8]) -> Result<(), LineError>
     ensures word { Gives (λ x. x) result (no_word (words line.now)) }
-    ensures bad { IfErr result (λ e. e ≡ Bad) }
+    ensures bad { IfErr result IsBad }
 {
-    if skip_spaces(line).is_empty() {
+    let text = skip_spaces(line);
+    if text.is_empty() {
         Ok(())
     } else {
-        Err(LineError::Bad)
+        Err(LineError::at(text.len(), Expected::End))
     }
 }
 
@@ -158,9 +167,9 @@ fn skip_word(alloc: Global, line: &[u8]) -> Result<&[u8], LineError>
     ensures later { IfOk result (λ rest. IsTrue (list_any is_copied (words rest.now))
         → IsTrue (list_any is_copied (words line.now))) }
 {
-    let rest = match first_word(alloc, line) {
+    let rest = match first_word(alloc, line, Expected::End) {
         Ok((_, rest)) => rest,
-        Err(LineError::Bad) => return Ok(&[]),
+        Err(LineError::Bad(_)) => return Ok(&[]),
         Err(LineError::Memory) => return Err(LineError::Memory),
     };
     Ok(skip_spaces(rest))

@@ -63,7 +63,7 @@ row_longer cs all i ws line past none h =
 -- what a callee's error says goes on to the caller
 pub fails_on : {A B : Type 0} (e : LineError) (inner : Option A) (outer : Option B) → (inner ≡ None → outer ≡ None) → Fails e inner → Fails e outer
 fails_on errors.Memory inner outer bad h = tt
-fails_on errors.Bad inner outer bad h = bad h
+fails_on (errors.Bad fault) inner outer bad h = bad h
 
 pub row_ends : (cs all : List ColumnData) (i : ℕ) (ws line : List Token) (r : Result (Unit {0}) LineError) → length cs ≤ i → Gives (λ x. x) r (no_word ws)
     → behind (take i cs) (with_values (drop i cs) ws) ≡ with_values all line → Changes r (with_values all line) cs

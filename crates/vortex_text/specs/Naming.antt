@@ -53,4 +53,4 @@ named text = named_from 1 nothing_read (lines text)
 abbrev pub IsNamed : {X : Type 0} → (X → Query) → Result X InputError → Result Query ℕ → Type 0
 IsNamed view (Ok x) says = says ≡ Ok (view x)
 IsNamed view (Err errors.Memory) says = ⊤
-IsNamed view (Err (errors.BadLine n)) says = says ≡ Err n
+IsNamed view (Err (errors.BadLine bad)) says = says ≡ Err bad.number

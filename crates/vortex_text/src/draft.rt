@@ -2,7 +2,7 @@
 ghost use Rattle.std.specs.Prelude.{◌≡◌, ◌<◌, ◌||◌, IfOk, IfSome, IsErrOf, IsTrue, OnErr, OnOk, MatchOption, None, Some, is_some, length};
 ghost use Rattle.std.specs.Str.Lines.{lines};
 ghost use Rattle.vortex_base.specs.Data.Scopes.{named_columns};
-ghost use Rattle.vortex_syntax.specs.Fails.{Changes, GivesAndChanges};
+ghost use Rattle.vortex_syntax.specs.Fails.{Changes, GivesAndChanges, IsBad};
 ghost use Rattle.vortex_syntax.specs.Plain.{EndsWord};
 ghost use Rattle.vortex_syntax.specs.Words.{words};
 ghost use Rattle.vortex_text.specs.Drafts.{reading_of};
@@ -25,6 +25,7 @@ use vortex_base::bound_expression::BoundExpression;
 use vortex_base::dtype::DType;
 use vortex_base::scope::Scope;
 use vortex_syntax::columns::Columns;
+use vortex_syntax::expected::Expected;
 use vortex_syntax::expression::read_expression;
 use vortex_syntax::line_error::LineError;
 use vortex_syntax::line_kind::{LineKind, kind_of};
@@ -91,15 +92,35 @@ impl Draft {
         Ok(())
     }
 
-    // Adds a column.
-    fn add_column(&mut self, alloc: Global, name: &[u8], dtype: DType) -> Result<(), LineError>
+    // What keeps a word from naming the next column, at which so many bytes of the line are left.
+    fn misnamed(&self, name: &[u8], left: usize) -> LineError
+        ensures { IsBad result }
+    {
+        if is_name(name) {
+            LineError::at(left, Expected::NewName)
+        } else {
+            LineError::at(left, Expected::Name)
+        }
+    }
+
+    // Adds a column. So many bytes of the line are left at its name.
+    fn add_column(
+        &mut self,
+        alloc: Global,
+        name: &[u8],
+        dtype: DType,
+        left: usize,
+    ) -> Result<(), LineError>
         ensures read { let old = reading_of self.old in
             Changes result (with_column old name.now dtype) (reading_of self.new) }
         ensures memory { IsErrOf result LineError.Memory
             → IsTrue (is_some (with_column (reading_of self.old) name.now dtype)) }
     {
-        if self.has_part() || !self.is_new(name) {
-            return Err(LineError::Bad);
+        if self.has_part() {
+            return Err(LineError::at(left, Expected::ColumnBeforeParts));
+        }
+        if !self.is_new(name) {
+            return Err(self.misnamed(name, left));
         }
         let Ok(name) = str::from_utf8(name) else {
             unreachable!()
@@ -116,13 +137,13 @@ impl Draft {
         ensures memory { IsErrOf result LineError.Memory
             → IsTrue (kind_takes LineKind.Column (reading_of self.old) (words line.now)) }
     {
-        let (name, rest) = plain_word(line)?;
-        let (kind, rest) = plain_word(rest)?;
+        let (name, named) = plain_word(line, Expected::Name)?;
+        let (kind, rest) = plain_word(named, Expected::Type)?;
         no_word(rest)?;
         let Some(dtype) = type_of(kind) else {
-            return Err(LineError::Bad);
+            return Err(LineError::at(named.len(), Expected::Type));
         };
-        self.add_column(alloc, name, dtype)
+        self.add_column(alloc, name, dtype, line.len())
     }
 
     // How many rows the next part may have: as many as an earlier one, so that parts alike grow no
@@ -144,7 +165,7 @@ impl Draft {
     {
         no_word(line)?;
         if self.columns.as_slice().is_empty() {
-            return Err(LineError::Bad);
+            return Err(LineError::at(line.len(), Expected::SomeColumn));
         }
         let part = empty_part(alloc, self.columns.as_slice(), self.likely_rows())?;
         self.end_part(alloc)?;
@@ -162,7 +183,7 @@ impl Draft {
         let (claim, rest) = read_claim(&self.columns, line)?;
         let value = read_claimed(alloc, claim.dtype, rest)?;
         let Some(mut part) = self.current.take() else {
-            return Err(LineError::Bad);
+            return Err(LineError::at(line.len(), Expected::OpenPart));
         };
         set_statistic(&mut part.stats, claim.place, claim.stat, value);
         self.current = Some(part);
@@ -177,7 +198,7 @@ impl Draft {
             → IsTrue (kind_takes LineKind.Row (reading_of self.old) (words line.now)) }
     {
         let Some(mut part) = self.current.take() else {
-            return Err(LineError::Bad);
+            return Err(LineError::at(line.len(), Expected::OpenPart));
         };
         push_row(alloc, &mut part.columns, line)?;
         self.current = Some(part);
@@ -192,13 +213,13 @@ impl Draft {
         ensures memory { IsErrOf result LineError.Memory
             → IsTrue (kind_takes LineKind.Join (reading_of self.old) (words line.now)) }
     {
-        let (place, rest) = plain_word(line)?;
+        let (place, rest) = plain_word(line, Expected::PartPlace)?;
         no_word(rest)?;
         let Some(place) = natural_of(place) else {
-            return Err(LineError::Bad);
+            return Err(LineError::at(line.len(), Expected::PartPlace));
         };
         self.end_part(alloc)?;
-        self.ended.join_at(alloc, place as usize)
+        self.ended.join_at(alloc, place as usize, line.len())
     }
 
     // `where EXPR`
@@ -209,12 +230,12 @@ impl Draft {
             → IsTrue (kind_takes LineKind.Where (reading_of self.old) (words line.now)) }
     {
         if !is_short(alloc, line)? {
-            return Err(LineError::Bad);
+            return Err(LineError::at(line.len(), Expected::FewerWords));
         }
         let (predicate, rest) = read_expression(alloc, &self.columns, line)?;
         no_word(rest)?;
         if self.columns.as_slice().is_empty() {
-            return Err(LineError::Bad);
+            return Err(LineError::at(line.len(), Expected::SomeColumn));
         }
         self.predicate = Some(predicate);
         Ok(())
@@ -250,14 +271,14 @@ impl Draft {
             return Ok(());
         }
         if self.predicate.is_some() {
-            return Err(LineError::Bad);
+            return Err(LineError::at(line.len(), Expected::NothingBehindPredicate));
         }
-        let (first, rest) = match plain_word(line) {
+        let (first, rest) = match plain_word(line, Expected::LineKind) {
             Ok(found) => found,
             Err(e) => return Err(e),
         };
         let Some(kind) = kind_of(first) else {
-            return Err(LineError::Bad);
+            return Err(LineError::at(line.len(), Expected::LineKind));
         };
         self.read_kind(alloc, kind, rest)
     }
@@ -272,7 +293,7 @@ impl Draft {
             → IsTrue (line_takes (reading_of self.old) line.now) }
     {
         if !is_utf8(line) {
-            return Err(LineError::Bad);
+            return Err(LineError::at(line.len(), Expected::Utf8));
         }
         self.read_words(alloc, line)
     }
@@ -289,7 +310,7 @@ impl Draft {
     {
         match &mut self.current {
             Some(part) => push_first_row(alloc, &mut part.columns, values),
-            None => Err(LineError::Bad),
+            None => Err(LineError::at(values.len(), Expected::OpenPart)),
         }
     }
 

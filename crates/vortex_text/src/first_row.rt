@@ -7,6 +7,7 @@ ghost use Rattle.vortex_text.specs.FirstLines.{BeginsRow, first_row};
 
 use crate::open_column::{OpenColumn, push_row};
 use std::alloc::{AllocError, Global};
+use vortex_syntax::expected::Expected;
 use vortex_syntax::line_error::LineError;
 use vortex_syntax::lines::{is_utf8, next_line};
 
@@ -55,7 +56,7 @@ pub fn push_first_row<'a>(
     }
     let (line, after) = next_line(rest);
     if !is_utf8(line) {
-        return Err(LineError::Bad);
+        return Err(LineError::at(line.len(), Expected::Utf8));
     }
     match push_row(alloc, &mut columns[count..], line) {
         Ok(()) => Ok(after),

@@ -1,6 +1,7 @@
 //! Texts that name parts of columns, their statistics and a predicate, and what their scan prints.
 #![tactic(auto)]
 
+pub mod bad_line;
 mod batches;
 mod draft;
 mod first_row;

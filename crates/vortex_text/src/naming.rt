@@ -1,28 +1,56 @@
 //! What a whole text names.
-ghost use Rattle.std.specs.Prelude.{◌≡◌, ◌↔◌, ℕ, List, IfOk, IsErrOf, Ok, Err};
+ghost use Rattle.std.specs.Prelude.{◌≡◌, ◌↔◌, ◌<◌, ℕ, List, IfOk, IsErrOf, Ok, Err, length};
 ghost use Rattle.vortex_base.specs.Trees.Tree.{Tree, Place};
 ghost use Rattle.vortex_prune.specs.Part.{PartData};
 ghost use Rattle.vortex_text.specs.Fitting.{IsQuery, IsQueryOver};
 ghost use Rattle.vortex_text.specs.MemoryTaken.{TakesMemory};
 ghost use Rattle.vortex_text.specs.Naming.{IsFirstBad, IsNamed, NamesQuery, named};
 
+use crate::bad_line::BadLine;
 use crate::draft::Draft;
 use crate::query::Query;
 use std::alloc::{AllocError, Global};
-use vortex_syntax::line_error::LineError;
+use vortex_syntax::expected::Expected;
+use vortex_syntax::line_error::{Fault, LineError};
+use vortex_syntax::lines::next_line;
 
 /// Why a text was not read.
 #[derive(Debug, Drop)]
-pub enum InputError {
+pub enum InputError<'a> {
     /// A growth was refused.
     Memory,
-    /// The first bad line, counted from 1. Where no line is bad and there is no predicate, it is
-    /// the line after the last.
-    BadLine(usize),
+    /// The first bad line. Where no line is bad and there is no predicate, it is the line after the
+    /// last.
+    BadLine(BadLine<'a>),
+}
+
+// The line that a text begins with, which is bad.
+fn bad_line(number: usize, text: &[u8], fault: Fault) -> BadLine<'_>
+    requires { 0 < length text.now }
+    ensures { result.number ≡ number }
+{
+    let (line, _) = next_line(text);
+    BadLine {
+        number,
+        line,
+        fault,
+    }
+}
+
+// The line after the last, where no predicate was read.
+fn without_predicate(number: usize) -> BadLine<'static>
+    ensures { result.number ≡ number }
+{
+    let fault = Fault::at(0, Expected::Predicate);
+    BadLine {
+        number,
+        line: &[],
+        fault,
+    }
 }
 
 /// The parts and the predicate that a text names, with their scope.
-pub fn read_input(alloc: Global, text: &[u8]) -> Result<Query, InputError>
+pub fn read_input(alloc: Global, text: &[u8]) -> Result<Query, InputError<'_>>
     ensures named { IsNamed (λ q. (q.parts.items, q.predicate)) result (named text.now) }
     ensures fits { IfOk result (λ q. IsQueryOver q.scope q.parts.items q.predicate) }
     ensures memory { IsErrOf result InputError.Memory → TakesMemory text.now }
@@ -34,13 +62,15 @@ pub fn read_input(alloc: Global, text: &[u8]) -> Result<Query, InputError>
         rest = match draft.read_first(alloc, rest) {
             Ok(after) => after,
             Err(LineError::Memory) => return Err(InputError::Memory),
-            Err(LineError::Bad) => return Err(InputError::BadLine(number)),
+            Err(LineError::Bad(fault)) => {
+                return Err(InputError::BadLine(bad_line(number, rest, fault)));
+            }
         };
         number += 1;
     }
     match draft.into_query(alloc) {
         Ok(Some(query)) => Ok(query),
-        Ok(None) => Err(InputError::BadLine(number)),
+        Ok(None) => Err(InputError::BadLine(without_predicate(number))),
         Err(AllocError) => Err(InputError::Memory),
     }
 }

@@ -12,6 +12,7 @@ use vortex_base::cells::Cells;
 use vortex_base::column::Column;
 use vortex_base::dtype::DType;
 use vortex_base::scalar_value::ScalarValue;
+use vortex_syntax::expected::Expected;
 use vortex_syntax::line_error::LineError;
 use vortex_syntax::plain::plain_value;
 use vortex_syntax::value::optional_value_of;
@@ -71,8 +72,9 @@ impl OpenColumn {
         ensures { GivesAndChanges (λ rest. words rest.now) result
             (taken self.old (words line.now)) self.new }
     {
-        let (word, rest) = first_word(alloc, line)?;
-        let value = optional_value_of(alloc, self.dtype, word)?;
+        let expected = Expected::ValueOrNull(self.dtype);
+        let (word, rest) = first_word(alloc, line, expected)?;
+        let value = optional_value_of(alloc, self.dtype, word, line.len())?;
         self.push(value)?;
         Ok(rest)
     }

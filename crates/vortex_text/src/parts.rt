@@ -14,6 +14,7 @@ use std::alloc::{AllocError, Global};
 use std::marker::Model;
 use vortex_prune::part::Part;
 use vortex_stats::error::StatsError;
+use vortex_syntax::expected::Expected;
 use vortex_syntax::line_error::LineError;
 
 /// Parts in order. They stand in two runs that meet where parts were last added or joined, so that
@@ -113,8 +114,9 @@ impl Parts {
         Ok(())
     }
 
-    /// Joins the part at a place and the one behind it. There have to be two.
-    pub fn join_at(&mut self, alloc: Global, place: usize) -> Result<(), LineError>
+    /// Joins the part at a place and the one behind it. There have to be two; else the line is bad
+    /// where so many bytes of it are left.
+    pub fn join_at(&mut self, alloc: Global, place: usize, left: usize) -> Result<(), LineError>
         requires { AreNeighbours self.old }
         ensures joined { Changes result (joined_at place self.old) self.new }
         ensures memory { IsErrOf result LineError.Memory
@@ -122,7 +124,8 @@ impl Parts {
     {
         let count = self.front.len() + self.back.len();
         if count < 2 || place > count - 2 {
-            return Err(LineError::Bad);
+            let count = u32::try_from(count).unwrap_or(u32::MAX);
+            return Err(LineError::at(left, Expected::Neighbours(count)));
         }
         meet_at(&mut self.front, &mut self.back, place + 1)?;
         let Some(left) = self.front.pop() else {

@@ -9,40 +9,94 @@ use crate::query::scan_query;
 use crate::streams::{ReadError, Sink, Source, read_all, write_out};
 use std::alloc::{AllocError, Global};
 
-// The status of a text and what is printed of it. The text is let go once it is read.
-fn reply_to(alloc: Global, text: Vec<u8>) -> Result<(u8, String), AllocError>
-    ensures status { IfOk result (λ x. x.0 ≡ (reply_to text.items).0) }
-    ensures printed { IfOk result (λ x. string_bytes x.1 ≡ (reply_to text.items).1) }
-    // Where all statistics are true no row is lost.
-    ensures lossless { IfOk result (λ x. IsFullScan text.items (string_bytes x.1)) }
-{
-    let read = read_input(alloc, &text);
-    drop(text);
-    match read {
-        Ok(query) => match scan_query(alloc, query)? {
-            Some(scan) => Ok((0, print_scan(alloc, &scan)?)),
-            None => Ok((1, String::from_str(alloc, "predicate\n")?)),
-        },
-        Err(InputError::BadLine(line)) => Ok((2, print_bad(alloc, line)?)),
-        Err(InputError::Memory) => Err(AllocError),
+// Why there is no answer, beside the word that the answer is then.
+const NO_PREDICATE: &str = "predicate: the expression behind where is not of type bool\n";
+
+const NO_MEMORY: &str = "memory: a request for memory was refused\n";
+
+const NOT_READ: &str = "read: the input could not be read to its end\n";
+
+const TOO_LONG: &str = "input: the input is longer than 16777216 bytes\n";
+
+// What a text is answered: the status, what is printed, and why there is no answer.
+#[derive(Drop)]
+struct Reply {
+    status: u8,
+    answer: String,
+    reason: String,
+}
+
+// A reason, if there was memory for it: where there was none the answer stands without it.
+fn told(alloc: Global, reason: Result<String, AllocError>) -> String {
+    match reason {
+        Ok(reason) => reason,
+        Err(_) => String::new(alloc),
     }
 }
 
-// Says why there is no answer.
-fn refuse<W: Sink>(writer: &mut W, word: &[u8]) -> u8
+// The reply to a text. The text is let go once it is read.
+fn reply_to(alloc: Global, text: Vec<u8>) -> Result<Reply, AllocError>
+    ensures status { IfOk result (λ r. r.status ≡ (reply_to text.items).0) }
+    ensures printed { IfOk result (λ r. string_bytes r.answer ≡ (reply_to text.items).1) }
+    // Where all statistics are true no row is lost.
+    ensures lossless { IfOk result (λ r. IsFullScan text.items (string_bytes r.answer)) }
+{
+    let query = match read_input(alloc, &text) {
+        Ok(query) => query,
+        Err(InputError::BadLine(bad)) => {
+            let answer = print_bad(alloc, bad.number)?;
+            let reason = told(alloc, bad.reason(alloc));
+            return Ok(Reply {
+                status: 2,
+                answer,
+                reason,
+            });
+        }
+        Err(InputError::Memory) => return Err(AllocError),
+    };
+    drop(text);
+    match scan_query(alloc, query)? {
+        Some(scan) => Ok(Reply {
+            status: 0,
+            answer: print_scan(alloc, &scan)?,
+            reason: String::new(alloc),
+        }),
+        None => Ok(Reply {
+            status: 1,
+            answer: String::from_str(alloc, "predicate\n")?,
+            reason: told(alloc, String::from_str(alloc, NO_PREDICATE)),
+        }),
+    }
+}
+
+// Tells a reason. What becomes of it has no part in the answer.
+fn tell<E: Sink>(reasons: &mut E, reason: &str) {
+    let _ = write_out(reasons, reason.as_bytes());
+}
+
+// Says why there is no answer, in a word and in a sentence.
+fn refuse<W: Sink, E: Sink>(writer: &mut W, reasons: &mut E, word: &[u8], sentence: &str) -> u8
     ensures status { result ≡ 1 }
-    // All of it, unless a write failed.
+    // All of the word, unless a write failed.
     ensures written { AppendsUnlessFailed (W.has_failed writer.new) (W.contents writer.old)
         (W.contents writer.new) word.now }
 {
     let _ = write_out(writer, word);
+    tell(reasons, sentence);
     1
 }
 
 /// Reads the whole input, and writes the answer to it and nothing else. The status is 0 for a scan,
 /// 2 for a bad line, and 1 where the predicate isn't of type Bool, or memory, a read or a write was
-/// refused, or the input goes past its limit.
-pub fn run<R: Source, W: Sink>(alloc: Global, reader: &mut R, writer: &mut W) -> u8
+/// refused, or the input goes past its limit. Where there is no scan, `reasons` gets a line that
+/// says why: of a bad line the word that is at fault and what was expected there. What becomes of
+/// that line has no part in the status.
+pub fn run<R: Source, W: Sink, E: Sink>(
+    alloc: Global,
+    reader: &mut R,
+    writer: &mut W,
+    reasons: &mut E,
+) -> u8
     // The whole answer was written.
     ensures answered { result ≢ 1 → IfSome (R.remaining reader.old)
         (λ input. Answers input result (W.contents writer.old) (W.contents writer.new)) }
@@ -66,15 +120,16 @@ pub fn run<R: Source, W: Sink>(alloc: Global, reader: &mut R, writer: &mut W) ->
 {
     let input = match read_all(alloc, reader) {
         Ok(input) => input,
-        Err(ReadError::Memory) => return refuse(writer, b"memory\n"),
-        Err(ReadError::Failed) => return refuse(writer, b"read\n"),
-        Err(ReadError::TooLong) => return refuse(writer, b"input\n"),
+        Err(ReadError::Memory) => return refuse(writer, reasons, b"memory\n", NO_MEMORY),
+        Err(ReadError::Failed) => return refuse(writer, reasons, b"read\n", NOT_READ),
+        Err(ReadError::TooLong) => return refuse(writer, reasons, b"input\n", TOO_LONG),
     };
-    let Ok((status, text)) = reply_to(alloc, input) else {
-        return refuse(writer, b"memory\n");
+    let Ok(reply) = reply_to(alloc, input) else {
+        return refuse(writer, reasons, b"memory\n", NO_MEMORY);
     };
-    if write_out(writer, text.as_bytes()) {
-        status
+    tell(reasons, &reply.reason);
+    if write_out(writer, reply.answer.as_bytes()) {
+        reply.status
     } else {
         1
     }

@@ -4,7 +4,8 @@ use std::io;
 use std::io::{ErrorKind, Read, Write};
 use std::process::Abort;
 use std::test::Fail;
-use vortex_text::program::run;
+use vortex_text::program;
+use vortex_text::streams::{Sink, Source};
 
 mod bad_lines;
 mod batches;
@@ -13,6 +14,7 @@ mod joined_parts;
 mod nulls;
 mod plain_rows;
 mod ranges;
+mod reasons;
 mod skipping;
 mod telling;
 mod text_lines;
@@ -26,6 +28,11 @@ const FIRST_RUN: &str =
         where gt col a lit i64 10\n";
 
 const FIRST_ANSWER: &str = "skipped 0\nrows 1:2\n";
+
+// A run of which no one asks why there is no answer.
+fn run<R: Source, W: Sink>(alloc: Global, reader: &mut R, writer: &mut W) -> u8 {
+    program::run(alloc, reader, writer, &mut io::sink())
+}
 
 // Gives some bytes, so many a read, and then ends or fails.
 #[derive(Drop)]

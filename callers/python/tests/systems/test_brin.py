@@ -1,23 +1,57 @@
-"""A PostgreSQL server's BRIN index as footers, range by range beside the rows that stand there."""
+"""A PostgreSQL server's BRIN index as footers, range by range beside the rows that stand there, and what is read by it beside the server."""
+import os
+import random
 import unittest
 
-from foalmorrow import Precision, Stat, brin
+from foalmorrow import Column, DType, Footers, Precision, Predicate, PredicateError, Stat, brin, col
 from tests.systems.servers import postgres, postgres_folder
 
-ROWS = 100_000
+SEED = int(os.environ.get("FOALMORROW_SEED", "1"))
+ROWS = 50_000
 MAKE = f"""
 CREATE EXTENSION pageinspect;
 CREATE TABLE sales (day int NOT NULL, qty bigint, name text);
-INSERT INTO sales SELECT i / 1000, CASE WHEN i % 7 = 0 OR i BETWEEN 50000 AND 70000 THEN NULL ELSE (i / 20) % 3000 + i % 11 END,
-  'n' || lpad((i / 500)::text, 4, '0') FROM generate_series(1, {ROWS}) i;
-CREATE INDEX sales_brin ON sales USING brin (day, qty, name) WITH (pages_per_range = 16);
-CREATE INDEX sales_tree ON sales (day);
+INSERT INTO sales SELECT i / 500, CASE WHEN i % 7 = 0 AND i > 10000 OR i BETWEEN 25000 AND 35000 THEN NULL ELSE i / 20 + i % 11 END,
+  'n' || lpad((i / 250)::text, 4, '0') FROM generate_series(1, {ROWS}) i;
+CREATE INDEX sales_brin ON sales USING brin (day, qty, name) WITH (pages_per_range = 8);
 CREATE INDEX sales_lower ON sales USING brin (lower(name));
-CREATE TABLE others (f double precision, t text COLLATE "und-x-icu", k int);
+CREATE TABLE notes (day int NOT NULL, note text, "Mixed" int);
+INSERT INTO notes SELECT i / 100, E'a\\r.. .. ' || i || E'\\t\\x01 .. b', -i FROM generate_series(1, 5000) i;
+CREATE INDEX notes_brin ON notes USING brin (day, note, "Mixed") WITH (pages_per_range = 4);
+CREATE TABLE others (f double precision, t text COLLATE "und-x-icu", k int, j int);
 CREATE INDEX others_f ON others USING brin (f);
 CREATE INDEX others_t ON others USING brin (t);
 CREATE INDEX others_k ON others USING brin (k int4_minmax_multi_ops);
+CREATE INDEX others_half ON others USING brin (j) WHERE k > 3;
+CREATE INDEX others_tree ON others (k);
 """
+
+
+def a_leaf(rng: random.Random) -> Predicate:
+    kind, word = rng.randrange(9), rng.choice(["__eq__", "__ne__", "__gt__", "__ge__", "__lt__", "__le__"])
+    if kind < 2:
+        return getattr(col("day"), word)(rng.randrange(-2, 103))
+    if kind < 4:
+        return getattr(col("qty"), word)(rng.randrange(-5, 2520))
+    if kind == 4:
+        return getattr(col("name"), word)(f"n{rng.randrange(210):04}")
+    if kind == 5:
+        low = rng.randrange(100)
+        return col("day").between(low, low + rng.randrange(-1, 9), low_strict=rng.random() < 0.3)
+    if kind == 6:
+        low = rng.randrange(2500)
+        return col("qty").between(low, low + rng.randrange(300))
+    if kind == 7:
+        return col("name").like(f"n{rng.randrange(210):04}"[: rng.randrange(2, 6)] + "%", negated=rng.random() < 0.2)
+    return col(rng.choice(["day", "qty", "name"])).is_null() if rng.random() < 0.5 else col(rng.choice(["qty", "name"])).is_not_null()
+
+
+def a_predicate(rng: random.Random, depth: int = 2) -> Predicate:
+    kind = rng.randrange(4) if depth else 3
+    if kind == 3:
+        return a_leaf(rng)
+    left = a_predicate(rng, depth - 1)
+    return ~left if kind == 2 else left & a_predicate(rng, depth - 1) if kind else left | a_predicate(rng, depth - 1)
 
 
 @unittest.skipIf(postgres_folder() is None, "PostgreSQL isn't installed: apt-get install postgresql")
@@ -25,12 +59,10 @@ class BrinIndexes(unittest.TestCase):
     @classmethod
     def setUpClass(cls) -> None:
         cls.server = postgres()
-        cls.query = staticmethod(cls.server.__enter__())
+        cls.folder = cls.server.__enter__()
+        cls.addClassCleanup(cls.server.__exit__, None, None, None)
+        cls.query = staticmethod(brin.psql(cls.folder, user="postgres"))
         cls.query(MAKE)
-
-    @classmethod
-    def tearDownClass(cls) -> None:
-        cls.server.__exit__(None, None, None)
 
     def rows_of(self, index: brin.Brin, zone: int) -> dict[str, list]:
         """The rows that stand in a zone's pages, column by column."""
@@ -71,14 +103,88 @@ class BrinIndexes(unittest.TestCase):
                 self.assertLessEqual(least[1], min(days))
                 self.assertGreaterEqual(greatest[1], max(days))
 
+    def test_read_by_ranges(self) -> None:
+        rng, skipped, fewer, compared = random.Random(SEED), 0, 0, 0
+        with brin.session(self.folder, user="postgres") as query:
+            index = brin.read(query, "sales_brin")
+            for _ in range(300):
+                predicate = a_predicate(rng)
+                condition = predicate.sql(index.footers.columns)
+                found = brin.select(query, index, predicate, ["ctid::text"])
+                wanted = query(f"SELECT ctid::text FROM sales WHERE {condition}")
+                self.assertEqual(sorted(found.rows), sorted(wanted), (SEED, condition))
+                by_server = brin.server_pages(query, "sales", condition)
+                skipped += index.pages - found.pages
+                if by_server is not None:
+                    self.assertLessEqual(found.pages, by_server, (SEED, condition))
+                    compared, fewer = compared + 1, fewer + by_server - found.pages
+        print(f"seed {SEED}: 300 predicates, {skipped} pages of {300 * index.pages} skipped; {compared} times the server used the index, and read {fewer} pages more")
+        self.assertGreater(compared, 100)
+        self.assertGreater(skipped, 300 * index.pages // 4)
+
+    def test_texts_with_separators(self) -> None:
+        with brin.session(self.folder, user="postgres") as query:
+            index = brin.read(query, "notes_brin")
+            self.assertEqual(brin._bounds(DType.UTF8, "{x .. .. y}"), ("x", "y"))
+            for wanted in [col("note") == "a\r.. .. 7\t\x01 .. b", col("note") >= "a\r.. .. 5", col("Mixed") < -4900, col("note").like("a\r%")]:
+                condition = wanted.sql(index.footers.columns)
+                found = brin.select(query, index, wanted, ["note", '"Mixed"'])
+                self.assertEqual(sorted(found.rows), sorted(query(f'SELECT note, "Mixed" FROM notes WHERE {condition}')))
+                self.assertGreater(len(found.rows), 0)
+            self.assertLess(brin.select(query, index, col("Mixed") < -4900).pages, index.pages)
+
+    def test_rows_that_others_write(self) -> None:
+        with brin.session(self.folder, user="postgres") as query:
+            index = brin.read(query, "sales_brin")
+            self.query("INSERT INTO sales VALUES (-77, 9, 'a')")
+            self.assertEqual(brin.select(query, index, col("day") == -77).rows, [])
+            self.assertEqual(query("SELECT day FROM sales WHERE day = -77"), [])
+        with brin.session(self.folder, user="postgres") as query:
+            self.assertEqual(brin.select(query, brin.read(query, "sales_brin"), col("day") == -77).rows, [["-77", "9", "a"]])
+            # Rows of an index that was read in another transaction may be missing.
+            with self.assertRaisesRegex(brin.BrinError, "another transaction"):
+                brin.select(query, index, col("day") == -77)
+        with self.assertRaisesRegex(brin.BrinError, "one session"):
+            brin.select(self.query, brin.read(self.query, "sales_brin"), col("day") == -77)
+        self.query("DELETE FROM sales WHERE day = -77")
+
+    def test_a_predicate_that_does_not_fit(self) -> None:
+        with brin.session(self.folder, user="postgres") as query:
+            index = brin.read(query, "sales_brin")
+            for wanted in [col("nothing") > 3, col("day") > 2**31, col("name") > 3]:
+                with self.assertRaises(PredicateError):
+                    brin.select(query, index, wanted)
+            self.assertEqual(len(brin.select(query, index, col("day") == 3, ["day"], also="qty > 0").rows), 500)
+            with self.assertRaisesRegex(brin.BrinError, "nothing"):
+                brin.select(query, index, col("day") == 3, ["nothing"])
+
+    def test_no_value_is_null_alone(self) -> None:
+        """The bounds of a range of nulls alone are true of nulls, of each type."""
+        for dtype in (DType.I16, DType.I32, DType.I64, DType.UTF8, DType.BINARY):
+            least, greatest = brin._none_between(dtype)
+            given = {("c", Stat.MIN): ([least], 2), ("c", Stat.MAX): ([greatest], 2), ("c", Stat.NULL_COUNT): ([1], 1)}
+            self.assertIsNone(Footers.of_values([Column("c", dtype, True)], [1], given).check(0, {"c": [None]}))
+
     def test_refused(self) -> None:
-        for index, cause in [("sales_tree", "btree"), ("sales_lower", "expression"), ("others_f", "double precision"), ("others_t", "collation"), ("others_k", "operator class")]:
+        causes = {"tree": "btree", "f": "double precision", "t": "collation", "k": "operator class", "half": "partial"}
+        for index, cause in [("sales_lower", "expression"), *((f"others_{name}", cause) for name, cause in causes.items())]:
             with self.assertRaisesRegex(brin.BrinError, cause):
                 brin.read(self.query, index)
         with self.assertRaises(brin.BrinError):
             brin.read(self.query, "nothing")
         with self.assertRaises(ConnectionError):
             brin.psql("/nowhere")("SELECT 1")
+        with self.assertRaises(ConnectionError), brin.session("/nowhere"):
+            pass
+
+
+@unittest.skipIf(postgres_folder() is None, "PostgreSQL isn't installed: apt-get install postgresql")
+class ServersThatGo(unittest.TestCase):
+    def test_goes_away(self) -> None:
+        with postgres() as folder, self.assertRaises(ConnectionError), brin.session(folder, user="postgres") as query:
+            ((process,),) = query("SELECT pg_backend_pid()")
+            brin.psql(folder, user="postgres")(f"SELECT pg_terminate_backend({process})")
+            query("SELECT 1")
 
 
 if __name__ == "__main__":

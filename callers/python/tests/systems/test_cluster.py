@@ -1,14 +1,16 @@
-"""A cluster of two workers: a table measured where its partitions lie, also where a worker dies."""
+"""A cluster of two workers: a table measured, merged, pruned and read where its partitions lie, also where a worker dies."""
 import csv
 import os
 import pathlib
+import random
 import signal
 import tempfile
 import threading
 import time
 import unittest
+import unittest.mock
 
-from foalmorrow import Column, DType, FooterError, Footers, Stat
+from foalmorrow import Column, DType, FooterError, Footers, Predicate, PredicateError, Stat, col
 
 try:
     import dask
@@ -18,6 +20,7 @@ try:
 except ImportError:
     dask = None  # type: ignore[assignment]
 
+SEED = int(os.environ.get("FOALMORROW_SEED", "1"))
 COLUMNS = (Column("k", DType.I64), Column("s", DType.UTF8), Column("n", DType.I32, True))
 PARTS, ROWS = 12, 400
 
@@ -33,6 +36,27 @@ def write(folder: str, part: int, start: int) -> None:
 def slow(file: str, columns: tuple[Column, ...]) -> object:
     time.sleep(0.2)
     return cluster.read_csv(file, columns)
+
+
+def slowly(work: object) -> object:
+    """The same work, after a while."""
+
+    def late(*given: object) -> object:
+        time.sleep(0.2)
+        return work(*given)  # type: ignore[operator]
+
+    return late
+
+
+def a_predicate(rng: random.Random) -> Predicate:
+    number = rng.randrange(-100, PARTS * ROWS + 100)
+    leaves = [col("k") > number, col("k").between(number, number + 500), col("s") == f"t{number // 100}"]
+    leaves += [col("s").like("t1%"), col("n").is_null(), col("n") >= number % 9]
+    found = rng.choice(leaves[:3])
+    for _ in range(rng.randrange(3)):
+        other = rng.choice(leaves)
+        found = rng.choice([found & other, found | other, ~found, found & ~other])
+    return found
 
 
 @unittest.skipIf(dask is None, "Dask isn't installed: apt-get install python3-distributed python3-dask python3-pandas")
@@ -68,8 +92,9 @@ class Clusters(unittest.TestCase):
         return Footers.measure(COLUMNS, [cluster.read_csv(file, COLUMNS) for file in self.table.files])
 
     def test_measured_where_they_lie(self) -> None:
-        kept, fresh = cluster.measure(self.client, self.table)
-        self.assertEqual(fresh, list(self.table.files))
+        seen: list[int] = []
+        kept, fresh = cluster.measure(self.client, self.table, watch=lambda tasks: seen.append(len(tasks)))
+        self.assertEqual((fresh, seen), (list(self.table.files), [PARTS]))
         self.assertEqual(kept.footers, self.direct())
 
     def test_changed_partition(self) -> None:
@@ -81,36 +106,170 @@ class Clusters(unittest.TestCase):
         self.assertEqual(fresh, [self.table.files[3]])
         self.assertEqual(again.footers.at(3)["k", Stat.MIN][1], 90_000)
 
-    def test_a_worker_dies(self) -> None:
-        slowly = cluster.Table(COLUMNS, self.table.files, slow)
+    def test_a_worker_dies_in_measure(self) -> None:
+        table = cluster.Table(COLUMNS, self.table.files, slow)
         threading.Timer(0.5, self.kill_a_worker).start()
-        kept, _ = cluster.measure(self.client, slowly)
+        kept, _ = cluster.measure(self.client, table)
         self.assertEqual(kept.footers, self.direct())
+
+    def test_merged_whatever_the_shape(self) -> None:
+        direct = self.direct()
+        wanted = direct.only(cluster.SHAPELESS)
+        one_by_one = wanted.slice(0, 1)
+        for zone in range(1, len(wanted)):
+            one_by_one = one_by_one.merge(wanted.slice(zone, zone + 1))
+        for shard, fan in [(100, 2), (1, 2), (1, 3), (2, 2), (5, 8), (7, 2)]:
+            self.assertEqual(cluster.merge(self.client, direct, shard=shard, fan=fan), one_by_one, (shard, fan))
+        self.assertEqual(one_by_one.at(0)["n", Stat.NULL_COUNT][1], PARTS * ROWS // 5)
+        every = cluster.merge(self.client, direct, list(Stat)).at(0)
+        self.assertEqual(every["k", Stat.SUM][1], sum(range(PARTS * ROWS)))
+        self.assertEqual(len(cluster.merge(self.client, Footers(COLUMNS, []))), 0)
+
+    def test_a_worker_dies_in_merge(self) -> None:
+        direct, merged = self.direct().only(cluster.SHAPELESS), cluster._merged
+        with unittest.mock.patch.object(cluster, "_merged", slowly(merged)):
+            threading.Timer(0.5, self.kill_a_worker).start()
+            self.assertEqual(cluster.merge(self.client, direct, shard=1, fan=2), direct.merged())
+
+    def test_pruned_in_shards(self) -> None:
+        direct, rng = self.direct(), random.Random(SEED)
+        for _ in range(20):
+            predicate = a_predicate(rng)
+            for shard in (1, 5, 100):
+                self.assertEqual(cluster.prune(self.client, direct, predicate, shard=shard), direct.prune(predicate, normalize=True), (SEED, predicate))
+        with self.assertRaises(PredicateError):
+            cluster.prune(self.client, direct, col("nothing") > 3, shard=1)
+
+    def test_a_worker_dies_in_prune(self) -> None:
+        direct, pruned, wanted = self.direct(), cluster._pruned, col("k") > 2000
+        with unittest.mock.patch.object(cluster, "_pruned", slowly(pruned)):
+            threading.Timer(0.5, self.kill_a_worker).start()
+            self.assertEqual(cluster.prune(self.client, direct, wanted, shard=1), direct.prune(wanted))
+
+    def full(self, predicate: Predicate) -> list:
+        """What the filter of all partitions answers."""
+        frames = [cluster._filtered(cluster.read_csv, COLUMNS, file, predicate) for file in self.table.files]
+        return sorted(int(key) for frame in frames for key in frame["k"])
+
+    def test_selected(self) -> None:
+        kept, rng, files = cluster.measure(self.client, self.table)[0], random.Random(SEED), 0
+        for _ in range(40):
+            predicate = a_predicate(rng)
+            found = cluster.select(self.client, self.table, kept, predicate)
+            files += len(found.files)
+            self.assertEqual(sorted(int(key) for key in found.frame().compute(scheduler=self.client)["k"]), self.full(predicate), (SEED, predicate))
+            self.assertEqual(found.changed, [])
+        self.assertLess(files, 40 * PARTS * 3 // 4)
+        print(f"seed {SEED}: 40 predicates, {files} of {40 * PARTS} partitions read")
+
+    def test_selected_and_gone_on_with(self) -> None:
+        kept, _ = cluster.measure(self.client, self.table)
+        found = cluster.select(self.client, self.table, kept, col("k") >= (PARTS - 1) * ROWS)
+        self.assertEqual(found.files, [self.table.files[-1]])
+        self.assertEqual(int(found.frame().groupby("s").k.count().compute().sum()), ROWS)
+        none = cluster.select(self.client, self.table, kept, col("k") < 0)
+        self.assertEqual((none.files, len(none.frame().compute())), ([], 0))
+        self.assertEqual(list(none.frame().columns), ["k", "s", "n"])
+
+    def test_a_worker_dies_in_select(self) -> None:
+        kept, _ = cluster.measure(self.client, self.table)
+        table = cluster.Table(COLUMNS, self.table.files, slow)
+        found = cluster.select(self.client, table, kept, col("k") > 1000)
+        threading.Timer(0.5, self.kill_a_worker).start()
+        self.assertEqual(sorted(int(key) for key in found.frame().compute()["k"]), list(range(1001, PARTS * ROWS)))
+
+    def test_a_changed_partition_is_read(self) -> None:
+        kept, _ = cluster.measure(self.client, self.table)
+        write(self.table_folder.name, 3, 90_000)
+        write(self.table_folder.name, PARTS, 90_400)
+        table = cluster.csv_table(self.table_folder.name, COLUMNS)
+        found = cluster.select(self.client, table, kept, col("k") >= 90_000)
+        self.assertEqual(found.changed, [self.table.files[3], table.files[-1]])
+        self.assertEqual(found.files, found.changed)
+        self.assertEqual(len(found.frame().compute()), 2 * ROWS)
 
     def test_arrays(self) -> None:
         import numpy
 
+        columns = (Column("k", DType.I64), Column("n", DType.U8, True), Column("b", DType.BOOL), Column("s", DType.UTF8))
         with tempfile.TemporaryDirectory() as folder:
-            for part in range(2):
+            for part in range(3):
                 os.mkdir(f"{folder}/{part}")
-                numpy.save(f"{folder}/{part}/k.npy", numpy.arange(part * 10, part * 10 + 10))
-            table = cluster.npy_table(folder, COLUMNS[:1])
+                numbers = numpy.arange(part * 10, part * 10 + 10)
+                arrays = {"k": numbers, "n": numbers.astype("u1"), "n.null": numbers % 2 == 0, "b": numbers > 15, "s": numbers.astype("U2")}
+                for name, values in arrays.items():
+                    numpy.save(f"{folder}/{part}/{name}.npy", values)
+            table = cluster.npy_table(folder, columns)
             kept, _ = cluster.measure(self.client, table)
-            self.assertEqual([kept.footers.at(zone)["k", Stat.MIN][1] for zone in (0, 1)], [0, 10])
+            self.assertEqual([kept.footers.at(zone)["k", Stat.MIN][1] for zone in (0, 1, 2)], [0, 10, 20])
+            self.assertEqual(kept.footers.at(1)["n", Stat.MIN][1], 11)
+            found = cluster.select(self.client, table, kept, (col("n") > 12) & (col("b") == True) & (col("s") < "19"))  # noqa: E712
+            self.assertEqual(list(found.frame().compute()["k"]), [17])
+            self.assertEqual(found.files, [table.files[1]])
+            for values, cause in [(numpy.arange(3, dtype="i4"), "no i64"), (numpy.arange(3.0), "no i64"), (numpy.arange(9), "rows")]:
+                numpy.save(f"{folder}/1/k.npy", values)
+                with self.assertRaisesRegex(cluster.TableError, cause):
+                    cluster.measure(self.client, table)
+            pathlib.Path(f"{folder}/1/k.npy").write_bytes(b"\x93NUMPY\x01\x00")
+            with self.assertRaisesRegex(cluster.TableError, "/1"):
+                cluster.measure(self.client, table)
+            os.unlink(f"{folder}/1/k.npy")
+            with self.assertRaisesRegex(cluster.TableError, "no file k.npy"):
+                cluster.measure(self.client, table)
 
     def test_refused(self) -> None:
         with self.assertRaises(cluster.TableError):
             cluster.csv_table("/", COLUMNS)
-        with self.assertRaises(FooterError):
-            cluster.Kept.load(self._written(Footers(COLUMNS, [])))
+        kept, _ = cluster.measure(self.client, self.table)
+        with self.assertRaises(PredicateError):
+            cluster.select(self.client, self.table, kept, col("nothing") > 3)
+        with self.assertRaisesRegex(FooterError, "other columns"):
+            cluster.select(self.client, cluster.csv_table(self.table_folder.name, COLUMNS[:2]), kept, col("k") > 3)
         with open(self.table.files[0], "a", encoding="utf-8") as file:
             file.write("x,y,z\n")
-        with self.assertRaisesRegex(Exception, "'x' is no i64"):
+        with self.assertRaisesRegex(cluster.TableError, "row 400, column k: 'x' is no i64"):
             cluster.measure(self.client, self.table)
+        with open(self.table.files[1], "w", encoding="utf-8") as file:
+            file.write("k,s,n\n1,a,2147483648\n")
+        with self.assertRaisesRegex(cluster.TableError, "column n"):
+            cluster.measure(self.client, cluster.Table(COLUMNS, self.table.files[1:2], cluster.read_csv))
+        os.unlink(self.table.files[0])
+        with self.assertRaisesRegex(cluster.TableError, "part-000.csv is gone"):
+            cluster.select(self.client, self.table, kept, col("k") > 3)
 
-    def _written(self, footers: Footers) -> str:
-        footers.save(f"{self.table_folder.name}/none")
-        return f"{self.table_folder.name}/none"
+    def test_files_that_are_no_footers(self) -> None:
+        kept, _ = cluster.measure(self.client, self.table)
+        path = pathlib.Path(self.table_folder.name) / "footers"
+        kept.save(path)
+        data = path.read_bytes()
+        others = [Footers(COLUMNS, []).to_bytes(note) for note in ("", '{"files": ["a"], "stamps": []}', "[]")]
+        for spoilt in [data[:-9], data.replace(b"footers 1", b"footers 9", 1), *others]:
+            path.write_bytes(spoilt)
+            with self.assertRaises(FooterError):
+                cluster.Kept.load(path)
+
+    def test_nothing_half_written(self) -> None:
+        kept, _ = cluster.measure(self.client, self.table)
+        path = pathlib.Path(self.table_folder.name) / "footers"
+        kept.save(path)
+        before, there = path.read_bytes(), sorted(os.listdir(path.parent))
+        with unittest.mock.patch("os.fsync", side_effect=OSError("no space")), self.assertRaises(OSError):
+            kept.save(path)
+        self.assertEqual((path.read_bytes(), sorted(os.listdir(path.parent))), (before, there))
+
+
+@unittest.skipIf(dask is None, "Dask isn't installed: apt-get install python3-distributed python3-dask python3-pandas")
+class ClustersThatGo(unittest.TestCase):
+    def test_goes_away(self) -> None:
+        with tempfile.TemporaryDirectory() as folder:
+            write(folder, 0, 0)
+            table = cluster.csv_table(folder, COLUMNS)
+            gone = LocalCluster(n_workers=1, threads_per_worker=1, host="127.0.0.1", dashboard_address=None, local_directory=folder)
+            client = Client(gone, timeout="2s")
+            gone.close()
+            with self.assertRaises(ConnectionError):
+                cluster.measure(client, table)
+            client.close()
 
 
 if __name__ == "__main__":

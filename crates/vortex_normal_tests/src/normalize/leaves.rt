@@ -122,3 +122,20 @@ fn numbers_are_no_predicates(rt: HostRuntime) -> Result<(), Fail> {
     assert!(rt; matches!(refused, Err(StatsError::NotPredicate)));
     Ok(())
 }
+
+// Whether the one number is below the other.
+fn is_less(alloc: Global, one: i32, other: i32) -> Built {
+    lt(alloc, num(alloc, one), num(alloc, other))
+}
+
+// An operand without a column is as good as the literal of its value.
+#[test]
+fn constant_operands_are_folded(rt: HostRuntime) -> Result<(), Fail> {
+    let alloc = rt.alloc();
+    let equal = eq(alloc, c(alloc), is_less(alloc, 1, 2));
+    expect(&rt, alloc, equal, c_eq(alloc, true))?;
+    let equal = eq(alloc, is_less(alloc, 2, 1), c(alloc));
+    expect(&rt, alloc, equal, c_eq(alloc, false))?;
+    let null = lt(alloc, null_of(alloc, I32), num(alloc, 2));
+    expect(&rt, alloc, eq(alloc, c(alloc), null), never(alloc))
+}

@@ -1,7 +1,5 @@
 -- Worked rows of tables of zones and their binder, found by computation alone.
 use Rattle.std.specs.Prelude.{◌≡◌, ℕ, true, false, List, [], ◌∷◌, Option, Some, None, pos, codes, map, refl}
-use Rattle.std.proofs.Common.{sym}
-use mathlib.Core.Bool.{true≢false}
 use Rattle.vortex_base.specs.Data.Columns.{ColumnData, row_of}
 use Rattle.vortex_base.specs.Data.Scopes.{Named}
 use Rattle.vortex_base.specs.Trees.Tree.{Tree, Place, binary, column, is_null, stat}
@@ -18,7 +16,7 @@ use Rattle.vortex_stats.specs.Sets.Claims.{count_value}
 use Rattle.vortex_stats.specs.declared.precision.Precision.TheVariants.{Exact, Inexact}
 use Rattle.vortex_stats.specs.declared.stat.Stat.TheVariants as stats
 use Rattle.vortex_prune.specs.Part.{Entries, PartData}
-use Rattle.vortex_prune.specs.Scanning.ZoneScans.{CanTell, is_left_open}
+use Rattle.vortex_prune.specs.Scanning.ZoneScans.{is_left_open}
 use Rattle.vortex_prune.specs.Zones.{ZonesData, is_zone_row, starts_from, zone_answer, zone_columns, zone_place, zone_table, zones_of}
 
 abbrev i64_type : DType
@@ -157,26 +155,3 @@ no_column_left = refl
 
 no_part_left : is_left_open {X = PartData} (Some a) [] ≡ false
 no_part_left = refl
-
--- ---- what can be evaluated on each row of the table: references to its columns, and no placeholder
-
-abbrev reference : ℕ → DType → Tree Place
-reference i t = column (record { index = i; dtype = t })
-
-greatest_told : CanTell (Some (binary Gt (reference 0 i64_type) (reference 1 i64_type))) (zone_columns first_run.scope (zones_of first_run.parts))
-greatest_told = (refl, λ r. refl)
-
-nothing_told : CanTell None (zone_columns first_run.scope (zones_of first_run.parts))
-nothing_told = tt
-
-placeholder_left : CanTell (Some (binary Gt (reference 0 i64_type) (stat Min (reference 0 i64_type)))) (zone_columns first_run.scope (zones_of first_run.parts)) → ⊥
-placeholder_left h = true≢false h.0
-
-of_another_type : CanTell (Some (reference 0 bool_type)) (zone_columns first_run.scope (zones_of first_run.parts)) → ⊥
-of_another_type h = true≢false (sym (h.1 0))
-
-past_the_table : CanTell (Some (reference 7 bool_type)) (zone_columns first_run.scope (zones_of first_run.parts)) → ⊥
-past_the_table h = true≢false (sym (h.1 0))
-
-last_column : CanTell (Some (reference 6 bool_type)) (zone_columns first_run.scope (zones_of first_run.parts))
-last_column = (refl, λ r. refl)

@@ -4,12 +4,11 @@ use Rattle.std.specs.Prelude.{Err, IfOk, Ok, Result, if◌then◌else◌, option
 use Rattle.std.proofs.lemmas.List.{length-map}
 use Rattle.std.proofs.lemmas.Option.{same_Some, slice_get_within, slice_get-map}
 use Rattle.std.proofs.lemmas.List.Elements.{recursion_from_All}
-use Rattle.vortex_base.specs.Meanings.Fitting.{fits_row, fits_scope}
-use Rattle.vortex_base.specs.Data.Scalars.{Constant}
+use Rattle.vortex_base.specs.Meanings.Fitting.{fits_scope}
 use Rattle.vortex_base.specs.Data.Columns.{row_of}
 use Rattle.vortex_base.specs.Meanings.Meaning.{is_true, meaning}
 use Rattle.vortex_base.specs.Data.Scopes.{Named}
-use Rattle.vortex_base.specs.Trees.Tree.{Place, Tree, has_bare_column, has_placeholder}
+use Rattle.vortex_base.specs.Trees.Tree.{Place, Tree, has_bare_column}
 use Rattle.vortex_prune.proofs.Scanning.BinderScan.{answered_there, element_there, skipped_or}
 use Rattle.vortex_prune.proofs.Scanning.ScanLemmas.{answered_long}
 use Rattle.vortex_prune.proofs.Scanning.WholeScan.{all_at}
@@ -25,7 +24,7 @@ use Rattle.vortex_rewrite.specs.Causes.{IsRefusal, no_causes}
 use Rattle.vortex_rewrite.specs.Rewriting.Falsifiers.{falsifier}
 use Rattle.vortex_rewrite.specs.Rewriting.Lawful.{OwnRule}
 use Rattle.vortex_prune.specs.Scanning.ZoneScans.{IsTableRefused, is_proved_part, is_proved_zone, kept_zones, open_causes, pruning_causes, table_refuses, zone_causes}
-use Rattle.vortex_prune.specs.Scanning.ZoneScans.{AllTold, CanTell, IsBoundOnce, IsShutIfKept, IsShutIfVerdict, TellsAs, statistics_answers, table_tells, table_verdict, zone_truth, zone_verdict, zone_verdicts}
+use Rattle.vortex_prune.specs.Scanning.ZoneScans.{AllTold, IsShutIfKept, IsShutIfVerdict, TellsAs, statistics_answers, table_tells, table_verdict, zone_truth, zone_verdict, zone_verdicts}
 use Rattle.vortex_prune.specs.Zones.{HaveScope, IsMapOf, MapData, is_zone_row, zone_values, zones_of}
 use Rattle.vortex_prune.specs.declared.scan.verdict.Verdict.{Verdict}
 use Rattle.vortex_prune.specs.declared.scan.verdict.Verdict.TheVariants.{Skipped, Whole, Tested}
@@ -41,12 +40,6 @@ tells_as m e b free value zones r zone is at =
 
 -- it was bound by a binder over the table
 module _ (m s : MapData) (same : s ≡ m) (e : Tree Place) (rows_typed : (r : ℕ) → IsTrue (is_zone_row s.scope (row_of r m.table.columns))) where
-  pub bound_can_tell : (r : Result (Tree Place) StatsError) → has_bare_column e ≡ false
-      → IfOk r (λ b. WhereFaithful (λ row n. is_zone_row s.scope row) (λ row n. has_placeholder b ≡ false))
-      → IfOk r (λ b. WhereFaithful (λ row n. is_zone_row s.scope row) (λ row n. has_bare_column e ≡ false → IsTrue (fits_row b row))) → IfOk r (λ b. CanTell (Some b) m.table.columns)
-  bound_can_tell (Ok b) shut free fits = (free (row_of 0 m.table.columns) 0 (rows_typed 0), λ r. fits (row_of r m.table.columns) 0 (rows_typed r) shut)
-  bound_can_tell (Err f) shut free fits = tt
-
   pub bound_tells : (r : Result (Tree Place) StatsError) → has_bare_column e ≡ false
       → IfOk r (λ b. WhereFaithful (λ row n. is_zone_row s.scope row) (λ row n. HasNoColumnOn e row → meaning b row n ≡ value_under (zone_values s.scope row) n e)) → IfOk r (λ b. TellsAs (Some b) (Some e) m)
   bound_tells (Ok b) shut value =
@@ -61,21 +54,6 @@ rows_long m zones is = ap (λ (x : MapData). length x.rows) is.same ∙ length-m
 
 pub tells_nothing : (m : MapData) (bound proof : Option (Tree Place)) → length m.rows ≡ 0 → TellsAs bound proof m
 tells_nothing m bound proof h zones r zone is at = absurd (omega (arith, h, rows_long m zones is, slice_get_within zones r zone at))
-
-pub can_fit : (o : Option (Tree Place)) (b : Tree Place) (m : MapData) (r : ℕ) (row : List Constant) → CanTell o m.table.columns → o ≡ Some b → row ≡ row_of r m.table.columns → IsTrue (fits_row b row)
-can_fit None b m r row can is at = absurd cc
-can_fit (Some e) b m r row can is at = ap (fits_row b) at ∙ ap (λ x. fits_row x (row_of r m.table.columns)) (sym (same_Some e b is)) ∙ can.1 r
-
--- ---- the satisfier is bound where it is needed
-
-pub once_can_tell : (bound satisfier : Option (Tree Place)) (m : MapData) → IsBoundOnce bound satisfier m → CanTell bound m.table.columns
-once_can_tell None satisfier m h = tt
-once_can_tell (Some b) satisfier m h = h.0
-
--- nothing was bound, or the satisfier was
-pub is_once : (bound satisfier : Option (Tree Place)) (m : MapData) → CanTell bound m.table.columns → TellsAs bound satisfier m → is_open satisfier ≡ false → IsBoundOnce bound satisfier m
-is_once None satisfier m can tells shut = tt
-is_once (Some b) satisfier m can tells shut = (can, tells, shut)
 
 -- ---- the verdict on a zone
 

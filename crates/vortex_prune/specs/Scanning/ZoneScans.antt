@@ -1,10 +1,9 @@
 -- Pruning by a map of zones: what is evaluated, what has to be found, and what it may be refused for.
-use Rattle.std.specs.Prelude.{◌≡◌, ◌<◌, ◌⊎◌, ℕ, Bool, true, false, not as not_b, Contains, List, [], ◌∷◌, Option, Some, None, IsTrue, ⊤, if◌then◌else◌, alloc_error, filter, length, map, slice_get}
+use Rattle.std.specs.Prelude.{◌≡◌, ◌<◌, ◌⊎◌, ℕ, Bool, true, false, not as not_b, Contains, List, [], ◌∷◌, Option, Some, None, if◌then◌else◌, alloc_error, filter, length, map, slice_get}
 use Rattle.vortex_base.specs.Data.Columns.{ChunkData, ColumnData, row_count as rows_of, row_of}
 use Rattle.vortex_base.specs.Data.Scopes.{Named}
-use Rattle.vortex_base.specs.Meanings.Fitting.{fits_row}
 use Rattle.vortex_base.specs.Meanings.Meaning.{is_true, meaning, satisfies}
-use Rattle.vortex_base.specs.Trees.Tree.{Tree, Place, has_placeholder}
+use Rattle.vortex_base.specs.Trees.Tree.{Tree, Place}
 use Rattle.vortex_rewrite.specs.Causes.{Causes, IsRefusal, no_causes}
 use Rattle.vortex_rewrite.specs.Rewriting.Lawful.{OwnRule}
 use Rattle.vortex_prune.specs.Part.{IsPartOf, IsTruePart, PartData, ZoneData}
@@ -58,11 +57,6 @@ abbrev pub zone_truth : Option (Tree Place) → List ColumnData → (r n : ℕ) 
 zone_truth None cs r n = false
 zone_truth (Some b) cs r n = is_true (meaning b (row_of r cs) n)
 
--- it can be evaluated on each row
-abbrev pub CanTell : Option (Tree Place) → List ColumnData → Type 0
-CanTell None cs = ⊤
-CanTell (Some b) cs = (has_placeholder b ≡ false) × ((r : ℕ) → IsTrue (fits_row b (row_of r cs)))
-
 -- on the row of each zone of which the map is, it tells what the proof does by the zone's statistics
 abbrev pub TellsAs : (bound proof : Option (Tree Place)) → MapData → Type 0
 TellsAs bound proof m =
@@ -81,11 +75,6 @@ table_tells bound satisfier m r v =
 -- it was told of each zone
 abbrev pub AllTold : (bound satisfier : Option (Tree Place)) → MapData → List Verdict → Type 0
 AllTold bound satisfier m vs = (r : ℕ) (v : Verdict) → slice_get vs r ≡ Some v → table_tells bound satisfier m r v
-
--- the satisfier was bound to the table, if it was
-abbrev pub IsBoundOnce : (bound satisfier : Option (Tree Place)) → MapData → Type 0
-IsBoundOnce None satisfier m = ⊤
-IsBoundOnce (Some b) satisfier m = CanTell (Some b) m.table.columns × TellsAs (Some b) satisfier m × (is_open satisfier ≡ false)
 
 -- ---- refusals
 

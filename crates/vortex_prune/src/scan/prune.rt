@@ -1,6 +1,7 @@
 //! Pruning by a map of zones: each proof is bound once, for all zones.
-ghost use Rattle.std.specs.Prelude.{◌≡◌, ◌<◌, ◌++◌, ℕ, List, [], Err, IfErr, IfOk, IsTrue, OnOk};
-ghost use Rattle.std.specs.Prelude.{Some, alloc_error, false, length, option_copied, slice_get};
+ghost use Rattle.std.specs.Prelude.{◌≡◌, ◌<◌, ◌++◌, Contains, List, [], Err, IfErr, IfOk, IsTrue, OnOk};
+ghost use Rattle.std.specs.List.{list_all};
+ghost use Rattle.std.specs.Prelude.{Some, alloc_error, false, length, map, not, option_copied};
 ghost use Rattle.vortex_base.specs.Meanings.Fitting.{fits_scope};
 ghost use Rattle.vortex_base.specs.Trees.Tree.{has_bare_column, is_plain};
 ghost use Rattle.vortex_rewrite.specs.Answers.{IsMemory};
@@ -15,23 +16,23 @@ ghost use Rattle.vortex_prune.specs.Part.{ZoneData};
 ghost use Rattle.vortex_prune.specs.Scanning.Complete.{ZonesSkipExactly};
 ghost use Rattle.vortex_prune.specs.Scanning.Selection.{is_skipped, is_whole, place_if};
 ghost use Rattle.vortex_prune.specs.Scanning.Selection.{places_where};
-ghost use Rattle.vortex_prune.specs.Scanning.ZoneScans.{AllTold, CanTell, IsBoundOnce};
+ghost use Rattle.vortex_prune.specs.Scanning.ZoneScans.{AllTold};
 ghost use Rattle.vortex_prune.specs.Scanning.ZoneScans.{IsShutIfKept, IsShutIfVerdict};
 ghost use Rattle.vortex_prune.specs.Scanning.ZoneScans.{IsSoundPruning, TellsAs, is_left_open};
 ghost use Rattle.vortex_prune.specs.Scanning.ZoneScans.{IsTableRefused, most_causes, open_causes};
 ghost use Rattle.vortex_prune.specs.Scanning.ZoneScans.{pruning_causes, skipped_zones};
-ghost use Rattle.vortex_prune.specs.Scanning.ZoneScans.{table_refuses, table_tells, whole_zones};
-ghost use Rattle.vortex_prune.specs.Scanning.ZoneScans.{zone_truth};
+ghost use Rattle.vortex_prune.specs.Scanning.ZoneScans.{whole_zones};
+ghost use Rattle.vortex_prune.specs.Scanning.Marks.{marked_verdict, marked_verdicts};
 ghost use Rattle.vortex_prune.specs.Scanning.ZoneScans.{zone_verdicts};
 ghost use Rattle.vortex_prune.specs.Zones.{IsMapOf};
 ghost use Rattle.vortex_stats.specs.declared.error.StatsError.TheVariants.{Memory, NotPredicate};
 
 use crate::bind::bind_stats_of;
 use crate::bind::zone_binder::ZoneBinder;
-use crate::scan::skip::is_true_on;
+use crate::scan::marks::told;
 use crate::scan::verdict::Verdict;
 use crate::zone_map::ZoneMap;
-use std::alloc::Global;
+use std::alloc::{AllocError, Global};
 use vortex_base::bound_expression::BoundExpression;
 use vortex_rewrite::rewrite::rule::StatsRewriteRule;
 use vortex_rewrite::rewrite::rules::Rules;
@@ -45,7 +46,6 @@ fn bound_proof(
     map: &ZoneMap,
     proof: &BoundExpression,
 ) -> Result<BoundExpression, StatsError>
-    ensures can_tell { IfOk result (λ b. CanTell (Some b) map.now.table.columns) }
     ensures tells { IfOk result (λ b. TellsAs (Some b) (Some proof.now) map.now) }
     ensures shut { IfOk result (λ _. has_bare_column proof.now ≡ false) }
     ensures refusal { let causes = open_causes (Some proof.now) map.now.rows in
@@ -64,7 +64,6 @@ fn bound_once(
     map: &ZoneMap,
     proof: Option<&BoundExpression>,
 ) -> Result<Option<BoundExpression>, StatsError>
-    ensures can_tell { IfOk result (λ b. CanTell b map.now.table.columns) }
     ensures tells { IfOk result (λ b. TellsAs b (option_copied proof.entry) map.now) }
     ensures shut { let left_open = is_left_open (option_copied proof.entry) map.now.rows in
         IfOk result (λ _. left_open ≡ false) }
@@ -77,104 +76,91 @@ fn bound_once(
     }
 }
 
-// Whether a bound proof, if there is one, is true on the table's row of a zone.
-fn is_true_at(
-    map: &ZoneMap,
-    place: usize,
-    bound: Option<&BoundExpression>,
-) -> Result<bool, StatsError>
-    requires within { place < length map.now.rows }
-    requires tells { CanTell (option_copied bound) map.now.table.columns }
-    ensures value { IfOk result (λ b. (n : ℕ) → slice_get map.now.rows place ≡ Some n
-        → b ≡ zone_truth (option_copied bound.entry) map.now.table.columns place n) }
-    ensures memory { IfErr result (λ f. f ≡ Memory alloc_error) }
+// Whether each mark is set.
+fn are_all(marks: &[bool]) -> bool
+    ensures { result ≡ list_all (λ mark. mark) marks.now }
 {
-    match bound {
-        None => Ok(false),
-        Some(bound) => {
-            let table = map.table();
-            let _rows = table.rows();
-            is_true_on(bound, &table.row(place), map.rows(place))
-        }
-    }
+    marks.iter().all(|mark| *mark)
 }
 
-// Binds a satisfier to the table, if there is one, where that wasn't done.
-fn bind_satisfier(
+// The satisfier bound to the table, if there is one and some zone isn't skipped.
+fn bound_rest(
     alloc: Global,
     map: &ZoneMap,
     satisfier: Option<&BoundExpression>,
-    bound: &mut Option<BoundExpression>,
-) -> Result<(), StatsError>
-    requires zones { 0 < length map.now.rows }
-    requires before { IsBoundOnce bound.old (option_copied satisfier) map.now }
-    ensures bound { OnOk result (IsBoundOnce bound.new (option_copied satisfier.entry) map.now) }
-    ensures can_tell { OnOk result (CanTell bound.new map.now.table.columns) }
-    ensures as_satisfier { OnOk result
-        (TellsAs bound.new (option_copied satisfier.entry) map.now) }
-    ensures shut { OnOk result (is_open (option_copied satisfier.entry) ≡ false) }
+    skipped: &[bool],
+) -> Result<Option<BoundExpression>, StatsError>
+    requires { length skipped.now ≡ length map.now.rows }
+    ensures tells { IfOk result (λ b. Contains skipped.now false
+        → TellsAs b (option_copied satisfier.entry) map.now) }
+    ensures shut { IfOk result (λ _. Contains skipped.now false
+        → is_open (option_copied satisfier.entry) ≡ false) }
     ensures refusal { let causes = open_causes (option_copied satisfier.entry) map.now.rows in
-        IfErr result (IsRefusal causes) }
+        IfErr result (λ f. Contains skipped.now false × IsRefusal causes f) }
 {
-    if bound.is_some() {
-        return Ok(());
+    if are_all(skipped) {
+        return Ok(None);
     }
-    if let Some(satisfier) = satisfier {
-        *bound = Some(bound_proof(alloc, map, satisfier)?);
-    }
-    Ok(())
+    bound_once(alloc, map, satisfier)
 }
 
-// What becomes of a zone by a falsifier that was bound, if there is one, and by a satisfier, which
-// is bound at the first zone that isn't skipped.
-fn verdict_at(
+// The marks of the zones that aren't marked.
+fn unmarked(alloc: Global, marks: &[bool]) -> Result<Vec<bool>, AllocError>
+    ensures { IfOk result (λ others. others.items ≡ map not marks.now) }
+{
+    marks.iter().map(|mark| !*mark).collect(alloc)
+}
+
+// What becomes of a zone that is marked as skipped or not, and as whole or not.
+fn marked_verdict(skipped: bool, whole: bool) -> Verdict
+    ensures { result ≡ marked_verdict skipped whole }
+{
+    if skipped {
+        Verdict::Skipped
+    } else if whole {
+        Verdict::Whole
+    } else {
+        Verdict::Tested
+    }
+}
+
+// That of each zone.
+fn marked_verdicts(
     alloc: Global,
-    map: &ZoneMap,
-    place: usize,
-    falsifier: Option<&BoundExpression>,
-    satisfier: Option<&BoundExpression>,
-    bound: &mut Option<BoundExpression>,
-) -> Result<Verdict, StatsError>
-    requires within { place < length map.now.rows }
-    requires tells { CanTell (option_copied falsifier) map.now.table.columns }
-    requires before { IsBoundOnce bound.old (option_copied satisfier) map.now }
-    ensures verdict { IfOk result (table_tells (option_copied falsifier.entry)
-        (option_copied satisfier.entry) map.now place) }
-    ensures bound { OnOk result (IsBoundOnce bound.new (option_copied satisfier.entry) map.now) }
-    ensures refusal { IfErr result (table_refuses (option_copied falsifier.entry)
-        (option_copied satisfier.entry) map.now place) }
+    skipped: &[bool],
+    whole: &[bool],
+) -> Result<Vec<Verdict>, AllocError>
+    requires { length skipped.now ≡ length whole.now }
+    ensures { IfOk result (λ verdicts.
+        verdicts.items ≡ marked_verdicts skipped.now whole.now) }
 {
-    if is_true_at(map, place, falsifier)? {
-        return Ok(Verdict::Skipped);
+    let mut verdicts = Vec::with_capacity(alloc, skipped.len())?;
+    for place in 0..skipped.len() {
+        verdicts.push(marked_verdict(skipped[place], whole[place]))?;
     }
-    bind_satisfier(alloc, map, satisfier, bound)?;
-    if is_true_at(map, place, bound.as_ref())? {
-        return Ok(Verdict::Whole);
-    }
-    Ok(Verdict::Tested)
+    Ok(verdicts)
 }
 
-// What becomes of each zone by these.
+// What becomes of each zone by a falsifier that was bound, if there is one, and by a satisfier,
+// which is bound where some zone isn't skipped.
 fn verdicts_by(
     alloc: Global,
     map: &ZoneMap,
     falsifier: Option<&BoundExpression>,
     satisfier: Option<&BoundExpression>,
 ) -> Result<Vec<Verdict>, StatsError>
-    requires tells { CanTell (option_copied falsifier) map.now.table.columns }
     ensures told { IfOk result (λ vs. AllTold (option_copied falsifier.entry)
         (option_copied satisfier.entry) map.now vs.items) }
     ensures long { IfOk result (λ vs. length vs.items ≡ length map.now.rows) }
     ensures refusal { IfErr result (IsTableRefused (option_copied falsifier.entry)
         (option_copied satisfier.entry) map.now) }
 {
-    let mut bound = None;
-    let mut verdicts = Vec::with_capacity(alloc, map.len())?;
-    for place in 0..map.len() {
-        let verdict = verdict_at(alloc, map, place, falsifier, satisfier, &mut bound)?;
-        verdicts.push(verdict)?;
-    }
-    Ok(verdicts)
+    let all = vec![in alloc; true; map.len()]?;
+    let skipped = told(alloc, map, falsifier, &all)?;
+    let bound = bound_rest(alloc, map, satisfier, &skipped)?;
+    let others = unmarked(alloc, &skipped)?;
+    let whole = told(alloc, map, bound.as_ref(), &others)?;
+    Ok(marked_verdicts(alloc, &skipped, &whole)?)
 }
 
 // What becomes of each zone by the falsifier and the satisfier of the predicate.
@@ -298,8 +284,8 @@ fn prune_rules(
 /// Tells by a map of zones which of them hold no row that satisfies a predicate, and which hold
 /// none that doesn't. No row is at hand: these are what statistics prove. The predicate is
 /// rewritten once into a falsifier and a satisfier, and each is bound once: the falsifier at first,
-/// the satisfier at the first zone that isn't skipped. Then each zone costs an evaluation or two on
-/// a row of the table. Without zones nothing is bound.
+/// the satisfier if some zone isn't skipped. Each is looked at for many zones together, where it
+/// compares a column with a number by the column's cells. Without zones nothing is bound.
 ///
 /// The caller knows that the predicate is plain (`BoundExpression::is_plain`) and fits the scope
 /// (`BoundExpression::fits_scope`).

@@ -34,11 +34,7 @@ fn is_true(value: &Option<ScalarValue>) -> bool
 }
 
 // Whether what a proof was bound to is true on a row of statistics.
-pub(crate) fn is_true_on(
-    bound: &BoundExpression,
-    row: &Row<'_>,
-    rows: u64,
-) -> Result<bool, StatsError>
+fn is_true_on(bound: &BoundExpression, row: &Row<'_>, rows: u64) -> Result<bool, StatsError>
     requires free { has_placeholder bound.now ≡ false }
     requires fits { IsTrue (fits_row bound.now row.now) }
     ensures value { IfOk result (λ b. b ≡ value_is_true (meaning bound.now row.now rows)) }

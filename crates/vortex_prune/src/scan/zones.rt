@@ -143,8 +143,8 @@ fn scan_rules(
 /// `StatsBinder` each. A part whose falsifier is true by its row of the table is skipped, left out
 /// unread; of another part whose satisfier is true all rows are selected and none is tested. The
 /// predicate is rewritten once into both proofs, and each is bound once: the falsifier at first,
-/// the satisfier at the first part that isn't skipped. Then each part costs an evaluation or two on
-/// a row. With no part nothing is bound.
+/// the satisfier if some part isn't skipped, and both are looked at as `prune` does. With no part
+/// nothing is bound.
 ///
 /// The caller knows that the predicate is plain (`BoundExpression::is_plain`) and fits the scope
 /// (`BoundExpression::fits_scope`).

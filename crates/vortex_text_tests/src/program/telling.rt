@@ -2,7 +2,6 @@
 ghost use Rattle.std.specs.Prelude.{Some};
 
 use super::*;
-use vortex_text::streams::{Sink, Source};
 
 // Gives bytes, and then ends or fails.
 #[derive(Drop)]

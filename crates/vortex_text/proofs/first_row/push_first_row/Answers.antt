@@ -1,5 +1,6 @@
 use Rattle.std.proofs.Common.{◌≡◌, ◌-◌, get_or, length, drop, take, sym, ◌∙◌, arith}
 use Rattle.std.specs.Str.Lines.{lines}
+use Rattle.vortex_syntax.proofs.BadLemmas.{bad_fails}
 use Rattle.vortex_syntax.proofs.PlainLemmas.{uncons}
 use Rattle.vortex_syntax.specs.Words.{words}
 use Rattle.vortex_text.proofs.ColumnLemmas.{fails_on}
@@ -16,8 +17,8 @@ returns-in-10-clause-row c =
 
 pub returns-then-not-is_utf8-clause-row : goal.returns-then-not-is_utf8-clause-row
 returns-then-not-is_utf8-clause-row c =
-    row_not_utf8 c.args.columns.now c.take_plain.new.columns c.args.text.now c.in_ok-count.rest.now c.next_line.result.0.now (lines c.next_line.result.1.now) c.in_ok-count.count
-    c.in_ok-count.ensures.row c.next_line.ensures.line (sym c.is_utf8.ensures ∙ c.if-not-is_utf8.true)
+    bad_fails c.at.result (first_row c.args.columns.now (lines c.args.text.now)) c.at.ensures (row_not_utf8 c.args.columns.now c.take_plain.new.columns c.args.text.now c.in_ok-count.rest.now c.next_line.result.0.now (lines c.next_line.result.1.now) c.in_ok-count.count
+    c.in_ok-count.ensures.row c.next_line.ensures.line (sym c.is_utf8.ensures ∙ c.if-not-is_utf8.true))
 
 pub returns-in-Ok-clause-row : goal.returns-in-Ok-clause-row
 returns-in-Ok-clause-row c =

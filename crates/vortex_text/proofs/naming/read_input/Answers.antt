@@ -1,4 +1,4 @@
-use Rattle.std.proofs.Common.{◌<◌, ◌++◌, [], ◌∷◌, refl, ap, sym, ◌∙◌, append_assoc, length, arith}
+use Rattle.std.proofs.Common.{◌<◌, ◌++◌, [], ◌∷◌, Err, refl, ap, sym, ◌∙◌, append_assoc, length, arith}
 use Rattle.std.proofs.lemmas.Bool.Decides.{nat_tests}
 use Rattle.std.specs.Str.Lines.{lines}
 use Rattle.vortex_text.proofs.FirstReads.{first_bad, first_fits, first_is, first_named, may_take_in}
@@ -19,6 +19,7 @@ returns-in-Err-Bad-clause-named c =
     let some : 0 < length rest = grind (arith, nat_tests) in
     sym c.loop-rest.invariant.named_so_far
     ∙ first_bad c.loop-rest.number (reading_of c.loop-rest.draft) rest some (rw (c.in-Err-Bad.is, c.in-Err-Bad.field-0-is) at c.read_first.ensures.read)
+    ∙ ap Err (sym c.bad_line.ensures)
 
 pub returns-in-Err-clause-memory : goal.returns-in-Err-clause-memory
 returns-in-Err-clause-memory c =

@@ -1,7 +1,7 @@
 use Rattle.std.proofs.Common.{Some, sym, ◌∙◌}
 use Rattle.vortex_base.specs.Data.Columns.{row_of}
 use Rattle.vortex_prune.proofs.ZoneMaps.ZoneRefusals.{bound_for_memory, left_open}
-use Rattle.vortex_prune.proofs.ZoneMaps.ZoneScan.{bound_can_tell, bound_tells}
+use Rattle.vortex_prune.proofs.ZoneMaps.ZoneScan.{bound_tells}
 use Rattle.vortex_prune.specs.Binding.PartBinder.{IsNullOf}
 use Rattle.vortex_prune.specs.Scanning.ZoneScans.{open_causes}
 use Rattle.vortex_prune.specs.Zones.{zone_answer}
@@ -9,11 +9,6 @@ use Rattle.vortex_prune.proofs.scan.prune.bound_proof.Goals as goal
 
 pub returns-then-has_bare_column-clause-refusal : goal.returns-then-has_bare_column-clause-refusal
 returns-then-has_bare_column-clause-refusal c = λ some. left_open c.args.map.now.rows c.args.proof.now some (sym c.has_bare_column.ensures ∙ c.if-has_bare_column.true)
-
-pub returns-clause-can_tell : goal.returns-clause-can_tell
-returns-clause-can_tell c =
-    bound_can_tell c.args.map.now c.new-binder.result c.new-binder.ensures.map c.args.proof.now (λ r. c.new-binder.ensures.faithful r 0) c.bind_stats_of.result (sym c.has_bare_column.ensures ∙ c.if-has_bare_column.false)
-    c.bind_stats_of.ensures.free c.bind_stats_of.ensures.fits
 
 pub returns-clause-tells : goal.returns-clause-tells
 returns-clause-tells c =

@@ -1,11 +1,12 @@
 use Rattle.std.proofs.Common.{◌≡◌, ◌<◌, Option, true, false, is_some, length, subst, sym, ◌∙◌, arith}
 use Rattle.std.proofs.lemmas.Bool.Decides.{nat_tests}
+use Rattle.vortex_syntax.proofs.BadLemmas.{bad_fails}
 use Rattle.vortex_syntax.proofs.WordLemmas.{some_words}
 use Rattle.vortex_syntax.specs.Fails.{Changes}
 use Rattle.vortex_syntax.specs.Words.{words}
 use Rattle.vortex_text.proofs.DraftLemmas.{by_kind, fails_first, stops_after}
 use Rattle.vortex_text.specs.Drafts.{reading_of}
-use Rattle.vortex_text.specs.Lines.{Reading}
+use Rattle.vortex_text.specs.Lines.{Reading, read_words}
 use Rattle.vortex_text.proofs.draft.Draft.read_words.Goals as goal
 
 pub returns-then-is_some-clause-read : goal.returns-then-is_some-clause-read
@@ -13,7 +14,8 @@ returns-then-is_some-clause-read c =
     let at_word : 0 < length (words c.skip_spaces.result.now) = some_words c.skip_spaces.result.now (grind (arith, nat_tests)) c.skip_spaces.ensures.at_word in
     let more : 0 < length (words c.args.line.now) = rw c.skip_spaces.ensures.same at at_word in
     let done : is_some c.args.self.now.predicate ≡ true = (cc) in
-    stops_after (reading_of c.args.self.now) (words c.args.line.now) more done
+    bad_fails c.at.result (read_words (reading_of c.args.self.now) (words c.args.line.now)) c.at.ensures
+    (stops_after (reading_of c.args.self.now) (words c.args.line.now) more done)
 
 pub returns-in-Err-clause-read : goal.returns-in-Err-clause-read
 returns-in-Err-clause-read c =

@@ -1,0 +1,101 @@
+"""What pruning answers: a byte a zone, seen as a sequence of answers, as a numpy array, or as the zones that are to be read."""
+from __future__ import annotations
+
+from array import array
+from collections.abc import Iterable, Sequence
+from itertools import compress, count
+from typing import Any, overload
+
+from .kinds import Answer
+
+try:
+    import numpy
+except ImportError:
+    numpy = None  # type: ignore[assignment]
+
+
+def _test(*wanted: Answer) -> bytes:
+    """Maps a code to 1 where it is one of those that are wanted, and else to 0."""
+    return bytes(code in wanted for code in range(256))
+
+
+_IS_SKIP, _IS_KEPT, _IS_WHOLE = _test(Answer.SKIP), _test(Answer.READ, Answer.WHOLE), _test(Answer.WHOLE)
+
+
+class Answers(Sequence[Answer]):
+    """What to do with each zone, in their order. ``numpy.asarray`` of it is an array of the codes, without a copy."""
+
+    __slots__ = ("codes",)
+
+    def __init__(self, codes: bytes | bytearray | memoryview | Iterable[int]):
+        #: A byte a zone, an ``Answer`` each.
+        self.codes = memoryview(codes if isinstance(codes, (bytes, bytearray, memoryview)) else bytes(codes))
+
+    def __len__(self) -> int:
+        return len(self.codes)
+
+    @overload
+    def __getitem__(self, place: int) -> Answer: ...
+    @overload
+    def __getitem__(self, place: slice) -> Answers: ...
+    def __getitem__(self, place: int | slice) -> Answer | Answers:
+        return Answers(self.codes[place]) if isinstance(place, slice) else Answer(self.codes[place])
+
+    def __array__(self, dtype: Any = None, copy: bool | None = None) -> Any:
+        found = numpy.frombuffer(self.codes, dtype=numpy.uint8)
+        return found.astype(dtype or numpy.uint8, copy=bool(copy))
+
+    def __eq__(self, other: object) -> bool:
+        return isinstance(other, Answers) and self.codes == other.codes
+
+    __hash__ = None  # type: ignore[assignment]
+
+    def __or__(self, other: Answers) -> Answers:
+        """What two answers about the same zones tell together: a zone is skipped or whole where one of them says so.
+
+        ``prune(wanted) | prune(wanted, normalize=True)`` skips what either form of the predicate does.
+        """
+        if len(self) != len(other):
+            raise ValueError(f"answers about {len(self)} and about {len(other)} zones")
+        if numpy is not None:
+            left, right = numpy.asarray(self), numpy.asarray(other)
+            return Answers(numpy.where(left == Answer.READ, right, left).tobytes())
+        return Answers(a or b for a, b in zip(self.codes, other.codes))
+
+    def __repr__(self) -> str:
+        return f"<{len(self)} zones: {self.count(Answer.READ)} to be read, {self.count(Answer.SKIP)} skipped, {self.count(Answer.WHOLE)} whole>"
+
+    def count(self, value: object) -> int:
+        """How many zones have an answer."""
+        return bytes(self.codes).count(value) if isinstance(value, Answer) else 0
+
+    @property
+    def skipped(self) -> array[int]:
+        """The zones of which no row satisfies the predicate."""
+        return self._zones(_IS_SKIP)
+
+    @property
+    def kept(self) -> array[int]:
+        """The zones that aren't skipped: those that have to be fetched."""
+        return self._zones(_IS_KEPT)
+
+    @property
+    def whole(self) -> array[int]:
+        """The zones of which every row satisfies the predicate."""
+        return self._zones(_IS_WHOLE)
+
+    def _zones(self, test: bytes) -> array[int]:
+        marks = bytes(self.codes).translate(test)
+        if numpy is not None:
+            return array("Q", numpy.flatnonzero(numpy.frombuffer(marks, dtype=numpy.uint8)).astype("<u8").tobytes())
+        return array("Q", compress(count(), marks))
+
+    def runs(self) -> list[tuple[int, int]]:
+        """The kept zones as runs of neighbours: the first of each, and the one behind its last."""
+        found: list[tuple[int, int]] = []
+        for zone in self.kept:
+            if found and found[-1][1] == zone:
+                found[-1] = (found[-1][0], zone + 1)
+            else:
+                found.append((zone, zone + 1))
+        return found

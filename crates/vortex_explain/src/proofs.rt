@@ -1,0 +1,141 @@
+//! The falsifier and the satisfier of a predicate, and what they say of a part.
+use crate::leaves::push_placeholders;
+use crate::shown::Shown;
+use std::alloc::{AllocError, Global};
+use vortex_base::bound_expression::BoundExpression;
+use vortex_base::error::BaseError;
+use vortex_base::evaluate::evaluate;
+use vortex_base::row::Row;
+use vortex_base::scalar_value::ScalarValue;
+use vortex_base::scope::Scope;
+use vortex_prune::bind::bind_stats;
+use vortex_prune::bind::stats_binder::StatsBinder;
+use vortex_prune::part::Part;
+use vortex_rewrite::built::built;
+use vortex_rewrite::rewrite::rules::Rules;
+use vortex_rewrite::rewrite::{falsify, satisfy};
+use vortex_stats::error::StatsError;
+
+/// What the built-in rules prove a predicate by, if they do.
+#[derive(Debug, Drop)]
+pub(crate) struct Proofs {
+    pub(crate) falsifier: Option<BoundExpression>,
+    pub(crate) satisfier: Option<BoundExpression>,
+}
+
+impl Proofs {
+    /// The proofs of a predicate.
+    pub(crate) fn of(
+        alloc: Global,
+        predicate: &BoundExpression,
+        rules: &Rules,
+    ) -> Result<Proofs, StatsError> {
+        let falsifier = falsify(alloc, predicate, rules)?;
+        let satisfier = satisfy(alloc, predicate, rules)?;
+        Ok(Proofs {
+            falsifier,
+            satisfier,
+        })
+    }
+}
+
+// The value of a proof, or of a placeholder, by the statistics of a part.
+fn value_of(
+    alloc: Global,
+    proof: &BoundExpression,
+    part: &Part,
+) -> Result<Option<ScalarValue>, StatsError> {
+    let kept = built(proof.try_clone())?;
+    let bound = bind_stats(alloc, kept, &StatsBinder::new(part))?;
+    match evaluate(&bound, &Row::empty(), part.zone().rows()) {
+        Ok(value) => Ok(value),
+        Err(BaseError::Memory(refused)) => Err(StatsError::Memory(refused)),
+        // What still has a column tells nothing.
+        Err(_) => Ok(None),
+    }
+}
+
+/// What a proof says of a part: that it holds, that it doesn't, or nothing for want of a statistic.
+pub(crate) fn told(
+    alloc: Global,
+    proof: &BoundExpression,
+    part: &Part,
+) -> Result<Option<bool>, StatsError> {
+    match value_of(alloc, proof, part)? {
+        Some(ScalarValue::Bool(truth)) => Ok(Some(truth)),
+        _ => Ok(None),
+    }
+}
+
+/// Whether a proof, if there is one, is true of a part.
+pub(crate) fn holds(
+    alloc: Global,
+    proof: Option<&BoundExpression>,
+    part: &Part,
+) -> Result<bool, StatsError> {
+    match proof {
+        Some(proof) => Ok(told(alloc, proof, part)? == Some(true)),
+        None => Ok(false),
+    }
+}
+
+// What stands before a missing statistic.
+fn separator(is_first: bool) -> &'static str {
+    if is_first { " for want of " } else { ", " }
+}
+
+// Adds the placeholders of a proof of which a part's statistics say nothing.
+fn push_missing(
+    alloc: Global,
+    text: &mut String,
+    scope: &Scope,
+    proof: &BoundExpression,
+    part: &Part,
+) -> Result<(), StatsError> {
+    let mut placeholders = Vec::new(alloc);
+    push_placeholders(&mut placeholders, proof)?;
+    let mut is_first = true;
+    for placeholder in placeholders {
+        if value_of(alloc, placeholder, part)?.is_none() {
+            text.push_str(separator(is_first))?;
+            push_shown(alloc, text, scope, placeholder)?;
+            is_first = false;
+        }
+    }
+    Ok(())
+}
+
+/// Adds an expression.
+pub(crate) fn push_shown(
+    alloc: Global,
+    text: &mut String,
+    scope: &Scope,
+    expression: &BoundExpression,
+) -> Result<(), AllocError> {
+    let shown = Shown::new(expression, scope);
+    let shown = format!(in alloc; "{shown}")?;
+    text.push_str(&shown)
+}
+
+/// Adds what a proof of this kind says of a part.
+pub(crate) fn push_told(
+    alloc: Global,
+    text: &mut String,
+    scope: &Scope,
+    kind: &str,
+    proof: Option<&BoundExpression>,
+    part: &Part,
+) -> Result<(), StatsError> {
+    text.push_str(kind)?;
+    let Some(proof) = proof else {
+        return Ok(text.push_str(" none")?);
+    };
+    match told(alloc, proof, part)? {
+        Some(true) => Ok(text.push_str(" true")?),
+        Some(false) => Ok(text.push_str(" false")?),
+        None => {
+            text.push_str(" null")?;
+            push_missing(alloc, text, scope, proof, part)
+        }
+    }
+}

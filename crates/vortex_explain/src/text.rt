@@ -1,0 +1,19 @@
+//! The explanation of a scan that a text names.
+use crate::explanation::explain;
+use std::alloc::Global;
+use vortex_stats::error::StatsError;
+use vortex_text::naming::read_input;
+
+/// The explanation of the scan that a text names; none where a line of it is bad.
+///
+/// `NotPredicate` if the predicate isn't of type Bool, else `Memory` alone.
+pub fn explain_text(alloc: Global, text: &[u8]) -> Result<Option<String>, StatsError> {
+    let Ok(query) = read_input(alloc, text) else {
+        return Ok(None);
+    };
+    let mut parts = Vec::with_capacity(alloc, query.parts.len())?;
+    for part in query.parts {
+        parts.push(part.into_part(alloc)?)?;
+    }
+    Ok(Some(explain(alloc, &query.scope, &parts, &query.predicate)?))
+}

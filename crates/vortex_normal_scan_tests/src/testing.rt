@@ -1,0 +1,306 @@
+//! Parts over the columns a and b of I32 with nulls, and scans and pruning of them, by calls
+//! without a contract that take what other calls answered: a test is one straight line of calls.
+ghost use Rattle.std.specs.Bool.{OnTrue};
+ghost use Rattle.std.specs.Prelude.{All, IfOk, IsTrue, ◌≡◌};
+ghost use Rattle.vortex_base.specs.Meanings.Fitting.{fits_scope};
+
+use std::alloc::{AllocError, Global};
+use std::process::Abort;
+use std::test::Fail;
+use vortex_base::{BoundExpression, Chunk, Column, ScalarValue, Scope};
+use vortex_normal_scan::prune::prune_normalized;
+use vortex_normal_scan::scan::scan_normalized;
+use vortex_prune::scan::scan;
+use vortex_prune::{Part, Pruned, Rules, Scan, StatsBinder, Zone, ZoneMap, prune};
+use vortex_rewrite_tests::nodes::*;
+use vortex_stats::{Precision, Stat, StatsError, StatsSet};
+
+pub fn a(alloc: Global) -> Built {
+    col(alloc, 0, I32_OR_NULL)
+}
+
+pub fn b(alloc: Global) -> Built {
+    col(alloc, 1, I32_OR_NULL)
+}
+
+pub fn a_lt(alloc: Global, value: i32) -> Built {
+    lt(alloc, a(alloc), int(alloc, value))
+}
+
+pub fn a_gt(alloc: Global, value: i32) -> Built {
+    gt(alloc, a(alloc), int(alloc, value))
+}
+
+pub fn a_lt_eq(alloc: Global, value: i32) -> Built {
+    lt_eq(alloc, a(alloc), int(alloc, value))
+}
+
+pub fn a_gt_eq(alloc: Global, value: i32) -> Built {
+    gt_eq(alloc, a(alloc), int(alloc, value))
+}
+
+pub fn b_lt(alloc: Global, value: i32) -> Built {
+    lt(alloc, b(alloc), int(alloc, value))
+}
+
+/// Above the one number and below the other.
+pub fn a_inside(alloc: Global, low: i32, high: i32) -> Built {
+    and(alloc, a_gt(alloc, low), a_lt(alloc, high))
+}
+
+/// Below the one number or above the other.
+pub fn a_outside(alloc: Global, low: i32, high: i32) -> Built {
+    or(alloc, a_lt(alloc, low), a_gt(alloc, high))
+}
+
+type Cells = Vec<Option<ScalarValue>>;
+
+fn numbers(alloc: Global, rows: &[Option<i32>]) -> Result<Cells, AllocError> {
+    let mut values = Vec::new(alloc);
+    for row in rows {
+        values.push(row.map(ScalarValue::from))?;
+    }
+    Ok(values)
+}
+
+fn column(alloc: Global, rows: &[Option<i32>]) -> Result<Column, StatsError> {
+    told(Column::try_new(I32_OR_NULL, numbers(alloc, rows)?, 0))
+}
+
+pub fn scope(alloc: Global) -> Result<Scope, StatsError> {
+    scope_of_two(alloc, ("a", I32_OR_NULL), ("b", I32_OR_NULL))
+}
+
+fn two_columns(alloc: Global, first: Column, second: Column) -> Result<Vec<Column>, AllocError> {
+    let mut columns = Vec::new(alloc);
+    columns.push(first)?;
+    columns.push(second)?;
+    Ok(columns)
+}
+
+fn chunk(
+    alloc: Global,
+    first: &[Option<i32>],
+    second: &[Option<i32>],
+) -> Result<Chunk, StatsError> {
+    let columns = two_columns(alloc, column(alloc, first)?, column(alloc, second)?)?;
+    told(Chunk::try_new(scope(alloc)?, columns))
+}
+
+pub type Sets = Result<StatsSet, StatsError>;
+
+/// Numbers that the values lie between, which needn't be among them.
+pub fn bounds(alloc: Global, low: i32, high: i32) -> Sets {
+    let mut set = StatsSet::of(alloc, Stat::Min, Precision::Inexact(ScalarValue::from(low)));
+    set.set(Stat::Max, Precision::Inexact(ScalarValue::from(high)))?;
+    Ok(set)
+}
+
+/// The set, and how many nulls there are.
+pub fn and_nulls(set: Sets, nulls: u64) -> Sets {
+    let mut set = set?;
+    set.set(Stat::NullCount, Precision::Exact(ScalarValue::from(nulls)))?;
+    Ok(set)
+}
+
+pub fn unknown(alloc: Global) -> Sets {
+    Ok(StatsSet::new(alloc))
+}
+
+fn two_sets(alloc: Global, first: StatsSet, second: StatsSet) -> Result<Vec<StatsSet>, AllocError> {
+    let mut sets = Vec::new(alloc);
+    sets.push(first)?;
+    sets.push(second)?;
+    Ok(sets)
+}
+
+fn made(chunk: Chunk, sets: Vec<StatsSet>) -> Result<Part, StatsError> {
+    match Part::try_new(chunk, sets) {
+        Ok(part) => Ok(part),
+        Err(refused) => Err(refused.error),
+    }
+}
+
+/// A part of these rows of a, each with a null beside it, and of what is known of a.
+pub fn part(alloc: Global, rows: &[Option<i32>], known: Sets) -> Result<Part, StatsError> {
+    let mut nulls = Vec::new(alloc);
+    for _ in 0..rows.len() {
+        nulls.push(None)?;
+    }
+    let sets = two_sets(alloc, known?, unknown(alloc)?)?;
+    made(chunk(alloc, rows, &nulls)?, sets)
+}
+
+/// A part of one row, of which these bounds are known.
+pub fn pair(alloc: Global, row: (i32, i32), first: Sets, second: Sets) -> Result<Part, StatsError> {
+    let sets = two_sets(alloc, first?, second?)?;
+    made(chunk(alloc, &[Some(row.0)], &[Some(row.1)])?, sets)
+}
+
+pub type Parts = Result<Vec<Part>, StatsError>;
+
+pub fn no_parts(alloc: Global) -> Parts {
+    Ok(Vec::new(alloc))
+}
+
+pub fn and_part(parts: Parts, part: Result<Part, StatsError>) -> Parts {
+    let mut parts = parts?;
+    parts.push(part?)?;
+    Ok(parts)
+}
+
+pub fn one_part(alloc: Global, part: Result<Part, StatsError>) -> Parts {
+    and_part(no_parts(alloc), part)
+}
+
+pub fn two_parts(
+    alloc: Global,
+    first: Result<Part, StatsError>,
+    second: Result<Part, StatsError>,
+) -> Parts {
+    and_part(one_part(alloc, first), second)
+}
+
+fn binders_of<'a>(alloc: Global, parts: &'a [Part]) -> Result<Vec<StatsBinder<'a>>, AllocError>
+    ensures { IfOk result (λ binders. binders.items ≡ parts.entry.now) }
+{
+    let mut binders = Vec::new(alloc);
+    for part in parts {
+        binders.push(StatsBinder::new(part))?;
+    }
+    Ok(binders)
+}
+
+fn fits_part(predicate: &BoundExpression, part: &Part) -> bool
+    ensures { OnTrue result (IsTrue (fits_scope predicate.now part.now.chunk.scope)) }
+{
+    predicate.fits_scope(part.chunk().scope())
+}
+
+fn all_fit(parts: &[Part], predicate: &BoundExpression) -> bool
+    ensures { OnTrue result
+        (All (λ part. IsTrue (fits_scope predicate.now part.chunk.scope)) parts.now) }
+{
+    for part in parts {
+        if !fits_part(predicate, part) {
+            return false;
+        }
+    }
+    true
+}
+
+pub type Found = Result<Scan, StatsError>;
+
+/// The scan with the predicate as it is, by the parts' own statistics.
+pub fn scanned_as_given(
+    alloc: Global,
+    parts: &[Part],
+    predicate: &BoundExpression,
+    rules: &Rules,
+) -> Found {
+    let binders = binders_of(alloc, parts)?;
+    if binders.len() != parts.len() || !predicate.is_plain() || !all_fit(parts, predicate) {
+        return Err(StatsError::Mismatch);
+    }
+    scan(alloc, parts, &binders, predicate, rules)
+}
+
+/// The scan with its normal form.
+pub fn scanned(alloc: Global, parts: &[Part], predicate: &BoundExpression, rules: &Rules) -> Found {
+    let binders = binders_of(alloc, parts)?;
+    if binders.len() != parts.len() || !predicate.is_plain() || !all_fit(parts, predicate) {
+        return Err(StatsError::Mismatch);
+    }
+    scan_normalized(alloc, parts, &binders, predicate, rules)
+}
+
+fn known_of<'a>(alloc: Global, parts: &'a [Part]) -> Result<Vec<Zone<'a>>, AllocError> {
+    let mut zones = Vec::new(alloc);
+    for part in parts {
+        zones.push(part.zone())?;
+    }
+    Ok(zones)
+}
+
+fn map_of(alloc: Global, zones: &[Zone<'_>]) -> Result<ZoneMap, StatsError> {
+    match ZoneMap::try_new(alloc, scope(alloc)?, zones) {
+        Ok(map) => Ok(map),
+        Err(refused) => Err(refused.error),
+    }
+}
+
+/// Pruning by the map of what is known of the parts, with the predicate as it is.
+pub fn pruned_as_given(
+    alloc: Global,
+    parts: &[Part],
+    predicate: &BoundExpression,
+) -> Result<Pruned, StatsError> {
+    let map = map_of(alloc, &known_of(alloc, parts)?)?;
+    if !predicate.is_plain() || !predicate.fits_scope(map.scope()) {
+        return Err(StatsError::Mismatch);
+    }
+    prune(alloc, &map, predicate, &Rules::builtin(alloc))
+}
+
+/// Pruning with its normal form.
+pub fn pruned(
+    alloc: Global,
+    parts: &[Part],
+    predicate: &BoundExpression,
+) -> Result<Pruned, StatsError> {
+    let map = map_of(alloc, &known_of(alloc, parts)?)?;
+    if !predicate.is_plain() || !predicate.fits_scope(map.scope()) {
+        return Err(StatsError::Mismatch);
+    }
+    prune_normalized(alloc, &map, predicate, &Rules::builtin(alloc))
+}
+
+fn skipped_as_given(
+    alloc: Global,
+    parts: &[Part],
+    predicate: &BoundExpression,
+    expected: &[usize],
+) -> Result<bool, StatsError> {
+    let found = scanned_as_given(alloc, parts, predicate, &Rules::builtin(alloc))?;
+    let pruned = pruned_as_given(alloc, parts, predicate)?;
+    Ok(found.skipped.as_slice() == expected && pruned.skipped.as_slice() == expected)
+}
+
+fn skipped(
+    alloc: Global,
+    parts: &[Part],
+    predicate: &BoundExpression,
+    expected: &[usize],
+) -> Result<bool, StatsError> {
+    let found = scanned(alloc, parts, predicate, &Rules::builtin(alloc))?;
+    let pruned = pruned(alloc, parts, predicate)?;
+    Ok(found.skipped.as_slice() == expected && pruned.skipped.as_slice() == expected)
+}
+
+fn selected(
+    alloc: Global,
+    parts: &[Part],
+    predicate: &BoundExpression,
+    expected: &[(usize, usize)],
+) -> Result<bool, StatsError> {
+    let found = scanned(alloc, parts, predicate, &Rules::builtin(alloc))?;
+    let given = scanned_as_given(alloc, parts, predicate, &Rules::builtin(alloc))?;
+    Ok(found.selected.as_slice() == expected && given.selected.as_slice() == expected)
+}
+
+/// A scan and pruning skip the first parts with the predicate as it is and the others with its
+/// normal form, and both scans select these rows.
+pub fn expect(
+    rt: &impl Abort,
+    alloc: Global,
+    parts: Parts,
+    predicate: Built,
+    skips: (&[usize], &[usize]),
+    rows: &[(usize, usize)],
+) -> Result<(), Fail> {
+    let (parts, predicate) = (parts?, predicate?);
+    assert!(rt; skipped_as_given(alloc, &parts, &predicate, skips.0)?);
+    assert!(rt; skipped(alloc, &parts, &predicate, skips.1)?);
+    assert!(rt; selected(alloc, &parts, &predicate, rows)?);
+    Ok(())
+}
