@@ -110,7 +110,7 @@ impl ShortCell {
     }
 }
 
-// The same cells as values of any kind, with room for some more.
+// The cells as values of any kind, with room for some more.
 fn widened(
     cells: &[ShortCell],
     alloc: Global,
@@ -199,7 +199,7 @@ fn push_texts(values: &mut Vec<Option<ScalarValue>>, texts: Vec<Option<Text>>)
     }
 }
 
-// The same texts as values of any kind, with room for some more. They are left where they were if
+// The texts as values of any kind, with room for some more. They are left where they were if
 // memory is refused.
 fn widened_texts(
     texts: &mut Vec<Option<Text>>,
@@ -227,7 +227,7 @@ impl Cells {
         }
     }
 
-    /// The same, with room for some values.
+    /// No cells yet of a type, with room for some values.
     pub fn with_capacity(alloc: Global, dtype: DType, count: usize) -> Result<Cells, AllocError>
         ensures { IfOk result (λ cells. cell_values cells ≡ []) }
     {

@@ -33,7 +33,7 @@ impl DType {
         }
     }
 
-    /// The same type, with null.
+    /// The nullable form of this type.
     pub fn as_nullable(&self) -> DType
         ensures { result ≡ types.as_nullable self.now }
     {

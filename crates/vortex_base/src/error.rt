@@ -11,7 +11,7 @@ pub enum BaseError {
     /// A growth or a clone was refused.
     #[error("out of memory")]
     Memory(AllocError),
-    /// A name is no column of the scope.
+    /// The scope has no column of this name.
     #[error("no column has this name")]
     UnknownColumn,
     /// Two columns of a scope have one name.

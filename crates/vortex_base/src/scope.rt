@@ -62,7 +62,8 @@ fn has_duplicate_in_set(columns: &Vec<(String, DType)>) -> Result<bool, AllocErr
     Ok(false)
 }
 
-// The same without memory, in a time that grows with the square of their number.
+// Whether a name stands twice, found without memory in a time that grows with the square of the
+// number of columns.
 #[inline(never)]
 fn has_duplicate_in_pairs(columns: &[(String, DType)]) -> bool
     ensures { result ≡ scopes.has_duplicate (scopes.named_columns columns.now) }
@@ -188,7 +189,7 @@ impl Scope {
         })
     }
 
-    /// The same scope, whose clones have its names together with it.
+    /// This scope in a form whose clones share its names.
     pub fn try_shared(self, alloc: Global) -> Result<Scope, AllocError>
         ensures { IfOk result (λ scope. scope ≡ self) }
     {

@@ -63,7 +63,7 @@ fn check_each(
     Ok(())
 }
 
-// The same of a column as a caller hands it in.
+// Checks statistics against a column as a caller hands it in.
 fn checked(
     alloc: Global,
     values: &Values<'_>,

@@ -494,7 +494,8 @@ fn zone_dtype(aggregate: AggregateFnRef, dtype: DType) -> DType
     }
 }
 
-// The same, by where the columns of the table start that tell of each column of the scope.
+// The place of an aggregate's column, from where the columns of the table start that tell of each
+// column of the scope.
 fn place_in(
     scope: &Scope,
     starts: &[usize],

@@ -59,8 +59,8 @@ pub fn falsify(
     Ok(proof)
 }
 
-/// The same, and the number of the engine's turns, which stays at the greatest number once it is
-/// reached. A turn is the rewriting of one node.
+/// The falsifier, as [`falsify`] answers it, and the number of the engine's turns, which stays at
+/// the greatest number once it is reached. A turn is the rewriting of one node.
 pub fn falsify_counted(
     alloc: Global,
     predicate: &BoundExpression,

@@ -47,7 +47,7 @@ pub(crate) fn combine<T: Ord + Clone, S: StatType<T>>(
     }
 }
 
-/// The same of values of any kind. One value is cloned at most.
+/// Meets two bounds of values of any kind. One value is cloned at most.
 fn combine_values<'a, S: StatType<&'a ScalarValue>>(
     left: Precision<&'a ScalarValue>,
     other: Precision<&'a ScalarValue>,
@@ -75,7 +75,7 @@ fn truth_of(value: Precision<&ScalarValue>) -> Precision<bool>
     }
 }
 
-/// The same of truth values.
+/// Meets two bounds of truth values.
 fn combine_truths<S: StatType<bool>>(
     left: Precision<&ScalarValue>,
     other: Precision<&ScalarValue>,

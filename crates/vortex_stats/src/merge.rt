@@ -1,6 +1,6 @@
 //! Merges: the statistics of one array followed by another, from the statistics of both.
 //!
-//! A merge first finds what becomes of each entry, and clones there. Then it writes, which takes no
+//! A merge first decides what each entry is changed to, and clones there. Then it writes, which takes no
 //! memory. So a refused merge has changed nothing.
 ghost use Rattle.std.specs.Prelude.{◌≡◌, true, false, if◌then◌else◌, IfOk, IfErr, OnOk, OnErr, IsTrue, Some, alloc_error};
 ghost use Rattle.vortex_stats.specs.declared.error.StatsError.TheVariants.{Memory};
@@ -23,7 +23,7 @@ use vortex_base::dtype::DType;
 use vortex_base::pvalue::PValue;
 use vortex_base::scalar_value::ScalarValue;
 
-/// What becomes of an entry.
+/// What a merge does with an entry.
 #[derive(Default, Drop)]
 pub(crate) enum Change {
     /// It stays as it is.
@@ -259,7 +259,7 @@ fn count_value(
     }
 }
 
-/// What becomes of each entry. NaNCount has none, and is always cleared.
+/// What a merge does with each entry. NaNCount has none, and is always cleared.
 #[derive(Drop)]
 pub(crate) struct Changes {
     is_constant: Option<Precision<ScalarValue>>,
@@ -272,7 +272,7 @@ pub(crate) struct Changes {
     uncompressed_size_in_bytes: Change,
 }
 
-/// What becomes of each entry where the rows of the other side follow.
+/// What a merge does with each entry where the rows of the other side follow.
 fn ordered_changes(left: &StatsSet, other: &StatsSet) -> Result<Changes, AllocError>
     ensures made { IfOk result (λ c. MakesAll c
         (λ s. merged_value s left.now other.now) left.now) }
@@ -296,7 +296,7 @@ fn ordered_changes(left: &StatsSet, other: &StatsSet) -> Result<Changes, AllocEr
     })
 }
 
-/// What becomes of each entry where the order of the rows isn't known.
+/// What a merge does with each entry where the order of the rows isn't known.
 fn unordered_changes(left: &StatsSet, other: &StatsSet) -> Result<Changes, AllocError>
     ensures made { IfOk result (λ c. MakesAll c
         (λ s. unordered_value s left.now other.now) left.now) }

@@ -112,7 +112,7 @@ fn get_typed(values: &StatsSet, dtype: &DType, stat: Stat) -> Result<Precision<S
     }
 }
 
-/// The same case around the scalar of a clone.
+/// The precision of the value, around the scalar of a clone.
 fn scalar_of_found(
     value: Precision<&ScalarValue>,
     dtype: DType,

@@ -69,7 +69,7 @@ fn reply_to(alloc: Global, text: Vec<u8>) -> Result<Reply, AllocError>
     }
 }
 
-// Tells a reason. What becomes of it has no part in the answer.
+// Writes a reason. A writer that fails here changes nothing of the answer.
 fn tell<E: Sink>(reasons: &mut E, reason: &str) {
     let _ = write_out(reasons, reason.as_bytes());
 }

@@ -1,4 +1,4 @@
-//! Scans part by part: what tells what becomes of a part, and the loop over the parts.
+//! Scans part by part: the interface that decides for each part, and the loop over the parts.
 ghost use Rattle.std.specs.Prelude.{◌≡◌, ◌-◌, ◌^◌, ◌<◌, ℕ, All, List, Option, IfErr, IfOk, IsTrue};
 ghost use Rattle.std.specs.Prelude.{MatchResult, length, min};
 ghost use Rattle.vortex_base.specs.Meanings.Fitting.{fits_scope};
@@ -17,7 +17,7 @@ use std::alloc::Global;
 use vortex_base::bound_expression::BoundExpression;
 use vortex_stats::error::StatsError;
 
-/// What tells of each of some parts what becomes of it: by a binder for each, or by their table.
+/// Decides for each part: skip, take whole or test; by a binder for each part, or by their table.
 pub(crate) trait PartTest {
     // It can be asked about the part at a place.
     ghost able: { Self → ℕ → Type 0 };
@@ -26,7 +26,7 @@ pub(crate) trait PartTest {
     // What its refusal says.
     ghost refuses: { Self → ℕ → PartData → StatsError → Type 0 };
 
-    /// What becomes of the part at a place.
+    /// Decides for the part at a place.
     fn verdict(&mut self, alloc: Global, place: usize, part: &Part) -> Result<Verdict, StatsError>
         requires { able self.old place }
         ensures verdict { MatchResult result (tells self.old place part.now)

@@ -58,7 +58,7 @@ fn bound_proof(
     bind_stats_of(alloc, proof, &binder)
 }
 
-// The same of a proof, if there is one and a zone to be proved by it; else nothing is bound.
+// Binds a proof, if there is one and a zone to be proved by it; else nothing is bound.
 fn bound_once(
     alloc: Global,
     map: &ZoneMap,
@@ -111,7 +111,7 @@ fn unmarked(alloc: Global, marks: &[bool]) -> Result<Vec<bool>, AllocError>
     marks.iter().map(|mark| !*mark).collect(alloc)
 }
 
-// What becomes of a zone that is marked as skipped or not, and as whole or not.
+// The verdict on a zone that is marked as skipped or not, and as whole or not.
 fn marked_verdict(skipped: bool, whole: bool) -> Verdict
     ensures { result ≡ marked_verdict skipped whole }
 {
@@ -141,7 +141,7 @@ fn marked_verdicts(
     Ok(verdicts)
 }
 
-// What becomes of each zone by a falsifier that was bound, if there is one, and by a satisfier,
+// The verdict on each zone by a falsifier that was bound, if there is one, and by a satisfier,
 // which is bound where some zone isn't skipped.
 fn verdicts_by(
     alloc: Global,
@@ -163,7 +163,7 @@ fn verdicts_by(
     Ok(marked_verdicts(alloc, &skipped, &whole)?)
 }
 
-// What becomes of each zone by the falsifier and the satisfier of the predicate.
+// The verdict on each zone by the falsifier and the satisfier of the predicate.
 pub(crate) fn verdicts(
     alloc: Global,
     map: &ZoneMap,
@@ -209,7 +209,7 @@ pub struct Pruned {
 }
 
 impl Pruned {
-    // Records what becomes of a zone.
+    // Records the verdict on a zone.
     fn record(&mut self, place: usize, verdict: Verdict) -> Result<(), StatsError>
         ensures skipped { OnOk result (self.new.skipped.items
             ≡ self.old.skipped.items ++ place_if (is_skipped verdict) place) }

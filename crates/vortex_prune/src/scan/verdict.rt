@@ -1,6 +1,6 @@
-//! What becomes of a part in a scan.
+//! What a scan does with a part.
 
-/// What becomes of a part in a scan.
+/// What a scan does with a part.
 #[derive(Clone, Copy, Debug, PartialEq, Eq)]
 pub(crate) enum Verdict {
     /// The falsifier is true of it: it is left out unread.

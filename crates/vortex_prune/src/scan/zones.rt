@@ -1,4 +1,4 @@
-//! Scans of parts that stand with a map of zones: what becomes of each part is told by the map.
+//! Scans of parts that stand with a map of zones, which decides for each part.
 ghost use Rattle.std.specs.Prelude.{◌≡◌, ◌-◌, ◌^◌, Option, [], Err, IfErr, IfOk, IsTrue};
 ghost use Rattle.std.specs.Prelude.{alloc_error, false, length, min};
 ghost use Rattle.std.specs.List.{AllByRecursion};
@@ -35,7 +35,7 @@ use vortex_rewrite::rewrite::rule::StatsRewriteRule;
 use vortex_rewrite::rewrite::rules::Rules;
 use vortex_stats::error::StatsError;
 
-// What becomes of a part is told beforehand.
+// Decides by a list of verdicts that were found beforehand.
 #[derive(Drop)]
 struct ByVerdicts<'a> {
     verdicts: &'a [Verdict],
