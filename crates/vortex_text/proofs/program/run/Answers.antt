@@ -45,8 +45,11 @@ returns-clause-some_refused g c =
 pub returns-then-write_out-clause-some_refused : goal.returns-then-write_out-clause-some_refused
 returns-then-write_out-clause-some_refused g c =
     let same = c.as_bytes.ensures.value ∙ c.in-Ok-reply_to.ensures.printed in
-    λ one. (c.in-Ok.input.items, inl (record {
-      short = omega (arith, c.in-Ok.ensures.short);
-      same_status = sym one ∙ c.in-Ok-reply_to.ensures.status;
-      written = subst (Appends (g.W.Sink.contents c.args.writer.now) (g.W.Sink.contents c.write_out.new.writer)) same (c.write_out.ensures.whole c.if-write_out.true);
-    }))
+    λ one. (
+      c.in-Ok.input.items,
+      inl (record {
+        short = omega (arith, c.in-Ok.ensures.short);
+        same_status = sym one ∙ c.in-Ok-reply_to.ensures.status;
+        written = subst (Appends (g.W.Sink.contents c.args.writer.now) (g.W.Sink.contents c.write_out.new.writer)) same (c.write_out.ensures.whole c.if-write_out.true);
+      }),
+    )
