@@ -192,6 +192,16 @@ def edit_faults():
             yield f"{f}: {fault}"
 
 
+def format_faults():
+    """Files that the gate would refuse since they aren't formatted."""
+    start_page = subprocess.run(["rt", "doc"], capture_output=True, text=True, check=True).stdout.split("\n")[0]
+    words = [f"{os.path.dirname(start_page)}/bin/rattle", "fmt", "--check"]
+    for crate in sorted({f.split("/")[1] for f in SOURCES}):
+        files = [f for f in SOURCES if f.split("/")[1] == crate]
+        if subprocess.run([*words, *files], capture_output=True, check=False).returncode:
+            yield f"crates/{crate}: not formatted; rt fmt in its folder formats it"
+
+
 def table(rows):
     return "| path | what it is |\n|---|---|\n" + "".join(f"| `{path}` | {what} |\n" for path, what in rows)
 
@@ -217,7 +227,7 @@ def main():
     if sys.argv[1:] == ["--map"]:
         print(the_map(), end="")
         return 0
-    faults = [*source_faults(), *definition_faults(), *promise_faults(), *link_faults(), *quote_faults(), *edit_faults()]
+    faults = [*source_faults(), *definition_faults(), *promise_faults(), *link_faults(), *quote_faults(), *edit_faults(), *format_faults()]
     if read("docs/MAP.md") != the_map():
         faults.append("docs/MAP.md: out of step; write it anew by checks/layout.py --map > docs/MAP.md")
     print("\n".join(faults) or "layout: every file is in order")
