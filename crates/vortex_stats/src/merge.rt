@@ -1,7 +1,7 @@
 //! Merges: the statistics of one array followed by another, from the statistics of both.
 //!
-//! A merge first decides what each entry is changed to, and clones there. Then it writes, which takes
-//! no memory. So a refused merge has changed nothing.
+//! A merge first decides what each entry is changed to, and clones there. Then it writes, which
+//! takes no memory. So a refused merge has changed nothing.
 ghost use Rattle.std.specs.Prelude.{◌≡◌, true, false, if◌then◌else◌, IfOk, IfErr, OnOk, OnErr, IsTrue, Some, alloc_error};
 ghost use Rattle.vortex_stats.specs.declared.error.StatsError.TheVariants.{Memory};
 ghost use Rattle.vortex_stats.specs.declared.precision.Precision.TheVariants as precise;
