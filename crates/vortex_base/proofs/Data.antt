@@ -5,6 +5,7 @@ pub mod MapLemmas
 pub mod NameSets
 pub mod OrderLemmas
 pub mod PairLemmas
+pub mod PushLemmas
 pub mod RowLemmas
 pub mod RowsFit
 pub mod ScopeLemmas

@@ -154,6 +154,7 @@ pub fn between(
 pub fn is_null(alloc: Global, x: BoundExpression) -> Result<BoundExpression, BaseError>
     ensures { Makes (tree.is_null x) result }
 {
+    // That the operand has a type.
     let _typed = x.dtype();
     let node = Box::new(alloc, Node::IsNull(x))?;
     Ok(BoundExpression {
@@ -166,6 +167,7 @@ pub fn is_null(alloc: Global, x: BoundExpression) -> Result<BoundExpression, Bas
 pub fn is_not_null(alloc: Global, x: BoundExpression) -> Result<BoundExpression, BaseError>
     ensures { Makes (tree.is_not_null x) result }
 {
+    // That the operand has a type.
     let _typed = x.dtype();
     let node = Box::new(alloc, Node::IsNotNull(x))?;
     Ok(BoundExpression {

@@ -25,7 +25,7 @@ pub struct BoundExpression {
     pub(crate) node: Box<Node>,
 }
 
-/// A node with its children.
+// A node with its children.
 #[cycle(expression)]
 #[derive(Debug, Drop)]
 pub(crate) enum Node {

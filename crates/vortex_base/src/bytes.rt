@@ -41,7 +41,7 @@ impl Bytes {
         self.bytes.as_slice()
     }
 
-    /// A copy of the vector, by the bytes' allocator.
+    // A copy of the vector, by the bytes' allocator.
     pub(crate) fn try_clone_vec(&self) -> Result<Vec<u8>, AllocError>
         ensures { IfOk result (λ v. v.items ≡ self.now) }
     {

@@ -1,5 +1,5 @@
 //! The values of a column as they are kept: short ones and texts in forms of their own.
-ghost use Rattle.std.specs.Prelude.{◌≡◌, ◌≤◌, ◌+◌, ◌++◌, ◌∷◌, [], IfOk, IfSome, IsTrue, OnErr, OnOk, Some, length, map, option_map, slice_get, vec_capacity, vec_len};
+ghost use Rattle.std.specs.Prelude.{◌≡◌, ◌≤◌, ◌+◌, ◌++◌, ◌∷◌, [], IfOk, IfSome, IsTrue, OnErr, OnOk, Some, length, map, option_map, slice_get, take, vec_capacity, vec_len};
 ghost use Rattle.std.specs.List.{list_all};
 ghost use Rattle.vortex_base.specs.Data.Scalars.{is_optional_value};
 ghost use Rattle.vortex_base.specs.Data.Cells.{HasRoom, HasWideRoom, cell_values, is_text, short_value, text_value, value_of};
@@ -70,7 +70,7 @@ impl ShortCell {
         }
     }
 
-    /// The optional value, lent.
+    // The optional value, lent.
     #[inline]
     fn lend<'a>(self) -> Option<ValueRef<'a>>
         ensures { option_map value_of result ≡ short_value self }
@@ -90,7 +90,7 @@ impl ShortCell {
         Some(ValueRef::Primitive(number))
     }
 
-    /// The optional value.
+    // The optional value.
     fn value(self) -> Option<ScalarValue>
         ensures { result ≡ short_value self }
     {
@@ -238,6 +238,17 @@ impl Cells {
         }
     }
 
+    // Drops the values behind the first ones of this number.
+    pub(crate) fn truncate(&mut self, len: usize)
+        ensures { cell_values self.new ≡ take len (cell_values self.old) }
+    {
+        match self {
+            Cells::Any(values) => values.truncate(len),
+            Cells::Short(cells) => cells.truncate(len),
+            Cells::Texts(texts) => texts.truncate(len),
+        }
+    }
+
     /// Gives back the room that no value takes.
     pub fn shrink_to_fit(&mut self)
         ensures { cell_values self.new ≡ cell_values self.old }
@@ -261,7 +272,7 @@ impl Cells {
         }
     }
 
-    /// The value at a place, lent; `None` for null and past the end.
+    // The value at a place, lent; `None` for null and past the end.
     #[inline]
     pub(crate) fn value_at(&self, i: usize) -> Option<ValueRef<'_>>
         ensures { option_map value_of result ≡ value_at (slice_get (cell_values self.now) i) }
@@ -350,7 +361,7 @@ impl Cells {
         self.push_any(value)
     }
 
-    /// Makes room for the values of others, as they are kept.
+    // Makes room for the values of others, as they are kept.
     pub(crate) fn make_room(&mut self, others: &Cells) -> Result<(), AllocError>
         ensures same { cell_values self.new ≡ cell_values self.old }
         ensures room { OnOk result (HasRoom self.new others.now) }
@@ -370,7 +381,7 @@ impl Cells {
         }
     }
 
-    /// Moves the values of others behind these, for which there is room.
+    // Moves the values of others behind these, for which there is room.
     pub(crate) fn append(&mut self, others: &mut Cells)
         requires { HasRoom self.old others.old }
         ensures appended { cell_values self.new ≡ cell_values self.old ++ cell_values others.old }

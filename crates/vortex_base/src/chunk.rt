@@ -1,14 +1,17 @@
 //! Columns of one length under a scope.
-ghost use Rattle.std.specs.Prelude.{◌≡◌, ◌+◌, ◌<◌, ◌^◌, IsTrue, OnErr, OnOk, length, nat_lt, slice_get, Some};
+ghost use Rattle.std.specs.Prelude.{◌≡◌, ◌+◌, ◌<◌, ◌^◌, IsTrue, Ok, OnErr, OnOk, length, nat_lt, slice_get, Some};
 ghost use Rattle.std.specs.Bool.{OnTrue};
 ghost use Rattle.std.specs.List.{list_all, zip};
-ghost use Rattle.vortex_base.specs.Made.{Makes};
+ghost use Rattle.vortex_base.specs.Answer.{Answers, Makes};
+ghost use Rattle.vortex_base.specs.Data.Scalars.{is_optional_value};
 ghost use Rattle.vortex_base.specs.Data.Columns as spec;
 
-use crate::column::{Column, append_all};
+use crate::column::{Column, append_all, push_each};
 use crate::error::BaseError;
 use crate::row::Row;
+use crate::scalar_value::ScalarValue;
 use crate::scope::Scope;
+use crate::value_ref::{fits, lend};
 use std::marker::Model;
 
 /// The columns of a scope, in its order and all of one length.
@@ -67,6 +70,24 @@ fn sizes_fit(columns: &[Column], others: &[Column]) -> bool
         column.size(),
         other.size(),
     ))
+}
+
+// Whether each value may stand under the type of the column beside it.
+fn pairs_fit(columns: &[Column], values: &[Option<ScalarValue>]) -> bool
+    ensures { result ≡ list_all (λ p. is_optional_value p.1 p.0.dtype)
+        (zip columns.now values.now) }
+{
+    columns.iter().zip(values.iter()).all(|(column, value)| fits(
+        lend(value.as_ref()),
+        &column.dtype(),
+    ))
+}
+
+// Whether a row has one value a column, which may stand under its type.
+fn row_fits(columns: &[Column], values: &[Option<ScalarValue>]) -> bool
+    ensures { result ≡ spec.row_fits columns.now values.now }
+{
+    columns.len() == values.len() && pairs_fit(columns, values)
 }
 
 impl Chunk {
@@ -143,6 +164,22 @@ impl Chunk {
         append_all(&mut self.columns, &mut other.columns)?;
         self.rows = row_count(&self.columns);
         other.rows = 0;
+        Ok(())
+    }
+
+    /// Adds a row: one value a column, each of its column's type, `None` being null. `Mismatch`
+    /// where the row isn't one of the scope's, and else `Memory` alone. Declared sizes stay as they
+    /// are, and from a refusal the chunk is as it was.
+    pub fn push_row(&mut self, values: Vec<Option<ScalarValue>>) -> Result<(), BaseError>
+        ensures pushed { OnOk result (spec.pushed_chunk self.old values.items ≡ Ok self.new) }
+        ensures refused { OnErr result (self.new ≡ self.old) }
+        ensures error { Answers (spec.pushed_chunk self.old values.items) tt result }
+    {
+        if !row_fits(&self.columns, &values) {
+            return Err(BaseError::Mismatch);
+        }
+        push_each(&mut self.columns, values, self.rows)?;
+        self.rows = row_count(&self.columns);
         Ok(())
     }
 }

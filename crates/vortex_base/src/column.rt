@@ -5,6 +5,7 @@ ghost use Rattle.vortex_base.specs.Data.Columns.{all_fit, column_of, value_at, I
 
 mod append;
 mod pair;
+mod push;
 
 use crate::cells::Cells;
 use crate::dtype::DType;
@@ -12,6 +13,7 @@ use crate::error::BaseError;
 use crate::scalar_value::ScalarValue;
 use crate::value_ref::ValueRef;
 pub(crate) use append::append_all;
+pub(crate) use push::push_each;
 use std::marker::Model;
 
 /// Values of one type in order, `None` being null, with their declared size.

@@ -5,6 +5,8 @@ ghost use Rattle.vortex_base.specs.Patterns.Like.{plain};
 ghost use Rattle.vortex_base.specs.Answer.{Makes};
 ghost use Rattle.vortex_base.specs.Trees.NamedNode.{named_tree};
 
+mod cloning;
+
 use crate::aggregate::AggregateFnRef;
 use crate::error::BaseError;
 use crate::like::LikeOptions;
@@ -21,7 +23,7 @@ pub struct Expression {
     pub(crate) node: Box<NamedNode>,
 }
 
-/// A node with its children.
+// A node with its children.
 #[cycle(named_expression)]
 #[derive(Debug, Drop)]
 pub(crate) enum NamedNode {

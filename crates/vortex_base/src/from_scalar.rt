@@ -42,7 +42,7 @@ impl FromScalar for bool {
     }
 }
 
-/// The number itself.
+// The number itself.
 fn whole(number: PValue) -> i128
     ensures { result ≡ number_of number }
 {
@@ -58,7 +58,7 @@ fn whole(number: PValue) -> i128
     }
 }
 
-/// The whole number that the scalar holds.
+// The whole number that the scalar holds.
 fn whole_of(scalar: &Scalar) -> Result<i128, BaseError>
     ensures { IsReading (λ v. IsNumberAnd v (λ _. ⊤)) (λ v z. IsNumberAnd v (λ x. x ≡ z))
         false scalar.now.value result }

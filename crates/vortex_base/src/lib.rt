@@ -13,6 +13,7 @@ pub mod constant_array;
 pub mod dtype;
 pub mod error;
 pub mod evaluate;
+pub mod expr;
 pub mod expression;
 pub mod from_scalar;
 pub mod laws;

@@ -48,8 +48,8 @@ impl LikeOptions {
     }
 }
 
-/// The characters that are left of a text, as they are compared: where case is ignored, ASCII
-/// letters are lowered.
+// The characters that are left of a text, as they are compared: where case is ignored, ASCII
+// letters are lowered.
 #[derive(Clone, Copy)]
 pub(crate) struct Characters<'a> {
     text: &'a str,
@@ -64,7 +64,7 @@ pub enum Item {
     AnyRun,
 }
 
-/// Where the items before a pattern's first run end.
+// Where the items before a pattern's first run end.
 #[derive(Clone, Copy)]
 enum Front<'a> {
     /// After so many items that matched.

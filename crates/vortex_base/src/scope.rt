@@ -244,7 +244,7 @@ impl Scope {
         place_of(self.names.columns(), name)
     }
 
-    /// Whether there are as many columns as names, each of its name's type.
+    // Whether there are as many columns as names, each of its name's type.
     pub(crate) fn has_types(&self, columns: &[Column]) -> bool
         ensures { result ≡ columns_spec.has_types self.now columns.now }
     {

@@ -43,7 +43,7 @@ impl Text {
         self.text.as_str()
     }
 
-    /// A copy of the string, by the text's allocator.
+    // A copy of the string, by the text's allocator.
     pub(crate) fn try_clone_string(&self) -> Result<String, AllocError>
         ensures { IfOk result (λ s. string_bytes s ≡ self.now) }
     {

@@ -7,10 +7,10 @@ use crate::dtype::DType;
 use crate::error::BaseError;
 use crate::types::{Nullability, Operator, PType};
 
-/// The type of the row count.
+// The type of the row count.
 pub(crate) const ROW_COUNT: DType = DType::Primitive(PType::U64, Nullability::NonNullable);
 
-/// The type of a null test, which is never null itself.
+// The type of a null test, which is never null itself.
 pub(crate) const NULL_TEST: DType = DType::Bool(Nullability::NonNullable);
 
 fn is_bool(dtype: DType) -> bool
@@ -57,7 +57,7 @@ fn type_if(fits: bool, dtype: DType) -> Result<DType, BaseError>
     }
 }
 
-/// The type of a comparison or a connective.
+// The type of a comparison or a connective.
 pub(crate) fn binary_type(operator: Operator, left: DType, right: DType) -> Result<DType, BaseError>
     ensures { result ≡ table.binary_type operator left right }
 {
@@ -68,7 +68,7 @@ pub(crate) fn binary_type(operator: Operator, left: DType, right: DType) -> Resu
     type_if(fits, truth_type(left.is_nullable() || right.is_nullable()))
 }
 
-/// The type of a BETWEEN.
+// The type of a BETWEEN.
 pub(crate) fn between_type(x: DType, lower: DType, upper: DType) -> Result<DType, BaseError>
     ensures { result ≡ table.between_type x lower upper }
 {
@@ -77,14 +77,14 @@ pub(crate) fn between_type(x: DType, lower: DType, upper: DType) -> Result<DType
     type_if(fits, truth_type(nullable))
 }
 
-/// The type of a NOT.
+// The type of a NOT.
 pub(crate) fn not_type(x: DType) -> Result<DType, BaseError>
     ensures { result ≡ table.not_type x }
 {
     type_if(is_bool(x), x)
 }
 
-/// The type of a LIKE.
+// The type of a LIKE.
 pub(crate) fn like_type(x: DType, pattern: DType) -> Result<DType, BaseError>
     ensures { result ≡ table.like_type x pattern }
 {
@@ -92,8 +92,8 @@ pub(crate) fn like_type(x: DType, pattern: DType) -> Result<DType, BaseError>
     type_if(is_utf8(x) && is_utf8(pattern), truth_type(nullable))
 }
 
-/// The type of a placeholder: the aggregate's state type made nullable. `Unsupported` where the
-/// aggregate has none.
+// The type of a placeholder: the aggregate's state type made nullable. `Unsupported` where the
+// aggregate has none.
 pub(crate) fn stat_type(aggregate: AggregateFnRef, input: DType) -> Result<DType, BaseError>
     ensures { result ≡ table.stat_type aggregate input }
 {

@@ -93,7 +93,7 @@ impl<'a> ValueRef<'a> {
     }
 }
 
-/// An optional value, lent.
+// An optional value, lent.
 #[inline]
 pub(crate) fn lend(value: Option<&ScalarValue>) -> Option<ValueRef<'_>>
     ensures { option_map value_of result ≡ option_copied value.entry }
@@ -104,8 +104,8 @@ pub(crate) fn lend(value: Option<&ScalarValue>) -> Option<ValueRef<'_>>
     }
 }
 
-/// Whether an optional value, lent, may stand under the type: it fits, or it is null and the type
-/// has null.
+// Whether an optional value, lent, may stand under the type: it fits, or it is null and the type
+// has null.
 #[inline]
 pub(crate) fn fits(value: Option<ValueRef<'_>>, dtype: &DType) -> bool
     ensures { result ≡ is_optional_value (option_map value_of value.entry) dtype.now }

@@ -175,3 +175,78 @@ fn append_a_hundred_thousand_columns(rt: HostRuntime) -> Result<(), Fail> {
     assert!(rt; are_doubled(&chunk) && are_emptied(&other));
     Ok(())
 }
+
+// A row of two optional values.
+fn row(
+    alloc: Global,
+    first: Option<ScalarValue>,
+    second: Option<ScalarValue>,
+) -> Result<Vec<Option<ScalarValue>>, BaseError> {
+    let mut values = Vec::with_capacity(alloc, 2)?;
+    values.push(first)?;
+    values.push(second)?;
+    Ok(values)
+}
+
+fn number() -> Option<ScalarValue> {
+    Some(ScalarValue::from(7i64))
+}
+
+fn truth() -> Option<ScalarValue> {
+    Some(ScalarValue::from(true))
+}
+
+fn push(
+    chunk: &mut Chunk,
+    row: Result<Vec<Option<ScalarValue>>, BaseError>,
+) -> Result<(), BaseError> {
+    chunk.push_row(row?)
+}
+
+// Whether each column has so many values and is of its size as it was.
+fn are_long(chunk: &Chunk, rows: usize) -> bool {
+    (0..chunk.scope().len()).all(|place| chunk.column(place).len() == rows)
+        && (0..chunk.scope().len()).all(|place| [16, 1].contains(&chunk.column(place).size()))
+}
+
+#[test]
+fn take_rows(rt: HostRuntime) -> Result<(), Fail> {
+    let alloc = rt.alloc();
+    let mut chunk = two_rows(alloc)?;
+    push(&mut chunk, row(alloc, None, truth()))?;
+    push(&mut chunk, row(alloc, number(), truth()))?;
+    assert!(rt; are_long(&chunk, 4));
+    assert!(rt; chunk.rows() == 4);
+    assert!(rt; is_null_of(&chunk.row(2), 0, Some(NUMBER)));
+    assert!(rt; is_number(chunk.row(3).value(0)));
+    Ok(())
+}
+
+#[test]
+fn take_no_row_of_others(rt: HostRuntime) -> Result<(), Fail> {
+    let alloc = rt.alloc();
+    let mut chunk = two_rows(alloc)?;
+    assert!(rt; is_mismatch(push(&mut chunk, row(alloc, number(), None))));
+    assert!(rt; is_mismatch(push(&mut chunk, row(alloc, truth(), number()))));
+    assert!(rt; is_mismatch(push(&mut chunk, Ok(Vec::new(alloc)))));
+    assert!(rt; are_long(&chunk, 2));
+    Ok(())
+}
+
+// Whether a row was added, or memory was refused and all columns are as they were.
+fn is_pushed(told: Result<(), BaseError>, chunk: &Chunk) -> bool {
+    match told {
+        Ok(()) => are_long(chunk, 3),
+        Err(BaseError::Memory(_)) => are_long(chunk, 2),
+        Err(_) => false,
+    }
+}
+
+#[test]
+fn refused_rows_change_nothing(rt: HostRuntime) -> Result<(), Fail> {
+    let alloc = rt.alloc();
+    let mut chunk = two_rows(alloc)?;
+    let told = push(&mut chunk, row(alloc, number(), truth()));
+    assert!(rt; is_pushed(told, &chunk));
+    Ok(())
+}

@@ -22,6 +22,8 @@ mod error;
 #[cfg(test)]
 mod evaluate;
 #[cfg(test)]
+mod expression;
+#[cfg(test)]
 mod from_scalar;
 #[cfg(test)]
 mod like;

@@ -99,60 +99,62 @@ pub fn expect_same(rt: &impl Abort, found: Built, expected: Built) -> Result<(),
 /// Expressions over names.
 pub mod named {
     use std::alloc::Global;
-    use vortex_base::{AggregateFnRef, BaseError, BetweenOptions, Expression, LikeOptions, Scalar};
+    use vortex_base::{
+        AggregateFnRef, BaseError, BetweenOptions, Expression, LikeOptions, Scalar, expr,
+    };
 
     pub type Built = Result<Expression, BaseError>;
 
     pub fn col(alloc: Global, name: &str) -> Built {
-        Expression::col(alloc, name)
+        expr::col(alloc, name)
     }
 
     pub fn lit(alloc: Global, value: Scalar) -> Built {
-        Expression::lit(alloc, value)
+        expr::lit(alloc, value)
     }
 
     pub fn eq(alloc: Global, left: Built, right: Built) -> Built {
-        Expression::eq(alloc, left?, right?)
+        expr::eq(alloc, left?, right?)
     }
 
     pub fn not_eq(alloc: Global, left: Built, right: Built) -> Built {
-        Expression::not_eq(alloc, left?, right?)
+        expr::not_eq(alloc, left?, right?)
     }
 
     pub fn gt(alloc: Global, left: Built, right: Built) -> Built {
-        Expression::gt(alloc, left?, right?)
+        expr::gt(alloc, left?, right?)
     }
 
     pub fn gt_eq(alloc: Global, left: Built, right: Built) -> Built {
-        Expression::gt_eq(alloc, left?, right?)
+        expr::gt_eq(alloc, left?, right?)
     }
 
     pub fn lt(alloc: Global, left: Built, right: Built) -> Built {
-        Expression::lt(alloc, left?, right?)
+        expr::lt(alloc, left?, right?)
     }
 
     pub fn lt_eq(alloc: Global, left: Built, right: Built) -> Built {
-        Expression::lt_eq(alloc, left?, right?)
+        expr::lt_eq(alloc, left?, right?)
     }
 
     pub fn and(alloc: Global, left: Built, right: Built) -> Built {
-        Expression::and(alloc, left?, right?)
+        expr::and(alloc, left?, right?)
     }
 
     pub fn or(alloc: Global, left: Built, right: Built) -> Built {
-        Expression::or(alloc, left?, right?)
+        expr::or(alloc, left?, right?)
     }
 
     pub fn not(alloc: Global, x: Built) -> Built {
-        Expression::not(alloc, x?)
+        expr::not(alloc, x?)
     }
 
     pub fn is_null(alloc: Global, x: Built) -> Built {
-        Expression::is_null(alloc, x?)
+        expr::is_null(alloc, x?)
     }
 
     pub fn is_not_null(alloc: Global, x: Built) -> Built {
-        Expression::is_not_null(alloc, x?)
+        expr::is_not_null(alloc, x?)
     }
 
     pub fn between(
@@ -162,11 +164,11 @@ pub mod named {
         upper: Built,
         options: BetweenOptions,
     ) -> Built {
-        Expression::between(alloc, x?, lower?, upper?, options)
+        expr::between(alloc, x?, lower?, upper?, options)
     }
 
     pub fn like(alloc: Global, text: Built, pattern: Built) -> Built {
-        Expression::like(alloc, text?, pattern?)
+        expr::like(alloc, text?, pattern?)
     }
 
     pub fn like_with(alloc: Global, text: Built, pattern: Built, options: LikeOptions) -> Built {

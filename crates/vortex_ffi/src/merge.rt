@@ -91,7 +91,7 @@ fn set_given(
     for entry in 0..table.len() {
         match entry_at(alloc, dtype, table, zone, entry) {
             Ok(found) => {
-                let _ = set.set(found.0, found.1);
+                set.put(found.0, found.1);
             }
             Err(status) => return Err(Refusal::in_column(status, zone, side, entry)),
         }

@@ -104,7 +104,7 @@ fn set_at(sets: &mut Vec<StatsSet>, place: usize, stat: Stat, value: Precision<S
 {
     if place < sets.len() {
         let set = &mut sets[place];
-        let _ = set.set(stat, value);
+        set.put(stat, value);
     }
 }
 

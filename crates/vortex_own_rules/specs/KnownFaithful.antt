@@ -1,5 +1,5 @@
 -- A binder that answers what it was told is faithful, and honest where that are facts.
-use Rattle.std.proofs.Common.{◌≡◌, ◌∙◌, ℕ, Bool, true, false, ◌&&◌, cond, List, [], ◌∷◌, Option, Some, None, refl, sym, ap, subst, rules}
+use Rattle.std.proofs.Common.{◌≡◌, ◌∙◌, ℕ, Bool, true, false, ◌&&◌, List, [], ◌∷◌, Option, Some, None, refl, sym, ap, subst, rules}
 use Rattle.std.specs.Prelude.{MatchBool, Result, Ok, Err, option_map, if◌then◌else◌}
 use Rattle.std.specs.List.{AllByRecursion}
 use Rattle.std.proofs.lemmas.Bool.{and_parts}
@@ -8,39 +8,22 @@ use Rattle.vortex_base.proofs.Meanings.MeaningFits.{is_value-as_nullable, null_f
 use Rattle.vortex_base.specs.declared.aggregate.AggregateFnRef.{AggregateFnRef}
 use Rattle.vortex_base.specs.declared.dtype.DType.{DType}
 use Rattle.vortex_base.specs.declared.error.BaseError.{BaseError}
-use Rattle.vortex_base.specs.declared.error.BaseError.TheVariants.{Mismatch}
 use Rattle.vortex_base.specs.declared.scalar_value.ScalarValue.{ScalarValue}
 use Rattle.vortex_base.specs.Data.Columns.{ColumnData}
 use Rattle.vortex_base.specs.Data.Exact.{IsExact}
-use Rattle.vortex_base.specs.Meanings.Fitting.{fits_row}
 use Rattle.vortex_base.specs.Meanings.Meaning.{meaning}
 use Rattle.vortex_base.specs.Data.Scalars.{Constant, is_optional_value, null_of}
-use Rattle.vortex_base.specs.Trees.Tree.{Tree, Place, literal, stat, has_placeholder}
+use Rattle.vortex_base.specs.Trees.Tree.{Tree, Place, literal, stat}
 use Rattle.vortex_base.specs.Trees.TreeEq.{aggregate_eq, tree_eq, tree_eq_is_exact}
 use Rattle.vortex_base.specs.Data.Types.{as_nullable, dtype_eq_is_exact, eq_ignore_nullability}
-use Rattle.vortex_base.specs.Meanings.Typing.{placeholder_type, stat_type, state_dtype, type_of, with_type}
+use Rattle.vortex_base.specs.Meanings.Typing.{type_of}
 use Rattle.vortex_own_rules.specs.declared.known.Entry.{Entry}
 use Rattle.vortex_own_rules.specs.Known.{IsKnownOf, KnownFactsAreHonest, found, is_for, known_answer, known_at, known_values, value_found}
 use Rattle.vortex_prune.specs.Binding.Binders.{IsAnswerOf, IsFaithful}
 use Rattle.vortex_rewrite.specs.Facts.{IsFact, is_over, meanings, size_of}
 use Rattle.vortex_prune.specs.Binding.PartBinder.{IsNullOf}
-use Rattle.vortex_rewrite.specs.StateTypes.{as_nullable-again}
-
--- ---- literals as answers
-
-abbrev ok : DType → Result DType BaseError
-ok t = Ok t
-
-typed_literal : (c : Constant) (s : DType) (b : Bool) → is_optional_value c.value c.dtype ≡ b → cond b (ok c.dtype) (Err Mismatch) ≡ ok s → c.dtype ≡ s
-typed_literal c s true e h = cc
-typed_literal c s false e h = cc
-
-pub literal_is_answer : (c : Constant) (t : DType) (row : List Constant) (r : Tree Place) → r ≡ literal c → as_nullable c.dtype ≡ as_nullable t → IsAnswerOf t row r
-literal_is_answer c t row r e h = record {
-  typed = λ s k. ap as_nullable (sym (typed_literal c s (is_optional_value c.value c.dtype) refl (ap type_of (sym e) ∙ k))) ∙ h;
-  free = ap has_placeholder e;
-  fits = ap (λ x. fits_row x row) e;
-}
+use Rattle.vortex_prune.specs.Binding.PartFaithful.{literal_is_answer}
+use Rattle.vortex_rewrite.specs.StateTypes.{as_nullable-again, stat_again}
 
 -- ---- what was found
 
@@ -90,18 +73,6 @@ null = None
 no_fact : (b : Bool) (f : AggregateFnRef) (xs : List (Option ScalarValue)) (size : Option ℕ) → MatchBool b (IsFact f null xs size) (null ≡ None)
 no_fact true f xs size = tt
 no_fact false f xs size = refl
-
--- a placeholder's type has null
-again : (s t : DType) → ok (as_nullable s) ≡ ok t → as_nullable t ≡ t
-again s t h = let same : as_nullable s ≡ t = cc in ap as_nullable (sym same) ∙ as_nullable-again s ∙ same
-
-placeholder_again : (o : Option DType) (t : DType) → placeholder_type o ≡ Ok t → as_nullable t ≡ t
-placeholder_again None t h = cc
-placeholder_again (Some s) t h = again s t h
-
-stat_again : (f : AggregateFnRef) (r : Result DType BaseError) (t : DType) → with_type (stat_type f) r ≡ Ok t → as_nullable t ≡ t
-stat_again f (Ok u) t h = placeholder_again (state_dtype f u) t h
-stat_again f (Err e) t h = cc
 
 weakened : (v : Option ScalarValue) (t : DType) → is_optional_value v t ≡ true → is_optional_value v (as_nullable t) ≡ true
 weakened None t h = null_fits t

@@ -1,17 +1,16 @@
 //! A rule for comparisons and patterns that an operand makes null in every row.
 ghost use Rattle.std.specs.Prelude.{◌≡◌, false, IfOk, IfSome, IsTrue, MatchResult};
-ghost use Rattle.vortex_base.specs.Trees.Tree as tree;
 ghost use Rattle.vortex_own_rules.specs.NullOperands.{either_null as either_null_of};
 ghost use Rattle.vortex_own_rules.specs.NullOperands.{null_operands as null_operands_of, null_proof as null_proof_of};
 ghost use Rattle.vortex_rewrite.specs.HookFaults.{IsHookFault};
-ghost use Rattle.vortex_rewrite.specs.Rewriting.Falsifiers.{bool_literal, either_of};
 ghost use Rattle.vortex_rewrite.specs.Rewriting.Predicates.{is_connective, is_predicate};
 
 use std::alloc::Global;
 use vortex_base::bound_expression::BoundExpression;
-use vortex_base::types::{Nullability, Operator, ScalarFnId};
-use vortex_base::{DType, Parts, Scalar, ScalarValue, bound};
+use vortex_base::Parts;
+use vortex_base::types::{Operator, ScalarFnId};
 use vortex_rewrite::expr::bound::all_null;
+use vortex_rewrite::expr::proofs::{either, truth};
 use vortex_rewrite::{HookFault, StatsRewriteRule};
 
 /// Falsifies a comparison, or a LIKE, by that an operand is null in every row: it is null there
@@ -28,17 +27,6 @@ fn is_connective(operator: Operator) -> bool
     matches!(operator, Operator::And | Operator::Or)
 }
 
-// A literal truth.
-fn truth(alloc: Global, truth: bool) -> Result<BoundExpression, HookFault>
-    ensures { MatchResult result (λ e. e ≡ bool_literal truth) (IsHookFault (λ k. false)) }
-{
-    let dtype = DType::Bool(Nullability::NonNullable);
-    Ok(bound::lit(
-        alloc,
-        Scalar::try_new(dtype, Some(ScalarValue::from(truth)))?,
-    )?)
-}
-
 // That an operand is null in every row, which of a literal is known.
 fn null_proof(alloc: Global, x: &BoundExpression) -> Result<Option<BoundExpression>, HookFault>
     ensures value { MatchResult result (λ o. o ≡ null_proof_of x.now) (IsHookFault (λ k. false)) }
@@ -50,24 +38,6 @@ fn null_proof(alloc: Global, x: &BoundExpression) -> Result<Option<BoundExpressi
             Some(_) => Ok(None),
         },
         _ => Ok(Some(all_null(alloc, x.try_clone()?)?)),
-    }
-}
-
-// Two proofs joined by OR, and the one that is there where only one is.
-fn either(
-    alloc: Global,
-    left: Option<BoundExpression>,
-    right: Option<BoundExpression>,
-) -> Result<Option<BoundExpression>, HookFault>
-    requires left { IfSome left (λ e. IsTrue (is_predicate e)) }
-    requires right { IfSome right (λ e. IsTrue (is_predicate e)) }
-    ensures { MatchResult result (λ o. o ≡ either_of (tree.binary Operator.Or) left right)
-        (IsHookFault (λ k. false)) }
-{
-    match (left, right) {
-        (Some(left), Some(right)) => Ok(Some(bound::or(alloc, left, right)?)),
-        (Some(left), None) => Ok(Some(left)),
-        (None, right) => Ok(right),
     }
 }
 

@@ -4,18 +4,14 @@ use std::test::Fail;
 use vortex_base::{AggregateFnRef, BoundExpression, ScalarFnId};
 use vortex_own_rules::null_operands::NullOperands;
 use vortex_rewrite::rewrite::{falsify, satisfy};
-use vortex_rewrite::{Rules, StatsRewriteRuleRef};
+use vortex_rewrite::Rules;
 use vortex_rewrite_tests::nodes::*;
 use vortex_stats::StatsError;
 
-fn add(own: &mut Vec<StatsRewriteRuleRef>, rule: StatsRewriteRuleRef) -> Result<(), AllocError> {
-    Ok(own.push(rule)?)
-}
-
 fn rules_for(alloc: Global, function: ScalarFnId) -> Result<Rules, AllocError> {
-    let mut own = Vec::new(alloc);
-    add(&mut own, Box::new(alloc, NullOperands { function })?)?;
-    Ok(Rules::with_own(own))
+    let mut rules = Rules::builtin(alloc);
+    rules.push(Box::new(alloc, NullOperands { function })?)?;
+    Ok(rules)
 }
 
 fn a(alloc: Global) -> Built {

@@ -5,6 +5,7 @@ pub mod ZoneMarks
 pub mod ZoneNames
 pub mod ZonePlaces
 pub mod ZonePruned
+pub mod ZonePushed
 pub mod ZoneRefusals
 pub mod ZoneRows
 pub mod ZoneScan

@@ -116,6 +116,14 @@ set_value f (Some es) n = stat_value f es n
 abbrev pub zone_value : AggregateFnRef → ℕ → ZoneData → Option ScalarValue
 zone_value f i zone = set_value f (slice_get zone.stats i) zone.rows
 
+-- the value, if the aggregate supports the type
+abbrev pub value_if : Bool → Option ScalarValue → List (Option ScalarValue)
+value_if b v = if b then v ∷ [] else []
+
+-- what a zone tells in a column of the table
+abbrev pub told_of : ZoneData → Head → Option ScalarValue
+told_of zone h = zone_value h.aggregate h.source zone
+
 abbrev pub zone_column : List ZoneData → Head → ColumnData
 zone_column zones h = record { dtype = h.dtype; values = map (zone_value h.aggregate h.source) zones; size = 0 }
 

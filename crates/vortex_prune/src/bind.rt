@@ -140,6 +140,7 @@ pub(crate) fn bind_stats_of<B: StatBinder>(
     ensures right_types { WhereFaithful (B.is_faithful_over binder.now)
         (λ row n. IfErr result (λ f. ¬ (f ≡ fault.Binder binder_fault.WrongType))) }
 {
+    // That the expression has a type.
     let _typed = e.dtype();
     bound_stats(alloc, e, binder)
 }

@@ -2,7 +2,7 @@
 ghost use Rattle.std.specs.Prelude.{◌≡◌, ℕ, List, false};
 ghost use Rattle.std.specs.List.{AllByRecursion};
 ghost use Rattle.vortex_prune.specs.Scanning.Complete.{FalsifiersAreComplete};
-ghost use Rattle.vortex_prune.specs.Laws.{StatisticsAreHonest};
+ghost use Rattle.vortex_prune.specs.Laws.{LiteralsAreAnswers, NullsAreAnswers, StatisticsAreHonest};
 ghost use Rattle.vortex_prune.specs.Part.{AreParts, IsTruePart, PartData};
 ghost use Rattle.vortex_prune.specs.Scanning.Selection.{AreByStatistics, AreFaithful, AreHonest, any_binder};
 
@@ -33,4 +33,11 @@ pub fn statistics_binders_are_honest<'a>()
         → AreHonest ⟦<StatsBinder<'a> as StatBinder>⟧.value parts parts }
     ensures quiet { (parts : List PartData) (k : ℕ)
         → any_binder ⟦<StatsBinder<'a> as StatBinder>⟧.can_fault parts k ≡ false }
+{}
+
+/// What a binder's author may answer: a literal of the type asked for, nullability aside, and null,
+/// which is worth null.
+pub fn literals_are_answers()
+    ensures literals { LiteralsAreAnswers }
+    ensures nulls { NullsAreAnswers }
 {}

@@ -7,10 +7,11 @@ ghost use Rattle.vortex_base.specs.Data.Cells.{cell_values};
 ghost use Rattle.vortex_base.specs.Data.Columns.{row_count};
 ghost use Rattle.vortex_base.specs.Data.Scopes.{IsScope, Named, named_columns};
 ghost use Rattle.vortex_base.specs.Meanings.Typing.{stat_type};
-ghost use Rattle.vortex_prune.specs.Part.{AreZonesOf, ZoneData, zones_fit};
+ghost use Rattle.vortex_prune.specs.Part.{AreZonesOf, IsZone, ZoneData, fits_zone, zones_fit};
 ghost use Rattle.vortex_prune.specs.Zones as spec;
 ghost use Rattle.vortex_prune.specs.Zones.{EachTells, IsMapOf, appended_map, emptied_map, head, head_if, heads};
-ghost use Rattle.vortex_prune.specs.Zones.{is_typed, starts_from, supporting, zone_map, zone_table, zone_value};
+ghost use Rattle.vortex_prune.specs.Zones.{is_typed, starts_from, supporting, told_of, value_if};
+ghost use Rattle.vortex_prune.specs.Zones.{zone_map, zone_table, zone_value};
 ghost use Rattle.vortex_rewrite.specs.Answers.{IsMemory};
 ghost use Rattle.vortex_stats.specs.declared.error.StatsError.TheVariants.{Memory, Mismatch};
 
@@ -19,7 +20,6 @@ use crate::stat_fn::stat_value;
 use crate::zone::Zone;
 use std::alloc::{AllocError, Global};
 use std::marker::Model;
-use std::slice;
 use vortex_base::aggregate::AggregateFnRef;
 use vortex_base::cells::Cells;
 use vortex_base::chunk::Chunk;
@@ -27,6 +27,7 @@ use vortex_base::column::Column;
 use vortex_base::dtype::DType;
 use vortex_base::scalar_value::ScalarValue;
 use vortex_base::scope::Scope;
+use vortex_rewrite::built::built;
 use vortex_stats::error::StatsError;
 
 // A column of the table without its values.
@@ -190,6 +191,69 @@ fn zone_cells(alloc: Global, zones: &[Zone<'_>], head: &Head) -> Result<Cells, S
     Ok(cells)
 }
 
+// Adds what a zone tells for an aggregate of its column at a place, if that supports its type.
+fn push_value(
+    values: &mut Vec<Option<ScalarValue>>,
+    scope: &Scope,
+    zone: &Zone<'_>,
+    source: usize,
+    aggregate: AggregateFnRef,
+) -> Result<(), StatsError>
+    requires within { source < length scope.now }
+    requires fits { IsZone scope.now zone.now }
+    ensures value { OnOk result ((c : Named) → slice_get scope.now source ≡ Some c
+        → let value = zone_value aggregate source zone.now in
+        let more = value_if (is_typed (stat_type aggregate c.1)) value in
+        values.new.items ≡ values.old.items ++ more) }
+    ensures memory { IfErr result IsMemory }
+{
+    match zone_type(aggregate, scope.dtype(source)) {
+        None => Ok(()),
+        Some(_) => {
+            values.push(zone_value(zone, source, aggregate)?)?;
+            Ok(())
+        }
+    }
+}
+
+// Adds those of its column at a place for each aggregate that supports its type.
+fn push_values(
+    values: &mut Vec<Option<ScalarValue>>,
+    scope: &Scope,
+    zone: &Zone<'_>,
+    source: usize,
+) -> Result<(), StatsError>
+    requires within { source < length scope.now }
+    requires fits { IsZone scope.now zone.now }
+    ensures values { OnOk result ((c : Named) → slice_get scope.now source ≡ Some c
+        → let more = map (λ f. zone_value f source zone.now) (supporting c.1) in
+        values.new.items ≡ values.old.items ++ more) }
+    ensures memory { IfErr result IsMemory }
+{
+    let all = aggregates();
+    for k in 0..7 {
+        push_value(values, scope, zone, source, all[k])?;
+    }
+    Ok(())
+}
+
+// The row of the table for a zone, in its own order.
+fn row_of(
+    alloc: Global,
+    scope: &Scope,
+    zone: &Zone<'_>,
+) -> Result<Vec<Option<ScalarValue>>, StatsError>
+    requires { IsZone scope.now zone.now }
+    ensures row { IfOk result (λ vs. vs.items ≡ map (told_of zone.now) (heads scope.now)) }
+    ensures memory { IfErr result IsMemory }
+{
+    let mut values = Vec::new(alloc);
+    for place in 0..scope.len() {
+        push_values(&mut values, scope, zone, place)?;
+    }
+    Ok(values)
+}
+
 // A column of the table.
 fn zone_column(alloc: Global, zones: &[Zone<'_>], head: &Head) -> Result<Column, StatsError>
     requires { EachTells zones.now head.now }
@@ -332,6 +396,7 @@ pub(crate) fn map_of(
     let mut starts = Vec::new(alloc);
     match table_of(alloc, &scope, zones, &mut starts) {
         Ok(table) => {
+            // That the table is a chunk.
             let _rows = table.rows();
             Ok(ZoneMap {
                 scope,
@@ -386,6 +451,7 @@ impl ZoneMap {
         ensures refused { OnErr result ((self.new ≡ self.old) × (other.new ≡ other.old)) }
         ensures memory { IfErr result IsMemory }
     {
+        // That both tables are chunks.
         let _rows = self.table.rows();
         let _others = other.table.rows();
         self.rows.reserve(other.rows.len())?;
@@ -417,16 +483,29 @@ impl ZoneMap {
         }
     }
 
-    /// Adds one zone behind those that there are, as `extend` does. For many zones `extend` by
-    /// batches is quicker: each call makes the names of the table's columns.
+    /// Adds one zone behind those that there are. `Mismatch` unless it has one set a column that
+    /// fits its column's type, and else `Memory` alone. From a refusal the map is as it was.
     pub fn push(&mut self, alloc: Global, zone: &Zone<'_>) -> Result<(), StatsError>
         ensures is_map { OnOk result ((known : List ZoneData) → IsMapOf known self.old
             → IsMapOf (known ++ zone.now ∷ []) self.new) }
         ensures refused { OnErr result (self.new ≡ self.old) }
-        ensures error { IfErr result (λ f. MatchBool (zones_fit self.old.scope (zone.now ∷ []))
+        ensures error { IfErr result (λ f. MatchBool (fits_zone self.old.scope zone.now.stats)
             (IsMemory f) (f ≡ Mismatch)) }
     {
-        self.extend(alloc, slice::from_ref(zone))
+        if !sets_fit(&self.scope, zone.stats()) {
+            return Err(StatsError::Mismatch);
+        }
+        let values = row_of(alloc, &self.scope, zone)?;
+        // The table is a chunk.
+        let _rows = self.table.rows();
+        self.rows.reserve(1)?;
+        match self.table.push_row(values) {
+            Ok(()) => {
+                self.rows.push_reserved(zone.rows());
+                Ok(())
+            }
+            Err(refused) => built(Err(refused)),
+        }
     }
 
     /// The scope of the zones.
@@ -516,6 +595,7 @@ fn place_in(
             if !declared.eq_ignore_nullability(&dtype) {
                 return None;
             }
+            // That the table has no more columns than an index can count.
             let _columns = table.scope().len();
             match offset(aggregate, declared) {
                 None => None,

@@ -181,9 +181,9 @@ pub fn one_part(alloc: Global, part: Result<Part, StatsError>) -> Parts {
 
 /// The built-in rules and then this one.
 pub fn rules_of(alloc: Global, rule: StatsRewriteRuleRef) -> Result<Rules, AllocError> {
-    let mut rules = Vec::new(alloc);
+    let mut rules = Rules::builtin(alloc);
     rules.push(rule)?;
-    Ok(Rules::with_own(rules))
+    Ok(rules)
 }
 
 /// The built-in rules and then one that claims the same of every expression of its function. Its
@@ -245,11 +245,7 @@ pub fn zones_of(
 pub fn binders_of<'a>(alloc: Global, parts: &'a [Part]) -> Result<Vec<StatsBinder<'a>>, AllocError>
     ensures { IfOk result (λ binders. binders.items ≡ parts.entry.now) }
 {
-    let mut binders = Vec::new(alloc);
-    for part in parts {
-        binders.push(StatsBinder::new(part))?;
-    }
-    Ok(binders)
+    StatsBinder::of_parts(alloc, parts)
 }
 
 fn fits_part(predicate: &BoundExpression, part: &Part) -> bool

@@ -8,6 +8,7 @@ pub mod PatternProofs
 pub mod RowFacts
 pub mod RowRules
 pub mod RowSatisfiers
+pub mod RuleFacts
 pub mod SoundRules
 pub mod TruthLogic
 pub mod ValueTests

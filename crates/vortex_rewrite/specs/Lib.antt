@@ -4,4 +4,5 @@ pub mod Facts
 pub mod HookFaults
 pub mod Laws
 pub mod Rewriting
+pub mod RuleLaws
 pub mod StateTypes

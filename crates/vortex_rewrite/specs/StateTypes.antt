@@ -1,13 +1,17 @@
 -- The type of a placeholder, which the nullability of its input does not change.
-use Rattle.std.specs.Prelude.{◌≡◌, refl}
+use Rattle.std.specs.Prelude.{◌≡◌, Option, Some, None, Result, Ok, Err, refl}
 use Rattle.std.proofs.Common.{sym, ap, ap₂, ◌∙◌}
 use Rattle.vortex_base.specs.declared.aggregate.AggregateFnRef.{AggregateFnRef}
 use Rattle.vortex_base.specs.declared.aggregate.AggregateFnRef.TheVariants as aggregate
 use Rattle.vortex_base.specs.declared.dtype.DType.{DType}
 use Rattle.vortex_base.specs.declared.dtype.DType.TheVariants as dtype
+use Rattle.vortex_base.specs.declared.error.BaseError.{BaseError}
 use Rattle.vortex_base.specs.declared.types.Nullability.TheVariants.{Nullable}
 use Rattle.vortex_base.specs.Data.Types.{as_nullable}
-use Rattle.vortex_base.specs.Meanings.Typing.{element_of, of_element, placeholder_type, state_dtype, stat_type, sum_type}
+use Rattle.vortex_base.specs.Meanings.Typing.{element_of, of_element, placeholder_type, state_dtype, stat_type, sum_type, with_type}
+
+abbrev ok : DType → Result DType BaseError
+ok t = Ok t
 
 pub as_nullable-again : (t : DType) → as_nullable (as_nullable t) ≡ as_nullable t
 as_nullable-again dtype.Null = refl
@@ -49,3 +53,15 @@ state_dtype-as_nullable aggregate.NanCount t = refl
 
 pub same_stat_type : (f : AggregateFnRef) (s t : DType) → as_nullable s ≡ as_nullable t → stat_type f s ≡ stat_type f t
 same_stat_type f s t e = ap placeholder_type (sym (state_dtype-as_nullable f s) ∙ ap (state_dtype f) e ∙ state_dtype-as_nullable f t)
+
+-- a placeholder's type has null
+again : (s t : DType) → ok (as_nullable s) ≡ ok t → as_nullable t ≡ t
+again s t h = let same : as_nullable s ≡ t = cc in ap as_nullable (sym same) ∙ as_nullable-again s ∙ same
+
+placeholder_again : (o : Option DType) (t : DType) → placeholder_type o ≡ Ok t → as_nullable t ≡ t
+placeholder_again None t h = cc
+placeholder_again (Some s) t h = again s t h
+
+pub stat_again : (f : AggregateFnRef) (r : Result DType BaseError) (t : DType) → with_type (stat_type f) r ≡ Ok t → as_nullable t ≡ t
+stat_again f (Ok u) t h = placeholder_again (state_dtype f u) t h
+stat_again f (Err e) t h = cc

@@ -5,6 +5,7 @@ ghost use Rattle.vortex_base.specs.Trees.Tree as tree;
 ghost use Rattle.vortex_rewrite.specs.Answers.{Makes};
 
 pub mod bound;
+pub mod proofs;
 
 use crate::built::built;
 use std::alloc::Global;

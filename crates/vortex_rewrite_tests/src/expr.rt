@@ -10,6 +10,7 @@ use vortex_rewrite::expr::{
 use vortex_stats::StatsError;
 
 mod bound;
+mod proofs;
 
 type Named = Result<Expression, StatsError>;
 

@@ -4,22 +4,11 @@ use std::alloc::{AllocError, Global};
 use vortex_base::ScalarFnId;
 use vortex_rewrite::{Rules, StatsRewriteRuleRef};
 
-fn no_rules(alloc: Global) -> Vec<StatsRewriteRuleRef> {
-    Vec::new(alloc)
-}
-
-fn add_rule(
-    rules: &mut Vec<StatsRewriteRuleRef>,
-    rule: StatsRewriteRuleRef,
-) -> Result<(), AllocError> {
-    Ok(rules.push(rule)?)
-}
-
 /// The built-in rules and then this one.
 pub fn rules_of(alloc: Global, rule: StatsRewriteRuleRef) -> Result<Rules, AllocError> {
-    let mut rules = no_rules(alloc);
-    add_rule(&mut rules, rule)?;
-    Ok(Rules::with_own(rules))
+    let mut rules = Rules::builtin(alloc);
+    rules.push(rule)?;
+    Ok(rules)
 }
 
 /// The built-in rules and then these two.
@@ -28,10 +17,10 @@ pub fn two_rules(
     first: StatsRewriteRuleRef,
     second: StatsRewriteRuleRef,
 ) -> Result<Rules, AllocError> {
-    let mut rules = no_rules(alloc);
-    add_rule(&mut rules, first)?;
-    add_rule(&mut rules, second)?;
-    Ok(Rules::with_own(rules))
+    let mut rules = Rules::builtin(alloc);
+    rules.push(first)?;
+    rules.push(second)?;
+    Ok(rules)
 }
 
 /// A rule that claims the same of every expression of its function.

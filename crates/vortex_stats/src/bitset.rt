@@ -30,7 +30,7 @@ pub fn stats_from_bitset_bytes(alloc: Global, bytes: &[u8]) -> Result<Vec<Stat>,
     Ok(stats)
 }
 
-/// Whether the statistic's number is set in the bytes.
+// Whether the statistic's number is set in the bytes.
 fn is_set_in(bytes: &[u8], stat: Stat) -> bool
     ensures { result ≡ is_set bytes.now (stat_number stat) }
 {
@@ -41,14 +41,14 @@ fn is_set_in(bytes: &[u8], stat: Stat) -> bool
     }
 }
 
-/// Whether the statistic is listed.
+// Whether the statistic is listed.
 fn is_listed_in(stats: &[Stat], stat: Stat) -> bool
     ensures { result ≡ is_listed stats.now stat }
 {
     stats.iter().any(|listed| listed.number() == stat.number())
 }
 
-/// 1 where the statistic is listed, else 0.
+// 1 where the statistic is listed, else 0.
 fn bit_for(stats: &[Stat], stat: Stat) -> u8
     ensures value { result ≡ bit (is_listed stats.now stat) }
     ensures small { result ≤ 1 }
@@ -56,7 +56,7 @@ fn bit_for(stats: &[Stat], stat: Stat) -> u8
     if is_listed_in(stats, stat) { 1 } else { 0 }
 }
 
-/// The byte of the numbers 0 to 7.
+// The byte of the numbers 0 to 7.
 fn low_byte(stats: &[Stat]) -> u8
     ensures { result ≡ number_of (low_bits stats.now) }
 {
@@ -70,7 +70,7 @@ fn low_byte(stats: &[Stat]) -> u8
                 + 2 * (bit_for(stats, Stat::Max) + 2 * high_half)))
 }
 
-/// The byte of the numbers 8 to 15, of which 8 alone is a statistic's.
+// The byte of the numbers 8 to 15, of which 8 alone is a statistic's.
 fn high_byte(stats: &[Stat]) -> u8
     ensures { result ≡ number_of (high_bits stats.now) }
 {

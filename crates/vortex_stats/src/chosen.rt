@@ -13,21 +13,21 @@ ghost use Rattle.vortex_stats.specs.Bounds.PointBound.{point_union, point_inters
 use crate::bound::IntersectionResult;
 use crate::precision::Precision;
 
-/// Whether `a` is less than `b`.
+// Whether `a` is less than `b`.
 fn is_less<T: Ord>(a: &T, b: &T) -> bool
     ensures { result ≡ is_lt (T.cmp a.now b.now) }
 {
     a.cmp(b).is_lt()
 }
 
-/// The greater, and the first where the two compare equal.
+// The greater, and the first where the two compare equal.
 fn greater<'a, T: Ord>(a: &'a T, b: &'a T) -> &'a T
     ensures { result.now ≡ greater_of T.cmp a.now b.now }
 {
     if is_less(a, b) { b } else { a }
 }
 
-/// The lesser, and the first where the two compare equal.
+// The lesser, and the first where the two compare equal.
 fn lesser<'a, T: Ord>(a: &'a T, b: &'a T) -> &'a T
     ensures { result.now ≡ lesser_of T.cmp a.now b.now }
 {

@@ -27,8 +27,8 @@ use smallvec::SmallVec;
 use vortex_base::dtype::DType;
 use vortex_base::scalar_value::ScalarValue;
 
-/// What two values of the statistic `S` meet in, under its bound; None where a value is absent.
-/// `Conflict` where the values contradict each other.
+// What two values of the statistic `S` meet in, under its bound; None where a value is absent.
+// `Conflict` where the values contradict each other.
 pub(crate) fn combine<T: Ord + Clone, S: StatType<T>>(
     left: Precision<T>,
     other: Precision<T>,
@@ -47,7 +47,7 @@ pub(crate) fn combine<T: Ord + Clone, S: StatType<T>>(
     }
 }
 
-/// Meets two bounds of values of any kind. One value is cloned at most.
+// Meets two bounds of values of any kind. One value is cloned at most.
 fn combine_values<'a, S: StatType<&'a ScalarValue>>(
     left: Precision<&'a ScalarValue>,
     other: Precision<&'a ScalarValue>,
@@ -62,7 +62,7 @@ fn combine_values<'a, S: StatType<&'a ScalarValue>>(
     }
 }
 
-/// The truth in a value that is one.
+// The truth in a value that is one.
 fn truth_of(value: Precision<&ScalarValue>) -> Precision<bool>
     requires { IfPresent value (λ v. IsTrue (is_value v.now (types.Bool NonNullable))) }
     ensures { result ≡ truth_value (precision_map (λ v. v.now) value.entry) }
@@ -75,7 +75,7 @@ fn truth_of(value: Precision<&ScalarValue>) -> Precision<bool>
     }
 }
 
-/// Meets two bounds of truth values.
+// Meets two bounds of truth values.
 fn combine_truths<S: StatType<bool>>(
     left: Precision<&ScalarValue>,
     other: Precision<&ScalarValue>,
@@ -96,7 +96,7 @@ fn combine_truths<S: StatType<bool>>(
     }
 }
 
-/// What two values of a statistic meet in, under the bound of the statistic.
+// What two values of a statistic meet in, under the bound of the statistic.
 fn met_value(
     stat: Stat,
     dtype: &DType,
@@ -109,6 +109,7 @@ fn met_value(
         (precision_map (λ v. v.now) other.entry) in
         IsAnswerOrCopy (meeting stat met) result }
 {
+    // The type stands in the contract alone.
     let _ = dtype;
     match stat {
         Stat::IsConstant => combine_truths::<stat::IsConstant>(left, other),
@@ -125,7 +126,7 @@ fn met_value(
     }
 }
 
-/// What an entry of the other set makes of the left value. One value is copied at most.
+// What an entry of the other set makes of the left value. One value is copied at most.
 fn entry_change(
     left: Precision<&ScalarValue>,
     dtype: &DType,
@@ -154,10 +155,10 @@ fn entry_change(
     }
 }
 
-/// A change of each of some entries.
+// A change of each of some entries.
 type EntryChanges = SmallVec<(Stat, Change), 9>;
 
-/// Makes each change in turn.
+// Makes each change in turn.
 fn change_each(set: &mut StatsSet, changes: EntryChanges)
     ensures { set.new ≡ changed_by changes.items set.old }
 {

@@ -23,7 +23,7 @@ use vortex_base::dtype::DType;
 use vortex_base::pvalue::PValue;
 use vortex_base::scalar_value::ScalarValue;
 
-/// What a merge does with an entry.
+// What a merge does with an entry.
 #[derive(Default, Drop)]
 pub(crate) enum Change {
     /// It stays as it is.
@@ -36,7 +36,7 @@ pub(crate) enum Change {
 }
 
 impl Change {
-    /// The value, or no entry.
+    // The value, or no entry.
     fn of(value: Option<Precision<ScalarValue>>) -> Change
         ensures { (p : _) → made result p ≡ value }
     {
@@ -47,7 +47,7 @@ impl Change {
     }
 }
 
-/// An exact truth value.
+// An exact truth value.
 fn truth(holds: bool) -> Precision<ScalarValue>
     ensures { result ≡ truth holds }
 {
@@ -63,8 +63,8 @@ pub(crate) fn is_exact_truth(holds: bool, value: Precision<&ScalarValue>) -> boo
     }
 }
 
-/// IsConstant: false if either side is exactly false; of two that are exactly true whether the
-/// exact minima are equal.
+// IsConstant: false if either side is exactly false; of two that are exactly true whether the
+// exact minima are equal.
 fn is_constant_value(left: &StatsSet, other: &StatsSet) -> Option<Precision<ScalarValue>>
     ensures { result ≡ merged_value stats.IsConstant left.now other.now }
 {
@@ -82,7 +82,7 @@ fn is_constant_value(left: &StatsSet, other: &StatsSet) -> Option<Precision<Scal
     }
 }
 
-/// True where the rows are in order, and else unknown, which is written as inexactly false.
+// True where the rows are in order, and else unknown, which is written as inexactly false.
 fn seam(in_order: bool) -> Precision<ScalarValue>
     ensures { result ≡ seam in_order }
 {
@@ -93,7 +93,7 @@ fn seam(in_order: bool) -> Precision<ScalarValue>
     }
 }
 
-/// Whether the greatest value of rows may stand before the least of those that follow.
+// Whether the greatest value of rows may stand before the least of those that follow.
 fn may_precede(max: &ScalarValue, min: &ScalarValue, is_strict: bool) -> bool
     ensures { result ≡ (if is_strict then is_below else is_at_most) max.now min.now }
 {
@@ -104,8 +104,8 @@ fn may_precede(max: &ScalarValue, min: &ScalarValue, is_strict: bool) -> bool
     }
 }
 
-/// What the order of the first side's greatest value and the other's least tells, where both are
-/// known.
+// What the order of the first side's greatest value and the other's least tells, where both are
+// known.
 fn at_seam(
     max: Precision<&ScalarValue>,
     min: Precision<&ScalarValue>,
@@ -121,7 +121,7 @@ fn at_seam(
     }
 }
 
-/// IsSorted: whether the first side's greatest value is at most the other's least.
+// IsSorted: whether the first side's greatest value is at most the other's least.
 fn is_sorted_value(left: &StatsSet, other: &StatsSet) -> Option<Precision<ScalarValue>>
     ensures { result ≡ merged_value stats.IsSorted left.now other.now }
 {
@@ -134,7 +134,7 @@ fn is_sorted_value(left: &StatsSet, other: &StatsSet) -> Option<Precision<Scalar
     }
 }
 
-/// IsStrictSorted: whether the first side's greatest value is below the other's least.
+// IsStrictSorted: whether the first side's greatest value is below the other's least.
 fn is_strict_sorted_value(left: &StatsSet, other: &StatsSet) -> Option<Precision<ScalarValue>>
     ensures { result ≡ merged_value stats.IsStrictSorted left.now other.now }
 {
@@ -147,7 +147,7 @@ fn is_strict_sorted_value(left: &StatsSet, other: &StatsSet) -> Option<Precision
     }
 }
 
-/// The left value stays where the bound of both is that value; else the bound's value is copied.
+// The left value stays where the bound of both is that value; else the bound's value is copied.
 fn bound_change(
     left: Precision<&ScalarValue>,
     bound: Precision<&ScalarValue>,
@@ -163,7 +163,7 @@ fn bound_change(
     Ok(Change::Set(precision::copied(bound)?))
 }
 
-/// Max: the union of two upper bounds.
+// Max: the union of two upper bounds.
 fn max_change(left: &StatsSet, other: &StatsSet) -> Result<Change, AllocError>
     ensures made { IfOk result (λ c. made c (entry_value stats.Max left.now)
         ≡ merged_value stats.Max left.now other.now) }
@@ -178,7 +178,7 @@ fn max_change(left: &StatsSet, other: &StatsSet) -> Result<Change, AllocError>
     }
 }
 
-/// Min: the union of two lower bounds.
+// Min: the union of two lower bounds.
 fn min_change(left: &StatsSet, other: &StatsSet) -> Result<Change, AllocError>
     ensures made { IfOk result (λ c. made c (entry_value stats.Min left.now)
         ≡ merged_value stats.Min left.now other.now) }
@@ -193,7 +193,7 @@ fn min_change(left: &StatsSet, other: &StatsSet) -> Result<Change, AllocError>
     }
 }
 
-/// The sum of two sums, where it stays in their type.
+// The sum of two sums, where it stays in their type.
 fn sum_of(left: &ScalarValue, other: &ScalarValue) -> Option<Precision<ScalarValue>>
     ensures { result ≡ sum_added left.now other.now }
 {
@@ -212,7 +212,7 @@ fn sum_of(left: &ScalarValue, other: &ScalarValue) -> Option<Precision<ScalarVal
     }
 }
 
-/// Sum: of two exact ones.
+// Sum: of two exact ones.
 fn sum_value(left: &StatsSet, other: &StatsSet) -> Option<Precision<ScalarValue>>
     ensures { result ≡ merged_value stats.Sum left.now other.now }
 {
@@ -222,7 +222,7 @@ fn sum_value(left: &StatsSet, other: &StatsSet) -> Option<Precision<ScalarValue>
     }
 }
 
-/// The sum of two counts, where it stays below 2 ^ 64.
+// The sum of two counts, where it stays below 2 ^ 64.
 fn sum_of_counts(
     left: &ScalarValue,
     other: &ScalarValue,
@@ -244,7 +244,7 @@ fn sum_of_counts(
     }
 }
 
-/// NullCount and UncompressedSizeInBytes: the sum, exact of two exact ones.
+// NullCount and UncompressedSizeInBytes: the sum, exact of two exact ones.
 fn count_value(
     left: Precision<&ScalarValue>,
     other: Precision<&ScalarValue>,
@@ -259,7 +259,7 @@ fn count_value(
     }
 }
 
-/// What a merge does with each entry. NaNCount has none, and is always cleared.
+// What a merge does with each entry. NaNCount has none, and is always cleared.
 #[derive(Drop)]
 pub(crate) struct Changes {
     is_constant: Option<Precision<ScalarValue>>,
@@ -272,7 +272,7 @@ pub(crate) struct Changes {
     uncompressed_size_in_bytes: Change,
 }
 
-/// What a merge does with each entry where the rows of the other side follow.
+// What a merge does with each entry where the rows of the other side follow.
 fn ordered_changes(left: &StatsSet, other: &StatsSet) -> Result<Changes, AllocError>
     ensures made { IfOk result (λ c. MakesAll c
         (λ s. merged_value s left.now other.now) left.now) }
@@ -296,7 +296,7 @@ fn ordered_changes(left: &StatsSet, other: &StatsSet) -> Result<Changes, AllocEr
     })
 }
 
-/// What a merge does with each entry where the order of the rows isn't known.
+// What a merge does with each entry where the order of the rows isn't known.
 fn unordered_changes(left: &StatsSet, other: &StatsSet) -> Result<Changes, AllocError>
     ensures made { IfOk result (λ c. MakesAll c
         (λ s. unordered_value s left.now other.now) left.now) }
@@ -308,7 +308,7 @@ fn unordered_changes(left: &StatsSet, other: &StatsSet) -> Result<Changes, Alloc
     Ok(changes)
 }
 
-/// The statistic has this value from here on, or no entry.
+// The statistic has this value from here on, or no entry.
 fn revise(set: &mut StatsSet, stat: Stat, value: Option<Precision<ScalarValue>>)
     ensures { set.new ≡ revised stat value set.old }
 {
@@ -318,7 +318,7 @@ fn revise(set: &mut StatsSet, stat: Stat, value: Option<Precision<ScalarValue>>)
     }
 }
 
-/// Changes the statistic's entry.
+// Changes the statistic's entry.
 pub(crate) fn change_entry(set: &mut StatsSet, stat: Stat, change: Change)
     ensures { set.new ≡ changed stat change set.old }
 {
@@ -329,7 +329,7 @@ pub(crate) fn change_entry(set: &mut StatsSet, stat: Stat, change: Change)
     }
 }
 
-/// Changes all entries.
+// Changes all entries.
 fn change_all(set: &mut StatsSet, changes: Changes)
     ensures { set.new ≡ all_changed changes set.old }
 {
@@ -349,7 +349,7 @@ fn change_all(set: &mut StatsSet, changes: Changes)
 }
 
 impl StatsSet {
-    /// The merge in place. Where memory is refused, the set stays as it was.
+    // The merge in place. Where memory is refused, the set stays as it was.
     pub(crate) fn append(&mut self, other: &Self, dtype: &DType) -> Result<(), AllocError>
         requires left_fits { IsTrue (entries_fit self.old dtype.now) }
         requires other_fits { IsTrue (entries_fit other.now dtype.now) }
@@ -358,13 +358,14 @@ impl StatsSet {
         ensures copies { OnErr result (IsTrue (merge_copies self.old other.now)) }
         ensures fits { IsTrue (entries_fit self.new dtype.now) }
     {
+        // The type stands in the contract alone.
         let _ = dtype;
         let changes = ordered_changes(self, other)?;
         change_all(self, changes);
         Ok(())
     }
 
-    /// The unordered merge in place. Where memory is refused, the set stays as it was.
+    // The unordered merge in place. Where memory is refused, the set stays as it was.
     pub(crate) fn mix(&mut self, other: &Self, dtype: &DType) -> Result<(), AllocError>
         requires left_fits { IsTrue (entries_fit self.old dtype.now) }
         requires other_fits { IsTrue (entries_fit other.now dtype.now) }
@@ -373,6 +374,7 @@ impl StatsSet {
         ensures copies { OnErr result (IsTrue (merge_copies self.old other.now)) }
         ensures fits { IsTrue (entries_fit self.new dtype.now) }
     {
+        // The type stands in the contract alone.
         let _ = dtype;
         let changes = unordered_changes(self, other)?;
         change_all(self, changes);

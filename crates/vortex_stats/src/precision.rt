@@ -262,7 +262,7 @@ impl Precision<&ScalarValue> {
     }
 }
 
-/// The scalar of a value and its type.
+// The scalar of a value and its type.
 pub(crate) fn typed(value: ScalarValue, dtype: DType) -> Result<Scalar, StatsError>
     ensures { result ≡ checked_scalar value dtype }
 {
@@ -272,7 +272,7 @@ pub(crate) fn typed(value: ScalarValue, dtype: DType) -> Result<Scalar, StatsErr
     }
 }
 
-/// A copy of a value, by the value's allocator. A text or bytes alone take memory.
+// A copy of a value, by the value's allocator. A text or bytes alone take memory.
 pub(crate) fn copy_of(value: &ScalarValue) -> Result<ScalarValue, AllocError>
     ensures value { IfOk result (λ copy. copy ≡ value.now) }
     ensures refused { OnErr result (IsTrue (is_long (Some value.now))) }
@@ -284,7 +284,7 @@ pub(crate) fn copy_of(value: &ScalarValue) -> Result<ScalarValue, AllocError>
     }
 }
 
-/// The same case around a copy of the value. A text or bytes alone take memory.
+// The same case around a copy of the value. A text or bytes alone take memory.
 pub(crate) fn copied(value: Precision<&ScalarValue>) -> Result<Precision<ScalarValue>, AllocError>
     ensures value { IfOk result (λ copy. copy ≡ precision_map (λ v. v.now) value.entry) }
     ensures refused { OnErr result (IsTrue (is_copied (precision_map (λ v. v.now) value.entry))) }
@@ -296,7 +296,7 @@ pub(crate) fn copied(value: Precision<&ScalarValue>) -> Result<Precision<ScalarV
     }
 }
 
-/// The scalar of a clone of a value and its type.
+// The scalar of a clone of a value and its type.
 fn typed_clone(value: &ScalarValue, dtype: DType) -> Result<Scalar, StatsError>
     ensures answer { IsAnswerOrMemory (checked_scalar value.now dtype) result }
     ensures memory { OnMemory result (IsTrue (is_long (Some value.now))) }

@@ -185,7 +185,7 @@ impl Stat {
     }
 }
 
-/// The type of the sum of a column of this type, and None where it has no sum.
+// The type of the sum of a column of this type, and None where it has no sum.
 fn sum_type(dtype: DType) -> Option<DType>
     ensures { result ≡ sum_dtype dtype }
 {
@@ -199,7 +199,7 @@ fn sum_type(dtype: DType) -> Option<DType>
     }
 }
 
-/// The widest type of the same sign.
+// The widest type of the same sign.
 fn sum_type_of(ptype: PType) -> PType
     ensures { result ≡ sum_ptype ptype }
 {

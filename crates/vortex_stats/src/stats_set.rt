@@ -27,7 +27,7 @@ use vortex_base::scalar_value::ScalarValue;
 /// The entries that make a set: up to four stand in the value itself.
 pub type StatsArray = SmallVec<Entry, 4>;
 
-/// A statistic and its value.
+// A statistic and its value.
 type Entry = (Stat, Precision<ScalarValue>);
 
 /// The statistics of one column: a list of entries, a statistic and its value each, no two of one
@@ -101,7 +101,8 @@ impl StatsSet {
         self.len() == 0
     }
 
-    /// Sets the statistic's value: a present one keeps its place, a new one goes last.
+    /// Sets the statistic's value, as `put` does. It is never refused; Vortex's call of this name
+    /// may be.
     pub fn set(&mut self, stat: Stat, value: Precision<ScalarValue>) -> Result<(), StatsError>
         ensures set { self.new ≡ with_entry stat value self.old }
         ensures answered { IsOk result }
@@ -111,7 +112,7 @@ impl StatsSet {
     }
 
     /// Sets the statistic's value: a present one keeps its place, a new one goes last.
-    pub(crate) fn put(&mut self, stat: Stat, value: Precision<ScalarValue>)
+    pub fn put(&mut self, stat: Stat, value: Precision<ScalarValue>)
         ensures { self.new ≡ with_entry stat value self.old }
     {
         let place = stat.number() as usize;
@@ -170,7 +171,7 @@ impl StatsSet {
         reading::read_precision(self.find(stat), *dtype)
     }
 
-    /// The statistic's value by reference, and Absent where there is no entry.
+    // The statistic's value by reference, and Absent where there is no entry.
     pub(crate) fn find(&self, stat: Stat) -> Precision<&ScalarValue>
         ensures { precision_map (λ v. v.now) result ≡ entry_value stat self.now }
     {
@@ -180,7 +181,7 @@ impl StatsSet {
         }
     }
 
-    /// The allocator.
+    // The allocator.
     pub(crate) fn allocator(&self) -> Global {
         *self.order.allocator()
     }
@@ -271,7 +272,7 @@ pub struct MergeRefused {
     pub set: StatsSet,
 }
 
-/// Whether there is a type and the value is one of it.
+// Whether there is a type and the value is one of it.
 fn is_value_of(value: &ScalarValue, expected: Option<DType>) -> bool
     ensures { result ≡ value_is_of expected value.now }
 {
@@ -281,21 +282,21 @@ fn is_value_of(value: &ScalarValue, expected: Option<DType>) -> bool
     }
 }
 
-/// Whether both are the same statistic.
+// Whether both are the same statistic.
 fn is_same(a: Stat, b: Stat) -> bool
     ensures { result ≡ stat_eq a b }
 {
     a.number() == b.number()
 }
 
-/// Whether the statistic is one of the list.
+// Whether the statistic is one of the list.
 fn is_among(stats: &[Stat], stat: Stat) -> bool
     ensures { result ≡ list_any (stat_eq stat) stats.now }
 {
     stats.iter().any(|listed| is_same(stat, *listed))
 }
 
-/// The statistic's entry, whose slot is empty from here on.
+// The statistic's entry, whose slot is empty from here on.
 fn taken(slots: &mut [Option<Entry>], stat: Stat) -> Entry
     requires nine { length slots.old ≡ 9 }
     requires filed { IsFiled (slot_of slots.old stat) stat }

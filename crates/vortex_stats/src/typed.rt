@@ -99,7 +99,7 @@ impl<'a> StatsProvider for TypedStatsSetRef<'a> {
     }
 }
 
-/// The statistic's value under the statistic's type in a column of this type.
+// The statistic's value under the statistic's type in a column of this type.
 fn get_typed(values: &StatsSet, dtype: &DType, stat: Stat) -> Result<Precision<Scalar>, AllocError>
     requires { IsTrue (entries_fit values.now dtype.now) }
     ensures value { IfOk result (λ p. p ≡ typed_value stat
@@ -112,7 +112,7 @@ fn get_typed(values: &StatsSet, dtype: &DType, stat: Stat) -> Result<Precision<S
     }
 }
 
-/// The precision of the value, around the scalar of a clone.
+// The precision of the value, around the scalar of a clone.
 fn scalar_of_found(
     value: Precision<&ScalarValue>,
     dtype: DType,

@@ -7,7 +7,7 @@ ghost use Rattle.vortex_syntax.specs.Names.{begins_name, continues_name, is_name
 use vortex_base::dtype::DType;
 use vortex_base::types::{Nullability, PType};
 
-/// The longest name of a column, in bytes.
+// The longest name of a column, in bytes.
 const NAME_LIMIT: usize = 64;
 
 /// Whether a word is this one.

@@ -153,7 +153,7 @@ pub fn no_word(line: &[u8]) -> Result<(), LineError>
     }
 }
 
-/// The most words that a predicate may have.
+// The most words that a predicate may have.
 const WORD_LIMIT: usize = 4096;
 
 // The line after its first word, whether or not that is a broken one.

@@ -49,7 +49,7 @@ impl KeptSet {
     {
         let mut set = StatsSet::new(alloc);
         for entry in self.entries {
-            let _ = set.set(entry.0, entry.1);
+            set.put(entry.0, entry.1);
         }
         set
     }

@@ -30,7 +30,7 @@ pub fn set_statistic(sets: &mut [StatsSet], place: usize, stat: Stat, value: Pre
 {
     if place < sets.len() {
         let set = &mut sets[place];
-        let _ = set.set(stat, value);
+        set.put(stat, value);
     }
 }
 

@@ -10,26 +10,12 @@ ghost use Rattle.vortex_rewrite.specs.Answers.{IsMemory};
 ghost use Rattle.vortex_rewrite.specs.Rewriting.Predicates.{is_predicate};
 ghost use Rattle.vortex_uses.specs.Measuring.{rows_of_chunks};
 
-use std::alloc::{AllocError, Global};
+use std::alloc::Global;
 use vortex_base::{BoundExpression, Chunk};
 use vortex_prune::laws::statistics_binders_are_honest;
 use vortex_prune::scan::scan;
 use vortex_prune::{Part, Rules, Scan, StatsBinder};
 use vortex_stats::StatsError;
-
-/// The binders of the parts' own statistics.
-pub(crate) fn binders_of<'a>(
-    alloc: Global,
-    parts: &'a [Part],
-) -> Result<Vec<StatsBinder<'a>>, AllocError>
-    ensures { IfOk result (λ binders. binders.items ≡ parts.entry.now) }
-{
-    let mut binders = Vec::new(alloc);
-    for part in parts {
-        binders.push(StatsBinder::new(part))?;
-    }
-    Ok(binders)
-}
 
 /// The scan by the built-in rules and the parts' own statistics.
 pub fn scan_by_statistics(
@@ -45,7 +31,7 @@ pub fn scan_by_statistics(
     ensures memory { IsTrue (is_predicate predicate.now) → IfErr result IsMemory }
 {
     statistics_binders_are_honest();
-    let binders = binders_of(alloc, parts)?;
+    let binders = StatsBinder::of_parts(alloc, parts)?;
     scan(alloc, parts, &binders, predicate, &Rules::builtin(alloc))
 }
 

@@ -6,19 +6,13 @@ ghost use Rattle.vortex_base.specs.Trees.Tree.{is_plain};
 ghost use Rattle.vortex_prune.specs.Part.{IsTruePart};
 ghost use Rattle.vortex_prune.specs.Scanning.Selection.{full};
 
-use crate::measured::binders_of;
-use std::alloc::{AllocError, Global};
+use std::alloc::Global;
 use vortex_base::{BoundExpression, ScalarFnId};
 use vortex_own_rules::null_operands::NullOperands;
 use vortex_prune::laws::statistics_binders_are_honest;
 use vortex_prune::scan::scan;
-use vortex_prune::{Part, Rules, Scan, StatsRewriteRuleRef};
+use vortex_prune::{Part, Rules, Scan, StatsBinder};
 use vortex_stats::StatsError;
-
-// Adds a rule.
-fn add(own: &mut Vec<StatsRewriteRuleRef>, rule: StatsRewriteRuleRef) -> Result<(), AllocError> {
-    Ok(own.push(rule)?)
-}
 
 /// The scan by the parts' own statistics, the built-in rules, and the rule that an operator rules
 /// out the rows of which an operand is null.
@@ -34,9 +28,9 @@ pub fn scan_by_null_operands(
         → scan.selected.items ≡ full predicate.now parts.now) }
 {
     statistics_binders_are_honest();
-    let binders = binders_of(alloc, parts)?;
-    let mut own = Vec::new(alloc);
+    let binders = StatsBinder::of_parts(alloc, parts)?;
+    let mut rules = Rules::builtin(alloc);
     let function = ScalarFnId::Binary;
-    add(&mut own, Box::new(alloc, NullOperands { function })?)?;
-    scan(alloc, parts, &binders, predicate, &Rules::with_own(own))
+    rules.push(Box::new(alloc, NullOperands { function })?)?;
+    scan(alloc, parts, &binders, predicate, &rules)
 }

@@ -1,15 +1,16 @@
 -- Two chunks of one scope, one after the other, are a chunk.
-use Rattle.std.proofs.Common.{◌≡◌, ℕ, ◌+◌, ◌==◌, true, List, [], ◌∷◌, ◌++◌, length, map, suc, refl, sym, ap, subst, ◌∙◌, arith}
+use Rattle.std.proofs.Common.{◌≡◌, ℕ, ◌+◌, ◌==◌, true, List, Option, [], ◌∷◌, ◌++◌, length, map, suc, refl, sym, ap, subst, ◌∙◌, arith}
 use Rattle.std.proofs.lemmas.Bool.Decides.{nat_tests}
 use Rattle.std.proofs.lemmas.List.{length-append, length-map}
 use Rattle.std.specs.List.{list_all}
 use Rattle.vortex_base.proofs.Data.AppendLemmas.{same_type, both_fit}
-use Rattle.vortex_base.specs.Data.Columns.{ChunkData, ColumnData, IsChunk, all_appended, all_long, appended_chunk, can_append, emptied, emptied_chunk, has_types, is_column, row_count, sizes_fit}
+use Rattle.vortex_base.specs.Data.Columns.{ChunkData, ColumnData, IsChunk, all_appended, all_long, appended_chunk, can_append, emptied, emptied_chunk, has_types, is_column, row_count, row_fits, sizes_fit, with_row}
 use Rattle.vortex_base.specs.Data.Exact.{both_hold, both_true}
 use Rattle.vortex_base.specs.Data.Scalars.{is_optional_value}
 use Rattle.vortex_base.specs.Data.Scopes.{Named, is_scope}
 use Rattle.vortex_base.specs.Data.Types.{dtype_eq, dtype_eq_is_exact}
 use Rattle.vortex_base.specs.declared.dtype.DType.{DType}
+use Rattle.vortex_base.specs.declared.scalar_value.ScalarValue.{ScalarValue}
 
 pub equal_numbers : (m n : ℕ) → (m == n) ≡ true → m ≡ n
 equal_numbers m n h = grind (arith, nat_tests)
@@ -156,3 +157,60 @@ IsChunk-emptied k h =
       types = types_emptied k.scope k.columns p.types;
       columns = columns_emptied k.columns;
     })
+
+-- ---- a row that is pushed
+
+long_pushed : (n : ℕ) (cs : List ColumnData) (vs : List (Option ScalarValue)) → row_fits cs vs ≡ true → all_long n cs ≡ true → all_long (n + 1) (with_row cs vs) ≡ true
+long_pushed n [] [] f h = refl
+long_pushed n [] (v ∷ vs) f h = cc
+long_pushed n (c ∷ cs) [] f h = cc
+long_pushed n (c ∷ cs) (v ∷ vs) f h =
+    let both = both_true _ _ h in
+    let long = equal_numbers (length c.values) n both.0 in
+    let sum : length (c.values ++ v ∷ []) ≡ n + 1 = omega (arith, long, length-append c.values (v ∷ [])) in
+    both_hold _ _ (tests_equal _ _ sum) (long_pushed n cs vs (both_true _ _ f).1 both.1)
+
+pub length-with_row : (cs : List ColumnData) (vs : List (Option ScalarValue)) → length (with_row cs vs) ≡ length cs
+length-with_row [] [] = refl
+length-with_row [] (v ∷ vs) = refl
+length-with_row (c ∷ cs) [] = refl
+length-with_row (c ∷ cs) (v ∷ vs) = ap suc (length-with_row cs vs)
+
+rows_pushed : (cs : List ColumnData) (vs : List (Option ScalarValue)) → row_fits cs vs ≡ true → all_long (row_count cs + 1) (with_row cs vs) ≡ true → all_long (row_count (with_row cs vs)) (with_row cs vs) ≡ true
+rows_pushed [] [] f h = refl
+rows_pushed [] (v ∷ vs) f h = cc
+rows_pushed (c ∷ cs) [] f h = cc
+rows_pushed (c ∷ cs) (v ∷ vs) f h = ap (λ n. all_long n (with_row (c ∷ cs) (v ∷ vs))) (length-append c.values (v ∷ [])) ∙ h
+
+types_pushed : (ss : List Named) (cs : List ColumnData) (vs : List (Option ScalarValue)) → has_types ss cs ≡ true → has_types ss (with_row cs vs) ≡ true
+types_pushed [] [] [] h = h
+types_pushed [] [] (v ∷ vs) h = h
+types_pushed [] (c ∷ cs) vs h = cc
+types_pushed (s ∷ ss) [] [] h = h
+types_pushed (s ∷ ss) [] (v ∷ vs) h = h
+types_pushed (s ∷ ss) (c ∷ cs) [] h = h
+types_pushed (s ∷ ss) (c ∷ cs) (v ∷ vs) h = let both = both_true _ _ h in both_hold _ _ both.0 (types_pushed ss cs vs both.1)
+
+columns_pushed : (cs : List ColumnData) (vs : List (Option ScalarValue)) → row_fits cs vs ≡ true → list_all is_column cs ≡ true → list_all is_column (with_row cs vs) ≡ true
+columns_pushed [] [] f h = refl
+columns_pushed [] (v ∷ vs) f h = cc
+columns_pushed (c ∷ cs) [] f h = cc
+columns_pushed (c ∷ cs) (v ∷ vs) f h =
+    let both = both_true _ _ h in
+    let fits = both_true _ _ f in
+    both_hold _ _ (both_fit c.dtype c.values (v ∷ []) both.0 (both_hold _ _ fits.0 refl)) (columns_pushed cs vs fits.1 both.1)
+
+-- the chunk with one more row that fits is a chunk
+pub IsChunk-pushed : (k : ChunkData) (vs : List (Option ScalarValue)) → IsChunk k → row_fits k.columns vs ≡ true → IsChunk (record { scope = k.scope; columns = with_row k.columns vs })
+IsChunk-pushed k vs h fits =
+    let p = parts_of k h in
+    of_parts (record { scope = k.scope; columns = with_row k.columns vs }) (record {
+      scope = p.scope;
+      count = ap (λ n. length k.scope == n) (length-with_row k.columns vs) ∙ p.count;
+      long = rows_pushed k.columns vs fits (long_pushed (row_count k.columns) k.columns vs fits p.long);
+      types = types_pushed k.scope k.columns vs p.types;
+      columns = columns_pushed k.columns vs fits p.columns;
+    })
+
+pub all_long_of : (k : ChunkData) → IsChunk k → all_long (row_count k.columns) k.columns ≡ true
+all_long_of k h = (parts_of k h).long

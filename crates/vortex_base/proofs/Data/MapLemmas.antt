@@ -22,3 +22,9 @@ list_all-zip E f [] [] h = refl
 list_all-zip E f [] (z ∷ zs) h = absurd (omega arith)
 list_all-zip E f (x ∷ xs) [] h = absurd (omega arith)
 list_all-zip E f (x ∷ xs) (z ∷ zs) h = ap (λ b. E (f x) z && b) (list_all-zip E f xs zs (omega arith))
+
+pub list_all-pairs : {X Y : Type 0} (E : X → Y → Bool) (xs : List X) (ys : List Y) → length xs ≡ length ys → list_all (λ p. E p.0 p.1) (zip xs ys) ≡ pointwise E xs ys
+list_all-pairs E [] [] h = refl
+list_all-pairs E [] (y ∷ ys) h = absurd (omega arith)
+list_all-pairs E (x ∷ xs) [] h = absurd (omega arith)
+list_all-pairs E (x ∷ xs) (y ∷ ys) h = ap (λ b. E x y && b) (list_all-pairs E xs ys (omega arith))

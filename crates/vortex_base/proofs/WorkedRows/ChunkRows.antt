@@ -1,8 +1,10 @@
 -- Worked rows of chunks that take one another's rows.
 use Rattle.std.proofs.Common.{refl}
-use Rattle.std.specs.Prelude.{◌≡◌, ℕ, ◌^◌, ◌-◌, true, false, List, [], ◌∷◌, Option, Some, None, map}
+use Rattle.std.specs.Prelude.{◌≡◌, ℕ, ◌^◌, ◌-◌, true, false, List, [], ◌∷◌, Option, Some, None, Ok, Err, map}
+use Rattle.vortex_base.specs.declared.error.BaseError.TheVariants.{Mismatch}
 use Rattle.vortex_base.specs.declared.scalar_value.ScalarValue.{ScalarValue}
-use Rattle.vortex_base.specs.Data.Columns.{ChunkData, ColumnData, all_appended, appended_chunk, can_append, emptied_chunk, row_count, row_of, sizes_fit}
+use Rattle.vortex_base.specs.declared.scalar_value.ScalarValue.TheVariants as value
+use Rattle.vortex_base.specs.Data.Columns.{ChunkData, ColumnData, all_appended, appended_chunk, can_append, cut_to, emptied_chunk, pushed_chunk, row_count, row_fits, row_of, sizes_fit, with_row}
 use Rattle.vortex_base.specs.Worked.Examples.{column_a, i32_or_null, i32_type, i32_value, of_bools, of_numbers}
 
 abbrev one : Option ScalarValue
@@ -44,3 +46,23 @@ count_row = refl
 -- past the end there is null
 past_the_end : row_of 1 (of_numbers (one ∷ []) ∷ []) ≡ record { dtype = i32_type; value = None } ∷ []
 past_the_end = refl
+
+-- a row's values stand behind those that there were, column by column, and sizes stay
+pushed_row : with_row (sized (one ∷ []) 4 ∷ of_numbers [] ∷ []) (two ∷ one ∷ []) ≡ sized (one ∷ two ∷ []) 4 ∷ of_numbers (one ∷ []) ∷ []
+pushed_row = refl
+
+-- a row fits that has one value a column, each of its type, and null where the type has it
+fitting_rows : map (row_fits (of_numbers [] ∷ record { dtype = i32_or_null; values = []; size = 0 } ∷ [])) ((one ∷ None ∷ []) ∷ (None ∷ one ∷ []) ∷ (one ∷ []) ∷ (one ∷ two ∷ one ∷ []) ∷ (one ∷ Some (value.Bool true) ∷ []) ∷ [])
+    ≡ true ∷ false ∷ false ∷ false ∷ false ∷ []
+fitting_rows = refl
+
+-- a chunk takes a row that fits
+taken_row : pushed_chunk (chunk (one ∷ []) 4) (two ∷ []) ≡ Ok (chunk (one ∷ two ∷ []) 4)
+taken_row = refl
+
+refused_row : pushed_chunk (chunk (one ∷ []) 4) (None ∷ []) ≡ Err Mismatch
+refused_row = refl
+
+-- what is behind the first values is dropped
+cut_rows : map (λ n. cut_to n (sized (one ∷ two ∷ []) 4)) (0 ∷ 1 ∷ 2 ∷ 3 ∷ []) ≡ sized [] 4 ∷ sized (one ∷ []) 4 ∷ sized (one ∷ two ∷ []) 4 ∷ sized (one ∷ two ∷ []) 4 ∷ []
+cut_rows = refl

@@ -1,5 +1,5 @@
 -- Columns, chunks of columns, and the rows of a chunk.
-use Rattle.std.specs.Prelude.{ℕ, ◌+◌, ◌^◌, ◌++◌, nat_lt, Bool, true, List, [], ◌∷◌, Result, Ok, Err, Option, Some, None, IsTrue, if◌then◌else◌, ◌&&◌, length, ◌==◌, slice_get, map}
+use Rattle.std.specs.Prelude.{ℕ, ◌+◌, ◌^◌, ◌++◌, nat_lt, Bool, true, List, [], ◌∷◌, Result, Ok, Err, Option, Some, None, IsTrue, if◌then◌else◌, ◌&&◌, length, ◌==◌, slice_get, map, take}
 use Rattle.std.specs.List.{list_all}
 use lib.Pointwise.{pointwise}
 use Rattle.vortex_base.specs.Data.Types.{dtype_eq}
@@ -64,6 +64,27 @@ emptied c = record { dtype = c.dtype; values = []; size = 0 }
 abbrev pub all_appended : List ColumnData → List ColumnData → List ColumnData
 all_appended (c ∷ cs) (d ∷ ds) = appended c d ∷ all_appended cs ds
 all_appended cs ds = cs
+
+-- a column with one more value, its size as it was
+abbrev pub with_value : ColumnData → Option ScalarValue → ColumnData
+with_value c v = record { dtype = c.dtype; values = c.values ++ v ∷ []; size = c.size }
+
+-- a column with its first values alone
+abbrev pub cut_to : ℕ → ColumnData → ColumnData
+cut_to n c = record { dtype = c.dtype; values = take n c.values; size = c.size }
+
+-- each column with the value beside it after its own
+abbrev pub with_row : List ColumnData → List (Option ScalarValue) → List ColumnData
+with_row (c ∷ cs) (v ∷ vs) = with_value c v ∷ with_row cs vs
+with_row cs vs = cs
+
+-- there are as many values as columns, and each may stand under its column's type
+abbrev pub row_fits : List ColumnData → List (Option ScalarValue) → Bool
+row_fits cs vs = pointwise (λ c v. is_optional_value v c.dtype) cs vs
+
+-- the chunk with one more row, if the row fits
+abbrev pub pushed_chunk : ChunkData → List (Option ScalarValue) → Result ChunkData BaseError
+pushed_chunk k vs = if row_fits k.columns vs then Ok (record { scope = k.scope; columns = with_row k.columns vs }) else Err Mismatch
 
 -- there are as many columns on either side, of equal types, and no two sizes add up past 64 bits
 abbrev pub can_append : List ColumnData → List ColumnData → Bool

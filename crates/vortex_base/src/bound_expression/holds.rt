@@ -9,7 +9,7 @@ use crate::row::Row;
 use crate::scope::Scope;
 
 impl BoundExpression {
-    /// Whether a column stands in the expression, the inputs of placeholders included.
+    // Whether a column stands in the expression, the inputs of placeholders included.
     pub(crate) fn has_column(&self) -> bool
         ensures { result ≡ tree.has_column self.now }
     {
@@ -28,7 +28,7 @@ impl BoundExpression {
         }
     }
 
-    /// Whether a placeholder stands in the expression.
+    // Whether a placeholder stands in the expression.
     pub(crate) fn has_placeholder(&self) -> bool
         ensures { result ≡ tree.has_placeholder self.now }
     {
@@ -45,7 +45,7 @@ impl BoundExpression {
         }
     }
 
-    /// Whether the row count stands in the expression.
+    // Whether the row count stands in the expression.
     fn has_row_count(&self) -> bool
         ensures { result ≡ tree.has_row_count self.now }
     {
@@ -115,7 +115,7 @@ impl BoundExpression {
         }
     }
 
-    /// Whether each column has its place in the row, and its type there, nullability aside.
+    // Whether each column has its place in the row, and its type there, nullability aside.
     pub(crate) fn fits_row(&self, row: &Row<'_>) -> bool
         ensures { result ≡ fitting.fits_row self.now row.now }
     {

@@ -16,7 +16,7 @@ use crate::row::Row;
 use crate::types::{BetweenOptions, Operator};
 use crate::value_ref::{ValueRef, lend};
 
-/// What a column or a literal lends, `None` being null; or an inner node.
+// What a column or a literal lends, `None` being null; or an inner node.
 #[derive(Clone, Copy)]
 enum Leaf<'a> {
     Of(Option<ValueRef<'a>>),

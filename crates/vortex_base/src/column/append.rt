@@ -57,8 +57,8 @@ fn put_back(columns: &mut Vec<Column>, others: &mut Vec<Column>, mut pairs: Vec<
     }
 }
 
-/// Moves the values of each other column behind those of the column beside it, and with them its
-/// size. All room is made first, so that nothing has moved where memory is refused.
+// Moves the values of each other column behind those of the column beside it, and with them its
+// size. All room is made first, so that nothing has moved where memory is refused.
 pub(crate) fn append_all(
     columns: &mut Vec<Column>,
     others: &mut Vec<Column>,

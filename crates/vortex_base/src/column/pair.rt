@@ -7,8 +7,8 @@ use crate::cells::Cells;
 use crate::column::Column;
 use crate::dtype::DType;
 
-/// Two columns of one type, taken apart, of which the first has room for the values of the second.
-/// A `Column` shows its values and not its room.
+// Two columns of one type, taken apart, of which the first has room for the values of the second.
+// A `Column` shows its values and not its room.
 #[derive(Drop)]
 pub(crate) struct Pair {
     dtype: DType,
@@ -25,7 +25,7 @@ pub(crate) struct Pair {
 impl Pair {
     ghost use Rattle.vortex_base.specs.Data.Pairs.{first_of, second_of};
 
-    /// The pair of two columns, or both as they were where memory for the room is refused.
+    // The pair of two columns, or both as they were where memory for the room is refused.
     pub(crate) fn try_new(column: Column, other: Column) -> Result<Pair, (Column, Column)>
         requires { IsTrue (can_append (column ∷ []) (other ∷ [])) }
         ensures first { IfOk result (λ pair. first_of pair ≡ column) }
@@ -61,7 +61,7 @@ impl Pair {
         })
     }
 
-    /// Both columns as they were.
+    // Both columns as they were.
     pub(crate) fn apart(self) -> (Column, Column)
         ensures first { result.0 ≡ first_of self }
         ensures second { result.1 ≡ second_of self }
@@ -80,7 +80,7 @@ impl Pair {
         (column, other)
     }
 
-    /// Both columns, with the values of the second moved behind those of the first, and its size.
+    // Both columns, with the values of the second moved behind those of the first, and its size.
     pub(crate) fn appended(self) -> (Column, Column)
         ensures first { result.0 ≡ appended (first_of self) (second_of self) }
         ensures second { result.1 ≡ emptied (second_of self) }

@@ -7,7 +7,7 @@ ghost use Rattle.vortex_base.specs.Patterns.Piece.{IsPieceOf};
 use super::substring::{Letters, from_first};
 use super::{Characters, Front, Item, from_chance, match_front, next_item};
 
-/// A piece, as far as a text may match it.
+// A piece, as far as a text may match it.
 #[derive(Clone, Copy)]
 enum Piece {
     /// So many letters alone, before a `%`.
@@ -74,7 +74,7 @@ fn from_front<'a>(pattern: Characters<'a>, mut text: Characters<'a>) -> Characte
     text
 }
 
-/// The text from the first place on at which the first piece may match.
+// The text from the first place on at which the first piece may match.
 pub(super) fn from_piece<'a>(pattern: Characters<'a>, text: Characters<'a>) -> Characters<'a>
     ensures same { let test = like (items (characters pattern.entry)) in
         some_end test (characters result) ≡ some_end test (characters text.entry) }

@@ -11,22 +11,22 @@ ghost use Rattle.vortex_base.specs.Patterns.Substring.{letters, AreSame, Compare
 use super::{Characters, Item, next_item};
 use std::cmp::Ordering;
 
-/// The letters that are left of a text or, at a pattern, those before its next wildcard.
+// The letters that are left of a text or, at a pattern, those before its next wildcard.
 #[derive(Clone, Copy)]
 pub(super) struct Letters<'a> {
     rest: Characters<'a>,
     of_pattern: bool,
 }
 
-/// The greatest suffix by an order, and its least period.
+// The greatest suffix by an order, and its least period.
 #[derive(Clone, Copy)]
 struct Suffix {
     pos: usize,
     period: usize,
 }
 
-/// Where a needle is cut. A mismatch left of the cut moves the search by `shift`, and `keep`
-/// letters of the needle are then known to stand.
+// Where a needle is cut. A mismatch left of the cut moves the search by `shift`, and `keep`
+// letters of the needle are then known to stand.
 #[derive(Clone, Copy)]
 struct Cut {
     critical: usize,
@@ -34,7 +34,7 @@ struct Cut {
     keep: usize,
 }
 
-/// How letters compare with a text.
+// How letters compare with a text.
 #[derive(Clone, Copy)]
 enum Comparison<'a> {
     /// All stand there, and this follows them.
@@ -248,8 +248,8 @@ fn cut_at(needle: Letters, count: usize, suffix: Suffix) -> Cut
     }
 }
 
-/// The text from the first place on at which the needle stands, or its end. The needle has `count`
-/// letters.
+// The text from the first place on at which the needle stands, or its end. The needle has `count`
+// letters.
 pub(super) fn from_first<'a>(needle: Letters<'a>, text: Letters<'a>, count: usize) -> Letters<'a>
     requires some { 0 < count }
     requires count { count ≡ length (letters needle) }

@@ -23,19 +23,20 @@ use vortex_rewrite::hook_fault::HookFault;
 /// a value for each placeholder over a row of statistics and a row count. Where it says that it is
 /// faithful, its answers have those values; it may be faithful nowhere.
 pub trait StatBinder {
+    // What it answers to the placeholder of an aggregate of an input, the type being given.
     ghost answer: { Self → BinderAnswer };
-
+    // What may stand for a placeholder of a type of which it knows nothing.
     ghost is_missing: { Self → DType → Tree Place → Type 0 };
-
+    // A proof that null may, so that `missing_stat` needn't be written.
     ghost allows_null: { (s : Self) (t : DType)
         → is_missing s t (literal (null_of (as_nullable t))) };
-
+    // The numbers of the faults of its own that it may answer.
     ghost can_fault: { Self → ℕ → Bool };
-
+    // The values that its answers have over a row of statistics, with a row count.
     ghost value: { Self → (row : List Constant) → (n : ℕ) → Assignment };
-
+    // Over which rows of statistics, with which row counts, it is faithful.
     ghost is_faithful_over: { Self → (row : List Constant) → (n : ℕ) → Bool };
-
+    // A proof that there its answers have the types asked for and those values.
     ghost is_faithful: { (s : Self) (row : List Constant) (n : ℕ)
         → IsTrue (is_faithful_over s row n)
         → IsFaithful (answer s) (is_missing s) (value s row n) row n };

@@ -16,7 +16,7 @@ use crate::bind::stat_binder::StatBinder;
 use crate::part::{Part, sets_fit};
 use crate::stat_fn::scalar_of;
 use crate::zone::Zone;
-use std::alloc::Global;
+use std::alloc::{AllocError, Global};
 use std::marker::Model;
 use vortex_base::aggregate::AggregateFnRef;
 use vortex_base::bound;
@@ -53,8 +53,20 @@ impl<'a> StatsBinder<'a> {
             → IsHonestOver (⟦<StatsBinder<'a> as StatBinder>⟧.is_faithful_over result)
             (⟦<StatsBinder<'a> as StatBinder>⟧.value result) row part.now.chunk }
     {
+        // That the part is one.
         let _chunk = part.chunk();
         StatsBinder { part }
+    }
+
+    /// The binder of each of some parts, in their order. Memory alone is refused.
+    pub fn of_parts(alloc: Global, parts: &'a [Part]) -> Result<Vec<StatsBinder<'a>>, AllocError>
+        ensures { IfOk result (λ binders. binders.items ≡ parts.entry.now) }
+    {
+        let mut binders = Vec::with_capacity(alloc, parts.len())?;
+        for part in parts {
+            binders.push(StatsBinder::new(part))?;
+        }
+        Ok(binders)
     }
 }
 

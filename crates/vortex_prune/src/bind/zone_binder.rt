@@ -52,6 +52,7 @@ impl<'a> ZoneBinder<'a> {
             (⟦<ZoneBinder<'a> as StatBinder>⟧.value result) row part.chunk }
     {
         let table = map.table();
+        // That the table is a chunk.
         let _rows = table.rows();
         ZoneBinder { map }
     }

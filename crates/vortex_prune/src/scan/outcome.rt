@@ -50,6 +50,7 @@ impl Scan {
         ensures memory { IfErr result (λ f. f ≡ Memory alloc_error) }
     {
         let chunk = part.chunk();
+        // That the number is one of 64 bits.
         let _counted = self.evaluated;
         match verdict {
             Verdict::Skipped => Ok(self.skipped.push(place)?),

@@ -134,6 +134,7 @@ fn scan_rules(
         let causes = zone_causes (own_rules M rules.now.own.items) predicate.now zones.now.parts in
         IsTrue (is_predicate predicate.now) → IfErr result (IsRefusal causes) }
 {
+    // That the parts are of the scope and their map is kept.
     let _parts = zones.parts();
     let verdicts = verdicts(alloc, zones.map(), predicate, rules)?;
     scan_verdicts(alloc, zones, predicate, &verdicts)

@@ -1,5 +1,5 @@
 -- The falsifiers and the satisfiers of predicates are right, with any rules of a user that are.
-use Rattle.std.proofs.Common.{◌≡◌, ℕ, ◌<◌, Bool, true, false, not, ◌&&◌, ◌||◌, ◌⊎◌, inl, inr, ⊎_elim, List, [], Option, Some, None, refl, sym, ap, ap₂, ◌∙◌, option_to_list}
+use Rattle.std.proofs.Common.{◌∷◌, ◌≡◌, ℕ, ◌<◌, Bool, true, false, not, ◌&&◌, ◌||◌, ◌⊎◌, inl, inr, ⊎_elim, List, [], Option, Some, None, refl, sym, ap, ap₂, ◌∙◌, option_to_list}
 use Rattle.std.specs.List.{AllByRecursion}
 use Rattle.std.proofs.lemmas.Bool.{and_left, and_right, or_left, or_right}
 use Rattle.std.proofs.lemmas.Option.{same_Some, none-some}
@@ -26,7 +26,8 @@ use Rattle.vortex_rewrite.specs.Rewriting.Sides.{proof_of}
 use Rattle.vortex_rewrite.specs.declared.rewrite.side.Side.{Side}
 use Rattle.vortex_rewrite.specs.declared.rewrite.side.Side.TheVariants.{Falsify, Satisfy}
 use Rattle.std.specs.Prelude.{is_ok}
-use Rattle.vortex_rewrite.specs.Rewriting.Falsifiers.{Ends, and_proof, binary_node, both_of, comparison_proof, either_of, ends, ends_node, falsifier, halves, halves_node, like_falsifier, of_sides, or_proof, proved, rewriting, satisfier, table_proofs}
+use Rattle.vortex_rewrite.specs.Rewriting.Falsifiers.{Ends, and_proof, binary_node, both_of, comparison_proof, either_of, ends, ends_node, falsifier, halves, halves_node, like_falsifier, of_sides, or_proof, proved, rewriting, satisfier, table_falsifiers, table_proofs, table_satisfiers}
+use Rattle.vortex_rewrite.specs.RuleLaws.{ComparisonsAreSound, TablesAreSound}
 
 module _ (row : List Constant) (n : ℕ) where
   and_false : (x y : Tree Place) → (satisfies x row n ≡ false) ⊎ (satisfies y row n ≡ false) → satisfies (binary And x y) row n ≡ false
@@ -186,6 +187,44 @@ module _ (k : ChunkData) (A : Assignment) (chunk : IsChunk k) (honest : IsHonest
   rewriting_right side rules (like o x y) over = node_right side rules (like o x y) over (table_proofs side (like o x y)) (like_right_for side o x y over)
   rewriting_right side rules (stat f x) over = node_right side rules (stat f x) over (table_proofs side (stat f x)) (no_table side (stat f x) refl refl)
   rewriting_right side rules row_count over = node_right side rules row_count over (table_proofs side row_count) (no_table side row_count refl refl)
+
+  tables_right : (side : Side) (p : Tree Place) → IsOver p k → AllRight side p (table_proofs side p)
+  tables_right side (literal c) over = literal_right side c
+  tables_right side (is_null x) over = null_right side x
+  tables_right side (is_not_null x) over = not_null_right side x
+  tables_right side (like o x y) over = like_right_for side o x y over
+  tables_right side (column c) over = no_table side (column c) refl refl
+  tables_right side (binary o x y) over = no_table side (binary o x y) refl refl
+  tables_right side (between o x l u) over = no_table side (between o x l u) refl refl
+  tables_right side (not_tree x) over = no_table side (not_tree x) refl refl
+  tables_right side (stat f x) over = no_table side (stat f x) refl refl
+  tables_right side row_count over = no_table side row_count refl refl
+
+-- ---- the tables
+
+all_falsify : (p : Tree Place) (es : List (Tree Place))
+    → ((k : ChunkData) (A : Assignment) → IsChunk k → IsOver p k → IsHonest A k.columns → (i : ℕ) → i < rows_of k.columns → AllByRecursion (Gives A (rows_of k.columns) (satisfies p (row_of i k.columns) (rows_of k.columns) ≡ false)) es)
+    → AllByRecursion (IsSoundFalsifier p) es
+all_falsify p [] f = tt
+all_falsify p (e ∷ es) f = (λ k A chunk over honest t i here. (f k A chunk over honest i here).0 t, all_falsify p es (λ k A chunk over honest i here. (f k A chunk over honest i here).1))
+
+all_satisfy : (p : Tree Place) (es : List (Tree Place))
+    → ((k : ChunkData) (A : Assignment) → IsChunk k → IsOver p k → IsHonest A k.columns → (i : ℕ) → i < rows_of k.columns → AllByRecursion (Gives A (rows_of k.columns) (satisfies p (row_of i k.columns) (rows_of k.columns) ≡ true)) es)
+    → AllByRecursion (IsSoundSatisfier p) es
+all_satisfy p [] f = tt
+all_satisfy p (e ∷ es) f = (λ k A chunk over honest t i here. (f k A chunk over honest i here).0 t, all_satisfy p es (λ k A chunk over honest i here. (f k A chunk over honest i here).1))
+
+pub tables_sound : TablesAreSound
+tables_sound p = (
+  all_falsify p (table_falsifiers p) (λ k A chunk over honest i here. tables_right k A chunk honest i here Falsify p over),
+  all_satisfy p (table_satisfiers p) (λ k A chunk over honest i here. tables_right k A chunk honest i here Satisfy p over),
+)
+
+pub comparisons_sound : ComparisonsAreSound
+comparisons_sound o x y e = (
+  λ is k A chunk over honest t i here. comparison_right_for k A chunk honest i here Falsify o x y e is t,
+  λ is k A chunk over honest t i here. comparison_right_for k A chunk honest i here Satisfy o x y e is t,
+)
 
 -- ---- the theorems
 

@@ -21,6 +21,7 @@ pub fn stat(
 ) -> Result<BoundExpression, StatsError>
     ensures { let s = tree.stat aggregate input in IfSupported (type_of s) (λ _. s) result }
 {
+    // That the input has a type.
     let _typed = input.dtype();
     match new_stat(alloc, input, aggregate) {
         Ok(placeholder) => Ok(placeholder),
@@ -49,6 +50,7 @@ pub fn sum(alloc: Global, input: BoundExpression) -> Result<BoundExpression, Sta
 pub fn null_count(alloc: Global, input: BoundExpression) -> Result<BoundExpression, StatsError>
     ensures { Makes (tree.stat AggregateFnRef.NullCount input) result }
 {
+    // That the input has a type.
     let _typed = input.dtype();
     stat(alloc, input, AggregateFnRef::NullCount)
 }
@@ -57,6 +59,7 @@ pub fn null_count(alloc: Global, input: BoundExpression) -> Result<BoundExpressi
 pub fn all_null(alloc: Global, input: BoundExpression) -> Result<BoundExpression, StatsError>
     ensures { Makes (tree.stat AggregateFnRef.AllNull input) result }
 {
+    // That the input has a type.
     let _typed = input.dtype();
     stat(alloc, input, AggregateFnRef::AllNull)
 }
@@ -65,6 +68,7 @@ pub fn all_null(alloc: Global, input: BoundExpression) -> Result<BoundExpression
 pub fn all_non_null(alloc: Global, input: BoundExpression) -> Result<BoundExpression, StatsError>
     ensures { Makes (tree.stat AggregateFnRef.AllNonNull input) result }
 {
+    // That the input has a type.
     let _typed = input.dtype();
     stat(alloc, input, AggregateFnRef::AllNonNull)
 }

@@ -22,10 +22,10 @@ use vortex_base::scalar_value::ScalarValue;
 use vortex_base::types::Operator;
 use vortex_stats::error::StatsError;
 
-/// The built-in proofs of one node, which are two at the most.
+// The built-in proofs of one node, which are two at the most.
 pub(crate) type BuiltIn = (Option<Proof>, Option<Proof>);
 
-/// A proof of AND by the proofs of its sides: it is falsified by either, and satisfied by both.
+// A proof of AND by the proofs of its sides: it is falsified by either, and satisfied by both.
 pub(crate) fn and_proof(
     alloc: Global,
     side: Side,
@@ -40,7 +40,7 @@ pub(crate) fn and_proof(
     }
 }
 
-/// A proof of OR by the proofs of its sides: it is falsified by both, and satisfied by either.
+// A proof of OR by the proofs of its sides: it is falsified by both, and satisfied by either.
 pub(crate) fn or_proof(
     alloc: Global,
     side: Side,
@@ -55,7 +55,7 @@ pub(crate) fn or_proof(
     }
 }
 
-/// The proof of a BETWEEN whose ends leave no value between: no row satisfies it.
+// The proof of a BETWEEN whose ends leave no value between: no row satisfies it.
 pub(crate) fn empty_proof(alloc: Global, side: Side) -> Result<Option<Proof>, StatsError>
     ensures { Makes (empty_proof_of side) result }
 {
@@ -65,7 +65,7 @@ pub(crate) fn empty_proof(alloc: Global, side: Side) -> Result<Option<Proof>, St
     }
 }
 
-/// That no row satisfies a literal.
+// That no row satisfies a literal.
 fn literal_falsifier(alloc: Global, value: &Scalar) -> Result<Option<Proof>, StatsError>
     ensures { Makes (literal_falsifier value.now.value) result }
 {
@@ -75,7 +75,7 @@ fn literal_falsifier(alloc: Global, value: &Scalar) -> Result<Option<Proof>, Sta
     }
 }
 
-/// That every row satisfies a literal.
+// That every row satisfies a literal.
 fn literal_satisfier(alloc: Global, value: &Scalar) -> Result<Option<Proof>, StatsError>
     ensures { Makes (literal_satisfier value.now.value) result }
 {
@@ -85,10 +85,11 @@ fn literal_satisfier(alloc: Global, value: &Scalar) -> Result<Option<Proof>, Sta
     }
 }
 
-/// That no value of an operand is null, in two ways.
+// That no value of an operand is null, in two ways.
 fn none_null(alloc: Global, x: &BoundExpression) -> Result<BuiltIn, StatsError>
     ensures { OkOrMemory result (λ b. listed b.0 b.1 ≡ none_null x.now) }
 {
+    // That the operand has a type.
     let _typed = x.dtype();
     let count = null_count(alloc, x)?;
     let zero = count_literal(alloc, 0)?;
@@ -97,10 +98,11 @@ fn none_null(alloc: Global, x: &BoundExpression) -> Result<BuiltIn, StatsError>
     Ok((Some(by_count), Some(by_test)))
 }
 
-/// That every value of an operand is null, in two ways.
+// That every value of an operand is null, in two ways.
 fn every_null(alloc: Global, x: &BoundExpression) -> Result<BuiltIn, StatsError>
     ensures { OkOrMemory result (λ b. listed b.0 b.1 ≡ every_null x.now) }
 {
+    // That the operand has a type.
     let _typed = x.dtype();
     let count = null_count(alloc, x)?;
     let rows = row_count(alloc)?;
@@ -109,11 +111,12 @@ fn every_null(alloc: Global, x: &BoundExpression) -> Result<BuiltIn, StatsError>
     Ok((Some(by_count), Some(by_test)))
 }
 
-/// The built-in proofs that no row satisfies an expression that has neither two operands to compare
-/// or connect nor ends.
+// The built-in proofs that no row satisfies an expression that has neither two operands to compare
+// or connect nor ends.
 fn table_falsifiers(alloc: Global, e: &BoundExpression) -> Result<BuiltIn, StatsError>
     ensures { OkOrMemory result (λ b. listed b.0 b.1 ≡ falsifiers_of e.now) }
 {
+    // That the expression has a type.
     let _typed = e.dtype();
     match e.parts() {
         Parts::Literal(value) => Ok((literal_falsifier(alloc, value)?, None)),
@@ -131,7 +134,7 @@ fn table_falsifiers(alloc: Global, e: &BoundExpression) -> Result<BuiltIn, Stats
     }
 }
 
-/// The built-in proofs that every row satisfies such an expression.
+// The built-in proofs that every row satisfies such an expression.
 fn table_satisfiers(alloc: Global, e: &BoundExpression) -> Result<BuiltIn, StatsError>
     ensures { OkOrMemory result (λ b. listed b.0 b.1 ≡ satisfiers_of e.now) }
 {
@@ -149,8 +152,8 @@ fn table_satisfiers(alloc: Global, e: &BoundExpression) -> Result<BuiltIn, Stats
     }
 }
 
-/// The built-in proofs of an expression that has neither two operands to compare or connect nor
-/// ends.
+// The built-in proofs of an expression that has neither two operands to compare or connect nor
+// ends.
 pub(crate) fn table_proofs(
     alloc: Global,
     side: Side,

@@ -27,8 +27,8 @@ use vortex_base::bound_expression::parts::Parts;
 use vortex_base::types::{BetweenOptions, Operator};
 use vortex_stats::error::StatsError;
 
-/// The proof at one node: the built-in ones and then those of the user's rules, joined. Where no
-/// rule of the user is asked no list is made.
+// The proof at one node: the built-in ones and then those of the user's rules, joined. Where no
+// rule of the user is asked no list is made.
 fn node(
     alloc: Global,
     side: Side,
@@ -53,7 +53,7 @@ fn node(
     reduce_balanced(alloc, proofs)
 }
 
-/// The AND of the two comparisons that a BETWEEN stands for.
+// The AND of the two comparisons that a BETWEEN stands for.
 fn both_halves(
     alloc: Global,
     options: BetweenOptions,
@@ -79,8 +79,8 @@ fn both_halves(
     Ok(Proof::connect(alloc, Operator::And, low, high)?.into_expression())
 }
 
-/// The AND of the two comparisons that a BETWEEN stands for, at its moved ends; none, if its ends
-/// are literals between which no value lies.
+// The AND of the two comparisons that a BETWEEN stands for, at its moved ends; none, if its ends
+// are literals between which no value lies.
 fn halves(
     alloc: Global,
     options: BetweenOptions,
@@ -100,8 +100,8 @@ fn halves(
     }
 }
 
-/// The proof of an expression, that no row satisfies it or that every row does, if there is one.
-/// Each call is a turn, and is counted as it begins.
+// The proof of an expression, that no row satisfies it or that every row does, if there is one.
+// Each call is a turn, and is counted as it begins.
 pub(crate) fn rewrite_node(
     alloc: Global,
     side: Side,
@@ -119,6 +119,7 @@ pub(crate) fn rewrite_node(
         IfErr result (IsRefusal (rule_causes (proof_of side) own (visited e.now))) }
 {
     *visits = visits.saturating_add(1);
+    // That the expression has a type.
     let _typed = e.dtype();
     match e.parts() {
         Parts::Binary(operator, left, right) => match operator {

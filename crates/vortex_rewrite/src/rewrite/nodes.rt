@@ -19,7 +19,7 @@ use vortex_base::text::Text;
 use vortex_base::types::{Nullability, PType};
 use vortex_stats::error::StatsError;
 
-/// The literal of a type and a value that fits it.
+// The literal of a type and a value that fits it.
 pub(crate) fn literal(
     alloc: Global,
     dtype: DType,
@@ -57,7 +57,7 @@ pub(crate) fn text_literal(alloc: Global, text: &str) -> Result<BoundExpression,
     )
 }
 
-/// The placeholder for an aggregate of an operand that it supports.
+// The placeholder for an aggregate of an operand that it supports.
 pub(crate) fn stat(
     alloc: Global,
     aggregate: AggregateFnRef,
@@ -70,10 +70,11 @@ pub(crate) fn stat(
     built(bound::new_stat(alloc, input, aggregate))
 }
 
-/// The number of an operand's nulls, which of a literal is known.
+// The number of an operand's nulls, which of a literal is known.
 pub(crate) fn null_count(alloc: Global, x: &BoundExpression) -> Result<BoundExpression, StatsError>
     ensures { Makes (null_count_of x.now) result }
 {
+    // That the operand has a type, so that its nulls can be counted.
     let _typed = x.dtype();
     match x.literal() {
         Some(value) => count_literal(alloc, if value.value().is_none() { 1 } else { 0 }),

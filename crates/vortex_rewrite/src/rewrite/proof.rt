@@ -18,7 +18,7 @@ use vortex_base::scalar_value::ScalarValue;
 use vortex_base::types::{Nullability, Operator};
 use vortex_stats::error::StatsError;
 
-/// An expression of type Bool.
+// An expression of type Bool.
 #[derive(Drop)]
 pub(crate) struct Proof {
     expression: BoundExpression,
@@ -40,7 +40,7 @@ impl Model for Proof {
     ghost invariant = { λ p. IsTrue (is_predicate p.expression) };
 }
 
-/// Whether an expression is of type Bool.
+// Whether an expression is of type Bool.
 pub(crate) fn is_truth(expression: &BoundExpression) -> bool
     ensures { result ≡ is_predicate expression.now }
 {
@@ -48,7 +48,7 @@ pub(crate) fn is_truth(expression: &BoundExpression) -> bool
 }
 
 impl Proof {
-    /// The expression, if it is of type Bool.
+    // The expression, if it is of type Bool.
     pub(crate) fn try_new(expression: BoundExpression) -> Option<Proof>
         ensures { MatchOption result (is_predicate expression ≡ false) (λ p. p ≡ expression) }
     {
@@ -66,7 +66,7 @@ impl Proof {
         self.expression
     }
 
-    /// Two operands that fit, compared or connected.
+    // Two operands that fit, compared or connected.
     pub(crate) fn binary(
         alloc: Global,
         operator: Operator,
@@ -80,7 +80,7 @@ impl Proof {
         Ok(Proof { expression })
     }
 
-    /// Two proofs joined by AND or OR.
+    // Two proofs joined by AND or OR.
     pub(crate) fn connect(
         alloc: Global,
         connective: Operator,
@@ -93,7 +93,7 @@ impl Proof {
         Proof::binary(alloc, connective, left.expression, right.expression)
     }
 
-    /// A literal truth.
+    // A literal truth.
     pub(crate) fn truth(alloc: Global, truth: bool) -> Result<Proof, StatsError>
         ensures { Makes (bool_literal truth) result }
     {
@@ -105,7 +105,7 @@ impl Proof {
         Ok(Proof { expression })
     }
 
-    /// The placeholder for an aggregate whose state is a truth.
+    // The placeholder for an aggregate whose state is a truth.
     pub(crate) fn stat(
         alloc: Global,
         aggregate: AggregateFnRef,
@@ -114,13 +114,14 @@ impl Proof {
         requires { IsTrue (is_truth_aggregate aggregate) }
         ensures { Makes (tree.stat aggregate x.now) result }
     {
+        // That the operand has a type, so that the aggregate supports it.
         let _typed = x.dtype();
         let expression = stat(alloc, aggregate, x)?;
         Ok(Proof { expression })
     }
 }
 
-/// Appends a proof, if there is one.
+// Appends a proof, if there is one.
 pub(crate) fn push_some(proofs: &mut Vec<Proof>, proof: Option<Proof>) -> Result<(), StatsError>
     ensures { OkOrMemory result (λ _. proofs.new.items ≡ proofs.old.items ++ option_to_list proof) }
 {

@@ -8,8 +8,8 @@ use std::alloc::Global;
 use vortex_base::types::Operator;
 use vortex_stats::error::StatsError;
 
-/// Joins neighbours by OR, the first with the second, the third with the fourth; an odd last one
-/// stays.
+// Joins neighbours by OR, the first with the second, the third with the fourth; an odd last one
+// stays.
 fn reduce_round(alloc: Global, proofs: Vec<Proof>) -> Result<Vec<Proof>, StatsError>
     ensures { OkOrMemory result (λ joined. joined.items ≡ round proofs.items) }
 {
@@ -24,7 +24,7 @@ fn reduce_round(alloc: Global, proofs: Vec<Proof>) -> Result<Vec<Proof>, StatsEr
     Ok(joined)
 }
 
-/// Joins neighbours, round after round, until one proof is left.
+// Joins neighbours, round after round, until one proof is left.
 pub(crate) fn reduce_balanced(
     alloc: Global,
     proofs: Vec<Proof>,

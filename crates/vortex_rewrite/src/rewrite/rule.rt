@@ -14,15 +14,16 @@ use vortex_base::types::ScalarFnId;
 pub trait StatsRewriteRule: Drop {
     ghost use Rattle.vortex_rewrite.specs.HookFaults.{IsHookFault};
 
-    // The function that it is asked for.
+    // The function whose nodes it is asked for.
     ghost id: { Self → ScalarFnId };
-    // What it proves, by predicates.
+    // By a predicate, the proof that no row satisfies it, if the rule has one.
     ghost falsifier: { Self → Tree Place → Option (Tree Place) };
-
+    // By a predicate, the proof that every row satisfies it, if the rule has one.
     ghost satisfier: { Self → Tree Place → Option (Tree Place) };
-    // The numbers of the faults that it may answer.
+    // The numbers of the faults of its own that it may answer.
     ghost can_fault: { Self → ℕ → Bool };
-    // Its proofs are right.
+    // A proof that such proofs are right: where one is true under facts of a chunk, no row, or
+    // every row, satisfies the predicate.
     ghost is_lawful: { (s : Self) → IsLawful (falsifier s) (satisfier s) };
 
     /// The function whose nodes the rule is asked for.

@@ -1,8 +1,8 @@
 //! The rules that predicates are rewritten by.
-ghost use Rattle.std.specs.Prelude.{◌≡◌, []};
+ghost use Rattle.std.specs.Prelude.{◌≡◌, ◌++◌, ◌∷◌, [], OnErr, OnOk};
 
 use crate::rewrite::rule::StatsRewriteRuleRef;
-use std::alloc::Global;
+use std::alloc::{AllocError, Global};
 use vortex_base::types::ScalarFnId;
 
 /// A rule of the library's own. The engine runs them, at a node of their function, in this order.
@@ -75,5 +75,14 @@ impl Rules {
         ensures { result.own ≡ own }
     {
         Rules { own }
+    }
+
+    /// Adds a rule behind the user's others. Where memory is refused, it is dropped and the others
+    /// are as they were.
+    pub fn push(&mut self, rule: StatsRewriteRuleRef) -> Result<(), AllocError>
+        ensures pushed { OnOk result (self.new.own.items ≡ self.old.own.items ++ rule ∷ []) }
+        ensures refused { OnErr result (self.new.own.items ≡ self.old.own.items) }
+    {
+        Ok(self.own.push(rule)?)
     }
 }

@@ -1,6 +1,6 @@
 //! The two kinds of proof.
 
-/// Which proof is asked for.
+// Which proof is asked for.
 #[derive(Clone, Copy)]
 pub(crate) enum Side {
     /// That no row satisfies a predicate.

@@ -49,7 +49,7 @@ fn is_for(rule: &Box<dyn StatsRewriteRule>, e: &BoundExpression) -> bool
     }
 }
 
-/// Whether some rule of the user is one for an expression's function.
+// Whether some rule of the user is one for an expression's function.
 pub(crate) fn is_asked(rules: &Rules, e: &BoundExpression) -> bool
     ensures { let own =
         own_rules ⟦<dyn StatsRewriteRule as StatsRewriteRule>⟧ rules.now.own.items in
@@ -63,7 +63,7 @@ pub(crate) fn is_asked(rules: &Rules, e: &BoundExpression) -> bool
     false
 }
 
-/// What one rule proves of an expression, if it is a rule for its function.
+// What one rule proves of an expression, if it is a rule for its function.
 fn ask_rule(
     alloc: Global,
     side: Side,
@@ -88,7 +88,7 @@ fn ask_rule(
     }
 }
 
-/// Appends what the user's rules prove of an expression, in their order.
+// Appends what the user's rules prove of an expression, in their order.
 pub(crate) fn ask_own(
     alloc: Global,
     side: Side,

@@ -83,7 +83,7 @@ fn allows_sum(value: Precision<&ScalarValue>, sum: Option<PValue>) -> bool
 }
 
 impl Measures {
-    /// Whether a statistic's value, which is of its type, claims what holds of the column.
+    // Whether a statistic's value, which is of its type, claims what holds of the column.
     pub(super) fn allows(&self, stat: Stat, value: Precision<&ScalarValue>, column: &Column) -> bool
         requires { AreMeasuresOf self.now column.now.dtype column.now.values }
         ensures { result ≡ check.allows stat (precision_map (λ v. v.now) value.entry) column.now }
@@ -101,7 +101,7 @@ impl Measures {
         }
     }
 
-    /// Whether each entry of a set that fits the column's type claims what holds.
+    // Whether each entry of a set that fits the column's type claims what holds.
     pub(super) fn allows_each(&self, set: &StatsSet, column: &Column) -> bool
         requires { AreMeasuresOf self.now column.now.dtype column.now.values }
         ensures value { result ≡ list_all (λ e. check.allows e.0 e.1 column.now) set.now }

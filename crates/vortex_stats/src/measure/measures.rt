@@ -15,7 +15,7 @@ use vortex_base::pvalue::PValue;
 use vortex_base::scalar_value::ScalarValue;
 use vortex_base::value_ref::ValueRef;
 
-/// What a pass over the values of a column finds. Of the values only the places are kept.
+// What a pass over the values of a column finds. Of the values only the places are kept.
 #[derive(Clone, Copy)]
 pub(super) struct Measures {
     /// How many are null.
@@ -77,7 +77,7 @@ impl Measures {
         }
     }
 
-    /// Adds the statistic to a set, unless it is there or the column has no value of it.
+    // Adds the statistic to a set, unless it is there or the column has no value of it.
     pub(super) fn tell(
         &self,
         set: &mut StatsSet,

@@ -27,7 +27,7 @@ use vortex_base::scalar_value::ScalarValue;
 use vortex_base::text::Text;
 use vortex_base::types::PType;
 
-/// By what the values of a type are compared.
+// By what the values of a type are compared.
 #[derive(Clone, Copy)]
 enum Family {
     /// Whole numbers that may be below zero.
@@ -161,6 +161,7 @@ fn signed_cells(cells: &[ShortCell], dtype: DType) -> Measures
     requires fits { IsTrue (all_fit dtype (map short_value cells.now)) }
     ensures { AreMeasuresOf result dtype (map short_value cells.now) }
 {
+    // The type stands in the contract alone.
     let _ = dtype;
     let mut tally = Tally::new();
     let mut sum: i128 = 0;
@@ -178,6 +179,7 @@ fn signed_values(values: &[Option<ScalarValue>], dtype: DType) -> Measures
     requires fits { IsTrue (all_fit dtype values.now) }
     ensures { AreMeasuresOf result dtype values.now }
 {
+    // The type stands in the contract alone.
     let _ = dtype;
     let mut tally = Tally::new();
     let mut sum: i128 = 0;
@@ -195,6 +197,7 @@ fn unsigned_cells(cells: &[ShortCell], dtype: DType) -> Measures
     requires fits { IsTrue (all_fit dtype (map short_value cells.now)) }
     ensures { AreMeasuresOf result dtype (map short_value cells.now) }
 {
+    // The type stands in the contract alone.
     let _ = dtype;
     let mut tally = Tally::new();
     let mut sum: u128 = 0;
@@ -212,6 +215,7 @@ fn unsigned_values(values: &[Option<ScalarValue>], dtype: DType) -> Measures
     requires fits { IsTrue (all_fit dtype values.now) }
     ensures { AreMeasuresOf result dtype values.now }
 {
+    // The type stands in the contract alone.
     let _ = dtype;
     let mut tally = Tally::new();
     let mut sum: u128 = 0;
@@ -229,6 +233,7 @@ fn texts(texts: &[Option<Text>], dtype: DType) -> Measures
     requires fits { IsTrue (all_fit dtype (map text_value texts.now)) }
     ensures { AreMeasuresOf result dtype (map text_value texts.now) }
 {
+    // The type stands in the contract alone.
     let _ = dtype;
     let mut tally = Tally::new();
     for (i, text) in texts.iter().enumerate() {
@@ -243,6 +248,7 @@ fn text_values(values: &[Option<ScalarValue>], dtype: DType) -> Measures
     requires fits { IsTrue (all_fit dtype values.now) }
     ensures { AreMeasuresOf result dtype values.now }
 {
+    // The type stands in the contract alone.
     let _ = dtype;
     let mut tally = Tally::new();
     for (i, value) in values.iter().enumerate() {
@@ -257,6 +263,7 @@ fn bytes_values(values: &[Option<ScalarValue>], dtype: DType) -> Measures
     requires fits { IsTrue (all_fit dtype values.now) }
     ensures { AreMeasuresOf result dtype values.now }
 {
+    // The type stands in the contract alone.
     let _ = dtype;
     let mut tally = Tally::new();
     for (i, value) in values.iter().enumerate() {
@@ -334,7 +341,7 @@ fn of_bytes(cells: &Cells, dtype: DType) -> Measures
     }
 }
 
-/// The measures of a column, by one pass over its values.
+// The measures of a column, by one pass over its values.
 pub(super) fn measures_of(column: &Column) -> Measures
     ensures measures { AreMeasuresOf result column.now.dtype column.now.values }
     ensures is_column { IsColumn column.now }

@@ -65,8 +65,8 @@ fn pick<T: Copy>(test: bool, first: T, second: T) -> T
     if test { first } else { second }
 }
 
-/// The least, the greatest and the last of some values, where the first two stand, and whether the
-/// values ascend.
+// The least, the greatest and the last of some values, where the first two stand, and whether the
+// values ascend.
 #[derive(Clone, Copy)]
 pub(crate) struct Run<K> {
     least: K,
@@ -132,7 +132,7 @@ fn with_value<K: Key>(run: Option<Run<K>>, key: K, at: usize) -> Run<K>
     }
 }
 
-/// How many of some optional values are null, and the run of the others, if there are any.
+// How many of some optional values are null, and the run of the others, if there are any.
 #[derive(Clone, Copy)]
 pub(crate) struct Tally<K> {
     nulls: usize,
@@ -140,7 +140,7 @@ pub(crate) struct Tally<K> {
 }
 
 impl<K: Key> Tally<K> {
-    /// The tally of no values.
+    // The tally of no values.
     pub(crate) fn new() -> Tally<K>
         ensures { (t : DType) → IsTallyOf K.code t result [] }
     {
@@ -150,7 +150,7 @@ impl<K: Key> Tally<K> {
         }
     }
 
-    /// Adds the optional value at a place, which stands behind the earlier ones.
+    // Adds the optional value at a place, which stands behind the earlier ones.
     #[inline]
     pub(crate) fn push(&mut self, key: Option<K>, at: usize)
         requires { self.old.nulls < usize.MAX }
@@ -164,7 +164,7 @@ impl<K: Key> Tally<K> {
         }
     }
 
-    /// The measures of these values. Their sum is the caller's.
+    // The measures of these values. Their sum is the caller's.
     pub(crate) fn measures(self, sum: Option<PValue>) -> Measures
         ensures { (t : DType) (xs : List (Option ScalarValue)) → IsTallyOf K.code t self xs
             → option_map value.Primitive sum ≡ number_in (stat_dtype Sum t) (sum_of (present xs))

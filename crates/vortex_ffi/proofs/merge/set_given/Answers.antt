@@ -11,6 +11,6 @@ returns-in-Err-clause-read c = λ not_memory.
 
 pub loop-entry-preserved : goal.loop-entry-preserved
 loop-entry-preserved c = (
-  set_goes_on c.args.side c.args.dtype c.args.zone c.args.table.now c.loop-entry.entry c.loop-entry.set c.set.new.self c.in-Ok.found c.loop-entry.invariant.0 c.in-Ok.ensures.read c.set.ensures.set,
-  next_fits c.args.dtype c.loop-entry.set c.set.new.self c.in-Ok.found c.loop-entry.invariant.1 c.in-Ok.ensures.fits c.set.ensures.set,
+  set_goes_on c.args.side c.args.dtype c.args.zone c.args.table.now c.loop-entry.entry c.loop-entry.set c.put.new.self c.in-Ok.found c.loop-entry.invariant.0 c.in-Ok.ensures.read c.put.ensures,
+  next_fits c.args.dtype c.loop-entry.set c.put.new.self c.in-Ok.found c.loop-entry.invariant.1 c.in-Ok.ensures.fits c.put.ensures,
 )

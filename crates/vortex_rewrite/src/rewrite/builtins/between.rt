@@ -29,7 +29,7 @@ fn is_closed(end: StrictComparison) -> bool
     }
 }
 
-/// Whether the order of the two ends leaves no value between.
+// Whether the order of the two ends leaves no value between.
 fn is_crossed(options: BetweenOptions, order: Ordering) -> bool
     ensures { result ≡ is_crossed_by options order }
 {
@@ -46,7 +46,7 @@ fn value_order(left: &ScalarValue, right: &ScalarValue) -> Ordering
     left.cmp(right)
 }
 
-/// The least number that a lower end lets through, if its type has one.
+// The least number that a lower end lets through, if its type has one.
 fn raised(end: StrictComparison, number: PValue) -> Option<PValue>
     ensures { result ≡ raised_end end number }
 {
@@ -56,7 +56,7 @@ fn raised(end: StrictComparison, number: PValue) -> Option<PValue>
     }
 }
 
-/// The greatest number that an upper end lets through, if its type has one.
+// The greatest number that an upper end lets through, if its type has one.
 fn lowered(end: StrictComparison, number: PValue) -> Option<PValue>
     ensures { result ≡ lowered_end end number }
 {
@@ -66,7 +66,7 @@ fn lowered(end: StrictComparison, number: PValue) -> Option<PValue>
     }
 }
 
-/// Two numbers, if both are there and the first is at most the second.
+// Two numbers, if both are there and the first is at most the second.
 fn ordered(low: Option<PValue>, high: Option<PValue>) -> Option<(PValue, PValue)>
     ensures { result ≡ ordered_ends low high }
 {
@@ -121,7 +121,7 @@ fn as_they_stand(
     Ok(Some((options, cloned(lower)?, cloned(upper)?)))
 }
 
-/// The ends by which a BETWEEN is rewritten; none if they are literals between which no value lies.
+// The ends by which a BETWEEN is rewritten; none if they are literals between which no value lies.
 pub(crate) fn ends(
     alloc: Global,
     options: BetweenOptions,

@@ -30,7 +30,7 @@ fn placeholder(
     }
 }
 
-/// The least or the greatest value of an operand: of a literal the literal itself.
+// The least or the greatest value of an operand: of a literal the literal itself.
 fn extreme(
     alloc: Global,
     aggregate: AggregateFnRef,
@@ -44,7 +44,7 @@ fn extreme(
     }
 }
 
-/// The comparison of an extreme of one operand with an extreme of another, where both are there.
+// The comparison of an extreme of one operand with an extreme of another, where both are there.
 pub(crate) fn compared(
     alloc: Global,
     operator: Operator,
@@ -67,7 +67,7 @@ pub(crate) fn compared(
     }
 }
 
-/// Two proofs joined by AND or OR, where both are there.
+// Two proofs joined by AND or OR, where both are there.
 pub(crate) fn both_joined(
     alloc: Global,
     connective: Operator,
@@ -83,7 +83,7 @@ pub(crate) fn both_joined(
     }
 }
 
-/// Two proofs joined by AND or OR, and the one that is there where only one is.
+// Two proofs joined by AND or OR, and the one that is there where only one is.
 pub(crate) fn either_joined(
     alloc: Global,
     connective: Operator,
@@ -100,7 +100,7 @@ pub(crate) fn either_joined(
     }
 }
 
-/// The built-in proof that no row satisfies a comparison, and none for a connective.
+// The built-in proof that no row satisfies a comparison, and none for a connective.
 fn comparison_falsifier(
     alloc: Global,
     operator: Operator,
@@ -131,7 +131,7 @@ fn comparison_falsifier(
     }
 }
 
-/// The comparison that holds of two values where this one doesn't; a connective stays.
+// The comparison that holds of two values where this one doesn't; a connective stays.
 fn opposite(operator: Operator) -> Operator
     ensures { result ≡ opposite_of operator }
 {
@@ -146,7 +146,7 @@ fn opposite(operator: Operator) -> Operator
     }
 }
 
-/// A proof, and that no value of an operand is null; a literal isn't asked.
+// A proof, and that no value of an operand is null; a literal isn't asked.
 fn without_nulls(alloc: Global, x: &BoundExpression, proof: Proof) -> Result<Proof, StatsError>
     ensures { Makes (without_nulls_of x.now proof) result }
 {
@@ -159,8 +159,8 @@ fn without_nulls(alloc: Global, x: &BoundExpression, proof: Proof) -> Result<Pro
     }
 }
 
-/// The built-in proof that every row satisfies a comparison, and none for a connective: no two
-/// values compare the opposite way, and none is null.
+// The built-in proof that every row satisfies a comparison, and none for a connective: no two
+// values compare the opposite way, and none is null.
 fn comparison_satisfier(
     alloc: Global,
     operator: Operator,
@@ -179,7 +179,7 @@ fn comparison_satisfier(
     }
 }
 
-/// The built-in proof of a comparison, and none for a connective.
+// The built-in proof of a comparison, and none for a connective.
 pub(crate) fn comparison_proof(
     alloc: Global,
     side: Side,

@@ -19,7 +19,7 @@ use vortex_base::scalar_value::ScalarValue;
 use vortex_base::types::Operator;
 use vortex_stats::error::StatsError;
 
-/// The text that a literal is.
+// The text that a literal is.
 fn text_in(e: &BoundExpression) -> Option<&str>
     ensures { option_copied result ≡ text_in e.now }
 {
@@ -29,7 +29,7 @@ fn text_in(e: &BoundExpression) -> Option<&str>
     }
 }
 
-/// The proof that every value lies above one text, as the operator says, or below another.
+// The proof that every value lies above one text, as the operator says, or below another.
 fn beyond(
     alloc: Global,
     x: &BoundExpression,
@@ -50,7 +50,7 @@ fn beyond(
     both_joined(alloc, Operator::Or, above, below)
 }
 
-/// The proof that no value is a text that a pattern matches.
+// The proof that no value is a text that a pattern matches.
 fn pattern_proof(
     alloc: Global,
     x: &BoundExpression,
@@ -70,7 +70,7 @@ fn pattern_proof(
     }
 }
 
-/// The built-in proof that no text matches a pattern, which is a literal and compared as it stands.
+// The built-in proof that no text matches a pattern, which is a literal and compared as it stands.
 pub(crate) fn like_proof(
     alloc: Global,
     options: LikeOptions,

@@ -1,0 +1,104 @@
+//! Parts of proofs for rules of a user.
+ghost use Rattle.std.specs.Prelude.{IfOk, IfSome, IsTrue};
+ghost use Rattle.vortex_rewrite.specs.Rewriting.Predicates.{is_predicate};
+
+use crate::nodes::*;
+use std::alloc::Global;
+use std::test::Fail;
+use vortex_base::BoundExpression;
+use vortex_rewrite::expr::proofs;
+use vortex_rewrite::hook_fault::HookFault;
+use vortex_stats::StatsError;
+
+// What a rule was told, as a node.
+fn told_rule<T>(made: Result<T, HookFault>) -> Result<T, StatsError> {
+    match made {
+        Ok(value) => Ok(value),
+        Err(HookFault::Memory(refused)) => Err(StatsError::Memory(refused)),
+        Err(HookFault::Own(_)) => Err(StatsError::Mismatch),
+    }
+}
+
+fn is_some_same(
+    found: Result<Option<BoundExpression>, HookFault>,
+    expected: Built,
+) -> Result<bool, StatsError> {
+    match told_rule(found)? {
+        Some(found) => Ok(found == expected?),
+        None => Ok(false),
+    }
+}
+
+fn is_none(found: Result<Option<BoundExpression>, HookFault>) -> Result<bool, StatsError> {
+    Ok(told_rule(found)?.is_none())
+}
+
+#[test]
+fn a_literal_truth(rt: HostRuntime) -> Result<(), Fail> {
+    let alloc = rt.alloc();
+    let found = told_rule(proofs::truth(alloc, true))?;
+    assert!(rt; found == truth(alloc, true)?);
+    Ok(())
+}
+
+fn proof_of(alloc: Global, truth: Option<bool>) -> Result<Option<BoundExpression>, HookFault>
+    ensures { IfOk result (λ o. IfSome o (λ e. IsTrue (is_predicate e))) }
+{
+    match truth {
+        None => Ok(None),
+        Some(truth) => Ok(Some(proofs::truth(alloc, truth)?)),
+    }
+}
+
+// One truth or the other, or what is there of them.
+fn either(
+    alloc: Global,
+    left: Option<bool>,
+    right: Option<bool>,
+) -> Result<Option<BoundExpression>, HookFault> {
+    let left = proof_of(alloc, left)?;
+    let right = proof_of(alloc, right)?;
+    proofs::either(alloc, left, right)
+}
+
+fn both(
+    alloc: Global,
+    left: Option<bool>,
+    right: Option<bool>,
+) -> Result<Option<BoundExpression>, HookFault> {
+    let left = proof_of(alloc, left)?;
+    let right = proof_of(alloc, right)?;
+    proofs::both(alloc, left, right)
+}
+
+#[test]
+fn either_of_two(rt: HostRuntime) -> Result<(), Fail> {
+    let alloc = rt.alloc();
+    let joined = or(alloc, truth(alloc, true), truth(alloc, false));
+    assert!(rt; is_some_same(either(alloc, Some(true), Some(false)), joined)?);
+    assert!(rt; is_some_same(either(alloc, Some(true), None), truth(alloc, true))?);
+    assert!(rt; is_some_same(either(alloc, None, Some(false)), truth(alloc, false))?);
+    assert!(rt; is_none(either(alloc, None, None))?);
+    Ok(())
+}
+
+#[test]
+fn both_of_two(rt: HostRuntime) -> Result<(), Fail> {
+    let alloc = rt.alloc();
+    let joined = and(alloc, truth(alloc, true), truth(alloc, false));
+    assert!(rt; is_some_same(both(alloc, Some(true), Some(false)), joined)?);
+    assert!(rt; is_none(both(alloc, Some(true), None))?);
+    assert!(rt; is_none(both(alloc, None, Some(false)))?);
+    Ok(())
+}
+
+// Whether the two proofs are joined, or memory was refused.
+fn is_joined(found: Result<Option<BoundExpression>, HookFault>) -> bool {
+    matches!(found, Ok(Some(_)) | Err(HookFault::Memory(_)))
+}
+
+#[test]
+fn refused_joins(rt: HostRuntime) {
+    assert!(rt; is_joined(either(rt.alloc(), Some(true), Some(false))));
+    assert!(rt; is_joined(both(rt.alloc(), Some(true), Some(false))));
+}
