@@ -41,8 +41,9 @@ pub enum Cells {
 }
 
 impl ShortCell {
+    /// The cell of a number.
     #[inline]
-    fn of_number(number: PValue) -> ShortCell
+    pub fn of_number(number: PValue) -> ShortCell
         ensures { short_value result ≡ Some (value.Primitive number) }
     {
         match number {
@@ -70,9 +71,9 @@ impl ShortCell {
         }
     }
 
-    // The optional value, lent.
+    /// The optional value, lent.
     #[inline]
-    fn lend<'a>(self) -> Option<ValueRef<'a>>
+    pub fn lend<'a>(self) -> Option<ValueRef<'a>>
         ensures { option_map value_of result ≡ short_value self }
     {
         let number = match self {
