@@ -1,7 +1,5 @@
 //! Tests of `expression`.
-use crate::testing::{
-    BOOL, I32, Made, UTF8, bound_to_a, expect_same, named, scalar, text_value,
-};
+use crate::testing::{BOOL, I32, Made, UTF8, bound_to_a, expect_same, named, scalar, text_value};
 use std::alloc::Global;
 use std::test::Fail;
 use vortex_base::{
@@ -26,7 +24,10 @@ fn text(alloc: Global, value: &str) -> Made {
 }
 
 fn no_truth(alloc: Global) -> Made {
-    named::not(alloc, named::lit(alloc, scalar(BOOL, Some(ScalarValue::from(true)))?))
+    named::not(
+        alloc,
+        named::lit(alloc, scalar(BOOL, Some(ScalarValue::from(true)))?),
+    )
 }
 
 // Whether a range or a null test is true.

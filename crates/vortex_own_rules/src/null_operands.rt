@@ -6,8 +6,8 @@ ghost use Rattle.vortex_rewrite.specs.HookFaults.{IsHookFault};
 ghost use Rattle.vortex_rewrite.specs.Rewriting.Predicates.{is_connective, is_predicate};
 
 use std::alloc::Global;
-use vortex_base::bound_expression::BoundExpression;
 use vortex_base::Parts;
+use vortex_base::bound_expression::BoundExpression;
 use vortex_base::types::{Operator, ScalarFnId};
 use vortex_rewrite::expr::bound::all_null;
 use vortex_rewrite::expr::proofs::{either, truth};
