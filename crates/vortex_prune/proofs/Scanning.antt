@@ -2,6 +2,7 @@
 pub mod BinderScan
 pub mod Boxes
 pub mod JoinLemmas
+pub mod LeafLemmas
 pub mod Lossless
 pub mod PartScanLemmas
 pub mod ScanLemmas

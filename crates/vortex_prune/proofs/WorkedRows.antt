@@ -2,6 +2,7 @@
 pub mod AskingRows
 pub mod CompleteRows
 pub mod HonestRows
+pub mod LeafRows
 pub mod MarkRows
 pub mod StatRows
 pub mod WholeRows

@@ -20,6 +20,8 @@ ghost use Rattle.vortex_rewrite.specs.Rewriting.Falsifiers.{satisfier as satisfi
 ghost use Rattle.vortex_stats.specs.declared.error.StatsError.TheVariants.{NotPredicate};
 ghost use Rattle.vortex_rewrite.specs.Answers.{IsMemory};
 
+mod columns;
+mod leaf;
 mod marks;
 pub mod outcome;
 mod part_scan;

@@ -522,6 +522,13 @@ impl ZoneMap {
         self.rows.len()
     }
 
+    // How many rows each zone has.
+    pub(crate) fn counts(&self) -> &[u64]
+        ensures { result.now ≡ self.now.rows }
+    {
+        &self.rows
+    }
+
     /// How many rows the zone at a place has.
     pub fn rows(&self, i: usize) -> u64
         requires { i < length self.now.rows }

@@ -8,6 +8,7 @@ use vortex_prune::{Part, Zones};
 use vortex_rewrite_tests::nodes::*;
 use vortex_stats::{Stat, StatsError, StatsSet};
 
+mod blocks;
 mod callers;
 mod hostile;
 mod measured;

@@ -1,13 +1,20 @@
--- Worked rows of marks of zones, found by computation alone.
+-- Worked rows of marks, found by computation alone.
 use Rattle.std.specs.Prelude.{◌≡◌, ℕ, Bool, true, false, List, [], ◌∷◌, Option, Some, None, nat_le, pos, refl}
-use Rattle.vortex_base.specs.declared.cells.ShortCell.{ShortCell}
-use Rattle.vortex_base.specs.declared.cells.ShortCell.TheVariants as short
+use Rattle.vortex_base.specs.Data.Columns.{ColumnData}
+use Rattle.vortex_base.specs.Trees.Tree.{Tree, Place, binary, column, literal, row_count}
+use Rattle.vortex_base.specs.declared.dtype.DType.TheVariants as dtype
 use Rattle.vortex_base.specs.declared.pvalue.PValue.TheVariants as number
 use Rattle.vortex_base.specs.declared.scalar_value.ScalarValue.{ScalarValue}
 use Rattle.vortex_base.specs.declared.scalar_value.ScalarValue.TheVariants as value
-use Rattle.vortex_base.specs.declared.types.Operator.TheVariants.{Eq, NotEq, Gt, Gte, Lt, Lte, And, Or}
-use Rattle.vortex_prune.specs.Scanning.Marks.{cell_passes, compares, either_marked, is_comparison, marked, marked_verdicts}
+use Rattle.vortex_base.specs.declared.types.Nullability.TheVariants as nullability
+use Rattle.vortex_base.specs.declared.types.Operator.TheVariants.{Eq, Gt}
+use Rattle.vortex_base.specs.declared.types.PType.TheVariants as width
+use Rattle.vortex_prune.specs.Scanning.Marks.{count_at, either_marked, is_true_at, left_marked, marked, marked_rows, marked_verdicts}
+use Rattle.vortex_prune.specs.declared.scan.marks.Counts.TheVariants.{Same}
 use Rattle.vortex_prune.specs.declared.scan.verdict.Verdict.TheVariants.{Skipped, Whole, Tested}
+
+abbrev num : ℕ → Option ScalarValue
+num n = Some (value.Primitive (number.I64 (pos n)))
 
 -- ---- marks that stay
 
@@ -24,47 +31,34 @@ no_marks = refl
 in_either : either_marked (true ∷ true ∷ false ∷ false ∷ []) (true ∷ false ∷ true ∷ false ∷ []) ≡ true ∷ true ∷ true ∷ false ∷ []
 in_either = refl
 
--- ---- comparisons
+in_left : left_marked (true ∷ true ∷ false ∷ false ∷ []) (true ∷ false ∷ true ∷ false ∷ []) ≡ false ∷ true ∷ false ∷ false ∷ []
+in_left = refl
 
-abbrev num : ℕ → Option ScalarValue
-num n = Some (value.Primitive (number.I64 (pos n)))
+of_shorter : either_marked (true ∷ true ∷ []) (false ∷ []) ≡ true ∷ []
+of_shorter = refl
 
-greater_is : compares Gt (num 3) (num 2) ≡ true
-greater_is = refl
+as_rows : marked_rows 7 3 (true ∷ false ∷ true ∷ []) ≡ (7, 3) ∷ (7, 5) ∷ []
+as_rows = refl
 
-greater_is_not : compares Gt (num 2) (num 3) ≡ false
-greater_is_not = refl
+same_count : count_at (Same 9) 4 ≡ 9
+same_count = refl
 
-null_on_the_left : compares Eq None (num 2) ≡ false
-null_on_the_left = refl
+-- ---- truths on rows
 
-null_on_the_right : compares NotEq (num 2) None ≡ false
-null_on_the_right = refl
+abbrev columns : List ColumnData
+columns = record { dtype = dtype.Primitive width.I64 nullability.Nullable; values = num 3 ∷ None ∷ []; size = 0 } ∷ []
 
-all_operators : is_comparison Eq ∷ is_comparison NotEq ∷ is_comparison Gt ∷ is_comparison Gte ∷ is_comparison Lt ∷ is_comparison Lte ∷ is_comparison And ∷ is_comparison Or ∷ []
-    ≡ true ∷ true ∷ true ∷ true ∷ true ∷ true ∷ false ∷ false ∷ []
-all_operators = refl
+abbrev above_count : Tree Place
+above_count = binary Gt (column (record { index = 0; dtype = dtype.Primitive width.I64 nullability.Nullable })) (literal (record { dtype = dtype.Primitive width.I64 nullability.NonNullable; value = num 2 }))
 
--- ---- cells
+true_there : is_true_at above_count columns (Same 2) 0 ≡ true
+true_there = refl
 
-abbrev cells : List ShortCell
-cells = short.I64 (pos 1) ∷ short.Null ∷ short.I64 (pos 5) ∷ short.U64 5 ∷ []
+null_there : is_true_at above_count columns (Same 2) 1 ≡ false
+null_there = refl
 
-below : cell_passes cells Lt (number.I64 (pos 5)) 0 ≡ true
-below = refl
-
-null_cell : cell_passes cells Lt (number.I64 (pos 5)) 1 ≡ false
-null_cell = refl
-
-not_below : cell_passes cells Lt (number.I64 (pos 5)) 2 ≡ false
-not_below = refl
-
--- a number of another type is another value
-of_another_type : cell_passes cells Eq (number.I64 (pos 5)) 3 ≡ false
-of_another_type = refl
-
-past_the_end : cell_passes cells NotEq (number.I64 (pos 5)) 4 ≡ false
-past_the_end = refl
+the_count : is_true_at (binary Eq row_count (literal (record { dtype = dtype.Primitive width.U64 nullability.NonNullable; value = Some (value.Primitive (number.U64 2)) }))) columns (Same 2) 1 ≡ true
+the_count = refl
 
 -- ---- verdicts
 

@@ -1,17 +1,12 @@
--- Marks of zones, a truth each: of which zones something is true.
-use Rattle.std.specs.Prelude.{◌≡◌, ℕ, ◌+◌, Bool, true, false, ◌&&◌, ◌||◌, List, [], ◌∷◌, Option, Some, if◌then◌else◌, map, slice_get, slice_index}
-use Rattle.vortex_base.specs.declared.cells.ShortCell.{ShortCell}
-use Rattle.vortex_base.specs.declared.pvalue.PValue.{PValue}
-use Rattle.vortex_base.specs.declared.scalar_value.ScalarValue.{ScalarValue}
-use Rattle.vortex_base.specs.declared.scalar_value.ScalarValue.TheVariants as value
-use Rattle.vortex_base.specs.declared.types.Operator.{Operator}
-use Rattle.vortex_base.specs.declared.types.Operator.TheVariants as operator
-use Rattle.vortex_base.specs.Data.Cells.{short_value}
-use Rattle.vortex_base.specs.Data.Columns.{row_of, value_at}
-use Rattle.vortex_base.specs.Data.Scalars.{Constant}
-use Rattle.vortex_base.specs.Meanings.Meaning.{compared, is_true, meaning, truth_value}
+-- Marks, a truth each: of which rows of a table, or of which zones, something is true.
+use Rattle.std.specs.Prelude.{◌≡◌, ℕ, ◌+◌, Bool, not, ◌&&◌, ◌||◌, List, [], ◌∷◌, ◌++◌, Option, if◌then◌else◌, slice_index}
+use Rattle.vortex_base.specs.Data.Columns.{ColumnData, row_of}
+use Rattle.vortex_base.specs.Meanings.Meaning.{satisfies}
 use Rattle.vortex_base.specs.Trees.Tree.{Tree, Place}
+use Rattle.vortex_prune.specs.Scanning.Selection.{row_if}
 use Rattle.vortex_prune.specs.Scanning.ZoneScans.{zone_truth}
+use Rattle.vortex_prune.specs.declared.scan.marks.Counts.{Counts}
+use Rattle.vortex_prune.specs.declared.scan.marks.Counts.TheVariants.{Same, Each}
 use Rattle.vortex_prune.specs.Zones.{MapData}
 use Rattle.vortex_prune.specs.declared.scan.verdict.Verdict.{Verdict}
 use Rattle.vortex_prune.specs.declared.scan.verdict.Verdict.TheVariants.{Skipped, Whole, Tested}
@@ -21,32 +16,36 @@ abbrev pub marked : (ℕ → Bool) → (i : ℕ) → List Bool → List Bool
 marked test i [] = []
 marked test i (mark ∷ marks) = (mark && test i) ∷ marked test (i + 1) marks
 
+-- what two lists of marks give together
+abbrev pub paired : (Bool → Bool → Bool) → List Bool → List Bool → List Bool
+paired give (a ∷ as') (b ∷ bs) = give a b ∷ paired give as' bs
+paired give as' bs = []
+
 -- those that stand in either list
 abbrev pub either_marked : List Bool → List Bool → List Bool
-either_marked (a ∷ as') (b ∷ bs) = (a || b) ∷ either_marked as' bs
-either_marked as' bs = []
+either_marked as' bs = paired (λ a b. a || b) as' bs
 
--- the comparison of two optional values is true
-abbrev pub compares : Operator → Option ScalarValue → Option ScalarValue → Bool
-compares o a b = is_true (truth_value (compared o a b))
+-- those of the first that don't stand in the second
+abbrev pub left_marked : List Bool → List Bool → List Bool
+left_marked as' bs = paired (λ a b. a && not b) as' bs
 
--- the operator compares its sides
-abbrev pub is_comparison : Operator → Bool
-is_comparison operator.And = false
-is_comparison operator.Or = false
-is_comparison o = true
+-- what the row count is worth on the row at a place
+abbrev pub count_at : Counts → ℕ → ℕ
+count_at (Same n) r = n
+count_at (Each ns) r = slice_index ns.now r
 
--- the expression is worth what the cell in the row has, on each row of the table
-abbrev pub HasCells : MapData → Tree Place → List ShortCell → Type 0
-HasCells m e cells = (r n : ℕ) → meaning e (row_of r m.table.columns) n ≡ value_at (slice_get (map short_value cells) r)
+-- there is one for each row
+abbrev pub HasCounts : Counts → List ℕ → Type 0
+HasCounts counts rows = (r : ℕ) → count_at counts r ≡ slice_index rows r
 
--- the comparison of the cell at a place with a number is true
-abbrev pub cell_passes : List ShortCell → Operator → PValue → ℕ → Bool
-cell_passes cells o p r = compares o (value_at (slice_get (map short_value cells) r)) (Some (value.Primitive p))
+-- an expression is true on the row at a place
+abbrev pub is_true_at : Tree Place → List ColumnData → Counts → ℕ → Bool
+is_true_at e cs counts r = satisfies e (row_of r cs) (count_at counts r)
 
--- it is worth this number, on every row
-abbrev pub IsNumber : Tree Place → PValue → Type 0
-IsNumber e p = (row : List Constant) (n : ℕ) → meaning e row n ≡ Some (value.Primitive p)
+-- the rows of a part that are marked, from a place in it on, as pairs
+abbrev pub marked_rows : (place from : ℕ) → List Bool → List (ℕ × ℕ)
+marked_rows place from [] = []
+marked_rows place from (mark ∷ marks) = row_if mark place from ++ marked_rows place (from + 1) marks
 
 -- a bound proof, if there is one, is true on the row of the zone at a place
 abbrev pub is_told : Option (Tree Place) → MapData → ℕ → Bool

@@ -1,205 +1,121 @@
-//! Of which zones a bound proof is true, a truth a zone, found for many zones together: a
-//! comparison of a column with a number goes over the column's cells, AND and OR over the marks
-//! that their sides leave, and any other expression over the rows.
-ghost use Rattle.std.specs.Prelude.{◌≡◌, ◌+◌, ◌<◌, ◌≤◌, ◌^◌, ◌&&◌, IfOk, IfSome, OnOk, Some, length};
-ghost use Rattle.std.specs.Prelude.{option_copied, option_map, vec_len};
-ghost use Rattle.vortex_base.specs.Data.Cells.{short_value, value_of};
-ghost use Rattle.vortex_base.specs.Meanings.Meaning as spec;
-ghost use Rattle.vortex_base.specs.declared.scalar_value.ScalarValue.TheVariants as value;
+//! On which rows of a table an expression is true, a truth a row, found for many rows together: a
+//! leaf goes over the values of its column, AND and OR over the marks that their sides leave, and
+//! any other expression over the rows. The rows are those of a part, or a map's, one a zone.
+ghost use Rattle.std.specs.Prelude.{◌≡◌, ◌+◌, ◌<◌, ◌≤◌, ◌&&◌, IfOk, Some, length};
+ghost use Rattle.std.specs.Prelude.{option_copied, vec_len};
 ghost use Rattle.std.specs.List.{list_any};
-ghost use Rattle.vortex_base.specs.Trees.Tree.{binary};
-ghost use Rattle.vortex_prune.specs.Scanning.Marks.{HasCells, IsNumber, cell_passes, compares};
-ghost use Rattle.vortex_prune.specs.Scanning.Marks.{either_marked, is_comparison, is_told, marked};
+ghost use Rattle.vortex_base.specs.Data.Columns.{row_count};
+ghost use Rattle.vortex_base.specs.Trees.Tree.{between};
+ghost use Rattle.vortex_prune.specs.Scanning.Marks.{HasCounts, count_at, either_marked, is_told};
+ghost use Rattle.vortex_prune.specs.Scanning.Marks.{is_true_at, left_marked, marked};
 
+use crate::scan::columns::keep_passing;
+use crate::scan::leaf::{compared, leaf_of};
 use crate::zone_map::ZoneMap;
 use std::alloc::{AllocError, Global};
-use std::cmp::Ordering;
 use vortex_base::bound_expression::BoundExpression;
 use vortex_base::bound_expression::parts::Parts;
-use vortex_base::cells::{Cells, ShortCell};
-use vortex_base::pvalue::PValue;
-use vortex_base::scalar_value::ScalarValue;
-use vortex_base::types::Operator;
-use vortex_base::value_ref::ValueRef;
+use vortex_base::chunk::Chunk;
+use vortex_base::types::{BetweenOptions, Operator};
 
-// How many zones are looked at together: their cells of a column fill some 16 KB.
-const BLOCK: usize = 1024;
+/// How many rows are looked at together: their cells of a column fill some 16 KB.
+pub(crate) const BLOCK: usize = 1024;
 
-// Whether an operator holds of two values in this order. AND and OR compare nothing.
+/// What the row count is worth on the rows of a table.
+#[derive(Clone, Copy)]
+pub(crate) enum Counts<'a> {
+    /// The same on each.
+    Same(u64),
+    /// One for each.
+    Each(&'a [u64]),
+}
+
+/// Rows that are tested together.
+#[derive(Clone, Copy)]
+pub(crate) struct Table<'a> {
+    pub(crate) chunk: &'a Chunk,
+    pub(crate) counts: Counts<'a>,
+}
+
+// What the row count is worth on the row at a place.
 #[inline]
-fn holds(operator: Operator, order: Ordering) -> bool
-    ensures { result ≡ spec.holds operator order }
+fn count_at(counts: Counts<'_>, place: usize) -> u64
+    ensures { result ≡ count_at counts.entry place }
 {
-    match operator {
-        Operator::Eq => order.is_eq(),
-        Operator::NotEq => !order.is_eq(),
-        Operator::Gt => order.is_gt(),
-        Operator::Gte => !order.is_lt(),
-        Operator::Lt => order.is_lt(),
-        Operator::Lte => !order.is_gt(),
-        Operator::And | Operator::Or => false,
-    }
-}
-
-// Whether an operator compares its sides.
-fn is_comparison(operator: Operator) -> bool
-    ensures { result ≡ is_comparison operator }
-{
-    !matches!(operator, Operator::And | Operator::Or)
-}
-
-// The value of a cell, lent.
-#[inline]
-fn lent<'a>(cell: ShortCell) -> Option<ValueRef<'a>>
-    ensures { option_map value_of result ≡ short_value cell }
-{
-    let number = match cell {
-        ShortCell::Null => return None,
-        ShortCell::Bool(truth) => return Some(ValueRef::Bool(truth)),
-        ShortCell::U8(n) => PValue::U8(n),
-        ShortCell::U16(n) => PValue::U16(n),
-        ShortCell::U32(n) => PValue::U32(n),
-        ShortCell::U64(n) => PValue::U64(n),
-        ShortCell::I8(n) => PValue::I8(n),
-        ShortCell::I16(n) => PValue::I16(n),
-        ShortCell::I32(n) => PValue::I32(n),
-        ShortCell::I64(n) => PValue::I64(n),
-    };
-    Some(ValueRef::Primitive(number))
-}
-
-// The same of a cell of another kind or width than the number.
-#[inline(never)]
-fn value_compares(cell: ShortCell, operator: Operator, number: PValue) -> bool
-    ensures { result ≡ compares operator (short_value cell) (Some (value.Primitive number)) }
-{
-    match lent(cell) {
-        None => false,
-        Some(value) => holds(operator, value.order(ValueRef::Primitive(number))),
-    }
-}
-
-// Whether the comparison of a cell with a number is true.
-#[inline]
-fn cell_compares(cell: ShortCell, operator: Operator, number: PValue) -> bool
-    ensures { result ≡ compares operator (short_value cell) (Some (value.Primitive number)) }
-{
-    match (cell, number) {
-        (ShortCell::Null, _) => false,
-        (ShortCell::I64(n), PValue::I64(m)) => holds(operator, n.cmp(&m)),
-        (ShortCell::U64(n), PValue::U64(m)) => holds(operator, n.cmp(&m)),
-        _ => value_compares(cell, operator, number),
-    }
-}
-
-// Whether a mark stays at a cell.
-#[inline]
-fn stays_at(
-    mark: bool,
-    cells: &[ShortCell],
-    place: usize,
-    operator: Operator,
-    number: PValue,
-) -> bool
-    ensures { result ≡ (mark && cell_passes cells.now operator number place) }
-{
-    match cells.get(place) {
-        None => false,
-        Some(cell) => mark && cell_compares(*cell, operator, number),
-    }
-}
-
-// Takes away the marks, from a place on, at which the comparison of a cell with a number isn't
-// true.
-fn keep_cells(
-    cells: &[ShortCell],
-    operator: Operator,
-    number: PValue,
-    from: usize,
-    marks: &mut [bool],
-)
-    requires { from + length marks.old < 2 ^ 64 }
-    ensures { marks.new ≡ marked (cell_passes cells.now operator number) from marks.old }
-{
-    for k in 0..marks.len() {
-        marks[k] = stays_at(marks[k], cells, from + k, operator, number);
-    }
-}
-
-// Whether a mark stays on the table's row of a zone.
-fn stays_on(mark: bool, map: &ZoneMap, place: usize, bound: &BoundExpression) -> bool
-    requires { place < length map.now.rows }
-    ensures { result ≡ (mark && is_told (Some bound.now) map.now place) }
-{
-    let table = map.table();
-    let _rows = table.rows();
-    mark && bound.is_satisfied(&table.row(place), map.rows(place))
-}
-
-// Takes away the marks of the zones, from a place on, on whose rows a bound proof isn't true.
-#[inline(never)]
-fn keep_rows(map: &ZoneMap, bound: &BoundExpression, from: usize, marks: &mut [bool])
-    requires { from + length marks.old ≤ length map.now.rows }
-    ensures { marks.new ≡ marked (is_told (Some bound.now) map.now) from marks.old }
-{
-    let _zones = map.len();
-    for k in 0..marks.len() {
-        marks[k] = stays_on(marks[k], map, from + k, bound);
-    }
-}
-
-// The cells of a column of the table to which an expression refers, if they are short.
-fn cells_under<'a>(map: &'a ZoneMap, e: &BoundExpression) -> Option<&'a [ShortCell]>
-    ensures { IfSome result (λ cells. HasCells map.entry.now e.now cells.now) }
-{
-    let table = map.table();
-    match e.parts() {
-        Parts::Column(place, _) if place < table.scope().len() => {
-            match table.column(place).cells() {
-                Cells::Short(cells) => Some(cells),
-                _ => None,
-            }
-        }
-        _ => None,
-    }
-}
-
-// The number that an expression is, if it is a literal of one.
-fn number_of(e: &BoundExpression) -> Option<PValue>
-    ensures { IfSome result (λ number. IsNumber e.now number) }
-{
-    match e.literal() {
-        None => None,
-        Some(literal) => match literal.value() {
-            Some(ScalarValue::Primitive(number)) => Some(*number),
-            _ => None,
+    match counts {
+        Counts::Same(count) => count,
+        Counts::Each(counts) => match counts.get(place) {
+            Some(count) => *count,
+            None => 0,
         },
     }
 }
 
-// Takes away the marks of the zones, from a place on, where a comparison isn't true: by the cells
-// of a column, if it is one with a number, and else row by row.
-fn keep_compared(
-    map: &ZoneMap,
-    bound: &BoundExpression,
-    operator: Operator,
-    left: &BoundExpression,
-    right: &BoundExpression,
+// Whether a mark stays on a row.
+fn stays_on(mark: bool, table: Table<'_>, place: usize, e: &BoundExpression) -> bool
+    requires { place < row_count table.chunk.now.columns }
+    ensures { result
+        ≡ (mark && is_true_at e.now table.entry.chunk.now.columns table.entry.counts place) }
+{
+    mark && e.is_satisfied(&table.chunk.row(place), count_at(table.counts, place))
+}
+
+// Takes away the marks of the rows, from a place on, on which an expression isn't true.
+#[inline(never)]
+fn keep_rows(table: Table<'_>, e: &BoundExpression, from: usize, marks: &mut [bool])
+    requires { from + length marks.old ≤ row_count table.chunk.now.columns }
+    ensures { let test = is_true_at e.now table.entry.chunk.now.columns table.entry.counts in
+        marks.new ≡ marked test from marks.old }
+{
+    let _rows = table.chunk.rows();
+    for k in 0..marks.len() {
+        marks[k] = stays_on(marks[k], table, from + k, e);
+    }
+}
+
+// The same, by the values of a column, if the expression asks something of these.
+fn keep_asked(table: Table<'_>, e: &BoundExpression, from: usize, marks: &mut [bool])
+    requires { from + length marks.old ≤ row_count table.chunk.now.columns }
+    ensures { let test = is_true_at e.now table.entry.chunk.now.columns table.entry.counts in
+        marks.new ≡ marked test from marks.old }
+{
+    let _rows = table.chunk.rows();
+    match leaf_of(table.chunk, e) {
+        Some(leaf) => keep_passing(leaf.column, leaf.test, from, marks),
+        None => keep_rows(table, e, from, marks),
+    }
+}
+
+// The same of a BETWEEN, which is a comparison with each end.
+fn keep_between(
+    table: Table<'_>,
+    e: &BoundExpression,
+    options: BetweenOptions,
+    x: &BoundExpression,
+    lower: &BoundExpression,
+    upper: &BoundExpression,
     from: usize,
     marks: &mut [bool],
 )
-    requires within { from + length marks.old ≤ length map.now.rows }
-    requires binary { bound.now ≡ binary operator left.now right.now }
-    ensures { marks.new ≡ marked (is_told (Some bound.now) map.now) from marks.old }
+    requires within { from + length marks.old ≤ row_count table.chunk.now.columns }
+    requires between { e.now ≡ between options x.now lower.now upper.now }
+    ensures { let test = is_true_at e.now table.entry.chunk.now.columns table.entry.counts in
+        marks.new ≡ marked test from marks.old }
 {
-    if is_comparison(operator) {
-        if let (Some(cells), Some(number)) = (cells_under(map, left), number_of(right)) {
-            let _zones = map.len();
-            keep_cells(cells, operator, number, from, marks);
-            return;
-        }
+    let _rows = table.chunk.rows();
+    let (low, high) = (
+        options.lower_strict.to_operator(),
+        options.upper_strict.to_operator(),
+    );
+    if let (Some(above), Some(below)) = (
+        compared(table.chunk, low, lower, x),
+        compared(table.chunk, high, x, upper),
+    ) {
+        keep_passing(above.column, above.test, from, marks);
+        keep_passing(below.column, below.test, from, marks);
+    } else {
+        keep_rows(table, e, from, marks);
     }
-    keep_rows(map, bound, from, marks);
 }
 
 // Whether a mark is among any.
@@ -219,38 +135,75 @@ fn add_marks(marks: &mut [bool], others: &[bool])
     }
 }
 
-// Takes away the marks of the zones, from a place on, of which a bound proof isn't true.
-fn keep_true(
+// Takes away the marks of others, as many.
+fn take_marks(marks: &mut [bool], others: &[bool])
+    requires { length marks.old ≡ length others.now }
+    ensures { marks.new ≡ left_marked marks.old others.now }
+{
+    for k in 0..marks.len() {
+        marks[k] = marks[k] & !others[k];
+    }
+}
+
+// Takes away the marks of the rows, from a place on, on which an expression isn't true. Where there
+// is no memory for the marks that the left side of an OR leaves to the other, each row is tested by
+// itself.
+pub(crate) fn keep_true(
     alloc: Global,
-    map: &ZoneMap,
-    bound: &BoundExpression,
+    table: Table<'_>,
+    e: &BoundExpression,
     from: usize,
     marks: &mut [bool],
-) -> Result<(), AllocError>
-    requires { from + length marks.old ≤ length map.now.rows }
-    ensures { OnOk result (marks.new ≡ marked (is_told (Some bound.now) map.now) from marks.old) }
+)
+    requires { from + length marks.old ≤ row_count table.chunk.now.columns }
+    ensures { let test = is_true_at e.now table.entry.chunk.now.columns table.entry.counts in
+        marks.new ≡ marked test from marks.old }
 {
-    match bound.parts() {
+    match e.parts() {
         Parts::Binary(Operator::And, left, right) => {
-            keep_true(alloc, map, left, from, marks)?;
-            keep_true(alloc, map, right, from, marks)
+            keep_true(alloc, table, left, from, marks);
+            keep_true(alloc, table, right, from, marks);
         }
         Parts::Binary(Operator::Or, left, right) => {
-            let mut others = Vec::from_slice(alloc, marks)?;
-            keep_true(alloc, map, left, from, marks)?;
-            keep_true(alloc, map, right, from, &mut others)?;
-            add_marks(marks, &others);
-            Ok(())
+            match Vec::from_slice(alloc, marks) {
+                Ok(mut others) => {
+                    keep_true(alloc, table, left, from, marks);
+                    take_marks(&mut others, marks);
+                    keep_true(alloc, table, right, from, &mut others);
+                    add_marks(marks, &others);
+                }
+                Err(AllocError) => keep_rows(table, e, from, marks),
+            }
         }
-        Parts::Binary(operator, left, right) => {
-            keep_compared(map, bound, operator, left, right, from, marks);
-            Ok(())
+        Parts::Between(options, x, lower, upper) => {
+            keep_between(table, e, options, x, lower, upper, from, marks);
         }
-        _ => {
-            keep_rows(map, bound, from, marks);
-            Ok(())
-        }
+        _ => keep_asked(table, e, from, marks),
     }
+}
+
+// Where a block of rows ends that begins at a place, before the end of all.
+pub(crate) fn block_end(from: usize, end: usize) -> usize
+    requires { from < end }
+    ensures after { from < result }
+    ensures within { result ≤ end }
+    ensures short { result ≤ from + 1024 }
+{
+    if end - from < BLOCK {
+        end
+    } else {
+        from + BLOCK
+    }
+}
+
+// The rows of a map's table, one a zone.
+fn zones_of(map: &ZoneMap) -> Table<'_>
+    ensures chunk { result.chunk.now ≡ map.entry.now.table }
+    ensures counts { HasCounts result.counts map.entry.now.rows }
+    ensures counted { length map.entry.now.rows ≡ row_count result.chunk.now.columns }
+{
+    let (chunk, counts) = (map.table(), Counts::Each(map.counts()));
+    Table { chunk, counts }
 }
 
 // The marks of a block of zones, from a place on, that stay.
@@ -270,21 +223,8 @@ fn block_told(
     if !is_any(marks) {
         return Ok(told);
     }
-    keep_true(alloc, map, bound, from, &mut told)?;
+    keep_true(alloc, zones_of(map), bound, from, &mut told);
     Ok(told)
-}
-
-// Where a block of zones ends that begins at a place, before the end of all.
-fn block_end(from: usize, end: usize) -> usize
-    requires { from < end }
-    ensures after { from < result }
-    ensures within { result ≤ end }
-{
-    if end - from < BLOCK {
-        end
-    } else {
-        from + BLOCK
-    }
 }
 
 // The marks of all zones that stay, block by block.

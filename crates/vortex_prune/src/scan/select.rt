@@ -1,39 +1,84 @@
 //! The rows of one part that are selected: those that satisfy the predicate, or all.
-ghost use Rattle.std.specs.Prelude.{◌≡◌, ◌+◌, ◌-◌, ◌^◌, ◌<◌, ◌++◌, IfErr, OnOk, min};
-ghost use Rattle.vortex_base.specs.Data.Columns.{row_of, row_count};
-ghost use Rattle.vortex_base.specs.Meanings.Meaning.{satisfies};
+ghost use Rattle.std.specs.Prelude.{◌≡◌, ◌+◌, ◌-◌, ◌^◌, ◌<◌, ◌≤◌, ◌++◌, true, IfErr, OnOk};
+ghost use Rattle.std.specs.Prelude.{length, min, replicate};
+ghost use Rattle.vortex_base.specs.Data.Columns.{row_count};
 ghost use Rattle.vortex_prune.specs.Scanning.Selection.{all_rows, row_if, satisfying_rows};
+ghost use Rattle.vortex_prune.specs.Scanning.Marks.{is_true_at, marked, marked_rows};
+ghost use Rattle.vortex_prune.specs.declared.scan.marks.Counts.TheVariants.{Same};
 ghost use Rattle.vortex_rewrite.specs.Answers.{IsMemory};
 
+use crate::scan::marks::{BLOCK, Counts, Table, block_end, keep_true};
 use vortex_base::bound_expression::BoundExpression;
 use vortex_base::chunk::Chunk;
 use vortex_stats::error::StatsError;
 
-// Adds a row of the part at a place, if it satisfies the predicate. Each call is a row tested, and
-// is counted as it begins.
-fn select_row(
+// Adds a row of the part at a place, if it is marked.
+fn select_if(
     selected: &mut Vec<(usize, usize)>,
-    evaluated: &mut u64,
+    mark: bool,
     place: usize,
-    chunk: &Chunk,
     row: usize,
-    predicate: &BoundExpression,
 ) -> Result<(), StatsError>
-    requires { row < row_count chunk.now.columns }
-    ensures selected { let satisfied =
-        satisfies predicate.now (row_of row chunk.now.columns) (row_count chunk.now.columns) in
-        OnOk result (selected.new.items ≡ selected.old.items ++ row_if satisfied place row) }
-    ensures evaluated { OnOk result (evaluated.new ≡ min (evaluated.old + 1) (2 ^ 64 - 1)) }
+    ensures selected { OnOk result
+        (selected.new.items ≡ selected.old.items ++ row_if mark place row) }
     ensures memory { IfErr result IsMemory }
 {
-    *evaluated = evaluated.saturating_add(1);
-    if !predicate.is_satisfied(&chunk.row(row), chunk.rows() as u64) {
+    if !mark {
         return Ok(());
     }
     Ok(selected.push((place, row))?)
 }
 
-// Adds the satisfying rows of the part at a place, and counts its rows.
+// Adds the marked rows of the part at a place, from one of them on.
+fn select_marked(
+    selected: &mut Vec<(usize, usize)>,
+    place: usize,
+    from: usize,
+    marks: &[bool],
+) -> Result<(), StatsError>
+    requires { from + length marks.now < 2 ^ 64 }
+    ensures selected { OnOk result (selected.new.items
+        ≡ selected.old.items ++ marked_rows place from marks.now) }
+    ensures memory { IfErr result IsMemory }
+{
+    for k in 0..marks.len() {
+        select_if(selected, marks[k], place, from + k)?;
+    }
+    Ok(())
+}
+
+// Adds the satisfying rows of a block of the part at a place.
+fn select_block(
+    selected: &mut Vec<(usize, usize)>,
+    place: usize,
+    chunk: &Chunk,
+    predicate: &BoundExpression,
+    from: usize,
+    to: usize,
+) -> Result<(), StatsError>
+    requires after { from ≤ to }
+    requires within { to ≤ row_count chunk.now.columns }
+    requires short { to ≤ from + 1024 }
+    ensures selected { let n = row_count chunk.now.columns in
+        let satisfied = is_true_at predicate.now chunk.now.columns (Same n) in
+        OnOk result (selected.new.items ≡ selected.old.items
+        ++ marked_rows place from (marked satisfied from (replicate (to - from) true))) }
+    ensures memory { IfErr result IsMemory }
+{
+    let counts = Counts::Same(chunk.rows() as u64);
+    let mut marks = [true; BLOCK];
+    let block = &mut marks[..to - from];
+    keep_true(
+        *selected.allocator(),
+        Table { chunk, counts },
+        predicate,
+        from,
+        block,
+    );
+    select_marked(selected, place, from, block)
+}
+
+// Adds the satisfying rows of the part at a place, block by block, and counts its rows.
 pub(crate) fn select(
     selected: &mut Vec<(usize, usize)>,
     evaluated: &mut u64,
@@ -47,9 +92,13 @@ pub(crate) fn select(
         (evaluated.new ≡ min (evaluated.old + row_count chunk.now.columns) (2 ^ 64 - 1)) }
     ensures memory { IfErr result IsMemory }
 {
-    let _counted = *evaluated;
-    for row in 0..chunk.rows() {
-        select_row(selected, evaluated, place, chunk, row, predicate)?;
+    let rows = chunk.rows();
+    *evaluated = evaluated.saturating_add(rows as u64);
+    let mut from = 0;
+    'runs: while from < rows {
+        let to = block_end(from, rows);
+        select_block(selected, place, chunk, predicate, from, to)?;
+        from = to;
     }
     Ok(())
 }

@@ -1,10 +1,10 @@
-use Rattle.std.proofs.Common.{◌∙◌, Some}
+use Rattle.std.proofs.Common.{◌∙◌}
 use Rattle.vortex_prune.proofs.ZoneMaps.ZoneMarks.{marked_all, marked_more}
-use Rattle.vortex_prune.specs.Scanning.Marks.{is_told}
+use Rattle.vortex_prune.specs.Scanning.Marks.{is_true_at}
 use Rattle.vortex_prune.proofs.scan.marks.keep_rows.Goals as goal
 
 pub loop-k-preserved : goal.loop-k-preserved
-loop-k-preserved c = marked_more (is_told (Some c.args.bound.now) c.args.map.now) c.args.from c.loop-k.k c.args.marks.now c.loop-k.marks c.stays_on.result c.loop-k.invariant c.loop-k-test.true c.stays_on.ensures
+loop-k-preserved c = marked_more (is_true_at c.args.e.now c.args.table.chunk.now.columns c.args.table.counts) c.args.from c.loop-k.k c.args.marks.now c.loop-k.marks c.stays_on.result c.loop-k.invariant c.loop-k-test.true c.stays_on.ensures
 
 pub returns : goal.returns
-returns c = c.loop-k.invariant ∙ marked_all (is_told (Some c.args.bound.now) c.args.map.now) c.args.from c.loop-k.k c.args.marks.now c.loop-k-test.false
+returns c = c.loop-k.invariant ∙ marked_all (is_true_at c.args.e.now c.args.table.chunk.now.columns c.args.table.counts) c.args.from c.loop-k.k c.args.marks.now c.loop-k-test.false

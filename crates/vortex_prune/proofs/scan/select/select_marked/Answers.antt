@@ -1,0 +1,7 @@
+use Rattle.std.proofs.Common.{◌∙◌, false}
+use Rattle.vortex_prune.proofs.Scanning.SelectLemmas.{marked_added}
+use Rattle.vortex_prune.proofs.scan.select.select_marked.Goals as goal
+
+pub loop-k-preserved : goal.loop-k-preserved
+loop-k-preserved c =
+    c.in_ok-select_if.ensures.selected ∙ marked_added c.args.place c.args.from c.loop-k.k c.args.marks.now c.loop-k.selected.items c.args.selected.now.items false c.loop-k-test.true c.loop-k.invariant

@@ -1,0 +1,56 @@
+-- Leaves of a predicate, which ask something of the values of one column.
+use Rattle.std.specs.Prelude.{◌≡◌, ℕ, Bool, true, false, not as not_b, List, Option, Some, is_none, slice_get}
+use Rattle.vortex_base.specs.declared.scalar_value.ScalarValue.{ScalarValue}
+use Rattle.vortex_base.specs.declared.types.Operator.{Operator}
+use Rattle.vortex_base.specs.declared.types.Operator.TheVariants as operator
+use Rattle.vortex_base.specs.Data.Cells.{value_of}
+use Rattle.vortex_base.specs.Data.Columns.{ColumnData, row_of, value_at}
+use Rattle.vortex_base.specs.Data.Scalars.{Constant}
+use Rattle.vortex_base.specs.Meanings.Meaning.{compared, is_true, meaning, satisfies, truth_value}
+use Rattle.vortex_base.specs.Trees.Tree.{Tree, Place}
+use Rattle.vortex_prune.specs.declared.scan.leaf.Test.{Test}
+use Rattle.vortex_prune.specs.declared.scan.leaf.Test.TheVariants.{Is, Null, NotNull}
+
+-- the operator compares its sides
+abbrev pub is_comparison : Operator → Bool
+is_comparison operator.And = false
+is_comparison operator.Or = false
+is_comparison o = true
+
+-- the same comparison with its sides changed about
+abbrev pub swapped : Operator → Operator
+swapped operator.Gt = operator.Lt
+swapped operator.Gte = operator.Lte
+swapped operator.Lt = operator.Gt
+swapped operator.Lte = operator.Gte
+swapped o = o
+
+-- the comparison of two optional values is true
+abbrev pub compares : Operator → Option ScalarValue → Option ScalarValue → Bool
+compares o a b = is_true (truth_value (compared o a b))
+
+-- an optional value passes
+abbrev pub passes : Test → Option ScalarValue → Bool
+passes (Is o v) x = compares o x (Some (value_of v))
+passes Null x = is_none x
+passes NotNull x = not_b (is_none x)
+
+-- the one at a place does
+abbrev pub passes_at : Test → List (Option ScalarValue) → ℕ → Bool
+passes_at t vs r = passes t (value_at (slice_get vs r))
+
+-- the expression is worth the column's value, on each row of the columns
+abbrev pub IsColumnOf : List ColumnData → Tree Place → ColumnData → Type 0
+IsColumnOf cs e c = (r n : ℕ) → meaning e (row_of r cs) n ≡ value_at (slice_get c.values r)
+
+-- it is worth this value, on every row
+abbrev pub IsValue : Tree Place → ScalarValue → Type 0
+IsValue e v = (row : List Constant) (n : ℕ) → meaning e row n ≡ Some v
+
+-- the comparison of two expressions is true on exactly those rows where the column's value passes
+abbrev pub IsComparison : List ColumnData → Operator → (left right : Tree Place) → ColumnData → Test → Type 0
+IsComparison cs o left right c t = (r n : ℕ) → compares o (meaning left (row_of r cs) n) (meaning right (row_of r cs) n) ≡ passes_at t c.values r
+
+-- the expression is
+abbrev pub IsLeaf : List ColumnData → Tree Place → ColumnData → Test → Type 0
+IsLeaf cs e c t = (r n : ℕ) → satisfies e (row_of r cs) n ≡ passes_at t c.values r

@@ -1,0 +1,154 @@
+//! Leaves of a predicate that ask something of the values of one column: a comparison with a
+//! literal on either side, IS NULL and IS NOT NULL.
+ghost use Rattle.std.specs.Prelude.{◌≡◌, IfSome, option_map};
+ghost use Rattle.vortex_base.specs.Data.Cells.{value_of};
+ghost use Rattle.vortex_base.specs.Meanings.Meaning as spec;
+ghost use Rattle.vortex_prune.specs.Scanning.Leaves.{IsColumnOf, IsComparison, IsLeaf, IsValue};
+ghost use Rattle.vortex_prune.specs.Scanning.Leaves.{is_comparison, passes, swapped};
+
+use std::cmp::Ordering;
+use vortex_base::bound_expression::BoundExpression;
+use vortex_base::bound_expression::parts::Parts;
+use vortex_base::chunk::Chunk;
+use vortex_base::column::Column;
+use vortex_base::types::Operator;
+use vortex_base::value_ref::ValueRef;
+
+/// What is asked of a value.
+#[derive(Clone, Copy)]
+pub(crate) enum Test<'a> {
+    /// Whether it compares so with another.
+    Is(Operator, ValueRef<'a>),
+    Null,
+    NotNull,
+}
+
+/// A column, and what is asked of its values.
+#[derive(Clone, Copy)]
+pub(crate) struct Leaf<'a> {
+    pub(crate) column: &'a Column,
+    pub(crate) test: Test<'a>,
+}
+
+/// Whether an operator holds of two values in this order. AND and OR compare nothing.
+#[inline]
+pub(crate) fn holds(operator: Operator, order: Ordering) -> bool
+    ensures { result ≡ spec.holds operator order }
+{
+    match operator {
+        Operator::Eq => order.is_eq(),
+        Operator::NotEq => !order.is_eq(),
+        Operator::Gt => order.is_gt(),
+        Operator::Gte => !order.is_lt(),
+        Operator::Lt => order.is_lt(),
+        Operator::Lte => !order.is_gt(),
+        Operator::And | Operator::Or => false,
+    }
+}
+
+/// Whether a value, if there is one, passes.
+#[inline]
+pub(crate) fn passes(test: Test<'_>, value: Option<ValueRef<'_>>) -> bool
+    ensures { result ≡ passes test.entry (option_map value_of value.entry) }
+{
+    match test {
+        Test::Null => value.is_none(),
+        Test::NotNull => value.is_some(),
+        Test::Is(operator, other) => match value {
+            None => false,
+            Some(value) => holds(operator, value.order(other)),
+        },
+    }
+}
+
+// Whether an operator compares its sides.
+fn is_comparison(operator: Operator) -> bool
+    ensures { result ≡ is_comparison operator }
+{
+    !matches!(operator, Operator::And | Operator::Or)
+}
+
+// The comparison that says the same with its sides changed about.
+fn swapped(operator: Operator) -> Operator
+    ensures { result ≡ swapped operator }
+{
+    match operator {
+        Operator::Gt => Operator::Lt,
+        Operator::Gte => Operator::Lte,
+        Operator::Lt => Operator::Gt,
+        Operator::Lte => Operator::Gte,
+        _ => operator,
+    }
+}
+
+// The column of a chunk that an expression is, if it is one.
+fn column_of<'a>(chunk: &'a Chunk, e: &BoundExpression) -> Option<&'a Column>
+    ensures { IfSome result (λ column.
+        IsColumnOf chunk.entry.now.columns e.now column.now) }
+{
+    match e.parts() {
+        Parts::Column(place, _) if place < chunk.scope().len() => Some(chunk.column(place)),
+        _ => None,
+    }
+}
+
+// The value that an expression is, if it is a literal other than null.
+fn literal_of(e: &BoundExpression) -> Option<ValueRef<'_>>
+    ensures { IfSome result (λ value. IsValue e.entry.now (value_of value)) }
+{
+    match e.literal() {
+        None => None,
+        Some(literal) => match literal.value() {
+            None => None,
+            Some(value) => Some(value.lend()),
+        },
+    }
+}
+
+/// The leaf that tells of the comparison of two expressions, if one is a column and the other a
+/// literal.
+pub(crate) fn compared<'a>(
+    chunk: &'a Chunk,
+    operator: Operator,
+    left: &'a BoundExpression,
+    right: &'a BoundExpression,
+) -> Option<Leaf<'a>>
+    ensures { IfSome result (λ leaf. IsComparison chunk.entry.now.columns operator left.entry.now
+        right.entry.now leaf.column.now leaf.test) }
+{
+    if let (Some(column), Some(value)) = (column_of(chunk, left), literal_of(right)) {
+        let test = Test::Is(operator, value);
+        return Some(Leaf { column, test });
+    }
+    if let (Some(value), Some(column)) = (literal_of(left), column_of(chunk, right)) {
+        let test = Test::Is(swapped(operator), value);
+        return Some(Leaf { column, test });
+    }
+    None
+}
+
+// The leaf of a column, if an expression is one.
+fn asked<'a>(chunk: &'a Chunk, e: &BoundExpression, test: Test<'a>) -> Option<Leaf<'a>>
+    ensures { IfSome result (λ leaf. IsColumnOf chunk.entry.now.columns e.now leaf.column.now
+        × (leaf.test ≡ test.entry)) }
+{
+    match column_of(chunk, e) {
+        None => None,
+        Some(column) => Some(Leaf { column, test }),
+    }
+}
+
+/// The leaf that an expression is, if it is one.
+pub(crate) fn leaf_of<'a>(chunk: &'a Chunk, e: &'a BoundExpression) -> Option<Leaf<'a>>
+    ensures { IfSome result (λ leaf.
+        IsLeaf chunk.entry.now.columns e.entry.now leaf.column.now leaf.test) }
+{
+    match e.parts() {
+        Parts::Binary(operator, left, right) if is_comparison(operator) => {
+            compared(chunk, operator, left, right)
+        }
+        Parts::IsNull(x) => asked(chunk, x, Test::Null),
+        Parts::IsNotNull(x) => asked(chunk, x, Test::NotNull),
+        _ => None,
+    }
+}
