@@ -10,7 +10,7 @@ use Rattle.vortex_base.specs.declared.types.Operator.{Operator}
 use Rattle.vortex_base.specs.declared.types.Operator.TheVariants.{And, Or}
 use Rattle.vortex_base.specs.declared.like.LikeOptions.{LikeOptions}
 use Rattle.vortex_rewrite.specs.Rewriting.Falsifiers.{bool_literal}
-use Rattle.vortex_normal.specs.Pushed.{all_by, all_of, any_by, any_of, comparison_of, connected, decided, folded, is_literal, is_null_literal, is_reflexive, liked, settled}
+use Rattle.vortex_normal.specs.Pushed.{all_by, all_of, any_by, any_of, as_comparisons, comparison_of, connected, decided, folded, given_or, is_literal, is_null_literal, is_reflexive, liked, settled}
 
 pub if_as : (P : Tree Place → Type 0) (b : Bool) (x y : Tree Place) → (b ≡ true → P x) → (b ≡ false → P y) → P (if b then x else y)
 if_as P true x y f g = f refl
@@ -52,11 +52,16 @@ comparison_as P o l r f g h k =
     (λ e. if_as P (is_reflexive o) (settled (is_not_null l)) (bool_literal false) (g ((tree_eq_is_exact l r).0 e)) (h ((tree_eq_is_exact l r).0 e)))
     (λ _. k))
 
-pub liked_as : (P : Tree Place → Type 0) (o : LikeOptions) (x p : Tree Place) → ((is_null_literal x ≡ true) ⊎ (is_null_literal p ≡ true) → P (bool_literal false)) → P (settled (like o x p)) → P (liked o x p)
+given_as : (P : Tree Place → Type 0) (m : Option (Tree Place)) (q : Tree Place) → ((e : Tree Place) → m ≡ Some e → P e) → (m ≡ None → P q) → P (given_or m q)
+given_as P (Some e) q f h = f e refl
+given_as P None q f h = h refl
+
+pub liked_as : (P : Tree Place → Type 0) (o : LikeOptions) (x p : Tree Place) → ((is_null_literal x ≡ true) ⊎ (is_null_literal p ≡ true) → P (bool_literal false))
+    → ((e : Tree Place) → as_comparisons o x p ≡ Some e → P e) → (as_comparisons o x p ≡ None → P (settled (like o x p))) → P (liked o x p)
 unfolding liked
-liked_as P o x p f k =
-    if_as P (is_null_literal x || is_null_literal p) (bool_literal false) (settled (like o x p))
-    (λ e. f (or_cases (is_null_literal x) (is_null_literal p) e)) (λ _. k)
+liked_as P o x p f g k =
+    if_as P (is_null_literal x || is_null_literal p) (bool_literal false) (given_or (as_comparisons o x p) (settled (like o x p)))
+    (λ e. f (or_cases (is_null_literal x) (is_null_literal p) e)) (λ _. given_as P (as_comparisons o x p) (settled (like o x p)) g k)
 
 module _ (P : Tree Place → Type 0) (l r : Tree Place) (pl : P l) (pr : P r) where
   pub all_by_kept : (a b : Option Bool) → P (binary And l r) → P (all_by a b l r)

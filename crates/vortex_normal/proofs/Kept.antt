@@ -10,7 +10,9 @@ use Rattle.vortex_base.specs.declared.like.LikeOptions.{LikeOptions}
 use Rattle.vortex_base.specs.declared.types.Operator.{Operator}
 use Rattle.vortex_base.specs.declared.types.Operator.TheVariants.{Eq, NotEq, Gt, Gte, Lt, Lte, And, Or}
 use Rattle.vortex_normal.specs.Pushed.{comparison, comparison_of, connected, folded, like_as, liked, null_test, operator_as, pushed, settled}
+use Rattle.vortex_rewrite.specs.Rewriting.Falsifiers.{bytes_literal}
 use Rattle.vortex_normal.proofs.Forms.{comparison_as, connected_kept, folded_as, liked_as, settled_as}
+use Rattle.vortex_normal.proofs.Matched.{matched_as}
 
 -- a property of predicates that each literal has, each node with the children of one that has it, and each child
 pub record IsInherited (P : Tree Place → Type 0) : Type 0 where
@@ -37,15 +39,18 @@ module _ (P : Tree Place → Type 0) (i : IsInherited P) where
   unfolding comparison
   comparison_kept o l r h k = of_kept o (folded l) (folded r) (folded_kept l h) (folded_kept r k)
 
+  two_kept : (w : Bool) (l r : Tree Place) → P l → P r → P (connected w l r)
+  two_kept w l r h k = connected_kept P l r h k w (i.of_binary And l r h k) (i.of_binary Or l r h k)
+
   liked_kept : (o : LikeOptions) (x p : Tree Place) → P x → P p → P (liked o x p)
-  liked_kept o x p h k = liked_as P o x p (λ _. i.of_literal _) (settled_kept (like o x p) (i.of_like o x p h k))
+  liked_kept o x p h k =
+      liked_as P o x p (λ _. i.of_literal _)
+      (λ e is. matched_as P x (λ w op c bs. comparison_kept (operator_as w op) x (bytes_literal bs) h (i.of_literal _)) two_kept o p e is)
+      (λ _. settled_kept (like o x p) (i.of_like o x p h k))
 
   null_kept : (w : Bool) (x : Tree Place) → P x → P (null_test w x)
   null_kept true x h = settled_kept (is_null x) (i.of_null x h)
   null_kept false x h = settled_kept (is_not_null x) (i.of_not_null x h)
-
-  two_kept : (w : Bool) (l r : Tree Place) → P l → P r → P (connected w l r)
-  two_kept w l r h k = connected_kept P l r h k w (i.of_binary And l r h k) (i.of_binary Or l r h k)
 
 module _ (test : Place → Bool) where
   abbrev pub Holds : Tree Place → Type 0

@@ -7,11 +7,14 @@ mod Grouped
 mod GroupsKept
 pub mod Joined
 mod Kept
+mod Matched
 mod OneColumn
 mod OneColumnApart
 mod OneColumnRows
+mod Readings
 mod Sets
 mod Steps
+mod Texts
 mod Told
 mod Truths
 mod Worked

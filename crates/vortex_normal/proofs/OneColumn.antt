@@ -11,18 +11,20 @@ use Rattle.vortex_base.specs.Trees.Between.{to_operator}
 use Rattle.vortex_base.specs.Trees.Tree.{Tree, Place, column, literal, binary, between, is_null, is_not_null, not, like, stat, row_count, has_bare_column, is_plain}
 use Rattle.vortex_base.specs.Trees.TreeEq.{place_eq, tree_eq, tree_eq_is_exact}
 use Rattle.vortex_base.specs.declared.scalar_value.ScalarValue.{ScalarValue}
+use Rattle.vortex_base.specs.declared.like.LikeOptions.{LikeOptions}
 use Rattle.vortex_base.specs.declared.types.Operator.{Operator}
 use Rattle.vortex_base.specs.declared.types.Operator.TheVariants.{Eq, NotEq, Gt, Gte, Lt, Lte, And, Or}
 use Rattle.vortex_rewrite.proofs.Completeness.Interval.{is_comparison}
 use Rattle.vortex_rewrite.proofs.Soundness.TruthLogic.{clash}
-use Rattle.vortex_rewrite.specs.Rewriting.Falsifiers.{bool_literal}
+use Rattle.vortex_rewrite.specs.Rewriting.Falsifiers.{bool_literal, bytes_literal}
 use Rattle.vortex_rewrite.specs.Rewriting.ReadOnce.{is_simple_binary}
 use Rattle.vortex_normal.specs.Groups.{Item, inside, other, add, as_one, binary_item, collected, compared_item, leaf_item, widened}
 use Rattle.vortex_normal.specs.Intervals.{Interval, swapped}
 use Rattle.vortex_normal.specs.OneColumn.{is_constant, is_operand_over, is_over}
-use Rattle.vortex_normal.specs.Pushed.{comparison, comparison_of, connected, decided, folded, is_literal, is_reflexive, null_test, operator_as, pushed, settled}
+use Rattle.vortex_normal.specs.Pushed.{as_comparisons, comparison, comparison_of, connected, decided, folded, is_literal, is_reflexive, like_as, liked, null_test, operator_as, pushed, settled}
 use Rattle.vortex_normal.proofs.Columns.{same_place}
-use Rattle.vortex_normal.proofs.Forms.{if_as}
+use Rattle.vortex_normal.proofs.Forms.{if_as, liked_as}
+use Rattle.vortex_normal.proofs.Matched.{matched_as, still_matched}
 use Rattle.vortex_normal.proofs.Truths.{IsTruthOr, connected_truth_or}
 use Rattle.vortex_normal.proofs.Told.{end_compares, still_compares}
 
@@ -170,6 +172,13 @@ module _ (c : Place) where
       let i = and_parts (is_operand_over c l) (is_operand_over c r) h in
       compared_pushed (operator_as w o) l r (still_compares w o k) i.0 i.1
 
+  -- a LIKE that comparisons say
+  liked_pushed : (o : LikeOptions) (x p : Tree Place) → is_some (as_comparisons o x p) ≡ true → is_operand_over c x ≡ true → IsPushed (liked o x p)
+  liked_pushed o x p s h =
+      liked_as IsPushed o x p (λ _. inl (false, refl))
+      (λ e is. matched_as IsPushed x (λ w op k bs. compared_pushed (operator_as w op) x (bytes_literal bs) (still_compares w op k) h refl) connected_pushed o p e is)
+      (λ none. clash s (ap is_some none))
+
   pub pushed_over : (w : Bool) (p : Tree Place) → is_over c p ≡ true → IsPushed (pushed w p)
   pushed_over w (column d) h = inr (both_hold _ _ h refl)
   pushed_over w (literal v) h = inl (_, refl)
@@ -194,7 +203,9 @@ module _ (c : Place) where
   pushed_over w (is_null x) h = null_pushed w x h
   pushed_over w (is_not_null x) h = null_pushed (not_b w) x h
   pushed_over w (not x) h = pushed_over (not_b w) x h
-  pushed_over w (like o x p) h = cc
+  pushed_over w (like o x p) h =
+      let i = and_parts (is_some (as_comparisons o x p)) (is_operand_over c x) h in
+      liked_pushed (like_as w o) x p (still_matched w o x p i.0) i.1
   pushed_over w (stat f x) h = cc
   pushed_over w row_count h = cc
 

@@ -3,6 +3,7 @@ use Rattle.std.proofs.Common.{◌≡◌, ℕ, zero, suc, Bool, true, false, not 
 use Rattle.std.proofs.Common.{lit<}
 use Rattle.std.specs.Prelude.{slice_get}
 use Rattle.std.specs.List.{AllByRecursion}
+use Rattle.std.specs.Option.{is_some}
 use Rattle.std.proofs.lemmas.Bool.{and_parts, not-true, or_parts, or_right}
 use Rattle.std.proofs.lemmas.Option.{none-some}
 use Rattle.vortex_base.specs.Data.Columns.{IsRow, cell_value}
@@ -28,10 +29,11 @@ use Rattle.vortex_rewrite.specs.Rewriting.ReadOnce.{are_sides_apart, columns_of,
 use Rattle.vortex_normal.specs.Groups.{inside, collected, items_test, normal}
 use Rattle.vortex_normal.specs.Intervals.{Cut, Lowest, Before, After, Highest, Interval, all_but, at_most, between_cuts, contains, cuts_all, in_set, literal_as, hole_by, only_hole, range_of, set_test}
 use Rattle.vortex_normal.specs.OneColumn.{IsSelective, are_ends_seen, is_constant, is_open_range, is_operand_over, is_over}
-use Rattle.vortex_normal.specs.Pushed.{all_by, all_of, connected, decided, pushed}
+use Rattle.vortex_normal.specs.Pushed.{all_by, all_of, as_comparisons, connected, decided, is_literal, pushed}
 use Rattle.vortex_normal.proofs.Folded.{no_columns}
 use Rattle.vortex_normal.proofs.Grouped.{all_told, collected_told, full_cuts, is_among, joined_unit}
 use Rattle.vortex_normal.proofs.Columns.{same_place}
+use Rattle.vortex_normal.proofs.Matched.{literal_pattern}
 use Rattle.vortex_normal.proofs.OneColumn.{alone_same, collected_one, is_chain, the_one}
 use Rattle.vortex_normal.proofs.Told.{pushed_same}
 
@@ -40,6 +42,32 @@ use Rattle.vortex_normal.proofs.Told.{pushed_same}
 or_yes : (b : Bool) → (b || true) ≡ true
 or_yes true = refl
 or_yes false = refl
+
+-- ---- literals have no column
+
+literal_columns : (test : Place → Bool) (p : Tree Place) → is_literal p ≡ true → all_columns test p ≡ true
+literal_columns test (literal v) h = refl
+literal_columns test (column d) h = cc
+literal_columns test (binary o l r) h = cc
+literal_columns test (between o x l u) h = cc
+literal_columns test (is_null x) h = cc
+literal_columns test (is_not_null x) h = cc
+literal_columns test (not x) h = cc
+literal_columns test (like o x p) h = cc
+literal_columns test (stat f x) h = cc
+literal_columns test row_count h = cc
+
+at_literal : (P : Place → Type 0) (p : Tree Place) → is_literal p ≡ true → AllByRecursion P (columns_of p)
+at_literal P (literal v) h = tt
+at_literal P (column d) h = absurd cc
+at_literal P (binary o l r) h = absurd cc
+at_literal P (between o x l u) h = absurd cc
+at_literal P (is_null x) h = absurd cc
+at_literal P (is_not_null x) h = absurd cc
+at_literal P (not x) h = absurd cc
+at_literal P (like o x p) h = absurd cc
+at_literal P (stat f x) h = absurd cc
+at_literal P row_count h = absurd cc
 
 -- ---- constants have no column
 
@@ -259,7 +287,9 @@ module _ (c : Place) where
     of_columns (is_null x) h = of_operand x h
     of_columns (is_not_null x) h = of_operand x h
     of_columns (not x) h = of_columns x h
-    of_columns (like o x p) h = cc
+    of_columns (like o x p) h =
+        let k = and_parts (is_some (as_comparisons o x p)) (is_operand_over c x) h in
+        both_hold _ _ (of_operand x k.1) (literal_columns test p (literal_pattern o x p k.0))
     of_columns (stat f x) h = cc
     of_columns row_count h = cc
 
@@ -304,7 +334,9 @@ module _ (c : Place) where
     at_columns (is_null x) h = at_operand x h
     at_columns (is_not_null x) h = at_operand x h
     at_columns (not x) h = at_columns x h
-    at_columns (like o x p) h = cc
+    at_columns (like o x p) h =
+        let k = and_parts (is_some (as_comparisons o x p)) (is_operand_over c x) h in
+        all_append P (columns_of x) (columns_of p) (at_operand x k.1) (at_literal P p (literal_pattern o x p k.0))
     at_columns (stat f x) h = cc
     at_columns row_count h = cc
 

@@ -17,9 +17,9 @@ use Rattle.vortex_base.specs.declared.error.BaseError.{BaseError}
 use Rattle.vortex_base.specs.declared.types.BetweenOptions.{BetweenOptions}
 use Rattle.vortex_base.specs.declared.types.Operator.{Operator}
 use Rattle.vortex_base.specs.declared.types.Operator.TheVariants.{Eq, NotEq, Gt, Gte, Lt, Lte, And, Or}
-use Rattle.vortex_rewrite.specs.Rewriting.Predicates.{has_type, is_predicate, is_connective}
+use Rattle.vortex_rewrite.specs.Rewriting.Predicates.{has_type, is_predicate, is_connective, is_text}
 use Rattle.vortex_rewrite.specs.Rewriting.Falsifiers.{bool_literal}
-use Rattle.vortex_rewrite.proofs.Rewriting.ProofTypes.{alike_compare, comparable_if, lower_compares, upper_compares}
+use Rattle.vortex_rewrite.proofs.Rewriting.ProofTypes.{alike_compare, comparable_if, lower_compares, texts_compare, upper_compares}
 use Rattle.vortex_normal.specs.Pushed.{opposite_of, operator_as}
 
 typed_has : (test : DType → Bool) (t : Result DType BaseError) → has_type test t ≡ true → IsOk t
@@ -178,3 +178,19 @@ range_typed (Err f) a b h = cc
 
 pub between_is_predicate : (o : BetweenOptions) (x l u : Tree Place) → IsOk (type_of (between o x l u)) → IsTrue (is_predicate (between o x l u))
 between_is_predicate o x l u h = range_typed (type_of x) (type_of l) (type_of u) h
+
+-- ---- texts
+
+text_compares_by : (o : Operator) (x y : Tree Place) → is_connective o ≡ false → IsTrue (is_text x) → IsTrue (is_text y) → IsOk (type_of (binary o x y))
+text_compares_by And x y k g h = cc
+text_compares_by Or x y k g h = cc
+text_compares_by Eq x y k g h = texts_compare x y g h
+text_compares_by NotEq x y k g h = texts_compare x y g h
+text_compares_by Gt x y k g h = texts_compare x y g h
+text_compares_by Gte x y k g h = texts_compare x y g h
+text_compares_by Lt x y k g h = texts_compare x y g h
+text_compares_by Lte x y k g h = texts_compare x y g h
+
+-- two texts may be compared, as is wanted
+pub text_compares : (w : Bool) (o op : Operator) (x y : Tree Place) → is_connective o ≡ false → op ≡ operator_as w o → IsTrue (is_text x) → IsTrue (is_text y) → IsOk (type_of (binary op x y))
+text_compares w o op x y k same g h = rw same (operator_fits w o x y (text_compares_by o x y k g h))

@@ -1,6 +1,7 @@
 -- What a predicate pushed down is satisfied by: the rows where the given one has the wanted truth.
 use Rattle.std.proofs.Common.{◌≡◌, ◌<◌, ◌^◌, ℕ, Bool, true, false, not as not_b, ◌&&◌, ◌||◌, ⊎_elim, List, [], Option, Some, None, Result, Ok, Err, IsTrue, refl, sym, ap, ap₂, ◌∙◌, if◌then◌else◌}
-use Rattle.std.specs.Prelude.{is_none}
+use Rattle.std.specs.Prelude.{encode_utf8_all, is_none}
+use Rattle.std.specs.Str.{chars, is_utf8}
 use Rattle.std.proofs.lemmas.Bool.{and_parts, or_parts}
 use Rattle.std.proofs.lemmas.Option.{same_Some, none-some}
 use Rattle.std.specs.declared.cmp.Ordering.{Ordering}
@@ -16,8 +17,10 @@ use Rattle.vortex_base.specs.Data.Values.{value_cmp}
 use Rattle.vortex_base.specs.Meanings.Fitting.{fits_row}
 use Rattle.vortex_base.specs.Meanings.Meaning.{applied, both, compared, either, holds, is_true, liked as liked_values, meaning, opposite, satisfies, truth, truth_value, within}
 use Rattle.vortex_base.specs.Meanings.RowTest.{is_wanted}
-use Rattle.vortex_base.specs.Meanings.Typing.{is_bool, is_utf8, like_type, type_if, type_of, with_types}
-use Rattle.vortex_base.specs.Patterns.Like.{like_text}
+use Rattle.vortex_base.specs.Meanings.Typing.{is_bool, is_utf8 as is_text_type, like_type, type_if, type_of, with_types}
+use Rattle.vortex_base.specs.Patterns.Like.{items, like as like_items, like_text}
+use Rattle.vortex_base.specs.Patterns.Prefix.{is_exact, literal_prefix, successor}
+use Rattle.vortex_base.specs.declared.like.Item.{Item}
 use Rattle.vortex_base.specs.Trees.Tree.{Tree, Place, column, literal, binary, between, is_null, is_not_null, not, like, stat, row_count, has_bare_column, has_row_count}
 use Rattle.vortex_base.specs.declared.dtype.DType.{DType}
 use Rattle.vortex_base.specs.declared.dtype.DType.TheVariants as dtype
@@ -33,8 +36,11 @@ use Rattle.vortex_rewrite.proofs.Completeness.Decided.{comparison_applied}
 use Rattle.vortex_rewrite.proofs.Completeness.Interval.{is_comparison}
 use Rattle.vortex_rewrite.proofs.Soundness.TruthLogic.{true_and, true_or, truth_back}
 use Rattle.vortex_rewrite.specs.Rewriting.Predicates.{has_type, is_predicate}
-use Rattle.vortex_normal.specs.Pushed.{all_by, all_of, any_by, any_of, comparison, comparison_of, connected, decided, folded, is_null_literal, is_reflexive, like_as, liked, null_test, operator_as, pushed, settled}
+use Rattle.vortex_rewrite.specs.Rewriting.Falsifiers.{bytes_literal, text_in, text_of}
+use Rattle.vortex_normal.specs.Pushed.{all_by, all_of, any_by, any_of, as_comparisons, begins, comparison, comparison_of, connected, decided, folded, is_beginning, is_last_raised, is_null_literal, is_reflexive, items_matched, like_as, liked, null_test, operator_as, pushed, same_text, settled, text_matched}
 use Rattle.vortex_normal.proofs.Forms.{comparison_as, folded_as, liked_as, settled_as}
+use Rattle.vortex_normal.proofs.Matched.{given_if}
+use Rattle.vortex_normal.proofs.Texts.{exact_told, range_told}
 use Rattle.vortex_normal.proofs.Steps.{operand, sides}
 
 -- ---- wanted truths
@@ -162,15 +168,15 @@ truth_compared false (Some (value.Binary bs)) = refl
 
 -- ---- LIKE
 
--- null or a text
+-- null or a text, which is UTF-8
 abbrev IsTextOrNull : Option ScalarValue → Type 0
 IsTextOrNull None = Unit {0}
-IsTextOrNull (Some (value.Utf8 bs)) = Unit {0}
+IsTextOrNull (Some (value.Utf8 bs)) = is_utf8 bs ≡ true
 IsTextOrNull (Some v) = ⊥
 
-text_value : (v : Option ScalarValue) (t : DType) → is_utf8 t ≡ true → is_optional_value v (as_nullable t) ≡ true → IsTextOrNull v
+text_value : (v : Option ScalarValue) (t : DType) → is_text_type t ≡ true → is_optional_value v (as_nullable t) ≡ true → IsTextOrNull v
 text_value None t u h = tt
-text_value (Some (value.Utf8 bs)) t u h = tt
+text_value (Some (value.Utf8 bs)) (dtype.Utf8 n) u h = h
 text_value (Some (value.Bool b)) (dtype.Utf8 n) u h = cc
 text_value (Some (value.Primitive p)) (dtype.Utf8 n) u h = cc
 text_value (Some (value.Binary bs)) (dtype.Utf8 n) u h = cc
@@ -196,6 +202,42 @@ liked_as_wanted false o (Some (value.Bool c)) b h k = absurd h
 liked_as_wanted false o (Some (value.Primitive p)) b h k = absurd h
 liked_as_wanted false o (Some (value.Binary bs)) b h k = absurd h
 
+-- a text matches the items as is wanted
+abbrev is_matched : (wanted : Bool) → List Item → Option ScalarValue → Bool
+is_matched w is (Some (value.Utf8 t)) = is_wanted w (Some (like_items is (chars t)))
+is_matched w is v = false
+
+both_known : (w a b : Bool) → is_wanted w (both (Some a) (Some b)) ≡ is_wanted w (Some (a && b))
+both_known w true b = refl
+both_known w false b = refl
+
+same_matched : (w : Bool) (is : List Item) (v : Option ScalarValue) → IsTextOrNull v → is_exact is ≡ true → is_wanted w (compared Eq v (Some (value.Utf8 (encode_utf8_all (literal_prefix is))))) ≡ is_matched w is v
+same_matched w is None u e = sym (null_unwanted w)
+same_matched w is (Some (value.Utf8 t)) u e = ap (λ b. is_wanted w (Some b)) (exact_told is t u e)
+same_matched w is (Some (value.Bool b)) u e = absurd u
+same_matched w is (Some (value.Primitive p)) u e = absurd u
+same_matched w is (Some (value.Binary bs)) u e = absurd u
+
+range_matched : (w : Bool) (is : List Item) (ds : List ℕ) (v : Option ScalarValue) → IsTextOrNull v → is_beginning is ≡ true → is_last_raised (literal_prefix is) ≡ true → successor (literal_prefix is) ≡ Some ds
+    → is_wanted w (both (compared Gte v (Some (value.Utf8 (encode_utf8_all (literal_prefix is))))) (compared Lt v (Some (value.Utf8 (encode_utf8_all ds))))) ≡ is_matched w is v
+range_matched w is ds None u e r s = sym (null_unwanted w)
+range_matched w is ds (Some (value.Utf8 t)) u e r s = both_known w _ _ ∙ ap (λ b. is_wanted w (Some b)) (range_told is t ds u e r s)
+range_matched w is ds (Some (value.Bool b)) u e r s = absurd u
+range_matched w is ds (Some (value.Primitive p)) u e r s = absurd u
+range_matched w is ds (Some (value.Binary bs)) u e r s = absurd u
+
+wanted_negated : (b m : Bool) → is_wanted (not_b b) (Some m) ≡ is_wanted true (Some (if b then not_b m else m))
+wanted_negated true m = refl
+wanted_negated false m = refl
+
+-- a LIKE that regards case
+matched_liked : (o : LikeOptions) (bs : List ℕ) (v : Option ScalarValue) → o.case_insensitive ≡ false → is_matched (not_b o.negated) (items (chars bs)) v ≡ is_wanted true (liked_values o v (Some (value.Utf8 bs)))
+matched_liked o bs None c = refl
+matched_liked o bs (Some (value.Utf8 t)) c = wanted_negated o.negated (like_text false bs t) ∙ ap (λ b. if o.negated then not_b (like_text b bs t) else like_text b bs t) (sym c)
+matched_liked o bs (Some (value.Bool b)) c = refl
+matched_liked o bs (Some (value.Primitive p)) c = refl
+matched_liked o bs (Some (value.Binary b)) c = refl
+
 none_liked : (o : LikeOptions) (a : Option ScalarValue) → false ≡ is_wanted true (liked_values o a None)
 none_liked o None = refl
 none_liked o (Some a) = refl
@@ -206,8 +248,8 @@ record AreTexts (a b : Result DType BaseError) : Type 0 where
   pub pattern_type : DType
   pub text : a ≡ Ok text_type
   pub pattern : b ≡ Ok pattern_type
-  pub text_is : is_utf8 text_type ≡ true
-  pub pattern_is : is_utf8 pattern_type ≡ true
+  pub text_is : is_text_type text_type ≡ true
+  pub pattern_is : is_text_type pattern_type ≡ true
 
 only_if : (b : Bool) (t : DType) → has_type is_bool (type_if b t) ≡ true → b ≡ true
 only_if true t h = refl
@@ -215,7 +257,7 @@ only_if false t h = cc
 
 texts_of : (a b : Result DType BaseError) → has_type is_bool (with_types like_type a b) ≡ true → AreTexts a b
 texts_of (Ok s) (Ok t) h =
-    let k = and_parts (is_utf8 s) (is_utf8 t) (only_if (is_utf8 s && is_utf8 t) _ h) in
+    let k = and_parts (is_text_type s) (is_text_type t) (only_if (is_text_type s && is_text_type t) _ h) in
     record { text_type = s; pattern_type = t; text = refl; pattern = refl; text_is = k.0; pattern_is = k.1 }
 texts_of (Ok s) (Err f) h = absurd cc
 texts_of (Err f) b h = absurd cc
@@ -293,14 +335,6 @@ module _ (row : List Constant) (n : ℕ) where
   turned_told : (w : Bool) (o : Operator) (l r : Tree Place) → is_comparison o ≡ true → satisfies (comparison (operator_as w o) l r) row n ≡ is_wanted w (compared o (meaning l row n) (meaning r row n))
   turned_told w o l r c = comparison_told (operator_as w o) l r (still_compares w o c) ∙ compared_as w o (meaning l row n) (meaning r row n) c
 
-  liked_told : (o : LikeOptions) (x p : Tree Place) → satisfies (liked o x p) row n ≡ is_wanted true (liked_values o (meaning x row n) (meaning p row n))
-  liked_told o x p =
-      liked_as (λ e. satisfies e row n ≡ is_wanted true (liked_values o (meaning x row n) (meaning p row n))) o x p
-      (⊎_elim
-      (λ h. sym (ap (λ v. is_wanted true (liked_values o v (meaning p row n))) (null_meaning x h)))
-      (λ h. none_liked o (meaning x row n) ∙ sym (ap (λ v. is_wanted true (liked_values o (meaning x row n) v)) (null_meaning p h))))
-      (settled_told (like o x p) ∙ yes (liked_values o (meaning x row n) (meaning p row n)))
-
   null_told : (w : Bool) (x : Tree Place) → satisfies (null_test w x) row n ≡ is_wanted w (Some (is_none (meaning x row n)))
   null_told true x = settled_told (is_null x)
   null_told false x = settled_told (is_not_null x)
@@ -346,10 +380,78 @@ module _ (row : List Constant) (n : ℕ) where
   two_told : (v w : Bool) (l r : Tree Place) (a b c : Bool) → satisfies l row n ≡ a → satisfies r row n ≡ b → joined v a b ≡ c → satisfies (connected v l r) row n ≡ c
   two_told v w l r a b c h k e = connected_told v l r ∙ ap₂ (joined v) h k ∙ e
 
+  -- ---- LIKE
+
+  text_meaning : (p : Tree Place) (bs : List ℕ) → text_in p ≡ Some bs → meaning p row n ≡ Some (value.Utf8 bs)
+  text_meaning (literal c) bs h = by_value c.value h
+    where
+      by_value : (v : Option ScalarValue) → text_of v ≡ Some bs → v ≡ Some (value.Utf8 bs)
+      by_value (Some (value.Utf8 b)) h = ap (λ x. Some (value.Utf8 x)) (same_Some _ _ h)
+      by_value None h = absurd (none-some bs h)
+      by_value (Some (value.Bool b)) h = absurd (none-some bs h)
+      by_value (Some (value.Primitive q)) h = absurd (none-some bs h)
+      by_value (Some (value.Binary b)) h = absurd (none-some bs h)
+  text_meaning (column c) bs h = absurd (none-some bs h)
+  text_meaning (binary o l r) bs h = absurd (none-some bs h)
+  text_meaning (between o x l u) bs h = absurd (none-some bs h)
+  text_meaning (is_null x) bs h = absurd (none-some bs h)
+  text_meaning (is_not_null x) bs h = absurd (none-some bs h)
+  text_meaning (not x) bs h = absurd (none-some bs h)
+  text_meaning (like o x p) bs h = absurd (none-some bs h)
+  text_meaning (stat f x) bs h = absurd (none-some bs h)
+  text_meaning row_count bs h = absurd (none-some bs h)
+
+  module _ (x : Tree Place) (text : IsTextOrNull (meaning x row n)) where
+    same_told : (w : Bool) (is : List Item) → is_exact is ≡ true → satisfies (same_text w x (encode_utf8_all (literal_prefix is))) row n ≡ is_matched w is (meaning x row n)
+    same_told w is e = turned_told w Eq x (bytes_literal (encode_utf8_all (literal_prefix is))) refl ∙ same_matched w is (meaning x row n) text e
+
+    begins_told : (w : Bool) (is : List Item) (s : Option (List ℕ)) (e : Tree Place) → is_beginning is ≡ true → is_last_raised (literal_prefix is) ≡ true → successor (literal_prefix is) ≡ s
+        → begins w x (literal_prefix is) s ≡ Some e → satisfies e row n ≡ is_matched w is (meaning x row n)
+    begins_told w is None e b r s h = absurd (none-some e h)
+    begins_told w is (Some ds) e b r s h =
+        let from = value.Utf8 (encode_utf8_all (literal_prefix is)) in
+        let below = value.Utf8 (encode_utf8_all ds) in
+        sym (ap (λ q. satisfies q row n) (same_Some _ _ h))
+        ∙ two_told w w (comparison (operator_as w Gte) x (bytes_literal (encode_utf8_all (literal_prefix is)))) (comparison (operator_as w Lt) x (bytes_literal (encode_utf8_all ds))) _ _ _
+        (turned_told w Gte x (bytes_literal (encode_utf8_all (literal_prefix is))) refl) (turned_told w Lt x (bytes_literal (encode_utf8_all ds)) refl)
+        (wanted_both w (compared Gte (meaning x row n) (Some from)) (compared Lt (meaning x row n) (Some below)) ∙ range_matched w is ds (meaning x row n) text b r s)
+
+    items_told : (w : Bool) (is : List Item) (e : Tree Place) → items_matched w x is ≡ Some e → satisfies e row n ≡ is_matched w is (meaning x row n)
+    items_told w is =
+        given_if (λ e. satisfies e row n ≡ is_matched w is (meaning x row n)) (is_exact is) (Some (same_text w x (encode_utf8_all (literal_prefix is))))
+        (if is_beginning is && is_last_raised (literal_prefix is) then begins w x (literal_prefix is) (successor (literal_prefix is)) else None)
+        (λ exact e h. sym (ap (λ q. satisfies q row n) (same_Some _ _ h)) ∙ same_told w is exact)
+        (λ _. given_if (λ e. satisfies e row n ≡ is_matched w is (meaning x row n)) (is_beginning is && is_last_raised (literal_prefix is)) (begins w x (literal_prefix is) (successor (literal_prefix is))) None
+        (λ b e h. let k = and_parts (is_beginning is) (is_last_raised (literal_prefix is)) b in begins_told w is (successor (literal_prefix is)) e k.0 k.1 refl h)
+        (λ _ e h. absurd (none-some e h)))
+
+    text_told : (o : LikeOptions) (p : Tree Place) (t : Option (List ℕ)) (e : Tree Place) → o.case_insensitive ≡ false → text_in p ≡ t → text_matched (not_b o.negated) x t ≡ Some e
+        → satisfies e row n ≡ is_wanted true (liked_values o (meaning x row n) (meaning p row n))
+    text_told o p None e c k h = absurd (none-some e h)
+    text_told o p (Some bs) e c k h =
+        items_told (not_b o.negated) (items (chars bs)) e h
+        ∙ matched_liked o bs (meaning x row n) c
+        ∙ sym (ap (λ v. is_wanted true (liked_values o (meaning x row n) v)) (text_meaning p bs k))
+
+    comparisons_told : (o : LikeOptions) (p e : Tree Place) → as_comparisons o x p ≡ Some e → satisfies e row n ≡ is_wanted true (liked_values o (meaning x row n) (meaning p row n))
+    comparisons_told o p =
+        given_if (λ e. satisfies e row n ≡ is_wanted true (liked_values o (meaning x row n) (meaning p row n))) o.case_insensitive None (text_matched (not_b o.negated) x (text_in p))
+        (λ _ e h. absurd (none-some e h))
+        (λ c e h. text_told o p (text_in p) e c refl h)
+
+  liked_told : (o : LikeOptions) (x p : Tree Place) → IsTextOrNull (meaning x row n) → satisfies (liked o x p) row n ≡ is_wanted true (liked_values o (meaning x row n) (meaning p row n))
+  liked_told o x p text =
+      liked_as (λ e. satisfies e row n ≡ is_wanted true (liked_values o (meaning x row n) (meaning p row n))) o x p
+      (⊎_elim
+      (λ h. sym (ap (λ v. is_wanted true (liked_values o v (meaning p row n))) (null_meaning x h)))
+      (λ h. none_liked o (meaning x row n) ∙ sym (ap (λ v. is_wanted true (liked_values o (meaning x row n) v)) (null_meaning p h))))
+      (comparisons_told x text o p)
+      (λ _. settled_told (like o x p) ∙ yes (liked_values o (meaning x row n) (meaning p row n)))
+
   -- ---- the whole
 
   module _ (is_row : IsRow row) (small : n < 2 ^ 64) where
-    operand_text : (x : Tree Place) (t : DType) → type_of x ≡ Ok t → is_utf8 t ≡ true → fits_row x row ≡ true → IsTextOrNull (meaning x row n)
+    operand_text : (x : Tree Place) (t : DType) → type_of x ≡ Ok t → is_text_type t ≡ true → fits_row x row ≡ true → IsTextOrNull (meaning x row n)
     operand_text x t e u f = text_value (meaning x row n) t u (meaning-fits x row n t e is_row f small)
 
     binary_told : (w : Bool) (o : Operator) (l r : Tree Place) → is_comparison o ≡ true → satisfies (comparison (operator_as w o) l r) row n ≡ is_wanted w (truth (truth_value (applied o (meaning l row n) (meaning r row n))))
@@ -392,7 +494,7 @@ module _ (row : List Constant) (n : ℕ) where
     pushed_told w (like o x q) p f =
         let t = texts_of (type_of x) (type_of q) p in
         let g = and_parts (fits_row x row) (fits_row q row) f in
-        liked_told (like_as w o) x q
+        liked_told (like_as w o) x q (operand_text x t.text_type t.text t.text_is g.0)
         ∙ liked_as_wanted w o (meaning x row n) (meaning q row n) (operand_text x t.text_type t.text t.text_is g.0) (operand_text q t.pattern_type t.pattern t.pattern_is g.1)
         ∙ sym (ap (is_wanted w) (truth_back (liked_values o (meaning x row n) (meaning q row n))))
     pushed_told true (stat g x) p f = refl

@@ -1,10 +1,11 @@
 -- Worked rows, found by computation alone.
 use Rattle.std.proofs.Common.{refl}
-use Rattle.vortex_normal.specs.Pushed.{all_of, any_of, comparison, comparison_of, folded, settled}
+use Rattle.std.specs.Str.{chars}
+use Rattle.vortex_normal.specs.Pushed.{all_of, any_of, comparison, comparison_of, folded, liked, settled}
 use Rattle.vortex_normal.specs.Worked.{FormExamples}
 
 pub form_examples : FormExamples
-unfolding all_of any_of comparison comparison_of folded settled
+unfolding all_of any_of comparison comparison_of folded liked settled chars lib.Utf8.encode
 form_examples = record {
   negation = refl;
   of_range = refl;
@@ -35,4 +36,24 @@ form_examples = record {
   folded_first = refl;
   folded_null = refl;
   folded_end = refl;
+  one_text = refl;
+  other_text = refl;
+  not_other_text = refl;
+  escaped = refl;
+  last_escape = refl;
+  empty_pattern = refl;
+  beginning = refl;
+  no_beginning = refl;
+  escaped_beginning = refl;
+  beginning_met = refl;
+  beginnings_apart = refl;
+  beginnings_touch = refl;
+  text_met = refl;
+  one_character = refl;
+  inner_run = refl;
+  two_runs = refl;
+  run_alone = refl;
+  any_case = refl;
+  before_surrogates = refl;
+  last_of_all = refl;
 }

@@ -1,5 +1,6 @@
 -- Predicates over one column, and what their normal forms are.
 use Rattle.std.specs.Prelude.{◌≡◌, ◌⊎◌, Bool, true, false, not as not_b, ◌&&◌, ◌||◌, List, [], Some, IsTrue, slice_get}
+use Rattle.std.specs.Option.{is_some}
 use Rattle.vortex_base.specs.Data.Columns.{cell_value}
 use Rattle.vortex_base.specs.Data.Scalars.{Constant}
 use Rattle.vortex_base.specs.Data.Values.{is_value}
@@ -11,7 +12,7 @@ use Rattle.vortex_base.specs.declared.types.Operator.TheVariants.{And, Or}
 use Rattle.vortex_rewrite.specs.Rewriting.Predicates.{is_predicate}
 use Rattle.vortex_rewrite.specs.Rewriting.ReadOnce.{are_apart, columns_of, has_closed_end, is_apart, is_number_type, is_simple_binary}
 use Rattle.vortex_normal.specs.Groups.{normal}
-use Rattle.vortex_normal.specs.Pushed.{or_not}
+use Rattle.vortex_normal.specs.Pushed.{as_comparisons, or_not}
 
 -- an expression without a column and without placeholders, as a literal is
 abbrev pub is_constant : Tree Place → Bool
@@ -22,7 +23,7 @@ abbrev pub is_operand_over : Place → Tree Place → Bool
 is_operand_over c (column d) = place_eq c d
 is_operand_over c e = is_constant e
 
--- a tree of AND, OR and NOT over comparisons, ranges and null tests of the column and constants, the column itself, and literals
+-- a tree of AND, OR and NOT over comparisons, ranges and null tests of the column and constants, LIKEs of it that comparisons say, the column itself, and literals
 abbrev pub is_over : Place → Tree Place → Bool
 is_over c (column d) = place_eq c d
 is_over c (literal v) = true
@@ -31,7 +32,7 @@ is_over c (between o x l u) = is_operand_over c x && (is_operand_over c l && is_
 is_over c (is_null x) = is_operand_over c x
 is_over c (is_not_null x) = is_operand_over c x
 is_over c (not x) = is_over c x
-is_over c (like o x p) = false
+is_over c (like o x p) = is_some (as_comparisons o x p) && is_operand_over c x
 is_over c (stat f x) = false
 is_over c row_count = false
 

@@ -1,18 +1,23 @@
 -- A predicate with its NOTs pushed down to the leaves, and its leaves settled where their values don't matter.
-use Rattle.std.specs.Prelude.{Bool, true, false, ◌||◌, not as not_b, [], Option, Some, None, is_none, if◌then◌else◌}
+use Rattle.std.specs.Prelude.{ℕ, Bool, true, false, ◌&&◌, ◌||◌, not as not_b, List, [], ◌∷◌, Option, Some, None, is_none, encode_utf8_all, if◌then◌else◌}
+use Rattle.std.specs.Str.{chars}
 use Rattle.std.specs.declared.cmp.Ordering.TheVariants.{Equal}
 use Rattle.vortex_base.specs.declared.types.Operator.{Operator}
 use Rattle.vortex_base.specs.declared.types.Operator.TheVariants.{Eq, NotEq, Gt, Gte, Lt, Lte, And, Or}
 use Rattle.vortex_base.specs.declared.types.BetweenOptions.{BetweenOptions}
 use Rattle.vortex_base.specs.declared.dtype.DType.TheVariants as dtype
 use Rattle.vortex_base.specs.declared.like.LikeOptions.{LikeOptions}
+use Rattle.vortex_base.specs.declared.like.Item.{Item}
+use Rattle.vortex_base.specs.declared.like.Item.TheVariants.{Char, AnyChar, AnyRun}
+use Rattle.vortex_base.specs.Patterns.Like.{items}
+use Rattle.vortex_base.specs.Patterns.Prefix.{has_next, is_exact, literal_prefix, successor}
 use Rattle.vortex_base.specs.declared.types.Nullability.TheVariants.{Nullable}
 use Rattle.vortex_base.specs.Trees.Between.{to_operator}
 use Rattle.vortex_base.specs.Trees.Tree.{Tree, Place, column, literal, binary, between, is_null, is_not_null, not, like, has_bare_column, is_plain}
 use Rattle.vortex_base.specs.Trees.TreeEq.{tree_eq}
 use Rattle.vortex_base.specs.Meanings.Meaning.{holds, is_true, meaning, satisfies, truth}
 use Rattle.vortex_base.specs.Meanings.RowTest.{is_wanted}
-use Rattle.vortex_rewrite.specs.Rewriting.Falsifiers.{bool_literal}
+use Rattle.vortex_rewrite.specs.Rewriting.Falsifiers.{bool_literal, bytes_literal, text_in}
 
 -- ---- leaves
 
@@ -62,13 +67,6 @@ comparison_of o l r =
 unfoldable pub comparison : Operator → (l r : Tree Place) → Tree Place
 comparison o l r = comparison_of o (folded l) (folded r)
 
-unfoldable pub liked : LikeOptions → (text pattern : Tree Place) → Tree Place
-liked o x p = if is_null_literal x || is_null_literal p then bool_literal false else settled (like o x p)
-
-abbrev pub like_as : (wanted : Bool) → LikeOptions → LikeOptions
-like_as true o = o
-like_as false o = record { negated = not_b o.negated; case_insensitive = o.case_insensitive }
-
 abbrev pub null_test : (wanted : Bool) → Tree Place → Tree Place
 null_test true x = settled (is_null x)
 null_test false x = settled (is_not_null x)
@@ -105,6 +103,60 @@ any_of l r = any_by (decided l) (decided r) l r
 abbrev pub connected : (is_and : Bool) → (l r : Tree Place) → Tree Place
 connected true l r = all_of l r
 connected false l r = any_of l r
+
+-- ---- LIKE
+
+-- literal characters alone, and one run behind them
+abbrev pub is_beginning : List Item → Bool
+is_beginning [] = false
+is_beginning (Char c ∷ is) = is_beginning is
+is_beginning (AnyChar ∷ is) = false
+is_beginning (AnyRun ∷ []) = true
+is_beginning (AnyRun ∷ i ∷ is) = false
+
+-- the last character has a next one, so that no text lies between those that begin with this one and its successor
+abbrev pub is_last_raised : List ℕ → Bool
+is_last_raised [] = false
+is_last_raised (c ∷ []) = has_next c
+is_last_raised (c ∷ d ∷ cs) = is_last_raised (d ∷ cs)
+
+-- a text is this one, or it isn't
+abbrev pub same_text : (wanted : Bool) → (text : Tree Place) → List ℕ → Tree Place
+same_text w x bs = comparison (operator_as w Eq) x (bytes_literal bs)
+
+-- a text is at least the one and below the other, or it isn't
+abbrev pub text_range : (wanted : Bool) → (text : Tree Place) → (from below : List ℕ) → Tree Place
+text_range w x from below = connected w (comparison (operator_as w Gte) x (bytes_literal from)) (comparison (operator_as w Lt) x (bytes_literal below))
+
+-- a text begins with these characters, whose successor is given, or it doesn't
+abbrev pub begins : (wanted : Bool) → (text : Tree Place) → List ℕ → Option (List ℕ) → Option (Tree Place)
+begins w x cs None = None
+begins w x cs (Some ds) = Some (text_range w x (encode_utf8_all cs) (encode_utf8_all ds))
+
+-- a text matches these items or it doesn't, as comparisons, where they say the same: the items have no wildcard, or one run alone, which is last
+abbrev pub items_matched : (wanted : Bool) → (text : Tree Place) → List Item → Option (Tree Place)
+items_matched w x is =
+    if is_exact is then Some (same_text w x (encode_utf8_all (literal_prefix is)))
+    else (if is_beginning is && is_last_raised (literal_prefix is) then begins w x (literal_prefix is) (successor (literal_prefix is)) else None)
+
+abbrev pub text_matched : (wanted : Bool) → (text : Tree Place) → (pattern : Option (List ℕ)) → Option (Tree Place)
+text_matched w x None = None
+text_matched w x (Some bs) = items_matched w x (items (chars bs))
+
+-- a LIKE that regards case as comparisons, where they say the same
+abbrev pub as_comparisons : LikeOptions → (text pattern : Tree Place) → Option (Tree Place)
+as_comparisons o x p = if o.case_insensitive then None else text_matched (not_b o.negated) x (text_in p)
+
+abbrev pub given_or : Option (Tree Place) → Tree Place → Tree Place
+given_or (Some e) f = e
+given_or None f = f
+
+unfoldable pub liked : LikeOptions → (text pattern : Tree Place) → Tree Place
+liked o x p = if is_null_literal x || is_null_literal p then bool_literal false else given_or (as_comparisons o x p) (settled (like o x p))
+
+abbrev pub like_as : (wanted : Bool) → LikeOptions → LikeOptions
+like_as true o = o
+like_as false o = record { negated = not_b o.negated; case_insensitive = o.case_insensitive }
 
 -- ---- the whole
 

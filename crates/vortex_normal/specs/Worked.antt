@@ -1,16 +1,16 @@
 -- Worked normal forms.
-use Rattle.std.specs.Prelude.{◌≡◌, ℕ, Bool, false, true, Some, None}
+use Rattle.std.specs.Prelude.{◌≡◌, ℕ, Bool, false, true, not as not_b, List, [], ◌∷◌, Some, None, codes, encode_utf8_all}
 use Rattle.vortex_base.specs.declared.dtype.DType.{DType}
 use Rattle.vortex_base.specs.declared.dtype.DType.TheVariants as dtype
 use Rattle.vortex_base.specs.declared.types.PType.TheVariants.{U8}
-use Rattle.vortex_base.specs.declared.types.Nullability.TheVariants.{Nullable}
+use Rattle.vortex_base.specs.declared.types.Nullability.TheVariants.{Nullable, NonNullable}
 use Rattle.vortex_base.specs.declared.pvalue.PValue.TheVariants as number
 use Rattle.vortex_base.specs.declared.scalar_value.ScalarValue.TheVariants as value
 use Rattle.vortex_base.specs.declared.types.Operator.{Operator}
 use Rattle.vortex_base.specs.declared.types.Operator.TheVariants.{Eq, NotEq, Gt, Gte, Lt, Lte, And, Or}
 use Rattle.vortex_base.specs.declared.types.BetweenOptions.{BetweenOptions}
-use Rattle.vortex_base.specs.declared.types.StrictComparison.TheVariants.{NonStrict}
-use Rattle.vortex_base.specs.Trees.Tree.{Tree, Place, column, literal, binary, between, is_null, is_not_null, not}
+use Rattle.vortex_base.specs.declared.types.StrictComparison.TheVariants.{Strict, NonStrict}
+use Rattle.vortex_base.specs.Trees.Tree.{Tree, Place, column, literal, binary, between, is_null, is_not_null, not, like}
 use Rattle.vortex_rewrite.specs.Rewriting.Falsifiers.{bool_literal}
 use Rattle.vortex_normal.specs.Groups.{normal}
 
@@ -45,6 +45,30 @@ closed = record { lower_strict = NonStrict; upper_strict = NonStrict }
 abbrev pub range : ℕ → ℕ → Tree Place
 range l u = between closed a (byte_literal l) (byte_literal u)
 
+-- a column of texts
+abbrev pub t : Tree Place
+t = column (record { index = 3; dtype = dtype.Utf8 Nullable })
+
+abbrev pub text : DType → List ℕ → Tree Place
+text s cs = literal (record { dtype = s; value = Some (value.Utf8 (encode_utf8_all cs)) })
+
+-- as it is kept beside the column
+abbrev pub own_text : List ℕ → Tree Place
+own_text cs = text (dtype.Utf8 Nullable) cs
+
+-- a LIKE, negated where it isn't wanted
+abbrev pub like_of : (wanted : Bool) → List ℕ → Tree Place
+like_of w cs = like (record { negated = not_b w; case_insensitive = false }) t (text (dtype.Utf8 NonNullable) cs)
+
+abbrev pub ignoring_case : List ℕ → Tree Place
+ignoring_case cs = like (record { negated = false; case_insensitive = true }) t (text (dtype.Utf8 NonNullable) cs)
+
+abbrev pub compare_text : Operator → List ℕ → Tree Place
+compare_text o cs = binary o t (own_text cs)
+
+abbrev pub from_below : List ℕ → List ℕ → Tree Place
+from_below cs ds = between (record { lower_strict = NonStrict; upper_strict = Strict }) t (own_text cs) (own_text ds)
+
 pub record FormExamples : Type 0 where
   pub negation : normal (not (compare Lte a 5)) ≡ compare Gt a 5
   pub of_range : normal (not (range 4 6)) ≡ binary Or (compare Lt a 4) (compare Gt a 6)
@@ -75,3 +99,23 @@ pub record FormExamples : Type 0 where
   pub folded_first : normal (binary Gt (binary Gt (byte_literal 1) (byte_literal 2)) c) ≡ binary Lt c (truth_literal false)
   pub folded_null : normal (binary Eq c (binary Lt null_number (byte_literal 2))) ≡ bool_literal false
   pub folded_end : normal (between closed c (binary Lt (byte_literal 1) (byte_literal 2)) (is_null (byte_literal 3))) ≡ bool_literal false
+  pub one_text : normal (like_of true (codes "abc")) ≡ compare_text Eq (codes "abc")
+  pub other_text : normal (like_of false (codes "abc")) ≡ compare_text NotEq (codes "abc")
+  pub not_other_text : normal (not (like_of false (codes "abc"))) ≡ compare_text Eq (codes "abc")
+  pub escaped : normal (like_of true (97 ∷ 92 ∷ 37 ∷ [])) ≡ compare_text Eq (codes "a%")
+  pub last_escape : normal (like_of true (97 ∷ 92 ∷ [])) ≡ compare_text Eq (97 ∷ 92 ∷ [])
+  pub empty_pattern : normal (like_of true []) ≡ compare_text Eq []
+  pub beginning : normal (like_of true (codes "abc%")) ≡ from_below (codes "abc") (codes "abd")
+  pub no_beginning : normal (like_of false (codes "abc%")) ≡ binary Or (compare_text Lt (codes "abc")) (compare_text Gte (codes "abd"))
+  pub escaped_beginning : normal (like_of true (97 ∷ 92 ∷ 37 ∷ 37 ∷ [])) ≡ from_below (codes "a%") (codes "a&")
+  pub beginning_met : normal (binary And (like_of true (codes "abc%")) (compare_text Gt (codes "abcd"))) ≡ between (record { lower_strict = Strict; upper_strict = Strict }) t (own_text (codes "abcd")) (own_text (codes "abd"))
+  pub beginnings_apart : normal (binary And (like_of true (codes "a%")) (like_of true (codes "b%"))) ≡ bool_literal false
+  pub beginnings_touch : normal (binary Or (like_of true (codes "a%")) (like_of true (codes "b%"))) ≡ from_below (codes "a") (codes "c")
+  pub text_met : normal (binary And (like_of true (codes "abc")) (like_of true (codes "ab%"))) ≡ compare_text Eq (codes "abc")
+  pub one_character : normal (like_of true (codes "ab_")) ≡ like_of true (codes "ab_")
+  pub inner_run : normal (like_of true (codes "a%c")) ≡ like_of true (codes "a%c")
+  pub two_runs : normal (like_of true (codes "a%%")) ≡ like_of true (codes "a%%")
+  pub run_alone : normal (like_of true (codes "%")) ≡ like_of true (codes "%")
+  pub any_case : normal (ignoring_case (codes "abc")) ≡ ignoring_case (codes "abc")
+  pub before_surrogates : normal (like_of true (55295 ∷ 37 ∷ [])) ≡ like_of true (55295 ∷ 37 ∷ [])
+  pub last_of_all : normal (like_of true (97 ∷ 1114111 ∷ 37 ∷ [])) ≡ like_of true (97 ∷ 1114111 ∷ 37 ∷ [])

@@ -16,7 +16,6 @@ use vortex_base::bound_expression::BoundExpression;
 use vortex_base::bound_expression::parts::Parts;
 use vortex_base::dtype::DType;
 use vortex_base::evaluate::evaluate;
-use vortex_base::like::LikeOptions;
 use vortex_base::row::Row;
 use vortex_base::scalar::Scalar;
 use vortex_base::scalar_value::ScalarValue;
@@ -53,7 +52,7 @@ fn is_reflexive(operator: Operator) -> bool
     matches!(operator, Operator::Eq | Operator::Gte | Operator::Lte)
 }
 
-fn is_null_literal(e: &BoundExpression) -> bool
+pub(crate) fn is_null_literal(e: &BoundExpression) -> bool
     ensures { result ≡ normal.is_null_literal e.now }
 {
     match e.parts() {
@@ -64,7 +63,7 @@ fn is_null_literal(e: &BoundExpression) -> bool
 
 /// A predicate that means the same on every row becomes the truth of whether it is satisfied.
 #[tactic(auto, unfolding(crate::specs::Pushed::settled))]
-fn settled(alloc: Global, predicate: Predicate) -> Result<Predicate, StatsError>
+pub(crate) fn settled(alloc: Global, predicate: Predicate) -> Result<Predicate, StatsError>
     ensures { Makes (normal.settled predicate) result }
 {
     let e = predicate.expression();
@@ -158,36 +157,6 @@ pub(crate) fn comparison(
     let left = folded(alloc, left)?;
     let right = folded(alloc, right)?;
     comparison_of(alloc, operator, left, right)
-}
-
-/// A LIKE, which of null is never true.
-#[tactic(auto, unfolding(crate::specs::Pushed::liked))]
-pub(crate) fn liked(
-    alloc: Global,
-    options: LikeOptions,
-    text: &BoundExpression,
-    pattern: &BoundExpression,
-) -> Result<Predicate, StatsError>
-    requires { IsOk (type_of (tree.like options text.now pattern.now)) }
-    ensures { Makes (normal.liked options text.now pattern.now) result }
-{
-    if is_null_literal(text) || is_null_literal(pattern) {
-        return Predicate::truth(alloc, false);
-    }
-    settled(alloc, Predicate::like(alloc, options, text, pattern)?)
-}
-
-pub(crate) fn like_as(wanted: bool, options: LikeOptions) -> LikeOptions
-    ensures { result ≡ normal.like_as wanted options }
-{
-    if wanted {
-        options
-    } else {
-        LikeOptions {
-            negated: !options.negated,
-            case_insensitive: options.case_insensitive,
-        }
-    }
 }
 
 /// Whether an operand is null, or whether it isn't.

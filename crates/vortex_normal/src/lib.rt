@@ -5,6 +5,7 @@ mod groups;
 mod interval;
 pub mod laws;
 mod leaves;
+mod likes;
 pub mod normalize;
 mod predicate;
 mod pushed;

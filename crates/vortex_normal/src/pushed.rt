@@ -9,7 +9,8 @@ ghost use Rattle.vortex_base.specs.Meanings.Meaning.{truth as truth_of};
 ghost use Rattle.vortex_base.specs.Meanings.RowTest.{is_wanted as wanted_of};
 ghost use Rattle.vortex_normal.specs.Pushed as normal;
 
-use crate::leaves::{comparison, connected, like_as, liked, null_test, operator_as};
+use crate::leaves::{comparison, connected, null_test, operator_as};
+use crate::likes::{like_as, liked};
 use crate::predicate::{Predicate, truth_literal};
 use std::alloc::Global;
 use vortex_base::bound_expression::BoundExpression;

@@ -9,6 +9,7 @@ use vortex_stats::StatsError;
 
 mod deep;
 mod leaves;
+mod likes;
 mod sets;
 
 fn a(alloc: Global) -> Built {

@@ -99,6 +99,24 @@ fn many_values(rt: HostRuntime) -> Result<(), Fail> {
     expect(&rt, alloc, none, never(alloc))
 }
 
+// All values but as many as a chain can name.
+fn holes(alloc: Global) -> Built {
+    let mut chain = a_not_eq(alloc, 0)?;
+    for value in 1..LINKS {
+        chain = and(alloc, Ok(chain), a_not_eq(alloc, value))?;
+    }
+    Ok(chain)
+}
+
+#[test]
+fn many_holes(rt: HostRuntime) -> Result<(), Fail> {
+    let alloc = rt.alloc();
+    let found = normal(alloc, &holes(alloc)?)?;
+    assert!(rt; found.is_plain());
+    let none = and(alloc, holes(alloc), a_eq(alloc, 511));
+    expect(&rt, alloc, none, never(alloc))
+}
+
 // An answer, or a refusal of memory.
 fn is_answer(found: Built, expected: Built) -> bool {
     match (found, expected) {

@@ -59,8 +59,13 @@ fn patterns_below_not(rt: HostRuntime) -> Result<(), Fail> {
         negated: true,
         case_insensitive: false,
     };
-    let unlike = like_with(alloc, s(alloc), text(alloc, "a%"), options);
-    expect_not(&rt, alloc, like(alloc, s(alloc), text(alloc, "a%")), unlike)
+    let unlike = like_with(alloc, s(alloc), text(alloc, "a%b"), options);
+    expect_not(
+        &rt,
+        alloc,
+        like(alloc, s(alloc), text(alloc, "a%b")),
+        unlike,
+    )
 }
 
 #[test]

@@ -1,0 +1,232 @@
+//! LIKE, as comparisons of its text where they say the same.
+ghost use Rattle.std.specs.Prelude.{◌≡◌, ◌++◌, ◌∷◌, [], IfErr, IfOk, IfSome, IsOk, IsTrue, MatchOption, encode_utf8_all, false, option_copied, true};
+ghost use Rattle.std.specs.Str.{chars, is_utf8, IsUtf8};
+ghost use Rattle.vortex_base.specs.Trees.Tree as tree;
+ghost use Rattle.vortex_base.specs.Meanings.Typing.{type_of};
+ghost use Rattle.vortex_base.specs.Patterns.Like.{items};
+ghost use Rattle.vortex_base.specs.Patterns.Prefix.{has_next as is_followed, is_exact, literal_prefix};
+ghost use Rattle.vortex_rewrite.specs.Answers.{IsMemory, Makes, OkOrMemory};
+ghost use Rattle.vortex_rewrite.specs.Rewriting.Falsifiers.{bytes_literal, text_in as text_of};
+ghost use Rattle.vortex_rewrite.specs.Rewriting.Predicates.{is_text};
+ghost use Rattle.vortex_normal.specs.Pushed as normal;
+
+use crate::leaves::{comparison, connected, is_null_literal, operator_as, settled};
+use crate::predicate::Predicate;
+use std::alloc::Global;
+use vortex_base::bound;
+use vortex_base::bound_expression::BoundExpression;
+use vortex_base::dtype::DType;
+use vortex_base::like::LikeOptions;
+use vortex_base::like_pattern::{LikePattern, successor};
+use vortex_base::scalar::Scalar;
+use vortex_base::scalar_value::ScalarValue;
+use vortex_base::text::Text;
+use vortex_base::types::{Nullability, Operator};
+use vortex_rewrite::built::built;
+use vortex_stats::error::StatsError;
+
+fn utf8_literal(alloc: Global, text: Text) -> Result<BoundExpression, StatsError>
+    requires { IsTrue (is_utf8 text) }
+    ensures { Makes (bytes_literal text) result }
+{
+    let dtype = DType::Utf8(Nullability::NonNullable);
+    match Scalar::try_new(dtype, Some(ScalarValue::Utf8(text))) {
+        Ok(scalar) => built(bound::lit(alloc, scalar)),
+        Err(_) => unreachable!(),
+    }
+}
+
+fn text_literal(alloc: Global, text: &str) -> Result<BoundExpression, StatsError>
+    ensures value { IfOk result (λ e. e ≡ bytes_literal text.now) }
+    ensures text { IfOk result (λ e. IsTrue (is_text e)) }
+    ensures memory { IfErr result IsMemory }
+{
+    let value = Text::new(String::from_str(alloc, text)?);
+    utf8_literal(alloc, value)
+}
+
+/// The text that a literal is.
+fn text_in(e: &BoundExpression) -> Option<&str>
+    ensures { option_copied result ≡ text_of e.now }
+{
+    match e.literal()?.value()? {
+        ScalarValue::Utf8(text) => Some(text.as_str()),
+        _ => None,
+    }
+}
+
+/// Whether a text is this one, or whether it isn't.
+fn same_text(
+    alloc: Global,
+    wanted: bool,
+    text: &BoundExpression,
+    other: &str,
+) -> Result<Predicate, StatsError>
+    requires { IsTrue (is_text text.now) }
+    ensures { Makes (normal.same_text wanted text.now other.now) result }
+{
+    let other = text_literal(alloc, other)?;
+    comparison(alloc, operator_as(wanted, Operator::Eq), text, &other)
+}
+
+/// Whether a text is at least the one and below the other, or whether it isn't.
+fn text_range(
+    alloc: Global,
+    wanted: bool,
+    text: &BoundExpression,
+    from: &str,
+    below: &str,
+) -> Result<Predicate, StatsError>
+    requires { IsTrue (is_text text.now) }
+    ensures { Makes (normal.text_range wanted text.now from.now below.now) result }
+{
+    let from = text_literal(alloc, from)?;
+    let below = text_literal(alloc, below)?;
+    let from = comparison(alloc, operator_as(wanted, Operator::Gte), text, &from)?;
+    let below = comparison(alloc, operator_as(wanted, Operator::Lt), text, &below)?;
+    connected(alloc, wanted, from, below)
+}
+
+fn split_last_char(text: &str) -> Option<(char, &str)>
+    ensures split { MatchOption result (chars text.now ≡ [])
+        (λ p. chars text.now ≡ chars p.1.now ++ p.0 ∷ []) }
+    ensures utf8 { IfSome result (λ p. IsUtf8 p.1.now) }
+{
+    let mut left = text.chars();
+    match left.next_back() {
+        Some(last) => Some((last, left.as_str())),
+        None => None,
+    }
+}
+
+fn has_next(c: char) -> bool
+    ensures { result ≡ is_followed c }
+{
+    c != '\u{D7FF}' && c != char::MAX
+}
+
+fn is_last_raised(text: &str) -> bool
+    ensures { result ≡ normal.is_last_raised (chars text.now) }
+{
+    match split_last_char(text) {
+        Some((last, _)) => has_next(last),
+        None => false,
+    }
+}
+
+/// What a pattern reads as whose only wildcard is a run, which is last.
+fn beginning(alloc: Global, pattern: &str) -> Result<Option<LikePattern>, StatsError>
+    requires { is_exact (items (chars pattern.now)) ≡ false }
+    ensures { let read = items (chars pattern.now) in OkOrMemory result (λ o. MatchOption o
+        (normal.is_beginning read ≡ false)
+        (λ p. (normal.is_beginning read ≡ true)
+        × (p.prefix ≡ encode_utf8_all (literal_prefix read)))) }
+{
+    match split_last_char(pattern) {
+        Some((last, front)) => {
+            if last != '%' {
+                return Ok(None);
+            }
+            let read = built(LikePattern::try_read(alloc, front))?;
+            match read.exact() {
+                Some(_) => Ok(Some(read)),
+                None => Ok(None),
+            }
+        }
+        None => Ok(None),
+    }
+}
+
+/// A LIKE with a pattern with wildcards, as a range, if its only wildcard is a run, which is last.
+fn begins(
+    alloc: Global,
+    wanted: bool,
+    text: &BoundExpression,
+    pattern: &str,
+) -> Result<Option<Predicate>, StatsError>
+    requires text { IsTrue (is_text text.now) }
+    requires wildcard { is_exact (items (chars pattern.now)) ≡ false }
+    ensures { Makes (normal.items_matched wanted text.now (items (chars pattern.now))) result }
+{
+    match beginning(alloc, pattern)? {
+        Some(read) => {
+            let from = read.prefix();
+            if !is_last_raised(from) {
+                return Ok(None);
+            }
+            match successor(alloc, from)? {
+                Some(below) => Ok(Some(text_range(alloc, wanted, text, from, below.as_str())?)),
+                None => Ok(None),
+            }
+        }
+        None => Ok(None),
+    }
+}
+
+/// A LIKE with a pattern, as comparisons.
+fn items_matched(
+    alloc: Global,
+    wanted: bool,
+    text: &BoundExpression,
+    pattern: &str,
+) -> Result<Option<Predicate>, StatsError>
+    requires { IsTrue (is_text text.now) }
+    ensures { Makes (normal.items_matched wanted text.now (items (chars pattern.now))) result }
+{
+    let read = built(LikePattern::try_read(alloc, pattern))?;
+    match read.exact() {
+        Some(exact) => Ok(Some(same_text(alloc, wanted, text, exact)?)),
+        None => begins(alloc, wanted, text, pattern),
+    }
+}
+
+fn as_comparisons(
+    alloc: Global,
+    options: LikeOptions,
+    text: &BoundExpression,
+    pattern: &BoundExpression,
+) -> Result<Option<Predicate>, StatsError>
+    requires { IsTrue (is_text text.now) }
+    ensures { Makes (normal.as_comparisons options text.now pattern.now) result }
+{
+    if options.case_insensitive {
+        return Ok(None);
+    }
+    match text_in(pattern) {
+        Some(pattern) => items_matched(alloc, !options.negated, text, pattern),
+        None => Ok(None),
+    }
+}
+
+/// A LIKE, which of null is never true.
+#[tactic(auto, unfolding(crate::specs::Pushed::liked))]
+pub(crate) fn liked(
+    alloc: Global,
+    options: LikeOptions,
+    text: &BoundExpression,
+    pattern: &BoundExpression,
+) -> Result<Predicate, StatsError>
+    requires { IsOk (type_of (tree.like options text.now pattern.now)) }
+    ensures { Makes (normal.liked options text.now pattern.now) result }
+{
+    if is_null_literal(text) || is_null_literal(pattern) {
+        return Predicate::truth(alloc, false);
+    }
+    match as_comparisons(alloc, options, text, pattern)? {
+        Some(compared) => Ok(compared),
+        None => settled(alloc, Predicate::like(alloc, options, text, pattern)?),
+    }
+}
+
+pub(crate) fn like_as(wanted: bool, options: LikeOptions) -> LikeOptions
+    ensures { result ≡ normal.like_as wanted options }
+{
+    if wanted {
+        options
+    } else {
+        LikeOptions {
+            negated: !options.negated,
+            case_insensitive: options.case_insensitive,
+        }
+    }
+}
