@@ -14,6 +14,10 @@ stops at f i (suc n) xs s before stopped h = elim (eq-or-lt_of_le {n = i} {m = n
   | inr less ↦ rw (stops at f i n xs s before stopped less) refl
 ]
 
+-- one more item behind those that were read
+pub reads_on : {X : Type 0} (at : Status → ℕ → Refusal) (f : ℕ → Result X Status) (i : ℕ) (xs : List X) (x : X) → all_read at f i ≡ Ok xs → f i ≡ Ok x → all_read at f (i + 1) ≡ Ok (xs ++ x ∷ [])
+reads_on at f i xs x before read = rw (add-one, before, read) refl
+
 -- the first step that is refused decides of all
 pub steps_stop : {X : Type 0} (f : ℕ → X → Result X Refusal) (x : X) (i n : ℕ) (y : X) (r : Refusal) → stepped f x i ≡ Ok y → f i y ≡ Err r → i < n → stepped f x n ≡ Err r
 steps_stop f x i zero y r before stopped h = absurd (omega (arith, h))

@@ -16,8 +16,9 @@ use vortex_syntax::line_error::LineError;
 use vortex_syntax::value;
 use vortex_syntax::word::Word;
 
-// The number that the bytes begin with, where there are enough.
-fn number_of(ptype: PType, bytes: &[u8]) -> Option<PValue>
+/// The number that the bytes begin with, where there are enough.
+#[inline]
+pub(crate) fn number_of(ptype: PType, bytes: &[u8]) -> Option<PValue>
     ensures read { result ≡ spec.number_of ptype bytes.now }
     ensures fits { IfSome result (λ number. IsTrue (spec.is_number ptype number)) }
 {

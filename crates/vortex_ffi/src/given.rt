@@ -16,14 +16,16 @@ pub(crate) struct Given<'a> {
 }
 
 // The bytes from one place up to another, where they are there.
+#[inline]
 fn part_of(values: &[u8], from: usize, to: usize) -> Option<&[u8]>
     ensures { option_map (λ s. s.now) result ≡ spec.part_of values.now from to }
 {
     values.get(from..to)
 }
 
-// Value i of those that take so many bytes each.
-fn fixed(values: &[u8], width: usize, i: usize) -> Option<&[u8]>
+/// Value i of those that take so many bytes each.
+#[inline]
+pub(crate) fn fixed(values: &[u8], width: usize, i: usize) -> Option<&[u8]>
     ensures { option_map (λ s. s.now) result ≡ spec.fixed values.now width i }
 {
     let from = i.checked_mul(width)?;

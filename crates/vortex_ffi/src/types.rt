@@ -52,6 +52,7 @@ pub(crate) fn dtype_of(kind: u8, nullable: u8) -> Result<DType, Status>
 }
 
 /// How many bytes a number of the type takes.
+#[inline]
 pub(crate) fn number_width(ptype: PType) -> usize
     ensures { result ≡ spec.number_width ptype }
 {

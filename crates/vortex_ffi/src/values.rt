@@ -1,20 +1,22 @@
 //! A column of values as a caller hands it in.
-ghost use Rattle.std.specs.Prelude.{◌≡◌, IfOk, IsTrue};
-ghost use Rattle.vortex_base.specs.Data.Cells.{cell_values};
+ghost use Rattle.std.specs.Prelude.{◌≡◌, Err, IfOk, IsTrue, MatchResult, Ok};
+ghost use Rattle.vortex_base.specs.Data.Cells.{cell_values, short_value};
 ghost use Rattle.vortex_base.specs.Data.Values.{is_value};
+ghost use Rattle.vortex_base.specs.declared.dtype.DType.TheVariants as types;
 ghost use Rattle.vortex_ffi.specs.Refusals.{Answers, Gives};
 ghost use Rattle.vortex_ffi.specs.Values as spec;
 
-use crate::encoding::value_of;
+use crate::encoding::{number_of, value_of};
 use crate::fault::Refusal;
-use crate::given::Given;
+use crate::given::{Given, fixed};
 use crate::status::Status;
-use crate::types::dtype_of;
+use crate::types::{dtype_of, number_width};
 use std::alloc::Global;
-use vortex_base::cells::Cells;
+use vortex_base::cells::{Cells, ShortCell};
 use vortex_base::column::Column;
 use vortex_base::dtype::DType;
 use vortex_base::scalar_value::ScalarValue;
+use vortex_base::types::{Nullability, PType};
 
 /// The values of a column: `vortex_values` of the header.
 #[repr(C)]
@@ -39,6 +41,7 @@ pub struct Values<'a> {
 }
 
 // Whether a row is null by the bytes that say so.
+#[inline]
 fn is_null(nulls: &[u8], row: usize) -> Result<bool, Status>
     ensures { result ≡ spec.is_null nulls.now row }
 {
@@ -99,11 +102,61 @@ impl Values<'_> {
         }
     }
 
+    // The number of a row as a cell, or `Null`.
+    #[inline]
+    fn number_cell(
+        &self,
+        ptype: PType,
+        nullability: Nullability,
+        row: usize,
+    ) -> Result<ShortCell, Status>
+        ensures { let read = spec.cell (types.Primitive ptype nullability) self.now.values.now
+            self.now.start self.now.ends.now self.now.nulls.now row in
+            MatchResult result (λ cell. read ≡ Ok (short_value cell)) (λ s. read ≡ Err s) }
+    {
+        if is_null(self.nulls, row)? {
+            return match nullability {
+                Nullability::Nullable => Ok(ShortCell::Null),
+                Nullability::NonNullable => Err(Status::BadNull),
+            };
+        }
+        match fixed(self.values, number_width(ptype), row) {
+            None => Err(Status::BadLength),
+            Some(bytes) => match number_of(ptype, bytes) {
+                Some(number) => Ok(ShortCell::of_number(number)),
+                None => Err(Status::BadLength),
+            },
+        }
+    }
+
+    // The numbers of all rows.
+    fn numbers(
+        &self,
+        alloc: Global,
+        ptype: PType,
+        nullability: Nullability,
+    ) -> Result<Cells, Refusal>
+        ensures { Answers cell_values result (spec.cells (types.Primitive ptype nullability)
+            self.now.values.now self.now.start self.now.ends.now self.now.nulls.now self.now.rows) }
+    {
+        let mut cells = Vec::with_capacity(alloc, self.rows)?;
+        for row in 0..self.rows {
+            match self.number_cell(ptype, nullability, row) {
+                Ok(cell) => cells.push(cell)?,
+                Err(status) => return Err(Refusal::at_row(status, row)),
+            }
+        }
+        Ok(Cells::Short(cells))
+    }
+
     // The values of all rows.
     fn cells(&self, alloc: Global, dtype: DType) -> Result<Cells, Refusal>
         ensures { Answers cell_values result (spec.cells dtype self.now.values.now self.now.start
             self.now.ends.now self.now.nulls.now self.now.rows) }
     {
+        if let DType::Primitive(ptype, nullability) = dtype {
+            return self.numbers(alloc, ptype, nullability);
+        }
         let mut cells = Cells::with_capacity(alloc, dtype, self.rows)?;
         for row in 0..self.rows {
             match self.cell(alloc, dtype, row) {
