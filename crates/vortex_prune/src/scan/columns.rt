@@ -1,6 +1,6 @@
 //! Marks that are taken away by the values of one column, a truth a row.
-ghost use Rattle.std.specs.Prelude.{◌≡◌, ◌+◌, ◌<◌, ◌^◌, ◌&&◌, Some, length, map, option_map};
-ghost use Rattle.vortex_base.specs.Data.Cells.{short_value, value_of};
+ghost use Rattle.std.specs.Prelude.{◌≡◌, ◌+◌, ◌<◌, ◌^◌, ◌&&◌, Some, length, map};
+ghost use Rattle.vortex_base.specs.Data.Cells.{short_value};
 ghost use Rattle.vortex_base.specs.declared.scalar_value.ScalarValue.TheVariants as value;
 ghost use Rattle.vortex_base.specs.declared.value_ref.ValueRef.TheVariants as lent;
 ghost use Rattle.vortex_prune.specs.Scanning.Leaves.{compares, passes_at};
@@ -14,32 +14,12 @@ use vortex_base::pvalue::PValue;
 use vortex_base::types::Operator;
 use vortex_base::value_ref::ValueRef;
 
-// The value of a cell, lent.
-#[inline]
-fn lent<'a>(cell: ShortCell) -> Option<ValueRef<'a>>
-    ensures { option_map value_of result ≡ short_value cell }
-{
-    let number = match cell {
-        ShortCell::Null => return None,
-        ShortCell::Bool(truth) => return Some(ValueRef::Bool(truth)),
-        ShortCell::U8(n) => PValue::U8(n),
-        ShortCell::U16(n) => PValue::U16(n),
-        ShortCell::U32(n) => PValue::U32(n),
-        ShortCell::U64(n) => PValue::U64(n),
-        ShortCell::I8(n) => PValue::I8(n),
-        ShortCell::I16(n) => PValue::I16(n),
-        ShortCell::I32(n) => PValue::I32(n),
-        ShortCell::I64(n) => PValue::I64(n),
-    };
-    Some(ValueRef::Primitive(number))
-}
-
-// The same of a cell of another kind or width than the number.
+// Whether the comparison of a cell with a number of another kind or width is true.
 #[inline(never)]
 fn value_compares(cell: ShortCell, operator: Operator, number: PValue) -> bool
     ensures { result ≡ compares operator (short_value cell) (Some (value.Primitive number)) }
 {
-    match lent(cell) {
+    match cell.lend() {
         None => false,
         Some(value) => holds(operator, value.order(ValueRef::Primitive(number))),
     }
