@@ -1,4 +1,3 @@
 pub mod Counting
 pub mod Hooks
-pub mod Measuring
 pub mod RuleExamples
