@@ -3,6 +3,7 @@ pub mod AskingRows
 pub mod CompleteRows
 pub mod HonestRows
 pub mod MarkRows
+pub mod MeasuredRows
 pub mod StatRows
 pub mod WholeRows
 pub mod ZoneTableRows
