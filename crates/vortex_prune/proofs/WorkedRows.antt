@@ -4,6 +4,7 @@ pub mod CompleteRows
 pub mod HonestRows
 pub mod LeafRows
 pub mod MarkRows
+pub mod MeasuredRows
 pub mod StatRows
 pub mod WholeRows
 pub mod ZoneTableRows

@@ -1,5 +1,5 @@
 -- The exact entries of a set that is true of a column are those that are measured of it.
-use Rattle.std.proofs.Common.{◌≡◌, ℕ, Bool, true, false, cond, List, Option, Some, None, refl, sym, ap, subst, ◌∙◌}
+use Rattle.std.proofs.Common.{◌≡◌, ℕ, true, cond, List, Option, Some, None, refl, sym, ap, subst, ◌∙◌}
 use Rattle.std.specs.Prelude.{pos}
 use Rattle.std.specs.Cmp.{Equal-is}
 use mathlib.Core.Bool.{true≢false}
@@ -7,7 +7,6 @@ use Rattle.vortex_base.specs.declared.dtype.DType.TheVariants as dtype
 use Rattle.vortex_base.specs.declared.types.Nullability.TheVariants.{NonNullable}
 use Rattle.vortex_base.specs.declared.types.PType.TheVariants as ptype
 use Rattle.vortex_base.specs.declared.scalar_value.ScalarValue.{ScalarValue}
-use Rattle.vortex_base.specs.declared.scalar_value.ScalarValue.TheVariants as value
 use Rattle.vortex_base.specs.Data.Columns.{ColumnData}
 use Rattle.vortex_base.specs.Data.Values.{is_value, value_cmp}
 use Rattle.vortex_stats.specs.declared.precision.Precision.{Precision}
@@ -67,3 +66,12 @@ exact_is_measured s v es c holds is =
     let claim : Claims s (Exact v) c = subst (λ (p : Precision ScalarValue). Claims s p c) is (holds.claims s) in
     let fits : value_fits s c.dtype (Exact v) ≡ true = ap (value_fits s c.dtype) (sym is) ∙ entry_value-fits s c.dtype es holds.fits in
     entry_value-measured c s all_stats ∙ ap (λ b. cond b (told c s) Absent) (each_asked s) ∙ ap exactly (value_is s v c fits claim)
+
+-- what is measured of a column is exact in its set
+pub measured_of : (s : Stat) (v : ScalarValue) (c : ColumnData) → measured_value s c ≡ Some v → entry_value s (measured all_stats c) ≡ Exact v
+measured_of s v c h = entry_value-measured c s all_stats ∙ ap (λ b. cond b (told c s) Absent) (each_asked s) ∙ ap exactly h
+
+-- an exact entry of a set that is true is what is measured
+pub measured_is : (s : Stat) (v : ScalarValue) (es : List (Stat × Precision ScalarValue)) (c : ColumnData) → IsTrueOf es c → entry_value s es ≡ Exact v → measured_value s c ≡ Some v
+measured_is s v es c holds is =
+    value_is s v c (ap (value_fits s c.dtype) (sym is) ∙ entry_value-fits s c.dtype es holds.fits) (subst (λ (p : Precision ScalarValue). Claims s p c) is (holds.claims s))

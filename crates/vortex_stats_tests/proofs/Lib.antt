@@ -1,2 +1,4 @@
+pub mod AddedUp
 pub mod ExactEntries
 pub mod WritingLemmas
+pub mod WritingRows

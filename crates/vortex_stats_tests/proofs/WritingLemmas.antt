@@ -20,3 +20,7 @@ module _ (c : ColumnData) (ds : List ColumnData) (i : ℕ) (d : ColumnData) (typ
   -- and with it that is what was written up to the next
   pub written_next : appended (written c (take i ds)) d ≡ written c (take (i + 1) ds)
   written_next = sym (ap (written c) (take_more ds i d within ∙ ap (λ b. take i ds ++ b ∷ []) (sym is)) ∙ written_more c (take i ds) d)
+
+  -- the batches up to the next are those before this one, and it
+  pub taken_next : take (i + 1) ds ≡ take i ds ++ d ∷ []
+  taken_next = take_more ds i d within ∙ ap (λ b. take i ds ++ b ∷ []) (sym is)

@@ -3,13 +3,14 @@ ghost use Rattle.std.specs.Prelude.{◌≡◌, All, IfErr, IfOk, IsTrue, alloc_e
 ghost use Rattle.vortex_base.specs.Data.Columns.{ColumnData};
 ghost use Rattle.vortex_base.specs.declared.scalar_value.ScalarValue.{ScalarValue};
 ghost use Rattle.vortex_stats.specs.Measuring.Measured.{measured};
+ghost use Rattle.vortex_stats.specs.Merging.Merges.{merged_ordered};
 ghost use Rattle.vortex_stats.specs.Sets.Claims.{IsTrueOf, appended};
 ghost use Rattle.vortex_stats.specs.Sets.Entries.{entries_fit, entry_value};
 ghost use Rattle.vortex_stats.specs.Stat.{all_stats};
 ghost use Rattle.vortex_stats.specs.declared.precision.Precision.TheVariants.{Exact};
 ghost use Rattle.vortex_stats.specs.declared.stat.Stat.{Stat};
 ghost use Rattle.vortex_stats.specs.declared.error.StatsError.TheVariants.{Memory};
-ghost use Rattle.vortex_stats_tests.specs.Writing.{written};
+ghost use Rattle.vortex_stats_tests.specs.Writing.{IsMeasuredThroughout, adds_up, written};
 
 use std::alloc::Global;
 use vortex_base::column::Column;
@@ -24,6 +25,8 @@ pub fn with_batch(alloc: Global, set: StatsSet, batch: &Column) -> Result<StatsS
     ensures truth { IfOk result (λ all. (c : ColumnData) → c.dtype ≡ batch.now.dtype
         → IsTrueOf set c → IsTrueOf all (appended c batch.now)) }
     ensures fits { IfOk result (λ all. IsTrue (entries_fit all batch.now.dtype)) }
+    ensures merged { let own = measured all_stats batch.now in
+        IfOk result (λ all. all ≡ merged_ordered set own) }
     ensures memory { IfErr result (λ e. e ≡ Memory alloc_error) }
 {
     ordered_merges_stay_true();
@@ -38,13 +41,17 @@ pub fn with_batch(alloc: Global, set: StatsSet, batch: &Column) -> Result<StatsS
 /// are true of the batches one behind another, and those that are exact are those that are measured
 /// of these. A statistic that isn't exact, or is missing, may be measured all the same: a batch
 /// without values leaves no bounds, and a sum that left its type on the way none, even if it came
-/// back later.
+/// back later. Where each batch has a value, and a sum and a count stay in their types on the way,
+/// the bounds, the sum, the nulls and the size are those that are measured of all batches.
 pub fn accumulated(alloc: Global, first: &Column, more: &[Column]) -> Result<StatsSet, StatsError>
     requires { All (λ batch. batch.dtype ≡ first.now.dtype) more.now }
     ensures truth { IfOk result (λ set. IsTrueOf set (written first.now more.now)) }
     ensures exact { IfOk result (λ set. (s : Stat) (v : ScalarValue)
         → entry_value s set ≡ Exact v
         → entry_value s (measured all_stats (written first.now more.now)) ≡ Exact v) }
+    ensures equal { IfOk result (λ set. (s : Stat) → IsTrue (adds_up s)
+        → IsMeasuredThroughout s first.now more.now
+        → entry_value s set ≡ entry_value s (measured all_stats (written first.now more.now))) }
     ensures memory { IfErr result (λ e. e ≡ Memory alloc_error) }
 {
     let mut set = StatsSet::of_column(alloc, first, ALL_STATS)?;

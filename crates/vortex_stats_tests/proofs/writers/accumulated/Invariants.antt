@@ -1,8 +1,13 @@
-use Rattle.std.proofs.Common.{take}
+use Rattle.std.proofs.Common.{IsTrue, take}
 use Rattle.vortex_stats.specs.Sets.Claims.{IsTrueOf}
-use Rattle.vortex_stats_tests.specs.Writing.{written}
+use Rattle.vortex_stats.specs.declared.stat.Stat.{Stat}
+use Rattle.vortex_stats_tests.specs.Writing.{IsMeasuredThroughout, adds_up, written}
+use Rattle.vortex_stats_tests.proofs.AddedUp.{IsExactOf}
 use Rattle.vortex_stats_tests.proofs.writers.accumulated.Given as goal
 
--- the set is true of the batches so far
+-- the set is true of the batches so far, and exact where they have been measured throughout
 abbrev pub invariant-loop-batch : goal.invariant-loop-batch
-invariant-loop-batch l = IsTrueOf l.set (written l.first (take l.batch-index l.more))
+invariant-loop-batch l = record {
+  truth : IsTrueOf l.set (written l.first (take l.batch-index l.more));
+  exact : (s : Stat) → IsTrue (adds_up s) → IsMeasuredThroughout s l.first (take l.batch-index l.more) → IsExactOf s l.set;
+}
