@@ -4,6 +4,8 @@
 #[cfg(test)]
 mod faults;
 #[cfg(test)]
+mod likes;
+#[cfg(test)]
 mod prune;
 #[cfg(test)]
 mod refused;
