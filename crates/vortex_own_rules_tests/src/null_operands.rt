@@ -3,8 +3,8 @@ use std::alloc::{AllocError, Global};
 use std::test::Fail;
 use vortex_base::{AggregateFnRef, BoundExpression, ScalarFnId};
 use vortex_own_rules::null_operands::NullOperands;
-use vortex_rewrite::rewrite::{falsify, satisfy};
 use vortex_rewrite::Rules;
+use vortex_rewrite::rewrite::{falsify, satisfy};
 use vortex_rewrite_tests::nodes::*;
 use vortex_stats::StatsError;
 
