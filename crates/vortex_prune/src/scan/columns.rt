@@ -44,7 +44,7 @@ fn cell_compares(cell: ShortCell, operator: Operator, number: PValue) -> bool
     }
 }
 
-// Whether a mark stays at a cell. Each cell is looked at, since marks are hard to foretell.
+// Whether a mark stays at a cell. Each cell is looked at, so that no branch depends on a mark.
 #[inline]
 fn stays_at(
     mark: bool,

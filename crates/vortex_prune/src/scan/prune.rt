@@ -285,7 +285,7 @@ fn prune_rules(
 /// none that doesn't. No row is at hand: these are what statistics prove. The predicate is
 /// rewritten once into a falsifier and a satisfier, and each is bound once: the falsifier at first,
 /// the satisfier if some zone isn't skipped. Each is looked at for many zones together, where it
-/// compares a column with a number by the column's cells. Without zones nothing is bound.
+/// compares a column with a literal by the column's values. Without zones nothing is bound.
 ///
 /// The caller knows that the predicate is plain (`BoundExpression::is_plain`) and fits the scope
 /// (`BoundExpression::fits_scope`).
