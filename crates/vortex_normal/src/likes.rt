@@ -1,10 +1,12 @@
 //! LIKE, as comparisons of its text where they say the same.
-ghost use Rattle.std.specs.Prelude.{◌≡◌, ◌++◌, ◌∷◌, [], IfErr, IfOk, IfSome, IsOk, IsTrue, MatchOption, encode_utf8_all, false, option_copied, true};
+ghost use Rattle.std.specs.Prelude.{◌≡◌, ◌++◌, ◌∷◌, [], encode_utf8_all, false, true};
+ghost use Rattle.std.specs.Prelude.{IfErr, IfOk, IfSome, IsOk, IsTrue, MatchOption, option_copied};
 ghost use Rattle.std.specs.Str.{chars, is_utf8, IsUtf8};
 ghost use Rattle.vortex_base.specs.Trees.Tree as tree;
 ghost use Rattle.vortex_base.specs.Meanings.Typing.{type_of};
 ghost use Rattle.vortex_base.specs.Patterns.Like.{items};
-ghost use Rattle.vortex_base.specs.Patterns.Prefix.{has_next as is_followed, is_exact, literal_prefix};
+ghost use Rattle.vortex_base.specs.Patterns.Prefix.{has_next as is_followed};
+ghost use Rattle.vortex_base.specs.Patterns.Prefix.{is_exact, literal_prefix};
 ghost use Rattle.vortex_rewrite.specs.Answers.{IsMemory, Makes, OkOrMemory};
 ghost use Rattle.vortex_rewrite.specs.Rewriting.Falsifiers.{bytes_literal, text_in as text_of};
 ghost use Rattle.vortex_rewrite.specs.Rewriting.Predicates.{is_text};
