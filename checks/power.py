@@ -20,6 +20,7 @@ import sys
 TOP = os.path.dirname(os.path.dirname(os.path.abspath(__file__)))
 sys.path.insert(0, f"{TOP}/callers/python")
 
+from foalmorrow import brin  # noqa: E402
 from tests.systems.servers import postgres, postgres_folder  # noqa: E402
 
 BUILT = f"{TOP}/crates/vortex_power/out/vortex_power"
@@ -147,7 +148,8 @@ def main():
     rng = random.Random(words[1] if len(words) > 1 else 1)
     parts = [(bounds(rng), bounds(rng)) for _ in range(PARTS)]
     predicates = [predicate(rng, rng.randint(1, 4)) for _ in range(words[0] if words else 200)]
-    with postgres() as query:
+    with postgres() as folder:
+        query = brin.psql(folder, user="postgres")
         make_tables(query, parts)
         counts = measure(query, parts, predicates)
     print(f"{len(predicates)} predicates over {len(parts)} parts: {len(predicates) * len(parts)} parts")
