@@ -17,7 +17,7 @@ const MOST_TESTED: usize = 10;
 
 const SIGNS: usize = 100;
 
-/// What becomes of a part.
+// What becomes of a part.
 #[derive(Clone, Copy, Debug, PartialEq, Eq)]
 enum Fate {
     Skipped,

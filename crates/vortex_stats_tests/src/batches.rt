@@ -27,7 +27,7 @@ const ADDED: [Stat; 5] = [
 
 type Columns = Result<Column, StatsError>;
 
-/// The rows as a column that declares so many bytes.
+// The rows as a column that declares so many bytes.
 fn batch(alloc: Global, rows: &[Option<i64>], size: u64) -> Columns
     ensures { IfOk result (λ c. c.dtype ≡ DType.Primitive I64 Nullable) }
 {
@@ -41,20 +41,20 @@ fn batch(alloc: Global, rows: &[Option<i64>], size: u64) -> Columns
     }
 }
 
-/// Three batches of 10, 20 and 30 bytes, accumulated.
+// Three batches of 10, 20 and 30 bytes, accumulated.
 fn of_batches(alloc: Global, rows: [&[Option<i64>]; 3]) -> Sets {
     let first = batch(alloc, rows[0], 10)?;
     let more = [batch(alloc, rows[1], 20)?, batch(alloc, rows[2], 30)?];
     accumulated(alloc, &first, &more)
 }
 
-/// What is measured of all rows.
+// What is measured of all rows.
 fn of_all(alloc: Global, rows: &[Option<i64>]) -> Sets {
     let all = batch(alloc, rows, 60)?;
     Ok(StatsSet::of_column(alloc, &all, ALL_STATS)?)
 }
 
-/// Whether both have the same value of each statistic that adds up, and it is an exact one.
+// Whether both have the same value of each statistic that adds up, and it is an exact one.
 fn are_equal(left: &StatsSet, right: &StatsSet) -> Result<bool, StatsError> {
     for stat in ADDED {
         let value = left.get(stat)?;

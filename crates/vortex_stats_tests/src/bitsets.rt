@@ -4,17 +4,17 @@ use std::alloc::{AllocError, Global};
 use vortex_stats::error::StatsError;
 use vortex_stats::stat::{PRUNING_STATS, Stat};
 
-/// Whether the statistics are written as these bytes.
+// Whether the statistics are written as these bytes.
 fn is_written(alloc: Global, stats: &[Stat], bytes: &[u8]) -> Result<bool, AllocError> {
     Ok(are(bitset_bytes(alloc, stats)?.as_slice(), bytes))
 }
 
-/// Whether the bytes are read as these statistics.
+// Whether the bytes are read as these statistics.
 fn is_read(alloc: Global, bytes: &[u8], stats: &[Stat]) -> Result<bool, StatsError> {
     Ok(are(stats_in(alloc, bytes)?.as_slice(), stats))
 }
 
-/// Whether these statistics are read from the bytes that the first ones are written as.
+// Whether these statistics are read from the bytes that the first ones are written as.
 fn is_read_back(alloc: Global, stats: &[Stat], read: &[Stat]) -> Result<bool, StatsError> {
     is_read(alloc, bitset_bytes(alloc, stats)?.as_slice(), read)
 }
@@ -28,7 +28,7 @@ fn written(rt: HostRuntime) {
     assert!(rt; is_yes(is_read_back(alloc, &stats, &[Stat::Max, Stat::NaNCount])));
 }
 
-/// Whether the bytes are read as all statistics in order, which are nine.
+// Whether the bytes are read as all statistics in order, which are nine.
 fn reads_all(alloc: Global, bytes: &[u8]) -> Result<bool, StatsError> {
     let all: Vec<Stat> = Stat::all().collect(alloc)?;
     Ok(all.len() == 9 && is_read(alloc, bytes, all.as_slice())?)

@@ -22,7 +22,7 @@ const INEXACT_4: Precision<i32> = Precision::Inexact(4);
 
 const INEXACT_5: Precision<i32> = Precision::Inexact(5);
 
-/// Whether this is the value of the union, where there is one.
+// Whether this is the value of the union, where there is one.
 fn unites<B: StatBound<i32>>(
     a: Precision<i32>,
     b: Precision<i32>,
@@ -54,7 +54,7 @@ fn unions_of_lowers(rt: HostRuntime) {
     assert!(rt; unites::<Precision<i32>>(EXACT_12, INEXACT_10, Some(INEXACT_10)));
 }
 
-/// Whether this is the value of the intersection.
+// Whether this is the value of the intersection.
 fn meets<B: StatBound<i32>>(
     a: Precision<i32>,
     b: Precision<i32>,
@@ -76,7 +76,7 @@ fn intersections(rt: HostRuntime) {
     assert!(rt; meets::<Precision<i32>>(five, Precision::Inexact(3), five));
 }
 
-/// Whether the intersection is this, as the bounds compare.
+// Whether the intersection is this, as the bounds compare.
 fn is_met_in<B: StatBound<i32> + PartialEq>(
     a: Precision<i32>,
     b: Precision<i32>,
@@ -88,7 +88,7 @@ fn is_met_in<B: StatBound<i32> + PartialEq>(
     }
 }
 
-/// Whether the bounds allow nothing in common.
+// Whether the bounds allow nothing in common.
 fn are_apart<B: StatBound<i32> + PartialEq>(a: Precision<i32>, b: Precision<i32>) -> bool {
     is_met_in::<B>(a, b, Some(IntersectionResult::Empty))
 }
@@ -145,7 +145,7 @@ fn lowers_against_values(rt: HostRuntime) {
     assert!(rt; lower_against(INEXACT_10, 11) == None);
 }
 
-/// What a clone of the result answers, `e` in the place of Empty.
+// What a clone of the result answers, `e` in the place of Empty.
 fn cloned_or_e(found: IntersectionResult<i32>) -> Result<Result<i32, char>, StatsError> {
     Ok(found.try_clone()?.ok_or_else(|| 'e'))
 }
@@ -167,7 +167,7 @@ fn results(rt: HostRuntime) -> Result<(), Fail> {
     Ok(())
 }
 
-/// An inexact text as a bound.
+// An inexact text as a bound.
 fn bound<B: StatBound<Text>>(alloc: Global, value: &str) -> Result<B, AllocError> {
     Ok(B::lift(Precision::Inexact(text_of(alloc, value)?)))
 }
@@ -186,7 +186,7 @@ fn meets_in<B: StatBound<Text> + PartialEq>(a: &B, b: &B, intersection: &B) -> b
     }
 }
 
-/// Whether the two bounds unite to the one and meet in the other.
+// Whether the two bounds unite to the one and meet in the other.
 fn unite_and_meet<B: StatBound<Text> + PartialEq>(
     a: &B,
     b: &B,
@@ -196,7 +196,7 @@ fn unite_and_meet<B: StatBound<Text> + PartialEq>(
     unites_to(a, b, union) && meets_in(a, b, intersection)
 }
 
-/// Whether the bounds on apple and pear unite to the one of the two and meet in the other.
+// Whether the bounds on apple and pear unite to the one of the two and meet in the other.
 fn orders_fruits<B: StatBound<Text> + PartialEq>(
     alloc: Global,
     unites_to_pear: bool,
@@ -217,12 +217,12 @@ fn texts(rt: HostRuntime) {
     assert!(rt; is_yes(orders_fruits::<Precision<Text>>(alloc, false, false)));
 }
 
-/// Whether an inexact upper bound is never equal to a value and stands in this order to it.
+// Whether an inexact upper bound is never equal to a value and stands in this order to it.
 fn is_upper_against(upper: &UpperBound<Text>, value: &Text, order: Option<Ordering>) -> bool {
     !upper.eq_value(value) && upper.to_exact().is_none() && upper.partial_cmp_value(value) == order
 }
 
-/// The same of two texts.
+// The same of two texts.
 fn is_upper_text_against(
     alloc: Global,
     bound_text: &str,
@@ -233,12 +233,12 @@ fn is_upper_text_against(
     Ok(is_upper_against(&upper, &text_of(alloc, value)?, order))
 }
 
-/// Whether an inexact lower bound is never equal to a value and stands in this order to it.
+// Whether an inexact lower bound is never equal to a value and stands in this order to it.
 fn is_lower_against(lower: &LowerBound<Text>, value: &Text, order: Option<Ordering>) -> bool {
     !lower.eq_value(value) && !lower.is_exact() && lower.partial_cmp_value(value) == order
 }
 
-/// The same of two texts.
+// The same of two texts.
 fn is_lower_text_against(
     alloc: Global,
     bound_text: &str,
@@ -249,7 +249,7 @@ fn is_lower_text_against(
     Ok(is_lower_against(&lower, &text_of(alloc, value)?, order))
 }
 
-/// Whether a clone of a found text is the text, and none is taken for Empty.
+// Whether a clone of a found text is the text, and none is taken for Empty.
 fn finds_clones(alloc: Global, value: &str) -> Result<bool, StatsError> {
     let found = IntersectionResult::Value(text_of(alloc, value)?);
     let same = found.try_clone()? == found;
@@ -267,7 +267,7 @@ fn texts_against_values(rt: HostRuntime) {
     assert!(rt; is_yes(finds_clones(alloc, "banana")));
 }
 
-/// A number that counts its clones.
+// A number that counts its clones.
 #[derive(Drop)]
 #[derive_where(PartialEq, Eq, PartialOrd, Ord)]
 struct Counted<'a> {
@@ -290,12 +290,12 @@ impl<'a> Clone for Counted<'a> {
     }
 }
 
-/// An exact number that counts its clones, as a bound.
+// An exact number that counts its clones, as a bound.
 fn counting<'a, B: StatBound<Counted<'a>>>(value: u32, clones: &'a Cell<u32>) -> B {
     B::lift(Precision::Exact(Counted { value, clones }))
 }
 
-/// Whether two bounds unite, and how many values that clones.
+// Whether two bounds unite, and how many values that clones.
 fn clones_of_union<'a, B: StatBound<Counted<'a>>>(
     a: &B,
     b: &B,
@@ -306,7 +306,7 @@ fn clones_of_union<'a, B: StatBound<Counted<'a>>>(
     Ok((is_some, clones.get()))
 }
 
-/// The same of the intersection.
+// The same of the intersection.
 fn clones_of_intersection<'a, B: StatBound<Counted<'a>>>(
     a: &B,
     b: &B,
@@ -317,7 +317,7 @@ fn clones_of_intersection<'a, B: StatBound<Counted<'a>>>(
     Ok((is_some, clones.get()))
 }
 
-/// Whether two values unite to one with one clone.
+// Whether two values unite to one with one clone.
 fn unites_by_a_clone<'a, B: StatBound<Counted<'a>>>(
     first: u32,
     other: u32,
@@ -328,7 +328,7 @@ fn unites_by_a_clone<'a, B: StatBound<Counted<'a>>>(
     Ok(clones_of_union(&a, &b, clones)? == (true, 1))
 }
 
-/// Whether two values meet in nothing, which is found without a clone.
+// Whether two values meet in nothing, which is found without a clone.
 fn meets_in_nothing<'a, B: StatBound<Counted<'a>>>(
     first: u32,
     other: u32,
@@ -339,7 +339,7 @@ fn meets_in_nothing<'a, B: StatBound<Counted<'a>>>(
     Ok(clones_of_intersection(&a, &b, clones)? == (true, 0))
 }
 
-/// Whether a bound and itself unite and meet with one clone each.
+// Whether a bound and itself unite and meet with one clone each.
 fn clones_itself_once<'a, B: StatBound<Counted<'a>>>(
     value: u32,
     clones: &'a Cell<u32>,
@@ -349,7 +349,7 @@ fn clones_itself_once<'a, B: StatBound<Counted<'a>>>(
     Ok(unites && clones_of_intersection(&a, &a, clones)? == (true, 1))
 }
 
-/// Whether there is no union with an absent value, which is found without a clone.
+// Whether there is no union with an absent value, which is found without a clone.
 fn has_no_union<'a, B: StatBound<Counted<'a>>>(
     value: u32,
     clones: &'a Cell<u32>,
@@ -359,7 +359,7 @@ fn has_no_union<'a, B: StatBound<Counted<'a>>>(
     Ok(clones_of_union(&a, &absent, clones)? == (false, 0))
 }
 
-/// An intersection that is Empty clones nothing.
+// An intersection that is Empty clones nothing.
 #[test]
 fn counted_clones_of_values(rt: HostRuntime) {
     let clones = Cell::new(0);
@@ -367,7 +367,7 @@ fn counted_clones_of_values(rt: HostRuntime) {
     assert!(rt; is_yes(meets_in_nothing::<Precision<Counted<'_>>>(3, 5, &clones)));
 }
 
-/// A call clones the answer's value once, and nothing where there is no answer.
+// A call clones the answer's value once, and nothing where there is no answer.
 #[test]
 fn counted_clones_of_bounds(rt: HostRuntime) {
     let clones = Cell::new(0);
@@ -376,7 +376,7 @@ fn counted_clones_of_bounds(rt: HostRuntime) {
     assert!(rt; is_yes(has_no_union::<UpperBound<Counted<'_>>>(3, &clones)));
 }
 
-/// A number whose clone is refused where the flag is set.
+// A number whose clone is refused where the flag is set.
 #[derive(Debug, PartialEq, Eq, PartialOrd, Ord, Drop)]
 struct Fragile {
     value: u32,
@@ -413,7 +413,7 @@ fn cloning(value: u32) -> Fragile {
     }
 }
 
-/// What a call answered.
+// What a call answered.
 #[derive(PartialEq, Eq, Clone, Copy)]
 enum Answer {
     Found,
@@ -439,7 +439,7 @@ fn intersection_of<B: StatBound<Fragile>>(a: &B, b: &B) -> Answer {
     }
 }
 
-/// The answer's value alone is cloned, so that only its clone can refuse the call.
+// The answer's value alone is cloned, so that only its clone can refuse the call.
 #[test]
 fn refused_clones_of_uppers(rt: HostRuntime) {
     let low = UpperBound::lift(Precision::Exact(refusing(3)));
@@ -453,7 +453,7 @@ fn refused_clones_of_uppers(rt: HostRuntime) {
     assert!(rt; union_of(&low, &absent) == Answer::Nothing);
 }
 
-/// Whether a clone of the bound is refused.
+// Whether a clone of the bound is refused.
 fn refuses_clone(bound: &LowerBound<Fragile>) -> bool {
     bound.try_clone().is_err()
 }

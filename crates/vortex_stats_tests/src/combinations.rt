@@ -7,7 +7,7 @@ use vortex_stats::precision::Precision;
 use vortex_stats::stat::Stat;
 use vortex_stats::stats_set::StatsSet;
 
-/// Whether a combination stopped at this conflict, or at none.
+// Whether a combination stopped at this conflict, or at none.
 fn is_answered(answer: Result<(), StatsError>, conflict: Option<Stat>) -> bool {
     match answer {
         Ok(()) => conflict == None,
@@ -16,7 +16,7 @@ fn is_answered(answer: Result<(), StatsError>, conflict: Option<Stat>) -> bool {
     }
 }
 
-/// Combines the sets under I32, and refuses where that doesn't stop at this conflict.
+// Combines the sets under I32, and refuses where that doesn't stop at this conflict.
 fn stops(set: &mut StatsSet, other: &StatsSet, conflict: Option<Stat>) -> Result<(), StatsError> {
     if is_answered(sets::combine(set, other, &I32), conflict) {
         Ok(())
@@ -25,8 +25,8 @@ fn stops(set: &mut StatsSet, other: &StatsSet, conflict: Option<Stat>) -> Result
     }
 }
 
-/// The first set combined with the other under I32, or none where that doesn't stop at this
-/// conflict.
+// The first set combined with the other under I32, or none where that doesn't stop at this
+// conflict.
 fn combined(set: Sets, other: Sets, conflict: Option<Stat>) -> Sets {
     let other = other?;
     let mut set = set?;
@@ -34,7 +34,7 @@ fn combined(set: Sets, other: Sets, conflict: Option<Stat>) -> Sets {
     Ok(set)
 }
 
-/// Whether the first rows combined with the others are the last ones, and stop at this conflict.
+// Whether the first rows combined with the others are the last ones, and stop at this conflict.
 fn combines(
     alloc: Global,
     first: &[Row],
@@ -70,12 +70,12 @@ fn max(value: PlainValue) -> [Row; 1] {
     [(Stat::Max, value)]
 }
 
-/// Max 3.
+// Max 3.
 fn three() -> [Row; 1] {
     max(exact(3))
 }
 
-/// An entry of Max that is Absent.
+// An entry of Max that is Absent.
 fn absent() -> [Row; 1] {
     max(Precision::Absent)
 }
@@ -89,7 +89,7 @@ fn absent_entries(rt: HostRuntime) {
     assert!(rt; combines(alloc, &absent(), &three(), &three(), None));
 }
 
-/// Whether two values of the statistic meet in the last one.
+// Whether two values of the statistic meet in the last one.
 fn meet(
     alloc: Global,
     stat: Stat,
@@ -106,7 +106,7 @@ fn meet(
     )
 }
 
-/// Whether two values of the statistic contradict each other, and the first stays.
+// Whether two values of the statistic contradict each other, and the first stays.
 fn conflict(alloc: Global, stat: Stat, first: PlainValue, other: PlainValue) -> bool {
     let entry = [(stat, first)];
     combines(alloc, &entry, &[(stat, other)], &entry, Some(stat))
@@ -122,7 +122,7 @@ fn truths(rt: HostRuntime) {
     assert!(rt; meet(alloc, stat, exact(false), inexact(true), inexact(false)));
 }
 
-/// Whether the rows are constant, and that they are sorted.
+// Whether the rows are constant, and that they are sorted.
 fn sorted(is_constant: bool) -> [Row; 2] {
     [
         (Stat::IsConstant, exact(is_constant)),
@@ -147,7 +147,7 @@ fn bounds(rt: HostRuntime) {
     assert!(rt; conflict(alloc, Stat::Sum, exact(1i64), exact(2i64)));
 }
 
-/// Values of a count meet as upper bounds do.
+// Values of a count meet as upper bounds do.
 fn meet_as_counts(alloc: Global, stat: Stat) -> bool {
     meet(alloc, stat, exact(5u64), inexact(7u64), exact(5u64))
         && meet(alloc, stat, inexact(7u64), exact(5u64), exact(5u64))
@@ -170,8 +170,8 @@ fn counts(rt: HostRuntime) {
     assert!(rt; conflict_as_counts(alloc, Stat::UncompressedSizeInBytes));
 }
 
-/// An exact value stays where an inexact one of the other set agrees, and takes the place of an
-/// inexact one; a statistic of the other set alone is added.
+// An exact value stays where an inexact one of the other set agrees, and takes the place of an
+// inexact one; a statistic of the other set alone is added.
 #[test]
 fn inexact_bounds(rt: HostRuntime) {
     let first = [
@@ -209,7 +209,7 @@ fn missing_stats(rt: HostRuntime) {
     assert!(rt; combines(rt.alloc(), &first, &other, &expected, None));
 }
 
-/// Combines through a view, where both sets fit I32, and tells whether that is a conflict at Min.
+// Combines through a view, where both sets fit I32, and tells whether that is a conflict at Min.
 fn conflicts_viewed(set: &mut StatsSet, other: &StatsSet) -> bool {
     if !set.fits(&I32) || !other.fits(&I32) {
         return false;
@@ -218,7 +218,7 @@ fn conflicts_viewed(set: &mut StatsSet, other: &StatsSet) -> bool {
     matches!(answer, Err(StatsError::Conflict(Stat::Min)))
 }
 
-/// Min 5 combined through a view with the other set, or none where that is no conflict at Min.
+// Min 5 combined through a view with the other set, or none where that is no conflict at Min.
 fn combined_viewed(alloc: Global, other: Sets) -> Sets {
     let other = other?;
     let mut set = sets::one(alloc, Stat::Min, exact(5));

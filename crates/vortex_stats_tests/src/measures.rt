@@ -29,7 +29,7 @@ fn values(alloc: Global, rows: &[Option<Plain>]) -> Result<Vec<Option<ScalarValu
     Ok(values)
 }
 
-/// The column of these rows, which declares 40 bytes, as `try_new` keeps it.
+// The column of these rows, which declares 40 bytes, as `try_new` keeps it.
 fn column(alloc: Global, dtype: DType, rows: &[Option<Plain>]) -> Columns {
     match Column::try_new(dtype, values(alloc, rows)?, 40) {
         Ok(column) => Ok(column),
@@ -48,12 +48,12 @@ fn packed(alloc: Global, dtype: DType, values: Vec<Option<ScalarValue>>) -> Colu
     Ok(Column::new_unchecked(dtype, cells, 40))
 }
 
-/// The same column, in the form of its type.
+// The same column, in the form of its type.
 fn typed(alloc: Global, dtype: DType, rows: &[Option<Plain>]) -> Columns {
     packed(alloc, dtype, values(alloc, rows)?)
 }
 
-/// The texts, with a null behind the first.
+// The texts, with a null behind the first.
 fn texts(alloc: Global, first: &str, second: &str) -> Columns {
     let mut values = Vec::new(alloc);
     values.push(Some(name(alloc, first)?))?;
@@ -66,14 +66,14 @@ fn measured(alloc: Global, column: Columns, wanted: &[Stat]) -> Sets {
     Ok(StatsSet::of_column(alloc, &column?, wanted)?)
 }
 
-/// Whether the measured column has these rows, in either form.
+// Whether the measured column has these rows, in either form.
 fn has(alloc: Global, dtype: DType, rows: &[Option<Plain>], expected: &[Row]) -> bool {
     let kept = measured(alloc, column(alloc, dtype, rows), ALL_STATS);
     let packed = measured(alloc, typed(alloc, dtype, rows), ALL_STATS);
     sets::is(alloc, kept, expected) && sets::is(alloc, packed, expected)
 }
 
-/// Whether these are true of the column.
+// Whether these are true of the column.
 fn is_true(alloc: Global, rows: &[Row], column: Columns) -> bool {
     match (sets::of(alloc, rows), column) {
         (Ok(set), Ok(column)) => set.is_true_of(&column),

@@ -9,7 +9,7 @@ ghost use Rattle.vortex_stats.specs.Merging.Combined.{combined};
 ghost use Rattle.vortex_stats.specs.Copies.{merge_copies, combination_copies};
 ghost use Rattle.vortex_stats.specs.Merging.MergeRows.{i32, i64, u64, letter, holds, fails, unknown};
 
-/// Sums and counts that leave their type, and sums that stay.
+// Sums and counts that leave their type, and sums that stay.
 fn overflowing_sums()
     ensures most { merged_ordered
         ((stats.Sum, Exact (i64 9223372036854775807)) ∷ [])
@@ -25,7 +25,7 @@ fn overflowing_sums()
         ≡ (stats.Sum, Exact (i64 79)) ∷ [] }
 {}
 
-/// Counts add up, and the sum is exact if both are.
+// Counts add up, and the sum is exact if both are.
 fn counts()
     ensures exact { merged_ordered
         ((stats.NullCount, Exact (u64 1)) ∷ [])
@@ -45,7 +45,7 @@ fn counts()
         ≡ (stats.NullCount, Inexact (u64 3)) ∷ [] }
 {}
 
-/// A count of NaNs is cleared, whatever the two sides know.
+// A count of NaNs is cleared, whatever the two sides know.
 fn counts_of_nans()
     ensures exact { merged_ordered
         ((stats.NaNCount, Exact (u64 0)) ∷ [])
@@ -59,7 +59,7 @@ fn counts_of_nans()
         ≡ [] }
 {}
 
-/// Constants are compared by their exact minima.
+// Constants are compared by their exact minima.
 fn constants_that_differ()
     ensures inexact_min { merged_ordered
         ((stats.Min, Exact (i32 42)) ∷ (stats.IsConstant, holds) ∷ [])
@@ -83,7 +83,7 @@ fn constants_that_differ()
         ≡ (stats.Min, Exact (i32 42)) ∷ [] }
 {}
 
-/// IsConstant alone can be added; whatever else is known of one side alone is cleared.
+// IsConstant alone can be added; whatever else is known of one side alone is cleared.
 fn one_side_absent()
     ensures added { merged_ordered
         []
@@ -97,7 +97,7 @@ fn one_side_absent()
         ≡ (stats.IsConstant, fails) ∷ (stats.Min, Exact (i32 1)) ∷ [] }
 {}
 
-/// Bounds join.
+// Bounds join.
 fn bounds()
     ensures min { merged_ordered
         ((stats.Min, Exact (i32 37)) ∷ [])
@@ -117,7 +117,7 @@ fn bounds()
         ≡ (stats.Min, Exact (i32 5)) ∷ [] }
 {}
 
-/// A strict order needs strict order where the sides meet.
+// A strict order needs strict order where the sides meet.
 fn strict_order_at_the_seam()
     ensures falls { merged_ordered
         ((stats.IsStrictSorted, holds) ∷ (stats.Max, Exact (i32 2)) ∷ [])
@@ -141,7 +141,7 @@ fn strict_order_at_the_seam()
         ≡ [] }
 {}
 
-/// Without an order of the rows nothing is known of their order.
+// Without an order of the rows nothing is known of their order.
 fn unordered_merge()
     ensures { let set = (stats.Min, Exact (i32 1)) ∷ (stats.Max, Exact (i32 10000))
         ∷ (stats.NullCount, Exact (u64 2)) ∷ (stats.UncompressedSizeInBytes, Exact (u64 25))
@@ -152,7 +152,7 @@ fn unordered_merge()
         ∷ (stats.IsConstant, fails) ∷ [] }
 {}
 
-/// A merge copies a text that is the bound of both sides and not the left side's, and no number.
+// A merge copies a text that is the bound of both sides and not the left side's, and no number.
 fn copies_of_merges()
     ensures number { merge_copies
         ((stats.Max, Exact (i32 1)) ∷ []) ((stats.Max, Exact (i32 2)) ∷ []) ≡ false }
@@ -165,7 +165,7 @@ fn copies_of_merges()
     ensures one_sided { merge_copies [] ((stats.Max, Exact (letter 97)) ∷ []) ≡ false }
 {}
 
-/// A combination copies a text that it writes, as far as the first conflict, and no number.
+// A combination copies a text that it writes, as far as the first conflict, and no number.
 fn copies_of_combinations()
     ensures number { combination_copies [] ((stats.Max, Exact (i32 2)) ∷ []) ≡ false }
     ensures new { combination_copies [] ((stats.Max, Exact (letter 97)) ∷ []) ≡ true }
@@ -176,7 +176,7 @@ fn copies_of_combinations()
         ((stats.NullCount, Exact (u64 2)) ∷ (stats.Max, Exact (letter 97)) ∷ []) ≡ false }
 {}
 
-/// A conflict leaves the earlier entries combined.
+// A conflict leaves the earlier entries combined.
 fn conflict_at_min()
     ensures { combined
         ((stats.Min, Exact (i32 5)) ∷ [])
@@ -189,8 +189,8 @@ fn conflict_at_min()
         } }
 {}
 
-/// A count meets another value of it as an upper bound does: an exact one within an inexact one
-/// stays, and one above it is a conflict.
+// A count meets another value of it as an upper bound does: an exact one within an inexact one
+// stays, and one above it is a conflict.
 fn counts_that_meet()
     ensures nulls_within { combined
         ((stats.NullCount, Exact (u64 5)) ∷ [])
@@ -234,7 +234,7 @@ fn counts_that_meet()
         } }
 {}
 
-/// Exact values stay where inexact ones of the other set agree, and take the place of inexact ones.
+// Exact values stay where inexact ones of the other set agree, and take the place of inexact ones.
 fn inexact_bounds_that_meet()
     ensures { combined
         ((stats.Min, Exact (i32 42)) ∷ (stats.Max, Inexact (i32 100))
@@ -247,7 +247,7 @@ fn inexact_bounds_that_meet()
         } }
 {}
 
-/// An Absent entry of the right set says nothing, and clears one of the left.
+// An Absent entry of the right set says nothing, and clears one of the left.
 fn absent_entries()
     ensures none { combined
         []
@@ -259,7 +259,7 @@ fn absent_entries()
         ≡ record { entries = []; conflict = None } }
 {}
 
-/// Truth values, and statistics that one set alone has.
+// Truth values, and statistics that one set alone has.
 fn combinations()
     ensures alike { combined
         ((stats.IsConstant, holds) ∷ [])

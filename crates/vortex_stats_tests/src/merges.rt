@@ -10,13 +10,13 @@ use vortex_stats::precision::Precision;
 use vortex_stats::stat::Stat;
 use vortex_stats::stats_set::StatsSet;
 
-/// Whether the ordered merge of the two sets has the last rows.
+// Whether the ordered merge of the two sets has the last rows.
 fn merges(alloc: Global, first: &[Row], other: &[Row], expected: &[Row]) -> bool {
     let set = sets::merge(sets::of(alloc, first), sets::of(alloc, other), &I32);
     sets::is(alloc, set, expected)
 }
 
-/// The set of the statistic's value, or of no entry.
+// The set of the statistic's value, or of no entry.
 fn set_of(alloc: Global, stat: Stat, value: Option<PlainValue>) -> Sets {
     match value {
         Some(value) => Ok(sets::one(alloc, stat, value)),
@@ -24,7 +24,7 @@ fn set_of(alloc: Global, stat: Stat, value: Option<PlainValue>) -> Sets {
     }
 }
 
-/// Whether the set has that entry alone, or none.
+// Whether the set has that entry alone, or none.
 fn is_set_of(alloc: Global, set: Sets, stat: Stat, value: Option<PlainValue>) -> bool {
     match value {
         Some(value) => sets::is(alloc, set, &[(stat, value)]),
@@ -32,8 +32,8 @@ fn is_set_of(alloc: Global, set: Sets, stat: Stat, value: Option<PlainValue>) ->
     }
 }
 
-/// Whether the ordered merge of sets that have at most the statistic has the last value, or no
-/// entry.
+// Whether the ordered merge of sets that have at most the statistic has the last value, or no
+// entry.
 fn merges_values(
     alloc: Global,
     dtype: &DType,
@@ -47,7 +47,7 @@ fn merges_values(
     is_set_of(alloc, set, stat, expected)
 }
 
-/// The sum of two sums in a column of the type, `None` where the entry is cleared.
+// The sum of two sums in a column of the type, `None` where the entry is cleared.
 fn sums(
     alloc: Global,
     dtype: &DType,
@@ -82,7 +82,7 @@ fn sums_that_stay(rt: HostRuntime) {
     assert!(rt; sums(alloc, &I32, exact(37i64), inexact(42i64), None));
 }
 
-/// Counts of the statistic that add up, overflow, or stand on one side alone.
+// Counts of the statistic that add up, overflow, or stand on one side alone.
 fn adds_counts(alloc: Global, stat: Stat) -> bool {
     overflows(alloc, stat) && adds_up(alloc, stat) && is_cleared(alloc, stat, exact(3u64))
 }
@@ -99,7 +99,7 @@ fn adds_up(alloc: Global, stat: Stat) -> bool {
         && counts(alloc, stat, inexact(3u64), exact(4u64), seven)
 }
 
-/// The sum of two counts, `None` where the entry is cleared.
+// The sum of two counts, `None` where the entry is cleared.
 fn counts(
     alloc: Global,
     stat: Stat,
@@ -116,17 +116,17 @@ fn overflowing_counts(rt: HostRuntime) {
     assert!(rt; adds_counts(rt.alloc(), Stat::UncompressedSizeInBytes));
 }
 
-/// A minimum and IsConstant.
+// A minimum and IsConstant.
 fn constant(min: PlainValue, is_constant: PlainValue) -> [Row; 2] {
     [(Stat::Min, min), (Stat::IsConstant, is_constant)]
 }
 
-/// Of rows that are all 42.
+// Of rows that are all 42.
 fn all_42() -> [Row; 2] {
     constant(exact(42), exact(true))
 }
 
-/// Of rows from 42 on.
+// Of rows from 42 on.
 fn from_42() -> [Row; 2] {
     constant(exact(42), exact(false))
 }
@@ -150,7 +150,7 @@ fn constants_of_unsure_sides(rt: HostRuntime) {
     assert!(rt; merges(alloc, &unsure, &all_42(), &[(Stat::Min, exact(42))]));
 }
 
-/// Whether a value on one side alone is cleared, whichever side that is.
+// Whether a value on one side alone is cleared, whichever side that is.
 fn is_cleared(alloc: Global, stat: Stat, value: PlainValue) -> bool {
     merges_values(alloc, &I32, stat, Some(value), None, None)
         && merges_values(alloc, &I32, stat, None, Some(value), None)
@@ -167,12 +167,12 @@ fn one_side_absent(rt: HostRuntime) {
     assert!(rt; is_cleared(alloc, Stat::IsStrictSorted, exact(true)));
 }
 
-/// Max 3, and that the rows are no constant.
+// Max 3, and that the rows are no constant.
 fn up_to_3() -> [Row; 2] {
     [(Stat::Max, exact(3)), (Stat::IsConstant, exact(false))]
 }
 
-/// An entry of the left set that is Absent keeps its place, and a new one goes last.
+// An entry of the left set that is Absent keeps its place, and a new one goes last.
 #[test]
 fn places_of_is_constant(rt: HostRuntime) {
     let alloc = rt.alloc();
@@ -182,7 +182,7 @@ fn places_of_is_constant(rt: HostRuntime) {
     assert!(rt; merges(alloc, &[(Stat::Max, exact(1))], &up_to_3(), &up_to_3()));
 }
 
-/// No count of NaNs fits the column, so that an entry of it is Absent, and a merge clears it.
+// No count of NaNs fits the column, so that an entry of it is Absent, and a merge clears it.
 #[test]
 fn counts_of_nans(rt: HostRuntime) {
     let alloc = rt.alloc();
@@ -192,7 +192,7 @@ fn counts_of_nans(rt: HostRuntime) {
     assert!(rt; merges(alloc, &[(Stat::NaNCount, Precision::Absent)], &[], &[]));
 }
 
-/// Whether two values of a bound merge to the last one.
+// Whether two values of a bound merge to the last one.
 fn joins(
     alloc: Global,
     stat: Stat,
@@ -214,13 +214,13 @@ fn bounds(rt: HostRuntime) {
     assert!(rt; joins(alloc, Stat::Max, exact(43), inexact(42), exact(43)));
 }
 
-/// Rows in strict order, with a bound.
+// Rows in strict order, with a bound.
 fn strict(stat: Stat, value: PlainValue) -> [Row; 2] {
     [(Stat::IsStrictSorted, exact(true)), (stat, value)]
 }
 
-/// Whether rows in strict order up to the number and from the value on merge to rows of that
-/// strict order alone.
+// Whether rows in strict order up to the number and from the value on merge to rows of that
+// strict order alone.
 fn merges_strict(alloc: Global, max: i32, min: PlainValue, order: PlainValue) -> bool {
     let first = strict(Stat::Max, exact(max));
     let other = strict(Stat::Min, min);
@@ -236,7 +236,7 @@ fn strict_order_at_the_seam(rt: HostRuntime) {
     assert!(rt; merges_strict(alloc, 1, exact(2), exact(true)));
 }
 
-/// Whether the merge of rows in strict order up to 1 with the others has no entry.
+// Whether the merge of rows in strict order up to 1 with the others has no entry.
 fn clears_strict(alloc: Global, other: &[Row]) -> bool {
     merges(alloc, &strict(Stat::Max, exact(1)), other, &[])
 }
@@ -252,7 +252,7 @@ fn order_without_a_seam(rt: HostRuntime) {
     assert!(rt; merges(alloc, &sorted, &other, &[(Stat::IsSorted, exact(true))]));
 }
 
-/// A set with every statistic but the sum.
+// A set with every statistic but the sum.
 fn full(alloc: Global) -> Sets {
     sets::of(
         alloc,
@@ -268,7 +268,7 @@ fn full(alloc: Global) -> Sets {
     )
 }
 
-/// The unordered merge of the set with itself.
+// The unordered merge of the set with itself.
 fn mixed_with_itself(alloc: Global) -> Sets {
     let other = full(alloc)?;
     sets::told(sets::mixed(full(alloc)?, &other, &I32))
@@ -303,14 +303,14 @@ pub fn mix_viewed(set: &mut StatsSet, other: &StatsSet, dtype: &DType) -> Result
     mixed_through_view(set, other, dtype)
 }
 
-/// Whether the merged set has seven entries.
+// Whether the merged set has seven entries.
 fn is_merged(set: &StatsSet) -> bool {
     sets::len(set) == 7
         && sets::has(set, Stat::IsSorted, inexact(false))
         && sets::has(set, Stat::NullCount, exact(4u64))
 }
 
-/// Whether the set that was mixed has five entries, and none of an order.
+// Whether the set that was mixed has five entries, and none of an order.
 fn is_mixed(set: &StatsSet) -> bool {
     sets::len(set) == 5 && sets::has(set, Stat::IsSorted, Precision::Absent)
 }
@@ -323,7 +323,7 @@ fn mixes_viewed(set: &mut StatsSet, other: &StatsSet) -> bool {
     mix_viewed(set, other, &I32).is_ok() && is_mixed(set)
 }
 
-/// Whether the full set merges with itself through a view, in order or not.
+// Whether the full set merges with itself through a view, in order or not.
 fn merges_full(alloc: Global, is_ordered: bool) -> Result<bool, StatsError> {
     let other = full(alloc)?;
     let mut set = full(alloc)?;
@@ -344,7 +344,7 @@ fn mixes_through_views(rt: HostRuntime) {
     assert!(rt; is_yes(merges_full(rt.alloc(), false)));
 }
 
-/// The entries of two texts.
+// The entries of two texts.
 fn two_texts(
     alloc: Global,
     first: (Stat, &str),
@@ -361,7 +361,7 @@ pub fn set_of_texts(alloc: Global, first: (Stat, &str), second: (Stat, &str)) ->
     sets::of_entries(alloc, two_texts(alloc, first, second)?)
 }
 
-/// Whether the set is of the two texts.
+// Whether the set is of the two texts.
 fn is_of_texts(alloc: Global, set: Sets, first: (Stat, &str), second: (Stat, &str)) -> bool {
     match two_texts(alloc, first, second) {
         Ok(expected) => sets::has_entries(alloc, set, expected.as_slice()),
@@ -369,7 +369,7 @@ fn is_of_texts(alloc: Global, set: Sets, first: (Stat, &str), second: (Stat, &st
     }
 }
 
-/// The merge of the texts from b to m with those from a to k.
+// The merge of the texts from b to m with those from a to k.
 fn merged_texts(alloc: Global) -> Sets {
     let first = set_of_texts(alloc, (Stat::Max, "m"), (Stat::Min, "b"));
     let other = set_of_texts(alloc, (Stat::Min, "a"), (Stat::Max, "k"));

@@ -18,12 +18,12 @@ const INEXACT: Precision<u8> = Precision::Inexact(7);
 
 const ABSENT: Precision<u8> = Precision::Absent;
 
-/// Whether the value is shown as the text.
+// Whether the value is shown as the text.
 fn is_shown_as(alloc: Global, value: Precision<u8>, text: &str) -> Result<bool, AllocError> {
     Ok(format!(in alloc; "{}", value)?.as_str() == text)
 }
 
-/// Whether the inexact name is shown behind a tilde.
+// Whether the inexact name is shown behind a tilde.
 fn shows_inexact_name(alloc: Global) -> Result<bool, AllocError> {
     let name = String::from_str(alloc, "a name")?;
     Ok(format!(in alloc; "{}", Precision::Inexact(name))?.as_str() == "~a name")
@@ -126,19 +126,19 @@ fn closures(rt: HostRuntime) {
     assert!(rt; transposed(Precision::Exact(Err('e'))) == Err('e'));
 }
 
-/// Whether the name equals an exact one, and no other text.
+// Whether the name equals an exact one, and no other text.
 fn equals_itself(name: &Precision<Text>, same: &Text, other: &Text) -> bool {
     name.eq_value(same) && !name.eq_value(other) && name.is_exact()
 }
 
-/// Whether the exact name equals itself, and no other text.
+// Whether the exact name equals itself, and no other text.
 fn equals_no_other(alloc: Global, name: &str, other: &str) -> Result<bool, AllocError> {
     let same = text_of(alloc, name)?;
     let other = text_of(alloc, other)?;
     Ok(equals_itself(&exact_name(alloc, name)?, &same, &other))
 }
 
-/// Whether a clone of the exact name is it.
+// Whether a clone of the exact name is it.
 fn clones_to(name: &Precision<Text>, same: &Text) -> Result<bool, AllocError> {
     Ok(
         name.as_ref()
@@ -152,7 +152,7 @@ fn clones_to_itself(alloc: Global, name: &str) -> Result<bool, AllocError> {
     clones_to(&exact_name(alloc, name)?, &text_of(alloc, name)?)
 }
 
-/// Whether the exact name has this length and first byte.
+// Whether the exact name has this length and first byte.
 fn is_of_bytes(alloc: Global, name: &str, length: usize, byte: u8) -> Result<bool, AllocError> {
     let name = exact_name(alloc, name)?;
     Ok(len(&name) == Precision::Exact(length) && first(&name) == Precision::Exact(byte))
@@ -167,7 +167,7 @@ fn first(name: &Precision<Text>) -> Precision<u8> {
         .and_then(|text| text.as_str().as_bytes().first().copied())
 }
 
-/// Whether a clone of the inexact name is inexact.
+// Whether a clone of the inexact name is inexact.
 fn clones_inexact(name: &Precision<Text>) -> Result<bool, AllocError> {
     Ok(!name.is_absent() && name.as_ref().cloned()?.as_inexact().is_some())
 }
@@ -176,7 +176,7 @@ fn clones_to_inexact(alloc: Global, name: &str) -> Result<bool, AllocError> {
     clones_inexact(&inexact_name(alloc, name)?)
 }
 
-/// Whether both names zipped hold the first one, which is given.
+// Whether both names zipped hold the first one, which is given.
 fn zip_holds(names: Precision<Text>, others: Precision<Text>, same: &Text) -> bool {
     names
         .zip(others)
@@ -185,7 +185,7 @@ fn zip_holds(names: Precision<Text>, others: Precision<Text>, same: &Text) -> bo
         .is_some_and(|pair| pair.0 == *same)
 }
 
-/// Whether the exact name zipped with the other one, which is inexact, holds it.
+// Whether the exact name zipped with the other one, which is inexact, holds it.
 fn zip_holds_first(alloc: Global, name: &str, other: &str) -> Result<bool, AllocError> {
     let same = text_of(alloc, name)?;
     let other = inexact_name(alloc, other)?;
@@ -227,12 +227,12 @@ fn has_lower(name: Precision<Text>) -> bool {
     name.bound::<Min>().is_some()
 }
 
-/// The value of the statistic's bound, if there is one.
+// The value of the statistic's bound, if there is one.
 fn bound<S: StatType<u8>>(value: Precision<u8>) -> Option<Precision<u8>> {
     value.bound::<S>().map(|bound| bound.into_value())
 }
 
-/// Whether IsConstant is read as the value itself.
+// Whether IsConstant is read as the value itself.
 fn is_read_as_it_is(value: Precision<bool>) -> bool {
     value.bound::<IsConstant>() == Some(value)
 }
@@ -246,7 +246,7 @@ fn bounds_of_statistics(rt: HostRuntime) {
     assert!(rt; is_read_as_it_is(Precision::Exact(true)));
 }
 
-/// The scalar of an inexact text by reference.
+// The scalar of an inexact text by reference.
 fn scalar_by_reference(
     alloc: Global,
     text: &str,
@@ -256,19 +256,19 @@ fn scalar_by_reference(
     value.as_ref().into_scalar(dtype)
 }
 
-/// Whether an inexact text has the scalar of the text by reference.
+// Whether an inexact text has the scalar of the text by reference.
 fn makes_scalar_of_text(alloc: Global, text: &str) -> Result<bool, StatsError> {
     let found = scalar_by_reference(alloc, text, UTF8);
     Ok(is_inexact_scalar(found, UTF8, testing::name(alloc, text)?))
 }
 
-/// Whether the text is refused as a number.
+// Whether the text is refused as a number.
 fn is_refused_as_number(alloc: Global, text: &str) -> Result<bool, AllocError> {
     let value: Value = Precision::Inexact(testing::name(alloc, text)?);
     Ok(is_mismatch(value.into_scalar(I32)))
 }
 
-/// Whether the number has its scalar.
+// Whether the number has its scalar.
 fn makes_scalar_of_number(number: i32) -> bool {
     let found = Precision::Exact(ScalarValue::from(number)).into_scalar(I32);
     is_exact_scalar(found, I32, ScalarValue::from(number))

@@ -9,7 +9,7 @@ use vortex_stats::precision::Precision;
 use vortex_stats::stat::Stat;
 use vortex_stats::stats_set::StatsSet;
 
-/// Sets each statistic, and tells whether each call added an entry.
+// Sets each statistic, and tells whether each call added an entry.
 fn sets_each(set: &mut StatsSet) -> bool {
     let mut is_each_set = true;
     for stat in Stat::all() {
@@ -20,7 +20,7 @@ fn sets_each(set: &mut StatsSet) -> bool {
     is_each_set
 }
 
-/// Whether an entry that is there is set once more.
+// Whether an entry that is there is set once more.
 fn sets_again(set: &mut StatsSet) -> bool {
     sets::set(set, Stat::IsConstant, Precision::Absent).is_ok()
 }
@@ -33,7 +33,7 @@ fn writes(rt: HostRuntime) {
     assert!(rt; sets_again(&mut set));
 }
 
-/// Whether the set's text is answered exactly, or refused.
+// Whether the set's text is answered exactly, or refused.
 fn gets_text(set: &StatsSet) -> bool {
     match set.get(Stat::Max) {
         Ok(max) => max.is_exact(),
@@ -41,7 +41,7 @@ fn gets_text(set: &StatsSet) -> bool {
     }
 }
 
-/// Whether a clone has one entry, or is refused.
+// Whether a clone has one entry, or is refused.
 fn clones_entry(set: &StatsSet) -> bool {
     match set.try_clone() {
         Ok(clone) => clone.len() == 1,
@@ -49,7 +49,7 @@ fn clones_entry(set: &StatsSet) -> bool {
     }
 }
 
-/// Whether what the set lacks is answered as Absent.
+// Whether what the set lacks is answered as Absent.
 fn gets_absent(set: &StatsSet) -> bool {
     match set.get(Stat::Min) {
         Ok(min) => min.is_absent(),
@@ -57,12 +57,12 @@ fn gets_absent(set: &StatsSet) -> bool {
     }
 }
 
-/// Whether a set of a text alone answers so, or is refused.
+// Whether a set of a text alone answers so, or is refused.
 fn answers(set: &StatsSet) -> bool {
     gets_text(set) && gets_absent(set) && clones_entry(set) && sets::len(set) == 1
 }
 
-/// Whether that is so of the set of the text, or the text is refused.
+// Whether that is so of the set of the text, or the text is refused.
 fn answers_text(alloc: Global, first: &str) -> bool {
     match text(alloc, first) {
         Ok(value) => answers(&sets::one_value(alloc, Stat::Max, value)),
@@ -75,12 +75,12 @@ fn gets(rt: HostRuntime) {
     assert!(rt; answers_text(rt.alloc(), "a text"));
 }
 
-/// The entry of the statistic's own number.
+// The entry of the statistic's own number.
 fn numbered(stat: Stat) -> Entry {
     (stat, Precision::Exact(ScalarValue::from(stat.number())))
 }
 
-/// Whether a set takes an item of each statistic, or is refused with fewer.
+// Whether a set takes an item of each statistic, or is refused with fewer.
 fn extends(alloc: Global) -> bool {
     let mut set = sets::one(alloc, Stat::Sum, Precision::Absent);
     let items = Stat::all().map(numbered);
@@ -90,7 +90,7 @@ fn extends(alloc: Global) -> bool {
     }
 }
 
-/// Whether a set is made of an item of each statistic, or refused for memory with those set so far.
+// Whether a set is made of an item of each statistic, or refused for memory with those set so far.
 fn makes_of_items(alloc: Global) -> bool {
     let items = Stat::all().map(numbered);
     match StatsSet::try_from_iter(alloc, items) {

@@ -8,7 +8,7 @@ use vortex_stats::error::StatsError;
 use vortex_stats::stat::Stat;
 use vortex_stats::stats_set::{MergeRefused, StatsSet};
 
-/// The entries of a text column but IsConstant, which a merge with `varied` adds.
+// The entries of a text column but IsConstant, which a merge with `varied` adds.
 fn text_entries(alloc: Global, min: &str, max: &str) -> Result<Vec<Entry>, AllocError> {
     let mut entries = Vec::new(alloc);
     push_text(&mut entries, alloc, Stat::Max, max)?;
@@ -20,19 +20,19 @@ fn text_entries(alloc: Global, min: &str, max: &str) -> Result<Vec<Entry>, Alloc
     Ok(entries)
 }
 
-/// The set of them.
+// The set of them.
 fn texts(alloc: Global, min: &str, max: &str) -> Sets {
     sets::of_entries(alloc, text_entries(alloc, min, max)?)
 }
 
-/// The same, and not constant.
+// The same, and not constant.
 fn varied(alloc: Global, min: &str, max: &str) -> Sets {
     let mut set = texts(alloc, min, max)?;
     sets::set(&mut set, Stat::IsConstant, exact(false))?;
     Ok(set)
 }
 
-/// Two sets, the first twice.
+// Two sets, the first twice.
 #[derive(Drop)]
 struct Sides {
     set: StatsSet,
@@ -40,7 +40,7 @@ struct Sides {
     other: StatsSet,
 }
 
-/// The sides, if memory was there.
+// The sides, if memory was there.
 fn all_sides(set: Sets, before: Sets, other: Sets) -> Option<Sides> {
     match (set, before, other) {
         (Ok(set), Ok(before), Ok(other)) => Some(Sides { set, before, other }),
@@ -48,8 +48,8 @@ fn all_sides(set: Sets, before: Sets, other: Sets) -> Option<Sides> {
     }
 }
 
-/// Sides that fit the type, if memory was there. The first set tells that it isn't constant, or
-/// nothing of that.
+// Sides that fit the type, if memory was there. The first set tells that it isn't constant, or
+// nothing of that.
 fn make_sides(alloc: Global, is_told: bool) -> Option<Sides> {
     let (set, before) = if is_told {
         (varied(alloc, "b", "d"), varied(alloc, "b", "d"))
@@ -63,7 +63,7 @@ fn are_same(a: &StatsSet, b: &StatsSet) -> bool {
     a.len() == b.len() && a.iter().zip(b.iter()).all(|(x, y)| *x == *y)
 }
 
-/// Whether the entry is one of the set. This takes no memory.
+// Whether the entry is one of the set. This takes no memory.
 fn has(set: &StatsSet, wanted: &Entry) -> bool {
     set.iter().any(|entry| *entry == *wanted)
 }
@@ -72,12 +72,12 @@ fn has_value(set: &StatsSet, stat: Stat, value: PlainValue) -> bool {
     has(set, &(stat, made(value)))
 }
 
-/// Whether the set has the other's entry of the statistic.
+// Whether the set has the other's entry of the statistic.
 fn has_same(set: &StatsSet, other: &StatsSet, stat: Stat) -> bool {
     other.iter().any(|entry| entry.0 == stat && has(set, entry))
 }
 
-/// The merge took the other's values and IsConstant, and added the counts.
+// The merge took the other's values and IsConstant, and added the counts.
 fn is_merged(set: &StatsSet, other: &StatsSet) -> bool {
     has_value(set, Stat::NullCount, exact(2u64))
         && has_value(set, Stat::UncompressedSizeInBytes, exact(128u64))
@@ -86,12 +86,12 @@ fn is_merged(set: &StatsSet, other: &StatsSet) -> bool {
         && has_same(set, other, Stat::IsConstant)
 }
 
-/// Whether the call was refused for memory and left the set as it was.
+// Whether the call was refused for memory and left the set as it was.
 fn left_all(refused: StatsError, set: &StatsSet, before: &StatsSet) -> bool {
     matches!(refused, StatsError::Memory(_)) && are_same(set, before)
 }
 
-/// Whether the merge took all, or was refused for memory and handed its set back as it was.
+// Whether the merge took all, or was refused for memory and handed its set back as it was.
 fn took_all(answer: Result<StatsSet, MergeRefused>, before: &StatsSet, other: &StatsSet) -> bool {
     match answer {
         Ok(set) => is_merged(&set, other),
@@ -99,7 +99,7 @@ fn took_all(answer: Result<StatsSet, MergeRefused>, before: &StatsSet, other: &S
     }
 }
 
-/// An ordered merge or an unordered one.
+// An ordered merge or an unordered one.
 fn merge(set: StatsSet, other: &StatsSet, is_ordered: bool) -> Result<StatsSet, MergeRefused> {
     if is_ordered {
         sets::merged(set, other, &UTF8)
@@ -108,7 +108,7 @@ fn merge(set: StatsSet, other: &StatsSet, is_ordered: bool) -> Result<StatsSet, 
     }
 }
 
-/// The same of an ordered merge or an unordered one; `None` where the sides were refused.
+// The same of an ordered merge or an unordered one; `None` where the sides were refused.
 fn merges(alloc: Global, is_ordered: bool, is_told: bool) -> Option<bool> {
     let Sides { set, before, other } = make_sides(alloc, is_told)?;
     Some(took_all(merge(set, &other, is_ordered), &before, &other))
@@ -126,7 +126,7 @@ fn merges_where_both_tell_of_constants(rt: HostRuntime) {
     assert!(rt; merges(rt.alloc(), false, true) != Some(false));
 }
 
-/// A merge through a view.
+// A merge through a view.
 fn merge_by_a_view(
     set: &mut StatsSet,
     other: &StatsSet,
@@ -139,8 +139,8 @@ fn merge_by_a_view(
     }
 }
 
-/// Whether the merge through a view took all, or was refused for memory and left the set that is
-/// viewed as it was.
+// Whether the merge through a view took all, or was refused for memory and left the set that is
+// viewed as it was.
 fn viewed_took_all(answer: Result<(), StatsError>, sides: &Sides) -> bool {
     match answer {
         Ok(()) => is_merged(&sides.set, &sides.other),
@@ -148,7 +148,7 @@ fn viewed_took_all(answer: Result<(), StatsError>, sides: &Sides) -> bool {
     }
 }
 
-/// `None` where the sides were refused.
+// `None` where the sides were refused.
 fn merges_viewed(alloc: Global, is_ordered: bool, is_told: bool) -> Option<bool> {
     let mut sides = make_sides(alloc, is_told)?;
     let answer = merge_by_a_view(&mut sides.set, &sides.other, is_ordered);
@@ -167,20 +167,20 @@ fn merges_through_a_view_where_both_tell_of_constants(rt: HostRuntime) {
     assert!(rt; merges_viewed(rt.alloc(), false, true) != Some(false));
 }
 
-/// The first entry, which every set has.
+// The first entry, which every set has.
 fn min_of(alloc: Global, min: &str) -> Sets {
     Ok(sets::one_value(alloc, Stat::Min, text(alloc, min)?))
 }
 
-/// Whether the set has its own minimum, the other's maximum, and so many entries.
+// Whether the set has its own minimum, the other's maximum, and so many entries.
 fn has_extremes(sides: &Sides, count: usize) -> bool {
     sets::len(&sides.set) == count
         && has_same(&sides.set, &sides.before, Stat::Min)
         && has_same(&sides.set, &sides.other, Stat::Max)
 }
 
-/// Whether the combination agreed and took the count of nulls, or conflicted at Min, as it is to
-/// do, and took nothing that follows; or it was refused for memory with the set as it was.
+// Whether the combination agreed and took the count of nulls, or conflicted at Min, as it is to
+// do, and took nothing that follows; or it was refused for memory with the set as it was.
 fn is_combined(answer: Result<(), StatsError>, sides: &Sides, agrees: bool) -> bool {
     match answer {
         Ok(()) => {
@@ -193,20 +193,20 @@ fn is_combined(answer: Result<(), StatsError>, sides: &Sides, agrees: bool) -> b
     }
 }
 
-/// A maximum, a minimum and a count of nulls, in this order.
+// A maximum, a minimum and a count of nulls, in this order.
 fn extremes_and_nulls(alloc: Global, min: &str) -> Sets {
     let mut set = set_of_texts(alloc, (Stat::Max, "m"), (Stat::Min, min))?;
     sets::set(&mut set, Stat::NullCount, exact(0u64))?;
     Ok(set)
 }
 
-/// The sides of a minimum that is combined with a maximum, a minimum and a count of nulls.
+// The sides of a minimum that is combined with a maximum, a minimum and a count of nulls.
 fn combination_sides(alloc: Global, min: &str) -> Option<Sides> {
     let other = extremes_and_nulls(alloc, min);
     all_sides(min_of(alloc, "e"), min_of(alloc, "e"), other)
 }
 
-/// The same of that combination; `None` where the sides were refused.
+// The same of that combination; `None` where the sides were refused.
 fn combines(alloc: Global, min: &str, agrees: bool) -> Option<bool> {
     let mut sides = combination_sides(alloc, min)?;
     let answer = sets::combine(&mut sides.set, &sides.other, &UTF8);

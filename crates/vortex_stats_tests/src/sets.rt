@@ -12,7 +12,7 @@ use vortex_stats::precision::Precision;
 use vortex_stats::stat::Stat;
 use vortex_stats::stats_set::{StatsArray, StatsSet};
 
-/// Max 100 and then Min 42, which the caller knows to be of two statistics.
+// Max 100 and then Min 42, which the caller knows to be of two statistics.
 fn unchecked(alloc: Global) -> Sets {
     let mut entries: StatsArray = SmallVec::new(alloc);
     entries.push((Stat::Max, made(exact(100))))?;
@@ -20,7 +20,7 @@ fn unchecked(alloc: Global) -> Sets {
     Ok(StatsSet::new_unchecked(alloc, entries))
 }
 
-/// Whether this is an entry of the statistic with exactly the number.
+// Whether this is an entry of the statistic with exactly the number.
 fn is_entry(entry: &Entry, stat: Stat, number: i32) -> bool {
     *entry == (stat, made(exact(number)))
 }
@@ -39,7 +39,7 @@ fn is_next_lent(entry: Option<&Entry>, stat: Stat, number: i32) -> bool {
     }
 }
 
-/// Whether the iterator by reference gives Max 100 and then Min 42, and ends.
+// Whether the iterator by reference gives Max 100 and then Min 42, and ends.
 fn lends_both(set: &StatsSet) -> bool {
     let mut entries = set.iter();
     let first = is_next_lent(entries.next(), Stat::Max, 100);
@@ -47,7 +47,7 @@ fn lends_both(set: &StatsSet) -> bool {
     first && second && entries.next().is_none()
 }
 
-/// Whether the iterator by value does.
+// Whether the iterator by value does.
 fn gives_both(set: StatsSet) -> bool {
     let mut entries = set.into_iter();
     let first = is_next(entries.next(), Stat::Max, 100);
@@ -59,7 +59,7 @@ fn count(set: &StatsSet) -> usize {
     counted(set)
 }
 
-/// Whether the set is of Max and then Min.
+// Whether the set is of Max and then Min.
 fn is_of_both(alloc: Global, set: &StatsSet) -> bool {
     match statistics_of(alloc, set) {
         Ok(stats) => are(stats.as_slice(), &[Stat::Max, Stat::Min]),
@@ -67,12 +67,12 @@ fn is_of_both(alloc: Global, set: &StatsSet) -> bool {
     }
 }
 
-/// Whether the set is of Max 100 and Min 42 by all its iterators.
+// Whether the set is of Max 100 and Min 42 by all its iterators.
 fn has_both(alloc: Global, set: StatsSet) -> bool {
     lends_both(&set) && count(&set) == 2 && is_of_both(alloc, &set) && gives_both(set)
 }
 
-/// Whether that is so of the set whose statistics are not checked.
+// Whether that is so of the set whose statistics are not checked.
 fn has_both_unchecked(alloc: Global) -> bool {
     match unchecked(alloc) {
         Ok(set) => has_both(alloc, set),
@@ -85,21 +85,21 @@ fn iterators(rt: HostRuntime) {
     assert!(rt; has_both_unchecked(rt.alloc()));
 }
 
-/// Whether a `for` over a copy of the set gives these rows, in order.
+// Whether a `for` over a copy of the set gives these rows, in order.
 fn loops_over(alloc: Global, set: &StatsSet, rows: &[Row]) -> Result<bool, StatsError> {
     let expected = entries(alloc, rows)?;
     let entries = entries_of(alloc, set.try_clone()?)?;
     Ok(are(entries.as_slice(), expected.as_slice()))
 }
 
-/// Max, then Min; Max was set twice.
+// Max, then Min; Max was set twice.
 fn set_twice(alloc: Global) -> Sets {
     let mut set = sets::of(alloc, &[(Stat::Max, exact(1)), (Stat::Min, exact(0))])?;
     sets::set(&mut set, Stat::Max, inexact(4))?;
     Ok(set)
 }
 
-/// Whether the first entry has the value that was set last, and keeps its place.
+// Whether the first entry has the value that was set last, and keeps its place.
 fn keeps_places(alloc: Global) -> Result<bool, StatsError> {
     let set = set_twice(alloc)?;
     let rows = [(Stat::Max, inexact(4)), (Stat::Min, exact(0))];
@@ -111,14 +111,14 @@ fn places(rt: HostRuntime) {
     assert!(rt; is_yes(keeps_places(rt.alloc())));
 }
 
-/// Takes all but two statistics out.
+// Takes all but two statistics out.
 fn retain_two(set: &mut StatsSet) -> Result<(), StatsError> {
     sets::set(set, Stat::Sum, Precision::Absent)?;
     sets::retain_only(set, &[Stat::Sum, Stat::Max]);
     Ok(())
 }
 
-/// A copy of which all but two statistics are taken out.
+// A copy of which all but two statistics are taken out.
 fn retained(alloc: Global) -> Sets {
     let mut set = sets::copy(&set_twice(alloc)?)?;
     retain_two(&mut set)?;
@@ -145,18 +145,18 @@ fn cleared_entries_are_gone(rt: HostRuntime) {
     assert!(rt; sets::is(alloc, cleared(alloc), &[(Stat::Min, exact(0))]));
 }
 
-/// The set of a Max that is Absent.
+// The set of a Max that is Absent.
 fn absent_max(alloc: Global) -> StatsSet {
     sets::one(alloc, Stat::Max, Precision::Absent)
 }
 
-/// Whether that set counts its entry.
+// Whether that set counts its entry.
 fn counts_absent(alloc: Global) -> bool {
     let set = absent_max(alloc);
     sets::len(&set) == 1 && !sets::is_empty(&set)
 }
 
-/// Whether Absent is found in that set at the statistic.
+// Whether Absent is found in that set at the statistic.
 fn finds_absent(alloc: Global, stat: Stat) -> bool {
     sets::has(&absent_max(alloc), stat, Precision::Absent)
 }
@@ -173,7 +173,7 @@ fn absent_entries(rt: HostRuntime) {
     assert!(rt; is_empty_at_first(rt.alloc()));
 }
 
-/// Max 1, Min 0 and Max inexactly 4.
+// Max 1, Min 0 and Max inexactly 4.
 fn three_items(alloc: Global) -> Result<Vec<Entry>, AllocError> {
     entries(
         alloc,
@@ -185,14 +185,14 @@ fn three_items(alloc: Global) -> Result<Vec<Entry>, AllocError> {
     )
 }
 
-/// The set of Min 7, extended by the items.
+// The set of Min 7, extended by the items.
 fn extended(alloc: Global) -> Sets {
     let mut set = sets::one(alloc, Stat::Min, exact(7));
     set.try_extend(three_items(alloc)?.into_iter())?;
     Ok(set)
 }
 
-/// The set of the items alone.
+// The set of the items alone.
 fn from_items(alloc: Global) -> Sets {
     match StatsSet::try_from_iter(alloc, three_items(alloc)?.into_iter()) {
         Ok(set) => Ok(set),
@@ -209,7 +209,7 @@ fn items(rt: HostRuntime) {
     assert!(rt; sets::is(alloc, from_items(alloc), &rows));
 }
 
-/// Whether a Max of the number is read as a `u8` under the type: by what, or as a Mismatch.
+// Whether a Max of the number is read as a `u8` under the type: by what, or as a Mismatch.
 fn reads(set: &StatsSet, stat: Stat, expected: Option<Precision<u8>>) -> bool {
     match set.get_as::<u8>(stat, &I32) {
         Ok(read) => expected == Some(read),
@@ -218,12 +218,12 @@ fn reads(set: &StatsSet, stat: Stat, expected: Option<Precision<u8>>) -> bool {
     }
 }
 
-/// Whether an exact Max of the number is read so at the statistic.
+// Whether an exact Max of the number is read so at the statistic.
 fn reads_max(alloc: Global, max: i32, stat: Stat, expected: Option<Precision<u8>>) -> bool {
     reads(&sets::one(alloc, Stat::Max, exact(max)), stat, expected)
 }
 
-/// Whether an exact Max of 200 is refused under the type of texts.
+// Whether an exact Max of 200 is refused under the type of texts.
 fn is_refused_as_text(alloc: Global) -> bool {
     let set = sets::one(alloc, Stat::Max, exact(200));
     is_mismatch(sets::get_as::<u8>(&set, Stat::Max, &UTF8))
@@ -245,7 +245,7 @@ fn is_inexact_text(read: Precision<String>, text: &str) -> bool {
     }
 }
 
-/// Whether an inexact Min of this text is read as it.
+// Whether an inexact Min of this text is read as it.
 fn reads_text(alloc: Global, text: &str) -> Result<bool, StatsError> {
     let set = sets::one_value(alloc, Stat::Min, Precision::Inexact(name(alloc, text)?));
     Ok(is_inexact_text(sets::get_as::<String>(&set, Stat::Min, &UTF8)?, text))
@@ -256,12 +256,12 @@ fn readings_of_texts(rt: HostRuntime) {
     assert!(rt; is_yes(reads_text(rt.alloc(), "a name")));
 }
 
-/// Whether NaNCount may have this value in a column of I32.
+// Whether NaNCount may have this value in a column of I32.
 fn may_be_nan_count(value: PlainValue) -> bool {
     StatsSet::value_fits(Stat::NaNCount, &I32, &made(value))
 }
 
-/// Whether the set of the value fits the type.
+// Whether the set of the value fits the type.
 fn fits(alloc: Global, stat: Stat, value: PlainValue, dtype: &DType) -> bool {
     sets::fits(&sets::one(alloc, stat, value), dtype)
 }

@@ -19,12 +19,12 @@ const NAMES: [&str; 9] = [
     "nan_count",
 ];
 
-/// The number of statistics.
+// The number of statistics.
 fn count() -> usize {
     Stat::all().count()
 }
 
-/// Whether the statistic has the name, also as a text, and is found by its number.
+// Whether the statistic has the name, also as a text, and is found by its number.
 fn is_named(alloc: Global, stat: Stat, name: &str) -> Result<bool, Fail> {
     let shown = format!(in alloc; "{stat}")?;
     Ok(
@@ -34,7 +34,7 @@ fn is_named(alloc: Global, stat: Stat, name: &str) -> Result<bool, Fail> {
     )
 }
 
-/// Whether each statistic has its name.
+// Whether each statistic has its name.
 fn are_named(alloc: Global) -> Result<bool, Fail> {
     let mut are_named = true;
     for (stat, name) in Stat::all().zip(NAMES) {
@@ -53,8 +53,8 @@ fn names(rt: HostRuntime) -> Result<(), Fail> {
     Ok(())
 }
 
-/// Whether the statistic keeps the column's type and commutes as told, and its aggregate, which it
-/// has as told, tells it again.
+// Whether the statistic keeps the column's type and commutes as told, and its aggregate, which it
+// has as told, tells it again.
 fn is_kind(stat: Stat, is_extreme: bool, is_order: bool) -> bool {
     let told = stat
         .aggregate_fn()
@@ -95,7 +95,7 @@ const NUMBER: DType = DType::Primitive(PType::I32, PLAIN);
 
 const COUNT: DType = DType::Primitive(PType::U64, PLAIN);
 
-/// Whether this is the statistic's type in a column of the type.
+// Whether this is the statistic's type in a column of the type.
 fn has_type(stat: Stat, column: DType, expected: Option<DType>) -> bool {
     stat.dtype(&column) == expected
 }
@@ -115,7 +115,7 @@ fn types(rt: HostRuntime) {
     assert!(rt; has_type(Stat::NaNCount, NUMBER, None));
 }
 
-/// Whether Max and Min have the column's own type.
+// Whether Max and Min have the column's own type.
 fn have_own_type(column: DType) -> bool {
     has_type(Stat::Max, column, Some(column)) && has_type(Stat::Min, column, Some(column))
 }

@@ -146,7 +146,7 @@ pub fn text(alloc: Global, first: &str) -> Result<Value, AllocError> {
     Ok(Precision::Exact(ScalarValue::Utf8(Text::new(text))))
 }
 
-/// The scalar of a value and its type.
+// The scalar of a value and its type.
 fn scalar(dtype: DType, value: ScalarValue) -> Result<Scalar, StatsError> {
     match Scalar::try_new(dtype, Some(value)) {
         Ok(scalar) => Ok(scalar),
@@ -154,7 +154,7 @@ fn scalar(dtype: DType, value: ScalarValue) -> Result<Scalar, StatsError> {
     }
 }
 
-/// Whether the scalar was found as this one.
+// Whether the scalar was found as this one.
 fn is_found<E: Drop>(found: Result<Precision<Scalar>, E>, expected: Precision<Scalar>) -> bool {
     match found {
         Ok(found) => found == expected,

@@ -11,8 +11,8 @@ ghost use Rattle.vortex_stats.specs.Bounds.LowerBound.{lower_allows, lower_union
 ghost use Rattle.vortex_stats.specs.Bounds.PointBound.{point_allows, point_union, point_intersection};
 ghost use Rattle.vortex_stats.specs.Bounds.Tightest.{leaf, fork, tree_union, IsTightestAt, IsGreatestOf, IsLeastOf};
 
-/// Three upper bounds in several groupings and orders: the greatest value is exact where an exact
-/// bound has it, whatever the others are.
+// Three upper bounds in several groupings and orders: the greatest value is exact where an exact
+// bound has it, whatever the others are.
 fn upper_groupings()
     ensures right { tree_union (upper_union nat_cmp)
         (fork (leaf (Inexact 10)) (fork (leaf (Exact 12)) (leaf (Inexact 12)))) ≡ Some (Exact 12) }
@@ -25,7 +25,7 @@ fn upper_groupings()
         (fork (leaf (Exact 12)) (leaf Absent)) ≡ None }
 {}
 
-/// The same of lower bounds, with the least value.
+// The same of lower bounds, with the least value.
 fn lower_groupings()
     ensures right { tree_union (lower_union nat_cmp)
         (fork (leaf (Inexact 7)) (fork (leaf (Exact 5)) (leaf (Inexact 5)))) ≡ Some (Exact 5) }
@@ -35,7 +35,7 @@ fn lower_groupings()
         (fork (leaf (Exact 5)) (fork (leaf (Inexact 4)) (leaf (Exact 6)))) ≡ Some (Inexact 4) }
 {}
 
-/// A bound that is inexact without need, or that lies further out, is not the tightest.
+// A bound that is inexact without need, or that lies further out, is not the tightest.
 fn looser_bounds_are_not_tightest()
     ensures exact { ¬ IsTightestAt (upper_allows nat_cmp) (greater nat_cmp)
         (Exact 10) (Exact 12) (Inexact 12) }
@@ -47,8 +47,8 @@ fn looser_bounds_are_not_tightest()
         (Exact 10) (Exact 12) (Inexact 10) }
 {}
 
-/// A bound that is inexact where an exact one has the greatest value, or exact where none has, or
-/// that has another value, is not the union of many.
+// A bound that is inexact where an exact one has the greatest value, or exact where none has, or
+// that has another value, is not the union of many.
 fn other_bounds_are_not_the_greatest()
     ensures inexact { ¬ IsGreatestOf nat_cmp (Exact 10 ∷ Exact 12 ∷ []) (Inexact 12) }
     ensures exact { ¬ IsGreatestOf nat_cmp (Exact 10 ∷ Inexact 12 ∷ []) (Exact 12) }
@@ -56,8 +56,8 @@ fn other_bounds_are_not_the_greatest()
     ensures greater { ¬ IsLeastOf nat_cmp (Exact 10 ∷ Exact 12 ∷ []) (Exact 12) }
 {}
 
-/// A union, or an intersection, that is never exact is none, also where an inexact bound allows
-/// everything.
+// A union, or an intersection, that is never exact is none, also where an inexact bound allows
+// everything.
 fn always_inexact_bounds_break_the_laws()
     ensures union { ¬ IsUnion (point_allows nat_cmp) (lesser nat_cmp)
         (λ a b. option_map inexact_of (point_union nat_cmp a b)) }
