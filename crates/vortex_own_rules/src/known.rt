@@ -1,12 +1,15 @@
 //! A binder that answers what it was told, and a scan by such binders.
-ghost use Rattle.std.specs.Prelude.{◌≡◌, All, IfOk, IsTrue, MatchResult, false, length};
+ghost use Rattle.std.specs.Prelude.{◌≡◌, [], All, Err, IfErr, IfOk, IsTrue, MatchResult, false, length};
 ghost use Rattle.vortex_base.specs.Meanings.Fitting.{fits_scope};
 ghost use Rattle.vortex_base.specs.Trees.Tree.{is_plain};
 ghost use Rattle.vortex_own_rules.specs.Known.{KnownFactsAreHonest, is_for as is_for_of};
 ghost use Rattle.vortex_own_rules.specs.Known.{known_answer as known_answer_of};
 ghost use Rattle.vortex_own_rules.specs.KnownParts.{AreKnown};
 ghost use Rattle.vortex_prune.specs.Scanning.Selection.{full};
+ghost use Rattle.vortex_rewrite.specs.Answers.{IsMemory};
 ghost use Rattle.vortex_rewrite.specs.HookFaults.{IsHookFault};
+ghost use Rattle.vortex_rewrite.specs.Rewriting.Predicates.{is_predicate};
+ghost use Rattle.vortex_stats.specs.declared.error.StatsError.TheVariants.{NotPredicate};
 
 use std::alloc::Global;
 use vortex_base::{AggregateFnRef, BoundExpression, DType, Scalar, bound};
@@ -111,6 +114,10 @@ pub fn scan_by_known(
     requires fits { All (λ part. IsTrue (fits_scope predicate.now part.chunk.scope)) parts.now }
     ensures selected { AreKnown parts.now told.now
         → IfOk result (λ scan. scan.selected.items ≡ full predicate.now parts.now) }
+    // Such binders have no faults of their own, so by built-in rules memory alone is refused.
+    ensures memory { IsTrue (is_predicate predicate.now) → rules.now.own.items ≡ []
+        → IfErr result IsMemory }
+    ensures not_predicate { is_predicate predicate.now ≡ false → result ≡ Err NotPredicate }
 {
     scan(alloc, parts, told, predicate, rules)
 }
