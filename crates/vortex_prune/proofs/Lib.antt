@@ -1,4 +1,5 @@
 pub mod Binding
+pub mod Chosen
 pub mod Honesty
 pub mod Scanning
 pub mod WorkedRows

@@ -1,5 +1,6 @@
 -- Worked rows, found by computation alone.
 pub mod AskingRows
+pub mod ChosenRows
 pub mod CompleteRows
 pub mod HonestRows
 pub mod LeafRows

@@ -1,5 +1,7 @@
 pub mod Binding
+pub mod Choosing
 pub mod Laws
 pub mod Part
 pub mod Scanning
+pub mod ZoneSets
 pub mod Zones

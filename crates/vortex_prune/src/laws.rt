@@ -1,6 +1,7 @@
 //! Laws of pruning, in the words of its definitions. The functions carry them by their contracts.
 ghost use Rattle.std.specs.Prelude.{◌≡◌, ℕ, List, false};
 ghost use Rattle.std.specs.List.{AllByRecursion};
+ghost use Rattle.vortex_prune.specs.Choosing.{ChosenSetsStayTrue};
 ghost use Rattle.vortex_prune.specs.Scanning.Complete.{FalsifiersAreComplete};
 ghost use Rattle.vortex_prune.specs.Laws.{LiteralsAreAnswers, NullsAreAnswers, StatisticsAreHonest};
 ghost use Rattle.vortex_prune.specs.Part.{AreParts, IsTruePart, PartData};
@@ -40,4 +41,10 @@ pub fn statistics_binders_are_honest<'a>()
 pub fn literals_are_answers()
     ensures literals { LiteralsAreAnswers }
     ensures nulls { NullsAreAnswers }
+{}
+
+/// Sets that are true of the columns beside them stay so beside the columns that are chosen, as
+/// pruning by zones of chosen columns asks of the rows that they tell of.
+pub fn chosen_sets_stay_true()
+    ensures { ChosenSetsStayTrue }
 {}

@@ -2,16 +2,15 @@
 ghost use Rattle.std.specs.Prelude.{◌≡◌, ◌<◌, IfErr, IfOk, IsOk, IsTrue, length, slice_get, Some};
 ghost use Rattle.vortex_base.specs.Data.Columns.{IsChunk};
 ghost use Rattle.vortex_stats.specs.declared.error.StatsError.TheVariants.{Mismatch};
-ghost use Rattle.vortex_prune.specs.Part.{IsPart, fits_zone, sets_fit, zone_of};
+ghost use Rattle.vortex_prune.specs.Part.{IsPart, sets_fit, zone_of};
 
 mod join;
 mod measure;
 
-use crate::zone::Zone;
+use crate::zone::{Zone, sets_fit};
 use std::alloc::AllocError;
 use std::marker::Model;
 use vortex_base::chunk::Chunk;
-use vortex_base::scope::Scope;
 use vortex_stats::error::StatsError;
 use vortex_stats::stats_set::StatsSet;
 
@@ -43,27 +42,12 @@ pub struct PartRefused {
     pub stats: Vec<StatsSet>,
 }
 
-// Whether there is one set a column of a scope that fits its type.
-pub(crate) fn sets_fit(scope: &Scope, stats: &[StatsSet]) -> bool
-    ensures { result ≡ fits_zone scope.now stats.now }
-{
-    if scope.len() != stats.len() {
-        return false;
-    }
-    for (i, set) in stats.iter().enumerate() {
-        if !set.fits(&scope.dtype(i)) {
-            return false;
-        }
-    }
-    true
-}
-
 // Whether there is one set a column of a chunk that fits its type.
 fn chunk_fits(chunk: &Chunk, stats: &[StatsSet]) -> bool
     ensures value { result ≡ sets_fit chunk.now.columns stats.now }
     ensures is_chunk { IsChunk chunk.now }
 {
-    sets_fit(chunk.scope(), stats)
+    sets_fit(chunk.scope(), &Zone::new(0, stats))
 }
 
 impl Part {

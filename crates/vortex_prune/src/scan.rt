@@ -20,6 +20,7 @@ ghost use Rattle.vortex_rewrite.specs.Rewriting.Falsifiers.{satisfier as satisfi
 ghost use Rattle.vortex_stats.specs.declared.error.StatsError.TheVariants.{NotPredicate};
 ghost use Rattle.vortex_rewrite.specs.Answers.{IsMemory};
 
+mod by_binders;
 mod columns;
 mod leaf;
 mod marks;
@@ -27,15 +28,14 @@ pub mod outcome;
 mod part_scan;
 pub mod prune;
 mod select;
-mod skip;
 pub(crate) mod verdict;
 pub mod zones;
 
 use crate::bind::stat_binder::StatBinder;
 use crate::part::Part;
+use crate::scan::by_binders::verdict;
 use crate::scan::outcome::Scan;
 use crate::scan::part_scan::{PartTest, scan_parts};
-use crate::scan::skip::verdict;
 use crate::scan::verdict::Verdict;
 use std::alloc::Global;
 use vortex_base::bound_expression::BoundExpression;

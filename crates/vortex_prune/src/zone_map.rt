@@ -15,9 +15,8 @@ ghost use Rattle.vortex_prune.specs.Zones.{zone_map, zone_table, zone_value};
 ghost use Rattle.vortex_rewrite.specs.Answers.{IsMemory};
 ghost use Rattle.vortex_stats.specs.declared.error.StatsError.TheVariants.{Memory, Mismatch};
 
-use crate::part::sets_fit;
 use crate::stat_fn::stat_value;
-use crate::zone::Zone;
+use crate::zone::{Zone, sets_fit};
 use std::alloc::{AllocError, Global};
 use std::marker::Model;
 use vortex_base::aggregate::AggregateFnRef;
@@ -336,7 +335,7 @@ fn zones_fit(scope: &Scope, zones: &[Zone<'_>]) -> bool
     ensures { result ≡ zones_fit scope.now zones.now }
 {
     for zone in zones {
-        if !sets_fit(scope, zone.stats()) {
+        if !sets_fit(scope, zone) {
             return false;
         }
     }
@@ -492,7 +491,7 @@ impl ZoneMap {
         ensures error { IfErr result (λ f. MatchBool (fits_zone self.old.scope zone.now.stats)
             (IsMemory f) (f ≡ Mismatch)) }
     {
-        if !sets_fit(&self.scope, zone.stats()) {
+        if !sets_fit(&self.scope, zone) {
             return Err(StatsError::Mismatch);
         }
         let values = row_of(alloc, &self.scope, zone)?;

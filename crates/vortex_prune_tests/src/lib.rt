@@ -3,6 +3,8 @@
 
 #[cfg(test)]
 mod bind;
+#[cfg(test)]
+mod choosing;
 pub mod hooks;
 #[cfg(test)]
 mod part;

@@ -13,9 +13,9 @@ ghost use Rattle.vortex_base.specs.declared.dtype.DType.{DType};
 ghost use Rattle.vortex_stats.specs.declared.error.StatsError.TheVariants.{Mismatch};
 
 use crate::bind::stat_binder::StatBinder;
-use crate::part::{Part, sets_fit};
+use crate::part::Part;
 use crate::stat_fn::scalar_of;
-use crate::zone::Zone;
+use crate::zone::{Zone, sets_fit};
 use std::alloc::{AllocError, Global};
 use std::marker::Model;
 use vortex_base::aggregate::AggregateFnRef;
@@ -194,7 +194,7 @@ impl<'a> ZoneStatsBinder<'a> {
             → IsHonestOver (⟦<ZoneStatsBinder<'a> as StatBinder>⟧.is_faithful_over b)
             (⟦<ZoneStatsBinder<'a> as StatBinder>⟧.value b) row part.chunk) }
     {
-        if !sets_fit(scope, zone.stats()) {
+        if !sets_fit(scope, zone) {
             return Err(StatsError::Mismatch);
         }
         Ok(ZoneStatsBinder { scope, zone })

@@ -1,10 +1,11 @@
-use Rattle.std.proofs.Common.{◌<◌, ap, length, refl, subst, sym, ◌∙◌}
-use Rattle.std.proofs.lemmas.Option.{slice_get_read}
-use Rattle.std.specs.Prelude.{slice_get}
+use Rattle.std.proofs.Common.{◌<◌, ap, length, subst, sym, ◌∙◌}
+use Rattle.vortex_prune.proofs.Chosen.ChosenColumns.{chosen_long}
 use Rattle.vortex_prune.specs.Part.{ZoneData}
+use Rattle.vortex_prune.specs.ZoneSets.{AreWithin, all_sets}
 use Rattle.vortex_prune.proofs.zone.Zone.set.Goals as goal
 
-pub returns : goal.returns
-returns c =
-    let within = subst (λ (z : ZoneData). c.args.i < length z.stats) (sym c.self.view_is) c.requires in
-    ap (λ (z : ZoneData). slice_get z.stats c.args.i) (sym c.self.view_is) ∙ slice_get_read c.self.inside.stats.now (length c.self.inside.stats.now) c.args.i _ refl within c.index-sets-i.is
+pub set_chosen-requires-clause-there : goal.set_chosen-requires-clause-there
+set_chosen-requires-clause-there c =
+    let within = subst AreWithin c.in-At.is c.self.invariant in
+    let long = sym (ap (λ (z : ZoneData). length z.stats) c.self.view_is) ∙ ap (λ s. length (all_sets s)) c.in-At.is ∙ chosen_long c.in-At.sets.now c.in-At.places.now within in
+    subst (λ n. c.args.i < n) long c.requires

@@ -1,5 +1,5 @@
 -- The row of the table for the zone fits, and the map with it is kept.
-use Rattle.std.proofs.Common.{◌≡◌, ◌++◌, [], ◌∷◌, ap, map, subst, sym, true, ◌∙◌}
+use Rattle.std.proofs.Common.{◌≡◌, ◌++◌, [], ◌∷◌, ap, subst, sym, true, ◌∙◌}
 use Rattle.vortex_base.specs.Data.Columns.{row_fits}
 use Rattle.vortex_prune.proofs.ZoneMaps.ZonePushed.{memory_alone, pushed_again, pushed_is_kept, pushed_is_of, row_fits_table, table_pushed}
 use Rattle.vortex_prune.specs.Part.{fits_zone}
@@ -13,7 +13,7 @@ invariant_of-self-in-Ok c =
     let zone = c.args.zone.now in
     let starts = c.self.inside.starts.items in
     let is = c.rows-rows.ensures.is_chunk in
-    let fits : fits_zone m.scope zone.stats ≡ true = ap (fits_zone m.scope) (sym c.stats.ensures) ∙ sym c.sets_fit.ensures ∙ c.if-not-sets_fit.false in
+    let fits : fits_zone m.scope zone.stats ≡ true = sym c.sets_fit.ensures ∙ c.if-not-sets_fit.false in
     let told = c.in_ok-values.ensures.row in
     let row : row_fits m.table.columns c.in_ok-values.values.items ≡ true = ap (row_fits m.table.columns) told ∙ row_fits_table zone m starts is c.self.invariant fits in
     let rows = c.push_reserved.ensures.items ∙ ap (λ l. l ++ c.rows.result ∷ []) c.in_ok-reserve.ensures.items ∙ ap (λ n. m.rows ++ n ∷ []) c.rows.ensures in
@@ -24,7 +24,7 @@ pub built-requires : goal.built-requires
 built-requires c =
     let m = the_view c.self.inside in
     let zone = c.args.zone.now in
-    let fits : fits_zone m.scope zone.stats ≡ true = ap (fits_zone m.scope) (sym c.stats.ensures) ∙ sym c.sets_fit.ensures ∙ c.if-not-sets_fit.false in
+    let fits : fits_zone m.scope zone.stats ≡ true = sym c.sets_fit.ensures ∙ c.if-not-sets_fit.false in
     let told = c.in_ok-values.ensures.row in
     memory_alone m.table c.in_ok-values.values.items c.in-Err.refused (ap (row_fits m.table.columns) told ∙ row_fits_table zone m c.self.inside.starts.items c.rows-rows.ensures.is_chunk c.self.invariant fits) c.in-Err.ensures.error
 
@@ -34,7 +34,7 @@ returns-in-Ok-clause-is_map c = λ known h.
     let zone = c.args.zone.now in
     let starts = c.self.inside.starts.items in
     let is = c.rows-rows.ensures.is_chunk in
-    let fits : fits_zone m.scope zone.stats ≡ true = ap (fits_zone m.scope) (sym c.stats.ensures) ∙ sym c.sets_fit.ensures ∙ c.if-not-sets_fit.false in
+    let fits : fits_zone m.scope zone.stats ≡ true = sym c.sets_fit.ensures ∙ c.if-not-sets_fit.false in
     let told = c.in_ok-values.ensures.row in
     let row : row_fits m.table.columns c.in_ok-values.values.items ≡ true = ap (row_fits m.table.columns) told ∙ row_fits_table zone m starts is c.self.invariant fits in
     let rows = c.push_reserved.ensures.items ∙ ap (λ l. l ++ c.rows.result ∷ []) c.in_ok-reserve.ensures.items ∙ ap (λ n. m.rows ++ n ∷ []) c.rows.ensures in

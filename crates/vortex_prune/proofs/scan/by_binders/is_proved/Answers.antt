@@ -4,7 +4,7 @@ use Rattle.vortex_base.specs.Data.Columns.{row_count}
 use Rattle.vortex_base.specs.Meanings.Meaning.{is_true, meaning}
 use Rattle.vortex_prune.proofs.Binding.ProofLemmas.{closed_fits, closed_free, closed_proves, open_is_bare}
 use Rattle.vortex_prune.specs.Binding.BoundTo.{Replaces}
-use Rattle.vortex_prune.proofs.scan.skip.is_proved.Goals as goal
+use Rattle.vortex_prune.proofs.scan.by_binders.is_proved.Goals as goal
 
 pub returns-then-not-is_closed-clause-faithful : goal.returns-then-not-is_closed-clause-faithful
 returns-then-not-is_closed-clause-faithful g c = λ faithful.

@@ -1,4 +1,4 @@
-//! What becomes of a part: its proofs are bound to what its binder answers, and evaluated.
+//! What becomes of a part by its binder: the proofs are bound to what that answers, and evaluated.
 ghost use Rattle.std.specs.Prelude.{◌≡◌, false, true, IfOk, IfErr, IsTrue, Some, alloc_error, option_copied};
 ghost use Rattle.vortex_base.specs.Data.Columns.{row_count};
 ghost use Rattle.vortex_base.specs.Meanings.Fitting.{fits_row};

@@ -1,0 +1,2 @@
+-- On chosen columns.
+pub mod ChosenColumns
