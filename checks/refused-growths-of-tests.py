@@ -2,7 +2,8 @@
 # Refuses the Nth request for memory of each test of a library that is named for refusals, N = 1, 2, .. until it meets none.
 # Such a test accepts a refusal within the call that it tests, with what the call has to leave behind; one that comes
 # while the test builds its values ends it with an error, which says nothing. A failed assertion is a wrong answer.
-# usage: checks/refused-growths-of-tests.py CRATE ..
+# usage: checks/refused-growths-of-tests.py [--built] CRATE ..    --built takes the programs that the gate left here in
+# place of proving and building them anew
 import os
 import subprocess
 import sys
@@ -13,11 +14,12 @@ from both import TOP
 SECONDS = 60
 
 
-def built_tests(crate):
+def built_tests(crate, is_built):
     """The built tests of a crate, by name."""
     folder = os.path.join(TOP, "crates", crate)
     program = os.path.join(folder, "out", f"{crate}_tests")
-    subprocess.run(["rt", "test", "--jobs", "2"], cwd=folder, stdout=subprocess.DEVNULL, stderr=subprocess.DEVNULL, check=True)
+    if not is_built:
+        subprocess.run(["rt", "test", "--jobs", "2"], cwd=folder, stdout=subprocess.DEVNULL, stderr=subprocess.DEVNULL, check=True)
     listed = subprocess.run([program, "--list"], capture_output=True, check=True, text=True).stdout
     names = [line.removesuffix(": test") for line in listed.splitlines() if line.endswith(": test")]
     return program, [name for name in names if "refused" in name]
@@ -40,8 +42,9 @@ def refusals(library, program, name):
 def main():
     library = shim.build()
     passed = failed = 0
-    for crate in sys.argv[1:]:
-        program, names = built_tests(crate)
+    crates = [word for word in sys.argv[1:] if word != "--built"]
+    for crate in crates:
+        program, names = built_tests(crate, len(crates) < len(sys.argv[1:]))
         for name in names:
             accepted, ended, fault = refusals(library, program, name)
             passed += fault is None

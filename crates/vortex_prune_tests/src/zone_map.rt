@@ -119,7 +119,7 @@ fn is_not_predicate(found: Result<Pruned, StatsError>) -> bool {
 }
 
 #[test]
-fn what_is_no_predicate_is_refused(rt: HostRuntime) -> Result<(), Fail> {
+fn what_is_no_predicate_is_told(rt: HostRuntime) -> Result<(), Fail> {
     let alloc = rt.alloc();
     assert!(rt; is_not_predicate(pruned(alloc, 100, no_sets(alloc), a(alloc))));
     assert!(rt; is_not_predicate(pruned(alloc, 100, three_zones(alloc), a(alloc))));
