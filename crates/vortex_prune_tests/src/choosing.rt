@@ -1,5 +1,6 @@
 //! Zones of chosen columns, and maps of them beside those of sets that were narrowed by hand.
 use crate::testing::*;
+use crate::zone_map::append;
 use std::alloc::Global;
 use std::test::Fail;
 use vortex_base::Scope;
@@ -133,7 +134,7 @@ fn chosen_zones_are_added(rt: HostRuntime) -> Result<(), Fail> {
     let zone = Zone::of_columns(9, &sets, &places).expect(&rt, "The place is that of a set.");
     map.push(alloc, &zone)?;
     map.extend(alloc, &[zone])?;
-    map.append(&mut more)?;
+    append(&mut map, &mut more)?;
     assert!(rt; map.len() == 4);
     let whole = Zone::new(9, &sets);
     assert!(rt; matches!(map.push(alloc, &whole), Err(StatsError::Mismatch)));

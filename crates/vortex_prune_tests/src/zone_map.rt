@@ -271,7 +271,7 @@ fn is_empty(alloc: Global, map: &ZoneMap) -> Result<bool, StatsError> {
 }
 
 // The zones of the other map behind those of the one, if they are of one scope.
-fn append(one: &mut ZoneMap, other: &mut ZoneMap) -> Result<(), StatsError> {
+pub(crate) fn append(one: &mut ZoneMap, other: &mut ZoneMap) -> Result<(), StatsError> {
     if *one.scope() == *other.scope() {
         one.append(other)
     } else {
