@@ -72,16 +72,17 @@ fn is_same(alloc: Global, one: &ZoneMap, other: &ZoneMap) -> Result<bool, StatsE
     Ok(format!(in alloc; "{one:?}")? == format!(in alloc; "{other:?}")?)
 }
 
-// Whether the map of columns at these places is that of their sets alone.
+// Whether the map of the columns at these places is that of their sets alone.
 fn is_narrowed(
     alloc: Global,
+    scope: Result<Scope, StatsError>,
     sets: &[StatsSet],
     places: &[usize],
-    scope: fn(Global) -> Result<Scope, StatsError>,
-    alone: Vec<StatsSet>,
+    alone: &[StatsSet],
 ) -> Result<bool, StatsError> {
-    let chosen = chosen_map(alloc, scope(alloc), sets, places)?;
-    is_same(alloc, &chosen, &narrow_map(alloc, scope(alloc), &alone)?)
+    let scope = scope?;
+    let narrow = narrow_map(alloc, Ok(scope.try_clone()?), alone)?;
+    is_same(alloc, &chosen_map(alloc, Ok(scope), sets, places)?, &narrow)
 }
 
 #[test]
@@ -89,11 +90,11 @@ fn chosen_columns_are_narrowed_sets(rt: HostRuntime) -> Result<(), Fail> {
     let alloc = rt.alloc();
     let sets = sets_of(alloc, numbers(alloc), counts(alloc))?;
     let first = one_set(alloc, numbers(alloc)?)?;
-    assert!(rt; is_narrowed(alloc, &sets, &[0], first_scope, first)?);
+    assert!(rt; is_narrowed(alloc, first_scope(alloc), &sets, &[0], &first)?);
     let last = one_set(alloc, counts(alloc)?)?;
-    assert!(rt; is_narrowed(alloc, &sets, &[1], last_scope, last)?);
+    assert!(rt; is_narrowed(alloc, last_scope(alloc), &sets, &[1], &last)?);
     let swapped = sets_of(alloc, counts(alloc), numbers(alloc))?;
-    assert!(rt; is_narrowed(alloc, &sets, &[1, 0], turned, swapped)?);
+    assert!(rt; is_narrowed(alloc, turned(alloc), &sets, &[1, 0], &swapped)?);
     Ok(())
 }
 
