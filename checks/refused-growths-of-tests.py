@@ -42,9 +42,9 @@ def refusals(library, program, name):
 def main():
     library = shim.build()
     passed = failed = 0
-    crates = [word for word in sys.argv[1:] if word != "--built"]
-    for crate in crates:
-        program, names = built_tests(crate, len(crates) < len(sys.argv[1:]))
+    words = sys.argv[1:]
+    for crate in [word for word in words if word != "--built"]:
+        program, names = built_tests(crate, "--built" in words)
         for name in names:
             accepted, ended, fault = refusals(library, program, name)
             passed += fault is None
