@@ -95,19 +95,12 @@ impl ShortCell {
     fn value(self) -> Option<ScalarValue>
         ensures { result ≡ short_value self }
     {
-        let number = match self {
-            ShortCell::Null => return None,
-            ShortCell::Bool(truth) => return Some(ScalarValue::Bool(truth)),
-            ShortCell::U8(n) => PValue::U8(n),
-            ShortCell::U16(n) => PValue::U16(n),
-            ShortCell::U32(n) => PValue::U32(n),
-            ShortCell::U64(n) => PValue::U64(n),
-            ShortCell::I8(n) => PValue::I8(n),
-            ShortCell::I16(n) => PValue::I16(n),
-            ShortCell::I32(n) => PValue::I32(n),
-            ShortCell::I64(n) => PValue::I64(n),
-        };
-        Some(ScalarValue::Primitive(number))
+        match self.lend() {
+            None => None,
+            Some(ValueRef::Bool(truth)) => Some(ScalarValue::Bool(truth)),
+            Some(ValueRef::Primitive(number)) => Some(ScalarValue::Primitive(number)),
+            Some(ValueRef::Utf8(_) | ValueRef::Binary(_)) => unreachable!(),
+        }
     }
 }
 
