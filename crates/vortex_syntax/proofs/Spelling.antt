@@ -1,5 +1,5 @@
 -- Words that are written are read back, and every line without a broken word is so written.
-use Rattle.std.proofs.Common.{◌≡◌, ◌≢◌, ◌==◌, ◌||◌, ◌++◌, ℕ, Bool, true, false, List, [], ◌∷◌, refl, ap, sym, subst, ◌∙◌, inl, inr, append_assoc, append-nil}
+use Rattle.std.proofs.Common.{◌≡◌, ◌≢◌, ◌==◌, ◌||◌, ◌++◌, ℕ, true, false, List, [], ◌∷◌, refl, ap, sym, subst, ◌∙◌, inl, inr, append_assoc, append-nil}
 use Rattle.std.proofs.lemmas.Bool.{cases_Bool, eq-eqb, eqb-true, eqb-false, ne_eqb}
 use Rattle.std.specs.List.{AllByRecursion, flat_map, list_any}
 use Rattle.vortex_syntax.proofs.WordLemmas.{words_space}

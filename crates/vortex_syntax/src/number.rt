@@ -1,6 +1,7 @@
 //! Whole numbers in decimal digits, and bytes in hexadecimal ones.
 ghost use Rattle.std.specs.Prelude.{◌≡◌, true, option_and_then};
-ghost use Rattle.vortex_syntax.specs.Numbers.{in_64_bits, in_64_bits_signed, natural_of, number_of, whole_of, with_digit};
+ghost use Rattle.vortex_base.specs.Meanings.Typing.{is_signed};
+ghost use Rattle.vortex_syntax.specs.Numbers.{in_64_bits, in_64_bits_signed, in_type, natural_of, number_of, whole_of, with_digit};
 
 use vortex_base::pvalue::PValue;
 use vortex_base::types::PType;
@@ -45,20 +46,40 @@ fn signed_of(word: &[u8]) -> Option<i64>
     }
 }
 
+// Whether a type has numbers below zero.
+#[inline(always)]
+pub(crate) fn is_signed(ptype: PType) -> bool
+    ensures { result ≡ is_signed ptype }
+{
+    matches!(ptype, PType::I8 | PType::I16 | PType::I32 | PType::I64)
+}
+
+// A whole number of a type, if the type has it.
+#[inline(always)]
+pub(crate) fn in_type(ptype: PType, number: i128) -> Option<PValue>
+    ensures { result ≡ in_type ptype number }
+{
+    match ptype {
+        PType::U8 => Some(PValue::U8(u8::try_from(number).ok()?)),
+        PType::U16 => Some(PValue::U16(u16::try_from(number).ok()?)),
+        PType::U32 => Some(PValue::U32(u32::try_from(number).ok()?)),
+        PType::U64 => Some(PValue::U64(u64::try_from(number).ok()?)),
+        PType::I8 => Some(PValue::I8(i8::try_from(number).ok()?)),
+        PType::I16 => Some(PValue::I16(i16::try_from(number).ok()?)),
+        PType::I32 => Some(PValue::I32(i32::try_from(number).ok()?)),
+        PType::I64 => Some(PValue::I64(i64::try_from(number).ok()?)),
+    }
+}
+
 /// The number of a type that a word writes: decimal digits, and in front of them a minus where the
 /// type has numbers below zero.
 #[inline]
 pub fn number_of(ptype: PType, word: &[u8]) -> Option<PValue>
     ensures { result ≡ number_of ptype word.now }
 {
-    match ptype {
-        PType::U8 => Some(PValue::U8(u8::try_from(natural_of(word)?).ok()?)),
-        PType::U16 => Some(PValue::U16(u16::try_from(natural_of(word)?).ok()?)),
-        PType::U32 => Some(PValue::U32(u32::try_from(natural_of(word)?).ok()?)),
-        PType::U64 => Some(PValue::U64(natural_of(word)?)),
-        PType::I8 => Some(PValue::I8(i8::try_from(signed_of(word)?).ok()?)),
-        PType::I16 => Some(PValue::I16(i16::try_from(signed_of(word)?).ok()?)),
-        PType::I32 => Some(PValue::I32(i32::try_from(signed_of(word)?).ok()?)),
-        PType::I64 => Some(PValue::I64(signed_of(word)?)),
+    if is_signed(ptype) {
+        in_type(ptype, i128::from(signed_of(word)?))
+    } else {
+        in_type(ptype, i128::from(natural_of(word)?))
     }
 }

@@ -1,10 +1,10 @@
 //! Values in plain form, read straight from the bytes of a text, whose line isn't cut out before.
 //! What isn't in this form is left to the reader of words, by which each form here is specified.
 ghost use Rattle.std.specs.Prelude.{◌≡◌, ◌<◌, neg_ℤ, pos, IfSome, IsTrue, length};
-ghost use Rattle.vortex_base.specs.Meanings.Typing.{is_signed};
-ghost use Rattle.vortex_syntax.specs.Numbers.{in_64_bits_signed, in_type};
+ghost use Rattle.vortex_syntax.specs.Numbers.{in_64_bits_signed};
 ghost use Rattle.vortex_syntax.specs.Plain.{BeginsNatural, BeginsNumber, BeginsSigned, BeginsValue, EndsWord};
 
+use crate::number::{in_type, is_signed};
 use vortex_base::dtype::DType;
 use vortex_base::pvalue::PValue;
 use vortex_base::scalar_value::ScalarValue;
@@ -65,47 +65,6 @@ fn signed(text: &[u8]) -> Option<(i64, &[u8])>
     }
 }
 
-#[inline(always)]
-fn is_signed(ptype: PType) -> bool
-    ensures { result ≡ is_signed ptype }
-{
-    matches!(ptype, PType::I8 | PType::I16 | PType::I32 | PType::I64)
-}
-
-// A whole number of a type, if the type has it.
-#[inline(always)]
-fn natural_in(ptype: PType, number: u64) -> Option<PValue>
-    ensures { result ≡ in_type ptype (pos number) }
-{
-    match ptype {
-        PType::U8 => Some(PValue::U8(u8::try_from(number).ok()?)),
-        PType::U16 => Some(PValue::U16(u16::try_from(number).ok()?)),
-        PType::U32 => Some(PValue::U32(u32::try_from(number).ok()?)),
-        PType::U64 => Some(PValue::U64(number)),
-        PType::I8 => Some(PValue::I8(i8::try_from(number).ok()?)),
-        PType::I16 => Some(PValue::I16(i16::try_from(number).ok()?)),
-        PType::I32 => Some(PValue::I32(i32::try_from(number).ok()?)),
-        PType::I64 => Some(PValue::I64(i64::try_from(number).ok()?)),
-    }
-}
-
-// The same of one that may be below zero.
-#[inline(always)]
-fn signed_in(ptype: PType, number: i64) -> Option<PValue>
-    ensures { result ≡ in_type ptype number }
-{
-    match ptype {
-        PType::U8 => Some(PValue::U8(u8::try_from(number).ok()?)),
-        PType::U16 => Some(PValue::U16(u16::try_from(number).ok()?)),
-        PType::U32 => Some(PValue::U32(u32::try_from(number).ok()?)),
-        PType::U64 => Some(PValue::U64(u64::try_from(number).ok()?)),
-        PType::I8 => Some(PValue::I8(i8::try_from(number).ok()?)),
-        PType::I16 => Some(PValue::I16(i16::try_from(number).ok()?)),
-        PType::I32 => Some(PValue::I32(i32::try_from(number).ok()?)),
-        PType::I64 => Some(PValue::I64(number)),
-    }
-}
-
 // The number of a type at the front of a text, and what follows it.
 #[inline(always)]
 fn number(ptype: PType, text: &[u8]) -> Option<(PValue, &[u8])>
@@ -114,10 +73,10 @@ fn number(ptype: PType, text: &[u8]) -> Option<(PValue, &[u8])>
 {
     if is_signed(ptype) {
         let (number, rest) = signed(text)?;
-        Some((signed_in(ptype, number)?, rest))
+        Some((in_type(ptype, i128::from(number))?, rest))
     } else {
         let (number, rest) = natural(text)?;
-        Some((natural_in(ptype, number)?, rest))
+        Some((in_type(ptype, i128::from(number))?, rest))
     }
 }
 

@@ -1,5 +1,5 @@
 -- Worked rows: values in plain form, computed.
-use Rattle.std.proofs.Common.{◌≡◌, negsuc, true, false, [], None, Some, codes, refl, inl, inr, arith}
+use Rattle.std.proofs.Common.{◌≡◌, negsuc, true, false, None, Some, codes, refl, inl, inr, arith}
 use Rattle.vortex_base.specs.declared.dtype.DType.TheVariants as dtype
 use Rattle.vortex_base.specs.declared.pvalue.PValue.TheVariants as number
 use Rattle.vortex_base.specs.declared.scalar_value.ScalarValue.TheVariants as value
