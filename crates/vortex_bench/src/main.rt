@@ -3,6 +3,7 @@
 // of many zones.
 #![tactic(auto)]
 
+mod chosen;
 mod measures;
 mod pruning;
 mod scans;
@@ -40,6 +41,9 @@ fn main(rt: HostRuntime) -> Result<()> {
         "broad_map" => pruning::only_mapped(alloc, pruning::BROAD)?,
         "broad_comparison" => pruning::pruned(alloc, pruning::BROAD, 1)?,
         "broad_leaves" => pruning::pruned(alloc, pruning::BROAD, 16)?,
+        "spread_sets" => chosen::only_sets(alloc)?,
+        "spread_maps" => chosen::all_mapped(alloc)?,
+        "spread_chosen" => chosen::chosen_mapped(alloc)?,
         _ => 0,
     };
     println!(rt; "{count}")?;

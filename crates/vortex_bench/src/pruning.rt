@@ -22,7 +22,8 @@ const NUMBER: DType = DType::Primitive(PType::I64, Nullability::NonNullable);
 
 const REPEATS: u32 = 10;
 
-const ROWS: u64 = 10_000;
+/// How many rows each zone has.
+pub const ROWS: u64 = 10_000;
 
 /// How many zones there are, in how many batches they are added, and of how many columns.
 #[derive(Clone, Copy)]
@@ -46,7 +47,8 @@ pub const BROAD: Size = Size {
     columns: 30,
 };
 
-fn scope_of(alloc: Global, size: Size) -> Result<Scope> {
+/// The scope of the columns.
+pub fn scope_of(alloc: Global, size: Size) -> Result<Scope> {
     let mut columns = Vec::new(alloc);
     for place in 0..size.columns {
         columns.push((format!(in alloc; "c{place}")?, NUMBER))?;
@@ -71,8 +73,8 @@ fn sets_of(alloc: Global, size: Size, place: i64) -> Result<Vec<StatsSet>, Stats
     Ok(sets)
 }
 
-// The sets of a batch of zones from a place on.
-fn batch_of(alloc: Global, size: Size, from: i64) -> Result<Vec<Vec<StatsSet>>, StatsError> {
+/// The sets of a batch of zones from a place on.
+pub fn batch_of(alloc: Global, size: Size, from: i64) -> Result<Vec<Vec<StatsSet>>, StatsError> {
     let mut sets = Vec::new(alloc);
     for place in 0..size.batch {
         sets.push(sets_of(alloc, size, from.saturating_add(place))?)?;
@@ -80,7 +82,8 @@ fn batch_of(alloc: Global, size: Size, from: i64) -> Result<Vec<Vec<StatsSet>>, 
     Ok(sets)
 }
 
-fn zones_of<'a>(alloc: Global, sets: &'a [Vec<StatsSet>]) -> Result<Vec<Zone<'a>>, AllocError> {
+/// The zones of these sets.
+pub fn zones_of<'a>(alloc: Global, sets: &'a [Vec<StatsSet>]) -> Result<Vec<Zone<'a>>, AllocError> {
     let mut zones = Vec::with_capacity(alloc, sets.len())?;
     for set in sets {
         zones.push(Zone::new(ROWS, set))?;
