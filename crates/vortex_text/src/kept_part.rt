@@ -11,7 +11,7 @@ use vortex_stats::precision::Precision;
 use vortex_stats::stat::Stat;
 use vortex_stats::stats_set::StatsSet;
 
-/// The statistics of a column, in a list with no room to spare.
+// The statistics of a column, in a list with no room to spare.
 #[derive(Debug, Drop)]
 struct KeptSet {
     entries: Vec<(Stat, Precision<ScalarValue>)>,
