@@ -273,10 +273,7 @@ impl Draft {
         if self.predicate.is_some() {
             return Err(LineError::at(line.len(), Expected::NothingBehindPredicate));
         }
-        let (first, rest) = match plain_word(line, Expected::LineKind) {
-            Ok(found) => found,
-            Err(e) => return Err(e),
-        };
+        let (first, rest) = plain_word(line, Expected::LineKind)?;
         let Some(kind) = kind_of(first) else {
             return Err(LineError::at(line.len(), Expected::LineKind));
         };
@@ -326,10 +323,8 @@ impl Draft {
         ensures shorter { IfOk result (λ rest. length rest.now < length text.now) }
     {
         let (line, rest) = next_line(text);
-        match self.read_line(alloc, line) {
-            Ok(()) => Ok(rest),
-            Err(e) => Err(e),
-        }
+        self.read_line(alloc, line)?;
+        Ok(rest)
     }
 
     /// Reads the first line of a text. The text after it comes back. A line that isn't UTF-8 is

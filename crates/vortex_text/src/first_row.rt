@@ -58,8 +58,6 @@ pub fn push_first_row<'a>(
     if !is_utf8(line) {
         return Err(LineError::at(line.len(), Expected::Utf8));
     }
-    match push_row(alloc, &mut columns[count..], line) {
-        Ok(()) => Ok(after),
-        Err(e) => Err(e),
-    }
+    push_row(alloc, &mut columns[count..], line)?;
+    Ok(after)
 }

@@ -102,10 +102,7 @@ pub fn push_row(alloc: Global, columns: &mut [OpenColumn], line: &[u8]) -> Resul
 {
     let mut rest = line;
     for column in columns.iter_mut() {
-        rest = match column.take(alloc, rest) {
-            Ok(after) => after,
-            Err(e) => return Err(e),
-        };
+        rest = column.take(alloc, rest)?;
     }
     no_word(rest)
 }

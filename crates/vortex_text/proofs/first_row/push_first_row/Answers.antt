@@ -1,4 +1,5 @@
 use Rattle.std.proofs.Common.{◌≡◌, ◌-◌, get_or, length, drop, take, sym, ◌∙◌, arith}
+use Rattle.std.proofs.lemmas.Result.{err_from_is_err_and}
 use Rattle.std.specs.Str.Lines.{lines}
 use Rattle.vortex_syntax.proofs.BadLemmas.{bad_fails}
 use Rattle.vortex_syntax.proofs.PlainLemmas.{uncons}
@@ -20,15 +21,16 @@ returns-then-not-is_utf8-clause-row c =
     bad_fails c.at.result (first_row c.args.columns.now (lines c.args.text.now)) c.at.ensures (row_not_utf8 c.args.columns.now c.take_plain.new.columns c.args.text.now c.in_ok-count.rest.now c.next_line.result.0.now (lines c.next_line.result.1.now) c.in_ok-count.count
     c.in_ok-count.ensures.row c.next_line.ensures.line (sym c.is_utf8.ensures ∙ c.if-not-is_utf8.true))
 
-pub returns-in-Ok-clause-row : goal.returns-in-Ok-clause-row
-returns-in-Ok-clause-row c =
+pub returns-clause-row : goal.returns-clause-row
+returns-clause-row c =
     row_whole_line c.args.columns.now c.take_plain.new.columns c.push_row.new.columns c.args.text.now c.in_ok-count.rest.now c.next_line.result.0.now (lines c.next_line.result.1.now) c.in_ok-count.count
-    c.in_ok-count.ensures.row c.in_ok-count.ensures.ends c.next_line.ensures.line (sym c.is_utf8.ensures ∙ c.if-not-is_utf8.false) c.in_ok-count.ensures.count c.in-Ok.ensures
+    c.in_ok-count.ensures.row c.in_ok-count.ensures.ends c.next_line.ensures.line (sym c.is_utf8.ensures ∙ c.if-not-is_utf8.false) c.in_ok-count.ensures.count c.in_ok-push_row.ensures
 
-pub returns-in-Err-clause-row : goal.returns-in-Err-clause-row
-returns-in-Err-clause-row c =
+pub returns-in_err-push_row-clause-row : goal.returns-in_err-push_row-clause-row
+returns-in_err-push_row-clause-row c =
     let new = c.take_plain.new.columns in
     let i = c.in_ok-count.count in
-    fails_on c.in-Err.e (with_values (take (length new - i) (drop i new)) (words c.next_line.result.0.now)) (first_row c.args.columns.now (lines c.args.text.now))
+    let p = err_from_is_err_and c.from_residual-in_err-push_row.result c.from_residual-in_err-push_row.ensures.1 in
+    rw (p.1, p.2) (fails_on _ (with_values (take (length new - i) (drop i new)) (words c.next_line.result.0.now)) (first_row c.args.columns.now (lines c.args.text.now))
     (λ none. row_broken c.args.columns.now new c.args.text.now c.in_ok-count.rest.now c.next_line.result.0.now (lines c.next_line.result.1.now) i
-    c.in_ok-count.ensures.row c.in_ok-count.ensures.ends c.next_line.ensures.line (sym c.is_utf8.ensures ∙ c.if-not-is_utf8.false) none) c.in-Err.ensures
+    c.in_ok-count.ensures.row c.in_ok-count.ensures.ends c.next_line.ensures.line (sym c.is_utf8.ensures ∙ c.if-not-is_utf8.false) none) c.in_err-push_row.ensures)
