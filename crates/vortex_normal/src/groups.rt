@@ -37,7 +37,7 @@ pub(crate) enum Item<'a> {
     Other(Predicate),
 }
 
-/// The predicate that an item is.
+// The predicate that an item is.
 fn item_test(alloc: Global, item: Item<'_>) -> Result<Predicate, StatsError>
     requires { IsTrue (item_fits (item_of item)) }
     ensures { Makes (spec.item_test (item_of item.entry)) result }
@@ -50,7 +50,7 @@ fn item_test(alloc: Global, item: Item<'_>) -> Result<Predicate, StatsError>
     }
 }
 
-/// The predicate that items make up with one that is there, joined by AND or by OR.
+// The predicate that items make up with one that is there, joined by AND or by OR.
 fn joined_test(
     alloc: Global,
     is_and: bool,
@@ -69,7 +69,7 @@ fn joined_test(
     Ok(made)
 }
 
-/// The predicate that items make up, joined by AND or by OR.
+// The predicate that items make up, joined by AND or by OR.
 fn items_test(alloc: Global, is_and: bool, items: Vec<Item<'_>>) -> Result<Predicate, StatsError>
     requires { IsTrue (items_fit (map item_of items.items)) }
     ensures { Makes (spec.items_test is_and (map item_of items.entry.items)) result }
@@ -97,7 +97,7 @@ fn inside<'a>(place: usize, dtype: DType, with_null: bool, set: Vec<Interval<'a>
     })
 }
 
-/// A comparison of a column with a literal; `e` is the whole.
+// A comparison of a column with a literal; `e` is the whole.
 fn compared_item<'a>(
     alloc: Global,
     operator: Operator,
@@ -152,7 +152,7 @@ fn leaf_item<'a>(alloc: Global, e: &'a BoundExpression) -> Result<Item<'a>, Stat
 }
 
 impl<'a> Item<'a> {
-    /// Whether this says something of the column at a place, of a type.
+    // Whether this says something of the column at a place, of a type.
     fn is_of(&self, place: usize, dtype: DType) -> bool
         ensures { result ≡ spec.is_of (place_at place dtype) (item_of self.now) }
     {
@@ -163,7 +163,7 @@ impl<'a> Item<'a> {
     }
 }
 
-/// An item with what is said of the same column joined to it.
+// An item with what is said of the same column joined to it.
 fn widened<'a>(
     alloc: Global,
     is_and: bool,
@@ -195,7 +195,7 @@ fn place_of(items: &[Item<'_>], place: usize, dtype: DType) -> Option<usize>
     items.iter().position(|item| item.is_of(place, dtype))
 }
 
-/// Joins to the items of a chain what a set says of a column.
+// Joins to the items of a chain what a set says of a column.
 fn add_set<'a>(
     alloc: Global,
     is_and: bool,
@@ -237,7 +237,7 @@ fn add<'a>(
     }
 }
 
-/// The items of a whole chain as one of another.
+// The items of a whole chain as one of another.
 fn as_one<'a>(alloc: Global, is_and: bool, items: Vec<Item<'a>>) -> Result<Item<'a>, StatsError>
     requires { IsTrue (items_fit (map item_of items.items)) }
     ensures { OkOrMemory result
@@ -252,7 +252,7 @@ fn as_one<'a>(alloc: Global, is_and: bool, items: Vec<Item<'a>>) -> Result<Item<
     Ok(Item::Other(items_test(alloc, is_and, items)?))
 }
 
-/// Joins a predicate to the items of a chain.
+// Joins a predicate to the items of a chain.
 fn collect<'a>(
     alloc: Global,
     is_and: bool,

@@ -36,7 +36,7 @@ pub(crate) fn is_at_most(a: &ScalarValue, b: &ScalarValue) -> bool
 }
 
 impl<'a> Cut<'a> {
-    /// Whether this cut is at most the other.
+    // Whether this cut is at most the other.
     fn is_at_most(self, other: Cut<'a>) -> bool
         ensures { result ≡ spec.cut_le (cut_of self.entry) (cut_of other.entry) }
     {
@@ -97,7 +97,7 @@ impl<'a> Interval<'a> {
     }
 }
 
-/// Appends a set with one more interval, which takes in those that it touches.
+// Appends a set with one more interval, which takes in those that it touches.
 fn insert<'a>(
     interval: Interval<'a>,
     set: &[Interval<'a>],
@@ -122,7 +122,7 @@ fn insert<'a>(
     }
 }
 
-/// The values in either set.
+// The values in either set.
 fn union<'a>(
     alloc: Global,
     left: &[Interval<'a>],
@@ -142,7 +142,7 @@ fn union<'a>(
     }
 }
 
-/// Appends the intersections of one interval with each of a set, save those that are empty.
+// Appends the intersections of one interval with each of a set, save those that are empty.
 fn meet_one<'a>(
     interval: Interval<'a>,
     set: &[Interval<'a>],
@@ -165,7 +165,7 @@ fn meet_one<'a>(
     }
 }
 
-/// Appends the values in both sets.
+// Appends the values in both sets.
 fn meet<'a>(
     left: &[Interval<'a>],
     right: &[Interval<'a>],

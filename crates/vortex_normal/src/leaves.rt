@@ -80,7 +80,7 @@ fn is_literal(e: &BoundExpression) -> bool
     matches!(e.parts(), Parts::Literal(_))
 }
 
-/// The literal of a truth or null.
+// The literal of a truth or null.
 fn nullable_truth(alloc: Global, value: Option<ScalarValue>) -> Result<BoundExpression, StatsError>
     requires { IsTrue (is_optional_value value (DType.Bool Nullable)) }
     ensures { Makes (tree.literal (record { dtype = DType.Bool Nullable; value = value })) result }
@@ -91,8 +91,8 @@ fn nullable_truth(alloc: Global, value: Option<ScalarValue>) -> Result<BoundExpr
     }
 }
 
-/// The literal of what an expression without columns and placeholders means, which is a truth or
-/// null.
+// The literal of what an expression without columns and placeholders means, which is a truth or
+// null.
 fn truth_of(alloc: Global, e: &BoundExpression) -> Result<BoundExpression, StatsError>
     requires constant { has_bare_column e.now ≡ false }
     requires plain { IsTrue (is_plain e.now) }
@@ -105,7 +105,7 @@ fn truth_of(alloc: Global, e: &BoundExpression) -> Result<BoundExpression, Stats
     nullable_truth(alloc, value)
 }
 
-/// An operand, as the literal of its value if it has no column and no placeholder.
+// An operand, as the literal of its value if it has no column and no placeholder.
 #[tactic(auto, unfolding(crate::specs::Pushed::folded))]
 fn folded(alloc: Global, e: &BoundExpression) -> Result<BoundExpression, StatsError>
     ensures { Makes (normal.folded e.now) result }
@@ -117,7 +117,7 @@ fn folded(alloc: Global, e: &BoundExpression) -> Result<BoundExpression, StatsEr
     }
 }
 
-/// A comparison. Of null it is never true; of an operand and itself it is a test of null or false.
+// A comparison. Of null it is never true; of an operand and itself it is a test of null or false.
 #[tactic(auto, unfolding(crate::specs::Pushed::comparison_of))]
 fn comparison_of(
     alloc: Global,

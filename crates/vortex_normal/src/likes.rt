@@ -47,7 +47,7 @@ fn text_literal(alloc: Global, text: &str) -> Result<BoundExpression, StatsError
     utf8_literal(alloc, value)
 }
 
-/// The text that a literal is.
+// The text that a literal is.
 fn text_in(e: &BoundExpression) -> Option<&str>
     ensures { option_copied result ≡ text_of e.now }
 {
@@ -57,7 +57,7 @@ fn text_in(e: &BoundExpression) -> Option<&str>
     }
 }
 
-/// Whether a text is this one, or whether it isn't.
+// Whether a text is this one, or whether it isn't.
 fn same_text(
     alloc: Global,
     wanted: bool,
@@ -71,7 +71,7 @@ fn same_text(
     comparison(alloc, operator_as(wanted, Operator::Eq), text, &other)
 }
 
-/// Whether a text is at least the one and below the other, or whether it isn't.
+// Whether a text is at least the one and below the other, or whether it isn't.
 fn text_range(
     alloc: Global,
     wanted: bool,
@@ -116,7 +116,7 @@ fn is_last_raised(text: &str) -> bool
     }
 }
 
-/// What a pattern reads as whose only wildcard is a run, which is last.
+// What a pattern reads as whose only wildcard is a run, which is last.
 fn beginning(alloc: Global, pattern: &str) -> Result<Option<LikePattern>, StatsError>
     requires { is_exact (items (chars pattern.now)) ≡ false }
     ensures { let read = items (chars pattern.now) in OkOrMemory result (λ o. MatchOption o
@@ -139,7 +139,7 @@ fn beginning(alloc: Global, pattern: &str) -> Result<Option<LikePattern>, StatsE
     }
 }
 
-/// A LIKE with a pattern with wildcards, as a range, if its only wildcard is a run, which is last.
+// A LIKE with a pattern with wildcards, as a range, if its only wildcard is a run, which is last.
 fn begins(
     alloc: Global,
     wanted: bool,
@@ -165,7 +165,7 @@ fn begins(
     }
 }
 
-/// A LIKE with a pattern, as comparisons.
+// A LIKE with a pattern, as comparisons.
 fn items_matched(
     alloc: Global,
     wanted: bool,

@@ -21,7 +21,7 @@ use vortex_base::types::{BetweenOptions, Operator};
 use vortex_rewrite::built::cloned;
 use vortex_stats::error::StatsError;
 
-/// Whether a literal's truth is the wanted one.
+// Whether a literal's truth is the wanted one.
 fn is_wanted(wanted: bool, value: &Scalar) -> bool
     ensures { result ≡ wanted_of wanted (truth_of value.now.value) }
 {
@@ -31,7 +31,7 @@ fn is_wanted(wanted: bool, value: &Scalar) -> bool
     }
 }
 
-/// A BETWEEN as the AND of its comparisons, or the OR of them turned round.
+// A BETWEEN as the AND of its comparisons, or the OR of them turned round.
 fn pushed_between(
     alloc: Global,
     wanted: bool,

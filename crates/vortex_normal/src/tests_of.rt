@@ -85,7 +85,7 @@ fn options(lower_strict: StrictComparison, upper_strict: StrictComparison) -> Be
     }
 }
 
-/// Whether a column's value lies from the one value to the other.
+// Whether a column's value lies from the one value to the other.
 fn closed_range(
     alloc: Global,
     place: usize,
@@ -105,7 +105,7 @@ fn closed_range(
     }
 }
 
-/// Whether a column's value lies between two cuts.
+// Whether a column's value lies between two cuts.
 fn between_cuts(
     alloc: Global,
     place: usize,
@@ -137,7 +137,7 @@ fn between_cuts(
     }
 }
 
-/// The one value that two intervals leave out, if there is nothing else that they do.
+// The one value that two intervals leave out, if there is nothing else that they do.
 fn only_hole<'a>(first: &Interval<'a>, second: &Interval<'a>) -> Option<&'a ScalarValue>
     ensures { option_map (λ v. v.now) result
         ≡ spec.only_hole (interval_of first.now) (interval_of second.now) }
@@ -154,7 +154,7 @@ fn only_hole<'a>(first: &Interval<'a>, second: &Interval<'a>) -> Option<&'a Scal
     }
 }
 
-/// Whether a column's value is in either of two intervals.
+// Whether a column's value is in either of two intervals.
 fn either_test(
     alloc: Global,
     place: usize,
@@ -170,7 +170,7 @@ fn either_test(
     Predicate::connect(alloc, Operator::Or, first, second)
 }
 
-/// Whether a column's value is in one of two intervals.
+// Whether a column's value is in one of two intervals.
 fn two_test(
     alloc: Global,
     place: usize,
@@ -192,7 +192,7 @@ fn two_test(
     }
 }
 
-/// Whether a column's value is in a set.
+// Whether a column's value is in a set.
 fn set_test(
     alloc: Global,
     place: usize,
