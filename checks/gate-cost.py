@@ -1,10 +1,10 @@
 #!/usr/bin/env python3
 """Runs the gate in a clone of the last commit, and prints what it cost: processor minutes of each crate's proof, tests and must-fail edits.
 
-usage: checks/gate-cost.py [LOG]    LOG keeps what the gate prints
+usage: checks/gate-cost.py [CRATE..]    of these crates and those below them alone, in place of the whole gate
 
 It looks at the processes of the gate once a second, so of a process that ends less than a second is lost. It takes as long as
-the gate, and fails if the gate fails.
+the gate, and fails if the gate fails. What an earlier run on this machine passed is not proved again, and costs nothing.
 """
 import collections
 import os
@@ -15,7 +15,6 @@ import tempfile
 import time
 
 TOP = os.path.dirname(os.path.dirname(os.path.abspath(__file__)))
-LOG = sys.argv[1] if len(sys.argv) > 1 else os.devnull
 TICKS = os.sysconf("SC_CLK_TCK")
 
 
@@ -41,17 +40,17 @@ def below(gate):
     return {pid: (spent(pid), *seen[pid][2:]) for pid in children[gate]}
 
 
-def kind(command, folder, clone):
-    """The crate that a command is for, and which of the three kinds of work it is."""
+def kind(command, folder):
+    """The crate that a command is for, and which of the three kinds of work it is: a try of an edit has a copy of the crate alone."""
     crate = re.search(r"--crate-name (\S+)", command)
     if not crate:
         return "other", 0
-    if not folder.startswith(clone):
+    if os.path.basename(folder) != crate.group(1):
         return crate.group(1), 2
     return crate.group(1), 1 if " --test" in command else 0
 
 
-def watch(gate, clone):
+def watch(gate):
     """The seconds of each crate and kind of work, until the gate ends."""
     latest = {}
     while gate.poll() is None:
@@ -76,19 +75,19 @@ def main():
         subprocess.run(["git", "clone", "-q", TOP, clone], check=True)
         with open(os.path.join(room, "log"), "w+") as log:
             began = time.time()
-            gate = subprocess.Popen(["rt", "ci"], cwd=clone, stdout=log, stderr=subprocess.STDOUT)
-            cost = watch(gate, clone)
+            gate = subprocess.Popen(["rt", "ci", *sys.argv[1:]], cwd=clone, stdout=log, stderr=subprocess.STDOUT)
+            cost = watch(gate)
             minutes = (time.time() - began) / 60
             log.seek(0)
             told = log.read().rstrip()
-    with open(LOG, "w") as kept:
-        kept.write(told + "\n")
     print("| crate | proof | tests | edits | minutes |\n|---|---|---|---|---|")
     for crate in sorted(cost):
         print(row(f"`{crate}`", cost[crate]))
     print(row("all", [sum(kinds[i] for kinds in cost.values()) for i in range(3)]))
     last = told.rpartition("\n")[2]
     print(f"{last}; {minutes:.0f} minutes on {os.cpu_count()} cores")
+    if gate.returncode:
+        print(told, file=sys.stderr)
     sys.exit(gate.returncode)
 
 

@@ -164,9 +164,14 @@ def quote_faults():
                 yield f"{f}: the code that is said to be of {place} doesn't stand there"
 
 
+def crate_of_edit(f):
+    """The crate that an edit is one of."""
+    return f.split("/")[-3] if "/must-fail/" in f else f.split("/")[-2]
+
+
 def edit_fault(f):
     """Why an edit can't be applied to the crate as it stands, or None."""
-    crate = f.split("/")[-3] if "/must-fail/" in f else f.split("/")[-2]
+    crate = crate_of_edit(f)
     texts, file = {}, None
     old = None
     for line in read(f).rstrip("\n").split("\n"):
@@ -190,6 +195,14 @@ def edit_faults():
         fault = edit_fault(f) if f.endswith(".edit") else None
         if fault:
             yield f"{f}: {fault}"
+
+
+def goal_faults():
+    """Edits for which no goal is named, and goals of edits that aren't there."""
+    edits = {f"{crate_of_edit(f)}/{f.split('/')[-1]}" for f in TRACKED if f.endswith(".edit")}
+    named = {line.split()[0] for line in read("checks/edits/goals.txt").splitlines()}
+    yield from (f"checks/edits/goals.txt: no goal is named for {it}" for it in sorted(edits - named))
+    yield from (f"checks/edits/goals.txt: there is no edit {it}" for it in sorted(named - edits))
 
 
 def format_faults():
@@ -216,8 +229,8 @@ def the_map():
         "`checks/edits/`.\n\n"
     ) + table(tops)
     for line in read("crates.txt").split("\n"):
-        name = line.split(":")[0].strip()
-        if name and not name.startswith("#"):
+        if ":" in line.partition("#")[0]:
+            name = line.split(":")[0].split()[0]
             front = f"crates/{name}/"
             out += f"\n## crates/{name}\n\n" + table([(f[len(front) :], first_sentence(f) or "") for f in SOURCES if f.startswith(front) and is_listed(f)])
     return out
@@ -227,7 +240,7 @@ def main():
     if sys.argv[1:] == ["--map"]:
         print(the_map(), end="")
         return 0
-    faults = [*source_faults(), *definition_faults(), *promise_faults(), *link_faults(), *quote_faults(), *edit_faults(), *format_faults()]
+    faults = [*source_faults(), *definition_faults(), *promise_faults(), *link_faults(), *quote_faults(), *edit_faults(), *goal_faults(), *format_faults()]
     if read("docs/MAP.md") != the_map():
         faults.append("docs/MAP.md: out of step; write it anew by checks/layout.py --map > docs/MAP.md")
     print("\n".join(faults) or "layout: every file is in order")

@@ -4,7 +4,7 @@ import random
 import unittest
 from array import array
 
-from foalmorrow import Column, DType, Footers, Nullable, Precision, Stat
+from foalmorrow import ALL, PRUNING, Column, DType, Footers, Nullable, Precision, Stat
 
 try:
     import numpy
@@ -49,11 +49,12 @@ class RandomColumns(unittest.TestCase):
             dtype = rng.choice(list(DType))
             column = Column("c", dtype, dtype != DType.NULL)
             values = [None if rng.random() < 0.2 else a_value(rng, dtype) for _ in range(rng.randrange(6))]
-            told = Footers.measure([column], [{"c": values}]).at(0)
-            for stat in (Stat.MIN, Stat.MAX, Stat.NULL_COUNT, Stat.SUM):
-                wanted = expected(dtype, values)
-                found = told.get(("c", stat))
-                self.assertEqual(found, (Precision.EXACT, wanted[stat]) if stat in wanted else None, (seed, dtype, values, stat))
+            wanted = expected(dtype, values)
+            for stats in (ALL, PRUNING):
+                told = Footers.measure([column], [{"c": values}], stats).at(0)
+                for stat in {*PRUNING, Stat.SUM}.intersection(stats):
+                    found = told.get(("c", stat))
+                    self.assertEqual(found, (Precision.EXACT, wanted[stat]) if stat in wanted else None, (seed, dtype, values, stats, stat))
 
     @unittest.skipIf(numpy is None, "numpy isn't installed")
     def test_numpy(self) -> None:

@@ -6,8 +6,6 @@ mod leaves;
 pub mod program;
 mod proofs;
 pub mod shown;
-#[cfg(test)]
-mod tests;
 pub mod text;
 
 pub use explanation::explain;

@@ -1,4 +1,5 @@
 pub mod CheckLemmas
+pub mod ExtentLemmas
 pub mod MarkLemmas
 pub mod MergeLemmas
 pub mod NormalLemmas

@@ -1,5 +1,5 @@
 -- The sets of a zone fit their columns.
-use Rattle.std.proofs.Common.{◌≡◌, ◌<◌, ◌+◌, ◌∙◌, All, Ok, Err, add-one, ℕ, zero, suc, Bool, true, List, [], ◌∷◌, ◌++◌, Option, None, Some, IsTrue, length, map, slice_get, take, refl, ap, sym, subst}
+use Rattle.std.proofs.Common.{◌≡◌, ◌<◌, ◌+◌, ◌∙◌, All, Ok, Err, add-one, ℕ, zero, suc, true, List, [], ◌∷◌, ◌++◌, Option, None, Some, IsTrue, length, map, slice_get, take, refl, ap, sym, subst}
 use Rattle.std.proofs.lemmas.Bool.{and_from, and_parts}
 use Rattle.std.proofs.lemmas.List.{map_more}
 use Rattle.std.proofs.lemmas.List.Elements.{All-push, All-same}

@@ -1,5 +1,6 @@
 pub mod Checks
 pub mod Encoding
+pub mod Extents
 pub mod Given
 pub mod Laws
 pub mod Measures

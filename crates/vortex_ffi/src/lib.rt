@@ -7,6 +7,7 @@
 
 pub mod check;
 mod encoding;
+mod extent;
 pub mod fault;
 pub mod field;
 mod given;
@@ -14,6 +15,7 @@ pub mod laws;
 mod marks;
 pub mod measure;
 pub mod merge;
+mod number;
 mod predicate;
 pub mod prune;
 pub mod run;

@@ -1,9 +1,14 @@
 //! The statistics of a column of values.
-ghost use Rattle.std.specs.Prelude.{◌≡◌};
+ghost use Rattle.std.specs.Prelude.{◌≡◌, IsTrue, Ok};
+ghost use Rattle.std.specs.List.{list_all};
+ghost use Rattle.vortex_base.specs.Data.Columns.{ColumnData};
+ghost use Rattle.vortex_ffi.specs.Extents.{IsExtentOf, follows};
 ghost use Rattle.vortex_ffi.specs.Measures as spec;
 ghost use Rattle.vortex_ffi.specs.Refusals.{Answers};
 ghost use Rattle.vortex_ffi.specs.Slots.{IsTold, Makes};
+ghost use Rattle.vortex_stats.specs.Measuring.Told.{exactly};
 
+use crate::extent::{Extent, all_follow};
 use crate::fault::{Fault, Refusal};
 use crate::slots::{Slots, tell};
 use crate::status::Status;
@@ -11,6 +16,8 @@ use crate::values::Values;
 use std::alloc::{AllocError, Global};
 use vortex_base::column::Column;
 use vortex_base::dtype::DType;
+use vortex_base::scalar_value::ScalarValue;
+use vortex_stats::precision::Precision;
 use vortex_stats::stat::Stat;
 use vortex_stats::stats_set::StatsSet;
 
@@ -63,12 +70,46 @@ fn slots_of(alloc: Global, column: &Column, wanted: &[Stat]) -> Result<Slots, Re
     slots_in(alloc, column.dtype(), &set, wanted)
 }
 
+// Exactly the value, if there is one.
+fn exactly(value: Option<ScalarValue>) -> Precision<ScalarValue>
+    ensures { result ≡ exactly value }
+{
+    match value {
+        Some(value) => Precision::Exact(value),
+        None => Precision::Absent,
+    }
+}
+
+// The statistics of a column of this type, extent and size.
+fn slots_of_extent(
+    alloc: Global,
+    dtype: DType,
+    extent: &Extent,
+    size: u64,
+    wanted: &[Stat],
+) -> Result<Slots, Refusal>
+    requires { IsTrue (list_all follows wanted.now) }
+    ensures { (c : ColumnData) → IsExtentOf extent.now c → c.dtype ≡ dtype → c.size ≡ size
+        → Makes result (Ok (spec.slots_of c wanted.now)) }
+{
+    let mut slots = Slots::new(alloc);
+    for stat in wanted {
+        slots.push(dtype, *stat, &exactly(extent.value(*stat, size)))?;
+    }
+    Ok(slots)
+}
+
 // The statistics of the values that a caller hands in.
 fn measured(alloc: Global, values: &Values<'_>, numbers: &[u8]) -> Result<Slots, Refusal>
     ensures { Makes result (spec.measured values.now numbers.now) }
 {
     let dtype = values.dtype()?;
     let wanted = wanted_of(alloc, dtype, numbers)?;
+    if all_follow(&wanted) {
+        if let Some(extent) = values.extent(dtype) {
+            return slots_of_extent(alloc, dtype, &extent, values.size, &wanted);
+        }
+    }
     let column = values.column(alloc, dtype)?;
     slots_of(alloc, &column, &wanted)
 }

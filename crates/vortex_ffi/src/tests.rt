@@ -71,6 +71,54 @@ fn a_column_is_measured(rt: HostRuntime) {
 }
 
 #[test]
+fn nulls_alone_have_no_bounds(rt: HostRuntime) {
+    let mut known = [9u8; 3];
+    let mut ends = [9u64; 3];
+    let mut values = [9u8; 12];
+    let mut len = 0;
+    let mut fault = NOWHERE;
+    let mut column = NUMBERS;
+    column.nulls = &[1, 1, 1];
+    let status = vortex_measure(
+        rt.alloc(),
+        &column,
+        &[4, 3, 6],
+        &mut known,
+        &mut ends,
+        &mut values,
+        &mut len,
+        &mut fault,
+    );
+    assert_eq!(rt; status, 0);
+    assert!(rt; known == [0, 0, 1]);
+    assert!(rt; values == [0, 0, 0, 0, 3, 0, 0, 0, 0, 0, 0, 0]);
+}
+
+#[test]
+fn a_null_of_a_type_without_null_is_refused(rt: HostRuntime) {
+    let mut known = [9u8; 1];
+    let mut ends = [9u64; 1];
+    let mut values = [9u8; 2];
+    let mut len = 0;
+    let mut fault = NOWHERE;
+    let mut column = NUMBERS;
+    column.nullable = 0;
+    let status = vortex_measure(
+        rt.alloc(),
+        &column,
+        &[3],
+        &mut known,
+        &mut ends,
+        &mut values,
+        &mut len,
+        &mut fault,
+    );
+    assert_eq!(rt; status, 11);
+    assert_eq!(rt; fault.row, 1);
+    assert!(rt; values == [9, 9]);
+}
+
+#[test]
 fn a_statistic_is_checked(rt: HostRuntime) {
     let mut fault = NOWHERE;
     let mut stat = Statistic {

@@ -40,9 +40,9 @@ pub struct Values<'a> {
     pub nulls: &'a [u8],
 }
 
-// Whether a row is null by the bytes that say so.
+/// Whether a row is null by the bytes that say so.
 #[inline]
-fn is_null(nulls: &[u8], row: usize) -> Result<bool, Status>
+pub(crate) fn is_null(nulls: &[u8], row: usize) -> Result<bool, Status>
     ensures { result ≡ spec.is_null nulls.now row }
 {
     if nulls.is_empty() {

@@ -1,6 +1,7 @@
 -- The items of a predicate fit: the values in their sets are of their columns' types, and what they make up is a predicate.
 use Rattle.std.proofs.Common.{◌≡◌, Bool, true, false, ◌&&◌, List, [], ◌∷◌, ◌++◌, Option, Some, None, Result, Ok, Err, IsOk, map, refl, sym, ap, ◌∙◌, if◌then◌else◌}
 use Rattle.std.proofs.Common.{◌<◌, ◌≤◌, ◌-◌, length, take, drop, get_or, arith}
+use Rattle.std.specs.List.{flat_map}
 use Rattle.std.proofs.lemmas.Grind.{common_steps}
 use Rattle.std.proofs.lemmas.Bool.{and_parts}
 use Rattle.std.proofs.lemmas.Option.{none-some, same_Some}
@@ -22,8 +23,8 @@ use Rattle.vortex_base.specs.declared.types.Operator.TheVariants.{Eq, NotEq, Gt,
 use Rattle.vortex_rewrite.proofs.Completeness.Interval.{is_comparison}
 use Rattle.vortex_rewrite.proofs.Rewriting.ProofTypes.{AreComparable, alike_turned, are_alike, binary_is_predicate, predicates_connect}
 use Rattle.vortex_rewrite.specs.Rewriting.Predicates.{is_connective, is_predicate}
-use Rattle.vortex_normal.specs.Groups.{Item, inside, other, add, add_set, as_one, binary_item, collected, compared_item, cut_fits, interval_fits, is_of, item_fits, item_of, item_test, items_fit, items_test, joined_test, leaf_item, not_null_item, null_item, set_fits, widened}
-use Rattle.vortex_normal.specs.Intervals.{Cut, Lowest, Before, After, Highest, Interval, all_but, at_most, between_cuts, combined, comparison_set, cut_le, cut_of, hole_by, hull, insert, intersection, interval_of, is_empty, is_full, literal_as, meet, meet_one, only_hole, range_of, set_test, swapped, touches, union, values_test}
+use Rattle.vortex_normal.specs.Groups.{Item, inside, other, add, add_sets, as_one, binary_item, collected, compared_item, cut_fits, interval_fits, is_of, item_fits, item_of, item_test, items_fit, items_test, joined_test, leaf_item, lone_item, not_null_item, null_item, set_fits, sets_fit, widened}
+use Rattle.vortex_normal.specs.Intervals.{Cut, Lowest, Before, After, Highest, Interval, all_but, at_most, between_cuts, combined, comparison_set, complement, cut_le, cut_of, higher, hole_by, interval, interval_of, is_empty, is_full, left_out, literal_as, only_hole, placed, range_of, set_test, share, sorted, swapped, unless_empty, values_test}
 use Rattle.vortex_normal.specs.declared.groups.Item.{Item as Kept}
 use Rattle.vortex_normal.specs.declared.interval.Interval.{Interval as LentInterval}
 use Rattle.vortex_rewrite.specs.Rewriting.Falsifiers.{bool_literal}
@@ -38,52 +39,67 @@ module _ (t : DType) where
   cut_if true c d h k = h
   cut_if false c d h k = k
 
-  intersection_fits : (i j : Interval) → interval_fits t i ≡ true → interval_fits t j ≡ true → interval_fits t (intersection i j) ≡ true
-  intersection_fits i j h k =
-      let a = and_parts (cut_fits t i.low) (cut_fits t i.high) h in
-      let b = and_parts (cut_fits t j.low) (cut_fits t j.high) k in
-      both_hold _ _ (cut_if (cut_le i.low j.low) j.low i.low b.0 a.0) (cut_if (cut_le i.high j.high) i.high j.high a.1 b.1)
-
-  hull_fits : (i j : Interval) → interval_fits t i ≡ true → interval_fits t j ≡ true → interval_fits t (hull i j) ≡ true
-  hull_fits i j h k =
-      let a = and_parts (cut_fits t i.low) (cut_fits t i.high) h in
-      let b = and_parts (cut_fits t j.low) (cut_fits t j.high) k in
-      both_hold _ _ (cut_if (cut_le i.low j.low) i.low j.low a.0 b.0) (cut_if (cut_le i.high j.high) j.high i.high b.1 a.1)
-
   set_if : (b : Bool) (is js : List Interval) → set_fits t is ≡ true → set_fits t js ≡ true → set_fits t (if b then is else js) ≡ true
   set_if true is js h k = h
   set_if false is js h k = k
-
-  insert_fits : (js : List Interval) (i : Interval) → interval_fits t i ≡ true → set_fits t js ≡ true → set_fits t (insert i js) ≡ true
-  insert_fits [] i h k = both_hold _ _ h refl
-  insert_fits (j ∷ js) i h k =
-      let w = and_parts (interval_fits t j) (set_fits t js) k in
-      set_if (touches i j) (insert (hull i j) js) (j ∷ insert i js) (insert_fits js (hull i j) (hull_fits i j h w.0) w.1) (both_hold _ _ w.0 (insert_fits js i h w.1))
-
-  union_fits : (is js : List Interval) → set_fits t is ≡ true → set_fits t js ≡ true → set_fits t (union is js) ≡ true
-  union_fits [] js h k = k
-  union_fits (i ∷ is) js h k = let w = and_parts (interval_fits t i) (set_fits t is) h in insert_fits (union is js) i w.0 (union_fits is js w.1 k)
 
   append_fits : (is js : List Interval) → set_fits t is ≡ true → set_fits t js ≡ true → set_fits t (is ++ js) ≡ true
   append_fits [] js h k = k
   append_fits (i ∷ is) js h k = let w = and_parts (interval_fits t i) (set_fits t is) h in both_hold _ _ w.0 (append_fits is js w.1 k)
 
-  meet_one_fits : (i : Interval) (js : List Interval) → interval_fits t i ≡ true → set_fits t js ≡ true → set_fits t (meet_one i js) ≡ true
-  meet_one_fits i [] h k = refl
-  meet_one_fits i (j ∷ js) h k =
+  placed_fits : (i : Interval) (js : List Interval) → interval_fits t i ≡ true → set_fits t js ≡ true → set_fits t (placed i js) ≡ true
+  placed_fits i [] h k = both_hold _ _ h refl
+  placed_fits i (j ∷ js) h k =
       let w = and_parts (interval_fits t j) (set_fits t js) k in
-      let rest = meet_one_fits i js h w.1 in
-      set_if (is_empty (intersection i j)) (meet_one i js) (intersection i j ∷ meet_one i js) rest (both_hold _ _ (intersection_fits i j h w.0) rest)
+      set_if (cut_le i.low j.low) (i ∷ j ∷ js) (j ∷ placed i js) (both_hold _ _ h k) (both_hold _ _ w.0 (placed_fits i js h w.1))
 
-  meet_fits : (is js : List Interval) → set_fits t is ≡ true → set_fits t js ≡ true → set_fits t (meet is js) ≡ true
-  meet_fits [] js h k = refl
-  meet_fits (i ∷ is) js h k =
-      let w = and_parts (interval_fits t i) (set_fits t is) h in
-      append_fits (meet_one i js) (meet is js) (meet_one_fits i js w.0 k) (meet_fits is js w.1 k)
+  sorted_fits : (is : List Interval) → set_fits t is ≡ true → set_fits t (sorted is) ≡ true
+  sorted_fits [] h = refl
+  sorted_fits (i ∷ is) h = let w = and_parts (interval_fits t i) (set_fits t is) h in placed_fits i (sorted is) w.0 (sorted_fits is w.1)
 
-  combined_fits : (w : Bool) (is js : List Interval) → set_fits t is ≡ true → set_fits t js ≡ true → set_fits t (combined w is js) ≡ true
-  combined_fits true is js h k = meet_fits is js h k
-  combined_fits false is js h k = union_fits is js h k
+  unless_fits : (i : Interval) (is : List Interval) → interval_fits t i ≡ true → set_fits t is ≡ true → set_fits t (unless_empty i is) ≡ true
+  unless_fits i is h k = set_if (is_empty i) is (i ∷ is) k (both_hold _ _ h k)
+
+  left_out_fits : (c : Cut) (is : List Interval) → cut_fits t c ≡ true → set_fits t is ≡ true → set_fits t (left_out c is) ≡ true
+  left_out_fits c [] h k = unless_fits (interval c Highest) [] (both_hold _ _ h refl) refl
+  left_out_fits c (i ∷ is) h k =
+      let w = and_parts (interval_fits t i) (set_fits t is) k in
+      let e = and_parts (cut_fits t i.low) (cut_fits t i.high) w.0 in
+      unless_fits (interval c i.low) (left_out (higher c i.high) is) (both_hold _ _ h e.0)
+      (left_out_fits (higher c i.high) is (cut_if (cut_le c i.high) i.high c e.1 h) w.1)
+
+  complement_fits : (is : List Interval) → set_fits t is ≡ true → set_fits t (complement is) ≡ true
+  complement_fits is h = left_out_fits Lowest (sorted is) refl (sorted_fits is h)
+
+  share_fits : (w : Bool) (is : List Interval) → set_fits t is ≡ true → set_fits t (share w is) ≡ true
+  share_fits true is h = complement_fits is h
+  share_fits false is h = h
+
+  shares_fit : (w : Bool) (iss : List (List Interval)) → sets_fit t iss ≡ true → set_fits t (flat_map (share w) iss) ≡ true
+  shares_fit w [] h = refl
+  shares_fit w (is ∷ iss) h =
+      let k = and_parts (set_fits t is) (sets_fit t iss) h in
+      append_fits (share w is) (flat_map (share w) iss) (share_fits w is k.0) (shares_fit w iss k.1)
+
+  met_fits : (iss : List (List Interval)) → sets_fit t iss ≡ true → set_fits t (complement (flat_map (share true) iss)) ≡ true
+  met_fits iss h = complement_fits (flat_map (share true) iss) (shares_fit true iss h)
+
+  united_fits : (iss : List (List Interval)) → sets_fit t iss ≡ true → set_fits t (complement (complement (flat_map (share false) iss))) ≡ true
+  united_fits iss h = complement_fits (complement (flat_map (share false) iss)) (complement_fits (flat_map (share false) iss) (shares_fit false iss h))
+
+  pub combined_fits : (w : Bool) (iss : List (List Interval)) → sets_fit t iss ≡ true → set_fits t (combined w iss) ≡ true
+  combined_fits w (is ∷ []) h = (and_parts (set_fits t is) true h).0
+  combined_fits true [] h = met_fits [] h
+  combined_fits false [] h = united_fits [] h
+  combined_fits true (is ∷ js ∷ iss) h = met_fits (is ∷ js ∷ iss) h
+  combined_fits false (is ∷ js ∷ iss) h = united_fits (is ∷ js ∷ iss) h
+
+  sets_append : (iss jss : List (List Interval)) → sets_fit t iss ≡ true → sets_fit t jss ≡ true → sets_fit t (iss ++ jss) ≡ true
+  sets_append [] jss h k = k
+  sets_append (is ∷ iss) jss h k = let w = and_parts (set_fits t is) (sets_fit t iss) h in both_hold _ _ w.0 (sets_append iss jss w.1 k)
+
+  one_fits : (is : List Interval) → set_fits t is ≡ true → sets_fit t (is ∷ []) ≡ true
+  one_fits is h = both_hold _ _ h refl
 
   comparison_set_fits : (o : Operator) (v : ScalarValue) → is_value v t ≡ true → set_fits t (comparison_set o v) ≡ true
   comparison_set_fits Eq v h = both_hold _ _ (both_hold _ _ h h) refl
@@ -165,9 +181,9 @@ module _ (c : Place) where
   values_are true [] h = refl
   values_are true (i ∷ is) h = null_if (i ∷ is) (is_full (i ∷ is)) (set_is (i ∷ is) h)
 
-item_is : (i : Item) → item_fits i ≡ true → is_predicate (item_test i) ≡ true
-item_is (inside c m is) h = values_are c m is h
-item_is (other e) h = h
+item_is : (w : Bool) (i : Item) → item_fits i ≡ true → is_predicate (item_test w i) ≡ true
+item_is w (inside c m iss) h = values_are c m (combined w iss) (combined_fits c.dtype w iss h)
+item_is w (other e) h = h
 
 connected_is : (w : Bool) (l r : Tree Place) → is_predicate l ≡ true → is_predicate r ≡ true → is_predicate (connected w l r) ≡ true
 connected_is w l r h k =
@@ -183,7 +199,7 @@ joined_is : (w : Bool) (is : List Item) (e : Tree Place) → items_fit is ≡ tr
 joined_is w [] e h k = k
 joined_is w (i ∷ is) e h k =
     let a = and_parts (item_fits i) (items_fit is) h in
-    connected_is w (item_test i) (joined_test w is e) (item_is i a.0) (joined_is w is e a.1 k)
+    connected_is w (item_test w i) (joined_test w is e) (item_is w i a.0) (joined_is w is e a.1 k)
 
 items_are : (w : Bool) (is : List Item) → items_fit is ≡ true → is_predicate (items_test w is) ≡ true
 items_are w is h = joined_is w is (bool_literal w) h (truth_is w)
@@ -227,12 +243,12 @@ compared_item_fits : (o : Operator) (c : Place) (v : Option ScalarValue) (e : Tr
     → item_fits (compared_item o c v e) ≡ true
 compared_item_fits And c v e f h = h
 compared_item_fits Or c v e f h = h
-compared_item_fits Eq c (Some v) e f h = comparison_set_fits c.dtype Eq v (f refl v refl)
-compared_item_fits NotEq c (Some v) e f h = comparison_set_fits c.dtype NotEq v (f refl v refl)
-compared_item_fits Gt c (Some v) e f h = comparison_set_fits c.dtype Gt v (f refl v refl)
-compared_item_fits Gte c (Some v) e f h = comparison_set_fits c.dtype Gte v (f refl v refl)
-compared_item_fits Lt c (Some v) e f h = comparison_set_fits c.dtype Lt v (f refl v refl)
-compared_item_fits Lte c (Some v) e f h = comparison_set_fits c.dtype Lte v (f refl v refl)
+compared_item_fits Eq c (Some v) e f h = one_fits c.dtype (comparison_set Eq v) (comparison_set_fits c.dtype Eq v (f refl v refl))
+compared_item_fits NotEq c (Some v) e f h = one_fits c.dtype (comparison_set NotEq v) (comparison_set_fits c.dtype NotEq v (f refl v refl))
+compared_item_fits Gt c (Some v) e f h = one_fits c.dtype (comparison_set Gt v) (comparison_set_fits c.dtype Gt v (f refl v refl))
+compared_item_fits Gte c (Some v) e f h = one_fits c.dtype (comparison_set Gte v) (comparison_set_fits c.dtype Gte v (f refl v refl))
+compared_item_fits Lt c (Some v) e f h = one_fits c.dtype (comparison_set Lt v) (comparison_set_fits c.dtype Lt v (f refl v refl))
+compared_item_fits Lte c (Some v) e f h = one_fits c.dtype (comparison_set Lte v) (comparison_set_fits c.dtype Lte v (f refl v refl))
 compared_item_fits Eq c None e f h = h
 compared_item_fits NotEq c None e f h = h
 compared_item_fits Gt c None e f h = h
@@ -280,32 +296,36 @@ leaf_fits e h = h
 same_dtype : (c d : Place) → place_eq c d ≡ true → c.dtype ≡ d.dtype
 same_dtype c d h = let e : column c ≡ column d = (tree_eq_is_exact (column c) (column d)).0 h in same_type c.dtype d.dtype (ap type_of e)
 
-widened_fits : (w : Bool) (c : Place) (m : Bool) (is : List Interval) (j : Item) → is_of c j ≡ true → set_fits c.dtype is ≡ true → item_fits j ≡ true → item_fits (widened w m is j) ≡ true
-widened_fits w c m is (inside d n js) e h k = combined_fits d.dtype w is js (sym (ap (λ t. set_fits t is) (same_dtype c d e)) ∙ h) k
-widened_fits w c m is (other x) e h k = k
+widened_fits : (w : Bool) (c : Place) (m : Bool) (iss : List (List Interval)) (j : Item) → is_of c j ≡ true → sets_fit c.dtype iss ≡ true → item_fits j ≡ true → item_fits (widened w m iss j) ≡ true
+widened_fits w c m iss (inside d n jss) e h k = sets_append d.dtype jss iss k (sym (ap (λ t. sets_fit t iss) (same_dtype c d e)) ∙ h)
+widened_fits w c m iss (other x) e h k = k
 
-add_if : (w : Bool) (c : Place) (m : Bool) (is : List Interval) (j : Item) (js : List Item) (b : Bool) → is_of c j ≡ b → set_fits c.dtype is ≡ true → item_fits j ≡ true → items_fit js ≡ true
-    → items_fit (add_set w c m is js) ≡ true → items_fit (if b then widened w m is j ∷ js else j ∷ add_set w c m is js) ≡ true
-add_if w c m is j js true e h k a r = both_hold _ _ (widened_fits w c m is j e h k) a
-add_if w c m is j js false e h k a r = both_hold _ _ k r
+add_if : (w : Bool) (c : Place) (m : Bool) (iss : List (List Interval)) (j : Item) (js : List Item) (b : Bool) → is_of c j ≡ b → sets_fit c.dtype iss ≡ true → item_fits j ≡ true → items_fit js ≡ true
+    → items_fit (add_sets w c m iss js) ≡ true → items_fit (if b then widened w m iss j ∷ js else j ∷ add_sets w c m iss js) ≡ true
+add_if w c m iss j js true e h k a r = both_hold _ _ (widened_fits w c m iss j e h k) a
+add_if w c m iss j js false e h k a r = both_hold _ _ k r
 
-add_set_fits : (w : Bool) (c : Place) (m : Bool) (is : List Interval) (js : List Item) → set_fits c.dtype is ≡ true → items_fit js ≡ true → items_fit (add_set w c m is js) ≡ true
-add_set_fits w c m is [] h k = both_hold _ _ h refl
-add_set_fits w c m is (j ∷ js) h k =
+add_sets_fit : (w : Bool) (c : Place) (m : Bool) (iss : List (List Interval)) (js : List Item) → sets_fit c.dtype iss ≡ true → items_fit js ≡ true → items_fit (add_sets w c m iss js) ≡ true
+add_sets_fit w c m iss [] h k = both_hold _ _ h refl
+add_sets_fit w c m iss (j ∷ js) h k =
     let a = and_parts (item_fits j) (items_fit js) k in
-    add_if w c m is j js (is_of c j) refl h a.0 a.1 (add_set_fits w c m is js h a.1)
+    add_if w c m iss j js (is_of c j) refl h a.0 a.1 (add_sets_fit w c m iss js h a.1)
 
 last_fits : (i : Item) (js : List Item) → item_fits i ≡ true → items_fit js ≡ true → items_fit (js ++ i ∷ []) ≡ true
 last_fits i [] h k = both_hold _ _ h refl
 last_fits i (j ∷ js) h k = let a = and_parts (item_fits j) (items_fit js) k in both_hold _ _ a.0 (last_fits i js h a.1)
 
 add_fits : (w : Bool) (i : Item) (js : List Item) → item_fits i ≡ true → items_fit js ≡ true → items_fit (add w i js) ≡ true
-add_fits w (inside c m is) js h k = add_set_fits w c m is js h k
+add_fits w (inside c m iss) js h k = add_sets_fit w c m iss js h k
 add_fits w (other e) js h k = last_fits (other e) js h k
+
+alone_fits : (w : Bool) (i : Item) → item_fits i ≡ true → item_fits (lone_item w i) ≡ true
+alone_fits w (inside c m iss) h = one_fits c.dtype (combined w iss) (combined_fits c.dtype w iss h)
+alone_fits w (other e) h = h
 
 as_one_fits : (v : Bool) (is : List Item) → items_fit is ≡ true → item_fits (as_one v is) ≡ true
 as_one_fits v [] h = truth_is v
-as_one_fits v (i ∷ []) h = (and_parts (item_fits i) true h).0
+as_one_fits v (i ∷ []) h = alone_fits v i (and_parts (item_fits i) true h).0
 as_one_fits v (i ∷ j ∷ is) h = items_are v (i ∷ j ∷ is) h
 
 lone_fits : (w : Bool) (e : Tree Place) (is : List Item) → is_predicate e ≡ true → items_fit is ≡ true → items_fit (add w (leaf_item e) is) ≡ true
@@ -367,9 +387,9 @@ shorter (x ∷ s) l = let e = behind x s in rw e (omega arith)
 
 -- ---- the last of some items
 
-pub last_joined : (w : Bool) (ks : List Kept) (k : Kept) (e : Tree Place) → joined_test w (map item_of (ks ++ k ∷ [])) e ≡ joined_test w (map item_of ks) (connected w (item_test (item_of k)) e)
+pub last_joined : (w : Bool) (ks : List Kept) (k : Kept) (e : Tree Place) → joined_test w (map item_of (ks ++ k ∷ [])) e ≡ joined_test w (map item_of ks) (connected w (item_test w (item_of k)) e)
 last_joined w [] k e = refl
-last_joined w (j ∷ ks) k e = ap (connected w (item_test (item_of j))) (last_joined w ks k e)
+last_joined w (j ∷ ks) k e = ap (connected w (item_test w (item_of j))) (last_joined w ks k e)
 
 pub last_fit : (ks : List Kept) (k : Kept) → items_fit (map item_of (ks ++ k ∷ [])) ≡ true → (items_fit (map item_of ks) ≡ true) × (item_fits (item_of k) ≡ true)
 last_fit [] k h = (refl, (and_parts (item_fits (item_of k)) true h).0)

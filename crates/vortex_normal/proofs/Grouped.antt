@@ -18,9 +18,9 @@ use Rattle.vortex_rewrite.proofs.Completeness.Interval.{is_comparison}
 use Rattle.vortex_rewrite.proofs.Soundness.TruthLogic.{true_and, true_or}
 use Rattle.vortex_rewrite.proofs.Soundness.ValueTests.{holds_by_le, le_trans}
 use Rattle.vortex_normal.specs.Intervals.{Cut, Lowest, Before, After, Highest, Interval, above, all_but, at_most, between_cuts, cuts_all, hole_by, is_full, literal_as, range_of, values_test, combined, comparison_set, contains, in_set, interval, set_test, swapped}
-use Rattle.vortex_normal.specs.Groups.{Item, inside, other, add, add_set, as_one, binary_item, both_nulls, collected, compared_item, grouped, is_of, item_test, items_test, joined_test, leaf_item, not_null_item, null_item, widened}
+use Rattle.vortex_normal.specs.Groups.{Item, inside, other, add, add_sets, as_one, binary_item, both_nulls, collected, compared_item, grouped, is_of, item_test, items_test, joined_test, leaf_item, lone_item, not_null_item, null_item, widened}
 use Rattle.vortex_normal.proofs.Told.{connected_told, joined}
-use Rattle.vortex_normal.proofs.Sets.{holds_swapped, in_combined, in_comparison}
+use Rattle.vortex_normal.proofs.Sets.{holds_swapped, in_combined, in_comparison, in_sets}
 
 -- ---- AND and OR of many
 
@@ -65,9 +65,16 @@ nulls_joined : (w m n : Bool) → both_nulls w m n ≡ joined w m n
 nulls_joined true m n = refl
 nulls_joined false m n = refl
 
-among_combined : (w m n : Bool) (is js : List Interval) (v : Option ScalarValue) → is_among (both_nulls w m n) (combined w is js) v ≡ joined w (is_among m is v) (is_among n js v)
-among_combined w m n is js None = nulls_joined w m n
-among_combined w m n is js (Some v) = in_combined v w is js
+sets_joined : (w : Bool) (iss jss : List (List Interval)) (v : ScalarValue) → in_sets w (jss ++ iss) v ≡ joined w (in_sets w iss v) (in_sets w jss v)
+sets_joined w iss [] v = sym (joined_unit w (in_sets w iss v))
+sets_joined w iss (js ∷ jss) v = ap (joined w (in_set js v)) (sets_joined w iss jss v) ∙ joined_swap w (in_sets w iss v) (in_set js v) (in_sets w jss v)
+
+among_combined : (w m n : Bool) (iss jss : List (List Interval)) (v : Option ScalarValue) → is_among (both_nulls w m n) (combined w (jss ++ iss)) v ≡ joined w (is_among m (combined w iss) v) (is_among n (combined w jss) v)
+among_combined w m n iss jss None = nulls_joined w m n
+among_combined w m n iss jss (Some v) =
+    in_combined v w (jss ++ iss)
+    ∙ sets_joined w iss jss v
+    ∙ ap₂ (joined w) (sym (in_combined v w iss)) (sym (in_combined v w jss))
 
 -- ---- an interval as a predicate of its column
 
@@ -298,24 +305,24 @@ module _ (row : List Constant) (n : ℕ) where
 
   -- ---- items
 
-  abbrev pub told : Item → Bool
-  told (inside c m is) = is_among m is (cell c)
-  told (other e) = satisfies e row n
+  abbrev pub told : (is_and : Bool) → Item → Bool
+  told w (inside c m iss) = is_among m (combined w iss) (cell c)
+  told w (other e) = satisfies e row n
 
   abbrev pub all_with : (is_and : Bool) → List Item → Bool → Bool
   all_with w [] b = b
-  all_with w (i ∷ is) b = joined w (told i) (all_with w is b)
+  all_with w (i ∷ is) b = joined w (told w i) (all_with w is b)
 
   abbrev pub all_told : (is_and : Bool) → List Item → Bool
   all_told w is = all_with w is w
 
-  item_told : (i : Item) → satisfies (item_test i) row n ≡ told i
-  item_told (inside c m is) = values_told c m is
-  item_told (other e) = refl
+  item_told : (w : Bool) (i : Item) → satisfies (item_test w i) row n ≡ told w i
+  item_told w (inside c m iss) = values_told c m (combined w iss)
+  item_told w (other e) = refl
 
   joined_told : (w : Bool) (is : List Item) (e : Tree Place) → satisfies (joined_test w is e) row n ≡ all_with w is (satisfies e row n)
   joined_told w [] e = refl
-  joined_told w (i ∷ is) e = connected_told row n w (item_test i) (joined_test w is e) ∙ ap₂ (joined w) (item_told i) (joined_told w is e)
+  joined_told w (i ∷ is) e = connected_told row n w (item_test w i) (joined_test w is e) ∙ ap₂ (joined w) (item_told w i) (joined_told w is e)
 
   literal_told : (w : Bool) → satisfies (bool_literal w) row n ≡ w
   literal_told true = refl
@@ -326,24 +333,24 @@ module _ (row : List Constant) (n : ℕ) where
 
   -- ---- leaves
 
-  values_in : (c : Place) (is : List Interval) (b : Bool) → is_in is (cell c) ≡ b → told (inside c false is) ≡ b
-  values_in c is b e = among_values is (cell c) ∙ e
+  values_in : (w : Bool) (c : Place) (is : List Interval) (b : Bool) → is_in is (cell c) ≡ b → told w (inside c false (is ∷ [])) ≡ b
+  values_in w c is b e = among_values is (cell c) ∙ e
 
-  compared_told : (o : Operator) (c : Place) (v : Option ScalarValue) (e : Tree Place) → (is_comparison o ≡ true → satisfies e row n ≡ is_true (truth_value (compared o (cell c) v))) → told (compared_item o c v e) ≡ satisfies e row n
-  compared_told And c v e f = refl
-  compared_told Or c v e f = refl
-  compared_told Eq c (Some v) e f = values_in c (comparison_set Eq v) (satisfies e row n) (compared_in Eq v (cell c) refl ∙ sym (f refl))
-  compared_told NotEq c (Some v) e f = values_in c (comparison_set NotEq v) (satisfies e row n) (compared_in NotEq v (cell c) refl ∙ sym (f refl))
-  compared_told Gt c (Some v) e f = values_in c (comparison_set Gt v) (satisfies e row n) (compared_in Gt v (cell c) refl ∙ sym (f refl))
-  compared_told Gte c (Some v) e f = values_in c (comparison_set Gte v) (satisfies e row n) (compared_in Gte v (cell c) refl ∙ sym (f refl))
-  compared_told Lt c (Some v) e f = values_in c (comparison_set Lt v) (satisfies e row n) (compared_in Lt v (cell c) refl ∙ sym (f refl))
-  compared_told Lte c (Some v) e f = values_in c (comparison_set Lte v) (satisfies e row n) (compared_in Lte v (cell c) refl ∙ sym (f refl))
-  compared_told Eq c None e f = refl
-  compared_told NotEq c None e f = refl
-  compared_told Gt c None e f = refl
-  compared_told Gte c None e f = refl
-  compared_told Lt c None e f = refl
-  compared_told Lte c None e f = refl
+  compared_told : (w : Bool) (o : Operator) (c : Place) (v : Option ScalarValue) (e : Tree Place) → (is_comparison o ≡ true → satisfies e row n ≡ is_true (truth_value (compared o (cell c) v))) → told w (compared_item o c v e) ≡ satisfies e row n
+  compared_told w And c v e f = refl
+  compared_told w Or c v e f = refl
+  compared_told w Eq c (Some v) e f = values_in w c (comparison_set Eq v) (satisfies e row n) (compared_in Eq v (cell c) refl ∙ sym (f refl))
+  compared_told w NotEq c (Some v) e f = values_in w c (comparison_set NotEq v) (satisfies e row n) (compared_in NotEq v (cell c) refl ∙ sym (f refl))
+  compared_told w Gt c (Some v) e f = values_in w c (comparison_set Gt v) (satisfies e row n) (compared_in Gt v (cell c) refl ∙ sym (f refl))
+  compared_told w Gte c (Some v) e f = values_in w c (comparison_set Gte v) (satisfies e row n) (compared_in Gte v (cell c) refl ∙ sym (f refl))
+  compared_told w Lt c (Some v) e f = values_in w c (comparison_set Lt v) (satisfies e row n) (compared_in Lt v (cell c) refl ∙ sym (f refl))
+  compared_told w Lte c (Some v) e f = values_in w c (comparison_set Lte v) (satisfies e row n) (compared_in Lte v (cell c) refl ∙ sym (f refl))
+  compared_told w Eq c None e f = refl
+  compared_told w NotEq c None e f = refl
+  compared_told w Gt c None e f = refl
+  compared_told w Gte c None e f = refl
+  compared_told w Lt c None e f = refl
+  compared_told w Lte c None e f = refl
 
   plain_compared : (o : Operator) (l r : Tree Place) → is_comparison o ≡ true → satisfies (binary o l r) row n ≡ is_true (truth_value (compared o (meaning l row n) (meaning r row n)))
   plain_compared o l r c = ap (λ t. is_true (truth_value t)) (comparison_applied o (meaning l row n) (meaning r row n) c)
@@ -358,60 +365,65 @@ module _ (row : List Constant) (n : ℕ) where
   comparison_of_swapped And c = cc
   comparison_of_swapped Or c = cc
 
-  binary_told : (o : Operator) (l r : Tree Place) → told (binary_item o l r (binary o l r)) ≡ satisfies (binary o l r) row n
-  binary_told o (column c) (literal d) = compared_told o c d.value (binary o (column c) (literal d)) (plain_compared o (column c) (literal d))
-  binary_told o (literal d) (column c) =
-      compared_told (swapped o) c d.value (binary o (literal d) (column c))
+  binary_told : (w : Bool) (o : Operator) (l r : Tree Place) → told w (binary_item o l r (binary o l r)) ≡ satisfies (binary o l r) row n
+  binary_told w o (column c) (literal d) = compared_told w o c d.value (binary o (column c) (literal d)) (plain_compared o (column c) (literal d))
+  binary_told w o (literal d) (column c) =
+      compared_told w (swapped o) c d.value (binary o (literal d) (column c))
       (λ k. plain_compared o (literal d) (column c) (comparison_of_swapped o k) ∙ compared_swapped o d.value (cell c))
-  binary_told o l r = refl
+  binary_told w o l r = refl
 
-  null_told : (x : Tree Place) → told (null_item x (is_null x)) ≡ satisfies (is_null x) row n
-  null_told (column c) = sym (null_by (cell c))
-  null_told x = refl
+  null_told : (w : Bool) (x : Tree Place) → told w (null_item x (is_null x)) ≡ satisfies (is_null x) row n
+  null_told w (column c) = sym (null_by (cell c))
+  null_told w x = refl
 
-  not_null_told : (x : Tree Place) → told (not_null_item x (is_not_null x)) ≡ satisfies (is_not_null x) row n
-  not_null_told (column c) = values_in c (interval Lowest Highest ∷ []) (not_b (is_none (cell c))) (all_in (cell c))
-  not_null_told x = refl
+  not_null_told : (w : Bool) (x : Tree Place) → told w (not_null_item x (is_not_null x)) ≡ satisfies (is_not_null x) row n
+  not_null_told w (column c) = values_in w c (interval Lowest Highest ∷ []) (not_b (is_none (cell c))) (all_in (cell c))
+  not_null_told w x = refl
 
-  leaf_told : (e : Tree Place) → told (leaf_item e) ≡ satisfies e row n
-  leaf_told (binary o l r) = binary_told o l r
-  leaf_told (is_null x) = null_told x
-  leaf_told (is_not_null x) = not_null_told x
-  leaf_told e = refl
+  leaf_told : (w : Bool) (e : Tree Place) → told w (leaf_item e) ≡ satisfies e row n
+  leaf_told w (binary o l r) = binary_told w o l r
+  leaf_told w (is_null x) = null_told w x
+  leaf_told w (is_not_null x) = not_null_told w x
+  leaf_told w e = refl
 
   -- ---- chains
 
   same_cell : (c d : Place) → place_eq c d ≡ true → cell c ≡ cell d
   same_cell c d h = ap (λ e. meaning e row n) ((tree_eq_is_exact (column c) (column d)).0 h)
 
-  widened_told : (w : Bool) (c : Place) (m : Bool) (is : List Interval) (j : Item) → is_of c j ≡ true → told (widened w m is j) ≡ joined w (is_among m is (cell c)) (told j)
-  widened_told w c m is (inside d k js) h =
-      among_combined w m k is js (cell d)
-      ∙ sym (ap (λ v. joined w (is_among m is v) (is_among k js (cell d))) (same_cell c d h))
-  widened_told w c m is (other e) h = cc
+  widened_told : (w : Bool) (c : Place) (m : Bool) (iss : List (List Interval)) (j : Item) → is_of c j ≡ true → told w (widened w m iss j) ≡ joined w (told w (inside c m iss)) (told w j)
+  widened_told w c m iss (inside d k jss) h =
+      among_combined w m k iss jss (cell d)
+      ∙ sym (ap (λ v. joined w (is_among m (combined w iss) v) (is_among k (combined w jss) (cell d))) (same_cell c d h))
+  widened_told w c m iss (other e) h = cc
 
-  add_if : (w : Bool) (c : Place) (m : Bool) (is : List Interval) (j : Item) (js : List Item) (b : Bool) → is_of c j ≡ b
-      → all_told w (add_set w c m is js) ≡ joined w (is_among m is (cell c)) (all_told w js)
-      → all_told w (if b then widened w m is j ∷ js else j ∷ add_set w c m is js) ≡ joined w (is_among m is (cell c)) (joined w (told j) (all_told w js))
-  add_if w c m is j js true e h = ap (λ b. joined w b (all_told w js)) (widened_told w c m is j e) ∙ joined_assoc w (is_among m is (cell c)) (told j) (all_told w js)
-  add_if w c m is j js false e h = ap (joined w (told j)) h ∙ joined_swap w (is_among m is (cell c)) (told j) (all_told w js)
+  add_if : (w : Bool) (c : Place) (m : Bool) (iss : List (List Interval)) (j : Item) (js : List Item) (b : Bool) → is_of c j ≡ b
+      → all_told w (add_sets w c m iss js) ≡ joined w (told w (inside c m iss)) (all_told w js)
+      → all_told w (if b then widened w m iss j ∷ js else j ∷ add_sets w c m iss js) ≡ joined w (told w (inside c m iss)) (joined w (told w j) (all_told w js))
+  add_if w c m iss j js true e h = ap (λ b. joined w b (all_told w js)) (widened_told w c m iss j e) ∙ joined_assoc w (told w (inside c m iss)) (told w j) (all_told w js)
+  add_if w c m iss j js false e h = ap (joined w (told w j)) h ∙ joined_swap w (told w (inside c m iss)) (told w j) (all_told w js)
 
-  add_set_told : (w : Bool) (c : Place) (m : Bool) (is : List Interval) (js : List Item) → all_told w (add_set w c m is js) ≡ joined w (is_among m is (cell c)) (all_told w js)
-  add_set_told w c m is [] = refl
-  add_set_told w c m is (j ∷ js) = add_if w c m is j js (is_of c j) refl (add_set_told w c m is js)
+  add_sets_told : (w : Bool) (c : Place) (m : Bool) (iss : List (List Interval)) (js : List Item) → all_told w (add_sets w c m iss js) ≡ joined w (told w (inside c m iss)) (all_told w js)
+  add_sets_told w c m iss [] = refl
+  add_sets_told w c m iss (j ∷ js) = add_if w c m iss j js (is_of c j) refl (add_sets_told w c m iss js)
 
-  last_told : (w : Bool) (i : Item) (js : List Item) → all_told w (js ++ i ∷ []) ≡ joined w (told i) (all_told w js)
+  last_told : (w : Bool) (i : Item) (js : List Item) → all_told w (js ++ i ∷ []) ≡ joined w (told w i) (all_told w js)
   last_told w i [] = refl
-  last_told w i (j ∷ js) = ap (joined w (told j)) (last_told w i js) ∙ joined_swap w (told i) (told j) (all_told w js)
+  last_told w i (j ∷ js) = ap (joined w (told w j)) (last_told w i js) ∙ joined_swap w (told w i) (told w j) (all_told w js)
 
-  add_told : (w : Bool) (i : Item) (js : List Item) → all_told w (add w i js) ≡ joined w (told i) (all_told w js)
-  add_told w (inside c m is) js = add_set_told w c m is js
+  add_told : (w : Bool) (i : Item) (js : List Item) → all_told w (add w i js) ≡ joined w (told w i) (all_told w js)
+  add_told w (inside c m iss) js = add_sets_told w c m iss js
   add_told w (other e) js = last_told w (other e) js
 
-  as_one_told : (w : Bool) (is : List Item) → told (as_one w is) ≡ all_told w is
-  as_one_told w [] = items_told w []
-  as_one_told w (i ∷ []) = sym (joined_unit w (told i))
-  as_one_told w (i ∷ j ∷ is) = items_told w (i ∷ j ∷ is)
+  alone_told : (v w : Bool) (i : Item) → told v (lone_item w i) ≡ told w i
+  alone_told v w (inside c m iss) = refl
+  alone_told v w (other e) = refl
+
+  -- one item is told the same in any chain
+  as_one_told : (v w : Bool) (is : List Item) → told v (as_one w is) ≡ all_told w is
+  as_one_told v w [] = items_told w []
+  as_one_told v w (i ∷ []) = alone_told v w i ∙ sym (joined_unit w (told w i))
+  as_one_told v w (i ∷ j ∷ is) = items_told w (i ∷ j ∷ is)
 
   -- the items of two sides, one after the other
   sides_told : (w a b : Bool) (is js ks : List Item) → all_told w js ≡ joined w a (all_told w is) → all_told w ks ≡ joined w b (all_told w js) → all_told w ks ≡ joined w (joined w a b) (all_told w is)
@@ -421,7 +433,7 @@ module _ (row : List Constant) (n : ℕ) where
   inner_told : (w v a b : Bool) (is js ks : List Item) → all_told v js ≡ joined v a v → all_told v ks ≡ joined v b (all_told v js) → all_told w (add w (as_one v ks) is) ≡ joined w (joined v a b) (all_told w is)
   inner_told w v a b is js ks h k =
       add_told w (as_one v ks) is
-      ∙ ap (λ c. joined w c (all_told w is)) (as_one_told v ks ∙ sides_told v a b [] js ks h k ∙ joined_unit v (joined v a b))
+      ∙ ap (λ c. joined w c (all_told w is)) (as_one_told w v ks ∙ sides_told v a b [] js ks h k ∙ joined_unit v (joined v a b))
 
   both_sides : (l r : Tree Place) → (satisfies l row n && satisfies r row n) ≡ satisfies (binary And l r) row n
   both_sides l r = sym (true_and (meaning l row n) (meaning r row n))
@@ -430,7 +442,7 @@ module _ (row : List Constant) (n : ℕ) where
   either_side l r = sym (true_or (meaning l row n) (meaning r row n))
 
   lone_told : (w : Bool) (e : Tree Place) (is : List Item) → all_told w (add w (leaf_item e) is) ≡ joined w (satisfies e row n) (all_told w is)
-  lone_told w e is = add_told w (leaf_item e) is ∙ ap (λ b. joined w b (all_told w is)) (leaf_told e)
+  lone_told w e is = add_told w (leaf_item e) is ∙ ap (λ b. joined w b (all_told w is)) (leaf_told w e)
 
   pub collected_told : (w : Bool) (e : Tree Place) (is : List Item) → all_told w (collected w e is) ≡ joined w (satisfies e row n) (all_told w is)
   collected_told true (binary And l r) is =

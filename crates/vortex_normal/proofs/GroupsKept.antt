@@ -7,8 +7,8 @@ use Rattle.vortex_base.specs.declared.scalar_value.ScalarValue.{ScalarValue}
 use Rattle.vortex_base.specs.declared.types.Operator.{Operator}
 use Rattle.vortex_base.specs.declared.types.Operator.TheVariants.{Eq, NotEq, Gt, Gte, Lt, Lte, And, Or}
 use Rattle.vortex_base.specs.declared.types.StrictComparison.TheVariants.{Strict, NonStrict}
-use Rattle.vortex_normal.specs.Groups.{Item, inside, other, add, add_set, as_one, binary_item, collected, compared_item, grouped, is_of, item_test, items_test, joined_test, leaf_item, not_null_item, null_item, widened}
-use Rattle.vortex_normal.specs.Intervals.{Cut, Lowest, Before, After, Highest, Interval, all_but, at_most, between_cuts, hole_by, is_full, literal_as, range_of, set_test, swapped, values_test}
+use Rattle.vortex_normal.specs.Groups.{Item, inside, other, add, add_sets, as_one, binary_item, collected, compared_item, grouped, is_of, item_test, items_test, joined_test, leaf_item, lone_item, not_null_item, null_item, widened}
+use Rattle.vortex_normal.specs.Intervals.{Cut, Lowest, Before, After, Highest, Interval, all_but, at_most, between_cuts, combined, hole_by, is_full, literal_as, range_of, set_test, swapped, values_test}
 use Rattle.vortex_rewrite.specs.Rewriting.Falsifiers.{bool_literal}
 use Rattle.vortex_normal.specs.Pushed.{connected}
 use Rattle.vortex_normal.proofs.Forms.{connected_kept}
@@ -72,16 +72,16 @@ module _ (P : Tree Place → Type 0) (i : IsInherited P) (d : IsPassedDown P) wh
   values_have c h true [] = i.of_null (column c) h
   values_have c h true (x ∷ xs) = null_if c h (x ∷ xs) (is_full (x ∷ xs))
 
-  pub item_has : (x : Item) → Has x → P (item_test x)
-  item_has (inside c m is) h = values_have c h m is
-  item_has (other e) h = h
+  pub item_has : (w : Bool) (x : Item) → Has x → P (item_test w x)
+  item_has w (inside c m iss) h = values_have c h m (combined w iss)
+  item_has w (other e) h = h
 
   joined_has : (w : Bool) (l r : Tree Place) → P l → P r → P (connected w l r)
   joined_has w l r h k = connected_kept P l r h k w (i.of_binary And l r h k) (i.of_binary Or l r h k)
 
   pub all_have : (w : Bool) (xs : List Item) (e : Tree Place) → Have xs → P e → P (joined_test w xs e)
   all_have w [] e h k = k
-  all_have w (x ∷ xs) e h k = joined_has w (item_test x) (joined_test w xs e) (item_has x h.0) (all_have w xs e h.1 k)
+  all_have w (x ∷ xs) e h k = joined_has w (item_test w x) (joined_test w xs e) (item_has w x h.0) (all_have w xs e h.1 k)
 
   items_have : (w : Bool) (xs : List Item) → Have xs → P (items_test w xs)
   items_have w xs h = all_have w xs (bool_literal w) h (i.of_literal _)
@@ -121,30 +121,34 @@ module _ (P : Tree Place → Type 0) (i : IsInherited P) (d : IsPassedDown P) wh
   leaf_has (is_not_null x) h = not_null_has x h
   leaf_has e h = h
 
-  widened_has : (w m : Bool) (is : List Interval) (x : Item) → Has x → Has (widened w m is x)
-  widened_has w m is (inside c k js) h = h
-  widened_has w m is (other e) h = h
+  widened_has : (w m : Bool) (iss : List (List Interval)) (x : Item) → Has x → Has (widened w m iss x)
+  widened_has w m iss (inside c k jss) h = h
+  widened_has w m iss (other e) h = h
 
-  add_if : (w : Bool) (c : Place) (m : Bool) (is : List Interval) (y : Item) (ys : List Item) (b : Bool) → Has y → Have ys → Have (add_set w c m is ys)
-      → Have (if b then widened w m is y ∷ ys else y ∷ add_set w c m is ys)
-  add_if w c m is y ys true h k r = (widened_has w m is y h, k)
-  add_if w c m is y ys false h k r = (h, r)
+  add_if : (w : Bool) (c : Place) (m : Bool) (iss : List (List Interval)) (y : Item) (ys : List Item) (b : Bool) → Has y → Have ys → Have (add_sets w c m iss ys)
+      → Have (if b then widened w m iss y ∷ ys else y ∷ add_sets w c m iss ys)
+  add_if w c m iss y ys true h k r = (widened_has w m iss y h, k)
+  add_if w c m iss y ys false h k r = (h, r)
 
-  add_set_has : (w : Bool) (c : Place) (m : Bool) (is : List Interval) (ys : List Item) → P (column c) → Have ys → Have (add_set w c m is ys)
-  add_set_has w c m is [] h k = (h, tt)
-  add_set_has w c m is (y ∷ ys) h k = add_if w c m is y ys (is_of c y) k.0 k.1 (add_set_has w c m is ys h k.1)
+  add_sets_has : (w : Bool) (c : Place) (m : Bool) (iss : List (List Interval)) (ys : List Item) → P (column c) → Have ys → Have (add_sets w c m iss ys)
+  add_sets_has w c m iss [] h k = (h, tt)
+  add_sets_has w c m iss (y ∷ ys) h k = add_if w c m iss y ys (is_of c y) k.0 k.1 (add_sets_has w c m iss ys h k.1)
 
   last_has : (x : Item) (ys : List Item) → Has x → Have ys → Have (ys ++ x ∷ [])
   last_has x [] h k = (h, tt)
   last_has x (y ∷ ys) h k = (k.0, last_has x ys h k.1)
 
   add_has : (w : Bool) (x : Item) (ys : List Item) → Has x → Have ys → Have (add w x ys)
-  add_has w (inside c m is) ys h k = add_set_has w c m is ys h k
+  add_has w (inside c m iss) ys h k = add_sets_has w c m iss ys h k
   add_has w (other e) ys h k = last_has (other e) ys h k
+
+  alone_has : (w : Bool) (x : Item) → Has x → Has (lone_item w x)
+  alone_has w (inside c m iss) h = h
+  alone_has w (other e) h = h
 
   pub as_one_has : (v : Bool) (xs : List Item) → Have xs → Has (as_one v xs)
   as_one_has v [] h = items_have v [] h
-  as_one_has v (x ∷ []) h = h.0
+  as_one_has v (x ∷ []) h = alone_has v x h.0
   as_one_has v (x ∷ y ∷ xs) h = items_have v (x ∷ y ∷ xs) h
 
   lone_has : (w : Bool) (e : Tree Place) (xs : List Item) → P e → Have xs → Have (add w (leaf_item e) xs)

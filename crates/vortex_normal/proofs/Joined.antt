@@ -13,7 +13,7 @@ use Rattle.vortex_rewrite.proofs.Soundness.TruthLogic.{clash, refuted}
 use Rattle.vortex_rewrite.specs.Rewriting.Falsifiers.{bool_literal}
 use Rattle.vortex_rewrite.specs.Rewriting.Predicates.{is_predicate}
 use Rattle.vortex_rewrite.specs.Rewriting.ReadOnce.{are_apart, are_sides_apart, columns_of, has_index, is_apart, is_simple}
-use Rattle.vortex_normal.specs.Groups.{Item, inside, other, add, add_set, as_one, collected, grouped, is_of, item_test, items_test, joined_test, leaf_item, widened}
+use Rattle.vortex_normal.specs.Groups.{Item, inside, other, add, add_sets, as_one, collected, grouped, is_of, item_test, items_test, joined_test, leaf_item, lone_item, widened}
 use Rattle.vortex_normal.specs.Intervals.{Interval}
 use Rattle.vortex_normal.specs.OneColumn.{IsJoining, IsOneOf, IsSelective, JoiningsAreApart, OneColumnIsApart, are_ends_seen, is_over}
 use Rattle.vortex_normal.specs.Pushed.{all_of, any_of, connected, decided, pushed}
@@ -72,8 +72,8 @@ module _ (test : Place → Bool) where
   abbrev Pass : List Item → Type 0
   Pass xs = Have (Holds test) (columns_inherited test) (columns_down test) xs
 
-  passes_test : (x : Item) → ItemPasses x → all_columns test (item_test x) ≡ true
-  passes_test x h = item_has (Holds test) (columns_inherited test) (columns_down test) x h
+  passes_test : (w : Bool) (x : Item) → ItemPasses x → all_columns test (item_test w x) ≡ true
+  passes_test w x h = item_has (Holds test) (columns_inherited test) (columns_down test) w x h
 
   passes_leaf : (e : Tree Place) → all_columns test e ≡ true → ItemPasses (leaf_item e)
   passes_leaf e h = leaf_has (Holds test) (columns_inherited test) (columns_down test) e h
@@ -92,7 +92,7 @@ module _ (test : Place → Bool) where
   pass_append (x ∷ xs) ys h k = (h.0, pass_append xs ys h.1 k)
 
 item_weaker : (test other_test : Place → Bool) → ((c : Place) → test c ≡ true → other_test c ≡ true) → (x : Item) → ItemPasses test x → ItemPasses other_test x
-item_weaker test other_test f (inside c m is) h = f c h
+item_weaker test other_test f (inside c m iss) h = f c h
 item_weaker test other_test f (other e) h = weaker test other_test f e h
 
 weaker_items : (test other_test : Place → Bool) → ((c : Place) → test c ≡ true → other_test c ≡ true) → (xs : List Item) → Pass test xs → Pass other_test xs
@@ -102,20 +102,20 @@ weaker_items test other_test f (x ∷ xs) h = (item_weaker test other_test f x h
 -- ---- what is said of other columns is added behind
 
 module _ (ds : List Place) where
-  not_of : (w : Bool) (c d : Place) (m : Bool) (is : List Interval) (x : Item) (js ks : List Item) → has_index c.index ds ≡ true → ItemPasses (avoids ds) x → (b : Bool) → is_of c x ≡ b
-      → add_set w c m is (js ++ ks) ≡ js ++ add_set w c m is ks
-      → (if b then widened w m is x ∷ (js ++ ks) else x ∷ add_set w c m is (js ++ ks)) ≡ x ∷ (js ++ add_set w c m is ks)
-  not_of w c d m is (inside f n ls) js ks there h true e r =
+  not_of : (w : Bool) (c d : Place) (m : Bool) (iss : List (List Interval)) (x : Item) (js ks : List Item) → has_index c.index ds ≡ true → ItemPasses (avoids ds) x → (b : Bool) → is_of c x ≡ b
+      → add_sets w c m iss (js ++ ks) ≡ js ++ add_sets w c m iss ks
+      → (if b then widened w m iss x ∷ (js ++ ks) else x ∷ add_sets w c m iss (js ++ ks)) ≡ x ∷ (js ++ add_sets w c m iss ks)
+  not_of w c d m iss (inside f n jss) js ks there h true e r =
       clash there (ap (λ (p : Place). has_index p.index ds) (same_place c f e) ∙ not-true (has_index f.index ds) h)
-  not_of w c d m is (other q) js ks there h true e r = cc
-  not_of w c d m is x js ks there h false e r = ap (λ l. x ∷ l) r
+  not_of w c d m iss (other q) js ks there h true e r = cc
+  not_of w c d m iss x js ks there h false e r = ap (λ l. x ∷ l) r
 
-  set_behind : (w : Bool) (c : Place) (m : Bool) (is : List Interval) (js ks : List Item) → has_index c.index ds ≡ true → Pass (avoids ds) js → add_set w c m is (js ++ ks) ≡ js ++ add_set w c m is ks
-  set_behind w c m is [] ks there h = refl
-  set_behind w c m is (j ∷ js) ks there h = not_of w c c m is j js ks there h.0 (is_of c j) refl (set_behind w c m is js ks there h.1)
+  sets_behind : (w : Bool) (c : Place) (m : Bool) (iss : List (List Interval)) (js ks : List Item) → has_index c.index ds ≡ true → Pass (avoids ds) js → add_sets w c m iss (js ++ ks) ≡ js ++ add_sets w c m iss ks
+  sets_behind w c m iss [] ks there h = refl
+  sets_behind w c m iss (j ∷ js) ks there h = not_of w c c m iss j js ks there h.0 (is_of c j) refl (sets_behind w c m iss js ks there h.1)
 
   add_behind : (w : Bool) (x : Item) (js ks : List Item) → ItemPasses (within ds) x → Pass (avoids ds) js → add w x (js ++ ks) ≡ js ++ add w x ks
-  add_behind w (inside c m is) js ks h k = set_behind w c m is js ks h k
+  add_behind w (inside c m iss) js ks h k = sets_behind w c m iss js ks h k
   add_behind w (other e) js ks h k = append_assoc js ks (other e ∷ [])
 
   leaf_behind : (w : Bool) (e : Tree Place) (js ks : List Item) → all_columns (within ds) e ≡ true → Pass (avoids ds) js → add w (leaf_item e) (js ++ ks) ≡ js ++ add w (leaf_item e) ks
@@ -148,21 +148,21 @@ module _ (ds : List Place) where
 -- ---- items that bounds decide: those of an AND have no column in common
 
 abbrev AreApartFrom : (is_and : Bool) → Item → List Item → Type 0
-AreApartFrom true x xs = Pass (avoids (columns_of (item_test x))) xs
+AreApartFrom true x xs = Pass (avoids (columns_of (item_test true x))) xs
 AreApartFrom false x xs = Unit {0}
 
 abbrev AreDecided : (is_and : Bool) → List Item → Type 0
 AreDecided w [] = Unit {0}
-AreDecided w (x ∷ xs) = (is_apart (item_test x) ≡ true) × (AreApartFrom w x xs × AreDecided w xs)
+AreDecided w (x ∷ xs) = (is_apart (item_test w x) ≡ true) × (AreApartFrom w x xs × AreDecided w xs)
 
 module _ (ds : List Place) where
-  avoid_item : (x : Item) → ItemPasses (avoids ds) x → (c : Place) → within ds c ≡ true → avoids (columns_of (item_test x)) c ≡ true
+  avoid_item : (x : Item) → ItemPasses (avoids ds) x → (c : Place) → within ds c ≡ true → avoids (columns_of (item_test true x)) c ≡ true
   avoid_item x h c there =
-      ap not_b (not_in ds (columns_of (item_test x)) (each_column (avoids ds) (item_test x) (passes_test (avoids ds) x h)) c.index there)
+      ap not_b (not_in ds (columns_of (item_test true x)) (each_column (avoids ds) (item_test true x) (passes_test (avoids ds) true x h)) c.index there)
 
   apart_append : (w : Bool) (x : Item) (xs ys : List Item) → ItemPasses (avoids ds) x → AreApartFrom w x xs → Pass (within ds) ys → AreApartFrom w x (xs ++ ys)
   apart_append true x xs ys h k r =
-      pass_append (avoids (columns_of (item_test x))) xs ys k (weaker_items (within ds) (avoids (columns_of (item_test x))) (avoid_item x h) ys r)
+      pass_append (avoids (columns_of (item_test true x))) xs ys k (weaker_items (within ds) (avoids (columns_of (item_test true x))) (avoid_item x h) ys r)
   apart_append false x xs ys h k r = tt
 
   decided_append : (w : Bool) (xs ys : List Item) → AreDecided w xs → AreDecided w ys → Pass (avoids ds) xs → Pass (within ds) ys → AreDecided w (xs ++ ys)
@@ -175,15 +175,15 @@ and_apart l r h k a =
     let q = and_parts (is_simple r) (are_sides_apart r) k in
     both_hold _ _ (both_hold _ _ p.0 q.0) (both_hold _ _ a (both_hold _ _ p.1 q.1))
 
-more_apart : (w : Bool) (x : Item) (xs : List Item) → is_apart (item_test x) ≡ true → AreApartFrom w x xs → is_apart (joined_test w xs (bool_literal w)) ≡ true → is_apart (connected w (item_test x) (joined_test w xs (bool_literal w))) ≡ true
+more_apart : (w : Bool) (x : Item) (xs : List Item) → is_apart (item_test w x) ≡ true → AreApartFrom w x xs → is_apart (joined_test w xs (bool_literal w)) ≡ true → is_apart (connected w (item_test w x) (joined_test w xs (bool_literal w))) ≡ true
 unfolding all_of any_of
 more_apart true x xs h a k =
-    let l = item_test x in
+    let l = item_test true x in
     let r = joined_test true xs (bool_literal true) in
     let apart = apart_of (columns_of l) (columns_of r) (each_column (avoids (columns_of l)) r (pass_joined (avoids (columns_of l)) true xs a)) in
     all_by_kept (λ e. is_apart e ≡ true) l r h k (decided l) (decided r) (and_apart l r h k apart)
 more_apart false x xs h a k =
-    let l = item_test x in
+    let l = item_test false x in
     let r = joined_test false xs (bool_literal false) in
     any_by_kept (λ e. is_apart e ≡ true) l r h k (decided l) (decided r) (or_apart l r h k)
 
@@ -195,10 +195,14 @@ items_apart : (w : Bool) (xs : List Item) → AreDecided w xs → is_apart (item
 items_apart w [] h = truth_apart w
 items_apart w (x ∷ xs) h = more_apart w x xs h.0 h.1.0 (items_apart w xs h.1.1)
 
-one_apart : (w : Bool) (xs : List Item) → AreDecided w xs → is_apart (item_test (as_one w xs)) ≡ true
-one_apart w [] h = items_apart w [] h
-one_apart w (x ∷ []) h = h.0
-one_apart w (x ∷ y ∷ xs) h = items_apart w (x ∷ y ∷ xs) h
+lone_apart : (v w : Bool) (x : Item) → is_apart (item_test w x) ≡ true → is_apart (item_test v (lone_item w x)) ≡ true
+lone_apart v w (inside c m iss) h = h
+lone_apart v w (other e) h = h
+
+one_apart : (v w : Bool) (xs : List Item) → AreDecided w xs → is_apart (item_test v (as_one w xs)) ≡ true
+one_apart v w [] h = items_apart w [] h
+one_apart v w (x ∷ []) h = lone_apart v w x h.0
+one_apart v w (x ∷ y ∷ xs) h = items_apart w (x ∷ y ∷ xs) h
 
 -- ---- trees whose items are decided, whichever chain they stand in
 
@@ -208,11 +212,11 @@ IsDecidedTree e = (decided e ≡ None) × ((w : Bool) → AreDecided w (collecte
 tree_undecided : (e : Tree Place) → IsDecidedTree e → decided e ≡ None
 tree_undecided e h = h.0
 
-alone : (v w : Bool) (x : Item) → is_apart (item_test x) ≡ true → AreDecided v (add w x [])
-alone true w (inside c m is) h = (h, (tt, tt))
-alone true w (other e) h = (h, (tt, tt))
-alone false w (inside c m is) h = (h, (tt, tt))
-alone false w (other e) h = (h, (tt, tt))
+alone : (v : Bool) (x : Item) → is_apart (item_test v x) ≡ true → AreDecided v (add v x [])
+alone true (inside c m iss) h = (h, (tt, tt))
+alone true (other e) h = (h, (tt, tt))
+alone false (inside c m iss) h = (h, (tt, tt))
+alone false (other e) h = (h, (tt, tt))
 
 module _ (ds : List Place) (l r : Tree Place) (apart : all_columns (avoids ds) l ≡ true) (inside_r : all_columns (within ds) r ≡ true) (dl : IsDecidedTree l) (dr : IsDecidedTree r) where
   both_decided : (w : Bool) → AreDecided w (collected w r (collected w l []))
@@ -228,13 +232,13 @@ module _ (ds : List Place) (l r : Tree Place) (apart : all_columns (avoids ds) l
     where
       and_in : (w : Bool) → AreDecided w (collected w (binary And l r) [])
       and_in true = both_decided true
-      and_in false = alone false false (as_one true (collected true r (collected true l []))) (one_apart true (collected true r (collected true l [])) (both_decided true))
+      and_in false = alone false (as_one true (collected true r (collected true l []))) (one_apart false true (collected true r (collected true l [])) (both_decided true))
 
   or_decided : IsDecidedTree (binary Or l r)
   or_decided = (refl, or_in)
     where
       or_in : (w : Bool) → AreDecided w (collected w (binary Or l r) [])
-      or_in true = alone true true (as_one false (collected false r (collected false l []))) (one_apart false (collected false r (collected false l [])) (both_decided false))
+      or_in true = alone true (as_one false (collected false r (collected false l []))) (one_apart true false (collected false r (collected false l [])) (both_decided false))
       or_in false = both_decided false
 
 -- ---- joinings, pushed down
@@ -248,7 +252,7 @@ chain_decided c p predicate over seen s = ⊎_elim (λ b. inl b) (λ h. inr (und
     items : is_chain c (pushed true p) ≡ true → (w : Bool) → AreDecided w (collected w (pushed true p) [])
     items h w =
         let one = chain_apart c p predicate over seen s h w in
-        subst (AreDecided w) (sym one.1) (alone w w (inside c false one.0) one.2)
+        subst (AreDecided w) (sym one.1) (alone w (inside c false one.0) one.2)
 
 one_settled : (w : Bool) (p : Tree Place) → is_predicate p ≡ true → IsOneOf w p → IsSettled (pushed w p)
 one_settled true p predicate o = chain_decided o.0 p predicate o.1 o.2 o.3

@@ -1,4 +1,5 @@
 mod Adding
+mod Chained
 pub mod Columns
 mod Fits
 mod Folded
@@ -12,7 +13,9 @@ mod OneColumn
 mod OneColumnApart
 mod OneColumnRows
 mod Readings
+mod SetRows
 mod Sets
+mod Sorting
 mod Steps
 mod Texts
 mod Told

@@ -19,7 +19,7 @@ use Rattle.vortex_rewrite.proofs.Soundness.TruthLogic.{clash}
 use Rattle.vortex_rewrite.specs.Rewriting.Falsifiers.{bool_literal, bytes_literal}
 use Rattle.vortex_rewrite.specs.Rewriting.ReadOnce.{is_simple_binary}
 use Rattle.vortex_normal.specs.Groups.{Item, inside, other, add, as_one, binary_item, collected, compared_item, leaf_item, widened}
-use Rattle.vortex_normal.specs.Intervals.{Interval, swapped}
+use Rattle.vortex_normal.specs.Intervals.{Interval, combined, swapped}
 use Rattle.vortex_normal.specs.OneColumn.{is_constant, is_operand_over, is_over}
 use Rattle.vortex_normal.specs.Pushed.{as_comparisons, comparison, comparison_of, connected, decided, folded, is_literal, is_reflexive, like_as, liked, null_test, operator_as, pushed, settled}
 use Rattle.vortex_normal.proofs.Columns.{same_place}
@@ -212,7 +212,7 @@ module _ (c : Place) where
   -- ---- such a tree is one item of the column
 
   abbrev pub IsSaid : Item → Type 0
-  IsSaid (inside d m is) = d ≡ c
+  IsSaid (inside d m iss) = d ≡ c
   IsSaid (other e) = ⊥
 
   abbrev pub IsOne : List Item → Type 0
@@ -230,21 +230,22 @@ module _ (c : Place) where
   at_most_one (x ∷ []) h = h
   at_most_one (x ∷ y ∷ xs) h = h
 
-  widened_one : (w : Bool) (d f : Place) (m k : Bool) (is js : List Interval) → d ≡ c → f ≡ c → (b : Bool) → place_eq d f ≡ b
-      → IsOne (if b then widened w m is (inside f k js) ∷ [] else inside f k js ∷ inside d m is ∷ [])
-  widened_one w d f m k is js h i true e = i
-  widened_one w d f m k is js h i false e = clash (subst₂ (λ x y. place_eq x y ≡ true) (sym h) (sym i) (itself c)) e
+  widened_one : (w : Bool) (d f : Place) (m k : Bool) (iss jss : List (List Interval)) → d ≡ c → f ≡ c → (b : Bool) → place_eq d f ≡ b
+      → IsOne (if b then widened w m iss (inside f k jss) ∷ [] else inside f k jss ∷ inside d m iss ∷ [])
+  widened_one w d f m k iss jss h i true e = i
+  widened_one w d f m k iss jss h i false e = clash (subst₂ (λ x y. place_eq x y ≡ true) (sym h) (sym i) (itself c)) e
 
   add_one : (w : Bool) (x : Item) (ys : List Item) → IsSaid x → IsAtMostOne ys → IsOne (add w x ys)
-  add_one w (inside d m is) [] h k = h
-  add_one w (inside d m is) (inside f n js ∷ []) h k = widened_one w d f m n is js h k (place_eq d f) refl
-  add_one w (inside d m is) (other e ∷ []) h k = absurd k
-  add_one w (inside d m is) (x ∷ y ∷ xs) h k = absurd k
+  add_one w (inside d m iss) [] h k = h
+  add_one w (inside d m iss) (inside f n jss ∷ []) h k = widened_one w d f m n iss jss h k (place_eq d f) refl
+  add_one w (inside d m iss) (other e ∷ []) h k = absurd k
+  add_one w (inside d m iss) (x ∷ y ∷ xs) h k = absurd k
   add_one w (other e) ys h k = absurd h
 
   as_one_said : (v : Bool) (xs : List Item) → IsOne xs → IsSaid (as_one v xs)
   as_one_said v [] h = absurd h
-  as_one_said v (x ∷ []) h = h
+  as_one_said v (inside d m iss ∷ []) h = h
+  as_one_said v (other e ∷ []) h = absurd h
   as_one_said v (x ∷ y ∷ xs) h = absurd h
 
   compared_said : (o : Operator) (d : Place) (v : Option ScalarValue) (e : Tree Place) → is_comparison o ≡ true → is_some v ≡ true → d ≡ c → IsSaid (compared_item o d v e)
@@ -315,38 +316,63 @@ module _ (c : Place) where
   collected_one w (stat f x) xs h k = cc
   collected_one w row_count xs h k = cc
 
-  pub the_one : (xs : List Item) → IsOne xs → (m : Bool) × (is : List Interval) × (xs ≡ inside c m is ∷ [])
+  pub the_one : (xs : List Item) → IsOne xs → (m : Bool) × (iss : List (List Interval)) × (xs ≡ inside c m iss ∷ [])
   the_one [] h = absurd h
-  the_one (inside d m is ∷ []) h = (m, is, ap (λ x. inside x m is ∷ []) h)
+  the_one (inside d m iss ∷ []) h = (m, iss, ap (λ x. inside x m iss ∷ []) h)
   the_one (other e ∷ []) h = absurd h
   the_one (x ∷ y ∷ xs) h = absurd h
 
-  -- it is the same item in a chain by AND and by OR
+  -- it comes to the same one item in a chain by AND and by OR
 
-  added_alone : (w : Bool) (x : Item) → IsSaid x → add w x [] ≡ add true x []
-  added_alone w (inside d m is) h = refl
-  added_alone w (other e) h = absurd h
+  compared_alone : (w : Bool) (o : Operator) (d : Place) (v : Option ScalarValue) (e : Tree Place) → as_one w (add w (compared_item o d v e) []) ≡ as_one true (add true (compared_item o d v e) [])
+  compared_alone w And d v e = refl
+  compared_alone w Or d v e = refl
+  compared_alone w Eq d (Some v) e = refl
+  compared_alone w NotEq d (Some v) e = refl
+  compared_alone w Gt d (Some v) e = refl
+  compared_alone w Gte d (Some v) e = refl
+  compared_alone w Lt d (Some v) e = refl
+  compared_alone w Lte d (Some v) e = refl
+  compared_alone w Eq d None e = refl
+  compared_alone w NotEq d None e = refl
+  compared_alone w Gt d None e = refl
+  compared_alone w Gte d None e = refl
+  compared_alone w Lt d None e = refl
+  compared_alone w Lte d None e = refl
 
-  one_alone : (v w : Bool) (xs : List Item) → IsOne xs → add v (as_one w xs) [] ≡ xs
+  binary_alone : (w : Bool) (o : Operator) (l r e : Tree Place) → as_one w (add w (binary_item o l r e) []) ≡ as_one true (add true (binary_item o l r e) [])
+  binary_alone w o (column d) (literal v) e = compared_alone w o d v.value e
+  binary_alone w o (literal v) (column d) e = compared_alone w (swapped o) d v.value e
+  binary_alone w o l r e = refl
+
+  null_alone : (w : Bool) (x : Tree Place) → as_one w (add w (leaf_item (is_null x)) []) ≡ as_one true (add true (leaf_item (is_null x)) [])
+  null_alone w (column d) = refl
+  null_alone w x = refl
+
+  some_alone : (w : Bool) (x : Tree Place) → as_one w (add w (leaf_item (is_not_null x)) []) ≡ as_one true (add true (leaf_item (is_not_null x)) [])
+  some_alone w (column d) = refl
+  some_alone w x = refl
+
+  one_alone : (v w : Bool) (xs : List Item) → IsOne xs → as_one v (add v (as_one w xs) []) ≡ as_one w xs
   one_alone v w [] h = absurd h
-  one_alone v w (inside d m is ∷ []) h = refl
+  one_alone v w (inside d m iss ∷ []) h = refl
   one_alone v w (other e ∷ []) h = absurd h
   one_alone v w (x ∷ y ∷ xs) h = absurd h
 
-  pub alone_same : (w : Bool) (e : Tree Place) → is_chain e ≡ true → collected w e [] ≡ collected true e []
+  pub alone_same : (w : Bool) (e : Tree Place) → is_chain e ≡ true → as_one w (collected w e []) ≡ as_one true (collected true e [])
   alone_same true e h = refl
   alone_same false (binary And l r) h =
       one_alone false true (collected true r (collected true l [])) (collected_one true (binary And l r) [] h tt)
   alone_same false (binary Or l r) h =
       sym (one_alone true false (collected false r (collected false l [])) (collected_one false (binary Or l r) [] h tt))
-  alone_same false (binary Eq l r) h = added_alone false (leaf_item (binary Eq l r)) (binary_said Eq l r (binary Eq l r) refl h)
-  alone_same false (binary NotEq l r) h = added_alone false (leaf_item (binary NotEq l r)) (binary_said NotEq l r (binary NotEq l r) refl h)
-  alone_same false (binary Gt l r) h = added_alone false (leaf_item (binary Gt l r)) (binary_said Gt l r (binary Gt l r) refl h)
-  alone_same false (binary Gte l r) h = added_alone false (leaf_item (binary Gte l r)) (binary_said Gte l r (binary Gte l r) refl h)
-  alone_same false (binary Lt l r) h = added_alone false (leaf_item (binary Lt l r)) (binary_said Lt l r (binary Lt l r) refl h)
-  alone_same false (binary Lte l r) h = added_alone false (leaf_item (binary Lte l r)) (binary_said Lte l r (binary Lte l r) refl h)
-  alone_same false (is_null x) h = added_alone false (leaf_item (is_null x)) (null_said x h).0
-  alone_same false (is_not_null x) h = added_alone false (leaf_item (is_not_null x)) (null_said x h).1
+  alone_same false (binary Eq l r) h = binary_alone false Eq l r (binary Eq l r)
+  alone_same false (binary NotEq l r) h = binary_alone false NotEq l r (binary NotEq l r)
+  alone_same false (binary Gt l r) h = binary_alone false Gt l r (binary Gt l r)
+  alone_same false (binary Gte l r) h = binary_alone false Gte l r (binary Gte l r)
+  alone_same false (binary Lt l r) h = binary_alone false Lt l r (binary Lt l r)
+  alone_same false (binary Lte l r) h = binary_alone false Lte l r (binary Lte l r)
+  alone_same false (is_null x) h = null_alone false x
+  alone_same false (is_not_null x) h = some_alone false x
   alone_same false (column d) h = cc
   alone_same false (literal v) h = cc
   alone_same false (between o x l u) h = cc
@@ -354,3 +380,23 @@ module _ (c : Place) where
   alone_same false (like o x p) h = cc
   alone_same false (stat f x) h = cc
   alone_same false row_count h = cc
+
+  -- whether null counts in such an item, and its set
+
+  abbrev null_counts : Item → Bool
+  null_counts (inside d m iss) = m
+  null_counts (other e) = false
+
+  abbrev first_set : Item → List Interval
+  first_set (inside d m (is ∷ iss)) = is
+  first_set x = []
+
+  module _ (w : Bool) (e : Tree Place) (m n : Bool) (iss jss : List (List Interval)) (h : is_chain e ≡ true) (own : collected w e [] ≡ inside c m iss ∷ []) (one : collected true e [] ≡ inside c n jss ∷ []) where
+    same_item : inside c m (combined w iss ∷ []) ≡ inside c n (combined true jss ∷ [])
+    same_item = sym (ap (as_one w) own) ∙ alone_same w e h ∙ ap (as_one true) one
+
+    pub same_null : m ≡ n
+    same_null = ap null_counts same_item
+
+    pub same_set : combined w iss ≡ combined true jss
+    same_set = ap first_set same_item

@@ -27,14 +27,14 @@ use Rattle.vortex_rewrite.specs.Rewriting.Falsifiers.{bool_literal}
 use Rattle.vortex_rewrite.specs.Rewriting.Predicates.{is_predicate}
 use Rattle.vortex_rewrite.specs.Rewriting.ReadOnce.{are_sides_apart, columns_of, has_closed_end, is_apart, is_number_type, is_simple}
 use Rattle.vortex_normal.specs.Groups.{inside, collected, items_test, normal}
-use Rattle.vortex_normal.specs.Intervals.{Cut, Lowest, Before, After, Highest, Interval, all_but, at_most, between_cuts, contains, cuts_all, in_set, literal_as, hole_by, only_hole, range_of, set_test}
+use Rattle.vortex_normal.specs.Intervals.{Cut, Lowest, Before, After, Highest, Interval, all_but, at_most, between_cuts, combined, contains, cuts_all, in_set, literal_as, hole_by, only_hole, range_of, set_test}
 use Rattle.vortex_normal.specs.OneColumn.{IsSelective, are_ends_seen, is_constant, is_open_range, is_operand_over, is_over}
 use Rattle.vortex_normal.specs.Pushed.{all_by, all_of, as_comparisons, connected, decided, is_literal, pushed}
 use Rattle.vortex_normal.proofs.Folded.{no_columns}
 use Rattle.vortex_normal.proofs.Grouped.{all_told, collected_told, full_cuts, is_among, joined_unit}
 use Rattle.vortex_normal.proofs.Columns.{same_place}
 use Rattle.vortex_normal.proofs.Matched.{literal_pattern}
-use Rattle.vortex_normal.proofs.OneColumn.{alone_same, collected_one, is_chain, the_one}
+use Rattle.vortex_normal.proofs.OneColumn.{collected_one, is_chain, same_null, same_set, the_one}
 use Rattle.vortex_normal.proofs.Told.{pushed_same}
 
 -- ---- sets as predicates that bounds decide
@@ -379,10 +379,13 @@ module _ (c : Place) where
           pushed_same p predicate own_row 0 (placed_row c.index k value) fits (lit< tt)
           ∙ ap is_true (meaning_agreed own_row row 0 p agree)
 
-    module _ (m : Bool) (is : List Interval) (form : collected true (pushed true p) [] ≡ inside c m is ∷ []) where
-      form_told : (row : List Constant) → is_among m is (cell_value (slice_get row c.index)) ≡ satisfies (pushed true p) row 0
+    module _ (m : Bool) (iss : List (List Interval)) (form : collected true (pushed true p) [] ≡ inside c m iss ∷ []) where
+      abbrev the_set : List Interval
+      the_set = combined true iss
+
+      form_told : (row : List Constant) → is_among m the_set (cell_value (slice_get row c.index)) ≡ satisfies (pushed true p) row 0
       form_told row =
-          sym (joined_unit true (is_among m is (cell_value (slice_get row c.index))))
+          sym (joined_unit true (is_among m the_set (cell_value (slice_get row c.index))))
           ∙ ap (all_told row 0 true) (sym form)
           ∙ collected_told row 0 true (pushed true p) []
           ∙ joined_unit true (satisfies (pushed true p) row 0)
@@ -394,34 +397,38 @@ module _ (c : Place) where
       null_left_out : IsSelective c p → m ≡ false
       null_left_out s =
           let of_null : Constant = null_of (as_nullable c.dtype) in
-          ap (is_among m is) (sym (there of_null [] (takes_null c.dtype) null_kind refl))
+          ap (is_among m the_set) (sym (there of_null [] (takes_null c.dtype) null_kind refl))
           ∙ form_told (own_row of_null [] (takes_null c.dtype) null_kind refl)
           ∙ same_told of_null [] (takes_null c.dtype) null_kind refl
           ∙ s.null_refused
 
-      value_left_out : (s : IsSelective c p) → in_set is s.value ≡ false
+      value_left_out : (s : IsSelective c p) → in_set the_set s.value ≡ false
       value_left_out s =
           let of_value : Constant = record { dtype = c.dtype; value = Some s.value } in
-          ap (is_among m is) (sym (there of_value s.row s.of_type same_kind s.cell))
+          ap (is_among m the_set) (sym (there of_value s.row s.of_type same_kind s.cell))
           ∙ form_told (own_row of_value s.row s.of_type same_kind s.cell)
           ∙ same_told of_value s.row s.of_type same_kind s.cell
           ∙ s.refused
 
-      normal_is : IsSelective c p → normal p ≡ connected true (set_test c is) (bool_literal true)
-      normal_is s = ap (items_test true) form ∙ ap (λ n. items_test true (inside c n is ∷ [])) (null_left_out s)
+      normal_is : IsSelective c p → normal p ≡ connected true (set_test c the_set) (bool_literal true)
+      normal_is s = ap (items_test true) form ∙ ap (λ n. items_test true (inside c n iss ∷ [])) (null_left_out s)
 
-      decided_by : (s : IsSelective c p) (n : Bool) → is_number_type c.dtype ≡ n → (n || not_b (some_node is_open_range (normal p))) ≡ true → are_decided is ≡ true
-      decided_by s true number seen = numbers_decided number s.value is (value_left_out s)
+      decided_by : (s : IsSelective c p) (n : Bool) → is_number_type c.dtype ≡ n → (n || not_b (some_node is_open_range (normal p))) ≡ true → are_decided the_set ≡ true
+      decided_by s true number seen = numbers_decided number s.value the_set (value_left_out s)
       decided_by s false number seen =
-          let closed : some_node is_open_range (connected true (set_test c is) (bool_literal true)) ≡ false =
+          let closed : some_node is_open_range (connected true (set_test c the_set) (bool_literal true)) ≡ false =
           ap (some_node is_open_range) (sym (normal_is s)) ∙ not-true (some_node is_open_range (normal p)) seen in
-          closed_decided s.value is (set_closed is (joined_closed (set_test c is) closed)) (value_left_out s)
+          closed_decided s.value the_set (set_closed the_set (joined_closed (set_test c the_set) closed)) (value_left_out s)
 
     -- so in a chain by AND or by OR it is one item, which bounds decide
-    pub chain_apart : are_ends_seen c p ≡ true → IsSelective c p → is_chain c (pushed true p) ≡ true → (v : Bool) → (is : List Interval) × (collected v (pushed true p) [] ≡ inside c false is ∷ []) × (is_apart (set_test c is) ≡ true)
+    pub chain_apart : are_ends_seen c p ≡ true → IsSelective c p → is_chain c (pushed true p) ≡ true → (v : Bool) → (iss : List (List Interval)) × (collected v (pushed true p) [] ≡ inside c false iss ∷ []) × (is_apart (set_test c (combined v iss)) ≡ true)
     chain_apart seen s h v =
-        let one = the_one c (collected true (pushed true p) []) (collected_one c true (pushed true p) [] h tt) in (
-          one.1,
-          alone_same c v (pushed true p) h ∙ one.2 ∙ ap (λ n. inside c n one.1 ∷ []) (null_left_out one.0 one.1 one.2 s),
-          set_apart one.1 (decided_by one.0 one.1 one.2 s (is_number_type c.dtype) refl seen),
+        let e = pushed true p in
+        let one = the_one c (collected true e []) (collected_one c true e [] h tt) in
+        let own = the_one c (collected v e []) (collected_one c v e [] h tt) in
+        let null = same_null c v e own.0 one.0 own.1 one.1 h own.2 one.2 ∙ null_left_out one.0 one.1 one.2 s in
+        let set = same_set c v e own.0 one.0 own.1 one.1 h own.2 one.2 in (
+          own.1,
+          own.2 ∙ ap (λ n. inside c n own.1 ∷ []) null,
+          ap (λ is. is_apart (set_test c is)) set ∙ set_apart (combined true one.1) (decided_by one.0 one.1 one.2 s (is_number_type c.dtype) refl seen),
         )

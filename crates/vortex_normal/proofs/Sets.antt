@@ -1,6 +1,7 @@
 -- What is in the sets that are made of sets.
 use Rattle.std.proofs.Common.{◌≡◌, Bool, true, false, not as not_b, ◌&&◌, ◌||◌, List, [], ◌∷◌, ◌++◌, refl, sym, ap, ap₂, ◌∙◌, if◌then◌else◌}
-use Rattle.std.proofs.lemmas.Bool.{and_parts, not-true, not-false}
+use Rattle.std.specs.List.{flat_map}
+use Rattle.std.proofs.lemmas.Bool.{not-true, not-false}
 use Rattle.vortex_base.specs.declared.scalar_value.ScalarValue.{ScalarValue}
 use Rattle.vortex_base.specs.declared.types.Operator.{Operator}
 use Rattle.vortex_base.specs.declared.types.Operator.TheVariants.{Eq, NotEq, Gt, Gte, Lt, Lte, And, Or}
@@ -9,7 +10,7 @@ use Rattle.vortex_base.specs.Data.Values.{value_cmp}
 use Rattle.vortex_rewrite.proofs.Completeness.Interval.{is_comparison}
 use Rattle.vortex_rewrite.proofs.Soundness.TruthLogic.{clash, refuted}
 use Rattle.vortex_rewrite.proofs.Soundness.ValueTests.{by_le, holds_by_le, le_total, le_trans}
-use Rattle.vortex_normal.specs.Intervals.{Cut, Lowest, Before, After, Highest, Interval, above, at_most, combined, comparison_set, contains, cut_le, higher, hull, in_set, insert, intersection, is_empty, lower, meet, meet_one, swapped, touches, union}
+use Rattle.vortex_normal.specs.Intervals.{Cut, Lowest, Before, After, Highest, Interval, above, at_most, combined, comparison_set, complement, contains, cut_le, higher, in_set, interval, is_empty, left_out, placed, share, sorted, swapped, unless_empty}
 use Rattle.vortex_normal.proofs.Told.{joined}
 
 -- ---- cuts are in a total order, and a value is above all cuts up to some place
@@ -56,15 +57,6 @@ and_first : (p q : Bool) → (p ≡ true → q ≡ true) → p ≡ (p && q)
 and_first false q f = refl
 and_first true q f = sym (f refl)
 
-or_first : (p q : Bool) → (q ≡ true → p ≡ true) → p ≡ (p || q)
-or_first true q f = refl
-or_first false true f = f refl
-or_first false false f = refl
-
-or_second : (p q : Bool) → (p ≡ true → q ≡ true) → q ≡ (p || q)
-or_second false q f = refl
-or_second true q f = f refl
-
 higher_by : (c d : Cut) (v : ScalarValue) (b : Bool) → cut_le c d ≡ b → above (if b then d else c) v ≡ (above c v && above d v)
 higher_by c d v true e = and_second (above c v) (above d v) (monotone c d v e)
 higher_by c d v false e = and_first (above c v) (above d v) (monotone d c v (total c d e))
@@ -72,42 +64,40 @@ higher_by c d v false e = and_first (above c v) (above d v) (monotone d c v (tot
 above_higher : (c d : Cut) (v : ScalarValue) → above (higher c d) v ≡ (above c v && above d v)
 above_higher c d v = higher_by c d v (cut_le c d) refl
 
-lower_by : (c d : Cut) (v : ScalarValue) (b : Bool) → cut_le c d ≡ b → above (if b then c else d) v ≡ (above c v || above d v)
-lower_by c d v true e = or_first (above c v) (above d v) (monotone c d v e)
-lower_by c d v false e = or_second (above c v) (above d v) (monotone d c v (total c d e))
-
-above_lower : (c d : Cut) (v : ScalarValue) → above (lower c d) v ≡ (above c v || above d v)
-above_lower c d v = lower_by c d v (cut_le c d) refl
+pub cut_trans : (c d e : Cut) → cut_le c d ≡ true → cut_le d e ≡ true → cut_le c e ≡ true
+cut_trans Lowest d e h k = refl
+cut_trans (Before x) Lowest e h k = cc
+cut_trans (Before x) (Before y) Lowest h k = cc
+cut_trans (Before x) (Before y) (Before z) h k = le_trans x y z h k
+cut_trans (Before x) (Before y) (After z) h k = le_trans x y z h k
+cut_trans (Before x) (Before y) Highest h k = refl
+cut_trans (Before x) (After y) Lowest h k = cc
+cut_trans (Before x) (After y) (Before z) h k = le_trans x y z h (not_at_most z y k)
+cut_trans (Before x) (After y) (After z) h k = le_trans x y z h k
+cut_trans (Before x) (After y) Highest h k = refl
+cut_trans (Before x) Highest Lowest h k = cc
+cut_trans (Before x) Highest (Before z) h k = cc
+cut_trans (Before x) Highest (After z) h k = cc
+cut_trans (Before x) Highest Highest h k = refl
+cut_trans (After x) Lowest e h k = cc
+cut_trans (After x) (Before y) Lowest h k = cc
+cut_trans (After x) (Before y) (Before z) h k = ap not_b (refuted (at_most z x) (λ a. clash (le_trans y z x k a) (not-true (at_most y x) h)))
+cut_trans (After x) (Before y) (After z) h k = le_trans x y z (not_at_most y x h) k
+cut_trans (After x) (Before y) Highest h k = refl
+cut_trans (After x) (After y) Lowest h k = cc
+cut_trans (After x) (After y) (Before z) h k = ap not_b (refuted (at_most z x) (λ a. clash (le_trans z x y a h) (not-true (at_most z y) k)))
+cut_trans (After x) (After y) (After z) h k = le_trans x y z h k
+cut_trans (After x) (After y) Highest h k = refl
+cut_trans (After x) Highest Lowest h k = cc
+cut_trans (After x) Highest (Before z) h k = cc
+cut_trans (After x) Highest (After z) h k = cc
+cut_trans (After x) Highest Highest h k = refl
+cut_trans Highest Lowest e h k = cc
+cut_trans Highest (Before y) e h k = cc
+cut_trans Highest (After y) e h k = cc
+cut_trans Highest Highest e h k = k
 
 -- ---- intervals
-
-four_meet : (a b c d : Bool) → ((a && b) && not_b (c || d)) ≡ ((a && not_b c) && (b && not_b d))
-four_meet false b c d = refl
-four_meet true false true d = refl
-four_meet true false false d = refl
-four_meet true true true d = refl
-four_meet true true false d = refl
-
-pub in_intersection : (i j : Interval) (v : ScalarValue) → contains (intersection i j) v ≡ (contains i v && contains j v)
-in_intersection i j v =
-    ap₂ (λ p q. p && not_b q) (above_higher i.low j.low v) (above_lower i.high j.high v)
-    ∙ four_meet (above i.low v) (above j.low v) (above i.high v) (above j.high v)
-
-four_hull : (a b c d : Bool) → (d ≡ true → a ≡ true) → (c ≡ true → b ≡ true) → ((a || b) && not_b (c && d)) ≡ ((a && not_b c) || (b && not_b d))
-four_hull true b false d f g = refl
-four_hull true true true d f g = refl
-four_hull true false true d f g = clash (g refl) refl
-four_hull false b c true f g = clash (f refl) refl
-four_hull false true true false f g = refl
-four_hull false true false false f g = refl
-four_hull false false true false f g = refl
-four_hull false false false false f g = refl
-
-pub in_hull : (i j : Interval) (v : ScalarValue) → touches i j ≡ true → contains (hull i j) v ≡ (contains i v || contains j v)
-in_hull i j v h =
-    let k = and_parts (cut_le i.low j.high) (cut_le j.low i.high) h in
-    ap₂ (λ p q. p && not_b q) (above_lower i.low j.low v) (above_higher i.high j.high v)
-    ∙ four_hull (above i.low v) (above j.low v) (above i.high v) (above j.high v) (monotone i.low j.high v k.0) (monotone j.low i.high v k.1)
 
 crossed : (a b : Bool) → (a ≡ true → b ≡ true) → (a && not_b b) ≡ false
 crossed false b f = refl
@@ -115,6 +105,40 @@ crossed true b f = ap not_b (f refl)
 
 pub in_empty : (i : Interval) (v : ScalarValue) → is_empty i ≡ true → contains i v ≡ false
 in_empty i v h = crossed (above i.low v) (above i.high v) (monotone i.high i.low v h)
+
+-- ---- intervals in the order of their low cuts
+
+abbrev pub AreFrom : Cut → List Interval → Type 0
+AreFrom c [] = Unit {0}
+AreFrom c (i ∷ is) = (cut_le c i.low ≡ true) × AreFrom c is
+
+abbrev pub AreInOrder : List Interval → Type 0
+AreInOrder [] = Unit {0}
+AreInOrder (i ∷ is) = AreFrom i.low is × AreInOrder is
+
+still_from : (c d : Cut) (is : List Interval) → cut_le c d ≡ true → AreFrom d is → AreFrom c is
+still_from c d [] h k = tt
+still_from c d (i ∷ is) h k = (cut_trans c d i.low h k.0, still_from c d is h k.1)
+
+from_if : (c : Cut) (i j : Interval) (js ks : List Interval) (b : Bool) → cut_le c i.low ≡ true → cut_le c j.low ≡ true → AreFrom c js → AreFrom c ks → AreFrom c (if b then i ∷ j ∷ js else j ∷ ks)
+from_if c i j js ks true h k f g = (h, (k, f))
+from_if c i j js ks false h k f g = (k, g)
+
+placed_from : (c : Cut) (i : Interval) (js : List Interval) → cut_le c i.low ≡ true → AreFrom c js → AreFrom c (placed i js)
+placed_from c i [] h k = (h, tt)
+placed_from c i (j ∷ js) h k = from_if c i j js (placed i js) (cut_le i.low j.low) h k.0 k.1 (placed_from c i js h k.1)
+
+order_if : (i j : Interval) (js : List Interval) (b : Bool) → cut_le i.low j.low ≡ b → AreInOrder (j ∷ js) → AreInOrder (placed i js) → AreInOrder (if b then i ∷ j ∷ js else j ∷ placed i js)
+order_if i j js true e h k = ((e, still_from i.low j.low js e h.0), h)
+order_if i j js false e h k = (placed_from j.low i js (total i.low j.low e) h.0, k)
+
+placed_in_order : (i : Interval) (js : List Interval) → AreInOrder js → AreInOrder (placed i js)
+placed_in_order i [] h = (tt, tt)
+placed_in_order i (j ∷ js) h = order_if i j js (cut_le i.low j.low) refl h (placed_in_order i js h.1)
+
+pub sorted_in_order : (is : List Interval) → AreInOrder (sorted is)
+sorted_in_order [] = tt
+sorted_in_order (i ∷ is) = placed_in_order i (sorted is) (sorted_in_order is)
 
 -- ---- sets
 
@@ -127,61 +151,107 @@ or_swap true true c = refl
 or_swap true false c = refl
 or_swap false b c = refl
 
+-- the sets' values together: those in all of them, or in any
+abbrev pub in_sets : (is_and : Bool) → List (List Interval) → ScalarValue → Bool
+in_sets w [] v = w
+in_sets w (is ∷ iss) v = joined w (in_set is v) (in_sets w iss v)
+
 module _ (v : ScalarValue) where
-  insert_by : (i j : Interval) (js : List Interval) (b : Bool) → touches i j ≡ b
-      → in_set (insert (hull i j) js) v ≡ (contains (hull i j) v || in_set js v) → in_set (insert i js) v ≡ (contains i v || in_set js v)
-      → in_set (if b then insert (hull i j) js else j ∷ insert i js) v ≡ (contains i v || (contains j v || in_set js v))
-  insert_by i j js true e h k = h ∙ ap (λ b. b || in_set js v) (in_hull i j v e) ∙ or_assoc (contains i v) (contains j v) (in_set js v)
-  insert_by i j js false e h k = ap (λ b. contains j v || b) k ∙ or_swap (contains i v) (contains j v) (in_set js v)
+  placed_if : (i j : Interval) (js : List Interval) (b : Bool) → in_set (placed i js) v ≡ (contains i v || in_set js v) → in_set (if b then i ∷ j ∷ js else j ∷ placed i js) v ≡ (contains i v || (contains j v || in_set js v))
+  placed_if i j js true h = refl
+  placed_if i j js false h = ap (λ b. contains j v || b) h ∙ or_swap (contains i v) (contains j v) (in_set js v)
 
-  in_insert : (js : List Interval) (i : Interval) → in_set (insert i js) v ≡ (contains i v || in_set js v)
-  in_insert [] i = refl
-  in_insert (j ∷ js) i = insert_by i j js (touches i j) refl (in_insert js (hull i j)) (in_insert js i)
+  in_placed : (i : Interval) (js : List Interval) → in_set (placed i js) v ≡ (contains i v || in_set js v)
+  in_placed i [] = refl
+  in_placed i (j ∷ js) = placed_if i j js (cut_le i.low j.low) (in_placed i js)
 
-  pub in_union : (is js : List Interval) → in_set (union is js) v ≡ (in_set is v || in_set js v)
-  in_union [] js = refl
-  in_union (i ∷ is) js = in_insert (union is js) i ∙ ap (λ b. contains i v || b) (in_union is js) ∙ sym (or_assoc (contains i v) (in_set is v) (in_set js v))
+  in_sorted : (is : List Interval) → in_set (sorted is) v ≡ in_set is v
+  in_sorted [] = refl
+  in_sorted (i ∷ is) = in_placed i (sorted is) ∙ ap (λ b. contains i v || b) (in_sorted is)
 
   unless_by : (i : Interval) (is : List Interval) (b : Bool) → is_empty i ≡ b → in_set (if b then is else i ∷ is) v ≡ (contains i v || in_set is v)
   unless_by i is true e = sym (ap (λ b. b || in_set is v) (in_empty i v e))
   unless_by i is false e = refl
 
-  and_or : (a b c : Bool) → ((a && b) || (a && c)) ≡ (a && (b || c))
-  and_or true b c = refl
-  and_or false b c = refl
+  in_unless : (i : Interval) (is : List Interval) → in_set (unless_empty i is) v ≡ (contains i v || in_set is v)
+  in_unless i is = unless_by i is (is_empty i) refl
 
-  and_no : (a : Bool) → false ≡ (a && false)
-  and_no true = refl
-  and_no false = refl
+  -- what lies below where a set's intervals begin is in none
+  none_below : (c : Cut) (is : List Interval) → AreFrom c is → above c v ≡ false → in_set is v ≡ false
+  none_below c [] h k = refl
+  none_below c (i ∷ is) h k =
+      ap₂ ◌||◌
+      (ap (λ b. b && not_b (above i.high v)) (refuted (above i.low v) (λ a. clash (monotone c i.low v h.0 a) k)))
+      (none_below c is h.1 k)
 
-  in_meet_one : (i : Interval) (js : List Interval) → in_set (meet_one i js) v ≡ (contains i v && in_set js v)
-  in_meet_one i [] = and_no (contains i v)
-  in_meet_one i (j ∷ js) =
-      unless_by (intersection i j) (meet_one i js) (is_empty (intersection i j)) refl
-      ∙ ap₂ ◌||◌ (in_intersection i j v) (in_meet_one i js)
-      ∙ and_or (contains i v) (contains j v) (in_set js v)
+  up_from : (a : Bool) → ((a && true) || false) ≡ (a && true)
+  up_from true = refl
+  up_from false = refl
+
+  -- a: above the cut; l, h: above the ends of the first interval; s: in a later one
+  past_first : (a l h s : Bool) → (l ≡ false → s ≡ false) → ((a && not_b l) || ((a && h) && not_b s)) ≡ (a && not_b ((l && not_b h) || s))
+  past_first false l h s f = refl
+  past_first true true true s f = refl
+  past_first true true false s f = refl
+  past_first true false true s f = ap not_b (sym (f refl))
+  past_first true false false s f = ap not_b (sym (f refl))
+
+  in_left_out : (c : Cut) (is : List Interval) → AreInOrder is → in_set (left_out c is) v ≡ (above c v && not_b (in_set is v))
+  in_left_out c [] h = in_unless (interval c Highest) [] ∙ up_from (above c v)
+  in_left_out c (i ∷ is) h =
+      in_unless (interval c i.low) (left_out (higher c i.high) is)
+      ∙ ap (λ b. (above c v && not_b (above i.low v)) || b) (in_left_out (higher c i.high) is h.1 ∙ ap (λ b. b && not_b (in_set is v)) (above_higher c i.high v))
+      ∙ past_first (above c v) (above i.low v) (above i.high v) (in_set is v) (none_below i.low is h.0)
+
+  in_complement : (is : List Interval) → in_set (complement is) v ≡ not_b (in_set is v)
+  in_complement is = in_left_out Lowest (sorted is) (sorted_in_order is) ∙ ap not_b (in_sorted is)
 
   in_append : (is js : List Interval) → in_set (is ++ js) v ≡ (in_set is v || in_set js v)
   in_append [] js = refl
   in_append (i ∷ is) js = ap (λ b. contains i v || b) (in_append is js) ∙ sym (or_assoc (contains i v) (in_set is v) (in_set js v))
 
-  or_and : (a b c : Bool) → ((a && c) || (b && c)) ≡ ((a || b) && c)
-  or_and true true true = refl
-  or_and true true false = refl
-  or_and true false true = refl
-  or_and true false false = refl
-  or_and false b c = refl
+  not_both : (a b : Bool) → not_b (not_b a || b) ≡ (a && not_b b)
+  not_both true b = refl
+  not_both false b = refl
 
-  pub in_meet : (is js : List Interval) → in_set (meet is js) v ≡ (in_set is v && in_set js v)
-  in_meet [] js = refl
-  in_meet (i ∷ is) js =
-      in_append (meet_one i js) (meet is js)
-      ∙ ap₂ ◌||◌ (in_meet_one i js) (in_meet is js)
-      ∙ or_and (contains i v) (in_set is v) (in_set js v)
+  -- an AND's values are those that no set leaves out
+  in_all : (iss : List (List Interval)) → not_b (in_set (flat_map (share true) iss) v) ≡ in_sets true iss v
+  in_all [] = refl
+  in_all (is ∷ iss) =
+      ap not_b (in_append (complement is) (flat_map (share true) iss) ∙ ap (λ b. b || in_set (flat_map (share true) iss) v) (in_complement is))
+      ∙ not_both (in_set is v) (in_set (flat_map (share true) iss) v)
+      ∙ ap (λ b. in_set is v && b) (in_all iss)
 
-  pub in_combined : (w : Bool) (is js : List Interval) → in_set (combined w is js) v ≡ joined w (in_set is v) (in_set js v)
-  in_combined true is js = in_meet is js
-  in_combined false is js = in_union is js
+  in_any : (iss : List (List Interval)) → in_set (flat_map (share false) iss) v ≡ in_sets false iss v
+  in_any [] = refl
+  in_any (is ∷ iss) = in_append is (flat_map (share false) iss) ∙ ap (λ b. in_set is v || b) (in_any iss)
+
+  not_twice : (b : Bool) → not_b (not_b b) ≡ b
+  not_twice true = refl
+  not_twice false = refl
+
+  met : (iss : List (List Interval)) → in_set (complement (flat_map (share true) iss)) v ≡ in_sets true iss v
+  met iss = in_complement (flat_map (share true) iss) ∙ in_all iss
+
+  united : (iss : List (List Interval)) → in_set (complement (complement (flat_map (share false) iss))) v ≡ in_sets false iss v
+  united iss =
+      in_complement (complement (flat_map (share false) iss))
+      ∙ ap not_b (in_complement (flat_map (share false) iss))
+      ∙ not_twice (in_set (flat_map (share false) iss) v)
+      ∙ in_any iss
+
+  with_unit : (w a : Bool) → a ≡ joined w a w
+  with_unit true true = refl
+  with_unit true false = refl
+  with_unit false true = refl
+  with_unit false false = refl
+
+  pub in_combined : (w : Bool) (iss : List (List Interval)) → in_set (combined w iss) v ≡ in_sets w iss v
+  in_combined w (is ∷ []) = with_unit w (in_set is v)
+  in_combined true [] = met []
+  in_combined false [] = united []
+  in_combined true (is ∷ js ∷ iss) = met (is ∷ js ∷ iss)
+  in_combined false (is ∷ js ∷ iss) = united (is ∷ js ∷ iss)
 
 -- ---- comparisons
 

@@ -11,22 +11,22 @@ use Rattle.vortex_base.specs.Data.Values.{is_value}
 use Rattle.vortex_rewrite.specs.Rewriting.Predicates.{is_predicate}
 use Rattle.vortex_normal.specs.declared.groups.Item.{Item as Kept}
 use Rattle.vortex_normal.specs.declared.groups.Item.TheVariants as kept
-use Rattle.vortex_normal.specs.Intervals.{Cut, Lowest, Before, After, Highest, Interval, combined, comparison_set, interval, interval_of, place_at, swapped, values_test}
+use Rattle.vortex_normal.specs.Intervals.{Cut, Lowest, Before, After, Highest, Interval, combined, comparison_set, interval, place_at, set_of, swapped, values_test}
 use Rattle.vortex_normal.specs.Pushed.{connected, pushed}
 
--- a column has a value in a set, or is null where that counts; or any other predicate
+-- a column has a value in sets that the chain's connective combines, or is null where that counts; or any other predicate
 pub data Item : Type 0 where
-  inside : Place → (with_null : Bool) → List Interval → Item
+  inside : Place → (with_null : Bool) → (sets : List (List Interval)) → Item
   other : Tree Place → Item
 
-abbrev pub item_test : Item → Tree Place
-item_test (inside c n is) = values_test c n is
-item_test (other e) = e
+abbrev pub item_test : (is_and : Bool) → Item → Tree Place
+item_test w (inside c n iss) = values_test c n (combined w iss)
+item_test w (other e) = e
 
 -- the predicate that the items make up with one that is there, joined by AND or by OR
 abbrev pub joined_test : (is_and : Bool) → List Item → Tree Place → Tree Place
 joined_test w [] e = e
-joined_test w (i ∷ is) e = connected w (item_test i) (joined_test w is e)
+joined_test w (i ∷ is) e = connected w (item_test w i) (joined_test w is e)
 
 -- the predicate that the items make up
 abbrev pub items_test : (is_and : Bool) → List Item → Tree Place
@@ -48,9 +48,13 @@ abbrev pub set_fits : DType → List Interval → Bool
 set_fits t [] = true
 set_fits t (i ∷ is) = interval_fits t i && set_fits t is
 
+abbrev pub sets_fit : DType → List (List Interval) → Bool
+sets_fit t [] = true
+sets_fit t (is ∷ iss) = set_fits t is && sets_fit t iss
+
 -- the values are of the column's type, and any other predicate is one
 abbrev pub item_fits : Item → Bool
-item_fits (inside c n is) = set_fits c.dtype is
+item_fits (inside c n iss) = sets_fit c.dtype iss
 item_fits (other e) = is_predicate e
 
 abbrev pub items_fit : List Item → Bool
@@ -59,7 +63,7 @@ items_fit (i ∷ is) = item_fits i && items_fit is
 
 -- an item as it is kept
 abbrev pub item_of : Kept → Item
-item_of (kept.Inside v) = inside (place_at v.place v.dtype) v.with_null (map interval_of v.set.items)
+item_of (kept.Inside v) = inside (place_at v.place v.dtype) v.with_null (map set_of v.sets.items)
 item_of (kept.Other e) = other e
 
 -- ---- leaves
@@ -68,7 +72,7 @@ item_of (kept.Other e) = other e
 abbrev pub compared_item : Operator → Place → Option ScalarValue → Tree Place → Item
 compared_item And c v e = other e
 compared_item Or c v e = other e
-compared_item o c (Some v) e = inside c false (comparison_set o v)
+compared_item o c (Some v) e = inside c false (comparison_set o v ∷ [])
 compared_item o c None e = other e
 
 abbrev pub binary_item : Operator → (l r e : Tree Place) → Item
@@ -77,11 +81,11 @@ binary_item o (literal d) (column c) e = compared_item (swapped o) c d.value e
 binary_item o l r e = other e
 
 abbrev pub null_item : (x e : Tree Place) → Item
-null_item (column c) e = inside c true []
+null_item (column c) e = inside c true ([] ∷ [])
 null_item x e = other e
 
 abbrev pub not_null_item : (x e : Tree Place) → Item
-not_null_item (column c) e = inside c false (interval Lowest Highest ∷ [])
+not_null_item (column c) e = inside c false ((interval Lowest Highest ∷ []) ∷ [])
 not_null_item x e = other e
 
 abbrev pub leaf_item : Tree Place → Item
@@ -98,26 +102,31 @@ both_nulls false m n = m || n
 
 -- an item is of a column
 abbrev pub is_of : Place → Item → Bool
-is_of c (inside d n is) = place_eq c d
+is_of c (inside d n iss) = place_eq c d
 is_of c (other e) = false
 
--- what an item says of its column, with what a set does
-abbrev pub widened : (is_and : Bool) → (with_null : Bool) → List Interval → Item → Item
-widened w n is (inside d m js) = inside d (both_nulls w n m) (combined w is js)
-widened w n is (other e) = other e
+-- what an item says of its column, with what further sets do
+abbrev pub widened : (is_and : Bool) → (with_null : Bool) → (sets : List (List Interval)) → Item → Item
+widened w n iss (inside d m jss) = inside d (both_nulls w n m) (jss ++ iss)
+widened w n iss (other e) = other e
 
--- what a set says of a column is joined to the first item of that column, if there is one
-abbrev pub add_set : (is_and : Bool) → Place → (with_null : Bool) → List Interval → List Item → List Item
-add_set w c n is [] = inside c n is ∷ []
-add_set w c n is (j ∷ js) = if is_of c j then widened w n is j ∷ js else j ∷ add_set w c n is js
+-- what sets say of a column is joined to the first item of that column, if there is one
+abbrev pub add_sets : (is_and : Bool) → Place → (with_null : Bool) → (sets : List (List Interval)) → List Item → List Item
+add_sets w c n iss [] = inside c n iss ∷ []
+add_sets w c n iss (j ∷ js) = if is_of c j then widened w n iss j ∷ js else j ∷ add_sets w c n iss js
 
 abbrev pub add : (is_and : Bool) → Item → List Item → List Item
-add w (inside c n is) js = add_set w c n is js
+add w (inside c n iss) js = add_sets w c n iss js
 add w (other e) js = js ++ other e ∷ []
+
+-- the only item of a chain as one of another
+abbrev pub lone_item : (is_and : Bool) → Item → Item
+lone_item w (inside c n iss) = inside c n (combined w iss ∷ [])
+lone_item w (other e) = other e
 
 -- the items of a whole chain as one of another
 abbrev pub as_one : (is_and : Bool) → List Item → Item
-as_one w (i ∷ []) = i
+as_one w (i ∷ []) = lone_item w i
 as_one w is = other (items_test w is)
 
 -- the items of a chain, and then a predicate's: those of the same connective, or one

@@ -1,5 +1,7 @@
 -- Intervals of values between cuts, and sets of values as lists of them.
-use Rattle.std.specs.Prelude.{ℕ, Bool, true, false, not as not_b, ◌&&◌, ◌||◌, List, [], ◌∷◌, ◌++◌, Option, Some, None, if◌then◌else◌}
+use Rattle.std.specs.Prelude.{ℕ, Bool, true, false, not as not_b, ◌&&◌, ◌||◌, List, [], ◌∷◌, Option, Some, None, Vec, map, if◌then◌else◌}
+use Rattle.std.specs.declared.alloc.Global.{Global}
+use Rattle.std.specs.List.{flat_map}
 use Rattle.std.specs.Ordering.{is_gt}
 use Rattle.vortex_base.specs.declared.dtype.DType.{DType}
 use Rattle.vortex_base.specs.declared.types.BetweenOptions.{BetweenOptions}
@@ -57,9 +59,6 @@ cut_le Highest d = false
 abbrev pub higher : Cut → Cut → Cut
 higher c d = if cut_le c d then d else c
 
-abbrev pub lower : Cut → Cut → Cut
-lower c d = if cut_le c d then c else d
-
 -- ---- intervals
 
 -- the values above one cut and not above another
@@ -70,25 +69,19 @@ pub record Interval : Type 0 where
 abbrev pub interval_of : LentInterval → Interval
 interval_of i = record { low = cut_of i.low; high = cut_of i.high }
 
+-- a set as it is kept
+abbrev pub set_of : Vec LentInterval Global → List Interval
+set_of is = map interval_of is.items
+
 abbrev pub contains : Interval → ScalarValue → Bool
 contains i v = above i.low v && not_b (above i.high v)
 
 abbrev pub interval : Cut → Cut → Interval
 interval c d = record { low = c; high = d }
 
-abbrev pub intersection : Interval → Interval → Interval
-intersection i j = interval (higher i.low j.low) (lower i.high j.high)
-
 -- no value lies between its cuts, by their order alone
 abbrev pub is_empty : Interval → Bool
 is_empty i = cut_le i.high i.low
-
--- the two overlap, or leave no cut between them
-abbrev pub touches : Interval → Interval → Bool
-touches i j = cut_le i.low j.high && cut_le j.low i.high
-
-abbrev pub hull : Interval → Interval → Interval
-hull i j = interval (lower i.low j.low) (higher i.high j.high)
 
 -- ---- sets
 
@@ -96,29 +89,38 @@ abbrev pub in_set : List Interval → ScalarValue → Bool
 in_set [] v = false
 in_set (i ∷ is) v = contains i v || in_set is v
 
--- one more interval, which takes in those that it touches
-abbrev pub insert : Interval → List Interval → List Interval
-insert i [] = i ∷ []
-insert i (j ∷ js) = if touches i j then insert (hull i j) js else j ∷ insert i js
+-- before the first interval that begins no lower
+abbrev pub placed : Interval → List Interval → List Interval
+placed i [] = i ∷ []
+placed i (j ∷ js) = if cut_le i.low j.low then i ∷ j ∷ js else j ∷ placed i js
 
-abbrev pub union : List Interval → List Interval → List Interval
-union [] js = js
-union (i ∷ is) js = insert i (union is js)
+-- in the order of their low cuts, those that tie as they stood
+abbrev pub sorted : List Interval → List Interval
+sorted [] = []
+sorted (i ∷ is) = placed i (sorted is)
 
 abbrev pub unless_empty : Interval → List Interval → List Interval
 unless_empty i is = if is_empty i then is else i ∷ is
 
-abbrev pub meet_one : Interval → List Interval → List Interval
-meet_one i [] = []
-meet_one i (j ∷ js) = unless_empty (intersection i j) (meet_one i js)
+-- what intervals in the order of their low cuts leave out above a cut
+abbrev pub left_out : Cut → List Interval → List Interval
+left_out c [] = unless_empty (interval c Highest) []
+left_out c (i ∷ is) = unless_empty (interval c i.low) (left_out (higher c i.high) is)
 
-abbrev pub meet : List Interval → List Interval → List Interval
-meet [] js = []
-meet (i ∷ is) js = meet_one i js ++ meet is js
+-- the values that are not in the set, by intervals in order between which there are others
+abbrev pub complement : List Interval → List Interval
+complement is = left_out Lowest (sorted is)
 
-abbrev pub combined : (is_and : Bool) → List Interval → List Interval → List Interval
-combined true is js = meet is js
-combined false is js = union is js
+-- what an AND says of a set is what it leaves out, and what an OR says is what it has
+abbrev pub share : (is_and : Bool) → List Interval → List Interval
+share true is = complement is
+share false is = is
+
+-- the values that are in all of the sets, or in any
+abbrev pub combined : (is_and : Bool) → List (List Interval) → List Interval
+combined w (is ∷ []) = is
+combined true iss = complement (flat_map (share true) iss)
+combined false iss = complement (complement (flat_map (share false) iss))
 
 -- ---- comparisons as sets
 

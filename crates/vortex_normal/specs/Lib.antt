@@ -1,3 +1,4 @@
+pub mod Chains
 pub mod Groups
 pub mod Intervals
 pub mod Laws

@@ -45,6 +45,9 @@ closed = record { lower_strict = NonStrict; upper_strict = NonStrict }
 abbrev pub range : ℕ → ℕ → Tree Place
 range l u = between closed a (byte_literal l) (byte_literal u)
 
+abbrev pub open_range : ℕ → ℕ → Tree Place
+open_range l u = between (record { lower_strict = Strict; upper_strict = Strict }) a (byte_literal l) (byte_literal u)
+
 -- a column of texts
 abbrev pub t : Tree Place
 t = column (record { index = 3; dtype = dtype.Utf8 Nullable })
@@ -88,6 +91,15 @@ pub record FormExamples : Type 0 where
   pub open_ends : normal (binary Or (compare Lt a 5) (compare Gt a 5)) ≡ compare NotEq a 5
   pub touching : normal (binary Or (compare Lt a 5) (compare Eq a 5)) ≡ compare Lte a 5
   pub between_two : normal (binary And (compare Gte a 4) (compare Lte a 6)) ≡ range 4 6
+  pub in_order : normal (binary Or (binary Or (compare Eq a 7) (compare Eq a 3)) (compare Eq a 5)) ≡ binary Or (compare Eq a 3) (binary Or (compare Eq a 5) (compare Eq a 7))
+  pub holes : normal (binary And (binary And (compare NotEq a 7) (compare NotEq a 3)) (compare Gt a 1)) ≡ binary Or (open_range 1 3) (binary Or (open_range 3 7) (compare Gt a 7))
+  pub covered : normal (binary Or (binary Or (compare Eq a 4) (range 2 9)) (range 5 6)) ≡ range 2 9
+  pub from_one_end : normal (binary Or (range 4 9) (range 4 6)) ≡ range 4 9
+  pub some_touch : normal (binary Or (binary Or (compare Gt a 9) (range 4 6)) (range 7 9)) ≡ binary Or (range 4 6) (compare Gte a 7)
+  pub bridged : normal (binary Or (binary Or (range 2 4) (range 6 8)) (range 3 7)) ≡ range 2 8
+  pub null_among_values : normal (binary Or (binary Or (compare Eq a 7) (is_null a)) (compare Eq a 3)) ≡ binary Or (is_null a) (binary Or (compare Eq a 3) (compare Eq a 7))
+  pub null_beside_values : normal (binary And (binary Or (is_null a) (compare Lt a 7)) (binary Or (compare Gt a 3) (is_null a))) ≡ binary Or (is_null a) (open_range 3 7)
+  pub other_between : normal (binary Or (binary Or (compare Eq a 7) (compare Gt b 1)) (compare Eq a 3)) ≡ binary Or (binary Or (compare Eq a 3) (compare Eq a 7)) (compare Gt b 1)
   pub apart : normal (binary And (compare Gt a 5) (compare Lt b 3)) ≡ binary And (compare Gt a 5) (compare Lt b 3)
   pub literal_first : normal (binary Lt (byte_literal 5) a) ≡ compare Gt a 5
   pub null_and_value : normal (binary And (compare Gt a 3) (is_null a)) ≡ bool_literal false

@@ -1,10 +1,11 @@
 //! AND and OR chains, with what is said of one column in one place.
-ghost use Rattle.std.specs.Prelude.{◌≡◌, ◌<◌, [], IfSome, IsTrue, length, map};
-ghost use Rattle.std.specs.List.{position};
+ghost use Rattle.std.specs.Prelude.{◌≡◌, ◌<◌, ◌++◌, ◌∷◌, [], IfSome, IsTrue, None, OnOk, length, map};
 ghost use Rattle.vortex_rewrite.specs.Answers.{Makes, OkOrMemory};
 ghost use Rattle.vortex_rewrite.specs.Rewriting.Predicates.{is_predicate};
+ghost use Rattle.vortex_normal.specs.Chains.{IsIndexOf, item_at};
 ghost use Rattle.vortex_normal.specs.Groups as spec;
-ghost use Rattle.vortex_normal.specs.Intervals.{interval_of, place_at};
+ghost use Rattle.vortex_normal.specs.Intervals.{interval_of, place_at, set_of};
+ghost use Rattle.vortex_normal.specs.declared.groups.Item.TheVariants as kept;
 ghost use Rattle.vortex_normal.specs.Groups.{item_fits, item_of, items_fit};
 
 use crate::interval::{Cut, Interval, combined, comparison_set, one, swapped};
@@ -12,6 +13,7 @@ use crate::leaves::connected;
 use crate::predicate::Predicate;
 use crate::tests_of::values_test;
 use std::alloc::Global;
+use std::collections::BTreeMap;
 use vortex_base::bound_expression::BoundExpression;
 use vortex_base::bound_expression::parts::Parts;
 use vortex_base::dtype::DType;
@@ -19,13 +21,14 @@ use vortex_base::scalar::Scalar;
 use vortex_base::types::Operator;
 use vortex_stats::error::StatsError;
 
-/// The column at a place, of a type, is null where that counts, or has a value in a set.
+/// The column at a place, of a type, is null where that counts, or has a value in sets that the
+/// chain's connective combines: at its end, all at once.
 #[derive(Drop)]
 pub(crate) struct Values<'a> {
     place: usize,
     dtype: DType,
     with_null: bool,
-    set: Vec<Interval<'a>>,
+    sets: Vec<Vec<Interval<'a>>>,
 }
 
 /// One predicate of a chain.
@@ -37,15 +40,28 @@ pub(crate) enum Item<'a> {
     Other(Predicate),
 }
 
+// The predicate that what is said of a column is.
+fn said_test(alloc: Global, is_and: bool, said: Values<'_>) -> Result<Predicate, StatsError>
+    requires { IsTrue (item_fits (item_of (kept.Inside said))) }
+    ensures { Makes (spec.item_test is_and (item_of (kept.Inside said.entry))) result }
+{
+    let Values {
+        place,
+        dtype,
+        with_null,
+        sets,
+    } = said;
+    let set = combined(alloc, is_and, sets)?;
+    values_test(alloc, place, dtype, with_null, &set)
+}
+
 // The predicate that an item is.
-fn item_test(alloc: Global, item: Item<'_>) -> Result<Predicate, StatsError>
+fn item_test(alloc: Global, is_and: bool, item: Item<'_>) -> Result<Predicate, StatsError>
     requires { IsTrue (item_fits (item_of item)) }
-    ensures { Makes (spec.item_test (item_of item.entry)) result }
+    ensures { Makes (spec.item_test is_and (item_of item.entry)) result }
 {
     match item {
-        Item::Inside(said) => {
-            values_test(alloc, said.place, said.dtype, said.with_null, &said.set)
-        }
+        Item::Inside(said) => said_test(alloc, is_and, said),
         Item::Other(predicate) => Ok(predicate),
     }
 }
@@ -63,7 +79,7 @@ fn joined_test(
     let mut made = made;
     let mut left = items;
     while let Some(last) = left.pop() {
-        let test = item_test(alloc, last)?;
+        let test = item_test(alloc, is_and, last)?;
         made = connected(alloc, is_and, test, made)?;
     }
     Ok(made)
@@ -85,16 +101,24 @@ fn other<'a>(e: &BoundExpression) -> Result<Item<'a>, StatsError>
     Ok(Item::Other(Predicate::copied(e)?))
 }
 
-fn inside<'a>(place: usize, dtype: DType, with_null: bool, set: Vec<Interval<'a>>) -> Item<'a>
-    ensures { item_of result
-        ≡ spec.inside (place_at place dtype) with_null (map interval_of set.entry.items) }
+fn inside<'a>(
+    alloc: Global,
+    place: usize,
+    dtype: DType,
+    with_null: bool,
+    set: Vec<Interval<'a>>,
+) -> Result<Item<'a>, StatsError>
+    ensures { OkOrMemory result (λ item. item_of item
+        ≡ spec.inside (place_at place dtype) with_null (map interval_of set.entry.items ∷ [])) }
 {
-    Item::Inside(Values {
+    let mut sets = Vec::new(alloc);
+    sets.push(set)?;
+    Ok(Item::Inside(Values {
         place,
         dtype,
         with_null,
-        set,
-    })
+        sets,
+    }))
 }
 
 // A comparison of a column with a literal; `e` is the whole.
@@ -116,7 +140,7 @@ fn compared_item<'a>(
             None => other(e),
             Some(value) => {
                 let set = comparison_set(alloc, operator, value)?;
-                Ok(inside(place, dtype, false, set))
+                inside(alloc, place, dtype, false, set)
             }
         },
     }
@@ -137,13 +161,13 @@ fn leaf_item<'a>(alloc: Global, e: &'a BoundExpression) -> Result<Item<'a>, Stat
             _ => other(e),
         },
         Parts::IsNull(x) => match x.parts() {
-            Parts::Column(place, dtype) => { Ok(inside(place, dtype, true, Vec::new(alloc))) }
+            Parts::Column(place, dtype) => inside(alloc, place, dtype, true, Vec::new(alloc)),
             _ => other(e),
         },
         Parts::IsNotNull(x) => match x.parts() {
             Parts::Column(place, dtype) => {
                 let all = one(alloc, Cut::Lowest, Cut::Highest)?;
-                Ok(inside(place, dtype, false, all))
+                inside(alloc, place, dtype, false, all)
             }
             _ => other(e),
         },
@@ -163,90 +187,160 @@ impl<'a> Item<'a> {
     }
 }
 
-// An item with what is said of the same column joined to it.
-fn widened<'a>(
-    alloc: Global,
-    is_and: bool,
-    said: &Values<'a>,
-    item: &Item<'a>,
-) -> Result<Item<'a>, StatsError>
-    ensures { OkOrMemory result (λ wider. item_of wider ≡ spec.widened is_and said.now.with_null
-        (map interval_of said.now.set.items) (item_of item.now)) }
+// Joins to an item what is said of the same column.
+fn widen<'a>(is_and: bool, said: Values<'a>, item: &mut Item<'a>) -> Result<(), StatsError>
+    ensures { OkOrMemory result (λ _. item_of item.new ≡ spec.widened is_and said.entry.with_null
+        (map set_of said.entry.sets.items) (item_of item.old)) }
 {
     match item {
         Item::Inside(here) => {
-            let with_null = if is_and {
+            here.with_null = if is_and {
                 said.with_null && here.with_null
             } else {
                 said.with_null || here.with_null
             };
-            let set = combined(alloc, is_and, &said.set, &here.set)?;
-            Ok(inside(here.place, here.dtype, with_null, set))
+            let mut sets = said.sets;
+            here.sets.append(&mut sets)?;
+            Ok(())
         }
-        Item::Other(predicate) => Ok(Item::Other(Predicate::copied(predicate.expression())?)),
+        Item::Other(_) => Ok(()),
     }
 }
 
 fn place_of(items: &[Item<'_>], place: usize, dtype: DType) -> Option<usize>
     ensures value { result
-        ≡ position (λ item. spec.is_of (place_at place dtype) (item_of item)) items.now }
+        ≡ item_at (place_at place dtype) items.now }
     ensures in_range { IfSome result (λ i. i < length items.now) }
 {
     items.iter().position(|item| item.is_of(place, dtype))
 }
 
-// Joins to the items of a chain what a set says of a column.
-fn add_set<'a>(
-    alloc: Global,
-    is_and: bool,
-    said: Values<'a>,
-    items: &mut Vec<Item<'a>>,
-) -> Result<(), StatsError>
-    ensures { OkOrMemory result (λ _. map item_of items.new.items
-        ≡ spec.add_set is_and (place_at said.entry.place said.entry.dtype) said.entry.with_null
-        (map interval_of said.entry.set.items) (map item_of items.old.items)) }
-{
-    match place_of(items, said.place, said.dtype) {
-        Some(found) => {
-            let wider = widened(alloc, is_and, &said, &items[found])?;
-            items[found] = wider;
-            Ok(())
+// The items of a chain, and by the places of columns which of them speak of those.
+#[derive(Drop)]
+struct Chain<'a> {
+    items: Vec<Item<'a>>,
+    places: BTreeMap<usize, usize>,
+}
+
+impl<'a> Chain<'a> {
+    fn new(alloc: Global) -> Chain<'a>
+        ensures items { result.items.items ≡ [] }
+        ensures index { IsIndexOf result.items.items result.places }
+    {
+        Chain {
+            items: Vec::new(alloc),
+            places: BTreeMap::new(alloc),
         }
-        None => {
-            items.push(Item::Inside(said))?;
-            Ok(())
+    }
+
+    // The item of a column: none is passed by, save where a place has columns of several types.
+    fn find(&self, place: usize, dtype: DType) -> Option<usize>
+        requires { IsIndexOf self.now.items.items self.now.places }
+        ensures value { result ≡ item_at (place_at place dtype) self.now.items.items }
+        ensures in_range { IfSome result (λ i. i < length self.now.items.items) }
+    {
+        match self.places.get(&place).copied() {
+            None => None,
+            Some(found) => {
+                if self.items[found].is_of(place, dtype) {
+                    Some(found)
+                } else {
+                    place_of(&self.items, place, dtype)
+                }
+            }
+        }
+    }
+
+    // Puts an item of a column that had none behind the others.
+    fn push_said(&mut self, said: Values<'a>) -> Result<(), StatsError>
+        requires absent { item_at (place_at said.place said.dtype) self.old.items.items ≡ None }
+        requires index { IsIndexOf self.old.items.items self.old.places }
+        ensures items { OkOrMemory result (λ _. self.new.items.items
+            ≡ self.old.items.items ++ kept.Inside said.entry ∷ []) }
+        ensures index { OnOk result (IsIndexOf self.new.items.items self.new.places) }
+    {
+        let place = said.place;
+        let behind = self.items.len();
+        self.places.insert(place, behind)?;
+        self.items.push(Item::Inside(said))?;
+        Ok(())
+    }
+
+    // Joins to the items what sets say of a column.
+    fn add_sets(&mut self, is_and: bool, said: Values<'a>) -> Result<(), StatsError>
+        requires index { IsIndexOf self.old.items.items self.old.places }
+        ensures items { OkOrMemory result (λ _. map item_of self.new.items.items
+            ≡ spec.add_sets is_and (place_at said.entry.place said.entry.dtype)
+            said.entry.with_null (map set_of said.entry.sets.items)
+            (map item_of self.old.items.items)) }
+        ensures index { OnOk result (IsIndexOf self.new.items.items self.new.places) }
+    {
+        let place = said.place;
+        let dtype = said.dtype;
+        match self.find(place, dtype) {
+            Some(found) => {
+                widen(is_and, said, &mut self.items[found])?;
+                Ok(())
+            }
+            None => {
+                self.push_said(said)?;
+                Ok(())
+            }
+        }
+    }
+
+    fn add(&mut self, is_and: bool, item: Item<'a>) -> Result<(), StatsError>
+        requires index { IsIndexOf self.old.items.items self.old.places }
+        ensures items { OkOrMemory result (λ _. map item_of self.new.items.items
+            ≡ spec.add is_and (item_of item.entry) (map item_of self.old.items.items)) }
+        ensures index { OnOk result (IsIndexOf self.new.items.items self.new.places) }
+    {
+        match item {
+            Item::Inside(said) => self.add_sets(is_and, said),
+            Item::Other(predicate) => {
+                self.items.push(Item::Other(predicate))?;
+                Ok(())
+            }
         }
     }
 }
 
-fn add<'a>(
-    alloc: Global,
-    is_and: bool,
-    item: Item<'a>,
-    items: &mut Vec<Item<'a>>,
-) -> Result<(), StatsError>
-    ensures { OkOrMemory result (λ _. map item_of items.new.items
-        ≡ spec.add is_and (item_of item.entry) (map item_of items.old.items)) }
+// What is said of a column by all sets of a chain, by one set.
+fn said_once<'a>(alloc: Global, is_and: bool, said: Values<'a>) -> Result<Item<'a>, StatsError>
+    ensures { OkOrMemory result
+        (λ item. item_of item ≡ spec.lone_item is_and (item_of (kept.Inside said.entry))) }
+{
+    let Values {
+        place,
+        dtype,
+        with_null,
+        sets,
+    } = said;
+    let set = combined(alloc, is_and, sets)?;
+    inside(alloc, place, dtype, with_null, set)
+}
+
+// The only item of a chain as one of another.
+fn lone_item<'a>(alloc: Global, is_and: bool, item: Item<'a>) -> Result<Item<'a>, StatsError>
+    ensures { OkOrMemory result
+        (λ lone. item_of lone ≡ spec.lone_item is_and (item_of item.entry)) }
 {
     match item {
-        Item::Inside(said) => add_set(alloc, is_and, said, items),
-        Item::Other(predicate) => {
-            items.push(Item::Other(predicate))?;
-            Ok(())
-        }
+        Item::Inside(said) => said_once(alloc, is_and, said),
+        Item::Other(predicate) => Ok(Item::Other(predicate)),
     }
 }
 
 // The items of a whole chain as one of another.
-fn as_one<'a>(alloc: Global, is_and: bool, items: Vec<Item<'a>>) -> Result<Item<'a>, StatsError>
-    requires { IsTrue (items_fit (map item_of items.items)) }
+fn as_one<'a>(alloc: Global, is_and: bool, chain: Chain<'a>) -> Result<Item<'a>, StatsError>
+    requires { IsTrue (items_fit (map item_of chain.items.items)) }
     ensures { OkOrMemory result
-        (λ item. item_of item ≡ spec.as_one is_and (map item_of items.entry.items)) }
+        (λ item. item_of item ≡ spec.as_one is_and (map item_of chain.entry.items.items)) }
 {
-    let mut items = items;
+    let Chain { mut items, .. } = chain;
     if items.len() == 1 {
         if let Some(only) = items.pop() {
-            return Ok(only);
+            return lone_item(alloc, is_and, only);
         }
     }
     Ok(Item::Other(items_test(alloc, is_and, items)?))
@@ -257,38 +351,40 @@ fn collect<'a>(
     alloc: Global,
     is_and: bool,
     e: &'a BoundExpression,
-    items: &mut Vec<Item<'a>>,
+    chain: &mut Chain<'a>,
 ) -> Result<(), StatsError>
-    requires { IsTrue (is_predicate e.now) }
-    ensures { OkOrMemory result (λ _. map item_of items.new.items
-        ≡ spec.collected is_and e.now (map item_of items.old.items)) }
+    requires predicate { IsTrue (is_predicate e.now) }
+    requires index { IsIndexOf chain.old.items.items chain.old.places }
+    ensures items { OkOrMemory result (λ _. map item_of chain.new.items.items
+        ≡ spec.collected is_and e.now (map item_of chain.old.items.items)) }
+    ensures index { OnOk result (IsIndexOf chain.new.items.items chain.new.places) }
 {
     match e.parts() {
         Parts::Binary(Operator::And, left, right) => {
             if is_and {
-                collect(alloc, true, left, items)?;
-                collect(alloc, true, right, items)
+                collect(alloc, true, left, chain)?;
+                collect(alloc, true, right, chain)
             } else {
-                let mut inner = Vec::new(alloc);
+                let mut inner = Chain::new(alloc);
                 collect(alloc, true, left, &mut inner)?;
                 collect(alloc, true, right, &mut inner)?;
-                add(alloc, false, as_one(alloc, true, inner)?, items)
+                chain.add(false, as_one(alloc, true, inner)?)
             }
         }
         Parts::Binary(Operator::Or, left, right) => {
             if is_and {
-                let mut inner = Vec::new(alloc);
+                let mut inner = Chain::new(alloc);
                 collect(alloc, false, left, &mut inner)?;
                 collect(alloc, false, right, &mut inner)?;
-                add(alloc, true, as_one(alloc, false, inner)?, items)
+                chain.add(true, as_one(alloc, false, inner)?)
             } else {
-                collect(alloc, false, left, items)?;
-                collect(alloc, false, right, items)
+                collect(alloc, false, left, chain)?;
+                collect(alloc, false, right, chain)
             }
         }
         _ => {
             let item = leaf_item(alloc, e)?;
-            add(alloc, is_and, item, items)
+            chain.add(is_and, item)
         }
     }
 }
@@ -298,7 +394,8 @@ pub(crate) fn grouped(alloc: Global, e: &BoundExpression) -> Result<Predicate, S
     requires { IsTrue (is_predicate e.now) }
     ensures { Makes (spec.grouped e.now) result }
 {
-    let mut items = Vec::new(alloc);
-    collect(alloc, true, e, &mut items)?;
+    let mut chain = Chain::new(alloc);
+    collect(alloc, true, e, &mut chain)?;
+    let Chain { items, .. } = chain;
     items_test(alloc, true, items)
 }

@@ -1,10 +1,13 @@
 //! Intervals of values, by the cuts between values that bound them.
-ghost use Rattle.std.specs.Prelude.{◌≡◌, ◌++◌, ◌∷◌, [], map};
+ghost use Rattle.std.specs.Prelude.{◌≡◌, ◌++◌, ◌∷◌, [], map, not};
+ghost use Rattle.std.specs.List.{flat_map};
+ghost use Rattle.std.specs.Ordering.{is_lt};
 ghost use Rattle.vortex_rewrite.specs.Answers.{OkOrMemory};
 ghost use Rattle.vortex_normal.specs.Intervals as spec;
-ghost use Rattle.vortex_normal.specs.Intervals.{cut_of, interval_of};
+ghost use Rattle.vortex_normal.specs.Intervals.{cut_of, interval_of, set_of};
 
 use std::alloc::Global;
+use std::cmp::Ordering;
 use vortex_base::scalar_value::ScalarValue;
 use vortex_base::types::Operator;
 use vortex_stats::error::StatsError;
@@ -56,149 +59,143 @@ impl<'a> Cut<'a> {
         if self.is_at_most(other) { other } else { self }
     }
 
-    fn lower(self, other: Cut<'a>) -> Cut<'a>
-        ensures { cut_of result ≡ spec.lower (cut_of self.entry) (cut_of other.entry) }
+    // The order of two cuts.
+    fn order(self, other: Cut<'a>) -> Ordering
+        ensures { is_lt result ≡ not (spec.cut_le (cut_of other.entry) (cut_of self.entry)) }
     {
-        if self.is_at_most(other) { self } else { other }
+        if !other.is_at_most(self) {
+            Ordering::Less
+        } else if self.is_at_most(other) {
+            Ordering::Equal
+        } else {
+            Ordering::Greater
+        }
     }
 }
 
 impl<'a> Interval<'a> {
-    fn intersection(self, other: Interval<'a>) -> Interval<'a>
-        ensures { interval_of result
-            ≡ spec.intersection (interval_of self.entry) (interval_of other.entry) }
-    {
-        Interval {
-            low: self.low.higher(other.low),
-            high: self.high.lower(other.high),
-        }
-    }
-
     fn is_empty(self) -> bool
         ensures { result ≡ spec.is_empty (interval_of self.entry) }
     {
         self.high.is_at_most(self.low)
     }
-
-    fn touches(self, other: Interval<'a>) -> bool
-        ensures { result ≡ spec.touches (interval_of self.entry) (interval_of other.entry) }
-    {
-        self.low.is_at_most(other.high) && other.low.is_at_most(self.high)
-    }
-
-    fn hull(self, other: Interval<'a>) -> Interval<'a>
-        ensures { interval_of result
-            ≡ spec.hull (interval_of self.entry) (interval_of other.entry) }
-    {
-        Interval {
-            low: self.low.lower(other.low),
-            high: self.high.higher(other.high),
-        }
-    }
 }
 
-// Appends a set with one more interval, which takes in those that it touches.
-fn insert<'a>(
-    interval: Interval<'a>,
-    set: &[Interval<'a>],
+// Puts intervals in the order of their low cuts.
+fn sort(set: &mut Vec<Interval<'_>>) -> Result<(), StatsError>
+    ensures { OkOrMemory result (λ _. map interval_of set.new.items
+        ≡ spec.sorted (map interval_of set.old.items)) }
+{
+    set.sort_by(|a, b| a.low.order(b.low))?;
+    Ok(())
+}
+
+// Appends the values between two cuts, if there are any.
+fn push_between<'a>(
+    low: Cut<'a>,
+    high: Cut<'a>,
     out: &mut Vec<Interval<'a>>,
 ) -> Result<(), StatsError>
     ensures { OkOrMemory result (λ _. map interval_of out.new.items ≡ map interval_of out.old.items
-        ++ spec.insert (interval_of interval.entry) (map interval_of set.now)) }
+        ++ spec.unless_empty (spec.interval (cut_of low.entry) (cut_of high.entry)) []) }
 {
-    match set {
-        [] => {
-            out.push(interval)?;
-            Ok(())
-        }
-        [first, rest @ ..] => {
-            if interval.touches(*first) {
-                insert(interval.hull(*first), rest, out)
-            } else {
-                out.push(*first)?;
-                insert(interval, rest, out)
-            }
-        }
+    let between = Interval { low, high };
+    if !between.is_empty() {
+        out.push(between)?;
+    }
+    Ok(())
+}
+
+// Appends the values that are in none of some intervals in the order of their low cuts.
+fn push_left_out<'a>(set: &[Interval<'a>], out: &mut Vec<Interval<'a>>) -> Result<(), StatsError>
+    ensures { OkOrMemory result (λ _. map interval_of out.new.items ≡ map interval_of out.old.items
+        ++ spec.left_out spec.Lowest (map interval_of set.now)) }
+{
+    let mut low = Cut::Lowest;
+    for interval in set {
+        push_between(low, interval.low, out)?;
+        low = low.higher(interval.high);
+    }
+    push_between(low, Cut::Highest, out)
+}
+
+// Appends the values that are not in a set.
+fn push_complement<'a>(
+    set: Vec<Interval<'a>>,
+    out: &mut Vec<Interval<'a>>,
+) -> Result<(), StatsError>
+    ensures { OkOrMemory result (λ _. map interval_of out.new.items ≡ map interval_of out.old.items
+        ++ spec.complement (map interval_of set.entry.items)) }
+{
+    let mut set = set;
+    sort(&mut set)?;
+    push_left_out(&set, out)
+}
+
+fn complement<'a>(alloc: Global, set: Vec<Interval<'a>>) -> Result<Vec<Interval<'a>>, StatsError>
+    ensures { OkOrMemory result (λ rest. map interval_of rest.items
+        ≡ spec.complement (map interval_of set.entry.items)) }
+{
+    let mut rest = Vec::new(alloc);
+    push_complement(set, &mut rest)?;
+    Ok(rest)
+}
+
+// Appends a set's share of what the sets of an AND or OR say.
+fn push_share<'a>(
+    is_and: bool,
+    set: Vec<Interval<'a>>,
+    out: &mut Vec<Interval<'a>>,
+) -> Result<(), StatsError>
+    ensures { OkOrMemory result (λ _. map interval_of out.new.items ≡ map interval_of out.old.items
+        ++ spec.share is_and (map interval_of set.entry.items)) }
+{
+    if is_and {
+        push_complement(set, out)
+    } else {
+        let mut set = set;
+        out.append(&mut set)?;
+        Ok(())
     }
 }
 
-// The values in either set.
-fn union<'a>(
+// The shares of all sets, one after another.
+fn shares<'a>(
     alloc: Global,
-    left: &[Interval<'a>],
-    right: &[Interval<'a>],
+    is_and: bool,
+    sets: Vec<Vec<Interval<'a>>>,
 ) -> Result<Vec<Interval<'a>>, StatsError>
-    ensures { OkOrMemory result (λ set. map interval_of set.items
-        ≡ spec.union (map interval_of left.now) (map interval_of right.now)) }
+    ensures { OkOrMemory result (λ out. map interval_of out.items
+        ≡ flat_map (spec.share is_and) (map set_of sets.entry.items)) }
 {
-    match left {
-        [] => Ok(Vec::from_slice(alloc, right)?),
-        [first, rest @ ..] => {
-            let set = union(alloc, rest, right)?;
-            let mut wider = Vec::new(alloc);
-            insert(*first, &set, &mut wider)?;
-            Ok(wider)
-        }
+    let mut out = Vec::new(alloc);
+    for set in sets {
+        push_share(is_and, set, &mut out)?;
     }
+    Ok(out)
 }
 
-// Appends the intersections of one interval with each of a set, save those that are empty.
-fn meet_one<'a>(
-    interval: Interval<'a>,
-    set: &[Interval<'a>],
-    out: &mut Vec<Interval<'a>>,
-) -> Result<(), StatsError>
-    ensures { OkOrMemory result (λ _. map interval_of out.new.items ≡ map interval_of out.old.items
-        ++ spec.meet_one (interval_of interval.entry) (map interval_of set.now)) }
-{
-    match set {
-        [] => Ok(()),
-        [first, rest @ ..] => {
-            let common = interval.intersection(*first);
-            if common.is_empty() {
-                meet_one(interval, rest, out)
-            } else {
-                out.push(common)?;
-                meet_one(interval, rest, out)
-            }
-        }
-    }
-}
-
-// Appends the values in both sets.
-fn meet<'a>(
-    left: &[Interval<'a>],
-    right: &[Interval<'a>],
-    out: &mut Vec<Interval<'a>>,
-) -> Result<(), StatsError>
-    ensures { OkOrMemory result (λ _. map interval_of out.new.items ≡ map interval_of out.old.items
-        ++ spec.meet (map interval_of left.now) (map interval_of right.now)) }
-{
-    match left {
-        [] => Ok(()),
-        [first, rest @ ..] => {
-            meet_one(*first, right, out)?;
-            meet(rest, right, out)
-        }
-    }
-}
-
-/// The values in both sets, or those in either.
+/// The values in all of some sets, or in any: in time that is linear but for sorting.
 pub(crate) fn combined<'a>(
     alloc: Global,
     is_and: bool,
-    left: &[Interval<'a>],
-    right: &[Interval<'a>],
+    sets: Vec<Vec<Interval<'a>>>,
 ) -> Result<Vec<Interval<'a>>, StatsError>
     ensures { OkOrMemory result (λ set. map interval_of set.items
-        ≡ spec.combined is_and (map interval_of left.now) (map interval_of right.now)) }
+        ≡ spec.combined is_and (map set_of sets.entry.items)) }
 {
+    let mut sets = sets;
+    if sets.len() == 1 {
+        if let Some(only) = sets.pop() {
+            return Ok(only);
+        }
+    }
+    let shares = shares(alloc, is_and, sets)?;
+    let rest = complement(alloc, shares)?;
     if is_and {
-        let mut set = Vec::new(alloc);
-        meet(left, right, &mut set)?;
-        Ok(set)
+        Ok(rest)
     } else {
-        union(alloc, left, right)
+        complement(alloc, rest)
     }
 }
 

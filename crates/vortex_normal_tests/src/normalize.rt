@@ -2,7 +2,7 @@
 use std::alloc::Global;
 use std::process::Abort;
 use std::test::Fail;
-use vortex_base::{BoundExpression, DType, Nullability, ScalarValue};
+use vortex_base::{BoundExpression, DType, Nullability, PType, ScalarValue};
 use vortex_normal::normalize::normalize;
 use vortex_rewrite_tests::nodes::*;
 use vortex_stats::StatsError;

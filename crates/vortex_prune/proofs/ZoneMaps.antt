@@ -11,3 +11,4 @@ pub mod ZoneRows
 pub mod ZoneScan
 pub mod ZoneTables
 pub mod ZoneVerdicts
+pub mod ZonesGiven

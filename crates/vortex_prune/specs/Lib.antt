@@ -1,5 +1,6 @@
 pub mod Binding
 pub mod Choosing
+pub mod GivenTables
 pub mod Laws
 pub mod Part
 pub mod Scanning

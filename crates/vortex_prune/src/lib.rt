@@ -20,5 +20,5 @@ pub use scan::zones::scan_zones;
 pub use stat_fn::{StatFn, StatOptions};
 pub use vortex_rewrite::{BuiltinRule, HookFault, Rules, StatsRewriteRule, StatsRewriteRuleRef};
 pub use zone::Zone;
-pub use zone_map::{ZoneMap, ZoneMapRefused};
+pub use zone_map::{Head, TableRefused, ZoneMap, ZoneMapRefused};
 pub use zones::{Zones, ZonesRefused};

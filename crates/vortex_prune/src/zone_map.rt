@@ -1,12 +1,16 @@
 //! Maps of zones: how many rows each zone has, and a table of their statistics with one row a zone.
-ghost use Rattle.std.specs.Prelude.{◌≡◌, ◌<◌, ◌++◌, ◌∷◌, ℕ, IfErr, IfOk, List, MatchOption, OnErr, OnOk, Ok, Some};
+ghost use Rattle.std.specs.Prelude.{◌≡◌, ◌<◌, ◌++◌, ◌∷◌, ℕ, IfErr, IfOk, IsTrue, List};
+ghost use Rattle.std.specs.Prelude.{MatchOption, OnErr, OnOk, Ok, Some};
 ghost use Rattle.std.specs.Prelude.{◌+◌, ◌≤◌, [], vec_capacity, vec_len};
 ghost use Rattle.std.specs.Prelude.{alloc_error, false, length, map, option_map, slice_get, string_bytes};
 ghost use Rattle.std.specs.Bool.{MatchBool};
+ghost use Rattle.std.specs.List.{list_all, zip};
 ghost use Rattle.vortex_base.specs.Data.Cells.{cell_values};
-ghost use Rattle.vortex_base.specs.Data.Columns.{row_count};
+ghost use Rattle.vortex_base.specs.Data.Columns.{chunk_of, row_count};
 ghost use Rattle.vortex_base.specs.Data.Scopes.{IsScope, Named, named_columns};
 ghost use Rattle.vortex_base.specs.Meanings.Typing.{stat_type};
+ghost use Rattle.vortex_prune.specs.GivenTables.{IsNoTable, IsTableOf, all_stand, chunk_with};
+ghost use Rattle.vortex_prune.specs.GivenTables.{is_table, map_with, stands_under};
 ghost use Rattle.vortex_prune.specs.Part.{AreZonesOf, IsZone, ZoneData, fits_zone, zones_fit};
 ghost use Rattle.vortex_prune.specs.Zones as spec;
 ghost use Rattle.vortex_prune.specs.Zones.{EachTells, IsMapOf, appended_map, emptied_map, head, head_if, heads};
@@ -29,9 +33,9 @@ use vortex_base::scope::Scope;
 use vortex_rewrite::built::built;
 use vortex_stats::error::StatsError;
 
-// A column of the table without its values.
-#[derive(Drop)]
-struct Head {
+/// A column of a map's table without its values: of which column of the scope it tells and what.
+#[derive(Debug, Drop)]
+pub struct Head {
     source: usize,
     aggregate: AggregateFnRef,
     name: String,
@@ -50,6 +54,36 @@ impl Model for Head {
       name = string_bytes h.name;
       dtype = h.dtype;
     } };
+}
+
+impl Head {
+    /// The place in the scope of the column that it tells of.
+    pub fn source(&self) -> usize
+        ensures { result ≡ self.now.source }
+    {
+        self.source
+    }
+
+    /// What it tells of that column in each zone.
+    pub fn aggregate(&self) -> AggregateFnRef
+        ensures { result ≡ self.now.aggregate }
+    {
+        self.aggregate
+    }
+
+    /// Its name: that of the column that it tells of, and `#0` to `#6` for the aggregate.
+    pub fn name(&self) -> &str
+        ensures { result.now ≡ self.now.name }
+    {
+        &self.name
+    }
+
+    /// The type of its values, which has null.
+    pub fn dtype(&self) -> DType
+        ensures { result ≡ self.now.dtype }
+    {
+        self.dtype
+    }
 }
 
 // The aggregates of a table, in its order.
@@ -319,6 +353,66 @@ fn table_of(
     }
 }
 
+// Whether a column may stand under a head in a table of so many zones.
+fn stands_under(zones: usize, head: &Head, column: &Column) -> bool
+    ensures { result ≡ stands_under zones head.now column.now }
+{
+    head.dtype == column.dtype() && column.len() == zones && column.size() == 0
+}
+
+// Whether each may under the head beside it.
+fn pairs_stand(zones: usize, heads: &[Head], columns: &[Column]) -> bool
+    ensures { result ≡ list_all (λ p. stands_under zones p.0 p.1) (zip heads.now columns.now) }
+{
+    heads
+        .iter()
+        .zip(columns.iter())
+        .all(|(head, column)| stands_under(zones, head, column))
+}
+
+// Whether there is one column a head, which may stand under it.
+fn all_stand(zones: usize, heads: &[Head], columns: &[Column]) -> bool
+    ensures { result ≡ all_stand zones heads.now columns.now }
+{
+    heads.len() == columns.len() && pairs_stand(zones, heads, columns)
+}
+
+// The names and types of the columns of the table, if those that are given may be its columns.
+fn tested_names(
+    alloc: Global,
+    scope: &Scope,
+    zones: usize,
+    columns: &[Column],
+    starts: &mut Vec<usize>,
+) -> Result<Vec<(String, DType)>, StatsError>
+    requires { length starts.old.items ≡ 0 }
+    ensures names { IfOk result (λ ns.
+        named_columns ns.items ≡ map spec.named_head (heads scope.now)) }
+    ensures starts { IfOk result (λ _. starts.new.items ≡ starts_from 0 scope.now) }
+    ensures is_scope { IfOk result (λ _. IsScope scope.now) }
+    ensures table { OnOk result (IsTrue (is_table zones scope.now columns.now)) }
+    ensures error { IfErr result (IsNoTable zones scope.now columns.now) }
+{
+    let heads = all_heads(alloc, scope, starts)?;
+    if !all_stand(zones, &heads, columns) {
+        return Err(StatsError::Mismatch);
+    }
+    Ok(names_of(alloc, heads)?)
+}
+
+// The chunk of columns that are known to make one.
+fn chunk_with(names: Vec<(String, DType)>, columns: Vec<Column>) -> Chunk
+    requires scope { IsScope (named_columns names.items) }
+    requires chunk { let made = chunk_with (named_columns names.items) columns.items in
+        chunk_of (named_columns names.items) columns.items ≡ Ok made }
+    ensures { result ≡ chunk_with (named_columns names.items) columns.items }
+{
+    match Chunk::try_new(Scope::new_unchecked(names), columns) {
+        Ok(table) => table,
+        Err(_) => unreachable!(),
+    }
+}
+
 // How many rows each zone has.
 fn rows_of(alloc: Global, zones: &[Zone<'_>]) -> Result<Vec<u64>, AllocError>
     ensures { IfOk result (λ rows. rows.items ≡ map (λ zone. zone.rows) zones.now) }
@@ -372,6 +466,19 @@ pub struct ZoneMapRefused {
     pub error: StatsError,
     /// The scope as it was given.
     pub scope: Scope,
+}
+
+/// A table of which no map was made, handed back beside the cause.
+#[derive(Debug, Drop)]
+pub struct TableRefused {
+    /// `Mismatch` or `Memory`.
+    pub error: StatsError,
+    /// The scope as it was given.
+    pub scope: Scope,
+    /// The row counts as they were given.
+    pub rows: Vec<u64>,
+    /// The columns as they were given.
+    pub columns: Vec<Column>,
 }
 
 // The map of zones that are known to fit the scope.
@@ -437,6 +544,61 @@ impl ZoneMap {
             return Err(ZoneMapRefused { error, scope });
         }
         map_of(alloc, scope, zones)
+    }
+
+    /// The columns of the table of each map of a scope, in their order: for each column of the
+    /// scope one for each aggregate that supports its type.
+    pub fn heads(alloc: Global, scope: &Scope) -> Result<Vec<Head>, AllocError>
+        ensures { IfOk result (λ found. found.items ≡ heads scope.now) }
+    {
+        let mut starts = Vec::new(alloc);
+        all_heads(alloc, scope, &mut starts)
+    }
+
+    /// The map of zones whose table is at hand, as a footer keeps one: how many rows each zone has,
+    /// and a column under each of the `heads` of the scope, in their order. It prunes as the map of
+    /// the zones' sets does where each value is what these tell (`StatFn`).
+    ///
+    /// `Mismatch` where the columns make no table of so many zones and memory isn't refused first:
+    /// there is one more or less than heads, or one is of another type than its head, is shorter or
+    /// longer than the row counts, or declares a size. `Memory` only where memory is refused. What
+    /// was given comes back.
+    pub fn of_table(
+        alloc: Global,
+        scope: Scope,
+        rows: Vec<u64>,
+        columns: Vec<Column>,
+    ) -> Result<ZoneMap, TableRefused>
+        ensures made { IfOk result (λ made. made ≡ map_with scope rows.items columns.items) }
+        ensures is_map { IfOk result (λ made. (zones : List ZoneData)
+            → IsTableOf scope zones rows.items columns.items → IsMapOf zones made) }
+        ensures table { OnOk result (IsTrue (is_table (length rows.items) scope columns.items)) }
+        ensures error { IfErr result (λ refused.
+            IsNoTable (length rows.items) scope columns.items refused.error) }
+        ensures scope_back { IfErr result (λ refused. refused.scope ≡ scope) }
+        ensures rows_back { IfErr result (λ refused. refused.rows ≡ rows) }
+        ensures columns_back { IfErr result (λ refused. refused.columns ≡ columns) }
+    {
+        let mut starts = Vec::new(alloc);
+        match tested_names(alloc, &scope, rows.len(), &columns, &mut starts) {
+            Ok(names) => {
+                let table = chunk_with(names, columns);
+                // That it is a chunk.
+                let _rows = table.rows();
+                Ok(ZoneMap {
+                    scope,
+                    rows,
+                    table,
+                    starts,
+                })
+            }
+            Err(error) => Err(TableRefused {
+                error,
+                scope,
+                rows,
+                columns,
+            }),
+        }
     }
 
     /// Moves the zones of another map of the same scope behind this one's. The other is left

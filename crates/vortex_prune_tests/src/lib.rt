@@ -11,11 +11,10 @@ mod part;
 #[cfg(test)]
 mod refused;
 #[cfg(test)]
-mod scan;
-#[cfg(test)]
 mod stat_fn;
 #[cfg(test)]
-mod testing;
+mod tables;
+pub mod testing;
 #[cfg(test)]
 mod zone_map;
 #[cfg(test)]

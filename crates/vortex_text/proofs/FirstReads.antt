@@ -1,5 +1,5 @@
 -- What the first line of a text says, in terms of all its lines.
-use Rattle.std.proofs.Common.{◌≡◌, ◌<◌, ◌≤◌, ◌+◌, ◌-◌, ◌==◌, ℕ, Bool, true, false, List, [], ◌∷◌, ◌++◌, Option, None, Some, Err, length, is_some, not, option_and_then, option_map, get_or, take, drop, codes, refl, ap, sym, subst, ◌∙◌, inl, inr, arith}
+use Rattle.std.proofs.Common.{◌≡◌, ◌<◌, ◌≤◌, ◌-◌, ◌==◌, ℕ, Bool, true, false, List, [], ◌∷◌, ◌++◌, Option, None, Some, length, is_some, not, option_and_then, option_map, get_or, take, drop, codes, refl, ap, sym, subst, ◌∙◌, inl, inr, arith}
 use Rattle.std.proofs.lemmas.Bool.{cases_Bool}
 use Rattle.std.proofs.lemmas.List.{take_rest}
 use Rattle.std.proofs.lemmas.List.Splits.{length-slice_split}
@@ -16,12 +16,13 @@ use Rattle.vortex_syntax.specs.Words.{Plain, words}
 use Rattle.vortex_text.proofs.Fitting.LineFits.{line_fits}
 use Rattle.vortex_text.proofs.FirstLineLemmas.{is_spelled, line_parted, one_line, lines_behind, utf8_behind}
 use Rattle.vortex_text.proofs.MemoryLemmas.{taken_in}
+use Rattle.vortex_text.specs.Blocks.{BeginsBad}
 use Rattle.vortex_text.specs.Columns.{with_values}
 use Rattle.vortex_text.specs.FirstLines.{first_read, first_values, may_take}
 use Rattle.vortex_text.specs.Fitting.{FitsTogether}
 use Rattle.vortex_text.specs.Lines.{Reading, nothing_read, read_line, read_row}
 use Rattle.vortex_text.specs.MemoryTaken.{TakesMemory, line_takes}
-use Rattle.vortex_text.specs.Naming.{Reads, go_on, named_from}
+use Rattle.vortex_text.specs.Naming.{Reads}
 
 -- ---- a text with a byte has a line
 
@@ -134,19 +135,15 @@ first_is old new (line ∷ later) more read =
 pub first_fits : (old new : Reading) (ls more : List (List ℕ)) → FitsTogether old → FirstRead old new ls more → FitsTogether new
 first_fits old new ls more fits first = line_fits old new first.line fits first.read
 
-pub first_named : (n : ℕ) (old new : Reading) (ls more : List (List ℕ)) → FirstRead old new ls more → named_from n old ls ≡ named_from (n + 1) new more
-first_named n old new ls more first =
-    ap (named_from n old) first.split ∙ ap (λ o. go_on n o (λ r. named_from (n + 1) r more)) first.read
-
 no_line : (later : List (List ℕ)) (o : Option Reading) → option_map {U = Reading × List (List ℕ)} (λ next. (next, later)) o ≡ None → o ≡ None
 no_line later None read = refl
 no_line later (Some next) read = cc
 
-pub first_bad : (n : ℕ) (old : Reading) (text : List ℕ) → 0 < length text → first_read old (lines text) ≡ None → named_from n old (lines text) ≡ Err n
-first_bad n old text some read =
+-- a text with a byte, of which nothing is read, begins with a bad line
+pub begins_bad : (old : Reading) (text : List ℕ) → 0 < length text → first_read old (lines text) ≡ None → BeginsBad old (lines text)
+begins_bad old text some read =
     let (line, later, is) = has_line text some in
-    let bad = no_line later (read_line old line) (ap (first_read old) (sym is) ∙ read) in
-    ap (named_from n old) is ∙ ap (λ o. go_on n o (λ r. named_from (n + 1) r later)) bad
+    subst (BeginsBad old) (sym is) (no_line later (read_line old line) (ap (first_read old) (sym is) ∙ read))
 
 -- a line that may take memory, after lines that are fine
 pub may_take_in : (text : List ℕ) (front ls : List (List ℕ)) (r : Reading) → lines text ≡ front ++ ls → Reads nothing_read front r → may_take r ls ≡ true → TakesMemory text

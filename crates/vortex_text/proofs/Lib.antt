@@ -8,6 +8,8 @@ pub mod Fitting
 pub mod JoinLemmas
 pub mod MemoryLemmas
 pub mod NamedLines
+pub mod OpenLineLemmas
+pub mod OpenTextLemmas
 pub mod QueryLemmas
 pub mod Refusals
 pub mod StartLemmas

@@ -29,7 +29,8 @@ ok_reads n r (line ∷ more) x e =
     let (s, reads, parts, predicate) = ok_reads (n + 1) next more x rest in
     (s, (next, read, reads), parts, predicate)
 
-reads_ok : (n : ℕ) (r s : Reading) (ls : List (List ℕ)) (predicate : Tree Place) → Reads r ls s → s.predicate ≡ Some predicate → named_from n r ls ≡ Ok (parts_of s, predicate)
+-- lines that are fine, with a predicate
+pub reads_ok : (n : ℕ) (r s : Reading) (ls : List (List ℕ)) (predicate : Tree Place) → Reads r ls s → s.predicate ≡ Some predicate → named_from n r ls ≡ Ok (parts_of s, predicate)
 reads_ok n r s [] predicate same e = rw same (ap (finish n (parts_of s)) e)
 reads_ok n r s (line ∷ more) predicate (next, read, reads) e = ap (λ o. go_on n o (λ t. named_from (n + 1) t more)) read ∙ reads_ok (n + 1) next s more predicate reads e
 

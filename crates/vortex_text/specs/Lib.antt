@@ -1,4 +1,5 @@
 pub mod Batches
+pub mod Blocks
 pub mod Columns
 pub mod Drafts
 pub mod FirstLines
@@ -7,7 +8,9 @@ pub mod Lines
 pub mod MemoryTaken
 pub mod Naming
 pub mod OpenParts
+pub mod OpenTexts
 pub mod Printing
 pub mod Program
+pub mod Progress
 pub mod Rows
 pub mod Streams

@@ -1,4 +1,7 @@
 //! The first bad line of a text, and the sentence that says why it is bad.
+ghost use Rattle.std.specs.Prelude.{◌≡◌, IfOk};
+ghost use Rattle.vortex_text.specs.declared.bad_line.TextError.TheVariants.{Memory};
+
 use std::alloc::{AllocError, Global};
 use std::str;
 use vortex_syntax::expected::Expected;
@@ -14,6 +17,35 @@ pub struct BadLine<'a> {
     pub line: &'a [u8],
     /// Where it stops being a line of the language.
     pub fault: Fault,
+}
+
+/// The first bad line of a text that isn't held, with its bytes.
+#[derive(Debug, Drop)]
+pub struct BadInput {
+    /// Its number, counted from 1.
+    pub number: usize,
+    /// Its bytes. There are none where the text ends without a predicate.
+    pub line: Vec<u8>,
+    /// Where it stops being a line of the language.
+    pub fault: Fault,
+}
+
+/// Why a text that isn't held names nothing.
+#[derive(Debug, Drop)]
+pub enum TextError {
+    /// A growth was refused.
+    Memory,
+    /// The first bad line. Where no line is bad and there is no predicate, it is the line after the
+    /// last.
+    BadLine(BadInput),
+}
+
+impl From<AllocError> for TextError {
+    ghost from_gives = { λ _ e. e ≡ Memory };
+
+    fn from(_e: AllocError) -> TextError {
+        TextError::Memory
+    }
 }
 
 // How many characters of a word are shown.
@@ -92,5 +124,30 @@ impl BadLine<'_> {
         }
         let word = shown(found.word);
         format!(in alloc; "line {number}: word {place} {word:?}: {expected}\n")
+    }
+}
+
+impl BadInput {
+    /// The bad line with a copy of its bytes.
+    pub fn of(alloc: Global, bad: BadLine<'_>) -> Result<BadInput, AllocError>
+        ensures { IfOk result (λ kept. kept.number ≡ bad.entry.number) }
+    {
+        let mut line = Vec::with_capacity(alloc, bad.line.len())?;
+        line.extend_from_slice(bad.line)?;
+        Ok(BadInput {
+            number: bad.number,
+            line,
+            fault: bad.fault,
+        })
+    }
+
+    /// The sentence that says why the line is bad, as `BadLine::reason` has it.
+    pub fn reason(&self, alloc: Global) -> Result<String, AllocError> {
+        let bad = BadLine {
+            number: self.number,
+            line: &self.line,
+            fault: self.fault,
+        };
+        bad.reason(alloc)
     }
 }

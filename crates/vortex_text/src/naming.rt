@@ -1,10 +1,13 @@
 //! What a whole text names.
-ghost use Rattle.std.specs.Prelude.{◌≡◌, ◌↔◌, ◌<◌, ℕ, List, IfOk, IsErrOf, Ok, Err, length};
+ghost use Rattle.std.specs.Prelude.{◌≡◌, ◌↔◌, ◌<◌, ◌≤◌, ◌+◌, ◌^◌, ℕ, List, IfOk, IsErrOf, OnOk, Ok, Err, length};
+ghost use Rattle.std.specs.Str.Lines.{lines};
 ghost use Rattle.vortex_base.specs.Trees.Tree.{Tree, Place};
 ghost use Rattle.vortex_prune.specs.Part.{PartData};
-ghost use Rattle.vortex_text.specs.Fitting.{IsQuery, IsQueryOver};
+ghost use Rattle.vortex_text.specs.Blocks.{MayRefuse, ReadsTo};
+ghost use Rattle.vortex_text.specs.Drafts.{reading_of};
+ghost use Rattle.vortex_text.specs.Fitting.{FitsTogether, IsQuery, IsQueryOver};
 ghost use Rattle.vortex_text.specs.MemoryTaken.{TakesMemory};
-ghost use Rattle.vortex_text.specs.Naming.{IsFirstBad, IsNamed, NamesQuery, named};
+ghost use Rattle.vortex_text.specs.Naming.{IsFirstBad, IsNamed, NamesQuery, named, named_from};
 
 use crate::bad_line::BadLine;
 use crate::draft::Draft;
@@ -49,15 +52,23 @@ fn without_predicate(number: usize) -> BadLine<'static>
     }
 }
 
-/// The parts and the predicate that a text names, with their scope.
-pub fn read_input(alloc: Global, text: &[u8]) -> Result<Query, InputError<'_>>
-    ensures named { IsNamed (λ q. (q.parts.items, q.predicate)) result (named text.now) }
-    ensures fits { IfOk result (λ q. IsQueryOver q.scope q.parts.items q.predicate) }
-    ensures memory { IsErrOf result InputError.Memory → TakesMemory text.now }
+/// Reads lines after those that were read, of which the first has this number. The number of the
+/// line after them comes back.
+pub(crate) fn read_lines<'a>(
+    alloc: Global,
+    draft: &mut Draft,
+    first: usize,
+    text: &'a [u8],
+) -> Result<usize, InputError<'a>>
+    requires fits { FitsTogether (reading_of draft.old) }
+    requires few { first + length text.now < 2 ^ 64 }
+    ensures read { ReadsTo first (reading_of draft.old) (lines text.now) result
+        (reading_of draft.new) }
+    ensures fits { OnOk result (FitsTogether (reading_of draft.new)) }
+    ensures few { IfOk result (λ n. n ≤ first + length text.now) }
 {
-    let mut draft = Draft::new(alloc);
     let mut rest = text;
-    let mut number = 1;
+    let mut number = first;
     while !rest.is_empty() {
         rest = match draft.read_first(alloc, rest) {
             Ok(after) => after,
@@ -68,11 +79,41 @@ pub fn read_input(alloc: Global, text: &[u8]) -> Result<Query, InputError<'_>>
         };
         number += 1;
     }
+    Ok(number)
+}
+
+/// Reads the last lines of a text after those that were read. The parts and the predicate that all
+/// of them name come back, with their scope.
+pub(crate) fn read_last(
+    alloc: Global,
+    draft: Draft,
+    first: usize,
+    text: &[u8],
+) -> Result<Query, InputError<'_>>
+    requires fits { FitsTogether (reading_of draft) }
+    requires few { first + length text.now < 2 ^ 64 }
+    ensures named { IsNamed (λ q. (q.parts.items, q.predicate)) result
+        (named_from first (reading_of draft) (lines text.now)) }
+    ensures fits { IfOk result (λ q. IsQueryOver q.scope q.parts.items q.predicate) }
+    ensures memory { IsErrOf result InputError.Memory
+        → MayRefuse (reading_of draft) (lines text.now) }
+{
+    let mut draft = draft;
+    let number = read_lines(alloc, &mut draft, first, text)?;
     match draft.into_query(alloc) {
         Ok(Some(query)) => Ok(query),
         Ok(None) => Err(InputError::BadLine(without_predicate(number))),
         Err(AllocError) => Err(InputError::Memory),
     }
+}
+
+/// The parts and the predicate that a text names, with their scope.
+pub fn read_input(alloc: Global, text: &[u8]) -> Result<Query, InputError<'_>>
+    ensures named { IsNamed (λ q. (q.parts.items, q.predicate)) result (named text.now) }
+    ensures fits { IfOk result (λ q. IsQueryOver q.scope q.parts.items q.predicate) }
+    ensures memory { IsErrOf result InputError.Memory → TakesMemory text.now }
+{
+    read_last(alloc, Draft::new(alloc), 1, text)
 }
 
 /// The law of what a text names, over all its lines at once: parts and a predicate exactly if every

@@ -1,5 +1,5 @@
 -- Worked rows: what crosses from a caller, each case by computation.
-use Rattle.std.proofs.Common.{◌≡◌, ℕ, pos, negsuc, List, [], ◌∷◌, None, Some, Ok, Err, true, false, refl}
+use Rattle.std.proofs.Common.{◌≡◌, ℕ, pos, negsuc, List, [], ◌∷◌, None, Some, Ok, Err, true, false, map, refl}
 use Rattle.vortex_base.specs.declared.dtype.DType.TheVariants as dtype
 use Rattle.vortex_base.specs.declared.types.Nullability.TheVariants.{Nullable, NonNullable}
 use Rattle.vortex_base.specs.declared.types.PType.TheVariants as ptype
@@ -9,6 +9,7 @@ use Rattle.vortex_stats.specs.declared.precision.Precision.TheVariants.{Exact, I
 use Rattle.vortex_stats.specs.declared.stat.Stat.TheVariants as stat
 use Rattle.vortex_ffi.specs.declared.status.Status.TheVariants.{BadEnds, BadKind, BadLength, BadNull, BadStat, BadValue}
 use Rattle.vortex_ffi.specs.Encoding.{bytes_of, number_of, value_of}
+use Rattle.vortex_ffi.specs.Extents.{IsExtentOf, follows}
 use Rattle.vortex_ffi.specs.Given.{bytes_at}
 use Rattle.vortex_ffi.specs.Measures.{slots_in, stat_of, wanted_of}
 use Rattle.vortex_ffi.specs.Slots.{ends_from, heap, slot_of}
@@ -155,3 +156,18 @@ the_ends = refl
 
 the_heap : heap ((1, 7 ∷ 8 ∷ []) ∷ (0, []) ∷ (2, 9 ∷ []) ∷ []) ≡ 7 ∷ 8 ∷ 9 ∷ []
 the_heap = refl
+
+-- ---- extents: the null doesn't count as a value, and the least is below zero
+
+an_extent : IsExtentOf (record { nulls = 1; least = Some (number.I16 (negsuc 1)); greatest = Some (number.I16 (pos 5)) })
+    (record { dtype = dtype.Primitive ptype.I16 Nullable; values = Some (value.Primitive (number.I16 (pos 5))) ∷ None ∷ Some (value.Primitive (number.I16 (negsuc 1))) ∷ []; size = 6 })
+an_extent = record { nulls = refl; least = refl; greatest = refl }
+
+of_nulls_alone : IsExtentOf (record { nulls = 2; least = None; greatest = None }) (record { dtype = dtype.Primitive ptype.U8 Nullable; values = None ∷ None ∷ []; size = 0 })
+of_nulls_alone = record { nulls = refl; least = refl; greatest = refl }
+
+these_follow : map follows (stat.Max ∷ stat.Min ∷ stat.NullCount ∷ stat.UncompressedSizeInBytes ∷ []) ≡ true ∷ true ∷ true ∷ true ∷ []
+these_follow = refl
+
+others_dont : map follows (stat.IsConstant ∷ stat.IsSorted ∷ stat.IsStrictSorted ∷ stat.Sum ∷ stat.NaNCount ∷ []) ≡ false ∷ false ∷ false ∷ false ∷ false ∷ []
+others_dont = refl

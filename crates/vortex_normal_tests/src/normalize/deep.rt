@@ -99,6 +99,35 @@ fn many_values(rt: HostRuntime) -> Result<(), Fail> {
     expect(&rt, alloc, none, never(alloc))
 }
 
+// The same values from the greatest down.
+fn points_downwards(alloc: Global) -> Built {
+    let greatest = LINKS.saturating_sub(1);
+    let mut chain = a_eq(alloc, greatest)?;
+    for value in (0..greatest).rev() {
+        chain = or(alloc, Ok(chain), a_eq(alloc, value))?;
+    }
+    Ok(chain)
+}
+
+// And as a normal form writes them: the least first, and then the others.
+fn points_in_order(alloc: Global) -> Built {
+    let greatest = LINKS.saturating_sub(1);
+    let mut values = a_eq(alloc, greatest)?;
+    for value in (0..greatest).rev() {
+        values = or(alloc, a_eq(alloc, value), Ok(values))?;
+    }
+    Ok(values)
+}
+
+#[test]
+fn many_values_are_put_in_order(rt: HostRuntime) -> Result<(), Fail> {
+    let alloc = rt.alloc();
+    let in_order = points_in_order(alloc);
+    expect(&rt, alloc, points_downwards(alloc), in_order)?;
+    let in_order = points_in_order(alloc);
+    expect(&rt, alloc, points(alloc), in_order)
+}
+
 // All values but as many as a chain can name.
 fn holes(alloc: Global) -> Built {
     let mut chain = a_not_eq(alloc, 0)?;
@@ -115,6 +144,45 @@ fn many_holes(rt: HostRuntime) -> Result<(), Fail> {
     assert!(rt; found.is_plain());
     let none = and(alloc, holes(alloc), a_eq(alloc, 511));
     expect(&rt, alloc, none, never(alloc))
+}
+
+// Half as many columns as a chain has links.
+const COLUMNS: usize = 511;
+
+fn column_gt(alloc: Global, place: usize, value: i32) -> Built {
+    gt(alloc, col(alloc, place, I32_OR_NULL), num(alloc, value))
+}
+
+fn column_lt(alloc: Global, place: usize, value: i32) -> Built {
+    lt(alloc, col(alloc, place, I32_OR_NULL), num(alloc, value))
+}
+
+// Each column is named twice, with all others between.
+fn wide(alloc: Global) -> Built {
+    let mut chain = column_gt(alloc, 0, 3)?;
+    for place in 1..COLUMNS {
+        chain = and(alloc, Ok(chain), column_gt(alloc, place, 3))?;
+    }
+    for place in 0..COLUMNS {
+        chain = and(alloc, Ok(chain), column_lt(alloc, place, 9))?;
+    }
+    Ok(chain)
+}
+
+fn column_between(alloc: Global, place: usize) -> Built {
+    let column = col(alloc, place, I32_OR_NULL);
+    between(alloc, column, num(alloc, 3), num(alloc, 9), OPEN)
+}
+
+#[test]
+fn many_columns(rt: HostRuntime) -> Result<(), Fail> {
+    let alloc = rt.alloc();
+    let last = COLUMNS.saturating_sub(1);
+    let mut ranges = column_between(alloc, last)?;
+    for place in (0..last).rev() {
+        ranges = and(alloc, column_between(alloc, place), Ok(ranges))?;
+    }
+    expect(&rt, alloc, wide(alloc), Ok(ranges))
 }
 
 // An answer, or a refusal of memory.

@@ -38,6 +38,25 @@ fn ranges_that_unite(rt: HostRuntime) -> Result<(), Fail> {
     expect(&rt, alloc, wider, a_within(alloc, 1, 9))
 }
 
+// In their order, wherever they stand in the chain.
+#[test]
+fn ranges_in_order(rt: HostRuntime) -> Result<(), Fail> {
+    let alloc = rt.alloc();
+    let low = or(alloc, a_within(alloc, 4, 6), a_lt(alloc, 2));
+    let chain = or(alloc, or(alloc, a_gt(alloc, 9), b_lt(alloc, 0)), low);
+    let above = or(alloc, a_within(alloc, 4, 6), a_gt(alloc, 9));
+    let in_order = or(alloc, a_lt(alloc, 2), above);
+    expect(&rt, alloc, chain, or(alloc, in_order, b_lt(alloc, 0)))?;
+    let covered = or(alloc, a_within(alloc, 1, 9), a_within(alloc, 3, 4));
+    let chain = or(alloc, covered, a_within(alloc, 8, 12));
+    expect(&rt, alloc, chain, a_within(alloc, 1, 12))?;
+    let pieces = or(alloc, a_within(alloc, 6, 9), a_within(alloc, 1, 3));
+    let chain = and(alloc, and(alloc, a_gt(alloc, 1), pieces), a_lt(alloc, 8));
+    let from_six = between(alloc, a(alloc), num(alloc, 6), num(alloc, 8), OPEN_ABOVE);
+    let to_three = between(alloc, a(alloc), num(alloc, 1), num(alloc, 3), OPEN_BELOW);
+    expect(&rt, alloc, chain, or(alloc, to_three, from_six))
+}
+
 // The one value between them is in neither.
 #[test]
 fn open_ends_do_not_touch(rt: HostRuntime) -> Result<(), Fail> {
@@ -61,6 +80,22 @@ fn columns_stay_apart(rt: HostRuntime) -> Result<(), Fail> {
         a_lt(alloc, 3),
     );
     expect(&rt, alloc, between_them, never(alloc))
+}
+
+// The column at the place of a, of another type.
+fn wide_a_gt(alloc: Global, value: i64) -> Built {
+    let dtype = DType::Primitive(PType::I64, Nullability::Nullable);
+    let literal = lit(alloc, dtype, ScalarValue::from(value));
+    gt(alloc, col(alloc, 0, dtype), literal)
+}
+
+#[test]
+fn types_at_one_place_stay_apart(rt: HostRuntime) -> Result<(), Fail> {
+    let alloc = rt.alloc();
+    let both = and(alloc, a_gt(alloc, 5), wide_a_gt(alloc, 7));
+    let chain = and(alloc, and(alloc, both, a_lt(alloc, 9)), wide_a_gt(alloc, 8));
+    let range = between(alloc, a(alloc), num(alloc, 5), num(alloc, 9), OPEN);
+    expect(&rt, alloc, chain, and(alloc, range, wide_a_gt(alloc, 8)))
 }
 
 #[test]

@@ -1,5 +1,5 @@
 -- Worked rows of tables of zones and their binder, found by computation alone.
-use Rattle.std.specs.Prelude.{◌≡◌, ℕ, true, false, List, [], ◌∷◌, Option, Some, None, pos, codes, map, refl}
+use Rattle.std.specs.Prelude.{◌≡◌, ℕ, true, false, List, [], ◌∷◌, Option, Some, None, pos, codes, length, map, refl, slice_get}
 use Rattle.vortex_base.specs.Data.Columns.{ColumnData, row_of}
 use Rattle.vortex_base.specs.Data.Scopes.{Named}
 use Rattle.vortex_base.specs.Trees.Tree.{Tree, Place, binary, column, is_null, stat}
@@ -15,9 +15,10 @@ use Rattle.vortex_base.specs.declared.scalar_value.ScalarValue.TheVariants as va
 use Rattle.vortex_stats.specs.Sets.Claims.{count_value}
 use Rattle.vortex_stats.specs.declared.precision.Precision.TheVariants.{Exact, Inexact}
 use Rattle.vortex_stats.specs.declared.stat.Stat.TheVariants as stats
+use Rattle.vortex_prune.specs.GivenTables.{is_table, map_with}
 use Rattle.vortex_prune.specs.Part.{Entries, PartData}
 use Rattle.vortex_prune.specs.Scanning.ZoneScans.{is_left_open}
-use Rattle.vortex_prune.specs.Zones.{ZonesData, is_zone_row, starts_from, zone_answer, zone_columns, zone_place, zone_table, zones_of}
+use Rattle.vortex_prune.specs.Zones.{ZonesData, heads, is_zone_row, starts_from, zone_answer, zone_columns, zone_place, zone_table, zones_of}
 
 abbrev i64_type : DType
 i64_type = dtype.Primitive ptype.I64 Nullable
@@ -104,10 +105,65 @@ without_parts : zone_table ((codes "n", dtype.Null) ∷ []) [] ≡ record {
 }
 without_parts = refl
 
+-- ---- columns that are handed in, of two zones of a column of nulls
+
+abbrev ns : List Named
+ns = (codes "n", dtype.Null) ∷ []
+
+-- the counts of nulls, and what they tell of all values
+abbrev counts : ColumnData
+counts = values count_type (Some (count_value 2) ∷ Some (count_value 0) ∷ [])
+
+abbrev sizes : ColumnData
+sizes = values count_type (None ∷ None ∷ [])
+
+abbrev truths : ColumnData
+truths = values bool_type (bit ∷ None ∷ [])
+
+four_stand : is_table 2 ns (counts ∷ sizes ∷ truths ∷ truths ∷ []) ≡ true
+four_stand = refl
+
+three_do_not : is_table 2 ns (counts ∷ sizes ∷ truths ∷ []) ≡ false
+three_do_not = refl
+
+five_do_not : is_table 2 ns (counts ∷ sizes ∷ truths ∷ truths ∷ truths ∷ []) ≡ false
+five_do_not = refl
+
+of_another_type : is_table 2 ns (counts ∷ truths ∷ truths ∷ truths ∷ []) ≡ false
+of_another_type = refl
+
+too_short : is_table 3 ns (counts ∷ sizes ∷ truths ∷ truths ∷ []) ≡ false
+too_short = refl
+
+last_too_short : is_table 2 ns (counts ∷ sizes ∷ truths ∷ values bool_type (bit ∷ []) ∷ []) ≡ false
+last_too_short = refl
+
+with_a_size : is_table 2 ns (counts ∷ record { dtype = count_type; values = None ∷ None ∷ []; size = 8 } ∷ truths ∷ truths ∷ []) ≡ false
+with_a_size = refl
+
+given_map : map_with ns (5 ∷ 7 ∷ []) (counts ∷ sizes ∷ truths ∷ truths ∷ []) ≡ record {
+  scope = ns;
+  rows = 5 ∷ 7 ∷ [];
+  table = record {
+    scope = (codes "n#3", count_type) ∷ (codes "n#4", count_type) ∷ (codes "n#5", bool_type) ∷ (codes "n#6", bool_type) ∷ [];
+    columns = counts ∷ sizes ∷ truths ∷ truths ∷ [];
+  };
+}
+given_map = refl
+
 -- ---- the binder over two columns, of nulls and of numbers
 
 abbrev two : List Named
 two = (codes "n", dtype.Null) ∷ (codes "a", i64_type) ∷ []
+
+fifth_head : slice_get (heads two) 4 ≡ Some (record { source = 1; aggregate = Max; name = codes "a#0"; dtype = i64_type })
+fifth_head = refl
+
+last_head : slice_get (heads two) 10 ≡ Some (record { source = 1; aggregate = AllNonNull; name = codes "a#6"; dtype = bool_type })
+last_head = refl
+
+eleven_heads : length (heads two) ≡ 11
+eleven_heads = refl
 
 two_start : starts_from 0 two ≡ 0 ∷ 4 ∷ []
 two_start = refl

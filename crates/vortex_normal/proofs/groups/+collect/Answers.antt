@@ -12,9 +12,9 @@ as_one-requires t c =
     let l = k.left.now in
     let r = k.right.now in
     let is : c.args.e.now ≡ binary And l r = cc (k.ensures, k.field-0-is) in
-    let first = c.in_ok-collect-in-Binary-And-default-default-2.ensures ∙ ap (λ v. collected true l (map item_of v)) c.new-inner.ensures.items in
-    ap items_fit (c.in_ok-collect-in-Binary-And-default-default-3.ensures ∙ ap (collected true r) first)
-    ∙ both_fit true l r (left_side c.args.e.now l r And is refl c.requires) (right_side c.args.e.now l r And is refl c.requires)
+    let first = c.in_ok-collect-in-Binary-And-default-default-2.ensures.items ∙ ap (λ v. collected true l (map item_of v)) c.new-inner.ensures.items in
+    ap items_fit (c.in_ok-collect-in-Binary-And-default-default-3.ensures.items ∙ ap (collected true r) first)
+    ∙ both_fit true l r (left_side c.args.e.now l r And is refl c.requires.predicate) (right_side c.args.e.now l r And is refl c.requires.predicate)
 
 pub as_one-requires-then-is_and-2 : goal.as_one-requires-then-is_and-2
 as_one-requires-then-is_and-2 t c =
@@ -22,6 +22,6 @@ as_one-requires-then-is_and-2 t c =
     let l = k.left.now in
     let r = k.right.now in
     let is : c.args.e.now ≡ binary Or l r = cc (k.ensures, k.field-0-is) in
-    let first = c.in_ok-collect-in-Binary-Or-default-default.ensures ∙ ap (λ v. collected false l (map item_of v)) c.new-inner-then-is_and-2.ensures.items in
-    ap items_fit (c.in_ok-collect-in-Binary-Or-default-default-2.ensures ∙ ap (collected false r) first)
-    ∙ both_fit false l r (left_side c.args.e.now l r Or is refl c.requires) (right_side c.args.e.now l r Or is refl c.requires)
+    let first = c.in_ok-collect-in-Binary-Or-default-default.ensures.items ∙ ap (λ v. collected false l (map item_of v)) c.new-inner-then-is_and-2.ensures.items in
+    ap items_fit (c.in_ok-collect-in-Binary-Or-default-default-2.ensures.items ∙ ap (collected false r) first)
+    ∙ both_fit false l r (left_side c.args.e.now l r Or is refl c.requires.predicate) (right_side c.args.e.now l r Or is refl c.requires.predicate)

@@ -1,0 +1,5 @@
+//! Tests of `vortex_explain` by its public calls.
+#![tactic(auto)]
+
+#[cfg(test)]
+mod explained;

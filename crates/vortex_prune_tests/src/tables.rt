@@ -1,0 +1,261 @@
+//! Maps made of tables that are at hand.
+use crate::testing::{and_exactly, bounds, map_of, no_statistics, one_set, pruned_by};
+use std::alloc::{AllocError, Global};
+use std::test::Fail;
+use vortex_base::{AggregateFnRef, Cells, Column, DType, Nullability, PType, ScalarValue, Scope};
+use vortex_prune::{Head, Pruned, Rules, TableRefused, Zone, ZoneMap};
+use vortex_rewrite_tests::nodes::*;
+use vortex_stats::{Stat, StatsError, StatsSet};
+
+const SUM: DType = DType::Primitive(PType::I64, Nullability::Nullable);
+
+const COUNT: DType = DType::Primitive(PType::U64, Nullability::Nullable);
+
+const TRUTH: DType = DType::Bool(Nullability::Nullable);
+
+// What a table is built wrong in, if in anything.
+#[derive(Clone, Copy, PartialEq, Eq)]
+enum Fault {
+    None,
+    // The column at a place is left out.
+    Missing(usize),
+    // The column at a place stands there twice.
+    Twice(usize),
+    // That at a place has one value less, or one more.
+    Short(usize),
+    Long(usize),
+    // That at a place declares a size.
+    Sized(usize),
+    // That at a place has the type of truths, or of numbers where it has that of truths.
+    Typed(usize),
+    // There is one row count less.
+    Uncounted,
+}
+
+fn scope(alloc: Global) -> Result<Scope, StatsError> {
+    scope_of(alloc, I32_OR_NULL)
+}
+
+// Of three zones of 9 rows the first lies from 0 to 5, of the second nothing is known, and the
+// third lies from 20 to 30 without a null.
+fn value_of(aggregate: AggregateFnRef, zone: usize) -> Option<ScalarValue> {
+    match (aggregate, zone) {
+        (AggregateFnRef::Max, 0) => Some(number(5)),
+        (AggregateFnRef::Min, 0) => Some(number(0)),
+        (AggregateFnRef::Max, 2) => Some(number(30)),
+        (AggregateFnRef::Min, 2) => Some(number(20)),
+        (AggregateFnRef::NullCount, 2) => Some(count(0)),
+        (AggregateFnRef::AllNull, 2) => Some(ScalarValue::from(false)),
+        (AggregateFnRef::AllNonNull, 2) => Some(ScalarValue::from(true)),
+        _ => None,
+    }
+}
+
+fn other_type(dtype: DType) -> DType {
+    if dtype == TRUTH { COUNT } else { TRUTH }
+}
+
+// How many values the column at a place has.
+fn length_at(fault: Fault, place: usize) -> usize {
+    if fault == Fault::Short(place) {
+        2
+    } else if fault == Fault::Long(place) {
+        4
+    } else {
+        3
+    }
+}
+
+// The type of the column at a place, and what it tells, which is nothing if the type is wrong.
+fn told_at(head: &Head, fault: Fault, place: usize) -> (DType, AggregateFnRef) {
+    if fault == Fault::Typed(place) {
+        (other_type(head.dtype()), AggregateFnRef::MinMax)
+    } else {
+        (head.dtype(), head.aggregate())
+    }
+}
+
+fn column_at(alloc: Global, head: &Head, fault: Fault, place: usize) -> Result<Column, StatsError> {
+    let (dtype, aggregate) = told_at(head, fault, place);
+    let mut cells = Cells::new(alloc, dtype);
+    for zone in 0..length_at(fault, place) {
+        cells.push(value_of(aggregate, zone))?;
+    }
+    if !cells.fits(&dtype) {
+        return Err(StatsError::Mismatch);
+    }
+    let size = if fault == Fault::Sized(place) { 8 } else { 0 };
+    Ok(Column::new_unchecked(dtype, cells, size))
+}
+
+// The columns of the table.
+fn columns(alloc: Global, fault: Fault) -> Result<Vec<Column>, StatsError> {
+    let heads = ZoneMap::heads(alloc, &scope(alloc)?)?;
+    let mut columns = Vec::new(alloc);
+    for place in 0..heads.len() {
+        if fault != Fault::Missing(place) {
+            columns.push(column_at(alloc, &heads[place], fault, place)?)?;
+        }
+        if fault == Fault::Twice(place) {
+            columns.push(column_at(alloc, &heads[place], fault, place)?)?;
+        }
+    }
+    Ok(columns)
+}
+
+fn rows(alloc: Global, fault: Fault) -> Result<Vec<u64>, AllocError> {
+    let mut rows = Vec::new(alloc);
+    let zones = if fault == Fault::Uncounted { 2 } else { 3 };
+    for _zone in 0..zones {
+        rows.push(9)?;
+    }
+    Ok(rows)
+}
+
+fn made(alloc: Global, fault: Fault) -> Result<Result<ZoneMap, TableRefused>, StatsError> {
+    let (scope, rows, columns) = (scope(alloc)?, rows(alloc, fault)?, columns(alloc, fault)?);
+    Ok(ZoneMap::of_table(alloc, scope, rows, columns))
+}
+
+fn table_map(alloc: Global) -> Result<ZoneMap, StatsError> {
+    match made(alloc, Fault::None)? {
+        Ok(map) => Ok(map),
+        Err(refused) => Err(refused.error),
+    }
+}
+
+// The sets of the three zones.
+fn sets(alloc: Global) -> Result<Vec<Vec<StatsSet>>, StatsError> {
+    let last = and_exactly(bounds(alloc, 20, 30)?, Stat::NullCount, count(0))?;
+    let mut sets = Vec::new(alloc);
+    sets.push(one_set(alloc, bounds(alloc, 0, 5)?)?)?;
+    sets.push(one_set(alloc, no_statistics(alloc))?)?;
+    sets.push(one_set(alloc, last)?)?;
+    Ok(sets)
+}
+
+// The map of the three zones' sets.
+fn sets_map(alloc: Global) -> Result<ZoneMap, StatsError> {
+    let sets = sets(alloc)?;
+    let mut zones = Vec::new(alloc);
+    for set in &sets {
+        zones.push(Zone::new(9, set))?;
+    }
+    map_of(alloc, scope(alloc)?, &zones)
+}
+
+fn printed(alloc: Global, map: &ZoneMap) -> Result<String, StatsError> {
+    Ok(format!(in alloc; "{map:?}")?)
+}
+
+#[test]
+fn tables_make_the_map_of_their_zones(rt: HostRuntime) -> Result<(), Fail> {
+    let alloc = rt.alloc();
+    let map = table_map(alloc)?;
+    assert!(rt; map.len() == 3 && map.rows(0) == 9);
+    assert!(rt; printed(alloc, &map)? == printed(alloc, &sets_map(alloc)?)?);
+    Ok(())
+}
+
+fn pruned(alloc: Global, map: &ZoneMap, least: i32) -> Result<Pruned, StatsError> {
+    let a = col(alloc, 0, I32_OR_NULL);
+    let predicate = gt(alloc, a, int(alloc, least))?;
+    pruned_by(alloc, map, &predicate, &Rules::builtin(alloc))
+}
+
+#[test]
+fn tables_are_pruned(rt: HostRuntime) -> Result<(), Fail> {
+    let alloc = rt.alloc();
+    let found = pruned(alloc, &table_map(alloc)?, 10)?;
+    assert!(rt; found.skipped.as_slice() == [0].as_slice());
+    assert!(rt; found.whole.as_slice() == [2].as_slice());
+    Ok(())
+}
+
+// Whether a head has this name, aggregate and type.
+fn is_head(head: &Head, name: &str, aggregate: AggregateFnRef, dtype: DType) -> bool {
+    head.source() == 0
+        && head.name() == name
+        && head.aggregate() == aggregate
+        && head.dtype() == dtype
+}
+
+#[test]
+fn heads_name_the_columns(rt: HostRuntime) -> Result<(), Fail> {
+    let alloc = rt.alloc();
+    let heads = ZoneMap::heads(alloc, &scope(alloc)?)?;
+    assert!(rt; heads.len() == 7);
+    assert!(rt; is_head(&heads[0], "a#0", AggregateFnRef::Max, I32_OR_NULL));
+    assert!(rt; is_head(&heads[1], "a#1", AggregateFnRef::Min, I32_OR_NULL));
+    assert!(rt; is_head(&heads[2], "a#2", AggregateFnRef::Sum, SUM));
+    assert!(rt; is_head(&heads[3], "a#3", AggregateFnRef::NullCount, COUNT));
+    assert!(rt;
+        is_head(
+            &heads[4],
+            "a#4",
+            AggregateFnRef::UncompressedSizeInBytes,
+            COUNT
+        )
+    );
+    assert!(rt; is_head(&heads[5], "a#5", AggregateFnRef::AllNull, TRUTH));
+    assert!(rt; is_head(&heads[6], "a#6", AggregateFnRef::AllNonNull, TRUTH));
+    Ok(())
+}
+
+// Whether what was given comes back with a refusal.
+fn comes_back(alloc: Global, refused: &TableRefused, fault: Fault) -> Result<bool, StatsError> {
+    let columns = columns(alloc, fault)?;
+    Ok(
+        refused.scope == scope(alloc)?
+            && refused.rows == rows(alloc, fault)?
+            && format!(in alloc; "{:?}", refused.columns)? == format!(in alloc; "{columns:?}")?,
+    )
+}
+
+// Whether no map is made, and what was given comes back.
+fn is_misfit(alloc: Global, fault: Fault) -> Result<bool, StatsError> {
+    match made(alloc, fault)? {
+        Ok(_) => Ok(false),
+        Err(refused) => Ok(
+            matches!(refused.error, StatsError::Mismatch) && comes_back(alloc, &refused, fault)?,
+        ),
+    }
+}
+
+#[test]
+fn columns_that_make_no_table_are_refused(rt: HostRuntime) -> Result<(), Fail> {
+    let alloc = rt.alloc();
+    for place in 0..7 {
+        assert!(rt; is_misfit(alloc, Fault::Missing(place))?);
+        assert!(rt; is_misfit(alloc, Fault::Twice(place))?);
+        assert!(rt; is_misfit(alloc, Fault::Short(place))?);
+        assert!(rt; is_misfit(alloc, Fault::Long(place))?);
+        assert!(rt; is_misfit(alloc, Fault::Sized(place))?);
+        assert!(rt; is_misfit(alloc, Fault::Typed(place))?);
+    }
+    assert!(rt; is_misfit(alloc, Fault::Uncounted)?);
+    assert!(rt; !is_misfit(alloc, Fault::None)?);
+    Ok(())
+}
+
+// Whether the map is made, or memory is refused and what was given comes back.
+fn is_made(made: Result<ZoneMap, TableRefused>, scope: &Scope) -> bool {
+    match made {
+        Ok(map) => map.len() == 3 && *map.scope() == *scope,
+        Err(refused) => {
+            matches!(refused.error, StatsError::Memory(_))
+                && refused.scope == *scope
+                && refused.rows.len() == 3
+                && refused.columns.len() == 7
+        }
+    }
+}
+
+#[test]
+fn refused_tables_hand_back(rt: HostRuntime) -> Result<(), Fail> {
+    let alloc = rt.alloc();
+    let (same, given) = (scope(alloc)?, scope(alloc)?);
+    let (rows, columns) = (rows(alloc, Fault::None)?, columns(alloc, Fault::None)?);
+    assert!(rt; is_made(ZoneMap::of_table(alloc, given, rows, columns), &same));
+    Ok(())
+}
