@@ -19,6 +19,19 @@ mod zones;
 
 type Table = Result<Zones, StatsError>;
 
+// The scan skipped these parts and selected these rows.
+fn expect_found(
+    rt: &impl Abort,
+    found: Found,
+    skipped: &[usize],
+    selected: &[(usize, usize)],
+) -> Result<(), Fail> {
+    let found = found?;
+    assert!(rt; found.skipped.as_slice() == skipped);
+    assert!(rt; found.selected.as_slice() == selected);
+    Ok(())
+}
+
 // A part of one column `a`, with these statistics of it.
 fn part(alloc: Global, rows: &[Option<i32>], set: Sets) -> Result<Part, StatsError> {
     let column = column(I32_OR_NULL, numbers(alloc, rows), 0);

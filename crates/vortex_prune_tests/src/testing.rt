@@ -6,8 +6,6 @@ ghost use Rattle.vortex_base.specs.Meanings.Fitting.{fits_scope};
 ghost use Rattle.vortex_prune.specs.Zones.{HaveScope};
 
 use std::alloc::{AllocError, Global};
-use std::process::Abort;
-use std::test::Fail;
 use vortex_base::{BoundExpression, Chunk, Column, DType, ScalarFnId, ScalarValue, Scope};
 use vortex_prune::scan::scan;
 use vortex_prune::scan::zones::scan_zones;
@@ -456,17 +454,4 @@ pub fn has_found(
     found.skipped.as_slice() == skipped
         && found.whole.as_slice() == whole
         && found.selected.as_slice() == selected
-}
-
-/// The scan skipped these parts and selected these rows.
-pub fn expect_found(
-    rt: &impl Abort,
-    found: Found,
-    skipped: &[usize],
-    selected: &[(usize, usize)],
-) -> Result<(), Fail> {
-    let found = found?;
-    assert!(rt; found.skipped.as_slice() == skipped);
-    assert!(rt; found.selected.as_slice() == selected);
-    Ok(())
 }
