@@ -56,7 +56,7 @@ def watch(gate):
     while gate.poll() is None:
         for pid, (seconds, command, folder, start) in below(gate.pid).items():
             if "rattle" in command:
-                latest[pid, start, kind(command, folder, clone)] = seconds
+                latest[pid, start, kind(command, folder)] = seconds
         time.sleep(1)
     cost = collections.defaultdict(lambda: [0.0, 0.0, 0.0])
     for (_, _, (crate, which)), seconds in latest.items():
