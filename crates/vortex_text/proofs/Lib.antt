@@ -5,6 +5,7 @@ pub mod FirstLineLemmas
 pub mod FirstReads
 pub mod FirstRows
 pub mod Fitting
+pub mod InputLemmas
 pub mod JoinLemmas
 pub mod MemoryLemmas
 pub mod NamedLines

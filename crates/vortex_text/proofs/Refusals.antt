@@ -2,7 +2,7 @@
 use Rattle.std.proofs.Common.{◌≡◌, ◌<◌, ◌+◌, ℕ, zero, suc, Bool, true, false, List, [], ◌∷◌, Option, None, Some, IfSome, length, ◌⊎◌, inl, inr, ap, sym, subst, refl, append-nil, arith}
 use Rattle.std.specs.Io.KnownBytes.{Appends}
 use Rattle.vortex_text.specs.declared.streams.TheConstants.{INPUT_LIMIT}
-use Rattle.vortex_text.specs.Program.{Answers, IsFullScan, IsReason, Stops, WritesFullScan}
+use Rattle.vortex_text.specs.Program.{Answers, IsFullScan, IsReason, Stops, WritesFullScan, reply_to}
 use Rattle.vortex_text.specs.Streams.{AppendsProperFront, AppendsUnlessFailed, MayHaveFailed, TellsFailure}
 
 -- a call that failed leaves a stream that may have failed
@@ -34,6 +34,14 @@ pub stops_too_long : (known old new : Option (List ℕ)) (read_failed write_fail
     → IfSome known (λ input. Answers input 1 old new ⊎ Stops input read_failed write_failed old new)
 stops_too_long None old new read_failed write_failed word is long written = tt
 stops_too_long (Some input) old new read_failed write_failed word is long written = inr (inl (word, is input long, written))
+
+-- the reply to all bytes that were read was cut off
+pub stops_cut : (known old new : Option (List ℕ)) (read_failed write_failed : Option Bool) (read bytes : List ℕ) → IfSome known (λ input. read ≡ input) → bytes ≡ (reply_to read).1
+    → MayHaveFailed write_failed → AppendsProperFront old new bytes
+    → IfSome known (λ input. Answers input 1 old new ⊎ Stops input read_failed write_failed old new)
+stops_cut None old new read_failed write_failed read bytes all same failed cut = tt
+stops_cut (Some input) old new read_failed write_failed read bytes all same failed cut =
+    inr (inr (failed, subst (λ t. AppendsProperFront old new (reply_to t).1) all (subst (AppendsProperFront old new) same cut)))
 
 -- an input of any length
 zeros : ℕ → List ℕ

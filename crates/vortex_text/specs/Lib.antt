@@ -4,6 +4,7 @@ pub mod Columns
 pub mod Drafts
 pub mod FirstLines
 pub mod Fitting
+pub mod Inputs
 pub mod Lines
 pub mod MemoryTaken
 pub mod Naming

@@ -5,6 +5,7 @@ pub mod bad_line;
 mod batches;
 mod draft;
 mod first_row;
+pub mod input;
 mod kept_part;
 pub mod naming;
 mod open_column;

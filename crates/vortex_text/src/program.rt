@@ -1,12 +1,15 @@
 //! From the bytes that come in to those that go out.
 ghost use Rattle.std.specs.Prelude.{◌≡◌, ◌≢◌, ◌⊎◌, [], ℕ, List, IfOk, IfSome, string_bytes};
+ghost use Rattle.vortex_text.specs.OpenTexts.{IsOpenText};
 ghost use Rattle.vortex_text.specs.Program.{Answers, IsFullScan, Stops, WritesFullScan, reply_to};
 ghost use Rattle.vortex_text.specs.Streams.{AppendsUnlessFailed};
 
-use crate::naming::{InputError, read_input};
+use crate::bad_line::TextError;
+use crate::input::{ReadError, read_all};
+use crate::open_text::OpenText;
 use crate::printing::{print_bad, print_scan};
 use crate::query::scan_query;
-use crate::streams::{ReadError, Sink, Source, read_all, write_out};
+use crate::streams::{Sink, Source, write_out};
 use std::alloc::{AllocError, Global};
 
 // Why there is no answer, beside the word that the answer is then.
@@ -34,16 +37,19 @@ fn told(alloc: Global, reason: Result<String, AllocError>) -> String {
     }
 }
 
-// The reply to a text. The text is let go once it is read.
-fn reply_to(alloc: Global, text: Vec<u8>) -> Result<Reply, AllocError>
-    ensures status { IfOk result (λ r. r.status ≡ (reply_to text.items).0) }
-    ensures printed { IfOk result (λ r. string_bytes r.answer ≡ (reply_to text.items).1) }
+// The reply to a text that was pushed.
+fn reply_to(alloc: Global, input: OpenText) -> Result<Reply, AllocError>
+    ensures status { (text : List ℕ) → IsOpenText text input
+        → IfOk result (λ r. r.status ≡ (reply_to text).0) }
+    ensures printed { (text : List ℕ) → IsOpenText text input
+        → IfOk result (λ r. string_bytes r.answer ≡ (reply_to text).1) }
     // Where all statistics are true no row is lost.
-    ensures lossless { IfOk result (λ r. IsFullScan text.items (string_bytes r.answer)) }
+    ensures lossless { (text : List ℕ) → IsOpenText text input
+        → IfOk result (λ r. IsFullScan text (string_bytes r.answer)) }
 {
-    let query = match read_input(alloc, &text) {
+    let query = match input.close(alloc) {
         Ok(query) => query,
-        Err(InputError::BadLine(bad)) => {
+        Err(TextError::BadLine(bad)) => {
             let answer = print_bad(alloc, bad.number)?;
             let reason = told(alloc, bad.reason(alloc));
             return Ok(Reply {
@@ -52,9 +58,8 @@ fn reply_to(alloc: Global, text: Vec<u8>) -> Result<Reply, AllocError>
                 reason,
             });
         }
-        Err(InputError::Memory) => return Err(AllocError),
+        Err(TextError::Memory) => return Err(AllocError),
     };
-    drop(text);
     match scan_query(alloc, query)? {
         Some(scan) => Ok(Reply {
             status: 0,

@@ -224,6 +224,19 @@ fn a_failing_reader(rt: HostRuntime) -> Result<(), Fail> {
 }
 
 #[test]
+fn a_bad_line_before_a_read_that_fails(rt: HostRuntime) -> Result<(), Fail> {
+    let mut reader = Slow {
+        bytes: b"column a\npart\n",
+        step: 5,
+        fails: true,
+    };
+    let mut written = Vec::new(rt.alloc());
+    assert_eq!(rt; run(rt.alloc(), &mut reader, &mut written), 1);
+    assert_eq!(rt; written.as_slice(), b"read\n".as_slice());
+    Ok(())
+}
+
+#[test]
 fn a_slow_writer(rt: HostRuntime) -> Result<(), Fail> {
     let mut writer = OneByte::new(19);
     assert_eq!(rt; run(rt.alloc(), &mut FIRST_RUN.as_bytes(), &mut writer), 0);
@@ -283,15 +296,16 @@ impl Read for Padded<'_> {
     }
 }
 
-// A run of the first text behind which spaces stand, so many bytes in all.
+// A run of a text behind which spaces stand, so many bytes in all.
 fn expect_padded(
     rt: &impl Abort,
     alloc: Global,
+    text: &str,
     len: usize,
     status: u8,
     want: &str,
 ) -> Result<(), Fail> {
-    let text = FIRST_RUN.as_bytes();
+    let text = text.as_bytes();
     let mut reader = Padded {
         text,
         spaces: len.saturating_sub(text.len()),
@@ -305,9 +319,17 @@ fn expect_padded(
 #[test]
 fn an_input_of_the_limit_and_one_byte_more(rt: HostRuntime) -> Result<(), Fail> {
     let alloc = rt.alloc();
-    expect_padded(&rt, alloc, 16_777_215, 0, FIRST_ANSWER)?;
-    expect_padded(&rt, alloc, 16_777_216, 0, FIRST_ANSWER)?;
-    expect_padded(&rt, alloc, 16_777_217, 1, "input\n")
+    expect_padded(&rt, alloc, FIRST_RUN, 16_777_215, 0, FIRST_ANSWER)?;
+    expect_padded(&rt, alloc, FIRST_RUN, 16_777_216, 0, FIRST_ANSWER)?;
+    expect_padded(&rt, alloc, FIRST_RUN, 16_777_217, 1, "input\n")
+}
+
+// Behind a bad line the input is read to its end all the same.
+#[test]
+fn a_bad_line_before_the_limit(rt: HostRuntime) -> Result<(), Fail> {
+    let alloc = rt.alloc();
+    expect_padded(&rt, alloc, "column a\n", 16_777_216, 2, "line 1: bad\n")?;
+    expect_padded(&rt, alloc, "column a\n", 16_777_217, 1, "input\n")
 }
 
 // A reader without an end, which fails once its bytes are past the limit.

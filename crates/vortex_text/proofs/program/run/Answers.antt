@@ -1,6 +1,6 @@
-use Rattle.std.proofs.Common.{[], refl, inl, inr, subst, sym, string_bytes, ◌∙◌, arith}
+use Rattle.std.proofs.Common.{[], refl, inl, inr, subst, sym, string_bytes, ◌∙◌}
 use Rattle.std.specs.Io.KnownBytes.{Appends}
-use Rattle.vortex_text.proofs.Refusals.{stops_at_word, stops_too_long, too_long, writes_full_scan}
+use Rattle.vortex_text.proofs.Refusals.{stops_at_word, stops_cut, stops_too_long, too_long, writes_full_scan}
 use Rattle.vortex_text.specs.Streams.{AppendsProperFront}
 use Rattle.vortex_text.proofs.program.run.Goals as goal
 
@@ -34,22 +34,31 @@ returns-in_default-clause-some_refused g c = λ _. ([], inr (inl (_, inl refl, c
 
 pub returns-then-write_out-clause-lossless : goal.returns-then-write_out-clause-lossless
 returns-then-write_out-clause-lossless g c = λ _.
-    writes_full_scan _ _ _ c.in-Ok.input.items (string_bytes c.in-Ok-reply_to.reply.answer) c.as_bytes.result.now c.in-Ok.ensures.whole c.as_bytes.ensures.value c.in-Ok-reply_to.ensures.lossless
+    let (text, is) = c.in-Ok.ensures.whole in
+    writes_full_scan _ _ _ text (string_bytes c.in-Ok-reply_to.reply.answer) c.as_bytes.result.now is.whole c.as_bytes.ensures.value (c.in-Ok-reply_to.ensures.lossless text is.pushed)
     (c.write_out.ensures.whole c.if-write_out.true)
+
+pub returns-clause-refused : goal.returns-clause-refused
+returns-clause-refused g c =
+    let (text, is) = c.in-Ok.ensures.whole in
+    let same = c.as_bytes.ensures.value ∙ c.in-Ok-reply_to.ensures.printed text is.pushed in
+    λ _. stops_cut _ _ _ _ _ text c.as_bytes.result.now is.whole same c.if-write_out.ensures.failed c.if-write_out.ensures.cut
 
 pub returns-clause-some_refused : goal.returns-clause-some_refused
 returns-clause-some_refused g c =
-    let same = c.as_bytes.ensures.value ∙ c.in-Ok-reply_to.ensures.printed in
-    λ _. (c.in-Ok.input.items, inr (inr (c.if-write_out.ensures.failed, subst (AppendsProperFront (g.W.Sink.contents c.args.writer.now) (g.W.Sink.contents c.write_out.new.writer)) same c.if-write_out.ensures.cut)))
+    let (text, is) = c.in-Ok.ensures.whole in
+    let same = c.as_bytes.ensures.value ∙ c.in-Ok-reply_to.ensures.printed text is.pushed in
+    λ _. (text, inr (inr (c.if-write_out.ensures.failed, subst (AppendsProperFront (g.W.Sink.contents c.args.writer.now) (g.W.Sink.contents c.write_out.new.writer)) same c.if-write_out.ensures.cut)))
 
 pub returns-then-write_out-clause-some_refused : goal.returns-then-write_out-clause-some_refused
 returns-then-write_out-clause-some_refused g c =
-    let same = c.as_bytes.ensures.value ∙ c.in-Ok-reply_to.ensures.printed in
+    let (text, is) = c.in-Ok.ensures.whole in
+    let same = c.as_bytes.ensures.value ∙ c.in-Ok-reply_to.ensures.printed text is.pushed in
     λ one. (
-      c.in-Ok.input.items,
+      text,
       inl (record {
-        short = omega (arith, c.in-Ok.ensures.short);
-        same_status = sym one ∙ c.in-Ok-reply_to.ensures.status;
+        short = is.short;
+        same_status = sym one ∙ c.in-Ok-reply_to.ensures.status text is.pushed;
         written = subst (Appends (g.W.Sink.contents c.args.writer.now) (g.W.Sink.contents c.write_out.new.writer)) same (c.write_out.ensures.whole c.if-write_out.true);
       }),
     )
