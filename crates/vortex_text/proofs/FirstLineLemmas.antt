@@ -59,7 +59,7 @@ first_of b [] l ls other is = sym (ap (λ xs. get_or (get_or xs 0 []) 0 0) (sym 
 first_of b (p ∷ []) l ls other is = sym (ap (λ xs. get_or (get_or xs 0 []) 0 0) (sym (one_line (b ∷ p) (omega arith)) ∙ is))
 first_of b (p ∷ q ∷ ps) l ls other is = sym (ap (λ xs. get_or (get_or xs 0 []) 0 0) (ap (λ x. x ∷ lines_of_parts (q ∷ ps)) (sym (strip_behind b p other)) ∙ is))
 
-parted_at : (l : List ℕ) → get_or l 0 0 ≡ 32 → IsParted l
+pub parted_at : (l : List ℕ) → get_or l 0 0 ≡ 32 → IsParted l
 parted_at [] is = cc
 parted_at (b ∷ l) is = is
 

@@ -11,12 +11,12 @@ use Rattle.std.specs.Str.{is_utf8}
 use Rattle.std.specs.Str.Lines.{lines}
 use Rattle.vortex_base.specs.Data.Columns.{ColumnData}
 use Rattle.vortex_base.specs.declared.scalar_value.ScalarValue.{ScalarValue}
-use Rattle.vortex_syntax.specs.Plain.{EndsWord, is_word_byte}
+use Rattle.vortex_syntax.specs.Plain.{BeginsValue, EndsWord, is_word_byte}
 use Rattle.vortex_syntax.specs.Spelling.{IsParted}
 use Rattle.vortex_syntax.specs.Values.{optional_value_of}
 use Rattle.vortex_syntax.specs.Words.{Plain, words}
 use Rattle.vortex_text.proofs.ColumnLemmas.{row_more}
-use Rattle.vortex_text.proofs.FirstLineLemmas.{line_parted, lines_behind, lines_ended, utf8_behind, word_first}
+use Rattle.vortex_text.proofs.FirstLineLemmas.{line_parted, lines_behind, lines_ended, parted_at, utf8_behind, word_first}
 use Rattle.vortex_text.specs.Columns.{behind, taken, with_value, with_values}
 use Rattle.vortex_text.specs.FirstLines.{BeginsRow, TakesValue, first_row, is_line_byte}
 
@@ -39,6 +39,11 @@ line_bytes (b ∷ word) all =
 taken_plain : (c : ColumnData) (word tail : List ℕ) (v : Option ScalarValue) → list_all is_word_byte word ≡ true → 0 < length word → IsParted tail → optional_value_of c.dtype (Plain word) ≡ Some v
     → taken c (words (32 ∷ (word ++ tail))) ≡ Some (with_value v c, words tail)
 taken_plain c word tail v plain some parted is = rw (word_first word tail plain some parted, is) refl
+
+-- a value in plain form with a space behind it is the first word's
+pub taken_in_line : (c : ColumnData) (line rest : List ℕ) (v : Option ScalarValue) → BeginsValue c.dtype line v rest → get_or rest 0 0 ≡ 32
+    → taken c (words line) ≡ Some (with_value v c, words rest)
+taken_in_line c line rest v (word, split, plain, some, ends, value) space = rw split (taken_plain c word rest v plain some (parted_at rest space) value)
 
 -- one more column has a value
 pub row_one_more : (old cs : List ColumnData) (text rest after : List ℕ) (i : ℕ) (c new d : ColumnData) → i < length cs → c ≡ get_or cs i d → TakesValue c rest new after → BeginsRow old cs text rest i

@@ -67,8 +67,7 @@ impl OpenColumn {
     }
 
     // Adds the value of the first word of a line. The rest of the line comes back.
-    #[inline]
-    fn take<'a>(&mut self, alloc: Global, line: &'a [u8]) -> Result<&'a [u8], LineError>
+    fn take_word<'a>(&mut self, alloc: Global, line: &'a [u8]) -> Result<&'a [u8], LineError>
         ensures { GivesAndChanges (λ rest. words rest.now) result
             (taken self.old (words line.now)) self.new }
     {
@@ -77,6 +76,21 @@ impl OpenColumn {
         let value = optional_value_of(alloc, self.dtype, word, line.len())?;
         self.push(value)?;
         Ok(rest)
+    }
+
+    // The same. A value in plain form, with a space behind it, is read straight from the bytes.
+    #[inline]
+    fn take<'a>(&mut self, alloc: Global, line: &'a [u8]) -> Result<&'a [u8], LineError>
+        ensures { GivesAndChanges (λ rest. words rest.now) result
+            (taken self.old (words line.now)) self.new }
+    {
+        if let Some((value, rest)) = plain_value(self.dtype, line) {
+            if let [b' ', ..] = rest {
+                self.push(value)?;
+                return Ok(rest);
+            }
+        }
+        self.take_word(alloc, line)
     }
 
     // Adds the value in plain form that a text begins with, behind a space. The text after it comes

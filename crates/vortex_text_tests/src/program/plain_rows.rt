@@ -123,3 +123,30 @@ fn plain_rows_out_of_order(rt: HostRuntime) -> Result<(), Fail> {
     ";
     expect_each(&rt, rt.alloc(), "", cases)
 }
+
+const BEHIND_TEXTS: &str =
+    "column t utf8\ncolumn a i64?\ncolumn u utf8?\ncolumn b u8\ncolumn c i32?\npart\n";
+
+// From the first text on a row is read word by word, its numbers straight from their bytes.
+#[test]
+fn numbers_behind_texts(rt: HostRuntime) -> Result<(), Fail> {
+    let cases = "
+        row \"x\" 1 \"y\" 2 3 / row \"x\"  1 null  2  3  / row \"x\" -1 \"2 3\" 2 3
+        where eq col a lit i64 1 => skipped / rows 0:0 0:1
+        row \"x\" null \"y\" 2 null / row \"x\" 7 \"y\" 255 -7
+        where isnull col a => skipped / rows 0:0
+        row \"x\" 000000000000000000000000000001 \"y\" 002 3 / row \"x\" 1 \"y\" 2 3\r
+        where and eq col a lit i64 1 eq col c lit i32 3 => skipped / rows 0:0 0:1
+        row \"x\" 9223372036854775808 \"y\" 2 3 => line 7: bad
+        row \"x\" 1_0 \"y\" 2 3 => line 7: bad
+        row \"x\" +1 \"y\" 2 3 => line 7: bad
+        row \"x\" 1 \"y\" 256 3 => line 7: bad
+        row \"x\" 1 \"y\" -1 3 => line 7: bad
+        row \"x\" 1 \"y\" null 3 => line 7: bad
+        row \"x\"1 \"y\" 2 3 => line 7: bad
+        row \"x\" 1\"y\" 2 3 => line 7: bad
+        row \"x\" 1 \"y\" 2 => line 7: bad
+        row \"x\" 1 \"y\" 2 3 4 => line 7: bad
+    ";
+    expect_each(&rt, rt.alloc(), BEHIND_TEXTS, cases)
+}
