@@ -5,6 +5,9 @@ pub mod JoinLemmas
 pub mod LeafLemmas
 pub mod Lossless
 pub mod PartScanLemmas
+pub mod RangeLemmas
+pub mod RangeParts
+pub mod RangeThere
 pub mod ScanLemmas
 pub mod ScanRefused
 pub mod SelectLemmas

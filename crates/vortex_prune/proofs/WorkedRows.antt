@@ -6,6 +6,7 @@ pub mod HonestRows
 pub mod LeafRows
 pub mod MarkRows
 pub mod MeasuredRows
+pub mod RangeRows
 pub mod StatRows
 pub mod WholeRows
 pub mod ZoneTableRows

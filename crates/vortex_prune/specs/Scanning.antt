@@ -3,6 +3,7 @@ pub mod Complete
 pub mod Leaves
 pub mod Marks
 pub mod PartScans
+pub mod RangeScans
 pub mod ScanRefusals
 pub mod Selection
 pub mod ZoneScans

@@ -5,6 +5,7 @@ ghost use Rattle.vortex_prune.specs.Choosing.{ChosenSetsStayTrue};
 ghost use Rattle.vortex_prune.specs.Scanning.Complete.{FalsifiersAreComplete};
 ghost use Rattle.vortex_prune.specs.Laws.{LiteralsAreAnswers, NullsAreAnswers, StatisticsAreHonest};
 ghost use Rattle.vortex_prune.specs.Part.{AreParts, IsTruePart, PartData};
+ghost use Rattle.vortex_prune.specs.Scanning.RangeScans.{RangesAreThere};
 ghost use Rattle.vortex_prune.specs.Scanning.Selection.{AreByStatistics, AreFaithful, AreHonest, any_binder};
 
 use crate::bind::stat_binder::StatBinder;
@@ -47,4 +48,11 @@ pub fn literals_are_answers()
 /// pruning by zones of chosen columns asks of the rows that they tell of.
 pub fn chosen_sets_stay_true()
     ensures { ChosenSetsStayTrue }
+{}
+
+/// Wherever the zones of a map are ranges of a chunk there are parts that are what stands in them:
+/// the rows of each with its sets. So what `scan_ranges` promises of such parts is promised of
+/// every chunk and map that it doesn't refuse for a mismatch.
+pub fn ranges_are_there()
+    ensures { RangesAreThere }
 {}

@@ -27,6 +27,7 @@ mod marks;
 pub mod outcome;
 mod part_scan;
 pub mod prune;
+pub mod ranges;
 mod select;
 pub(crate) mod verdict;
 pub mod zones;

@@ -12,6 +12,7 @@ mod blocks;
 mod callers;
 mod hostile;
 mod measured;
+mod one_chunk;
 mod own;
 mod table;
 mod whole;

@@ -1,7 +1,8 @@
 //! Parts, tables and scans for the tests, by calls without a contract that take what other
 //! calls answered: a test is one straight line of calls, so its proof stays short.
 ghost use Rattle.std.specs.Bool.{OnTrue};
-ghost use Rattle.std.specs.Prelude.{◌≡◌, All, IfOk, IsTrue};
+ghost use Rattle.std.specs.Prelude.{◌≡◌, ◌<◌, All, IfOk, IsTrue};
+ghost use Rattle.vortex_base.specs.Data.Columns.{row_count};
 ghost use Rattle.vortex_base.specs.Meanings.Fitting.{fits_scope};
 ghost use Rattle.vortex_prune.specs.Zones.{HaveScope};
 
@@ -11,7 +12,7 @@ use vortex_prune::scan::scan;
 use vortex_prune::scan::zones::scan_zones;
 use vortex_prune::{
     Part, PartRefused, Pruned, Rules, Scan, StatBinder, StatsBinder, StatsRewriteRuleRef, Zone,
-    ZoneMap, Zones, prune,
+    ZoneMap, Zones, prune, scan_ranges,
 };
 use vortex_rewrite_tests::hooks::{Claim, Claiming};
 use vortex_rewrite_tests::nodes::*;
@@ -349,6 +350,73 @@ pub fn scanned_by_table(
     scan_zones(alloc, zones, predicate, rules)
 }
 
+// The columns of a scope without rows.
+fn empty_columns(alloc: Global, scope: &Scope) -> Result<Vec<Column>, StatsError> {
+    let mut columns = Vec::new(alloc);
+    for place in 0..scope.len() {
+        columns.push(column(scope.dtype(place), Ok(Vec::new(alloc)), 0)?)?;
+    }
+    Ok(columns)
+}
+
+// The values of the row at a place.
+fn values_of(alloc: Global, chunk: &Chunk, place: usize) -> Result<Cells, AllocError>
+    requires { place < row_count chunk.now.columns }
+{
+    let row = chunk.row(place);
+    let mut values = Vec::new(alloc);
+    for i in 0..row.len() {
+        match row.value(i) {
+            None => values.push(None)?,
+            Some(value) => values.push(Some(value.to_value()?))?,
+        }
+    }
+    Ok(values)
+}
+
+// Adds the rows of a chunk to one of the same scope.
+fn push_rows(alloc: Global, whole: &mut Chunk, chunk: &Chunk) -> Result<(), StatsError> {
+    for place in 0..chunk.rows() {
+        told(whole.push_row(values_of(alloc, chunk, place)?))?;
+    }
+    Ok(())
+}
+
+/// The rows of all parts as one chunk.
+pub fn chunk_of_all(alloc: Global, zones: &Zones) -> Result<Chunk, StatsError> {
+    let columns = empty_columns(alloc, zones.scope())?;
+    let mut whole = chunk(zones.scope().try_clone()?, columns)?;
+    for part in zones.parts() {
+        push_rows(alloc, &mut whole, part.chunk())?;
+    }
+    Ok(whole)
+}
+
+/// The scan of a chunk by a map; `Mismatch` where the predicate doesn't fit it.
+pub fn scanned_by_ranges(
+    alloc: Global,
+    chunk: &Chunk,
+    map: &ZoneMap,
+    predicate: &BoundExpression,
+    rules: &Rules,
+) -> Found {
+    if !predicate.is_plain() || !predicate.fits_scope(chunk.scope()) {
+        return Err(StatsError::Mismatch);
+    }
+    scan_ranges(alloc, chunk, map, predicate, rules)
+}
+
+// The scan of the rows of all parts as one chunk, of which the parts are ranges.
+fn scanned_as_one(
+    alloc: Global,
+    zones: &Zones,
+    predicate: &BoundExpression,
+    rules: &Rules,
+) -> Found {
+    let whole = chunk_of_all(alloc, zones)?;
+    scanned_by_ranges(alloc, &whole, zones.map(), predicate, rules)
+}
+
 /// What is known of the parts without their rows.
 pub fn known_of<'a>(alloc: Global, parts: &'a [Part]) -> Result<Vec<Zone<'a>>, AllocError> {
     let mut zones = Vec::new(alloc);
@@ -418,15 +486,17 @@ fn pruned_alike(found: Found, pruned: Result<Pruned, StatsError>) -> Found {
     }
 }
 
-// The scan in both ways, and what pruning does without the rows; `Mismatch` where two differ.
-fn both_scans(alloc: Global, zones: &Zones, predicate: &BoundExpression, rules: &Rules) -> Found {
+// The scan in three ways, and what pruning does without the rows; `Mismatch` where two differ.
+fn all_scans(alloc: Global, zones: &Zones, predicate: &BoundExpression, rules: &Rules) -> Found {
     let found = scanned_by_part(alloc, zones.parts(), predicate, rules);
     let found = agreed(found, scanned_by_table(alloc, zones, predicate, rules));
+    let found = agreed(found, scanned_as_one(alloc, zones, predicate, rules));
     pruned_alike(found, pruned_without_rows(alloc, zones, predicate, rules))
 }
 
-/// The scan of the parts by these rules and their own statistics: with a binder for each part, and
-/// with one for their table; and pruning without their rows. `Mismatch` where two differ.
+/// The scan of the parts by these rules and their own statistics: with a binder for each part, with
+/// one for their table, and of their rows as one chunk; and pruning without their rows. `Mismatch`
+/// where two differ.
 pub fn scanned_by(
     alloc: Global,
     zones: &Result<Zones, StatsError>,
@@ -434,7 +504,7 @@ pub fn scanned_by(
     rules: &Rules,
 ) -> Found {
     match zones {
-        Ok(zones) => both_scans(alloc, zones, &predicate?, rules),
+        Ok(zones) => all_scans(alloc, zones, &predicate?, rules),
         Err(_) => Err(StatsError::Mismatch),
     }
 }

@@ -1,19 +1,22 @@
 //! What a scan found.
-ghost use Rattle.std.specs.Prelude.{◌≡◌, ◌+◌, ◌-◌, ◌^◌, ◌++◌, IfErr, IsTrue, OnOk, alloc_error, min};
+ghost use Rattle.std.specs.Prelude.{◌≡◌, ◌+◌, ◌-◌, ◌^◌, ◌≤◌, ◌++◌, IfErr, IsTrue, OnOk};
+ghost use Rattle.std.specs.Prelude.{alloc_error, min};
+ghost use Rattle.vortex_base.specs.Data.Columns.{row_count};
 ghost use Rattle.vortex_base.specs.Meanings.Fitting.{fits_scope};
 ghost use Rattle.vortex_base.specs.Trees.Tree.{is_plain};
 ghost use Rattle.vortex_prune.specs.Part.{IsPart};
+ghost use Rattle.vortex_prune.specs.Scanning.RangeScans.{range_rows, range_tested};
 ghost use Rattle.vortex_prune.specs.Scanning.Selection.{is_skipped, is_whole, place_if};
 ghost use Rattle.vortex_prune.specs.Scanning.Selection.{rows_by, rows_tested};
 ghost use Rattle.vortex_stats.specs.declared.error.StatsError.TheVariants.{Memory};
 
 use crate::part::Part;
-use crate::scan::select::{select, select_all};
+use crate::scan::select::{RowRange, select, select_all};
 use crate::scan::verdict::Verdict;
 use vortex_base::bound_expression::BoundExpression;
 use vortex_stats::error::StatsError;
 
-/// What a scan found. Parts and rows count from 0.
+/// What a scan found: of parts, or of the zones of a map. They and their rows count from 0.
 #[derive(Debug, PartialEq, Eq, Drop)]
 pub struct Scan {
     /// The rows that satisfy the predicate, each as its part and its place there, ascending.
@@ -28,7 +31,47 @@ pub struct Scan {
 }
 
 impl Scan {
-    // Records a part: it was skipped, or all its rows are selected, or those that satisfy.
+    // Records a range of rows: it was skipped, or all its rows are selected, or those that satisfy.
+    pub(crate) fn record_range(
+        &mut self,
+        place: usize,
+        range: RowRange<'_>,
+        verdict: Verdict,
+        predicate: &BoundExpression,
+    ) -> Result<(), StatsError>
+        requires { range.first + range.rows ≤ row_count range.chunk.now.columns }
+        ensures skipped { OnOk result (self.new.skipped.items
+            ≡ self.old.skipped.items ++ place_if (is_skipped verdict) place) }
+        ensures whole { OnOk result (self.new.whole.items
+            ≡ self.old.whole.items ++ place_if (is_whole verdict) place) }
+        ensures selected { let r = range.entry in
+            let found = range_rows verdict predicate.now place r.chunk.now r.first r.rows in
+            OnOk result (self.new.selected.items ≡ self.old.selected.items ++ found) }
+        ensures evaluated { let tested = range_tested verdict range.entry.rows in
+            OnOk result (self.new.evaluated ≡ min (self.old.evaluated + tested) (2 ^ 64 - 1)) }
+        ensures memory { IfErr result (λ f. f ≡ Memory alloc_error) }
+    {
+        // That the number is one of 64 bits.
+        let _counted = self.evaluated;
+        match verdict {
+            Verdict::Skipped => Ok(self.skipped.push(place)?),
+            Verdict::Whole => {
+                self.whole.push(place)?;
+                select_all(&mut self.selected, place, range.rows)
+            }
+            Verdict::Tested => {
+                select(
+                    &mut self.selected,
+                    &mut self.evaluated,
+                    place,
+                    range,
+                    predicate,
+                )
+            }
+        }
+    }
+
+    // Records a part: the range of all its rows.
     pub(crate) fn record(
         &mut self,
         place: usize,
@@ -50,23 +93,11 @@ impl Scan {
         ensures memory { IfErr result (λ f. f ≡ Memory alloc_error) }
     {
         let chunk = part.chunk();
-        // That the number is one of 64 bits.
-        let _counted = self.evaluated;
-        match verdict {
-            Verdict::Skipped => Ok(self.skipped.push(place)?),
-            Verdict::Whole => {
-                self.whole.push(place)?;
-                select_all(&mut self.selected, place, chunk)
-            }
-            Verdict::Tested => {
-                select(
-                    &mut self.selected,
-                    &mut self.evaluated,
-                    place,
-                    chunk,
-                    predicate,
-                )
-            }
-        }
+        let range = RowRange {
+            chunk,
+            first: 0,
+            rows: chunk.rows(),
+        };
+        self.record_range(place, range, verdict, predicate)
     }
 }

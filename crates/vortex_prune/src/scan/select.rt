@@ -1,10 +1,11 @@
-//! The rows of one part that are selected: those that satisfy the predicate, or all.
+//! The rows of one part, or of one range of a chunk, that are selected: those that satisfy the
+//! predicate, or all.
 ghost use Rattle.std.specs.Prelude.{◌≡◌, ◌+◌, ◌-◌, ◌^◌, ◌<◌, ◌≤◌, ◌++◌, true, IfErr, OnOk};
 ghost use Rattle.std.specs.Prelude.{length, min, replicate};
 ghost use Rattle.vortex_base.specs.Data.Columns.{row_count};
-ghost use Rattle.vortex_prune.specs.Scanning.Selection.{all_rows, row_if, satisfying_rows};
-ghost use Rattle.vortex_prune.specs.Scanning.Marks.{is_true_at, marked, marked_rows};
-ghost use Rattle.vortex_prune.specs.declared.scan.marks.Counts.TheVariants.{Same};
+ghost use Rattle.vortex_prune.specs.Scanning.Marks.{marked, marked_rows};
+ghost use Rattle.vortex_prune.specs.Scanning.RangeScans.{is_true_in, range_all, range_satisfying};
+ghost use Rattle.vortex_prune.specs.Scanning.Selection.{row_if};
 ghost use Rattle.vortex_rewrite.specs.Answers.{IsMemory};
 
 use crate::scan::marks::{BLOCK, Counts, Table, block_end, keep_true};
@@ -12,7 +13,15 @@ use vortex_base::bound_expression::BoundExpression;
 use vortex_base::chunk::Chunk;
 use vortex_stats::error::StatsError;
 
-// Adds a row of the part at a place, if it is marked.
+/// Rows of a chunk that stand one behind the other: so many, from the first on.
+#[derive(Clone, Copy)]
+pub(crate) struct RowRange<'a> {
+    pub(crate) chunk: &'a Chunk,
+    pub(crate) first: usize,
+    pub(crate) rows: usize,
+}
+
+// Adds a row of the range at a place, if it is marked.
 fn select_if(
     selected: &mut Vec<(usize, usize)>,
     mark: bool,
@@ -29,7 +38,7 @@ fn select_if(
     Ok(selected.push((place, row))?)
 }
 
-// Adds the marked rows of the part at a place, from one of them on.
+// Adds the marked rows of the range at a place, from one of them on.
 fn select_marked(
     selected: &mut Vec<(usize, usize)>,
     place: usize,
@@ -47,73 +56,79 @@ fn select_marked(
     Ok(())
 }
 
-// Adds the satisfying rows of a block of the part at a place.
+// Adds the satisfying rows of a block of the range at a place.
 fn select_block(
     selected: &mut Vec<(usize, usize)>,
     place: usize,
-    chunk: &Chunk,
+    range: RowRange<'_>,
     predicate: &BoundExpression,
     from: usize,
     to: usize,
 ) -> Result<(), StatsError>
     requires after { from ≤ to }
-    requires within { to ≤ row_count chunk.now.columns }
+    requires within { to ≤ range.rows }
+    requires inside { range.first + range.rows ≤ row_count range.chunk.now.columns }
     requires short { to ≤ from + 1024 }
-    ensures selected { let n = row_count chunk.now.columns in
-        let satisfied = is_true_at predicate.now chunk.now.columns (Same n) in
+    ensures selected { let cs = range.entry.chunk.now.columns in
+        let satisfied = is_true_in predicate.now cs range.entry.first range.entry.rows in
         OnOk result (selected.new.items ≡ selected.old.items
         ++ marked_rows place from (marked satisfied from (replicate (to - from) true))) }
     ensures memory { IfErr result IsMemory }
 {
-    let counts = Counts::Same(chunk.rows() as u64);
+    let chunk = range.chunk;
+    let _rows = chunk.rows();
+    let counts = Counts::Same(range.rows as u64);
+    let first = range.first + from;
     let mut marks = [true; BLOCK];
     let block = &mut marks[..to - from];
     keep_true(
         *selected.allocator(),
         Table { chunk, counts },
         predicate,
-        from,
+        first,
         block,
     );
     select_marked(selected, place, from, block)
 }
 
-// Adds the satisfying rows of the part at a place, block by block, and counts its rows.
+// Adds the satisfying rows of the range at a place, block by block, and counts its rows.
 pub(crate) fn select(
     selected: &mut Vec<(usize, usize)>,
     evaluated: &mut u64,
     place: usize,
-    chunk: &Chunk,
+    range: RowRange<'_>,
     predicate: &BoundExpression,
 ) -> Result<(), StatsError>
-    ensures selected { OnOk result (selected.new.items
-        ≡ selected.old.items ++ satisfying_rows predicate.now place chunk.now) }
+    requires { range.first + range.rows ≤ row_count range.chunk.now.columns }
+    ensures selected { let k = range.entry.chunk.now in
+        let found = range_satisfying predicate.now place k range.entry.first range.entry.rows in
+        OnOk result (selected.new.items ≡ selected.old.items ++ found) }
     ensures evaluated { OnOk result
-        (evaluated.new ≡ min (evaluated.old + row_count chunk.now.columns) (2 ^ 64 - 1)) }
+        (evaluated.new ≡ min (evaluated.old + range.entry.rows) (2 ^ 64 - 1)) }
     ensures memory { IfErr result IsMemory }
 {
-    let rows = chunk.rows();
+    let rows = range.rows;
     *evaluated = evaluated.saturating_add(rows as u64);
     let mut from = 0;
     'runs: while from < rows {
         let to = block_end(from, rows);
-        select_block(selected, place, chunk, predicate, from, to)?;
+        select_block(selected, place, range, predicate, from, to)?;
         from = to;
     }
     Ok(())
 }
 
-// Adds all rows of the part at a place, without a look at them.
+// Adds all rows of the range at a place, without a look at them.
 pub(crate) fn select_all(
     selected: &mut Vec<(usize, usize)>,
     place: usize,
-    chunk: &Chunk,
+    rows: usize,
 ) -> Result<(), StatsError>
     ensures selected { OnOk result
-        (selected.new.items ≡ selected.old.items ++ all_rows place chunk.now) }
+        (selected.new.items ≡ selected.old.items ++ range_all place rows) }
     ensures memory { IfErr result IsMemory }
 {
-    for row in 0..chunk.rows() {
+    for row in 0..rows {
         selected.push((place, row))?;
     }
     Ok(())

@@ -1,19 +1,22 @@
 use Rattle.std.proofs.Common.{◌≡◌, ◌++◌, ◌-◌, ap, arith, replicate, take, true, ◌∙◌}
 use Rattle.std.proofs.lemmas.List.{take-replicate}
 use Rattle.std.proofs.lemmas.Result.{on_ok_weaker}
-use Rattle.vortex_base.specs.Data.Columns.{row_count}
+use Rattle.vortex_prune.proofs.Scanning.RangeLemmas.{marked_behind}
 use Rattle.vortex_prune.specs.Scanning.Marks.{is_true_at, marked, marked_rows}
+use Rattle.vortex_prune.specs.Scanning.RangeScans.{is_true_in}
 use Rattle.vortex_prune.specs.declared.scan.marks.Counts.TheVariants.{Same}
 use Rattle.vortex_prune.proofs.scan.select.select_block.Goals as goal
 
 pub returns-clause-selected : goal.returns-clause-selected
 returns-clause-selected c =
-    let cs = c.args.chunk.now.columns in
+    let r = c.args.range in
+    let cs = r.chunk.now.columns in
+    let p = c.args.predicate.now in
     let n = c.args.to - c.args.from in
-    let test = is_true_at c.args.predicate.now cs (Same (row_count cs)) in
-    let found : c.keep_true.new.marks ≡ marked test c.args.from (replicate n true) =
-    c.keep_true.ensures ∙ ap (λ m. marked (is_true_at c.args.predicate.now cs (Same m)) c.args.from (take n (replicate 1024 true))) c.rows.ensures.value
-    ∙ ap (marked test c.args.from) (take-replicate n 1024 true (omega (arith, c.requires.short))) in
+    let found : c.keep_true.new.marks ≡ marked (is_true_in p cs r.first r.rows) c.args.from (replicate n true) =
+    c.keep_true.ensures
+    ∙ marked_behind (is_true_at p cs (Same r.rows)) r.first c.args.from (take n (replicate 1024 true))
+    ∙ ap (marked (is_true_in p cs r.first r.rows) c.args.from) (take-replicate n 1024 true (omega (arith, c.requires.short))) in
     on_ok_weaker c.select_marked.result
     (λ h. h ∙ ap (λ ms. c.args.selected.now.items ++ marked_rows c.args.place c.args.from ms) found)
     c.select_marked.ensures.selected

@@ -1,0 +1,32 @@
+use Rattle.std.proofs.Common.{ap, length, sym, ◌∙◌}
+use Rattle.std.proofs.lemmas.Result.{IfOk-weaker}
+use Rattle.vortex_prune.proofs.ZoneMaps.ZonePruned.{pruned_is_shut, skipped_listed, whole_listed}
+use Rattle.vortex_prune.specs.Scanning.Selection.{is_skipped, is_whole, places_where}
+use Rattle.vortex_rewrite.specs.Rewriting.Falsifiers.{falsifier, satisfier}
+use Rattle.vortex_rewrite.specs.Rewriting.Own.{own_rules}
+use Rattle.vortex_prune.proofs.scan.ranges.scan_rules.Goals as goal
+
+pub scan_counts-requires-clause-long : goal.scan_counts-requires-clause-long
+scan_counts-requires-clause-long g c = ap length c.deref.ensures.value ∙ c.in_ok-verdicts.ensures.long ∙ ap length (sym c.counts.ensures)
+
+pub returns-clause-skipped : goal.returns-clause-skipped
+returns-clause-skipped g c =
+    let p = c.args.predicate.now in
+    let own = own_rules (λ i. (g.dyn-1.0.entry i).1) c.args.rules.now.own.items in
+    IfOk-weaker c.scan_counts.result _ _
+    (λ found is zones of. is ∙ ap (places_where is_skipped) (c.deref.ensures.value ∙ c.in_ok-verdicts.ensures.verdicts zones of) ∙ skipped_listed (falsifier own p) (satisfier own p) c.args.map.now.scope zones) c.scan_counts.ensures.skipped
+
+pub returns-clause-whole : goal.returns-clause-whole
+returns-clause-whole g c =
+    let p = c.args.predicate.now in
+    let own = own_rules (λ i. (g.dyn-1.0.entry i).1) c.args.rules.now.own.items in
+    IfOk-weaker c.scan_counts.result _ _
+    (λ found is zones of. is ∙ ap (places_where is_whole) (c.deref.ensures.value ∙ c.in_ok-verdicts.ensures.verdicts zones of) ∙ whole_listed (falsifier own p) (satisfier own p) c.args.map.now.scope zones) c.scan_counts.ensures.whole
+
+pub returns-clause-kept_closed : goal.returns-clause-kept_closed
+returns-clause-kept_closed g c =
+    let p = c.args.predicate.now in
+    let own = own_rules (λ i. (g.dyn-1.0.entry i).1) c.args.rules.now.own.items in
+    IfOk-weaker c.scan_counts.result _ _
+    (λ found is. pruned_is_shut (satisfier own p) c.args.map.now.rows c.in_ok-verdicts.verdicts.items found.skipped.items c.in_ok-verdicts.ensures.long (is ∙ ap (places_where is_skipped) c.deref.ensures.value) c.in_ok-verdicts.ensures.kept_closed)
+    c.scan_counts.ensures.skipped

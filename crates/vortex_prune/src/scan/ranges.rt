@@ -1,0 +1,248 @@
+//! Scans of one chunk by a map of zones, each of which is a range of its rows.
+ghost use Rattle.std.specs.Prelude.{◌≡◌, ◌==◌, ◌↔◌, List, [], Err, IfErr, IfOk, IsTrue};
+ghost use Rattle.std.specs.Prelude.{alloc_error, false, length, sum};
+ghost use Rattle.std.specs.List.{AllByRecursion};
+ghost use Rattle.vortex_base.specs.Data.Columns.{row_count};
+ghost use Rattle.vortex_base.specs.Meanings.Fitting.{fits_scope};
+ghost use Rattle.vortex_base.specs.Trees.Tree.{is_plain};
+ghost use Rattle.vortex_rewrite.specs.Answers.{IsMemory};
+ghost use Rattle.vortex_rewrite.specs.Causes.{IsRefusal};
+ghost use Rattle.vortex_rewrite.specs.Rewriting.Falsifiers.{falsifier as falsifier_of};
+ghost use Rattle.vortex_rewrite.specs.Rewriting.Falsifiers.{satisfier as satisfier_of};
+ghost use Rattle.vortex_rewrite.specs.Rewriting.Own.{own_rules};
+ghost use Rattle.vortex_rewrite.specs.Rewriting.Predicates.{is_predicate};
+ghost use Rattle.vortex_rewrite.specs.Rewriting.ReadOnce.{is_apart};
+ghost use Rattle.vortex_prune.specs.Part.{IsTruePart, PartData, ZoneData};
+ghost use Rattle.vortex_prune.specs.Scanning.Complete.{ZonesSkipExactly};
+ghost use Rattle.vortex_prune.specs.Scanning.RangeScans.{AreRanges, has_ranges, ranges_by};
+ghost use Rattle.vortex_prune.specs.Scanning.RangeScans.{rows_in_chunk, selected_ranges};
+ghost use Rattle.vortex_prune.specs.Scanning.RangeScans.{tested_by, tested_ranges};
+ghost use Rattle.vortex_prune.specs.Scanning.Selection.{full, is_skipped, is_whole, places_where};
+ghost use Rattle.vortex_prune.specs.Scanning.Selection.{satisfying, selected_rows};
+ghost use Rattle.vortex_prune.specs.Scanning.ZoneScans.{IsShutIfKept};
+ghost use Rattle.vortex_prune.specs.Scanning.ZoneScans.{is_left_open, most_causes, pruning_causes};
+ghost use Rattle.vortex_prune.specs.Scanning.ZoneScans.{skipped_zones, statistics_answers};
+ghost use Rattle.vortex_prune.specs.Scanning.ZoneScans.{whole_zones};
+ghost use Rattle.vortex_prune.specs.Zones.{IsMapOf};
+ghost use Rattle.vortex_stats.specs.declared.error.StatsError.TheVariants.{Memory, Mismatch};
+ghost use Rattle.vortex_stats.specs.declared.error.StatsError.TheVariants.{NotPredicate};
+
+use crate::scan::outcome::Scan;
+use crate::scan::prune::verdicts;
+use crate::scan::select::RowRange;
+use crate::scan::verdict::Verdict;
+use crate::zone_map::ZoneMap;
+use std::alloc::Global;
+use vortex_base::bound_expression::BoundExpression;
+use vortex_base::chunk::Chunk;
+use vortex_rewrite::rewrite::rule::StatsRewriteRule;
+use vortex_rewrite::rewrite::rules::Rules;
+use vortex_stats::error::StatsError;
+
+// Whether counts add up to a number of rows.
+fn add_up(counts: &[u64], rows: usize) -> bool
+    ensures { result ≡ (sum counts.now == rows) }
+{
+    let mut left = rows as u64;
+    for place in 0..counts.len() {
+        let count = counts[place];
+        if count > left {
+            return false;
+        }
+        left -= count;
+    }
+    left == 0
+}
+
+// Whether the zones of a map are ranges of a chunk.
+fn has_ranges(chunk: &Chunk, map: &ZoneMap) -> bool
+    ensures { result ≡ has_ranges chunk.now map.now }
+{
+    *chunk.scope() == *map.scope() && add_up(map.counts(), chunk.rows())
+}
+
+// The scan by a row count and a verdict for each range.
+fn scan_counts(
+    alloc: Global,
+    chunk: &Chunk,
+    counts: &[u64],
+    verdicts: &[Verdict],
+    predicate: &BoundExpression,
+) -> Result<Scan, StatsError>
+    requires long { length verdicts.now ≡ length counts.now }
+    requires within { sum counts.now ≡ row_count chunk.now.columns }
+    ensures skipped { IfOk result (λ scan.
+        scan.skipped.items ≡ places_where is_skipped verdicts.now) }
+    ensures whole { IfOk result (λ scan.
+        scan.whole.items ≡ places_where is_whole verdicts.now) }
+    ensures selected { IfOk result (λ scan. scan.selected.items
+        ≡ ranges_by predicate.now chunk.now 0 0 verdicts.now counts.now) }
+    ensures evaluated { IfOk result (λ scan.
+        scan.evaluated ≡ tested_by verdicts.now counts.now) }
+    ensures memory { IfErr result (λ f. f ≡ Memory alloc_error) }
+{
+    let _rows = chunk.rows();
+    let mut scan = Scan {
+        selected: Vec::new(alloc),
+        skipped: Vec::new(alloc),
+        whole: Vec::new(alloc),
+        evaluated: 0,
+    };
+    let mut first = 0;
+    for place in 0..verdicts.len() {
+        let rows = counts[place] as usize;
+        let range = RowRange { chunk, first, rows };
+        scan.record_range(place, range, verdicts[place], predicate)?;
+        first += rows;
+    }
+    Ok(scan)
+}
+
+// The scan by the falsifier and the satisfier of the predicate.
+fn scan_rules(
+    alloc: Global,
+    chunk: &Chunk,
+    map: &ZoneMap,
+    predicate: &BoundExpression,
+    rules: &Rules,
+) -> Result<Scan, StatsError>
+    requires { IsTrue (has_ranges chunk.now map.now) }
+    ensures skipped { let M = ⟦<dyn StatsRewriteRule as StatsRewriteRule>⟧ in
+        let proof = falsifier_of (own_rules M rules.now.own.items) predicate.now in
+        IfOk result (λ scan. (zones : List ZoneData) → IsMapOf zones map.now
+        → scan.skipped.items ≡ skipped_zones proof map.now.scope zones) }
+    ensures whole { let M = ⟦<dyn StatsRewriteRule as StatsRewriteRule>⟧ in
+        let f = falsifier_of (own_rules M rules.now.own.items) predicate.now in
+        let s = satisfier_of (own_rules M rules.now.own.items) predicate.now in
+        IfOk result (λ scan. (zones : List ZoneData) → IsMapOf zones map.now
+        → scan.whole.items ≡ whole_zones f s map.now.scope zones) }
+    ensures kept { let M = ⟦<dyn StatsRewriteRule as StatsRewriteRule>⟧ in
+        let f = falsifier_of (own_rules M rules.now.own.items) predicate.now in
+        let s = satisfier_of (own_rules M rules.now.own.items) predicate.now in
+        IfOk result (λ scan. (zones : List ZoneData) → IsMapOf zones map.now
+        → scan.selected.items ≡ selected_ranges f s predicate.now chunk.now map.now.scope zones) }
+    ensures evaluated { let M = ⟦<dyn StatsRewriteRule as StatsRewriteRule>⟧ in
+        let f = falsifier_of (own_rules M rules.now.own.items) predicate.now in
+        let s = satisfier_of (own_rules M rules.now.own.items) predicate.now in
+        IfOk result (λ scan. (zones : List ZoneData) → IsMapOf zones map.now
+        → scan.evaluated ≡ tested_ranges f s map.now.scope zones) }
+    ensures predicate { IfOk result (λ _. IsTrue (is_predicate predicate.now)) }
+    ensures not_predicate { is_predicate predicate.now ≡ false → result ≡ Err NotPredicate }
+    ensures closed { let M = ⟦<dyn StatsRewriteRule as StatsRewriteRule>⟧ in
+        let proof = falsifier_of (own_rules M rules.now.own.items) predicate.now in
+        IfOk result (λ _. is_left_open proof map.now.rows ≡ false) }
+    ensures kept_closed { let M = ⟦<dyn StatsRewriteRule as StatsRewriteRule>⟧ in
+        let s = satisfier_of (own_rules M rules.now.own.items) predicate.now in
+        IfOk result (λ scan. IsShutIfKept scan.skipped.items s map.now.rows) }
+    ensures refusal { let M = ⟦<dyn StatsRewriteRule as StatsRewriteRule>⟧ in
+        let own = own_rules M rules.now.own.items in
+        IsTrue (is_predicate predicate.now) → IfErr result (λ e. (zones : List ZoneData)
+        → IsMapOf zones map.now
+        → IsRefusal (pruning_causes own predicate.now map.now.scope zones) e) }
+    ensures at_most { let M = ⟦<dyn StatsRewriteRule as StatsRewriteRule>⟧ in
+        let causes = most_causes (own_rules M rules.now.own.items) predicate.now map.now.rows in
+        IsTrue (is_predicate predicate.now) → IfErr result (IsRefusal causes) }
+{
+    let verdicts = verdicts(alloc, map, predicate, rules)?;
+    scan_counts(alloc, chunk, map.counts(), &verdicts, predicate)
+}
+
+/// Selects the rows of a chunk that satisfy a predicate, by a map of zones, each a range of its
+/// rows: the zones stand one after another, each with as many rows as its count says
+/// (`ZoneMap::rows`). It finds what `scan_zones` finds in the ranges as parts, without making parts:
+/// the columns stay whole, and no cell is copied. Selected rows are told as zone and row in its
+/// range. A zone whose falsifier is true by its row of the table is skipped, its range left out
+/// unread; of another zone whose satisfier is true all rows are selected and none is tested. Both
+/// proofs are found, bound and looked at as `prune` does.
+///
+/// The caller knows that the predicate is plain (`BoundExpression::is_plain`) and fits the scope
+/// (`BoundExpression::fits_scope`).
+///
+/// `Mismatch`, before anything else, unless the chunk has the map's scope and the zones' counts add
+/// up to its rows. Then `NotPredicate` if the predicate isn't of type Bool, also where there are no
+/// zones. `Rule` if a rule of the user failed or proved by an expression that isn't of type Bool,
+/// `OpenProof` if a proof that is about to be bound has a column outside its placeholders, which
+/// would be read in the table.
+pub fn scan_ranges(
+    alloc: Global,
+    chunk: &Chunk,
+    map: &ZoneMap,
+    predicate: &BoundExpression,
+    rules: &Rules,
+) -> Result<Scan, StatsError>
+    requires plain { IsTrue (is_plain predicate.now) }
+    requires fits { IsTrue (fits_scope predicate.now chunk.now.scope) }
+    // Where each zone's statistics are true of its range no wanted row of the chunk is lost and no
+    // other is told, whichever lawful rules took part.
+    ensures selected { IfOk result (λ scan. (parts : List PartData)
+        → AreRanges chunk.now map.now parts → AllByRecursion IsTruePart parts
+        → rows_in_chunk map.now.rows scan.selected.items
+        ≡ satisfying predicate.now chunk.now) }
+    // The same of the ranges as parts.
+    ensures full { IfOk result (λ scan. (parts : List PartData)
+        → AreRanges chunk.now map.now parts → AllByRecursion IsTruePart parts
+        → scan.selected.items ≡ full predicate.now parts) }
+    // A zone is skipped exactly if the falsifier is true by its statistics.
+    ensures skipped { let M = ⟦<dyn StatsRewriteRule as StatsRewriteRule>⟧ in
+        let proof = falsifier_of (own_rules M rules.now.own.items) predicate.now in
+        IfOk result (λ scan. (zones : List ZoneData) → IsMapOf zones map.now
+        → scan.skipped.items ≡ skipped_zones proof map.now.scope zones) }
+    // And whole exactly if it isn't skipped and the satisfier is.
+    ensures whole { let M = ⟦<dyn StatsRewriteRule as StatsRewriteRule>⟧ in
+        let f = falsifier_of (own_rules M rules.now.own.items) predicate.now in
+        let s = satisfier_of (own_rules M rules.now.own.items) predicate.now in
+        IfOk result (λ scan. (zones : List ZoneData) → IsMapOf zones map.now
+        → scan.whole.items ≡ whole_zones f s map.now.scope zones) }
+    // Whether or not the statistics are true, all rows of the whole zones are selected, and the
+    // satisfying rows of the zones that are neither.
+    ensures kept { let M = ⟦<dyn StatsRewriteRule as StatsRewriteRule>⟧ in
+        let f = falsifier_of (own_rules M rules.now.own.items) predicate.now in
+        let s = satisfier_of (own_rules M rules.now.own.items) predicate.now in
+        IfOk result (λ scan. (zones : List ZoneData) → IsMapOf zones map.now
+        → scan.selected.items ≡ selected_ranges f s predicate.now chunk.now map.now.scope zones) }
+    // So they are those that a scan of the ranges as parts with their statistics selects.
+    ensures parted { let M = ⟦<dyn StatsRewriteRule as StatsRewriteRule>⟧ in
+        let f = falsifier_of (own_rules M rules.now.own.items) predicate.now in
+        let s = satisfier_of (own_rules M rules.now.own.items) predicate.now in
+        IfOk result (λ scan. (parts : List PartData) → AreRanges chunk.now map.now parts
+        → scan.selected.items ≡ selected_rows f s predicate.now (statistics_answers parts)) }
+    // The rows of the zones that are neither were tested.
+    ensures evaluated { let M = ⟦<dyn StatsRewriteRule as StatsRewriteRule>⟧ in
+        let f = falsifier_of (own_rules M rules.now.own.items) predicate.now in
+        let s = satisfier_of (own_rules M rules.now.own.items) predicate.now in
+        IfOk result (λ scan. (zones : List ZoneData) → IsMapOf zones map.now
+        → scan.evaluated ≡ tested_ranges f s map.now.scope zones) }
+    // By built-in rules a predicate whose ANDs are apart skips a zone exactly if no values within
+    // its bounds satisfy it.
+    ensures complete { IfOk result (λ scan. (zones : List ZoneData) → IsMapOf zones map.now
+        → rules.now.own.items ≡ [] → IsTrue (is_apart predicate.now)
+        → ZonesSkipExactly predicate.now zones scan.skipped.items) }
+    // Exactly where the zones aren't ranges of the chunk, that is refused.
+    ensures mismatch { (result ≡ Err Mismatch) ↔ (has_ranges chunk.now map.now ≡ false) }
+    // Where they are, the other refusals have their causes. By built-in rules a predicate is
+    // refused for memory alone.
+    ensures memory { IsTrue (has_ranges chunk.now map.now) → IsTrue (is_predicate predicate.now)
+        → rules.now.own.items ≡ [] → IfErr result IsMemory }
+    ensures not_predicate { IsTrue (has_ranges chunk.now map.now)
+        → is_predicate predicate.now ≡ false → result ≡ Err NotPredicate }
+    // No falsifier that has a column outside its placeholders was bound.
+    ensures closed { let M = ⟦<dyn StatsRewriteRule as StatsRewriteRule>⟧ in
+        let proof = falsifier_of (own_rules M rules.now.own.items) predicate.now in
+        IfOk result (λ _. is_left_open proof map.now.rows ≡ false) }
+    // Nor such a satisfier, for a zone that isn't skipped.
+    ensures kept_closed { let M = ⟦<dyn StatsRewriteRule as StatsRewriteRule>⟧ in
+        let s = satisfier_of (own_rules M rules.now.own.items) predicate.now in
+        IfOk result (λ scan. IsShutIfKept scan.skipped.items s map.now.rows) }
+    // A refusal has its cause: a rule asked at a visited node, such a falsifier and a zone, or such
+    // a satisfier and a zone that isn't skipped.
+    ensures refusal { let M = ⟦<dyn StatsRewriteRule as StatsRewriteRule>⟧ in
+        let own = own_rules M rules.now.own.items in
+        IsTrue (has_ranges chunk.now map.now) → IsTrue (is_predicate predicate.now)
+        → IfErr result (λ e. (zones : List ZoneData) → IsMapOf zones map.now
+        → IsRefusal (pruning_causes own predicate.now map.now.scope zones) e) }
+{
+    if !has_ranges(chunk, map) {
+        return Err(StatsError::Mismatch);
+    }
+    scan_rules(alloc, chunk, map, predicate, rules)
+}

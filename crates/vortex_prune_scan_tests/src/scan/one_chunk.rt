@@ -1,0 +1,175 @@
+//! Scans of one chunk by a map of zones, each a range of its rows.
+use super::*;
+use std::alloc::AllocError;
+use vortex_base::{Chunk, ScalarFnId, ScalarValue, Scope};
+use vortex_prune::{Rules, Zone, ZoneMap};
+use vortex_rewrite_tests::hooks::Claim;
+use vortex_stats::RuleFault;
+
+fn chunk(alloc: Global, rows: &[Option<i32>]) -> Result<Chunk, StatsError> {
+    let column = column(I32_OR_NULL, numbers(alloc, rows), 0);
+    chunk_of(alloc, scope_of(alloc, I32_OR_NULL), column)
+}
+
+// The numbers 1, 5, 10, null, 20, 30.
+fn six_rows(alloc: Global) -> Result<Chunk, StatsError> {
+    let rows = [Some(1), Some(5), Some(10), None, Some(20), Some(30)];
+    chunk(alloc, &rows)
+}
+
+// A map of zones with these row counts, of which nothing is known.
+fn map_under(
+    alloc: Global,
+    scope: Result<Scope, StatsError>,
+    counts: &[u64],
+) -> Result<ZoneMap, StatsError> {
+    let sets = one_set(alloc, no_statistics(alloc))?;
+    let mut zones = Vec::new(alloc);
+    for count in counts {
+        zones.push(Zone::new(*count, &sets))?;
+    }
+    map_of(alloc, scope?, &zones)
+}
+
+fn map_with(alloc: Global, counts: &[u64]) -> Result<ZoneMap, StatsError> {
+    map_under(alloc, scope_of(alloc, I32_OR_NULL), counts)
+}
+
+// The scan of a chunk by the built-in rules and a map.
+fn in_chunk(
+    alloc: Global,
+    chunk: Result<Chunk, StatsError>,
+    map: Result<ZoneMap, StatsError>,
+    predicate: Built,
+) -> Found {
+    let rules = Rules::builtin(alloc);
+    scanned_by_ranges(alloc, &chunk?, &map?, &predicate?, &rules)
+}
+
+// That of the six rows by zones with these row counts.
+fn in_six(alloc: Global, counts: &[u64], predicate: Built) -> Found {
+    in_chunk(alloc, six_rows(alloc), map_with(alloc, counts), predicate)
+}
+
+#[test]
+fn rows_are_told_by_their_zones(rt: HostRuntime) -> Result<(), Fail> {
+    let alloc = rt.alloc();
+    let found = in_six(alloc, &[2, 0, 1, 3], above(alloc, 4));
+    expect_found(&rt, found, &[], &[(0, 1), (2, 0), (3, 1), (3, 2)])?;
+    let found = in_six(alloc, &[6], is_null(alloc, a(alloc)));
+    expect_found(&rt, found, &[], &[(0, 3)])?;
+    let found = in_six(alloc, &[0, 4, 2, 0], is_null(alloc, a(alloc)));
+    expect_found(&rt, found, &[], &[(1, 3)])
+}
+
+// The first two rows with their bounds, the next two, and the last two with bounds and no null.
+fn three_zones(alloc: Global) -> Result<ZoneMap, StatsError> {
+    let first = one_set(alloc, bounds(alloc, 1, 5)?)?;
+    let second = one_set(alloc, no_statistics(alloc))?;
+    let set = and_exactly(bounds(alloc, 20, 30)?, Stat::NullCount, count(0))?;
+    let third = one_set(alloc, set)?;
+    let mut zones = Vec::new(alloc);
+    zones.push(Zone::new(2, &first))?;
+    zones.push(Zone::new(2, &second))?;
+    zones.push(Zone::new(2, &third))?;
+    map_of(alloc, scope_of(alloc, I32_OR_NULL)?, &zones)
+}
+
+#[test]
+fn zones_are_skipped_and_whole(rt: HostRuntime) -> Result<(), Fail> {
+    let alloc = rt.alloc();
+    let found = in_chunk(alloc, six_rows(alloc), three_zones(alloc), above(alloc, 9))?;
+    assert!(rt; has_found(&found, &[0], &[2], &[(1, 0), (2, 0), (2, 1)]));
+    assert!(rt; found.evaluated == 2);
+    Ok(())
+}
+
+fn is_mismatch(found: Found) -> bool {
+    matches!(found, Err(StatsError::Mismatch))
+}
+
+// Counts that add up to another number of rows are refused, those too that come round to it.
+#[test]
+fn counts_have_to_add_up(rt: HostRuntime) -> Result<(), Fail> {
+    let alloc = rt.alloc();
+    assert!(rt; is_mismatch(in_six(alloc, &[2, 1, 4], above(alloc, 4))));
+    assert!(rt; is_mismatch(in_six(alloc, &[2, 1, 2], above(alloc, 4))));
+    assert!(rt; is_mismatch(in_six(alloc, &[], above(alloc, 4))));
+    assert!(rt; is_mismatch(in_six(alloc, &[u64::MAX, 7], above(alloc, 4))));
+    let found = in_chunk(
+        alloc,
+        chunk(alloc, &[]),
+        map_with(alloc, &[]),
+        above(alloc, 4),
+    );
+    expect_found(&rt, found, &[], &[])
+}
+
+#[test]
+fn the_scope_has_to_be_the_maps(rt: HostRuntime) -> Result<(), Fail> {
+    let alloc = rt.alloc();
+    let named = map_under(alloc, scope_named(alloc, "b", I32_OR_NULL), &[6]);
+    assert!(rt; is_mismatch(in_chunk(alloc, six_rows(alloc), named, above(alloc, 4))));
+    let typed = map_under(alloc, scope_of(alloc, I32), &[6]);
+    assert!(rt; is_mismatch(in_chunk(alloc, six_rows(alloc), typed, above(alloc, 4))));
+    Ok(())
+}
+
+// A mismatch comes before a predicate of another type, and that before all else.
+#[test]
+fn refusals_have_an_order(rt: HostRuntime) -> Result<(), Fail> {
+    let alloc = rt.alloc();
+    assert!(rt; is_mismatch(in_six(alloc, &[5], a(alloc))));
+    assert!(rt; matches!(in_six(alloc, &[6], a(alloc)), Err(StatsError::NotPredicate)));
+    let rules = rules_that_claim(alloc, ScalarFnId::IsNotNull, Claim::Fault, Claim::Fault)?;
+    let predicate = is_not_null(alloc, a(alloc))?;
+    let (chunk, map) = (six_rows(alloc)?, map_with(alloc, &[6])?);
+    let found = scanned_by_ranges(alloc, &chunk, &map, &predicate, &rules);
+    assert!(rt; matches!(found, Err(StatsError::Rule(RuleFault::Own(3)))));
+    Ok(())
+}
+
+fn turns(alloc: Global, rows: usize) -> Result<Vec<Option<ScalarValue>>, AllocError> {
+    let mut values = Vec::new(alloc);
+    for row in 0..rows {
+        values.push(match row % 4 {
+            0 => Some(number(3)),
+            1 => None,
+            2 => Some(number(7)),
+            _ => Some(number(5)),
+        })?;
+    }
+    Ok(values)
+}
+
+// A part of so many rows, in turn 3, null, 7 and 5, without statistics.
+fn turning(alloc: Global, rows: usize) -> Result<Part, StatsError> {
+    let column = column(I32_OR_NULL, turns(alloc, rows), 0);
+    let chunk = chunk_of(alloc, scope_of(alloc, I32_OR_NULL), column);
+    part_of(alloc, chunk, Ok(no_statistics(alloc)))
+}
+
+// Parts that are shorter and longer than a block, and one without rows.
+fn long(alloc: Global) -> Table {
+    let parts = one_part(alloc, turning(alloc, 1_001));
+    let parts = and_part(parts, turning(alloc, 0));
+    let parts = and_part(parts, turning(alloc, 1_030));
+    tabled(alloc, and_part(parts, turning(alloc, 471)))
+}
+
+// How many rows the scans of the long parts select, of which one takes them as ranges of a chunk.
+fn selected(alloc: Global, predicate: Built) -> Result<usize, StatsError> {
+    let found = scanned(alloc, &long(alloc), predicate)?;
+    Ok(found.selected.len())
+}
+
+#[test]
+fn long_ranges_are_tested_in_blocks(rt: HostRuntime) -> Result<(), Fail> {
+    let alloc = rt.alloc();
+    assert!(rt; selected(alloc, above(alloc, 6))? == 625);
+    assert!(rt; selected(alloc, is_null(alloc, a(alloc)))? == 626);
+    let ends = or(alloc, above(alloc, 6), compare(alloc, Operator::Lt, 4));
+    assert!(rt; selected(alloc, ends)? == 1_252);
+    assert!(rt; selected(alloc, not(alloc, above(alloc, 5)))? == 1_251);
+    Ok(())
+}
