@@ -2,3 +2,4 @@
 pub mod BoundTypes
 pub mod BoundValues
 pub mod ProofLemmas
+pub mod ReadStats

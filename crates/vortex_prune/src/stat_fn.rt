@@ -118,6 +118,43 @@ impl StatFn {
         let scalar = scalar_of(options.aggregate_fn, stats, dtype, rows)?;
         Ok(ConstantArray::new(scalar, rows))
     }
+
+    /// The statistic by which `told` answers for an aggregate, or `None` where nothing is ever
+    /// told of it.
+    pub fn reads(aggregate: AggregateFnRef) -> Option<Stat>
+        ensures { result ≡ values.read_stat aggregate }
+    {
+        match aggregate {
+            AggregateFnRef::Max => Some(Stat::Max),
+            AggregateFnRef::Min => Some(Stat::Min),
+            AggregateFnRef::Sum => Some(Stat::Sum),
+            AggregateFnRef::NullCount | AggregateFnRef::AllNull | AggregateFnRef::AllNonNull => {
+                Some(Stat::NullCount)
+            }
+            AggregateFnRef::UncompressedSizeInBytes => Some(Stat::UncompressedSizeInBytes),
+            AggregateFnRef::MinMax | AggregateFnRef::NanCount => None,
+        }
+    }
+
+    /// What a column of so many rows answers to an aggregate, where the statistic that `reads`
+    /// names has this value: the value of `execute`, for who has no set. It is for the cells of a
+    /// table that `ZoneMap::of_table` takes.
+    pub fn told(
+        aggregate: AggregateFnRef,
+        value: Precision<ScalarValue>,
+        rows: u64,
+    ) -> Option<ScalarValue>
+        ensures { result ≡ values.told_value aggregate value rows }
+    {
+        match aggregate {
+            AggregateFnRef::Max | AggregateFnRef::Min => value.into_inner(),
+            AggregateFnRef::Sum | AggregateFnRef::UncompressedSizeInBytes => value.as_exact(),
+            AggregateFnRef::NullCount => null_count_value(value),
+            AggregateFnRef::AllNull => all_null_value(value, rows),
+            AggregateFnRef::AllNonNull => all_non_null_value(value),
+            AggregateFnRef::MinMax | AggregateFnRef::NanCount => None,
+        }
+    }
 }
 
 fn answer_dtype(aggregate: AggregateFnRef, dtype: &DType) -> Result<DType, StatsError>
@@ -155,18 +192,10 @@ pub(crate) fn stat_value(
 ) -> Result<Option<ScalarValue>, StatsError>
     ensures { Makes (values.stat_value aggregate stats.now rows) result }
 {
-    Ok(match aggregate {
-        AggregateFnRef::Max => stats.get(Stat::Max)?.into_inner(),
-        AggregateFnRef::Min => stats.get(Stat::Min)?.into_inner(),
-        AggregateFnRef::Sum => stats.get(Stat::Sum)?.as_exact(),
-        AggregateFnRef::NullCount => null_count_value(stats.get(Stat::NullCount)?),
-        AggregateFnRef::UncompressedSizeInBytes => {
-            stats.get(Stat::UncompressedSizeInBytes)?.as_exact()
-        }
-        AggregateFnRef::AllNull => all_null_value(stats.get(Stat::NullCount)?, rows),
-        AggregateFnRef::AllNonNull => all_non_null_value(stats.get(Stat::NullCount)?),
-        AggregateFnRef::MinMax | AggregateFnRef::NanCount => None,
-    })
+    match StatFn::reads(aggregate) {
+        None => Ok(None),
+        Some(stat) => Ok(StatFn::told(aggregate, stats.get(stat)?, rows)),
+    }
 }
 
 fn count_of(value: &ScalarValue) -> Option<u64>

@@ -9,7 +9,7 @@ use vortex_base::{
 };
 use vortex_prune::{StatFn, StatOptions};
 use vortex_rewrite_tests::nodes::*;
-use vortex_stats::{Stat, StatsError, StatsSet};
+use vortex_stats::{Precision, Stat, StatsError, StatsSet};
 
 const I64: DType = DType::Primitive(PType::I64, Nullability::Nullable);
 
@@ -258,4 +258,66 @@ fn some_rows_are_null_by_the_count(rt: HostRuntime) -> Result<(), Fail> {
     expect_truth(&rt, exact_nulls(alloc, 2), no_null, 3, Some(false))?;
     expect_truth(&rt, exact_nulls(alloc, 3), no_null, 3, Some(false))?;
     expect_truth(&rt, no_statistics(alloc), all_null, 3, None)
+}
+
+const AGGREGATES: [AggregateFnRef; 9] = [
+    AggregateFnRef::Max,
+    AggregateFnRef::Min,
+    AggregateFnRef::Sum,
+    AggregateFnRef::NullCount,
+    AggregateFnRef::UncompressedSizeInBytes,
+    AggregateFnRef::AllNull,
+    AggregateFnRef::AllNonNull,
+    AggregateFnRef::MinMax,
+    AggregateFnRef::NanCount,
+];
+
+// What a set tells of an aggregate through the one statistic that is read.
+fn told_alone(
+    set: &StatsSet,
+    aggregate: AggregateFnRef,
+    rows: u64,
+) -> Result<Option<ScalarValue>, StatsError> {
+    match StatFn::reads(aggregate) {
+        Some(stat) => Ok(StatFn::told(aggregate, set.get(stat)?, rows)),
+        None => Ok(StatFn::told(aggregate, Precision::Absent, rows)),
+    }
+}
+
+// Whether the set answers so to each aggregate that the type supports.
+fn answers_alike(set: &StatsSet, rows: u64) -> Result<bool, StatsError> {
+    for aggregate in AGGREGATES {
+        let told = told_alone(set, aggregate, rows)?;
+        if let Ok(found) = answer(set, aggregate, rows) {
+            if found.scalar().value() != told.as_ref() {
+                return Ok(false);
+            }
+        }
+    }
+    Ok(true)
+}
+
+#[test]
+fn one_statistic_answers_for_its_set(rt: HostRuntime) -> Result<(), Fail> {
+    let alloc = rt.alloc();
+    assert!(rt; answers_alike(&no_statistics(alloc), 3)?);
+    assert!(rt; answers_alike(&exact_extremes(alloc)?, 3)?);
+    assert!(rt; answers_alike(&extremes(alloc)?, 3)?);
+    for nulls in 0..5 {
+        assert!(rt; answers_alike(&exact_nulls(alloc, nulls), 3)?);
+        assert!(rt; answers_alike(&nulls_at_most(alloc, nulls), 3)?);
+    }
+    assert!(rt; answers_alike(&exactly(alloc, Stat::Sum, six()), 3)?);
+    assert!(rt; answers_alike(&at_most(alloc, Stat::Sum, six()), 3)?);
+    let size = Stat::UncompressedSizeInBytes;
+    assert!(rt; answers_alike(&exactly(alloc, size, count(12)), 3)?);
+    assert!(rt; answers_alike(&at_most(alloc, size, count(12)), 3)?);
+    Ok(())
+}
+
+#[test]
+fn aggregates_read_one_statistic(rt: HostRuntime) {
+    assert!(rt; StatFn::reads(AggregateFnRef::Max) == Some(Stat::Max));
+    assert!(rt; StatFn::reads(AggregateFnRef::AllNull) == Some(Stat::NullCount));
+    assert!(rt; StatFn::reads(AggregateFnRef::NanCount) == None);
 }

@@ -240,12 +240,18 @@ tells_from m whole (c ∷ cs) same k h at =
     group_tells m whole c (ap (slice_get whole) (sym first) ∙ same 0) (supporting c.1) (heads_from (m + 1) cs) (all_supported c.1)
     (tells_from (m + 1) whole cs (λ j. let e : m + 1 + j ≡ m + suc j = omega arith in ap (slice_get whole) e ∙ same (suc j))) k h at
 
--- the columns of the table tell of the columns of the scope, for which each zone has a set that fits
-pub all_tell : (scope : List Named) (zones : List ZoneData) → AreZonesOf scope zones → (k : ℕ) (h : Head) → slice_get (heads scope) k ≡ Some h → EachTells zones h
-all_tell scope zones are k h there i zone at =
-    let tells = tells_from 0 scope scope (λ j. let e : 0 + j ≡ j = omega arith in ap (slice_get scope) e) k h there in
+-- a column of the table tells of a column of the scope that its aggregate supports
+pub head_tells : (scope : List Named) (k : ℕ) (h : Head) → slice_get (heads scope) k ≡ Some h → TellsOf scope h
+head_tells scope k h there = tells_from 0 scope scope (λ j. let e : 0 + j ≡ j = omega arith in ap (slice_get scope) e) k h there
+
+-- of that each zone has a set that fits
+pub zones_tell : (scope : List Named) (zones : List ZoneData) (h : Head) → AreZonesOf scope zones → TellsOf scope h → EachTells zones h
+zones_tell scope zones h are tells i zone at =
     let set = set_of_zone scope zone.stats h.source tells.0 (are i zone at) tells.1 in
     (tells.0.1, set.0, set.1, set.2, tells.2)
+
+pub all_tell : (scope : List Named) (zones : List ZoneData) → AreZonesOf scope zones → (k : ℕ) (h : Head) → slice_get (heads scope) k ≡ Some h → EachTells zones h
+all_tell scope zones are k h there = zones_tell scope zones h are (head_tells scope k h there)
 
 pub column_is_made : (zones : List ZoneData) (h : Head) (t : DType) (vs : List (Option ScalarValue)) → EachTells zones h → t ≡ h.dtype → vs ≡ map (zone_value h.aggregate h.source) zones
     → IsTrue (all_fit t vs)

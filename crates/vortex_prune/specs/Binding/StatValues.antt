@@ -57,3 +57,29 @@ stat_value aggregate.AllNull es n = all_null_value (entry_value NullCount es) n
 stat_value aggregate.AllNonNull es n = all_non_null_value (entry_value NullCount es)
 stat_value aggregate.MinMax es n = None
 stat_value aggregate.NanCount es n = None
+
+-- ---- the value of the one statistic that is read
+
+-- the statistic by which an aggregate is answered, if there is one
+abbrev pub read_stat : AggregateFnRef → Option Stat
+read_stat aggregate.Max = Some Max
+read_stat aggregate.Min = Some Min
+read_stat aggregate.Sum = Some Sum
+read_stat aggregate.NullCount = Some NullCount
+read_stat aggregate.UncompressedSizeInBytes = Some UncompressedSizeInBytes
+read_stat aggregate.AllNull = Some NullCount
+read_stat aggregate.AllNonNull = Some NullCount
+read_stat aggregate.MinMax = None
+read_stat aggregate.NanCount = None
+
+-- the value that this value of it gives to the aggregate of a column of n rows
+abbrev pub told_value : AggregateFnRef → Precision ScalarValue → (n : ℕ) → Option ScalarValue
+told_value aggregate.Max p n = present_value p
+told_value aggregate.Min p n = present_value p
+told_value aggregate.Sum p n = exact_value p
+told_value aggregate.NullCount p n = null_count_value p
+told_value aggregate.UncompressedSizeInBytes p n = exact_value p
+told_value aggregate.AllNull p n = all_null_value p n
+told_value aggregate.AllNonNull p n = all_non_null_value p
+told_value aggregate.MinMax p n = None
+told_value aggregate.NanCount p n = None
