@@ -1,7 +1,10 @@
+pub mod BatchLemmas
+pub mod CellLemmas
 pub mod CheckLemmas
 pub mod ExtentLemmas
 pub mod MarkLemmas
 pub mod MergeLemmas
+pub mod NamedLemmas
 pub mod NormalLemmas
 pub mod PruneLemmas
 pub mod ReadLemmas

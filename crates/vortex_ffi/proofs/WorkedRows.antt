@@ -1,3 +1,4 @@
 -- Worked rows, found by computation alone.
 pub mod CallRows
 pub mod TableRows
+pub mod CellRows

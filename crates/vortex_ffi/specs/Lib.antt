@@ -3,8 +3,10 @@ pub mod Encoding
 pub mod Extents
 pub mod Given
 pub mod Laws
+pub mod MapCells
 pub mod Measures
 pub mod Merges
+pub mod NamedStats
 pub mod Prunes
 pub mod Refusals
 pub mod Runs

@@ -5,6 +5,7 @@
 //! anything, and every array is the caller's.
 #![tactic(auto)]
 
+mod cells;
 pub mod check;
 mod encoding;
 mod extent;
@@ -15,9 +16,12 @@ pub mod laws;
 mod marks;
 pub mod measure;
 pub mod merge;
+mod named;
 mod number;
+mod numbers;
 mod predicate;
 pub mod prune;
+mod quick;
 pub mod run;
 mod slots;
 pub mod statistic;

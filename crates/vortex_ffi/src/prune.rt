@@ -16,6 +16,7 @@ use crate::fault::{Fault, Refusal};
 use crate::field::{Field, columns_given};
 use crate::marks::answers_of;
 use crate::predicate::predicate_given;
+use crate::quick::quick_answers;
 use crate::statistic::Statistic;
 use crate::status::Status;
 use crate::table::{Known, Source, sources_given, zone_at};
@@ -68,8 +69,12 @@ fn map_of(alloc: Global, scope: &Scope, batch: &[Known]) -> Result<ZoneMap, Allo
     }
 }
 
-// What is proved of the zones of a map by built-in rules.
-fn proved(alloc: Global, map: &ZoneMap, predicate: &BoundExpression) -> Result<Pruned, AllocError>
+/// What is proved of the zones of a map by built-in rules.
+pub(crate) fn proved(
+    alloc: Global,
+    map: &ZoneMap,
+    predicate: &BoundExpression,
+) -> Result<Pruned, AllocError>
     requires plain { IsTrue (is_plain predicate.now) }
     requires fits { IsTrue (fits_scope predicate.now map.now.scope) }
     requires predicate { IsTrue (is_predicate predicate.now) }
@@ -136,8 +141,8 @@ fn flush(
     Ok(())
 }
 
-// The answers for the zones of a table.
-fn table_answers(
+// The answers for the zones of a table, by a set for each column of a zone.
+fn set_answers(
     alloc: Global,
     scope: &Scope,
     predicate: &BoundExpression,
@@ -164,6 +169,31 @@ fn table_answers(
     }
     flush(alloc, scope, predicate, 0, &mut batch, &mut answers)?;
     Ok(answers)
+}
+
+// The answers for the zones of a table: by maps that are filled from the arrays, and where anything
+// is refused there by sets, which tell its place.
+fn table_answers(
+    alloc: Global,
+    scope: &Scope,
+    predicate: &BoundExpression,
+    sources: &[Source<'_>],
+    rows: &[u64],
+) -> Result<Vec<u8>, Refusal>
+    requires plain { IsTrue (is_plain predicate.now) }
+    requires fits { IsTrue (fits_scope predicate.now scope.now) }
+    requires predicate { IsTrue (is_predicate predicate.now) }
+    requires typed { All (IsTypedBy scope.now) sources.now }
+    ensures read { Answers (λ v. v.items) result (spec.table_answers predicate.now scope.now
+        (zones_given scope.now sources.now rows.now)) }
+    ensures zones { IfOk result (λ v. IfOk (zones_given scope.now sources.now rows.now)
+        (λ zones. IsTrue (zones_fit scope.now zones))) }
+    ensures long { IfOk result (λ v. length v.items ≡ length rows.now) }
+{
+    match quick_answers(alloc, scope, predicate, sources, rows) {
+        Some(answers) => Ok(answers),
+        None => set_answers(alloc, scope, predicate, sources, rows),
+    }
 }
 
 // The predicate that zones are pruned by.

@@ -20,9 +20,9 @@ use vortex_stats::stats_set::StatsSet;
 /// A statistic of a table beside its column's type.
 #[derive(Clone, Copy)]
 pub(crate) struct Source<'a> {
-    statistic: Statistic<'a>,
-    dtype: DType,
-    stat: Stat,
+    pub(crate) statistic: Statistic<'a>,
+    pub(crate) dtype: DType,
+    pub(crate) stat: Stat,
 }
 
 // The statistic beside its column's type.
@@ -76,8 +76,8 @@ pub(crate) fn sources_given<'a>(
 }
 
 impl Source<'_> {
-    // What its array says of a zone.
-    fn value(&self, alloc: Global, zone: usize) -> Result<Precision<ScalarValue>, Status>
+    /// What its array says of a zone.
+    pub(crate) fn value(&self, alloc: Global, zone: usize) -> Result<Precision<ScalarValue>, Status>
         ensures read { Gives result (spec.value_of_source self.now zone) }
         ensures fits { IfOk result (λ value.
             IsTrue (value_fits self.now.stat self.now.dtype value)) }
@@ -108,8 +108,8 @@ fn set_at(sets: &mut Vec<StatsSet>, place: usize, stat: Stat, value: Precision<S
     }
 }
 
-// The statistic at a place.
-fn source_there<'b, 'a>(sources: &'b [Source<'a>], entry: usize) -> &'b Source<'a>
+/// The statistic at a place.
+pub(crate) fn source_there<'b, 'a>(sources: &'b [Source<'a>], entry: usize) -> &'b Source<'a>
     requires { entry < length sources.now }
     ensures { slice_get sources.now entry ≡ Some result.now }
 {

@@ -1,4 +1,6 @@
 //! Each call once, as a caller in C makes it.
+mod tables;
+
 use crate::check::vortex_check;
 use crate::fault::Fault;
 use crate::field::Field;

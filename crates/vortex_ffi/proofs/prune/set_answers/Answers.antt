@@ -5,7 +5,7 @@ use Rattle.vortex_ffi.specs.Tables.{known_zone, zone_at, zones_given}
 use Rattle.vortex_ffi.proofs.PruneLemmas.{IsWhole, one_reached, whole_told}
 use Rattle.vortex_ffi.proofs.ReadLemmas.{followed_refused, found_goes_on, found_stops}
 use Rattle.vortex_ffi.proofs.TableLemmas.{one_zone_fits}
-use Rattle.vortex_ffi.proofs.prune.table_answers.Goals as goal
+use Rattle.vortex_ffi.proofs.prune.set_answers.Goals as goal
 
 pub returns-in_err-known-clause-read : goal.returns-in_err-known-clause-read
 returns-in_err-known-clause-read c =

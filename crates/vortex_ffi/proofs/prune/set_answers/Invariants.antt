@@ -3,7 +3,7 @@ use Rattle.vortex_prune.specs.Part.{ZoneData, zones_fit}
 use Rattle.vortex_ffi.specs.Prunes.{IsReached}
 use Rattle.vortex_ffi.specs.Refusals.{all_found}
 use Rattle.vortex_ffi.specs.Tables.{known_zone, zone_at}
-use Rattle.vortex_ffi.proofs.prune.table_answers.Given as goal
+use Rattle.vortex_ffi.proofs.prune.set_answers.Given as goal
 
 abbrev pub invariant-loop-zone : goal.invariant-loop-zone
 invariant-loop-zone l =

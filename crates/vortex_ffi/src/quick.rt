@@ -1,0 +1,217 @@
+//! The answers for zones by maps whose tables are filled straight from a caller's arrays, without
+//! a set a zone. There are none where a value or memory is refused.
+ghost use Rattle.std.specs.Prelude.{◌≡◌, ◌+◌, ◌<◌, ◌≤◌, All, IfOk, IfSome, IsTrue, List, Ok, length, map};
+ghost use Rattle.vortex_base.specs.Data.Cells.{cell_values};
+ghost use Rattle.vortex_base.specs.Meanings.Fitting.{fits_scope};
+ghost use Rattle.vortex_base.specs.Trees.Tree.{is_plain};
+ghost use Rattle.vortex_ffi.specs.MapCells as spec;
+ghost use Rattle.vortex_ffi.specs.Prunes.{table_answers, zone_answers};
+ghost use Rattle.vortex_ffi.specs.Tables.{IsTypedBy, zones_given};
+ghost use Rattle.vortex_prune.specs.Part.{ZoneData, zones_fit};
+ghost use Rattle.vortex_prune.specs.Zones.{IsMapOf, TellsOf, heads as all_heads, zone_column, zone_columns};
+ghost use Rattle.vortex_rewrite.specs.Rewriting.Predicates.{is_predicate};
+
+use crate::cells::{all_read, last_of, null_cells, told_cells};
+use crate::marks::answers_of;
+use crate::named::Proofs;
+use crate::prune::proved;
+use crate::table::Source;
+use std::alloc::Global;
+use vortex_base::bound_expression::BoundExpression;
+use vortex_base::cells::Cells;
+use vortex_base::column::Column;
+use vortex_base::scope::Scope;
+use vortex_prune::{Head, StatFn, ZoneMap};
+
+// How many cells are made at once. Each takes 16 bytes, and one of a text 32.
+const BATCH_CELLS: usize = 65536;
+
+// Some zones of a table, one behind the other.
+#[derive(Clone, Copy)]
+struct Batch<'a> {
+    scope: &'a Scope,
+    sources: &'a [Source<'a>],
+    rows: &'a [u64],
+    from: usize,
+    count: usize,
+}
+
+impl Batch<'_> {
+    // The cells below a head.
+    fn cells(&self, alloc: Global, head: &Head) -> Option<Cells>
+        requires { self.now.from + self.now.count ≤ length self.now.rows.now }
+        ensures { IfSome result (λ cells. spec.AreCells self.now head.now (cell_values cells)) }
+    {
+        let stat = StatFn::reads(head.aggregate())?;
+        match last_of(self.sources, head.source(), stat) {
+            None => null_cells(alloc, self.count),
+            Some(source) => told_cells(
+                alloc,
+                &source,
+                head.aggregate(),
+                self.rows,
+                self.from,
+                self.count,
+            ),
+        }
+    }
+
+    // The column below a head.
+    fn column(&self, alloc: Global, head: &Head) -> Option<Column>
+        requires batch { spec.IsBatch self.now }
+        requires tells { TellsOf self.now.scope.now head.now }
+        ensures { IfSome result (λ column. (zones : List ZoneData)
+            → spec.batch_zones self.now ≡ Ok zones → column ≡ zone_column zones head.now) }
+    {
+        let cells = self.cells(alloc, head)?;
+        Some(Column::new_unchecked(head.dtype(), cells, 0))
+    }
+
+    // Those below all heads of the scope.
+    fn columns(&self, alloc: Global, heads: &[Head]) -> Option<Vec<Column>>
+        requires batch { spec.IsBatch self.now }
+        requires heads { heads.now ≡ all_heads self.now.scope.now }
+        ensures { IfSome result (λ columns. (zones : List ZoneData)
+            → spec.batch_zones self.now ≡ Ok zones
+            → columns.items ≡ zone_columns self.now.scope.now zones) }
+    {
+        let mut columns = Vec::with_capacity(alloc, heads.len()).ok()?;
+        for place in 0..heads.len() {
+            let column = self.column(alloc, &heads[place])?;
+            columns.push(column).ok()?;
+        }
+        Some(columns)
+    }
+
+    // The row counts of the zones.
+    fn row_counts(&self, alloc: Global) -> Option<Vec<u64>>
+        requires { spec.IsBatch self.now }
+        ensures { IfSome result (λ counts. (zones : List ZoneData)
+            → spec.batch_zones self.now ≡ Ok zones
+            → counts.items ≡ map (λ zone. zone.rows) zones) }
+    {
+        let end = self.from + self.count;
+        match Vec::from_slice(alloc, &self.rows[self.from..end]) {
+            Ok(counts) => Some(counts),
+            Err(_) => None,
+        }
+    }
+
+    // The map of the zones.
+    fn map(&self, alloc: Global, heads: &[Head]) -> Option<ZoneMap>
+        requires batch { spec.IsBatch self.now }
+        requires heads { heads.now ≡ all_heads self.now.scope.now }
+        ensures scoped { IfSome result (λ made. made.scope ≡ self.now.scope.now) }
+        ensures is_map { IfSome result (λ made. (zones : List ZoneData)
+            → spec.batch_zones self.now ≡ Ok zones → IsMapOf zones made) }
+    {
+        let Ok(scope) = self.scope.try_clone() else {
+            return None;
+        };
+        let rows = self.row_counts(alloc)?;
+        let columns = self.columns(alloc, heads)?;
+        match ZoneMap::of_table(alloc, scope, rows, columns) {
+            Ok(made) => Some(made),
+            Err(_) => None,
+        }
+    }
+
+    // The answers for the zones.
+    fn answers(&self, alloc: Global, heads: &[Head], predicate: &BoundExpression) -> Option<Vec<u8>>
+        requires batch { spec.IsBatch self.now }
+        requires heads { heads.now ≡ all_heads self.now.scope.now }
+        requires plain { IsTrue (is_plain predicate.now) }
+        requires fits { IsTrue (fits_scope predicate.now self.now.scope.now) }
+        requires predicate { IsTrue (is_predicate predicate.now) }
+        ensures { IfSome result (λ answers. (zones : List ZoneData)
+            → spec.batch_zones self.now ≡ Ok zones
+            → answers.items ≡ zone_answers predicate.now self.now.scope.now zones) }
+    {
+        let map = self.map(alloc, heads)?;
+        let Ok(pruned) = proved(alloc, &map, predicate) else {
+            return None;
+        };
+        match answers_of(alloc, &pruned, self.count) {
+            Ok(answers) => Some(answers),
+            Err(_) => None,
+        }
+    }
+}
+
+// How many zones are answered next, of those that are left.
+fn next_count(size: usize, left: usize) -> usize
+    requires size { 0 < size }
+    requires left { 0 < left }
+    ensures some { 0 < result }
+    ensures within { result ≤ left }
+{
+    if left < size { left } else { size }
+}
+
+// The answers for all zones, batch by batch.
+fn batches_answers<'a>(
+    alloc: Global,
+    scope: &'a Scope,
+    predicate: &BoundExpression,
+    sources: &'a [Source<'a>],
+    rows: &'a [u64],
+) -> Option<Vec<u8>>
+    requires plain { IsTrue (is_plain predicate.now) }
+    requires fits { IsTrue (fits_scope predicate.now scope.now) }
+    requires predicate { IsTrue (is_predicate predicate.now) }
+    requires typed { All (IsTypedBy scope.now) sources.now }
+    requires read { spec.AllRead sources.now (length rows.now) }
+    ensures { IfSome result (λ v. (zones : List ZoneData)
+        → zones_given scope.now sources.now rows.now ≡ Ok zones
+        → v.items ≡ zone_answers predicate.now scope.now zones) }
+{
+    let Ok(heads) = ZoneMap::heads(alloc, scope) else {
+        return None;
+    };
+    let size = 1 + BATCH_CELLS / heads.len().max(1);
+    let mut answers = Vec::with_capacity(alloc, rows.len()).ok()?;
+    'batches: while answers.len() < rows.len() {
+        let from = answers.len();
+        let count = next_count(size, rows.len() - from);
+        let batch = Batch {
+            scope,
+            sources,
+            rows,
+            from,
+            count,
+        };
+        let mut more = batch.answers(alloc, &heads, predicate)?;
+        match answers.append(&mut more) {
+            Ok(()) => {}
+            Err(_) => return None,
+        }
+    }
+    Some(answers)
+}
+
+/// The answers for the zones of a table, if each value is read and no memory is refused. Cells are
+/// made of the statistics alone that the proofs of the predicate name.
+pub(crate) fn quick_answers(
+    alloc: Global,
+    scope: &Scope,
+    predicate: &BoundExpression,
+    sources: &[Source<'_>],
+    rows: &[u64],
+) -> Option<Vec<u8>>
+    requires plain { IsTrue (is_plain predicate.now) }
+    requires fits { IsTrue (fits_scope predicate.now scope.now) }
+    requires predicate { IsTrue (is_predicate predicate.now) }
+    requires typed { All (IsTypedBy scope.now) sources.now }
+    ensures read { IfSome result (λ v. table_answers predicate.now scope.now
+        (zones_given scope.now sources.now rows.now) ≡ Ok v.items) }
+    ensures zones { IfSome result (λ v. IfOk (zones_given scope.now sources.now rows.now)
+        (λ zones. IsTrue (zones_fit scope.now zones))) }
+    ensures long { IfSome result (λ v. length v.items ≡ length rows.now) }
+{
+    if !all_read(alloc, sources, rows.len()) {
+        return None;
+    }
+    let proofs = Proofs::of_predicate(alloc, predicate)?;
+    let kept = proofs.named(alloc, sources)?;
+    batches_answers(alloc, scope, predicate, &kept, rows)
+}
