@@ -1,8 +1,7 @@
 -- The items of a predicate fit: the values in their sets are of their columns' types, and what they make up is a predicate.
 use Rattle.std.proofs.Common.{◌≡◌, Bool, true, false, ◌&&◌, List, [], ◌∷◌, ◌++◌, Option, Some, None, Result, Ok, Err, IsOk, map, refl, sym, ap, ◌∙◌, if◌then◌else◌}
-use Rattle.std.proofs.Common.{◌<◌, ◌≤◌, ◌-◌, length, take, drop, get_or, arith}
-use Rattle.std.specs.List.{flat_map}
-use Rattle.std.proofs.lemmas.Grind.{common_steps}
+use Rattle.std.proofs.Common.{ℕ, zero, suc, ◌<◌, length, get_or, arith}
+use Rattle.std.specs.List.{AllByRecursion, flat_map}
 use Rattle.std.proofs.lemmas.Bool.{and_parts}
 use Rattle.std.proofs.lemmas.Option.{none-some, same_Some}
 use Rattle.vortex_base.proofs.Meanings.MeaningFits.{is_value-as_nullable}
@@ -23,12 +22,13 @@ use Rattle.vortex_base.specs.declared.types.Operator.TheVariants.{Eq, NotEq, Gt,
 use Rattle.vortex_rewrite.proofs.Completeness.Interval.{is_comparison}
 use Rattle.vortex_rewrite.proofs.Rewriting.ProofTypes.{AreComparable, alike_turned, are_alike, binary_is_predicate, predicates_connect}
 use Rattle.vortex_rewrite.specs.Rewriting.Predicates.{is_connective, is_predicate}
-use Rattle.vortex_normal.specs.Groups.{Item, inside, other, add, add_sets, as_one, binary_item, collected, compared_item, cut_fits, interval_fits, is_of, item_fits, item_of, item_test, items_fit, items_test, joined_test, leaf_item, lone_item, not_null_item, null_item, set_fits, sets_fit, widened}
-use Rattle.vortex_normal.specs.Intervals.{Cut, Lowest, Before, After, Highest, Interval, all_but, at_most, between_cuts, combined, comparison_set, complement, cut_le, cut_of, higher, hole_by, interval, interval_of, is_empty, is_full, left_out, literal_as, only_hole, placed, range_of, set_test, share, sorted, swapped, unless_empty, values_test}
-use Rattle.vortex_normal.specs.declared.groups.Item.{Item as Kept}
+use Rattle.vortex_normal.specs.Balanced.{balanced}
+use Rattle.vortex_normal.specs.Groups.{Item, inside, other, add, add_sets, as_one, binary_item, collected, compared_item, cut_fits, interval_fits, is_of, item_fits, item_test, items_fit, items_test, leaf_item, lone_item, not_null_item, null_item, set_fits, sets_fit, widened}
+use Rattle.vortex_normal.specs.Intervals.{Cut, Lowest, Before, After, Highest, Interval, all_but, at_most, between_cuts, combined, comparison_set, complement, cut_le, higher, hole_by, interval, interval_of, interval_test, is_empty, is_full, left_out, literal_as, only_hole, placed, range_of, set_test, share, sorted, swapped, unless_empty, values_test}
 use Rattle.vortex_normal.specs.declared.interval.Interval.{Interval as LentInterval}
 use Rattle.vortex_rewrite.specs.Rewriting.Falsifiers.{bool_literal}
 use Rattle.vortex_normal.specs.Pushed.{connected}
+use Rattle.vortex_normal.proofs.Pairs.{balanced_has}
 use Rattle.vortex_normal.proofs.Forms.{connected_kept}
 use Rattle.vortex_normal.proofs.Steps.{range_is_predicate, sides, typed, value_compares}
 
@@ -113,6 +113,16 @@ module _ (t : DType) where
 
 -- ---- the predicates that they are
 
+connected_is : (w : Bool) (l r : Tree Place) → is_predicate l ≡ true → is_predicate r ≡ true → is_predicate (connected w l r) ≡ true
+connected_is w l r h k =
+    connected_kept (λ e. is_predicate e ≡ true) l r h k w
+    (binary_is_predicate And l r (predicates_connect And l r refl h k))
+    (binary_is_predicate Or l r (predicates_connect Or l r refl h k))
+
+truth_is : (w : Bool) → is_predicate (bool_literal w) ≡ true
+truth_is true = refl
+truth_is false = refl
+
 module _ (c : Place) where
   compared_is : (o : Operator) (v : ScalarValue) → is_connective o ≡ false → is_value v c.dtype ≡ true → is_predicate (binary o (column c) (literal_as c v)) ≡ true
   compared_is o v k h = binary_is_predicate o (column c) (literal_as c v) (value_compares o c v k h)
@@ -156,6 +166,13 @@ module _ (c : Place) where
   all_but_is (Some v) e f h = compared_is NotEq v refl (f v refl)
   all_but_is None e f h = h
 
+  intervals_are : (is : List Interval) → set_fits c.dtype is ≡ true → AllByRecursion (λ e. is_predicate e ≡ true) (map (interval_test c) is)
+  intervals_are [] h = tt
+  intervals_are (i ∷ is) h =
+      let a = and_parts (interval_fits c.dtype i) (set_fits c.dtype is) h in
+      let w = and_parts (cut_fits c.dtype i.low) (cut_fits c.dtype i.high) a.0 in
+      (cuts_are i.low i.high w.0 w.1, intervals_are is a.1)
+
   set_is : (is : List Interval) → set_fits c.dtype is ≡ true → is_predicate (set_test c is) ≡ true
   set_is [] h = refl
   set_is (i ∷ []) h =
@@ -167,10 +184,7 @@ module _ (c : Place) where
       let x = and_parts (cut_fits c.dtype j.low) (cut_fits c.dtype j.high) (and_parts (interval_fits c.dtype j) true a.1).0 in
       all_but_is (only_hole i j) (binary Or (between_cuts c i.low i.high) (between_cuts c j.low j.high)) (λ v e. hole_fits i.low i.high j.low j.high v w.1 e)
       (two_are Or (between_cuts c i.low i.high) (between_cuts c j.low j.high) refl (cuts_are i.low i.high w.0 w.1) (cuts_are j.low j.high x.0 x.1))
-  set_is (i ∷ j ∷ k ∷ is) h =
-      let a = and_parts (interval_fits c.dtype i) (set_fits c.dtype (j ∷ k ∷ is)) h in
-      let w = and_parts (cut_fits c.dtype i.low) (cut_fits c.dtype i.high) a.0 in
-      two_are Or (between_cuts c i.low i.high) (set_test c (j ∷ k ∷ is)) refl (cuts_are i.low i.high w.0 w.1) (set_is (j ∷ k ∷ is) a.1)
+  set_is (i ∷ j ∷ k ∷ is) h = balanced_has (λ e. is_predicate e ≡ true) false (connected_is false) (map (interval_test c) (i ∷ j ∷ k ∷ is)) refl (intervals_are (i ∷ j ∷ k ∷ is) h)
 
   null_if : (is : List Interval) (b : Bool) → is_predicate (set_test c is) ≡ true → is_predicate (if b then bool_literal true else binary Or (is_null (column c)) (set_test c is)) ≡ true
   null_if is true h = refl
@@ -185,24 +199,15 @@ item_is : (w : Bool) (i : Item) → item_fits i ≡ true → is_predicate (item_
 item_is w (inside c m iss) h = values_are c m (combined w iss) (combined_fits c.dtype w iss h)
 item_is w (other e) h = h
 
-connected_is : (w : Bool) (l r : Tree Place) → is_predicate l ≡ true → is_predicate r ≡ true → is_predicate (connected w l r) ≡ true
-connected_is w l r h k =
-    connected_kept (λ e. is_predicate e ≡ true) l r h k w
-    (binary_is_predicate And l r (predicates_connect And l r refl h k))
-    (binary_is_predicate Or l r (predicates_connect Or l r refl h k))
-
-truth_is : (w : Bool) → is_predicate (bool_literal w) ≡ true
-truth_is true = refl
-truth_is false = refl
-
-joined_is : (w : Bool) (is : List Item) (e : Tree Place) → items_fit is ≡ true → is_predicate e ≡ true → is_predicate (joined_test w is e) ≡ true
-joined_is w [] e h k = k
-joined_is w (i ∷ is) e h k =
-    let a = and_parts (item_fits i) (items_fit is) h in
-    connected_is w (item_test w i) (joined_test w is e) (item_is w i a.0) (joined_is w is e a.1 k)
+tests_are : (w : Bool) (is : List Item) → items_fit is ≡ true → AllByRecursion (λ e. is_predicate e ≡ true) (map (item_test w) is)
+tests_are w [] h = tt
+tests_are w (i ∷ is) h = let a = and_parts (item_fits i) (items_fit is) h in (item_is w i a.0, tests_are w is a.1)
 
 items_are : (w : Bool) (is : List Item) → items_fit is ≡ true → is_predicate (items_test w is) ≡ true
-items_are w is h = joined_is w is (bool_literal w) h (truth_is w)
+items_are w is h =
+    connected_is w (balanced w (map (item_test w) is)) (bool_literal w)
+    (balanced_has (λ e. is_predicate e ≡ true) w (connected_is w) (map (item_test w) is) (truth_is w) (tests_are w is h))
+    (truth_is w)
 
 -- ---- leaves
 
@@ -324,7 +329,7 @@ alone_fits w (inside c m iss) h = one_fits c.dtype (combined w iss) (combined_fi
 alone_fits w (other e) h = h
 
 as_one_fits : (v : Bool) (is : List Item) → items_fit is ≡ true → item_fits (as_one v is) ≡ true
-as_one_fits v [] h = truth_is v
+as_one_fits v [] h = items_are v [] h
 as_one_fits v (i ∷ []) h = alone_fits v i (and_parts (item_fits i) true h).0
 as_one_fits v (i ∷ j ∷ is) h = items_are v (i ∷ j ∷ is) h
 
@@ -360,40 +365,8 @@ both_fit v l r h k = collected_fit v r (collected v l []) k (collected_fit v l [
 
 -- ---- slices of what fits
 
-behind : {A : Type 0} (x : A) (s : List A) → take (length (x ∷ s) - 1) (drop 1 (x ∷ s)) ≡ s
-behind x s = grind (arith, common_steps)
-
-pub rest_set_fits : (t : DType) (s : List LentInterval) → set_fits t (map interval_of s) ≡ true → set_fits t (map interval_of (take (length s - 1) (drop 1 s))) ≡ true
-rest_set_fits t [] h = refl
-rest_set_fits t (i ∷ is) h = ap (λ r. set_fits t (map interval_of r)) (behind i is) ∙ (and_parts (interval_fits t (interval_of i)) (set_fits t (map interval_of is)) h).1
-
-pub first_fits : (t : DType) (s : List LentInterval) (i d : LentInterval) → 1 ≤ length s → i ≡ get_or s 0 d → set_fits t (map interval_of s) ≡ true → interval_fits t (interval_of i) ≡ true
-first_fits t [] i d l e h = absurd (omega arith)
-first_fits t (j ∷ js) i d l e h = ap (λ k. interval_fits t (interval_of k)) e ∙ (and_parts (interval_fits t (interval_of j)) (set_fits t (map interval_of js)) h).0
-
-pub first_low_fits : (t : DType) (s : List LentInterval) (i d : LentInterval) → 1 ≤ length s → i ≡ get_or s 0 d → set_fits t (map interval_of s) ≡ true → cut_fits t (cut_of i.low) ≡ true
-first_low_fits t s i d l e h = (and_parts (cut_fits t (cut_of i.low)) (cut_fits t (cut_of i.high)) (first_fits t s i d l e h)).0
-
-pub first_high_fits : (t : DType) (s : List LentInterval) (i d : LentInterval) → 1 ≤ length s → i ≡ get_or s 0 d → set_fits t (map interval_of s) ≡ true → cut_fits t (cut_of i.high) ≡ true
-first_high_fits t s i d l e h = (and_parts (cut_fits t (cut_of i.low)) (cut_fits t (cut_of i.high)) (first_fits t s i d l e h)).1
-
-pub second_fits : (t : DType) (s : List LentInterval) (i d : LentInterval) → 2 ≤ length s → i ≡ get_or s 1 d → set_fits t (map interval_of s) ≡ true → interval_fits t (interval_of i) ≡ true
-second_fits t [] i d l e h = absurd (omega arith)
-second_fits t (j ∷ js) i d l e h = first_fits t js i d (omega arith) e (and_parts (interval_fits t (interval_of j)) (set_fits t (map interval_of js)) h).1
-
-pub shorter : {A : Type 0} (s : List A) → 1 ≤ length s → length (take (length s - 1) (drop 1 s)) < length s
-shorter [] l = absurd (omega arith)
-shorter (x ∷ s) l = let e = behind x s in rw e (omega arith)
-
--- ---- the last of some items
-
-pub last_joined : (w : Bool) (ks : List Kept) (k : Kept) (e : Tree Place) → joined_test w (map item_of (ks ++ k ∷ [])) e ≡ joined_test w (map item_of ks) (connected w (item_test w (item_of k)) e)
-last_joined w [] k e = refl
-last_joined w (j ∷ ks) k e = ap (connected w (item_test w (item_of j))) (last_joined w ks k e)
-
-pub last_fit : (ks : List Kept) (k : Kept) → items_fit (map item_of (ks ++ k ∷ [])) ≡ true → (items_fit (map item_of ks) ≡ true) × (item_fits (item_of k) ≡ true)
-last_fit [] k h = (refl, (and_parts (item_fits (item_of k)) true h).0)
-last_fit (j ∷ ks) k h =
-    let a = and_parts (item_fits (item_of j)) (items_fit (map item_of (ks ++ k ∷ []))) h in
-    let b = last_fit ks k a.1 in
-    (both_hold _ _ a.0 b.0, b.1)
+-- each of a set's intervals fits
+pub each_fits : (t : DType) (s : List LentInterval) (n : ℕ) (i d : LentInterval) → n < length s → i ≡ get_or s n d → set_fits t (map interval_of s) ≡ true → interval_fits t (interval_of i) ≡ true
+each_fits t [] n i d l e h = absurd (omega (arith, l))
+each_fits t (j ∷ s) zero i d l e h = ap (λ k. interval_fits t (interval_of k)) e ∙ (and_parts (interval_fits t (interval_of j)) (set_fits t (map interval_of s)) h).0
+each_fits t (j ∷ s) (suc n) i d l e h = each_fits t s n i d (omega (arith, l)) e (and_parts (interval_fits t (interval_of j)) (set_fits t (map interval_of s)) h).1

@@ -1,5 +1,6 @@
 -- What is said of one column, in one place, is satisfied by the same rows.
-use Rattle.std.proofs.Common.{◌≡◌, ℕ, Bool, true, false, not as not_b, ◌&&◌, ◌||◌, List, [], ◌∷◌, ◌++◌, Option, Some, None, refl, sym, ap, ap₂, ◌∙◌, if◌then◌else◌}
+use Rattle.std.proofs.Common.{◌≡◌, ℕ, Bool, true, false, not as not_b, ◌&&◌, ◌||◌, List, [], ◌∷◌, ◌++◌, Option, Some, None, map, refl, sym, ap, ap₂, ◌∙◌, if◌then◌else◌}
+use Rattle.std.specs.List.{AllByRecursion}
 use Rattle.std.specs.Prelude.{slice_get, is_none}
 use Rattle.vortex_base.specs.Data.Columns.{cell_value}
 use Rattle.vortex_base.specs.Data.Scalars.{Constant}
@@ -17,8 +18,10 @@ use Rattle.vortex_rewrite.proofs.Completeness.Decided.{comparison_applied}
 use Rattle.vortex_rewrite.proofs.Completeness.Interval.{is_comparison}
 use Rattle.vortex_rewrite.proofs.Soundness.TruthLogic.{true_and, true_or}
 use Rattle.vortex_rewrite.proofs.Soundness.ValueTests.{holds_by_le, le_trans}
-use Rattle.vortex_normal.specs.Intervals.{Cut, Lowest, Before, After, Highest, Interval, above, all_but, at_most, between_cuts, cuts_all, hole_by, is_full, literal_as, range_of, values_test, combined, comparison_set, contains, in_set, interval, set_test, swapped}
-use Rattle.vortex_normal.specs.Groups.{Item, inside, other, add, add_sets, as_one, binary_item, both_nulls, collected, compared_item, grouped, is_of, item_test, items_test, joined_test, leaf_item, lone_item, not_null_item, null_item, widened}
+use Rattle.vortex_normal.specs.Intervals.{Cut, Lowest, Before, After, Highest, Interval, above, all_but, at_most, between_cuts, cuts_all, hole_by, interval_test, is_full, literal_as, range_of, values_test, combined, comparison_set, contains, in_set, interval, set_test, swapped}
+use Rattle.vortex_normal.specs.Balanced.{balanced}
+use Rattle.vortex_normal.specs.Groups.{Item, inside, other, add, add_sets, as_one, binary_item, both_nulls, collected, compared_item, grouped, is_of, item_test, items_test, leaf_item, lone_item, not_null_item, null_item, widened}
+use Rattle.vortex_normal.proofs.Pairs.{balanced_value, values_joined}
 use Rattle.vortex_normal.proofs.Told.{connected_told, joined}
 use Rattle.vortex_normal.proofs.Sets.{holds_swapped, in_combined, in_comparison, in_sets}
 
@@ -278,6 +281,27 @@ module _ (row : List Constant) (n : ℕ) where
   hole_told c Lowest (Before u) (After l) Highest = hole_if c u l (at_most u l && at_most l u) refl
   hole_told c a b d e = either_told c a b d e
 
+  -- what predicates say one after another, they say joined two by two
+  abbrev joined_values : (is_and : Bool) → List (Tree Place) → Bool
+  joined_values w es = values_joined (λ e. satisfies e row n) (joined w) w es
+
+  all_tests : (es : List (Tree Place)) → AllByRecursion (λ _. Unit {0}) es
+  all_tests [] = tt
+  all_tests (e ∷ es) = (tt, all_tests es)
+
+  literal_told : (w : Bool) → satisfies (bool_literal w) row n ≡ w
+  literal_told true = refl
+  literal_told false = refl
+
+  balanced_told : (w : Bool) (es : List (Tree Place)) → satisfies (balanced w es) row n ≡ joined_values w es
+  balanced_told w es =
+      balanced_value (λ _. Unit {0}) w (λ a b h k. tt) (λ e. satisfies e row n) (joined w) w (joined_assoc w) (joined_unit w)
+      (λ a b h k. connected_told row n w a b) es (literal_told w) (all_tests es)
+
+  intervals_told : (c : Place) (is : List Interval) → joined_values false (map (interval_test c) is) ≡ is_in is (cell c)
+  intervals_told c [] = none_in (cell c)
+  intervals_told c (i ∷ is) = ap₂ ◌||◌ (cuts_told c i.low i.high) (intervals_told c is) ∙ more_in i is (cell c)
+
   pub set_told : (c : Place) (is : List Interval) → satisfies (set_test c is) row n ≡ is_in is (cell c)
   set_told c [] = none_in (cell c)
   set_told c (i ∷ []) = cuts_told c i.low i.high ∙ one_in i (cell c)
@@ -286,9 +310,8 @@ module _ (row : List Constant) (n : ℕ) where
       ∙ ap (λ b. in_cuts i.low i.high (cell c) || b) (one_in j (cell c))
       ∙ more_in i (j ∷ []) (cell c)
   set_told c (i ∷ j ∷ k ∷ is) =
-      true_or (meaning (between_cuts c i.low i.high) row n) (meaning (set_test c (j ∷ k ∷ is)) row n)
-      ∙ ap₂ ◌||◌ (cuts_told c i.low i.high) (set_told c (j ∷ k ∷ is))
-      ∙ more_in i (j ∷ k ∷ is) (cell c)
+      balanced_told false (map (interval_test c) (i ∷ j ∷ k ∷ is))
+      ∙ intervals_told c (i ∷ j ∷ k ∷ is)
 
   null_if : (c : Place) (i : Interval) (is : List Interval) (b : Bool) → is_full (i ∷ is) ≡ b
       → satisfies (if b then bool_literal true else binary Or (is_null (column c)) (set_test c (i ∷ is))) row n ≡ is_among true (i ∷ is) (cell c)
@@ -309,27 +332,23 @@ module _ (row : List Constant) (n : ℕ) where
   told w (inside c m iss) = is_among m (combined w iss) (cell c)
   told w (other e) = satisfies e row n
 
-  abbrev pub all_with : (is_and : Bool) → List Item → Bool → Bool
-  all_with w [] b = b
-  all_with w (i ∷ is) b = joined w (told w i) (all_with w is b)
-
   abbrev pub all_told : (is_and : Bool) → List Item → Bool
-  all_told w is = all_with w is w
+  all_told w [] = w
+  all_told w (i ∷ is) = joined w (told w i) (all_told w is)
 
   item_told : (w : Bool) (i : Item) → satisfies (item_test w i) row n ≡ told w i
   item_told w (inside c m iss) = values_told c m (combined w iss)
   item_told w (other e) = refl
 
-  joined_told : (w : Bool) (is : List Item) (e : Tree Place) → satisfies (joined_test w is e) row n ≡ all_with w is (satisfies e row n)
-  joined_told w [] e = refl
-  joined_told w (i ∷ is) e = connected_told row n w (item_test w i) (joined_test w is e) ∙ ap₂ (joined w) (item_told w i) (joined_told w is e)
-
-  literal_told : (w : Bool) → satisfies (bool_literal w) row n ≡ w
-  literal_told true = refl
-  literal_told false = refl
+  tests_told : (w : Bool) (is : List Item) → joined_values w (map (item_test w) is) ≡ all_told w is
+  tests_told w [] = refl
+  tests_told w (i ∷ is) = ap₂ (joined w) (item_told w i) (tests_told w is)
 
   items_told : (w : Bool) (is : List Item) → satisfies (items_test w is) row n ≡ all_told w is
-  items_told w is = joined_told w is (bool_literal w) ∙ ap (all_with w is) (literal_told w)
+  items_told w is =
+      connected_told row n w (balanced w (map (item_test w) is)) (bool_literal w)
+      ∙ ap₂ (joined w) (balanced_told w (map (item_test w) is) ∙ tests_told w is) (literal_told w)
+      ∙ joined_unit w (all_told w is)
 
   -- ---- leaves
 

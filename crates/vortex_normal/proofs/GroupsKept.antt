@@ -1,5 +1,6 @@
 -- A predicate's groups have no column and no placeholder that it had not.
-use Rattle.std.proofs.Common.{◌≡◌, Bool, true, false, not as not_b, ◌&&◌, List, [], ◌∷◌, ◌++◌, Option, Some, None, IsTrue, ap, if◌then◌else◌}
+use Rattle.std.proofs.Common.{◌≡◌, Bool, true, false, not as not_b, ◌&&◌, List, [], ◌∷◌, ◌++◌, Option, Some, None, IsTrue, ap, map, if◌then◌else◌}
+use Rattle.std.specs.List.{AllByRecursion}
 use Rattle.std.proofs.lemmas.Bool.{and_parts, or_parts, not-true}
 use Rattle.vortex_base.specs.Data.Exact.{both_hold}
 use Rattle.vortex_base.specs.Trees.Tree.{Tree, Place, all_columns, column, literal, binary, is_null, is_not_null, some_node, has_placeholder, has_row_count, is_placeholder, is_plain, is_row_count}
@@ -7,10 +8,12 @@ use Rattle.vortex_base.specs.declared.scalar_value.ScalarValue.{ScalarValue}
 use Rattle.vortex_base.specs.declared.types.Operator.{Operator}
 use Rattle.vortex_base.specs.declared.types.Operator.TheVariants.{Eq, NotEq, Gt, Gte, Lt, Lte, And, Or}
 use Rattle.vortex_base.specs.declared.types.StrictComparison.TheVariants.{Strict, NonStrict}
-use Rattle.vortex_normal.specs.Groups.{Item, inside, other, add, add_sets, as_one, binary_item, collected, compared_item, grouped, is_of, item_test, items_test, joined_test, leaf_item, lone_item, not_null_item, null_item, widened}
-use Rattle.vortex_normal.specs.Intervals.{Cut, Lowest, Before, After, Highest, Interval, all_but, at_most, between_cuts, combined, hole_by, is_full, literal_as, range_of, set_test, swapped, values_test}
+use Rattle.vortex_normal.specs.Balanced.{balanced}
+use Rattle.vortex_normal.specs.Groups.{Item, inside, other, add, add_sets, as_one, binary_item, collected, compared_item, grouped, is_of, item_test, items_test, leaf_item, lone_item, not_null_item, null_item, widened}
+use Rattle.vortex_normal.specs.Intervals.{Cut, Lowest, Before, After, Highest, Interval, all_but, at_most, between_cuts, combined, hole_by, interval_test, is_full, literal_as, range_of, set_test, swapped, values_test}
 use Rattle.vortex_rewrite.specs.Rewriting.Falsifiers.{bool_literal}
 use Rattle.vortex_normal.specs.Pushed.{connected}
+use Rattle.vortex_normal.proofs.Pairs.{balanced_has}
 use Rattle.vortex_normal.proofs.Forms.{connected_kept}
 use Rattle.vortex_normal.proofs.Kept.{Holds, IsInherited, IsOfLeaves, Lacks, columns_inherited, nodes_inherited, operands_lack, placeholders, row_counts}
 
@@ -55,13 +58,20 @@ module _ (P : Tree Place → Type 0) (i : IsInherited P) (d : IsPassedDown P) wh
   hole_has c h (Some v) e k = i.of_binary NotEq (column c) (literal_as c v) h (i.of_literal _)
   hole_has c h None e k = k
 
+  joined_has : (w : Bool) (l r : Tree Place) → P l → P r → P (connected w l r)
+  joined_has w l r h k = connected_kept P l r h k w (i.of_binary And l r h k) (i.of_binary Or l r h k)
+
+  intervals_have : (c : Place) → P (column c) → (is : List Interval) → AllByRecursion P (map (interval_test c) is)
+  intervals_have c h [] = tt
+  intervals_have c h (x ∷ xs) = (cuts_have c h x.low x.high, intervals_have c h xs)
+
   set_has : (c : Place) → P (column c) → (is : List Interval) → P (set_test c is)
   set_has c h [] = i.of_literal _
   set_has c h (x ∷ []) = cuts_have c h x.low x.high
   set_has c h (x ∷ y ∷ []) =
       hole_has c h (hole_by x.low x.high y.low y.high) (binary Or (between_cuts c x.low x.high) (between_cuts c y.low y.high))
       (i.of_binary Or (between_cuts c x.low x.high) (between_cuts c y.low y.high) (cuts_have c h x.low x.high) (cuts_have c h y.low y.high))
-  set_has c h (x ∷ y ∷ z ∷ xs) = i.of_binary Or (between_cuts c x.low x.high) (set_test c (y ∷ z ∷ xs)) (cuts_have c h x.low x.high) (set_has c h (y ∷ z ∷ xs))
+  set_has c h (x ∷ y ∷ z ∷ xs) = balanced_has P false (joined_has false) (map (interval_test c) (x ∷ y ∷ z ∷ xs)) (i.of_literal _) (intervals_have c h (x ∷ y ∷ z ∷ xs))
 
   null_if : (c : Place) → P (column c) → (is : List Interval) (b : Bool) → P (if b then bool_literal true else binary Or (is_null (column c)) (set_test c is))
   null_if c h is true = i.of_literal _
@@ -76,15 +86,15 @@ module _ (P : Tree Place → Type 0) (i : IsInherited P) (d : IsPassedDown P) wh
   item_has w (inside c m iss) h = values_have c h m (combined w iss)
   item_has w (other e) h = h
 
-  joined_has : (w : Bool) (l r : Tree Place) → P l → P r → P (connected w l r)
-  joined_has w l r h k = connected_kept P l r h k w (i.of_binary And l r h k) (i.of_binary Or l r h k)
+  tests_have : (w : Bool) (xs : List Item) → Have xs → AllByRecursion P (map (item_test w) xs)
+  tests_have w [] h = tt
+  tests_have w (x ∷ xs) h = (item_has w x h.0, tests_have w xs h.1)
 
-  pub all_have : (w : Bool) (xs : List Item) (e : Tree Place) → Have xs → P e → P (joined_test w xs e)
-  all_have w [] e h k = k
-  all_have w (x ∷ xs) e h k = joined_has w (item_test w x) (joined_test w xs e) (item_has w x h.0) (all_have w xs e h.1 k)
-
-  items_have : (w : Bool) (xs : List Item) → Have xs → P (items_test w xs)
-  items_have w xs h = all_have w xs (bool_literal w) h (i.of_literal _)
+  pub items_have : (w : Bool) (xs : List Item) → Have xs → P (items_test w xs)
+  items_have w xs h =
+      joined_has w (balanced w (map (item_test w) xs)) (bool_literal w)
+      (balanced_has P w (joined_has w) (map (item_test w) xs) (i.of_literal _) (tests_have w xs h))
+      (i.of_literal _)
 
   compared_has : (o : Operator) (c : Place) (v : Option ScalarValue) (e : Tree Place) → P (column c) → P e → Has (compared_item o c v e)
   compared_has And c v e h k = k

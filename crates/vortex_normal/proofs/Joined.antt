@@ -1,5 +1,5 @@
 -- The normal form of a joining of predicates over different columns is one that bounds decide.
-use Rattle.std.proofs.Common.{◌≡◌, ⊎_elim, inl, inr, ℕ, Bool, true, false, not as not_b, ◌||◌, List, [], ◌∷◌, ◌++◌, None, refl, sym, ap, ap₂, ◌∙◌, subst, arith, if◌then◌else◌}
+use Rattle.std.proofs.Common.{◌≡◌, ⊎_elim, inl, inr, ℕ, Bool, true, false, not as not_b, ◌||◌, List, [], ◌∷◌, ◌++◌, None, map, refl, sym, ap, ap₂, ◌∙◌, subst, arith, if◌then◌else◌}
 use Rattle.std.specs.Prelude.{IsTrue, ◌==◌}
 use mathlib.Core.List.{append_assoc, append-nil}
 use Rattle.std.specs.List.{AllByRecursion}
@@ -12,18 +12,20 @@ use Rattle.vortex_rewrite.proofs.Completeness.Choices.{all_map}
 use Rattle.vortex_rewrite.proofs.Soundness.TruthLogic.{clash, refuted}
 use Rattle.vortex_rewrite.specs.Rewriting.Falsifiers.{bool_literal}
 use Rattle.vortex_rewrite.specs.Rewriting.Predicates.{is_predicate}
-use Rattle.vortex_rewrite.specs.Rewriting.ReadOnce.{are_apart, are_sides_apart, columns_of, has_index, is_apart, is_simple}
-use Rattle.vortex_normal.specs.Groups.{Item, inside, other, add, add_sets, as_one, collected, grouped, is_of, item_test, items_test, joined_test, leaf_item, lone_item, widened}
+use Rattle.vortex_rewrite.specs.Rewriting.ReadOnce.{are_apart, columns_of, has_index, is_apart}
+use Rattle.vortex_normal.specs.Balanced.{balanced}
+use Rattle.vortex_normal.specs.Groups.{Item, inside, other, add, add_sets, as_one, collected, grouped, is_of, item_test, items_test, leaf_item, lone_item, widened}
 use Rattle.vortex_normal.specs.Intervals.{Interval}
 use Rattle.vortex_normal.specs.OneColumn.{IsJoining, IsOneOf, IsSelective, JoiningsAreApart, OneColumnIsApart, are_ends_seen, is_over}
-use Rattle.vortex_normal.specs.Pushed.{all_of, any_of, connected, decided, pushed}
+use Rattle.vortex_normal.specs.Pushed.{all_of, connected, decided, pushed}
+use Rattle.vortex_normal.proofs.Pairs.{balanced_has}
 use Rattle.vortex_normal.proofs.Columns.{all_indexed, each_column, eqb_same, no_placeholder, plain_columns, same_place, weaker}
-use Rattle.vortex_normal.proofs.Forms.{all_by_kept, any_by_kept}
-use Rattle.vortex_normal.proofs.GroupsKept.{Has, Have, all_have, as_one_has, collected_have, columns_down, item_has, leaf_has}
+use Rattle.vortex_normal.proofs.GroupsKept.{Has, Have, as_one_has, collected_have, columns_down, item_has, leaf_has}
 use Rattle.vortex_normal.proofs.Kept.{Holds, columns_inherited, columns_kept}
 use Rattle.vortex_normal.proofs.OneColumn.{is_chain, pushed_over, undecided}
-use Rattle.vortex_normal.proofs.OneColumnApart.{chain_apart, or_apart}
+use Rattle.vortex_normal.proofs.OneColumnApart.{chain_apart, either_apart}
 use Rattle.vortex_normal.proofs.Steps.{negated_predicate, operand, sides}
+use Rattle.vortex_normal.proofs.TestsApart.{AreApart, IsApartFrom, all_apart}
 use Rattle.vortex_normal.proofs.Truths.{IsTruthOr, connected_truth_or}
 
 -- ---- columns in a list, and columns apart from it
@@ -83,9 +85,6 @@ module _ (test : Place → Bool) where
 
   pass_collected : (w : Bool) (e : Tree Place) (xs : List Item) → all_columns test e ≡ true → Pass xs → Pass (collected w e xs)
   pass_collected w e xs h k = collected_have (Holds test) (columns_inherited test) (columns_down test) w e xs h k
-
-  pass_joined : (w : Bool) (xs : List Item) → Pass xs → all_columns test (joined_test w xs (bool_literal w)) ≡ true
-  pass_joined w xs h = all_have (Holds test) (columns_inherited test) (columns_down test) w xs (bool_literal w) h refl
 
   pass_append : (xs ys : List Item) → Pass xs → Pass ys → Pass (xs ++ ys)
   pass_append [] ys h k = k
@@ -169,31 +168,25 @@ module _ (ds : List Place) where
   decided_append w [] ys h k p q = k
   decided_append w (x ∷ xs) ys h k p q = (h.0, (apart_append w x xs ys p.0 h.1.0 q, decided_append w xs ys h.1.1 k p.1 q))
 
-and_apart : (l r : Tree Place) → is_apart l ≡ true → is_apart r ≡ true → are_apart (columns_of l) (columns_of r) ≡ true → is_apart (binary And l r) ≡ true
-and_apart l r h k a =
-    let p = and_parts (is_simple l) (are_sides_apart l) h in
-    let q = and_parts (is_simple r) (are_sides_apart r) k in
-    both_hold _ _ (both_hold _ _ p.0 q.0) (both_hold _ _ a (both_hold _ _ p.1 q.1))
+from_tests : (cs : List Place) (xs : List Item) → Pass (avoids cs) xs → AllByRecursion (IsApartFrom cs) (map (item_test true) xs)
+from_tests cs [] h = tt
+from_tests cs (x ∷ xs) h =
+    let test = item_test true x in
+    (apart_of cs (columns_of test) (each_column (avoids cs) test (passes_test (avoids cs) true x h.0)), from_tests cs xs h.1)
 
-more_apart : (w : Bool) (x : Item) (xs : List Item) → is_apart (item_test w x) ≡ true → AreApartFrom w x xs → is_apart (joined_test w xs (bool_literal w)) ≡ true → is_apart (connected w (item_test w x) (joined_test w xs (bool_literal w))) ≡ true
-unfolding all_of any_of
-more_apart true x xs h a k =
-    let l = item_test true x in
-    let r = joined_test true xs (bool_literal true) in
-    let apart = apart_of (columns_of l) (columns_of r) (each_column (avoids (columns_of l)) r (pass_joined (avoids (columns_of l)) true xs a)) in
-    all_by_kept (λ e. is_apart e ≡ true) l r h k (decided l) (decided r) (and_apart l r h k apart)
-more_apart false x xs h a k =
-    let l = item_test false x in
-    let r = joined_test false xs (bool_literal false) in
-    any_by_kept (λ e. is_apart e ≡ true) l r h k (decided l) (decided r) (or_apart l r h k)
+tests_apart : (xs : List Item) → AreDecided true xs → AreApart (map (item_test true) xs)
+tests_apart [] h = tt
+tests_apart (x ∷ xs) h = (h.0, (from_tests (columns_of (item_test true x)) xs h.1.0, tests_apart xs h.1.1))
 
-truth_apart : (w : Bool) → is_apart (bool_literal w) ≡ true
-truth_apart true = refl
-truth_apart false = refl
+either_tests : (xs : List Item) → AreDecided false xs → AllByRecursion (λ e. is_apart e ≡ true) (map (item_test false) xs)
+either_tests [] h = tt
+either_tests (x ∷ xs) h = (h.0, either_tests xs h.1.1)
 
 items_apart : (w : Bool) (xs : List Item) → AreDecided w xs → is_apart (items_test w xs) ≡ true
-items_apart w [] h = truth_apart w
-items_apart w (x ∷ xs) h = more_apart w x xs h.0 h.1.0 (items_apart w xs h.1.1)
+items_apart true xs h = all_apart (map (item_test true) xs) (tests_apart xs h)
+items_apart false xs h =
+    let tests = map (item_test false) xs in
+    either_apart (balanced false tests) (bool_literal false) (balanced_has (λ e. is_apart e ≡ true) false either_apart tests refl (either_tests xs h)) refl
 
 lone_apart : (v w : Bool) (x : Item) → is_apart (item_test w x) ≡ true → is_apart (item_test v (lone_item w x)) ≡ true
 lone_apart v w (inside c m iss) h = h
@@ -300,8 +293,12 @@ unfolding all_of
 grouped_truth true = refl
 grouped_truth false = refl
 
+truth_apart : (e : Tree Place) → (b : Bool) × (e ≡ bool_literal b) → is_apart (grouped e) ≡ true
+truth_apart e b = subst (λ x. is_apart (grouped x) ≡ true) (sym b.1) (grouped_truth b.0)
+
 settled_apart : (e : Tree Place) → IsSettled e → is_apart (grouped e) ≡ true
-settled_apart e h = ⊎_elim (λ b. ap (λ x. is_apart (grouped x)) b.1 ∙ grouped_truth b.0) (λ k. items_apart true (collected true e []) (k.1 true)) h
+settled_apart e (inl b) = truth_apart e b
+settled_apart e (inr k) = items_apart true (collected true e []) (k.1 true)
 
 pub joinings_are_apart : JoiningsAreApart
 joinings_are_apart p predicate plain j = settled_apart (pushed true p) (joining_settled true p predicate (no_placeholder p plain) j)

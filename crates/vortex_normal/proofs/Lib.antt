@@ -1,6 +1,7 @@
 mod Adding
 mod Chained
 pub mod Columns
+mod Depth
 mod Fits
 mod Folded
 mod Forms
@@ -12,11 +13,13 @@ mod Matched
 mod OneColumn
 mod OneColumnApart
 mod OneColumnRows
+mod Pairs
 mod Readings
 mod SetRows
 mod Sets
 mod Sorting
 mod Steps
+mod TestsApart
 mod Texts
 mod Told
 mod Truths

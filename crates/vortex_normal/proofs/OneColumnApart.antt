@@ -1,5 +1,5 @@
 -- What a selective predicate says of one column is one set, which bounds decide.
-use Rattle.std.proofs.Common.{◌≡◌, ℕ, zero, suc, Bool, true, false, not as not_b, ◌&&◌, ◌||◌, List, [], ◌∷◌, Option, Some, None, refl, sym, ap, ◌∙◌, subst, if◌then◌else◌}
+use Rattle.std.proofs.Common.{◌≡◌, ℕ, zero, suc, Bool, true, false, not as not_b, ◌&&◌, ◌||◌, List, [], ◌∷◌, Option, Some, None, map, refl, sym, ap, ◌∙◌, subst, if◌then◌else◌}
 use Rattle.std.proofs.Common.{lit<}
 use Rattle.std.specs.Prelude.{slice_get}
 use Rattle.std.specs.List.{AllByRecursion}
@@ -26,11 +26,14 @@ use Rattle.vortex_rewrite.proofs.Soundness.TruthLogic.{clash}
 use Rattle.vortex_rewrite.specs.Rewriting.Falsifiers.{bool_literal}
 use Rattle.vortex_rewrite.specs.Rewriting.Predicates.{is_predicate}
 use Rattle.vortex_rewrite.specs.Rewriting.ReadOnce.{are_sides_apart, columns_of, has_closed_end, is_apart, is_number_type, is_simple}
+use Rattle.vortex_normal.specs.Balanced.{balanced}
 use Rattle.vortex_normal.specs.Groups.{inside, collected, items_test, normal}
-use Rattle.vortex_normal.specs.Intervals.{Cut, Lowest, Before, After, Highest, Interval, all_but, at_most, between_cuts, combined, contains, cuts_all, in_set, literal_as, hole_by, only_hole, range_of, set_test}
+use Rattle.vortex_normal.specs.Intervals.{Cut, Lowest, Before, After, Highest, Interval, all_but, at_most, between_cuts, combined, contains, cuts_all, in_set, interval_test, literal_as, hole_by, only_hole, range_of, set_test}
 use Rattle.vortex_normal.specs.OneColumn.{IsSelective, are_ends_seen, is_constant, is_open_range, is_operand_over, is_over}
-use Rattle.vortex_normal.specs.Pushed.{all_by, all_of, as_comparisons, connected, decided, is_literal, pushed}
+use Rattle.vortex_normal.specs.Pushed.{all_by, all_of, any_by, any_of, as_comparisons, connected, decided, is_literal, pushed}
+use Rattle.vortex_normal.proofs.Pairs.{balanced_has, balanced_value, values_joined}
 use Rattle.vortex_normal.proofs.Folded.{no_columns}
+use Rattle.vortex_normal.proofs.Forms.{any_by_kept}
 use Rattle.vortex_normal.proofs.Grouped.{all_told, collected_told, full_cuts, is_among, joined_unit}
 use Rattle.vortex_normal.proofs.Columns.{same_place}
 use Rattle.vortex_normal.proofs.Matched.{literal_pattern}
@@ -108,6 +111,56 @@ or_apart l r h k =
     let b = and_parts (is_simple r) (are_sides_apart r) k in
     both_hold _ _ (both_hold _ _ a.0 b.0) (both_hold _ _ a.1 b.1)
 
+pub either_apart : (l r : Tree Place) → is_apart l ≡ true → is_apart r ≡ true → is_apart (connected false l r) ≡ true
+unfolding any_of
+either_apart l r h k = any_by_kept (λ e. is_apart e ≡ true) l r h k (decided l) (decided r) (or_apart l r h k)
+
+-- ---- predicates that are no literal truth, of which an OR loses none
+
+abbrev IsUntrue : Tree Place → Type 0
+IsUntrue e = decided e ≡ Some true → ⊥
+
+false_untrue : IsUntrue (bool_literal false)
+false_untrue e = cc
+
+either_untrue : (l r : Tree Place) → IsUntrue l → IsUntrue r → IsUntrue (connected false l r)
+unfolding any_of
+either_untrue l r h k = any_by_kept IsUntrue l r h k (decided l) (decided r) (λ e. none-some true e)
+
+or_assoc : (a b c : Bool) → ((a || b) || c) ≡ (a || (b || c))
+or_assoc true b c = refl
+or_assoc false b c = refl
+
+or_none : (a : Bool) → (a || false) ≡ a
+or_none true = refl
+or_none false = refl
+
+-- a literal has no range
+literal_closed : (e : Tree Place) (b : Bool) → decided e ≡ Some b → some_node is_open_range e ≡ false
+literal_closed (literal k) b e = refl
+literal_closed (column d) b e = refl
+literal_closed (binary o x y) b e = absurd (none-some b e)
+literal_closed (between o x y u) b e = absurd (none-some b e)
+literal_closed (is_null x) b e = absurd (none-some b e)
+literal_closed (is_not_null x) b e = absurd (none-some b e)
+literal_closed (not x) b e = absurd (none-some b e)
+literal_closed (like o x q) b e = absurd (none-some b e)
+literal_closed (stat f x) b e = absurd (none-some b e)
+literal_closed row_count b e = refl
+
+-- so an OR of them has a range that is open at both ends if either has
+open_by : (l r : Tree Place) (a b : Option Bool) → decided l ≡ a → decided r ≡ b → IsUntrue l → IsUntrue r
+    → some_node is_open_range (any_by a b l r) ≡ (some_node is_open_range l || some_node is_open_range r)
+open_by l r (Some true) b e f h k = absurd (h e)
+open_by l r (Some false) b e f h k = ap (λ x. x || some_node is_open_range r) (sym (literal_closed l false e))
+open_by l r None (Some true) e f h k = absurd (k f)
+open_by l r None (Some false) e f h k = sym (ap (λ x. some_node is_open_range l || x) (literal_closed r false f) ∙ or_none (some_node is_open_range l))
+open_by l r None None e f h k = refl
+
+either_open : (l r : Tree Place) → IsUntrue l → IsUntrue r → some_node is_open_range (connected false l r) ≡ (some_node is_open_range l || some_node is_open_range r)
+unfolding any_of
+either_open l r h k = open_by l r (decided l) (decided r) refl refl h k
+
 module _ (c : Place) where
   -- bounds decide the values between the cuts
   abbrev is_decided : Cut → Cut → Bool
@@ -146,6 +199,12 @@ module _ (c : Place) where
   hole_apart (Some v) e h = refl
   hole_apart None e h = h
 
+  intervals_apart : (is : List Interval) → are_decided is ≡ true → AllByRecursion (λ e. is_apart e ≡ true) (map (interval_test c) is)
+  intervals_apart [] h = tt
+  intervals_apart (i ∷ is) h =
+      let k = and_parts (is_decided i.low i.high) (are_decided is) h in
+      (cuts_apart i.low i.high k.0, intervals_apart is k.1)
+
   set_apart : (is : List Interval) → are_decided is ≡ true → is_apart (set_test c is) ≡ true
   set_apart [] h = refl
   set_apart (i ∷ []) h = cuts_apart i.low i.high (and_parts (is_decided i.low i.high) true h).0
@@ -153,9 +212,7 @@ module _ (c : Place) where
       let k = and_parts (is_decided i.low i.high) (are_decided (j ∷ [])) h in
       hole_apart (only_hole i j) (binary Or (between_cuts c i.low i.high) (between_cuts c j.low j.high))
       (or_apart (between_cuts c i.low i.high) (between_cuts c j.low j.high) (cuts_apart i.low i.high k.0) (cuts_apart j.low j.high (and_parts (is_decided j.low j.high) true k.1).0))
-  set_apart (i ∷ j ∷ m ∷ is) h =
-      let k = and_parts (is_decided i.low i.high) (are_decided (j ∷ m ∷ is)) h in
-      or_apart (between_cuts c i.low i.high) (set_test c (j ∷ m ∷ is)) (cuts_apart i.low i.high k.0) (set_apart (j ∷ m ∷ is) k.1)
+  set_apart (i ∷ j ∷ m ∷ is) h = balanced_has (λ e. is_apart e ≡ true) false either_apart (map (interval_test c) (i ∷ j ∷ m ∷ is)) refl (intervals_apart (i ∷ j ∷ m ∷ is) h)
 
   -- a set that leaves out a value has no interval of all values
   not_all : (l u : Cut) (v : ScalarValue) (i : Interval) → i.low ≡ l → i.high ≡ u → contains i v ≡ false → (b : Bool) → cuts_all i.low i.high ≡ b → b ≡ false
@@ -193,15 +250,52 @@ module _ (c : Place) where
       let w = or_parts (some_node is_open_range (between_cuts c l u)) (some_node is_open_range (between_cuts c k v)) h in
       (cuts_closed l u w.0, cuts_closed k v w.1)
 
+  closed_untrue : (l u : ScalarValue) (b : Bool) → IsUntrue (if b then binary Eq (column c) (literal_as c l) else range_of c (record { lower_strict = NonStrict; upper_strict = NonStrict }) l u)
+  closed_untrue l u true = λ e. none-some true e
+  closed_untrue l u false = λ e. none-some true e
+
+  cuts_untrue : (l u : Cut) → IsUntrue (between_cuts c l u)
+  cuts_untrue Lowest Highest = λ e. none-some true e
+  cuts_untrue Lowest (Before u) = λ e. none-some true e
+  cuts_untrue Lowest (After u) = λ e. none-some true e
+  cuts_untrue (Before l) Highest = λ e. none-some true e
+  cuts_untrue (After l) Highest = λ e. none-some true e
+  cuts_untrue (Before l) (Before u) = λ e. none-some true e
+  cuts_untrue (Before l) (After u) = closed_untrue l u (at_most u l && at_most l u)
+  cuts_untrue (After l) (Before u) = λ e. none-some true e
+  cuts_untrue (After l) (After u) = λ e. none-some true e
+  cuts_untrue Lowest Lowest = false_untrue
+  cuts_untrue (Before l) Lowest = false_untrue
+  cuts_untrue (After l) Lowest = false_untrue
+  cuts_untrue Highest Lowest = false_untrue
+  cuts_untrue Highest (Before u) = false_untrue
+  cuts_untrue Highest (After u) = false_untrue
+  cuts_untrue Highest Highest = false_untrue
+
+  intervals_untrue : (is : List Interval) → AllByRecursion IsUntrue (map (interval_test c) is)
+  intervals_untrue [] = tt
+  intervals_untrue (i ∷ is) = (cuts_untrue i.low i.high, intervals_untrue is)
+
+  abbrev tests_open : List Interval → Bool
+  tests_open is = values_joined (some_node is_open_range) ◌||◌ false (map (interval_test c) is)
+
+  intervals_open : (is : List Interval) → some_node is_open_range (balanced false (map (interval_test c) is)) ≡ tests_open is
+  intervals_open is =
+      balanced_value IsUntrue false either_untrue (some_node is_open_range) ◌||◌ false or_assoc or_none either_open (map (interval_test c) is) refl (intervals_untrue is)
+
+  none_of_tests : (is : List Interval) → tests_open is ≡ false → none_open is ≡ true
+  none_of_tests [] h = refl
+  none_of_tests (i ∷ is) h =
+      let k = or_parts (some_node is_open_range (between_cuts c i.low i.high)) (tests_open is) h in
+      both_hold _ _ (ap not_b (cuts_closed i.low i.high k.0)) (none_of_tests is k.1)
+
   set_closed : (is : List Interval) → some_node is_open_range (set_test c is) ≡ false → none_open is ≡ true
   set_closed [] h = refl
   set_closed (i ∷ []) h = both_hold _ _ (ap not_b (cuts_closed i.low i.high h)) refl
   set_closed (i ∷ j ∷ []) h =
       let k = two_closed i.low i.high j.low j.high h in
       both_hold _ _ (ap not_b k.0) (both_hold _ _ (ap not_b k.1) refl)
-  set_closed (i ∷ j ∷ m ∷ is) h =
-      let k = or_parts (some_node is_open_range (between_cuts c i.low i.high)) (some_node is_open_range (set_test c (j ∷ m ∷ is))) h in
-      both_hold _ _ (ap not_b (cuts_closed i.low i.high k.0)) (set_closed (j ∷ m ∷ is) k.1)
+  set_closed (i ∷ j ∷ m ∷ is) h = none_of_tests (i ∷ j ∷ m ∷ is) (sym (intervals_open (i ∷ j ∷ m ∷ is)) ∙ h)
 
   closed_decided : (v : ScalarValue) (is : List Interval) → none_open is ≡ true → in_set is v ≡ false → are_decided is ≡ true
   closed_decided v [] n h = refl

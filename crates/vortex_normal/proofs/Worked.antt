@@ -1,8 +1,9 @@
 -- Worked rows, found by computation alone.
-use Rattle.std.proofs.Common.{refl}
+use Rattle.std.proofs.Common.{◌≡◌, Bool, true, false, refl}
 use Rattle.std.specs.Str.{chars}
+use Rattle.vortex_normal.specs.Balanced.{balanced, depth}
 use Rattle.vortex_normal.specs.Pushed.{all_of, any_of, comparison, comparison_of, folded, liked, settled}
-use Rattle.vortex_normal.specs.Worked.{FormExamples}
+use Rattle.vortex_normal.specs.Worked.{BalancedExamples, FormExamples, five_links}
 
 pub form_examples : FormExamples
 unfolding all_of any_of comparison comparison_of folded liked settled chars lib.Utf8.encode
@@ -65,4 +66,55 @@ form_examples = record {
   any_case = refl;
   before_surrogates = refl;
   last_of_all = refl;
+}
+
+five_deep : (w : Bool) → depth (balanced w five_links) ≡ 3
+unfolding all_of any_of
+five_deep true = refl
+five_deep false = refl
+
+pub balanced_examples : BalancedExamples
+unfolding all_of any_of comparison comparison_of folded liked settled chars lib.Utf8.encode
+balanced_examples = record {
+  none_paired = λ w. refl;
+  one_paired = λ w. refl;
+  two_paired_by_and = refl;
+  two_paired_by_or = refl;
+  three_paired_by_and = refl;
+  three_paired_by_or = refl;
+  four_paired_by_and = refl;
+  four_paired_by_or = refl;
+  five_paired_by_and = refl;
+  five_paired_by_or = refl;
+  none_joined = λ w. refl;
+  one_joined = λ w. refl;
+  two_joined_by_and = refl;
+  two_joined_by_or = refl;
+  three_joined_by_and = refl;
+  three_joined_by_or = refl;
+  four_joined_by_and = refl;
+  four_joined_by_or = refl;
+  five_joined_by_and = refl;
+  five_joined_by_or = refl;
+  truths_fall_away = refl;
+  untruth_decides = refl;
+  untruths_fall_away = refl;
+  truth_decides = refl;
+  one_turn = refl;
+  two_turns = refl;
+  first_of_none = refl;
+  first_of_two = refl;
+  depth_of_leaves = (refl, refl, refl);
+  depth_at_the_left = refl;
+  depth_at_the_right = refl;
+  depth_of_operand = refl;
+  depth_of_lower_end = refl;
+  depth_of_upper_end = refl;
+  depth_of_text = refl;
+  depth_of_pattern = refl;
+  depth_of_statistic = refl;
+  depth_of_five = five_deep;
+  four_columns = refl;
+  three_tests = refl;
+  four_values = refl;
 }

@@ -11,6 +11,7 @@ use Rattle.vortex_base.specs.Data.Values.{is_value}
 use Rattle.vortex_rewrite.specs.Rewriting.Predicates.{is_predicate}
 use Rattle.vortex_normal.specs.declared.groups.Item.{Item as Kept}
 use Rattle.vortex_normal.specs.declared.groups.Item.TheVariants as kept
+use Rattle.vortex_normal.specs.Balanced.{balanced}
 use Rattle.vortex_normal.specs.Intervals.{Cut, Lowest, Before, After, Highest, Interval, combined, comparison_set, interval, place_at, set_of, swapped, values_test}
 use Rattle.vortex_normal.specs.Pushed.{connected, pushed}
 
@@ -23,14 +24,9 @@ abbrev pub item_test : (is_and : Bool) → Item → Tree Place
 item_test w (inside c n iss) = values_test c n (combined w iss)
 item_test w (other e) = e
 
--- the predicate that the items make up with one that is there, joined by AND or by OR
-abbrev pub joined_test : (is_and : Bool) → List Item → Tree Place → Tree Place
-joined_test w [] e = e
-joined_test w (i ∷ is) e = connected w (item_test w i) (joined_test w is e)
-
--- the predicate that the items make up
+-- the predicate that the items make up, joined by AND or by OR
 abbrev pub items_test : (is_and : Bool) → List Item → Tree Place
-items_test w is = joined_test w is (bool_literal w)
+items_test w is = connected w (balanced w (map (item_test w) is)) (bool_literal w)
 
 -- ---- items that fit
 

@@ -12,6 +12,7 @@ use Rattle.vortex_base.specs.declared.scalar_value.ScalarValue.{ScalarValue}
 use Rattle.vortex_base.specs.Data.Values.{value_cmp}
 use Rattle.vortex_base.specs.Trees.Tree.{Tree, Place, column, literal, binary, between, is_null, is_not_null}
 use Rattle.vortex_rewrite.specs.Rewriting.Falsifiers.{bool_literal}
+use Rattle.vortex_normal.specs.Balanced.{balanced}
 use Rattle.vortex_normal.specs.declared.interval.Cut.{Cut as LentCut}
 use Rattle.vortex_normal.specs.declared.interval.Cut.TheVariants as lent
 use Rattle.vortex_normal.specs.declared.interval.Interval.{Interval as LentInterval}
@@ -194,17 +195,17 @@ module _ (c : Place) where
   all_but (Some v) e = binary NotEq (column c) (literal_as v)
   all_but None e = e
 
-  abbrev pub either_test : Interval → Tree Place → Tree Place
-  either_test i e = binary Or (between_cuts i.low i.high) e
-
   abbrev pub two_test : (i j : Interval) → Tree Place
-  two_test i j = all_but (only_hole i j) (either_test i (between_cuts j.low j.high))
+  two_test i j = all_but (only_hole i j) (binary Or (between_cuts i.low i.high) (between_cuts j.low j.high))
+
+  abbrev pub interval_test : Interval → Tree Place
+  interval_test i = between_cuts i.low i.high
 
   abbrev pub set_test : List Interval → Tree Place
   set_test [] = bool_literal false
   set_test (i ∷ []) = between_cuts i.low i.high
   set_test (i ∷ j ∷ []) = two_test i j
-  set_test (i ∷ is) = either_test i (set_test is)
+  set_test (i ∷ j ∷ k ∷ is) = balanced false (map interval_test (i ∷ j ∷ k ∷ is))
 
   -- null, or a value in the set
   abbrev pub null_or : List Interval → Tree Place

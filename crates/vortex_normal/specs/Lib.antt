@@ -1,3 +1,4 @@
+pub mod Balanced
 pub mod Chains
 pub mod Groups
 pub mod Intervals

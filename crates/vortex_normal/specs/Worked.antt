@@ -1,5 +1,6 @@
 -- Worked normal forms.
 use Rattle.std.specs.Prelude.{◌≡◌, ℕ, Bool, false, true, not as not_b, List, [], ◌∷◌, Some, None, codes, encode_utf8_all}
+use Rattle.vortex_base.specs.declared.aggregate.AggregateFnRef.TheVariants as aggregate
 use Rattle.vortex_base.specs.declared.dtype.DType.{DType}
 use Rattle.vortex_base.specs.declared.dtype.DType.TheVariants as dtype
 use Rattle.vortex_base.specs.declared.types.PType.TheVariants.{U8}
@@ -10,8 +11,9 @@ use Rattle.vortex_base.specs.declared.types.Operator.{Operator}
 use Rattle.vortex_base.specs.declared.types.Operator.TheVariants.{Eq, NotEq, Gt, Gte, Lt, Lte, And, Or}
 use Rattle.vortex_base.specs.declared.types.BetweenOptions.{BetweenOptions}
 use Rattle.vortex_base.specs.declared.types.StrictComparison.TheVariants.{Strict, NonStrict}
-use Rattle.vortex_base.specs.Trees.Tree.{Tree, Place, column, literal, binary, between, is_null, is_not_null, not, like}
+use Rattle.vortex_base.specs.Trees.Tree.{Tree, Place, column, literal, binary, between, is_null, is_not_null, not, like, stat, row_count}
 use Rattle.vortex_rewrite.specs.Rewriting.Falsifiers.{bool_literal}
+use Rattle.vortex_normal.specs.Balanced.{balanced, depth, first_or, in_turns, paired}
 use Rattle.vortex_normal.specs.Groups.{normal}
 
 abbrev pub byte : DType
@@ -91,8 +93,8 @@ pub record FormExamples : Type 0 where
   pub open_ends : normal (binary Or (compare Lt a 5) (compare Gt a 5)) ≡ compare NotEq a 5
   pub touching : normal (binary Or (compare Lt a 5) (compare Eq a 5)) ≡ compare Lte a 5
   pub between_two : normal (binary And (compare Gte a 4) (compare Lte a 6)) ≡ range 4 6
-  pub in_order : normal (binary Or (binary Or (compare Eq a 7) (compare Eq a 3)) (compare Eq a 5)) ≡ binary Or (compare Eq a 3) (binary Or (compare Eq a 5) (compare Eq a 7))
-  pub holes : normal (binary And (binary And (compare NotEq a 7) (compare NotEq a 3)) (compare Gt a 1)) ≡ binary Or (open_range 1 3) (binary Or (open_range 3 7) (compare Gt a 7))
+  pub in_order : normal (binary Or (binary Or (compare Eq a 7) (compare Eq a 3)) (compare Eq a 5)) ≡ binary Or (binary Or (compare Eq a 3) (compare Eq a 5)) (compare Eq a 7)
+  pub holes : normal (binary And (binary And (compare NotEq a 7) (compare NotEq a 3)) (compare Gt a 1)) ≡ binary Or (binary Or (open_range 1 3) (open_range 3 7)) (compare Gt a 7)
   pub covered : normal (binary Or (binary Or (compare Eq a 4) (range 2 9)) (range 5 6)) ≡ range 2 9
   pub from_one_end : normal (binary Or (range 4 9) (range 4 6)) ≡ range 4 9
   pub some_touch : normal (binary Or (binary Or (compare Gt a 9) (range 4 6)) (range 7 9)) ≡ binary Or (range 4 6) (compare Gte a 7)
@@ -131,3 +133,68 @@ pub record FormExamples : Type 0 where
   pub any_case : normal (ignoring_case (codes "abc")) ≡ ignoring_case (codes "abc")
   pub before_surrogates : normal (like_of true (55295 ∷ 37 ∷ [])) ≡ like_of true (55295 ∷ 37 ∷ [])
   pub last_of_all : normal (like_of true (97 ∷ 1114111 ∷ 37 ∷ [])) ≡ like_of true (97 ∷ 1114111 ∷ 37 ∷ [])
+
+-- columns of truths, to join
+abbrev pub link : ℕ → Tree Place
+link n = column (record { index = n; dtype = dtype.Bool Nullable })
+
+abbrev pub two_links : List (Tree Place)
+two_links = link 0 ∷ link 1 ∷ []
+
+abbrev pub three_links : List (Tree Place)
+three_links = link 0 ∷ link 1 ∷ link 2 ∷ []
+
+abbrev pub four_links : List (Tree Place)
+four_links = link 0 ∷ link 1 ∷ link 2 ∷ link 3 ∷ []
+
+abbrev pub five_links : List (Tree Place)
+five_links = link 0 ∷ link 1 ∷ link 2 ∷ link 3 ∷ link 4 ∷ []
+
+abbrev pub all : (l r : Tree Place) → Tree Place
+all l r = binary And l r
+
+abbrev pub any : (l r : Tree Place) → Tree Place
+any l r = binary Or l r
+
+pub record BalancedExamples : Type 0 where
+  pub none_paired : (w : Bool) → paired w [] ≡ []
+  pub one_paired : (w : Bool) → paired w (link 0 ∷ []) ≡ link 0 ∷ []
+  pub two_paired_by_and : paired true two_links ≡ all (link 0) (link 1) ∷ []
+  pub two_paired_by_or : paired false two_links ≡ any (link 0) (link 1) ∷ []
+  pub three_paired_by_and : paired true three_links ≡ all (link 0) (link 1) ∷ link 2 ∷ []
+  pub three_paired_by_or : paired false three_links ≡ any (link 0) (link 1) ∷ link 2 ∷ []
+  pub four_paired_by_and : paired true four_links ≡ all (link 0) (link 1) ∷ all (link 2) (link 3) ∷ []
+  pub four_paired_by_or : paired false four_links ≡ any (link 0) (link 1) ∷ any (link 2) (link 3) ∷ []
+  pub five_paired_by_and : paired true five_links ≡ all (link 0) (link 1) ∷ all (link 2) (link 3) ∷ link 4 ∷ []
+  pub five_paired_by_or : paired false five_links ≡ any (link 0) (link 1) ∷ any (link 2) (link 3) ∷ link 4 ∷ []
+  pub none_joined : (w : Bool) → balanced w [] ≡ bool_literal w
+  pub one_joined : (w : Bool) → balanced w (link 0 ∷ []) ≡ link 0
+  pub two_joined_by_and : balanced true two_links ≡ all (link 0) (link 1)
+  pub two_joined_by_or : balanced false two_links ≡ any (link 0) (link 1)
+  pub three_joined_by_and : balanced true three_links ≡ all (all (link 0) (link 1)) (link 2)
+  pub three_joined_by_or : balanced false three_links ≡ any (any (link 0) (link 1)) (link 2)
+  pub four_joined_by_and : balanced true four_links ≡ all (all (link 0) (link 1)) (all (link 2) (link 3))
+  pub four_joined_by_or : balanced false four_links ≡ any (any (link 0) (link 1)) (any (link 2) (link 3))
+  pub five_joined_by_and : balanced true five_links ≡ all (all (all (link 0) (link 1)) (all (link 2) (link 3))) (link 4)
+  pub five_joined_by_or : balanced false five_links ≡ any (any (any (link 0) (link 1)) (any (link 2) (link 3))) (link 4)
+  pub truths_fall_away : balanced true (link 0 ∷ bool_literal true ∷ link 1 ∷ []) ≡ all (link 0) (link 1)
+  pub untruth_decides : balanced true (link 0 ∷ link 1 ∷ bool_literal false ∷ []) ≡ bool_literal false
+  pub untruths_fall_away : balanced false (bool_literal false ∷ link 0 ∷ link 1 ∷ []) ≡ any (link 0) (link 1)
+  pub truth_decides : balanced false (link 0 ∷ link 1 ∷ bool_literal true ∷ []) ≡ bool_literal true
+  pub one_turn : in_turns 1 true five_links ≡ all (link 0) (link 1) ∷ all (link 2) (link 3) ∷ link 4 ∷ []
+  pub two_turns : in_turns 2 true five_links ≡ all (all (link 0) (link 1)) (all (link 2) (link 3)) ∷ link 4 ∷ []
+  pub first_of_none : first_or (link 0) [] ≡ link 0
+  pub first_of_two : first_or (link 2) two_links ≡ link 0
+  pub depth_of_leaves : (depth (link 0) ≡ 0) × (depth (byte_literal 1) ≡ 0) × (depth row_count ≡ 0)
+  pub depth_at_the_left : depth (all (not (link 0)) (link 1)) ≡ 2
+  pub depth_at_the_right : depth (all (link 0) (is_null (link 1))) ≡ 2
+  pub depth_of_operand : depth (between closed (not (link 0)) (link 1) (link 2)) ≡ 2
+  pub depth_of_lower_end : depth (between closed (link 0) (is_not_null (link 1)) (link 2)) ≡ 2
+  pub depth_of_upper_end : depth (between closed (link 0) (link 1) (not (link 2))) ≡ 2
+  pub depth_of_text : depth (like (record { negated = false; case_insensitive = false }) (not (link 0)) (link 1)) ≡ 2
+  pub depth_of_pattern : depth (like (record { negated = false; case_insensitive = false }) (link 0) (not (link 1))) ≡ 2
+  pub depth_of_statistic : depth (stat aggregate.Max (not (link 0))) ≡ 2
+  pub depth_of_five : (w : Bool) → depth (balanced w five_links) ≡ 3
+  pub four_columns : normal (all (all (compare Gt a 1) (compare Gt b 2)) (all c (like_of true (codes "ab_")))) ≡ all (all (compare Gt a 1) (compare Gt b 2)) (all (binary Eq c (truth_literal true)) (like_of true (codes "ab_")))
+  pub three_tests : normal (any (any (compare Gt a 1) (compare Gt b 2)) (like_of true (codes "ab_"))) ≡ any (any (compare Gt a 1) (compare Gt b 2)) (like_of true (codes "ab_"))
+  pub four_values : normal (any (any (compare Eq a 7) (compare Eq a 1)) (any (compare Eq a 5) (compare Eq a 3))) ≡ any (any (compare Eq a 1) (compare Eq a 3)) (any (compare Eq a 5) (compare Eq a 7))

@@ -8,6 +8,7 @@ ghost use Rattle.vortex_normal.specs.Intervals.{interval_of, place_at, set_of};
 ghost use Rattle.vortex_normal.specs.declared.groups.Item.TheVariants as kept;
 ghost use Rattle.vortex_normal.specs.Groups.{item_fits, item_of, items_fit};
 
+use crate::balanced::balanced;
 use crate::interval::{Cut, Interval, combined, comparison_set, one, swapped};
 use crate::leaves::connected;
 use crate::predicate::Predicate;
@@ -66,23 +67,22 @@ fn item_test(alloc: Global, is_and: bool, item: Item<'_>) -> Result<Predicate, S
     }
 }
 
-// The predicate that items make up with one that is there, joined by AND or by OR.
-fn joined_test(
+// The predicates that items are.
+fn item_tests(
     alloc: Global,
     is_and: bool,
     items: Vec<Item<'_>>,
-    made: Predicate,
-) -> Result<Predicate, StatsError>
+) -> Result<Vec<Predicate>, StatsError>
     requires { IsTrue (items_fit (map item_of items.items)) }
-    ensures { Makes (spec.joined_test is_and (map item_of items.entry.items) made) result }
+    ensures { OkOrMemory result (λ tests. tests.items
+        ≡ map (spec.item_test is_and) (map item_of items.entry.items)) }
 {
-    let mut made = made;
-    let mut left = items;
-    while let Some(last) = left.pop() {
-        let test = item_test(alloc, is_and, last)?;
-        made = connected(alloc, is_and, test, made)?;
+    let mut tests = Vec::new(alloc);
+    for item in items {
+        let test = item_test(alloc, is_and, item)?;
+        tests.push(test)?;
     }
-    Ok(made)
+    Ok(tests)
 }
 
 // The predicate that items make up, joined by AND or by OR.
@@ -90,8 +90,10 @@ fn items_test(alloc: Global, is_and: bool, items: Vec<Item<'_>>) -> Result<Predi
     requires { IsTrue (items_fit (map item_of items.items)) }
     ensures { Makes (spec.items_test is_and (map item_of items.entry.items)) result }
 {
-    let made = Predicate::truth(alloc, is_and)?;
-    joined_test(alloc, is_and, items, made)
+    let tests = item_tests(alloc, is_and, items)?;
+    let joined = balanced(alloc, is_and, tests)?;
+    let truth = Predicate::truth(alloc, is_and)?;
+    connected(alloc, is_and, joined, truth)
 }
 
 fn other<'a>(e: &BoundExpression) -> Result<Item<'a>, StatsError>

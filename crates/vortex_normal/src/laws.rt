@@ -1,7 +1,7 @@
 //! Laws of normal forms.
-ghost use Rattle.vortex_normal.specs.Laws.{GroupsAreSame};
+ghost use Rattle.vortex_normal.specs.Laws.{ChainsAreShallow, GroupsAreSame, SetsAreShallow};
 ghost use Rattle.vortex_normal.specs.OneColumn.{JoiningsAreApart, OneColumnIsApart};
-ghost use Rattle.vortex_normal.specs.Worked.{FormExamples};
+ghost use Rattle.vortex_normal.specs.Worked.{BalancedExamples, FormExamples};
 
 /// What is said of one column in one place is satisfied by the same rows.
 pub fn groups_are_same()
@@ -21,7 +21,23 @@ pub fn joinings_are_apart()
     ensures { JoiningsAreApart }
 {}
 
+/// A chain is deeper than its items by no more than the logarithm of their number.
+pub fn chains_are_shallow()
+    ensures { ChainsAreShallow }
+{}
+
+/// The test of a set is deeper than a comparison by no more than the logarithm of the number of its
+/// intervals.
+pub fn sets_are_shallow()
+    ensures { SetsAreShallow }
+{}
+
 /// Worked normal forms.
 pub fn examples_hold()
     ensures { FormExamples }
+{}
+
+/// Worked joinings two by two, and depths.
+pub fn balanced_examples_hold()
+    ensures { BalancedExamples }
 {}

@@ -1,6 +1,7 @@
 //! Predicates in a normal form that is satisfied by the same rows, and that the rules see through.
 #![tactic(auto)]
 
+mod balanced;
 mod groups;
 mod interval;
 pub mod laws;

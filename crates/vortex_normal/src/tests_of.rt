@@ -2,12 +2,13 @@
 ghost use Rattle.std.specs.Prelude.{◌≡◌, IsTrue, Some, false, map, option_map};
 ghost use Rattle.vortex_base.specs.Trees.Tree as tree;
 ghost use Rattle.vortex_base.specs.Data.Values.{is_value};
-ghost use Rattle.vortex_rewrite.specs.Answers.{Makes};
+ghost use Rattle.vortex_rewrite.specs.Answers.{Makes, OkOrMemory};
 ghost use Rattle.vortex_rewrite.specs.Rewriting.Predicates.{is_connective};
 ghost use Rattle.vortex_normal.specs.Intervals as spec;
 ghost use Rattle.vortex_normal.specs.Intervals.{cut_of, interval_of};
 ghost use Rattle.vortex_normal.specs.Groups.{cut_fits, interval_fits, set_fits};
 
+use crate::balanced::balanced;
 use crate::interval::{Cut, Interval, is_at_most};
 use crate::predicate::Predicate;
 use std::alloc::Global;
@@ -154,22 +155,6 @@ fn only_hole<'a>(first: &Interval<'a>, second: &Interval<'a>) -> Option<&'a Scal
     }
 }
 
-// Whether a column's value is in either of two intervals.
-fn either_test(
-    alloc: Global,
-    place: usize,
-    dtype: DType,
-    first: &Interval<'_>,
-    second: Predicate,
-) -> Result<Predicate, StatsError>
-    requires { IsTrue (interval_fits dtype (interval_of first.now)) }
-    ensures { let column = spec.place_at place dtype in
-        Makes (spec.either_test column (interval_of first.now) second) result }
-{
-    let first = between_cuts(alloc, place, dtype, first.low, first.high)?;
-    Predicate::connect(alloc, Operator::Or, first, second)
-}
-
 // Whether a column's value is in one of two intervals.
 fn two_test(
     alloc: Global,
@@ -186,10 +171,30 @@ fn two_test(
     match only_hole(first, second) {
         Some(value) => compared(alloc, place, dtype, Operator::NotEq, value),
         None => {
-            let test = between_cuts(alloc, place, dtype, second.low, second.high)?;
-            either_test(alloc, place, dtype, first, test)
+            let first = between_cuts(alloc, place, dtype, first.low, first.high)?;
+            let second = between_cuts(alloc, place, dtype, second.low, second.high)?;
+            Predicate::connect(alloc, Operator::Or, first, second)
         }
     }
+}
+
+// Whether a column's value is in each of some intervals.
+fn interval_tests(
+    alloc: Global,
+    place: usize,
+    dtype: DType,
+    set: &[Interval<'_>],
+) -> Result<Vec<Predicate>, StatsError>
+    requires { IsTrue (set_fits dtype (map interval_of set.now)) }
+    ensures { let column = spec.place_at place dtype in OkOrMemory result (λ tests. tests.items
+        ≡ map (spec.interval_test column) (map interval_of set.now)) }
+{
+    let mut tests = Vec::new(alloc);
+    for interval in set {
+        let test = between_cuts(alloc, place, dtype, interval.low, interval.high)?;
+        tests.push(test)?;
+    }
+    Ok(tests)
 }
 
 // Whether a column's value is in a set.
@@ -207,9 +212,9 @@ fn set_test(
         [] => Predicate::truth(alloc, false),
         [only] => between_cuts(alloc, place, dtype, only.low, only.high),
         [first, second] => two_test(alloc, place, dtype, first, second),
-        [first, rest @ ..] => {
-            let rest = set_test(alloc, place, dtype, rest)?;
-            either_test(alloc, place, dtype, first, rest)
+        _ => {
+            let tests = interval_tests(alloc, place, dtype, set)?;
+            balanced(alloc, false, tests)
         }
     }
 }

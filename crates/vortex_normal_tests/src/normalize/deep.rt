@@ -109,22 +109,60 @@ fn points_downwards(alloc: Global) -> Built {
     Ok(chain)
 }
 
-// And as a normal form writes them: the least first, and then the others.
-fn points_in_order(alloc: Global) -> Built {
-    let greatest = LINKS.saturating_sub(1);
-    let mut values = a_eq(alloc, greatest)?;
-    for value in (0..greatest).rev() {
-        values = or(alloc, a_eq(alloc, value), Ok(values))?;
+// Neighbours joined by AND or by OR; the last of an odd number stays as it is.
+fn pairs(
+    alloc: Global,
+    is_and: bool,
+    tests: Vec<BoundExpression>,
+) -> Result<Vec<BoundExpression>, StatsError> {
+    let mut pairs = Vec::new(alloc);
+    let mut odd = None;
+    for test in tests {
+        odd = match odd {
+            None => Some(test),
+            Some(first) if is_and => {
+                pairs.push(and(alloc, Ok(first), Ok(test))?)?;
+                None
+            }
+            Some(first) => {
+                pairs.push(or(alloc, Ok(first), Ok(test))?)?;
+                None
+            }
+        };
     }
-    Ok(values)
+    if let Some(last) = odd {
+        pairs.push(last)?;
+    }
+    Ok(pairs)
+}
+
+// As many turns as join 2^17 predicates.
+fn balanced(alloc: Global, is_and: bool, tests: Vec<BoundExpression>) -> Built {
+    let mut left = tests;
+    for _ in 0..17 {
+        left = pairs(alloc, is_and, left)?;
+    }
+    match left.pop() {
+        Some(only) => Ok(only),
+        None => truth(alloc, is_and),
+    }
+}
+
+// Of as many values, the least first, as a normal form writes them.
+fn points_in_order(alloc: Global, count: i32) -> Built {
+    let mut values = Vec::new(alloc);
+    for value in 0..count {
+        values.push(a_eq(alloc, value)?)?;
+    }
+    balanced(alloc, false, values)
 }
 
 #[test]
 fn many_values_are_put_in_order(rt: HostRuntime) -> Result<(), Fail> {
     let alloc = rt.alloc();
-    let in_order = points_in_order(alloc);
+    let in_order = points_in_order(alloc, LINKS);
     expect(&rt, alloc, points_downwards(alloc), in_order)?;
-    let in_order = points_in_order(alloc);
+    let in_order = points_in_order(alloc, LINKS);
     expect(&rt, alloc, points(alloc), in_order)
 }
 
@@ -177,12 +215,55 @@ fn column_between(alloc: Global, place: usize) -> Built {
 #[test]
 fn many_columns(rt: HostRuntime) -> Result<(), Fail> {
     let alloc = rt.alloc();
-    let last = COLUMNS.saturating_sub(1);
-    let mut ranges = column_between(alloc, last)?;
-    for place in (0..last).rev() {
-        ranges = and(alloc, column_between(alloc, place), Ok(ranges))?;
+    let mut ranges = Vec::new(alloc);
+    for place in 0..COLUMNS {
+        ranges.push(column_between(alloc, place)?)?;
     }
-    expect(&rt, alloc, wide(alloc), Ok(ranges))
+    expect(&rt, alloc, wide(alloc), balanced(alloc, true, ranges))
+}
+
+// More than a stack could hold one below the other: 17 deep they are normalized as they stand.
+const LEAVES: i32 = 100_000;
+
+#[test]
+fn very_many_values(rt: HostRuntime) -> Result<(), Fail> {
+    let alloc = rt.alloc();
+    let in_order = points_in_order(alloc, LEAVES);
+    expect(&rt, alloc, points_in_order(alloc, LEAVES), in_order)
+}
+
+// All values but as many.
+fn very_many_holes(alloc: Global) -> Built {
+    let mut holes = Vec::new(alloc);
+    for value in 0..LEAVES {
+        holes.push(a_not_eq(alloc, value)?)?;
+    }
+    balanced(alloc, true, holes)
+}
+
+#[test]
+fn very_many_values_are_left_out(rt: HostRuntime) -> Result<(), Fail> {
+    let alloc = rt.alloc();
+    let found = normal(alloc, &very_many_holes(alloc)?)?;
+    assert!(rt; found.is_plain());
+    let none = and(alloc, very_many_holes(alloc), a_eq(alloc, 511));
+    expect(&rt, alloc, none, never(alloc))
+}
+
+// As many columns, each compared.
+fn very_wide(alloc: Global, is_and: bool) -> Built {
+    let mut columns = Vec::new(alloc);
+    for place in 0..LEAVES as usize {
+        columns.push(column_gt(alloc, place, 3)?)?;
+    }
+    balanced(alloc, is_and, columns)
+}
+
+#[test]
+fn very_many_columns(rt: HostRuntime) -> Result<(), Fail> {
+    let alloc = rt.alloc();
+    expect(&rt, alloc, very_wide(alloc, true), very_wide(alloc, true))?;
+    expect(&rt, alloc, very_wide(alloc, false), very_wide(alloc, false))
 }
 
 // An answer, or a refusal of memory.

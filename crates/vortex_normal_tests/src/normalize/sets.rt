@@ -44,8 +44,8 @@ fn ranges_in_order(rt: HostRuntime) -> Result<(), Fail> {
     let alloc = rt.alloc();
     let low = or(alloc, a_within(alloc, 4, 6), a_lt(alloc, 2));
     let chain = or(alloc, or(alloc, a_gt(alloc, 9), b_lt(alloc, 0)), low);
-    let above = or(alloc, a_within(alloc, 4, 6), a_gt(alloc, 9));
-    let in_order = or(alloc, a_lt(alloc, 2), above);
+    let below = or(alloc, a_lt(alloc, 2), a_within(alloc, 4, 6));
+    let in_order = or(alloc, below, a_gt(alloc, 9));
     expect(&rt, alloc, chain, or(alloc, in_order, b_lt(alloc, 0)))?;
     let covered = or(alloc, a_within(alloc, 1, 9), a_within(alloc, 3, 4));
     let chain = or(alloc, covered, a_within(alloc, 8, 12));
@@ -145,8 +145,8 @@ fn many_holes(rt: HostRuntime) -> Result<(), Fail> {
     let alloc = rt.alloc();
     let two = and(alloc, a_not_eq(alloc, 3), a_not_eq(alloc, 5));
     let between_them = between(alloc, a(alloc), num(alloc, 3), num(alloc, 5), OPEN);
-    let above = or(alloc, between_them, a_gt(alloc, 5));
-    expect(&rt, alloc, two, or(alloc, a_lt(alloc, 3), above))?;
+    let below = or(alloc, a_lt(alloc, 3), between_them);
+    expect(&rt, alloc, two, or(alloc, below, a_gt(alloc, 5)))?;
     let one = and(alloc, a_not_eq(alloc, 3), a_not_eq(alloc, 3));
     expect(&rt, alloc, one, a_not_eq(alloc, 3))
 }

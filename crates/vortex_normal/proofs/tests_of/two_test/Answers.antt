@@ -12,4 +12,7 @@ compared-requires-clause-value c =
     (sym c.only_hole.ensures ∙ ap (option_map (λ v. v.now)) c.in-Some.is)
 
 pub between_cuts-requires-clause-high : goal.between_cuts-requires-clause-high
-between_cuts-requires-clause-high c = (and_parts _ _ c.requires.second).1
+between_cuts-requires-clause-high c = (and_parts _ _ c.requires.first).1
+
+pub between_cuts-requires-in-None-clause-high : goal.between_cuts-requires-in-None-clause-high
+between_cuts-requires-in-None-clause-high c = (and_parts _ _ c.requires.second).1

@@ -1,0 +1,42 @@
+//! Predicates joined two by two.
+ghost use Rattle.std.specs.Prelude.{◌≡◌};
+ghost use Rattle.vortex_rewrite.specs.Answers.{Makes, OkOrMemory};
+ghost use Rattle.vortex_normal.specs.Balanced as spec;
+
+use crate::leaves::connected;
+use crate::predicate::Predicate;
+use std::alloc::Global;
+use vortex_stats::error::StatsError;
+
+// Neighbours joined by AND or by OR; the last of an odd number stays as it is.
+fn paired(alloc: Global, is_and: bool, tests: Vec<Predicate>) -> Result<Vec<Predicate>, StatsError>
+    ensures { OkOrMemory result (λ pairs. pairs.items ≡ spec.paired is_and tests.items) }
+{
+    let mut pairs = Vec::new(alloc);
+    let mut rest = tests.into_iter();
+    while let Some(first) = rest.next() {
+        match rest.next() {
+            Some(second) => pairs.push(connected(alloc, is_and, first, second)?)?,
+            None => pairs.push(first)?,
+        }
+    }
+    Ok(pairs)
+}
+
+/// The predicate that some make up, joined by AND or by OR, in time that is linear.
+pub(crate) fn balanced(
+    alloc: Global,
+    is_and: bool,
+    tests: Vec<Predicate>,
+) -> Result<Predicate, StatsError>
+    ensures { Makes (spec.balanced is_and tests.items) result }
+{
+    let mut left = tests;
+    while left.len() > 1 {
+        left = paired(alloc, is_and, left)?;
+    }
+    match left.pop() {
+        Some(only) => Ok(only),
+        None => Predicate::truth(alloc, is_and),
+    }
+}
