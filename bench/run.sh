@@ -53,3 +53,13 @@ for column in numbers texts; do
         python3 "$here/measure.py" "$runs" "$here/data/${work}_$column.txt" "$layer" "${plain_measures[@]}"
     done
 done
+
+# Normal forms, twenty times: of an OR of so many values of one column in no order, of an OR over as many columns, and of
+# a chain over one column in which AND and OR alternate; the time to make the predicate alone stands first.
+for of in "values 1023" "values 16384" "values 100000" "columns 1023" "columns 16384" "columns 100000" "turns 511" "turns 1023"; do
+    for stage in made normal; do
+        work="${stage}_$of"
+        echo "$work" > "$here/data/${work/ /_}.txt"
+        python3 "$here/measure.py" "$runs" "$here/data/${work/ /_}.txt" "$layer"
+    done
+done
