@@ -1,5 +1,6 @@
 -- Worked rows, found by computation alone.
 pub mod BadRows
+pub mod BlockRows
 pub mod FirstRows
 pub mod MemoryRows
 pub mod TextRows
