@@ -289,6 +289,10 @@ fn refused_normal_forms(rt: HostRuntime) -> Result<(), Fail> {
     )?;
     let found = normal(alloc, &chain);
     assert!(rt; matches!(found, Ok(_) | Err(StatsError::Memory(_))));
+    let holes = and(alloc, a_not_eq(alloc, 3), a_not_eq(alloc, 5));
+    let more = and(alloc, and(alloc, holes, b_lt(alloc, 1)), c_eq(alloc, true))?;
+    let found = normal(alloc, &more);
+    assert!(rt; matches!(found, Ok(_) | Err(StatsError::Memory(_))));
     let range = between(alloc, a(alloc), num(alloc, 3), num(alloc, 9), CLOSED);
     let both = and(alloc, range, a_lt_eq(alloc, 5))?;
     assert!(rt; is_answer(normal(alloc, &both), a_within(alloc, 3, 5)));
