@@ -119,6 +119,8 @@ fn refused_scans(rt: HostRuntime) -> Result<(), Fail> {
     let rules = Rules::builtin(alloc);
     assert!(rt; is_found(scanned_by_part(alloc, zones.parts(), &predicate, &rules)));
     assert!(rt; is_found(scanned_by_table(alloc, &zones, &predicate, &rules)));
+    let (whole, map) = (chunk_of_all(alloc, &zones)?, zones.map());
+    assert!(rt; is_found(scanned_by_ranges(alloc, &whole, map, &predicate, &rules)));
     Ok(())
 }
 
@@ -241,5 +243,7 @@ fn refused_scans_of_texts_and_nulls(rt: HostRuntime) -> Result<(), Fail> {
     let rules = Rules::builtin(alloc);
     assert!(rt; is_null_found(scanned_by_part(alloc, zones.parts(), &predicate, &rules)));
     assert!(rt; is_null_found(scanned_by_table(alloc, &zones, &predicate, &rules)));
+    let (whole, map) = (chunk_of_all(alloc, &zones)?, zones.map());
+    assert!(rt; is_null_found(scanned_by_ranges(alloc, &whole, map, &predicate, &rules)));
     Ok(())
 }
