@@ -6,6 +6,7 @@ pub mod MarkLemmas
 pub mod MergeLemmas
 pub mod NamedLemmas
 pub mod NormalLemmas
+pub mod NumberLemmas
 pub mod PruneLemmas
 pub mod ReadLemmas
 pub mod ScopeLemmas

@@ -11,6 +11,7 @@ use Rattle.vortex_base.specs.Data.Scopes.{Named}
 use Rattle.vortex_prune.specs.Binding.StatValues.{read_stat, told_value}
 use Rattle.vortex_prune.specs.Part.{ZoneData, zones_fit}
 use Rattle.vortex_prune.specs.Zones.{Head}
+use Rattle.vortex_stats.specs.Precision.{present_value as precision_value}
 use Rattle.vortex_stats.specs.Sets.Entries.{value_fits}
 use Rattle.vortex_stats.specs.Stat.{stat_dtype, stat_eq}
 use Rattle.vortex_stats.specs.declared.precision.Precision.{Precision}
@@ -123,3 +124,7 @@ present_in x zone = present_value x.dtype x.stat x.statistic.values.now x.statis
 pub record IsNumberIn (x : Source) (zone : ℕ) (p : Precision PValue) : Type 0 where
   pub read : value_of_source x zone ≡ Ok (numbered p)
   pub fits : IsTrue (value_fits x.stat x.dtype (numbered p))
+
+-- the aggregate is told by a value at either precision, whatever the row count
+abbrev pub IsToldByBounds : AggregateFnRef → Type 0
+IsToldByBounds f = (p : Precision ScalarValue) (n : ℕ) → told_value f p n ≡ precision_value p

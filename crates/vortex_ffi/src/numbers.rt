@@ -6,10 +6,11 @@ ghost use Rattle.vortex_base.specs.declared.scalar_value.ScalarValue.TheVariants
 ghost use Rattle.vortex_ffi.specs.Encoding.{is_number};
 ghost use Rattle.vortex_ffi.specs.MapCells as spec;
 ghost use Rattle.vortex_prune.specs.Binding.StatValues.{told_value};
+ghost use Rattle.vortex_stats.specs.Precision.{present_value};
 ghost use Rattle.vortex_stats.specs.declared.precision.Precision.TheVariants.{Exact, Inexact};
 
-use crate::encoding::number_of;
 use crate::given::fixed;
+use crate::number::Number;
 use crate::table::Source;
 use crate::types::number_width;
 use std::alloc::Global;
@@ -21,31 +22,34 @@ use vortex_stats::precision::Precision;
 
 // The number that stands for a zone.
 #[inline]
-fn number_there(source: &Source<'_>, ptype: PType, zone: usize) -> Option<PValue>
-    requires { spec.HasNumbers ptype source.now }
+fn number_there<N: Number>(source: &Source<'_>, zone: usize) -> Option<PValue>
+    requires { spec.HasNumbers N.PTYPE source.now }
     ensures read { IfSome result (λ number.
         spec.present_in source.now zone ≡ Ok (value.Primitive number)) }
-    ensures fits { IfSome result (λ number. IsTrue (is_number ptype number)) }
+    ensures fits { IfSome result (λ number. IsTrue (is_number N.PTYPE number)) }
 {
-    match fixed(source.statistic.values, number_width(ptype), zone) {
-        Some(bytes) => number_of(ptype, bytes),
+    match fixed(source.statistic.values, number_width(N::PTYPE), zone) {
+        Some(bytes) => match N::from_bytes(bytes) {
+            Some(number) => Some(number.value()),
+            None => None,
+        },
         None => None,
     }
 }
 
 // What a statistic says of a zone, if its value is read.
 #[inline]
-fn number_in(source: &Source<'_>, ptype: PType, zone: usize) -> Option<Precision<PValue>>
-    requires { spec.HasNumbers ptype source.now }
+fn number_in<N: Number>(source: &Source<'_>, zone: usize) -> Option<Precision<PValue>>
+    requires { spec.HasNumbers N.PTYPE source.now }
     ensures { IfSome result (spec.IsNumberIn source.now zone) }
 {
     match source.statistic.known.get(zone) {
         Some(0) => Some(Precision::Absent),
-        Some(1) => match number_there(source, ptype, zone) {
+        Some(1) => match number_there::<N>(source, zone) {
             Some(number) => Some(Precision::Exact(number)),
             None => None,
         },
-        Some(2) => match number_there(source, ptype, zone) {
+        Some(2) => match number_there::<N>(source, zone) {
             Some(number) => Some(Precision::Inexact(number)),
             None => None,
         },
@@ -53,18 +57,71 @@ fn number_in(source: &Source<'_>, ptype: PType, zone: usize) -> Option<Precision
     }
 }
 
-/// Whether a statistic has a number for each of the first zones of which it says anything.
-pub(crate) fn numbers_are_read(source: &Source<'_>, ptype: PType, zones: usize) -> bool
-    requires { spec.HasNumbers ptype source.now }
+// Whether a number stands there for a zone, and whether it counts is told.
+#[inline]
+fn stands<N: Number>(source: &Source<'_>, zone: usize) -> bool
+    requires { spec.HasNumbers N.PTYPE source.now }
+    ensures { OnTrue result (spec.IsRead source.now zone) }
+{
+    match number_there::<N>(source, zone) {
+        None => false,
+        Some(_number) => match source.statistic.known.get(zone) {
+            None => false,
+            Some(code) => *code <= 2,
+        },
+    }
+}
+
+// Whether one does for each of the first zones.
+fn all_stand<N: Number>(source: &Source<'_>, zones: usize) -> bool
+    requires { spec.HasNumbers N.PTYPE source.now }
     ensures { OnTrue result (spec.AreRead source.now zones) }
 {
     for zone in 0..zones {
-        match number_in(source, ptype, zone) {
+        if !stands::<N>(source, zone) {
+            return false;
+        }
+    }
+    true
+}
+
+// Whether a statistic has a number for each of the first zones of which it says anything.
+fn each_is_read<N: Number>(source: &Source<'_>, zones: usize) -> bool
+    requires { spec.HasNumbers N.PTYPE source.now }
+    ensures { OnTrue result (spec.AreRead source.now zones) }
+{
+    for zone in 0..zones {
+        match number_in::<N>(source, zone) {
             Some(_number) => {}
             None => return false,
         }
     }
     true
+}
+
+// The same, where at first a number is looked for in each zone, absent or not.
+fn are_read<N: Number>(source: &Source<'_>, zones: usize) -> bool
+    requires { spec.HasNumbers N.PTYPE source.now }
+    ensures { OnTrue result (spec.AreRead source.now zones) }
+{
+    all_stand::<N>(source, zones) || each_is_read::<N>(source, zones)
+}
+
+/// The same of a statistic whose values are numbers of a type.
+pub(crate) fn numbers_are_read(source: &Source<'_>, ptype: PType, zones: usize) -> bool
+    requires { spec.HasNumbers ptype source.now }
+    ensures { OnTrue result (spec.AreRead source.now zones) }
+{
+    match ptype {
+        PType::U8 => are_read::<u8>(source, zones),
+        PType::U16 => are_read::<u16>(source, zones),
+        PType::U32 => are_read::<u32>(source, zones),
+        PType::U64 => are_read::<u64>(source, zones),
+        PType::I8 => are_read::<i8>(source, zones),
+        PType::I16 => are_read::<i16>(source, zones),
+        PType::I32 => are_read::<i32>(source, zones),
+        PType::I64 => are_read::<i64>(source, zones),
+    }
 }
 
 // The cell of a number that is known exactly.
@@ -121,7 +178,90 @@ fn number_cell(aggregate: AggregateFnRef, number: Precision<PValue>, rows: u64) 
     }
 }
 
-/// What a statistic tells for an aggregate of the zones from a place on.
+// The cell of a number at either precision.
+#[inline]
+fn bound_cell(number: Precision<PValue>) -> ShortCell
+    ensures { short_value result ≡ present_value (spec.numbered number) }
+{
+    match number {
+        Precision::Exact(number) => ShortCell::of_number(number),
+        Precision::Inexact(number) => ShortCell::of_number(number),
+        Precision::Absent => ShortCell::Null,
+    }
+}
+
+// What a statistic tells for an aggregate that a bound tells, of the zones from a place on.
+fn bounds<N: Number>(
+    alloc: Global,
+    source: &Source<'_>,
+    aggregate: AggregateFnRef,
+    rows: &[u64],
+    from: usize,
+    count: usize,
+) -> Option<Cells>
+    requires numbers { spec.HasNumbers N.PTYPE source.now }
+    requires within { from + count ≤ length rows.now }
+    requires bound { spec.IsToldByBounds aggregate }
+    ensures { let told = spec.told_cells aggregate (Some source.now) rows.now from count in
+        IfSome result (λ cells. told ≡ Ok (cell_values cells)) }
+{
+    let mut cells = Vec::with_capacity(alloc, count).ok()?;
+    for place in 0..count {
+        let number = number_in::<N>(source, from + place)?;
+        match cells.push(bound_cell(number)) {
+            Ok(()) => {}
+            Err(_) => return None,
+        }
+    }
+    Some(Cells::Short(cells))
+}
+
+// What a statistic tells for any aggregate of the zones from a place on.
+fn others<N: Number>(
+    alloc: Global,
+    source: &Source<'_>,
+    aggregate: AggregateFnRef,
+    rows: &[u64],
+    from: usize,
+    count: usize,
+) -> Option<Cells>
+    requires numbers { spec.HasNumbers N.PTYPE source.now }
+    requires within { from + count ≤ length rows.now }
+    ensures { let told = spec.told_cells aggregate (Some source.now) rows.now from count in
+        IfSome result (λ cells. told ≡ Ok (cell_values cells)) }
+{
+    let mut cells = Vec::with_capacity(alloc, count).ok()?;
+    for place in 0..count {
+        let number = number_in::<N>(source, from + place)?;
+        cells
+            .push(number_cell(aggregate, number, rows[from + place]))
+            .ok()?;
+    }
+    Some(Cells::Short(cells))
+}
+
+// The same, where the least and the greatest number are read in a loop of their own.
+fn told<N: Number>(
+    alloc: Global,
+    source: &Source<'_>,
+    aggregate: AggregateFnRef,
+    rows: &[u64],
+    from: usize,
+    count: usize,
+) -> Option<Cells>
+    requires numbers { spec.HasNumbers N.PTYPE source.now }
+    requires within { from + count ≤ length rows.now }
+    ensures { let told = spec.told_cells aggregate (Some source.now) rows.now from count in
+        IfSome result (λ cells. told ≡ Ok (cell_values cells)) }
+{
+    match aggregate {
+        AggregateFnRef::Max => bounds::<N>(alloc, source, aggregate, rows, from, count),
+        AggregateFnRef::Min => bounds::<N>(alloc, source, aggregate, rows, from, count),
+        _ => others::<N>(alloc, source, aggregate, rows, from, count),
+    }
+}
+
+/// The same of a statistic whose values are numbers of a type.
 pub(crate) fn told_numbers(
     alloc: Global,
     source: &Source<'_>,
@@ -136,12 +276,14 @@ pub(crate) fn told_numbers(
     ensures { let told = spec.told_cells aggregate (Some source.now) rows.now from count in
         IfSome result (λ cells. told ≡ Ok (cell_values cells)) }
 {
-    let mut cells = Vec::with_capacity(alloc, count).ok()?;
-    for place in 0..count {
-        let number = number_in(source, ptype, from + place)?;
-        cells
-            .push(number_cell(aggregate, number, rows[from + place]))
-            .ok()?;
+    match ptype {
+        PType::U8 => told::<u8>(alloc, source, aggregate, rows, from, count),
+        PType::U16 => told::<u16>(alloc, source, aggregate, rows, from, count),
+        PType::U32 => told::<u32>(alloc, source, aggregate, rows, from, count),
+        PType::U64 => told::<u64>(alloc, source, aggregate, rows, from, count),
+        PType::I8 => told::<i8>(alloc, source, aggregate, rows, from, count),
+        PType::I16 => told::<i16>(alloc, source, aggregate, rows, from, count),
+        PType::I32 => told::<i32>(alloc, source, aggregate, rows, from, count),
+        PType::I64 => told::<i64>(alloc, source, aggregate, rows, from, count),
     }
-    Some(Cells::Short(cells))
 }
