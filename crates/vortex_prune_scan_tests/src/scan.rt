@@ -1,10 +1,11 @@
 //! Scans over parts of one column of numbers, row by row.
-use std::alloc::Global;
+use std::alloc::{AllocError, Global};
 use std::process::Abort;
 use std::test::Fail;
-use vortex_base::{BetweenOptions, Operator};
-use vortex_prune::{Part, Zones};
+use vortex_base::{BetweenOptions, Operator, ScalarFnId};
+use vortex_prune::{Part, Rules, StatsRewriteRuleRef, Zones};
 use vortex_prune_tests::testing::*;
+use vortex_rewrite_tests::hooks::{Claim, Claiming};
 use vortex_rewrite_tests::nodes::*;
 use vortex_stats::{Stat, StatsError, StatsSet};
 
@@ -19,6 +20,30 @@ mod whole;
 mod zones;
 
 type Table = Result<Zones, StatsError>;
+
+// The built-in rules and then this one.
+fn rules_of(alloc: Global, rule: StatsRewriteRuleRef) -> Result<Rules, AllocError> {
+    let mut rules = Rules::builtin(alloc);
+    rules.push(rule)?;
+    Ok(rules)
+}
+
+// The built-in rules and then one that claims the same of every expression of its function. Its
+// fault has the number 3.
+fn rules_that_claim(
+    alloc: Global,
+    function: ScalarFnId,
+    falsifier: Claim,
+    satisfier: Claim,
+) -> Result<Rules, AllocError> {
+    let rule = Claiming {
+        function,
+        falsifier,
+        satisfier,
+        fault: 3,
+    };
+    rules_of(alloc, Box::new(alloc, rule)?)
+}
 
 // The scan skipped these parts and selected these rows.
 fn expect_found(

@@ -7,14 +7,13 @@ ghost use Rattle.vortex_base.specs.Meanings.Fitting.{fits_scope};
 ghost use Rattle.vortex_prune.specs.Zones.{HaveScope};
 
 use std::alloc::{AllocError, Global};
-use vortex_base::{BoundExpression, Chunk, Column, DType, ScalarFnId, ScalarValue, Scope};
+use vortex_base::{BoundExpression, Chunk, Column, DType, ScalarValue, Scope};
 use vortex_prune::scan::scan;
 use vortex_prune::scan::zones::scan_zones;
 use vortex_prune::{
-    Part, PartRefused, Pruned, Rules, Scan, StatBinder, StatsBinder, StatsRewriteRuleRef, Zone,
-    ZoneMap, Zones, prune, scan_ranges,
+    Part, PartRefused, Pruned, Rules, Scan, StatBinder, StatsBinder, Zone, ZoneMap, Zones, prune,
+    scan_ranges,
 };
-use vortex_rewrite_tests::hooks::{Claim, Claiming};
 use vortex_rewrite_tests::nodes::*;
 use vortex_stats::{Precision, RuleFault, Stat, StatsError, StatsSet};
 
@@ -176,30 +175,6 @@ pub fn and_part(parts: Parts, part: Result<Part, StatsError>) -> Parts {
 
 pub fn one_part(alloc: Global, part: Result<Part, StatsError>) -> Parts {
     and_part(no_parts(alloc), part)
-}
-
-/// The built-in rules and then this one.
-pub fn rules_of(alloc: Global, rule: StatsRewriteRuleRef) -> Result<Rules, AllocError> {
-    let mut rules = Rules::builtin(alloc);
-    rules.push(rule)?;
-    Ok(rules)
-}
-
-/// The built-in rules and then one that claims the same of every expression of its function. Its
-/// fault has the number 3.
-pub fn rules_that_claim(
-    alloc: Global,
-    function: ScalarFnId,
-    falsifier: Claim,
-    satisfier: Claim,
-) -> Result<Rules, AllocError> {
-    let rule = Claiming {
-        function,
-        falsifier,
-        satisfier,
-        fault: 3,
-    };
-    rules_of(alloc, Box::new(alloc, rule)?)
 }
 
 // Whether a part has the scope.

@@ -1,10 +1,8 @@
 //! Binders of a user that answer what they shouldn't or fault, and statistics at odds.
 use super::*;
-use vortex_base::{AggregateFnRef, ScalarFnId};
-use vortex_prune::Rules;
+use vortex_base::AggregateFnRef;
 use vortex_prune::bind::bind_stats;
 use vortex_prune_tests::hooks::Answerer;
-use vortex_rewrite_tests::hooks::Claim;
 use vortex_stats::{BinderFault, RuleFault};
 
 // The scan by the built-in rules and these binders.

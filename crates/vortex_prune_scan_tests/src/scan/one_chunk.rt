@@ -1,9 +1,7 @@
 //! Scans of one chunk by a map of zones, each a range of its rows.
 use super::*;
-use std::alloc::AllocError;
-use vortex_base::{Chunk, ScalarFnId, ScalarValue, Scope};
-use vortex_prune::{Rules, Zone, ZoneMap};
-use vortex_rewrite_tests::hooks::Claim;
+use vortex_base::{Chunk, ScalarValue, Scope};
+use vortex_prune::{Zone, ZoneMap};
 use vortex_stats::RuleFault;
 
 fn chunk(alloc: Global, rows: &[Option<i32>]) -> Result<Chunk, StatsError> {

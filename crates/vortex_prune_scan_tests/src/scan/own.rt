@@ -4,10 +4,9 @@ ghost use Rattle.vortex_rewrite.specs.Rewriting.Falsifiers.{bool_literal};
 ghost use Rattle.vortex_prune_scan_tests.specs.RuleExamples.{at_null_test};
 
 use super::*;
-use std::alloc::AllocError;
-use vortex_base::{BoundExpression, Parts, ScalarFnId};
-use vortex_prune::{HookFault, Rules, StatsRewriteRule};
-use vortex_rewrite_tests::hooks::{Claim, ValueTests, truth_answer};
+use vortex_base::{BoundExpression, Parts};
+use vortex_prune::{HookFault, StatsRewriteRule};
+use vortex_rewrite_tests::hooks::{ValueTests, truth_answer};
 use vortex_stats::RuleFault;
 
 // Whether it is IS NULL of a column whose type has no null.

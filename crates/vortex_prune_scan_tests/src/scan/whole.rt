@@ -1,7 +1,5 @@
 //! Parts that satisfy the predicate whole, and how many rows of the others are tested.
 use super::*;
-use vortex_base::ScalarFnId;
-use vortex_rewrite_tests::hooks::Claim;
 use vortex_stats::RuleFault;
 
 // The least value, and how many rows are null.
