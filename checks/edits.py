@@ -57,9 +57,9 @@ def fault_of(goal, told):
         return told
     if goal is None:
         return f"checks/edits/goals.txt names no goal for it: {told}"
-    # `rt` cuts what it tells, so of a long name it may tell the front alone.
-    name, end = re.search(r"`([^`]*)(`?)", told).groups() if "`" in told else ("", "`")
-    if name != goal and (end or not name or not goal.startswith(name)):
+    # It tells the goal last, behind the function that is called if one is. `rt` cuts what it tells, so of a long name it may tell the front alone.
+    names = re.findall(r"`([^`]*)(`|$)", told)
+    if not any(name == goal or (name and not end and goal.startswith(name)) for name, end in names):
         return f"not at the goal {goal}: {told}"
     return None
 
