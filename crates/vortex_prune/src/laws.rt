@@ -5,7 +5,7 @@ ghost use Rattle.vortex_prune.specs.Choosing.{ChosenSetsStayTrue};
 ghost use Rattle.vortex_prune.specs.Scanning.Complete.{FalsifiersAreComplete};
 ghost use Rattle.vortex_prune.specs.Laws.{LiteralsAreAnswers, NullsAreAnswers, StatisticsAreHonest};
 ghost use Rattle.vortex_prune.specs.Part.{AreParts, IsTruePart, PartData};
-ghost use Rattle.vortex_prune.specs.Scanning.RangeScans.{RangesAreThere};
+ghost use Rattle.vortex_prune.specs.Scanning.RangeScans.{RangesAreThere, RangesBehindAreThere};
 ghost use Rattle.vortex_prune.specs.Scanning.Selection.{AreByStatistics, AreFaithful, AreHonest, any_binder};
 
 use crate::bind::stat_binder::StatBinder;
@@ -52,7 +52,8 @@ pub fn chosen_sets_stay_true()
 
 /// Wherever the zones of a map are ranges of a chunk there are parts that are what stands in them:
 /// the rows of each with its sets. So what `scan_ranges` promises of such parts is promised of
-/// every chunk and map that it doesn't refuse for a mismatch.
+/// every chunk and map that it doesn't refuse for a mismatch; and so of `scan_ranges_from`.
 pub fn ranges_are_there()
-    ensures { RangesAreThere }
+    ensures from_the_first { RangesAreThere }
+    ensures from_a_row_on { RangesBehindAreThere }
 {}

@@ -16,7 +16,7 @@ pub use bind::zone_binder::ZoneBinder;
 pub use part::{JoinRefused, MeasureRefused, Part, PartRefused};
 pub use scan::outcome::Scan;
 pub use scan::prune::{Pruned, prune};
-pub use scan::ranges::scan_ranges;
+pub use scan::ranges::{scan_ranges, scan_ranges_from};
 pub use scan::zones::scan_zones;
 pub use stat_fn::{StatFn, StatOptions};
 pub use vortex_rewrite::{BuiltinRule, HookFault, Rules, StatsRewriteRule, StatsRewriteRuleRef};

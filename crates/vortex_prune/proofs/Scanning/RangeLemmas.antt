@@ -45,18 +45,17 @@ module _ (p : Tree Place) (k : ChunkData) where
       ∙ ap (λ j. (first ++ before) ++ range_rows (get_or vs i v) p j k ((from + m) + sum (take i ns)) (get_or ns i n)) here
       ∙ ap (λ j. (first ++ before) ++ range_rows (get_or vs i v) p (place + suc i) k j (get_or ns i n)) start
 
-  -- what was selected, with one more range
-  pub ranges_next : (vs : List Verdict) (ns : List ℕ) (i from : ℕ) (v : Verdict) (n : ℕ) (old new : List (ℕ × ℕ)) → i < length vs → i < length ns → from ≡ sum (take i ns)
-      → new ≡ old ++ range_rows (get_or vs i v) p i k from (get_or ns i n) → old ≡ ranges_by p k 0 0 (take i vs) (take i ns) → new ≡ ranges_by p k 0 0 (take (i + 1) vs) (take (i + 1) ns)
-  ranges_next vs ns i from v n old new h g start pushed before =
+  -- what was selected of ranges that begin at a row, with one more range
+  pub ranges_next : (first : ℕ) (vs : List Verdict) (ns : List ℕ) (i from : ℕ) (v : Verdict) (n : ℕ) (old new : List (ℕ × ℕ)) → i < length vs → i < length ns → from ≡ first + sum (take i ns)
+      → new ≡ old ++ range_rows (get_or vs i v) p i k from (get_or ns i n) → old ≡ ranges_by p k 0 first (take i vs) (take i ns) → new ≡ ranges_by p k 0 first (take (i + 1) vs) (take (i + 1) ns)
+  ranges_next first vs ns i from v n old new h g at pushed before =
       let here : i ≡ 0 + i = omega arith in
-      let at : from ≡ 0 + sum (take i ns) = omega (arith, start) in
       let next : suc i ≡ i + 1 = omega arith in
       pushed ∙ ap (λ l. l ++ range_rows (get_or vs i v) p i k from (get_or ns i n)) before
-      ∙ ap (λ j. ranges_by p k 0 0 (take i vs) (take i ns) ++ range_rows (get_or vs i v) p j k from (get_or ns i n)) here
-      ∙ ap (λ j. ranges_by p k 0 0 (take i vs) (take i ns) ++ range_rows (get_or vs i v) p (0 + i) k j (get_or ns i n)) at
-      ∙ sym (one_more 0 0 vs ns i v n h g)
-      ∙ ap (λ j. ranges_by p k 0 0 (take j vs) (take j ns)) next
+      ∙ ap (λ j. ranges_by p k 0 first (take i vs) (take i ns) ++ range_rows (get_or vs i v) p j k from (get_or ns i n)) here
+      ∙ ap (λ j. ranges_by p k 0 first (take i vs) (take i ns) ++ range_rows (get_or vs i v) p (0 + i) k j (get_or ns i n)) at
+      ∙ sym (one_more 0 first vs ns i v n h g)
+      ∙ ap (λ j. ranges_by p k 0 first (take j vs) (take j ns)) next
 
 -- and what was tested
 tested_more : (vs : List Verdict) (ns : List ℕ) (i : ℕ) (v : Verdict) (n : ℕ) → i < length vs → i < length ns

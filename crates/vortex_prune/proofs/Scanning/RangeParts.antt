@@ -1,14 +1,14 @@
 -- What a scan by ranges says of the parts that the ranges are, and of the chunk's rows.
 use Rattle.std.proofs.Common.{◌≡◌, ◌+◌, ◌++◌, ℕ, zero, suc, Bool, true, false, List, [], ◌∷◌, Option, Some, IsTrue, ap, ap₂, arith, cond, map, refl, subst, sym, take, ◌∙◌}
 use Rattle.std.specs.List.{AllByRecursion, enumerate_from, filter, flat_map, range_with_len}
-use Rattle.std.specs.Prelude.{◌==◌, ◌||◌, Err, IfErr, Result, is_none, not as not_b, sum}
+use Rattle.std.specs.Prelude.{◌≤◌, ◌==◌, ◌||◌, Err, IfErr, Result, is_none, nat_le, not as not_b, sum}
 use Rattle.std.proofs.lemmas.Bool.{and_parts, or_parts}
 use Rattle.std.proofs.lemmas.Bool.Decides.{nat_tests}
 use Rattle.std.proofs.lemmas.List.{map-append}
 use Rattle.std.proofs.lemmas.List.Elements.{filter-append, recursion_from_All}
 use Rattle.std.proofs.lemmas.List.Sums.{sum_by-cons}
 use Rattle.vortex_base.specs.Data.Columns.{ChunkData, row_of, row_count as rows_of}
-use Rattle.vortex_base.specs.Data.Exact.{both_true}
+use Rattle.vortex_base.specs.Data.Exact.{both_hold, both_true}
 use Rattle.vortex_base.specs.Data.Scalars.{Constant}
 use Rattle.vortex_base.specs.Data.Scopes.{Named, scope_eq_is_exact}
 use Rattle.vortex_base.specs.Meanings.Fitting.{fits_scope}
@@ -20,11 +20,11 @@ use Rattle.vortex_prune.proofs.Scanning.RangeLemmas.{filter_same}
 use Rattle.vortex_prune.proofs.Scanning.WholeScan.{kept_is_full, parts_by_recursion}
 use Rattle.vortex_prune.proofs.ZoneMaps.ZoneScan.{fits_each}
 use Rattle.vortex_prune.specs.Binding.PartAnswers.{part_values}
-use Rattle.vortex_prune.specs.Part.{IsTruePart, PartData, zone_of}
-use Rattle.vortex_prune.specs.Scanning.RangeScans.{AreRanges, AreRangesFrom, IsRange, counts_of, has_ranges, is_true_in, range_rows, ranges_by, row_in_chunk, rows_in_chunk, selected_ranges}
+use Rattle.vortex_prune.specs.Part.{IsTruePart, PartData, ZoneData, zone_of}
+use Rattle.vortex_prune.specs.Scanning.RangeScans.{AreRanges, AreRangesBehind, AreRangesFrom, IsRange, counts_of, has_ranges, has_ranges_from, is_true_in, range_rows, ranges_by, row_in_chunk, rows_in_chunk, selected_from}
 use Rattle.vortex_prune.specs.Scanning.Selection.{full, rows_by, satisfying, satisfying_rows, selected_rows, verdict}
 use Rattle.vortex_prune.specs.Scanning.ZoneScans.{statistics_answers, zone_verdict, zone_verdicts}
-use Rattle.vortex_prune.specs.Zones.{MapData, zones_of}
+use Rattle.vortex_prune.specs.Zones.{IsMapOf, MapData, zones_of}
 use Rattle.vortex_prune.specs.declared.scan.verdict.Verdict.{Verdict}
 use Rattle.vortex_prune.specs.declared.scan.verdict.Verdict.TheVariants.{Skipped, Whole, Tested}
 use Rattle.vortex_rewrite.specs.Causes.{Causes, IsRefusal}
@@ -44,6 +44,23 @@ count_same a b h = grind (arith, nat_tests)
 
 pub same_count : (k : ChunkData) (m : MapData) → IsTrue (has_ranges k m) → sum m.rows ≡ rows_of k.columns
 same_count k m h = count_same (sum m.rows) (rows_of k.columns) (both_true _ _ h).1
+
+-- from a row on
+pub same_scope_from : (k : ChunkData) (from : ℕ) (m : MapData) → IsTrue (has_ranges_from k from m) → k.scope ≡ m.scope
+same_scope_from k from m h = (scope_eq_is_exact k.scope m.scope).0 (both_true _ _ h).0
+
+le_tested : (a b : ℕ) → nat_le a b ≡ true → a ≤ b
+le_tested a b h = grind (arith, nat_tests)
+
+tested_le : (a b : ℕ) → a ≤ b → nat_le a b ≡ true
+tested_le a b h = grind (arith, nat_tests)
+
+pub within_from : (k : ChunkData) (from : ℕ) (m : MapData) → IsTrue (has_ranges_from k from m) → from + sum m.rows ≤ rows_of k.columns
+within_from k from m h = le_tested (from + sum m.rows) (rows_of k.columns) (both_true _ _ h).1
+
+-- ranges of a chunk are ranges from its first row on
+pub from_first : (k : ChunkData) (m : MapData) → IsTrue (has_ranges k m) → IsTrue (has_ranges_from k 0 m)
+from_first k m h = both_hold _ _ (both_true _ _ h).0 (tested_le (0 + sum m.rows) (rows_of k.columns) (omega (arith, same_count k m h)))
 
 -- ---- the ranges are parts
 
@@ -70,17 +87,23 @@ module _ (f s : Option (Tree Place)) (p : Tree Place) (k : ChunkData) (scope : L
       ∙ ap (λ l. rows_by (verdict f s part (part_values part)) p place part.chunk ++ l) (parts_rows (place + 1) (from + n) parts scoped.1 are.1)
 
 -- what is selected of the ranges is what a scan of these parts with their statistics selects
-pub ranges_are_parts : (f s : Option (Tree Place)) (p : Tree Place) (k : ChunkData) (m : MapData) (parts : List PartData) → AreRanges k m parts
-    → selected_ranges f s p k m.scope (zones_of parts) ≡ selected_rows f s p (statistics_answers parts)
-ranges_are_parts f s p k m parts are = parts_rows f s p k m.scope 0 0 parts (recursion_from_All (λ part. part.chunk.scope ≡ m.scope) parts are.scoped) are.ranges
+pub ranges_are_parts : (f s : Option (Tree Place)) (p : Tree Place) (k : ChunkData) (from : ℕ) (m : MapData) (parts : List PartData) → AreRangesBehind k from m parts
+    → selected_from f s p k from m.scope (zones_of parts) ≡ selected_rows f s p (statistics_answers parts)
+ranges_are_parts f s p k from m parts are = parts_rows f s p k m.scope 0 from parts (recursion_from_All (λ part. part.chunk.scope ≡ m.scope) parts are.scoped) are.ranges
 
 -- and where these are true, what the full scan of them selects
-pub ranges_are_full : (rules : List OwnRule) (p : Tree Place) (k : ChunkData) (m : MapData) (parts : List PartData) → IsTrue (is_predicate p) → IsTrue (is_plain p) → IsTrue (fits_scope p k.scope) → IsTrue (has_ranges k m)
-    → AreRanges k m parts → AllByRecursion IsTruePart parts → selected_ranges (falsifier rules p) (satisfier rules p) p k m.scope (zones_of parts) ≡ full p parts
-ranges_are_full rules p k m parts predicate plain fits has are are_true =
-    ranges_are_parts (falsifier rules p) (satisfier rules p) p k m parts are
+pub ranges_are_full : (rules : List OwnRule) (p : Tree Place) (k : ChunkData) (from : ℕ) (m : MapData) (parts : List PartData) → IsTrue (is_predicate p) → IsTrue (is_plain p) → IsTrue (fits_scope p k.scope) → k.scope ≡ m.scope
+    → AreRangesBehind k from m parts → AllByRecursion IsTruePart parts → selected_from (falsifier rules p) (satisfier rules p) p k from m.scope (zones_of parts) ≡ full p parts
+ranges_are_full rules p k from m parts predicate plain fits same are are_true =
+    ranges_are_parts (falsifier rules p) (satisfier rules p) p k from m parts are
     ∙ kept_is_full (λ (part : PartData) row n. part_values part) rules p parts parts refl predicate plain
-    (fits_each p m.scope parts are.scoped (ap (fits_scope p) (sym (same_scope k m has)) ∙ fits)) are.are_parts (statistics_honest parts (parts_by_recursion parts are.are_parts) are_true)
+    (fits_each p m.scope parts are.scoped (ap (fits_scope p) (sym same) ∙ fits)) are.are_parts (statistics_honest parts (parts_by_recursion parts are.are_parts) are_true)
+
+-- what is selected by the verdicts on zones and by their row counts
+pub kept_by : (f s : Option (Tree Place)) (p : Tree Place) (k : ChunkData) (from : ℕ) (m : MapData) (zones : List ZoneData) (vs : List Verdict) (ns : List ℕ) (found : List (ℕ × ℕ)) → IsMapOf zones m
+    → vs ≡ zone_verdicts f s m.scope zones → ns ≡ m.rows → found ≡ ranges_by p k 0 from vs ns → found ≡ selected_from f s p k from m.scope zones
+kept_by f s p k from m zones vs ns found of told counted is =
+    is ∙ ap₂ (ranges_by p k 0 from) told (counted ∙ ap (λ (x : MapData). x.rows) of.same)
 
 -- ---- a predicate without row counts is true of a row whatever the count
 

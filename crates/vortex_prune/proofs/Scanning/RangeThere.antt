@@ -15,9 +15,9 @@ use Rattle.vortex_base.specs.Data.Scopes.{Named, is_scope}
 use Rattle.vortex_base.specs.declared.dtype.DType.{DType}
 use Rattle.vortex_base.specs.declared.scalar_value.ScalarValue.{ScalarValue}
 use Rattle.vortex_prune.proofs.Honesty.ZoneLemmas.{chunk_alike}
-use Rattle.vortex_prune.proofs.Scanning.RangeParts.{same_count, same_scope}
+use Rattle.vortex_prune.proofs.Scanning.RangeParts.{from_first, same_scope_from, within_from}
 use Rattle.vortex_prune.specs.Part.{AreParts, AreZonesOf, Entries, IsPart, ZoneData, fits_zone}
-use Rattle.vortex_prune.specs.Scanning.RangeScans.{AreRangesFrom, RangesAreThere, counts_of, range_chunk, range_column, range_parts}
+use Rattle.vortex_prune.specs.Scanning.RangeScans.{AreRangesFrom, RangesAreThere, RangesBehindAreThere, counts_of, range_chunk, range_column, range_parts}
 use Rattle.vortex_prune.specs.Zones.{IsMapOf, MapData, zones_of}
 
 -- ---- values from a place on
@@ -135,17 +135,20 @@ module _ (k : ChunkData) (is_chunk : IsChunk k) where
         subst (λ m. AreRangesFrom k (from + m) (range_parts k (from + z.rows) zones)) (sym rows) (ranges_there (from + z.rows) zones (others_within from z.rows (counts_of zones) h)),
       )
 
-pub ranges_are_there : RangesAreThere
-ranges_are_there k m zones is_chunk of has =
-    let same = same_scope k m has in
+pub ranges_behind_are_there : RangesBehindAreThere
+ranges_behind_are_there k from m zones is_chunk of has =
+    let same = same_scope_from k from m has in
     let counted : m.rows ≡ counts_of zones = ap (λ (x : MapData). x.rows) of.same in
-    let within : 0 + sum (counts_of zones) ≤ rows_of k.columns = omega (arith, ap sum counted, same_count k m has) in
-    let they = zones_there k is_chunk 0 zones within in (
+    let within : from + sum (counts_of zones) ≤ rows_of k.columns = omega (arith, ap sum counted, within_from k from m has) in
+    let they = zones_there k is_chunk from zones within in (
       record {
-        are_parts = parts_there k is_chunk 0 zones (subst (λ ns. AreZonesOf ns zones) (sym same) of.are_zones) within;
-        scoped = All-from_recursion (λ part. part.chunk.scope ≡ m.scope) (range_parts k 0 zones) (scopes_there k is_chunk 0 zones m.scope same);
+        are_parts = parts_there k is_chunk from zones (subst (λ ns. AreZonesOf ns zones) (sym same) of.are_zones) within;
+        scoped = All-from_recursion (λ part. part.chunk.scope ≡ m.scope) (range_parts k from zones) (scopes_there k is_chunk from zones m.scope same);
         is_map = subst (λ zs. IsMapOf zs m) (sym they) of;
-        ranges = ranges_there k is_chunk 0 zones within;
+        ranges = ranges_there k is_chunk from zones within;
       },
       they,
     )
+
+pub ranges_are_there : RangesAreThere
+ranges_are_there k m zones is_chunk of has = ranges_behind_are_there k 0 m zones is_chunk of (from_first k m has)

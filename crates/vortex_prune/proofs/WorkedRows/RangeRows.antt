@@ -11,7 +11,7 @@ use Rattle.vortex_base.specs.declared.types.Nullability.TheVariants.{Nullable, N
 use Rattle.vortex_base.specs.declared.types.Operator.TheVariants.{Gt}
 use Rattle.vortex_base.specs.declared.types.PType.TheVariants as ptype
 use Rattle.vortex_prune.specs.Part.{Entries, PartData, ZoneData}
-use Rattle.vortex_prune.specs.Scanning.RangeScans.{has_ranges, is_true_in, range_parts, range_rows, ranges_by, row_in_chunk, rows_in_chunk, selected_ranges, tested_by, tested_ranges}
+use Rattle.vortex_prune.specs.Scanning.RangeScans.{has_ranges, has_ranges_from, is_true_in, range_parts, range_rows, ranges_by, row_in_chunk, rows_in_chunk, selected_from, selected_ranges, tested_by, tested_ranges}
 use Rattle.vortex_prune.specs.Scanning.Selection.{full, satisfying}
 use Rattle.vortex_prune.specs.Zones.{MapData, zone_map}
 use Rattle.vortex_prune.specs.declared.scan.verdict.Verdict.TheVariants.{Skipped, Whole, Tested}
@@ -132,6 +132,44 @@ far_too_many = refl
 another_scope : has_ranges six_rows (record { scope = (codes "b", i64_type) ∷ []; rows = 6 ∷ []; table = their_map.table }) ≡ false
 another_scope = refl
 
+-- from a row on rows may be left behind the last zone, and none may be missing
+abbrev last_two : List ZoneData
+last_two = zone 1 (nulls 1) ∷ zone 2 (between_ends 20 30) ∷ []
+
+abbrev map_of_two : MapData
+map_of_two = zone_map six_rows.scope last_two
+
+they_end_with_it : has_ranges_from six_rows 3 map_of_two ≡ true
+they_end_with_it = refl
+
+one_row_is_left : has_ranges_from six_rows 2 map_of_two ≡ true
+one_row_is_left = refl
+
+one_row_is_missing : has_ranges_from six_rows 4 map_of_two ≡ false
+one_row_is_missing = refl
+
+no_zone_behind_the_last_row : has_ranges_from six_rows 6 (zone_map six_rows.scope []) ≡ true
+no_zone_behind_the_last_row = refl
+
+no_zone_past_the_end : has_ranges_from six_rows 7 (zone_map six_rows.scope []) ≡ false
+no_zone_past_the_end = refl
+
+of_another_scope : has_ranges_from six_rows 3 (record { scope = (codes "b", i64_type) ∷ []; rows = 3 ∷ []; table = map_of_two.table }) ≡ false
+of_another_scope = refl
+
+-- the null is tested, the others are whole; their places are those among the two zones
+abbrev above_ten_behind : List (ℕ × ℕ)
+above_ten_behind = selected_from (falsifier [] (above 10)) (satisfier [] (above 10)) (above 10) six_rows 3 six_rows.scope last_two
+
+from_the_null_on : above_ten_behind ≡ (1, 0) ∷ (1, 1) ∷ []
+unfolding node reduce_balanced
+from_the_null_on = refl
+
+-- one row before, the zone of one row has the 10, which isn't above itself, and that of two the null and the 20
+from_the_ten_on : selected_from (falsifier [] (above 9)) (satisfier [] (above 9)) (above 9) six_rows 2 six_rows.scope (zone 1 [] ∷ zone 2 [] ∷ []) ≡ (0, 0) ∷ (1, 1) ∷ []
+unfolding node reduce_balanced
+from_the_ten_on = refl
+
 abbrev selects : Tree Place → List (ℕ × ℕ)
 selects p = selected_ranges (falsifier [] p) (satisfier [] p) p six_rows six_rows.scope four_zones
 
@@ -172,3 +210,6 @@ unsized vs = record { chunk = record { scope = six_rows.scope; columns = record 
 the_parts : range_parts six_rows 0 (record { rows = 2; stats = [] ∷ [] } ∷ record { rows = 0; stats = [] ∷ [] } ∷ record { rows = 4; stats = [] ∷ [] } ∷ []) ≡
     unsized (num 1 ∷ num 5 ∷ []) ∷ unsized [] ∷ unsized (num 10 ∷ None ∷ num 20 ∷ num 30 ∷ []) ∷ []
 the_parts = refl
+
+parts_behind : range_parts six_rows 2 (record { rows = 1; stats = [] ∷ [] } ∷ record { rows = 2; stats = [] ∷ [] } ∷ []) ≡ unsized (num 10 ∷ []) ∷ unsized (None ∷ num 20 ∷ []) ∷ []
+parts_behind = refl

@@ -1,5 +1,5 @@
 -- Scans of one chunk by a map of zones, each of which is a range of its rows: the ranges stand one behind the other, each with as many rows as its zone's count says.
-use Rattle.std.specs.Prelude.{◌≡◌, ◌==◌, ◌&&◌, ◌+◌, ◌<◌, ◌++◌, ℕ, Bool, List, [], ◌∷◌, Option, IsTrue, drop, filter, map, sum, take, ⊤}
+use Rattle.std.specs.Prelude.{◌≡◌, ◌==◌, ◌&&◌, ◌+◌, ◌<◌, ◌++◌, ℕ, Bool, List, [], ◌∷◌, Option, IsTrue, drop, filter, map, nat_le, sum, take, ⊤}
 use Rattle.std.specs.List.{range_with_len}
 use Rattle.vortex_base.specs.Data.Columns.{ChunkData, ColumnData, IsChunk, row_of, row_count as rows_of}
 use Rattle.vortex_base.specs.Data.Scopes.{Named, scope_eq}
@@ -14,6 +14,10 @@ use Rattle.vortex_prune.specs.declared.scan.verdict.Verdict.TheVariants.{Skipped
 -- the zones of the map are ranges of the chunk: both have one scope, and the row counts add up to the chunk's
 abbrev pub has_ranges : ChunkData → MapData → Bool
 has_ranges k m = scope_eq k.scope m.scope && sum m.rows == rows_of k.columns
+
+-- they are ranges of the rows from one on: the chunk has as many rows behind it, or more
+abbrev pub has_ranges_from : ChunkData → (from : ℕ) → MapData → Bool
+has_ranges_from k from m = scope_eq k.scope m.scope && nat_le (from + sum m.rows) (rows_of k.columns)
 
 -- ---- the rows of one range
 
@@ -58,9 +62,13 @@ abbrev pub counts_of : List ZoneData → List ℕ
 counts_of zones = map (λ zone. zone.rows) zones
 
 module _ (falsifier satisfier : Option (Tree Place)) where
-  -- the rows that are selected by zones, as zone and row in its range, whatever their statistics claim
+  -- the rows that are selected by zones whose ranges begin at a row, as zone and row in its range, whatever their statistics claim
+  abbrev pub selected_from : Tree Place → ChunkData → (from : ℕ) → List Named → List ZoneData → List (ℕ × ℕ)
+  selected_from p k from scope zones = ranges_by p k 0 from (zone_verdicts falsifier satisfier scope zones) (counts_of zones)
+
+  -- by zones whose ranges begin at the first row
   abbrev pub selected_ranges : Tree Place → ChunkData → List Named → List ZoneData → List (ℕ × ℕ)
-  selected_ranges p k scope zones = ranges_by p k 0 0 (zone_verdicts falsifier satisfier scope zones) (counts_of zones)
+  selected_ranges p k scope zones = selected_from p k 0 scope zones
 
   -- how many rows are tested
   abbrev pub tested_ranges : List Named → List ZoneData → ℕ
@@ -84,12 +92,16 @@ abbrev pub AreRangesFrom : ChunkData → (from : ℕ) → List PartData → Type
 AreRangesFrom k from [] = ⊤
 AreRangesFrom k from (part ∷ parts) = IsRange k from part.chunk × AreRangesFrom k (from + rows_of part.chunk.columns) parts
 
--- the parts are what stands in the zones of a map, where these are ranges of the chunk one behind the other
-pub record AreRanges (k : ChunkData) (m : MapData) (parts : List PartData) : Type 0 where
+-- the parts are what stands in the zones of a map, where these are ranges of the chunk one behind the other, from a row on
+pub record AreRangesBehind (k : ChunkData) (from : ℕ) (m : MapData) (parts : List PartData) : Type 0 where
   pub are_parts : AreParts parts
   pub scoped : HaveScope m.scope parts
   pub is_map : IsMapOf (zones_of parts) m
-  pub ranges : AreRangesFrom k 0 parts
+  pub ranges : AreRangesFrom k from parts
+
+-- from its first row on
+abbrev pub AreRanges : ChunkData → MapData → List PartData → Type 0
+AreRanges k m parts = AreRangesBehind k 0 m parts
 
 -- n values of a column from a place on, of no declared size
 abbrev pub range_column : (from n : ℕ) → ColumnData → ColumnData
@@ -109,3 +121,9 @@ abbrev pub RangesAreThere : Type 0
 RangesAreThere =
     (k : ChunkData) (m : MapData) (zones : List ZoneData) → IsChunk k → IsMapOf zones m → IsTrue (has_ranges k m) →
     AreRanges k m (range_parts k 0 zones) × (zones_of (range_parts k 0 zones) ≡ zones)
+
+-- and wherever they are ranges of its rows from one on
+abbrev pub RangesBehindAreThere : Type 0
+RangesBehindAreThere =
+    (k : ChunkData) (from : ℕ) (m : MapData) (zones : List ZoneData) → IsChunk k → IsMapOf zones m → IsTrue (has_ranges_from k from m) →
+    AreRangesBehind k from m (range_parts k from zones) × (zones_of (range_parts k from zones) ≡ zones)

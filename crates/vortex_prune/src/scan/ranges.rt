@@ -1,5 +1,5 @@
 //! Scans of one chunk by a map of zones, each of which is a range of its rows.
-ghost use Rattle.std.specs.Prelude.{◌≡◌, ◌==◌, ◌↔◌, List, [], Err, IfErr, IfOk, IsTrue};
+ghost use Rattle.std.specs.Prelude.{◌≡◌, ◌+◌, ◌<◌, ◌≤◌, ◌↔◌, List, [], Err, IfErr, IfOk, IsTrue, MatchOption};
 ghost use Rattle.std.specs.Prelude.{alloc_error, false, length, sum};
 ghost use Rattle.std.specs.List.{AllByRecursion};
 ghost use Rattle.vortex_base.specs.Data.Columns.{row_count};
@@ -14,7 +14,8 @@ ghost use Rattle.vortex_rewrite.specs.Rewriting.Predicates.{is_predicate};
 ghost use Rattle.vortex_rewrite.specs.Rewriting.ReadOnce.{is_apart};
 ghost use Rattle.vortex_prune.specs.Part.{IsTruePart, PartData, ZoneData};
 ghost use Rattle.vortex_prune.specs.Scanning.Complete.{ZonesSkipExactly};
-ghost use Rattle.vortex_prune.specs.Scanning.RangeScans.{AreRanges, has_ranges, ranges_by};
+ghost use Rattle.vortex_prune.specs.Scanning.RangeScans.{AreRanges, AreRangesBehind, has_ranges};
+ghost use Rattle.vortex_prune.specs.Scanning.RangeScans.{has_ranges_from, ranges_by, selected_from};
 ghost use Rattle.vortex_prune.specs.Scanning.RangeScans.{rows_in_chunk, selected_ranges};
 ghost use Rattle.vortex_prune.specs.Scanning.RangeScans.{tested_by, tested_ranges};
 ghost use Rattle.vortex_prune.specs.Scanning.Selection.{full, is_skipped, is_whole, places_where};
@@ -39,44 +40,55 @@ use vortex_rewrite::rewrite::rule::StatsRewriteRule;
 use vortex_rewrite::rewrite::rules::Rules;
 use vortex_stats::error::StatsError;
 
-// Whether counts add up to a number of rows.
-fn add_up(counts: &[u64], rows: usize) -> bool
-    ensures { result ≡ (sum counts.now == rows) }
+// How many of some rows stand behind as many as counts say, if there are as many.
+fn rows_behind(counts: &[u64], rows: usize) -> Option<u64>
+    ensures { MatchOption result (rows < sum counts.now) (λ left. left + sum counts.now ≡ rows) }
 {
     let mut left = rows as u64;
     for place in 0..counts.len() {
         let count = counts[place];
         if count > left {
-            return false;
+            return None;
         }
         left -= count;
     }
-    left == 0
+    Some(left)
 }
 
 // Whether the zones of a map are ranges of a chunk.
 fn has_ranges(chunk: &Chunk, map: &ZoneMap) -> bool
     ensures { result ≡ has_ranges chunk.now map.now }
 {
-    *chunk.scope() == *map.scope() && add_up(map.counts(), chunk.rows())
+    *chunk.scope() == *map.scope() && rows_behind(map.counts(), chunk.rows()) == Some(0)
 }
 
-// The scan by a row count and a verdict for each range.
+// Whether they are ranges of its rows from one on.
+fn has_ranges_from(chunk: &Chunk, first: usize, map: &ZoneMap) -> bool
+    ensures { result ≡ has_ranges_from chunk.now first map.now }
+{
+    if *chunk.scope() != *map.scope() || chunk.rows() < first {
+        return false;
+    }
+    rows_behind(map.counts(), chunk.rows() - first).is_some()
+}
+
+// The scan by a row count and a verdict for each range, the first of which begins at a row.
 fn scan_counts(
     alloc: Global,
     chunk: &Chunk,
+    from: usize,
     counts: &[u64],
     verdicts: &[Verdict],
     predicate: &BoundExpression,
 ) -> Result<Scan, StatsError>
     requires long { length verdicts.now ≡ length counts.now }
-    requires within { sum counts.now ≡ row_count chunk.now.columns }
+    requires within { from + sum counts.now ≤ row_count chunk.now.columns }
     ensures skipped { IfOk result (λ scan.
         scan.skipped.items ≡ places_where is_skipped verdicts.now) }
     ensures whole { IfOk result (λ scan.
         scan.whole.items ≡ places_where is_whole verdicts.now) }
     ensures selected { IfOk result (λ scan. scan.selected.items
-        ≡ ranges_by predicate.now chunk.now 0 0 verdicts.now counts.now) }
+        ≡ ranges_by predicate.now chunk.now 0 from verdicts.now counts.now) }
     ensures evaluated { IfOk result (λ scan.
         scan.evaluated ≡ tested_by verdicts.now counts.now) }
     ensures memory { IfErr result (λ f. f ≡ Memory alloc_error) }
@@ -88,7 +100,7 @@ fn scan_counts(
         whole: Vec::new(alloc),
         evaluated: 0,
     };
-    let mut first = 0;
+    let mut first = from;
     for place in 0..verdicts.len() {
         let rows = counts[place] as usize;
         let range = RowRange { chunk, first, rows };
@@ -98,53 +110,96 @@ fn scan_counts(
     Ok(scan)
 }
 
-// The scan by the falsifier and the satisfier of the predicate.
-fn scan_rules(
+/// Selects the rows of a stretch of a chunk that satisfy a predicate, by a map of zones, as
+/// `scan_ranges` does of all rows: the first zone begins at the row `first`, and rows behind the
+/// last one have no part in it. So a long map can be made and scanned some zones at a time.
+/// Selected rows are told as zone and row in its range, zones by their places in the map.
+///
+/// The caller knows that the predicate is plain (`BoundExpression::is_plain`) and fits the scope
+/// (`BoundExpression::fits_scope`).
+///
+/// `Mismatch`, before anything else, unless the chunk has the map's scope and the zones' counts add
+/// up to no more rows than it has from `first` on. The other refusals are those of `scan_ranges`.
+pub fn scan_ranges_from(
     alloc: Global,
     chunk: &Chunk,
+    first: usize,
     map: &ZoneMap,
     predicate: &BoundExpression,
     rules: &Rules,
 ) -> Result<Scan, StatsError>
-    requires { IsTrue (has_ranges chunk.now map.now) }
+    requires plain { IsTrue (is_plain predicate.now) }
+    requires fits { IsTrue (fits_scope predicate.now chunk.now.scope) }
+    // Where each zone's statistics are true of its range no wanted row of the stretch is lost and
+    // no other is told, whichever lawful rules took part.
+    ensures full { IfOk result (λ scan. (parts : List PartData)
+        → AreRangesBehind chunk.now first map.now parts → AllByRecursion IsTruePart parts
+        → scan.selected.items ≡ full predicate.now parts) }
+    // A zone is skipped exactly if the falsifier is true by its statistics.
     ensures skipped { let M = ⟦<dyn StatsRewriteRule as StatsRewriteRule>⟧ in
         let proof = falsifier_of (own_rules M rules.now.own.items) predicate.now in
         IfOk result (λ scan. (zones : List ZoneData) → IsMapOf zones map.now
         → scan.skipped.items ≡ skipped_zones proof map.now.scope zones) }
+    // And whole exactly if it isn't skipped and the satisfier is.
     ensures whole { let M = ⟦<dyn StatsRewriteRule as StatsRewriteRule>⟧ in
         let f = falsifier_of (own_rules M rules.now.own.items) predicate.now in
         let s = satisfier_of (own_rules M rules.now.own.items) predicate.now in
         IfOk result (λ scan. (zones : List ZoneData) → IsMapOf zones map.now
         → scan.whole.items ≡ whole_zones f s map.now.scope zones) }
+    // Whether or not the statistics are true, all rows of the whole zones are selected, and the
+    // satisfying rows of the zones that are neither.
     ensures kept { let M = ⟦<dyn StatsRewriteRule as StatsRewriteRule>⟧ in
         let f = falsifier_of (own_rules M rules.now.own.items) predicate.now in
         let s = satisfier_of (own_rules M rules.now.own.items) predicate.now in
         IfOk result (λ scan. (zones : List ZoneData) → IsMapOf zones map.now
-        → scan.selected.items ≡ selected_ranges f s predicate.now chunk.now map.now.scope zones) }
+        → scan.selected.items ≡ selected_from f s predicate.now chunk.now first map.now.scope zones) }
+    // So they are those that a scan of the ranges as parts with their statistics selects.
+    ensures parted { let M = ⟦<dyn StatsRewriteRule as StatsRewriteRule>⟧ in
+        let f = falsifier_of (own_rules M rules.now.own.items) predicate.now in
+        let s = satisfier_of (own_rules M rules.now.own.items) predicate.now in
+        IfOk result (λ scan. (parts : List PartData) → AreRangesBehind chunk.now first map.now parts
+        → scan.selected.items ≡ selected_rows f s predicate.now (statistics_answers parts)) }
+    // The rows of the zones that are neither were tested.
     ensures evaluated { let M = ⟦<dyn StatsRewriteRule as StatsRewriteRule>⟧ in
         let f = falsifier_of (own_rules M rules.now.own.items) predicate.now in
         let s = satisfier_of (own_rules M rules.now.own.items) predicate.now in
         IfOk result (λ scan. (zones : List ZoneData) → IsMapOf zones map.now
         → scan.evaluated ≡ tested_ranges f s map.now.scope zones) }
+    // By built-in rules a predicate whose ANDs are apart skips a zone exactly if no values within
+    // its bounds satisfy it.
+    ensures complete { IfOk result (λ scan. (zones : List ZoneData) → IsMapOf zones map.now
+        → rules.now.own.items ≡ [] → IsTrue (is_apart predicate.now)
+        → ZonesSkipExactly predicate.now zones scan.skipped.items) }
+    // Exactly where the zones aren't ranges of the chunk from that row on, that is refused.
+    ensures mismatch { (result ≡ Err Mismatch) ↔ (has_ranges_from chunk.now first map.now ≡ false) }
+    // Where they are, the other refusals have their causes. By built-in rules a predicate is
+    // refused for memory alone.
+    ensures memory { IsTrue (has_ranges_from chunk.now first map.now)
+        → IsTrue (is_predicate predicate.now) → rules.now.own.items ≡ [] → IfErr result IsMemory }
     ensures predicate { IfOk result (λ _. IsTrue (is_predicate predicate.now)) }
-    ensures not_predicate { is_predicate predicate.now ≡ false → result ≡ Err NotPredicate }
+    ensures not_predicate { IsTrue (has_ranges_from chunk.now first map.now)
+        → is_predicate predicate.now ≡ false → result ≡ Err NotPredicate }
+    // No falsifier that has a column outside its placeholders was bound.
     ensures closed { let M = ⟦<dyn StatsRewriteRule as StatsRewriteRule>⟧ in
         let proof = falsifier_of (own_rules M rules.now.own.items) predicate.now in
         IfOk result (λ _. is_left_open proof map.now.rows ≡ false) }
+    // Nor such a satisfier, for a zone that isn't skipped.
     ensures kept_closed { let M = ⟦<dyn StatsRewriteRule as StatsRewriteRule>⟧ in
         let s = satisfier_of (own_rules M rules.now.own.items) predicate.now in
         IfOk result (λ scan. IsShutIfKept scan.skipped.items s map.now.rows) }
+    // A refusal has its cause: a rule asked at a visited node, such a falsifier and a zone, or such
+    // a satisfier and a zone that isn't skipped.
     ensures refusal { let M = ⟦<dyn StatsRewriteRule as StatsRewriteRule>⟧ in
         let own = own_rules M rules.now.own.items in
-        IsTrue (is_predicate predicate.now) → IfErr result (λ e. (zones : List ZoneData)
-        → IsMapOf zones map.now
+        IsTrue (has_ranges_from chunk.now first map.now) → IsTrue (is_predicate predicate.now)
+        → IfErr result (λ e. (zones : List ZoneData) → IsMapOf zones map.now
         → IsRefusal (pruning_causes own predicate.now map.now.scope zones) e) }
-    ensures at_most { let M = ⟦<dyn StatsRewriteRule as StatsRewriteRule>⟧ in
-        let causes = most_causes (own_rules M rules.now.own.items) predicate.now map.now.rows in
-        IsTrue (is_predicate predicate.now) → IfErr result (IsRefusal causes) }
 {
+    if !has_ranges_from(chunk, first, map) {
+        return Err(StatsError::Mismatch);
+    }
     let verdicts = verdicts(alloc, map, predicate, rules)?;
-    scan_counts(alloc, chunk, map.counts(), &verdicts, predicate)
+    scan_counts(alloc, chunk, first, map.counts(), &verdicts, predicate)
 }
 
 /// Selects the rows of a chunk that satisfy a predicate, by a map of zones, each a range of its
@@ -244,5 +299,5 @@ pub fn scan_ranges(
     if !has_ranges(chunk, map) {
         return Err(StatsError::Mismatch);
     }
-    scan_rules(alloc, chunk, map, predicate, rules)
+    scan_ranges_from(alloc, chunk, 0, map, predicate, rules)
 }

@@ -20,6 +20,6 @@ loop-place-preserved c =
       within = (tested_next vs ns i _ 0 _ _ c.loop-place.first c.rows-rows.result (2 ^ 64 - 1) h g c.in_ok-record_range.ensures.evaluated inv.within (omega arith) (omega arith) inv.evaluated).1;
       skipped = places_next is_skipped vs i _ _ _ h c.in_ok-record_range.ensures.skipped inv.skipped;
       whole = places_next is_whole vs i _ _ _ h c.in_ok-record_range.ensures.whole inv.whole;
-      selected = ranges_next c.args.predicate.now c.args.chunk.now vs ns i c.loop-place.first _ 0 _ _ h g inv.first c.in_ok-record_range.ensures.selected inv.selected;
+      selected = ranges_next c.args.predicate.now c.args.chunk.now c.args.from vs ns i c.loop-place.first _ 0 _ _ h g inv.first c.in_ok-record_range.ensures.selected inv.selected;
       evaluated = (tested_next vs ns i _ 0 _ _ c.loop-place.first c.rows-rows.result (2 ^ 64 - 1) h g c.in_ok-record_range.ensures.evaluated inv.within (omega arith) (omega arith) inv.evaluated).0;
     }

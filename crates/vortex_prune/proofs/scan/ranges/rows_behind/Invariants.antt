@@ -1,6 +1,6 @@
 use Rattle.std.proofs.Common.{◌≡◌, ◌+◌, take}
 use Rattle.std.specs.Prelude.{sum}
-use Rattle.vortex_prune.proofs.scan.ranges.add_up.Given as goal
+use Rattle.vortex_prune.proofs.scan.ranges.rows_behind.Given as goal
 
 -- what is left of the rows behind the counts before this one
 abbrev pub invariant-loop-place : goal.invariant-loop-place
