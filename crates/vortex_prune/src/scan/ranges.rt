@@ -21,7 +21,7 @@ ghost use Rattle.vortex_prune.specs.Scanning.RangeScans.{tested_by, tested_range
 ghost use Rattle.vortex_prune.specs.Scanning.Selection.{full, is_skipped, is_whole, places_where};
 ghost use Rattle.vortex_prune.specs.Scanning.Selection.{satisfying, selected_rows};
 ghost use Rattle.vortex_prune.specs.Scanning.ZoneScans.{IsShutIfKept};
-ghost use Rattle.vortex_prune.specs.Scanning.ZoneScans.{is_left_open, most_causes, pruning_causes};
+ghost use Rattle.vortex_prune.specs.Scanning.ZoneScans.{is_left_open, pruning_causes};
 ghost use Rattle.vortex_prune.specs.Scanning.ZoneScans.{skipped_zones, statistics_answers};
 ghost use Rattle.vortex_prune.specs.Scanning.ZoneScans.{whole_zones};
 ghost use Rattle.vortex_prune.specs.Zones.{IsMapOf};
@@ -151,8 +151,8 @@ pub fn scan_ranges_from(
     ensures kept { let M = ⟦<dyn StatsRewriteRule as StatsRewriteRule>⟧ in
         let f = falsifier_of (own_rules M rules.now.own.items) predicate.now in
         let s = satisfier_of (own_rules M rules.now.own.items) predicate.now in
-        IfOk result (λ scan. (zones : List ZoneData) → IsMapOf zones map.now
-        → scan.selected.items ≡ selected_from f s predicate.now chunk.now first map.now.scope zones) }
+        IfOk result (λ scan. (zones : List ZoneData) → IsMapOf zones map.now → scan.selected.items
+        ≡ selected_from f s predicate.now chunk.now first map.now.scope zones) }
     // So they are those that a scan of the ranges as parts with their statistics selects.
     ensures parted { let M = ⟦<dyn StatsRewriteRule as StatsRewriteRule>⟧ in
         let f = falsifier_of (own_rules M rules.now.own.items) predicate.now in
