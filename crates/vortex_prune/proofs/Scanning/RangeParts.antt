@@ -1,7 +1,7 @@
 -- What a scan by ranges says of the parts that the ranges are, and of the chunk's rows.
-use Rattle.std.proofs.Common.{◌≡◌, ◌+◌, ◌++◌, ℕ, zero, suc, Bool, true, false, List, [], ◌∷◌, Option, Some, IsTrue, ap, ap₂, arith, cond, map, refl, subst, sym, take, ◌∙◌}
+use Rattle.std.proofs.Common.{◌≡◌, ◌+◌, ◌++◌, ℕ, zero, suc, Bool, true, false, List, [], ◌∷◌, Option, Some, IsTrue, ap, ap₂, arith, cond, map, refl, sym, take, ◌∙◌}
 use Rattle.std.specs.List.{AllByRecursion, enumerate_from, filter, flat_map, range_with_len}
-use Rattle.std.specs.Prelude.{◌≤◌, ◌==◌, ◌||◌, Err, IfErr, Result, is_none, nat_le, not as not_b, sum}
+use Rattle.std.specs.Prelude.{◌≤◌, ◌==◌, ◌||◌, is_none, nat_le, not as not_b, sum}
 use Rattle.std.proofs.lemmas.Bool.{and_parts, or_parts}
 use Rattle.std.proofs.lemmas.Bool.Decides.{nat_tests}
 use Rattle.std.proofs.lemmas.List.{map-append}
@@ -27,12 +27,9 @@ use Rattle.vortex_prune.specs.Scanning.ZoneScans.{statistics_answers, zone_verdi
 use Rattle.vortex_prune.specs.Zones.{IsMapOf, MapData, zones_of}
 use Rattle.vortex_prune.specs.declared.scan.verdict.Verdict.{Verdict}
 use Rattle.vortex_prune.specs.declared.scan.verdict.Verdict.TheVariants.{Skipped, Whole, Tested}
-use Rattle.vortex_rewrite.specs.Causes.{Causes, IsRefusal}
 use Rattle.vortex_rewrite.specs.Rewriting.Falsifiers.{falsifier, satisfier}
 use Rattle.vortex_rewrite.specs.Rewriting.Lawful.{OwnRule}
 use Rattle.vortex_rewrite.specs.Rewriting.Predicates.{is_predicate}
-use Rattle.vortex_stats.specs.declared.error.StatsError.{StatsError}
-use Rattle.vortex_stats.specs.declared.error.StatsError.TheVariants.{Mismatch, NotPredicate}
 
 -- ---- the zones of a map are ranges of a chunk
 
@@ -211,10 +208,3 @@ chunk_is_full p k m parts found plain has are is =
     let counted : m.rows ≡ counts_of (zones_of parts) = ap (λ (x : MapData). x.rows) are.is_map.same in
     ap (map (row_in_chunk m.rows)) is ∙ ap (λ ns. map (row_in_chunk ns) (full p parts)) counted
     ∙ full_of_chunk p k parts plain are.ranges (ap sum (sym counted) ∙ same_count k m has)
-
--- ---- refusals
-
--- what is refused for its causes isn't that the zones aren't ranges
-pub no_mismatch : {X : Type 0} (r : Result X StatsError) (b : Bool) (causes : Causes) → (b ≡ true → IfErr r (IsRefusal causes)) → (b ≡ false → r ≡ Err NotPredicate) → r ≡ Err Mismatch → ⊥
-no_mismatch r true causes refusal none is = subst (λ x. IfErr x (IsRefusal causes)) is (refusal refl)
-no_mismatch r false causes refusal none is = let both = sym (none refl) ∙ is in cc

@@ -1,7 +1,7 @@
 //! Scans of one chunk by a map of zones, each a range of its rows.
 use super::*;
 use vortex_base::{Chunk, ScalarValue, Scope};
-use vortex_prune::{Zone, ZoneMap};
+use vortex_prune::{Zone, ZoneMap, scan_ranges_from};
 use vortex_stats::RuleFault;
 
 fn chunk(alloc: Global, rows: &[Option<i32>]) -> Result<Chunk, StatsError> {
@@ -124,6 +124,46 @@ fn refusals_have_an_order(rt: HostRuntime) -> Result<(), Fail> {
     let (chunk, map) = (six_rows(alloc)?, map_with(alloc, &[6])?);
     let found = scanned_by_ranges(alloc, &chunk, &map, &predicate, &rules);
     assert!(rt; matches!(found, Err(StatsError::Rule(RuleFault::Own(3)))));
+    Ok(())
+}
+
+// The scan of the six rows from one on, by the built-in rules and a map.
+fn from_row(
+    alloc: Global,
+    first: usize,
+    map: Result<ZoneMap, StatsError>,
+    predicate: Built,
+) -> Found {
+    let (chunk, map, predicate) = (six_rows(alloc)?, map?, predicate?);
+    if !predicate.is_plain() || !predicate.fits_scope(chunk.scope()) {
+        return Err(StatsError::OpenProof);
+    }
+    let rules = Rules::builtin(alloc);
+    scan_ranges_from(alloc, &chunk, first, &map, &predicate, &rules)
+}
+
+#[test]
+fn a_stretch_is_scanned_by_itself(rt: HostRuntime) -> Result<(), Fail> {
+    let alloc = rt.alloc();
+    let found = from_row(alloc, 2, map_with(alloc, &[1, 2]), above(alloc, 4));
+    expect_found(&rt, found, &[], &[(0, 0), (1, 1)])?;
+    let found = from_row(alloc, 4, map_with(alloc, &[2]), above(alloc, 20));
+    expect_found(&rt, found, &[], &[(0, 1)])?;
+    let found = from_row(alloc, 0, three_zones(alloc), above(alloc, 9))?;
+    assert!(rt; has_found(&found, &[0], &[2], &[(1, 0), (2, 0), (2, 1)]));
+    let found = from_row(alloc, 6, map_with(alloc, &[]), above(alloc, 4));
+    expect_found(&rt, found, &[], &[])
+}
+
+// Zones that begin or end behind the last row are refused, before a predicate of another type.
+#[test]
+fn a_stretch_has_to_be_there(rt: HostRuntime) -> Result<(), Fail> {
+    let alloc = rt.alloc();
+    assert!(rt; is_mismatch(from_row(alloc, 3, map_with(alloc, &[1, 3]), above(alloc, 4))));
+    assert!(rt; is_mismatch(from_row(alloc, 1, map_with(alloc, &[u64::MAX]), above(alloc, 4))));
+    assert!(rt; is_mismatch(from_row(alloc, 7, map_with(alloc, &[]), a(alloc))));
+    let found = from_row(alloc, 3, map_with(alloc, &[3]), a(alloc));
+    assert!(rt; matches!(found, Err(StatsError::NotPredicate)));
     Ok(())
 }
 
