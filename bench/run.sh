@@ -7,12 +7,14 @@ runs="${1:-5}"
 program="$here/../crates/vortex_scan/out/vortex_scan"
 "$here/../scan" --build
 mkdir -p "$here/data"
+# As cargo builds a release that is one unit.
+fast=(-C opt-level=3 -C codegen-units=1 -C lto=fat -C panic=abort)
 plain=()
 plain_measures=()
 if command -v rustc > /dev/null; then
-    rustc --edition 2021 -O "$here/plain/main.rs" -o "$here/data/plain"
+    rustc --edition 2021 "${fast[@]}" "$here/plain/main.rs" -o "$here/data/plain"
     plain=("$here/data/plain")
-    rustc --edition 2021 -O "$here/plain/measures.rs" -o "$here/data/plain_measures"
+    rustc --edition 2021 "${fast[@]}" "$here/plain/measures.rs" -o "$here/data/plain_measures"
     plain_measures=("$here/data/plain_measures")
 fi
 
@@ -37,7 +39,7 @@ done
 # under 16 leaves, beside plain loops over arrays of bounds; the time to make the map alone stands first.
 loops=()
 if command -v rustc > /dev/null; then
-    rustc --edition 2021 -O "$here/plain/zones.rs" -o "$here/data/zones"
+    rustc --edition 2021 "${fast[@]}" "$here/plain/zones.rs" -o "$here/data/zones"
     loops=("$here/data/zones")
 fi
 for work in long_map long_comparison long_leaves broad_map broad_comparison broad_leaves; do

@@ -1,6 +1,7 @@
 //! Prunes and selects as the proved program does, in plain Rust: the baseline of the benchmarks, and an independent
 //! answer to compare with. Reads the text of parts and a predicate from standard input and prints what a scan finds.
 mod like;
+mod plain_rows;
 mod predicate;
 mod prune;
 mod rows;
@@ -8,75 +9,189 @@ mod table;
 mod text;
 mod values;
 
-use std::io::{Read, Write};
+use std::io::{BufWriter, Read, Write};
+use table::{Part, Stats, Table};
+use text::Draft;
 
-const LIMIT: u64 = 16_777_216;
+const LIMIT: usize = 16_777_216;
 
-fn answer(input: &[u8]) -> (u8, String) {
-    match text::read(input) {
-        Err(line) => (2, format!("line {line}: bad\n")),
-        Ok((_, predicate)) if !predicate.is_bool() => (1, "predicate\n".into()),
-        Ok((parts, predicate)) => (0, scan(&parts, &predicate)),
-    }
-}
-
-fn scan(parts: &[table::Part], predicate: &predicate::Node) -> String {
-    let mut skipped = String::from("skipped");
-    let mut selected = String::from("rows");
-    let mut whole = String::new();
-    let mut digits = String::new();
-    for (place, part) in parts.iter().enumerate() {
-        if prune::is_falsified(predicate, part) {
-            skipped.push_str(&format!(" {place}"));
-            continue;
-        }
-        digits.clear();
-        digits.push_str(&format!(" {place}:"));
-        let mut number = itoa::Buffer::default();
-        let mut select = |row| {
-            selected.push_str(&digits);
-            selected.push_str(number.format(row));
-        };
-        if prune::is_satisfied(predicate, part) {
-            whole.push_str(&format!(" {place}"));
-            (0..part.rows).for_each(&mut select);
-        } else {
-            rows::selected(predicate, part).for_each(&mut select);
-        }
-    }
-    if !whole.is_empty() {
-        whole = format!("whole{whole}\n");
-    }
-    skipped + "\n" + &selected + "\n" + &whole
-}
-
-/// Decimal digits without an allocation.
-mod itoa {
-    #[derive(Default)]
-    pub struct Buffer([u8; 20]);
-
-    impl Buffer {
-        pub fn format(&mut self, mut number: usize) -> &str {
-            let mut at = self.0.len();
-            loop {
-                at -= 1;
-                self.0[at] = b'0' + (number % 10) as u8;
-                number /= 10;
-                if number == 0 {
-                    break std::str::from_utf8(&self.0[at..]).expect("digits are ASCII");
-                }
-            }
-        }
-    }
-}
+/// How many bytes are asked for at once.
+const BUFFER: usize = 65_536;
 
 fn main() {
-    let mut input = Vec::new();
-    let (status, printed) = match std::io::stdin().take(LIMIT + 1).read_to_end(&mut input) {
-        Err(_) => (1, "read\n".into()),
-        Ok(_) if input.len() as u64 > LIMIT => (1, "input\n".into()),
-        Ok(_) => answer(&input),
+    let mut output = BufWriter::with_capacity(BUFFER, std::io::stdout().lock());
+    let told = match read(std::io::stdin().lock()) {
+        Ok(draft) => answer(draft, &mut output),
+        Err(word) => output.write_all(word.as_bytes()).map(|()| 1),
     };
-    let written = std::io::stdout().write_all(printed.as_bytes());
-    std::process::exit(if written.is_err() { 1 } else { i32::from(status) });
+    let written = told.and_then(|status| output.flush().map(|()| status));
+    std::process::exit(written.unwrap_or(1));
+}
+
+/// Reads a text to its end, of which it holds the line that has begun.
+fn read(mut input: impl Read) -> Result<Draft, &'static str> {
+    let mut draft = Draft::default();
+    let mut buffer = vec![0; BUFFER];
+    // So many bytes of the buffer are held, the first of them without the end of a line.
+    let (mut held, mut searched, mut total) = (0, 0, 0);
+    loop {
+        if held == buffer.len() {
+            buffer.resize(2 * held, 0);
+        }
+        let count = match input.read(&mut buffer[held..]) {
+            Ok(count) => count,
+            Err(error) if error.kind() == std::io::ErrorKind::Interrupted => continue,
+            Err(_) => return Err("read\n"),
+        };
+        total += count;
+        if total > LIMIT {
+            return Err("input\n");
+        }
+        if count == 0 {
+            break;
+        }
+        held += count;
+        let mut from = 0;
+        while let Some(end) = line_end(&buffer[searched..held]) {
+            let line = &buffer[from..searched + end];
+            if !draft.is_bad {
+                draft.push(line.strip_suffix(b"\r").unwrap_or(line));
+            }
+            from = searched + end + 1;
+            searched = from;
+        }
+        buffer.copy_within(from..held, 0);
+        held -= from;
+        searched = held;
+    }
+    if held > 0 && !draft.is_bad {
+        draft.push(&buffer[..held]);
+    }
+    Ok(draft)
+}
+
+/// The place of the first line feed, found eight bytes at a time.
+fn line_end(bytes: &[u8]) -> Option<usize> {
+    const ONES: u64 = u64::MAX / 255;
+    let (words, rest) = bytes.as_chunks::<8>();
+    for (at, word) in words.iter().enumerate() {
+        let differing = u64::from_le_bytes(*word) ^ (ONES * u64::from(b'\n'));
+        let found = differing.wrapping_sub(ONES) & !differing & (ONES << 7);
+        if found != 0 {
+            return Some(8 * at + found.trailing_zeros() as usize / 8);
+        }
+    }
+    rest.iter().position(|b| *b == b'\n').map(|place| 8 * words.len() + place)
+}
+
+fn answer(draft: Draft, output: &mut impl Write) -> std::io::Result<i32> {
+    let Draft { mut table, predicate, lines, is_bad, .. } = draft;
+    match predicate {
+        Some(predicate) if !is_bad && predicate.is_bool() => {
+            let parts = table.parts().to_vec();
+            scan(&table, &parts, &predicate, output).map(|()| 0)
+        }
+        Some(_) if !is_bad => output.write_all(b"predicate\n").map(|()| 1),
+        _ => writeln!(output, "line {}: bad", lines + usize::from(!is_bad)).map(|()| 2),
+    }
+}
+
+/// What statistics prove of a part.
+#[derive(Clone, Copy, PartialEq, Eq)]
+enum Verdict {
+    Skipped,
+    Whole,
+    Tested,
+}
+
+fn verdicts(table: &Table, parts: &[Part], predicate: &predicate::Node) -> Vec<Verdict> {
+    let mut known = vec![Stats::default(); table.columns.len()];
+    let verdict = |part: &Part| {
+        let entries = part.entries(&table.log);
+        table::note(&mut known, entries);
+        let told = prune::Known { stats: &known, rows: u64::from(part.rows) };
+        let verdict = if prune::is_falsified(predicate, &told) {
+            Verdict::Skipped
+        } else if prune::is_satisfied(predicate, &told) {
+            Verdict::Whole
+        } else {
+            Verdict::Tested
+        };
+        table::forget(&mut known, entries);
+        verdict
+    };
+    parts.iter().map(verdict).collect()
+}
+
+fn scan(table: &Table, parts: &[Part], predicate: &predicate::Node, output: &mut impl Write) -> std::io::Result<()> {
+    let verdicts = verdicts(table, parts, predicate);
+    output.write_all(b"skipped")?;
+    places(&verdicts, Verdict::Skipped, output)?;
+    output.write_all(b"\nrows")?;
+    let mut test = rows::Test::new(&table.columns);
+    let (mut first, mut selected) = (0, Vec::new());
+    for (place, (part, verdict)) in parts.iter().zip(&verdicts).enumerate() {
+        let rows = part.rows as usize;
+        let front = format!(" {place}:");
+        let mut select = |row| {
+            selected.extend_from_slice(front.as_bytes());
+            push_digits(&mut selected, row);
+        };
+        match verdict {
+            Verdict::Skipped => {}
+            Verdict::Whole => (0..rows).for_each(&mut select),
+            Verdict::Tested => test.select(predicate, first, rows, &mut select),
+        }
+        first += rows;
+        if selected.len() > BUFFER {
+            output.write_all(&selected)?;
+            selected.clear();
+        }
+    }
+    output.write_all(&selected)?;
+    output.write_all(b"\n")?;
+    if verdicts.contains(&Verdict::Whole) {
+        output.write_all(b"whole")?;
+        places(&verdicts, Verdict::Whole, output)?;
+        output.write_all(b"\n")?;
+    }
+    Ok(())
+}
+
+fn places(verdicts: &[Verdict], wanted: Verdict, output: &mut impl Write) -> std::io::Result<()> {
+    let mut word = Vec::new();
+    for (place, _) in verdicts.iter().enumerate().filter(|(_, verdict)| **verdict == wanted) {
+        word.clear();
+        word.push(b' ');
+        push_digits(&mut word, place);
+        output.write_all(&word)?;
+    }
+    Ok(())
+}
+
+/// Decimal digits, two at a time.
+fn push_digits(to: &mut Vec<u8>, mut number: usize) {
+    const PAIRS: [[u8; 2]; 100] = pairs();
+    let mut digits = [0; 20];
+    let mut at = digits.len();
+    while number >= 10 {
+        at -= 2;
+        digits[at..at + 2].copy_from_slice(&PAIRS[number % 100]);
+        number /= 100;
+    }
+    if number > 0 || at == digits.len() {
+        at -= 1;
+        digits[at] = b'0' + number as u8;
+    }
+    to.extend_from_slice(&digits[at..]);
+}
+
+const fn pairs() -> [[u8; 2]; 100] {
+    let mut pairs = [[b'0'; 2]; 100];
+    let mut number = 0;
+    while number < 100 {
+        pairs[number] = [b'0' + (number / 10) as u8, b'0' + (number % 10) as u8];
+        number += 1;
+    }
+    pairs
 }

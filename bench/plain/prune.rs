@@ -1,11 +1,17 @@
 //! Whether the statistics of a part prove that no row of it satisfies a predicate, or that every row does.
 use crate::like::Range;
 use crate::predicate::{Comparison, Node, Op};
-use crate::table::{Part, Stats};
+use crate::table::Stats;
 use crate::values::Value;
 use std::cmp::Ordering;
 
-pub fn is_falsified(e: &Node, part: &Part) -> bool {
+/// What is known of a part: the statistics of its columns, and how many rows it has.
+pub struct Known<'a> {
+    pub stats: &'a [Stats<'a>],
+    pub rows: u64,
+}
+
+pub fn is_falsified(e: &Node, part: &Known) -> bool {
     match &e.op {
         Op::Literal(Some(Value::Bool(false))) => true,
         Op::And(sides) => is_falsified(&sides[0], part) || is_falsified(&sides[1], part),
@@ -25,7 +31,7 @@ pub fn is_falsified(e: &Node, part: &Part) -> bool {
     }
 }
 
-pub fn is_satisfied(e: &Node, part: &Part) -> bool {
+pub fn is_satisfied(e: &Node, part: &Known) -> bool {
     match &e.op {
         Op::Literal(value) => matches!(value, Some(Value::Bool(true))),
         Op::And(sides) => is_satisfied(&sides[0], part) && is_satisfied(&sides[1], part),
@@ -44,12 +50,12 @@ pub fn is_satisfied(e: &Node, part: &Part) -> bool {
 /// The least and the greatest value, where they are known.
 type Bounds<'a> = (Option<&'a Value>, Option<&'a Value>);
 
-fn bounds<'a>(e: &'a Node, part: &'a Part) -> Bounds<'a> {
+fn bounds<'a>(e: &'a Node, part: &Known<'a>) -> Bounds<'a> {
     match &e.op {
         Op::Literal(value) => (value.as_ref(), value.as_ref()),
         Op::Column(place) => {
-            let Stats { min, max, .. } = &part.columns[*place].stats;
-            (min.as_ref(), max.as_ref())
+            let Stats { min, max, .. } = part.stats[*place];
+            (min, max)
         }
         _ => (None, None),
     }
@@ -70,15 +76,20 @@ fn compared(by: Comparison, l: Bounds, r: Bounds) -> bool {
     }
 }
 
-fn is_beyond(lower: bool, upper: bool, [x, l, u]: &[Node; 3], part: &Part) -> bool {
+/// The ends of a range of numbers, strict ones moved in by one.
+fn closed(lower: bool, upper: bool, low: &Value, high: &Value) -> Option<(i128, i128)> {
+    Some((low.number()? + i128::from(lower), high.number()? - i128::from(upper)))
+}
+
+fn is_beyond(lower: bool, upper: bool, [x, l, u]: &[Node; 3], part: &Known) -> bool {
     let by = |strict: bool| if strict { Comparison::Lt } else { Comparison::Le };
     if let (Op::Literal(Some(low)), Op::Literal(Some(high))) = (&l.op, &u.op) {
-        if let (Value::Number(low), Value::Number(high)) = (low, high) {
-            let (low, high) = (low + i128::from(lower), high - i128::from(upper));
-            let x = bounds(x, part);
+        if let Some((low, high)) = closed(lower, upper, low, high) {
+            let (least, greatest) = bounds(x, part);
+            let number = |value: &Value| value.number().expect("a number");
             return low > high
-                || holds(Some(&Value::Number(low)), Ordering::is_gt, x.1)
-                || holds(x.0, Ordering::is_gt, Some(&Value::Number(high)));
+                || greatest.is_some_and(|value| low > number(value))
+                || least.is_some_and(|value| number(value) > high);
         }
         match low.order(high) {
             Ordering::Greater => return true,
@@ -96,7 +107,7 @@ struct Side<'a> {
     has_values: bool,
 }
 
-fn side<'a>(e: &'a Node, part: &'a Part) -> Side<'a> {
+fn side<'a>(e: &'a Node, part: &Known<'a>) -> Side<'a> {
     let has_values = match &e.op {
         Op::Literal(_) => true,
         Op::Column(_) => has_no_null(e, part),
@@ -118,16 +129,17 @@ fn is_met(by: Comparison, left: &Side, right: &Side) -> bool {
     is_met && left.has_values && right.has_values
 }
 
-fn is_within(lower: bool, upper: bool, [x, l, u]: &[Node; 3], part: &Part) -> bool {
+fn is_within(lower: bool, upper: bool, [x, l, u]: &[Node; 3], part: &Known) -> bool {
     let by = |strict: bool| if strict { Comparison::Lt } else { Comparison::Le };
     let operand = side(x, part);
     if let (Op::Literal(Some(low)), Op::Literal(Some(high))) = (&l.op, &u.op) {
-        if let (Value::Number(low), Value::Number(high)) = (low, high) {
-            let (low, high) = (Value::Number(low + i128::from(lower)), Value::Number(high - i128::from(upper)));
-            let end = |value| Side { bounds: (Some(value), Some(value)), has_values: true };
-            return low.order(&high).is_le()
-                && is_met(Comparison::Le, &end(&low), &operand)
-                && is_met(Comparison::Le, &operand, &end(&high));
+        if let Some((low, high)) = closed(lower, upper, low, high) {
+            let number = |value: &Value| value.number().expect("a number");
+            let (least, greatest) = operand.bounds;
+            return low <= high
+                && operand.has_values
+                && least.is_some_and(|value| low <= number(value))
+                && greatest.is_some_and(|value| number(value) <= high);
         }
         match low.order(high) {
             Ordering::Greater => return false,
@@ -139,7 +151,7 @@ fn is_within(lower: bool, upper: bool, [x, l, u]: &[Node; 3], part: &Part) -> bo
 }
 
 fn is_outside(range: &Range, (min, max): Bounds) -> bool {
-    let text = |text: &str| Value::Bytes(text.as_bytes().to_vec());
+    let text = |text: &str| Value::Bytes(text.as_bytes().into());
     match range {
         Range::Exact(t) => {
             let t = text(t);
@@ -151,19 +163,19 @@ fn is_outside(range: &Range, (min, max): Bounds) -> bool {
     }
 }
 
-fn has_no_null(x: &Node, part: &Part) -> bool {
+fn has_no_null(x: &Node, part: &Known) -> bool {
     match &x.op {
         Op::Literal(value) => value.is_some(),
-        Op::Column(place) => matches!(part.columns[*place].stats.nulls, Some((0, _))),
+        Op::Column(place) => matches!(part.stats[*place].nulls, Some((0, _))),
         _ => false,
     }
 }
 
-fn has_only_nulls(x: &Node, part: &Part) -> bool {
-    let rows = part.rows as u64;
+fn has_only_nulls(x: &Node, part: &Known) -> bool {
+    let rows = part.rows;
     match &x.op {
         Op::Literal(value) => u64::from(value.is_none()) == rows,
-        Op::Column(place) => match part.columns[*place].stats.nulls {
+        Op::Column(place) => match part.stats[*place].nulls {
             Some((count, true)) => count == rows,
             // an inexact count of 0 is handed out as 0
             Some((0, false)) => rows == 0,

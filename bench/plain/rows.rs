@@ -1,133 +1,228 @@
-//! The rows of a part that satisfy a predicate, a column at a time.
+//! The rows of a part that satisfy a predicate, a column at a time over blocks of rows.
 use crate::like::Pattern;
 use crate::predicate::{Comparison, Node, Op};
-use crate::table::{Cells, Part};
+use crate::table::{Cells, Column};
 use crate::values::Value;
 use std::cmp::Ordering;
 
-/// The truth of a node on a row.
-#[derive(Clone, Copy, PartialEq, Eq)]
-enum Truth {
-    No,
-    Null,
-    Yes,
-}
+/// The truth of a node on a row, so that AND is the lesser of two and OR the greater.
+type Truth = u8;
 
-use Truth::{No, Null, Yes};
+const NO: Truth = 0;
+const NULL: Truth = 1;
+const YES: Truth = 2;
 
-pub fn selected(predicate: &Node, part: &Part) -> impl Iterator<Item = usize> {
-    truths(predicate, part).into_iter().enumerate().filter(|(_, truth)| *truth == Yes).map(|(row, _)| row)
-}
+/// How many rows are looked at together.
+const BLOCK: usize = 1024;
 
 fn of(b: bool) -> Truth {
-    if b { Yes } else { No }
+    if b { YES } else { NO }
 }
 
 fn turned(truth: Truth) -> Truth {
-    match truth {
-        Yes => No,
-        Null => Null,
-        No => Yes,
+    YES - truth
+}
+
+/// Rows with marks of those of which the truth is asked: of the others any may be told.
+#[derive(Clone, Copy)]
+struct Asked<'a> {
+    from: usize,
+    /// Truths of a side that decide by themselves where they are this one.
+    decided: Option<(&'a [Truth], Truth)>,
+}
+
+impl Asked<'_> {
+    fn is_asked(&self, place: usize) -> bool {
+        self.decided.is_none_or(|(truths, decides)| truths[place] != decides)
     }
 }
 
-fn both(a: Truth, b: Truth) -> Truth {
-    if (a as u8) < (b as u8) { a } else { b }
+pub struct Test<'a> {
+    columns: &'a [Column],
+    /// Buffers of a block that no node uses.
+    spare: Vec<Vec<Truth>>,
 }
 
-fn either(a: Truth, b: Truth) -> Truth {
-    if (a as u8) < (b as u8) { b } else { a }
-}
+impl<'a> Test<'a> {
+    pub fn new(columns: &'a [Column]) -> Test<'a> {
+        Test { columns, spare: Vec::new() }
+    }
 
-fn joined(mut left: Vec<Truth>, right: &[Truth], by: fn(Truth, Truth) -> Truth) -> Vec<Truth> {
-    left.iter_mut().zip(right).for_each(|(l, r)| *l = by(*l, *r));
-    left
-}
-
-fn truths(e: &Node, part: &Part) -> Vec<Truth> {
-    let rows = part.rows;
-    match &e.op {
-        Op::Literal(Some(Value::Bool(b))) => vec![of(*b); rows],
-        Op::Literal(_) => vec![Null; rows],
-        Op::Column(place) => {
-            let column = &part.columns[*place];
-            let Cells::Bool(values) = &column.cells else { unreachable!("a truth") };
-            values.iter().zip(&column.nulls).map(|(b, null)| if *null { Null } else { of(*b) }).collect()
-        }
-        Op::And(sides) => joined(truths(&sides[0], part), &truths(&sides[1], part), both),
-        Op::Or(sides) => joined(truths(&sides[0], part), &truths(&sides[1], part), either),
-        Op::Not(x) => truths(x, part).into_iter().map(turned).collect(),
-        Op::IsNull(x) => (0..rows).map(|row| of(is_null(x, part, row))).collect(),
-        Op::IsNotNull(x) => (0..rows).map(|row| of(!is_null(x, part, row))).collect(),
-        Op::Compare(by, sides) => compared(*by, &sides[0], &sides[1], part),
-        Op::Between(lower, upper, operands) => {
-            let by = |strict: bool| if strict { Comparison::Lt } else { Comparison::Le };
-            let [x, l, u] = &**operands;
-            if !matches!(x.op, Op::Column(_)) {
-                return (0..rows).map(|row| truth_at(e, part, row)).collect();
+    /// Hands out the rows from one on that satisfy a predicate, by their places from there.
+    pub fn select(&mut self, predicate: &Node, from: usize, rows: usize, mut select: impl FnMut(usize)) {
+        let mut truths = [NO; BLOCK];
+        for start in (0..rows).step_by(BLOCK) {
+            let block = &mut truths[..BLOCK.min(rows - start)];
+            self.fill(predicate, Asked { from: from + start, decided: None }, block);
+            for (place, truth) in block.iter().enumerate() {
+                if *truth == YES {
+                    select(start + place);
+                }
             }
-            joined(compared(by(*lower), l, x, part), &compared(by(*upper), x, u, part), both)
-        }
-        Op::Like { negated, ignores_case, pattern, sides } => {
-            let side = |truth| if *negated { turned(truth) } else { truth };
-            (0..rows).map(|row| side(liked(*ignores_case, pattern.as_ref(), sides, part, row))).collect()
         }
     }
-}
 
-fn liked(ignores_case: bool, pattern: Option<&Pattern>, sides: &[Node; 2], part: &Part, row: usize) -> Truth {
-    let (Some(text), Some(by)) = (bytes(&sides[0], part, row), bytes(&sides[1], part, row)) else { return Null };
-    let text = std::str::from_utf8(text).expect("a text");
-    match pattern {
-        Some(pattern) => of(pattern.matches(text)),
-        None => of(Pattern::read(std::str::from_utf8(by).expect("a text"), ignores_case).matches(text)),
-    }
-}
-
-fn bytes<'a>(e: &'a Node, part: &'a Part, row: usize) -> Option<&'a [u8]> {
-    match &e.op {
-        Op::Column(place) => {
-            let column = &part.columns[*place];
-            (!column.nulls[row]).then(|| column.bytes(row))
+    fn fill(&mut self, e: &Node, asked: Asked, out: &mut [Truth]) {
+        let from = asked.from;
+        match &e.op {
+            Op::And(sides) => self.connect(sides, asked, NO, |a, b| a.min(b), out),
+            Op::Or(sides) => self.connect(sides, asked, YES, |a, b| a.max(b), out),
+            Op::Not(x) => {
+                self.fill(x, Asked { from, decided: None }, out);
+                out.iter_mut().for_each(|truth| *truth = turned(*truth));
+            }
+            Op::Compare(by, sides) => self.compare(*by, &sides[0], &sides[1], asked, out),
+            Op::Between(lower, upper, operands) if matches!(operands[0].op, Op::Column(_)) => {
+                let by = |strict: bool| if strict { Comparison::Lt } else { Comparison::Le };
+                let [x, l, u] = &**operands;
+                self.compare(by(*lower), l, x, asked, out);
+                let mut more = self.buffer(out.len());
+                self.compare(by(*upper), x, u, asked, &mut more);
+                out.iter_mut().zip(&more).for_each(|(a, b)| *a = (*a).min(*b));
+                self.spare.push(more);
+            }
+            _ => self.each(e, asked, out),
         }
-        Op::Literal(Some(Value::Bytes(bytes))) => Some(bytes),
-        _ => None,
     }
-}
 
-fn is_null(e: &Node, part: &Part, row: usize) -> bool {
-    match &e.op {
-        Op::Column(place) => part.columns[*place].nulls[row],
-        Op::Literal(value) => value.is_none(),
-        _ => truth_at(e, part, row) == Null,
+    fn buffer(&mut self, rows: usize) -> Vec<Truth> {
+        let mut buffer = self.spare.pop().unwrap_or_default();
+        buffer.resize(rows, NO);
+        buffer
     }
-}
 
-fn truth_at(e: &Node, part: &Part, row: usize) -> Truth {
-    let one = |e: &Node| truth_at(e, part, row);
-    match &e.op {
-        Op::Literal(Some(Value::Bool(b))) => of(*b),
-        Op::Column(place) => match &part.columns[*place].cells {
-            _ if part.columns[*place].nulls[row] => Null,
-            Cells::Bool(values) => of(values[row]),
-            _ => unreachable!("a truth"),
-        },
-        Op::Literal(_) => Null,
-        Op::And(sides) => both(one(&sides[0]), one(&sides[1])),
-        Op::Or(sides) => either(one(&sides[0]), one(&sides[1])),
-        Op::Not(x) => turned(one(x)),
-        Op::IsNull(x) => of(is_null(x, part, row)),
-        Op::IsNotNull(x) => of(!is_null(x, part, row)),
-        Op::Compare(by, sides) => compared_at(*by, &sides[0], &sides[1], part, row),
-        Op::Between(lower, upper, operands) => {
-            let by = |strict: bool| test(if strict { Comparison::Lt } else { Comparison::Le });
-            let [x, l, u] = operands.each_ref().map(|e| scalar(e, part, row));
-            both(scalars_compared(by(*lower), &l, &x), scalars_compared(by(*upper), &x, &u))
+    fn connect(&mut self, sides: &[Node; 2], asked: Asked, decides: Truth, by: fn(Truth, Truth) -> Truth, out: &mut [Truth]) {
+        self.fill(&sides[0], asked, out);
+        if out.iter().all(|truth| *truth == decides) {
+            return;
         }
-        Op::Like { negated, ignores_case, pattern, sides } => {
-            let truth = liked(*ignores_case, pattern.as_ref(), sides, part, row);
-            if *negated { turned(truth) } else { truth }
+        let mut more = self.buffer(out.len());
+        self.fill(&sides[1], Asked { from: asked.from, decided: Some((out, decides)) }, &mut more);
+        out.iter_mut().zip(&more).for_each(|(a, b)| *a = by(*a, *b));
+        self.spare.push(more);
+    }
+
+    fn each(&self, e: &Node, asked: Asked, out: &mut [Truth]) {
+        for (place, truth) in out.iter_mut().enumerate() {
+            *truth = if asked.is_asked(place) { self.truth(e, asked.from + place) } else { NO };
         }
+    }
+
+    fn compare(&self, by: Comparison, left: &Node, right: &Node, asked: Asked, out: &mut [Truth]) {
+        match (&left.op, &right.op) {
+            (Op::Column(place), Op::Literal(Some(value))) => self.against(by, *place, value, asked, out),
+            (Op::Literal(Some(value)), Op::Column(place)) => self.against(mirrored(by), *place, value, asked, out),
+            _ => {
+                for (place, truth) in out.iter_mut().enumerate() {
+                    *truth = self.compared(by, left, right, asked.from + place);
+                }
+            }
+        }
+    }
+
+    /// A column compared with a literal.
+    fn against(&self, by: Comparison, place: usize, value: &Value, asked: Asked, out: &mut [Truth]) {
+        let column = &self.columns[place];
+        let rows = asked.from..asked.from + out.len();
+        let there = &column.there[rows.clone()];
+        match (&column.cells, value) {
+            (Cells::Signed(values), Value::Signed(l)) => mark(by, &values[rows], there, *l, out),
+            (Cells::Unsigned(values), Value::Unsigned(l)) => mark(by, &values[rows], there, *l, out),
+            (Cells::Bool(values), Value::Bool(l)) => mark(by, &values[rows], there, *l, out),
+            (Cells::Bytes { .. }, Value::Bytes(l)) => {
+                let test = test(by);
+                for (place, truth) in out.iter_mut().enumerate() {
+                    *truth = match (asked.is_asked(place), there[place]) {
+                        (true, true) => of(test(column.bytes(asked.from + place).cmp(l))),
+                        (_, is_there) => if is_there { NO } else { NULL },
+                    };
+                }
+            }
+            _ => unreachable!("operands of one type"),
+        }
+    }
+
+    fn bytes<'b>(&'b self, e: &'b Node, row: usize) -> Option<&'b [u8]> {
+        match &e.op {
+            Op::Column(place) => {
+                let column = &self.columns[*place];
+                column.there[row].then(|| column.bytes(row))
+            }
+            Op::Literal(Some(Value::Bytes(bytes))) => Some(bytes),
+            _ => None,
+        }
+    }
+
+    fn liked(&self, ignores_case: bool, pattern: Option<&Pattern>, sides: &[Node; 2], row: usize) -> Truth {
+        let (Some(text), Some(by)) = (self.bytes(&sides[0], row), self.bytes(&sides[1], row)) else { return NULL };
+        let text = std::str::from_utf8(text).expect("a text");
+        match pattern {
+            Some(pattern) => of(pattern.matches(text)),
+            None => of(Pattern::read(std::str::from_utf8(by).expect("a text"), ignores_case).matches(text)),
+        }
+    }
+
+    fn is_null(&self, e: &Node, row: usize) -> bool {
+        match &e.op {
+            Op::Column(place) => !self.columns[*place].there[row],
+            Op::Literal(value) => value.is_none(),
+            _ => self.truth(e, row) == NULL,
+        }
+    }
+
+    fn truth(&self, e: &Node, row: usize) -> Truth {
+        let one = |e: &Node| self.truth(e, row);
+        match &e.op {
+            Op::Literal(Some(Value::Bool(b))) => of(*b),
+            Op::Literal(_) => NULL,
+            Op::Column(place) => match &self.columns[*place].cells {
+                _ if !self.columns[*place].there[row] => NULL,
+                Cells::Bool(values) => of(values[row]),
+                _ => unreachable!("a truth"),
+            },
+            Op::And(sides) => one(&sides[0]).min(one(&sides[1])),
+            Op::Or(sides) => one(&sides[0]).max(one(&sides[1])),
+            Op::Not(x) => turned(one(x)),
+            Op::IsNull(x) => of(self.is_null(x, row)),
+            Op::IsNotNull(x) => of(!self.is_null(x, row)),
+            Op::Compare(by, sides) => self.compared(*by, &sides[0], &sides[1], row),
+            Op::Between(lower, upper, operands) => {
+                let by = |strict: bool| test(if strict { Comparison::Lt } else { Comparison::Le });
+                let [x, l, u] = operands.each_ref().map(|e| self.scalar(e, row));
+                scalars_compared(by(*lower), &l, &x).min(scalars_compared(by(*upper), &x, &u))
+            }
+            Op::Like { negated, ignores_case, pattern, sides } => {
+                let truth = self.liked(*ignores_case, pattern.as_ref(), sides, row);
+                if *negated { turned(truth) } else { truth }
+            }
+        }
+    }
+
+    fn compared(&self, by: Comparison, left: &Node, right: &Node, row: usize) -> Truth {
+        scalars_compared(test(by), &self.scalar(left, row), &self.scalar(right, row))
+    }
+
+    fn scalar<'b>(&'b self, e: &'b Node, row: usize) -> Option<Scalar<'b>> {
+        Some(match &e.op {
+            Op::Literal(value) => match value.as_ref()? {
+                Value::Bool(b) => Scalar::Bool(*b),
+                Value::Signed(n) => Scalar::Signed(*n),
+                Value::Unsigned(n) => Scalar::Unsigned(*n),
+                Value::Bytes(bytes) => Scalar::Bytes(bytes),
+            },
+            Op::Column(place) if !self.columns[*place].there[row] => return None,
+            Op::Column(place) => match &self.columns[*place].cells {
+                Cells::Bool(values) => Scalar::Bool(values[row]),
+                Cells::Signed(values) => Scalar::Signed(values[row]),
+                Cells::Unsigned(values) => Scalar::Unsigned(values[row]),
+                Cells::Bytes { .. } => Scalar::Bytes(self.columns[*place].bytes(row)),
+                Cells::Null => unreachable!("a null"),
+            },
+            _ => match self.truth(e, row) {
+                NULL => return None,
+                truth => Scalar::Bool(truth == YES),
+            },
+        })
     }
 }
 
@@ -152,52 +247,27 @@ fn mirrored(by: Comparison) -> Comparison {
     }
 }
 
-fn compared(by: Comparison, left: &Node, right: &Node, part: &Part) -> Vec<Truth> {
-    match (&left.op, &right.op) {
-        (Op::Column(place), Op::Literal(Some(value))) => against(by, *place, value, part),
-        (Op::Literal(Some(value)), Op::Column(place)) => against(mirrored(by), *place, value, part),
-        _ => (0..part.rows).map(|row| compared_at(by, left, right, part, row)).collect(),
-    }
-}
-
-/// A column compared with a literal.
-fn against(by: Comparison, place: usize, value: &Value, part: &Part) -> Vec<Truth> {
-    let column = &part.columns[place];
-    let nulls = &column.nulls;
-    fn marks<T: Ord + Copy>(by: Comparison, values: &[T], nulls: &[bool], literal: T) -> Vec<Truth> {
-        let all = |test: fn(T, T) -> bool| {
-            values.iter().zip(nulls).map(|(v, null)| if *null { Null } else { of(test(*v, literal)) }).collect()
-        };
-        match by {
-            Comparison::Eq => all(|v, l| v == l),
-            Comparison::Ne => all(|v, l| v != l),
-            Comparison::Gt => all(|v, l| v > l),
-            Comparison::Ge => all(|v, l| v >= l),
-            Comparison::Lt => all(|v, l| v < l),
-            Comparison::Le => all(|v, l| v <= l),
+/// One loop for each operator, without a branch on a value.
+fn mark<T: Ord + Copy>(by: Comparison, values: &[T], there: &[bool], literal: T, out: &mut [Truth]) {
+    fn all<T: Copy>(values: &[T], there: &[bool], out: &mut [Truth], holds: impl Fn(T) -> bool) {
+        for ((value, is_there), truth) in values.iter().zip(there).zip(out) {
+            *truth = if *is_there { of(holds(*value)) } else { NULL };
         }
     }
-    match (&column.cells, value) {
-        (Cells::Signed(values), Value::Number(l)) => marks(by, values, nulls, *l as i64),
-        (Cells::Unsigned(values), Value::Number(l)) => marks(by, values, nulls, *l as u64),
-        (Cells::Bool(values), Value::Bool(l)) => marks(by, values, nulls, *l),
-        (Cells::Bytes { .. }, Value::Bytes(l)) => {
-            let test = test(by);
-            let truth = |row| if nulls[row] { Null } else { of(test(column.bytes(row).cmp(l))) };
-            (0..part.rows).map(truth).collect()
-        }
-        _ => unreachable!("operands of one type"),
+    match by {
+        Comparison::Eq => all(values, there, out, |value| value == literal),
+        Comparison::Ne => all(values, there, out, |value| value != literal),
+        Comparison::Gt => all(values, there, out, |value| value > literal),
+        Comparison::Ge => all(values, there, out, |value| value >= literal),
+        Comparison::Lt => all(values, there, out, |value| value < literal),
+        Comparison::Le => all(values, there, out, |value| value <= literal),
     }
-}
-
-fn compared_at(by: Comparison, left: &Node, right: &Node, part: &Part, row: usize) -> Truth {
-    scalars_compared(test(by), &scalar(left, part, row), &scalar(right, part, row))
 }
 
 fn scalars_compared(test: fn(Ordering) -> bool, left: &Option<Scalar>, right: &Option<Scalar>) -> Truth {
     match (left, right) {
         (Some(left), Some(right)) => of(test(left.cmp(right))),
-        _ => Null,
+        _ => NULL,
     }
 }
 
@@ -205,28 +275,7 @@ fn scalars_compared(test: fn(Ordering) -> bool, left: &Option<Scalar>, right: &O
 #[derive(PartialEq, Eq, PartialOrd, Ord)]
 enum Scalar<'a> {
     Bool(bool),
-    Number(i128),
+    Signed(i64),
+    Unsigned(u64),
     Bytes(&'a [u8]),
-}
-
-fn scalar<'a>(e: &'a Node, part: &'a Part, row: usize) -> Option<Scalar<'a>> {
-    Some(match &e.op {
-        Op::Literal(value) => match value.as_ref()? {
-            Value::Bool(b) => Scalar::Bool(*b),
-            Value::Number(n) => Scalar::Number(*n),
-            Value::Bytes(bytes) => Scalar::Bytes(bytes),
-        },
-        Op::Column(place) if part.columns[*place].nulls[row] => return None,
-        Op::Column(place) => match &part.columns[*place].cells {
-            Cells::Bool(values) => Scalar::Bool(values[row]),
-            Cells::Signed(values) => Scalar::Number(values[row].into()),
-            Cells::Unsigned(values) => Scalar::Number(values[row].into()),
-            Cells::Bytes { .. } => Scalar::Bytes(part.columns[*place].bytes(row)),
-            Cells::Null => unreachable!("a null"),
-        },
-        _ => match truth_at(e, part, row) {
-            Null => return None,
-            truth => Scalar::Bool(truth == Yes),
-        },
-    })
 }

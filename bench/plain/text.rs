@@ -1,6 +1,7 @@
 //! The language of the input: lines of words that give columns, parts and a predicate.
 use crate::predicate::{Comparison, Node};
-use crate::table::{Cells, Part};
+use crate::table::{Cells, Claim, Column, Table};
+use crate::plain_rows as rows;
 use crate::values::{Kind, Type, Value};
 use std::borrow::Cow;
 use std::collections::HashMap;
@@ -84,7 +85,12 @@ fn whole_number(word: &str, kind: Kind) -> Option<i128> {
         size = (size * 10 + i128::from(digit - b'0')).min(1 << 70);
     }
     let number = if negative { -size } else { size };
-    (kind.least() <= number && number <= kind.greatest()).then_some(number)
+    let (least, greatest) = match kind {
+        Kind::Signed(bits) => (-(1i128 << (bits - 1)), (1i128 << (bits - 1)) - 1),
+        Kind::Unsigned(bits) => (0, (1i128 << bits) - 1),
+        _ => return None,
+    };
+    (least <= number && number <= greatest).then_some(number)
 }
 
 fn hex(word: &str) -> Option<Vec<u8>> {
@@ -100,15 +106,16 @@ fn hex(word: &str) -> Option<Vec<u8>> {
 fn value(word: &Word, dtype: Type) -> Option<Option<Value>> {
     let word = match word {
         Word::Quoted(text) => {
-            return (dtype.kind == Kind::Utf8).then(|| Some(Value::Bytes(text.as_bytes().to_vec())));
+            return (dtype.kind == Kind::Utf8).then(|| Some(Value::Bytes(text.as_bytes().into())));
         }
         Word::Plain("null") => return dtype.nullable.then_some(None),
         Word::Plain(word) => *word,
     };
     Some(Some(match dtype.kind {
         Kind::Bool => Value::Bool(truth(word)?),
-        Kind::Signed(_) | Kind::Unsigned(_) => Value::Number(whole_number(word, dtype.kind)?),
-        Kind::Binary => Value::Bytes(hex(word)?),
+        Kind::Signed(_) => Value::Signed(whole_number(word, dtype.kind)? as i64),
+        Kind::Unsigned(_) => Value::Unsigned(whole_number(word, dtype.kind)? as u64),
+        Kind::Binary => Value::Bytes(hex(word)?.into()),
         Kind::Null | Kind::Utf8 => return None,
     }))
 }
@@ -128,53 +135,109 @@ fn is_name(word: &str) -> bool {
         && word.len() <= BYTES_OF_A_NAME
 }
 
-#[derive(Default)]
-struct Draft {
-    names: HashMap<String, usize>,
-    types: Vec<Type>,
-    parts: Vec<Part>,
-    /// A join closes the last part.
-    is_closed: bool,
-    predicate: Option<Node>,
+/// A statistic of a column, with the type of its value where others matter.
+#[derive(Clone, Copy)]
+enum Stat {
+    Min(Type),
+    Max(Type),
+    NullCount,
+    Other(Type),
 }
 
-/// The parts and the predicate of a text, or the number of its first bad line.
-pub fn read(input: &[u8]) -> Result<(Vec<Part>, Node), usize> {
-    let valid = match std::str::from_utf8(input) {
-        Ok(text) => text,
-        Err(error) => std::str::from_utf8(&input[..error.valid_up_to()]).expect("the valid front"),
-    };
-    let is_cut = valid.len() < input.len();
-    let mut draft = Draft::default();
-    let mut number = 0;
-    let mut rest = valid;
-    while !rest.is_empty() || (is_cut && number == 0) {
-        number += 1;
-        let Some(end) = memchr(rest) else {
-            if is_cut || draft.line(rest).is_none() {
-                return Err(number);
-            }
-            break;
-        };
-        let line = &rest[..end];
-        draft.line(line.strip_suffix('\r').unwrap_or(line)).ok_or(number)?;
-        rest = &rest[end + 1..];
-        if rest.is_empty() && is_cut {
-            return Err(number + 1);
+impl Stat {
+    fn read(word: &[u8], column: Type) -> Option<Stat> {
+        let plain = |kind| Type { kind, nullable: false };
+        Some(match word {
+            b"max" if column.kind != Kind::Null => Stat::Max(plain(column.kind)),
+            b"min" if column.kind != Kind::Null => Stat::Min(plain(column.kind)),
+            b"null_count" => Stat::NullCount,
+            b"uncompressed_size_in_bytes" => Stat::Other(plain(Kind::Unsigned(64))),
+            b"is_constant" | b"is_sorted" | b"is_strict_sorted" => Stat::Other(plain(Kind::Bool)),
+            b"sum" => match column.kind {
+                Kind::Signed(_) => Stat::Other(plain(Kind::Signed(64))),
+                Kind::Unsigned(_) | Kind::Bool => Stat::Other(plain(Kind::Unsigned(64))),
+                _ => return None,
+            },
+            _ => return None,
+        })
+    }
+
+    fn dtype(self) -> Type {
+        match self {
+            Stat::Min(dtype) | Stat::Max(dtype) | Stat::Other(dtype) => dtype,
+            Stat::NullCount => Type { kind: Kind::Unsigned(64), nullable: false },
         }
     }
-    match draft.predicate {
-        Some(predicate) => Ok((draft.parts, predicate)),
-        None => Err(number + 1),
+}
+
+/// Whether a statistic is exact.
+fn precision(word: &[u8]) -> Option<bool> {
+    match word {
+        b"exact" => Some(true),
+        b"inexact" => Some(false),
+        _ => None,
     }
 }
 
-fn memchr(text: &str) -> Option<usize> {
-    text.as_bytes().iter().position(|b| *b == b'\n')
+/// What the lines so far say.
+#[derive(Default)]
+pub struct Draft {
+    names: HashMap<String, usize>,
+    /// Where a name was found last.
+    last: usize,
+    pub table: Table,
+    pub predicate: Option<Node>,
+    /// How many lines were read, and whether the last one is bad.
+    pub lines: usize,
+    pub is_bad: bool,
+}
+
+fn push_word(column: &mut Column, word: &Word) -> Option<()> {
+    let kind = column.dtype.kind;
+    if matches!(word, Word::Plain("null")) {
+        return column.dtype.nullable.then(|| column.push_null());
+    }
+    match (&mut column.cells, word) {
+        (Cells::Signed(values), Word::Plain(word)) => values.push(whole_number(word, kind)? as i64),
+        (Cells::Unsigned(values), Word::Plain(word)) => values.push(whole_number(word, kind)? as u64),
+        (Cells::Bool(values), Word::Plain(word)) => values.push(truth(word)?),
+        (Cells::Bytes { ends, heap }, Word::Quoted(text)) if kind == Kind::Utf8 => {
+            heap.extend_from_slice(text.as_bytes());
+            ends.push(heap.len() as u32);
+        }
+        (Cells::Bytes { ends, heap }, Word::Plain(word)) if kind == Kind::Binary => {
+            heap.extend_from_slice(&hex(word)?);
+            ends.push(heap.len() as u32);
+        }
+        _ => return None,
+    }
+    column.there.push(true);
+    Some(())
 }
 
 impl Draft {
-    fn line(&mut self, line: &str) -> Option<()> {
+    /// Reads the next line, which may be bad.
+    pub fn push(&mut self, line: &[u8]) {
+        self.lines += 1;
+        self.is_bad = self.line(line).is_none();
+    }
+
+    fn line(&mut self, line: &[u8]) -> Option<()> {
+        if let Some(values) = line.strip_prefix(b"row ") {
+            if self.predicate.is_none() && self.table.is_open() {
+                if rows::push(&mut self.table.columns, values) {
+                    self.table.rows += 1;
+                    return Some(());
+                }
+                self.table.give_up_row();
+            }
+        } else if line.starts_with(b"stat ") && self.plain_stat(line).is_some() {
+            return Some(());
+        }
+        self.words(std::str::from_utf8(line).ok()?)
+    }
+
+    fn words(&mut self, line: &str) -> Option<()> {
         let mut words = Words(line);
         let first = match words.next().ok()? {
             None => return Some(()),
@@ -199,100 +262,91 @@ impl Draft {
         let name = words.plain()?;
         let dtype = Type::read(words.plain()?)?;
         words.end()?;
-        if !self.parts.is_empty() || !is_name(name) || self.names.contains_key(name) {
+        if self.table.has_part() || !is_name(name) || self.names.contains_key(name) {
             return None;
         }
-        self.names.insert(name.to_owned(), self.types.len());
-        self.types.push(dtype);
+        self.names.insert(name.to_owned(), self.table.columns.len());
+        self.table.add_column(name, dtype);
         Some(())
     }
 
     fn part(&mut self, mut words: Words) -> Option<()> {
         words.end()?;
-        if self.types.is_empty() {
+        if self.table.columns.is_empty() {
             return None;
         }
-        self.parts.push(Part::new(&self.types));
-        self.is_closed = false;
+        self.table.begin_part();
         Some(())
+    }
+
+    /// A statistic whose value is a number, with one space before each word.
+    fn plain_stat(&mut self, line: &[u8]) -> Option<()> {
+        if self.predicate.is_some() || !self.table.is_open() {
+            return None;
+        }
+        let mut words = line.split(|b| *b == b' ').skip(1);
+        let place = self.place_of(std::str::from_utf8(words.next()?).ok()?)?;
+        let stat = Stat::read(words.next()?, self.table.columns[place].dtype)?;
+        let exact = precision(words.next()?)?;
+        let value = rows::whole(words.next()?, stat.dtype().kind)?;
+        words.next().is_none().then(|| self.claim(place, stat, exact, value))
     }
 
     fn stat(&mut self, mut words: Words) -> Option<()> {
-        if self.is_closed {
+        if !self.table.is_open() {
             return None;
         }
-        let place = *self.names.get(words.plain()?)?;
-        let stat = words.plain()?;
-        let exact = match words.plain()? {
-            "exact" => true,
-            "inexact" => false,
-            _ => return None,
-        };
-        let column = self.types[place];
-        let plain = |kind| Type { kind, nullable: false };
-        let dtype = match stat {
-            "is_constant" | "is_sorted" | "is_strict_sorted" => plain(Kind::Bool),
-            "max" | "min" if column.kind != Kind::Null => plain(column.kind),
-            "sum" => match column.kind {
-                Kind::Signed(_) => plain(Kind::Signed(64)),
-                Kind::Unsigned(_) | Kind::Bool => plain(Kind::Unsigned(64)),
-                _ => return None,
-            },
-            "null_count" | "uncompressed_size_in_bytes" => plain(Kind::Unsigned(64)),
-            _ => return None,
-        };
-        let value = value(&words.next().ok()??, dtype)??;
+        let place = self.place_of(words.plain()?)?;
+        let stat = Stat::read(words.plain()?.as_bytes(), self.table.columns[place].dtype)?;
+        let exact = precision(words.plain()?.as_bytes())?;
+        let value = value(&words.next().ok()??, stat.dtype())??;
         words.end()?;
-        let stats = &mut self.parts.last_mut()?.columns[place].stats;
-        match (stat, value) {
-            ("max", value) => stats.max = Some(value),
-            ("min", value) => stats.min = Some(value),
-            ("null_count", Value::Number(count)) => stats.nulls = Some((count as u64, exact)),
-            _ => {}
-        }
+        self.claim(place, stat, exact, value);
         Some(())
     }
 
-    fn row(&mut self, mut words: Words) -> Option<()> {
-        let part = self.parts.last_mut().filter(|_| !self.is_closed)?;
-        for (column, dtype) in part.columns.iter_mut().zip(&self.types) {
-            let word = words.next().ok()??;
-            if matches!(word, Word::Plain("null")) {
-                dtype.nullable.then(|| column.push_null())?;
-                continue;
-            }
-            column.nulls.push(false);
-            match (&mut column.cells, word) {
-                (Cells::Signed(values), Word::Plain(word)) => values.push(whole_number(word, dtype.kind)? as i64),
-                (Cells::Unsigned(values), Word::Plain(word)) => values.push(whole_number(word, dtype.kind)? as u64),
-                (Cells::Bool(values), Word::Plain(word)) => values.push(truth(word)?),
-                (Cells::Bytes { ends, heap }, Word::Quoted(text)) if dtype.kind == Kind::Utf8 => {
-                    heap.extend_from_slice(text.as_bytes());
-                    ends.push(heap.len());
-                }
-                (Cells::Bytes { ends, heap }, Word::Plain(word)) if dtype.kind == Kind::Binary => {
-                    heap.extend_from_slice(&hex(word)?);
-                    ends.push(heap.len());
-                }
-                _ => return None,
+    /// Of the statistics the log takes those that pruning asks for.
+    fn claim(&mut self, place: usize, stat: Stat, exact: bool, value: Value) {
+        match (stat, value) {
+            (Stat::Max(_), value) => self.table.claim(place, Claim::Max(value)),
+            (Stat::Min(_), value) => self.table.claim(place, Claim::Min(value)),
+            (Stat::NullCount, Value::Unsigned(count)) => self.table.claim(place, Claim::Nulls(count, exact)),
+            _ => {}
+        }
+    }
+
+    /// The place of a column, looked for first at that of the last call and behind it.
+    fn place_of(&mut self, name: &str) -> Option<usize> {
+        let last = self.last;
+        for place in [last, last + 1] {
+            if self.table.columns.get(place).is_some_and(|column| column.name == name) {
+                self.last = place;
+                return Some(place);
             }
         }
-        part.rows += 1;
+        self.last = *self.names.get(name)?;
+        Some(self.last)
+    }
+
+    fn row(&mut self, mut words: Words) -> Option<()> {
+        if !self.table.is_open() {
+            return None;
+        }
+        for column in &mut self.table.columns {
+            push_word(column, &words.next().ok()??)?;
+        }
+        self.table.rows += 1;
         words.end()
     }
 
     fn join(&mut self, mut words: Words) -> Option<()> {
         let place = whole_number(words.plain()?, Kind::Unsigned(64))?;
         words.end()?;
-        let place = usize::try_from(place).ok().filter(|place| *place < self.parts.len().saturating_sub(1))?;
-        let other = self.parts.remove(place + 1);
-        self.parts[place].join(other);
-        self.is_closed = true;
-        Some(())
+        self.table.join(usize::try_from(place).ok()?)
     }
 
     fn predicate(&mut self, words: Words) -> Option<()> {
-        if self.types.is_empty() {
+        if self.table.columns.is_empty() {
             return None;
         }
         let mut count = Words(words.0);
@@ -326,7 +380,7 @@ impl Draft {
         match words.plain()? {
             "col" => {
                 let place = *self.names.get(words.plain()?)?;
-                Some(Node::column(place, self.types[place]))
+                Some(Node::column(place, self.table.columns[place].dtype))
             }
             "lit" => {
                 let dtype = Type::read(words.plain()?)?;

@@ -43,39 +43,33 @@ impl Type {
     }
 }
 
-impl Kind {
-    pub fn least(self) -> i128 {
-        match self {
-            Kind::Signed(bits) => -(1i128 << (bits - 1)),
-            _ => 0,
-        }
-    }
-
-    pub fn greatest(self) -> i128 {
-        match self {
-            Kind::Signed(bits) => (1i128 << (bits - 1)) - 1,
-            Kind::Unsigned(bits) => (1i128 << bits) - 1,
-            _ => 0,
-        }
-    }
-}
-
 /// A value other than null; texts and bytes by their bytes.
 #[derive(Clone, PartialEq, Eq, Debug)]
 pub enum Value {
     Bool(bool),
-    Number(i128),
-    Bytes(Vec<u8>),
+    Signed(i64),
+    Unsigned(u64),
+    Bytes(Box<[u8]>),
 }
 
 impl Value {
     /// The order of two values of one type.
     pub fn order(&self, other: &Value) -> Ordering {
         match (self, other) {
+            (Value::Signed(a), Value::Signed(b)) => a.cmp(b),
+            (Value::Unsigned(a), Value::Unsigned(b)) => a.cmp(b),
             (Value::Bool(a), Value::Bool(b)) => a.cmp(b),
-            (Value::Number(a), Value::Number(b)) => a.cmp(b),
             (Value::Bytes(a), Value::Bytes(b)) => a.cmp(b),
             _ => unreachable!("values of one type"),
+        }
+    }
+
+    /// A number in a type that has room for the next one and the one before.
+    pub fn number(&self) -> Option<i128> {
+        match self {
+            Value::Signed(n) => Some(i128::from(*n)),
+            Value::Unsigned(n) => Some(i128::from(*n)),
+            _ => None,
         }
     }
 }
