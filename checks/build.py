@@ -22,7 +22,8 @@ TOP = os.path.dirname(os.path.dirname(os.path.abspath(__file__)))
 SOURCES = ("src", "specs", "proofs")
 # The top of copies of crates, to prove one beside another: only one `rt` at a time works in a crate's folder and in those below it.
 BESIDE = os.path.join(TOP, "out")
-# What the proofs of vortex_scan take on one processor, and the memory that each of several processes takes.
+# What the proofs of vortex_scan take on one processor, of which several do up to twice the minutes since crates wait for those
+# below them; and the memory that each of several processes takes.
 MINUTES = 40
 BYTES_A_JOB = 1_500_000_000
 NOT_BUILT = 70
@@ -197,8 +198,8 @@ def built(name):
             return program
         jobs = int(max(1, min(len(os.sched_getaffinity(0)), free_bytes() // BYTES_A_JOB - 1)))
         print(
-            f"proving: {name} is proved before it runs. From nothing that takes about {MINUTES // jobs} minutes on"
-            f" {jobs} processors; an interrupted run goes on where it was.",
+            f"proving: {name} is proved before it runs. From nothing that takes {MINUTES // jobs} to {2 * MINUTES // jobs} minutes"
+            f" on {jobs} processors; an interrupted run goes on where it was.",
             file=sys.stderr,
             flush=True,
         )
