@@ -1,0 +1,10 @@
+//! The statistics of zones one after another, and the map of any that stand together.
+#![tactic(auto)]
+
+mod join;
+mod known;
+mod stretch;
+mod told;
+pub mod zone_log;
+
+pub use zone_log::ZoneLog;
