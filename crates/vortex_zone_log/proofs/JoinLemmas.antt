@@ -14,11 +14,12 @@ use Rattle.vortex_prune.specs.Part.{Entries, ZoneData, fits_zone, merged_sets}
 use Rattle.vortex_stats.specs.Merging.Merges.{merged_ordered}
 use Rattle.vortex_stats.proofs.Sets.Places.{with_entries-distinct}
 use Rattle.vortex_stats.specs.Sets.Entries.{AreDistinct, entries_fit, with_entries, with_entry}
-use Rattle.vortex_zone_log.specs.Kept.{IsWithin, sets_of, told_in, told_on, zone_of, zones_of}
+use Rattle.vortex_base.specs.declared.scalar_value.ScalarValue.{ScalarValue}
+use Rattle.vortex_zone_log.specs.Kept.{IsWithin, Saying, said, said_in, saying, sets_of, sets_with, stretch_of, zone_of, zones_of}
+use Rattle.vortex_zone_log.specs.declared.told.Told.{Told}
 use Rattle.vortex_zone_log.specs.Logs.{empty_sets, joined, joined_at, set_at}
 use Rattle.vortex_zone_log.specs.declared.stretch.Stretch.{Stretch}
-use Rattle.vortex_zone_log.specs.declared.told.Told.{Told}
-use Rattle.vortex_zone_log.proofs.LogLemmas.{IsNext, next_is_within, next_zone, others_within, told_on-append, zone_long, zones_grow}
+use Rattle.vortex_zone_log.proofs.LogLemmas.{IsNext, next_is_within, next_zone, others_within, sets_with-append, zone_long, zones_grow}
 
 pub length-merged : (xs ys : List Entries) → length xs ≡ length ys → length (merged_sets xs ys) ≡ length xs
 length-merged [] ys e = refl
@@ -49,7 +50,7 @@ drop-map f (suc n) [] = refl
 drop-map f (suc n) (x ∷ xs) = drop-map f n xs
 
 -- the same of what they are told by
-pub zones_joined : (n : ℕ) (ts : List Told) (ss : List Stretch) (i : ℕ) (s : Stretch) → zones_of n ts (take i ss ++ s ∷ drop (i + 2) ss) ≡ take i (zones_of n ts ss) ++ zone_of n ts s ∷ drop (i + 2) (zones_of n ts ss)
+pub zones_joined : (n : ℕ) (ts : List Saying) (ss : List Stretch) (i : ℕ) (s : Stretch) → zones_of n ts (take i ss ++ s ∷ drop (i + 2) ss) ≡ take i (zones_of n ts ss) ++ zone_of n ts s ∷ drop (i + 2) (zones_of n ts ss)
 zones_joined n ts ss i s =
     map-append (zone_of n ts) (take i ss) (s ∷ drop (i + 2) ss)
     ∙ ap (λ l. l ++ zone_of n ts s ∷ map (zone_of n ts) (drop (i + 2) ss)) (sym (take-map (zone_of n ts) i ss))
@@ -65,21 +66,21 @@ set_at_seam : (f : List Entries) (e d : Entries) (r : List Entries) → slice_se
 set_at_seam [] e d r = refl
 set_at_seam (x ∷ f) e d r = ap (λ l. x ∷ l) (set_at_seam f e d r)
 
-pub one_set_told : (f r : List Entries) (es before : Entries) → told_on (f ++ before ∷ r) (told_in (length f) es) ≡ f ++ with_entries es before ∷ r
+pub one_set_told : (f r : List Entries) (es before : Entries) → sets_with (f ++ before ∷ r) (said_in (length f) es) ≡ f ++ with_entries es before ∷ r
 one_set_told f r [] before = refl
 one_set_told f r (e ∷ es) before =
-    ap (λ l. told_on l (told_in (length f) es)) (ap (set_at (length f) e.0 e.1 (f ++ before ∷ r)) (at_seam f before r) ∙ set_at_seam f before (with_entry e.0 e.1 before) r)
+    ap (λ l. sets_with l (said_in (length f) es)) (ap (set_at (length f) e.0 e.1 (f ++ before ∷ r)) (at_seam f before r) ∙ set_at_seam f before (with_entry e.0 e.1 before) r)
     ∙ one_set_told f r es (with_entry e.0 e.1 before)
 
 -- one more set is told
-pub next_set_told : (n : ℕ) (ts new : List Told) (f : List Entries) (es : Entries) → AreDistinct es → length f < n → new ≡ ts ++ told_in (length f) es → sets_of n ts ≡ f ++ empty_sets (n - length f)
+pub next_set_told : (n : ℕ) (ts new : List Saying) (f : List Entries) (es : Entries) → AreDistinct es → length f < n → new ≡ ts ++ said_in (length f) es → sets_of n ts ≡ f ++ empty_sets (n - length f)
     → sets_of n new ≡ (f ++ es ∷ []) ++ empty_sets (n - length (f ++ es ∷ []))
 next_set_told n ts new f es distinct less pushed before =
     let k = length f in
     let r = empty_sets (n - (k + 1)) in
     let more : n - k ≡ suc (n - (k + 1)) = omega (arith, less) in
-    ap (sets_of n) pushed ∙ told_on-append (empty_sets n) ts (told_in k es)
-    ∙ ap (λ l. told_on l (told_in k es)) (before ∙ ap (λ m. f ++ empty_sets m) more)
+    ap (sets_of n) pushed ∙ sets_with-append (empty_sets n) ts (said_in k es)
+    ∙ ap (λ l. sets_with l (said_in k es)) (before ∙ ap (λ m. f ++ empty_sets m) more)
     ∙ one_set_told f r es []
     ∙ ap (λ e. f ++ e ∷ r) (with_entries-distinct es distinct)
     ∙ sym (append_assoc f (es ∷ []) r)
@@ -120,7 +121,7 @@ one_more_merged xs ys yielded a b set place old new all at within long first sec
 
 -- ---- the log with two zones joined
 
-module _ (n : ℕ) (ts more : List Told) (s : Stretch) (next : IsNext ts more s) (ss : List Stretch) (within : AllByRecursion (IsWithin (length ts)) ss) (i : ℕ) where
+module _ (n : ℕ) (ts more : List Saying) (s : Stretch) (next : IsNext ts more s) (ss : List Stretch) (within : AllByRecursion (IsWithin (length ts)) ss) (i : ℕ) where
   pub joined_within : AllByRecursion (IsWithin (length (ts ++ more))) (take i ss ++ s ∷ drop (i + 2) ss)
   joined_within =
       let P = IsWithin (length (ts ++ more)) in
@@ -147,3 +148,7 @@ one_more_zone zones from k z at =
     let within = slice_get_within zones (from + k) z at in
     let long = length-drop from zones in
     take_more (drop from zones) k z (omega (arith, long, within)) ∙ ap (λ x. take k (drop from zones) ++ x ∷ []) (get_or-drop from zones k z ∙ get_or_from_slice_get zones (from + k) z z at)
+
+-- what a stretch of what is told says is a stretch of what it says
+pub stretch_said : (longs : List ScalarValue) (ts : List Told) (s : Stretch) → said longs (take (s.to - s.from) (drop s.from ts)) ≡ stretch_of (said longs ts) s
+stretch_said longs ts s = sym (take-map (saying longs) (s.to - s.from) (drop s.from ts)) ∙ ap (take (s.to - s.from)) (sym (drop-map (saying longs) s.from ts))

@@ -8,16 +8,15 @@ use Rattle.vortex_base.specs.declared.scalar_value.ScalarValue.{ScalarValue}
 use Rattle.vortex_prune.specs.Part.{Entries, ZoneData}
 use Rattle.vortex_stats.specs.declared.precision.Precision.{Precision}
 use Rattle.vortex_stats.specs.declared.stat.Stat.{Stat}
-use Rattle.vortex_zone_log.specs.Kept.{IsWithin, sets_of, stretch_of, told_on, zone_of, zones_of}
+use Rattle.vortex_zone_log.specs.Kept.{IsWithin, Saying, sets_of, stretch_of, sets_with, zone_of, zones_of}
 use Rattle.vortex_zone_log.specs.Logs.{empty_sets, set_at}
 use Rattle.vortex_zone_log.specs.declared.stretch.Stretch.{Stretch}
-use Rattle.vortex_zone_log.specs.declared.told.Told.{Told}
 
 -- ---- what is told, one part behind the other
 
-pub told_on-append : (sets : List Entries) (xs ys : List Told) → told_on sets (xs ++ ys) ≡ told_on (told_on sets xs) ys
-told_on-append sets [] ys = refl
-told_on-append sets (x ∷ xs) ys = told_on-append (set_at x.column x.stat x.value sets (slice_get sets x.column)) xs ys
+pub sets_with-append : (sets : List Entries) (xs ys : List Saying) → sets_with sets (xs ++ ys) ≡ sets_with (sets_with sets xs) ys
+sets_with-append sets [] ys = refl
+sets_with-append sets (x ∷ xs) ys = sets_with-append (set_at x.column x.stat x.value sets (slice_get sets x.column)) xs ys
 
 length-set : {X : Type 0} (xs : List X) (i : ℕ) (x : X) → length (slice_set xs i x) ≡ length xs
 length-set [] i x = refl
@@ -28,25 +27,25 @@ length-set_at : (i : ℕ) (s : Stat) (p : Precision ScalarValue) (sets : List En
 length-set_at i s p sets None = refl
 length-set_at i s p sets (Some e) = length-set sets i _
 
-pub length-told_on : (sets : List Entries) (ts : List Told) → length (told_on sets ts) ≡ length sets
-length-told_on sets [] = refl
-length-told_on sets (t ∷ ts) = length-told_on (set_at t.column t.stat t.value sets (slice_get sets t.column)) ts ∙ length-set_at t.column t.stat t.value sets (slice_get sets t.column)
+pub length-sets_with : (sets : List Entries) (ts : List Saying) → length (sets_with sets ts) ≡ length sets
+length-sets_with sets [] = refl
+length-sets_with sets (t ∷ ts) = length-sets_with (set_at t.column t.stat t.value sets (slice_get sets t.column)) ts ∙ length-set_at t.column t.stat t.value sets (slice_get sets t.column)
 
 -- there is a set for each column
-pub length-sets_of : (n : ℕ) (ts : List Told) → length (sets_of n ts) ≡ n
-length-sets_of n ts = length-told_on (empty_sets n) ts ∙ length-replicate n []
+pub length-sets_of : (n : ℕ) (ts : List Saying) → length (sets_of n ts) ≡ n
+length-sets_of n ts = length-sets_with (empty_sets n) ts ∙ length-replicate n []
 
 -- one more statistic
-pub one_more_told : (n : ℕ) (ts : List Told) (t : Told) → sets_of n (ts ++ t ∷ []) ≡ set_at t.column t.stat t.value (sets_of n ts) (slice_get (sets_of n ts) t.column)
-one_more_told n ts t = told_on-append (empty_sets n) ts (t ∷ [])
+pub one_more_told : (n : ℕ) (ts : List Saying) (t : Saying) → sets_of n (ts ++ t ∷ []) ≡ set_at t.column t.stat t.value (sets_of n ts) (slice_get (sets_of n ts) t.column)
+one_more_told n ts t = sets_with-append (empty_sets n) ts (t ∷ [])
 
 -- there is no such column
-pub nothing_told : (n : ℕ) (ts : List Told) (i : ℕ) (s : Stat) (p : Precision ScalarValue) → n ≤ i → set_at i s p (sets_of n ts) (slice_get (sets_of n ts) i) ≡ sets_of n ts
+pub nothing_told : (n : ℕ) (ts : List Saying) (i : ℕ) (s : Stat) (p : Precision ScalarValue) → n ≤ i → set_at i s p (sets_of n ts) (slice_get (sets_of n ts) i) ≡ sets_of n ts
 nothing_told n ts i s p past = ap (set_at i s p (sets_of n ts)) (slice_get_past (sets_of n ts) i (omega (arith, length-sets_of n ts, past)))
 
 -- ---- stretches
 
-pub stretch_grows : (ts more : List Told) (s : Stretch) → IsWithin (length ts) s → stretch_of (ts ++ more) s ≡ stretch_of ts s
+pub stretch_grows : (ts more : List Saying) (s : Stretch) → IsWithin (length ts) s → stretch_of (ts ++ more) s ≡ stretch_of ts s
 stretch_grows ts more s is =
     let a = is.ascends in
     let w = is.within in
@@ -54,17 +53,17 @@ stretch_grows ts more s is =
     ap (take (s.to - s.from)) (drop-append-le s.from ts more (omega (arith, a, w)))
     ∙ take-append-le (s.to - s.from) (drop s.from ts) more (omega (arith, long, a, w))
 
-pub zones_grow : (n : ℕ) (ts more : List Told) (ss : List Stretch) → AllByRecursion (IsWithin (length ts)) ss → zones_of n (ts ++ more) ss ≡ zones_of n ts ss
+pub zones_grow : (n : ℕ) (ts more : List Saying) (ss : List Stretch) → AllByRecursion (IsWithin (length ts)) ss → zones_of n (ts ++ more) ss ≡ zones_of n ts ss
 zones_grow n ts more [] all = refl
 zones_grow n ts more (s ∷ ss) (is, all) =
-    ap₂ (λ (l : List Told) (zs : List ZoneData). record { rows = s.rows; stats = sets_of n l } ∷ zs) (stretch_grows ts more s is) (zones_grow n ts more ss all)
+    ap₂ (λ (l : List Saying) (zs : List ZoneData). record { rows = s.rows; stats = sets_of n l } ∷ zs) (stretch_grows ts more s is) (zones_grow n ts more ss all)
 
 pub stays_within : (m n : ℕ) (ss : List Stretch) → m ≤ n → AllByRecursion (IsWithin m) ss → AllByRecursion (IsWithin n) ss
 stays_within m n [] le all = tt
 stays_within m n (s ∷ ss) le (is, all) = (record { ascends = is.ascends; within = let w = is.within in omega (arith, le, w) }, stays_within m n ss le all)
 
 -- the stretch of what was told last
-pub stretch_last : (ts more : List Told) (s : Stretch) → s.from ≡ length ts → s.to ≡ length ts + length more → stretch_of (ts ++ more) s ≡ more
+pub stretch_last : (ts more : List Saying) (s : Stretch) → s.from ≡ length ts → s.to ≡ length ts + length more → stretch_of (ts ++ more) s ≡ more
 stretch_last ts more s from to =
     let long : length more ≤ s.to - s.from = omega (arith, from, to) in
     ap (take (s.to - s.from)) (drop_at ts more s.from (sym from)) ∙ take_all (s.to - s.from) more long
@@ -72,11 +71,11 @@ stretch_last ts more s from to =
 -- ---- zones that end
 
 -- the stretch of what is told behind all the others
-pub record IsNext (ts more : List Told) (s : Stretch) : Type 0 where
+pub record IsNext (ts more : List Saying) (s : Stretch) : Type 0 where
   pub from : s.from ≡ length ts
   pub to : s.to ≡ length (ts ++ more)
 
-module _ (ts more : List Told) (s : Stretch) (next : IsNext ts more s) where
+module _ (ts more : List Saying) (s : Stretch) (next : IsNext ts more s) where
   -- it is one of what is told then
   pub next_is_within : IsWithin (length (ts ++ more)) s
   next_is_within =
@@ -91,7 +90,7 @@ module _ (ts more : List Told) (s : Stretch) (next : IsNext ts more s) where
 
   -- the zone that it tells of
   pub next_zone : (n : ℕ) → zone_of n (ts ++ more) s ≡ record { rows = s.rows; stats = sets_of n more }
-  next_zone n = ap (λ (l : List Told). record { rows = s.rows; stats = sets_of n l }) (stretch_last ts more s next.from (next.to ∙ length-append ts more))
+  next_zone n = ap (λ (l : List Saying). record { rows = s.rows; stats = sets_of n l }) (stretch_last ts more s next.from (next.to ∙ length-append ts more))
 
   -- the zones with it behind them
   pub zones_ended : (n : ℕ) (ss : List Stretch) → AllByRecursion (IsWithin (length ts)) ss → zones_of n (ts ++ more) (ss ++ s ∷ []) ≡ zones_of n ts ss ++ record { rows = s.rows; stats = sets_of n more } ∷ []
@@ -100,11 +99,11 @@ module _ (ts more : List Told) (s : Stretch) (next : IsNext ts more s) where
       ∙ ap₂ (λ (zs : List ZoneData) (z : ZoneData). zs ++ z ∷ []) (zones_grow n ts more ss all) (next_zone n)
 
 -- nothing is told of the next one, of as many columns
-pub none_told : (n : ℕ) (ts : List Told) → sets_of n [] ≡ empty_sets (length (sets_of n ts))
+pub none_told : (n : ℕ) (ts : List Saying) → sets_of n [] ≡ empty_sets (length (sets_of n ts))
 none_told n ts = ap empty_sets (sym (length-sets_of n ts))
 
 -- each zone has a set for each column
-pub zone_long : (n : ℕ) (ts : List Told) (ss : List Stretch) (i : ℕ) (z : ZoneData) → slice_get (zones_of n ts ss) i ≡ Some z → length z.stats ≡ n
+pub zone_long : (n : ℕ) (ts : List Saying) (ss : List Stretch) (i : ℕ) (z : ZoneData) → slice_get (zones_of n ts ss) i ≡ Some z → length z.stats ≡ n
 zone_long n ts [] i z at = absurd cc
 zone_long n ts (s ∷ ss) zero z at = let same = same_Some (zone_of n ts s) z at in ap (λ (x : ZoneData). length x.stats) (sym same) ∙ length-sets_of n (stretch_of ts s)
 zone_long n ts (s ∷ ss) (suc i) z at = zone_long n ts ss i z at

@@ -1,40 +1,125 @@
 -- A log as it is kept: what is told in order, and which stretch of it tells of each zone.
-use Rattle.std.specs.Prelude.{◌≤◌, ◌-◌, ℕ, List, [], ◌∷◌, ◌++◌, drop, map, reverse, slice_get, take}
+use Rattle.std.specs.Prelude.{◌≡◌, ◌<◌, ◌≤◌, ◌-◌, ◌++◌, ℕ, List, [], ◌∷◌, Option, None, Some, drop, length, map, reverse, slice_get, take, ⊤}
+use Rattle.std.specs.List.{AllByRecursion}
+use Rattle.vortex_base.specs.Data.Cells.{short_value}
+use Rattle.vortex_base.specs.declared.cells.ShortCell.{ShortCell}
+use Rattle.vortex_base.specs.declared.cells.ShortCell.TheVariants as cell
+use Rattle.vortex_base.specs.declared.scalar_value.ScalarValue.{ScalarValue}
 use Rattle.vortex_prune.specs.Part.{Entries, ZoneData}
-use Rattle.vortex_zone_log.specs.Logs.{empty_sets, set_at}
+use Rattle.vortex_stats.specs.declared.precision.Precision.{Precision}
+use Rattle.vortex_stats.specs.declared.precision.Precision.TheVariants as precise
+use Rattle.vortex_stats.specs.declared.stat.Stat.{Stat}
+use Rattle.vortex_zone_log.specs.Logs.{LogData, empty_sets, set_at}
+use Rattle.vortex_zone_log.specs.declared.kept.Form.{Form}
+use Rattle.vortex_zone_log.specs.declared.kept.Form.TheVariants as form
+use Rattle.vortex_zone_log.specs.declared.kept.Kept.{Kept}
 use Rattle.vortex_zone_log.specs.declared.stretch.Stretch.{Stretch}
 use Rattle.vortex_zone_log.specs.declared.told.Told.{Told}
 
--- sets with what is told behind them
-abbrev pub told_on : List Entries → List Told → List Entries
-told_on sets [] = sets
-told_on sets (t ∷ ts) = told_on (set_at t.column t.stat t.value sets (slice_get sets t.column)) ts
+-- ---- what is said
 
--- the sets that are told of so many columns
-abbrev pub sets_of : ℕ → List Told → List Entries
-sets_of n ts = told_on (empty_sets n) ts
+-- a value of a statistic of the column at a place
+pub record Saying : Type 0 where
+  pub column : ℕ
+  pub stat : Stat
+  pub value : Precision ScalarValue
 
--- a stretch of what is told
-abbrev pub stretch_of : List Told → Stretch → List Told
+-- what a set says of the column at a place
+abbrev pub said_in : ℕ → Entries → List Saying
+said_in i es = map (λ e. record { column = i; stat = e.0; value = e.1 }) es
+
+-- the sets with what is said
+abbrev pub sets_with : List Entries → List Saying → List Entries
+sets_with sets [] = sets
+sets_with sets (t ∷ ts) = sets_with (set_at t.column t.stat t.value sets (slice_get sets t.column)) ts
+
+-- the sets of so many columns that it makes
+abbrev pub sets_of : ℕ → List Saying → List Entries
+sets_of n ts = sets_with (empty_sets n) ts
+
+-- a stretch of what is said
+abbrev pub stretch_of : List Saying → Stretch → List Saying
 stretch_of ts s = take (s.to - s.from) (drop s.from ts)
 
--- the zone that it tells of
-abbrev pub zone_of : ℕ → List Told → Stretch → ZoneData
+-- the zone of which it is said
+abbrev pub zone_of : ℕ → List Saying → Stretch → ZoneData
 zone_of n ts s = record { rows = s.rows; stats = sets_of n (stretch_of ts s) }
 
 -- each zone
-abbrev pub zones_of : ℕ → List Told → List Stretch → List ZoneData
+abbrev pub zones_of : ℕ → List Saying → List Stretch → List ZoneData
 zones_of n ts ss = map (zone_of n ts) ss
 
 -- the stretches of two runs, of which the second one stands backwards
 abbrev pub both_runs : List Stretch → List Stretch → List Stretch
 both_runs front back = front ++ reverse back
 
--- the stretch is one of so many that are told
+-- the stretch is one of so many that are said
 pub record IsWithin (n : ℕ) (s : Stretch) : Type 0 where
   pub ascends : s.from ≤ s.to
   pub within : s.to ≤ n
 
--- what a set tells of the column at a place
-abbrev pub told_in : ℕ → Entries → List Told
-told_in i es = map (λ e. record { column = i; stat = e.0; value = e.1 }) es
+-- ---- how a value is kept
+
+abbrev pub exact : Option ScalarValue → Precision ScalarValue
+exact None = precise.Absent
+exact (Some v) = precise.Exact v
+
+abbrev pub inexact : Option ScalarValue → Precision ScalarValue
+inexact None = precise.Absent
+inexact (Some v) = precise.Inexact v
+
+-- the text or bytes at the place that a cell tells
+abbrev pub long_value : List ScalarValue → ShortCell → Option ScalarValue
+long_value longs (cell.U64 n) = slice_get longs n
+long_value longs c = None
+
+-- the value that is kept in a form
+abbrev pub formed : List ScalarValue → Form → ShortCell → Precision ScalarValue
+formed longs form.Absent c = precise.Absent
+formed longs form.Exact c = exact (short_value c)
+formed longs form.Inexact c = inexact (short_value c)
+formed longs form.LongExact c = exact (long_value longs c)
+formed longs form.LongInexact c = inexact (long_value longs c)
+
+abbrev pub kept_value : List ScalarValue → Kept → Precision ScalarValue
+kept_value longs k = formed longs k.form k.cell
+
+-- the place that a cell tells is one of so many
+abbrev pub IsPlace : ℕ → ShortCell → Type 0
+IsPlace n (cell.U64 k) = k < n
+IsPlace n c = ⊤
+
+abbrev pub IsFormed : ℕ → Form → ShortCell → Type 0
+IsFormed n form.LongExact c = IsPlace n c
+IsFormed n form.LongInexact c = IsPlace n c
+IsFormed n f c = ⊤
+
+-- where the value is a text or bytes, it is one of so many
+abbrev pub IsKept : ℕ → Kept → Type 0
+IsKept n k = IsFormed n k.form k.cell
+
+-- there are these values, and maybe more behind them
+pub record IsLonger (old new : List ScalarValue) : Type 0 where
+  pub more : List ScalarValue
+  pub same : new ≡ old ++ more
+
+-- ---- what is told, and with the texts and bytes beside it what it says
+
+abbrev pub saying : List ScalarValue → Told → Saying
+saying longs t = record { column = t.column; stat = t.stat; value = kept_value longs t.kept }
+
+abbrev pub said : List ScalarValue → List Told → List Saying
+said longs ts = map (saying longs) ts
+
+abbrev pub AreKept : ℕ → List Told → Type 0
+AreKept n ts = AllByRecursion (λ t. IsKept n t.kept) ts
+
+-- what every log keeps: each stretch is one of what is told, and each text is there
+pub record IsLog (longs : List ScalarValue) (told current : List Told) (runs : List Stretch) : Type 0 where
+  pub stretches : AllByRecursion (IsWithin (length (said longs told))) runs
+  pub told_kept : AreKept (length longs) told
+  pub current_kept : AreKept (length longs) current
+
+-- the log that is kept so
+abbrev pub log_of : ℕ → List ScalarValue → (told current : List Told) → List Stretch → LogData
+log_of n longs told current runs = record { zones = zones_of n (said longs told) runs; current = sets_of n (said longs current) }

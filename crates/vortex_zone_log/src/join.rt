@@ -3,11 +3,12 @@ ghost use Rattle.std.specs.Prelude.{◌≡◌, ◌++◌, IfOk, IsTrue, OnOk, len
 ghost use Rattle.vortex_base.specs.Data.Scopes.{named_columns};
 ghost use Rattle.vortex_prune.specs.Part.{fits_zone, merged_sets};
 ghost use Rattle.vortex_stats.specs.Sets.Entries.{AreDistinct};
-ghost use Rattle.vortex_zone_log.specs.Kept.{sets_of, told_in};
+ghost use Rattle.vortex_zone_log.specs.Kept.{AreKept, IsLonger, said, said_in, sets_of};
 
-use crate::told::Told;
+use crate::told::{Told, tell};
 use std::alloc::{AllocError, Global};
 use vortex_base::dtype::DType;
+use vortex_base::scalar_value::ScalarValue;
 use vortex_stats::stats_set::StatsSet;
 
 /// Each set merged with the one beside it.
@@ -32,30 +33,42 @@ pub fn merged_sets(
     Ok(sets)
 }
 
-// Adds what a set tells of the column at a place.
-fn push_told(told: &mut Vec<Told>, column: usize, set: StatsSet) -> Result<(), AllocError>
-    ensures told { OnOk result (told.new.items ≡ told.old.items ++ told_in column set) }
+// Tells what a set says of the column at a place.
+fn tell_set(
+    told: &mut Vec<Told>,
+    longs: &mut Vec<ScalarValue>,
+    column: usize,
+    set: StatsSet,
+) -> Result<(), AllocError>
+    requires { AreKept (length longs.old.items) told.old.items }
+    ensures told { OnOk result (said longs.new.items told.new.items
+        ≡ said longs.old.items told.old.items ++ said_in column set) }
+    ensures kept { OnOk result (AreKept (length longs.new.items) told.new.items) }
+    ensures longer { IsLonger longs.old.items longs.new.items }
     ensures distinct { AreDistinct set }
 {
     told.reserve(set.len())?;
     for entry in set {
-        told.push(Told {
-            column,
-            stat: entry.0,
-            value: entry.1,
-        })?;
+        tell(told, longs, column, entry.0, entry.1)?;
     }
     Ok(())
 }
 
 /// What is told so that these sets are known.
-pub fn told_of(alloc: Global, sets: Vec<StatsSet>) -> Result<Vec<Told>, AllocError>
-    ensures { IfOk result (λ told. sets_of (length sets.items) told.items ≡ sets.items) }
+pub fn told_of(
+    alloc: Global,
+    longs: &mut Vec<ScalarValue>,
+    sets: Vec<StatsSet>,
+) -> Result<Vec<Told>, AllocError>
+    ensures told { IfOk result (λ told.
+        sets_of (length sets.items) (said longs.new.items told.items) ≡ sets.items) }
+    ensures kept { IfOk result (λ told. AreKept (length longs.new.items) told.items) }
+    ensures longer { IsLonger longs.old.items longs.new.items }
 {
     let mut told = Vec::new(alloc);
     let mut column = 0;
     for set in sets {
-        push_told(&mut told, column, set)?;
+        tell_set(&mut told, longs, column, set)?;
         column += 1;
     }
     Ok(told)

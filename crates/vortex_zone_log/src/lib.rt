@@ -1,8 +1,13 @@
 //! The statistics of zones one after another, and the map of any that stand together.
 #![tactic(auto)]
 
+mod columns;
+mod fill;
 mod join;
+mod kept;
 mod known;
+mod readers;
+mod span;
 mod stretch;
 mod told;
 pub mod zone_log;

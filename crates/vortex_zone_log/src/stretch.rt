@@ -1,5 +1,5 @@
 //! Where in a log the statistics of each zone stand.
-ghost use Rattle.std.specs.Prelude.{◌≡◌, ◌<◌, ◌≤◌, ◌+◌, OnOk, Some, length, slice_get};
+ghost use Rattle.std.specs.Prelude.{◌≡◌, ◌<◌, ◌≤◌, ◌+◌, ◌++◌, ◌∷◌, [], OnErr, OnOk, Some, drop, length, slice_get, take};
 ghost use Rattle.vortex_zone_log.specs.Kept.{both_runs};
 
 use std::alloc::AllocError;
@@ -12,9 +12,9 @@ pub struct Stretch {
     pub to: usize,
 }
 
-/// Makes two runs meet at a place. The second one stands backwards. Where memory is refused, some
-/// of the stretches may have moved from one to the other.
-pub fn meet_at(
+// Makes two runs meet at a place. The second one stands backwards. Where memory is refused, some
+// of the stretches may have moved from one to the other.
+fn meet_at(
     front: &mut Vec<Stretch>,
     back: &mut Vec<Stretch>,
     place: usize,
@@ -50,4 +50,44 @@ pub fn stretch_at(front: &[Stretch], back: &[Stretch], place: usize) -> Stretch
         return front[place];
     }
     back[back.len() - 1 - (place - front.len())]
+}
+
+/// Puts a stretch behind those of both runs. Where memory is refused, these stay.
+pub fn push(
+    front: &mut Vec<Stretch>,
+    back: &mut Vec<Stretch>,
+    stretch: Stretch,
+) -> Result<(), AllocError>
+    ensures pushed { OnOk result (both_runs front.new.items back.new.items
+        ≡ both_runs front.old.items back.old.items ++ stretch ∷ []) }
+    ensures refused { OnErr result (both_runs front.new.items back.new.items
+        ≡ both_runs front.old.items back.old.items) }
+{
+    let count = front.len() + back.len();
+    meet_at(front, back, count)?;
+    front.push(stretch)?;
+    Ok(())
+}
+
+/// Puts a stretch in the place of the one at a place and the one behind it. Those behind them
+/// don't move. Where memory is refused, all stay.
+pub fn join_at(
+    front: &mut Vec<Stretch>,
+    back: &mut Vec<Stretch>,
+    place: usize,
+    joined: Stretch,
+) -> Result<(), AllocError>
+    requires { place + 1 < length front.old.items + length back.old.items }
+    ensures joined { let old = both_runs front.old.items back.old.items in
+        OnOk result (both_runs front.new.items back.new.items
+        ≡ take place old ++ joined ∷ drop (place + 2) old) }
+    ensures refused { OnErr result (both_runs front.new.items back.new.items
+        ≡ both_runs front.old.items back.old.items) }
+{
+    meet_at(front, back, place)?;
+    front.reserve(1)?;
+    back.pop();
+    back.pop();
+    front.push_reserved(joined);
+    Ok(())
 }

@@ -1,8 +1,11 @@
 //! What is told of the columns of a zone, one statistic after another.
-ghost use Rattle.std.specs.Prelude.{◌≡◌, IfOk, slice_get};
-ghost use Rattle.vortex_zone_log.specs.Kept.{sets_of};
+ghost use Rattle.std.specs.Prelude.{◌≡◌, ◌+◌, ◌++◌, ◌-◌, ◌∷◌, ◌≤◌, [], IfOk, OnErr, OnOk, drop, length, slice_get, take};
+ghost use Rattle.std.specs.Prelude.{vec_capacity, vec_len};
+ghost use Rattle.vortex_zone_log.specs.Kept.{AreKept, IsLonger, IsWithin, said, sets_of};
 ghost use Rattle.vortex_zone_log.specs.Logs as spec;
 
+use crate::kept::{Kept, copy_of, keep};
+use crate::stretch::Stretch;
 use std::alloc::{AllocError, Global};
 use vortex_base::scalar_value::ScalarValue;
 use vortex_stats::precision::Precision;
@@ -10,22 +13,11 @@ use vortex_stats::stat::Stat;
 use vortex_stats::stats_set::StatsSet;
 
 /// A statistic of a column, and its value.
-#[derive(Debug, Drop)]
+#[derive(Clone, Copy, Debug)]
 pub struct Told {
-    pub column: usize,
+    pub column: u32,
     pub stat: Stat,
-    pub value: Precision<ScalarValue>,
-}
-
-// A copy of a value.
-fn copy_of(value: &Precision<ScalarValue>) -> Result<Precision<ScalarValue>, AllocError>
-    ensures { IfOk result (λ copy. copy ≡ value.now) }
-{
-    match value {
-        Precision::Exact(known) => Ok(Precision::Exact(known.lend().to_value()?)),
-        Precision::Inexact(known) => Ok(Precision::Inexact(known.lend().to_value()?)),
-        Precision::Absent => Ok(Precision::Absent),
-    }
+    pub kept: Kept,
 }
 
 // Sets of which nothing is known.
@@ -49,15 +41,65 @@ fn set_at(sets: &mut [StatsSet], place: usize, stat: Stat, value: Precision<Scal
     }
 }
 
-/// The sets that are told of so many columns.
-pub fn sets_of(alloc: Global, columns: usize, told: &[Told]) -> Result<Vec<StatsSet>, AllocError>
-    ensures { IfOk result (λ sets. sets.items ≡ sets_of columns told.now) }
+/// The sets of so many columns that are told.
+pub fn sets_of(
+    alloc: Global,
+    columns: usize,
+    longs: &[ScalarValue],
+    told: &[Told],
+) -> Result<Vec<StatsSet>, AllocError>
+    ensures { IfOk result (λ sets. sets.items ≡ sets_of columns (said longs.now told.now)) }
 {
     let mut sets = empty_sets(alloc, columns)?;
     for place in 0..told.len() {
-        let next = &told[place];
-        let value = copy_of(&next.value)?;
-        set_at(&mut sets, next.column, next.stat, value);
+        let next = told[place];
+        let value = copy_of(longs, next.kept)?;
+        set_at(&mut sets, next.column as usize, next.stat, value);
     }
     Ok(sets)
+}
+
+/// Tells a statistic behind others. Where memory is refused, or a column is past 32 bits, the
+/// others stay.
+#[inline]
+pub fn tell(
+    told: &mut Vec<Told>,
+    longs: &mut Vec<ScalarValue>,
+    column: usize,
+    stat: Stat,
+    value: Precision<ScalarValue>,
+) -> Result<(), AllocError>
+    requires { AreKept (length longs.old.items) told.old.items }
+    ensures told { OnOk result (said longs.new.items told.new.items
+        ≡ said longs.old.items told.old.items
+        ++ record { column = column; stat = stat; value = value } ∷ []) }
+    ensures refused { OnErr result (told.new.items ≡ told.old.items) }
+    ensures kept { AreKept (length longs.new.items) told.new.items }
+    ensures longer { IsLonger longs.old.items longs.new.items }
+{
+    let Ok(column) = u32::try_from(column) else {
+        return Err(AllocError);
+    };
+    told.reserve(1)?;
+    let kept = keep(longs, value)?;
+    told.push_reserved(Told { column, stat, kept });
+    Ok(())
+}
+
+/// Moves what is told behind others, for which there is room.
+pub fn move_behind(told: &mut Vec<Told>, more: &mut Vec<Told>)
+    requires { vec_len told.old + vec_len more.old ≤ vec_capacity told.old }
+    ensures told { told.new.items ≡ told.old.items ++ more.old.items }
+    ensures emptied { more.new.items ≡ [] }
+{
+    let _ = told.append(more);
+}
+
+/// What a stretch tells.
+#[inline]
+pub fn told_in(told: &[Told], stretch: Stretch) -> &[Told]
+    requires { IsWithin (length told.now) stretch }
+    ensures { result.now ≡ take (stretch.to - stretch.from) (drop stretch.from told.now) }
+{
+    &told[stretch.from..stretch.to]
 }

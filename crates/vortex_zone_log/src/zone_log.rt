@@ -1,21 +1,27 @@
 //! The statistics of zones in one log, in the order in which they are told.
-ghost use Rattle.std.specs.Prelude.{◌≡◌, ◌<◌, ◌≤◌, ◌+◌, [], IfOk, OnErr, OnOk, Some, length, option_map, slice_get};
+ghost use Rattle.std.specs.Prelude.{◌≡◌, ◌<◌, ◌≤◌, ◌+◌, [], IfOk, OnErr, OnOk, Some, length, map, option_map, slice_get};
 ghost use Rattle.vortex_base.specs.Data.Scopes.{named_columns};
 ghost use Rattle.vortex_prune.specs.Part.{AreZonesOf};
 ghost use Rattle.vortex_prune.specs.Zones.{IsMapOf};
 ghost use Rattle.vortex_zone_log.specs.Known.{known_zone};
+ghost use Rattle.vortex_zone_log.specs.Tables.{AreCells};
 ghost use Rattle.vortex_zone_log.specs.Logs.{MayJoinAt, empty_sets, ended, joined_at, with_told, zones_from};
 
+use crate::columns::columns_of;
+use crate::fill::blank_table;
 use crate::join::{merged_sets, told_of};
-use crate::known::{Known, zones_of};
-use crate::stretch::{Stretch, meet_at, stretch_at};
-use crate::told::{Told, sets_of};
+use crate::known::Known;
+use crate::readers::Readers;
+use crate::span::spans_of;
+use crate::stretch::{Stretch, join_at, push, stretch_at};
+use crate::told::{Told, move_behind, sets_of, tell, told_in};
 use std::alloc::{AllocError, Global};
 use std::marker::Model;
+use vortex_base::cells::Cells;
 use vortex_base::dtype::DType;
 use vortex_base::scalar_value::ScalarValue;
 use vortex_base::scope::Scope;
-use vortex_prune::ZoneMap;
+use vortex_prune::{Head, ZoneMap};
 use vortex_stats::precision::Precision;
 use vortex_stats::stat::Stat;
 
@@ -23,6 +29,8 @@ use vortex_stats::stat::Stat;
 #[derive(Debug, Drop)]
 pub struct ZoneLog {
     columns: usize,
+    // The texts and bytes that are told.
+    longs: Vec<ScalarValue>,
     // What is told of the zones that have ended.
     told: Vec<Told>,
     // What is told of the one that hasn't.
@@ -34,20 +42,16 @@ pub struct ZoneLog {
 }
 
 impl Model for ZoneLog {
-    ghost use Rattle.std.specs.Prelude.{length};
-    ghost use Rattle.std.specs.List.{AllByRecursion};
-    ghost use Rattle.vortex_zone_log.specs.Kept.{IsWithin, both_runs, sets_of, zones_of};
+    ghost use Rattle.vortex_zone_log.specs.Kept.{IsLog, both_runs, log_of};
     ghost use Rattle.vortex_zone_log.specs.Logs.{LogData};
 
     ghost Value = { LogData };
 
-    ghost view = { λ l. record {
-      zones = zones_of l.columns l.told.items (both_runs l.front.items l.back.items);
-      current = sets_of l.columns l.current.items;
-    } };
+    ghost view = { λ l. log_of l.columns l.longs.items l.told.items l.current.items
+        (both_runs l.front.items l.back.items) };
 
     ghost invariant = { λ l.
-        AllByRecursion (IsWithin (length l.told.items)) (both_runs l.front.items l.back.items) };
+        IsLog l.longs.items l.told.items l.current.items (both_runs l.front.items l.back.items) };
 }
 
 impl ZoneLog {
@@ -57,6 +61,7 @@ impl ZoneLog {
     {
         ZoneLog {
             columns,
+            longs: Vec::new(alloc),
             told: Vec::new(alloc),
             current: Vec::new(alloc),
             front: Vec::new(alloc),
@@ -77,11 +82,7 @@ impl ZoneLog {
         ensures refused { OnErr result (self.new ≡ self.old) }
     {
         if column < self.columns {
-            self.current.push(Told {
-                column,
-                stat,
-                value,
-            })?;
+            tell(&mut self.current, &mut self.longs, column, stat, value)?;
         }
         Ok(())
     }
@@ -91,13 +92,11 @@ impl ZoneLog {
         ensures ended { OnOk result (self.new ≡ ended rows self.old) }
         ensures refused { OnErr result (self.new ≡ self.old) }
     {
-        let count = self.front.len() + self.back.len();
-        meet_at(&mut self.front, &mut self.back, count)?;
-        self.front.reserve(1)?;
         let from = self.told.len();
-        self.told.append(&mut self.current)?;
-        let to = self.told.len();
-        self.front.push_reserved(Stretch { rows, from, to });
+        let to = from + self.current.len();
+        self.told.reserve(self.current.len())?;
+        push(&mut self.front, &mut self.back, Stretch { rows, from, to })?;
+        move_behind(&mut self.told, &mut self.current);
         Ok(())
     }
 
@@ -123,7 +122,7 @@ impl ZoneLog {
     {
         let stretch = stretch_at(&self.front, &self.back, place);
         let told = &self.told[stretch.from..stretch.to];
-        let sets = sets_of(alloc, self.columns, told)?;
+        let sets = sets_of(alloc, self.columns, &self.longs, told)?;
         Ok(Known {
             rows: stretch.rows,
             sets,
@@ -149,16 +148,55 @@ impl ZoneLog {
         let right = self.known(alloc, place + 1)?;
         let rows = left.rows + right.rows;
         let sets = merged_sets(alloc, columns, left.sets, &right.sets)?;
-        let mut told = told_of(alloc, sets)?;
-        meet_at(&mut self.front, &mut self.back, place)?;
-        self.front.reserve(1)?;
+        let mut told = told_of(alloc, &mut self.longs, sets)?;
         let from = self.told.len();
-        self.told.append(&mut told)?;
-        let to = self.told.len();
-        self.back.pop();
-        self.back.pop();
-        self.front.push_reserved(Stretch { rows, from, to });
+        let to = from + told.len();
+        self.told.reserve(told.len())?;
+        let joined = Stretch { rows, from, to };
+        join_at(&mut self.front, &mut self.back, place, joined)?;
+        move_behind(&mut self.told, &mut told);
         Ok(())
+    }
+
+    // The row counts of so many zones from a place on.
+    fn rows_from(&self, alloc: Global, from: usize, count: usize) -> Result<Vec<u64>, AllocError>
+        requires { from + count ≤ length self.now.zones }
+        ensures { IfOk result (λ rows.
+            rows.items ≡ map (λ zone. zone.rows) (zones_from from count self.now.zones)) }
+    {
+        let _zones = self.len();
+        let mut rows = Vec::with_capacity(alloc, count)?;
+        for next in 0..count {
+            rows.push(self.rows(from + next))?;
+        }
+        Ok(rows)
+    }
+
+    // What so many zones from a place on tell under the heads of a table.
+    fn cells_from(
+        &self,
+        alloc: Global,
+        heads: &[Head],
+        from: usize,
+        count: usize,
+    ) -> Result<Vec<Cells>, AllocError>
+        requires { from + count ≤ length self.now.zones }
+        ensures { IfOk result (λ cells.
+            AreCells heads.now (zones_from from count self.now.zones) cells.items) }
+    {
+        let spans = spans_of(alloc, self.columns, heads)?;
+        let mut cells = blank_table(alloc, heads, count)?;
+        let readers = Readers {
+            heads,
+            spans: &spans,
+            longs: &self.longs,
+        };
+        for next in 0..count {
+            let stretch = stretch_at(&self.front, &self.back, from + next);
+            let told = told_in(&self.told, stretch);
+            readers.put_all(&mut cells, told, next, stretch.rows)?;
+        }
+        Ok(cells)
     }
 
     /// The map of so many zones from a place on.
@@ -174,14 +212,11 @@ impl ZoneLog {
         ensures is_map { IfOk result (λ made. IsMapOf (zones_from from count self.now.zones) made) }
         ensures scoped { IfOk result (λ made. made.scope ≡ scope) }
     {
-        // That places of zones can be counted.
-        let _zones = self.len();
-        let mut known = Vec::with_capacity(alloc, count)?;
-        for next in 0..count {
-            known.push(self.known(alloc, from + next)?)?;
-        }
-        let zones = zones_of(alloc, &known)?;
-        match ZoneMap::try_new(alloc, scope, &zones) {
+        let heads = ZoneMap::heads(alloc, &scope)?;
+        let cells = self.cells_from(alloc, &heads, from, count)?;
+        let columns = columns_of(alloc, &heads, cells)?;
+        let rows = self.rows_from(alloc, from, count)?;
+        match ZoneMap::of_table(alloc, scope, rows, columns) {
             Ok(made) => Ok(made),
             Err(_) => Err(AllocError),
         }

@@ -1,5 +1,5 @@
 use Rattle.std.proofs.Common.{◌≡◌, ◌++◌, ◌-◌, length}
-use Rattle.vortex_zone_log.specs.Kept.{sets_of}
+use Rattle.vortex_zone_log.specs.Kept.{AreKept, IsLonger, said, sets_of}
 use Rattle.vortex_zone_log.specs.Logs.{empty_sets}
 use Rattle.vortex_zone_log.proofs.join.told_of.Given as goal
 
@@ -7,5 +7,7 @@ use Rattle.vortex_zone_log.proofs.join.told_of.Given as goal
 abbrev pub invariant-loop-set : goal.invariant-loop-set
 invariant-loop-set l = record {
   count : l.column ≡ length l.yielded;
-  told : sets_of (length l.fn.sets.items) l.told.items ≡ l.yielded ++ empty_sets (length l.fn.sets.items - length l.yielded);
+  kept : AreKept (length l.longs.items) l.told.items;
+  longer : IsLonger l.fn.longs.items l.longs.items;
+  told : sets_of (length l.fn.sets.items) (said l.longs.items l.told.items) ≡ l.yielded ++ empty_sets (length l.fn.sets.items - length l.yielded);
 }

@@ -1,0 +1,12 @@
+use Rattle.std.proofs.Common.{ap, map, sym, ◌∙◌}
+use Rattle.std.proofs.lemmas.List.{map-set}
+use Rattle.std.specs.Prelude.{slice_set}
+use Rattle.vortex_base.specs.Data.Cells.{cell_values, short_value}
+use Rattle.vortex_zone_log.proofs.fill.set_cell.Goals as goal
+
+pub returns-in-Some : goal.returns-in-Some
+returns-in-Some c =
+    ap (map short_value) c.set_short.ensures
+    ∙ map-set short_value c.in-Short.values.items c.args.place c.in-Some.cell
+    ∙ ap (slice_set (map short_value c.in-Short.values.items) c.args.place) c.in-Some.ensures
+    ∙ ap (λ l. slice_set (cell_values l) c.args.place c.args.value) (sym c.in-Short.is)

@@ -1,0 +1,10 @@
+use Rattle.std.proofs.Common.{◌++◌, drop, map, take}
+use Rattle.vortex_zone_log.specs.Logs.{zones_from}
+use Rattle.vortex_zone_log.specs.Tables.{AreCells, blank_zone}
+use Rattle.vortex_zone_log.proofs.zone_log.ZoneLog.cells_from.Given as goal
+
+-- the zones so far are told, and of the others nothing is
+abbrev pub invariant-loop-next : goal.invariant-loop-next
+invariant-loop-next l =
+    let zones = zones_from l.from l.count l.self.zones in
+    AreCells l.heads (take l.next zones ++ map (blank_zone l.self-inside.columns) (drop l.next zones)) l.cells.items

@@ -1,0 +1,150 @@
+//! Values as a log keeps them: truths and numbers in place, texts and bytes in a list beside it.
+ghost use Rattle.std.specs.Prelude.{◌≡◌, IfOk, IfSome, Some, length};
+ghost use Rattle.vortex_base.specs.Data.Cells.{short_value};
+ghost use Rattle.vortex_zone_log.specs.Kept as spec;
+ghost use Rattle.vortex_zone_log.specs.Kept.{IsKept, IsLonger, IsPlace, kept_value};
+
+use std::alloc::AllocError;
+use vortex_base::cells::ShortCell;
+use vortex_base::scalar_value::ScalarValue;
+use vortex_base::value_ref::ValueRef;
+use vortex_stats::precision::Precision;
+
+/// How far a value can be trusted, and whether it is a text or bytes.
+#[derive(Clone, Copy, Debug)]
+pub enum Form {
+    Absent,
+    Exact,
+    Inexact,
+    LongExact,
+    LongInexact,
+}
+
+/// A value, or the place of a text or bytes in the list beside the log.
+#[derive(Clone, Copy, Debug)]
+pub struct Kept {
+    pub form: Form,
+    pub cell: ShortCell,
+}
+
+/// The cell of a truth or a number.
+#[inline]
+pub fn short_cell(value: &ScalarValue) -> Option<ShortCell>
+    ensures { IfSome result (λ cell. short_value cell ≡ Some value.now) }
+{
+    match value {
+        ScalarValue::Bool(truth) => Some(ShortCell::Bool(*truth)),
+        ScalarValue::Primitive(number) => Some(ShortCell::of_number(*number)),
+        ScalarValue::Utf8(_) | ScalarValue::Binary(_) => None,
+    }
+}
+
+// The place of a text or bytes, which goes behind the others.
+#[inline(never)]
+fn long_cell(longs: &mut Vec<ScalarValue>, value: ScalarValue) -> Result<ShortCell, AllocError>
+    ensures kept { IfOk result (λ cell. spec.long_value longs.new.items cell ≡ Some value) }
+    ensures placed { IfOk result (IsPlace (length longs.new.items)) }
+    ensures longer { IsLonger longs.old.items longs.new.items }
+{
+    let place = longs.len();
+    longs.push(value)?;
+    Ok(ShortCell::U64(place as u64))
+}
+
+/// Keeps a value. A text or bytes go behind the others.
+#[inline]
+pub fn keep(longs: &mut Vec<ScalarValue>, value: Precision<ScalarValue>) -> Result<Kept, AllocError>
+    ensures kept { IfOk result (λ kept. kept_value longs.new.items kept ≡ value) }
+    ensures placed { IfOk result (IsKept (length longs.new.items)) }
+    ensures longer { IsLonger longs.old.items longs.new.items }
+{
+    match value {
+        Precision::Exact(value) => match short_cell(&value) {
+            Some(cell) => Ok(Kept {
+                form: Form::Exact,
+                cell,
+            }),
+            None => Ok(Kept {
+                form: Form::LongExact,
+                cell: long_cell(longs, value)?,
+            }),
+        },
+        Precision::Inexact(value) => match short_cell(&value) {
+            Some(cell) => Ok(Kept {
+                form: Form::Inexact,
+                cell,
+            }),
+            None => Ok(Kept {
+                form: Form::LongInexact,
+                cell: long_cell(longs, value)?,
+            }),
+        },
+        Precision::Absent => Ok(Kept {
+            form: Form::Absent,
+            cell: ShortCell::Null,
+        }),
+    }
+}
+
+// A truth or a number.
+#[inline]
+fn short_copy(cell: ShortCell) -> Option<ScalarValue>
+    ensures { result ≡ short_value cell }
+{
+    match cell.lend() {
+        Some(ValueRef::Bool(truth)) => Some(ScalarValue::Bool(truth)),
+        Some(ValueRef::Primitive(number)) => Some(ScalarValue::Primitive(number)),
+        Some(ValueRef::Utf8(_) | ValueRef::Binary(_)) => unreachable!(),
+        None => None,
+    }
+}
+
+// A copy of the text or bytes at the place that a cell tells.
+#[inline(never)]
+fn long_copy(longs: &[ScalarValue], cell: ShortCell) -> Result<Option<ScalarValue>, AllocError>
+    ensures { IfOk result (λ value. value ≡ spec.long_value longs.now cell) }
+{
+    match cell {
+        ShortCell::U64(place) => match longs.get(place as usize) {
+            Some(value) => Ok(Some(value.lend().to_value()?)),
+            None => Ok(None),
+        },
+        _ => Ok(None),
+    }
+}
+
+// The value that is known exactly, if one is.
+#[inline]
+fn exact(value: Option<ScalarValue>) -> Precision<ScalarValue>
+    ensures { result ≡ spec.exact value }
+{
+    match value {
+        Some(value) => Precision::Exact(value),
+        None => Precision::Absent,
+    }
+}
+
+// The value that is known inexactly, if one is.
+#[inline]
+fn inexact(value: Option<ScalarValue>) -> Precision<ScalarValue>
+    ensures { result ≡ spec.inexact value }
+{
+    match value {
+        Some(value) => Precision::Inexact(value),
+        None => Precision::Absent,
+    }
+}
+
+/// A copy of a value. A text or bytes alone take memory.
+#[inline]
+pub fn copy_of(longs: &[ScalarValue], kept: Kept) -> Result<Precision<ScalarValue>, AllocError>
+    ensures { IfOk result (λ copy. copy ≡ kept_value longs.now kept) }
+{
+    match kept.form {
+        Form::Absent => Ok(Precision::Absent),
+        Form::Exact => Ok(exact(short_copy(kept.cell))),
+        Form::Inexact => Ok(inexact(short_copy(kept.cell))),
+        Form::LongExact => Ok(exact(long_copy(longs, kept.cell)?)),
+        Form::LongInexact => Ok(inexact(long_copy(longs, kept.cell)?)),
+    }
+}
