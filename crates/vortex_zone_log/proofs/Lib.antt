@@ -6,3 +6,4 @@ pub mod MapLemmas
 pub mod RunLemmas
 pub mod StepLemmas
 pub mod TableLemmas
+pub mod WorkedRows
