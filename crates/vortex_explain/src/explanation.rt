@@ -1,11 +1,11 @@
 //! What a scan by the built-in rules does with each part, and why.
 use crate::leaves::push_leaves;
-use crate::proofs::{Proofs, holds, push_shown, push_told};
+use crate::proofs::{PartAt, Proofs, holds, push_shown, push_told};
 use std::alloc::{AllocError, Global};
 use vortex_base::bound_expression::BoundExpression;
 use vortex_base::scope::Scope;
 use vortex_normal::normalize::normalize;
-use vortex_prune::part::Part;
+use vortex_prune::zone_map::ZoneMap;
 use vortex_rewrite::rewrite::rules::Rules;
 use vortex_stats::error::StatsError;
 
@@ -44,7 +44,7 @@ impl Fate {
 }
 
 // A part's fate by the proofs of the predicate.
-fn fate_of(alloc: Global, proofs: &Proofs, part: &Part) -> Result<Fate, StatsError> {
+fn fate_of(alloc: Global, proofs: &Proofs, part: PartAt<'_>) -> Result<Fate, StatsError> {
     if holds(alloc, proofs.falsifier.as_ref(), part)? {
         return Ok(Fate::Skipped);
     }
@@ -115,18 +115,27 @@ fn leaves_of<'a>(
     Ok(leaves)
 }
 
+// How many rows the part at a place has.
+fn rows_of(map: &ZoneMap, place: usize) -> u64 {
+    if place < map.len() {
+        map.rows(place)
+    } else {
+        0
+    }
+}
+
 // The lines of a part: what becomes of it, and what each leaf's proofs say.
 fn push_part(
     alloc: Global,
     text: &mut String,
     scope: &Scope,
     leaves: &[Leaf<'_>],
-    place: usize,
-    part: &Part,
+    part: PartAt<'_>,
     fate: Fate,
 ) -> Result<(), StatsError> {
+    let place = part.place;
     let word = fate.word();
-    let rows = part.chunk().rows();
+    let rows = rows_of(part.map, place);
     let line = format!(in alloc; "part {place}: {word}, {rows} rows\n")?;
     text.push_str(&line)?;
     for leaf in leaves {
@@ -162,13 +171,13 @@ fn push_strip(alloc: Global, text: &mut String, fates: &[Fate]) -> Result<(), Al
 // The places of the tested parts with the most rows, those first.
 fn most_tested(
     alloc: Global,
-    parts: &[Part],
+    map: &ZoneMap,
     fates: &[Fate],
-) -> Result<Vec<(usize, usize)>, AllocError> {
+) -> Result<Vec<(u64, usize)>, AllocError> {
     let mut tested = Vec::new(alloc);
-    for (place, (part, fate)) in parts.iter().zip(fates.iter()).enumerate() {
+    for (place, fate) in fates.iter().enumerate() {
         if *fate == Fate::Tested {
-            tested.push((usize::MAX - part.chunk().rows(), place))?;
+            tested.push((u64::MAX - rows_of(map, place), place))?;
         }
     }
     tested.sort()?;
@@ -182,27 +191,27 @@ fn push_parts(
     text: &mut String,
     scope: &Scope,
     leaves: &[Leaf<'_>],
-    parts: &[Part],
+    map: &ZoneMap,
     fates: &[Fate],
 ) -> Result<(), StatsError> {
-    if parts.len() <= TOLD {
-        for (place, (part, fate)) in parts.iter().zip(fates.iter()).enumerate() {
-            push_part(alloc, text, scope, leaves, place, part, *fate)?;
+    if fates.len() <= TOLD {
+        for (place, fate) in fates.iter().enumerate() {
+            push_part(alloc, text, scope, leaves, PartAt { map, place }, *fate)?;
         }
         return Ok(());
     }
     push_strip(alloc, text, fates)?;
-    for (_, place) in most_tested(alloc, parts, fates)? {
-        if let (Some(part), Some(fate)) = (parts.get(place), fates.get(place)) {
-            push_part(alloc, text, scope, leaves, place, part, *fate)?;
+    for (_, place) in most_tested(alloc, map, fates)? {
+        if let Some(fate) = fates.get(place) {
+            push_part(alloc, text, scope, leaves, PartAt { map, place }, *fate)?;
         }
     }
     Ok(())
 }
 
-/// What a scan of the parts by the built-in rules does and why, as lines of text: the predicate with
-/// its falsifier and its satisfier, its normal form with those of it, and for each part whether it
-/// is skipped, whole or tested, with what the proofs of each leaf of the predicate say by its
+/// What a scan of parts by the built-in rules does and why, as lines of text: the predicate with its
+/// falsifier and its satisfier, its normal form with those of it, and for each part, of which the map
+/// has the statistics, whether it is skipped, whole or tested, with what the proofs of each leaf of the predicate say by its
 /// statistics: true, false, or null for want of the statistics that are named. Of more than 50 parts
 /// a strip of signs tells what becomes of them, and the ten tested ones with the most rows are told.
 ///
@@ -210,7 +219,7 @@ fn push_parts(
 pub fn explain(
     alloc: Global,
     scope: &Scope,
-    parts: &[Part],
+    map: &ZoneMap,
     predicate: &BoundExpression,
 ) -> Result<String, StatsError> {
     let rules = Rules::builtin(alloc);
@@ -227,10 +236,10 @@ pub fn explain(
         &Proofs::of(alloc, &normal, &rules)?,
     )?;
     let leaves = leaves_of(alloc, predicate, &rules)?;
-    let mut fates = Vec::with_capacity(alloc, parts.len())?;
-    for part in parts {
-        fates.push(fate_of(alloc, &proofs, part)?)?;
+    let mut fates = Vec::with_capacity(alloc, map.len())?;
+    for place in 0..map.len() {
+        fates.push(fate_of(alloc, &proofs, PartAt { map, place })?)?;
     }
-    push_parts(alloc, &mut text, scope, &leaves, parts, &fates)?;
+    push_parts(alloc, &mut text, scope, &leaves, map, &fates)?;
     Ok(text)
 }

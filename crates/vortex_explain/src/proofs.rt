@@ -5,12 +5,11 @@ use std::alloc::{AllocError, Global};
 use vortex_base::bound_expression::BoundExpression;
 use vortex_base::error::BaseError;
 use vortex_base::evaluate::evaluate;
-use vortex_base::row::Row;
 use vortex_base::scalar_value::ScalarValue;
 use vortex_base::scope::Scope;
 use vortex_prune::bind::bind_stats;
-use vortex_prune::bind::stats_binder::StatsBinder;
-use vortex_prune::part::Part;
+use vortex_prune::bind::zone_binder::ZoneBinder;
+use vortex_prune::zone_map::ZoneMap;
 use vortex_rewrite::built::built;
 use vortex_rewrite::rewrite::rules::Rules;
 use vortex_rewrite::rewrite::{falsify, satisfy};
@@ -39,15 +38,26 @@ impl Proofs {
     }
 }
 
+/// One of the parts whose statistics a map has.
+#[derive(Clone, Copy, Debug)]
+pub(crate) struct PartAt<'a> {
+    pub(crate) map: &'a ZoneMap,
+    pub(crate) place: usize,
+}
+
 // The value of a proof, or of a placeholder, by the statistics of a part.
 fn value_of(
     alloc: Global,
     proof: &BoundExpression,
-    part: &Part,
+    part: PartAt<'_>,
 ) -> Result<Option<ScalarValue>, StatsError> {
+    let table = part.map.table();
+    if part.place >= table.rows() || part.place >= part.map.len() {
+        return Ok(None);
+    }
     let kept = built(proof.try_clone())?;
-    let bound = bind_stats(alloc, kept, &StatsBinder::new(part))?;
-    match evaluate(&bound, &Row::empty(), part.zone().rows()) {
+    let bound = bind_stats(alloc, kept, &ZoneBinder::new(part.map))?;
+    match evaluate(&bound, &table.row(part.place), part.map.rows(part.place)) {
         Ok(value) => Ok(value),
         Err(BaseError::Memory(refused)) => Err(StatsError::Memory(refused)),
         // What still has a column tells nothing.
@@ -59,7 +69,7 @@ fn value_of(
 pub(crate) fn told(
     alloc: Global,
     proof: &BoundExpression,
-    part: &Part,
+    part: PartAt<'_>,
 ) -> Result<Option<bool>, StatsError> {
     match value_of(alloc, proof, part)? {
         Some(ScalarValue::Bool(truth)) => Ok(Some(truth)),
@@ -71,7 +81,7 @@ pub(crate) fn told(
 pub(crate) fn holds(
     alloc: Global,
     proof: Option<&BoundExpression>,
-    part: &Part,
+    part: PartAt<'_>,
 ) -> Result<bool, StatsError> {
     match proof {
         Some(proof) => Ok(told(alloc, proof, part)? == Some(true)),
@@ -90,7 +100,7 @@ fn push_missing(
     text: &mut String,
     scope: &Scope,
     proof: &BoundExpression,
-    part: &Part,
+    part: PartAt<'_>,
 ) -> Result<(), StatsError> {
     let mut placeholders = Vec::new(alloc);
     push_placeholders(&mut placeholders, proof)?;
@@ -124,7 +134,7 @@ pub(crate) fn push_told(
     scope: &Scope,
     kind: &str,
     proof: Option<&BoundExpression>,
-    part: &Part,
+    part: PartAt<'_>,
 ) -> Result<(), StatsError> {
     text.push_str(kind)?;
     let Some(proof) = proof else {

@@ -11,9 +11,6 @@ pub fn explain_text(alloc: Global, text: &[u8]) -> Result<Option<String>, StatsE
     let Ok(query) = read_input(alloc, text) else {
         return Ok(None);
     };
-    let mut parts = Vec::with_capacity(alloc, query.parts.len())?;
-    for part in query.parts {
-        parts.push(part.into_part(alloc)?)?;
-    }
-    Ok(Some(explain(alloc, &query.scope, &parts, &query.predicate)?))
+    let map = query.map(alloc)?;
+    Ok(Some(explain(alloc, &query.scope, &map, &query.predicate)?))
 }

@@ -1,5 +1,5 @@
 -- Steps of the lines of a text.
-use Rattle.std.proofs.Common.{◌≡◌, ◌<◌, ℕ, true, false, if◌then◌else◌, List, [], ◌∷◌, ◌++◌, Option, None, Some, String, is_some, length, option_map, refl, inl, inr, arith}
+use Rattle.std.proofs.Common.{◌≡◌, ◌<◌, ℕ, true, false, if◌then◌else◌, List, [], ◌∷◌, ◌++◌, Option, None, Some, String, is_some, length, refl, inl, inr, arith}
 use Rattle.std.proofs.lemmas.Bool.{cases_Bool}
 use Rattle.std.specs.declared.alloc.Global.{Global}
 use Rattle.vortex_base.specs.Data.Scopes.{Named, named_columns, place_of}
@@ -14,22 +14,18 @@ use Rattle.vortex_syntax.specs.declared.line_error.LineError.{LineError}
 use Rattle.vortex_syntax.specs.declared.line_kind.LineKind.{LineKind}
 use Rattle.vortex_text.proofs.ColumnLemmas.{fails_on}
 use Rattle.vortex_text.specs.Lines.{Reading, and_current, has_part, is_new, read_kind, read_words, with_column}
-use Rattle.vortex_text.specs.OpenParts.{open_data}
-use Rattle.vortex_text.specs.declared.open_part.OpenPart.{OpenPart}
 
 pub has_last : (parts : List PartData) (part : PartData) → has_part (parts ++ part ∷ []) ≡ true
 has_last [] part = refl
 has_last (p ∷ ps) part = refl
 
 -- a column before the first part
-pub column_added : (cs new : List (String Global × DType)) (ended : List PartData) (current : Option OpenPart) (predicate : Option (Tree Place)) (name : List ℕ) (t : DType)
-    → has_part (and_current ended (option_map (open_data (named_columns cs)) current)) ≡ false → is_new (named_columns cs) name ≡ true
+pub column_added : (cs new : List (String Global × DType)) (ended : List PartData) (current : Option PartData) (predicate : Option (Tree Place)) (name : List ℕ) (t : DType)
+    → has_part (and_current ended current) ≡ false → is_new (named_columns cs) name ≡ true
     → named_columns new ≡ named_columns cs ++ (name, t) ∷ []
-    → with_column (record { scope = named_columns cs; ended = ended; current = option_map (open_data (named_columns cs)) current; predicate = predicate }) name t
-    ≡ Some (record { scope = named_columns new; ended = ended; current = option_map (open_data (named_columns new)) current; predicate = predicate })
-column_added cs new ended None predicate name t none is_new more = rw (none, is_new, more) refl
-column_added cs new ended (Some part) predicate name t none is_new more =
-    let has = has_last ended (open_data (named_columns cs) part) in cc
+    → with_column (record { scope = named_columns cs; ended = ended; current = current; predicate = predicate }) name t
+    ≡ Some (record { scope = named_columns new; ended = ended; current = current; predicate = predicate })
+column_added cs new ended current predicate name t none is_new more = rw (none, is_new, more) refl
 
 -- no line with words after the predicate
 pub stops_after : (r : Reading) (ws : List Token) → 0 < length ws → is_some r.predicate ≡ true → read_words r ws ≡ None

@@ -1,12 +1,14 @@
 pub mod BatchLemmas
 pub mod ColumnLemmas
 pub mod DraftLemmas
+pub mod DraftSteps
 pub mod FirstLineLemmas
 pub mod FirstReads
 pub mod FirstRows
 pub mod Fitting
 pub mod InputLemmas
 pub mod JoinLemmas
+pub mod LeftLemmas
 pub mod MemoryLemmas
 pub mod NamedLines
 pub mod OpenLineLemmas
@@ -14,4 +16,6 @@ pub mod OpenTextLemmas
 pub mod QueryLemmas
 pub mod Refusals
 pub mod StartLemmas
+pub mod StoreLemmas
+pub mod StoreSteps
 pub mod WorkedRows

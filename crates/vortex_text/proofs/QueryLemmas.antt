@@ -1,15 +1,20 @@
 -- The answers of the parts' own statistics, what a text's reply is made of, and how far a scan by batches has come.
-use Rattle.std.proofs.Common.{◌≡◌, ◌+◌, ℕ, List, [], ◌∷◌, ◌++◌, All, length, map, take, refl, ap, sym, subst, ◌∙◌, append-nil, append_assoc, length-append, alloc_error, arith}
-use Rattle.std.proofs.lemmas.List.{drop_at, take_at}
-use Rattle.std.proofs.lemmas.List.Elements.{All-drop, All-take}
+use Rattle.std.proofs.Common.{◌≡◌, ◌≤◌, ◌+◌, ℕ, Bool, List, [], ◌∷◌, ◌++◌, Option, All, length, map, drop, take, refl, ap, sym, subst, ◌∙◌, alloc_error, inl, inr}
+use Rattle.std.proofs.Math.Seq.{take-add}
+use Rattle.std.proofs.lemmas.Bool.{cases_Bool}
+use Rattle.std.proofs.lemmas.List.{drop-drop}
+use Rattle.std.proofs.lemmas.List.Elements.{All-drop}
+use Rattle.std.specs.List.{AllByRecursion, enumerate_from, filter}
 use Rattle.std.specs.declared.alloc.AllocError.{AllocError}
 use Rattle.vortex_base.specs.Data.Scopes.{Named}
 use Rattle.vortex_base.specs.Trees.Tree.{Place, Tree}
-use Rattle.vortex_prune.specs.Part.{PartData}
-use Rattle.vortex_prune.specs.Binding.PartAnswers.{part_values}
-use Rattle.vortex_rewrite.specs.Answers.{IsMemory}
-use Rattle.vortex_prune.specs.Scanning.Selection.{answered}
+use Rattle.vortex_prune.specs.Part.{PartData, zone_of}
+use Rattle.vortex_prune.specs.Binding.PartAnswers.{part_values, told_values}
+use Rattle.vortex_prune.specs.Scanning.Selection.{answered, is_proved, is_whole, proves_of, skipped_parts, verdict, whole_parts}
+use Rattle.vortex_prune.specs.Scanning.ZoneScans.{skipped_zones, whole_zones, zone_verdict}
+use Rattle.vortex_prune.specs.Zones.{zones_of}
 use Rattle.vortex_prune.specs.declared.scan.outcome.Scan.{Scan}
+use Rattle.vortex_rewrite.specs.Answers.{IsMemory}
 use Rattle.vortex_stats.specs.declared.error.StatsError.{StatsError}
 use Rattle.vortex_stats.specs.declared.error.StatsError.TheVariants as faults
 use Rattle.vortex_text.specs.Batches.{IsFoundIn}
@@ -24,63 +29,59 @@ own_answered (part ∷ parts) = ap (λ more. by_statistics part ∷ more) (own_a
 pub not_memory : (f : StatsError) → IsMemory f → ((refused : AllocError) → f ≡ faults.Memory refused → ⊥) → ⊥
 not_memory f h other = other alloc_error h
 
+-- ---- what zones tell is what the parts' own statistics answer
+
+module _ {X Y Z : Type 0} (g : Z → X) (h : Z → Y) (s : X → Bool) (t : Y → Bool) where
+  -- where two tests answer alike, they pass at the same places
+  places_alike : (n : ℕ) (zs : List Z) → AllByRecursion (λ z. s (g z) ≡ t (h z)) zs
+      → map (λ (e : ℕ × X). e.0) (filter (λ e. s e.1) (enumerate_from n (map g zs))) ≡ map (λ (e : ℕ × Y). e.0) (filter (λ e. t e.1) (enumerate_from n (map h zs)))
+  places_alike n [] alike = refl
+  places_alike n (z ∷ zs) alike =
+      let more = places_alike (n + 1) zs alike.1 in
+      elim (cases_Bool (t (h z))) [
+        | inl is ↦ rw (alike.0 ∙ is, is) (ap (λ l. n ∷ l) more)
+        | inr isnt ↦ rw (alike.0 ∙ isnt, isnt) more
+      ]
+
+module _ (f s : Option (Tree Place)) (scope : List Named) where
+  skipped_alike : (parts : List PartData) → AllByRecursion (λ (p : PartData). p.chunk.scope ≡ scope) parts
+      → AllByRecursion (λ (p : PartData). proves_of f (zone_of p).rows (told_values scope (zone_of p)) ≡ is_proved f (by_statistics p).0 (by_statistics p).1) parts
+  skipped_alike [] scoped = tt
+  skipped_alike (p ∷ parts) scoped = (ap (λ ns. proves_of f (zone_of p).rows (told_values ns (zone_of p))) (sym scoped.0), skipped_alike parts scoped.1)
+
+  whole_alike : (parts : List PartData) → AllByRecursion (λ (p : PartData). p.chunk.scope ≡ scope) parts
+      → AllByRecursion (λ (p : PartData). is_whole (zone_verdict f s scope (zone_of p)) ≡ is_whole (verdict f s (by_statistics p).0 (by_statistics p).1)) parts
+  whole_alike [] scoped = tt
+  whole_alike (p ∷ parts) scoped = (ap (λ ns. is_whole (zone_verdict f s ns (zone_of p))) (sym scoped.0), whole_alike parts scoped.1)
+
+  pub skipped_same : (parts : List PartData) → AllByRecursion (λ (p : PartData). p.chunk.scope ≡ scope) parts → skipped_zones f scope (zones_of parts) ≡ skipped_parts f (map by_statistics parts)
+  skipped_same parts scoped = places_alike zone_of by_statistics (λ zone. proves_of f zone.rows (told_values scope zone)) (λ d. is_proved f d.0 d.1) 0 parts (skipped_alike parts scoped)
+
+  pub whole_same : (parts : List PartData) → AllByRecursion (λ (p : PartData). p.chunk.scope ≡ scope) parts → whole_zones f s scope (zones_of parts) ≡ whole_parts f s (map by_statistics parts)
+  whole_same parts scoped = places_alike zone_of by_statistics (λ zone. is_whole (zone_verdict f s scope zone)) (λ d. is_whole (verdict f s d.0 d.1)) 0 parts (whole_alike parts scoped)
+
 -- ---- how far a scan by batches has come
 
--- of all parts those in front are scanned, this is found in them, the batch stands behind them, and then the rest
-pub record IsReached (predicate : Tree Place) (all : List PartData) (before : ℕ) (found : Scan) (batch rest : List PartData) : Type 0 where
-  pub same : take before all ++ (batch ++ rest) ≡ all
-  pub long : length (take before all) ≡ before
+-- of all parts those in front are scanned, this is found in them, and these are left
+pub record IsReached (predicate : Tree Place) (all : List PartData) (before : ℕ) (found : Scan) (left : List PartData) : Type 0 where
+  pub within : before ≤ length all
+  pub left_is : left ≡ drop before all
   pub so_far : IsFoundIn predicate (take before all) found
 
 module _ (p : Tree Place) (all : List PartData) where
-  -- one more part stands in the batch
-  pub reached_more : (before : ℕ) (found : Scan) (batch pushed next rest : List PartData) (part whole : PartData)
-      → next ≡ part ∷ rest → whole ≡ part → pushed ≡ batch ++ whole ∷ [] → IsReached p all before found batch next → IsReached p all before found pushed rest
-  reached_more before found batch pushed next rest part whole taken is push r =
-      let moved : pushed ++ rest ≡ batch ++ next =
-      ap (λ l. l ++ rest) push ∙ append_assoc batch (whole ∷ []) rest ∙ ap (λ (x : PartData). batch ++ x ∷ rest) is ∙ ap (λ l. batch ++ l) (sym taken)
-      in
-      record {
-        same = ap (λ l. take before all ++ l) moved ∙ r.same;
-        long = r.long;
-        so_far = r.so_far;
-      }
+  -- some more of them are scanned
+  pub reached_next : (before n : ℕ) (old new : Scan) (left next : List PartData) → before + n ≤ length all → IsReached p all before old left → next ≡ drop n left → IsFoundIn p (take before all ++ take n left) new
+      → IsReached p all (before + n) new next
+  reached_next before n old new left next within r is more = record {
+    within = within;
+    left_is = is ∙ ap (drop n) r.left_is ∙ drop-drop n before all;
+    so_far = subst (λ l. IsFoundIn p l new) (ap (λ l. take before all ++ take n l) r.left_is ∙ sym (take-add before n all)) more;
+  }
 
-  -- the same under other names
-  pub reached_as : (before after : ℕ) (old new : Scan) (batch next rest : List PartData) → after ≡ before → new ≡ old → next ≡ batch
-      → IsReached p all before old batch rest → IsReached p all after new next rest
-  reached_as before after old new batch next rest counts founds batches r =
-      subst (λ n. IsReached p all n new next rest) (sym counts) (subst (λ f. IsReached p all before f next rest) (sym founds) (subst (λ l. IsReached p all before old l rest) (sym batches) r))
-
-  -- a batch that was scanned stands among those in front
-  pub reached_full : (before size : ℕ) (old new : Scan) (batch rest : List PartData) → length batch ≡ size → IsReached p all before old batch rest
-      → IsFoundIn p (take before all ++ batch) new → IsReached p all (before + size) new [] rest
-  reached_full before size old new batch rest full r more =
-      let front : List PartData = take before all ++ batch in
-      let whole : front ++ rest ≡ all = append_assoc (take before all) batch rest ∙ r.same in
-      let long : length front ≡ before + size = omega (arith, length-append (take before all) batch, r.long, full) in
-      let there : take (before + size) all ≡ front = ap (take (before + size)) (sym whole) ∙ take_at front rest (before + size) long in
-      record {
-        same = ap (λ l. l ++ rest) there ∙ whole;
-        long = ap length there ∙ long;
-        so_far = subst (λ l. IsFoundIn p l new) (sym there) more;
-      }
-
-  -- the batch is of the same query
-  pub reached_query : (scope : List Named) (before : ℕ) (found : Scan) (batch rest : List PartData) → IsReached p all before found batch rest
-      → IsQueryOver scope all p → IsQueryOver scope batch p
-  reached_query scope before found batch rest r query =
-      let split : All (IsPartOf scope) (take before all ++ (batch ++ rest)) = subst (All (IsPartOf scope)) (sym r.same) query.are_parts in
-      let behind : All (IsPartOf scope) (batch ++ rest) =
-      subst (All (IsPartOf scope)) (drop_at (take before all) (batch ++ rest) before r.long) (All-drop (IsPartOf scope) before (take before all ++ (batch ++ rest)) split)
-      in
-      record {
-        is_scope = query.is_scope;
-        are_parts = subst (All (IsPartOf scope)) (take_at batch rest (length batch) refl) (All-take (IsPartOf scope) (length batch) (batch ++ rest) behind);
-        is_predicate = query.is_predicate;
-      }
-
-  -- nothing is left behind the batch
-  pub reached_all : (before : ℕ) (old new : Scan) (batch : List PartData) → IsReached p all before old batch [] → IsFoundIn p (take before all ++ batch) new → IsFoundIn p all new
-  reached_all before old new batch r more =
-      subst (λ l. IsFoundIn p l new) (ap (λ l. take before all ++ l) (sym (append-nil batch)) ∙ r.same) more
+  -- those that are left are of the same query
+  pub reached_query : (scope : List Named) (before : ℕ) (found : Scan) (left : List PartData) → IsReached p all before found left → IsQueryOver scope all p → IsQueryOver scope left p
+  reached_query scope before found left r query = record {
+    is_scope = query.is_scope;
+    are_parts = subst (All (IsPartOf scope)) (sym r.left_is) (All-drop (IsPartOf scope) before all query.are_parts);
+    is_predicate = query.is_predicate;
+  }

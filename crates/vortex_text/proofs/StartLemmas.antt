@@ -1,13 +1,11 @@
 -- What a chunk is made of.
-use Rattle.std.proofs.Common.{◌≡◌, ◌&&◌, true, List, [], ◌∷◌, All, Result, Ok, Err, IsTrue, refl, ap, sym, ◌∙◌, inl, inr}
+use Rattle.std.proofs.Common.{◌≡◌, ◌&&◌, List, Result, Ok, Err, refl, ap, ◌∙◌, inl, inr}
 use Rattle.std.specs.List.{list_all}
 use Rattle.std.proofs.lemmas.Bool.{cases_Bool}
-use Rattle.std.proofs.lemmas.List.Elements.{All-cons, All-nil}
-use Rattle.vortex_base.specs.Data.Columns.{ChunkData, ColumnData, IsChunk, IsColumn, chunk_of, has_shape, has_types, is_column}
+use Rattle.vortex_base.specs.Data.Columns.{ChunkData, ColumnData, IsChunk, chunk_of, has_shape, has_types, is_column}
 use Rattle.vortex_base.specs.Data.Exact.{both_true}
 use Rattle.vortex_base.specs.Data.Scopes.{Named, is_scope}
 use Rattle.vortex_base.specs.declared.error.BaseError.{BaseError}
-use Rattle.vortex_prune.specs.Part.{Entries, sets_fit}
 
 -- the chunk of a scope and columns is those
 pub chunk_is : (ss : List Named) (cs : List ColumnData) (k : ChunkData) → chunk_of ss cs ≡ Ok k → k ≡ record { scope = ss; columns = cs }
@@ -26,21 +24,6 @@ chunk_made ss cs h =
     let types = both_true (has_types ss cs) (list_all is_column cs) rest.1 in
     rw (rest.0, types.0) refl
 
-columns_by_list : (cs : List ColumnData) → list_all is_column cs ≡ true → All IsColumn cs
-columns_by_list [] h = All-nil IsColumn
-columns_by_list (c ∷ cs) h = let both = both_true (is_column c) (list_all is_column cs) h in All-cons IsColumn c cs both.0 (columns_by_list cs both.1)
-
--- each column of a chunk is one
-pub chunk_columns : (ss : List Named) (cs : List ColumnData) → IsChunk (record { scope = ss; columns = cs }) → All IsColumn cs
-chunk_columns ss cs h =
-    let rest = both_true (has_shape ss cs) (has_types ss cs && list_all is_column cs) (both_true (is_scope ss) (has_shape ss cs && (has_types ss cs && list_all is_column cs)) h).1 in
-    columns_by_list cs (both_true (has_types ss cs) (list_all is_column cs) rest.1).1
-
 pub chunk_not_refused : (ss : List Named) (cs own : List ColumnData) (r : Result ChunkData BaseError) (e : BaseError) → IsChunk (record { scope = ss; columns = cs })
     → own ≡ cs → r ≡ chunk_of ss own → r ≡ Err e → ⊥
 chunk_not_refused ss cs own r e h same made refused = let all = made ∙ ap (chunk_of ss) same ∙ chunk_made ss cs h in cc
-
--- sets that fit the columns fit those of the chunk
-pub sets_of_chunk : (ss : List Named) (cs own : List ColumnData) (sets : List Entries) (k : ChunkData) → own ≡ cs → Ok k ≡ chunk_of ss own → IsTrue (sets_fit cs sets) → IsTrue (sets_fit k.columns sets)
-sets_of_chunk ss cs own sets k same made h =
-    ap (λ (x : ChunkData). sets_fit x.columns sets) (chunk_is ss own k (sym made)) ∙ ap (λ ds. sets_fit ds sets) same ∙ h

@@ -3,4 +3,5 @@ pub mod BadRows
 pub mod BlockRows
 pub mod FirstRows
 pub mod MemoryRows
+pub mod StoreRows
 pub mod TextRows

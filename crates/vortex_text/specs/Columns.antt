@@ -1,10 +1,7 @@
--- The columns of a part and their sets, as lines add to them.
-use Rattle.std.specs.Prelude.{ℕ, List, [], ◌∷◌, ◌++◌, Option, Some, None, option_map, slice_set}
+-- The columns of a part, as lines add to them.
+use Rattle.std.specs.Prelude.{List, [], ◌∷◌, ◌++◌, Option, Some, option_map}
 use Rattle.vortex_base.specs.Data.Columns.{ColumnData}
 use Rattle.vortex_base.specs.declared.scalar_value.ScalarValue.{ScalarValue}
-use Rattle.vortex_stats.specs.Sets.Entries.{with_entry}
-use Rattle.vortex_stats.specs.declared.precision.Precision.{Precision}
-use Rattle.vortex_stats.specs.declared.stat.Stat.{Stat}
 use Rattle.vortex_syntax.specs.Fails.{◌>>=◌}
 use Rattle.vortex_syntax.specs.Values.{optional_value_of}
 use Rattle.vortex_syntax.specs.Words.{Token, first_word, no_word}
@@ -33,12 +30,3 @@ with_values (c ∷ cs) ws = do
 -- columns in front of those that are to be read
 abbrev pub behind : List ColumnData → Option (List ColumnData) → Option (List ColumnData)
 behind front read = option_map (λ more. front ++ more) read
-
--- a set of statistics, as the list of its entries
-abbrev pub Entries : Type 0
-Entries = List (Stat × Precision ScalarValue)
-
--- the sets with this value of the statistic in the one at a place, if there is one
-abbrev pub set_at : ℕ → Stat → Precision ScalarValue → List Entries → Option Entries → List Entries
-set_at i s p sets None = sets
-set_at i s p sets (Some set) = slice_set sets i (with_entry s p set)

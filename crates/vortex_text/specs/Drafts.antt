@@ -1,15 +1,14 @@
 -- What lines say, as it is held.
-use Rattle.std.specs.Prelude.{option_map}
 use Rattle.vortex_base.specs.Data.Scopes.{named_columns}
 use Rattle.vortex_text.specs.Lines.{Reading}
-use Rattle.vortex_text.specs.OpenParts.{open_data}
+use Rattle.vortex_text.specs.Stores.{current_of, ended_of}
 use Rattle.vortex_text.specs.declared.draft.Draft.{Draft}
 
 -- what the lines so far say
 abbrev pub reading_of : Draft → Reading
 reading_of d = record {
   scope = named_columns d.columns;
-  ended = d.ended;
-  current = option_map (open_data (named_columns d.columns)) d.current;
+  ended = ended_of d.store;
+  current = current_of d.store;
   predicate = d.predicate;
 }

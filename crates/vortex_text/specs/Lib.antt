@@ -8,10 +8,10 @@ pub mod Inputs
 pub mod Lines
 pub mod MemoryTaken
 pub mod Naming
-pub mod OpenParts
 pub mod OpenTexts
 pub mod Printing
 pub mod Program
 pub mod Progress
 pub mod Rows
+pub mod Stores
 pub mod Streams

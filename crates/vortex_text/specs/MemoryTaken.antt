@@ -14,7 +14,7 @@ use Rattle.vortex_syntax.specs.Statistics.{claimed}
 use Rattle.vortex_syntax.specs.Words.{Token, no_word, plain_word, words}
 use Rattle.vortex_syntax.specs.declared.line_kind.LineKind.{LineKind}
 use Rattle.vortex_syntax.specs.declared.line_kind.LineKind.TheVariants as kind
-use Rattle.vortex_text.specs.Lines.{Reading, nothing_read, read_column, read_join, read_part, when}
+use Rattle.vortex_text.specs.Lines.{Reading, nothing_read, read_column, read_join, read_part, read_stat, when}
 use Rattle.vortex_text.specs.Naming.{Reads}
 
 -- the value of a statistic takes memory, where one is claimed
@@ -30,11 +30,11 @@ place_in ws = do
   n ← natural_of place.0
   in_64_bits n
 
--- The words of a line of this kind, behind the first, take memory. A column, a part and a join do if the line is fine, a join also where it ends a part; a statistic does by its value; a row does if there is a part; a predicate does by a text between quotes or as an expression.
+-- The words of a line of this kind, behind the first, take memory. A column, a part, a statistic and a join do if the line is fine, a join also where it ends a part, a statistic also by its value; a row does if there is a part; a predicate does by a text between quotes or as an expression.
 abbrev pub kind_takes : LineKind → Reading → List Token → Bool
 kind_takes kind.Column r ws = is_some (read_column r ws)
 kind_takes kind.Part r ws = is_some (read_part r ws)
-kind_takes kind.Stat r ws = value_takes (claimed r.scope ws)
+kind_takes kind.Stat r ws = value_takes (claimed r.scope ws) || is_some (read_stat r ws)
 kind_takes kind.Row r ws = is_some r.current
 kind_takes kind.Join r ws = is_some (place_in ws) && (is_some r.current || is_some (read_join r ws))
 kind_takes kind.Where r ws = list_any is_copied ws || begins_expression ws

@@ -1,41 +1,14 @@
 //! Scans of parts a batch at a time, and what they find together.
-ghost use Rattle.std.specs.Prelude.{◌≡◌, ◌<◌, ◌+◌, ◌++◌, ◌^◌, [], IfOk, IfSome, IsTrue};
-ghost use Rattle.std.specs.Prelude.{List, OnOk, is_some, length, map};
+ghost use Rattle.std.specs.Prelude.{◌≡◌, ◌<◌, ◌≤◌, ◌+◌, ◌++◌, ◌^◌, [], IsTrue, List, OnOk, drop, length, map, take};
 ghost use Rattle.vortex_prune.specs.Part.{PartData};
 ghost use Rattle.vortex_rewrite.specs.Rewriting.Predicates.{is_predicate};
 ghost use Rattle.vortex_text.specs.Batches.{CanRise, CanRiseRows, IsFoundIn, raised, raised_row};
 ghost use Rattle.vortex_text.specs.Fitting.{IsQueryOver};
 
+use crate::parts::PartsLeft;
 use std::alloc::{AllocError, Global};
 use vortex_base::{BoundExpression, Scope};
-use vortex_prune::scan::zones::scan_zones;
-use vortex_prune::{Part, Rules, Scan, Zones};
-use vortex_stats::StatsError;
-
-// The scan of a table of some parts' statistics, or none where the predicate isn't of type Bool.
-fn scan_batch(
-    alloc: Global,
-    scope: &Scope,
-    batch: Vec<Part>,
-    predicate: &BoundExpression,
-) -> Result<Option<Scan>, AllocError>
-    requires { IsQueryOver scope.now batch.items predicate.now }
-    ensures kind { IfOk result (λ o. is_some o ≡ is_predicate predicate.now) }
-    ensures found { IfOk result (λ o. IfSome o (IsFoundIn predicate.now batch.items)) }
-{
-    let Ok(zones) = Zones::try_new(alloc, scope.try_clone()?, batch) else {
-        return Err(AllocError);
-    };
-    let rules = Rules::builtin(alloc);
-    match scan_zones(alloc, &zones, predicate, &rules) {
-        Ok(found) => Ok(Some(found)),
-        Err(fault) => match fault {
-            StatsError::NotPredicate => Ok(None),
-            StatsError::Memory(refused) => Err(refused),
-            _ => unreachable!(),
-        },
-    }
-}
+use vortex_prune::Scan;
 
 // Adds places of parts that stand behind some others.
 fn add_places(places: &mut Vec<usize>, more: &[usize], before: usize) -> Result<(), AllocError>
@@ -75,33 +48,35 @@ pub fn nothing_found(alloc: Global, predicate: &BoundExpression) -> Scan
     }
 }
 
-/// Adds what a scan finds in the next parts, which stand behind some others. The answer is whether
-/// the predicate is of type Bool.
+/// Adds what a scan finds in so many more parts, which stand behind some others, and goes past them.
 pub fn scan_more(
     alloc: Global,
     scope: &Scope,
     predicate: &BoundExpression,
     found: &mut Scan,
     before: usize,
-    batch: Vec<Part>,
-) -> Result<bool, AllocError>
-    requires query { IsQueryOver scope.now batch.items predicate.now }
-    requires few { before + length batch.items < 2 ^ 64 }
-    ensures kind { IfOk result (λ b. b ≡ is_predicate predicate.now) }
-    ensures found { IfOk result (λ b. IsTrue b → (parts : List PartData) → length parts ≡ before
+    left: &mut PartsLeft<'_>,
+    count: usize,
+) -> Result<(), AllocError>
+    requires query { IsQueryOver scope.now left.old predicate.now }
+    requires predicate { IsTrue (is_predicate predicate.now) }
+    requires some { 0 < count }
+    requires within { count ≤ length left.old }
+    requires few { before + count < 2 ^ 64 }
+    ensures found { OnOk result ((parts : List PartData) → length parts ≡ before
         → IsFoundIn predicate.now parts found.old
-        → IsFoundIn predicate.now (parts ++ batch.items) found.new) }
+        → IsFoundIn predicate.now (parts ++ take count left.old) found.new) }
+    ensures left { OnOk result (left.new ≡ drop count left.old) }
 {
-    let Some(more) = scan_batch(alloc, scope, batch, predicate)? else {
-        return Ok(false);
-    };
+    let more = left.scan(alloc, scope, predicate, count)?;
+    left.skip(count);
     if before == 0 {
         *found = more;
-        return Ok(true);
+        return Ok(());
     }
     add_places(&mut found.skipped, &more.skipped, before)?;
     add_places(&mut found.whole, &more.whole, before)?;
     add_rows(&mut found.selected, &more.selected, before)?;
     found.evaluated = found.evaluated.saturating_add(more.evaluated);
-    Ok(true)
+    Ok(())
 }

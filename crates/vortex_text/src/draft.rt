@@ -1,24 +1,22 @@
 //! What the lines of a text say, line by line.
 ghost use Rattle.std.specs.Prelude.{◌≡◌, ◌<◌, ◌||◌, IfOk, IfSome, IsErrOf, IsTrue, OnErr, OnOk, MatchOption, None, Some, is_some, length};
 ghost use Rattle.std.specs.Str.Lines.{lines};
-ghost use Rattle.vortex_base.specs.Data.Scopes.{named_columns};
+ghost use Rattle.vortex_base.specs.Data.Scopes.{IsScope, named_columns};
 ghost use Rattle.vortex_syntax.specs.Fails.{Changes, GivesAndChanges, IsBad};
 ghost use Rattle.vortex_syntax.specs.Plain.{EndsWord};
 ghost use Rattle.vortex_syntax.specs.Words.{words};
 ghost use Rattle.vortex_text.specs.Drafts.{reading_of};
 ghost use Rattle.vortex_text.specs.FirstLines.{first_read, first_values, may_take};
-ghost use Rattle.vortex_text.specs.Fitting.{FitsTogether, IsQueryOver};
+ghost use Rattle.vortex_text.specs.Fitting.{AreNeighbours, FitsTogether, IsQueryOver};
 ghost use Rattle.vortex_text.specs.Lines.{has_part, is_new, nothing_read, parts_of};
 ghost use Rattle.vortex_text.specs.Lines.{read_column, read_join, read_kind, read_line, read_part};
 ghost use Rattle.vortex_text.specs.Lines.{read_row, read_stat, read_where, read_words, with_column};
 ghost use Rattle.vortex_text.specs.MemoryTaken.{kind_takes, line_takes, words_take};
+ghost use Rattle.vortex_text.specs.Stores.{all_parts, ended_of};
 
-use crate::first_row::push_first_row;
-use crate::open_column::push_row;
-use crate::open_part::{OpenPart, set_statistic};
 use crate::parts::Parts;
 use crate::query::Query;
-use crate::starts::{empty_part, scope_of};
+use crate::store::Store;
 use std::alloc::{AllocError, Global};
 use std::str;
 use vortex_base::bound_expression::BoundExpression;
@@ -40,9 +38,25 @@ use vortex_syntax::word::{is_short, no_word, plain_word, skip_spaces};
 #[derive(Drop)]
 pub struct Draft {
     columns: Columns,
-    ended: Parts,
-    current: Option<OpenPart>,
+    // The parts, once there is one.
+    store: Option<Store>,
     predicate: Option<BoundExpression>,
+}
+
+// The parts that have ended, of these columns.
+fn ended_parts(
+    alloc: Global,
+    columns: &[(String, DType)],
+    store: Option<Store>,
+) -> Result<Parts, AllocError>
+    requires scope { IsScope (named_columns columns.now) }
+    requires parts { IfSome store (λ s. AreNeighbours (all_parts s)) }
+    ensures { IfOk result (λ parts. parts ≡ ended_of store) }
+{
+    match store {
+        Some(store) => store.into_parts(alloc),
+        None => Store::new(alloc, columns)?.into_parts(alloc),
+    }
 }
 
 impl Draft {
@@ -52,8 +66,7 @@ impl Draft {
     {
         Draft {
             columns: Columns::new(alloc),
-            ended: Parts::new(alloc),
-            current: None,
+            store: None,
             predicate: None,
         }
     }
@@ -62,9 +75,9 @@ impl Draft {
     fn has_part(&self) -> bool
         ensures { result ≡ has_part (parts_of (reading_of self.now)) }
     {
-        match &self.current {
-            Some(_) => true,
-            None => self.ended.has_part(),
+        match &self.store {
+            Some(store) => store.has_part(),
+            None => false,
         }
     }
 
@@ -76,20 +89,16 @@ impl Draft {
     }
 
     // The current part takes no more rows.
-    fn end_part(&mut self, alloc: Global) -> Result<(), AllocError>
-        requires { FitsTogether (reading_of self.old) }
+    fn end_part(&mut self) -> Result<(), AllocError>
         ensures ended { let old = reading_of self.old in
             let ended = record old { ended = parts_of old; current = None } in
             OnOk result (reading_of self.new ≡ ended) }
         ensures memory { OnErr result (IsTrue (is_some (reading_of self.old).current)) }
     {
-        let Some(part) = self.current.take() else {
-            return Ok(());
-        };
-        let scope = scope_of(alloc, self.columns.as_slice(), self.ended.some())?;
-        let part = part.close(alloc, scope)?;
-        self.ended.push(part)?;
-        Ok(())
+        match &mut self.store {
+            Some(store) => store.end_part(),
+            None => Ok(()),
+        }
     }
 
     // What keeps a word from naming the next column, at which so many bytes of the line are left.
@@ -146,15 +155,6 @@ impl Draft {
         self.add_column(alloc, name, dtype, line.len())
     }
 
-    // How many rows the next part may have: as many as an earlier one, so that parts alike grow no
-    // column.
-    fn likely_rows(&self) -> usize {
-        match self.ended.some().last() {
-            Some(part) => part.chunk().rows(),
-            None => 0,
-        }
-    }
-
     // `part`
     fn read_part(&mut self, alloc: Global, line: &[u8]) -> Result<(), LineError>
         requires { FitsTogether (reading_of self.old) }
@@ -167,9 +167,11 @@ impl Draft {
         if self.columns.as_slice().is_empty() {
             return Err(LineError::at(line.len(), Expected::SomeColumn));
         }
-        let part = empty_part(alloc, self.columns.as_slice(), self.likely_rows())?;
-        self.end_part(alloc)?;
-        self.current = Some(part);
+        if let Some(store) = &mut self.store {
+            store.begin_part()?;
+            return Ok(());
+        }
+        self.store = Some(Store::new(alloc, self.columns.as_slice())?);
         Ok(())
     }
 
@@ -182,12 +184,10 @@ impl Draft {
     {
         let (claim, rest) = read_claim(&self.columns, line)?;
         let value = read_claimed(alloc, claim.dtype, rest)?;
-        let Some(mut part) = self.current.take() else {
-            return Err(LineError::at(line.len(), Expected::OpenPart));
-        };
-        set_statistic(&mut part.stats, claim.place, claim.stat, value);
-        self.current = Some(part);
-        Ok(())
+        match &mut self.store {
+            Some(store) => store.tell(claim.place, claim.stat, value, line.len()),
+            None => Err(LineError::at(line.len(), Expected::OpenPart)),
+        }
     }
 
     // `row VALUE ..`
@@ -197,12 +197,10 @@ impl Draft {
         ensures memory { IsErrOf result LineError.Memory
             → IsTrue (kind_takes LineKind.Row (reading_of self.old) (words line.now)) }
     {
-        let Some(mut part) = self.current.take() else {
-            return Err(LineError::at(line.len(), Expected::OpenPart));
-        };
-        push_row(alloc, &mut part.columns, line)?;
-        self.current = Some(part);
-        Ok(())
+        match &mut self.store {
+            Some(store) => store.push_row(alloc, line),
+            None => Err(LineError::at(line.len(), Expected::OpenPart)),
+        }
     }
 
     // `join N`
@@ -218,8 +216,13 @@ impl Draft {
         let Some(place) = natural_of(place) else {
             return Err(LineError::at(line.len(), Expected::PartPlace));
         };
-        self.end_part(alloc)?;
-        self.ended.join_at(alloc, place as usize, line.len())
+        self.end_part()?;
+        match &mut self.store {
+            Some(store) => {
+                store.join_at(alloc, self.columns.as_slice(), place as usize, line.len())
+            }
+            None => Err(LineError::at(line.len(), Expected::Neighbours(0))),
+        }
     }
 
     // `where EXPR`
@@ -305,8 +308,8 @@ impl Draft {
             → IsTrue (is_some (reading_of self.old).current) }
         ensures shorter { IfOk result (λ rest. length rest.now < length values.now) }
     {
-        match &mut self.current {
-            Some(part) => push_first_row(alloc, &mut part.columns, values),
+        match &mut self.store {
+            Some(store) => store.push_first_row(alloc, values),
             None => Err(LineError::at(values.len(), Expected::OpenPart)),
         }
     }
@@ -355,26 +358,28 @@ impl Draft {
         requires { FitsTogether (reading_of self) }
         ensures query { let read = reading_of self in
             IfOk result (λ o. MatchOption o (read.predicate ≡ None)
-            (λ q. (read.predicate ≡ Some q.predicate) × (q.parts.items ≡ parts_of read))) }
+            (λ q. (read.predicate ≡ Some q.predicate) × (q.parts ≡ parts_of read))) }
         ensures fits { IfOk result (λ o. IfSome o
-            (λ q. IsQueryOver q.scope q.parts.items q.predicate)) }
+            (λ q. IsQueryOver q.scope q.parts q.predicate)) }
         ensures memory { let read = reading_of self in
             OnErr result (IsTrue (is_some read.current || is_some read.predicate)) }
     {
         let mut draft = self;
-        draft.end_part(alloc)?;
+        draft.end_part()?;
         let Draft {
             columns,
-            ended,
+            store,
             predicate,
-            ..
         } = draft;
         match predicate {
-            Some(predicate) => Ok(Some(Query {
-                scope: Scope::new_unchecked(columns.into_vec()),
-                parts: ended.into_vec()?,
-                predicate,
-            })),
+            Some(predicate) => {
+                let parts = ended_parts(alloc, columns.as_slice(), store)?;
+                Ok(Some(Query {
+                    scope: Scope::new_unchecked(columns.into_vec()),
+                    parts,
+                    predicate,
+                }))
+            }
             None => Ok(None),
         }
     }

@@ -92,9 +92,9 @@ pub(crate) fn read_last(
 ) -> Result<Query, InputError<'_>>
     requires fits { FitsTogether (reading_of draft) }
     requires few { first + length text.now < 2 ^ 64 }
-    ensures named { IsNamed (λ q. (q.parts.items, q.predicate)) result
+    ensures named { IsNamed (λ q. (q.parts, q.predicate)) result
         (named_from first (reading_of draft) (lines text.now)) }
-    ensures fits { IfOk result (λ q. IsQueryOver q.scope q.parts.items q.predicate) }
+    ensures fits { IfOk result (λ q. IsQueryOver q.scope q.parts q.predicate) }
     ensures memory { IsErrOf result InputError.Memory
         → MayRefuse (reading_of draft) (lines text.now) }
 {
@@ -109,8 +109,8 @@ pub(crate) fn read_last(
 
 /// The parts and the predicate that a text names, with their scope.
 pub fn read_input(alloc: Global, text: &[u8]) -> Result<Query, InputError<'_>>
-    ensures named { IsNamed (λ q. (q.parts.items, q.predicate)) result (named text.now) }
-    ensures fits { IfOk result (λ q. IsQueryOver q.scope q.parts.items q.predicate) }
+    ensures named { IsNamed (λ q. (q.parts, q.predicate)) result (named text.now) }
+    ensures fits { IfOk result (λ q. IsQueryOver q.scope q.parts q.predicate) }
     ensures memory { IsErrOf result InputError.Memory → TakesMemory text.now }
 {
     read_last(alloc, Draft::new(alloc), 1, text)

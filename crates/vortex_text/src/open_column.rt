@@ -1,5 +1,5 @@
-//! A column of a part that still takes rows.
-ghost use Rattle.std.specs.Prelude.{◌≡◌, ◌<◌, [], IfOk, IfSome, MatchOption, OnOk, length};
+//! A column that still takes values.
+ghost use Rattle.std.specs.Prelude.{◌≡◌, ◌<◌, [], All, IfOk, IfSome, MatchOption, OnOk, length};
 ghost use Rattle.vortex_base.specs.Data.Columns.{IsColumn};
 ghost use Rattle.vortex_syntax.specs.Fails.{Changes, GivesAndChanges};
 ghost use Rattle.vortex_syntax.specs.Words.{words};
@@ -35,26 +35,29 @@ impl Model for OpenColumn {
 }
 
 impl OpenColumn {
-    /// A column with no values yet, and with room for some.
-    pub fn with_capacity(
-        alloc: Global,
-        dtype: DType,
-        count: usize,
-    ) -> Result<OpenColumn, AllocError>
-        ensures { IfOk result (λ column.
-            column ≡ record { dtype = dtype; values = []; size = 0 }) }
+    /// A column with no values yet.
+    pub fn new(alloc: Global, dtype: DType) -> OpenColumn
+        ensures { result ≡ record { dtype = dtype; values = []; size = 0 } }
     {
-        let cells = Cells::with_capacity(alloc, dtype, count)?;
-        Ok(OpenColumn { dtype, cells })
+        OpenColumn {
+            dtype,
+            cells: Cells::new(alloc, dtype),
+        }
     }
 
-    /// The column, which takes no more values.
-    pub fn close(self) -> Column
+    /// How many values there are.
+    pub fn len(&self) -> usize
+        ensures { result ≡ length self.now.values }
+    {
+        self.cells.len()
+    }
+
+    // The column, which takes no more values.
+    fn close(self) -> Column
         requires { IsColumn self }
         ensures { result ≡ self }
     {
-        let OpenColumn { dtype, mut cells } = self;
-        cells.shrink_to_fit();
+        let OpenColumn { dtype, cells } = self;
         Column::new_unchecked(dtype, cells, 0)
     }
 
@@ -119,4 +122,16 @@ pub fn push_row(alloc: Global, columns: &mut [OpenColumn], line: &[u8]) -> Resul
         rest = column.take(alloc, rest)?;
     }
     no_word(rest)
+}
+
+/// The columns, which take no more values.
+pub fn close_columns(alloc: Global, columns: Vec<OpenColumn>) -> Result<Vec<Column>, AllocError>
+    requires { All IsColumn columns.items }
+    ensures { IfOk result (λ closed. closed.items ≡ columns.items) }
+{
+    let mut closed = Vec::with_capacity(alloc, columns.len())?;
+    for column in columns {
+        closed.push(column.close())?;
+    }
+    Ok(closed)
 }

@@ -156,8 +156,8 @@ impl OpenLine {
     pub fn close(self, alloc: Global) -> Result<Query, TextError>
         requires fits { FitsTogether (reading_of self.draft) }
         requires few { self.number + length self.line.items < 2 ^ 64 }
-        ensures named { Tells (λ q. (q.parts.items, q.predicate)) result (named_behind self []) }
-        ensures fits { IfOk result (λ q. IsQueryOver q.scope q.parts.items q.predicate) }
+        ensures named { Tells (λ q. (q.parts, q.predicate)) result (named_behind self []) }
+        ensures fits { IfOk result (λ q. IsQueryOver q.scope q.parts q.predicate) }
     {
         match read_last(alloc, self.draft, self.number, &self.line) {
             Ok(query) => Ok(query),

@@ -119,8 +119,8 @@ impl OpenText {
     /// first bad line.
     pub fn close(self, alloc: Global) -> Result<Query, TextError>
         ensures named { (text : List ℕ) → IsOpenText text self
-            → Tells (λ q. (q.parts.items, q.predicate)) result (named text) }
-        ensures fits { IfOk result (λ q. IsQueryOver q.scope q.parts.items q.predicate) }
+            → Tells (λ q. (q.parts, q.predicate)) result (named text) }
+        ensures fits { IfOk result (λ q. IsQueryOver q.scope q.parts q.predicate) }
     {
         let OpenText { state, .. } = self;
         match state {

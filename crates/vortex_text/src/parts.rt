@@ -1,154 +1,159 @@
-//! The parts of a text so far, of which neighbours may be joined.
-ghost use Rattle.std.specs.Prelude.{◌≡◌, ◌≤◌, ◌++◌, ◌∷◌, ◌+◌, [], All, IfOk, IsErrOf, IsTrue, List, MatchResult, OnOk, is_some, length, reverse};
-ghost use Rattle.vortex_base.specs.Data.Columns.{sizes_fit};
-ghost use Rattle.vortex_base.specs.Data.Scopes.{Named};
-ghost use Rattle.vortex_prune.specs.Part.{PartData, joined};
-ghost use Rattle.vortex_syntax.specs.Fails.{Changes};
-ghost use Rattle.vortex_syntax.specs.declared.line_error.LineError.TheVariants.{Memory};
-ghost use Rattle.vortex_text.specs.Fitting.{AreNeighbours, IsPartOf};
-ghost use Rattle.vortex_text.specs.Lines.{has_part};
-ghost use Rattle.vortex_text.specs.Rows.{joined_at};
+//! Parts that take no more rows, as ranges of the rows of one chunk.
+ghost use Rattle.std.specs.Prelude.{◌≡◌, ◌≤◌, ◌<◌, ◌+◌, ◌^◌, All, IfOk, IsTrue, drop, length, sum, take};
+ghost use Rattle.vortex_base.specs.Data.Columns.{row_count};
+ghost use Rattle.vortex_prune.specs.Scanning.RangeScans.{counts_of, range_parts};
+ghost use Rattle.vortex_rewrite.specs.Rewriting.Predicates.{is_predicate};
+ghost use Rattle.vortex_text.specs.Batches.{IsFoundIn};
+ghost use Rattle.vortex_prune.specs.Zones.{IsMapOf, zones_of};
+ghost use Rattle.vortex_text.specs.Fitting.{IsPartOf, IsQueryOver};
+ghost use Rattle.vortex_zone_log.specs.Logs.{zones_from};
 
-use crate::kept_part::KeptPart;
 use std::alloc::{AllocError, Global};
 use std::marker::Model;
-use vortex_prune::part::Part;
+use vortex_base::bound_expression::BoundExpression;
+use vortex_base::chunk::Chunk;
+use vortex_base::scope::Scope;
+use vortex_prune::scan::outcome::Scan;
+use vortex_prune::scan::ranges::scan_ranges_from;
+use vortex_prune::zone_map::ZoneMap;
+use vortex_rewrite::rewrite::rules::Rules;
 use vortex_stats::error::StatsError;
-use vortex_syntax::expected::Expected;
-use vortex_syntax::line_error::LineError;
+use vortex_zone_log::ZoneLog;
 
-/// Parts in order. They stand in two runs that meet where parts were last added or joined, so that
-/// a join there moves no other part.
+/// The rows of all parts one behind the other, and how many rows and which statistics each has.
 #[derive(Debug, Drop)]
 pub struct Parts {
-    front: Vec<KeptPart>,
-    // The parts behind those, the last one first.
-    back: Vec<KeptPart>,
+    chunk: Chunk,
+    log: ZoneLog,
 }
 
 impl Model for Parts {
-    ghost use Rattle.std.specs.Prelude.{List, ◌++◌, reverse};
+    ghost use Rattle.std.specs.Prelude.{List, ◌≤◌, sum};
+    ghost use Rattle.vortex_base.specs.Data.Columns.{row_count};
     ghost use Rattle.vortex_prune.specs.Part.{PartData};
+    ghost use Rattle.vortex_prune.specs.Scanning.RangeScans.{counts_of, range_parts};
 
     ghost Value = { List PartData };
 
-    ghost view = { λ p. p.front.items ++ reverse p.back.items };
-}
+    ghost view = { λ p. range_parts p.chunk 0 p.log.zones };
 
-// Makes the two runs meet at a place.
-fn meet_at(
-    front: &mut Vec<KeptPart>,
-    back: &mut Vec<KeptPart>,
-    place: usize,
-) -> Result<(), AllocError>
-    requires { place ≤ length front.old.items + length back.old.items }
-    ensures same { OnOk result (front.new.items ++ reverse back.new.items
-        ≡ front.old.items ++ reverse back.old.items) }
-    ensures met { OnOk result (length front.new.items ≡ place) }
-{
-    'forth: while front.len() < place {
-        let Some(part) = back.pop() else {
-            unreachable!()
-        };
-        front.push(part)?;
-    }
-    'back: while front.len() > place {
-        let Some(part) = front.pop() else {
-            unreachable!()
-        };
-        back.push(part)?;
-    }
-    Ok(())
-}
-
-// Two parts of one scope as one.
-fn join_two(alloc: Global, left: KeptPart, right: KeptPart) -> Result<KeptPart, LineError>
-    requires scope { left.chunk.scope ≡ right.chunk.scope }
-    requires sizes { IsTrue (sizes_fit left.chunk.columns right.chunk.columns) }
-    ensures { MatchResult result (λ part. part ≡ joined left right) (λ e. e ≡ Memory) }
-{
-    let left = left.into_part(alloc)?;
-    let right = right.into_part(alloc)?;
-    match Part::join(alloc, left, right) {
-        Ok(part) => Ok(KeptPart::of(alloc, part)?),
-        Err(refused) => match refused.error {
-            StatsError::Memory(_) => Err(LineError::Memory),
-            _ => unreachable!(),
-        },
-    }
+    ghost invariant = { λ p. sum (counts_of p.log.zones) ≤ row_count p.chunk.columns };
 }
 
 impl Parts {
-    /// No parts yet.
-    pub fn new(alloc: Global) -> Parts
-        ensures { result ≡ [] }
+    /// The zones of a log as ranges of a chunk.
+    pub fn new(chunk: Chunk, log: ZoneLog) -> Parts
+        requires { sum (counts_of log.zones) ≤ row_count chunk.columns }
+        ensures { result ≡ range_parts chunk 0 log.zones }
     {
-        Parts {
-            front: Vec::new(alloc),
-            back: Vec::new(alloc),
+        Parts { chunk, log }
+    }
+
+    /// How many parts there are.
+    pub fn len(&self) -> usize
+        ensures { result ≡ length self.now }
+    {
+        self.log.len()
+    }
+
+    /// The map of what their statistics tell.
+    pub fn map(&self, alloc: Global, scope: &Scope) -> Result<ZoneMap, AllocError>
+        requires { All (IsPartOf scope.now) self.now }
+        ensures { IfOk result (IsMapOf (zones_of self.now)) }
+    {
+        // That the chunk is one.
+        let _rows = self.chunk.rows();
+        let map = self.log.map(alloc, scope.try_clone()?, 0, self.log.len())?;
+        Ok(map)
+    }
+
+    /// All of them, to be gone through.
+    pub fn left(&self) -> PartsLeft<'_>
+        ensures { result ≡ self.now }
+    {
+        PartsLeft {
+            chunk: &self.chunk,
+            log: &self.log,
+            place: 0,
+            row: 0,
+        }
+    }
+}
+
+/// The parts from one on.
+#[derive(Debug, Drop)]
+pub struct PartsLeft<'a> {
+    chunk: &'a Chunk,
+    log: &'a ZoneLog,
+    // The first of them, and where its rows begin.
+    place: usize,
+    row: usize,
+}
+
+impl<'a> Model for PartsLeft<'a> {
+    ghost use Rattle.std.specs.Prelude.{List, drop};
+    ghost use Rattle.vortex_prune.specs.Part.{PartData};
+    ghost use Rattle.vortex_prune.specs.Scanning.RangeScans.{range_parts};
+    ghost use Rattle.vortex_text.specs.Stores.{AreLeft};
+
+    ghost Value = { List PartData };
+
+    ghost view = { λ p. range_parts p.chunk.now p.row (drop p.place p.log.now.zones) };
+
+    ghost invariant = { λ p. AreLeft p.chunk.now p.log.now p.place p.row };
+}
+
+// How many rows so many zones from a place on have.
+fn rows_from(log: &ZoneLog, from: usize, count: usize) -> usize
+    requires within { from + count ≤ length log.now.zones }
+    requires ends { from + count < 2 ^ 64 }
+    requires few { sum (counts_of (zones_from from count log.now.zones)) < 2 ^ 64 }
+    ensures { result ≡ sum (counts_of (zones_from from count log.now.zones)) }
+{
+    let mut rows = 0;
+    for place in from..from + count {
+        rows += log.rows(place) as usize;
+    }
+    rows
+}
+
+impl<'a> PartsLeft<'a> {
+    /// What a scan finds in so many of them, the first ones.
+    pub fn scan(
+        &self,
+        alloc: Global,
+        scope: &Scope,
+        predicate: &BoundExpression,
+        count: usize,
+    ) -> Result<Scan, AllocError>
+        requires query { IsQueryOver scope.now self.now predicate.now }
+        requires predicate { IsTrue (is_predicate predicate.now) }
+        requires some { 0 < count }
+        requires within { count ≤ length self.now }
+        ensures { IfOk result (IsFoundIn predicate.now (take count self.now)) }
+    {
+        // That the chunk is one.
+        let _rows = self.chunk.rows();
+        let map = self.log.map(alloc, scope.try_clone()?, self.place, count)?;
+        let rules = Rules::builtin(alloc);
+        match scan_ranges_from(alloc, self.chunk, self.row, &map, predicate, &rules) {
+            Ok(found) => Ok(found),
+            Err(fault) => match fault {
+                StatsError::Memory(refused) => Err(refused),
+                _ => unreachable!(),
+            },
         }
     }
 
-    /// Whether there is a part.
-    pub fn has_part(&self) -> bool
-        ensures { result ≡ has_part self.now }
+    /// Goes past so many of them.
+    pub fn skip(&mut self, count: usize)
+        requires { count ≤ length self.old }
+        ensures { self.new ≡ drop count self.old }
     {
-        self.front.len() + self.back.len() > 0
-    }
-
-    /// Some of the parts, the last one that was added or joined among them.
-    pub fn some(&self) -> &[KeptPart]
-        ensures { (scope : List Named) → All (IsPartOf scope) self.now
-            → All (IsPartOf scope) result.now }
-    {
-        &self.front
-    }
-
-    /// Adds a part behind the others.
-    pub fn push(&mut self, part: KeptPart) -> Result<(), AllocError>
-        ensures { OnOk result (self.new ≡ self.old ++ part ∷ []) }
-    {
-        let count = self.front.len() + self.back.len();
-        meet_at(&mut self.front, &mut self.back, count)?;
-        self.front.push(part)?;
-        Ok(())
-    }
-
-    /// Joins the part at a place and the one behind it. There have to be two; else the line is bad
-    /// where so many bytes of it are left.
-    pub fn join_at(&mut self, alloc: Global, place: usize, left: usize) -> Result<(), LineError>
-        requires { AreNeighbours self.old }
-        ensures joined { Changes result (joined_at place self.old) self.new }
-        ensures memory { IsErrOf result LineError.Memory
-            → IsTrue (is_some (joined_at place self.old)) }
-    {
-        let count = self.front.len() + self.back.len();
-        if count < 2 || place > count - 2 {
-            let count = u32::try_from(count).unwrap_or(u32::MAX);
-            return Err(LineError::at(left, Expected::Neighbours(count)));
-        }
-        meet_at(&mut self.front, &mut self.back, place + 1)?;
-        let Some(left) = self.front.pop() else {
-            unreachable!()
-        };
-        let Some(right) = self.back.pop() else {
-            unreachable!()
-        };
-        let part = join_two(alloc, left, right)?;
-        self.front.push(part)?;
-        Ok(())
-    }
-
-    /// All the parts in order.
-    pub fn into_vec(self) -> Result<Vec<KeptPart>, AllocError>
-        ensures { IfOk result (λ parts. parts.items ≡ self) }
-    {
-        let Parts {
-            mut front,
-            mut back,
-        } = self;
-        let count = front.len() + back.len();
-        meet_at(&mut front, &mut back, count)?;
-        Ok(front)
+        // No more zones and rows are there than can be counted.
+        let _zones = self.log.len();
+        let _rows = self.chunk.rows();
+        self.row += rows_from(self.log, self.place, count);
+        self.place += count;
     }
 }

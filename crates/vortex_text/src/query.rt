@@ -4,14 +4,15 @@ ghost use Rattle.std.specs.List.{AllByRecursion};
 ghost use Rattle.vortex_prune.specs.Part.{IsTruePart};
 ghost use Rattle.vortex_rewrite.specs.Rewriting.Predicates.{is_predicate};
 ghost use Rattle.vortex_prune.specs.Scanning.Selection.{full};
+ghost use Rattle.vortex_prune.specs.Zones.{IsMapOf, zones_of};
 ghost use Rattle.vortex_text.specs.Fitting.{IsQueryOver};
 ghost use Rattle.vortex_text.specs.Program.{selected, skipped, whole};
 
 use crate::batches::{nothing_found, scan_more};
-use crate::kept_part::KeptPart;
+use crate::parts::Parts;
 use std::alloc::{AllocError, Global};
-use vortex_base::{BoundExpression, Scope};
-use vortex_prune::Scan;
+use vortex_base::{BoundExpression, DType, Scope};
+use vortex_prune::{Scan, ZoneMap};
 
 /// What a text names: parts of one scope, and a predicate over it.
 #[derive(Debug, Drop)]
@@ -19,13 +20,23 @@ pub struct Query {
     /// The columns in order.
     pub scope: Scope,
     /// The parts in order, after all joins.
-    pub parts: Vec<KeptPart>,
+    pub parts: Parts,
     /// What is asked for, maybe of another type than Bool.
     pub predicate: BoundExpression,
 }
 
-// How many columns the parts of a batch have together, beside those of one part. Each has a set of
-// more than 500 bytes while the batch is scanned.
+impl Query {
+    /// The map of what the statistics of the parts tell.
+    pub fn map(&self, alloc: Global) -> Result<ZoneMap, AllocError>
+        requires { IsQueryOver self.now.scope self.now.parts self.now.predicate }
+        ensures { IfOk result (IsMapOf (zones_of self.now.parts)) }
+    {
+        self.parts.map(alloc, &self.scope)
+    }
+}
+
+// How many columns the parts of a batch have together, beside those of one part. Each has up to
+// seven values in the table of statistics that is made of the batch.
 const BATCH_COLUMNS: usize = 16_384;
 
 // How many parts of this many columns a batch has.
@@ -35,44 +46,48 @@ fn batch_size(columns: usize) -> usize
     1 + BATCH_COLUMNS / columns.max(1)
 }
 
+// Whether an expression is of type Bool.
+fn is_predicate(expression: &BoundExpression) -> bool
+    ensures { result ≡ is_predicate expression.now }
+{
+    matches!(expression.dtype(), DType::Bool(_))
+}
+
 /// The scan of the parts, in tables of their statistics, or none where the predicate isn't of type
 /// Bool.
 pub fn scan_query(alloc: Global, query: Query) -> Result<Option<Scan>, AllocError>
-    requires { IsQueryOver query.scope query.parts.items query.predicate }
+    requires { IsQueryOver query.scope query.parts query.predicate }
     ensures kind { IfOk result (λ o. is_some o ≡ is_predicate query.predicate) }
     ensures skipped { IfOk result (λ o. IfSome o
-        (λ s. s.skipped.items ≡ skipped query.predicate query.parts.items)) }
+        (λ s. s.skipped.items ≡ skipped query.predicate query.parts)) }
     ensures whole { IfOk result (λ o. IfSome o
-        (λ s. s.whole.items ≡ whole query.predicate query.parts.items)) }
+        (λ s. s.whole.items ≡ whole query.predicate query.parts)) }
     ensures selected { IfOk result (λ o. IfSome o
-        (λ s. s.selected.items ≡ selected query.predicate query.parts.items)) }
+        (λ s. s.selected.items ≡ selected query.predicate query.parts)) }
     // Where all statistics are true no row is lost.
-    ensures lossless { IfOk result (λ o. IfSome o (λ s. AllByRecursion IsTruePart query.parts.items
-        → s.selected.items ≡ full query.predicate query.parts.items)) }
+    ensures lossless { IfOk result (λ o. IfSome o (λ s. AllByRecursion IsTruePart query.parts
+        → s.selected.items ≡ full query.predicate query.parts)) }
 {
     let Query {
         scope,
         parts,
         predicate,
     } = query;
+    if !is_predicate(&predicate) {
+        return Ok(None);
+    }
     let scope = scope.try_shared(alloc)?;
     let size = batch_size(scope.len());
+    let count = parts.len();
+    let mut left = parts.left();
     let mut found = nothing_found(alloc, &predicate);
     let mut before = 0;
-    let mut batch = Vec::new(alloc);
-    for part in parts {
-        if batch.len() == size {
-            if !scan_more(alloc, &scope, &predicate, &mut found, before, batch)? {
-                return Ok(None);
-            }
-            before += size;
-            batch = Vec::new(alloc);
-        }
-        batch.push(part.into_part(alloc)?)?;
+    while before < count {
+        let more = size.min(count - before);
+        scan_more(
+            alloc, &scope, &predicate, &mut found, before, &mut left, more,
+        )?;
+        before += more;
     }
-    if scan_more(alloc, &scope, &predicate, &mut found, before, batch)? {
-        Ok(Some(found))
-    } else {
-        Ok(None)
-    }
+    Ok(Some(found))
 }

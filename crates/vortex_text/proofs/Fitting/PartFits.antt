@@ -18,7 +18,8 @@ use Rattle.vortex_stats.specs.declared.stat.Stat.{Stat}
 use Rattle.vortex_syntax.specs.Words.{Token}
 use Rattle.vortex_text.proofs.Fitting.ExpressionFits.{one_made, step_of}
 use Rattle.vortex_text.proofs.Fitting.RowFits.{Grown, grown_alike, grown_count, grown_fit, grown_sets, grown_types, grown_unsized, row_grows}
-use Rattle.vortex_text.specs.Columns.{set_at, with_values}
+use Rattle.vortex_text.specs.Columns.{with_values}
+use Rattle.vortex_zone_log.specs.Logs.{set_at}
 use Rattle.vortex_text.specs.Fitting.{IsPartOf, is_unsized}
 use Rattle.vortex_text.specs.Rows.{empty_column, empty_part, joined_at, no_entries, with_row, with_statistic}
 
@@ -62,11 +63,11 @@ empty_count : (scope : List Named) → length (map empty_column scope) ≡ lengt
 empty_count [] = refl
 empty_count (s ∷ ss) = ap suc (empty_count ss)
 
-empty_long : (scope : List Named) → all_long 0 (map empty_column scope) ≡ true
+pub empty_long : (scope : List Named) → all_long 0 (map empty_column scope) ≡ true
 empty_long [] = refl
 empty_long (s ∷ ss) = empty_long ss
 
-empty_rows : (scope : List Named) → row_count (map empty_column scope) ≡ 0
+pub empty_rows : (scope : List Named) → row_count (map empty_column scope) ≡ 0
 empty_rows [] = refl
 empty_rows (s ∷ ss) = refl
 
@@ -74,7 +75,7 @@ empty_types : (scope : List Named) → has_types scope (map empty_column scope) 
 empty_types [] = refl
 empty_types (s ∷ ss) = both_hold _ _ ((dtype_eq_is_exact s.1 s.1).1 refl) (empty_types ss)
 
-empty_fit : (scope : List Named) → list_all is_column (map empty_column scope) ≡ true
+pub empty_fit : (scope : List Named) → list_all is_column (map empty_column scope) ≡ true
 empty_fit [] = refl
 empty_fit (s ∷ ss) = empty_fit ss
 
@@ -92,9 +93,9 @@ tests_equal m n h = grind (arith, nat_tests)
 equal_numbers : (m n : ℕ) → (m == n) ≡ true → m ≡ n
 equal_numbers m n h = grind (arith, nat_tests)
 
-pub empty_is_part : (scope : List Named) → has_duplicate scope ≡ false → list_any is_state_column scope ≡ false → is_empty scope ≡ false → IsPartOf scope (empty_part scope)
-empty_is_part scope distinct storable some = of_shape scope scope (map empty_column scope) (map no_entries scope) refl (record {
-  scope_is = scope_made scope distinct storable some;
+pub empty_part_of : (scope : List Named) → is_scope scope ≡ true → IsPartOf scope (empty_part scope)
+empty_part_of scope is = of_shape scope scope (map empty_column scope) (map no_entries scope) refl (record {
+  scope_is = is;
   count = tests_equal (length scope) (length (map empty_column scope)) (sym (empty_count scope));
   long = subst (λ (n : ℕ). all_long n (map empty_column scope) ≡ true) (sym (empty_rows scope)) (empty_long scope);
   types = empty_types scope;
@@ -102,6 +103,9 @@ empty_is_part scope distinct storable some = of_shape scope scope (map empty_col
   sets = empty_sets scope;
   sizes = empty_unsized scope;
 })
+
+pub empty_is_part : (scope : List Named) → has_duplicate scope ≡ false → list_any is_state_column scope ≡ false → is_empty scope ≡ false → IsPartOf scope (empty_part scope)
+empty_is_part scope distinct storable some = empty_part_of scope (scope_made scope distinct storable some)
 
 -- ---- a part takes a row
 

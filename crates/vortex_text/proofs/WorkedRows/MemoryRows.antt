@@ -50,7 +50,7 @@ part_with_more : line_takes three_columns (codes "part 1") ≡ false
 unfolding is_utf8 chars lib.Utf8.encode
 part_with_more = refl
 
-number_claimed : line_takes one_part (codes "stat a max exact 1") ≡ false
+number_claimed : line_takes one_part (codes "stat a max exact 1") ≡ true
 unfolding is_utf8 chars lib.Utf8.encode
 number_claimed = refl
 
@@ -58,7 +58,7 @@ text_claimed : line_takes one_part (codes "stat s max exact \"a\"") ≡ true
 unfolding is_utf8 chars lib.Utf8.encode
 text_claimed = refl
 
-empty_text_claimed : line_takes one_part (codes "stat s max exact \"\"") ≡ false
+empty_text_claimed : line_takes one_part (codes "stat s max exact \"\"") ≡ true
 unfolding is_utf8 chars lib.Utf8.encode
 empty_text_claimed = refl
 
@@ -66,9 +66,25 @@ bytes_claimed : line_takes one_part (codes "stat x max exact x00") ≡ true
 unfolding is_utf8 chars lib.Utf8.encode
 bytes_claimed = refl
 
-count_claimed : line_takes one_part (codes "stat x null_count exact 0") ≡ false
+count_claimed : line_takes one_part (codes "stat x null_count exact 0") ≡ true
 unfolding is_utf8 chars lib.Utf8.encode
 count_claimed = refl
+
+number_claimed_without_a_part : line_takes three_columns (codes "stat a max exact 1") ≡ false
+unfolding is_utf8 chars lib.Utf8.encode
+number_claimed_without_a_part = refl
+
+empty_text_claimed_without_a_part : line_takes three_columns (codes "stat s max exact \"\"") ≡ false
+unfolding is_utf8 chars lib.Utf8.encode
+empty_text_claimed_without_a_part = refl
+
+text_claimed_without_a_part : line_takes three_columns (codes "stat s max exact \"a\"") ≡ true
+unfolding is_utf8 chars lib.Utf8.encode
+text_claimed_without_a_part = refl
+
+no_number_claimed : line_takes one_part (codes "stat a max exact x") ≡ false
+unfolding is_utf8 chars lib.Utf8.encode
+no_number_claimed = refl
 
 nothing_claimed : line_takes one_part (codes "stat y max exact \"a\"") ≡ false
 unfolding is_utf8 chars lib.Utf8.encode

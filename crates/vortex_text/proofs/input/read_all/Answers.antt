@@ -1,6 +1,6 @@
 use Rattle.std.proofs.Common.{◌<◌, ◌++◌, [], refl, ap, length, take, arith}
 use Rattle.std.proofs.KnownBytes.{Consumes-nil, Consumes-trans}
-use Rattle.vortex_text.proofs.InputLemmas.{all_read, piece_past}
+use Rattle.vortex_text.proofs.InputLemmas.{all_read, failed_told, piece_past}
 use Rattle.vortex_text.specs.Progress.{Progress}
 use Rattle.vortex_text.proofs.input.read_all.Goals as goal
 
@@ -30,3 +30,6 @@ returns-in-Err-TooLong-clause-too_long g c = λ _.
     let (text, pushed, lost) = c.loop-count.invariant in
     let long = c.push.ensures.too_long (rw (c.in-Err-TooLong.is, c.in-Err-TooLong.field-0-is) refl) in
     piece_past _ _ _ text (take c.in-Some.count c.read_some.new.buf) lost c.in-Some.ensures.bytes (omega (arith, pushed.taken, long))
+
+pub returns-in_default-clause-failed : goal.returns-in_default-clause-failed
+returns-in_default-clause-failed g c = λ _ told. failed_told (g.R.Source.has_failed c.loop-count.reader) (g.R.Source.has_failed c.read_some.new.self) c.in_default.ensures.told told

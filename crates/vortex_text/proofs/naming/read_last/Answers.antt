@@ -11,7 +11,7 @@ pub returns-in_err-number-clause-named : goal.returns-in_err-number-clause-named
 returns-in_err-number-clause-named c =
     let p = err_from_is_err_and c.from_residual.result c.from_residual.ensures.1 in
     rw (p.1, p.2)
-    (stops_named {X = Query} (λ q. (q.parts.items, q.predicate)) c.args.first (reading_of c.args.draft) (reading_of c.read_lines.new.draft) (lines c.args.text.now) c.in_err-number.field-0.0 c.in_err-number.ensures.read)
+    (stops_named {X = Query} (λ q. (q.parts, q.predicate)) c.args.first (reading_of c.args.draft) (reading_of c.read_lines.new.draft) (lines c.args.text.now) c.in_err-number.field-0.0 c.in_err-number.ensures.read)
 
 pub returns-in-Ok-Some-clause-named : goal.returns-in-Ok-Some-clause-named
 returns-in-Ok-Some-clause-named c =
