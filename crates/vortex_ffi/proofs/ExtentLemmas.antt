@@ -36,7 +36,7 @@ use Rattle.vortex_ffi.specs.declared.extent.Range.{Range}
 use Rattle.vortex_ffi.specs.declared.status.Status.{Status}
 use Rattle.vortex_ffi.specs.declared.status.Status.TheVariants.{BadNull, BadValue}
 use Rattle.vortex_ffi.specs.declared.values.Values.{Values}
-use Rattle.vortex_ffi.specs.Encoding.{is_number, number_of}
+use Rattle.vortex_ffi.specs.Encoding.{is_number, number_at, number_from, number_of}
 use Rattle.vortex_ffi.specs.Extents.{HasRead, IsExtentOf, IsOptionalRangeOf, IsRangeOf, scalar_of}
 use Rattle.vortex_ffi.specs.Given.{fixed}
 use Rattle.vortex_ffi.specs.Measures.{slots_in, slots_of}
@@ -162,6 +162,27 @@ module _ {N : Type 0} (number : N → PValue) where
         → HasRead number (types.Primitive p m) (cell (types.Primitive p m) values start ends nulls) (row + 1) (count + from_bool null) next
     row_read row count range null n next so_far q may kept ranged =
         goes_on (types.Primitive p m) (cell (types.Primitive p m) values start ends nulls) row count range so_far null n next (row_cell row null n q) may q.fits kept ranged
+
+  -- ---- rows without nulls
+
+  module _ (p : PType) (m : Nullability) (values : List ℕ) (start : ℕ) (ends : List ℕ) where
+    abbrev t : DType
+    t = types.Primitive p m
+
+    by_bytes : (row : ℕ) (n : N) (o : Option (List ℕ)) → o ≡ fixed values (number_width p) row → Some (number n) ≡ number_from p o → IsTrue (is_number p (number n)) → IsRead p values [] row false n
+    by_bytes row n None there made fits = absurd cc
+    by_bytes row n (Some bytes) there made fits = record { width = number_width p; bytes = bytes; of_type = refl; there = there; made = made; fits = fits; told = refl }
+
+    -- no rows
+    pub none_read : HasRead number t (cell t values start ends []) 0 0 None
+    none_read = record { values = []; all = refl; fits = refl; counted = refl; within = omega arith; ranged = refl }
+
+    -- one more row of numbers none of which is null
+    pub plain_read : (row : ℕ) (range : Option (Range N)) (n : N) (next : Option (Range N)) → HasRead number t (cell t values start ends []) row 0 range → Some (number n) ≡ number_at p values row → IsTrue (is_number p (number n))
+        → ((xs : List (Option ScalarValue)) → IsOptionalRangeOf number range xs → IsOptionalRangeOf number next (xs ++ Some (scalar_of number n) ∷ []))
+        → HasRead number t (cell t values start ends []) (row + 1) 0 next
+    plain_read row range n next so_far made fits ranged =
+        row_read p m values start ends [] row 0 range false n next so_far (by_bytes row n (fixed values (number_width p) row) refl made fits) refl (λ e. absurd cc) (λ e. ranged)
 
   -- ---- all rows
 

@@ -2,6 +2,7 @@ pub mod BatchLemmas
 pub mod CellLemmas
 pub mod CheckLemmas
 pub mod ExtentLemmas
+pub mod MadeLemmas
 pub mod MarkLemmas
 pub mod MergeLemmas
 pub mod NamedLemmas

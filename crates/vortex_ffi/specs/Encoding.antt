@@ -1,9 +1,9 @@
 -- Values as bytes.
-use Rattle.std.specs.Prelude.{ℕ, ◌==◌, ◌&&◌, Bool, true, false, List, [], ◌∷◌, Option, None, Some, Result, Ok, Err, if◌then◌else◌, length, nat_le, take}
+use Rattle.std.specs.Prelude.{◌≡◌, ◌<◌, ℕ, ◌==◌, ◌&&◌, Bool, true, false, List, [], ◌∷◌, Option, None, Some, Result, Ok, Err, IsTrue, if◌then◌else◌, length, nat_le, take}
 use Rattle.std.specs.Int.{cast_signed, cast_unsigned, from_le_bytes, to_le_bytes, w8, w16, w32, w64}
 use Rattle.std.specs.Str.{is_utf8}
 use Rattle.vortex_base.specs.Data.Types.{ptype_index}
-use Rattle.vortex_base.specs.Data.Values.{in_range, ptype_of}
+use Rattle.vortex_base.specs.Data.Values.{in_range, is_value, ptype_of}
 use Rattle.vortex_base.specs.declared.dtype.DType.{DType}
 use Rattle.vortex_base.specs.declared.dtype.DType.TheVariants as dtype
 use Rattle.vortex_base.specs.declared.types.PType.{PType}
@@ -14,6 +14,8 @@ use Rattle.vortex_base.specs.declared.scalar_value.ScalarValue.{ScalarValue}
 use Rattle.vortex_base.specs.declared.scalar_value.ScalarValue.TheVariants as value
 use Rattle.vortex_ffi.specs.declared.status.Status.{Status}
 use Rattle.vortex_ffi.specs.declared.status.Status.TheVariants.{BadStat, BadLength, BadValue}
+use Rattle.vortex_ffi.specs.Given.{fixed}
+use Rattle.vortex_ffi.specs.Types.{number_width}
 
 -- ---- from bytes
 
@@ -32,9 +34,27 @@ number_of ptype.I16 bytes = made_of 2 (λ bs. number.I16 (cast_signed w16 (from_
 number_of ptype.I32 bytes = made_of 4 (λ bs. number.I32 (cast_signed w32 (from_le_bytes w32 bs))) bytes
 number_of ptype.I64 bytes = made_of 8 (λ bs. number.I64 (cast_signed w64 (from_le_bytes w64 bs))) bytes
 
+abbrev pub number_from : PType → Option (List ℕ) → Option PValue
+number_from t None = None
+number_from t (Some bytes) = number_of t bytes
+
+-- number i of those of a type that stand one behind the other
+abbrev pub number_at : PType → List ℕ → ℕ → Option PValue
+number_at t values i = number_from t (fixed values (number_width t) i)
+
 -- the number is one of the type
 abbrev pub is_number : PType → PValue → Bool
 is_number t p = (ptype_index (ptype_of p) == ptype_index t) && in_range p
+
+-- number i of those is one of the type
+pub record IsNumberAt (t : PType) (values : List ℕ) (i : ℕ) : Type 0 where
+  pub number : PValue
+  pub read : number_at t values i ≡ Some number
+  pub fits : IsTrue (is_number t number)
+
+-- each of the first n is
+abbrev pub AreNumbers : PType → List ℕ → ℕ → Type 0
+AreNumbers t values n = (i : ℕ) → i < n → IsNumberAt t values i
 
 -- the truth of the first byte
 abbrev pub truth_of : List ℕ → Option Bool
@@ -65,6 +85,12 @@ value_of (dtype.Primitive p n) bytes = number_value (number_of p bytes)
 value_of (dtype.Utf8 n) bytes = utf8_value bytes
 value_of (dtype.Binary n) bytes = Ok (value.Binary bytes)
 value_of (dtype.MinMaxState e n) bytes = Err BadStat
+
+-- what was read is a value of the type
+pub record ReadsValue (t : DType) (r : Result ScalarValue Status) : Type 0 where
+  pub value : ScalarValue
+  pub read : r ≡ Ok value
+  pub fits : IsTrue (is_value value t)
 
 -- ---- to bytes
 

@@ -1,5 +1,5 @@
 -- The cells of a map's table, as the arrays of a caller tell them.
-use Rattle.std.specs.Prelude.{◌≡◌, ◌<◌, ◌≤◌, ℕ, zero, suc, ◌+◌, ◌==◌, ◌&&◌, Bool, List, Option, None, Some, Result, Ok, Err, IsTrue, if◌then◌else◌, length, slice_get, slice_index}
+use Rattle.std.specs.Prelude.{◌≡◌, ◌<◌, ◌≤◌, ℕ, zero, suc, ◌+◌, ◌*◌, ◌==◌, ◌&&◌, Bool, List, Option, None, Some, Result, Ok, Err, IsTrue, if◌then◌else◌, length, nat_le, slice_get, slice_index}
 use Rattle.vortex_base.specs.declared.aggregate.AggregateFnRef.{AggregateFnRef}
 use Rattle.vortex_base.specs.declared.dtype.DType.TheVariants as dtype
 use Rattle.vortex_base.specs.declared.pvalue.PValue.{PValue}
@@ -11,7 +11,6 @@ use Rattle.vortex_base.specs.Data.Scopes.{Named}
 use Rattle.vortex_prune.specs.Binding.StatValues.{read_stat, told_value}
 use Rattle.vortex_prune.specs.Part.{ZoneData, zones_fit}
 use Rattle.vortex_prune.specs.Zones.{Head}
-use Rattle.vortex_stats.specs.Precision.{present_value as precision_value}
 use Rattle.vortex_stats.specs.Sets.Entries.{value_fits}
 use Rattle.vortex_stats.specs.Stat.{stat_dtype, stat_eq}
 use Rattle.vortex_stats.specs.declared.precision.Precision.{Precision}
@@ -25,6 +24,7 @@ use Rattle.vortex_ffi.specs.Refusals.{all_found, all_read}
 use Rattle.vortex_ffi.specs.Statistics.{present_value}
 use Rattle.vortex_ffi.specs.Statuses.{at_entry}
 use Rattle.vortex_ffi.specs.Tables.{value_of_source, zone_at}
+use Rattle.vortex_ffi.specs.Types.{number_width}
 
 -- ---- the statistic that counts
 
@@ -116,6 +116,15 @@ pub record HasNumbers (t : PType) (x : Source) : Type 0 where
   pub nullability : Nullability
   pub typed : stat_dtype x.stat x.dtype ≡ Some (dtype.Primitive t nullability)
 
+-- the byte says how a value is known
+abbrev pub is_code : ℕ → Bool
+is_code k = nat_le k 2
+
+-- a code and as many bytes as a number of the type takes are there for each of the first n zones
+pub record Stand (t : PType) (x : Source) (n : ℕ) : Type 0 where
+  pub known : n ≤ length x.statistic.known.now
+  pub numbers : n * number_width t ≤ length x.statistic.values.now
+
 -- the value that stands for a zone
 abbrev pub present_in : Source → ℕ → Result ScalarValue Status
 present_in x zone = present_value x.dtype x.stat x.statistic.values.now x.statistic.start x.statistic.ends.now zone
@@ -124,7 +133,3 @@ present_in x zone = present_value x.dtype x.stat x.statistic.values.now x.statis
 pub record IsNumberIn (x : Source) (zone : ℕ) (p : Precision PValue) : Type 0 where
   pub read : value_of_source x zone ≡ Ok (numbered p)
   pub fits : IsTrue (value_fits x.stat x.dtype (numbered p))
-
--- the aggregate is told by a value at either precision, whatever the row count
-abbrev pub IsToldByBounds : AggregateFnRef → Type 0
-IsToldByBounds f = (p : Precision ScalarValue) (n : ℕ) → told_value f p n ≡ precision_value p

@@ -1,10 +1,11 @@
 -- Statistics of zones as a caller hands them in.
-use Rattle.std.specs.Prelude.{ℕ, ◌==◌, List, Option, None, Some, Result, Ok, Err, if◌then◌else◌, slice_get}
+use Rattle.std.specs.Prelude.{◌≡◌, ℕ, ◌==◌, List, Option, None, Some, Result, Ok, Err, IsTrue, if◌then◌else◌, slice_get}
 use Rattle.vortex_base.specs.declared.dtype.DType.{DType}
 use Rattle.vortex_base.specs.declared.scalar_value.ScalarValue.{ScalarValue}
 use Rattle.vortex_stats.specs.declared.precision.Precision.{Precision}
 use Rattle.vortex_stats.specs.declared.precision.Precision.TheVariants.{Exact, Inexact, Absent}
 use Rattle.vortex_stats.specs.declared.stat.Stat.{Stat}
+use Rattle.vortex_stats.specs.Sets.Entries.{is_value_of}
 use Rattle.vortex_stats.specs.Stat.{stat_dtype}
 use Rattle.vortex_ffi.specs.declared.statistic.Statistic.{Statistic}
 use Rattle.vortex_ffi.specs.declared.status.Status.{Status}
@@ -23,6 +24,12 @@ typed_value values start ends zone (Some t) = value_at t values start ends zone
 -- the value of a statistic of a column of a type that stands for a zone
 abbrev pub present_value : DType → Stat → List ℕ → ℕ → List ℕ → ℕ → Result ScalarValue Status
 present_value t s values start ends zone = typed_value values start ends zone (stat_dtype s t)
+
+-- what was read is a value of a statistic of a column of a type
+pub record HasPresent (t : DType) (s : Stat) (r : Result ScalarValue Status) : Type 0 where
+  pub value : ScalarValue
+  pub read : r ≡ Ok value
+  pub fits : IsTrue (is_value_of (stat_dtype s t) value)
 
 abbrev pub with_precision : (ScalarValue → Precision ScalarValue) → Result ScalarValue Status → Result (Precision ScalarValue) Status
 with_precision f (Err s) = Err s

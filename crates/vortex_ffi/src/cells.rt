@@ -38,35 +38,34 @@ pub(crate) fn last_of<'a>(sources: &[Source<'a>], column: usize, stat: Stat) -> 
 
 // Whether a value of any kind is there for each of the first zones of which a statistic says
 // anything.
-fn values_are_read(alloc: Global, source: &Source<'_>, zones: usize) -> bool
+fn values_are_read(source: &Source<'_>, zones: usize) -> bool
     ensures { OnTrue result (spec.AreRead source.now zones) }
 {
     for zone in 0..zones {
-        match source.value(alloc, zone) {
-            Ok(_value) => {}
-            Err(_) => return false,
+        if !source.is_read(zone) {
+            return false;
         }
     }
     true
 }
 
 // Whether a statistic has a value for each of the first zones.
-fn are_read(alloc: Global, source: &Source<'_>, zones: usize) -> bool
+fn are_read(source: &Source<'_>, zones: usize) -> bool
     ensures { OnTrue result (spec.AreRead source.now zones) }
 {
     match source.stat.dtype(&source.dtype) {
         Some(DType::Primitive(ptype, _nullability)) => numbers_are_read(source, ptype, zones),
-        _ => values_are_read(alloc, source, zones),
+        _ => values_are_read(source, zones),
     }
 }
 
 /// Whether each statistic has.
-pub(crate) fn all_read(alloc: Global, sources: &[Source<'_>], zones: usize) -> bool
+pub(crate) fn all_read(sources: &[Source<'_>], zones: usize) -> bool
     ensures { OnTrue result (spec.AllRead sources.now zones) }
 {
     for entry in 0..sources.len() {
         let source = source_there(sources, entry);
-        if !are_read(alloc, source, zones) {
+        if !are_read(source, zones) {
             return false;
         }
     }

@@ -1,5 +1,6 @@
 //! Values as bytes.
 ghost use Rattle.std.specs.Prelude.{◌≡◌, ◌++◌, IfOk, IfSome, IsTrue, OnOk};
+ghost use Rattle.std.specs.Bool.{OnTrue};
 ghost use Rattle.vortex_base.specs.Data.Values.{is_value};
 ghost use Rattle.vortex_ffi.specs.Encoding as spec;
 ghost use Rattle.vortex_ffi.specs.Refusals.{Gives};
@@ -13,6 +14,7 @@ use vortex_base::pvalue::PValue;
 use vortex_base::scalar_value::ScalarValue;
 use vortex_base::types::PType;
 use vortex_syntax::line_error::LineError;
+use vortex_syntax::lines::is_utf8;
 use vortex_syntax::value;
 use vortex_syntax::word::Word;
 
@@ -78,6 +80,19 @@ pub(crate) fn value_of(alloc: Global, dtype: DType, bytes: &[u8]) -> Result<Scal
             Ok(ScalarValue::Binary(Bytes::new(bytes)))
         }
         DType::Null | DType::MinMaxState(_, _) => Err(Status::BadStat),
+    }
+}
+
+/// Whether the bytes are a value of the type.
+pub(crate) fn are_value_of(dtype: DType, bytes: &[u8]) -> bool
+    ensures { OnTrue result (spec.ReadsValue dtype (spec.value_of dtype bytes.now)) }
+{
+    match dtype {
+        DType::Bool(_) => truth_of(bytes).is_some(),
+        DType::Primitive(ptype, _) => number_of(ptype, bytes).is_some(),
+        DType::Utf8(_) => is_utf8(bytes),
+        DType::Binary(_) => true,
+        DType::Null | DType::MinMaxState(_, _) => false,
     }
 }
 

@@ -1,17 +1,19 @@
 //! The least and the greatest number of a column, read straight from a caller's bytes.
-ghost use Rattle.std.specs.Prelude.{◌≡◌, ◌++◌, ◌∷◌, [], IfSome, IsTrue, List, Ok, Option, Some, false, true, if◌then◌else◌};
+ghost use Rattle.std.specs.Prelude.{◌≡◌, ◌*◌, ◌++◌, ◌≤◌, ◌∷◌, [], IfSome, IsTrue, List, Ok, Option, Some, false, length, true, if◌then◌else◌};
 ghost use Rattle.std.specs.List.{list_all};
 ghost use Rattle.vortex_base.specs.declared.dtype.DType.TheVariants as types;
 ghost use Rattle.vortex_base.specs.declared.scalar_value.ScalarValue.{ScalarValue};
+ghost use Rattle.vortex_base.specs.declared.types.Nullability.{Nullability};
 ghost use Rattle.vortex_base.specs.Data.Columns.{ColumnData};
 ghost use Rattle.vortex_ffi.specs.Extents as spec;
 ghost use Rattle.vortex_ffi.specs.Extents.{HasRead, IsExtentOf, IsOptionalRangeOf, IsRangeOf, scalar_of};
+ghost use Rattle.vortex_ffi.specs.Types.{number_width};
 ghost use Rattle.vortex_ffi.specs.Values.{cell, column};
 ghost use Rattle.vortex_stats.specs.Measuring.Measured.{measured_value};
 ghost use Rattle.vortex_stats.specs.Sets.Claims.{null_count, present};
 
 use crate::given::fixed;
-use crate::number::Number;
+use crate::number::{Number, has_numbers, number_at};
 use crate::types::number_width;
 use crate::values::{Values, is_null};
 use vortex_base::dtype::DType;
@@ -149,6 +151,24 @@ pub(crate) fn all_follow(stats: &[Stat]) -> bool
 }
 
 impl Values<'_> {
+    // The range of the numbers of all rows, none of which is null.
+    fn range<N: Number>(&self) -> Option<Range<N>>
+        requires none { self.now.nulls.now ≡ [] }
+        requires there { self.now.rows * number_width N.PTYPE ≤ length self.now.values.now }
+        ensures { (n : Nullability) → let t = types.Primitive N.PTYPE n in
+            HasRead N.pvalue t (cell t self.now.values.now self.now.start self.now.ends.now
+            self.now.nulls.now) self.now.rows 0 result }
+    {
+        if self.rows == 0 {
+            return None;
+        }
+        let mut range = Range::new(number_at::<N>(self.values, 0));
+        for row in 1..self.rows {
+            range = range.then(number_at::<N>(self.values, row));
+        }
+        Some(range)
+    }
+
     // How many rows are null, and the range of the numbers of the others, unless a row is refused.
     fn nulls_and_range<N: Number>(
         &self,
@@ -180,6 +200,9 @@ impl Values<'_> {
         ensures { IfSome result (λ e. (c : ColumnData)
             × (column (types.Primitive N.PTYPE nullability) self.now ≡ Ok c) × IsExtentOf e c) }
     {
+        if self.nulls.is_empty() && has_numbers::<N>(self.values, self.rows) {
+            return Some(Extent::new(0, self.range::<N>()));
+        }
         let (nulls, range) = self.nulls_and_range::<N>(nullability)?;
         Some(Extent::new(nulls, range))
     }

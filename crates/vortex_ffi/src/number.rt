@@ -1,5 +1,10 @@
 //! Numbers of one type as they stand in a caller's bytes.
+ghost use Rattle.std.specs.Prelude.{◌≡◌, ◌+◌, ◌*◌, ◌≤◌, IsTrue, Some, length, nat_le};
+ghost use Rattle.std.specs.Bool.{OnTrue};
+ghost use Rattle.vortex_ffi.specs.Encoding as spec;
+ghost use Rattle.vortex_ffi.specs.Types.{number_width};
 
+use crate::types::number_width;
 use vortex_base::pvalue::PValue;
 use vortex_base::types::PType;
 
@@ -30,6 +35,32 @@ pub(crate) trait Number: Ord + Copy {
 
     ghost ordered: { (a b : Self)
         → Self.cmp a b ≡ value_cmp (Primitive (pvalue a)) (Primitive (pvalue b)) };
+}
+
+/// Whether the bytes of so many numbers are there.
+pub(crate) fn has_numbers<N: Number>(values: &[u8], count: usize) -> bool
+    ensures there { result ≡ nat_le (count * number_width N.PTYPE) (length values.now) }
+    ensures numbers { OnTrue result (spec.AreNumbers N.PTYPE values.now count) }
+{
+    match count.checked_mul(number_width(N::PTYPE)) {
+        Some(len) => len <= values.len(),
+        None => false,
+    }
+}
+
+/// Number i of those that stand one behind the other.
+#[inline]
+pub(crate) fn number_at<N: Number>(values: &[u8], i: usize) -> N
+    requires { let width = number_width N.PTYPE in i * width + width ≤ length values.now }
+    ensures read { Some (N.pvalue result) ≡ spec.number_at N.PTYPE values.now i }
+    ensures fits { IsTrue (spec.is_number N.PTYPE (N.pvalue result)) }
+{
+    let width = number_width(N::PTYPE);
+    let from = i * width;
+    match N::from_bytes(&values[from..from + width]) {
+        Some(number) => number,
+        None => unreachable!(),
+    }
 }
 
 impl Number for u8 {

@@ -1,16 +1,17 @@
 //! Statistics whose values are numbers, read without a value made of each.
-ghost use Rattle.std.specs.Prelude.{◌≡◌, ◌+◌, ◌≤◌, IfSome, IsTrue, Ok, Some, length};
+ghost use Rattle.std.specs.Prelude.{◌≡◌, ◌+◌, ◌*◌, ◌≤◌, IfSome, IsTrue, Ok, Some, length};
 ghost use Rattle.std.specs.Bool.{OnTrue};
+ghost use Rattle.std.specs.List.{list_all};
 ghost use Rattle.vortex_base.specs.Data.Cells.{cell_values, short_value};
 ghost use Rattle.vortex_base.specs.declared.scalar_value.ScalarValue.TheVariants as value;
-ghost use Rattle.vortex_ffi.specs.Encoding.{is_number};
+ghost use Rattle.vortex_ffi.specs.Encoding.{AreNumbers, is_number};
 ghost use Rattle.vortex_ffi.specs.MapCells as spec;
+ghost use Rattle.vortex_ffi.specs.Types.{number_width};
 ghost use Rattle.vortex_prune.specs.Binding.StatValues.{told_value};
-ghost use Rattle.vortex_stats.specs.Precision.{present_value};
 ghost use Rattle.vortex_stats.specs.declared.precision.Precision.TheVariants.{Exact, Inexact};
 
 use crate::given::fixed;
-use crate::number::Number;
+use crate::number::{Number, has_numbers, number_at};
 use crate::table::Source;
 use crate::types::number_width;
 use std::alloc::Global;
@@ -57,32 +58,31 @@ fn number_in<N: Number>(source: &Source<'_>, zone: usize) -> Option<Precision<PV
     }
 }
 
-// Whether a number stands there for a zone, and whether it counts is told.
-#[inline]
-fn stands<N: Number>(source: &Source<'_>, zone: usize) -> bool
-    requires { spec.HasNumbers N.PTYPE source.now }
-    ensures { OnTrue result (spec.IsRead source.now zone) }
+// Whether each byte says how a value is known.
+fn are_codes(known: &[u8]) -> bool
+    ensures { result ≡ list_all spec.is_code known.now }
 {
-    match number_there::<N>(source, zone) {
-        None => false,
-        Some(_number) => match source.statistic.known.get(zone) {
-            None => false,
-            Some(code) => *code <= 2,
-        },
+    let mut greatest = 0;
+    for code in known {
+        greatest = greatest.max(*code);
     }
+    greatest <= 2
 }
 
-// Whether one does for each of the first zones.
+// Whether a code and a number are there for each of the first zones.
+fn stand<N: Number>(source: &Source<'_>, zones: usize) -> bool
+    ensures there { OnTrue result (spec.Stand N.PTYPE source.now zones) }
+    ensures numbers { OnTrue result (AreNumbers N.PTYPE source.now.statistic.values.now zones) }
+{
+    zones <= source.statistic.known.len() && has_numbers::<N>(source.statistic.values, zones)
+}
+
+// Whether a number stands there for each of the first zones, and whether it counts is told.
 fn all_stand<N: Number>(source: &Source<'_>, zones: usize) -> bool
     requires { spec.HasNumbers N.PTYPE source.now }
     ensures { OnTrue result (spec.AreRead source.now zones) }
 {
-    for zone in 0..zones {
-        if !stands::<N>(source, zone) {
-            return false;
-        }
-    }
-    true
+    stand::<N>(source, zones) && are_codes(&source.statistic.known[..zones])
 }
 
 // Whether a statistic has a number for each of the first zones of which it says anything.
@@ -178,20 +178,35 @@ fn number_cell(aggregate: AggregateFnRef, number: Precision<PValue>, rows: u64) 
     }
 }
 
-// The cell of a number at either precision.
+// The number that stands for a zone, whose bytes are there.
 #[inline]
-fn bound_cell(number: Precision<PValue>) -> ShortCell
-    ensures { short_value result ≡ present_value (spec.numbered number) }
+fn standing<N: Number>(source: &Source<'_>, zone: usize) -> PValue
+    requires numbers { spec.HasNumbers N.PTYPE source.now }
+    requires there { let width = number_width N.PTYPE in
+        zone * width + width ≤ length source.now.statistic.values.now }
+    ensures read { spec.present_in source.now zone ≡ Ok (value.Primitive result) }
+    ensures fits { IsTrue (is_number N.PTYPE result) }
 {
-    match number {
-        Precision::Exact(number) => ShortCell::of_number(number),
-        Precision::Inexact(number) => ShortCell::of_number(number),
-        Precision::Absent => ShortCell::Null,
+    number_at::<N>(source.statistic.values, zone).value()
+}
+
+// The number that is known exactly of a zone for which a code and a number are there, if it is.
+#[inline]
+fn exact_standing<N: Number>(source: &Source<'_>, zone: usize) -> Option<PValue>
+    requires numbers { spec.HasNumbers N.PTYPE source.now }
+    requires stand { spec.Stand N.PTYPE source.now (zone + 1) }
+    ensures { IfSome result (λ number. spec.IsNumberIn source.now zone (Exact number)) }
+{
+    match source.statistic.known[zone] {
+        1 => Some(standing::<N>(source, zone)),
+        _ => None,
     }
 }
 
-// What a statistic tells for an aggregate that a bound tells, of the zones from a place on.
-fn bounds<N: Number>(
+// What a statistic tells for an aggregate of the zones from a place on, for each of which a code
+// and a number are there, if each is known exactly.
+#[inline(never)]
+fn told_exactly<N: Number>(
     alloc: Global,
     source: &Source<'_>,
     aggregate: AggregateFnRef,
@@ -201,23 +216,21 @@ fn bounds<N: Number>(
 ) -> Option<Cells>
     requires numbers { spec.HasNumbers N.PTYPE source.now }
     requires within { from + count ≤ length rows.now }
-    requires bound { spec.IsToldByBounds aggregate }
+    requires stand { spec.Stand N.PTYPE source.now (from + count) }
     ensures { let told = spec.told_cells aggregate (Some source.now) rows.now from count in
         IfSome result (λ cells. told ≡ Ok (cell_values cells)) }
 {
     let mut cells = Vec::with_capacity(alloc, count).ok()?;
     for place in 0..count {
-        let number = number_in::<N>(source, from + place)?;
-        match cells.push(bound_cell(number)) {
-            Ok(()) => {}
-            Err(_) => return None,
-        }
+        let number = exact_standing::<N>(source, from + place)?;
+        cells.push_reserved(exact_cell(aggregate, number, rows[from + place]));
     }
     Some(Cells::Short(cells))
 }
 
-// What a statistic tells for any aggregate of the zones from a place on.
-fn others<N: Number>(
+// The same, however each is known.
+#[inline(never)]
+fn told_each<N: Number>(
     alloc: Global,
     source: &Source<'_>,
     aggregate: AggregateFnRef,
@@ -240,7 +253,7 @@ fn others<N: Number>(
     Some(Cells::Short(cells))
 }
 
-// The same, where the least and the greatest number are read in a loop of their own.
+// The same, by the quicker way where that gives an answer.
 fn told<N: Number>(
     alloc: Global,
     source: &Source<'_>,
@@ -254,11 +267,12 @@ fn told<N: Number>(
     ensures { let told = spec.told_cells aggregate (Some source.now) rows.now from count in
         IfSome result (λ cells. told ≡ Ok (cell_values cells)) }
 {
-    match aggregate {
-        AggregateFnRef::Max => bounds::<N>(alloc, source, aggregate, rows, from, count),
-        AggregateFnRef::Min => bounds::<N>(alloc, source, aggregate, rows, from, count),
-        _ => others::<N>(alloc, source, aggregate, rows, from, count),
+    if stand::<N>(source, from + count) {
+        if let Some(cells) = told_exactly::<N>(alloc, source, aggregate, rows, from, count) {
+            return Some(cells);
+        }
     }
+    told_each::<N>(alloc, source, aggregate, rows, from, count)
 }
 
 /// The same of a statistic whose values are numbers of a type.

@@ -208,7 +208,7 @@ pub(crate) fn quick_answers(
         (λ zones. IsTrue (zones_fit scope.now zones))) }
     ensures long { IfSome result (λ v. length v.items ≡ length rows.now) }
 {
-    if !all_read(alloc, sources, rows.len()) {
+    if !all_read(sources, rows.len()) {
         return None;
     }
     let proofs = Proofs::of_predicate(alloc, predicate)?;

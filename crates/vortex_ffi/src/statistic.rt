@@ -1,5 +1,6 @@
 //! Statistics of zones as a caller hands them in.
-ghost use Rattle.std.specs.Prelude.{IfOk, IsTrue};
+ghost use Rattle.std.specs.Prelude.{◌≡◌, IfOk, IsTrue};
+ghost use Rattle.std.specs.Bool.{OnTrue};
 ghost use Rattle.vortex_ffi.specs.Refusals.{Gives};
 ghost use Rattle.vortex_ffi.specs.Statistics as spec;
 ghost use Rattle.vortex_stats.specs.Sets.Entries.{is_value_of, value_fits};
@@ -8,7 +9,7 @@ ghost use Rattle.vortex_stats.specs.Stat.{stat_dtype};
 use crate::given::Given;
 use crate::measure::stat_of;
 use crate::status::Status;
-use crate::values::value_at;
+use crate::values::{has_value, value_at};
 use std::alloc::Global;
 use vortex_base::dtype::DType;
 use vortex_base::scalar_value::ScalarValue;
@@ -37,6 +38,19 @@ pub struct Statistic<'a> {
 pub(crate) type Entry = (Stat, Precision<ScalarValue>);
 
 impl Statistic<'_> {
+    // Its values.
+    fn given(&self) -> Given<'_>
+        ensures values { result.values.now ≡ self.now.values.now }
+        ensures start { result.start ≡ self.now.start }
+        ensures ends { result.ends.now ≡ self.now.ends.now }
+    {
+        Given {
+            values: self.values,
+            start: self.start,
+            ends: self.ends,
+        }
+    }
+
     // The value that stands for a zone, of the statistic's type in a column of this one.
     fn present_value(
         &self,
@@ -49,14 +63,20 @@ impl Statistic<'_> {
             self.now.start self.now.ends.now zone) }
         ensures fits { IfOk result (λ value. IsTrue (is_value_of (stat_dtype stat dtype) value)) }
     {
-        let given = Given {
-            values: self.values,
-            start: self.start,
-            ends: self.ends,
-        };
         match stat.dtype(&dtype) {
-            Some(dtype) => value_at(alloc, &given, dtype, zone),
+            Some(dtype) => value_at(alloc, &self.given(), dtype, zone),
             None => Err(Status::BadStat),
+        }
+    }
+
+    /// Whether a value stands for a zone, of the statistic's type in a column of this one.
+    pub(crate) fn has_value(&self, dtype: DType, stat: Stat, zone: usize) -> bool
+        ensures { OnTrue result (spec.HasPresent dtype stat (spec.present_value dtype stat
+            self.now.values.now self.now.start self.now.ends.now zone)) }
+    {
+        match stat.dtype(&dtype) {
+            Some(dtype) => has_value(&self.given(), dtype, zone),
+            None => false,
         }
     }
 

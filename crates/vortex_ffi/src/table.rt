@@ -1,7 +1,9 @@
 //! Zones as a table of columns.
 ghost use Rattle.std.specs.Prelude.{◌≡◌, ◌<◌, All, IfOk, IsTrue, Some, length, map, slice_get};
+ghost use Rattle.std.specs.Bool.{OnTrue};
 ghost use Rattle.vortex_prune.specs.Part.{fits_zone};
 ghost use Rattle.vortex_stats.specs.Sets.Entries.{value_fits};
+ghost use Rattle.vortex_ffi.specs.MapCells.{IsRead};
 ghost use Rattle.vortex_ffi.specs.Refusals.{Answers, Gives};
 ghost use Rattle.vortex_ffi.specs.Tables as spec;
 
@@ -83,6 +85,17 @@ impl Source<'_> {
             IsTrue (value_fits self.now.stat self.now.dtype value)) }
     {
         self.statistic.value_in(alloc, self.dtype, self.stat, zone)
+    }
+
+    /// Whether it says anything of a zone, absent or not, without a value made.
+    pub(crate) fn is_read(&self, zone: usize) -> bool
+        ensures { OnTrue result (IsRead self.now zone) }
+    {
+        match self.statistic.known.get(zone) {
+            None => false,
+            Some(0) => true,
+            Some(code) => *code <= 2 && self.statistic.has_value(self.dtype, self.stat, zone),
+        }
     }
 }
 

@@ -1,12 +1,14 @@
 //! A column of values as a caller hands it in.
 ghost use Rattle.std.specs.Prelude.{◌≡◌, Err, IfOk, IsTrue, MatchResult, Ok};
+ghost use Rattle.std.specs.Bool.{OnTrue};
 ghost use Rattle.vortex_base.specs.Data.Cells.{cell_values, short_value};
 ghost use Rattle.vortex_base.specs.Data.Values.{is_value};
 ghost use Rattle.vortex_base.specs.declared.dtype.DType.TheVariants as types;
+ghost use Rattle.vortex_ffi.specs.Encoding.{ReadsValue};
 ghost use Rattle.vortex_ffi.specs.Refusals.{Answers, Gives};
 ghost use Rattle.vortex_ffi.specs.Values as spec;
 
-use crate::encoding::{number_of, value_of};
+use crate::encoding::{are_value_of, number_of, value_of};
 use crate::fault::Refusal;
 use crate::given::{Given, fixed};
 use crate::status::Status;
@@ -79,6 +81,17 @@ pub(crate) fn value_at(
     match given.bytes_at(dtype, row) {
         Ok(bytes) => value_of(alloc, dtype, bytes),
         Err(status) => Err(status),
+    }
+}
+
+/// Whether a value of the type stands at a place.
+pub(crate) fn has_value(given: &Given<'_>, dtype: DType, place: usize) -> bool
+    ensures { OnTrue result (ReadsValue dtype (spec.value_at dtype given.now.values.now
+        given.now.start given.now.ends.now place)) }
+{
+    match given.bytes_at(dtype, place) {
+        Ok(bytes) => are_value_of(dtype, bytes),
+        Err(_) => false,
     }
 }
 

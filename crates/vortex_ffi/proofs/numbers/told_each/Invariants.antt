@@ -1,7 +1,7 @@
 use Rattle.std.proofs.Common.{◌≡◌, Ok, Some, map}
 use Rattle.vortex_base.specs.Data.Cells.{short_value}
 use Rattle.vortex_ffi.specs.MapCells.{told_cells}
-use Rattle.vortex_ffi.proofs.numbers.bounds.Given as goal
+use Rattle.vortex_ffi.proofs.numbers.told_each.Given as goal
 
 abbrev pub invariant-loop-place : goal.invariant-loop-place
-invariant-loop-place g l = told_cells l.fn.aggregate (Some l.source) l.rows l.from l.place ≡ Ok (map short_value l.cells.items)
+invariant-loop-place g l = told_cells l.aggregate (Some l.source) l.rows l.from l.place ≡ Ok (map short_value l.cells.items)

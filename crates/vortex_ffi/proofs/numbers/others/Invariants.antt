@@ -1,7 +1,0 @@
-use Rattle.std.proofs.Common.{◌≡◌, Ok, Some, map}
-use Rattle.vortex_base.specs.Data.Cells.{short_value}
-use Rattle.vortex_ffi.specs.MapCells.{told_cells}
-use Rattle.vortex_ffi.proofs.numbers.others.Given as goal
-
-abbrev pub invariant-loop-place : goal.invariant-loop-place
-invariant-loop-place g l = told_cells l.aggregate (Some l.source) l.rows l.from l.place ≡ Ok (map short_value l.cells.items)
