@@ -1,3 +1,4 @@
+mod Absorbed
 mod Adding
 mod Chained
 pub mod Columns
@@ -14,10 +15,15 @@ mod OneColumn
 mod OneColumnApart
 mod OneColumnRows
 mod Pairs
+mod Places
 mod Readings
+mod Separate
+mod SeparateItems
+mod SeparateRows
 mod SetRows
 mod Sets
 mod Sorting
+mod Spliced
 mod Steps
 mod TestsApart
 mod Texts

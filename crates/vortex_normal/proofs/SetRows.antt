@@ -5,25 +5,25 @@ use Rattle.vortex_base.specs.declared.scalar_value.ScalarValue.{ScalarValue}
 use Rattle.vortex_base.specs.declared.scalar_value.ScalarValue.TheVariants as value
 use Rattle.vortex_normal.specs.Intervals.{Lowest, Before, After, Highest, Interval, combined, complement, interval, share, sorted}
 
-abbrev at : ℕ → ScalarValue
+abbrev pub at : ℕ → ScalarValue
 at n = value.Primitive (number.U8 n)
 
-abbrev closed : ℕ → ℕ → Interval
+abbrev pub closed : ℕ → ℕ → Interval
 closed l u = interval (Before (at l)) (After (at u))
 
-abbrev from : ℕ → Interval
+abbrev pub from : ℕ → Interval
 from l = interval (Before (at l)) Highest
 
-abbrev above : ℕ → Interval
+abbrev pub above : ℕ → Interval
 above l = interval (After (at l)) Highest
 
-abbrev below : ℕ → Interval
+abbrev pub below : ℕ → Interval
 below u = interval Lowest (Before (at u))
 
-abbrev between : ℕ → ℕ → Interval
+abbrev pub between : ℕ → ℕ → Interval
 between l u = interval (After (at l)) (Before (at u))
 
-abbrev all : Interval
+abbrev pub all : Interval
 all = interval Lowest Highest
 
 -- ---- in the order of their low cuts, those that tie as they stood

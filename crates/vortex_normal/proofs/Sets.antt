@@ -11,6 +11,7 @@ use Rattle.vortex_rewrite.proofs.Completeness.Interval.{is_comparison}
 use Rattle.vortex_rewrite.proofs.Soundness.TruthLogic.{clash, refuted}
 use Rattle.vortex_rewrite.proofs.Soundness.ValueTests.{by_le, holds_by_le, le_total, le_trans}
 use Rattle.vortex_normal.specs.Intervals.{Cut, Lowest, Before, After, Highest, Interval, above, at_most, combined, comparison_set, complement, contains, cut_le, higher, in_set, interval, is_empty, left_out, placed, share, sorted, swapped, unless_empty}
+use Rattle.vortex_normal.specs.Separate.{lower}
 use Rattle.vortex_normal.proofs.Told.{joined}
 
 -- ---- cuts are in a total order, and a value is above all cuts up to some place
@@ -57,12 +58,15 @@ and_first : (p q : Bool) → (p ≡ true → q ≡ true) → p ≡ (p && q)
 and_first false q f = refl
 and_first true q f = sym (f refl)
 
-higher_by : (c d : Cut) (v : ScalarValue) (b : Bool) → cut_le c d ≡ b → above (if b then d else c) v ≡ (above c v && above d v)
-higher_by c d v true e = and_second (above c v) (above d v) (monotone c d v e)
-higher_by c d v false e = and_first (above c v) (above d v) (monotone d c v (total c d e))
+or_first : (p q : Bool) → (q ≡ true → p ≡ true) → p ≡ (p || q)
+or_first true q f = refl
+or_first false true f = f refl
+or_first false false f = refl
 
-above_higher : (c d : Cut) (v : ScalarValue) → above (higher c d) v ≡ (above c v && above d v)
-above_higher c d v = higher_by c d v (cut_le c d) refl
+or_second : (p q : Bool) → (p ≡ true → q ≡ true) → q ≡ (p || q)
+or_second false q f = refl
+or_second true true f = refl
+or_second true false f = f refl
 
 pub cut_trans : (c d e : Cut) → cut_le c d ≡ true → cut_le d e ≡ true → cut_le c e ≡ true
 cut_trans Lowest d e h k = refl
@@ -103,9 +107,6 @@ crossed : (a b : Bool) → (a ≡ true → b ≡ true) → (a && not_b b) ≡ fa
 crossed false b f = refl
 crossed true b f = ap not_b (f refl)
 
-pub in_empty : (i : Interval) (v : ScalarValue) → is_empty i ≡ true → contains i v ≡ false
-in_empty i v h = crossed (above i.low v) (above i.high v) (monotone i.high i.low v h)
-
 -- ---- intervals in the order of their low cuts
 
 abbrev pub AreFrom : Cut → List Interval → Type 0
@@ -142,7 +143,7 @@ sorted_in_order (i ∷ is) = placed_in_order i (sorted is) (sorted_in_order is)
 
 -- ---- sets
 
-or_assoc : (a b c : Bool) → ((a || b) || c) ≡ (a || (b || c))
+pub or_assoc : (a b c : Bool) → ((a || b) || c) ≡ (a || (b || c))
 or_assoc true b c = refl
 or_assoc false b c = refl
 
@@ -156,37 +157,78 @@ abbrev pub in_sets : (is_and : Bool) → List (List Interval) → ScalarValue �
 in_sets w [] v = w
 in_sets w (is ∷ iss) v = joined w (in_set is v) (in_sets w iss v)
 
-module _ (v : ScalarValue) where
-  placed_if : (i j : Interval) (js : List Interval) (b : Bool) → in_set (placed i js) v ≡ (contains i v || in_set js v) → in_set (if b then i ∷ j ∷ js else j ∷ placed i js) v ≡ (contains i v || (contains j v || in_set js v))
-  placed_if i j js true h = refl
-  placed_if i j js false h = ap (λ b. contains j v || b) h ∙ or_swap (contains i v) (contains j v) (in_set js v)
+-- a place between lower cuts and higher ones, by the test that a cut is one of the lower: it lies in an interval, and in some interval of a set
+abbrev pub lies_within : (is_lower : Cut → Bool) → Interval → Bool
+lies_within f i = f i.low && not_b (f i.high)
 
-  in_placed : (i : Interval) (js : List Interval) → in_set (placed i js) v ≡ (contains i v || in_set js v)
+abbrev pub lies_in : (is_lower : Cut → Bool) → List Interval → Bool
+lies_in f [] = false
+lies_in f (i ∷ is) = lies_within f i || lies_in f is
+
+-- in all of the sets, or in any
+abbrev pub lies_in_sets : (is_and : Bool) → (is_lower : Cut → Bool) → List (List Interval) → Bool
+lies_in_sets w f [] = w
+lies_in_sets w f (is ∷ iss) = joined w (lies_in f is) (lies_in_sets w f iss)
+
+-- what is lower than a lower cut is one of the lower, the lowest is and the highest isn't
+pub record IsPlace (is_lower : Cut → Bool) : Type 0 where
+  pub falls : (c d : Cut) → cut_le c d ≡ true → is_lower d ≡ true → is_lower c ≡ true
+  pub lowest : is_lower Lowest ≡ true
+  pub highest : is_lower Highest ≡ false
+
+-- a value's
+value_place : (v : ScalarValue) → IsPlace (λ c. above c v)
+value_place v = record { falls = λ c d h k. monotone c d v h k; lowest = refl; highest = refl }
+
+module _ (f : Cut → Bool) (place : IsPlace f) where
+  higher_by : (c d : Cut) (b : Bool) → cut_le c d ≡ b → f (if b then d else c) ≡ (f c && f d)
+  higher_by c d true e = and_second (f c) (f d) (place.falls c d e)
+  higher_by c d false e = and_first (f c) (f d) (place.falls d c (total c d e))
+
+  pub at_higher : (c d : Cut) → f (higher c d) ≡ (f c && f d)
+  at_higher c d = higher_by c d (cut_le c d) refl
+
+  lower_by : (c d : Cut) (b : Bool) → cut_le c d ≡ b → f (if b then c else d) ≡ (f c || f d)
+  lower_by c d true e = or_first (f c) (f d) (place.falls c d e)
+  lower_by c d false e = or_second (f c) (f d) (place.falls d c (total c d e))
+
+  pub at_lower : (c d : Cut) → f (lower c d) ≡ (f c || f d)
+  at_lower c d = lower_by c d (cut_le c d) refl
+
+  in_empty : (i : Interval) → is_empty i ≡ true → lies_within f i ≡ false
+  in_empty i h = crossed (f i.low) (f i.high) (place.falls i.high i.low h)
+
+  placed_if : (i j : Interval) (js : List Interval) (b : Bool) → lies_in f (placed i js) ≡ (lies_within f i || lies_in f js) → lies_in f (if b then i ∷ j ∷ js else j ∷ placed i js) ≡ (lies_within f i || (lies_within f j || lies_in f js))
+  placed_if i j js true h = refl
+  placed_if i j js false h = ap (λ b. lies_within f j || b) h ∙ or_swap (lies_within f i) (lies_within f j) (lies_in f js)
+
+  in_placed : (i : Interval) (js : List Interval) → lies_in f (placed i js) ≡ (lies_within f i || lies_in f js)
   in_placed i [] = refl
   in_placed i (j ∷ js) = placed_if i j js (cut_le i.low j.low) (in_placed i js)
 
-  in_sorted : (is : List Interval) → in_set (sorted is) v ≡ in_set is v
+  in_sorted : (is : List Interval) → lies_in f (sorted is) ≡ lies_in f is
   in_sorted [] = refl
-  in_sorted (i ∷ is) = in_placed i (sorted is) ∙ ap (λ b. contains i v || b) (in_sorted is)
+  in_sorted (i ∷ is) = in_placed i (sorted is) ∙ ap (λ b. lies_within f i || b) (in_sorted is)
 
-  unless_by : (i : Interval) (is : List Interval) (b : Bool) → is_empty i ≡ b → in_set (if b then is else i ∷ is) v ≡ (contains i v || in_set is v)
-  unless_by i is true e = sym (ap (λ b. b || in_set is v) (in_empty i v e))
+  unless_by : (i : Interval) (is : List Interval) (b : Bool) → is_empty i ≡ b → lies_in f (if b then is else i ∷ is) ≡ (lies_within f i || lies_in f is)
+  unless_by i is true e = sym (ap (λ b. b || lies_in f is) (in_empty i e))
   unless_by i is false e = refl
 
-  in_unless : (i : Interval) (is : List Interval) → in_set (unless_empty i is) v ≡ (contains i v || in_set is v)
+  pub in_unless : (i : Interval) (is : List Interval) → lies_in f (unless_empty i is) ≡ (lies_within f i || lies_in f is)
   in_unless i is = unless_by i is (is_empty i) refl
 
   -- what lies below where a set's intervals begin is in none
-  none_below : (c : Cut) (is : List Interval) → AreFrom c is → above c v ≡ false → in_set is v ≡ false
+  none_below : (c : Cut) (is : List Interval) → AreFrom c is → f c ≡ false → lies_in f is ≡ false
   none_below c [] h k = refl
   none_below c (i ∷ is) h k =
       ap₂ ◌||◌
-      (ap (λ b. b && not_b (above i.high v)) (refuted (above i.low v) (λ a. clash (monotone c i.low v h.0 a) k)))
+      (ap (λ b. b && not_b (f i.high)) (refuted (f i.low) (λ a. clash (place.falls c i.low h.0 a) k)))
       (none_below c is h.1 k)
 
-  up_from : (a : Bool) → ((a && true) || false) ≡ (a && true)
-  up_from true = refl
-  up_from false = refl
+  up_from : (a b : Bool) → b ≡ false → ((a && not_b b) || false) ≡ (a && true)
+  up_from a true e = cc
+  up_from true false e = refl
+  up_from false false e = refl
 
   -- a: above the cut; l, h: above the ends of the first interval; s: in a later one
   past_first : (a l h s : Bool) → (l ≡ false → s ≡ false) → ((a && not_b l) || ((a && h) && not_b s)) ≡ (a && not_b ((l && not_b h) || s))
@@ -196,48 +238,50 @@ module _ (v : ScalarValue) where
   past_first true false true s f = ap not_b (sym (f refl))
   past_first true false false s f = ap not_b (sym (f refl))
 
-  in_left_out : (c : Cut) (is : List Interval) → AreInOrder is → in_set (left_out c is) v ≡ (above c v && not_b (in_set is v))
-  in_left_out c [] h = in_unless (interval c Highest) [] ∙ up_from (above c v)
+  in_left_out : (c : Cut) (is : List Interval) → AreInOrder is → lies_in f (left_out c is) ≡ (f c && not_b (lies_in f is))
+  in_left_out c [] h = in_unless (interval c Highest) [] ∙ up_from (f c) (f Highest) place.highest
   in_left_out c (i ∷ is) h =
       in_unless (interval c i.low) (left_out (higher c i.high) is)
-      ∙ ap (λ b. (above c v && not_b (above i.low v)) || b) (in_left_out (higher c i.high) is h.1 ∙ ap (λ b. b && not_b (in_set is v)) (above_higher c i.high v))
-      ∙ past_first (above c v) (above i.low v) (above i.high v) (in_set is v) (none_below i.low is h.0)
+      ∙ ap (λ b. (f c && not_b (f i.low)) || b) (in_left_out (higher c i.high) is h.1 ∙ ap (λ b. b && not_b (lies_in f is)) (at_higher c i.high))
+      ∙ past_first (f c) (f i.low) (f i.high) (lies_in f is) (none_below i.low is h.0)
 
-  in_complement : (is : List Interval) → in_set (complement is) v ≡ not_b (in_set is v)
-  in_complement is = in_left_out Lowest (sorted is) (sorted_in_order is) ∙ ap not_b (in_sorted is)
+  pub in_complement : (is : List Interval) → lies_in f (complement is) ≡ not_b (lies_in f is)
+  in_complement is =
+      in_left_out Lowest (sorted is) (sorted_in_order is)
+      ∙ ap₂ (λ a b. a && not_b b) place.lowest (in_sorted is)
 
-  in_append : (is js : List Interval) → in_set (is ++ js) v ≡ (in_set is v || in_set js v)
+  pub in_append : (is js : List Interval) → lies_in f (is ++ js) ≡ (lies_in f is || lies_in f js)
   in_append [] js = refl
-  in_append (i ∷ is) js = ap (λ b. contains i v || b) (in_append is js) ∙ sym (or_assoc (contains i v) (in_set is v) (in_set js v))
+  in_append (i ∷ is) js = ap (λ b. lies_within f i || b) (in_append is js) ∙ sym (or_assoc (lies_within f i) (lies_in f is) (lies_in f js))
 
   not_both : (a b : Bool) → not_b (not_b a || b) ≡ (a && not_b b)
   not_both true b = refl
   not_both false b = refl
 
-  -- an AND's values are those that no set leaves out
-  in_all : (iss : List (List Interval)) → not_b (in_set (flat_map (share true) iss) v) ≡ in_sets true iss v
+  -- an AND's are those that no set leaves out
+  in_all : (iss : List (List Interval)) → not_b (lies_in f (flat_map (share true) iss)) ≡ lies_in_sets true f iss
   in_all [] = refl
   in_all (is ∷ iss) =
-      ap not_b (in_append (complement is) (flat_map (share true) iss) ∙ ap (λ b. b || in_set (flat_map (share true) iss) v) (in_complement is))
-      ∙ not_both (in_set is v) (in_set (flat_map (share true) iss) v)
-      ∙ ap (λ b. in_set is v && b) (in_all iss)
+      ap not_b (in_append (complement is) (flat_map (share true) iss) ∙ ap (λ b. b || lies_in f (flat_map (share true) iss)) (in_complement is))
+      ∙ not_both (lies_in f is) (lies_in f (flat_map (share true) iss))
+      ∙ ap (λ b. lies_in f is && b) (in_all iss)
 
-  in_any : (iss : List (List Interval)) → in_set (flat_map (share false) iss) v ≡ in_sets false iss v
+  in_any : (iss : List (List Interval)) → lies_in f (flat_map (share false) iss) ≡ lies_in_sets false f iss
   in_any [] = refl
-  in_any (is ∷ iss) = in_append is (flat_map (share false) iss) ∙ ap (λ b. in_set is v || b) (in_any iss)
+  in_any (is ∷ iss) = in_append is (flat_map (share false) iss) ∙ ap (λ b. lies_in f is || b) (in_any iss)
 
   not_twice : (b : Bool) → not_b (not_b b) ≡ b
   not_twice true = refl
   not_twice false = refl
 
-  met : (iss : List (List Interval)) → in_set (complement (flat_map (share true) iss)) v ≡ in_sets true iss v
+  met : (iss : List (List Interval)) → lies_in f (complement (flat_map (share true) iss)) ≡ lies_in_sets true f iss
   met iss = in_complement (flat_map (share true) iss) ∙ in_all iss
 
-  united : (iss : List (List Interval)) → in_set (complement (complement (flat_map (share false) iss))) v ≡ in_sets false iss v
+  united : (iss : List (List Interval)) → lies_in f (complement (complement (flat_map (share false) iss))) ≡ lies_in_sets false f iss
   united iss =
       in_complement (complement (flat_map (share false) iss))
       ∙ ap not_b (in_complement (flat_map (share false) iss))
-      ∙ not_twice (in_set (flat_map (share false) iss) v)
+      ∙ not_twice (lies_in f (flat_map (share false) iss))
       ∙ in_any iss
 
   with_unit : (w a : Bool) → a ≡ joined w a w
@@ -246,12 +290,24 @@ module _ (v : ScalarValue) where
   with_unit false true = refl
   with_unit false false = refl
 
+  pub lies_in_combined : (w : Bool) (iss : List (List Interval)) → lies_in f (combined w iss) ≡ lies_in_sets w f iss
+  lies_in_combined w (is ∷ []) = with_unit w (lies_in f is)
+  lies_in_combined true [] = met []
+  lies_in_combined false [] = united []
+  lies_in_combined true (is ∷ js ∷ iss) = met (is ∷ js ∷ iss)
+  lies_in_combined false (is ∷ js ∷ iss) = united (is ∷ js ∷ iss)
+
+module _ (v : ScalarValue) where
+  value_lies : (is : List Interval) → in_set is v ≡ lies_in (λ c. above c v) is
+  value_lies [] = refl
+  value_lies (i ∷ is) = ap (λ b. contains i v || b) (value_lies is)
+
+  value_in_sets : (w : Bool) (iss : List (List Interval)) → lies_in_sets w (λ c. above c v) iss ≡ in_sets w iss v
+  value_in_sets w [] = refl
+  value_in_sets w (is ∷ iss) = ap₂ (joined w) (sym (value_lies is)) (value_in_sets w iss)
+
   pub in_combined : (w : Bool) (iss : List (List Interval)) → in_set (combined w iss) v ≡ in_sets w iss v
-  in_combined w (is ∷ []) = with_unit w (in_set is v)
-  in_combined true [] = met []
-  in_combined false [] = united []
-  in_combined true (is ∷ js ∷ iss) = met (is ∷ js ∷ iss)
-  in_combined false (is ∷ js ∷ iss) = united (is ∷ js ∷ iss)
+  in_combined w iss = value_lies (combined w iss) ∙ lies_in_combined (λ c. above c v) (value_place v) w iss ∙ value_in_sets w iss
 
 -- ---- comparisons
 

@@ -15,7 +15,7 @@ self_if : (c : Cut) (b : Bool) → cut_le c c ≡ b → cut_le c c ≡ true
 self_if c true e = e
 self_if c false e = total c c e
 
-cut_self : (c : Cut) → cut_le c c ≡ true
+pub cut_self : (c : Cut) → cut_le c c ≡ true
 cut_self c = self_if c (cut_le c c) refl
 
 abbrev pub is_below : LentInterval → LentInterval → Bool

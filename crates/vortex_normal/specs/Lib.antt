@@ -6,4 +6,5 @@ pub mod Laws
 pub mod OneColumn
 pub mod Pushed
 pub mod Same
+pub mod Separate
 pub mod Worked

@@ -7,11 +7,13 @@ ghost use Rattle.vortex_normal.specs.Groups as spec;
 ghost use Rattle.vortex_normal.specs.Intervals.{interval_of, place_at, set_of};
 ghost use Rattle.vortex_normal.specs.declared.groups.Item.TheVariants as kept;
 ghost use Rattle.vortex_normal.specs.Groups.{item_fits, item_of, items_fit};
+ghost use Rattle.vortex_normal.specs.Separate.{are_of_separate, is_of_separate};
 
 use crate::balanced::balanced;
-use crate::interval::{Cut, Interval, combined, comparison_set, one, swapped};
+use crate::interval::{Cut, Interval, comparison_set, one, swapped};
 use crate::leaves::connected;
 use crate::predicate::Predicate;
+use crate::ranges::combined;
 use crate::tests_of::values_test;
 use std::alloc::Global;
 use std::collections::BTreeMap;
@@ -43,7 +45,8 @@ pub(crate) enum Item<'a> {
 
 // The predicate that what is said of a column is.
 fn said_test(alloc: Global, is_and: bool, said: Values<'_>) -> Result<Predicate, StatsError>
-    requires { IsTrue (item_fits (item_of (kept.Inside said))) }
+    requires fits { IsTrue (item_fits (item_of (kept.Inside said))) }
+    requires separate { IsTrue (is_of_separate (item_of (kept.Inside said))) }
     ensures { Makes (spec.item_test is_and (item_of (kept.Inside said.entry))) result }
 {
     let Values {
@@ -58,7 +61,8 @@ fn said_test(alloc: Global, is_and: bool, said: Values<'_>) -> Result<Predicate,
 
 // The predicate that an item is.
 fn item_test(alloc: Global, is_and: bool, item: Item<'_>) -> Result<Predicate, StatsError>
-    requires { IsTrue (item_fits (item_of item)) }
+    requires fits { IsTrue (item_fits (item_of item)) }
+    requires separate { IsTrue (is_of_separate (item_of item)) }
     ensures { Makes (spec.item_test is_and (item_of item.entry)) result }
 {
     match item {
@@ -73,7 +77,8 @@ fn item_tests(
     is_and: bool,
     items: Vec<Item<'_>>,
 ) -> Result<Vec<Predicate>, StatsError>
-    requires { IsTrue (items_fit (map item_of items.items)) }
+    requires fit { IsTrue (items_fit (map item_of items.items)) }
+    requires separate { IsTrue (are_of_separate (map item_of items.items)) }
     ensures { OkOrMemory result (λ tests. tests.items
         ≡ map (spec.item_test is_and) (map item_of items.entry.items)) }
 {
@@ -87,7 +92,8 @@ fn item_tests(
 
 // The predicate that items make up, joined by AND or by OR.
 fn items_test(alloc: Global, is_and: bool, items: Vec<Item<'_>>) -> Result<Predicate, StatsError>
-    requires { IsTrue (items_fit (map item_of items.items)) }
+    requires fit { IsTrue (items_fit (map item_of items.items)) }
+    requires separate { IsTrue (are_of_separate (map item_of items.items)) }
     ensures { Makes (spec.items_test is_and (map item_of items.entry.items)) result }
 {
     let tests = item_tests(alloc, is_and, items)?;
@@ -309,6 +315,7 @@ impl<'a> Chain<'a> {
 
 // What is said of a column by all sets of a chain, by one set.
 fn said_once<'a>(alloc: Global, is_and: bool, said: Values<'a>) -> Result<Item<'a>, StatsError>
+    requires { IsTrue (is_of_separate (item_of (kept.Inside said))) }
     ensures { OkOrMemory result
         (λ item. item_of item ≡ spec.lone_item is_and (item_of (kept.Inside said.entry))) }
 {
@@ -324,6 +331,7 @@ fn said_once<'a>(alloc: Global, is_and: bool, said: Values<'a>) -> Result<Item<'
 
 // The only item of a chain as one of another.
 fn lone_item<'a>(alloc: Global, is_and: bool, item: Item<'a>) -> Result<Item<'a>, StatsError>
+    requires { IsTrue (is_of_separate (item_of item)) }
     ensures { OkOrMemory result
         (λ lone. item_of lone ≡ spec.lone_item is_and (item_of item.entry)) }
 {
@@ -335,7 +343,8 @@ fn lone_item<'a>(alloc: Global, is_and: bool, item: Item<'a>) -> Result<Item<'a>
 
 // The items of a whole chain as one of another.
 fn as_one<'a>(alloc: Global, is_and: bool, chain: Chain<'a>) -> Result<Item<'a>, StatsError>
-    requires { IsTrue (items_fit (map item_of chain.items.items)) }
+    requires fit { IsTrue (items_fit (map item_of chain.items.items)) }
+    requires separate { IsTrue (are_of_separate (map item_of chain.items.items)) }
     ensures { OkOrMemory result
         (λ item. item_of item ≡ spec.as_one is_and (map item_of chain.entry.items.items)) }
 {

@@ -5,6 +5,7 @@ ghost use Rattle.std.specs.Ordering.{is_lt};
 ghost use Rattle.vortex_rewrite.specs.Answers.{OkOrMemory};
 ghost use Rattle.vortex_normal.specs.Intervals as spec;
 ghost use Rattle.vortex_normal.specs.Intervals.{cut_of, interval_of, set_of};
+ghost use Rattle.vortex_normal.specs.Separate.{hull, lower};
 
 use std::alloc::Global;
 use std::cmp::Ordering;
@@ -40,7 +41,7 @@ pub(crate) fn is_at_most(a: &ScalarValue, b: &ScalarValue) -> bool
 
 impl<'a> Cut<'a> {
     // Whether this cut is at most the other.
-    fn is_at_most(self, other: Cut<'a>) -> bool
+    pub(crate) fn is_at_most(self, other: Cut<'a>) -> bool
         ensures { result ≡ spec.cut_le (cut_of self.entry) (cut_of other.entry) }
     {
         match (self, other) {
@@ -51,6 +52,12 @@ impl<'a> Cut<'a> {
             (Cut::Before(a), Cut::After(b)) => is_at_most(a, b),
             (Cut::After(a), Cut::After(b)) => is_at_most(a, b),
         }
+    }
+
+    fn lower(self, other: Cut<'a>) -> Cut<'a>
+        ensures { cut_of result ≡ lower (cut_of self.entry) (cut_of other.entry) }
+    {
+        if self.is_at_most(other) { self } else { other }
     }
 
     fn higher(self, other: Cut<'a>) -> Cut<'a>
@@ -79,6 +86,16 @@ impl<'a> Interval<'a> {
     {
         self.high.is_at_most(self.low)
     }
+
+    // From the lower beginning of two intervals to the higher end.
+    pub(crate) fn hull(self, other: Interval<'a>) -> Interval<'a>
+        ensures { interval_of result ≡ hull (interval_of self.entry) (interval_of other.entry) }
+    {
+        Interval {
+            low: self.low.lower(other.low),
+            high: self.high.higher(other.high),
+        }
+    }
 }
 
 // Puts intervals in the order of their low cuts.
@@ -91,7 +108,7 @@ fn sort(set: &mut Vec<Interval<'_>>) -> Result<(), StatsError>
 }
 
 // Appends the values between two cuts, if there are any.
-fn push_between<'a>(
+pub(crate) fn push_between<'a>(
     low: Cut<'a>,
     high: Cut<'a>,
     out: &mut Vec<Interval<'a>>,
@@ -142,7 +159,7 @@ fn complement<'a>(alloc: Global, set: Vec<Interval<'a>>) -> Result<Vec<Interval<
 }
 
 // Appends a set's share of what the sets of an AND or OR say.
-fn push_share<'a>(
+pub(crate) fn push_share<'a>(
     is_and: bool,
     set: Vec<Interval<'a>>,
     out: &mut Vec<Interval<'a>>,
@@ -176,7 +193,7 @@ fn shares<'a>(
 }
 
 /// The values in all of some sets, or in any: in time that is linear but for sorting.
-pub(crate) fn combined<'a>(
+pub(crate) fn merged<'a>(
     alloc: Global,
     is_and: bool,
     sets: Vec<Vec<Interval<'a>>>,

@@ -10,4 +10,5 @@ mod likes;
 pub mod normalize;
 mod predicate;
 mod pushed;
+mod ranges;
 mod tests_of;

@@ -11,6 +11,7 @@ mod deep;
 mod leaves;
 mod likes;
 mod sets;
+mod turns;
 
 fn a(alloc: Global) -> Built {
     col(alloc, 0, I32_OR_NULL)

@@ -2,7 +2,9 @@ use Rattle.std.proofs.Common.{◌≡◌, false, true, ap, map, refl, ◌∙◌}
 use Rattle.vortex_base.specs.Trees.Tree.{binary}
 use Rattle.vortex_base.specs.declared.types.Operator.TheVariants.{And, Or}
 use Rattle.vortex_normal.specs.Groups.{collected, item_of, items_fit}
+use Rattle.vortex_normal.specs.Separate.{are_of_separate}
 use Rattle.vortex_normal.proofs.Fits.{both_fit}
+use Rattle.vortex_normal.proofs.SeparateItems.{both_separate}
 use Rattle.vortex_normal.proofs.Steps.{left_side, right_side}
 use Rattle.vortex_normal.proofs.groups.+collect.Goals as goal
 
@@ -13,8 +15,13 @@ as_one-requires t c =
     let r = k.right.now in
     let is : c.args.e.now ≡ binary And l r = cc (k.ensures, k.field-0-is) in
     let first = c.in_ok-collect-in-Binary-And-default-default-2.ensures.items ∙ ap (λ v. collected true l (map item_of v)) c.new-inner.ensures.items in
-    ap items_fit (c.in_ok-collect-in-Binary-And-default-default-3.ensures.items ∙ ap (collected true r) first)
-    ∙ both_fit true l r (left_side c.args.e.now l r And is refl c.requires.predicate) (right_side c.args.e.now l r And is refl c.requires.predicate)
+    let all = c.in_ok-collect-in-Binary-And-default-default-3.ensures.items ∙ ap (collected true r) first in
+    record {
+      fit =
+          ap items_fit all
+          ∙ both_fit true l r (left_side c.args.e.now l r And is refl c.requires.predicate) (right_side c.args.e.now l r And is refl c.requires.predicate);
+      separate = ap are_of_separate all ∙ both_separate true l r;
+    }
 
 pub as_one-requires-then-is_and-2 : goal.as_one-requires-then-is_and-2
 as_one-requires-then-is_and-2 t c =
@@ -23,5 +30,10 @@ as_one-requires-then-is_and-2 t c =
     let r = k.right.now in
     let is : c.args.e.now ≡ binary Or l r = cc (k.ensures, k.field-0-is) in
     let first = c.in_ok-collect-in-Binary-Or-default-default.ensures.items ∙ ap (λ v. collected false l (map item_of v)) c.new-inner-then-is_and-2.ensures.items in
-    ap items_fit (c.in_ok-collect-in-Binary-Or-default-default-2.ensures.items ∙ ap (collected false r) first)
-    ∙ both_fit false l r (left_side c.args.e.now l r Or is refl c.requires.predicate) (right_side c.args.e.now l r Or is refl c.requires.predicate)
+    let all = c.in_ok-collect-in-Binary-Or-default-default-2.ensures.items ∙ ap (collected false r) first in
+    record {
+      fit =
+          ap items_fit all
+          ∙ both_fit false l r (left_side c.args.e.now l r Or is refl c.requires.predicate) (right_side c.args.e.now l r Or is refl c.requires.predicate);
+      separate = ap are_of_separate all ∙ both_separate false l r;
+    }

@@ -9,4 +9,4 @@ values_test-requires c =
     let said = c.args.said in
     ap (λ s. set_fits said.dtype (map interval_of s)) c.deref.ensures.value
     ∙ ap (set_fits said.dtype) c.in_ok-set.ensures
-    ∙ combined_fits said.dtype c.args.is_and (map set_of said.sets.items) c.requires
+    ∙ combined_fits said.dtype c.args.is_and (map set_of said.sets.items) c.requires.fits
