@@ -16,6 +16,7 @@ mod OneColumnApart
 mod OneColumnRows
 mod Pairs
 mod Places
+mod PushedDepth
 mod Readings
 mod Separate
 mod SeparateItems
@@ -29,4 +30,6 @@ mod TestsApart
 mod Texts
 mod Told
 mod Truths
+mod TurnRows
+mod WholeDepth
 mod Worked

@@ -1,5 +1,5 @@
 //! Laws of normal forms.
-ghost use Rattle.vortex_normal.specs.Laws.{ChainsAreShallow, GroupsAreSame, SetsAreShallow};
+ghost use Rattle.vortex_normal.specs.Laws.{ChainsAreShallow, GroupsAreSame, NormalIsShallow, SetsAreShallow};
 ghost use Rattle.vortex_normal.specs.OneColumn.{JoiningsAreApart, OneColumnIsApart};
 ghost use Rattle.vortex_normal.specs.Worked.{BalancedExamples, FormExamples};
 
@@ -30,6 +30,12 @@ pub fn chains_are_shallow()
 /// intervals.
 pub fn sets_are_shallow()
     ensures { SetsAreShallow }
+{}
+
+/// A normal form is deeper than the predicate, or than the test of a set, by no more than the
+/// logarithm of the number of the predicate's leaves for each turn of AND and OR, and once more.
+pub fn normal_is_shallow()
+    ensures { NormalIsShallow }
 {}
 
 /// Worked normal forms.
