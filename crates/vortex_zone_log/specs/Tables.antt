@@ -3,6 +3,8 @@ use Rattle.std.specs.Prelude.{◌≡◌, ◌==◌, ◌&&◌, ◌+◌, ◌<◌, �
 use Rattle.std.specs.Bool.{MatchBool}
 use Rattle.vortex_base.specs.Data.Cells.{cell_values}
 use Rattle.vortex_base.specs.declared.cells.Cells.{Cells}
+use Rattle.vortex_base.specs.declared.cells.ShortCell.{ShortCell}
+use Rattle.vortex_base.specs.declared.cells.ShortCell.TheVariants as cell
 use Rattle.vortex_base.specs.declared.scalar_value.ScalarValue.{ScalarValue}
 use Rattle.vortex_prune.specs.Binding.StatValues.{read_stat, told_value}
 use Rattle.vortex_prune.specs.Part.{ZoneData}
@@ -56,6 +58,11 @@ under h zones = map (zone_value h.aggregate h.source) zones
 pub record AreCells (heads : List Head) (zones : List ZoneData) (cells : List Cells) : Type 0 where
   pub long : length cells ≡ length heads
   pub told : (k : ℕ) (h : Head) (c : Cells) → slice_get heads k ≡ Some h → slice_get cells k ≡ Some c → cell_values c ≡ under h zones
+
+-- the count that a cell is, if it is one
+abbrev pub count_in : ShortCell → Option ℕ
+count_in (cell.U64 n) = Some n
+count_in c = None
 
 -- what is told of the zone at a place, of so many rows, is put under a head that reads it
 abbrev pub IsPut : Head → Saying → (place rows : ℕ) → (old new : Cells) → Type 0

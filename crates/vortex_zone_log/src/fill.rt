@@ -3,7 +3,7 @@ ghost use Rattle.std.specs.Prelude.{◌≡◌, IfOk, IfSome, None, OnOk, replica
 ghost use Rattle.vortex_base.specs.Data.Cells.{cell_values, short_value};
 ghost use Rattle.vortex_zone_log.specs.Tables.{AreBlank};
 
-use crate::kept::short_cell;
+use crate::kept::{short_cell, short_copy};
 use std::alloc::{AllocError, Global};
 use vortex_base::cells::{Cells, ShortCell};
 use vortex_base::dtype::DType;
@@ -104,4 +104,19 @@ pub fn set_cell(
         }
     }
     set_any(cells, place, value)
+}
+
+/// Sets a cell to a truth, a number or null, if it is there.
+#[inline]
+pub fn set_known(cells: &mut Cells, place: usize, cell: ShortCell) -> Result<(), AllocError>
+    ensures { OnOk result (cell_values cells.new
+        ≡ slice_set (cell_values cells.old) place (short_value cell)) }
+{
+    match cells {
+        Cells::Short(values) => {
+            set_short(values, place, cell);
+            Ok(())
+        }
+        _ => set_any(cells, place, short_copy(cell)),
+    }
 }

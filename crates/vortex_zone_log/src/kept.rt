@@ -86,9 +86,9 @@ pub fn keep(longs: &mut Vec<ScalarValue>, value: Precision<ScalarValue>) -> Resu
     }
 }
 
-// A truth or a number.
+/// A truth or a number.
 #[inline]
-fn short_copy(cell: ShortCell) -> Option<ScalarValue>
+pub fn short_copy(cell: ShortCell) -> Option<ScalarValue>
     ensures { result ≡ short_value cell }
 {
     match cell.lend() {

@@ -7,6 +7,7 @@ mod join;
 mod kept;
 mod known;
 mod readers;
+mod short;
 mod span;
 mod stretch;
 mod told;

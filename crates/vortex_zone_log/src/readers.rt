@@ -1,15 +1,19 @@
 //! The columns of a table, and what they read of what is told.
-ghost use Rattle.std.specs.Prelude.{◌≡◌, ◌<◌, ◌++◌, ◌∷◌, List, OnOk, Some, length, slice_get};
+ghost use Rattle.std.specs.Prelude.{◌≡◌, ◌<◌, ◌++◌, ◌∷◌, List, OnOk, Some, length, slice_get, slice_set};
+ghost use Rattle.vortex_base.specs.Data.Cells.{cell_values};
+ghost use Rattle.vortex_prune.specs.Binding.StatValues.{told_value};
 ghost use Rattle.vortex_prune.specs.Part.{Entries, ZoneData};
-ghost use Rattle.vortex_zone_log.specs.Kept.{said, saying, sets_with};
+ghost use Rattle.vortex_zone_log.specs.Kept.{kept_value, said, saying, sets_with};
 ghost use Rattle.vortex_zone_log.specs.Tables as spec;
 ghost use Rattle.vortex_zone_log.specs.Tables.{AreCells, AreReaders, IsPut, with_saying};
 
-use crate::fill::set_cell;
-use crate::kept::copy_of;
+use crate::fill::{set_cell, set_known};
+use crate::kept::{Kept, copy_of};
+use crate::short::told_cell;
 use crate::span::Span;
 use crate::told::Told;
 use std::alloc::AllocError;
+use vortex_base::aggregate::AggregateFnRef;
 use vortex_base::cells::Cells;
 use vortex_base::scalar_value::ScalarValue;
 use vortex_prune::{Head, StatFn};
@@ -37,6 +41,42 @@ fn reads(head: &Head, column: usize, stat: Stat) -> bool
     }
 }
 
+// Puts what a value tells for an aggregate into a cell, by a copy of it.
+#[inline(never)]
+fn put_copy(
+    aggregate: AggregateFnRef,
+    longs: &[ScalarValue],
+    cells: &mut Cells,
+    kept: Kept,
+    zone: usize,
+    rows: u64,
+) -> Result<(), AllocError>
+    ensures { let told = told_value aggregate (kept_value longs.now kept) rows in
+        OnOk result (cell_values cells.new ≡ slice_set (cell_values cells.old) zone told) }
+{
+    let value = copy_of(longs, kept)?;
+    set_cell(cells, zone, StatFn::told(aggregate, value, rows))
+}
+
+// Puts what a value tells for an aggregate into a cell.
+#[inline]
+fn put_value(
+    aggregate: AggregateFnRef,
+    longs: &[ScalarValue],
+    cells: &mut Cells,
+    kept: Kept,
+    zone: usize,
+    rows: u64,
+) -> Result<(), AllocError>
+    ensures { let told = told_value aggregate (kept_value longs.now kept) rows in
+        OnOk result (cell_values cells.new ≡ slice_set (cell_values cells.old) zone told) }
+{
+    match told_cell(aggregate, kept, rows) {
+        Some(cell) => set_known(cells, zone, cell),
+        None => put_copy(aggregate, longs, cells, kept, zone, rows),
+    }
+}
+
 // Puts what is told of a zone under a head, if that reads it.
 #[inline]
 fn put_under(
@@ -53,8 +93,7 @@ fn put_under(
     if !reads(head, told.column as usize, told.stat) {
         return Ok(());
     }
-    let value = copy_of(longs, told.kept)?;
-    set_cell(cells, zone, StatFn::told(head.aggregate(), value, rows))
+    put_value(head.aggregate(), longs, cells, told.kept, zone, rows)
 }
 
 impl Readers<'_> {
