@@ -24,9 +24,10 @@ fn rows_of(alloc: Global, front: &[u8], back: &[u8]) -> Result<Vec<usize>, Fail>
     let Ok(query) = text.close(alloc) else {
         return Err(Fail::from("the text names nothing"));
     };
+    let map = query.map(alloc)?;
     let mut rows = Vec::new(alloc);
-    for part in &query.parts {
-        rows.push(part.chunk().rows())?;
+    for place in 0..map.len() {
+        rows.push(map.rows(place) as usize)?;
     }
     Ok(rows)
 }
