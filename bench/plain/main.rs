@@ -60,8 +60,10 @@ fn read(mut input: impl Read) -> Result<Draft, &'static str> {
             from = searched + end + 1;
             searched = from;
         }
-        buffer.copy_within(from..held, 0);
-        held -= from;
+        if from > 0 {
+            buffer.copy_within(from..held, 0);
+            held -= from;
+        }
         searched = held;
     }
     if held > 0 && !draft.is_bad {
