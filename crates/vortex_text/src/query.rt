@@ -35,15 +35,18 @@ impl Query {
     }
 }
 
-// How many columns the parts of a batch have together, beside those of one part. Each has up to
+// How many columns the parts of a batch have together, of a scope that isn't wide. Each has up to
 // seven values in the table of statistics that is made of the batch.
 const BATCH_COLUMNS: usize = 16_384;
+
+// How many parts a batch has at least: for each batch the names of its table are made anew.
+const BATCH_PARTS: usize = 32;
 
 // How many parts of this many columns a batch has.
 fn batch_size(columns: usize) -> usize
     ensures { 0 < result }
 {
-    1 + BATCH_COLUMNS / columns.max(1)
+    BATCH_PARTS.max(BATCH_COLUMNS / columns.max(1))
 }
 
 // Whether an expression is of type Bool.
