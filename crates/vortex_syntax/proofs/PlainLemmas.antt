@@ -1,20 +1,33 @@
 -- Values in plain form, digit by digit.
-use Rattle.std.proofs.Common.{◌≡◌, ◌<◌, ◌≤◌, ◌+◌, ◌-◌, ◌*◌, ◌&&◌, ℕ, ℤ, pos, neg_ℤ, true, List, [], ◌∷◌, ◌++◌, None, Some, length, length-append, nat_lt, option_map, codes, append_assoc, take, drop, get_or, int_le, refl, ap, sym, subst, ◌∙◌, inl, inr, arith}
+use Rattle.std.proofs.Common.{◌≡◌, ◌≢◌, ◌<◌, ◌≤◌, ◌+◌, ◌-◌, ◌*◌, ◌&&◌, ◌||◌, ◌==◌, ℕ, ℤ, suc, pos, neg_ℤ, Bool, true, false, not, List, [], ◌∷◌, ◌++◌, Option, None, Some, length, length-append, nat_lt, option_and_then, option_map, codes, append_assoc, position, take, drop, get_or, int_le, refl, ap, sym, subst, ◌∙◌, inl, inr, arith, take-append-drop}
 use Rattle.std.proofs.lemmas.Bool.{and_from, and_parts, cases_Bool}
 use Rattle.std.proofs.lemmas.Bool.Decides.{nat_tests}
 use Rattle.std.proofs.lemmas.Int.Digits.{digits_value_push}
-use Rattle.std.proofs.lemmas.List.{take_rest}
+use Rattle.std.proofs.lemmas.List.{take_rest, length-take-le}
+use Rattle.std.proofs.lemmas.List.Quantifiers.{position-Some}
 use Rattle.std.specs.Char.{is_ascii_digit}
-use Rattle.std.specs.List.{list_all}
-use Rattle.std.specs.Str.{all_ascii_digits}
+use Rattle.std.specs.List.{AllByRecursion, flat_map, list_all, position_or_len}
+use Rattle.std.proofs.lemmas.Slice.Eq.{bytes_eq-Decides}
+use Rattle.std.specs.Str.{all_ascii_digits, bytes_eq, is_utf8}
+use Rattle.vortex_base.specs.Meanings.Typing.{is_signed}
 use Rattle.std.specs.Str.Parse.{digits_value}
 use Rattle.vortex_base.specs.Data.Values.{greatest, least}
 use Rattle.vortex_base.specs.declared.dtype.DType.{DType}
 use Rattle.vortex_base.specs.Data.Types.{is_nullable}
+use Rattle.vortex_base.specs.declared.dtype.DType.TheVariants as dtype
+use Rattle.vortex_base.specs.declared.pvalue.PValue.{PValue}
+use Rattle.vortex_base.specs.declared.scalar_value.ScalarValue.{ScalarValue}
+use Rattle.vortex_base.specs.declared.scalar_value.ScalarValue.TheVariants as value
+use Rattle.vortex_base.specs.declared.types.Nullability.{Nullability}
+use Rattle.vortex_base.specs.declared.types.PType.{PType}
 use Rattle.vortex_base.specs.declared.types.PType.TheVariants as ptype
 use Rattle.vortex_syntax.proofs.NumberLemmas.{all_push, digit_is}
-use Rattle.vortex_syntax.specs.Numbers.{in_64_bits_signed}
-use Rattle.vortex_syntax.specs.Plain.{BeginsNatural, BeginsSigned, BeginsValue, EndsWord, is_word_byte}
+use Rattle.vortex_syntax.proofs.Spelling.{quotes_open}
+use Rattle.vortex_syntax.specs.Numbers.{in_64_bits_signed, in_type, number_of, whole_of}
+use Rattle.vortex_syntax.specs.Plain.{BeginsNatural, BeginsNumber, BeginsQuoted, BeginsSigned, BeginsValue, BeginsWord, EndsWord, is_line_byte, is_text_byte, is_word_byte}
+use Rattle.vortex_syntax.specs.Spelling.{CanBeSpelled, spelled_byte}
+use Rattle.vortex_syntax.specs.Values.{optional_value_of}
+use Rattle.vortex_syntax.specs.Words.{Plain, Quoted}
 
 -- the text begins with digits, maybe none, that write this number
 pub record BeginsDigits (text : List ℕ) (n : ℕ) (rest : List ℕ) : Type 0 where
@@ -73,6 +86,12 @@ pub signed_down : (text rest : List ℕ) (n : ℕ) (z : ℤ) → 1 ≤ length te
 signed_down text rest n z some first begins held =
     subst (λ t. BeginsSigned t z rest) (sym (uncons text 45 some first)) (subst (λ v. BeginsSigned (45 ∷ take (length text - 1) (drop 1 text)) v rest) (held_signed (neg_ℤ (pos n)) z held) (signed_behind _ rest n begins))
 
+-- a list with these two first elements
+pub uncons_two : (text : List ℕ) (a b : ℕ) → 2 ≤ length text → get_or text 0 0 ≡ a → get_or text 1 0 ≡ b → text ≡ a ∷ b ∷ take (length text - 2) (drop 2 text)
+uncons_two [] a b some first second = absurd (omega arith)
+uncons_two (c ∷ []) a b some first second = absurd (omega arith)
+uncons_two (c ∷ d ∷ text) a b some first second = rw (first, second) (ap (λ l. a ∷ b ∷ l) (sym (take_rest (c ∷ d ∷ text) 2)))
+
 -- ---- null
 
 null_front : (word : List ℕ) → 4 ≤ length word → get_or word 0 0 ≡ 110 → get_or word 1 0 ≡ 117 → get_or word 2 0 ≡ 108 → get_or word 3 0 ≡ 108
@@ -83,9 +102,130 @@ null_front (a ∷ b ∷ []) long n u l m = absurd (omega arith)
 null_front (a ∷ b ∷ c ∷ []) long n u l m = absurd (omega arith)
 null_front (a ∷ b ∷ c ∷ d ∷ word) long n u l m = rw (n, u, l, m) (ap (λ w. codes "null" ++ w) (sym (take_rest (a ∷ b ∷ c ∷ d ∷ word) 4)))
 
+-- ---- words
+
+line_bytes : (word : List ℕ) → list_all is_word_byte word ≡ true → list_all is_line_byte word ≡ true
+line_bytes [] all = refl
+line_bytes (b ∷ word) all =
+    let (one, more) = and_parts _ _ all in
+    let first : is_word_byte b ≡ true = one in
+    let fine : is_line_byte b ≡ true = grind (arith, nat_tests, first) in
+    and_from _ _ fine (line_bytes word more)
+
+no_spaces : (word : List ℕ) → list_all is_word_byte word ≡ true → AllByRecursion (λ c. c ≢ 32) word
+no_spaces [] plain = tt
+no_spaces (b ∷ word) plain =
+    let (one, more) = and_parts _ _ plain in
+    let first : is_word_byte b ≡ true = one in
+    let high : 34 < b = grind (arith, nat_tests, first) in
+    ((λ e. omega arith), no_spaces word more)
+
+pub is_spelled : (word : List ℕ) → list_all is_word_byte word ≡ true → 0 < length word → CanBeSpelled (Plain word)
+is_spelled [] plain some = omega arith
+is_spelled (b ∷ word) plain some =
+    let first : is_word_byte b ≡ true = (and_parts _ _ plain).0 in
+    let high : 34 < b = grind (arith, nat_tests, first) in
+    ((λ e. omega arith), no_spaces (b ∷ word) plain)
+
+one_more : (n : ℕ) → 1 + n ≡ suc n
+one_more n = omega arith
+
+-- all before the first that fails a test pass it
+passing_front : (p : ℕ → Bool) (text : List ℕ) → list_all p (take (position_or_len (λ b. not (p b)) text) text) ≡ true
+passing_front p [] = refl
+passing_front p (b ∷ text) = elim (cases_Bool (p b)) [
+  | inl is ↦ rw (is, one_more) (and_from _ _ is (passing_front p text))
+  | inr isnt ↦ rw isnt refl
+]
+
+first_at : (p : ℕ → Bool) (text : List ℕ) (end : ℕ) → position p text ≡ Some end → position_or_len p text ≡ end
+first_at p text end found = elim (cases_Bool (nat_lt (position_or_len p text) (length text))) [
+  | inl is ↦ (let same = rw is at found in cc)
+  | inr isnt ↦ (let same = rw isnt at found in cc)
+]
+
+pub front_passes : (p : ℕ → Bool) (text : List ℕ) (end : ℕ) → position (λ b. not (p b)) text ≡ Some end → list_all p (take end text) ≡ true
+front_passes p text end found = subst (λ n. list_all p (take n text) ≡ true) (first_at (λ b. not (p b)) text end found) (passing_front p text)
+
+-- a word in plain form, up to the first byte that isn't of one
+pub word_begins : (text : List ℕ) (end : ℕ) → position (λ b. not (is_word_byte b)) text ≡ Some end → 0 < end → BeginsWord text (take end text) (drop end text)
+word_begins text end found some =
+    let (within, at, before) = position-Some (λ b. not (is_word_byte b)) text end 0 found in
+    record { split = sym (take-append-drop end text); some = omega (arith, length-take-le end text (omega arith)); is_plain = front_passes is_word_byte text end found }
+
+-- the value of such a word
+pub value_in_word : (t : DType) (text behind word rest : List ℕ) (v : Option ScalarValue) → text ≡ 32 ∷ behind → BeginsWord behind word rest → EndsWord rest → optional_value_of t (Plain word) ≡ Some v
+    → BeginsValue t text v rest
+value_in_word t text behind word rest v is begins ends value = record {
+  word = Plain word;
+  split = is ∙ ap (λ l. 32 ∷ l) begins.split;
+  in_line = line_bytes word begins.is_plain;
+  can = is_spelled word begins.is_plain begins.some;
+  ends = ends;
+  value = value;
+}
+
+-- ---- texts between quotes
+
+not_quoted : (b : ℕ) → is_text_byte b ≡ true → (is_line_byte b ≡ true) × ((b == 34 || b == 92) ≡ false)
+not_quoted b is = let (line, other) = and_parts (is_line_byte b) (not (b == 34 || b == 92)) is in elim (cases_Bool (b == 34 || b == 92)) [
+  | inl quoted ↦ (let h = rw quoted at other in cc)
+  | inr isnt ↦ (line, isnt)
+]
+
+text_spelled : (t : List ℕ) → list_all is_text_byte t ≡ true → flat_map spelled_byte t ≡ t
+text_spelled [] all = refl
+text_spelled (b ∷ t) all =
+    let (one, more) = and_parts _ _ all in
+    let other = (not_quoted b one).1 in
+    rw other (ap (λ l. b ∷ l) (text_spelled t more))
+
+text_in_line : (t : List ℕ) → list_all is_text_byte t ≡ true → list_all is_line_byte (t ++ 34 ∷ []) ≡ true
+text_in_line [] all = refl
+text_in_line (b ∷ t) all =
+    let (one, more) = and_parts _ _ all in
+    and_from _ _ (not_quoted b one).0 (text_in_line t more)
+
+-- a text that its first quote closes
+pub quoted_begins : (text rest : List ℕ) (end : ℕ) → position (λ b. not (is_text_byte b)) text ≡ Some end → drop end text ≡ 34 ∷ rest → is_utf8 (take end text) ≡ true → BeginsQuoted text (take end text) rest
+quoted_begins text rest end found closes utf8 =
+    record { split = sym (take-append-drop end text) ∙ ap (λ l. take end text ++ l) closes; is_plain = front_passes is_text_byte text end found; utf8 = utf8 }
+
+-- the value of such a text
+pub value_in_quotes : (n : Nullability) (text behind quoted rest : List ℕ) → text ≡ 32 ∷ 34 ∷ behind → BeginsQuoted behind quoted rest → EndsWord rest → BeginsValue (dtype.Utf8 n) text (Some (value.Utf8 quoted)) rest
+value_in_quotes n text behind quoted rest is begins ends =
+    let same : flat_map spelled_byte quoted ≡ quoted = text_spelled quoted begins.is_plain in
+    let utf8 : is_utf8 quoted ≡ true = begins.utf8 in
+    record {
+      word = Quoted quoted;
+      split = is ∙ ap (λ l. 32 ∷ 34 ∷ l) (begins.split ∙ ap (λ l. l ++ 34 ∷ rest) (sym same)) ∙ ap (λ l. 32 ∷ l) (sym (quotes_open (flat_map spelled_byte quoted) rest));
+      in_line = ap (λ l. list_all is_line_byte (34 ∷ (l ++ 34 ∷ []))) same ∙ text_in_line quoted begins.is_plain;
+      can = tt;
+      ends = ends;
+      value = rw utf8 refl;
+    }
+
+-- ---- numbers and null
+
+null_is_no_number : (signed : Bool) → whole_of signed (codes "null") ≡ None
+null_is_no_number true = refl
+null_is_no_number false = refl
+
+not_null : (p : PType) (n : Nullability) (word : List ℕ) (v : PValue) → number_of p word ≡ Some v → optional_value_of (dtype.Primitive p n) (Plain word) ≡ Some (Some (value.Primitive v))
+not_null p n word v is = elim (cases_Bool (bytes_eq word (codes "null"))) [
+  | inl null ↦ (let same : word ≡ codes "null" = (bytes_eq-Decides word (codes "null")).0 null in
+      let none : number_of p word ≡ None = ap (number_of p) same ∙ ap (option_and_then (in_type p)) (null_is_no_number (is_signed p)) in
+      cc)
+  | inr other ↦ rw other (ap (λ o. option_map (λ x. Some x) (option_map (λ x. value.Primitive x) o)) is)
+]
+
+-- a number behind a space
+pub value_number : (p : PType) (n : Nullability) (text behind rest : List ℕ) (v : PValue) → text ≡ 32 ∷ behind → BeginsNumber p behind v rest → EndsWord rest → BeginsValue (dtype.Primitive p n) text (Some (value.Primitive v)) rest
+value_number p n text behind rest v is (word, begins, number) ends = value_in_word (dtype.Primitive p n) text behind word rest (Some (value.Primitive v)) is begins ends (not_null p n word v number)
+
 -- null, where the type has it
 pub value_null_at : (t : DType) (text word : List ℕ) → word ≡ take (length text - 1) (drop 1 text) → is_nullable t ≡ true → 1 ≤ length text → get_or text 0 0 ≡ 32
     → 4 ≤ length word → get_or word 0 0 ≡ 110 → get_or word 1 0 ≡ 117 → get_or word 2 0 ≡ 108 → get_or word 3 0 ≡ 108 → EndsWord (take (length word - 4) (drop 4 word))
     → BeginsValue t text None (take (length word - 4) (drop 4 word))
 value_null_at t text word is has some first long n u l m ends =
-    (codes "null", uncons text 32 some first ∙ ap (λ w. 32 ∷ w) (sym is ∙ null_front word long n u l m), refl, omega arith, ends, rw has refl)
+    value_in_word t text word (codes "null") _ None (uncons text 32 some first ∙ ap (λ w. 32 ∷ w) (sym is)) (record { split = null_front word long n u l m; some = omega arith; is_plain = refl }) ends (rw has refl)

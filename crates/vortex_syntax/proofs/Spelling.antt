@@ -54,7 +54,7 @@ quoted_back w (c ∷ t) rest parted =
       | inr isnt ↦ (let other = neither c isnt in rw (isnt, other.0, other.1) more)
     ]
 
-quotes_open : (f rest : List ℕ) → (34 ∷ (f ++ 34 ∷ [])) ++ rest ≡ 34 ∷ (f ++ 34 ∷ rest)
+pub quotes_open : (f rest : List ℕ) → (34 ∷ (f ++ 34 ∷ [])) ++ rest ≡ 34 ∷ (f ++ 34 ∷ rest)
 quotes_open f rest = ap (λ l. 34 ∷ l) (append_assoc f (34 ∷ []) rest)
 
 pub word_back : (w : Token) (rest : List ℕ) → CanBeSpelled w → IsParted rest → words (spelled w ++ rest) ≡ w ∷ words rest

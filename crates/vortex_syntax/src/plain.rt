@@ -1,13 +1,20 @@
 //! Values in plain form, read straight from the bytes of a text, whose line isn't cut out before.
 //! What isn't in this form is left to the reader of words, by which each form here is specified.
-ghost use Rattle.std.specs.Prelude.{◌≡◌, ◌<◌, neg_ℤ, pos, IfSome, IsTrue, length};
+ghost use Rattle.std.specs.Prelude.{◌≡◌, ◌<◌, neg_ℤ, not, pos, position, IfOk, IfSome, IsTrue, length};
 ghost use Rattle.vortex_syntax.specs.Numbers.{in_64_bits_signed};
-ghost use Rattle.vortex_syntax.specs.Plain.{BeginsNatural, BeginsNumber, BeginsSigned, BeginsValue, EndsWord};
+ghost use Rattle.vortex_syntax.specs.Plain.{BeginsNatural, BeginsNumber, BeginsQuoted, BeginsSigned, BeginsValue, BeginsWord, EndsWord};
+ghost use Rattle.vortex_syntax.specs.Plain as spec;
 
+use crate::line_error::LineError;
 use crate::number::{in_type, is_signed};
+use crate::value::optional_value_of;
+use crate::word::Word;
+use std::alloc::{AllocError, Global};
+use std::str;
 use vortex_base::dtype::DType;
 use vortex_base::pvalue::PValue;
 use vortex_base::scalar_value::ScalarValue;
+use vortex_base::text::Text;
 use vortex_base::types::PType;
 
 // A number up to this one stays below 2 to the 64th with one more digit.
@@ -92,11 +99,68 @@ pub fn ends_word(text: &[u8]) -> bool
     }
 }
 
-/// The optional value of a type that stands behind one space at the front of a text, and what
-/// follows it: a number in up to 19 digits or `null`, then a space or a line feed. None where
-/// anything else stands there.
+// Whether a byte may stand in a word in plain form.
 #[inline(always)]
-pub fn plain_value(dtype: DType, text: &[u8]) -> Option<(Option<ScalarValue>, &[u8])>
+fn is_word_byte(byte: u8) -> bool
+    ensures { result ≡ spec.is_word_byte byte }
+{
+    byte > b'"' && byte < 127
+}
+
+// Whether a byte stands for itself between quotes.
+#[inline(always)]
+fn is_text_byte(byte: u8) -> bool
+    ensures { result ≡ spec.is_text_byte byte }
+{
+    b' ' <= byte && byte < 127 && !(byte == b'"' || byte == b'\\')
+}
+
+// Where the first byte stands that isn't of a word in plain form.
+#[inline]
+fn word_end(text: &[u8]) -> Option<usize>
+    ensures { result ≡ position (λ b. not (spec.is_word_byte b)) text.now }
+{
+    text.iter().position(|byte| !is_word_byte(*byte))
+}
+
+// Where the first byte stands that doesn't stand for itself between quotes.
+#[inline]
+fn text_end(text: &[u8]) -> Option<usize>
+    ensures { result ≡ position (λ b. not (spec.is_text_byte b)) text.now }
+{
+    text.iter().position(|byte| !is_text_byte(*byte))
+}
+
+// The word in plain form at the front of a text, and what follows it.
+#[inline]
+fn word(text: &[u8]) -> Option<(&[u8], &[u8])>
+    ensures { IfSome result (λ x. BeginsWord text.now x.0.now x.1.now) }
+{
+    let end = word_end(text)?;
+    if end == 0 {
+        return None;
+    }
+    Some((&text[..end], &text[end..]))
+}
+
+// The text at the front of another, up to the quote that closes it, and what follows that.
+#[inline]
+fn quoted(text: &[u8]) -> Option<(&str, &[u8])>
+    ensures { IfSome result (λ x. BeginsQuoted text.now x.0.now x.1.now) }
+{
+    let end = text_end(text)?;
+    let [b'"', rest @ ..] = &text[end..] else {
+        return None;
+    };
+    match str::from_utf8(&text[..end]) {
+        Ok(quoted) => Some((quoted, rest)),
+        Err(_) => None,
+    }
+}
+
+// The number behind a space at the front of a text, or null, and what follows it.
+#[inline(always)]
+fn number_value(dtype: DType, text: &[u8]) -> Option<(Option<ScalarValue>, &[u8])>
     ensures value { IfSome result (λ x. BeginsValue dtype text.now x.0 x.1.now) }
     ensures shorter { IfSome result (λ x. length x.1.now < length text.now) }
 {
@@ -117,5 +181,80 @@ pub fn plain_value(dtype: DType, text: &[u8]) -> Option<(Option<ScalarValue>, &[
         Some((Some(ScalarValue::Primitive(number)), rest))
     } else {
         None
+    }
+}
+
+// The value of a word without quotes behind a space at the front of a text, and what follows it.
+#[inline(never)]
+fn word_value(
+    alloc: Global,
+    dtype: DType,
+    text: &[u8],
+) -> Result<Option<(Option<ScalarValue>, &[u8])>, AllocError>
+    ensures value { IfOk result (λ o. IfSome o
+        (λ x. BeginsValue dtype text.now x.0 x.1.now)) }
+    ensures shorter { IfOk result (λ o. IfSome o (λ x. length x.1.now < length text.now)) }
+{
+    let [b' ', behind @ ..] = text else {
+        return Ok(None);
+    };
+    let Some((word, rest)) = word(behind) else {
+        return Ok(None);
+    };
+    if !ends_word(rest) {
+        return Ok(None);
+    }
+    match optional_value_of(alloc, dtype, Word::Plain(word), 0) {
+        Ok(value) => Ok(Some((value, rest))),
+        Err(LineError::Memory) => Err(AllocError),
+        Err(LineError::Bad(_)) => Ok(None),
+    }
+}
+
+// The text between quotes behind a space at the front of another, and what follows it.
+#[inline(never)]
+fn quoted_value(
+    alloc: Global,
+    dtype: DType,
+    text: &[u8],
+) -> Result<Option<(Option<ScalarValue>, &[u8])>, AllocError>
+    ensures value { IfOk result (λ o. IfSome o
+        (λ x. BeginsValue dtype text.now x.0 x.1.now)) }
+    ensures shorter { IfOk result (λ o. IfSome o (λ x. length x.1.now < length text.now)) }
+{
+    let [b' ', b'"', behind @ ..] = text else {
+        return Ok(None);
+    };
+    let (DType::Utf8(_), Some((quoted, rest))) = (dtype, quoted(behind)) else {
+        return Ok(None);
+    };
+    if !ends_word(rest) {
+        return Ok(None);
+    }
+    let text = Text::new(String::from_str(alloc, quoted)?);
+    Ok(Some((Some(ScalarValue::Utf8(text)), rest)))
+}
+
+/// The optional value of a type that stands behind one space at the front of a text, and what
+/// follows it: a number in up to 19 digits, a truth, bytes, a text of visible ASCII between quotes
+/// without an escape, or `null`, then a space or a line feed. None where anything else stands
+/// there. Texts and bytes take memory.
+#[inline(always)]
+pub fn plain_value(
+    alloc: Global,
+    dtype: DType,
+    text: &[u8],
+) -> Result<Option<(Option<ScalarValue>, &[u8])>, AllocError>
+    ensures value { IfOk result (λ o. IfSome o
+        (λ x. BeginsValue dtype text.now x.0 x.1.now)) }
+    ensures shorter { IfOk result (λ o. IfSome o (λ x. length x.1.now < length text.now)) }
+{
+    if let DType::Primitive(_, _) = dtype {
+        return Ok(number_value(dtype, text));
+    }
+    if let [b' ', b'"', ..] = text {
+        quoted_value(alloc, dtype, text)
+    } else {
+        word_value(alloc, dtype, text)
     }
 }

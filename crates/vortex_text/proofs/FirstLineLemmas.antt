@@ -9,10 +9,9 @@ use Rattle.std.specs.Str.{IsAscii, is_utf8}
 use Rattle.std.specs.Str.Lines.{lines, lines_of_parts, strip_carriage_return}
 use Rattle.vortex_syntax.proofs.FirstLine.{ends, lines_of_parts-more}
 use Rattle.vortex_syntax.proofs.Spelling.{word_back}
-use Rattle.vortex_syntax.specs.Plain.{EndsWord, is_word_byte}
-use Rattle.vortex_syntax.specs.Spelling.{CanBeSpelled, IsParted}
-use Rattle.vortex_syntax.specs.Words.{Plain, words}
-use Rattle.vortex_text.specs.FirstLines.{is_line_byte}
+use Rattle.vortex_syntax.specs.Plain.{EndsWord, is_line_byte}
+use Rattle.vortex_syntax.specs.Spelling.{CanBeSpelled, IsParted, spelled}
+use Rattle.vortex_syntax.specs.Words.{Token, words}
 
 -- ---- lines
 
@@ -92,21 +91,6 @@ utf8_behind (b ∷ front) text clean = let (one, more) = and_parts _ _ clean in 
 
 -- ---- words
 
-no_spaces : (word : List ℕ) → list_all is_word_byte word ≡ true → AllByRecursion (λ c. c ≢ 32) word
-no_spaces [] plain = tt
-no_spaces (b ∷ word) plain =
-    let (one, more) = and_parts _ _ plain in
-    let first : is_word_byte b ≡ true = one in
-    let high : 34 < b = grind (arith, nat_tests, first) in
-    ((λ e. omega arith), no_spaces word more)
-
-pub is_spelled : (word : List ℕ) → list_all is_word_byte word ≡ true → 0 < length word → CanBeSpelled (Plain word)
-is_spelled [] plain some = omega arith
-is_spelled (b ∷ word) plain some =
-    let first : is_word_byte b ≡ true = (and_parts _ _ plain).0 in
-    let high : 34 < b = grind (arith, nat_tests, first) in
-    ((λ e. omega arith), no_spaces (b ∷ word) plain)
-
--- a plain word behind a space
-pub word_first : (word tail : List ℕ) → list_all is_word_byte word ≡ true → 0 < length word → IsParted tail → words (32 ∷ (word ++ tail)) ≡ Plain word ∷ words tail
-word_first word tail plain some parted = word_back (Plain word) tail (is_spelled word plain some) parted
+-- a word behind a space is the first
+pub word_first : (w : Token) (tail : List ℕ) → CanBeSpelled w → IsParted tail → words (32 ∷ (spelled w ++ tail)) ≡ w ∷ words tail
+word_first w tail can parted = word_back w tail can parted

@@ -11,14 +11,14 @@ use Rattle.std.specs.Str.{is_utf8}
 use Rattle.std.specs.Str.Lines.{lines}
 use Rattle.vortex_base.specs.Data.Columns.{ColumnData}
 use Rattle.vortex_base.specs.declared.scalar_value.ScalarValue.{ScalarValue}
-use Rattle.vortex_syntax.specs.Plain.{BeginsValue, EndsWord, is_word_byte}
-use Rattle.vortex_syntax.specs.Spelling.{IsParted}
+use Rattle.vortex_syntax.specs.Plain.{BeginsValue, EndsWord, is_line_byte}
+use Rattle.vortex_syntax.specs.Spelling.{CanBeSpelled, IsParted, spelled}
 use Rattle.vortex_syntax.specs.Values.{optional_value_of}
-use Rattle.vortex_syntax.specs.Words.{Plain, words}
+use Rattle.vortex_syntax.specs.Words.{Token, Plain, Quoted, Broken, words}
 use Rattle.vortex_text.proofs.ColumnLemmas.{row_more}
 use Rattle.vortex_text.proofs.FirstLineLemmas.{line_parted, lines_behind, lines_ended, parted_at, utf8_behind, word_first}
 use Rattle.vortex_text.specs.Columns.{behind, taken, with_value, with_values}
-use Rattle.vortex_text.specs.FirstLines.{BeginsRow, TakesValue, first_row, is_line_byte}
+use Rattle.vortex_text.specs.FirstLines.{BeginsRow, TakesValue, first_row}
 
 behind_nothing : (read : Option (List ColumnData)) → read ≡ behind [] read
 behind_nothing None = refl
@@ -28,39 +28,35 @@ behind_nothing (Some more) = refl
 pub row_begun : (cs : List ColumnData) (text : List ℕ) → BeginsRow cs cs text text 0
 row_begun cs text = record { front = []; split = refl; clean = refl; row = λ tail parted. behind_nothing (with_values cs (words tail)) }
 
-line_bytes : (word : List ℕ) → list_all is_word_byte word ≡ true → list_all is_line_byte word ≡ true
-line_bytes [] all = refl
-line_bytes (b ∷ word) all =
-    let (one, more) = and_parts _ _ all in
-    let first : is_word_byte b ≡ true = one in
-    let fine : is_line_byte b ≡ true = grind (arith, nat_tests, first) in
-    and_from _ _ fine (line_bytes word more)
-
-taken_plain : (c : ColumnData) (word tail : List ℕ) (v : Option ScalarValue) → list_all is_word_byte word ≡ true → 0 < length word → IsParted tail → optional_value_of c.dtype (Plain word) ≡ Some v
-    → taken c (words (32 ∷ (word ++ tail))) ≡ Some (with_value v c, words tail)
-taken_plain c word tail v plain some parted is = rw (word_first word tail plain some parted, is) refl
+taken_first : (c : ColumnData) (w : Token) (tail : List ℕ) (v : Option ScalarValue) → CanBeSpelled w → IsParted tail → optional_value_of c.dtype w ≡ Some v
+    → taken c (words (32 ∷ (spelled w ++ tail))) ≡ Some (with_value v c, words tail)
+taken_first c (Plain word) tail v can parted is = rw (word_first (Plain word) tail can parted, is) refl
+taken_first c (Quoted text) tail v can parted is = rw (word_first (Quoted text) tail can parted, is) refl
+taken_first c Broken tail v can parted is = absurd can
 
 -- a value in plain form with a space behind it is the first word's
 pub taken_in_line : (c : ColumnData) (line rest : List ℕ) (v : Option ScalarValue) → BeginsValue c.dtype line v rest → get_or rest 0 0 ≡ 32
     → taken c (words line) ≡ Some (with_value v c, words rest)
-taken_in_line c line rest v (word, split, plain, some, ends, value) space = rw split (taken_plain c word rest v plain some (parted_at rest space) value)
+taken_in_line c line rest v begins space = rw begins.split (taken_first c begins.word rest v begins.can (parted_at rest space) begins.value)
 
 -- one more column has a value
 pub row_one_more : (old cs : List ColumnData) (text rest after : List ℕ) (i : ℕ) (c new d : ColumnData) → i < length cs → c ≡ get_or cs i d → TakesValue c rest new after → BeginsRow old cs text rest i
     → BeginsRow old (set cs i new) text after (i + 1)
-row_one_more old cs text rest after i c new d within is (v, (word, split, plain, some, ends, value), made) so_far = record {
-  front = so_far.front ++ 32 ∷ word;
-  split = so_far.split ∙ ap (λ l. so_far.front ++ l) split ∙ sym (append_assoc so_far.front (32 ∷ word) after);
-  clean = list_all-append is_line_byte so_far.front (32 ∷ word) ∙ and_from _ _ so_far.clean (line_bytes word plain);
-  row = λ tail parted.
-      let took : taken c (words (32 ∷ (word ++ tail))) ≡ Some (new, words tail) = taken_plain c word tail v plain some parted value ∙ ap (λ x. Some (x, words tail)) (sym made) in
-      ap (λ l. with_values old (words l)) (append_assoc so_far.front (32 ∷ word) tail)
-      ∙ sym (row_more cs old i (words (32 ∷ (word ++ tail))) (words tail) (words (so_far.front ++ 32 ∷ (word ++ tail))) c new d within is took (sym (so_far.row (32 ∷ (word ++ tail)) refl)));
-}
+row_one_more old cs text rest after i c new d within is (v, begins, made) so_far =
+    let word = spelled begins.word in
+    record {
+      front = so_far.front ++ 32 ∷ word;
+      split = so_far.split ∙ ap (λ l. so_far.front ++ l) begins.split ∙ sym (append_assoc so_far.front (32 ∷ word) after);
+      clean = list_all-append is_line_byte so_far.front (32 ∷ word) ∙ and_from _ _ so_far.clean begins.in_line;
+      row = λ tail parted.
+          let took : taken c (words (32 ∷ (word ++ tail))) ≡ Some (new, words tail) = taken_first c begins.word tail v begins.can parted begins.value ∙ ap (λ x. Some (x, words tail)) (sym made) in
+          ap (λ l. with_values old (words l)) (append_assoc so_far.front (32 ∷ word) tail)
+          ∙ sym (row_more cs old i (words (32 ∷ (word ++ tail))) (words tail) (words (so_far.front ++ 32 ∷ (word ++ tail))) c new d within is took (sym (so_far.row (32 ∷ (word ++ tail)) refl)));
+    }
 
 -- what follows the value that a column took
 pub taken_ends : (c new : ColumnData) (text rest : List ℕ) → TakesValue c text new rest → EndsWord rest
-taken_ends c new text rest (v, (word, split, plain, some, ends, value), made) = ends
+taken_ends c new text rest (v, begins, made) = begins.ends
 
 read_first : (cs longer : List ColumnData) (l : List ℕ) (ls : List (List ℕ)) → is_utf8 l ≡ true → with_values cs (words l) ≡ Some longer → first_row cs (l ∷ ls) ≡ Some (longer, ls)
 read_first cs longer l ls utf8 read = rw (utf8, read) refl

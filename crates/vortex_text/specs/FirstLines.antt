@@ -1,11 +1,11 @@
 -- The first line of a text, and the lines after it.
-use Rattle.std.specs.Prelude.{◌≡◌, ◌&&◌, ◌||◌, ℕ, Bool, nat_le, nat_lt, List, [], ◌∷◌, ◌++◌, Option, None, Some, IsTrue, drop, is_some, option_map, take}
+use Rattle.std.specs.Prelude.{◌≡◌, ◌||◌, ℕ, Bool, List, [], ◌∷◌, ◌++◌, Option, None, Some, IsTrue, drop, is_some, option_map, take}
 use Rattle.std.specs.List.{list_all}
 use Rattle.std.specs.Str.{is_utf8}
 use Rattle.vortex_base.specs.Data.Columns.{ColumnData}
 use Rattle.vortex_base.specs.declared.scalar_value.ScalarValue.{ScalarValue}
 use Rattle.vortex_syntax.specs.Fails.{◌>>=◌}
-use Rattle.vortex_syntax.specs.Plain.{BeginsValue}
+use Rattle.vortex_syntax.specs.Plain.{BeginsValue, is_line_byte}
 use Rattle.vortex_syntax.specs.Spelling.{IsParted}
 use Rattle.vortex_syntax.specs.Words.{words}
 use Rattle.vortex_text.specs.Columns.{behind, with_value, with_values}
@@ -36,10 +36,6 @@ first_values r ls = do
   part ← r.current
   row ← first_row part.chunk.columns ls
   Some (record r { current = Some (record { chunk = record { scope = part.chunk.scope; columns = row.0 }; stats = part.stats }) }, row.1)
-
--- a byte that ends no line, and is ASCII
-abbrev pub is_line_byte : ℕ → Bool
-is_line_byte b = nat_le 32 b && nat_lt b 127
 
 -- the column takes a value in plain form at the front of a text, and what follows that is the rest
 abbrev pub TakesValue : ColumnData → List ℕ → ColumnData → List ℕ → Type 0

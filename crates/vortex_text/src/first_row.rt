@@ -14,6 +14,7 @@ use vortex_syntax::lines::{is_utf8, next_line};
 // Gives columns the values in plain form at the front of a text, as far as those go: how many
 // columns have one, and what follows.
 fn take_plain<'a>(
+    alloc: Global,
     columns: &mut [OpenColumn],
     text: &'a [u8],
 ) -> Result<(usize, &'a [u8]), AllocError>
@@ -26,7 +27,7 @@ fn take_plain<'a>(
     let mut rest = text;
     let mut count = 0;
     for column in columns.iter_mut() {
-        match column.take_plain(rest)? {
+        match column.take_plain(alloc, rest)? {
             Some(after) => rest = after,
             None => return Ok((count, rest)),
         }
@@ -48,7 +49,7 @@ pub fn push_first_row<'a>(
         (first_row columns.old (lines text.now)) columns.new }
     ensures shorter { IfOk result (λ rest. length rest.now < length text.now) }
 {
-    let (count, rest) = take_plain(columns, text)?;
+    let (count, rest) = take_plain(alloc, columns, text)?;
     if count == columns.len() {
         if let [b'\n', after @ ..] = rest {
             return Ok(after);

@@ -87,7 +87,7 @@ impl OpenColumn {
         ensures { GivesAndChanges (λ rest. words rest.now) result
             (taken self.old (words line.now)) self.new }
     {
-        if let Some((value, rest)) = plain_value(self.dtype, line) {
+        if let Some((value, rest)) = plain_value(alloc, self.dtype, line)? {
             if let [b' ', ..] = rest {
                 self.push(value)?;
                 return Ok(rest);
@@ -99,13 +99,17 @@ impl OpenColumn {
     // Adds the value in plain form that a text begins with, behind a space. The text after it comes
     // back, or none where anything else stands there.
     #[inline(always)]
-    pub fn take_plain<'a>(&mut self, text: &'a [u8]) -> Result<Option<&'a [u8]>, AllocError>
+    pub fn take_plain<'a>(
+        &mut self,
+        alloc: Global,
+        text: &'a [u8],
+    ) -> Result<Option<&'a [u8]>, AllocError>
         ensures taken { IfOk result (λ o. MatchOption o (self.new ≡ self.old)
             (λ rest. TakesValue self.old text.now self.new rest.now)) }
         ensures shorter { IfOk result (λ o. IfSome o
             (λ rest. length rest.now < length text.now)) }
     {
-        let Some((value, rest)) = plain_value(self.dtype, text) else {
+        let Some((value, rest)) = plain_value(alloc, self.dtype, text)? else {
             return Ok(None);
         };
         self.push(value)?;

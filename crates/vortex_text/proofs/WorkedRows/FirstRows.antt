@@ -8,7 +8,7 @@ use Rattle.vortex_base.specs.declared.pvalue.PValue.TheVariants as number
 use Rattle.vortex_base.specs.declared.scalar_value.ScalarValue.TheVariants as value
 use Rattle.vortex_base.specs.declared.types.Nullability.TheVariants.{NonNullable, Nullable}
 use Rattle.vortex_base.specs.declared.types.PType.TheVariants as ptype
-use Rattle.vortex_text.specs.FirstLines.{first_read, first_row, first_values, is_line_byte, may_take}
+use Rattle.vortex_text.specs.FirstLines.{first_read, first_row, first_values, may_take}
 use Rattle.vortex_text.specs.Lines.{Reading, nothing_read}
 use Rattle.vortex_text.specs.Rows.{empty_part}
 
@@ -70,15 +70,3 @@ column_line_takes = refl
 bad_line_takes_none : may_take nothing_read (lines (codes "x\n")) ≡ false
 unfolding is_utf8 chars lib.Utf8.encode
 bad_line_takes_none = refl
-
-first_line_byte : is_line_byte 32 ≡ true
-first_line_byte = refl
-
-line_feed_is_none : is_line_byte 10 ≡ false
-line_feed_is_none = refl
-
-carriage_return_is_none : is_line_byte 13 ≡ false
-carriage_return_is_none = refl
-
-other_byte_is_none : is_line_byte 128 ≡ false
-other_byte_is_none = refl

@@ -93,7 +93,8 @@ fn rows_with_other_ends_and_bytes(rt: HostRuntime) -> Result<(), Fail> {
     expect_reply(&rt, alloc, broken, 2, "line 4: bad\n")
 }
 
-// Columns of numbers around one of texts, whose words the other reader reads from there on.
+// Columns of numbers around one of texts. What isn't in plain form is read word by word, and so is
+// what stands behind it.
 #[test]
 fn numbers_before_and_behind_a_text(rt: HostRuntime) -> Result<(), Fail> {
     let front = "column a i64\ncolumn s utf8?\ncolumn c u16?\npart\n";
@@ -127,7 +128,7 @@ fn plain_rows_out_of_order(rt: HostRuntime) -> Result<(), Fail> {
 const BEHIND_TEXTS: &str =
     "column t utf8\ncolumn a i64?\ncolumn u utf8?\ncolumn b u8\ncolumn c i32?\npart\n";
 
-// From the first text on a row is read word by word, its numbers straight from their bytes.
+// Texts in plain form among numbers that are and aren't.
 #[test]
 fn numbers_behind_texts(rt: HostRuntime) -> Result<(), Fail> {
     let cases = "
@@ -149,4 +150,76 @@ fn numbers_behind_texts(rt: HostRuntime) -> Result<(), Fail> {
         row \"x\" 1 \"y\" 2 3 4 => line 7: bad
     ";
     expect_each(&rt, rt.alloc(), BEHIND_TEXTS, cases)
+}
+
+const MIXED: &str = "column s utf8?\ncolumn t bool?\ncolumn x binary?\ncolumn n u8\npart\n";
+
+// Texts, truths and bytes in plain form, and in the spellings that only the reader of words takes.
+#[test]
+fn texts_truths_and_bytes_in_each_spelling(rt: HostRuntime) -> Result<(), Fail> {
+    let cases = "
+        row \"a b\" true x0aFf 1 / row  \"a b\"  true  x0AfF  1 / row \"a b\" false x0aff 1 \r
+        where eq col s lit utf8 \"a b\" => skipped / rows 0:0 0:1 0:2
+        row \"\" true x 1 / row \"a\" true x00 1 / where eq col s lit utf8 \"\" => skipped / rows 0:0
+        row \"\" true x 1 / row \"a\" true x00 1
+        where eq col x lit binary x => skipped / rows 0:0
+        row \"~ !#[]\" false x 1 / row \"~\" true x 1
+        where eq col s lit utf8 \"~ !#[]\" => skipped / rows 0:0
+        row \"a\\\"b\" true x 1 / row \"a\\\\b\" true x 1 / row \"ab\" true x 1
+        where eq col s lit utf8 \"a\\\"b\" => skipped / rows 0:0
+        row \"a\\\\b\" true x 1 / row \"ab\" true x 1
+        where eq col s lit utf8 \"a\\\\b\" => skipped / rows 0:0
+        row \"\u{e9}\" true x 1 / row \"e\" true x 1 / row \"a\u{e9}\" false x 1
+        where eq col s lit utf8 \"\u{e9}\" => skipped / rows 0:0
+        row \"a\tb\" true x 1 / row \"ab\" true x 1
+        where eq col s lit utf8 \"a\tb\" => skipped / rows 0:0
+        row \"null\" null null 1 / row null true x 1
+        where isnull col s => skipped / rows 0:1
+        row \"null\" null null 1 / row null true x 1
+        where isnull col t => skipped / rows 0:0
+        row \"null\" null null 1 / row null true x 1
+        where notnull col x => skipped / rows 0:1
+        row \"a\" true x 1 / row \"a\" false x 1 / row \"a\" null x 1
+        where col t => skipped / rows 0:0
+    ";
+    expect_each(&rt, rt.alloc(), MIXED, cases)
+}
+
+#[test]
+fn words_that_are_no_texts_truths_or_bytes(rt: HostRuntime) -> Result<(), Fail> {
+    let cases = "
+        row a true x 1 => line 6: bad
+        row \"a true x 1 => line 6: bad
+        row \"a\"b true x 1 => line 6: bad
+        row \"a\\n\" true x 1 => line 6: bad
+        row \"a\"\ttrue x 1 => line 6: bad
+        row 1 true x 1 => line 6: bad
+        row nul true x 1 => line 6: bad
+        row \"a\" True x 1 => line 6: bad
+        row \"a\" tru x 1 => line 6: bad
+        row \"a\" truer x 1 => line 6: bad
+        row \"a\" 1 x 1 => line 6: bad
+        row \"a\" \"true\" x 1 => line 6: bad
+        row \"a\" true 00 1 => line 6: bad
+        row \"a\" true x0 1 => line 6: bad
+        row \"a\" true x0g 1 => line 6: bad
+        row \"a\" true X00 1 => line 6: bad
+        row \"a\" true \"x00\" 1 => line 6: bad
+        row \"a\" true x00\"1 1 => line 6: bad
+        row \"a\" true x00\u{e9} 1 => line 6: bad
+        row \"a\" true x null => line 6: bad
+        row \"a\" true x \"1\" => line 6: bad
+        row \"a\" true x => line 6: bad
+        row \"a\" true => line 6: bad
+        row \"a\" => line 6: bad
+        row \"a\" true x 1 \"b\" => line 6: bad
+    ";
+    expect_each(&rt, rt.alloc(), MIXED, cases)?;
+    let alloc = rt.alloc();
+    let broken = b"column s utf8\npart\nrow \"a\"\nrow \"\xff\"\n";
+    expect_reply(&rt, alloc, broken, 2, "line 4: bad\n")?;
+    let broken = b"column s utf8\npart\nrow \"a\"\nrow \"a\" \xff\nrow \"a\"\n";
+    expect_reply(&rt, alloc, broken, 2, "line 4: bad\n")?;
+    let front = "column s utf8\npart\nrow \"a\"\nrow \"b\"";
+    expect_answer(&rt, alloc, front, 2, "line 5: bad\n")
 }
