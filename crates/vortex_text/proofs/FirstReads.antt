@@ -10,11 +10,12 @@ use Rattle.vortex_base.specs.Data.Columns.{ColumnData}
 use Rattle.vortex_base.specs.Data.Scopes.{Named}
 use Rattle.vortex_prune.specs.Part.{PartData}
 use Rattle.vortex_syntax.proofs.FirstLine.{ends, lines_of_parts-more}
+use Rattle.vortex_syntax.proofs.PlainLemmas.{is_spelled}
 use Rattle.vortex_syntax.proofs.Spelling.{word_back}
 use Rattle.vortex_syntax.specs.Plain.{EndsWord}
 use Rattle.vortex_syntax.specs.Words.{Plain, words}
 use Rattle.vortex_text.proofs.Fitting.LineFits.{line_fits}
-use Rattle.vortex_text.proofs.FirstLineLemmas.{is_spelled, line_parted, one_line, lines_behind, utf8_behind}
+use Rattle.vortex_text.proofs.FirstLineLemmas.{line_parted, one_line, lines_behind, utf8_behind}
 use Rattle.vortex_text.proofs.MemoryLemmas.{taken_in}
 use Rattle.vortex_text.specs.Blocks.{BeginsBad}
 use Rattle.vortex_text.specs.Columns.{with_values}

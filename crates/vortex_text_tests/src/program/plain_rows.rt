@@ -160,7 +160,8 @@ fn texts_truths_and_bytes_in_each_spelling(rt: HostRuntime) -> Result<(), Fail> 
     let cases = "
         row \"a b\" true x0aFf 1 / row  \"a b\"  true  x0AfF  1 / row \"a b\" false x0aff 1 \r
         where eq col s lit utf8 \"a b\" => skipped / rows 0:0 0:1 0:2
-        row \"\" true x 1 / row \"a\" true x00 1 / where eq col s lit utf8 \"\" => skipped / rows 0:0
+        row \"\" true x 1 / row \"a\" true x00 1
+        where eq col s lit utf8 \"\" => skipped / rows 0:0
         row \"\" true x 1 / row \"a\" true x00 1
         where eq col x lit binary x => skipped / rows 0:0
         row \"~ !#[]\" false x 1 / row \"~\" true x 1
