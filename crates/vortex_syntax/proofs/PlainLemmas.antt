@@ -165,6 +165,30 @@ value_in_word t text behind word rest v is begins ends value = record {
   value = value;
 }
 
+-- a word that is known
+pub value_of_word : (t : DType) (text word rest : List ℕ) (v : Option ScalarValue) → text ≡ 32 ∷ (word ++ rest) → list_all is_word_byte word ≡ true → 0 < length word → EndsWord rest → optional_value_of t (Plain word) ≡ Some v
+    → BeginsValue t text v rest
+value_of_word t text word rest v is plain some ends value = value_in_word t text (word ++ rest) word rest v is (record { split = refl; some = some; is_plain = plain }) ends value
+
+pub true_front : (text : List ℕ) → 5 ≤ length text → get_or text 0 0 ≡ 32 → get_or text 1 0 ≡ 116 → get_or text 2 0 ≡ 114 → get_or text 3 0 ≡ 117 → get_or text 4 0 ≡ 101
+    → text ≡ 32 ∷ (codes "true" ++ take (length text - 5) (drop 5 text))
+true_front [] long z a b c d = absurd (omega arith)
+true_front (x ∷ []) long z a b c d = absurd (omega arith)
+true_front (x ∷ y ∷ []) long z a b c d = absurd (omega arith)
+true_front (x ∷ y ∷ p ∷ []) long z a b c d = absurd (omega arith)
+true_front (x ∷ y ∷ p ∷ q ∷ []) long z a b c d = absurd (omega arith)
+true_front (x ∷ y ∷ p ∷ q ∷ r ∷ text) long z a b c d = rw (z, a, b, c, d) (ap (λ w. 32 ∷ (codes "true" ++ w)) (sym (take_rest (x ∷ y ∷ p ∷ q ∷ r ∷ text) 5)))
+
+pub false_front : (text : List ℕ) → 6 ≤ length text → get_or text 0 0 ≡ 32 → get_or text 1 0 ≡ 102 → get_or text 2 0 ≡ 97 → get_or text 3 0 ≡ 108 → get_or text 4 0 ≡ 115 → get_or text 5 0 ≡ 101
+    → text ≡ 32 ∷ (codes "false" ++ take (length text - 6) (drop 6 text))
+false_front [] long z a b c d e = absurd (omega arith)
+false_front (x ∷ []) long z a b c d e = absurd (omega arith)
+false_front (x ∷ y ∷ []) long z a b c d e = absurd (omega arith)
+false_front (x ∷ y ∷ p ∷ []) long z a b c d e = absurd (omega arith)
+false_front (x ∷ y ∷ p ∷ q ∷ []) long z a b c d e = absurd (omega arith)
+false_front (x ∷ y ∷ p ∷ q ∷ r ∷ []) long z a b c d e = absurd (omega arith)
+false_front (x ∷ y ∷ p ∷ q ∷ r ∷ s ∷ text) long z a b c d e = rw (z, a, b, c, d, e) (ap (λ w. 32 ∷ (codes "false" ++ w)) (sym (take_rest (x ∷ y ∷ p ∷ q ∷ r ∷ s ∷ text) 6)))
+
 -- ---- texts between quotes
 
 not_quoted : (b : ℕ) → is_text_byte b ≡ true → (is_line_byte b ≡ true) × ((b == 34 || b == 92) ≡ false)

@@ -1,6 +1,10 @@
 //! Values in plain form, read straight from the bytes of a text, whose line isn't cut out before.
 //! What isn't in this form is left to the reader of words, by which each form here is specified.
-ghost use Rattle.std.specs.Prelude.{◌≡◌, ◌<◌, neg_ℤ, not, pos, position, IfOk, IfSome, IsTrue, length};
+ghost use Rattle.std.specs.Prelude.{◌≡◌, ◌<◌, neg_ℤ, not, option_map, pos, position, IfOk, IfSome, IsTrue, Some, length};
+ghost use Rattle.vortex_base.specs.Data.Cells.{short_value};
+ghost use Rattle.vortex_base.specs.declared.dtype.DType.TheVariants as dtype;
+ghost use Rattle.vortex_base.specs.declared.scalar_value.ScalarValue.TheVariants as value;
+ghost use Rattle.vortex_base.specs.declared.types.Nullability.{Nullability};
 ghost use Rattle.vortex_syntax.specs.Numbers.{in_64_bits_signed};
 ghost use Rattle.vortex_syntax.specs.Plain.{BeginsNatural, BeginsNumber, BeginsQuoted, BeginsSigned, BeginsValue, BeginsWord, EndsWord};
 ghost use Rattle.vortex_syntax.specs.Plain as spec;
@@ -11,6 +15,7 @@ use crate::value::optional_value_of;
 use crate::word::Word;
 use std::alloc::{AllocError, Global};
 use std::str;
+use vortex_base::cells::ShortCell;
 use vortex_base::dtype::DType;
 use vortex_base::pvalue::PValue;
 use vortex_base::scalar_value::ScalarValue;
@@ -160,8 +165,9 @@ fn quoted(text: &[u8]) -> Option<(&str, &[u8])>
 
 // The number behind a space at the front of a text, or null, and what follows it.
 #[inline(always)]
-fn number_value(dtype: DType, text: &[u8]) -> Option<(Option<ScalarValue>, &[u8])>
-    ensures value { IfSome result (λ x. BeginsValue dtype text.now x.0 x.1.now) }
+fn number_or_null(dtype: DType, text: &[u8]) -> Option<(Option<PValue>, &[u8])>
+    ensures value { IfSome result (λ x.
+        BeginsValue dtype text.now (option_map value.Primitive x.0) x.1.now) }
     ensures shorter { IfSome result (λ x. length x.1.now < length text.now) }
 {
     let [b' ', word @ ..] = text else {
@@ -178,9 +184,63 @@ fn number_value(dtype: DType, text: &[u8]) -> Option<(Option<ScalarValue>, &[u8]
     }
     let (number, rest) = number(ptype, word)?;
     if ends_word(rest) {
-        Some((Some(ScalarValue::Primitive(number)), rest))
+        Some((Some(number), rest))
     } else {
         None
+    }
+}
+
+// The same as an optional value.
+#[inline(always)]
+fn number_value(dtype: DType, text: &[u8]) -> Option<(Option<ScalarValue>, &[u8])>
+    ensures value { IfSome result (λ x. BeginsValue dtype text.now x.0 x.1.now) }
+    ensures shorter { IfSome result (λ x. length x.1.now < length text.now) }
+{
+    match number_or_null(dtype, text)? {
+        (Some(number), rest) => Some((Some(ScalarValue::Primitive(number)), rest)),
+        (None, rest) => Some((None, rest)),
+    }
+}
+
+// The truth behind a space at the front of a text, and what follows it.
+#[inline(always)]
+fn truth(text: &[u8]) -> Option<(bool, &[u8])>
+    ensures value { IfSome result (λ x. (n : Nullability)
+        → BeginsValue (dtype.Bool n) text.now (Some (value.Bool x.0)) x.1.now) }
+    ensures shorter { IfSome result (λ x. length x.1.now < length text.now) }
+{
+    if let [b' ', b't', b'r', b'u', b'e', rest @ ..] = text {
+        if ends_word(rest) {
+            return Some((true, rest));
+        }
+    }
+    if let [b' ', b'f', b'a', b'l', b's', b'e', rest @ ..] = text {
+        if ends_word(rest) {
+            return Some((false, rest));
+        }
+    }
+    None
+}
+
+/// The cell of the truth, the number or the null of a type that stands behind one space at the
+/// front of a text, as `plain_value` reads it, and what follows it. None where anything else stands
+/// there; a null is read of numbers alone.
+#[inline(always)]
+pub fn plain_cell(dtype: DType, text: &[u8]) -> Option<(ShortCell, &[u8])>
+    ensures value { IfSome result (λ x.
+        BeginsValue dtype text.now (short_value x.0) x.1.now) }
+    ensures shorter { IfSome result (λ x. length x.1.now < length text.now) }
+{
+    match dtype {
+        DType::Primitive(_, _) => match number_or_null(dtype, text)? {
+            (Some(number), rest) => Some((ShortCell::of_number(number), rest)),
+            (None, rest) => Some((ShortCell::Null, rest)),
+        },
+        DType::Bool(_) => {
+            let (truth, rest) = truth(text)?;
+            Some((ShortCell::Bool(truth), rest))
+        }
+        _ => None,
     }
 }
 

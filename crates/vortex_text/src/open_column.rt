@@ -14,7 +14,7 @@ use vortex_base::dtype::DType;
 use vortex_base::scalar_value::ScalarValue;
 use vortex_syntax::expected::Expected;
 use vortex_syntax::line_error::LineError;
-use vortex_syntax::plain::plain_value;
+use vortex_syntax::plain::{plain_cell, plain_value};
 use vortex_syntax::value::optional_value_of;
 use vortex_syntax::word::{first_word, no_word};
 
@@ -98,8 +98,8 @@ impl OpenColumn {
 
     // Adds the value in plain form that a text begins with, behind a space. The text after it comes
     // back, or none where anything else stands there.
-    #[inline(always)]
-    pub fn take_plain<'a>(
+    #[inline(never)]
+    fn take_value<'a>(
         &mut self,
         alloc: Global,
         text: &'a [u8],
@@ -114,6 +114,27 @@ impl OpenColumn {
         };
         self.push(value)?;
         Ok(Some(rest))
+    }
+
+    // The same. The cell of a truth or a number is made from the bytes.
+    #[inline(always)]
+    pub fn take_plain<'a>(
+        &mut self,
+        alloc: Global,
+        text: &'a [u8],
+    ) -> Result<Option<&'a [u8]>, AllocError>
+        ensures taken { IfOk result (λ o. MatchOption o (self.new ≡ self.old)
+            (λ rest. TakesValue self.old text.now self.new rest.now)) }
+        ensures shorter { IfOk result (λ o. IfSome o
+            (λ rest. length rest.now < length text.now)) }
+    {
+        if let Cells::Short(cells) = &mut self.cells {
+            if let Some((cell, rest)) = plain_cell(self.dtype, text) {
+                cells.push(cell)?;
+                return Ok(Some(rest));
+            }
+        }
+        self.take_value(alloc, text)
     }
 }
 

@@ -1,7 +1,7 @@
 use Rattle.std.proofs.Common.{◌≡◌, length, take, drop, get_or, refl, ap, sym, ◌∙◌, arith, ◌-◌}
 use Rattle.vortex_base.specs.Data.Types.{is_nullable}
 use Rattle.vortex_syntax.proofs.PlainLemmas.{uncons, value_null_at, value_number}
-use Rattle.vortex_syntax.proofs.plain.number_value.Goals as goal
+use Rattle.vortex_syntax.proofs.plain.number_or_null.Goals as goal
 
 pub returns-then-ends_word-clause-value : goal.returns-then-ends_word-clause-value
 returns-then-ends_word-clause-value c =
