@@ -23,7 +23,7 @@ use Rattle.vortex_base.specs.declared.types.PType.{PType}
 use Rattle.vortex_base.specs.declared.types.PType.TheVariants as ptype
 use Rattle.vortex_syntax.proofs.NumberLemmas.{all_push, digit_is}
 use Rattle.vortex_syntax.proofs.Spelling.{quotes_open}
-use Rattle.vortex_syntax.specs.Numbers.{in_64_bits_signed, in_type, number_of, whole_of}
+use Rattle.vortex_syntax.specs.Numbers.{four_value, in_64_bits_signed, in_type, number_of, whole_of}
 use Rattle.vortex_syntax.specs.Plain.{BeginsNatural, BeginsNumber, BeginsQuoted, BeginsSigned, BeginsValue, BeginsWord, EndsWord, is_line_byte, is_text_byte, is_word_byte}
 use Rattle.vortex_syntax.specs.Spelling.{CanBeSpelled, spelled_byte}
 use Rattle.vortex_syntax.specs.Values.{optional_value_of}
@@ -49,6 +49,34 @@ digits_more text (d ∷ rest) n m so_far some digit is = record {
   all = all_push so_far.digits d so_far.all digit;
   value = digits_value_push 10 so_far.digits d ∙ omega (arith, digit_is d digit, so_far.value, is);
 }
+
+digits_push : (text after : List ℕ) (d n : ℕ) → BeginsDigits text n (d ∷ after) → is_ascii_digit d ≡ true → BeginsDigits text (n * 10 + (d - 48)) after
+digits_push text after d n so_far digit = record {
+  digits = so_far.digits ++ d ∷ [];
+  split = so_far.split ∙ sym (append_assoc so_far.digits (d ∷ []) after);
+  all = all_push so_far.digits d so_far.all digit;
+  value = digits_value_push 10 so_far.digits d ∙ omega (arith, digit_is d digit, so_far.value);
+}
+
+-- four more digits
+pub digits_four : (text rest : List ℕ) (n m : ℕ) → BeginsDigits text n rest → 4 ≤ length rest → all_ascii_digits (get_or rest 0 0 ∷ get_or rest 1 0 ∷ get_or rest 2 0 ∷ get_or rest 3 0 ∷ []) ≡ true
+    → m ≡ four_value (get_or rest 0 0) (get_or rest 1 0) (get_or rest 2 0) (get_or rest 3 0)
+    → BeginsDigits text (n * 10000 + m) (take (length rest - 4) (drop 4 rest))
+digits_four text [] n m so_far long all is = absurd (omega arith)
+digits_four text (a ∷ []) n m so_far long all is = absurd (omega arith)
+digits_four text (a ∷ b ∷ []) n m so_far long all is = absurd (omega arith)
+digits_four text (a ∷ b ∷ c ∷ []) n m so_far long all is = absurd (omega arith)
+digits_four text (a ∷ b ∷ c ∷ d ∷ rest) n m so_far long all is =
+    let (first, all_1) = and_parts _ _ all in
+    let (second, all_2) = and_parts _ _ all_1 in
+    let (third, all_3) = and_parts _ _ all_2 in
+    let (fourth, none) = and_parts _ _ all_3 in
+    let one = digits_push text (b ∷ c ∷ d ∷ rest) a n so_far first in
+    let two = digits_push text (c ∷ d ∷ rest) b (n * 10 + (a - 48)) one second in
+    let three = digits_push text (d ∷ rest) c ((n * 10 + (a - 48)) * 10 + (b - 48)) two third in
+    let four = digits_push text rest d (((n * 10 + (a - 48)) * 10 + (b - 48)) * 10 + (c - 48)) three fourth in
+    let same : (((n * 10 + (a - 48)) * 10 + (b - 48)) * 10 + (c - 48)) * 10 + (d - 48) ≡ n * 10000 + m = omega (arith, is) in
+    subst (λ l. BeginsDigits text (n * 10000 + m) l) (sym (take_rest (a ∷ b ∷ c ∷ d ∷ rest) 4)) (subst (λ k. BeginsDigits text k rest) same four)
 
 word_digits : (ds : List ℕ) → all_ascii_digits ds ≡ true → list_all is_word_byte ds ≡ true
 word_digits [] all = refl

@@ -1,11 +1,12 @@
 //! Values in plain form, read straight from the bytes of a text, whose line isn't cut out before.
 //! What isn't in this form is left to the reader of words, by which each form here is specified.
-ghost use Rattle.std.specs.Prelude.{◌≡◌, ◌<◌, neg_ℤ, not, option_map, pos, position, IfOk, IfSome, IsTrue, Some, length};
+ghost use Rattle.std.specs.Prelude.{◌≡◌, ◌<◌, ◌∷◌, [], neg_ℤ, not, option_map, pos, position, IfOk, IfSome, IsTrue, Some, length};
 ghost use Rattle.vortex_base.specs.Data.Cells.{short_value};
 ghost use Rattle.vortex_base.specs.declared.dtype.DType.TheVariants as dtype;
 ghost use Rattle.vortex_base.specs.declared.scalar_value.ScalarValue.TheVariants as value;
 ghost use Rattle.vortex_base.specs.declared.types.Nullability.{Nullability};
-ghost use Rattle.vortex_syntax.specs.Numbers.{in_64_bits_signed};
+ghost use Rattle.std.specs.Str.{all_ascii_digits};
+ghost use Rattle.vortex_syntax.specs.Numbers.{four_value, in_64_bits_signed};
 ghost use Rattle.vortex_syntax.specs.Plain.{BeginsNatural, BeginsNumber, BeginsQuoted, BeginsSigned, BeginsValue, BeginsWord, EndsWord};
 ghost use Rattle.vortex_syntax.specs.Plain as spec;
 
@@ -25,6 +26,24 @@ use vortex_base::types::PType;
 // A number up to this one stays below 2 to the 64th with one more digit.
 const MOST: u64 = 1_844_674_407_370_955_160;
 
+// And one up to this with four more.
+const MOST_BEFORE_FOUR: u64 = 1_844_674_407_370_954;
+
+// The number that four bytes write, if they are digits.
+#[inline(always)]
+fn four_digits(a: u8, b: u8, c: u8, d: u8) -> Option<u64>
+    ensures digits { IfSome result (λ _. IsTrue (all_ascii_digits (a ∷ b ∷ c ∷ d ∷ []))) }
+    ensures number { IfSome result (λ n. n ≡ four_value a b c d) }
+    ensures below { IfSome result (λ n. n < 10000) }
+{
+    if !(a.is_ascii_digit() && b.is_ascii_digit() && c.is_ascii_digit() && d.is_ascii_digit()) {
+        return None;
+    }
+    let high = u64::from(a - b'0') * 10 + u64::from(b - b'0');
+    let low = u64::from(c - b'0') * 10 + u64::from(d - b'0');
+    Some(high * 100 + low)
+}
+
 // The number that the digits at the front of a text write, and what follows them. None where there
 // are no digits or many.
 #[inline(always)]
@@ -34,6 +53,16 @@ fn natural(text: &[u8]) -> Option<(u64, &[u8])>
 {
     let mut number: u64 = 0;
     let mut rest = text;
+    'fours: while let [a, b, c, d, after @ ..] = rest {
+        if number > MOST_BEFORE_FOUR {
+            break;
+        }
+        let Some(four) = four_digits(*a, *b, *c, *d) else {
+            break;
+        };
+        number = number * 10_000 + four;
+        rest = after;
+    }
     'digits: while let [digit, after @ ..] = rest {
         let digit = *digit;
         if !digit.is_ascii_digit() {

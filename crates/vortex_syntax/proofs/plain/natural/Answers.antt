@@ -1,11 +1,18 @@
 use Rattle.std.proofs.Common.{◌≡◌, ◌≤◌, true, get_or, sym, ◌∙◌, arith}
 use Rattle.std.proofs.lemmas.Bool.Decides.{nat_tests}
 use Rattle.std.specs.Char.{is_ascii_digit}
-use Rattle.vortex_syntax.proofs.PlainLemmas.{digits_more, digits_none, natural_begins}
+use Rattle.vortex_syntax.proofs.PlainLemmas.{digits_four, digits_more, digits_none, natural_begins}
 use Rattle.vortex_syntax.proofs.plain.natural.Goals as goal
 
-pub digits-init : goal.digits-init
-digits-init c = record { read = digits_none c.args.text.now; shorter = omega arith }
+pub fours-init : goal.fours-init
+fours-init c = record { read = digits_none c.args.text.now; shorter = omega arith }
+
+pub fours-preserved : goal.fours-preserved
+fours-preserved c =
+    record {
+      read = digits_four c.args.text.now c.fours.rest.now c.fours.number c.in-Some.four c.fours.invariant.read (omega arith) c.in-Some.ensures.digits c.in-Some.ensures.number;
+      shorter = grind arith;
+    }
 
 pub digits-preserved : goal.digits-preserved
 digits-preserved c =
