@@ -14,6 +14,8 @@ use Rattle.std.specs.Str.Parse.{digits_value}
 use Rattle.vortex_base.specs.Data.Values.{greatest, least}
 use Rattle.vortex_base.specs.declared.dtype.DType.{DType}
 use Rattle.vortex_base.specs.Data.Types.{is_nullable}
+use Rattle.vortex_base.specs.Data.Cells.{short_value}
+use Rattle.vortex_base.specs.declared.cells.ShortCell.{ShortCell}
 use Rattle.vortex_base.specs.declared.dtype.DType.TheVariants as dtype
 use Rattle.vortex_base.specs.declared.pvalue.PValue.{PValue}
 use Rattle.vortex_base.specs.declared.scalar_value.ScalarValue.{ScalarValue}
@@ -24,7 +26,7 @@ use Rattle.vortex_base.specs.declared.types.PType.TheVariants as ptype
 use Rattle.vortex_syntax.proofs.NumberLemmas.{all_push, digit_is}
 use Rattle.vortex_syntax.proofs.Spelling.{quotes_open}
 use Rattle.vortex_syntax.specs.Numbers.{four_value, in_64_bits_signed, in_type, number_of, whole_of}
-use Rattle.vortex_syntax.specs.Plain.{BeginsNatural, BeginsNumber, BeginsQuoted, BeginsSigned, BeginsValue, BeginsWord, EndsWord, is_line_byte, is_text_byte, is_word_byte}
+use Rattle.vortex_syntax.specs.Plain.{BeginsNatural, BeginsQuoted, BeginsSigned, BeginsValue, BeginsWhole, BeginsWord, EndsWord, is_line_byte, is_text_byte, is_word_byte}
 use Rattle.vortex_syntax.specs.Spelling.{CanBeSpelled, spelled_byte}
 use Rattle.vortex_syntax.specs.Values.{optional_value_of}
 use Rattle.vortex_syntax.specs.Words.{Plain, Quoted}
@@ -271,9 +273,19 @@ not_null p n word v is = elim (cases_Bool (bytes_eq word (codes "null"))) [
   | inr other ↦ rw other (ap (λ o. option_map (λ x. Some x) (option_map (λ x. value.Primitive x) o)) is)
 ]
 
--- a number behind a space
-pub value_number : (p : PType) (n : Nullability) (text behind rest : List ℕ) (v : PValue) → text ≡ 32 ∷ behind → BeginsNumber p behind v rest → EndsWord rest → BeginsValue (dtype.Primitive p n) text (Some (value.Primitive v)) rest
-value_number p n text behind rest v is (word, begins, number) ends = value_in_word (dtype.Primitive p n) text behind word rest (Some (value.Primitive v)) is begins ends (not_null p n word v number)
+cell_value : (p : PType) (z : ℤ) (cell : ShortCell) → option_map short_value (Some cell) ≡ option_map (λ n. Some (value.Primitive n)) (in_type p z) → (v : PValue) × (in_type p z ≡ Some v) × (short_value cell ≡ Some (value.Primitive v))
+cell_value p z cell same = by (in_type p z) refl
+  where
+    by : (o : Option PValue) → in_type p z ≡ o → (v : PValue) × (in_type p z ≡ Some v) × (short_value cell ≡ Some (value.Primitive v))
+    by None none = let h = rw none at same in cc
+    by (Some v) is = let h = rw is at same in (v, is, cc)
+
+-- the cell of a number behind a space
+pub value_cell : (p : PType) (n : Nullability) (text behind rest : List ℕ) (z : ℤ) (cell : ShortCell) → text ≡ 32 ∷ behind → BeginsWhole p behind z rest → EndsWord rest
+    → option_map short_value (Some cell) ≡ option_map (λ v. Some (value.Primitive v)) (in_type p z) → BeginsValue (dtype.Primitive p n) text (short_value cell) rest
+value_cell p n text behind rest z cell is (word, begins, whole) ends same =
+    let (v, held, made) = cell_value p z cell same in
+    rw made (value_in_word (dtype.Primitive p n) text behind word rest (Some (value.Primitive v)) is begins ends (not_null p n word v (ap (option_and_then (in_type p)) whole ∙ held)))
 
 -- null, where the type has it
 pub value_null_at : (t : DType) (text word : List ℕ) → word ≡ take (length text - 1) (drop 1 text) → is_nullable t ≡ true → 1 ≤ length text → get_or text 0 0 ≡ 32

@@ -6,19 +6,18 @@ ghost use Rattle.vortex_base.specs.declared.dtype.DType.TheVariants as dtype;
 ghost use Rattle.vortex_base.specs.declared.scalar_value.ScalarValue.TheVariants as value;
 ghost use Rattle.vortex_base.specs.declared.types.Nullability.{Nullability};
 ghost use Rattle.std.specs.Str.{all_ascii_digits};
-ghost use Rattle.vortex_syntax.specs.Numbers.{four_value, in_64_bits_signed};
-ghost use Rattle.vortex_syntax.specs.Plain.{BeginsNatural, BeginsNumber, BeginsQuoted, BeginsSigned, BeginsValue, BeginsWord, EndsWord};
+ghost use Rattle.vortex_syntax.specs.Numbers.{four_value, in_64_bits_signed, in_type};
+ghost use Rattle.vortex_syntax.specs.Plain.{BeginsNatural, BeginsQuoted, BeginsSigned, BeginsValue, BeginsWhole, BeginsWord, EndsWord};
 ghost use Rattle.vortex_syntax.specs.Plain as spec;
 
 use crate::line_error::LineError;
-use crate::number::{in_type, is_signed};
+use crate::number::is_signed;
 use crate::value::optional_value_of;
 use crate::word::Word;
 use std::alloc::{AllocError, Global};
 use std::str;
 use vortex_base::cells::ShortCell;
 use vortex_base::dtype::DType;
-use vortex_base::pvalue::PValue;
 use vortex_base::scalar_value::ScalarValue;
 use vortex_base::text::Text;
 use vortex_base::types::PType;
@@ -106,18 +105,19 @@ fn signed(text: &[u8]) -> Option<(i64, &[u8])>
     }
 }
 
-// The number of a type at the front of a text, and what follows it.
+// The whole number at the front of a text, behind a minus where the type has numbers below zero, and
+// what follows it.
 #[inline(always)]
-fn number(ptype: PType, text: &[u8]) -> Option<(PValue, &[u8])>
-    ensures number { IfSome result (λ x. BeginsNumber ptype text.now x.0 x.1.now) }
+fn whole(ptype: PType, text: &[u8]) -> Option<(i128, &[u8])>
+    ensures whole { IfSome result (λ x. BeginsWhole ptype text.now x.0 x.1.now) }
     ensures shorter { IfSome result (λ x. length x.1.now < length text.now) }
 {
     if is_signed(ptype) {
         let (number, rest) = signed(text)?;
-        Some((in_type(ptype, i128::from(number))?, rest))
+        Some((i128::from(number), rest))
     } else {
         let (number, rest) = natural(text)?;
-        Some((in_type(ptype, i128::from(number))?, rest))
+        Some((i128::from(number), rest))
     }
 }
 
@@ -192,11 +192,29 @@ fn quoted(text: &[u8]) -> Option<(&str, &[u8])>
     }
 }
 
-// The number behind a space at the front of a text, or null, and what follows it.
+// The cell of a whole number of a type, if the type has it.
 #[inline(always)]
-fn number_or_null(dtype: DType, text: &[u8]) -> Option<(Option<PValue>, &[u8])>
+fn cell_in_type(ptype: PType, number: i128) -> Option<ShortCell>
+    ensures { option_map short_value result
+        ≡ option_map (λ n. Some (value.Primitive n)) (in_type ptype number) }
+{
+    match ptype {
+        PType::U8 => Some(ShortCell::U8(u8::try_from(number).ok()?)),
+        PType::U16 => Some(ShortCell::U16(u16::try_from(number).ok()?)),
+        PType::U32 => Some(ShortCell::U32(u32::try_from(number).ok()?)),
+        PType::U64 => Some(ShortCell::U64(u64::try_from(number).ok()?)),
+        PType::I8 => Some(ShortCell::I8(i8::try_from(number).ok()?)),
+        PType::I16 => Some(ShortCell::I16(i16::try_from(number).ok()?)),
+        PType::I32 => Some(ShortCell::I32(i32::try_from(number).ok()?)),
+        PType::I64 => Some(ShortCell::I64(i64::try_from(number).ok()?)),
+    }
+}
+
+// The cell of the number behind a space at the front of a text, or of null, and what follows it.
+#[inline(always)]
+fn number_cell(dtype: DType, text: &[u8]) -> Option<(ShortCell, &[u8])>
     ensures value { IfSome result (λ x.
-        BeginsValue dtype text.now (option_map value.Primitive x.0) x.1.now) }
+        BeginsValue dtype text.now (short_value x.0) x.1.now) }
     ensures shorter { IfSome result (λ x. length x.1.now < length text.now) }
 {
     let [b' ', word @ ..] = text else {
@@ -207,27 +225,16 @@ fn number_or_null(dtype: DType, text: &[u8]) -> Option<(Option<PValue>, &[u8])>
     };
     if let [b'n', b'u', b'l', b'l', rest @ ..] = word {
         if dtype.is_nullable() && ends_word(rest) {
-            return Some((None, rest));
+            return Some((ShortCell::Null, rest));
         }
         return None;
     }
-    let (number, rest) = number(ptype, word)?;
+    let (number, rest) = whole(ptype, word)?;
+    let cell = cell_in_type(ptype, number)?;
     if ends_word(rest) {
-        Some((Some(number), rest))
+        Some((cell, rest))
     } else {
         None
-    }
-}
-
-// The same as an optional value.
-#[inline(always)]
-fn number_value(dtype: DType, text: &[u8]) -> Option<(Option<ScalarValue>, &[u8])>
-    ensures value { IfSome result (λ x. BeginsValue dtype text.now x.0 x.1.now) }
-    ensures shorter { IfSome result (λ x. length x.1.now < length text.now) }
-{
-    match number_or_null(dtype, text)? {
-        (Some(number), rest) => Some((Some(ScalarValue::Primitive(number)), rest)),
-        (None, rest) => Some((None, rest)),
     }
 }
 
@@ -252,8 +259,8 @@ fn truth(text: &[u8]) -> Option<(bool, &[u8])>
 }
 
 /// The cell of the truth, the number or the null of a type that stands behind one space at the
-/// front of a text, as `plain_value` reads it, and what follows it. None where anything else stands
-/// there; a null is read of numbers alone.
+/// front of a text, and what follows it: a number in up to 19 digits, then a space or a line feed.
+/// None where anything else stands there, and where a null of truths does.
 #[inline(always)]
 pub fn plain_cell(dtype: DType, text: &[u8]) -> Option<(ShortCell, &[u8])>
     ensures value { IfSome result (λ x.
@@ -261,10 +268,7 @@ pub fn plain_cell(dtype: DType, text: &[u8]) -> Option<(ShortCell, &[u8])>
     ensures shorter { IfSome result (λ x. length x.1.now < length text.now) }
 {
     match dtype {
-        DType::Primitive(_, _) => match number_or_null(dtype, text)? {
-            (Some(number), rest) => Some((ShortCell::of_number(number), rest)),
-            (None, rest) => Some((ShortCell::Null, rest)),
-        },
+        DType::Primitive(_, _) => number_cell(dtype, text),
         DType::Bool(_) => {
             let (truth, rest) = truth(text)?;
             Some((ShortCell::Bool(truth), rest))
@@ -325,9 +329,9 @@ fn quoted_value(
 }
 
 /// The optional value of a type that stands behind one space at the front of a text, and what
-/// follows it: a number in up to 19 digits, a truth, bytes, a text of visible ASCII between quotes
-/// without an escape, or `null`, then a space or a line feed. None where anything else stands
-/// there. Texts and bytes take memory.
+/// follows it: a number, a truth, bytes, a text of visible ASCII between quotes without an escape,
+/// or `null`, then a space or a line feed. None where anything else stands there. Texts and bytes
+/// take memory. `plain_cell` reads numbers and truths faster.
 #[inline(always)]
 pub fn plain_value(
     alloc: Global,
@@ -338,9 +342,6 @@ pub fn plain_value(
         (λ x. BeginsValue dtype text.now x.0 x.1.now)) }
     ensures shorter { IfOk result (λ o. IfSome o (λ x. length x.1.now < length text.now)) }
 {
-    if let DType::Primitive(_, _) = dtype {
-        return Ok(number_value(dtype, text));
-    }
     if let [b' ', b'"', ..] = text {
         quoted_value(alloc, dtype, text)
     } else {

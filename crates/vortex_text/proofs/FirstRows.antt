@@ -33,9 +33,14 @@ taken_first c (Quoted text) tail v can parted is = rw (word_first (Quoted text) 
 taken_first c Broken tail v can parted is = absurd can
 
 -- a value in plain form with a space behind it is the first word's
-pub taken_in_line : (c : ColumnData) (line rest : List ℕ) (v : Option ScalarValue) → BeginsValue c.dtype line v rest → get_or rest 0 0 ≡ 32
+taken_in_line : (c : ColumnData) (line rest : List ℕ) (v : Option ScalarValue) → BeginsValue c.dtype line v rest → get_or rest 0 0 ≡ 32
     → taken c (words line) ≡ Some (with_value v c, words rest)
 taken_in_line c line rest v begins space = rw begins.split (taken_first c begins.word rest v begins.can (parted_at rest space) begins.value)
+
+-- whatever the column is then
+pub taken_as : (c new : ColumnData) (line rest : List ℕ) (v : Option ScalarValue) → BeginsValue c.dtype line v rest → get_or rest 0 0 ≡ 32 → new ≡ with_value v c
+    → taken c (words line) ≡ Some (new, words rest)
+taken_as c new line rest v begins space made = taken_in_line c line rest v begins space ∙ ap (λ x. Some (x, words rest)) (sym made)
 
 -- one more column has a value
 pub row_one_more : (old cs : List ColumnData) (text rest after : List ℕ) (i : ℕ) (c new d : ColumnData) → i < length cs → c ≡ get_or cs i d → TakesValue c rest new after → BeginsRow old cs text rest i

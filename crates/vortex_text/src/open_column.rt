@@ -81,16 +81,19 @@ impl OpenColumn {
         Ok(rest)
     }
 
-    // The same. A value in plain form, with a space behind it, is read straight from the bytes.
+    // The same. A truth or a number in plain form, with a space behind it, is read straight from the
+    // bytes.
     #[inline]
     fn take<'a>(&mut self, alloc: Global, line: &'a [u8]) -> Result<&'a [u8], LineError>
         ensures { GivesAndChanges (λ rest. words rest.now) result
             (taken self.old (words line.now)) self.new }
     {
-        if let Some((value, rest)) = plain_value(alloc, self.dtype, line)? {
-            if let [b' ', ..] = rest {
-                self.push(value)?;
-                return Ok(rest);
+        if let Cells::Short(cells) = &mut self.cells {
+            if let Some((cell, rest)) = plain_cell(self.dtype, line) {
+                if let [b' ', ..] = rest {
+                    cells.push(cell)?;
+                    return Ok(rest);
+                }
             }
         }
         self.take_word(alloc, line)
