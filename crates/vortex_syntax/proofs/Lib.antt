@@ -3,6 +3,7 @@ pub mod Found
 pub mod NumberLemmas
 pub mod PlaceLemmas
 pub mod PlainLemmas
+pub mod PlainStatisticLemmas
 pub mod Spelling
 pub mod BadLemmas
 pub mod LiteralLemmas

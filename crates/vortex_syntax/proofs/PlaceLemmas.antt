@@ -1,6 +1,9 @@
 -- The places of columns by their names, with one more column.
-use Rattle.std.proofs.Common.{◌≡◌, ◌+◌, ◌<◌, ℕ, Bool, true, false, cond, List, [], ◌∷◌, ◌++◌, IfSome, Option, None, Some, String, Vec, length, string_bytes, refl, ap, sym, subst, ◌∙◌, inl, inr, arith}
-use Rattle.std.proofs.lemmas.Bool.{cases_Bool, cond-true, cond-false}
+use Rattle.std.proofs.Common.{◌≡◌, ◌+◌, ◌<◌, ℕ, Bool, true, false, cond, List, [], ◌∷◌, ◌++◌, IfSome, Option, None, Some, String, Vec, get_or, length, length-append, option_map, slice_get, string_bytes, refl, ap, sym, subst, ◌∙◌, inl, inr, arith}
+use Rattle.std.proofs.Math.Seq.{get_or-append_seam}
+use Rattle.std.proofs.lemmas.Bool.{cases_Bool, cases_lt, cond-true, cond-false}
+use Rattle.std.proofs.lemmas.List.{get_or_append_left}
+use Rattle.std.proofs.lemmas.Option.{get_or_from_slice_get, slice_get-map, slice_get_read, slice_get_within}
 use Rattle.std.proofs.lemmas.Iterator.Adapters.{position_from-zero}
 use Rattle.std.proofs.lemmas.Map.Text.{is_eq-slice_cmp}
 use Rattle.std.specs.BTreeMap.{BTreeMap, UpdatesBy}
@@ -12,9 +15,11 @@ use Rattle.std.specs.Ordering.{is_eq, nat_cmp}
 use Rattle.std.specs.Str.{bytes_eq}
 use Rattle.std.specs.declared.alloc.Global.{Global}
 use Rattle.vortex_base.proofs.Data.MapLemmas.{position-map}
+use Rattle.vortex_base.specs.Meanings.Binding.{find_column}
 use Rattle.vortex_base.specs.Data.Scopes.{is_named, named, named_columns, place_of}
 use Rattle.vortex_base.specs.declared.dtype.DType.{DType}
-use Rattle.vortex_syntax.specs.Places.{IsIndexOf, place_at}
+use Rattle.vortex_syntax.proofs.Found.{found_some}
+use Rattle.vortex_syntax.specs.Places.{AreDistinct, IsIndexOf, place_at}
 
 -- ---- places in lists
 
@@ -85,3 +90,45 @@ one_more cs name t place old new index none at key is_name updated other =
       | inr fails ↦ elsewhere (string_bytes name) place old new update other fails ∙ index other ∙ at_name other cs
           ∙ sym (at_name other (cs ++ (name, t) ∷ []) ∙ after_failing (λ c. is_named other (named c)) (name, t) fails 0 cs)
     ]
+
+-- ---- distinct names
+
+-- what is found in the front is found in the whole
+still_found : {X : Type 0} (p : X → Bool) (i : ℕ) (xs ys : List X) (j : ℕ) → position_from p i xs ≡ Some j → position_from p i (xs ++ ys) ≡ Some j
+still_found p i [] ys j h = cc
+still_found p i (x ∷ xs) ys j h = elim (cases_Bool (p x)) [
+  | inl here ↦ rw here (rw here at h)
+  | inr fails ↦ rw fails (still_found p (i + 1) xs ys j (rw fails at h))
+]
+
+-- no columns
+pub none_distinct : AreDistinct []
+none_distinct i c at = cc
+
+-- one more of a new name
+pub distinct_more : (cs : Held) (name : String Global) (t : DType) → AreDistinct cs → place_of (string_bytes name) (named_columns cs) ≡ None → AreDistinct (cs ++ (name, t) ∷ [])
+distinct_more cs name t distinct none i c at =
+    let within : i < length (cs ++ (name, t) ∷ []) = slice_get_within (cs ++ (name, t) ∷ []) i c at in
+    let is : get_or (cs ++ (name, t) ∷ []) i c ≡ c = get_or_from_slice_get (cs ++ (name, t) ∷ []) i c c at in
+    elim (cases_lt i (length cs)) [
+      | inl before ↦ (
+          let there : c ≡ get_or cs i c = sym (sym (get_or_append_left cs ((name, t) ∷ []) c i before) ∙ is) in
+          at_name (string_bytes c.0) (cs ++ (name, t) ∷ [])
+          ∙ still_found (λ k. is_named (string_bytes c.0) (named k)) 0 cs ((name, t) ∷ []) i (sym (at_name (string_bytes c.0) cs) ∙ distinct i c (slice_get_read cs (length cs) i c refl before there)))
+      | inr behind ↦ (
+          let last : i ≡ length cs = omega (arith, length-append cs ((name, t) ∷ [])) in
+          let same : (name, t) ≡ c = sym (get_or-append_seam cs (name, t) [] c) ∙ ap (λ k. get_or (cs ++ (name, t) ∷ []) k c) (sym last) ∙ is in
+          subst (λ (d : String Global × DType). place_of (string_bytes d.0) (named_columns (cs ++ (name, t) ∷ [])) ≡ Some i) same
+          (at_name (string_bytes name) (cs ++ (name, t) ∷ [])
+          ∙ after_passing (λ k. is_named (string_bytes name) (named k)) (name, t) ((bytes_decides (string_bytes name) (string_bytes name)).1 refl) 0 cs (sym (at_name (string_bytes name) cs) ∙ none)
+          ∙ ap Some (omega (arith, last))))
+    ]
+
+-- the column of a place, which has this name
+pub found_at : (cs : Held) (name : List ℕ) (place : ℕ) (c : String Global × DType) → AreDistinct cs → place < length cs → c ≡ get_or cs place c → bytes_eq (string_bytes c.0) name ≡ true
+    → find_column (named_columns cs) name ≡ Some (record { index = place; dtype = c.1 })
+found_at cs name place c distinct within is passes =
+    let at : slice_get cs place ≡ Some c = slice_get_read cs (length cs) place c refl within is in
+    let same : string_bytes c.0 ≡ name = (bytes_decides (string_bytes c.0) name).0 passes in
+    let found : place_of name (named_columns cs) ≡ Some place = ap (λ n. place_of n (named_columns cs)) (sym same) ∙ distinct place c at in
+    found_some cs name (place_of name (named_columns cs)) place c refl found (slice_get-map named cs place ∙ ap (option_map named) at)

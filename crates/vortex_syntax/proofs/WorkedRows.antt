@@ -2,5 +2,6 @@
 pub mod NameRows
 pub mod NumberRows
 pub mod PlainRows
+pub mod PlainStatisticRows
 pub mod ValueRows
 pub mod WordRows

@@ -6,6 +6,7 @@ pub mod Names
 pub mod Numbers
 pub mod Places
 pub mod Plain
+pub mod PlainStatistics
 pub mod QuotedSteps
 pub mod Spelling
 pub mod Statistics

@@ -1,5 +1,5 @@
 //! The columns of a text, found by their names.
-ghost use Rattle.std.specs.Prelude.{◌≡◌, ◌<◌, ◌++◌, ◌∷◌, [], IfSome, None, OnErr, OnOk, length, option_map, string_bytes};
+ghost use Rattle.std.specs.Prelude.{◌≡◌, ◌<◌, ◌++◌, ◌∷◌, [], IfSome, None, OnErr, OnOk, Some, length, option_map, string_bytes};
 ghost use Rattle.vortex_base.specs.Meanings.Binding.{find_column};
 ghost use Rattle.vortex_base.specs.Data.Scopes.{named_columns, place_of};
 
@@ -20,13 +20,13 @@ impl Model for Columns {
     ghost use Rattle.std.specs.Prelude.{List, String};
     ghost use Rattle.std.specs.declared.alloc.Global.{Global};
     ghost use Rattle.vortex_base.specs.declared.dtype.DType.{DType};
-    ghost use Rattle.vortex_syntax.specs.Places.{IsIndexOf};
+    ghost use Rattle.vortex_syntax.specs.Places.{IsKept};
 
     ghost Value = { List (String Global × DType) };
 
     ghost view = { λ c. c.named.items };
 
-    ghost invariant = { λ c. IsIndexOf c.named.items c.places };
+    ghost invariant = { λ c. IsKept c.named.items c.places };
 }
 
 impl Columns {
@@ -72,6 +72,34 @@ impl Columns {
             Some(place) => Some((place, named[place].1)),
             None => None,
         }
+    }
+
+    // The type of the column of a place, if it has this name.
+    #[inline(always)]
+    fn type_at(&self, place: usize, name: &[u8]) -> Option<DType>
+        ensures { IfSome result (λ t. find_column (named_columns self.now) name.now
+            ≡ Some (record { index = place; dtype = t })) }
+    {
+        match self.named.get(place) {
+            Some(named) if named.0.as_bytes() == name => Some(named.1),
+            _ => None,
+        }
+    }
+
+    /// The same, found soonest where it is the column of this place or the one behind that.
+    #[inline]
+    pub fn find_near(&self, place: usize, name: &[u8]) -> Option<(usize, DType)>
+        ensures { option_map (λ p. record { index = p.0; dtype = p.1 }) result
+            ≡ find_column (named_columns self.now) name.now }
+    {
+        if let Some(dtype) = self.type_at(place, name) {
+            return Some((place, dtype));
+        }
+        let next = place.saturating_add(1);
+        if let Some(dtype) = self.type_at(next, name) {
+            return Some((next, dtype));
+        }
+        self.find(name)
     }
 
     /// One more column, whose name is new. Where memory is refused, the columns stay.

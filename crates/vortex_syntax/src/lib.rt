@@ -12,6 +12,7 @@ pub mod lines;
 pub mod names;
 pub mod number;
 pub mod plain;
+pub mod plain_statistic;
 pub mod statistic;
 pub mod value;
 pub mod word;

@@ -7,17 +7,18 @@ ghost use Rattle.vortex_base.specs.declared.scalar_value.ScalarValue.TheVariants
 ghost use Rattle.vortex_base.specs.declared.types.Nullability.{Nullability};
 ghost use Rattle.std.specs.Str.{all_ascii_digits};
 ghost use Rattle.vortex_syntax.specs.Numbers.{four_value, in_64_bits_signed, in_type};
-ghost use Rattle.vortex_syntax.specs.Plain.{BeginsNatural, BeginsQuoted, BeginsSigned, BeginsValue, BeginsWhole, BeginsWord, EndsWord};
+ghost use Rattle.vortex_syntax.specs.Plain.{BeginsNatural, BeginsNumber, BeginsQuoted, BeginsSigned, BeginsValue, BeginsWhole, BeginsWord, EndsWord};
 ghost use Rattle.vortex_syntax.specs.Plain as spec;
 
 use crate::line_error::LineError;
-use crate::number::is_signed;
+use crate::number::{in_type, is_signed};
 use crate::value::optional_value_of;
 use crate::word::Word;
 use std::alloc::{AllocError, Global};
 use std::str;
 use vortex_base::cells::ShortCell;
 use vortex_base::dtype::DType;
+use vortex_base::pvalue::PValue;
 use vortex_base::scalar_value::ScalarValue;
 use vortex_base::text::Text;
 use vortex_base::types::PType;
@@ -105,8 +106,8 @@ fn signed(text: &[u8]) -> Option<(i64, &[u8])>
     }
 }
 
-// The whole number at the front of a text, behind a minus where the type has numbers below zero, and
-// what follows it.
+// The whole number at the front of a text, behind a minus where the type has numbers below zero,
+// and what follows it.
 #[inline(always)]
 fn whole(ptype: PType, text: &[u8]) -> Option<(i128, &[u8])>
     ensures whole { IfSome result (λ x. BeginsWhole ptype text.now x.0 x.1.now) }
@@ -347,4 +348,15 @@ pub fn plain_value(
     } else {
         word_value(alloc, dtype, text)
     }
+}
+
+/// The number of a type at the front of a text, and what follows it: up to 19 digits, behind a
+/// minus where it is below zero. None where anything else stands there.
+#[inline(always)]
+pub fn plain_number(ptype: PType, text: &[u8]) -> Option<(PValue, &[u8])>
+    ensures number { IfSome result (λ x. BeginsNumber ptype text.now x.0 x.1.now) }
+    ensures shorter { IfSome result (λ x. length x.1.now < length text.now) }
+{
+    let (number, rest) = whole(ptype, text)?;
+    Some((in_type(ptype, number)?, rest))
 }

@@ -1,0 +1,156 @@
+//! A `stat` line in plain form, read straight from the bytes of a text, whose line isn't cut out
+//! before. What isn't in this form is left to the reader of words, by which it is specified.
+ghost use Rattle.std.specs.Prelude.{◌≡◌, ◌<◌, IfSome, length, not, position};
+ghost use Rattle.vortex_base.specs.Data.Scopes.{named_columns};
+ghost use Rattle.vortex_syntax.specs.Plain.{BeginsWord, is_word_byte};
+ghost use Rattle.vortex_syntax.specs.PlainStatistics.{BeginsClaim, BeginsSpaced, BeginsSpacedValue, BeginsStat, precise, precision_name, truth_name};
+
+use crate::columns::Columns;
+use crate::plain::plain_number;
+use crate::statistic::{Claim, stat_of};
+use vortex_base::dtype::DType;
+use vortex_base::scalar_value::ScalarValue;
+use vortex_stats::precision::Precision;
+use vortex_stats::stat::Stat;
+
+/// A statistic that a line tells of a column.
+#[derive(Debug, Drop)]
+pub struct Told {
+    /// The place of the column.
+    pub place: usize,
+    pub stat: Stat,
+    pub value: Precision<ScalarValue>,
+}
+
+// Whether a word in plain form has this byte.
+#[inline(always)]
+fn is_word_byte(byte: u8) -> bool
+    ensures { result ≡ is_word_byte byte }
+{
+    byte > 34 && byte < 127
+}
+
+// Where the first byte stands that no word in plain form has.
+#[inline(always)]
+fn word_end(text: &[u8]) -> Option<usize>
+    ensures { result ≡ position (λ b. not (is_word_byte b)) text.now }
+{
+    text.iter().position(|byte| !is_word_byte(*byte))
+}
+
+// The word in plain form behind one space at the front of a text, and what follows it. None where
+// nothing follows.
+#[inline(always)]
+fn spaced_word(text: &[u8]) -> Option<(&[u8], &[u8])>
+    ensures word { IfSome result (λ x. BeginsSpaced text.now x.0.now x.1.now) }
+    ensures shorter { IfSome result (λ x. length x.1.now < length text.now) }
+{
+    let [b' ', behind @ ..] = text else {
+        return None;
+    };
+    let end = word_end(behind)?;
+    if end == 0 {
+        return None;
+    }
+    Some((&behind[..end], &behind[end..]))
+}
+
+// Whether `exact` stands behind one space at the front of a text, or else `inexact`, and what
+// follows it.
+#[inline(always)]
+fn spaced_precision(text: &[u8]) -> Option<(bool, &[u8])>
+    ensures word { IfSome result (λ x. BeginsSpaced text.now (precision_name x.0) x.1.now) }
+    ensures shorter { IfSome result (λ x. length x.1.now < length text.now) }
+{
+    match text {
+        [b' ', b'e', b'x', b'a', b'c', b't', rest @ ..] => Some((true, rest)),
+        [b' ', b'i', b'n', b'e', b'x', b'a', b'c', b't', rest @ ..] => Some((false, rest)),
+        _ => None,
+    }
+}
+
+// The truth at the front of a text, and what follows it.
+#[inline(always)]
+fn plain_truth(text: &[u8]) -> Option<(bool, &[u8])>
+    ensures word { IfSome result (λ x. BeginsWord text.now (truth_name x.0) x.1.now) }
+    ensures shorter { IfSome result (λ x. length x.1.now < length text.now) }
+{
+    match text {
+        [b't', b'r', b'u', b'e', rest @ ..] => Some((true, rest)),
+        [b'f', b'a', b'l', b's', b'e', rest @ ..] => Some((false, rest)),
+        _ => None,
+    }
+}
+
+// The number or truth of a type behind one space at the front of a text, and what follows it.
+#[inline(always)]
+fn spaced_value(dtype: DType, text: &[u8]) -> Option<(ScalarValue, &[u8])>
+    ensures value { IfSome result (λ x. BeginsSpacedValue dtype text.now x.0 x.1.now) }
+    ensures shorter { IfSome result (λ x. length x.1.now < length text.now) }
+{
+    let [b' ', behind @ ..] = text else {
+        return None;
+    };
+    match dtype {
+        DType::Primitive(ptype, _) => {
+            let (number, rest) = plain_number(ptype, behind)?;
+            Some((ScalarValue::Primitive(number), rest))
+        }
+        DType::Bool(_) => {
+            let (truth, rest) = plain_truth(behind)?;
+            Some((ScalarValue::Bool(truth), rest))
+        }
+        _ => None,
+    }
+}
+
+// The value, exact or not.
+#[inline(always)]
+fn precise(is_exact: bool, value: ScalarValue) -> Precision<ScalarValue>
+    ensures { result ≡ precise is_exact value }
+{
+    if is_exact {
+        Precision::Exact(value)
+    } else {
+        Precision::Inexact(value)
+    }
+}
+
+// The column and the statistic that two words in plain form name at the front of a text, and what
+// follows them. The column is found soonest near this place.
+#[inline(always)]
+fn plain_claim<'a>(columns: &Columns, near: usize, text: &'a [u8]) -> Option<(Claim, &'a [u8])>
+    ensures claim { IfSome result (λ x. BeginsClaim (named_columns columns.now) text.now
+        (x.0.place, x.0.stat, x.0.dtype) x.1.now) }
+    ensures shorter { IfSome result (λ x. length x.1.now < length text.now) }
+{
+    let (name, named) = spaced_word(text)?;
+    let (place, column) = columns.find_near(near, name)?;
+    let (word, rest) = spaced_word(named)?;
+    let stat = stat_of(word)?;
+    let dtype = stat.dtype(&column)?;
+    Some((Claim { place, stat, dtype }, rest))
+}
+
+/// What a line tells, of which the word `stat` was passed, and the text after the line: one space
+/// in front of each word, the last of them a truth or a number in up to 19 digits, and a line feed.
+/// None where anything else stands there. The column is found soonest near this place.
+#[inline]
+pub fn plain_stat<'a>(columns: &Columns, near: usize, text: &'a [u8]) -> Option<(Told, &'a [u8])>
+    ensures told { IfSome result (λ x. BeginsStat (named_columns columns.now) text.now
+        (x.0.place, x.0.stat, x.0.value) x.1.now) }
+    ensures shorter { IfSome result (λ x. length x.1.now < length text.now) }
+{
+    let (claim, claimed) = plain_claim(columns, near, text)?;
+    let (is_exact, behind) = spaced_precision(claimed)?;
+    let (value, rest) = spaced_value(claim.dtype, behind)?;
+    let [b'\n', after @ ..] = rest else {
+        return None;
+    };
+    let told = Told {
+        place: claim.place,
+        stat: claim.stat,
+        value: precise(is_exact, value),
+    };
+    Some((told, after))
+}
