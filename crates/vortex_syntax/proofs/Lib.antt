@@ -1,5 +1,6 @@
 pub mod FirstLine
 pub mod Found
+pub mod Fronts
 pub mod NumberLemmas
 pub mod PlaceLemmas
 pub mod PlainLemmas

@@ -134,7 +134,7 @@ null_front (a ∷ b ∷ c ∷ d ∷ word) long n u l m = rw (n, u, l, m) (ap (λ
 
 -- ---- words
 
-line_bytes : (word : List ℕ) → list_all is_word_byte word ≡ true → list_all is_line_byte word ≡ true
+pub line_bytes : (word : List ℕ) → list_all is_word_byte word ≡ true → list_all is_line_byte word ≡ true
 line_bytes [] all = refl
 line_bytes (b ∷ word) all =
     let (one, more) = and_parts _ _ all in

@@ -12,7 +12,7 @@ use Rattle.vortex_stats.specs.Stat.{stat_dtype}
 use Rattle.vortex_stats.specs.declared.stat.Stat.{Stat}
 use Rattle.vortex_syntax.proofs.PlainLemmas.{uncons}
 use Rattle.vortex_syntax.specs.Plain.{is_word_byte}
-use Rattle.vortex_syntax.specs.PlainStatistics.{BeginsClaim, BeginsSpaced, BeginsSpacedValue, BeginsStat, precise, precision_name, told_by}
+use Rattle.vortex_syntax.specs.PlainStatistics.{BeginsClaim, BeginsSpaced, BeginsSpacedStat, BeginsSpacedValue, BeginsStat, precise, precision_name, told_by}
 use Rattle.vortex_syntax.specs.Statistics.{claimed, stat_of}
 use Rattle.vortex_syntax.specs.Values.{plain_value}
 use Rattle.vortex_syntax.specs.Words.{Token, Plain}
@@ -62,9 +62,9 @@ pub claim_is : (scope : List Named) (name word : List ℕ) (place : ℕ) (column
     → (later : List Token) → claimed scope (Plain name ∷ Plain word ∷ later) ≡ Some ((place, s, t), later)
 claim_is scope name word place column t s column_is stat_is type_is later = rw (column_is, stat_is, type_is) refl
 
-pub claim_begins : (scope : List Named) (text name middle word rest : List ℕ) (place : ℕ) (column t : DType) (s : Stat) → BeginsSpaced text name middle → BeginsSpaced middle word rest
-    → find_column scope name ≡ Some (record { index = place; dtype = column }) → stat_of word ≡ Some s → stat_dtype s column ≡ Some t → BeginsClaim scope text (place, s, t) rest
-claim_begins scope text name middle word rest place column t s first second column_is stat_is type_is =
+pub claim_begins : (scope : List Named) (text name middle rest : List ℕ) (place : ℕ) (column t : DType) (s : Stat) → BeginsSpaced text name middle → BeginsSpacedStat middle s rest
+    → find_column scope name ≡ Some (record { index = place; dtype = column }) → stat_dtype s column ≡ Some t → BeginsClaim scope text (place, s, t) rest
+claim_begins scope text name middle rest place column t s first (word, second, stat_is) column_is type_is =
     (name, word, (middle, first, (rest, second, refl)), claim_is scope name word place column t s column_is stat_is type_is)
 
 told_is : (scope : List Named) (name word value : List ℕ) (place : ℕ) (t : DType) (s : Stat) (is_exact : Bool) (v : ScalarValue)

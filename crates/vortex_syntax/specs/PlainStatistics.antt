@@ -8,7 +8,7 @@ use Rattle.vortex_stats.specs.declared.precision.Precision.TheVariants.{Exact, I
 use Rattle.vortex_stats.specs.declared.stat.Stat.{Stat}
 use Rattle.vortex_syntax.specs.Fails.{◌>>=◌}
 use Rattle.vortex_syntax.specs.Plain.{BeginsWord}
-use Rattle.vortex_syntax.specs.Statistics.{claimed, claimed_value}
+use Rattle.vortex_syntax.specs.Statistics.{claimed, claimed_value, stat_of}
 use Rattle.vortex_syntax.specs.Values.{plain_value}
 use Rattle.vortex_syntax.specs.Words.{Token, Plain}
 
@@ -37,6 +37,10 @@ precise false v = Inexact v
 -- with a space and a word in plain form that writes this value of the type, which isn't null
 abbrev pub BeginsSpacedValue : DType → (text : List ℕ) → ScalarValue → (rest : List ℕ) → Type 0
 BeginsSpacedValue t text v rest = (word : List ℕ) × BeginsSpaced text word rest × (plain_value t word ≡ Some v)
+
+-- with a space and the name of a statistic in plain form
+abbrev pub BeginsSpacedStat : (text : List ℕ) → Stat → (rest : List ℕ) → Type 0
+BeginsSpacedStat text s rest = (word : List ℕ) × BeginsSpaced text word rest × (stat_of word ≡ Some s)
 
 -- with two words in plain form that name this column and this statistic, which has this type there
 abbrev pub BeginsClaim : List Named → (text : List ℕ) → ℕ × Stat × DType → (rest : List ℕ) → Type 0

@@ -3,7 +3,7 @@
 ghost use Rattle.std.specs.Prelude.{◌≡◌, ◌<◌, IfSome, length, not, position};
 ghost use Rattle.vortex_base.specs.Data.Scopes.{named_columns};
 ghost use Rattle.vortex_syntax.specs.Plain.{BeginsWord, is_word_byte};
-ghost use Rattle.vortex_syntax.specs.PlainStatistics.{BeginsClaim, BeginsSpaced, BeginsSpacedValue, BeginsStat, precise, precision_name, truth_name};
+ghost use Rattle.vortex_syntax.specs.PlainStatistics.{BeginsClaim, BeginsSpaced, BeginsSpacedStat, BeginsSpacedValue, BeginsStat, precise, precision_name, truth_name};
 
 use crate::columns::Columns;
 use crate::plain::plain_number;
@@ -53,6 +53,29 @@ fn spaced_word(text: &[u8]) -> Option<(&[u8], &[u8])>
         return None;
     }
     Some((&behind[..end], &behind[end..]))
+}
+
+// The statistic whose name stands behind one space at the front of a text, and what follows it.
+#[inline(never)]
+fn other_stat(text: &[u8]) -> Option<(Stat, &[u8])>
+    ensures stat { IfSome result (λ x. BeginsSpacedStat text.now x.0 x.1.now) }
+    ensures shorter { IfSome result (λ x. length x.1.now < length text.now) }
+{
+    let (word, rest) = spaced_word(text)?;
+    Some((stat_of(word)?, rest))
+}
+
+// The same, by its bytes where it is one of those that most lines tell.
+#[inline(always)]
+fn spaced_stat(text: &[u8]) -> Option<(Stat, &[u8])>
+    ensures stat { IfSome result (λ x. BeginsSpacedStat text.now x.0 x.1.now) }
+    ensures shorter { IfSome result (λ x. length x.1.now < length text.now) }
+{
+    match text {
+        [b' ', b'm', b'i', b'n', rest @ ..] => Some((Stat::Min, rest)),
+        [b' ', b'm', b'a', b'x', rest @ ..] => Some((Stat::Max, rest)),
+        _ => other_stat(text),
+    }
 }
 
 // Whether `exact` stands behind one space at the front of a text, or else `inexact`, and what
@@ -126,8 +149,7 @@ fn plain_claim<'a>(columns: &Columns, near: usize, text: &'a [u8]) -> Option<(Cl
 {
     let (name, named) = spaced_word(text)?;
     let (place, column) = columns.find_near(near, name)?;
-    let (word, rest) = spaced_word(named)?;
-    let stat = stat_of(word)?;
+    let (stat, rest) = spaced_stat(named)?;
     let dtype = stat.dtype(&column)?;
     Some((Claim { place, stat, dtype }, rest))
 }
@@ -135,7 +157,7 @@ fn plain_claim<'a>(columns: &Columns, near: usize, text: &'a [u8]) -> Option<(Cl
 /// What a line tells, of which the word `stat` was passed, and the text after the line: one space
 /// in front of each word, the last of them a truth or a number in up to 19 digits, and a line feed.
 /// None where anything else stands there. The column is found soonest near this place.
-#[inline]
+#[inline(always)]
 pub fn plain_stat<'a>(columns: &Columns, near: usize, text: &'a [u8]) -> Option<(Told, &'a [u8])>
     ensures told { IfSome result (λ x. BeginsStat (named_columns columns.now) text.now
         (x.0.place, x.0.stat, x.0.value) x.1.now) }

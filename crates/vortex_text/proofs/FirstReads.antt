@@ -1,5 +1,5 @@
 -- What the first line of a text says, in terms of all its lines.
-use Rattle.std.proofs.Common.{◌≡◌, ◌<◌, ◌≤◌, ◌-◌, ◌==◌, ℕ, Bool, true, false, List, [], ◌∷◌, ◌++◌, Option, None, Some, length, is_some, not, option_and_then, option_map, get_or, take, drop, codes, refl, ap, sym, subst, ◌∙◌, inl, inr, arith}
+use Rattle.std.proofs.Common.{◌≡◌, ◌<◌, ◌≤◌, ◌-◌, ◌==◌, ℕ, Bool, true, false, List, [], ◌∷◌, ◌++◌, Option, None, Some, length, is_some, option_and_then, option_map, get_or, take, drop, codes, refl, ap, sym, subst, ◌∙◌, inl, inr, arith}
 use Rattle.std.proofs.lemmas.Bool.{cases_Bool}
 use Rattle.std.proofs.lemmas.List.{take_rest}
 use Rattle.std.proofs.lemmas.List.Splits.{length-slice_split}
@@ -96,12 +96,6 @@ row_text r text values open_yet split end =
     ∙ row_line r l ls open_yet (word_back (Plain (codes "row")) l (is_spelled (codes "row") refl (omega arith)) parted) (utf8_behind (codes "row") l refl)
     ∙ ap (first_values r) (sym is)
 
-pub row_front : (text : List ℕ) → 3 ≤ length text → get_or text 0 0 ≡ 114 → get_or text 1 0 ≡ 111 → get_or text 2 0 ≡ 119 → text ≡ codes "row" ++ take (length text - 3) (drop 3 text)
-row_front [] long a b c = absurd (omega arith)
-row_front (x ∷ []) long a b c = absurd (omega arith)
-row_front (x ∷ y ∷ []) long a b c = absurd (omega arith)
-row_front (x ∷ y ∷ z ∷ text) long a b c = rw (a, b, c) (ap (λ l. codes "row" ++ l) (sym (take_rest (x ∷ y ∷ z ∷ text) 3)))
-
 -- memory may be refused while a part takes rows
 pub part_takes : (r : Reading) (ls : List (List ℕ)) → is_some r.current ≡ true → may_take r ls ≡ true
 part_takes r [] has = has
@@ -154,7 +148,6 @@ may_take_in text front (line ∷ more) r split reads takes = elim (cases_Bool (i
   | inr isnt ↦ (front, line, more, r, split, reads, rw isnt at takes)
 ]
 
--- what `is_none` tells
-pub none_told : {X : Type 0} (o : Option X) (b : Bool) → is_some o ≡ not b → b ≡ true → o ≡ None
-none_told None b is told = refl
-none_told (Some x) b is told = let both = rw told at is in cc
+pub none_there : {X : Type 0} (o : Option X) → is_some o ≡ false → o ≡ None
+none_there None none = refl
+none_there (Some x) none = cc

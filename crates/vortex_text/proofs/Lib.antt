@@ -13,6 +13,7 @@ pub mod MemoryLemmas
 pub mod NamedLines
 pub mod OpenLineLemmas
 pub mod OpenTextLemmas
+pub mod PlainLines
 pub mod QueryLemmas
 pub mod Refusals
 pub mod StartLemmas

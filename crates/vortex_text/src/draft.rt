@@ -1,5 +1,5 @@
 //! What the lines of a text say, line by line.
-ghost use Rattle.std.specs.Prelude.{◌≡◌, ◌<◌, ◌||◌, IfOk, IfSome, IsErrOf, IsTrue, OnErr, OnOk, MatchOption, None, Some, is_some, length};
+ghost use Rattle.std.specs.Prelude.{◌≡◌, ◌<◌, ◌++◌, ◌||◌, IfOk, IfSome, IsErrOf, IsTrue, OnErr, OnOk, MatchOption, None, Some, codes, is_some, length};
 ghost use Rattle.std.specs.Str.Lines.{lines};
 ghost use Rattle.vortex_base.specs.Data.Scopes.{IsScope, named_columns};
 ghost use Rattle.vortex_syntax.specs.Fails.{Changes, GivesAndChanges, IsBad};
@@ -10,7 +10,7 @@ ghost use Rattle.vortex_text.specs.FirstLines.{first_read, first_values, may_tak
 ghost use Rattle.vortex_text.specs.Fitting.{AreNeighbours, FitsTogether, IsQueryOver};
 ghost use Rattle.vortex_text.specs.Lines.{has_part, is_new, nothing_read, parts_of};
 ghost use Rattle.vortex_text.specs.Lines.{read_column, read_join, read_kind, read_line, read_part};
-ghost use Rattle.vortex_text.specs.Lines.{read_row, read_stat, read_where, read_words, with_column};
+ghost use Rattle.vortex_text.specs.Lines.{read_row, read_stat, read_where, read_words, with_claim, with_column};
 ghost use Rattle.vortex_text.specs.MemoryTaken.{kind_takes, line_takes, words_take};
 ghost use Rattle.vortex_text.specs.Stores.{all_parts, ended_of};
 
@@ -31,6 +31,7 @@ use vortex_syntax::lines::{is_utf8, next_line};
 use vortex_syntax::names::{is_name, type_of};
 use vortex_syntax::number::natural_of;
 use vortex_syntax::plain::ends_word;
+use vortex_syntax::plain_statistic::{Told, plain_stat};
 use vortex_syntax::statistic::{read_claim, read_claimed};
 use vortex_syntax::word::{is_short, no_word, plain_word, skip_spaces};
 
@@ -41,6 +42,8 @@ pub struct Draft {
     // The parts, once there is one.
     store: Option<Store>,
     predicate: Option<BoundExpression>,
+    // The place of the column of which a statistic was told last.
+    told: usize,
 }
 
 // The parts that have ended, of these columns.
@@ -68,6 +71,7 @@ impl Draft {
             columns: Columns::new(alloc),
             store: None,
             predicate: None,
+            told: 0,
         }
     }
 
@@ -175,6 +179,21 @@ impl Draft {
         Ok(())
     }
 
+    // Tells a statistic of the open part, of whose line so many bytes are left.
+    #[inline]
+    fn tell(&mut self, told: Told, left: usize) -> Result<(), LineError>
+        ensures read { let old = reading_of self.old in
+            Changes result (with_claim old told.place told.stat told.value) (reading_of self.new) }
+        ensures memory { IsErrOf result LineError.Memory
+            → IsTrue (is_some (reading_of self.old).current) }
+    {
+        self.told = told.place;
+        match &mut self.store {
+            Some(store) => store.tell(told.place, told.stat, told.value, left),
+            None => Err(LineError::at(left, Expected::OpenPart)),
+        }
+    }
+
     // `stat NAME STAT PRECISION VALUE`
     fn read_stat(&mut self, alloc: Global, line: &[u8]) -> Result<(), LineError>
         ensures read { let old = reading_of self.old in
@@ -184,10 +203,12 @@ impl Draft {
     {
         let (claim, rest) = read_claim(&self.columns, line)?;
         let value = read_claimed(alloc, claim.dtype, rest)?;
-        match &mut self.store {
-            Some(store) => store.tell(claim.place, claim.stat, value, line.len()),
-            None => Err(LineError::at(line.len(), Expected::OpenPart)),
-        }
+        let told = Told {
+            place: claim.place,
+            stat: claim.stat,
+            value,
+        };
+        self.tell(told, line.len())
     }
 
     // `row VALUE ..`
@@ -314,6 +335,27 @@ impl Draft {
         }
     }
 
+    // The statistic that a text begins with, behind its first word, if its line is in plain form.
+    // The text after the line comes back.
+    #[inline(never)]
+    fn tell_first<'a>(&mut self, text: &'a [u8]) -> Option<Result<&'a [u8], LineError>>
+        requires { (reading_of self.old).predicate ≡ None }
+        ensures read { let old = reading_of self.old in
+            MatchOption result (reading_of self.new ≡ old)
+            (λ told. GivesAndChanges (λ rest. lines rest.now) told
+            (first_read old (lines (codes "stat" ++ text.now))) (reading_of self.new)) }
+        ensures memory { IfSome result (λ told. IsErrOf told LineError.Memory
+            → IsTrue (is_some (reading_of self.old).current)) }
+        ensures shorter { IfSome result
+            (λ told. IfOk told (λ rest. length rest.now < length text.now)) }
+    {
+        let (told, after) = plain_stat(&self.columns, self.told, text)?;
+        match self.tell(told, text.len() - after.len() - 1) {
+            Ok(()) => Some(Ok(after)),
+            Err(refused) => Some(Err(refused)),
+        }
+    }
+
     // The first line of a text, whatever it is. The text after it comes back.
     fn read_any_first<'a>(&mut self, alloc: Global, text: &'a [u8]) -> Result<&'a [u8], LineError>
         requires some { 0 < length text.now }
@@ -343,11 +385,21 @@ impl Draft {
             → IsTrue (may_take (reading_of self.old) (lines text.now)) }
         ensures shorter { IfOk result (λ rest. length rest.now < length text.now) }
     {
-        if self.predicate.is_none() {
-            if let [b'r', b'o', b'w', values @ ..] = text {
-                if ends_word(values) {
-                    return self.read_first_row(alloc, values);
-                }
+        if self.predicate.is_some() {
+            return self.read_any_first(alloc, text);
+        }
+        if let [b'r', b'o', b'w', values @ ..] = text {
+            if ends_word(values) {
+                return self.read_first_row(alloc, values);
+            }
+        }
+        if let [b'p', b'a', b'r', b't', b'\n', after @ ..] = text {
+            self.read_part(alloc, &[])?;
+            return Ok(after);
+        }
+        if let [b's', b't', b'a', b't', said @ ..] = text {
+            if let Some(told) = self.tell_first(said) {
+                return told;
             }
         }
         self.read_any_first(alloc, text)
@@ -370,6 +422,7 @@ impl Draft {
             columns,
             store,
             predicate,
+            ..
         } = draft;
         match predicate {
             Some(predicate) => {

@@ -13,6 +13,7 @@ mod deep;
 mod joined_parts;
 mod nulls;
 mod plain_rows;
+mod plain_statistics;
 mod ranges;
 mod reasons;
 mod skipping;
