@@ -75,8 +75,8 @@ told_is scope name word value place t s false v claim is = rw (claim (Plain (cod
 
 pub stat_begins : (scope : List Named) (text middle behind rest after : List ℕ) (place : ℕ) (t : DType) (s : Stat) (is_exact : Bool) (v : ScalarValue) → BeginsClaim scope text (place, s, t) middle
     → BeginsSpaced middle (precision_name is_exact) behind → BeginsSpacedValue t behind v rest → rest ≡ 10 ∷ after → BeginsStat scope text (place, s, precise is_exact v) after
-stat_begins scope text middle behind rest after place t s is_exact v (name, word, (m, first, (n, second, same)), claim) precision (value, begins, is) feed = (
+stat_begins scope text middle behind rest after place t s is_exact v (name, word, (m, first, (n, second, same)), claim) precision (said, space, (value, begins, is)) feed = (
   name ∷ word ∷ precision_name is_exact ∷ value ∷ [],
-  (m, first, (n, second, (behind, rw same precision, (rest, begins, feed)))),
+  (m, first, (n, second, (behind, rw same precision, (rest, (said, space, begins), feed)))),
   told_is scope name word value place t s is_exact v claim is,
 )

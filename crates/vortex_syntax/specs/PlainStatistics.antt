@@ -34,9 +34,13 @@ abbrev pub precise : (is_exact : Bool) → ScalarValue → Precision ScalarValue
 precise true v = Exact v
 precise false v = Inexact v
 
--- with a space and a word in plain form that writes this value of the type, which isn't null
+-- with a word in plain form that writes this value of the type, which isn't null
+abbrev pub BeginsPlainValue : DType → (text : List ℕ) → ScalarValue → (rest : List ℕ) → Type 0
+BeginsPlainValue t text v rest = (word : List ℕ) × BeginsWord text word rest × (plain_value t word ≡ Some v)
+
+-- with a space and such a word
 abbrev pub BeginsSpacedValue : DType → (text : List ℕ) → ScalarValue → (rest : List ℕ) → Type 0
-BeginsSpacedValue t text v rest = (word : List ℕ) × BeginsSpaced text word rest × (plain_value t word ≡ Some v)
+BeginsSpacedValue t text v rest = (behind : List ℕ) × (text ≡ 32 ∷ behind) × BeginsPlainValue t behind v rest
 
 -- with a space and the name of a statistic in plain form
 abbrev pub BeginsSpacedStat : (text : List ℕ) → Stat → (rest : List ℕ) → Type 0

@@ -1,9 +1,10 @@
 //! A `stat` line in plain form, read straight from the bytes of a text, whose line isn't cut out
 //! before. What isn't in this form is left to the reader of words, by which it is specified.
-ghost use Rattle.std.specs.Prelude.{◌≡◌, ◌<◌, IfSome, length, not, position};
+ghost use Rattle.std.specs.Prelude.{◌≡◌, ◌<◌, IfSome, Some, length, not, position};
 ghost use Rattle.vortex_base.specs.Data.Scopes.{named_columns};
+ghost use Rattle.vortex_stats.specs.Stat.{stat_dtype};
 ghost use Rattle.vortex_syntax.specs.Plain.{BeginsWord, is_word_byte};
-ghost use Rattle.vortex_syntax.specs.PlainStatistics.{BeginsClaim, BeginsSpaced, BeginsSpacedStat, BeginsSpacedValue, BeginsStat, precise, precision_name, truth_name};
+ghost use Rattle.vortex_syntax.specs.PlainStatistics.{BeginsClaim, BeginsPlainValue, BeginsSpaced, BeginsSpacedStat, BeginsSpacedValue, BeginsStat, precise, precision_name, truth_name};
 
 use crate::columns::Columns;
 use crate::plain::plain_number;
@@ -55,26 +56,33 @@ fn spaced_word(text: &[u8]) -> Option<(&[u8], &[u8])>
     Some((&behind[..end], &behind[end..]))
 }
 
-// The statistic whose name stands behind one space at the front of a text, and what follows it.
+// The statistic whose name stands behind one space at the front of a text, its type of a column of
+// this type, and what follows it.
 #[inline(never)]
-fn other_stat(text: &[u8]) -> Option<(Stat, &[u8])>
-    ensures stat { IfSome result (λ x. BeginsSpacedStat text.now x.0 x.1.now) }
-    ensures shorter { IfSome result (λ x. length x.1.now < length text.now) }
+fn other_stat(column: DType, text: &[u8]) -> Option<(Stat, DType, &[u8])>
+    ensures stat { IfSome result (λ x. BeginsSpacedStat text.now x.0 x.2.now) }
+    ensures dtype { IfSome result (λ x. stat_dtype x.0 column ≡ Some x.1) }
+    ensures shorter { IfSome result (λ x. length x.2.now < length text.now) }
 {
     let (word, rest) = spaced_word(text)?;
-    Some((stat_of(word)?, rest))
+    let stat = stat_of(word)?;
+    Some((stat, stat.dtype(&column)?, rest))
 }
 
-// The same, by its bytes where it is one of those that most lines tell.
+// The same, by its bytes where it is a bound, which most lines tell.
 #[inline(always)]
-fn spaced_stat(text: &[u8]) -> Option<(Stat, &[u8])>
-    ensures stat { IfSome result (λ x. BeginsSpacedStat text.now x.0 x.1.now) }
-    ensures shorter { IfSome result (λ x. length x.1.now < length text.now) }
+fn spaced_stat(column: DType, text: &[u8]) -> Option<(Stat, DType, &[u8])>
+    ensures stat { IfSome result (λ x. BeginsSpacedStat text.now x.0 x.2.now) }
+    ensures dtype { IfSome result (λ x. stat_dtype x.0 column ≡ Some x.1) }
+    ensures shorter { IfSome result (λ x. length x.2.now < length text.now) }
 {
     match text {
-        [b' ', b'm', b'i', b'n', rest @ ..] => Some((Stat::Min, rest)),
-        [b' ', b'm', b'a', b'x', rest @ ..] => Some((Stat::Max, rest)),
-        _ => other_stat(text),
+        [b' ', b'm', b'i', b'n', rest @ ..] => Some((Stat::Min, Stat::Min.dtype(&column)?, rest)),
+        [b' ', b'm', b'a', b'x', rest @ ..] => Some((Stat::Max, Stat::Max.dtype(&column)?, rest)),
+        _ => {
+            let (stat, dtype, rest) = other_stat(column, text)?;
+            Some((stat, dtype, rest))
+        }
     }
 }
 
@@ -85,11 +93,13 @@ fn spaced_precision(text: &[u8]) -> Option<(bool, &[u8])>
     ensures word { IfSome result (λ x. BeginsSpaced text.now (precision_name x.0) x.1.now) }
     ensures shorter { IfSome result (λ x. length x.1.now < length text.now) }
 {
-    match text {
-        [b' ', b'e', b'x', b'a', b'c', b't', rest @ ..] => Some((true, rest)),
-        [b' ', b'i', b'n', b'e', b'x', b'a', b'c', b't', rest @ ..] => Some((false, rest)),
-        _ => None,
+    if let Some(rest) = text.strip_prefix(b" exact".as_slice()) {
+        return Some((true, rest));
     }
+    if let Some(rest) = text.strip_prefix(b" inexact".as_slice()) {
+        return Some((false, rest));
+    }
+    None
 }
 
 // The truth at the front of a text, and what follows it.
@@ -105,24 +115,47 @@ fn plain_truth(text: &[u8]) -> Option<(bool, &[u8])>
     }
 }
 
-// The number or truth of a type behind one space at the front of a text, and what follows it.
+// The truth at the front of a text, if that is of this type, and what follows it.
+#[inline(never)]
+fn truth_value(dtype: DType, text: &[u8]) -> Option<(ScalarValue, &[u8])>
+    ensures value { IfSome result (λ x. BeginsPlainValue dtype text.now x.0 x.1.now) }
+    ensures shorter { IfSome result (λ x. length x.1.now < length text.now) }
+{
+    match dtype {
+        DType::Bool(_) => {
+            let (truth, rest) = plain_truth(text)?;
+            Some((ScalarValue::Bool(truth), rest))
+        }
+        _ => None,
+    }
+}
+
+// The number or truth of a type at the front of a text, and what follows it.
+#[inline(always)]
+fn plain_scalar(dtype: DType, text: &[u8]) -> Option<(ScalarValue, &[u8])>
+    ensures value { IfSome result (λ x. BeginsPlainValue dtype text.now x.0 x.1.now) }
+    ensures shorter { IfSome result (λ x. length x.1.now < length text.now) }
+{
+    match dtype {
+        DType::Primitive(ptype, _) => {
+            let (number, rest) = plain_number(ptype, text)?;
+            Some((ScalarValue::Primitive(number), rest))
+        }
+        _ => {
+            let (truth, rest) = truth_value(dtype, text)?;
+            Some((truth, rest))
+        }
+    }
+}
+
+// The same behind one space.
 #[inline(always)]
 fn spaced_value(dtype: DType, text: &[u8]) -> Option<(ScalarValue, &[u8])>
     ensures value { IfSome result (λ x. BeginsSpacedValue dtype text.now x.0 x.1.now) }
     ensures shorter { IfSome result (λ x. length x.1.now < length text.now) }
 {
-    let [b' ', behind @ ..] = text else {
-        return None;
-    };
-    match dtype {
-        DType::Primitive(ptype, _) => {
-            let (number, rest) = plain_number(ptype, behind)?;
-            Some((ScalarValue::Primitive(number), rest))
-        }
-        DType::Bool(_) => {
-            let (truth, rest) = plain_truth(behind)?;
-            Some((ScalarValue::Bool(truth), rest))
-        }
+    match text {
+        [b' ', behind @ ..] => plain_scalar(dtype, behind),
         _ => None,
     }
 }
@@ -149,8 +182,7 @@ fn plain_claim<'a>(columns: &Columns, near: usize, text: &'a [u8]) -> Option<(Cl
 {
     let (name, named) = spaced_word(text)?;
     let (place, column) = columns.find_near(near, name)?;
-    let (stat, rest) = spaced_stat(named)?;
-    let dtype = stat.dtype(&column)?;
+    let (stat, dtype, rest) = spaced_stat(column, named)?;
     Some((Claim { place, stat, dtype }, rest))
 }
 

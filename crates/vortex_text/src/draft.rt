@@ -180,7 +180,7 @@ impl Draft {
     }
 
     // Tells a statistic of the open part, of whose line so many bytes are left.
-    #[inline]
+    #[inline(always)]
     fn tell(&mut self, told: Told, left: usize) -> Result<(), LineError>
         ensures read { let old = reading_of self.old in
             Changes result (with_claim old told.place told.stat told.value) (reading_of self.new) }
@@ -335,27 +335,6 @@ impl Draft {
         }
     }
 
-    // The statistic that a text begins with, behind its first word, if its line is in plain form.
-    // The text after the line comes back.
-    #[inline(never)]
-    fn tell_first<'a>(&mut self, text: &'a [u8]) -> Option<Result<&'a [u8], LineError>>
-        requires { (reading_of self.old).predicate ≡ None }
-        ensures read { let old = reading_of self.old in
-            MatchOption result (reading_of self.new ≡ old)
-            (λ told. GivesAndChanges (λ rest. lines rest.now) told
-            (first_read old (lines (codes "stat" ++ text.now))) (reading_of self.new)) }
-        ensures memory { IfSome result (λ told. IsErrOf told LineError.Memory
-            → IsTrue (is_some (reading_of self.old).current)) }
-        ensures shorter { IfSome result
-            (λ told. IfOk told (λ rest. length rest.now < length text.now)) }
-    {
-        let (told, after) = plain_stat(&self.columns, self.told, text)?;
-        match self.tell(told, text.len() - after.len() - 1) {
-            Ok(()) => Some(Ok(after)),
-            Err(refused) => Some(Err(refused)),
-        }
-    }
-
     // The first line of a text, whatever it is. The text after it comes back.
     fn read_any_first<'a>(&mut self, alloc: Global, text: &'a [u8]) -> Result<&'a [u8], LineError>
         requires some { 0 < length text.now }
@@ -370,6 +349,32 @@ impl Draft {
         let (line, rest) = next_line(text);
         self.read_line(alloc, line)?;
         Ok(rest)
+    }
+
+    // The first line of a text, of which the word `stat` was passed. A line in plain form is read
+    // from its bytes, without a look at where it ends.
+    #[inline(never)]
+    fn read_first_stat<'a>(
+        &mut self,
+        alloc: Global,
+        text: &'a [u8],
+        said: &'a [u8],
+    ) -> Result<&'a [u8], LineError>
+        requires split { text.now ≡ codes "stat" ++ said.now }
+        requires open_yet { (reading_of self.old).predicate ≡ None }
+        requires fits { FitsTogether (reading_of self.old) }
+        ensures read { let old = reading_of self.old in
+            GivesAndChanges (λ rest. lines rest.now) result (first_read old (lines text.now))
+            (reading_of self.new) }
+        ensures memory { IsErrOf result LineError.Memory
+            → IsTrue (may_take (reading_of self.old) (lines text.now)) }
+        ensures shorter { IfOk result (λ rest. length rest.now < length text.now) }
+    {
+        let Some((told, after)) = plain_stat(&self.columns, self.told, said) else {
+            return self.read_any_first(alloc, text);
+        };
+        self.tell(told, said.len() - after.len() - 1)?;
+        Ok(after)
     }
 
     /// Reads the first line of a text. The text after it comes back. A line that isn't UTF-8 is
@@ -398,9 +403,7 @@ impl Draft {
             return Ok(after);
         }
         if let [b's', b't', b'a', b't', said @ ..] = text {
-            if let Some(told) = self.tell_first(said) {
-                return told;
-            }
+            return self.read_first_stat(alloc, text, said);
         }
         self.read_any_first(alloc, text)
     }

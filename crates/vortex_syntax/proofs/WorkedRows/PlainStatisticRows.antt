@@ -8,7 +8,7 @@ use Rattle.vortex_base.specs.declared.types.Nullability.TheVariants.{NonNullable
 use Rattle.vortex_base.specs.declared.types.PType.TheVariants as ptype
 use Rattle.vortex_stats.specs.declared.precision.Precision.TheVariants.{Exact, Inexact}
 use Rattle.vortex_stats.specs.declared.stat.Stat.TheVariants as stat
-use Rattle.vortex_syntax.specs.PlainStatistics.{BeginsClaim, BeginsSpaced, BeginsSpacedValue, BeginsStat, BeginsWords, precise, precision_name, told_by, truth_name}
+use Rattle.vortex_syntax.specs.PlainStatistics.{BeginsClaim, BeginsPlainValue, BeginsSpaced, BeginsSpacedStat, BeginsSpacedValue, BeginsStat, BeginsWords, precise, precision_name, told_by, truth_name}
 use Rattle.vortex_syntax.specs.Words.{words}
 use Rattle.std.proofs.Common.{List}
 
@@ -52,10 +52,13 @@ inexact_value : precise false (value.Bool false) ≡ Inexact (value.Bool false)
 inexact_value = refl
 
 number_below_zero : BeginsSpacedValue (dtype.Primitive ptype.I8 Nullable) (codes " -5\npart") (value.Primitive (number.I8 (negsuc 4))) (codes "\npart")
-number_below_zero = (codes "-5", (codes "-5\npart", refl, record { split = refl; some = omega arith; is_plain = refl }), refl)
+number_below_zero = (codes "-5\npart", refl, (codes "-5", record { split = refl; some = omega arith; is_plain = refl }, refl))
 
-truth : BeginsSpacedValue (dtype.Bool NonNullable) (codes " true\n") (value.Bool true) (codes "\n")
-truth = (codes "true", (codes "true\n", refl, record { split = refl; some = omega arith; is_plain = refl }), refl)
+truth : BeginsPlainValue (dtype.Bool NonNullable) (codes "true\n") (value.Bool true) (codes "\n")
+truth = (codes "true", record { split = refl; some = omega arith; is_plain = refl }, refl)
+
+name_of_a_statistic : BeginsSpacedStat (codes " is_sorted exact") stat.IsSorted (codes " exact")
+name_of_a_statistic = (codes "is_sorted", (codes "is_sorted exact", refl, record { split = refl; some = omega arith; is_plain = refl }), refl)
 
 second_column : BeginsClaim two (codes " ab min exact") (1, stat.Min, dtype.Bool NonNullable) (codes " exact")
 second_column = (

@@ -2,8 +2,8 @@ use Rattle.std.proofs.Common.{◌≡◌, codes, get_or, refl, arith}
 use Rattle.vortex_syntax.proofs.Fronts.{spaced_is}
 use Rattle.vortex_syntax.proofs.plain_statistic.spaced_stat.Goals as goal
 
-pub returns-in-32-clause-stat : goal.returns-in-32-clause-stat
-returns-in-32-clause-stat c =
+pub returns-in_ok-dtype-in-32-clause-stat : goal.returns-in_ok-dtype-in-32-clause-stat
+returns-in_ok-dtype-in-32-clause-stat c =
     let text = c.args.text.now in
     let space : get_or text 0 0 ≡ 32 = omega arith in
     let m : get_or text 1 0 ≡ 109 = omega arith in
@@ -11,8 +11,8 @@ returns-in-32-clause-stat c =
     let n : get_or text 3 0 ≡ 110 = omega arith in
     (codes "min", spaced_is (codes "min") text refl (omega arith) (omega arith) (space, (m, (i, (n, tt)))), refl)
 
-pub returns-in-32-2-clause-stat : goal.returns-in-32-2-clause-stat
-returns-in-32-2-clause-stat c =
+pub returns-in_ok-dtype-in-32-2-clause-stat : goal.returns-in_ok-dtype-in-32-2-clause-stat
+returns-in_ok-dtype-in-32-2-clause-stat c =
     let text = c.args.text.now in
     let space : get_or text 0 0 ≡ 32 = omega arith in
     let m : get_or text 1 0 ≡ 109 = omega arith in
