@@ -8,10 +8,8 @@ use Rattle.std.specs.List.{list_all, onto_first, slice_split}
 use Rattle.std.specs.Str.{IsAscii, is_utf8}
 use Rattle.std.specs.Str.Lines.{lines, lines_of_parts, strip_carriage_return}
 use Rattle.vortex_syntax.proofs.FirstLine.{ends, lines_of_parts-more}
-use Rattle.vortex_syntax.proofs.Spelling.{word_back}
 use Rattle.vortex_syntax.specs.Plain.{EndsWord, is_line_byte}
-use Rattle.vortex_syntax.specs.Spelling.{CanBeSpelled, IsParted, spelled}
-use Rattle.vortex_syntax.specs.Words.{Token, words}
+use Rattle.vortex_syntax.specs.Spelling.{IsParted}
 
 -- ---- lines
 
@@ -88,9 +86,3 @@ utf8_one b text clean =
 pub utf8_behind : (front text : List ℕ) → list_all is_line_byte front ≡ true → is_utf8 (front ++ text) ≡ is_utf8 text
 utf8_behind [] text clean = refl
 utf8_behind (b ∷ front) text clean = let (one, more) = and_parts _ _ clean in utf8_one b (front ++ text) one ∙ utf8_behind front text more
-
--- ---- words
-
--- a word behind a space is the first
-pub word_first : (w : Token) (tail : List ℕ) → CanBeSpelled w → IsParted tail → words (32 ∷ (spelled w ++ tail)) ≡ w ∷ words tail
-word_first w tail can parted = word_back w tail can parted

@@ -9,12 +9,13 @@ use Rattle.std.specs.Str.{is_utf8}
 use Rattle.std.specs.Str.Lines.{lines}
 use Rattle.vortex_base.specs.Data.Columns.{ColumnData}
 use Rattle.vortex_base.specs.declared.scalar_value.ScalarValue.{ScalarValue}
+use Rattle.vortex_syntax.proofs.Spelling.{word_back}
 use Rattle.vortex_syntax.specs.Plain.{BeginsValue, EndsWord, is_line_byte}
 use Rattle.vortex_syntax.specs.Spelling.{CanBeSpelled, IsParted, spelled}
 use Rattle.vortex_syntax.specs.Values.{optional_value_of}
 use Rattle.vortex_syntax.specs.Words.{Token, Plain, Quoted, Broken, words}
 use Rattle.vortex_text.proofs.ColumnLemmas.{row_more}
-use Rattle.vortex_text.proofs.FirstLineLemmas.{line_parted, lines_behind, lines_ended, parted_at, utf8_behind, word_first}
+use Rattle.vortex_text.proofs.FirstLineLemmas.{line_parted, lines_behind, lines_ended, parted_at, utf8_behind}
 use Rattle.vortex_text.specs.Columns.{behind, taken, with_value, with_values}
 use Rattle.vortex_text.specs.FirstLines.{BeginsRow, TakesValue, first_row}
 
@@ -28,8 +29,8 @@ row_begun cs text = record { front = []; split = refl; clean = refl; row = λ ta
 
 taken_first : (c : ColumnData) (w : Token) (tail : List ℕ) (v : Option ScalarValue) → CanBeSpelled w → IsParted tail → optional_value_of c.dtype w ≡ Some v
     → taken c (words (32 ∷ (spelled w ++ tail))) ≡ Some (with_value v c, words tail)
-taken_first c (Plain word) tail v can parted is = rw (word_first (Plain word) tail can parted, is) refl
-taken_first c (Quoted text) tail v can parted is = rw (word_first (Quoted text) tail can parted, is) refl
+taken_first c (Plain word) tail v can parted is = rw (word_back (Plain word) tail can parted, is) refl
+taken_first c (Quoted text) tail v can parted is = rw (word_back (Quoted text) tail can parted, is) refl
 taken_first c Broken tail v can parted is = absurd can
 
 -- a value in plain form with a space behind it is the first word's

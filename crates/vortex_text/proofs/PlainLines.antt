@@ -11,10 +11,11 @@ use Rattle.vortex_base.specs.declared.scalar_value.ScalarValue.{ScalarValue}
 use Rattle.vortex_prune.specs.Part.{PartData}
 use Rattle.vortex_stats.specs.declared.precision.Precision.{Precision}
 use Rattle.vortex_stats.specs.declared.stat.Stat.{Stat}
+use Rattle.vortex_syntax.proofs.PlainLemmas.{is_spelled, line_bytes}
 use Rattle.vortex_syntax.proofs.Spelling.{word_back}
 use Rattle.vortex_syntax.specs.Fails.{Fails}
 use Rattle.vortex_syntax.specs.LineKinds.{kind_of}
-use Rattle.vortex_syntax.specs.Plain.{is_word_byte}
+use Rattle.vortex_syntax.specs.Plain.{is_line_byte, is_word_byte}
 use Rattle.vortex_syntax.specs.PlainStatistics.{BeginsStat, BeginsWords, told_by}
 use Rattle.vortex_syntax.specs.Spelling.{IsParted}
 use Rattle.vortex_syntax.specs.Statistics.{claimed, claimed_value}
@@ -24,11 +25,10 @@ use Rattle.vortex_syntax.specs.declared.line_kind.LineKind.{LineKind}
 use Rattle.vortex_syntax.specs.declared.line_kind.LineKind.TheVariants as kind
 use Rattle.vortex_text.proofs.ColumnLemmas.{fails_on}
 use Rattle.vortex_text.proofs.DraftLemmas.{by_kind}
-use Rattle.vortex_text.proofs.FirstLineLemmas.{is_spelled, lines_behind, lines_ended, utf8_behind, word_first}
+use Rattle.vortex_text.proofs.FirstLineLemmas.{lines_behind, lines_ended, utf8_behind}
 use Rattle.vortex_text.proofs.FirstReads.{line_may}
-use Rattle.vortex_text.proofs.FirstRows.{line_bytes}
 use Rattle.vortex_text.proofs.Fitting.ExpressionFits.{one_made, step_of}
-use Rattle.vortex_text.specs.FirstLines.{first_read, is_line_byte, may_take}
+use Rattle.vortex_text.specs.FirstLines.{first_read, may_take}
 use Rattle.vortex_text.specs.Lines.{Reading, read_kind, read_line, read_part, read_stat, with_claim}
 use Rattle.vortex_text.specs.MemoryTaken.{kind_takes, line_takes}
 
@@ -55,7 +55,7 @@ spaced_clean text rest (w ∷ ws) (after, (behind, is, begins), more) =
 spaced_words : (text rest : List ℕ) (ws : List (List ℕ)) → BeginsWords text ws rest → words (spaced ws) ≡ map Plain ws
 spaced_words text rest [] is = refl
 spaced_words text rest (w ∷ ws) (after, (behind, is, begins), more) =
-    word_first w (spaced ws) begins.is_plain begins.some (spaced_parted ws) ∙ ap (λ l. Plain w ∷ l) (spaced_words after rest ws more)
+    word_back (Plain w) (spaced ws) (is_spelled w begins.is_plain begins.some) (spaced_parted ws) ∙ ap (λ l. Plain w ∷ l) (spaced_words after rest ws more)
 
 -- ---- a line of some kind
 
