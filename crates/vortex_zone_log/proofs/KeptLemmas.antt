@@ -6,7 +6,7 @@ use Rattle.vortex_base.specs.declared.cells.ShortCell.{ShortCell}
 use Rattle.vortex_base.specs.declared.cells.ShortCell.TheVariants as cell
 use Rattle.vortex_base.specs.declared.scalar_value.ScalarValue.{ScalarValue}
 use Rattle.vortex_rewrite.proofs.Logic.{all_append}
-use Rattle.vortex_zone_log.specs.Kept.{AreKept, IsFormed, IsKept, IsLonger, IsPlace, Saying, exact, formed, inexact, long_value, said, saying}
+use Rattle.vortex_zone_log.specs.Kept.{AreKept, IsFormed, IsLonger, IsPlace, Saying, exact, formed, inexact, long_value, said, saying}
 use Rattle.vortex_zone_log.specs.declared.kept.Form.{Form}
 use Rattle.vortex_zone_log.specs.declared.kept.Form.TheVariants as form
 use Rattle.vortex_zone_log.specs.declared.told.Told.{Told}
@@ -41,11 +41,11 @@ stays_formed m n form.Inexact c le h = tt
 said_grows : (longs more : List ScalarValue) (ts : List Told) → AreKept (length longs) ts → said (longs ++ more) ts ≡ said longs ts
 said_grows longs more [] all = refl
 said_grows longs more (t ∷ ts) (is, all) =
-    ap₂ (λ v (l : List Saying). let s : Saying = record { column = t.column; stat = t.stat; value = v } in s ∷ l) (formed_grows longs more t.kept.form t.kept.cell is) (said_grows longs more ts all)
+    ap₂ (λ v (l : List Saying). let s : Saying = record { column = t.column; stat = t.stat; value = v } in s ∷ l) (formed_grows longs more t.form t.cell is) (said_grows longs more ts all)
 
 stays_kept : (m n : ℕ) (ts : List Told) → m ≤ n → AreKept m ts → AreKept n ts
 stays_kept m n [] le all = tt
-stays_kept m n (t ∷ ts) le (is, all) = (stays_formed m n t.kept.form t.kept.cell le is, stays_kept m n ts le all)
+stays_kept m n (t ∷ ts) le (is, all) = (stays_formed m n t.form t.cell le is, stays_kept m n ts le all)
 
 -- ---- texts behind others
 
@@ -75,5 +75,5 @@ module _ (old new : List ScalarValue) (longer : IsLonger old new) (ts : List Tol
   pub one_more_said : (more : List Told) (t : Told) (s : Saying) → more ≡ ts ++ t ∷ [] → saying new t ≡ s → said new more ≡ said old ts ++ s ∷ []
   one_more_said more t s pushed says = ap (said new) pushed ∙ map_push (saying new) ts t ∙ ap₂ (λ (l : List Saying) (x : Saying). l ++ x ∷ []) said_longer says
 
-  pub one_more_kept : (more : List Told) (t : Told) → more ≡ ts ++ t ∷ [] → IsKept (length new) t.kept → AreKept (length new) more
-  one_more_kept more t pushed is = subst (AreKept (length new)) (sym pushed) (all_append (λ (x : Told). IsKept (length new) x.kept) ts (t ∷ []) kept_longer (is, tt))
+  pub one_more_kept : (more : List Told) (t : Told) → more ≡ ts ++ t ∷ [] → IsFormed (length new) t.form t.cell → AreKept (length new) more
+  one_more_kept more t pushed is = subst (AreKept (length new)) (sym pushed) (all_append (λ (x : Told). IsFormed (length new) x.form x.cell) ts (t ∷ []) kept_longer (is, tt))

@@ -1,6 +1,7 @@
 pub mod FillLemmas
 pub mod JoinLemmas
 pub mod KeptLemmas
+pub mod LinkLemmas
 pub mod LogLemmas
 pub mod MapLemmas
 pub mod RunLemmas

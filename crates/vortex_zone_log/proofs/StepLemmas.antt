@@ -11,7 +11,7 @@ use Rattle.vortex_stats.specs.declared.stat.Stat.{Stat}
 use Rattle.vortex_zone_log.proofs.JoinLemmas.{joined_within, joined_zones}
 use Rattle.vortex_zone_log.proofs.KeptLemmas.{kept_longer, said_longer}
 use Rattle.vortex_zone_log.proofs.LogLemmas.{IsNext, next_is_within, none_told, nothing_told, one_more_told, others_within, zones_ended}
-use Rattle.vortex_zone_log.specs.Kept.{AreKept, IsKept, IsLog, IsLonger, IsWithin, Saying, log_of, said, saying, sets_of, zones_of}
+use Rattle.vortex_zone_log.specs.Kept.{AreKept, IsFormed, IsLog, IsLonger, IsWithin, Saying, log_of, said, saying, sets_of, zones_of}
 use Rattle.vortex_zone_log.specs.Logs.{LogData, ended, joined_at, with_told}
 use Rattle.vortex_zone_log.specs.declared.stretch.Stretch.{Stretch}
 use Rattle.vortex_zone_log.specs.declared.told.Told.{Told}
@@ -77,7 +77,7 @@ module _ (n : ℕ) (longs : List ScalarValue) (told more current : List Told) (r
   both = map-append (saying longs) told more
 
   all_kept : AreKept (length longs) (told ++ more)
-  all_kept = all_append (λ (t : Told). IsKept (length longs) t.kept) told more is.told_kept kept
+  all_kept = all_append (λ (t : Told). IsFormed (length longs) t.form t.cell) told more is.told_kept kept
 
   is_log : (all now : List Told) (ss : List Stretch) → all ≡ told ++ more → AreKept (length longs) now → AllByRecursion (IsWithin (length (before ++ behind))) ss → IsLog longs all now ss
   is_log all now ss same there within = record {

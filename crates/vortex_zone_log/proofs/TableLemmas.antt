@@ -1,9 +1,8 @@
--- What is told of a zone is put under the heads that read it, and changes unread other cell.
+-- What is told of a zone is put under the heads that read it, and changes no other cell.
 use Rattle.std.proofs.Common.{◌≡◌, ◌≢◌, ◌==◌, ◌&&◌, ◌<◌, ◌≤◌, ◌+◌, ◌++◌, ◌∙◌, ℕ, zero, suc, Bool, true, false, List, [], ◌∷◌, Option, None, Some, ap, arith, eq-eqb, eqb-true, get_or, inl, inr, length, map, refl, sym, take, ◌⊎◌}
 use Rattle.std.proofs.Math.Nat.{eq-or-lt_of_le}
 use Rattle.std.proofs.lemmas.List.{length-map, length-set, map-append, map_push, set_at, take_more}
-use Rattle.std.proofs.lemmas.Option.{same_Some, slice_get_past}
-use Rattle.std.specs.Bool.{MatchBool}
+use Rattle.std.proofs.lemmas.Option.{same_Some, slice_get_past, slice_get_within}
 use Rattle.std.specs.Prelude.{slice_get, slice_set}
 use Rattle.vortex_base.specs.Data.Cells.{cell_values}
 use Rattle.vortex_base.specs.Data.Exact.{both_true}
@@ -21,8 +20,7 @@ use Rattle.vortex_zone_log.proofs.LogLemmas.{sets_with-append}
 use Rattle.vortex_zone_log.specs.Kept.{Saying, said, saying, sets_with}
 use Rattle.vortex_zone_log.specs.declared.told.Told.{Told}
 use Rattle.vortex_zone_log.specs.Logs.{set_at as stat_set}
-use Rattle.vortex_zone_log.specs.Tables.{AreCells, AreSpans, IsPut, is_read, reads, under, with_saying}
-use Rattle.vortex_zone_log.specs.declared.span.Span.{Span}
+use Rattle.vortex_zone_log.specs.Tables.{AreCells, IsNextReader, is_read, reads, under, with_saying}
 
 -- a zone with these sets
 abbrev pub zone_with : ℕ → List Entries → ZoneData
@@ -42,7 +40,7 @@ set_elsewhere (z ∷ xs) zero (suc i) y n = refl
 set_elsewhere (z ∷ xs) (suc k) zero y n = refl
 set_elsewhere (z ∷ xs) (suc k) (suc i) y n = set_elsewhere xs k i y (λ e. n (ap suc e))
 
-lt_or_le : (k n : ℕ) → (k < n) ⊎ (n ≤ k)
+pub lt_or_le : (k n : ℕ) → (k < n) ⊎ (n ≤ k)
 lt_or_le k zero = inr (omega arith)
 lt_or_le zero (suc n) = inl (omega arith)
 lt_or_le (suc k) (suc n) = elim (lt_or_le k n) [ inl less ↦ inl (omega (arith, less)) | inr le ↦ inr (omega (arith, le)) ]
@@ -134,66 +132,68 @@ set_between h before after y z i v at is =
     ∙ set_at (map f before) (f z) (map f after) v i (length-map before f ∙ at)
     ∙ ap (λ x. map f before ++ x ∷ map f after) is ∙ sym (map-append f before (y ∷ after))
 
-module _ (heads : List Head) (spans : List Span) (are : AreSpans heads spans) (t : Saying) (span : Span) (there : slice_get spans t.column ≡ Some span) (before after : List ZoneData) (z : ZoneData) where
+-- there is no such column
+pub nothing_with : (t : Saying) (z : ZoneData) → length z.stats ≤ t.column → with_saying t z ≡ z
+nothing_with t z past = ap (λ o. let with : ZoneData = record { rows = z.rows; stats = stat_set t.column t.stat t.value z.stats o } in with) (slice_get_past z.stats t.column past)
+
+module _ (heads : List Head) (t : Saying) (before after : List ZoneData) (z : ZoneData) where
   abbrev new : List ZoneData
   new = before ++ with_saying t z ∷ after
 
   abbrev old : List ZoneData
   old = before ++ z ∷ after
 
-  -- a head outside the span tells of another column
-  outside : (k : ℕ) (h : Head) → slice_get heads k ≡ Some h → (k < span.first) ⊎ (span.end ≤ k) → h.source ≢ t.column
-  outside k h at out = λ e.
-      let in_span = are k h span at (ap (slice_get spans) e ∙ there) in
-      elim out [ inl less ↦ omega (arith, less, in_span.0) | inr more ↦ omega (arith, more, in_span.1) ]
-
-  unchanged : (k : ℕ) (h : Head) → slice_get heads k ≡ Some h → (k < span.first) ⊎ (span.end ≤ k) → under h new ≡ under h old
-  unchanged k h at out = told_between h before after (with_saying t z) z (other_column h t z (outside k h at out))
-
-  pub mixed_first : (cells : List Cells) → AreCells heads old cells → AreMixed heads span.first new old cells
-  mixed_first cells is = record {
+  pub none_mixed : (cells : List Cells) → AreCells heads old cells → AreMixed heads 0 new old cells
+  none_mixed cells is = record {
     long = is.long;
-    before = λ k h c at got less. is.told k h c at got ∙ sym (unchanged k h at (inl less));
+    before = λ k h c at got less. absurd (omega (arith, less));
     behind = λ k h c at got le. is.told k h c at got;
   }
 
-  pub mixed_last : (n : ℕ) (cells : List Cells) → span.end ≤ n → AreMixed heads n new old cells → AreCells heads new cells
-  mixed_last n cells past is = record {
+  -- the heads before the next reader read nothing of it
+  pub mixed_on : (m n : ℕ) (cells : List Cells) → IsNextReader heads t.column t.stat m n → AreMixed heads m new old cells → AreMixed heads n new old cells
+  mixed_on m n cells reader is = record {
     long = is.long;
-    told = λ k h c at got. elim (lt_or_le k n) [
-      | inl less ↦ is.before k h c at got less
-      | inr le ↦ is.behind k h c at got le ∙ sym (unchanged k h at (inr (omega (arith, past, le))))
+    before = λ k h c at got less. elim (lt_or_le k m) [
+      | inl first ↦ is.before k h c at got first
+      | inr le ↦ is.behind k h c at got le ∙ sym (told_between h before after (with_saying t z) z (not_read h t z (reader.unread k h at le less)))
     ];
+    behind = λ k h c at got le. is.behind k h c at got (let more = reader.behind in omega (arith, more, le));
   }
 
-  module _ (n : ℕ) (g : Head) (here : slice_get heads n ≡ Some g) where
-    by_reading : (one two : Cells) (i : ℕ) → cell_values one ≡ under g old → length before ≡ i → t.column < length z.stats → (b : Bool) → reads g t.column t.stat ≡ b
-        → MatchBool b (cell_values two ≡ slice_set (cell_values one) i (told_value g.aggregate t.value z.rows)) (cell_values two ≡ cell_values one) → cell_values two ≡ under g new
-    by_reading one two i was at within true read set =
-        set ∙ ap (λ l. slice_set l i (told_value g.aggregate t.value z.rows)) was
-        ∙ set_between g before after (with_saying t z) z i (told_value g.aggregate t.value z.rows) at (sym (is_told g t z read within))
-    by_reading one two i was at within false unread same = same ∙ was ∙ sym (told_between g before after (with_saying t z) z (not_read g t z unread))
+  -- there is no such column
+  pub none_reads : (n : ℕ) (cells : List Cells) → length z.stats ≤ t.column → AreCells heads old cells → AreMixed heads n new old cells
+  none_reads n cells past is = record {
+    long = is.long;
+    before = λ k h c at got less. is.told k h c at got ∙ sym (told_between h before after (with_saying t z) z (ap (zone_value h.aggregate h.source) (nothing_with t z past)));
+    behind = λ k h c at got le. is.told k h c at got;
+  }
 
+  pub all_mixed : (n : ℕ) (cells : List Cells) → length heads ≤ n → AreMixed heads n new old cells → AreCells heads new cells
+  all_mixed n cells past is = record {
+    long = is.long;
+    told = λ k h c at got. is.before k h c at got (let within = slice_get_within heads k h at in omega (arith, within, past));
+  }
+
+  module _ (n : ℕ) (g : Head) (here : slice_get heads n ≡ Some g) (read : reads g t.column t.stat ≡ true) (place : t.column < length z.stats) where
     -- what is put under it
-    pub put_value : (one two : Cells) (i : ℕ) → IsPut g t i z.rows one two → cell_values one ≡ under g old → length before ≡ i → t.column < length z.stats → cell_values two ≡ under g new
-    put_value one two i put was at within = by_reading one two i was at within (reads g t.column t.stat) refl put
+    put_value : (one two : Cells) (i : ℕ) → cell_values two ≡ slice_set (cell_values one) i (told_value g.aggregate t.value z.rows) → cell_values one ≡ under g old → length before ≡ i → cell_values two ≡ under g new
+    put_value one two i put was at =
+        put ∙ ap (λ l. slice_set l i (told_value g.aggregate t.value z.rows)) was
+        ∙ set_between g before after (with_saying t z) z i (told_value g.aggregate t.value z.rows) at (sym (is_told g t z read place))
 
-    pub mixed_next : (cells : List Cells) (one two : Cells) (i : ℕ) → IsPut g t i z.rows one two → length before ≡ i → t.column < length z.stats → slice_get cells n ≡ Some one → AreMixed heads n new old cells → AreMixed heads (n + 1) new old (slice_set cells n two)
-    mixed_next cells one two i put place within got is = record {
+    pub mixed_next : (cells : List Cells) (one two : Cells) (i : ℕ) → cell_values two ≡ slice_set (cell_values one) i (told_value g.aggregate t.value z.rows) → length before ≡ i → slice_get cells n ≡ Some one → AreMixed heads n new old cells → AreMixed heads (n + 1) new old (slice_set cells n two)
+    mixed_next cells one two i put at got is = record {
       long = length-set cells n two ∙ is.long;
-      before = λ k h c at found less. elim (eq-or-lt_of_le {n = k} {m = n} (omega (arith, less))) [
+      before = λ k h c there found less. elim (eq-or-lt_of_le {n = k} {m = n} (omega (arith, less))) [
         | inl same ↦
-            let own : g ≡ h = same_Some g h (sym here ∙ ap (slice_get heads) (sym same) ∙ at) in
+            let own : g ≡ h = same_Some g h (sym here ∙ ap (slice_get heads) (sym same) ∙ there) in
             let cell : two ≡ c = same_Some two c (sym (set_there cells n one two got) ∙ ap (slice_get (slice_set cells n two)) (sym same) ∙ found) in
-            ap cell_values (sym cell) ∙ put_value one two i put (is.behind n g one here got (omega arith)) place within ∙ ap (λ x. under x new) own
-        | inr below ↦ is.before k h c at (sym (set_elsewhere cells n k two (λ e. omega (arith, e, below))) ∙ found) below
+            ap cell_values (sym cell) ∙ put_value one two i put (is.behind n g one here got (omega arith)) at ∙ ap (λ x. under x new) own
+        | inr below ↦ is.before k h c there (sym (set_elsewhere cells n k two (λ e. omega (arith, e, below))) ∙ found) below
       ];
-      behind = λ k h c at found le. is.behind k h c at (sym (set_elsewhere cells n k two (λ e. omega (arith, e, le))) ∙ found) (omega (arith, le));
+      behind = λ k h c there found le. is.behind k h c there (sym (set_elsewhere cells n k two (λ e. omega (arith, e, le))) ∙ found) (omega (arith, le));
     }
-
--- there is no such column
-pub nothing_with : (t : Saying) (z : ZoneData) → length z.stats ≤ t.column → with_saying t z ≡ z
-nothing_with t z past = ap (λ o. let with : ZoneData = record { rows = z.rows; stats = stat_set t.column t.stat t.value z.stats o } in with) (slice_get_past z.stats t.column past)
 
 -- one more of what is told of a zone
 pub next_sets : (longs : List ScalarValue) (ts : List Told) (n : ℕ) (d : Told) (sets : List Entries) (rows : ℕ) → n < length ts

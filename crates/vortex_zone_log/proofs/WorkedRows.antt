@@ -5,7 +5,6 @@ use Rattle.vortex_base.specs.declared.pvalue.PValue.TheVariants as number
 use Rattle.vortex_base.specs.declared.scalar_value.ScalarValue.{ScalarValue}
 use Rattle.vortex_base.specs.declared.scalar_value.ScalarValue.TheVariants as value
 use Rattle.vortex_prune.specs.Part.{Entries, ZoneData}
-use Rattle.vortex_stats.specs.declared.precision.Precision.{Precision}
 use Rattle.vortex_stats.specs.declared.precision.Precision.TheVariants.{Absent, Exact, Inexact}
 use Rattle.vortex_stats.specs.declared.stat.Stat.TheVariants.{Max, Min, NullCount}
 use Rattle.vortex_zone_log.specs.Kept.{both_runs, log_of}
@@ -94,10 +93,10 @@ none_of_them = refl
 -- ---- how it is kept: one zone in front, two behind it the other way round, and a text
 
 abbrev told : ℕ → Told
-told n = record { column = 0; stat = Max; kept = record { form = form.Exact; cell = cell.I64 (pos n) } }
+told n = record { column = 0; stat = Max; form = form.Exact; cell = cell.I64 (pos n) }
 
 abbrev text : Told
-text = record { column = 1; stat = Max; kept = record { form = form.LongInexact; cell = cell.U64 0 } }
+text = record { column = 1; stat = Max; form = form.LongInexact; cell = cell.U64 0 }
 
 abbrev stretch : (rows from to : ℕ) → Stretch
 stretch rows from to = record { rows = rows; from = from; to = to }

@@ -106,13 +106,13 @@ pub record IsLonger (old new : List ScalarValue) : Type 0 where
 -- ---- what is told, and with the texts and bytes beside it what it says
 
 abbrev pub saying : List ScalarValue → Told → Saying
-saying longs t = record { column = t.column; stat = t.stat; value = kept_value longs t.kept }
+saying longs t = record { column = t.column; stat = t.stat; value = formed longs t.form t.cell }
 
 abbrev pub said : List ScalarValue → List Told → List Saying
 said longs ts = map (saying longs) ts
 
 abbrev pub AreKept : ℕ → List Told → Type 0
-AreKept n ts = AllByRecursion (λ t. IsKept n t.kept) ts
+AreKept n ts = AllByRecursion (λ t. IsFormed n t.form t.cell) ts
 
 -- what every log keeps: each stretch is one of what is told, and each text is there
 pub record IsLog (longs : List ScalarValue) (told current : List Told) (runs : List Stretch) : Type 0 where

@@ -1,20 +1,16 @@
 -- The table of a map in the making: which column of it reads what is told, and of which zones its cells tell.
-use Rattle.std.specs.Prelude.{◌≡◌, ◌==◌, ◌&&◌, ◌+◌, ◌<◌, ◌≤◌, ℕ, Bool, false, List, Option, None, Some, length, map, min, replicate, slice_get, slice_set}
-use Rattle.std.specs.Bool.{MatchBool}
+use Rattle.std.specs.Prelude.{◌≡◌, ◌==◌, ◌&&◌, ◌+◌, ◌*◌, ◌<◌, ◌≤◌, ℕ, Bool, true, false, List, Option, None, Some, length, map, replicate, slice_get}
 use Rattle.vortex_base.specs.Data.Cells.{cell_values}
 use Rattle.vortex_base.specs.declared.cells.Cells.{Cells}
-use Rattle.vortex_base.specs.declared.cells.ShortCell.{ShortCell}
-use Rattle.vortex_base.specs.declared.cells.ShortCell.TheVariants as cell
 use Rattle.vortex_base.specs.declared.scalar_value.ScalarValue.{ScalarValue}
-use Rattle.vortex_prune.specs.Binding.StatValues.{read_stat, told_value}
+use Rattle.vortex_prune.specs.Binding.StatValues.{read_stat}
 use Rattle.vortex_prune.specs.Part.{ZoneData}
 use Rattle.vortex_prune.specs.Zones.{EachTells, Head, zone_value}
-use Rattle.vortex_stats.specs.Stat.{stat_eq}
+use Rattle.vortex_stats.specs.Stat.{stat_eq, stat_number}
 use Rattle.vortex_stats.specs.declared.stat.Stat.{Stat}
 use Rattle.vortex_zone_log.specs.Kept.{Saying}
 use Rattle.vortex_zone_log.specs.Logs.{empty_sets, set_at}
-use Rattle.vortex_zone_log.specs.declared.readers.Readers.{Readers}
-use Rattle.vortex_zone_log.specs.declared.span.Span.{Span}
+use Rattle.vortex_zone_log.specs.declared.links.Links.{Links}
 
 -- ---- which columns read what is told
 
@@ -26,27 +22,22 @@ is_read s (Some t) = stat_eq s t
 abbrev pub reads : Head → ℕ → Stat → Bool
 reads h i s = (h.source == i) && is_read s (read_stat h.aggregate)
 
--- the heads that tell of a column are within the column's span
-abbrev pub AreSpans : List Head → List Span → Type 0
-AreSpans heads spans = (k : ℕ) (h : Head) (s : Span) → slice_get heads k ≡ Some h → slice_get spans h.source ≡ Some s → (s.first ≤ k) × (k < s.end)
+-- the place of a statistic of a column among those of all columns
+abbrev pub slot : ℕ → Stat → ℕ
+slot i s = i * 9 + stat_number s
 
--- the span as far as a head behind the others
-abbrev pub wider : ℕ → Span → Span
-wider k s = record { first = min s.first k; end = k + 1 }
+-- from a place on, the first head that reads a statistic of the column at a place, or the number of heads
+pub record IsNextReader (heads : List Head) (i : ℕ) (s : Stat) (from n : ℕ) : Type 0 where
+  pub behind : from ≤ n
+  pub within : n ≤ length heads
+  pub unread : (k : ℕ) (h : Head) → slice_get heads k ≡ Some h → from ≤ k → k < n → reads h i s ≡ false
+  pub read : (h : Head) → slice_get heads n ≡ Some h → reads h i s ≡ true
 
--- the spans with the one at a place as far as that, if there is one
-abbrev pub widened : (i k : ℕ) → List Span → Option Span → List Span
-widened i k spans None = spans
-widened i k spans (Some s) = slice_set spans i (wider k s)
-
--- each span ends within so many heads
-abbrev pub EndWithin : ℕ → List Span → Type 0
-EndWithin n spans = (i : ℕ) (s : Span) → slice_get spans i ≡ Some s → s.end ≤ n
-
--- the readers know where to look
-pub record AreReaders (r : Readers) : Type 0 where
-  pub spans : AreSpans r.heads.now r.spans.now
-  pub within : EndWithin (length r.heads.now) r.spans.now
+-- of the heads from a place on it is known which one is the first to read a statistic of those that have a place, and which one is the next
+pub record AreLinked (heads : List Head) (from : ℕ) (l : Links) : Type 0 where
+  pub long : length l.nexts.items ≡ length heads
+  pub first : (i : ℕ) (s : Stat) (n : ℕ) → slice_get l.firsts.items (slot i s) ≡ Some n → IsNextReader heads i s from n
+  pub next : (k : ℕ) (h : Head) (i : ℕ) (s : Stat) (n : ℕ) → from ≤ k → slice_get heads k ≡ Some h → reads h i s ≡ true → slot i s < length l.firsts.items → slice_get l.nexts.items k ≡ Some n → IsNextReader heads i s (k + 1) n
 
 -- ---- of which zones cells tell
 
@@ -58,15 +49,6 @@ under h zones = map (zone_value h.aggregate h.source) zones
 pub record AreCells (heads : List Head) (zones : List ZoneData) (cells : List Cells) : Type 0 where
   pub long : length cells ≡ length heads
   pub told : (k : ℕ) (h : Head) (c : Cells) → slice_get heads k ≡ Some h → slice_get cells k ≡ Some c → cell_values c ≡ under h zones
-
--- the count that a cell is, if it is one
-abbrev pub count_in : ShortCell → Option ℕ
-count_in (cell.U64 n) = Some n
-count_in c = None
-
--- what is told of the zone at a place, of so many rows, is put under a head that reads it
-abbrev pub IsPut : Head → Saying → (place rows : ℕ) → (old new : Cells) → Type 0
-IsPut h t i rows old new = MatchBool (reads h t.column t.stat) (cell_values new ≡ slice_set (cell_values old) i (told_value h.aggregate t.value rows)) (cell_values new ≡ cell_values old)
 
 -- so many cells are null for each of so many heads
 pub record AreBlank (heads : List Head) (n : ℕ) (cells : List Cells) : Type 0 where

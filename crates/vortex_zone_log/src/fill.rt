@@ -56,11 +56,11 @@ fn short_of(value: &Option<ScalarValue>) -> Option<ShortCell>
 
 // Sets a cell to a truth, a number or null, if it is there.
 #[inline]
-fn set_short(values: &mut Vec<ShortCell>, place: usize, cell: ShortCell)
-    ensures { values.new.items ≡ slice_set values.old.items place cell }
+fn set_short(values: &mut Vec<ShortCell>, place: usize, cell: &ShortCell)
+    ensures { values.new.items ≡ slice_set values.old.items place cell.now }
 {
     if place < values.len() {
-        values[place] = cell;
+        values[place] = *cell;
     }
 }
 
@@ -99,7 +99,7 @@ pub fn set_cell(
 {
     if let Cells::Short(values) = cells {
         if let Some(cell) = short_of(&value) {
-            set_short(values, place, cell);
+            set_short(values, place, &cell);
             return Ok(());
         }
     }
@@ -108,15 +108,15 @@ pub fn set_cell(
 
 /// Sets a cell to a truth, a number or null, if it is there.
 #[inline]
-pub fn set_known(cells: &mut Cells, place: usize, cell: ShortCell) -> Result<(), AllocError>
+pub fn set_known(cells: &mut Cells, place: usize, cell: &ShortCell) -> Result<(), AllocError>
     ensures { OnOk result (cell_values cells.new
-        ≡ slice_set (cell_values cells.old) place (short_value cell)) }
+        ≡ slice_set (cell_values cells.old) place (short_value cell.now)) }
 {
     match cells {
         Cells::Short(values) => {
             set_short(values, place, cell);
             Ok(())
         }
-        _ => set_any(cells, place, short_copy(cell)),
+        _ => set_any(cells, place, short_copy(*cell)),
     }
 }

@@ -1,11 +1,15 @@
 //! Values as a log keeps them: truths and numbers in place, texts and bytes in a list beside it.
-ghost use Rattle.std.specs.Prelude.{◌≡◌, IfOk, IfSome, Some, length};
+ghost use Rattle.std.specs.Prelude.{◌≡◌, ℕ, IfOk, IfSome, List, Some, length};
 ghost use Rattle.vortex_base.specs.Data.Cells.{short_value};
+ghost use Rattle.vortex_base.specs.declared.cells.ShortCell as spec_cell;
+ghost use Rattle.vortex_base.specs.declared.scalar_value.ScalarValue.{ScalarValue};
+ghost use Rattle.vortex_base.specs.declared.scalar_value.ScalarValue.TheVariants as spec_value;
 ghost use Rattle.vortex_zone_log.specs.Kept as spec;
-ghost use Rattle.vortex_zone_log.specs.Kept.{IsKept, IsLonger, IsPlace, kept_value};
+ghost use Rattle.vortex_zone_log.specs.Kept.{IsFormed, IsKept, IsLonger, IsPlace, formed, kept_value};
 
 use std::alloc::AllocError;
 use vortex_base::cells::ShortCell;
+use vortex_base::pvalue::PValue;
 use vortex_base::scalar_value::ScalarValue;
 use vortex_base::value_ref::ValueRef;
 use vortex_stats::precision::Precision;
@@ -36,6 +40,22 @@ pub fn short_cell(value: &ScalarValue) -> Option<ShortCell>
         ScalarValue::Bool(truth) => Some(ShortCell::Bool(*truth)),
         ScalarValue::Primitive(number) => Some(ShortCell::of_number(*number)),
         ScalarValue::Utf8(_) | ScalarValue::Binary(_) => None,
+    }
+}
+
+/// The number that is known, if one is, and whether exactly.
+#[inline]
+pub fn number_in(value: &Precision<ScalarValue>) -> Option<(Form, PValue)>
+    ensures kept { IfSome result (λ found. (longs : List ScalarValue) (cell : spec_cell.ShortCell)
+        → short_value cell ≡ Some (spec_value.Primitive found.1)
+        → formed longs found.0 cell ≡ value.now) }
+    ensures placed { IfSome result (λ found. (count : ℕ) (cell : spec_cell.ShortCell)
+        → IsFormed count found.0 cell) }
+{
+    match value {
+        Precision::Exact(ScalarValue::Primitive(number)) => Some((Form::Exact, *number)),
+        Precision::Inexact(ScalarValue::Primitive(number)) => Some((Form::Inexact, *number)),
+        _ => None,
     }
 }
 

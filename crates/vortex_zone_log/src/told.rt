@@ -4,9 +4,10 @@ ghost use Rattle.std.specs.Prelude.{vec_capacity, vec_len};
 ghost use Rattle.vortex_zone_log.specs.Kept.{AreKept, IsLonger, IsWithin, said, sets_of};
 ghost use Rattle.vortex_zone_log.specs.Logs as spec;
 
-use crate::kept::{Kept, copy_of, keep};
+use crate::kept::{Form, Kept, copy_of, keep, number_in};
 use crate::stretch::Stretch;
 use std::alloc::{AllocError, Global};
+use vortex_base::cells::ShortCell;
 use vortex_base::scalar_value::ScalarValue;
 use vortex_stats::precision::Precision;
 use vortex_stats::stat::Stat;
@@ -17,7 +18,21 @@ use vortex_stats::stats_set::StatsSet;
 pub struct Told {
     pub column: u32,
     pub stat: Stat,
-    pub kept: Kept,
+    pub form: Form,
+    pub cell: ShortCell,
+}
+
+impl Told {
+    /// How the value is kept.
+    #[inline]
+    pub fn kept(&self) -> Kept
+        ensures { result ≡ record { form = self.now.form; cell = self.now.cell } }
+    {
+        Kept {
+            form: self.form,
+            cell: self.cell,
+        }
+    }
 }
 
 // Sets of which nothing is known.
@@ -52,16 +67,43 @@ pub fn sets_of(
 {
     let mut sets = empty_sets(alloc, columns)?;
     for place in 0..told.len() {
-        let next = told[place];
-        let value = copy_of(longs, next.kept)?;
+        let next = &told[place];
+        let value = copy_of(longs, next.kept())?;
         set_at(&mut sets, next.column as usize, next.stat, value);
     }
     Ok(sets)
 }
 
+// Tells a statistic whose value isn't a number.
+#[inline(never)]
+fn tell_other(
+    told: &mut Vec<Told>,
+    longs: &mut Vec<ScalarValue>,
+    column: u32,
+    stat: Stat,
+    value: Precision<ScalarValue>,
+) -> Result<(), AllocError>
+    requires { AreKept (length longs.old.items) told.old.items }
+    ensures told { OnOk result (said longs.new.items told.new.items
+        ≡ said longs.old.items told.old.items
+        ++ record { column = column; stat = stat; value = value } ∷ []) }
+    ensures refused { OnErr result (told.new.items ≡ told.old.items) }
+    ensures kept { AreKept (length longs.new.items) told.new.items }
+    ensures longer { IsLonger longs.old.items longs.new.items }
+{
+    told.reserve(1)?;
+    let kept = keep(longs, value)?;
+    told.push_reserved(Told {
+        column,
+        stat,
+        form: kept.form,
+        cell: kept.cell,
+    });
+    Ok(())
+}
+
 /// Tells a statistic behind others. Where memory is refused, or a column is past 32 bits, the
 /// others stay.
-#[inline]
 pub fn tell(
     told: &mut Vec<Told>,
     longs: &mut Vec<ScalarValue>,
@@ -77,13 +119,22 @@ pub fn tell(
     ensures kept { AreKept (length longs.new.items) told.new.items }
     ensures longer { IsLonger longs.old.items longs.new.items }
 {
-    let Ok(column) = u32::try_from(column) else {
+    if column > u32::MAX as usize {
         return Err(AllocError);
-    };
-    told.reserve(1)?;
-    let kept = keep(longs, value)?;
-    told.push_reserved(Told { column, stat, kept });
-    Ok(())
+    }
+    match number_in(&value) {
+        Some((form, number)) => {
+            told.reserve(1)?;
+            told.push_reserved(Told {
+                column: column as u32,
+                stat,
+                form,
+                cell: ShortCell::of_number(number),
+            });
+            Ok(())
+        }
+        None => tell_other(told, longs, column as u32, stat, value),
+    }
 }
 
 /// Moves what is told behind others, for which there is room.

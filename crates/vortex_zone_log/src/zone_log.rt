@@ -11,8 +11,8 @@ use crate::columns::columns_of;
 use crate::fill::blank_table;
 use crate::join::{merged_sets, told_of};
 use crate::known::Known;
+use crate::links::links_of;
 use crate::readers::Readers;
-use crate::span::spans_of;
 use crate::stretch::{Stretch, join_at, push, stretch_at};
 use crate::told::{Told, move_behind, sets_of, tell, told_in};
 use std::alloc::{AllocError, Global};
@@ -184,11 +184,11 @@ impl ZoneLog {
         ensures { IfOk result (λ cells.
             AreCells heads.now (zones_from from count self.now.zones) cells.items) }
     {
-        let spans = spans_of(alloc, self.columns, heads)?;
+        let links = links_of(alloc, self.columns, heads)?;
         let mut cells = blank_table(alloc, heads, count)?;
         let readers = Readers {
             heads,
-            spans: &spans,
+            links: &links,
             longs: &self.longs,
         };
         for next in 0..count {

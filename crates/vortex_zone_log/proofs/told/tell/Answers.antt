@@ -1,20 +1,21 @@
-use Rattle.std.proofs.Common.{◌≡◌, ◌++◌, ◌∷◌, List, [], ap, ap₂, rules, ◌∙◌}
-use Rattle.vortex_zone_log.proofs.KeptLemmas.{one_more_kept, one_more_said}
+use Rattle.std.proofs.Common.{◌++◌, ◌∷◌, List, [], ap, length, ◌∙◌}
+use Rattle.vortex_zone_log.proofs.KeptLemmas.{longer_same, one_more_kept, one_more_said}
 use Rattle.vortex_zone_log.specs.Kept.{Saying}
 use Rattle.vortex_zone_log.specs.declared.told.Told.{Told}
 use Rattle.vortex_zone_log.proofs.told.tell.Goals as goal
 
-pub returns-clause-told : goal.returns-clause-told
-returns-clause-told c =
-    let t : Told = record { column = c.in-Ok.column; stat = c.args.stat; kept = c.in_ok-kept.kept } in
-    let column : c.in-Ok.column ≡ c.args.column = search rules in
+pub returns-in_ok-reserve-in-Some-clause-told : goal.returns-in_ok-reserve-in-Some-clause-told
+returns-in_ok-reserve-in-Some-clause-told c =
+    let longs = c.args.longs.now.items in
+    let t : Told = record { column = c.args.column; stat = c.args.stat; form = c.in-Some.form; cell = c.of_number.result } in
     let s : Saying = record { column = c.args.column; stat = c.args.stat; value = c.args.value } in
-    one_more_said c.args.longs.now.items c.keep.new.longs.items c.in_ok-kept.ensures.longer c.args.told.now.items c.requires c.push_reserved.new.self.items t s
-    (c.push_reserved.ensures.items ∙ ap (λ (l : List Told). l ++ t ∷ []) c.in_ok-reserve.ensures.items)
-    (ap₂ (λ k v. let says : Saying = record { column = k; stat = c.args.stat; value = v } in says) column c.in_ok-kept.ensures.kept)
+    one_more_said longs longs (longer_same longs) c.args.told.now.items c.requires c.push_reserved.new.self.items t s
+    (c.push_reserved.ensures.items ∙ ap (λ (l : List Told). l ++ t ∷ []) c.in_ok-reserve-in-Some.ensures.items)
+    (ap (λ v. let says : Saying = record { column = c.args.column; stat = c.args.stat; value = v } in says) (c.in-Some.ensures.kept longs c.of_number.result c.of_number.ensures))
 
-pub returns-clause-kept : goal.returns-clause-kept
-returns-clause-kept c =
-    let t : Told = record { column = c.in-Ok.column; stat = c.args.stat; kept = c.in_ok-kept.kept } in
-    one_more_kept c.args.longs.now.items c.keep.new.longs.items c.in_ok-kept.ensures.longer c.args.told.now.items c.requires c.push_reserved.new.self.items t
-    (c.push_reserved.ensures.items ∙ ap (λ (l : List Told). l ++ t ∷ []) c.in_ok-reserve.ensures.items) c.in_ok-kept.ensures.placed
+pub returns-in_ok-reserve-in-Some-clause-kept : goal.returns-in_ok-reserve-in-Some-clause-kept
+returns-in_ok-reserve-in-Some-clause-kept c =
+    let longs = c.args.longs.now.items in
+    let t : Told = record { column = c.args.column; stat = c.args.stat; form = c.in-Some.form; cell = c.of_number.result } in
+    one_more_kept longs longs (longer_same longs) c.args.told.now.items c.requires c.push_reserved.new.self.items t
+    (c.push_reserved.ensures.items ∙ ap (λ (l : List Told). l ++ t ∷ []) c.in_ok-reserve-in-Some.ensures.items) (c.in-Some.ensures.placed (length longs) c.of_number.result)

@@ -1,4 +1,4 @@
-use Rattle.std.proofs.Common.{◌++◌, ◌∷◌, arith, refl, subst, take, ◌∙◌}
+use Rattle.std.proofs.Common.{◌*◌, ◌++◌, ◌∷◌, ap, arith, refl, subst, take, ◌∙◌}
 use Rattle.std.proofs.lemmas.List.{take_all}
 use Rattle.vortex_zone_log.proofs.LogLemmas.{length-sets_with}
 use Rattle.vortex_zone_log.proofs.TableLemmas.{next_sets, zone_with}
@@ -12,7 +12,7 @@ loop-next-preserved c = λ before after sets at long is.
     let n = c.loop-next.next in
     let now = sets_with sets (said r.longs.now (take n c.args.told.now)) in
     subst (λ z. AreCells r.heads.now (before ++ z ∷ after) c.put.new.cells) (next_sets r.longs.now c.args.told.now n _ sets c.args.rows c.loop-next-test.true)
-    (c.in_ok-put.ensures before after (zone_with c.args.rows now) at refl (length-sets_with sets (said r.longs.now (take n c.args.told.now)) ∙ long) (c.loop-next.invariant before after sets at long is))
+    (c.in_ok-put.ensures before after (zone_with c.args.rows now) at refl (ap (λ k. k * 9) (length-sets_with sets (said r.longs.now (take n c.args.told.now))) ∙ long) (c.loop-next.invariant before after sets at long is))
 
 pub returns : goal.returns
 returns c = λ before after sets at long is.

@@ -1,4 +1,4 @@
-use Rattle.std.proofs.Common.{◌≡◌, ◌++◌, ◌∷◌, List, length, take}
+use Rattle.std.proofs.Common.{◌≡◌, ◌*◌, ◌++◌, ◌∷◌, List, length, take}
 use Rattle.vortex_prune.specs.Part.{Entries, ZoneData}
 use Rattle.vortex_zone_log.proofs.TableLemmas.{zone_with}
 use Rattle.vortex_zone_log.specs.Kept.{said, sets_with}
@@ -8,6 +8,6 @@ use Rattle.vortex_zone_log.proofs.readers.Readers.put_all.Given as goal
 -- what is told so far is under the heads
 abbrev pub invariant-loop-next : goal.invariant-loop-next
 invariant-loop-next l =
-    (before after : List ZoneData) (sets : List Entries) → length before ≡ l.zone → length sets ≡ length l.self.spans.now
+    (before after : List ZoneData) (sets : List Entries) → length before ≡ l.zone → length sets * 9 ≡ length l.self.links.now.firsts.items
     → AreCells l.self.heads.now (before ++ zone_with l.rows sets ∷ after) l.initial.cells
     → AreCells l.self.heads.now (before ++ zone_with l.rows (sets_with sets (said l.self.longs.now (take l.next l.told))) ∷ after) l.cells

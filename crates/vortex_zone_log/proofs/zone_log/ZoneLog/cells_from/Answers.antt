@@ -1,4 +1,4 @@
-use Rattle.std.proofs.Common.{◌≡◌, ◌+◌, ◌-◌, ◌++◌, ◌∷◌, List, [], Some, ap, ap₂, drop, length, map, subst, sym, take, ◌∙◌}
+use Rattle.std.proofs.Common.{◌≡◌, ◌+◌, ◌*◌, ◌-◌, ◌++◌, ◌∷◌, List, [], Some, ap, ap₂, drop, length, map, subst, sym, take, ◌∙◌}
 use Rattle.std.proofs.lemmas.List.{length-replicate}
 use Rattle.std.proofs.lemmas.Option.{slice_get-map}
 use Rattle.std.specs.Prelude.{option_map, slice_get}
@@ -33,13 +33,12 @@ loop-next-preserved c =
     let at : slice_get zones k ≡ Some (zone_with s.rows full) =
     zone_there c.args.self.now.zones c.args.from c.args.count k (zone_with s.rows full) c.loop-next-test.true
     (ap (λ (d : LogData). slice_get d.zones (c.args.from + k)) (sym c.self.view_is) ∙ slice_get-map (zone_of l.columns ts) runs (c.args.from + k) ∙ ap (option_map (zone_of l.columns ts)) there) in
-    let says : said c.deref-2.result.now c.told_in-told.result.now ≡ stretch_of ts s =
-    ap₂ said c.deref-2.ensures.value (c.told_in-told.ensures ∙ ap (λ (x : List Told). take (s.to - s.from) (drop s.from x)) c.deref-in-loop-next-3.ensures.value) ∙ stretch_said l.longs.items l.told.items s in
-    let spans : length c.deref.result.now ≡ l.columns = ap length c.deref.ensures.value ∙ c.in_ok-spans.ensures.long in
+    let says : said c.deref.result.now c.told_in-told.result.now ≡ stretch_of ts s =
+    ap₂ said c.deref.ensures.value (c.told_in-told.ensures ∙ ap (λ (x : List Told). take (s.to - s.from) (drop s.from x)) c.deref-in-loop-next-3.ensures.value) ∙ stretch_said l.longs.items l.told.items s in
     let long : length c.put_all.new.cells ≡ c.loop-next.cells.len = c.put_all.auto.cells ∙ ap length c.deref_mut.ensures.value ∙ sym c.loop-next.cells.ok.0 in
     subst (λ (cs : List Cells). AreCells heads (take (k + 1) zones ++ map (blank_zone l.columns) (drop (k + 1) zones)) cs) (sym (lent_whole c.loop-next.cells.len c.put_all.new.cells c.loop-next.cells.items long (sym c.loop-next.cells.ok.0)))
     (next_told heads l.columns zones k s.rows full c.loop-next.cells.items c.put_all.new.cells at
     (λ before after sets place none is.
     subst (λ (es : List Entries). AreCells heads (before ++ zone_with s.rows es ∷ after) c.put_all.new.cells) (ap₂ sets_with none says)
-    (c.in_ok-put_all.ensures before after sets place (ap length none ∙ length-replicate l.columns [] ∙ sym spans) (subst (λ (cs : List Cells). AreCells heads (before ++ zone_with s.rows sets ∷ after) cs) (sym c.deref_mut.ensures.value) is)))
+    (c.in_ok-put_all.ensures before after sets place (ap (λ es. length es * 9) none ∙ ap (λ k. k * 9) (length-replicate l.columns []) ∙ sym c.in_ok-links.ensures.wide) (subst (λ (cs : List Cells). AreCells heads (before ++ zone_with s.rows sets ∷ after) cs) (sym c.deref_mut.ensures.value) is)))
     c.loop-next.invariant)
