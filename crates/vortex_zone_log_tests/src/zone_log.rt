@@ -1,0 +1,70 @@
+//! Zones that are told and read back, and neighbours that are joined.
+use crate::fixtures::{join_first, map_of, three_zones, told};
+use std::process::Abort;
+use std::test::Fail;
+use vortex_base::{PValue, ValueRef};
+use vortex_prune::ZoneMap;
+
+// The columns of a map's table that these tests read: of the numbers the greatest, the least and
+// the sum, of the bytes the last ones, how many are null and whether none are.
+const GREATEST: usize = 0;
+
+const LEAST: usize = 1;
+
+const SUM: usize = 2;
+
+const LAST: usize = 7;
+
+const NULLS: usize = 9;
+
+const NONE_NULL: usize = 12;
+
+// A map tells these bounds of the numbers of a zone, and nothing of their sum.
+fn expect_numbers(rt: &impl Abort, map: &ZoneMap, zone: usize, low: i64, high: i64) {
+    let number = told(map, GREATEST, zone);
+    assert!(rt; matches!(number, Some(ValueRef::Primitive(PValue::I64(n))) if n == high));
+    let number = told(map, LEAST, zone);
+    assert!(rt; matches!(number, Some(ValueRef::Primitive(PValue::I64(n))) if n == low));
+    assert!(rt; told(map, SUM, zone).is_none());
+}
+
+// It tells so many nulls of the bytes of a zone, and that none are above these.
+fn expect_bytes(rt: &impl Abort, map: &ZoneMap, zone: usize, nulls: u64, last: &[u8]) {
+    let count = told(map, NULLS, zone);
+    assert!(rt; matches!(count, Some(ValueRef::Primitive(PValue::U64(n))) if n == nulls));
+    let truth = told(map, NONE_NULL, zone);
+    assert!(rt; matches!(truth, Some(ValueRef::Bool(none)) if none == (nulls == 0)));
+    let bytes = told(map, LAST, zone);
+    assert!(rt; matches!(bytes, Some(ValueRef::Binary(bytes)) if bytes.as_slice() == last));
+}
+
+#[test]
+fn zones_are_read_as_they_are_told(rt: HostRuntime) -> Result<(), Fail> {
+    let alloc = rt.alloc();
+    let log = three_zones(alloc)?;
+    assert!(rt; log.len() == 3);
+    assert!(rt; log.rows(0) == 3 && log.rows(1) == 4 && log.rows(2) == 5);
+    let map = map_of(alloc, &log)?;
+    expect_numbers(&rt, &map, 0, 2, 7);
+    expect_bytes(&rt, &map, 0, 0, b"pear");
+    expect_numbers(&rt, &map, 1, 8, 9);
+    expect_bytes(&rt, &map, 1, 1, b"quince");
+    expect_numbers(&rt, &map, 2, -5, 1);
+    expect_bytes(&rt, &map, 2, 5, b"fig");
+    Ok(())
+}
+
+#[test]
+fn neighbours_are_joined(rt: HostRuntime) -> Result<(), Fail> {
+    let alloc = rt.alloc();
+    let mut log = three_zones(alloc)?;
+    join_first(alloc, &mut log)?;
+    assert!(rt; log.len() == 2);
+    assert!(rt; log.rows(0) == 7 && log.rows(1) == 5);
+    let map = map_of(alloc, &log)?;
+    expect_numbers(&rt, &map, 0, 2, 9);
+    expect_bytes(&rt, &map, 0, 1, b"quince");
+    expect_numbers(&rt, &map, 1, -5, 1);
+    expect_bytes(&rt, &map, 1, 5, b"fig");
+    Ok(())
+}
