@@ -137,6 +137,24 @@ pub fn tell(
     }
 }
 
+/// Where so much more will stand behind what is told, which tells of a zone of so many rows. Room
+/// is made for it.
+pub fn next_stretch(told: &mut Vec<Told>, more: usize, rows: u64) -> Result<Stretch, AllocError>
+    ensures same { told.new.items ≡ told.old.items }
+    ensures room { OnOk result (vec_len told.new + more ≤ vec_capacity told.new) }
+    ensures rows { IfOk result (λ next. next.rows ≡ rows) }
+    ensures from { IfOk result (λ next. next.from ≡ length told.old.items) }
+    ensures to { IfOk result (λ next. next.to ≡ length told.old.items + more) }
+{
+    told.reserve(more)?;
+    let from = told.len();
+    Ok(Stretch {
+        rows,
+        from,
+        to: from + more,
+    })
+}
+
 /// Moves what is told behind others, for which there is room.
 pub fn move_behind(told: &mut Vec<Told>, more: &mut Vec<Told>)
     requires { vec_len told.old + vec_len more.old ≤ vec_capacity told.old }

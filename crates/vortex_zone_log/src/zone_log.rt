@@ -14,7 +14,7 @@ use crate::known::Known;
 use crate::links::links_of;
 use crate::readers::Readers;
 use crate::stretch::{Stretch, join_at, push, stretch_at};
-use crate::told::{Told, move_behind, sets_of, tell, told_in};
+use crate::told::{Told, move_behind, next_stretch, sets_of, tell, told_in};
 use std::alloc::{AllocError, Global};
 use std::marker::Model;
 use vortex_base::cells::Cells;
@@ -92,10 +92,8 @@ impl ZoneLog {
         ensures ended { OnOk result (self.new ≡ ended rows self.old) }
         ensures refused { OnErr result (self.new ≡ self.old) }
     {
-        let from = self.told.len();
-        let to = from + self.current.len();
-        self.told.reserve(self.current.len())?;
-        push(&mut self.front, &mut self.back, Stretch { rows, from, to })?;
+        let next = next_stretch(&mut self.told, self.current.len(), rows)?;
+        push(&mut self.front, &mut self.back, next)?;
         move_behind(&mut self.told, &mut self.current);
         Ok(())
     }
@@ -149,10 +147,7 @@ impl ZoneLog {
         let rows = left.rows + right.rows;
         let sets = merged_sets(alloc, columns, left.sets, &right.sets)?;
         let mut told = told_of(alloc, &mut self.longs, sets)?;
-        let from = self.told.len();
-        let to = from + told.len();
-        self.told.reserve(told.len())?;
-        let joined = Stretch { rows, from, to };
+        let joined = next_stretch(&mut self.told, told.len(), rows)?;
         join_at(&mut self.front, &mut self.back, place, joined)?;
         move_behind(&mut self.told, &mut told);
         Ok(())
