@@ -16,11 +16,17 @@ pub fn tells_itself(aggregate: AggregateFnRef, form: Form) -> bool
     ensures { IsTrue result → (longs : List ScalarValue) (cell : spec.ShortCell) (rows : ℕ)
         → short_value cell ≡ told_value aggregate (formed longs form cell) rows }
 {
-    match aggregate {
-        AggregateFnRef::Max | AggregateFnRef::Min => matches!(form, Form::Exact | Form::Inexact),
-        AggregateFnRef::Sum | AggregateFnRef::NullCount | AggregateFnRef::UncompressedSizeInBytes =>
-            matches!(form, Form::Exact),
-        _ => false,
+    match form {
+        Form::Exact => matches!(
+            aggregate,
+            AggregateFnRef::Max
+                | AggregateFnRef::Min
+                | AggregateFnRef::Sum
+                | AggregateFnRef::NullCount
+                | AggregateFnRef::UncompressedSizeInBytes
+        ),
+        Form::Inexact => matches!(aggregate, AggregateFnRef::Max | AggregateFnRef::Min),
+        Form::Absent | Form::LongExact | Form::LongInexact => false,
     }
 }
 
