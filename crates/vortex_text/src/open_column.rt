@@ -81,8 +81,8 @@ impl OpenColumn {
         Ok(rest)
     }
 
-    // The same. A truth or a number in plain form, with a space behind it, is read straight from the
-    // bytes.
+    // The same. A truth or a number in plain form, with a space behind it, is read straight from
+    // the bytes.
     #[inline]
     fn take<'a>(&mut self, alloc: Global, line: &'a [u8]) -> Result<&'a [u8], LineError>
         ensures { GivesAndChanges (λ rest. words rest.now) result
