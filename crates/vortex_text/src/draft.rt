@@ -1,5 +1,5 @@
 //! What the lines of a text say, line by line.
-ghost use Rattle.std.specs.Prelude.{◌≡◌, ◌<◌, ◌++◌, ◌||◌, IfOk, IfSome, IsErrOf, IsTrue, OnErr, OnOk, MatchOption, None, Some, codes, is_some, length};
+ghost use Rattle.std.specs.Prelude.{◌≡◌, ◌<◌, ◌++◌, ◌||◌, IfOk, IfSome, IsErrOf, IsTrue, OnErr, OnOk, MatchOption, None, Some, [], codes, is_some, length};
 ghost use Rattle.std.specs.Str.Lines.{lines};
 ghost use Rattle.vortex_base.specs.Data.Scopes.{IsScope, named_columns};
 ghost use Rattle.vortex_syntax.specs.Fails.{Changes, GivesAndChanges, IsBad};
@@ -12,7 +12,8 @@ ghost use Rattle.vortex_text.specs.Lines.{has_part, is_new, nothing_read, parts_
 ghost use Rattle.vortex_text.specs.Lines.{read_column, read_join, read_kind, read_line, read_part};
 ghost use Rattle.vortex_text.specs.Lines.{read_row, read_stat, read_where, read_words, with_claim, with_column};
 ghost use Rattle.vortex_text.specs.MemoryTaken.{kind_takes, line_takes, words_take};
-ghost use Rattle.vortex_text.specs.Stores.{all_parts, ended_of};
+ghost use Rattle.vortex_text.specs.Rows.{empty_part};
+ghost use Rattle.vortex_text.specs.Stores.{StoreData, all_parts, ended_of};
 
 use crate::parts::Parts;
 use crate::query::Query;
@@ -60,6 +61,24 @@ fn ended_parts(
         Some(store) => store.into_parts(alloc),
         None => Store::new(alloc, columns)?.into_parts(alloc),
     }
+}
+
+// The first part of these columns begins.
+#[inline(never)]
+fn begin_store(
+    alloc: Global,
+    columns: &[(String, DType)],
+    store: &mut Option<Store>,
+) -> Result<(), AllocError>
+    requires { IsScope (named_columns columns.now) }
+    ensures { let begun : StoreData = record {
+      ended = [];
+      current = Some (empty_part (named_columns columns.now));
+    } in
+        OnOk result (store.new ≡ Some begun) }
+{
+    *store = Some(Store::new(alloc, columns)?);
+    Ok(())
 }
 
 impl Draft {
@@ -175,7 +194,7 @@ impl Draft {
             store.begin_part()?;
             return Ok(());
         }
-        self.store = Some(Store::new(alloc, self.columns.as_slice())?);
+        begin_store(alloc, self.columns.as_slice(), &mut self.store)?;
         Ok(())
     }
 

@@ -64,7 +64,6 @@ fn last_row(columns: &[OpenColumn], from: usize) -> usize
 
 impl Store {
     /// The first part, which has no rows yet.
-    #[inline(never)]
     pub fn new(alloc: Global, columns: &[(String, DType)]) -> Result<Store, AllocError>
         requires { IsScope (named_columns columns.now) }
         ensures { let part = empty_part (named_columns columns.now) in
