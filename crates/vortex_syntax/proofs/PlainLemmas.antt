@@ -23,10 +23,11 @@ use Rattle.vortex_base.specs.declared.scalar_value.ScalarValue.TheVariants as va
 use Rattle.vortex_base.specs.declared.types.Nullability.{Nullability}
 use Rattle.vortex_base.specs.declared.types.PType.{PType}
 use Rattle.vortex_base.specs.declared.types.PType.TheVariants as ptype
+use Rattle.vortex_syntax.proofs.Fronts.{front_is}
 use Rattle.vortex_syntax.proofs.NumberLemmas.{all_push, digit_is}
 use Rattle.vortex_syntax.proofs.Spelling.{quotes_open}
 use Rattle.vortex_syntax.specs.Numbers.{four_value, in_64_bits_signed, in_type, number_of, whole_of}
-use Rattle.vortex_syntax.specs.Plain.{BeginsNatural, BeginsQuoted, BeginsSigned, BeginsValue, BeginsWhole, BeginsWord, EndsWord, is_line_byte, is_text_byte, is_word_byte}
+use Rattle.vortex_syntax.specs.Plain.{BeginsNatural, BeginsQuoted, BeginsSigned, BeginsValue, BeginsWhole, BeginsWord, EndsWord, is_line_byte, is_text_byte, is_word_byte, truth_name}
 use Rattle.vortex_syntax.specs.Spelling.{CanBeSpelled, spelled_byte}
 use Rattle.vortex_syntax.specs.Values.{optional_value_of}
 use Rattle.vortex_syntax.specs.Words.{Plain, Quoted}
@@ -122,16 +123,6 @@ uncons_two [] a b some first second = absurd (omega arith)
 uncons_two (c ∷ []) a b some first second = absurd (omega arith)
 uncons_two (c ∷ d ∷ text) a b some first second = rw (first, second) (ap (λ l. a ∷ b ∷ l) (sym (take_rest (c ∷ d ∷ text) 2)))
 
--- ---- null
-
-null_front : (word : List ℕ) → 4 ≤ length word → get_or word 0 0 ≡ 110 → get_or word 1 0 ≡ 117 → get_or word 2 0 ≡ 108 → get_or word 3 0 ≡ 108
-    → word ≡ codes "null" ++ take (length word - 4) (drop 4 word)
-null_front [] long n u l m = absurd (omega arith)
-null_front (a ∷ []) long n u l m = absurd (omega arith)
-null_front (a ∷ b ∷ []) long n u l m = absurd (omega arith)
-null_front (a ∷ b ∷ c ∷ []) long n u l m = absurd (omega arith)
-null_front (a ∷ b ∷ c ∷ d ∷ word) long n u l m = rw (n, u, l, m) (ap (λ w. codes "null" ++ w) (sym (take_rest (a ∷ b ∷ c ∷ d ∷ word) 4)))
-
 -- ---- words
 
 pub line_bytes : (word : List ℕ) → list_all is_word_byte word ≡ true → list_all is_line_byte word ≡ true
@@ -195,29 +186,10 @@ value_in_word t text behind word rest v is begins ends value = record {
   value = value;
 }
 
--- a word that is known
-pub value_of_word : (t : DType) (text word rest : List ℕ) (v : Option ScalarValue) → text ≡ 32 ∷ (word ++ rest) → list_all is_word_byte word ≡ true → 0 < length word → EndsWord rest → optional_value_of t (Plain word) ≡ Some v
-    → BeginsValue t text v rest
-value_of_word t text word rest v is plain some ends value = value_in_word t text (word ++ rest) word rest v is (record { split = refl; some = some; is_plain = plain }) ends value
-
-pub true_front : (text : List ℕ) → 5 ≤ length text → get_or text 0 0 ≡ 32 → get_or text 1 0 ≡ 116 → get_or text 2 0 ≡ 114 → get_or text 3 0 ≡ 117 → get_or text 4 0 ≡ 101
-    → text ≡ 32 ∷ (codes "true" ++ take (length text - 5) (drop 5 text))
-true_front [] long z a b c d = absurd (omega arith)
-true_front (x ∷ []) long z a b c d = absurd (omega arith)
-true_front (x ∷ y ∷ []) long z a b c d = absurd (omega arith)
-true_front (x ∷ y ∷ p ∷ []) long z a b c d = absurd (omega arith)
-true_front (x ∷ y ∷ p ∷ q ∷ []) long z a b c d = absurd (omega arith)
-true_front (x ∷ y ∷ p ∷ q ∷ r ∷ text) long z a b c d = rw (z, a, b, c, d) (ap (λ w. 32 ∷ (codes "true" ++ w)) (sym (take_rest (x ∷ y ∷ p ∷ q ∷ r ∷ text) 5)))
-
-pub false_front : (text : List ℕ) → 6 ≤ length text → get_or text 0 0 ≡ 32 → get_or text 1 0 ≡ 102 → get_or text 2 0 ≡ 97 → get_or text 3 0 ≡ 108 → get_or text 4 0 ≡ 115 → get_or text 5 0 ≡ 101
-    → text ≡ 32 ∷ (codes "false" ++ take (length text - 6) (drop 6 text))
-false_front [] long z a b c d e = absurd (omega arith)
-false_front (x ∷ []) long z a b c d e = absurd (omega arith)
-false_front (x ∷ y ∷ []) long z a b c d e = absurd (omega arith)
-false_front (x ∷ y ∷ p ∷ []) long z a b c d e = absurd (omega arith)
-false_front (x ∷ y ∷ p ∷ q ∷ []) long z a b c d e = absurd (omega arith)
-false_front (x ∷ y ∷ p ∷ q ∷ r ∷ []) long z a b c d e = absurd (omega arith)
-false_front (x ∷ y ∷ p ∷ q ∷ r ∷ s ∷ text) long z a b c d e = rw (z, a, b, c, d, e) (ap (λ w. 32 ∷ (codes "false" ++ w)) (sym (take_rest (x ∷ y ∷ p ∷ q ∷ r ∷ s ∷ text) 6)))
+-- a truth behind a space
+pub value_truth : (n : Nullability) (text behind rest : List ℕ) (b : Bool) → text ≡ 32 ∷ behind → BeginsWord behind (truth_name b) rest → EndsWord rest → BeginsValue (dtype.Bool n) text (Some (value.Bool b)) rest
+value_truth n text behind rest true is begins ends = value_in_word (dtype.Bool n) text behind (codes "true") rest (Some (value.Bool true)) is begins ends refl
+value_truth n text behind rest false is begins ends = value_in_word (dtype.Bool n) text behind (codes "false") rest (Some (value.Bool false)) is begins ends refl
 
 -- ---- texts between quotes
 
@@ -292,4 +264,4 @@ pub value_null_at : (t : DType) (text word : List ℕ) → word ≡ take (length
     → 4 ≤ length word → get_or word 0 0 ≡ 110 → get_or word 1 0 ≡ 117 → get_or word 2 0 ≡ 108 → get_or word 3 0 ≡ 108 → EndsWord (take (length word - 4) (drop 4 word))
     → BeginsValue t text None (take (length word - 4) (drop 4 word))
 value_null_at t text word is has some first long n u l m ends =
-    value_in_word t text word (codes "null") _ None (uncons text 32 some first ∙ ap (λ w. 32 ∷ w) (sym is)) (record { split = null_front word long n u l m; some = omega arith; is_plain = refl }) ends (rw has refl)
+    value_in_word t text word (codes "null") _ None (uncons text 32 some first ∙ ap (λ w. 32 ∷ w) (sym is)) (record { split = front_is (codes "null") word long (n, (u, (l, (m, tt)))); some = omega arith; is_plain = refl }) ends (rw has refl)

@@ -1,5 +1,5 @@
 -- Values in plain form, at the front of a text: what was passed, and what follows.
-use Rattle.std.specs.Prelude.{◌≡◌, ◌<◌, ◌⊎◌, ◌&&◌, ◌||◌, ◌==◌, ℕ, ℤ, Bool, true, nat_le, nat_lt, not, List, [], ◌∷◌, ◌++◌, Option, Some, IsTrue, length}
+use Rattle.std.specs.Prelude.{◌≡◌, ◌<◌, ◌⊎◌, ◌&&◌, ◌||◌, ◌==◌, ℕ, ℤ, Bool, true, false, codes, nat_le, nat_lt, not, List, [], ◌∷◌, ◌++◌, Option, Some, IsTrue, length}
 use Rattle.std.specs.List.{list_all}
 use Rattle.std.specs.Str.{is_utf8}
 use Rattle.vortex_base.specs.Meanings.Typing.{is_signed}
@@ -29,6 +29,10 @@ pub record BeginsWord (text word rest : List ℕ) : Type 0 where
   pub split : text ≡ word ++ rest
   pub some : 0 < length word
   pub is_plain : IsTrue (list_all is_word_byte word)
+
+abbrev pub truth_name : Bool → List ℕ
+truth_name true = codes "true"
+truth_name false = codes "false"
 
 -- the text is one of such bytes, then the quote that closes it, and what follows that
 pub record BeginsQuoted (text quoted rest : List ℕ) : Type 0 where

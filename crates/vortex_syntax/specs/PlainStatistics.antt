@@ -25,10 +25,6 @@ abbrev pub precision_name : (is_exact : Bool) → List ℕ
 precision_name true = codes "exact"
 precision_name false = codes "inexact"
 
-abbrev pub truth_name : Bool → List ℕ
-truth_name true = codes "true"
-truth_name false = codes "false"
-
 -- the value with its precision
 abbrev pub precise : (is_exact : Bool) → ScalarValue → Precision ScalarValue
 precise true v = Exact v

@@ -168,8 +168,9 @@ fn text_end(text: &[u8]) -> Option<usize>
 
 // The word in plain form at the front of a text, and what follows it.
 #[inline]
-fn word(text: &[u8]) -> Option<(&[u8], &[u8])>
-    ensures { IfSome result (λ x. BeginsWord text.now x.0.now x.1.now) }
+pub(crate) fn word(text: &[u8]) -> Option<(&[u8], &[u8])>
+    ensures word { IfSome result (λ x. BeginsWord text.now x.0.now x.1.now) }
+    ensures shorter { IfSome result (λ x. length x.1.now < length text.now) }
 {
     let end = word_end(text)?;
     if end == 0 {
@@ -239,24 +240,35 @@ fn number_cell(dtype: DType, text: &[u8]) -> Option<(ShortCell, &[u8])>
     }
 }
 
+// The truth at the front of a text, and what follows it.
+#[inline(always)]
+pub(crate) fn truth(text: &[u8]) -> Option<(bool, &[u8])>
+    ensures word { IfSome result (λ x. BeginsWord text.now (spec.truth_name x.0) x.1.now) }
+    ensures shorter { IfSome result (λ x. length x.1.now < length text.now) }
+{
+    match text {
+        [b't', b'r', b'u', b'e', rest @ ..] => Some((true, rest)),
+        [b'f', b'a', b'l', b's', b'e', rest @ ..] => Some((false, rest)),
+        _ => None,
+    }
+}
+
 // The truth behind a space at the front of a text, and what follows it.
 #[inline(always)]
-fn truth(text: &[u8]) -> Option<(bool, &[u8])>
+fn spaced_truth(text: &[u8]) -> Option<(bool, &[u8])>
     ensures value { IfSome result (λ x. (n : Nullability)
         → BeginsValue (dtype.Bool n) text.now (Some (value.Bool x.0)) x.1.now) }
     ensures shorter { IfSome result (λ x. length x.1.now < length text.now) }
 {
-    if let [b' ', b't', b'r', b'u', b'e', rest @ ..] = text {
-        if ends_word(rest) {
-            return Some((true, rest));
-        }
+    let [b' ', behind @ ..] = text else {
+        return None;
+    };
+    let (truth, rest) = truth(behind)?;
+    if ends_word(rest) {
+        Some((truth, rest))
+    } else {
+        None
     }
-    if let [b' ', b'f', b'a', b'l', b's', b'e', rest @ ..] = text {
-        if ends_word(rest) {
-            return Some((false, rest));
-        }
-    }
-    None
 }
 
 /// The cell of the truth, the number or the null of a type that stands behind one space at the
@@ -271,7 +283,7 @@ pub fn plain_cell(dtype: DType, text: &[u8]) -> Option<(ShortCell, &[u8])>
     match dtype {
         DType::Primitive(_, _) => number_cell(dtype, text),
         DType::Bool(_) => {
-            let (truth, rest) = truth(text)?;
+            let (truth, rest) = spaced_truth(text)?;
             Some((ShortCell::Bool(truth), rest))
         }
         _ => None,

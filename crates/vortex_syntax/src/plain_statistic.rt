@@ -1,13 +1,12 @@
 //! A `stat` line in plain form, read straight from the bytes of a text, whose line isn't cut out
 //! before. What isn't in this form is left to the reader of words, by which it is specified.
-ghost use Rattle.std.specs.Prelude.{◌≡◌, ◌<◌, IfSome, Some, length, not, position};
+ghost use Rattle.std.specs.Prelude.{◌≡◌, ◌<◌, IfSome, Some, length};
 ghost use Rattle.vortex_base.specs.Data.Scopes.{named_columns};
 ghost use Rattle.vortex_stats.specs.Stat.{stat_dtype};
-ghost use Rattle.vortex_syntax.specs.Plain.{BeginsWord, is_word_byte};
-ghost use Rattle.vortex_syntax.specs.PlainStatistics.{BeginsClaim, BeginsPlainValue, BeginsSpaced, BeginsSpacedStat, BeginsSpacedValue, BeginsStat, precise, precision_name, truth_name};
+ghost use Rattle.vortex_syntax.specs.PlainStatistics.{BeginsClaim, BeginsPlainValue, BeginsSpaced, BeginsSpacedStat, BeginsSpacedValue, BeginsStat, precise, precision_name};
 
 use crate::columns::Columns;
-use crate::plain::plain_number;
+use crate::plain::{plain_number, truth, word};
 use crate::statistic::{Claim, stat_of};
 use vortex_base::dtype::DType;
 use vortex_base::scalar_value::ScalarValue;
@@ -23,22 +22,6 @@ pub struct Told {
     pub value: Precision<ScalarValue>,
 }
 
-// Whether a word in plain form has this byte.
-#[inline(always)]
-fn is_word_byte(byte: u8) -> bool
-    ensures { result ≡ is_word_byte byte }
-{
-    byte > 34 && byte < 127
-}
-
-// Where the first byte stands that no word in plain form has.
-#[inline(always)]
-fn word_end(text: &[u8]) -> Option<usize>
-    ensures { result ≡ position (λ b. not (is_word_byte b)) text.now }
-{
-    text.iter().position(|byte| !is_word_byte(*byte))
-}
-
 // The word in plain form behind one space at the front of a text, and what follows it. None where
 // nothing follows.
 #[inline(always)]
@@ -49,11 +32,8 @@ fn spaced_word(text: &[u8]) -> Option<(&[u8], &[u8])>
     let [b' ', behind @ ..] = text else {
         return None;
     };
-    let end = word_end(behind)?;
-    if end == 0 {
-        return None;
-    }
-    Some((&behind[..end], &behind[end..]))
+    let (word, rest) = word(behind)?;
+    Some((word, rest))
 }
 
 // The statistic whose name stands behind one space at the front of a text, its type of a column of
@@ -102,19 +82,6 @@ fn spaced_precision(text: &[u8]) -> Option<(bool, &[u8])>
     None
 }
 
-// The truth at the front of a text, and what follows it.
-#[inline(always)]
-fn plain_truth(text: &[u8]) -> Option<(bool, &[u8])>
-    ensures word { IfSome result (λ x. BeginsWord text.now (truth_name x.0) x.1.now) }
-    ensures shorter { IfSome result (λ x. length x.1.now < length text.now) }
-{
-    match text {
-        [b't', b'r', b'u', b'e', rest @ ..] => Some((true, rest)),
-        [b'f', b'a', b'l', b's', b'e', rest @ ..] => Some((false, rest)),
-        _ => None,
-    }
-}
-
 // The truth at the front of a text, if that is of this type, and what follows it.
 #[inline(never)]
 fn truth_value(dtype: DType, text: &[u8]) -> Option<(ScalarValue, &[u8])>
@@ -123,7 +90,7 @@ fn truth_value(dtype: DType, text: &[u8]) -> Option<(ScalarValue, &[u8])>
 {
     match dtype {
         DType::Bool(_) => {
-            let (truth, rest) = plain_truth(text)?;
+            let (truth, rest) = truth(text)?;
             Some((ScalarValue::Bool(truth), rest))
         }
         _ => None,

@@ -8,7 +8,8 @@ use Rattle.vortex_base.specs.declared.types.Nullability.TheVariants.{NonNullable
 use Rattle.vortex_base.specs.declared.types.PType.TheVariants as ptype
 use Rattle.vortex_stats.specs.declared.precision.Precision.TheVariants.{Exact, Inexact}
 use Rattle.vortex_stats.specs.declared.stat.Stat.TheVariants as stat
-use Rattle.vortex_syntax.specs.PlainStatistics.{BeginsClaim, BeginsPlainValue, BeginsSpaced, BeginsSpacedStat, BeginsSpacedValue, BeginsStat, BeginsWords, precise, precision_name, told_by, truth_name}
+use Rattle.vortex_syntax.specs.Plain.{truth_name}
+use Rattle.vortex_syntax.specs.PlainStatistics.{BeginsClaim, BeginsPlainValue, BeginsSpaced, BeginsSpacedStat, BeginsSpacedValue, BeginsStat, BeginsWords, precise, precision_name, told_by}
 use Rattle.vortex_syntax.specs.Words.{words}
 use Rattle.std.proofs.Common.{List}
 

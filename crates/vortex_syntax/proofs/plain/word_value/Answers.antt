@@ -7,4 +7,4 @@ returns-in-Ok-clause-value c =
     let text = c.args.text.now in
     let space : get_or text 0 0 ≡ 32 = omega arith in
     value_in_word c.args.dtype text (take (length text - 1) (drop 1 text)) c.in-Some.word.now c.in-Some.rest.now c.in-Ok.value
-    (uncons text 32 (omega arith) space) c.in-Some.ensures (c.ends_word.ensures c.if-not-ends_word.false) c.in-Ok.ensures.value
+    (uncons text 32 (omega arith) space) c.in-Some.ensures.word (c.ends_word.ensures c.if-not-ends_word.false) c.in-Ok.ensures.value
