@@ -223,7 +223,7 @@ fn is_misfit(alloc: Global, fault: Fault) -> Result<bool, StatsError> {
 }
 
 #[test]
-fn columns_that_make_no_table_are_refused(rt: HostRuntime) -> Result<(), Fail> {
+fn columns_that_make_no_table_come_back(rt: HostRuntime) -> Result<(), Fail> {
     let alloc = rt.alloc();
     for place in 0..7 {
         assert!(rt; is_misfit(alloc, Fault::Missing(place))?);
