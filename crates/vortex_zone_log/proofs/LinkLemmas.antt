@@ -7,9 +7,9 @@ use Rattle.std.specs.Prelude.{replicate, slice_get, slice_set}
 use Rattle.vortex_base.specs.Data.Exact.{both_true}
 use Rattle.vortex_prune.specs.Binding.StatValues.{read_stat}
 use Rattle.vortex_prune.specs.Zones.{Head}
+use Rattle.vortex_stats.proofs.Sets.SlotLemmas.{number_below}
 use Rattle.vortex_stats.specs.Stat.{stat_number}
 use Rattle.vortex_stats.specs.declared.stat.Stat.{Stat}
-use Rattle.vortex_stats.specs.declared.stat.Stat.TheVariants.{IsConstant, IsSorted, IsStrictSorted, Max, Min, Sum, NullCount, UncompressedSizeInBytes, NaNCount}
 use Rattle.vortex_zone_log.proofs.TableLemmas.{set_elsewhere, set_there}
 use Rattle.vortex_zone_log.specs.Tables.{AreLinked, IsNextReader, is_read, reads, slot}
 use Rattle.vortex_zone_log.specs.declared.links.Links.{Links}
@@ -25,17 +25,6 @@ not_true true n = absurd (n refl)
 not_true false n = refl
 
 -- ---- the places of statistics
-
-pub number_below : (s : Stat) → stat_number s < 9
-number_below IsConstant = omega arith
-number_below IsSorted = omega arith
-number_below IsStrictSorted = omega arith
-number_below Max = omega arith
-number_below Min = omega arith
-number_below Sum = omega arith
-number_below NullCount = omega arith
-number_below UncompressedSizeInBytes = omega arith
-number_below NaNCount = omega arith
 
 -- each statistic of each column has a place of its own
 own_slot : (i j : ℕ) (s t : Stat) → slot i s ≡ slot j t → (i ≡ j) × (stat_number s ≡ stat_number t)

@@ -5,7 +5,8 @@ use Rattle.std.specs.Prelude.{slice_get, slice_set}
 use Rattle.vortex_base.specs.Data.Cells.{cell_values}
 use Rattle.vortex_base.specs.declared.aggregate.AggregateFnRef.{AggregateFnRef}
 use Rattle.vortex_prune.specs.Binding.StatValues.{told_value}
-use Rattle.vortex_zone_log.proofs.LinkLemmas.{number_below, slot_within}
+use Rattle.vortex_stats.proofs.Sets.SlotLemmas.{number_below}
+use Rattle.vortex_zone_log.proofs.LinkLemmas.{slot_within}
 use Rattle.vortex_zone_log.proofs.TableLemmas.{all_mixed, lt_or_le, mixed_next, mixed_on, none_mixed, none_reads}
 use Rattle.vortex_zone_log.specs.Kept.{saying}
 use Rattle.vortex_zone_log.specs.Tables.{slot}
