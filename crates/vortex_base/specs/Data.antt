@@ -1,13 +1,19 @@
 -- Types, values, columns and scopes.
+pub mod BlobPairs
+pub mod Blobs
+pub mod CellPairs
 pub mod Cells
 pub mod Columns
 pub mod Exact
 pub mod Names
+pub mod NativePairs
+pub mod Natives
 pub mod Neighbours
 pub mod Orders
 pub mod Pairs
 pub mod Repeated
 pub mod Scalars
 pub mod Scopes
+pub mod Texts
 pub mod Types
 pub mod Values

@@ -8,6 +8,7 @@ ghost use Rattle.std.specs.Cmp.{partial_order_from_own_ties};
 ghost use Rattle.std.proofs.Common.{rules};
 ghost use lib.Pointwise.{pointwise};
 
+use crate::blobs::BytesRef;
 use crate::error::BaseError;
 use std::alloc::AllocError;
 use std::cmp::Ordering;
@@ -39,6 +40,14 @@ impl Bytes {
         ensures { result.now ≡ self.now }
     {
         self.bytes.as_slice()
+    }
+
+    /// The bytes, lent.
+    #[inline]
+    pub fn lend(&self) -> BytesRef<'_>
+        ensures { result.bytes.now ≡ self.now }
+    {
+        BytesRef::new(self.bytes.as_slice(), *self.bytes.allocator())
     }
 
     // A copy of the vector, by the bytes' allocator.

@@ -1,15 +1,22 @@
-//! The values of a column as they are kept: short ones and texts in forms of their own.
-ghost use Rattle.std.specs.Prelude.{◌≡◌, ◌≤◌, ◌+◌, ◌++◌, ◌∷◌, [], IfOk, IfSome, IsTrue, OnErr, OnOk, Some, length, map, option_map, slice_get, take, vec_capacity, vec_len};
-ghost use Rattle.std.specs.List.{list_all};
-ghost use Rattle.vortex_base.specs.Data.Scalars.{is_optional_value};
-ghost use Rattle.vortex_base.specs.Data.Cells.{HasRoom, HasWideRoom, cell_values, is_text, short_value, text_value, value_of};
+//! The values of a column as they are kept: nulls, truths, numbers and texts in forms of their own.
+ghost use Rattle.std.specs.Prelude.{◌≡◌, ◌<◌, ◌≤◌, ◌+◌, ◌++◌, ◌∷◌, [], IfOk, IfSome, None, OnErr, OnOk, Some, length, map, option_copied, option_map, replicate, slice_get, slice_set, take, vec_capacity, vec_len};
+ghost use Rattle.vortex_base.specs.Data.Cells.{bytes_value, cell_values, short_value, text_value, value_of};
 ghost use Rattle.vortex_base.specs.Data.Columns.{all_fit, value_at};
 ghost use Rattle.vortex_base.specs.declared.scalar_value.ScalarValue.TheVariants as value;
 
+pub(crate) mod pair;
+mod vec_pair;
+
+use crate::blobs::{Blobs, BytesRef};
 use crate::dtype::DType;
+use crate::match_each_native;
+use crate::native::Native;
+use crate::natives::Natives;
+use crate::nulls::Nulls;
 use crate::pvalue::PValue;
 use crate::scalar_value::ScalarValue;
-use crate::text::Text;
+use crate::texts::{TextRef, Texts};
+use crate::types::PType;
 use crate::value_ref::{ValueRef, fits, lend};
 use std::alloc::{AllocError, Global};
 use std::mem;
@@ -34,10 +41,19 @@ pub enum ShortCell {
 pub enum Cells {
     /// Values of any kind.
     Any(Vec<Option<ScalarValue>>),
-    /// Values without a text or bytes among them, in less than half the room.
-    Short(Vec<ShortCell>),
-    /// Texts.
-    Texts(Vec<Option<Text>>),
+    /// Nulls alone.
+    Nulls(Nulls),
+    Bool(Natives<bool>),
+    U8(Natives<u8>),
+    U16(Natives<u16>),
+    U32(Natives<u32>),
+    U64(Natives<u64>),
+    I8(Natives<i8>),
+    I16(Natives<i16>),
+    I32(Natives<i32>),
+    I64(Natives<i64>),
+    Texts(Texts),
+    Binary(Blobs),
 }
 
 impl ShortCell {
@@ -55,19 +71,6 @@ impl ShortCell {
             PValue::I16(n) => ShortCell::I16(n),
             PValue::I32(n) => ShortCell::I32(n),
             PValue::I64(n) => ShortCell::I64(n),
-        }
-    }
-
-    // The cell of an optional value, unless that is a text or bytes.
-    #[inline]
-    fn of(value: &Option<ScalarValue>) -> Option<ShortCell>
-        ensures { IfSome result (λ cell. short_value cell ≡ value.now) }
-    {
-        match value {
-            None => Some(ShortCell::Null),
-            Some(ScalarValue::Bool(truth)) => Some(ShortCell::Bool(*truth)),
-            Some(ScalarValue::Primitive(number)) => Some(ShortCell::of_number(*number)),
-            Some(ScalarValue::Utf8(_) | ScalarValue::Binary(_)) => None,
         }
     }
 
@@ -104,109 +107,226 @@ impl ShortCell {
     }
 }
 
-// The cells as values of any kind, with room for some more.
-fn widened(
-    cells: &[ShortCell],
+// The optional value of an optional truth or number.
+fn native_value<T: Native>(native: Option<T>) -> Option<ScalarValue>
+    ensures { result ≡ option_map T.scalar native }
+{
+    match native {
+        Some(native) => Some(native.to_value()),
+        None => None,
+    }
+}
+
+// What an optional value is, if it may be of a type.
+#[inline]
+fn native_of<T: Native>(value: &Option<ScalarValue>) -> Option<Option<T>>
+    ensures { IfSome result (λ native. option_map T.scalar native ≡ value.now) }
+{
+    match value {
+        None => Some(None),
+        Some(value) => match T::of_value(value) {
+            Some(native) => Some(Some(native)),
+            None => None,
+        },
+    }
+}
+
+// The value at a place, lent; `None` for null and past the end.
+#[inline]
+fn lend_native<'a, T: Native>(natives: &Natives<T>, i: usize) -> Option<ValueRef<'a>>
+    ensures { option_map value_of result
+        ≡ value_at (slice_get (map (option_map T.scalar) natives.now) i) }
+{
+    match natives.get(i) {
+        Some(native) => Some(native.lend()),
+        None => None,
+    }
+}
+
+// Whether each optional truth or number may stand under a type.
+fn all_natives_fit<T: Native>(natives: &Natives<T>, dtype: &DType) -> bool
+    ensures { result ≡ all_fit dtype.now (map (option_map T.scalar) natives.now) }
+{
+    for i in 0..natives.len() {
+        if !fits(lend_native(natives, i), dtype) {
+            return false;
+        }
+    }
+    true
+}
+
+// Puts an optional truth or number in the place of another.
+#[inline]
+fn set_native<T: Native>(natives: &mut Natives<T>, place: usize, native: Option<T>)
+    requires { place < length (map (option_map T.scalar) natives.old) }
+    ensures { map (option_map T.scalar) natives.new
+        ≡ slice_set (map (option_map T.scalar) natives.old) place (option_map T.scalar native) }
+{
+    natives.set(place, native);
+}
+
+// So many nulls of a type that can be set.
+fn null_natives<T: Native>(alloc: Global, count: usize) -> Result<Cells, AllocError>
+    ensures { IfOk result (λ cells. cell_values cells ≡ replicate count None) }
+{
+    Ok(T::into_cells(Natives::nulls(alloc, count)?))
+}
+
+// No values of a type yet, with room for some.
+fn room_for<T: Native>(alloc: Global, count: usize) -> Result<Cells, AllocError>
+    ensures { IfOk result (λ cells. cell_values cells ≡ []) }
+{
+    Ok(T::into_cells(Natives::with_capacity(alloc, count)?))
+}
+
+// The truths or numbers as values of any kind, with room for some more.
+fn widened_natives<T: Native>(
+    natives: &Natives<T>,
     alloc: Global,
     more: usize,
 ) -> Result<Vec<Option<ScalarValue>>, AllocError>
-    ensures values { IfOk result (λ v. v.items ≡ map short_value cells.now) }
+    ensures values { IfOk result (λ v. v.items ≡ map (option_map T.scalar) natives.now) }
     ensures room { IfOk result (λ v. vec_len v + more ≤ vec_capacity v) }
 {
-    let mut values = Vec::with_capacity(alloc, cells.len())?;
-    for cell in cells {
-        values.push(cell.value())?;
+    let mut values = Vec::with_capacity(alloc, natives.len())?;
+    for i in 0..natives.len() {
+        values.push(native_value(natives.get(i)))?;
     }
     values.reserve(more)?;
     Ok(values)
 }
 
-// The value of an optional text.
-#[inline]
-fn text_value(text: Option<Text>) -> Option<ScalarValue>
-    ensures { result ≡ text_value text }
+// Nulls as values of any kind, with room for some more.
+fn widened_nulls(nulls: &Nulls, more: usize) -> Result<Vec<Option<ScalarValue>>, AllocError>
+    ensures values { IfOk result (λ v. v.items ≡ replicate nulls.now None) }
+    ensures room { IfOk result (λ v. vec_len v + more ≤ vec_capacity v) }
 {
-    match text {
-        Some(text) => Some(ScalarValue::Utf8(text)),
+    let mut values = Vec::with_capacity(nulls.allocator(), nulls.count())?;
+    for _null in 0..nulls.count() {
+        values.push(None)?;
+    }
+    values.reserve(more)?;
+    Ok(values)
+}
+
+// The text of an optional value that is null or one.
+#[inline]
+fn text_of(value: &Option<ScalarValue>) -> Option<Option<&str>>
+    ensures { IfSome result (λ text. text_value (option_copied text) ≡ value.entry.now) }
+{
+    match value {
+        None => Some(None),
+        Some(ScalarValue::Utf8(text)) => Some(Some(text.as_str())),
+        _ => None,
+    }
+}
+
+// The bytes of an optional value that is null or a byte string.
+#[inline]
+fn bytes_of(value: &Option<ScalarValue>) -> Option<Option<&[u8]>>
+    ensures { IfSome result (λ bytes. bytes_value (option_copied bytes) ≡ value.entry.now) }
+{
+    match value {
+        None => Some(None),
+        Some(ScalarValue::Binary(bytes)) => Some(Some(bytes.as_slice())),
+        _ => None,
+    }
+}
+
+// The text at a place, lent; `None` for null and past the end.
+#[inline]
+fn lend_text(texts: &Texts, i: usize) -> Option<ValueRef<'_>>
+    ensures { option_map value_of result ≡ value_at (slice_get (map text_value texts.now) i) }
+{
+    match texts.get(i) {
+        Some(text) => Some(ValueRef::Utf8(TextRef::new(text, texts.allocator()))),
         None => None,
     }
 }
 
-// An optional text as an optional value, lent.
+// The byte string at a place, lent; `None` for null and past the end.
 #[inline]
-fn lend_text(text: &Option<Text>) -> Option<ValueRef<'_>>
-    ensures { option_map value_of result ≡ text_value text.now }
+fn lend_bytes(blobs: &Blobs, i: usize) -> Option<ValueRef<'_>>
+    ensures { option_map value_of result ≡ value_at (slice_get (map bytes_value blobs.now) i) }
 {
-    match text {
-        Some(text) => Some(ValueRef::Utf8(text)),
+    match blobs.get(i) {
+        Some(bytes) => Some(ValueRef::Binary(BytesRef::new(bytes, blobs.allocator()))),
         None => None,
     }
-}
-
-// Whether the value of each cell may stand under a type.
-fn all_short_fit(cells: &[ShortCell], dtype: &DType) -> bool
-    ensures { result
-        ≡ list_all (λ cell. is_optional_value (short_value cell) dtype.now) cells.now }
-{
-    cells.iter().all(|cell| fits(cell.lend(), dtype))
 }
 
 // Whether each optional text may stand under a type.
-fn all_texts_fit(texts: &[Option<Text>], dtype: &DType) -> bool
-    ensures { result
-        ≡ list_all (λ text. is_optional_value (text_value text) dtype.now) texts.now }
+fn all_texts_fit(texts: &Texts, dtype: &DType) -> bool
+    ensures { result ≡ all_fit dtype.now (map text_value texts.now) }
 {
-    texts.iter().all(|text| fits(lend_text(text), dtype))
+    for i in 0..texts.len() {
+        if !fits(lend_text(texts, i), dtype) {
+            return false;
+        }
+    }
+    true
 }
 
-// Whether an optional value is null or a text.
-#[inline]
-fn is_text(value: &Option<ScalarValue>) -> bool
-    ensures { result ≡ is_text value.now }
+// Whether each optional byte string may stand under a type.
+fn all_bytes_fit(blobs: &Blobs, dtype: &DType) -> bool
+    ensures { result ≡ all_fit dtype.now (map bytes_value blobs.now) }
 {
-    matches!(value, None | Some(ScalarValue::Utf8(_)))
+    for i in 0..blobs.len() {
+        if !fits(lend_bytes(blobs, i), dtype) {
+            return false;
+        }
+    }
+    true
 }
 
-// The optional text that such a value is.
-#[inline]
-fn text_of(value: Option<ScalarValue>) -> Option<Text>
-    requires { IsTrue (is_text value) }
-    ensures { text_value result ≡ value }
+// A copy of an optional value that is lent.
+fn copied(value: Option<ValueRef<'_>>) -> Result<Option<ScalarValue>, AllocError>
+    ensures { IfOk result (λ copy. copy ≡ option_map value_of value.entry) }
 {
     match value {
-        None => None,
-        Some(value) => match value {
-            ScalarValue::Utf8(text) => Some(text),
-            _other => unreachable!(),
-        },
+        Some(value) => Ok(Some(value.to_value()?)),
+        None => Ok(None),
     }
 }
 
-// Moves texts behind values of any kind, for which there is room.
-fn push_texts(values: &mut Vec<Option<ScalarValue>>, texts: Vec<Option<Text>>)
-    requires { vec_len values.old + vec_len texts ≤ vec_capacity values.old }
-    ensures values { values.new.items ≡ values.old.items ++ map text_value texts.items }
-    ensures capacity { vec_capacity values.new ≡ vec_capacity values.old }
+// The texts as values of any kind, with room for some more.
+fn widened_texts(texts: &Texts, more: usize) -> Result<Vec<Option<ScalarValue>>, AllocError>
+    ensures values { IfOk result (λ v. v.items ≡ map text_value texts.now) }
+    ensures room { IfOk result (λ v. vec_len v + more ≤ vec_capacity v) }
 {
-    for text in texts {
-        values.push_reserved(text_value(text));
+    let mut values = Vec::with_capacity(texts.allocator(), texts.len())?;
+    for i in 0..texts.len() {
+        values.push(copied(lend_text(texts, i))?)?;
     }
+    values.reserve(more)?;
+    Ok(values)
 }
 
-// The texts as values of any kind, with room for some more. They are left where they were if
-// memory is refused.
-fn widened_texts(
-    texts: &mut Vec<Option<Text>>,
+// The byte strings as values of any kind, with room for some more.
+fn widened_bytes(blobs: &Blobs, more: usize) -> Result<Vec<Option<ScalarValue>>, AllocError>
+    ensures values { IfOk result (λ v. v.items ≡ map bytes_value blobs.now) }
+    ensures room { IfOk result (λ v. vec_len v + more ≤ vec_capacity v) }
+{
+    let mut values = Vec::with_capacity(blobs.allocator(), blobs.len())?;
+    for i in 0..blobs.len() {
+        values.push(copied(lend_bytes(blobs, i))?)?;
+    }
+    values.reserve(more)?;
+    Ok(values)
+}
+
+// Values of any kind with room for some more, taken from where they were.
+fn widened_any(
+    values: &mut Vec<Option<ScalarValue>>,
     more: usize,
 ) -> Result<Vec<Option<ScalarValue>>, AllocError>
-    ensures values { IfOk result (λ v. v.items ≡ map text_value texts.old.items) }
+    ensures values { IfOk result (λ v. v.items ≡ values.old.items) }
     ensures room { IfOk result (λ v. vec_len v + more ≤ vec_capacity v) }
-    ensures refused { OnErr result (texts.new.items ≡ texts.old.items) }
+    ensures refused { OnErr result (values.new.items ≡ values.old.items) }
 {
-    let alloc = *texts.allocator();
-    let mut values = Vec::with_capacity(alloc, texts.len().saturating_add(more))?;
-    push_texts(&mut values, mem::replace(texts, Vec::new(alloc)));
-    Ok(values)
+    values.reserve(more)?;
+    let alloc = *values.allocator();
+    Ok(mem::replace(values, Vec::new(alloc)))
 }
 
 impl Cells {
@@ -215,9 +335,20 @@ impl Cells {
         ensures { cell_values result ≡ [] }
     {
         match dtype {
-            DType::Utf8(_) => Cells::Texts(Vec::new(alloc)),
-            DType::Binary(_) => Cells::Any(Vec::new(alloc)),
-            _ => Cells::Short(Vec::new(alloc)),
+            DType::Null | DType::MinMaxState(_, _) => Cells::Nulls(Nulls::new(alloc, 0)),
+            DType::Bool(_) => Cells::Bool(Natives::new(alloc)),
+            DType::Utf8(_) => Cells::Texts(Texts::new(alloc)),
+            DType::Binary(_) => Cells::Binary(Blobs::new(alloc)),
+            DType::Primitive(ptype, _) => match ptype {
+                PType::U8 => Cells::U8(Natives::new(alloc)),
+                PType::U16 => Cells::U16(Natives::new(alloc)),
+                PType::U32 => Cells::U32(Natives::new(alloc)),
+                PType::U64 => Cells::U64(Natives::new(alloc)),
+                PType::I8 => Cells::I8(Natives::new(alloc)),
+                PType::I16 => Cells::I16(Natives::new(alloc)),
+                PType::I32 => Cells::I32(Natives::new(alloc)),
+                PType::I64 => Cells::I64(Natives::new(alloc)),
+            },
         }
     }
 
@@ -226,9 +357,43 @@ impl Cells {
         ensures { IfOk result (λ cells. cell_values cells ≡ []) }
     {
         match dtype {
-            DType::Utf8(_) => Ok(Cells::Texts(Vec::with_capacity(alloc, count)?)),
-            DType::Binary(_) => Ok(Cells::Any(Vec::with_capacity(alloc, count)?)),
-            _ => Ok(Cells::Short(Vec::with_capacity(alloc, count)?)),
+            DType::Null | DType::MinMaxState(_, _) => Ok(Cells::Nulls(Nulls::new(alloc, 0))),
+            DType::Bool(_) => room_for::<bool>(alloc, count),
+            DType::Utf8(_) => Ok(Cells::Texts(Texts::with_capacity(alloc, count)?)),
+            DType::Binary(_) => Ok(Cells::Binary(Blobs::with_capacity(alloc, count)?)),
+            DType::Primitive(ptype, _) => match ptype {
+                PType::U8 => room_for::<u8>(alloc, count),
+                PType::U16 => room_for::<u16>(alloc, count),
+                PType::U32 => room_for::<u32>(alloc, count),
+                PType::U64 => room_for::<u64>(alloc, count),
+                PType::I8 => room_for::<i8>(alloc, count),
+                PType::I16 => room_for::<i16>(alloc, count),
+                PType::I32 => room_for::<i32>(alloc, count),
+                PType::I64 => room_for::<i64>(alloc, count),
+            },
+        }
+    }
+
+    /// So many nulls of a type, in whose place its values can be set in no more memory.
+    pub fn nulls(alloc: Global, dtype: DType, count: usize) -> Result<Cells, AllocError>
+        ensures { IfOk result (λ cells. cell_values cells ≡ replicate count None) }
+    {
+        match dtype {
+            DType::Null | DType::MinMaxState(_, _) => Ok(Cells::Nulls(Nulls::new(alloc, count))),
+            DType::Bool(_) => null_natives::<bool>(alloc, count),
+            DType::Utf8(_) | DType::Binary(_) => {
+                Ok(Cells::Any(widened_nulls(&Nulls::new(alloc, count), 0)?))
+            }
+            DType::Primitive(ptype, _) => match ptype {
+                PType::U8 => null_natives::<u8>(alloc, count),
+                PType::U16 => null_natives::<u16>(alloc, count),
+                PType::U32 => null_natives::<u32>(alloc, count),
+                PType::U64 => null_natives::<u64>(alloc, count),
+                PType::I8 => null_natives::<i8>(alloc, count),
+                PType::I16 => null_natives::<i16>(alloc, count),
+                PType::I32 => null_natives::<i32>(alloc, count),
+                PType::I64 => null_natives::<i64>(alloc, count),
+            },
         }
     }
 
@@ -236,22 +401,22 @@ impl Cells {
     pub(crate) fn truncate(&mut self, len: usize)
         ensures { cell_values self.new ≡ take len (cell_values self.old) }
     {
-        match self {
+        match_each_native!(self, natives => natives.truncate(len),
             Cells::Any(values) => values.truncate(len),
-            Cells::Short(cells) => cells.truncate(len),
+            Cells::Nulls(nulls) => nulls.truncate(len),
             Cells::Texts(texts) => texts.truncate(len),
-        }
+            Cells::Binary(blobs) => blobs.truncate(len))
     }
 
     /// Gives back the room that no value takes.
     pub fn shrink_to_fit(&mut self)
         ensures { cell_values self.new ≡ cell_values self.old }
     {
-        match self {
+        match_each_native!(self, natives => natives.shrink_to_fit(),
             Cells::Any(values) => values.shrink_to_fit(),
-            Cells::Short(cells) => cells.shrink_to_fit(),
+            Cells::Nulls(_) => {},
             Cells::Texts(texts) => texts.shrink_to_fit(),
-        }
+            Cells::Binary(blobs) => blobs.shrink_to_fit())
     }
 
     /// The number of values.
@@ -259,11 +424,11 @@ impl Cells {
     pub fn len(&self) -> usize
         ensures { result ≡ length (cell_values self.now) }
     {
-        match self {
+        match_each_native!(self, natives => natives.len(),
             Cells::Any(values) => values.len(),
-            Cells::Short(cells) => cells.len(),
+            Cells::Nulls(nulls) => nulls.count(),
             Cells::Texts(texts) => texts.len(),
-        }
+            Cells::Binary(blobs) => blobs.len())
     }
 
     // The value at a place, lent; `None` for null and past the end.
@@ -271,20 +436,14 @@ impl Cells {
     pub(crate) fn value_at(&self, i: usize) -> Option<ValueRef<'_>>
         ensures { option_map value_of result ≡ value_at (slice_get (cell_values self.now) i) }
     {
-        match self {
+        match_each_native!(self, natives => lend_native(natives, i),
             Cells::Any(values) => match values.get(i) {
                 None => None,
                 Some(value) => lend(value.as_ref()),
             },
-            Cells::Short(cells) => match cells.get(i) {
-                None => None,
-                Some(cell) => cell.lend(),
-            },
-            Cells::Texts(texts) => match texts.get(i) {
-                Some(Some(text)) => Some(ValueRef::Utf8(text)),
-                _ => None,
-            },
-        }
+            Cells::Nulls(_) => None,
+            Cells::Texts(texts) => lend_text(texts, i),
+            Cells::Binary(blobs) => lend_bytes(blobs, i))
     }
 
     /// Whether each value may stand under the type: it fits the type, or it is null and the type
@@ -292,45 +451,38 @@ impl Cells {
     pub fn fits(&self, dtype: &DType) -> bool
         ensures { result ≡ all_fit dtype.now (cell_values self.now) }
     {
-        match self {
+        match_each_native!(self, natives => all_natives_fit(natives, dtype),
             Cells::Any(values) => values.iter().all(|value| fits(lend(value.as_ref()), dtype)),
-            Cells::Short(cells) => all_short_fit(cells, dtype),
+            Cells::Nulls(nulls) => nulls.count() == 0 || dtype.is_nullable(),
             Cells::Texts(texts) => all_texts_fit(texts, dtype),
-        }
+            Cells::Binary(blobs) => all_bytes_fit(blobs, dtype))
     }
 
-    // The cells as values of any kind, with room for some more.
+    // The values as values of any kind, with room for some more. They are left where they were if
+    // memory is refused.
     #[inline(never)]
-    fn widen(&mut self, more: usize) -> Result<(), AllocError>
-        ensures same { cell_values self.new ≡ cell_values self.old }
-        ensures room { OnOk result (HasWideRoom self.new more) }
+    pub(crate) fn widened(&mut self, more: usize) -> Result<Vec<Option<ScalarValue>>, AllocError>
+        ensures values { IfOk result (λ v. v.items ≡ cell_values self.old) }
+        ensures room { IfOk result (λ v. vec_len v + more ≤ vec_capacity v) }
+        ensures refused { OnErr result (cell_values self.new ≡ cell_values self.old) }
     {
-        match self {
-            Cells::Any(values) => values.reserve(more),
-            Cells::Short(cells) => {
-                let values = widened(cells, *cells.allocator(), more)?;
-                *self = Cells::Any(values);
-                Ok(())
-            }
-            Cells::Texts(texts) => {
-                let values = widened_texts(texts, more)?;
-                *self = Cells::Any(values);
-                Ok(())
-            }
-        }
+        match_each_native!(self, natives => widened_natives(natives, natives.allocator(), more),
+            Cells::Any(values) => widened_any(values, more),
+            Cells::Nulls(nulls) => widened_nulls(nulls, more),
+            Cells::Texts(texts) => widened_texts(texts, more),
+            Cells::Binary(blobs) => widened_bytes(blobs, more))
     }
 
-    // Adds a value to cells of which one of them isn't short.
+    // Adds a value of another kind than the cells are kept as.
     #[inline(never)]
     fn push_any(&mut self, value: Option<ScalarValue>) -> Result<(), AllocError>
         ensures pushed { OnOk result (cell_values self.new ≡ cell_values self.old ++ value ∷ []) }
         ensures refused { OnErr result (cell_values self.new ≡ cell_values self.old) }
     {
-        self.widen(1)?;
-        match self {
-            Cells::Any(values) => Ok(values.push(value)?),
-            Cells::Short(_) | Cells::Texts(_) => unreachable!(),
-        }
+        let mut values = self.widened(1)?;
+        values.push_reserved(value);
+        *self = Cells::Any(values);
+        Ok(())
     }
 
     /// Adds a value. If memory is refused, the values are as they were.
@@ -339,69 +491,110 @@ impl Cells {
         ensures pushed { OnOk result (cell_values self.new ≡ cell_values self.old ++ value ∷ []) }
         ensures refused { OnErr result (cell_values self.new ≡ cell_values self.old) }
     {
-        match self {
-            Cells::Short(cells) => {
-                if let Some(cell) = ShortCell::of(&value) {
-                    return Ok(cells.push(cell)?);
-                }
-            }
-            Cells::Texts(texts) => {
-                if is_text(&value) {
-                    return Ok(texts.push(text_of(value))?);
-                }
-            }
-            Cells::Any(_) => {}
-        }
+        match_each_native!(self,
+            natives => if let Some(native) = native_of(&value) {
+                return natives.push(native);
+            },
+            Cells::Any(values) => return Ok(values.push(value)?),
+            Cells::Nulls(nulls) => if value.is_none() {
+                return nulls.push();
+            },
+            Cells::Texts(texts) => if let Some(text) = text_of(&value) {
+                return texts.push(text);
+            },
+            Cells::Binary(blobs) => if let Some(bytes) = bytes_of(&value) {
+                return blobs.push(bytes);
+            });
         self.push_any(value)
     }
 
-    // Makes room for the values of others, as they are kept.
-    pub(crate) fn make_room(&mut self, others: &Cells) -> Result<(), AllocError>
-        ensures same { cell_values self.new ≡ cell_values self.old }
-        ensures room { OnOk result (HasRoom self.new others.now) }
+    /// Adds a copy of a value that is lent. If memory is refused, the values are as they were. A
+    /// text or bytes are copied into the heap of the others.
+    #[inline]
+    pub fn push_lent(&mut self, value: Option<ValueRef<'_>>) -> Result<(), AllocError>
+        ensures pushed { OnOk result
+            (cell_values self.new ≡ cell_values self.old ++ option_map value_of value.entry ∷ []) }
+        ensures refused { OnErr result (cell_values self.new ≡ cell_values self.old) }
     {
-        match others {
-            Cells::Any(more) => self.widen(more.len()),
-            Cells::Short(more) => match self {
-                Cells::Any(values) => values.reserve(more.len()),
-                Cells::Short(cells) => cells.reserve(more.len()),
-                Cells::Texts(_) => self.widen(more.len()),
-            },
-            Cells::Texts(more) => match self {
-                Cells::Any(values) => values.reserve(more.len()),
-                Cells::Short(_) => self.widen(more.len()),
-                Cells::Texts(texts) => texts.reserve(more.len()),
-            },
+        match (&mut *self, value) {
+            (Cells::Texts(texts), Some(ValueRef::Utf8(text))) => {
+                return texts.push(Some(text.as_str()));
+            }
+            (Cells::Binary(blobs), Some(ValueRef::Binary(bytes))) => {
+                return blobs.push(Some(bytes.as_slice()));
+            }
+            _ => {}
         }
+        let copy = copied(value)?;
+        self.push(copy)
     }
 
-    // Moves the values of others behind these, for which there is room.
-    pub(crate) fn append(&mut self, others: &mut Cells)
-        requires { HasRoom self.old others.old }
-        ensures appended { cell_values self.new ≡ cell_values self.old ++ cell_values others.old }
-        ensures emptied { cell_values others.new ≡ [] }
+    /// Adds a truth, a number or null. If memory is refused, the values are as they were.
+    #[inline]
+    pub fn push_cell(&mut self, cell: ShortCell) -> Result<(), AllocError>
+        ensures pushed { OnOk result
+            (cell_values self.new ≡ cell_values self.old ++ short_value cell ∷ []) }
+        ensures refused { OnErr result (cell_values self.new ≡ cell_values self.old) }
     {
-        match (self, others) {
-            (Cells::Any(values), Cells::Any(more)) => {
-                let _ = values.append(more);
-            }
-            (Cells::Short(cells), Cells::Short(more)) => {
-                let _ = cells.append(more);
-            }
-            (Cells::Any(values), Cells::Short(more)) => {
-                for cell in more.iter() {
-                    values.push_reserved(cell.value());
-                }
-                more.clear();
-            }
-            (Cells::Texts(texts), Cells::Texts(more)) => {
-                let _ = texts.append(more);
-            }
-            (Cells::Any(values), Cells::Texts(more)) => {
-                let texts = mem::replace(more, Vec::new(*more.allocator()));
-                push_texts(values, texts);
-            }
-            _ => unreachable!(),
-        }
+        match_each_native!(self,
+            natives => if let Some(native) = Native::of_cell(cell) {
+                return natives.push(native);
+            },
+            _ => {});
+        self.push(cell.value())
+    }
+
+    // Puts a value in the place of another, of another kind than the cells are kept as.
+    #[inline(never)]
+    fn set_any(&mut self, place: usize, value: Option<ScalarValue>) -> Result<(), AllocError>
+        requires { place < length (cell_values self.old) }
+        ensures set { OnOk result
+            (cell_values self.new ≡ slice_set (cell_values self.old) place value) }
+        ensures refused { OnErr result (cell_values self.new ≡ cell_values self.old) }
+    {
+        let mut values = self.widened(0)?;
+        values[place] = value;
+        *self = Cells::Any(values);
+        Ok(())
+    }
+
+    /// Puts a value in the place of another. If memory is refused, the values are as they were;
+    /// none is taken for a value of the kind that the cells are kept as.
+    #[inline]
+    pub fn set(&mut self, place: usize, value: Option<ScalarValue>) -> Result<(), AllocError>
+        requires { place < length (cell_values self.old) }
+        ensures set { OnOk result
+            (cell_values self.new ≡ slice_set (cell_values self.old) place value) }
+        ensures refused { OnErr result (cell_values self.new ≡ cell_values self.old) }
+    {
+        match_each_native!(self,
+            natives => if let Some(native) = native_of(&value) {
+                set_native(natives, place, native);
+                return Ok(());
+            },
+            Cells::Any(values) => {
+                values[place] = value;
+                return Ok(());
+            },
+            _ => {});
+        self.set_any(place, value)
+    }
+
+    /// Puts a truth, a number or null in the place of a value. If memory is refused, the values are
+    /// as they were.
+    #[inline]
+    pub fn set_cell(&mut self, place: usize, cell: ShortCell) -> Result<(), AllocError>
+        requires { place < length (cell_values self.old) }
+        ensures set { OnOk result
+            (cell_values self.new ≡ slice_set (cell_values self.old) place (short_value cell)) }
+        ensures refused { OnErr result (cell_values self.new ≡ cell_values self.old) }
+    {
+        match_each_native!(self,
+            natives => if let Some(native) = Native::of_cell(cell) {
+                set_native(natives, place, native);
+                return Ok(());
+            },
+            _ => {});
+        self.set(place, cell.value())
     }
 }

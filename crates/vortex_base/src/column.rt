@@ -1,5 +1,5 @@
 //! The values of a column.
-ghost use Rattle.std.specs.Prelude.{◌≡◌, ◌<◌, IsTrue, length, option_map, slice_get, Some};
+ghost use Rattle.std.specs.Prelude.{◌≡◌, ◌<◌, IfSome, IsTrue, length, map, option_map, slice_get, Some};
 ghost use Rattle.vortex_base.specs.Data.Cells.{cell_values, value_of};
 ghost use Rattle.vortex_base.specs.Data.Columns.{all_fit, column_of, value_at, IsColumn};
 
@@ -10,6 +10,8 @@ mod push;
 use crate::cells::Cells;
 use crate::dtype::DType;
 use crate::error::BaseError;
+use crate::native::Native;
+use crate::natives::Natives;
 use crate::scalar_value::ScalarValue;
 use crate::value_ref::ValueRef;
 pub(crate) use append::append_all;
@@ -41,8 +43,8 @@ impl Column {
     /// `Mismatch` if a value does not fit the type, or a null stands where the type has none.
     ///
     /// The values stay in the vector that was handed in, 40 bytes each, so that no memory is taken.
-    /// `Cells::new` and `Cells::push` keep truths and numbers in 16 bytes each and texts in 32, and
-    /// `new_unchecked` makes the column of them.
+    /// `Cells::new` and `Cells::push`, or `Natives`, keep truths and numbers in a vector of their
+    /// own type, and `of_cells` makes the column of them.
     pub fn try_new(
         dtype: DType,
         values: Vec<Option<ScalarValue>>,
@@ -50,11 +52,7 @@ impl Column {
     ) -> Result<Column, BaseError>
         ensures { result ≡ column_of dtype values.items size }
     {
-        let cells = Cells::Any(values);
-        if !cells.fits(&dtype) {
-            return Err(BaseError::Mismatch);
-        }
-        Ok(Column { dtype, cells, size })
+        Column::of_cells(dtype, Cells::Any(values), size)
     }
 
     /// The column of values that are known to fit the type, as their reader has tested each, or as
@@ -64,6 +62,18 @@ impl Column {
         ensures { result ≡ record { dtype = dtype; values = cell_values cells; size = size } }
     {
         Column { dtype, cells, size }
+    }
+
+    /// The column of a type, its values as they are kept, and its size in bytes, which is taken as
+    /// declared. `Mismatch` if a value does not fit the type, or a null stands where the type has
+    /// none.
+    pub fn of_cells(dtype: DType, cells: Cells, size: u64) -> Result<Column, BaseError>
+        ensures { result ≡ column_of dtype (cell_values cells) size }
+    {
+        if !cells.fits(&dtype) {
+            return Err(BaseError::Mismatch);
+        }
+        Ok(Column { dtype, cells, size })
     }
 
     pub fn dtype(&self) -> DType
@@ -93,6 +103,15 @@ impl Column {
         ensures { cell_values result.now ≡ self.now.values }
     {
         &self.cells
+    }
+
+    /// The values of a column of truths or numbers of one type, if they are kept as such: all that
+    /// were pushed to `Cells::new` of its type are. `as_slices` lends them.
+    pub fn natives<T: Native>(&self) -> Option<&Natives<T>>
+        ensures { IfSome result (λ natives.
+            self.entry.now.values ≡ map (option_map T.scalar) natives.now) }
+    {
+        T::of_cells(&self.cells)
     }
 
     /// The value at a place, which `len` tells to be in range, or `None` for null.

@@ -4,6 +4,7 @@ ghost use Rattle.std.specs.Prelude.{◌≡◌, ◌↔◌, IfOk, IsTrue};
 ghost use Rattle.std.specs.Str.{chars};
 ghost use Rattle.vortex_base.specs.Worked.Examples.{TypeExamples, ValueExamples, OrderExamples};
 ghost use Rattle.vortex_base.specs.Worked.Examples.{ScopeExamples, ChunkExamples};
+ghost use Rattle.vortex_base.specs.Worked.KeptExamples.{BlobExamples, CellExamples, NativeExamples};
 ghost use Rattle.vortex_base.specs.Worked.ExpressionExamples.{LikeExamples, TypingExamples};
 ghost use Rattle.vortex_base.specs.Worked.ExpressionExamples.{AggregateExamples, BindingExamples};
 ghost use Rattle.vortex_base.specs.Worked.ExpressionExamples.{MeaningExamples};
@@ -92,6 +93,13 @@ pub fn examples_hold()
     ensures order { OrderExamples }
     ensures scopes { ScopeExamples }
     ensures chunks { ChunkExamples }
+{}
+
+/// Worked cases of the definitions of the forms in which a column keeps its values.
+pub fn kept_examples_hold()
+    ensures natives { NativeExamples }
+    ensures blobs { BlobExamples }
+    ensures cells { CellExamples }
 {}
 
 /// Worked cases of the definitions of expressions: LIKE, typing, binding and meaning.

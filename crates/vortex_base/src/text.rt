@@ -10,6 +10,7 @@ ghost use Rattle.std.proofs.Common.{rules};
 ghost use lib.Pointwise.{pointwise};
 
 use crate::error::BaseError;
+use crate::texts::TextRef;
 use std::alloc::AllocError;
 use std::cmp::Ordering;
 use std::marker::Model;
@@ -41,6 +42,14 @@ impl Text {
         ensures utf8 { IsTrue (is_utf8 self.now) }
     {
         self.text.as_str()
+    }
+
+    /// The text, lent.
+    #[inline]
+    pub fn lend(&self) -> TextRef<'_>
+        ensures { result.text.now ≡ self.now }
+    {
+        TextRef::new(self.text.as_str(), *self.text.allocator())
     }
 
     // A copy of the string, by the text's allocator.

@@ -5,11 +5,13 @@ ghost use Rattle.vortex_base.specs.Data.Scalars.{is_optional_value};
 ghost use Rattle.vortex_base.specs.Data.Values.{is_value, kind_index, value_cmp};
 ghost use Rattle.vortex_base.specs.Meanings.Meaning.{is_long};
 
+use crate::blobs::BytesRef;
 use crate::bytes::Bytes;
 use crate::dtype::DType;
 use crate::pvalue::PValue;
 use crate::scalar_value::ScalarValue;
 use crate::text::Text;
+use crate::texts::TextRef;
 use std::alloc::AllocError;
 use std::cmp::Ordering;
 
@@ -18,8 +20,8 @@ use std::cmp::Ordering;
 pub enum ValueRef<'a> {
     Bool(bool),
     Primitive(PValue),
-    Utf8(&'a Text),
-    Binary(&'a Bytes),
+    Utf8(TextRef<'a>),
+    Binary(BytesRef<'a>),
 }
 
 // The place of a value's kind among the four.
@@ -42,8 +44,8 @@ impl ScalarValue {
         match self {
             ScalarValue::Bool(truth) => ValueRef::Bool(*truth),
             ScalarValue::Primitive(number) => ValueRef::Primitive(*number),
-            ScalarValue::Utf8(text) => ValueRef::Utf8(text),
-            ScalarValue::Binary(bytes) => ValueRef::Binary(bytes),
+            ScalarValue::Utf8(text) => ValueRef::Utf8(text.lend()),
+            ScalarValue::Binary(bytes) => ValueRef::Binary(bytes.lend()),
         }
     }
 }
@@ -57,8 +59,8 @@ impl<'a> ValueRef<'a> {
         match self {
             ValueRef::Bool(truth) => Ok(ScalarValue::Bool(truth)),
             ValueRef::Primitive(number) => Ok(ScalarValue::Primitive(number)),
-            ValueRef::Utf8(text) => Ok(ScalarValue::Utf8(text.clone()?)),
-            ValueRef::Binary(bytes) => Ok(ScalarValue::Binary(bytes.clone()?)),
+            ValueRef::Utf8(text) => Ok(ScalarValue::Utf8(Text::new(text.to_string_in()?))),
+            ValueRef::Binary(bytes) => Ok(ScalarValue::Binary(Bytes::new(bytes.to_vec_in()?))),
         }
     }
 
@@ -86,8 +88,8 @@ impl<'a> ValueRef<'a> {
         match (self, other) {
             (ValueRef::Bool(a), ValueRef::Bool(b)) => a.cmp(&b),
             (ValueRef::Primitive(a), ValueRef::Primitive(b)) => a.cmp(&b),
-            (ValueRef::Utf8(a), ValueRef::Utf8(b)) => a.cmp(b),
-            (ValueRef::Binary(a), ValueRef::Binary(b)) => a.cmp(b),
+            (ValueRef::Utf8(a), ValueRef::Utf8(b)) => a.as_str().cmp(b.as_str()),
+            (ValueRef::Binary(a), ValueRef::Binary(b)) => a.as_slice().cmp(b.as_slice()),
             _ => kind(self).cmp(&kind(other)),
         }
     }

@@ -1,9 +1,7 @@
 -- The values of a column as they are kept, and a value as it is lent.
-use Rattle.std.specs.Prelude.{ℕ, ◌+◌, ◌≤◌, List, Option, Some, None, Bool, true, false, map, option_map, vec_len, vec_capacity}
-use Rattle.std.specs.Coded.{le_prop}
-use mathlib.Core.HLevel.{⊥_prop}
+use Rattle.std.specs.Prelude.{ℕ, List, Option, Some, None, map, option_map, replicate}
 use Rattle.vortex_base.specs.declared.cells.Cells.{Cells}
-use Rattle.vortex_base.specs.declared.cells.Cells.TheVariants.{Any, Short, Texts}
+use Rattle.vortex_base.specs.declared.cells.Cells.TheVariants.{Any, Nulls, Bool, U8, U16, U32, U64, I8, I16, I32, I64, Texts, Binary}
 use Rattle.vortex_base.specs.declared.cells.ShortCell.{ShortCell}
 use Rattle.vortex_base.specs.declared.cells.ShortCell.TheVariants as short
 use Rattle.vortex_base.specs.declared.pvalue.PValue.TheVariants as number
@@ -16,8 +14,8 @@ use Rattle.vortex_base.specs.declared.value_ref.ValueRef.TheVariants as lent
 abbrev pub value_of : ValueRef → ScalarValue
 value_of (lent.Bool b) = value.Bool b
 value_of (lent.Primitive p) = value.Primitive p
-value_of (lent.Utf8 t) = value.Utf8 t.now
-value_of (lent.Binary b) = value.Binary b.now
+value_of (lent.Utf8 t) = value.Utf8 t.text.now
+value_of (lent.Binary b) = value.Binary b.bytes.now
 
 -- the optional value of a short cell
 abbrev pub short_value : ShortCell → Option ScalarValue
@@ -36,40 +34,22 @@ short_value (short.I64 n) = Some (value.Primitive (number.I64 n))
 abbrev pub text_value : Option (List ℕ) → Option ScalarValue
 text_value t = option_map value.Utf8 t
 
--- null or a text
-abbrev pub is_text : Option ScalarValue → Bool
-is_text None = true
-is_text (Some (value.Utf8 t)) = true
-is_text v = false
+-- the value of an optional byte string
+abbrev pub bytes_value : Option (List ℕ) → Option ScalarValue
+bytes_value b = option_map value.Binary b
 
 -- the optional values of cells, in order
 abbrev pub cell_values : Cells → List (Option ScalarValue)
 cell_values (Any v) = v.items
-cell_values (Short v) = map short_value v.items
-cell_values (Texts v) = map text_value v.items
-
--- there is room in some cells for those of others, as they are kept
-abbrev pub HasRoom : Cells → Cells → Type 0
-HasRoom (Any v) (Any w) = vec_len v + vec_len w ≤ vec_capacity v
-HasRoom (Any v) (Short w) = vec_len v + vec_len w ≤ vec_capacity v
-HasRoom (Any v) (Texts w) = vec_len v + vec_len w ≤ vec_capacity v
-HasRoom (Short v) (Short w) = vec_len v + vec_len w ≤ vec_capacity v
-HasRoom (Texts v) (Texts w) = vec_len v + vec_len w ≤ vec_capacity v
-HasRoom v w = ⊥
-
--- there is room in one way at most
-pub HasRoom-prop : (c d : Cells) → IsProp (HasRoom c d)
-HasRoom-prop (Any v) (Any w) = le_prop
-HasRoom-prop (Any v) (Short w) = le_prop
-HasRoom-prop (Any v) (Texts w) = le_prop
-HasRoom-prop (Short v) (Any w) = ⊥_prop
-HasRoom-prop (Short v) (Short w) = le_prop
-HasRoom-prop (Short v) (Texts w) = ⊥_prop
-HasRoom-prop (Texts v) (Any w) = ⊥_prop
-HasRoom-prop (Texts v) (Short w) = ⊥_prop
-HasRoom-prop (Texts v) (Texts w) = le_prop
-
--- the cells are of any kind, and there is room for some more
-abbrev pub HasWideRoom : Cells → ℕ → Type 0
-HasWideRoom (Any v) n = vec_len v + n ≤ vec_capacity v
-HasWideRoom v n = ⊥
+cell_values (Nulls n) = replicate n None
+cell_values (Bool v) = map (option_map value.Bool) v
+cell_values (U8 v) = map (option_map (λ n. value.Primitive (number.U8 n))) v
+cell_values (U16 v) = map (option_map (λ n. value.Primitive (number.U16 n))) v
+cell_values (U32 v) = map (option_map (λ n. value.Primitive (number.U32 n))) v
+cell_values (U64 v) = map (option_map (λ n. value.Primitive (number.U64 n))) v
+cell_values (I8 v) = map (option_map (λ n. value.Primitive (number.I8 n))) v
+cell_values (I16 v) = map (option_map (λ n. value.Primitive (number.I16 n))) v
+cell_values (I32 v) = map (option_map (λ n. value.Primitive (number.I32 n))) v
+cell_values (I64 v) = map (option_map (λ n. value.Primitive (number.I64 n))) v
+cell_values (Texts v) = map text_value v
+cell_values (Binary v) = map bytes_value v

@@ -1,9 +1,9 @@
 //! A column and the one whose values go behind its own.
 ghost use Rattle.std.specs.Prelude.{◌≡◌, ◌+◌, ◌<◌, ◌^◌, ◌∷◌, [], IfErr, IfOk, IsTrue};
-ghost use Rattle.vortex_base.specs.Data.Cells.{cell_values, HasRoom, HasRoom-prop};
+ghost use Rattle.vortex_base.specs.Data.CellPairs as cells;
 ghost use Rattle.vortex_base.specs.Data.Columns.{all_fit, appended, can_append, emptied};
 
-use crate::cells::Cells;
+use crate::cells::pair::CellPair;
 use crate::column::Column;
 use crate::dtype::DType;
 
@@ -12,13 +12,11 @@ use crate::dtype::DType;
 #[derive(Drop)]
 pub(crate) struct Pair {
     dtype: DType,
-    cells: Cells,
+    pair: CellPair,
     size: u64,
-    others: Cells,
     other_size: u64,
-    ghost fits: { IsTrue (all_fit dtype (cell_values cells)) },
-    ghost others_fit: { IsTrue (all_fit dtype (cell_values others)) },
-    ghost room: { HasRoom cells others } by { HasRoom-prop cells others },
+    ghost fits: { IsTrue (all_fit dtype (cells.first_of pair)) },
+    ghost others_fit: { IsTrue (all_fit dtype (cells.second_of pair)) },
     ghost sizes: { size + other_size < 2 ^ 64 },
 }
 
@@ -33,32 +31,29 @@ impl Pair {
         ensures column { IfErr result (λ columns. columns.0 ≡ column) }
         ensures other { IfErr result (λ columns. columns.1 ≡ other) }
     {
-        let Column {
-            dtype,
-            mut cells,
-            size,
-        } = column;
+        let Column { dtype, cells, size } = column;
         let Column {
             dtype: other_dtype,
             cells: others,
             size: other_size,
         } = other;
-        if cells.make_room(&others).is_err() {
-            let column = Column { dtype, cells, size };
-            let other = Column {
-                dtype: other_dtype,
-                cells: others,
-                size: other_size,
-            };
-            return Err((column, other));
+        match CellPair::try_new(cells, others) {
+            Ok(pair) => Ok(Pair {
+                dtype,
+                pair,
+                size,
+                other_size,
+            }),
+            Err((cells, others)) => {
+                let column = Column { dtype, cells, size };
+                let other = Column {
+                    dtype: other_dtype,
+                    cells: others,
+                    size: other_size,
+                };
+                Err((column, other))
+            }
         }
-        Ok(Pair {
-            dtype,
-            cells,
-            size,
-            others,
-            other_size,
-        })
     }
 
     // Both columns as they were.
@@ -66,16 +61,18 @@ impl Pair {
         ensures first { result.0 ≡ first_of self }
         ensures second { result.1 ≡ second_of self }
     {
-        let dtype = self.dtype;
-        let column = Column {
+        let Pair {
             dtype,
-            cells: self.cells,
-            size: self.size,
-        };
+            pair,
+            size,
+            other_size,
+        } = self;
+        let (cells, others) = pair.apart();
+        let column = Column { dtype, cells, size };
         let other = Column {
             dtype,
-            cells: self.others,
-            size: self.other_size,
+            cells: others,
+            size: other_size,
         };
         (column, other)
     }
@@ -87,12 +84,11 @@ impl Pair {
     {
         let Pair {
             dtype,
-            mut cells,
+            pair,
             size,
-            mut others,
             other_size,
         } = self;
-        cells.append(&mut others);
+        let (cells, others) = pair.appended();
         let column = Column {
             dtype,
             cells,

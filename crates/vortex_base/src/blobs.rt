@@ -1,0 +1,155 @@
+//! Optional byte strings, one behind another in one heap.
+ghost use Rattle.std.specs.Prelude.{◌≡◌, ◌≤◌, ◌++◌, ◌∷◌, [], IfOk, OnErr, OnOk, length, option_copied, slice_get, take};
+ghost use Rattle.vortex_base.specs.Data.Blobs.{blob_at, start_at};
+
+pub(crate) mod pair;
+
+use std::alloc::{AllocError, Global};
+use std::marker::Model;
+
+/// Optional byte strings in order: where each ends in the heap that they share, the bytes of all,
+/// and which of them are there. Each begins where the one before it ends.
+#[derive(Debug, Drop)]
+pub struct Blobs {
+    ends: Vec<usize>,
+    heap: Vec<u8>,
+    there: Vec<bool>,
+}
+
+impl Model for Blobs {
+    ghost use Rattle.std.specs.Prelude.{ℕ, List, Option};
+    ghost use Rattle.vortex_base.specs.Data.Blobs.{AreBlobs, blobs};
+
+    ghost Value = { List (Option (List ℕ)) };
+
+    ghost view = { λ b. blobs b.ends.items b.heap.items b.there.items };
+
+    ghost invariant = { λ b. AreBlobs b.ends.items b.heap.items b.there.items };
+}
+
+// Where the byte string at a place begins.
+#[inline]
+fn start_at(ends: &[usize], i: usize) -> usize
+    requires { i ≤ length ends.now }
+    ensures { result ≡ start_at 0 ends.now i }
+{
+    if i == 0 { 0 } else { ends[i - 1] }
+}
+
+impl Blobs {
+    /// No byte strings yet.
+    pub fn new(alloc: Global) -> Blobs
+        ensures { result ≡ [] }
+    {
+        Blobs {
+            ends: Vec::new(alloc),
+            heap: Vec::new(alloc),
+            there: Vec::new(alloc),
+        }
+    }
+
+    /// No byte strings yet, with room for some that are empty or null.
+    pub fn with_capacity(alloc: Global, count: usize) -> Result<Blobs, AllocError>
+        ensures { IfOk result (λ blobs. blobs ≡ []) }
+    {
+        let ends = Vec::with_capacity(alloc, count)?;
+        let heap = Vec::new(alloc);
+        let there = Vec::with_capacity(alloc, count)?;
+        Ok(Blobs { ends, heap, there })
+    }
+
+    /// The number of byte strings and nulls.
+    #[inline]
+    pub fn len(&self) -> usize
+        ensures { result ≡ length self.now }
+    {
+        self.ends.len()
+    }
+
+    /// The allocator of the byte strings.
+    #[inline]
+    pub fn allocator(&self) -> Global {
+        *self.ends.allocator()
+    }
+
+    /// The byte string at a place, `None` for null and past the end.
+    #[inline]
+    pub fn get(&self, i: usize) -> Option<&[u8]>
+        ensures { option_copied result ≡ blob_at (slice_get self.now i) }
+    {
+        if i < self.there.len() && self.there[i] {
+            let start = start_at(&self.ends, i);
+            let end = self.ends[i];
+            Some(&self.heap[start..end])
+        } else {
+            None
+        }
+    }
+
+    /// Adds a byte string, or null. If memory is refused, the byte strings are as they were.
+    #[inline]
+    pub fn push(&mut self, value: Option<&[u8]>) -> Result<(), AllocError>
+        ensures pushed { OnOk result (self.new ≡ self.old ++ option_copied value.entry ∷ []) }
+        ensures refused { OnErr result (self.new ≡ self.old) }
+    {
+        self.ends.reserve(1)?;
+        self.there.reserve(1)?;
+        self.heap.extend_from_slice(value.unwrap_or(&[]))?;
+        self.ends.push_reserved(self.heap.len());
+        self.there.push_reserved(value.is_some());
+        Ok(())
+    }
+
+    /// Drops the byte strings behind the first ones of this number.
+    pub fn truncate(&mut self, len: usize)
+        ensures { self.new ≡ take len self.old }
+    {
+        if len < self.ends.len() {
+            let end = start_at(&self.ends, len);
+            self.ends.truncate(len);
+            self.heap.truncate(end);
+            self.there.truncate(len);
+        }
+    }
+
+    /// Gives back the room that no byte string takes.
+    pub fn shrink_to_fit(&mut self)
+        ensures { self.new ≡ self.old }
+    {
+        self.ends.shrink_to_fit();
+        self.heap.shrink_to_fit();
+        self.there.shrink_to_fit();
+    }
+}
+
+/// Bytes that are lent, with the allocator of what they are lent from.
+#[derive(Clone, Copy, Debug)]
+pub struct BytesRef<'a> {
+    pub bytes: &'a [u8],
+    alloc: Global,
+}
+
+impl<'a> BytesRef<'a> {
+    /// The bytes, with the allocator of their copies.
+    #[inline]
+    pub fn new(bytes: &'a [u8], alloc: Global) -> BytesRef<'a>
+        ensures { result.bytes.now ≡ bytes.entry.now }
+    {
+        BytesRef { bytes, alloc }
+    }
+
+    /// The bytes themselves.
+    #[inline]
+    pub fn as_slice(self) -> &'a [u8]
+        ensures { result.now ≡ self.entry.bytes.now }
+    {
+        self.bytes
+    }
+
+    /// A copy of the bytes.
+    pub fn to_vec_in(self) -> Result<Vec<u8>, AllocError>
+        ensures { IfOk result (λ v. v.items ≡ self.entry.bytes.now) }
+    {
+        self.bytes.to_vec(self.alloc)
+    }
+}

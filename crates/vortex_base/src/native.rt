@@ -1,0 +1,647 @@
+//! Truths and numbers, each of a type of its own.
+ghost use Rattle.std.specs.Prelude.{◌≡◌};
+
+use crate::cells::{Cells, ShortCell};
+use crate::natives::Natives;
+use crate::pvalue::PValue;
+use crate::scalar_value::ScalarValue;
+use crate::value_ref::ValueRef;
+use std::cmp::Ordering;
+
+/// Matches cells by their form: one arm for the values of each `Native` type, and the arms of the
+/// other forms behind it.
+#[macro_export]
+macro_rules! match_each_native {
+    ($cells:expr, $natives:ident => $each:expr, $($other:pat => $made:expr),+) => {
+        match $cells {
+            $crate::cells::Cells::Bool($natives) => $each,
+            $crate::cells::Cells::U8($natives) => $each,
+            $crate::cells::Cells::U16($natives) => $each,
+            $crate::cells::Cells::U32($natives) => $each,
+            $crate::cells::Cells::U64($natives) => $each,
+            $crate::cells::Cells::I8($natives) => $each,
+            $crate::cells::Cells::I16($natives) => $each,
+            $crate::cells::Cells::I32($natives) => $each,
+            $crate::cells::Cells::I64($natives) => $each,
+            $($other => $made),+
+        }
+    };
+}
+
+/// A truth or a number, of the type in which a column keeps it (upstream's `NativePType`, and
+/// `bool`).
+pub trait Native: Copy + Default {
+    ghost use Rattle.std.specs.Prelude.{◌≡◌, IfSome, map, option_map};
+    ghost use Rattle.vortex_base.specs.Data.Cells.{cell_values, short_value, value_of};
+    ghost use Rattle.vortex_base.specs.Data.Values.{value_cmp};
+    ghost use Rattle.vortex_base.specs.declared.scalar_value.ScalarValue.{ScalarValue};
+
+    ghost scalar: { Self → ScalarValue };
+
+    /// The value, lent.
+    fn lend<'a>(self) -> ValueRef<'a>
+        ensures { value_of result ≡ scalar self };
+
+    /// The value itself.
+    fn to_value(self) -> ScalarValue
+        ensures { result ≡ scalar self };
+
+    /// How two values of the type compare.
+    fn order(self, other: Self) -> Ordering
+        ensures { result ≡ value_cmp (scalar self) (scalar other) };
+
+    /// What a value that is lent is, if it is of this type.
+    fn of_lent(value: ValueRef<'_>) -> Option<Self>
+        ensures { IfSome result (λ native. scalar native ≡ value_of value.entry) };
+
+    /// What a value is, if it is of this type.
+    fn of_value(value: &ScalarValue) -> Option<Self>
+        ensures { IfSome result (λ native. scalar native ≡ value.now) };
+
+    /// What a cell is, null or a value, if it may be of this type.
+    fn of_cell(cell: ShortCell) -> Option<Option<Self>>
+        ensures { IfSome result (λ native. option_map scalar native ≡ short_value cell) };
+
+    /// Values of this type as those of a column.
+    fn into_cells(natives: Natives<Self>) -> Cells
+        ensures { cell_values result ≡ map (option_map scalar) natives };
+
+    /// The values of a column, if they are kept as this type.
+    fn of_cells(cells: &Cells) -> Option<&Natives<Self>>
+        ensures { IfSome result (λ natives.
+            cell_values cells.entry.now ≡ map (option_map scalar) natives.now) };
+}
+
+impl Native for bool {
+    ghost use Rattle.std.specs.Prelude.{◌≡◌, map, option_map};
+    ghost use Rattle.vortex_base.specs.Data.Cells.{cell_values};
+    ghost use Rattle.vortex_base.specs.declared.scalar_value.ScalarValue.TheVariants as value;
+
+    ghost scalar = { value.Bool };
+
+    #[inline]
+    fn lend<'a>(self) -> ValueRef<'a> {
+        ValueRef::Bool(self)
+    }
+
+    #[inline]
+    fn to_value(self) -> ScalarValue {
+        ScalarValue::Bool(self)
+    }
+
+    #[inline]
+    fn order(self, other: bool) -> Ordering {
+        self.cmp(&other)
+    }
+
+    #[inline]
+    fn of_lent(value: ValueRef<'_>) -> Option<bool> {
+        match value {
+            ValueRef::Bool(truth) => Some(truth),
+            _ => None,
+        }
+    }
+
+    #[inline]
+    fn of_value(value: &ScalarValue) -> Option<bool> {
+        match value {
+            ScalarValue::Bool(truth) => Some(*truth),
+            _ => None,
+        }
+    }
+
+    #[inline]
+    fn of_cell(cell: ShortCell) -> Option<Option<bool>> {
+        match cell {
+            ShortCell::Bool(truth) => Some(Some(truth)),
+            ShortCell::Null => Some(None),
+            _ => None,
+        }
+    }
+
+    fn into_cells(natives: Natives<bool>) -> Cells
+        ensures { cell_values result ≡ map (option_map value.Bool) natives }
+    {
+        Cells::Bool(natives)
+    }
+
+    #[inline]
+    fn of_cells(cells: &Cells) -> Option<&Natives<bool>> {
+        match cells {
+            Cells::Bool(natives) => Some(natives),
+            _ => None,
+        }
+    }
+}
+
+impl Native for u8 {
+    ghost use Rattle.vortex_base.specs.declared.pvalue.PValue.TheVariants as number;
+    ghost use Rattle.std.specs.Prelude.{◌≡◌, map, option_map};
+    ghost use Rattle.vortex_base.specs.Data.Cells.{cell_values};
+    ghost use Rattle.vortex_base.specs.declared.scalar_value.ScalarValue.TheVariants as value;
+
+    ghost scalar = { λ n. value.Primitive (number.U8 n) };
+
+    #[inline]
+    fn lend<'a>(self) -> ValueRef<'a> {
+        ValueRef::Primitive(PValue::U8(self))
+    }
+
+    #[inline]
+    fn to_value(self) -> ScalarValue {
+        ScalarValue::Primitive(PValue::U8(self))
+    }
+
+    #[inline]
+    fn order(self, other: u8) -> Ordering {
+        self.cmp(&other)
+    }
+
+    #[inline]
+    fn of_lent(value: ValueRef<'_>) -> Option<u8> {
+        match value {
+            ValueRef::Primitive(PValue::U8(n)) => Some(n),
+            _ => None,
+        }
+    }
+
+    #[inline]
+    fn of_value(value: &ScalarValue) -> Option<u8> {
+        match value {
+            ScalarValue::Primitive(PValue::U8(n)) => Some(*n),
+            _ => None,
+        }
+    }
+
+    #[inline]
+    fn of_cell(cell: ShortCell) -> Option<Option<u8>> {
+        match cell {
+            ShortCell::U8(n) => Some(Some(n)),
+            ShortCell::Null => Some(None),
+            _ => None,
+        }
+    }
+
+    fn into_cells(natives: Natives<u8>) -> Cells
+        ensures { cell_values result
+            ≡ map (option_map (λ n. value.Primitive (number.U8 n))) natives }
+    {
+        Cells::U8(natives)
+    }
+
+    #[inline]
+    fn of_cells(cells: &Cells) -> Option<&Natives<u8>> {
+        match cells {
+            Cells::U8(natives) => Some(natives),
+            _ => None,
+        }
+    }
+}
+
+impl Native for u16 {
+    ghost use Rattle.vortex_base.specs.declared.pvalue.PValue.TheVariants as number;
+    ghost use Rattle.std.specs.Prelude.{◌≡◌, map, option_map};
+    ghost use Rattle.vortex_base.specs.Data.Cells.{cell_values};
+    ghost use Rattle.vortex_base.specs.declared.scalar_value.ScalarValue.TheVariants as value;
+
+    ghost scalar = { λ n. value.Primitive (number.U16 n) };
+
+    #[inline]
+    fn lend<'a>(self) -> ValueRef<'a> {
+        ValueRef::Primitive(PValue::U16(self))
+    }
+
+    #[inline]
+    fn to_value(self) -> ScalarValue {
+        ScalarValue::Primitive(PValue::U16(self))
+    }
+
+    #[inline]
+    fn order(self, other: u16) -> Ordering {
+        self.cmp(&other)
+    }
+
+    #[inline]
+    fn of_lent(value: ValueRef<'_>) -> Option<u16> {
+        match value {
+            ValueRef::Primitive(PValue::U16(n)) => Some(n),
+            _ => None,
+        }
+    }
+
+    #[inline]
+    fn of_value(value: &ScalarValue) -> Option<u16> {
+        match value {
+            ScalarValue::Primitive(PValue::U16(n)) => Some(*n),
+            _ => None,
+        }
+    }
+
+    #[inline]
+    fn of_cell(cell: ShortCell) -> Option<Option<u16>> {
+        match cell {
+            ShortCell::U16(n) => Some(Some(n)),
+            ShortCell::Null => Some(None),
+            _ => None,
+        }
+    }
+
+    fn into_cells(natives: Natives<u16>) -> Cells
+        ensures { cell_values result
+            ≡ map (option_map (λ n. value.Primitive (number.U16 n))) natives }
+    {
+        Cells::U16(natives)
+    }
+
+    #[inline]
+    fn of_cells(cells: &Cells) -> Option<&Natives<u16>> {
+        match cells {
+            Cells::U16(natives) => Some(natives),
+            _ => None,
+        }
+    }
+}
+
+impl Native for u32 {
+    ghost use Rattle.vortex_base.specs.declared.pvalue.PValue.TheVariants as number;
+    ghost use Rattle.std.specs.Prelude.{◌≡◌, map, option_map};
+    ghost use Rattle.vortex_base.specs.Data.Cells.{cell_values};
+    ghost use Rattle.vortex_base.specs.declared.scalar_value.ScalarValue.TheVariants as value;
+
+    ghost scalar = { λ n. value.Primitive (number.U32 n) };
+
+    #[inline]
+    fn lend<'a>(self) -> ValueRef<'a> {
+        ValueRef::Primitive(PValue::U32(self))
+    }
+
+    #[inline]
+    fn to_value(self) -> ScalarValue {
+        ScalarValue::Primitive(PValue::U32(self))
+    }
+
+    #[inline]
+    fn order(self, other: u32) -> Ordering {
+        self.cmp(&other)
+    }
+
+    #[inline]
+    fn of_lent(value: ValueRef<'_>) -> Option<u32> {
+        match value {
+            ValueRef::Primitive(PValue::U32(n)) => Some(n),
+            _ => None,
+        }
+    }
+
+    #[inline]
+    fn of_value(value: &ScalarValue) -> Option<u32> {
+        match value {
+            ScalarValue::Primitive(PValue::U32(n)) => Some(*n),
+            _ => None,
+        }
+    }
+
+    #[inline]
+    fn of_cell(cell: ShortCell) -> Option<Option<u32>> {
+        match cell {
+            ShortCell::U32(n) => Some(Some(n)),
+            ShortCell::Null => Some(None),
+            _ => None,
+        }
+    }
+
+    fn into_cells(natives: Natives<u32>) -> Cells
+        ensures { cell_values result
+            ≡ map (option_map (λ n. value.Primitive (number.U32 n))) natives }
+    {
+        Cells::U32(natives)
+    }
+
+    #[inline]
+    fn of_cells(cells: &Cells) -> Option<&Natives<u32>> {
+        match cells {
+            Cells::U32(natives) => Some(natives),
+            _ => None,
+        }
+    }
+}
+
+impl Native for u64 {
+    ghost use Rattle.vortex_base.specs.declared.pvalue.PValue.TheVariants as number;
+    ghost use Rattle.std.specs.Prelude.{◌≡◌, map, option_map};
+    ghost use Rattle.vortex_base.specs.Data.Cells.{cell_values};
+    ghost use Rattle.vortex_base.specs.declared.scalar_value.ScalarValue.TheVariants as value;
+
+    ghost scalar = { λ n. value.Primitive (number.U64 n) };
+
+    #[inline]
+    fn lend<'a>(self) -> ValueRef<'a> {
+        ValueRef::Primitive(PValue::U64(self))
+    }
+
+    #[inline]
+    fn to_value(self) -> ScalarValue {
+        ScalarValue::Primitive(PValue::U64(self))
+    }
+
+    #[inline]
+    fn order(self, other: u64) -> Ordering {
+        self.cmp(&other)
+    }
+
+    #[inline]
+    fn of_lent(value: ValueRef<'_>) -> Option<u64> {
+        match value {
+            ValueRef::Primitive(PValue::U64(n)) => Some(n),
+            _ => None,
+        }
+    }
+
+    #[inline]
+    fn of_value(value: &ScalarValue) -> Option<u64> {
+        match value {
+            ScalarValue::Primitive(PValue::U64(n)) => Some(*n),
+            _ => None,
+        }
+    }
+
+    #[inline]
+    fn of_cell(cell: ShortCell) -> Option<Option<u64>> {
+        match cell {
+            ShortCell::U64(n) => Some(Some(n)),
+            ShortCell::Null => Some(None),
+            _ => None,
+        }
+    }
+
+    fn into_cells(natives: Natives<u64>) -> Cells
+        ensures { cell_values result
+            ≡ map (option_map (λ n. value.Primitive (number.U64 n))) natives }
+    {
+        Cells::U64(natives)
+    }
+
+    #[inline]
+    fn of_cells(cells: &Cells) -> Option<&Natives<u64>> {
+        match cells {
+            Cells::U64(natives) => Some(natives),
+            _ => None,
+        }
+    }
+}
+
+impl Native for i8 {
+    ghost use Rattle.vortex_base.specs.declared.pvalue.PValue.TheVariants as number;
+    ghost use Rattle.std.specs.Prelude.{◌≡◌, map, option_map};
+    ghost use Rattle.vortex_base.specs.Data.Cells.{cell_values};
+    ghost use Rattle.vortex_base.specs.declared.scalar_value.ScalarValue.TheVariants as value;
+
+    ghost scalar = { λ n. value.Primitive (number.I8 n) };
+
+    #[inline]
+    fn lend<'a>(self) -> ValueRef<'a> {
+        ValueRef::Primitive(PValue::I8(self))
+    }
+
+    #[inline]
+    fn to_value(self) -> ScalarValue {
+        ScalarValue::Primitive(PValue::I8(self))
+    }
+
+    #[inline]
+    fn order(self, other: i8) -> Ordering {
+        self.cmp(&other)
+    }
+
+    #[inline]
+    fn of_lent(value: ValueRef<'_>) -> Option<i8> {
+        match value {
+            ValueRef::Primitive(PValue::I8(n)) => Some(n),
+            _ => None,
+        }
+    }
+
+    #[inline]
+    fn of_value(value: &ScalarValue) -> Option<i8> {
+        match value {
+            ScalarValue::Primitive(PValue::I8(n)) => Some(*n),
+            _ => None,
+        }
+    }
+
+    #[inline]
+    fn of_cell(cell: ShortCell) -> Option<Option<i8>> {
+        match cell {
+            ShortCell::I8(n) => Some(Some(n)),
+            ShortCell::Null => Some(None),
+            _ => None,
+        }
+    }
+
+    fn into_cells(natives: Natives<i8>) -> Cells
+        ensures { cell_values result
+            ≡ map (option_map (λ n. value.Primitive (number.I8 n))) natives }
+    {
+        Cells::I8(natives)
+    }
+
+    #[inline]
+    fn of_cells(cells: &Cells) -> Option<&Natives<i8>> {
+        match cells {
+            Cells::I8(natives) => Some(natives),
+            _ => None,
+        }
+    }
+}
+
+impl Native for i16 {
+    ghost use Rattle.vortex_base.specs.declared.pvalue.PValue.TheVariants as number;
+    ghost use Rattle.std.specs.Prelude.{◌≡◌, map, option_map};
+    ghost use Rattle.vortex_base.specs.Data.Cells.{cell_values};
+    ghost use Rattle.vortex_base.specs.declared.scalar_value.ScalarValue.TheVariants as value;
+
+    ghost scalar = { λ n. value.Primitive (number.I16 n) };
+
+    #[inline]
+    fn lend<'a>(self) -> ValueRef<'a> {
+        ValueRef::Primitive(PValue::I16(self))
+    }
+
+    #[inline]
+    fn to_value(self) -> ScalarValue {
+        ScalarValue::Primitive(PValue::I16(self))
+    }
+
+    #[inline]
+    fn order(self, other: i16) -> Ordering {
+        self.cmp(&other)
+    }
+
+    #[inline]
+    fn of_lent(value: ValueRef<'_>) -> Option<i16> {
+        match value {
+            ValueRef::Primitive(PValue::I16(n)) => Some(n),
+            _ => None,
+        }
+    }
+
+    #[inline]
+    fn of_value(value: &ScalarValue) -> Option<i16> {
+        match value {
+            ScalarValue::Primitive(PValue::I16(n)) => Some(*n),
+            _ => None,
+        }
+    }
+
+    #[inline]
+    fn of_cell(cell: ShortCell) -> Option<Option<i16>> {
+        match cell {
+            ShortCell::I16(n) => Some(Some(n)),
+            ShortCell::Null => Some(None),
+            _ => None,
+        }
+    }
+
+    fn into_cells(natives: Natives<i16>) -> Cells
+        ensures { cell_values result
+            ≡ map (option_map (λ n. value.Primitive (number.I16 n))) natives }
+    {
+        Cells::I16(natives)
+    }
+
+    #[inline]
+    fn of_cells(cells: &Cells) -> Option<&Natives<i16>> {
+        match cells {
+            Cells::I16(natives) => Some(natives),
+            _ => None,
+        }
+    }
+}
+
+impl Native for i32 {
+    ghost use Rattle.vortex_base.specs.declared.pvalue.PValue.TheVariants as number;
+    ghost use Rattle.std.specs.Prelude.{◌≡◌, map, option_map};
+    ghost use Rattle.vortex_base.specs.Data.Cells.{cell_values};
+    ghost use Rattle.vortex_base.specs.declared.scalar_value.ScalarValue.TheVariants as value;
+
+    ghost scalar = { λ n. value.Primitive (number.I32 n) };
+
+    #[inline]
+    fn lend<'a>(self) -> ValueRef<'a> {
+        ValueRef::Primitive(PValue::I32(self))
+    }
+
+    #[inline]
+    fn to_value(self) -> ScalarValue {
+        ScalarValue::Primitive(PValue::I32(self))
+    }
+
+    #[inline]
+    fn order(self, other: i32) -> Ordering {
+        self.cmp(&other)
+    }
+
+    #[inline]
+    fn of_lent(value: ValueRef<'_>) -> Option<i32> {
+        match value {
+            ValueRef::Primitive(PValue::I32(n)) => Some(n),
+            _ => None,
+        }
+    }
+
+    #[inline]
+    fn of_value(value: &ScalarValue) -> Option<i32> {
+        match value {
+            ScalarValue::Primitive(PValue::I32(n)) => Some(*n),
+            _ => None,
+        }
+    }
+
+    #[inline]
+    fn of_cell(cell: ShortCell) -> Option<Option<i32>> {
+        match cell {
+            ShortCell::I32(n) => Some(Some(n)),
+            ShortCell::Null => Some(None),
+            _ => None,
+        }
+    }
+
+    fn into_cells(natives: Natives<i32>) -> Cells
+        ensures { cell_values result
+            ≡ map (option_map (λ n. value.Primitive (number.I32 n))) natives }
+    {
+        Cells::I32(natives)
+    }
+
+    #[inline]
+    fn of_cells(cells: &Cells) -> Option<&Natives<i32>> {
+        match cells {
+            Cells::I32(natives) => Some(natives),
+            _ => None,
+        }
+    }
+}
+
+impl Native for i64 {
+    ghost use Rattle.vortex_base.specs.declared.pvalue.PValue.TheVariants as number;
+    ghost use Rattle.std.specs.Prelude.{◌≡◌, map, option_map};
+    ghost use Rattle.vortex_base.specs.Data.Cells.{cell_values};
+    ghost use Rattle.vortex_base.specs.declared.scalar_value.ScalarValue.TheVariants as value;
+
+    ghost scalar = { λ n. value.Primitive (number.I64 n) };
+
+    #[inline]
+    fn lend<'a>(self) -> ValueRef<'a> {
+        ValueRef::Primitive(PValue::I64(self))
+    }
+
+    #[inline]
+    fn to_value(self) -> ScalarValue {
+        ScalarValue::Primitive(PValue::I64(self))
+    }
+
+    #[inline]
+    fn order(self, other: i64) -> Ordering {
+        self.cmp(&other)
+    }
+
+    #[inline]
+    fn of_lent(value: ValueRef<'_>) -> Option<i64> {
+        match value {
+            ValueRef::Primitive(PValue::I64(n)) => Some(n),
+            _ => None,
+        }
+    }
+
+    #[inline]
+    fn of_value(value: &ScalarValue) -> Option<i64> {
+        match value {
+            ScalarValue::Primitive(PValue::I64(n)) => Some(*n),
+            _ => None,
+        }
+    }
+
+    #[inline]
+    fn of_cell(cell: ShortCell) -> Option<Option<i64>> {
+        match cell {
+            ShortCell::I64(n) => Some(Some(n)),
+            ShortCell::Null => Some(None),
+            _ => None,
+        }
+    }
+
+    fn into_cells(natives: Natives<i64>) -> Cells
+        ensures { cell_values result
+            ≡ map (option_map (λ n. value.Primitive (number.I64 n))) natives }
+    {
+        Cells::I64(natives)
+    }
+
+    #[inline]
+    fn of_cells(cells: &Cells) -> Option<&Natives<i64>> {
+        match cells {
+            Cells::I64(natives) => Some(natives),
+            _ => None,
+        }
+    }
+}

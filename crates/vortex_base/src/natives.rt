@@ -1,0 +1,178 @@
+//! Optional values of one type, kept as a vector of that type beside which of them are there.
+ghost use Rattle.std.specs.Prelude.{◌≡◌, ◌<◌, ◌≤◌, ◌+◌, ◌++◌, ◌∷◌, [], IfOk, None, OnErr, OnOk, Some, length, map, replicate, slice_get, slice_set, take};
+ghost use Rattle.vortex_base.specs.Data.Natives.{native_at, optionals};
+
+mod pair;
+
+pub(crate) use pair::NativePair;
+use std::alloc::{AllocError, Global};
+use std::marker::Model;
+
+/// Optional values in order: the values, any where there is none, and which of them are there.
+#[derive(Debug, Drop)]
+pub struct Natives<T> {
+    values: Vec<T>,
+    there: Vec<bool>,
+}
+
+impl<T> Model for Natives<T> {
+    ghost use Rattle.std.specs.Prelude.{◌≡◌, List, Option, length};
+    ghost use Rattle.vortex_base.specs.Data.Natives.{optionals};
+
+    ghost Value = { List (Option T) };
+
+    ghost view = { λ n. optionals n.values.items n.there.items };
+
+    ghost invariant = { λ n. length n.values.items ≡ length n.there.items };
+}
+
+impl<T: Copy + Default> Natives<T> {
+    /// No values yet.
+    pub fn new(alloc: Global) -> Natives<T>
+        ensures { result ≡ [] }
+    {
+        Natives {
+            values: Vec::new(alloc),
+            there: Vec::new(alloc),
+        }
+    }
+
+    /// No values yet, with room for some.
+    pub fn with_capacity(alloc: Global, count: usize) -> Result<Natives<T>, AllocError>
+        ensures { IfOk result (λ natives. natives ≡ []) }
+    {
+        let values = Vec::with_capacity(alloc, count)?;
+        let there = Vec::with_capacity(alloc, count)?;
+        Ok(Natives { values, there })
+    }
+
+    /// As many nulls.
+    pub fn nulls(alloc: Global, count: usize) -> Result<Natives<T>, AllocError>
+        ensures { IfOk result (λ natives. natives ≡ replicate count None) }
+    {
+        let mut values = Vec::new(alloc);
+        values.resize(count, T::default())?;
+        let mut there = Vec::new(alloc);
+        there.resize(count, false)?;
+        Ok(Natives { values, there })
+    }
+
+    /// The values, each of which is there.
+    pub fn from_slice(alloc: Global, values: &[T]) -> Result<Natives<T>, AllocError>
+        ensures { IfOk result (λ natives. natives ≡ map Some values.now) }
+    {
+        let mut copies = Vec::new(alloc);
+        copies.extend_from_slice(values)?;
+        let mut there = Vec::new(alloc);
+        there.resize(values.len(), true)?;
+        Ok(Natives {
+            values: copies,
+            there,
+        })
+    }
+
+    /// The values of which it is told that they are there, and nulls in the place of the others.
+    pub fn from_slices(
+        alloc: Global,
+        values: &[T],
+        there: &[bool],
+    ) -> Result<Natives<T>, AllocError>
+        requires { length values.now ≡ length there.now }
+        ensures { IfOk result (λ natives. natives ≡ optionals values.now there.now) }
+    {
+        let mut copies = Vec::new(alloc);
+        copies.extend_from_slice(values)?;
+        let mut told = Vec::new(alloc);
+        told.extend_from_slice(there)?;
+        Ok(Natives {
+            values: copies,
+            there: told,
+        })
+    }
+
+    // The allocator of the values.
+    pub(crate) fn allocator(&self) -> Global {
+        *self.values.allocator()
+    }
+
+    /// The number of values and nulls.
+    #[inline]
+    pub fn len(&self) -> usize
+        ensures { result ≡ length self.now }
+    {
+        self.values.len()
+    }
+
+    /// The value at a place, `None` for null and past the end.
+    #[inline]
+    pub fn get(&self, i: usize) -> Option<T>
+        ensures { result ≡ native_at (slice_get self.now i) }
+    {
+        if i < self.there.len() && self.there[i] {
+            Some(self.values[i])
+        } else {
+            None
+        }
+    }
+
+    /// The values, any where there is none, and which of them are there.
+    #[inline]
+    pub fn as_slices(&self) -> (&[T], &[bool])
+        ensures values { self.now ≡ optionals result.0.now result.1.now }
+        ensures long { length result.0.now ≡ length result.1.now }
+    {
+        (&self.values, &self.there)
+    }
+
+    /// Adds a value, or null. If memory is refused, the values are as they were.
+    #[inline]
+    pub fn push(&mut self, value: Option<T>) -> Result<(), AllocError>
+        ensures pushed { OnOk result (self.new ≡ self.old ++ value ∷ []) }
+        ensures refused { OnErr result (self.new ≡ self.old) }
+    {
+        self.values.reserve(1)?;
+        self.there.reserve(1)?;
+        match value {
+            Some(value) => {
+                self.values.push_reserved(value);
+                self.there.push_reserved(true);
+            }
+            None => {
+                self.values.push_reserved(T::default());
+                self.there.push_reserved(false);
+            }
+        }
+        Ok(())
+    }
+
+    /// Puts a value, or null, in the place of another.
+    #[inline]
+    pub fn set(&mut self, place: usize, value: Option<T>)
+        requires { place < length self.old }
+        ensures { self.new ≡ slice_set self.old place value }
+    {
+        match value {
+            Some(value) => {
+                self.values[place] = value;
+                self.there[place] = true;
+            }
+            None => self.there[place] = false,
+        }
+    }
+
+    /// Drops the values behind the first ones of this number.
+    pub fn truncate(&mut self, len: usize)
+        ensures { self.new ≡ take len self.old }
+    {
+        self.values.truncate(len);
+        self.there.truncate(len);
+    }
+
+    /// Gives back the room that no value takes.
+    pub fn shrink_to_fit(&mut self)
+        ensures { self.new ≡ self.old }
+    {
+        self.values.shrink_to_fit();
+        self.there.shrink_to_fit();
+    }
+}
