@@ -1,4 +1,4 @@
-//! Tests of `cells`: the three forms in which a column keeps its values, by the columns of them.
+//! Tests of `cells`: the forms in which a column keeps its values, by the columns of them.
 use crate::testing::{self, *};
 use std::alloc::{AllocError, Global};
 use std::process::Abort;
@@ -237,4 +237,34 @@ fn chunks_of_each_form_are_appended(rt: HostRuntime) -> Result<(), Fail> {
     expect_behind(&rt, alloc, UTF8_OR_NULL, x, y)?;
     let (ab, c) = (bytes_value(alloc, &[1, 2])?, bytes_value(alloc, &[3])?);
     expect_behind(&rt, alloc, BINARY_OR_NULL, ab, c)
+}
+
+#[test]
+fn chunks_of_each_number_type_are_appended(rt: HostRuntime) -> Result<(), Fail> {
+    let alloc = rt.alloc();
+    expect_behind(&rt, alloc, number(PType::U8), 5u8.into(), 6u8.into())?;
+    expect_behind(&rt, alloc, number(PType::U16), 5u16.into(), 6u16.into())?;
+    expect_behind(&rt, alloc, number(PType::U32), 5u32.into(), 6u32.into())?;
+    expect_behind(&rt, alloc, number(PType::U64), 5u64.into(), 6u64.into())?;
+    expect_behind(&rt, alloc, number(PType::I8), 5i8.into(), 6i8.into())?;
+    expect_behind(&rt, alloc, number(PType::I16), 5i16.into(), 6i16.into())?;
+    expect_behind(&rt, alloc, number(PType::I64), 5i64.into(), 6i64.into())?;
+    expect_behind(&rt, alloc, BOOL_OR_NULL, true.into(), false.into())
+}
+
+// Two chunks of nulls alone, one row and two.
+fn nulls(alloc: Global, count: usize) -> Result<Chunk, BaseError> {
+    let mut cells = Cells::new(alloc, DType::Null);
+    for _null in 0..count {
+        cells.push(None)?;
+    }
+    chunk_of(alloc, DType::Null, column_of(DType::Null, cells, 1)?)
+}
+
+#[test]
+fn chunks_of_nulls_are_appended(rt: HostRuntime) -> Result<(), Fail> {
+    let (mut chunk, mut other) = (nulls(rt.alloc(), 1)?, nulls(rt.alloc(), 2)?);
+    append(&mut chunk, &mut other)?;
+    assert!(rt; chunk.rows() == 3 && other.rows() == 0);
+    Ok(())
 }

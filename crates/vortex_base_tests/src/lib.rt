@@ -30,6 +30,8 @@ mod like;
 #[cfg(test)]
 mod like_pattern;
 #[cfg(test)]
+mod natives;
+#[cfg(test)]
 mod pvalue;
 #[cfg(test)]
 mod row;
