@@ -1,13 +1,13 @@
 -- Steps of the loops over the values of a column, by the keys that these have.
-use Rattle.std.proofs.Common.{◌≡◌, ℕ, ◌+◌, ◌<◌, ◌≤◌, ◌-◌, Bool, true, false, List, [], ◌∷◌, ◌++◌, length, get_or, take, Option, Some, None, Bor, refl, sym, ap, subst, ◌∙◌, arith}
-use Rattle.std.specs.Prelude.{◌==◌, All, Contains, ℤ, pos, ◌+ℤ◌, map, slice_get, unwrap_or}
+use Rattle.std.proofs.Common.{◌≡◌, ℕ, zero, suc, ◌+◌, ◌<◌, ◌≤◌, ◌-◌, Bool, true, false, List, [], ◌∷◌, ◌++◌, length, take, Option, Some, None, Bor, refl, sym, ap, subst, ◌∙◌, arith}
+use Rattle.std.specs.Prelude.{◌==◌, Contains, ℤ, pos, ◌+ℤ◌, map, slice_get, unwrap_or}
 use Rattle.std.specs.Option.{option_copied, option_map}
 use Rattle.std.proofs.lemmas.Bool.{and_parts, eqb-true}
 use Rattle.std.proofs.lemmas.Int.{ints}
 use Rattle.std.proofs.lemmas.List.{length-take, take_all, take_more}
-use Rattle.std.proofs.lemmas.List.Elements.{All-contains, All-map}
+use Rattle.std.proofs.lemmas.List.Elements.{All-contains}
 use Rattle.std.proofs.lemmas.List.Sums.{AllPass-from_list_all}
-use Rattle.std.proofs.lemmas.Option.{get_or_from_slice_get, slice_get-get_or, slice_get-map, slice_get_within}
+use Rattle.std.proofs.lemmas.Option.{get_or_from_slice_get, slice_get_within}
 use mathlib.Core.Bool.{true≢false}
 use Rattle.vortex_base.specs.declared.dtype.DType.{DType}
 use Rattle.vortex_base.specs.declared.dtype.DType.TheVariants as dtype
@@ -18,9 +18,9 @@ use Rattle.vortex_base.specs.declared.pvalue.PValue.{PValue}
 use Rattle.vortex_base.specs.declared.pvalue.PValue.TheVariants as number
 use Rattle.vortex_base.specs.declared.scalar_value.ScalarValue.{ScalarValue}
 use Rattle.vortex_base.specs.declared.scalar_value.ScalarValue.TheVariants as value
-use Rattle.vortex_base.specs.declared.cells.ShortCell.{ShortCell}
-use Rattle.vortex_base.specs.declared.cells.ShortCell.TheVariants as short
-use Rattle.vortex_base.specs.Data.Cells.{short_value, text_value}
+use Rattle.vortex_base.specs.Data.Blobs.{blob_at}
+use Rattle.vortex_base.specs.Data.Cells.{text_value}
+use Rattle.vortex_base.specs.Data.Natives.{native_at}
 use Rattle.vortex_base.specs.Data.Columns.{all_fit}
 use Rattle.vortex_base.specs.Data.Scalars.{is_optional_value}
 use Rattle.vortex_base.specs.Data.Types.{ptype_index}
@@ -36,16 +36,19 @@ use Rattle.vortex_stats.specs.Measuring.Tallies.{IsOptionalKeyOf, IsTallyOf}
 use Rattle.vortex_stats.specs.Sets.Claims.{present, sum_of}
 use Rattle.vortex_stats.specs.Stat.{stat_dtype}
 use Rattle.vortex_stats.proofs.Bounds.Ascending.{contains_first, contains_later}
-use Rattle.vortex_stats.proofs.Merging.Constants.{inner}
 use Rattle.vortex_stats.proofs.Merging.Sums.{sum_of-both}
 
 -- ---- the value at the next place
 
-pub read_at : {X Y : Type 0} (f : X → Y) (xs : List X) (i : ℕ) (d : X) → i < length xs → slice_get (map f xs) i ≡ Some (f (get_or xs i d))
-read_at f xs i d h = slice_get-map f xs i ∙ ap (option_map f) (slice_get-get_or xs i d h)
+pub native_here : {X : Type 0} (f : X → ScalarValue) (xs : List (Option X)) (i : ℕ) → i < length xs → slice_get (map (option_map f) xs) i ≡ Some (option_map f (native_at (slice_get xs i)))
+native_here f [] i h = absurd (omega arith)
+native_here f (x ∷ xs) zero h = refl
+native_here f (x ∷ xs) (suc i) h = native_here f xs i (omega arith)
 
-pub mapped_at : {X Y : Type 0} (f : X → Y) (xs : List X) (i : ℕ) (x : X) → slice_get xs i ≡ Some x → slice_get (map f xs) i ≡ Some (f x)
-mapped_at f xs i x h = slice_get-map f xs i ∙ ap (option_map f) h
+pub text_here : (xs : List (Option (List ℕ))) (i : ℕ) → i < length xs → slice_get (map text_value xs) i ≡ Some (text_value (blob_at (slice_get xs i)))
+text_here [] i h = absurd (omega arith)
+text_here (x ∷ xs) zero h = refl
+text_here (x ∷ xs) (suc i) h = text_here xs i (omega arith)
 
 next_taken : {X : Type 0} (xs : List X) (i : ℕ) (x : X) → slice_get xs i ≡ Some x → take (i + 1) xs ≡ take i xs ++ x ∷ []
 next_taken xs i x h = take_more xs i x (slice_get_within xs i x h) ∙ ap (λ y. take i xs ++ y ∷ []) (get_or_from_slice_get xs i x x h)
@@ -307,42 +310,6 @@ value_is_something (value.Bool b) = refl
 value_is_something (value.Primitive p) = number_is_something (ptype_of p)
 value_is_something (value.Utf8 bs) = refl
 value_is_something (value.Binary bs) = refl
-
--- what each value, if there is one, is of
-module _ (P : ScalarValue → Type 0) where
-  abbrev AllValues : List (Option ScalarValue) → Type 0
-  AllValues xs = All (λ x. (v : ScalarValue) → x ≡ Some v → P v) xs
-
-  value_in : (xs : List (Option ScalarValue)) (v : ScalarValue) → AllValues xs → Contains xs (Some v) → P v
-  value_in xs v h i = All-contains (λ x. (w : ScalarValue) → x ≡ Some w → P w) xs (Some v) h i v refl
-
-short_is_number : (c : ShortCell) (v : ScalarValue) → short_value c ≡ Some v → is_of_numbers (family_of_value v) ≡ true
-short_is_number short.Null v e = absurd (cc)
-short_is_number (short.Bool b) v e = subst (λ w. is_of_numbers (family_of_value w) ≡ true) (inner (value.Bool b) v e) refl
-short_is_number (short.U8 n) v e = subst (λ w. is_of_numbers (family_of_value w) ≡ true) (inner (value.Primitive (number.U8 n)) v e) refl
-short_is_number (short.U16 n) v e = subst (λ w. is_of_numbers (family_of_value w) ≡ true) (inner (value.Primitive (number.U16 n)) v e) refl
-short_is_number (short.U32 n) v e = subst (λ w. is_of_numbers (family_of_value w) ≡ true) (inner (value.Primitive (number.U32 n)) v e) refl
-short_is_number (short.U64 n) v e = subst (λ w. is_of_numbers (family_of_value w) ≡ true) (inner (value.Primitive (number.U64 n)) v e) refl
-short_is_number (short.I8 n) v e = subst (λ w. is_of_numbers (family_of_value w) ≡ true) (inner (value.Primitive (number.I8 n)) v e) refl
-short_is_number (short.I16 n) v e = subst (λ w. is_of_numbers (family_of_value w) ≡ true) (inner (value.Primitive (number.I16 n)) v e) refl
-short_is_number (short.I32 n) v e = subst (λ w. is_of_numbers (family_of_value w) ≡ true) (inner (value.Primitive (number.I32 n)) v e) refl
-short_is_number (short.I64 n) v e = subst (λ w. is_of_numbers (family_of_value w) ≡ true) (inner (value.Primitive (number.I64 n)) v e) refl
-
-text_is_text : (text : Option (List ℕ)) (v : ScalarValue) → text_value text ≡ Some v → family_of_value v ≡ Texts
-text_is_text None v e = absurd (cc)
-text_is_text (Some bs) v e = subst (λ w. family_of_value w ≡ Texts) (inner (value.Utf8 bs) v e) refl
-
-pub no_numbers : (t : DType) (cells : List ShortCell) → all_fit t (map short_value cells) ≡ true → is_of_numbers (family_of t) ≡ false → present (map short_value cells) ≡ []
-no_numbers t cells fits other =
-    let P : ScalarValue → Type 0 = λ v. is_of_numbers (family_of_value v) ≡ true in
-    let all = All-map (λ x. (v : ScalarValue) → x ≡ Some v → P v) short_value cells (λ k d l. short_is_number (get_or cells k d)) in
-    no_values t (map short_value cells) fits (λ v i same. true≢false (sym (value_in P (map short_value cells) v all i) ∙ sym (ap is_of_numbers same) ∙ other))
-
-pub no_texts : (t : DType) (texts : List (Option (List ℕ))) → all_fit t (map text_value texts) ≡ true → (family_of t ≡ Texts → ⊥) → present (map text_value texts) ≡ []
-no_texts t texts fits other =
-    let P : ScalarValue → Type 0 = λ v. family_of_value v ≡ Texts in
-    let all = All-map (λ x. (v : ScalarValue) → x ≡ Some v → P v) text_value texts (λ k d l. text_is_text (get_or texts k d)) in
-    no_values t (map text_value texts) fits (λ v i same. other (same ∙ value_in P (map text_value texts) v all i))
 
 pub nothing_of_nulls : (t : DType) (xs : List (Option ScalarValue)) → all_fit t xs ≡ true → family_of t ≡ Nulls → present xs ≡ []
 nothing_of_nulls t xs fits none = no_values t xs fits (λ v i same. true≢false (sym (ap is_of_nulls none) ∙ ap is_of_nulls same ∙ value_is_something v))

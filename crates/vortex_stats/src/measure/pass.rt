@@ -6,7 +6,7 @@ ghost use Rattle.vortex_base.specs.declared.dtype.DType.TheVariants as types;
 ghost use Rattle.vortex_base.specs.declared.types.Nullability.TheVariants.{Nullable};
 ghost use Rattle.vortex_base.specs.declared.types.PType.TheVariants as ptypes;
 ghost use Rattle.vortex_base.specs.declared.scalar_value.ScalarValue.TheVariants as value;
-ghost use Rattle.vortex_base.specs.Data.Cells.{cell_values, short_value, text_value};
+ghost use Rattle.vortex_base.specs.Data.Cells.{text_value, value_of};
 ghost use Rattle.vortex_base.specs.Data.Columns.{IsColumn, all_fit};
 ghost use Rattle.vortex_stats.specs.Measuring.Keys.{bytes_of as value_bytes, family_of as type_family, signed_number, text_of as value_text, unsigned_number};
 ghost use Rattle.vortex_stats.specs.Measuring.Measured.{number_in};
@@ -16,16 +16,17 @@ ghost use Rattle.vortex_stats.specs.Stat.{stat_dtype};
 ghost use Rattle.vortex_stats.specs.declared.stat.Stat.TheVariants.{Sum};
 ghost use Rattle.vortex_stats.specs.declared.measure.pass.Family.TheVariants as families;
 
+use crate::measure::keyed::{Signed, Unsigned, signed_key, unsigned_key};
 use crate::measure::measures::Measures;
 use crate::measure::tally::Tally;
-use vortex_base::bytes::Bytes;
-use vortex_base::cells::{Cells, ShortCell};
+use vortex_base::cells::Cells;
 use vortex_base::column::Column;
 use vortex_base::dtype::DType;
+use vortex_base::natives::Natives;
 use vortex_base::pvalue::PValue;
-use vortex_base::scalar_value::ScalarValue;
-use vortex_base::text::Text;
+use vortex_base::texts::Texts;
 use vortex_base::types::PType;
+use vortex_base::value_ref::ValueRef;
 
 // By what the values of a type are compared.
 #[derive(Clone, Copy)]
@@ -53,82 +54,53 @@ fn family_of(dtype: DType) -> Family
     }
 }
 
-// The number of a cell that is a signed one.
-#[inline]
-fn signed_of_cell(cell: ShortCell) -> Option<i64>
-    ensures { result ≡ signed_number (short_value cell) }
-{
-    match cell {
-        ShortCell::I64(n) => Some(n),
-        ShortCell::I32(n) => Some(i64::from(n)),
-        ShortCell::I16(n) => Some(i64::from(n)),
-        ShortCell::I8(n) => Some(i64::from(n)),
-        _ => None,
-    }
-}
-
 // The number of an optional value that is a signed one.
 #[inline]
-fn signed_of_value(value: &Option<ScalarValue>) -> Option<i64>
-    ensures { result ≡ signed_number value.now }
+fn signed_of_value(value: Option<ValueRef<'_>>) -> Option<i64>
+    ensures { result ≡ signed_number (option_map value_of value.entry) }
 {
     match value {
-        Some(ScalarValue::Primitive(PValue::I64(n))) => Some(*n),
-        Some(ScalarValue::Primitive(PValue::I32(n))) => Some(i64::from(*n)),
-        Some(ScalarValue::Primitive(PValue::I16(n))) => Some(i64::from(*n)),
-        Some(ScalarValue::Primitive(PValue::I8(n))) => Some(i64::from(*n)),
-        _ => None,
-    }
-}
-
-// The number of a cell that is an unsigned one.
-#[inline]
-fn unsigned_of_cell(cell: ShortCell) -> Option<u64>
-    ensures { result ≡ unsigned_number (short_value cell) }
-{
-    match cell {
-        ShortCell::U64(n) => Some(n),
-        ShortCell::U32(n) => Some(u64::from(n)),
-        ShortCell::U16(n) => Some(u64::from(n)),
-        ShortCell::U8(n) => Some(u64::from(n)),
-        ShortCell::Bool(truth) => Some(u64::from(truth)),
+        Some(ValueRef::Primitive(PValue::I64(n))) => Some(n),
+        Some(ValueRef::Primitive(PValue::I32(n))) => Some(i64::from(n)),
+        Some(ValueRef::Primitive(PValue::I16(n))) => Some(i64::from(n)),
+        Some(ValueRef::Primitive(PValue::I8(n))) => Some(i64::from(n)),
         _ => None,
     }
 }
 
 // The number of an optional value that is an unsigned one.
 #[inline]
-fn unsigned_of_value(value: &Option<ScalarValue>) -> Option<u64>
-    ensures { result ≡ unsigned_number value.now }
+fn unsigned_of_value(value: Option<ValueRef<'_>>) -> Option<u64>
+    ensures { result ≡ unsigned_number (option_map value_of value.entry) }
 {
     match value {
-        Some(ScalarValue::Primitive(PValue::U64(n))) => Some(*n),
-        Some(ScalarValue::Primitive(PValue::U32(n))) => Some(u64::from(*n)),
-        Some(ScalarValue::Primitive(PValue::U16(n))) => Some(u64::from(*n)),
-        Some(ScalarValue::Primitive(PValue::U8(n))) => Some(u64::from(*n)),
-        Some(ScalarValue::Bool(truth)) => Some(u64::from(*truth)),
+        Some(ValueRef::Primitive(PValue::U64(n))) => Some(n),
+        Some(ValueRef::Primitive(PValue::U32(n))) => Some(u64::from(n)),
+        Some(ValueRef::Primitive(PValue::U16(n))) => Some(u64::from(n)),
+        Some(ValueRef::Primitive(PValue::U8(n))) => Some(u64::from(n)),
+        Some(ValueRef::Bool(truth)) => Some(u64::from(truth)),
         _ => None,
     }
 }
 
 // The text of an optional value that is one.
 #[inline]
-fn text_of(value: &Option<ScalarValue>) -> Option<&Text>
-    ensures { option_copied result ≡ value_text value.entry.now }
+fn text_of(value: Option<ValueRef<'_>>) -> Option<&str>
+    ensures { option_copied result ≡ value_text (option_map value_of value.entry) }
 {
     match value {
-        Some(ScalarValue::Utf8(text)) => Some(text),
+        Some(ValueRef::Utf8(text)) => Some(text.as_str()),
         _ => None,
     }
 }
 
 // The bytes of an optional value that is a string of them.
 #[inline]
-fn bytes_of(value: &Option<ScalarValue>) -> Option<&Bytes>
-    ensures { option_copied result ≡ value_bytes value.entry.now }
+fn bytes_of(value: Option<ValueRef<'_>>) -> Option<&[u8]>
+    ensures { option_copied result ≡ value_bytes (option_map value_of value.entry) }
 {
     match value {
-        Some(ScalarValue::Binary(bytes)) => Some(bytes),
+        Some(ValueRef::Binary(bytes)) => Some(bytes.as_slice()),
         _ => None,
     }
 }
@@ -155,80 +127,76 @@ fn unsigned_sum(sum: u128) -> Option<PValue>
     }
 }
 
-// The measures of numbers that are kept as short cells.
-fn signed_cells(cells: &[ShortCell], dtype: DType) -> Measures
+// The measures of signed numbers that are kept as their type.
+fn signed_natives<T: Signed>(natives: &Natives<T>, dtype: DType) -> Measures
     requires signed { type_family dtype ≡ families.Signed }
-    requires fits { IsTrue (all_fit dtype (map short_value cells.now)) }
-    ensures { AreMeasuresOf result dtype (map short_value cells.now) }
+    requires fits { IsTrue (all_fit dtype (map (option_map T.scalar) natives.now)) }
+    ensures { AreMeasuresOf result dtype (map (option_map T.scalar) natives.now) }
 {
     // The type stands in the contract alone.
     let _ = dtype;
     let mut tally = Tally::new();
     let mut sum: i128 = 0;
-    for (i, cell) in cells.iter().enumerate() {
-        let number = signed_of_cell(*cell);
+    for i in 0..natives.len() {
+        let number = signed_key(natives.get(i));
         sum += i128::from(number.unwrap_or(0));
         tally.push(number, i);
     }
     tally.measures(signed_sum(sum))
 }
 
-// The measures of signed numbers that are kept as values of any kind.
-fn signed_values(values: &[Option<ScalarValue>], dtype: DType) -> Measures
-    requires signed { type_family dtype ≡ families.Signed }
-    requires fits { IsTrue (all_fit dtype values.now) }
-    ensures { AreMeasuresOf result dtype values.now }
+// The measures of signed numbers, in whichever form they are kept.
+fn signed_values(column: &Column) -> Measures
+    requires signed { type_family column.now.dtype ≡ families.Signed }
+    requires fits { IsColumn column.now }
+    ensures { AreMeasuresOf result column.now.dtype column.now.values }
 {
-    // The type stands in the contract alone.
-    let _ = dtype;
     let mut tally = Tally::new();
     let mut sum: i128 = 0;
-    for (i, value) in values.iter().enumerate() {
-        let number = signed_of_value(value);
+    for i in 0..column.len() {
+        let number = signed_of_value(column.get(i));
         sum += i128::from(number.unwrap_or(0));
         tally.push(number, i);
     }
     tally.measures(signed_sum(sum))
 }
 
-// The measures of unsigned numbers and truths that are kept as short cells.
-fn unsigned_cells(cells: &[ShortCell], dtype: DType) -> Measures
+// The measures of unsigned numbers and truths that are kept as their type.
+fn unsigned_natives<T: Unsigned>(natives: &Natives<T>, dtype: DType) -> Measures
     requires unsigned { type_family dtype ≡ families.Unsigned }
-    requires fits { IsTrue (all_fit dtype (map short_value cells.now)) }
-    ensures { AreMeasuresOf result dtype (map short_value cells.now) }
+    requires fits { IsTrue (all_fit dtype (map (option_map T.scalar) natives.now)) }
+    ensures { AreMeasuresOf result dtype (map (option_map T.scalar) natives.now) }
 {
     // The type stands in the contract alone.
     let _ = dtype;
     let mut tally = Tally::new();
     let mut sum: u128 = 0;
-    for (i, cell) in cells.iter().enumerate() {
-        let number = unsigned_of_cell(*cell);
+    for i in 0..natives.len() {
+        let number = unsigned_key(natives.get(i));
         sum += u128::from(number.unwrap_or(0));
         tally.push(number, i);
     }
     tally.measures(unsigned_sum(sum))
 }
 
-// The measures of unsigned numbers and truths that are kept as values of any kind.
-fn unsigned_values(values: &[Option<ScalarValue>], dtype: DType) -> Measures
-    requires unsigned { type_family dtype ≡ families.Unsigned }
-    requires fits { IsTrue (all_fit dtype values.now) }
-    ensures { AreMeasuresOf result dtype values.now }
+// The measures of unsigned numbers and truths, in whichever form they are kept.
+fn unsigned_values(column: &Column) -> Measures
+    requires unsigned { type_family column.now.dtype ≡ families.Unsigned }
+    requires fits { IsColumn column.now }
+    ensures { AreMeasuresOf result column.now.dtype column.now.values }
 {
-    // The type stands in the contract alone.
-    let _ = dtype;
     let mut tally = Tally::new();
     let mut sum: u128 = 0;
-    for (i, value) in values.iter().enumerate() {
-        let number = unsigned_of_value(value);
+    for i in 0..column.len() {
+        let number = unsigned_of_value(column.get(i));
         sum += u128::from(number.unwrap_or(0));
         tally.push(number, i);
     }
     tally.measures(unsigned_sum(sum))
 }
 
-// The measures of texts.
-fn texts(texts: &[Option<Text>], dtype: DType) -> Measures
+// The measures of texts that are kept as such.
+fn texts(texts: &Texts, dtype: DType) -> Measures
     requires texts { type_family dtype ≡ families.Texts }
     requires fits { IsTrue (all_fit dtype (map text_value texts.now)) }
     ensures { AreMeasuresOf result dtype (map text_value texts.now) }
@@ -236,38 +204,34 @@ fn texts(texts: &[Option<Text>], dtype: DType) -> Measures
     // The type stands in the contract alone.
     let _ = dtype;
     let mut tally = Tally::new();
-    for (i, text) in texts.iter().enumerate() {
-        tally.push(text.as_ref(), i);
+    for i in 0..texts.len() {
+        tally.push(texts.get(i), i);
     }
     tally.measures(None)
 }
 
-// The measures of texts that are kept as values of any kind.
-fn text_values(values: &[Option<ScalarValue>], dtype: DType) -> Measures
-    requires texts { type_family dtype ≡ families.Texts }
-    requires fits { IsTrue (all_fit dtype values.now) }
-    ensures { AreMeasuresOf result dtype values.now }
+// The measures of texts, in whichever form they are kept.
+fn text_values(column: &Column) -> Measures
+    requires texts { type_family column.now.dtype ≡ families.Texts }
+    requires fits { IsColumn column.now }
+    ensures { AreMeasuresOf result column.now.dtype column.now.values }
 {
-    // The type stands in the contract alone.
-    let _ = dtype;
     let mut tally = Tally::new();
-    for (i, value) in values.iter().enumerate() {
-        tally.push(text_of(value), i);
+    for i in 0..column.len() {
+        tally.push(text_of(column.get(i)), i);
     }
     tally.measures(None)
 }
 
-// The measures of strings of bytes.
-fn bytes_values(values: &[Option<ScalarValue>], dtype: DType) -> Measures
-    requires bytes { type_family dtype ≡ families.Bytes }
-    requires fits { IsTrue (all_fit dtype values.now) }
-    ensures { AreMeasuresOf result dtype values.now }
+// The measures of strings of bytes, in whichever form they are kept.
+fn bytes_values(column: &Column) -> Measures
+    requires bytes { type_family column.now.dtype ≡ families.Bytes }
+    requires fits { IsColumn column.now }
+    ensures { AreMeasuresOf result column.now.dtype column.now.values }
 {
-    // The type stands in the contract alone.
-    let _ = dtype;
     let mut tally = Tally::new();
-    for (i, value) in values.iter().enumerate() {
-        tally.push(bytes_of(value), i);
+    for i in 0..column.len() {
+        tally.push(bytes_of(column.get(i)), i);
     }
     tally.measures(None)
 }
@@ -289,55 +253,49 @@ fn nulls(count: usize, sum: Option<PValue>) -> Measures
     }
 }
 
-// The measures of signed numbers, in whichever form they are kept.
-fn signed(cells: &Cells, dtype: DType) -> Measures
-    requires signed { type_family dtype ≡ families.Signed }
-    requires fits { IsTrue (all_fit dtype (cell_values cells.now)) }
-    ensures { AreMeasuresOf result dtype (cell_values cells.now) }
+// The measures of a column of signed numbers.
+fn signed(column: &Column) -> Measures
+    requires signed { type_family column.now.dtype ≡ families.Signed }
+    requires fits { IsColumn column.now }
+    ensures { AreMeasuresOf result column.now.dtype column.now.values }
 {
-    match cells {
-        Cells::Short(cells) => signed_cells(cells, dtype),
-        Cells::Any(values) => signed_values(values, dtype),
-        Cells::Texts(texts) => nulls(texts.len(), Some(PValue::I64(0))),
+    let dtype = column.dtype();
+    match column.cells() {
+        Cells::I64(natives) => signed_natives(natives, dtype),
+        Cells::I32(natives) => signed_natives(natives, dtype),
+        Cells::I16(natives) => signed_natives(natives, dtype),
+        Cells::I8(natives) => signed_natives(natives, dtype),
+        _ => signed_values(column),
     }
 }
 
-// The measures of unsigned numbers and truths, in whichever form they are kept.
-fn unsigned(cells: &Cells, dtype: DType) -> Measures
-    requires unsigned { type_family dtype ≡ families.Unsigned }
-    requires fits { IsTrue (all_fit dtype (cell_values cells.now)) }
-    ensures { AreMeasuresOf result dtype (cell_values cells.now) }
+// The measures of a column of unsigned numbers or truths.
+fn unsigned(column: &Column) -> Measures
+    requires unsigned { type_family column.now.dtype ≡ families.Unsigned }
+    requires fits { IsColumn column.now }
+    ensures { AreMeasuresOf result column.now.dtype column.now.values }
 {
-    match cells {
-        Cells::Short(cells) => unsigned_cells(cells, dtype),
-        Cells::Any(values) => unsigned_values(values, dtype),
-        Cells::Texts(texts) => nulls(texts.len(), Some(PValue::U64(0))),
+    let dtype = column.dtype();
+    match column.cells() {
+        Cells::U64(natives) => unsigned_natives(natives, dtype),
+        Cells::U32(natives) => unsigned_natives(natives, dtype),
+        Cells::U16(natives) => unsigned_natives(natives, dtype),
+        Cells::U8(natives) => unsigned_natives(natives, dtype),
+        Cells::Bool(natives) => unsigned_natives(natives, dtype),
+        _ => unsigned_values(column),
     }
 }
 
-// The measures of texts, in whichever form they are kept.
-fn of_texts(cells: &Cells, dtype: DType) -> Measures
-    requires texts { type_family dtype ≡ families.Texts }
-    requires fits { IsTrue (all_fit dtype (cell_values cells.now)) }
-    ensures { AreMeasuresOf result dtype (cell_values cells.now) }
+// The measures of a column of texts.
+fn of_texts(column: &Column) -> Measures
+    requires texts { type_family column.now.dtype ≡ families.Texts }
+    requires fits { IsColumn column.now }
+    ensures { AreMeasuresOf result column.now.dtype column.now.values }
 {
-    match cells {
+    let dtype = column.dtype();
+    match column.cells() {
         Cells::Texts(list) => texts(list, dtype),
-        Cells::Any(values) => text_values(values, dtype),
-        Cells::Short(cells) => nulls(cells.len(), None),
-    }
-}
-
-// The measures of strings of bytes, in whichever form they are kept.
-fn of_bytes(cells: &Cells, dtype: DType) -> Measures
-    requires bytes { type_family dtype ≡ families.Bytes }
-    requires fits { IsTrue (all_fit dtype (cell_values cells.now)) }
-    ensures { AreMeasuresOf result dtype (cell_values cells.now) }
-{
-    match cells {
-        Cells::Any(values) => bytes_values(values, dtype),
-        Cells::Short(cells) => nulls(cells.len(), None),
-        Cells::Texts(texts) => nulls(texts.len(), None),
+        _ => text_values(column),
     }
 }
 
@@ -346,12 +304,11 @@ pub(super) fn measures_of(column: &Column) -> Measures
     ensures measures { AreMeasuresOf result column.now.dtype column.now.values }
     ensures is_column { IsColumn column.now }
 {
-    let dtype = column.dtype();
-    match family_of(dtype) {
-        Family::Signed => signed(column.cells(), dtype),
-        Family::Unsigned => unsigned(column.cells(), dtype),
-        Family::Texts => of_texts(column.cells(), dtype),
-        Family::Bytes => of_bytes(column.cells(), dtype),
+    match family_of(column.dtype()) {
+        Family::Signed => signed(column),
+        Family::Unsigned => unsigned(column),
+        Family::Texts => of_texts(column),
+        Family::Bytes => bytes_values(column),
         Family::Nulls => nulls(column.len(), None),
     }
 }

@@ -11,9 +11,7 @@ ghost use Rattle.vortex_stats.specs.Measuring.Measures.{AreMeasuresOf};
 ghost use Rattle.vortex_stats.specs.Measuring.Tallies.{IsKeyOf, IsOptionalKeyOf, IsOptionalRunOf, IsRunOf, IsTallyOf};
 
 use crate::measure::measures::Measures;
-use vortex_base::bytes::Bytes;
 use vortex_base::pvalue::PValue;
-use vortex_base::text::Text;
 
 /// What stands for a value while a column is measured. Keys compare as the values of one type do.
 pub(crate) trait Key: Ord + Copy {
@@ -41,7 +39,7 @@ impl Key for u64 {
     ghost ordered = { unsigned_ordered };
 }
 
-impl<'a> Key for &'a Text {
+impl<'a> Key for &'a str {
     ghost use Rattle.vortex_stats.specs.Measuring.Codes.{bytes_code, bytes_ordered};
 
     ghost code = { λ t. bytes_code t.now };
@@ -49,7 +47,7 @@ impl<'a> Key for &'a Text {
     ghost ordered = { λ s t. bytes_ordered s.now t.now };
 }
 
-impl<'a> Key for &'a Bytes {
+impl<'a> Key for &'a [u8] {
     ghost use Rattle.vortex_stats.specs.Measuring.Codes.{bytes_code, bytes_ordered};
 
     ghost code = { λ b. bytes_code b.now };

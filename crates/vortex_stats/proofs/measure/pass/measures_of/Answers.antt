@@ -8,5 +8,5 @@ pub returns-in-Nulls-clause-measures : goal.returns-in-Nulls-clause-measures
 returns-in-Nulls-clause-measures c =
     let column = c.args.column.now in
     let t = column.dtype in
-    let none : family_of t ≡ Nulls = ap family_of (sym c.dtype-dtype.ensures.value) ∙ sym c.family_of.ensures ∙ c.in-Nulls.is in
-    c.nulls.ensures t column.values (sym c.len.ensures.value) (nothing_of_nulls t column.values c.dtype-dtype.ensures.is_column none) (no_sum t _ (rw none refl))
+    let none : family_of t ≡ Nulls = ap family_of (sym c.dtype.ensures.value) ∙ sym c.family_of.ensures ∙ c.in-Nulls.is in
+    c.nulls.ensures t column.values (sym c.len.ensures.value) (nothing_of_nulls t column.values c.dtype.ensures.is_column none) (no_sum t _ (rw none refl))

@@ -1,7 +1,7 @@
-use Rattle.std.proofs.Common.{◌≡◌, ◌∙◌, ap, length, pos, refl, arith, rules}
+use Rattle.std.proofs.Common.{◌≡◌, ◌≤◌, ◌∙◌, ap, option_map, length, pos, refl, arith, rules}
 use Rattle.std.specs.Prelude.{unwrap_or}
 use Rattle.std.proofs.lemmas.Int.{ints}
-use Rattle.std.proofs.lemmas.Option.{slice_get_read}
+use Rattle.vortex_base.specs.Data.Cells.{value_of}
 use Rattle.vortex_base.specs.declared.dtype.DType.TheVariants as dtype
 use Rattle.vortex_base.specs.declared.types.Nullability.TheVariants.{Nullable}
 use Rattle.vortex_base.specs.declared.types.PType.TheVariants as ptype
@@ -12,15 +12,15 @@ use Rattle.vortex_stats.proofs.Measuring.Passes.{fits_at, signed_key, signed_nex
 use Rattle.vortex_stats.proofs.measure.pass.signed_values.Goals as goal
 
 pub loop-i-init : goal.loop-i-init
-loop-i-init c = record { told = c.new-tally.ensures c.args.dtype; summed = refl; low = search rules; high = search rules }
+loop-i-init c = record { told = c.new-tally.ensures c.args.column.now.dtype; summed = refl; low = search rules; high = search rules }
 
 pub loop-i-preserved : goal.loop-i-preserved
 loop-i-preserved c =
-    let t = c.args.dtype in
-    let xs = c.args.values.now in
+    let t = c.args.column.now.dtype in
+    let xs = c.args.column.now.values in
     let i = c.loop-i.i in
-    let x = c.index-values-i.result in
-    let here = slice_get_read xs (length xs) i x refl c.loop-i-test.true c.index-values-i.is in
+    let x = option_map value_of c.get.result in
+    let here = c.get.ensures in
     let fits = fits_at t xs i x c.requires.fits here in
     let key : IsOptionalKeyOf signed_code t c.signed_of_value-number.result x = rw c.signed_of_value-number.ensures (signed_key t x c.requires.signed fits) in
     let added = signed_next t xs i x here c.requires.signed fits in
@@ -34,9 +34,9 @@ loop-i-preserved c =
 
 pub returns : goal.returns
 returns c =
-    let t = c.args.dtype in
-    let xs = c.args.values.now in
-    let past = c.loop-i-test.false in
+    let t = c.args.column.now.dtype in
+    let xs = c.args.column.now.values in
+    let past : length xs ≤ c.loop-i.i = omega (arith, c.loop-i-test.false, c.len-i-end.ensures.value) in
     let seen = c.loop-i.invariant in
     c.measures.ensures t xs (told_all t xs c.loop-i.i past signed_code c.loop-i.tally seen.told)
     (summed_all t xs c.loop-i.i past (dtype.Primitive ptype.I64 Nullable) c.signed_sum.result _ c.signed_sum.ensures seen.summed (signed_sum_dtype t c.requires.signed))

@@ -1,9 +1,9 @@
-use Rattle.std.proofs.Common.{◌∙◌, ◌≤◌, length, map, refl, sym}
+use Rattle.std.proofs.Common.{◌<◌, ◌≤◌, ◌∙◌, arith, length, map, refl, slice_get, sym}
 use Rattle.std.proofs.lemmas.List.{length-map}
-use Rattle.std.proofs.lemmas.Option.{slice_get_read}
+use Rattle.vortex_base.specs.Data.Blobs.{blob_at}
 use Rattle.vortex_base.specs.Data.Cells.{text_value}
 use Rattle.vortex_stats.specs.Measuring.Codes.{bytes_code}
-use Rattle.vortex_stats.proofs.Measuring.Passes.{fits_at, mapped_at, no_sum, text_key, text_of_text, told_all, told_next}
+use Rattle.vortex_stats.proofs.Measuring.Passes.{fits_at, no_sum, text_here, text_key, text_of_text, told_all, told_next}
 use Rattle.vortex_stats.proofs.measure.pass.texts.Goals as goal
 
 pub loop-i-init : goal.loop-i-init
@@ -15,15 +15,15 @@ loop-i-preserved c =
     let texts = c.args.texts.now in
     let xs = map text_value texts in
     let i = c.loop-i.i in
-    let text = c.index-texts-i.result in
-    let x = text_value text in
-    let here = mapped_at text_value texts i text (slice_get_read texts (length texts) i text refl c.loop-i-test.true c.index-texts-i.is) in
-    let key = text_key t x c.as_ref.result c.requires.texts (fits_at t xs i x c.requires.fits here) (c.as_ref.ensures.value ∙ sym (text_of_text text)) in
-    told_next t xs i x here (λ b. bytes_code b.now) c.loop-i.tally c.push.new.self c.as_ref.result c.push.ensures key c.loop-i.invariant
+    let x = text_value (blob_at (slice_get texts i)) in
+    let within : i < length texts = omega (arith, c.loop-i-test.true, c.len-i-end.ensures) in
+    let here = text_here texts i within in
+    let key = text_key t x c.get.result c.requires.texts (fits_at t xs i x c.requires.fits here) (c.get.ensures ∙ sym (text_of_text (blob_at (slice_get texts i)))) in
+    told_next t xs i x here (λ b. bytes_code b.now) c.loop-i.tally c.push.new.self c.get.result c.push.ensures key c.loop-i.invariant
 
 pub returns : goal.returns
 returns c =
     let t = c.args.dtype in
     let xs = map text_value c.args.texts.now in
-    let past : length xs ≤ c.loop-i.i = simp length-map (c.loop-i-test.false) in
+    let past : length xs ≤ c.loop-i.i = omega (arith, c.loop-i-test.false, c.len-i-end.ensures, length-map c.args.texts.now text_value) in
     c.measures.ensures t xs (told_all t xs c.loop-i.i past (λ b. bytes_code b.now) c.loop-i.tally c.loop-i.invariant) (no_sum t _ (rw c.requires.texts refl))
