@@ -1,6 +1,7 @@
 -- On what a scan finds.
 pub mod BinderScan
 pub mod Boxes
+pub mod ColumnLemmas
 pub mod JoinLemmas
 pub mod LeafLemmas
 pub mod Lossless

@@ -22,6 +22,7 @@ ghost use Rattle.vortex_rewrite.specs.Answers.{IsMemory};
 
 mod by_binders;
 mod columns;
+mod comparison;
 mod leaf;
 mod marks;
 pub mod outcome;

@@ -29,6 +29,10 @@ swapped o = o
 abbrev pub compares : Operator → Option ScalarValue → Option ScalarValue → Bool
 compares o a b = is_true (truth_value (compared o a b))
 
+-- that of the optional value at a place with a value
+abbrev pub compares_at : Operator → ScalarValue → List (Option ScalarValue) → ℕ → Bool
+compares_at o v xs r = compares o (value_at (slice_get xs r)) (Some v)
+
 -- an optional value passes
 abbrev pub passes : Test → Option ScalarValue → Bool
 passes (Is o v) x = compares o x (Some (value_of v))

@@ -1,82 +1,99 @@
 //! Marks that are taken away by the values of one column, a truth a row.
-ghost use Rattle.std.specs.Prelude.{◌≡◌, ◌+◌, ◌<◌, ◌^◌, ◌&&◌, Some, length, map};
-ghost use Rattle.vortex_base.specs.Data.Cells.{short_value};
-ghost use Rattle.vortex_base.specs.declared.scalar_value.ScalarValue.TheVariants as value;
-ghost use Rattle.vortex_base.specs.declared.value_ref.ValueRef.TheVariants as lent;
-ghost use Rattle.vortex_prune.specs.Scanning.Leaves.{compares, passes_at};
+ghost use Rattle.std.specs.Prelude.{◌≡◌, ◌+◌, ◌<◌, ◌≤◌, ◌^◌, ◌&&◌, None, false, length, map, not, option_map, replicate, slice_index_or};
+ghost use Rattle.vortex_base.specs.Data.Natives.{optionals};
+ghost use Rattle.vortex_prune.specs.Scanning.Leaves.{compares_at, passes_at};
 ghost use Rattle.vortex_prune.specs.Scanning.Marks.{marked};
-ghost use Rattle.vortex_prune.specs.declared.scan.leaf.Test.TheVariants.{Is};
 
-use crate::scan::leaf::{Test, holds, passes};
-use vortex_base::cells::{Cells, ShortCell};
+use crate::scan::comparison::{Above, AtLeast, AtMost, Below, Comparison, Equal, Unequal};
+use crate::scan::leaf::{Test, passes};
+use vortex_base::cells::Cells;
 use vortex_base::column::Column;
-use vortex_base::pvalue::PValue;
+use vortex_base::match_each_native;
+use vortex_base::native::Native;
+use vortex_base::natives::Natives;
 use vortex_base::types::Operator;
-use vortex_base::value_ref::ValueRef;
 
-// Whether the comparison of a cell with a number of another kind or width is true.
-#[inline(never)]
-fn value_compares(cell: ShortCell, operator: Operator, number: PValue) -> bool
-    ensures { result ≡ compares operator (short_value cell) (Some (value.Primitive number)) }
-{
-    match cell.lend() {
-        None => false,
-        Some(value) => holds(operator, value.order(ValueRef::Primitive(number))),
-    }
-}
-
-// Whether the comparison of a cell with a number is true.
+// Whether a value that may be there compares so with another.
 #[inline]
-fn cell_compares(cell: ShortCell, operator: Operator, number: PValue) -> bool
-    ensures { result ≡ compares operator (short_value cell) (Some (value.Primitive number)) }
+fn is_so<T: Native, C: Comparison>(values: &[T], there: &[bool], place: usize, number: T) -> bool
+    requires long { length values.now ≡ length there.now }
+    requires within { place < length there.now }
+    ensures { let cells = map (option_map T.scalar) (optionals values.now there.now) in
+        result ≡ compares_at C.operator (T.scalar number) cells place }
 {
-    match (cell, number) {
-        (ShortCell::Null, _) => false,
-        (ShortCell::I64(n), PValue::I64(m)) => holds(operator, n.cmp(&m)),
-        (ShortCell::U64(n), PValue::U64(m)) => holds(operator, n.cmp(&m)),
-        (ShortCell::I32(n), PValue::I32(m)) => holds(operator, n.cmp(&m)),
-        (ShortCell::U32(n), PValue::U32(m)) => holds(operator, n.cmp(&m)),
-        (ShortCell::I16(n), PValue::I16(m)) => holds(operator, n.cmp(&m)),
-        (ShortCell::U16(n), PValue::U16(m)) => holds(operator, n.cmp(&m)),
-        (ShortCell::I8(n), PValue::I8(m)) => holds(operator, n.cmp(&m)),
-        (ShortCell::U8(n), PValue::U8(m)) => holds(operator, n.cmp(&m)),
-        _ => value_compares(cell, operator, number),
-    }
+    there[place] & C::is_true_of(values[place].order(number))
 }
 
-// Whether a mark stays at a cell. Each cell is looked at, so that no branch depends on a mark.
-#[inline]
-fn stays_at(
-    mark: bool,
-    cells: &[ShortCell],
-    place: usize,
-    operator: Operator,
-    number: PValue,
-) -> bool
-    ensures { let test = Is operator (lent.Primitive number) in
-        result ≡ (mark && passes_at test (map short_value cells.now) place) }
-{
-    match cells.get(place) {
-        None => false,
-        Some(cell) => mark & cell_compares(*cell, operator, number),
-    }
-}
-
-// Takes away the marks, from a place on, at which the comparison of a cell with a number isn't
-// true.
-fn keep_cells(
-    cells: &[ShortCell],
-    operator: Operator,
-    number: PValue,
+// Takes away the marks, from a place on, at which a comparison with a number isn't true. Each value
+// is looked at, so that no branch depends on a mark.
+fn keep_compared<T: Native, C: Comparison>(
+    values: &[T],
+    there: &[bool],
+    number: T,
     from: usize,
     marks: &mut [bool],
 )
-    requires { from + length marks.old < 2 ^ 64 }
-    ensures { let test = Is operator (lent.Primitive number) in
-        marks.new ≡ marked (passes_at test (map short_value cells.now)) from marks.old }
+    requires long { length values.now ≡ length there.now }
+    requires within { from + length marks.old ≤ length there.now }
+    ensures { let cells = map (option_map T.scalar) (optionals values.now there.now) in
+        marks.new ≡ marked (compares_at C.operator (T.scalar number) cells) from marks.old }
 {
     for k in 0..marks.len() {
-        marks[k] = stays_at(marks[k], cells, from + k, operator, number);
+        marks[k] = marks[k] & is_so::<T, C>(values, there, from + k, number);
+    }
+}
+
+// Takes away the marks, from a place on, at which the comparison with a number isn't true.
+fn keep_natives<T: Native>(
+    values: &[T],
+    there: &[bool],
+    operator: Operator,
+    number: T,
+    from: usize,
+    marks: &mut [bool],
+)
+    requires long { length values.now ≡ length there.now }
+    requires within { from + length marks.old ≤ length there.now }
+    ensures { let cells = map (option_map T.scalar) (optionals values.now there.now) in
+        marks.new ≡ marked (compares_at operator (T.scalar number) cells) from marks.old }
+{
+    match operator {
+        Operator::Eq => keep_compared::<T, Equal>(values, there, number, from, marks),
+        Operator::NotEq => keep_compared::<T, Unequal>(values, there, number, from, marks),
+        Operator::Gt => keep_compared::<T, Above>(values, there, number, from, marks),
+        Operator::Gte => keep_compared::<T, AtLeast>(values, there, number, from, marks),
+        Operator::Lt => keep_compared::<T, Below>(values, there, number, from, marks),
+        Operator::Lte => keep_compared::<T, AtMost>(values, there, number, from, marks),
+        Operator::And | Operator::Or => marks.fill(false),
+    }
+}
+
+// Takes away the marks, from a place on, at which a truth is set.
+fn keep_unset(there: &[bool], from: usize, marks: &mut [bool])
+    requires { from + length marks.old ≤ length there.now }
+    ensures { marks.new ≡ marked (λ i. not (slice_index_or there.now i false)) from marks.old }
+{
+    for k in 0..marks.len() {
+        marks[k] = marks[k] & !there[from + k];
+    }
+}
+
+// Takes away the marks, from a place on, at which a truth isn't set.
+fn keep_set(there: &[bool], from: usize, marks: &mut [bool])
+    requires { from + length marks.old ≤ length there.now }
+    ensures { marks.new ≡ marked (λ i. slice_index_or there.now i false) from marks.old }
+{
+    for k in 0..marks.len() {
+        marks[k] = marks[k] & there[from + k];
+    }
+}
+
+// Takes away the marks, from a place on, at which null doesn't pass.
+fn keep_at_nulls(test: Test<'_>, count: usize, from: usize, marks: &mut [bool])
+    ensures { marks.new ≡ marked (passes_at test.entry (replicate count None)) from marks.old }
+{
+    if !passes(test, None) {
+        marks.fill(false);
     }
 }
 
@@ -106,15 +123,39 @@ fn keep_values(column: &Column, test: Test<'_>, from: usize, marks: &mut [bool])
     }
 }
 
+// The same of a column whose values are kept as truths or numbers of one type.
+fn keep_typed<T: Native>(
+    column: &Column,
+    natives: &Natives<T>,
+    test: Test<'_>,
+    from: usize,
+    marks: &mut [bool],
+)
+    requires room { from + length marks.old < 2 ^ 64 }
+    requires same { column.now.values ≡ map (option_map T.scalar) natives.now }
+    ensures { marks.new ≡ marked (passes_at test.entry column.now.values) from marks.old }
+{
+    let (values, there) = natives.as_slices();
+    if from + marks.len() > there.len() {
+        return keep_values(column, test, from, marks);
+    }
+    match test {
+        Test::Null => keep_unset(there, from, marks),
+        Test::NotNull => keep_set(there, from, marks),
+        Test::Is(operator, other) => match T::of_lent(other) {
+            Some(number) => keep_natives(values, there, operator, number, from, marks),
+            None => keep_values(column, test, from, marks),
+        },
+    }
+}
+
 /// Takes away the marks, from a place on, at which a value of a column doesn't pass.
 pub(crate) fn keep_passing(column: &Column, test: Test<'_>, from: usize, marks: &mut [bool])
     requires { from + length marks.old < 2 ^ 64 }
     ensures { marks.new ≡ marked (passes_at test.entry column.now.values) from marks.old }
 {
-    match (column.cells(), test) {
-        (Cells::Short(cells), Test::Is(operator, ValueRef::Primitive(number))) => {
-            keep_cells(cells, operator, number, from, marks);
-        }
-        _ => keep_values(column, test, from, marks),
-    }
+    match_each_native!(column.cells(),
+        natives => keep_typed(column, natives, test, from, marks),
+        Cells::Nulls(nulls) => keep_at_nulls(test, nulls.count(), from, marks),
+        _ => keep_values(column, test, from, marks))
 }

@@ -1,0 +1,94 @@
+//! The six comparisons, each a type, so that a loop over many values is made for each.
+ghost use Rattle.std.specs.Prelude.{◌≡◌};
+
+use std::cmp::Ordering;
+
+/// A comparison of two values in order.
+pub(crate) trait Comparison {
+    ghost use Rattle.vortex_base.specs.Meanings.Meaning as spec;
+    ghost use Rattle.vortex_base.specs.declared.types.Operator.{Operator};
+
+    ghost operator: { Operator };
+
+    /// Whether it is true of two values in this order.
+    fn is_true_of(order: Ordering) -> bool
+        ensures { result ≡ spec.holds operator order };
+}
+
+pub(crate) struct Equal;
+
+pub(crate) struct Unequal;
+
+pub(crate) struct Above;
+
+pub(crate) struct AtLeast;
+
+pub(crate) struct Below;
+
+pub(crate) struct AtMost;
+
+impl Comparison for Equal {
+    ghost use Rattle.vortex_base.specs.declared.types.Operator.TheVariants as operator;
+
+    ghost operator = { operator.Eq };
+
+    #[inline]
+    fn is_true_of(order: Ordering) -> bool {
+        order.is_eq()
+    }
+}
+
+impl Comparison for Unequal {
+    ghost use Rattle.vortex_base.specs.declared.types.Operator.TheVariants as operator;
+
+    ghost operator = { operator.NotEq };
+
+    #[inline]
+    fn is_true_of(order: Ordering) -> bool {
+        !order.is_eq()
+    }
+}
+
+impl Comparison for Above {
+    ghost use Rattle.vortex_base.specs.declared.types.Operator.TheVariants as operator;
+
+    ghost operator = { operator.Gt };
+
+    #[inline]
+    fn is_true_of(order: Ordering) -> bool {
+        order.is_gt()
+    }
+}
+
+impl Comparison for AtLeast {
+    ghost use Rattle.vortex_base.specs.declared.types.Operator.TheVariants as operator;
+
+    ghost operator = { operator.Gte };
+
+    #[inline]
+    fn is_true_of(order: Ordering) -> bool {
+        !order.is_lt()
+    }
+}
+
+impl Comparison for Below {
+    ghost use Rattle.vortex_base.specs.declared.types.Operator.TheVariants as operator;
+
+    ghost operator = { operator.Lt };
+
+    #[inline]
+    fn is_true_of(order: Ordering) -> bool {
+        order.is_lt()
+    }
+}
+
+impl Comparison for AtMost {
+    ghost use Rattle.vortex_base.specs.declared.types.Operator.TheVariants as operator;
+
+    ghost operator = { operator.Lte };
+
+    #[inline]
+    fn is_true_of(order: Ordering) -> bool {
+        !order.is_gt()
+    }
+}
