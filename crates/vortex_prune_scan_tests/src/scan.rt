@@ -16,6 +16,7 @@ mod measured;
 mod one_chunk;
 mod own;
 mod table;
+mod typed;
 mod whole;
 mod zones;
 

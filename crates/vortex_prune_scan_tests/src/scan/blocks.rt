@@ -78,7 +78,7 @@ fn long(alloc: Global, rows: usize) -> Table {
 }
 
 // The rows of a part that satisfy a predicate, each by itself.
-fn rows_alone(
+pub(super) fn rows_alone(
     alloc: Global,
     part: &Part,
     predicate: &BoundExpression,
@@ -94,7 +94,7 @@ fn rows_alone(
 }
 
 // Whether a scan found these rows, and tested so many.
-fn found_rows(found: &Scan, rows: &[(usize, usize)], tested: usize) -> bool {
+pub(super) fn found_rows(found: &Scan, rows: &[(usize, usize)], tested: usize) -> bool {
     found.selected.as_slice() == rows && found.evaluated == tested as u64
 }
 

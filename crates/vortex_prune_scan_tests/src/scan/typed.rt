@@ -1,0 +1,205 @@
+//! Long parts of one column of truths or of numbers of each type, in which null stands at the ends
+//! of blocks and between: a scan selects what each row says by itself.
+use super::blocks::{found_rows, rows_alone};
+use super::*;
+use vortex_base::{Cells, Column, DType, Nullability, PType, PValue, ScalarValue};
+
+const ROWS: usize = 2_049;
+
+// How many of the rows are null.
+const NULLS: usize = 297;
+
+const OPERATORS: [Operator; 6] = [
+    Operator::Eq,
+    Operator::NotEq,
+    Operator::Gt,
+    Operator::Gte,
+    Operator::Lt,
+    Operator::Lte,
+];
+
+const NUMBERS: [PType; 8] = [
+    PType::U8,
+    PType::U16,
+    PType::U32,
+    PType::U64,
+    PType::I8,
+    PType::I16,
+    PType::I32,
+    PType::I64,
+];
+
+// The types of numbers and then that of truths.
+fn dtype_at(place: usize) -> DType {
+    match NUMBERS.get(place) {
+        Some(ptype) => DType::Primitive(*ptype, Nullability::Nullable),
+        None => DType::Bool(Nullability::Nullable),
+    }
+}
+
+// Five numbers, of which two are below zero.
+fn signed(place: usize) -> i8 {
+    match place % 5 {
+        0 => -128,
+        1 => -1,
+        2 => 0,
+        3 => 1,
+        _ => 127,
+    }
+}
+
+fn unsigned(place: usize) -> u8 {
+    match place % 5 {
+        0 => 0,
+        1 => 1,
+        2 => 127,
+        3 => 128,
+        _ => 255,
+    }
+}
+
+fn number_of(ptype: PType, place: usize) -> PValue {
+    match ptype {
+        PType::U8 => PValue::U8(unsigned(place)),
+        PType::U16 => PValue::U16(u16::from(unsigned(place))),
+        PType::U32 => PValue::U32(u32::from(unsigned(place))),
+        PType::U64 => PValue::U64(u64::from(unsigned(place))),
+        PType::I8 => PValue::I8(signed(place)),
+        PType::I16 => PValue::I16(i16::from(signed(place))),
+        PType::I32 => PValue::I32(i32::from(signed(place))),
+        PType::I64 => PValue::I64(i64::from(signed(place))),
+    }
+}
+
+fn value_of(dtype: DType, place: usize) -> ScalarValue {
+    match dtype {
+        DType::Primitive(ptype, _) => ScalarValue::Primitive(number_of(ptype, place)),
+        _ => ScalarValue::from(place % 2 == 0),
+    }
+}
+
+// Null at both ends of each block, and at one in seven of the others.
+fn value_at(dtype: DType, row: usize) -> Option<ScalarValue> {
+    if row % 1_024 == 0 || row % 1_024 == 1_023 || row % 7 == 3 {
+        None
+    } else {
+        Some(value_of(dtype, row))
+    }
+}
+
+fn column(alloc: Global, dtype: DType) -> Result<Column, StatsError> {
+    let mut cells = Cells::new(alloc, dtype);
+    for row in 0..ROWS {
+        cells.push(value_at(dtype, row))?;
+    }
+    told(Column::of_cells(dtype, cells, 0))
+}
+
+// The table of one part of a column of the type, without statistics.
+fn table(alloc: Global, dtype: DType) -> Table {
+    let chunk = chunk_of(alloc, scope_of(alloc, dtype), column(alloc, dtype));
+    let part = part_of(alloc, chunk, Ok(no_statistics(alloc)));
+    zones_of(alloc, scope_of(alloc, dtype), one_part(alloc, part))
+}
+
+// Whether the scan of the table finds what its rows say by themselves.
+fn is_as_alone(alloc: Global, zones: &Zones, predicate: Built) -> Result<bool, StatsError> {
+    let predicate = predicate?;
+    let found = scanned_by_part(alloc, zones.parts(), &predicate, &Rules::builtin(alloc))?;
+    match zones.parts().first() {
+        None => Ok(false),
+        Some(part) => Ok(found_rows(&found, &rows_alone(alloc, part, &predicate)?, ROWS)),
+    }
+}
+
+fn first_column(alloc: Global, dtype: DType) -> Built {
+    col(alloc, 0, dtype)
+}
+
+// Whether it does so at a comparison with a value, on either side.
+fn is_compared_as_alone(
+    alloc: Global,
+    zones: &Zones,
+    dtype: DType,
+    operator: Operator,
+    place: usize,
+) -> Result<bool, StatsError> {
+    let value = lit(alloc, dtype, value_of(dtype, place));
+    let on_the_right = binary(alloc, operator, first_column(alloc, dtype), value);
+    let value = lit(alloc, dtype, value_of(dtype, place));
+    let on_the_left = binary(alloc, operator, value, first_column(alloc, dtype));
+    Ok(is_as_alone(alloc, zones, on_the_right)? && is_as_alone(alloc, zones, on_the_left)?)
+}
+
+#[test]
+fn comparisons_of_each_type_have_the_rows(rt: HostRuntime) -> Result<(), Fail> {
+    let alloc = rt.alloc();
+    for kind in 0..9 {
+        let dtype = dtype_at(kind);
+        let zones = table(alloc, dtype)?;
+        for operator in OPERATORS {
+            for place in 0..3 {
+                let is_alike = is_compared_as_alone(alloc, &zones, dtype, operator, place)?;
+                assert!(rt; is_alike);
+            }
+        }
+    }
+    Ok(())
+}
+
+#[test]
+fn nulls_of_each_type_have_the_rows(rt: HostRuntime) -> Result<(), Fail> {
+    let alloc = rt.alloc();
+    for kind in 0..9 {
+        let dtype = dtype_at(kind);
+        let zones = table(alloc, dtype)?;
+        let nulls = is_null(alloc, first_column(alloc, dtype));
+        assert!(rt; is_as_alone(alloc, &zones, nulls)?);
+        let values = is_not_null(alloc, first_column(alloc, dtype));
+        assert!(rt; is_as_alone(alloc, &zones, values)?);
+    }
+    Ok(())
+}
+
+// How many rows of a table a predicate selects.
+fn count_selected(alloc: Global, zones: &Zones, predicate: Built) -> Result<usize, StatsError> {
+    let found = scanned_by_part(alloc, zones.parts(), &predicate?, &Rules::builtin(alloc))?;
+    Ok(found.selected.len())
+}
+
+// A null compares with nothing, and each value is above another or isn't.
+#[test]
+fn counts_of_each_type_are_known(rt: HostRuntime) -> Result<(), Fail> {
+    let alloc = rt.alloc();
+    for kind in 0..9 {
+        let dtype = dtype_at(kind);
+        let zones = table(alloc, dtype)?;
+        let nulls = is_null(alloc, first_column(alloc, dtype));
+        let nulls = count_selected(alloc, &zones, nulls)?;
+        let least = lit(alloc, dtype, value_of(dtype, 1));
+        let above = gt(alloc, first_column(alloc, dtype), least);
+        let above = count_selected(alloc, &zones, above)?;
+        let least = lit(alloc, dtype, value_of(dtype, 1));
+        let others = lt_eq(alloc, first_column(alloc, dtype), least);
+        let others = count_selected(alloc, &zones, others)?;
+        assert!(rt; nulls == NULLS && above > 0 && others > 0);
+        assert!(rt; nulls.checked_add(above).and_then(|n| n.checked_add(others)) == Some(ROWS));
+    }
+    Ok(())
+}
+
+// A column of nulls alone.
+#[test]
+fn nulls_alone_have_the_rows(rt: HostRuntime) -> Result<(), Fail> {
+    let alloc = rt.alloc();
+    let cells = Cells::nulls(alloc, DType::Null, ROWS)?;
+    let column = told(Column::of_cells(DType::Null, cells, 0));
+    let chunk = chunk_of(alloc, scope_of(alloc, DType::Null), column);
+    let part = part_of(alloc, chunk, Ok(no_statistics(alloc)));
+    let zones = zones_of(alloc, scope_of(alloc, DType::Null), one_part(alloc, part))?;
+    let nulls = is_null(alloc, first_column(alloc, DType::Null));
+    assert!(rt; count_selected(alloc, &zones, nulls)? == ROWS);
+    let values = is_not_null(alloc, first_column(alloc, DType::Null));
+    assert!(rt; count_selected(alloc, &zones, values)? == 0);
+    Ok(())
+}
