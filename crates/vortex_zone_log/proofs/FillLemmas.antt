@@ -1,43 +1,28 @@
 -- Cells that are filled, and columns of cells.
-use Rattle.std.proofs.Common.{◌≡◌, ◌<◌, ◌+◌, ◌-◌, ◌++◌, ◌∙◌, ℕ, zero, suc, List, [], ◌∷◌, None, Some, ap, ap₂, arith, get_or, length, map, refl, sym, take}
-use Rattle.std.proofs.lemmas.List.{get_or_push, length-map, length-set, length_push, map-set, map_push, set-append_left, take-map, take_at, take_more}
+use Rattle.std.proofs.Common.{◌≡◌, ◌<◌, ◌+◌, ◌++◌, ◌∙◌, ℕ, zero, suc, false, List, [], ◌∷◌, Option, None, Some, ap, ap₂, arith, get_or, length, map, refl, sym, take}
+use Rattle.std.proofs.lemmas.List.{map_push, take_more}
 use Rattle.std.proofs.lemmas.Option.{get_or_from_slice_get, slice_get-get_or}
-use Rattle.std.specs.List.{swap_remove}
+use Rattle.std.specs.Option.{is_some}
 use Rattle.std.specs.Prelude.{IsTrue, replicate, slice_get, slice_set}
-use Rattle.vortex_base.specs.Data.Cells.{cell_values, short_value}
+use Rattle.vortex_base.specs.Data.Cells.{cell_values}
 use Rattle.vortex_base.specs.Data.Columns.{ColumnData, all_fit}
 use Rattle.vortex_base.specs.declared.cells.Cells.{Cells}
-use Rattle.vortex_base.specs.declared.cells.ShortCell.{ShortCell}
-use Rattle.vortex_base.specs.declared.cells.ShortCell.TheVariants as cell
 use Rattle.vortex_base.specs.declared.dtype.DType.{DType}
 use Rattle.vortex_prune.proofs.ZoneMaps.ZoneNames.{column_is_made}
 use Rattle.vortex_prune.specs.Part.{ZoneData}
 use Rattle.vortex_prune.specs.Zones.{Head, zone_column}
 use Rattle.vortex_zone_log.specs.Tables.{AreCells, IsTable, under}
 
--- ---- a cell in which the last one is put
+-- ---- a null that is put among nulls
 
-get_or-map : {X Y : Type 0} (f : X → Y) (xs : List X) (i : ℕ) (d : X) → get_or (map f xs) i (f d) ≡ f (get_or xs i d)
-get_or-map f [] i d = refl
-get_or-map f (x ∷ xs) zero d = refl
-get_or-map f (x ∷ xs) (suc i) d = get_or-map f xs i d
+nulls_stay : {X : Type 0} (n i : ℕ) → replicate n (let x : Option X = None in x) ≡ slice_set (replicate n None) i None
+nulls_stay zero i = refl
+nulls_stay (suc n) zero = refl
+nulls_stay (suc n) (suc i) = ap (λ l. None ∷ l) (nulls_stay n i)
 
-pub swapped : {X Y : Type 0} (f : X → Y) (ys : List X) (xs : List Y) (v : Y) (i : ℕ) (d : X) → map f ys ≡ xs ++ v ∷ [] → i < length xs → map f (swap_remove ys i d) ≡ slice_set xs i v
-swapped f ys xs v i d e within =
-    let n = length ys - 1 in
-    let long : length ys ≡ length xs + 1 = sym (length-map ys f) ∙ ap length e ∙ length_push xs v in
-    let less : n ≡ length xs = omega (arith, long) in
-    let last : f (get_or ys n d) ≡ v = sym (get_or-map f ys n d) ∙ ap₂ (λ l k. get_or l k (f d)) e less ∙ get_or_push xs v (f d) (length xs) refl in
-    sym (take-map f n (slice_set ys i (get_or ys n d)))
-    ∙ ap₂ take less (map-set f ys i (get_or ys n d) ∙ ap₂ (λ l y. slice_set l i y) e last ∙ set-append_left xs (v ∷ []) i v within)
-    ∙ take_at (slice_set xs i v) (v ∷ []) (length xs) (length-set xs i v)
-
-nulls : (n : ℕ) → map short_value (replicate n cell.Null) ≡ replicate n None
-nulls zero = refl
-nulls (suc n) = ap (λ l. None ∷ l) (nulls n)
-
-pub short_nulls : (n : ℕ) (cells : List ShortCell) → cells ≡ replicate n cell.Null → map short_value cells ≡ replicate n None
-short_nulls n cells is = ap (map short_value) is ∙ nulls n
+pub null_among : {X : Type 0} (cells : List (Option X)) (n i : ℕ) (v : Option X) → cells ≡ replicate n None → is_some v ≡ false → cells ≡ slice_set cells i v
+null_among cells n i None are none = are ∙ nulls_stay n i ∙ ap (λ l. slice_set l i None) (sym are)
+null_among cells n i (Some x) are none = absurd cc
 
 -- ---- columns
 

@@ -11,62 +11,66 @@ use crate::kept::copy_of;
 use crate::links::Links;
 use crate::short::{tells_itself, told_of_nulls};
 use crate::told::Told;
-use std::alloc::AllocError;
-use vortex_base::aggregate::AggregateFnRef;
+use std::alloc::{AllocError, Global};
 use vortex_base::cells::Cells;
 use vortex_base::scalar_value::ScalarValue;
 use vortex_prune::{Head, StatFn};
 
-/// The heads of a table, which of them read each statistic, and the texts and bytes of a log.
+/// The heads of a table, which of them read each statistic, the texts and bytes of a log, and what
+/// gives the cells memory.
 #[derive(Clone, Copy)]
 pub struct Readers<'a> {
+    pub alloc: Global,
     pub heads: &'a [Head],
     pub links: &'a Links,
     pub longs: &'a [ScalarValue],
 }
 
-// Puts what a value tells for an aggregate into a cell, where that isn't the value itself.
-#[inline(never)]
-fn put_other(
-    aggregate: AggregateFnRef,
-    longs: &[ScalarValue],
-    cells: &mut Cells,
-    told: &Told,
-    zone: usize,
-    rows: u64,
-) -> Result<(), AllocError>
-    ensures { let value = told_value aggregate (saying longs.now told.now).value rows in
-        OnOk result (cell_values cells.new ≡ slice_set (cell_values cells.old) zone value) }
-{
-    match told_of_nulls(aggregate, told.kept(), rows) {
-        Some(cell) => set_known(cells, zone, &cell),
-        None => {
-            let value = copy_of(longs, told.kept())?;
-            set_cell(cells, zone, StatFn::told(aggregate, value, rows))
+impl Readers<'_> {
+    // Puts what a value tells under a head into a cell, where that isn't the value itself.
+    #[inline(never)]
+    fn put_other(
+        &self,
+        head: &Head,
+        cells: &mut Cells,
+        told: &Told,
+        zone: usize,
+        rows: u64,
+    ) -> Result<(), AllocError>
+        ensures { let said = (saying self.now.longs.now told.now).value in
+            let value = told_value head.now.aggregate said rows in
+            OnOk result (cell_values cells.new ≡ slice_set (cell_values cells.old) zone value) }
+    {
+        let aggregate = head.aggregate();
+        match told_of_nulls(aggregate, told.kept(), rows) {
+            Some(cell) => set_known(self.alloc, head.dtype(), cells, zone, cell),
+            None => {
+                let value = StatFn::told(aggregate, copy_of(self.longs, told.kept())?, rows);
+                set_cell(self.alloc, head.dtype(), cells, zone, value)
+            }
         }
     }
-}
 
-// Puts what a value tells for an aggregate into a cell.
-#[inline]
-fn put_value(
-    aggregate: AggregateFnRef,
-    longs: &[ScalarValue],
-    cells: &mut Cells,
-    told: &Told,
-    zone: usize,
-    rows: u64,
-) -> Result<(), AllocError>
-    ensures { let value = told_value aggregate (saying longs.now told.now).value rows in
-        OnOk result (cell_values cells.new ≡ slice_set (cell_values cells.old) zone value) }
-{
-    if tells_itself(aggregate, told.form) {
-        return set_known(cells, zone, &told.cell);
+    // Puts what a value tells under a head into a cell.
+    #[inline]
+    fn put_value(
+        &self,
+        head: &Head,
+        cells: &mut Cells,
+        told: &Told,
+        zone: usize,
+        rows: u64,
+    ) -> Result<(), AllocError>
+        ensures { let said = (saying self.now.longs.now told.now).value in
+            let value = told_value head.now.aggregate said rows in
+            OnOk result (cell_values cells.new ≡ slice_set (cell_values cells.old) zone value) }
+    {
+        if tells_itself(head.aggregate(), told.form) {
+            return set_known(self.alloc, head.dtype(), cells, zone, told.cell);
+        }
+        self.put_other(head, cells, told, zone, rows)
     }
-    put_other(aggregate, longs, cells, told, zone, rows)
-}
 
-impl Readers<'_> {
     // Puts what is told of a zone under the heads that read it.
     #[inline]
     fn put(
@@ -86,9 +90,8 @@ impl Readers<'_> {
     {
         let mut place = self.links.first(told.column, told.stat);
         'readers: while place < self.heads.len() {
-            let aggregate = self.heads[place].aggregate();
             let own = &mut cells[place];
-            put_value(aggregate, self.longs, own, told, zone, rows)?;
+            self.put_value(&self.heads[place], own, told, zone, rows)?;
             place = self.links.next(place);
         }
         Ok(())

@@ -182,6 +182,7 @@ impl ZoneLog {
         let links = links_of(alloc, self.columns, heads)?;
         let mut cells = blank_table(alloc, heads, count)?;
         let readers = Readers {
+            alloc,
             heads,
             links: &links,
             longs: &self.longs,

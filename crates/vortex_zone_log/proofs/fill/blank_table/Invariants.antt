@@ -3,4 +3,4 @@ use Rattle.vortex_zone_log.specs.Tables.{AreBlank}
 use Rattle.vortex_zone_log.proofs.fill.blank_table.Given as goal
 
 abbrev pub invariant-loop-place : goal.invariant-loop-place
-invariant-loop-place l = AreBlank (take l.place l.heads) l.count l.table.items
+invariant-loop-place l = AreBlank (take l._place l.heads) l.count l.table.items

@@ -1,12 +1,7 @@
-use Rattle.std.proofs.Common.{ap, map, sym, ◌∙◌}
-use Rattle.std.proofs.lemmas.List.{map-set}
-use Rattle.std.specs.Prelude.{slice_set}
-use Rattle.vortex_base.specs.Data.Cells.{cell_values, short_value}
+use Rattle.std.proofs.Common.{ap}
+use Rattle.vortex_base.specs.Data.Cells.{cell_values}
+use Rattle.vortex_zone_log.proofs.FillLemmas.{null_among}
 use Rattle.vortex_zone_log.proofs.fill.set_cell.Goals as goal
 
-pub returns-in-Some : goal.returns-in-Some
-returns-in-Some c =
-    ap (map short_value) c.set_short.ensures
-    ∙ map-set short_value c.in-Short.values.items c.args.place c.in-Some.cell
-    ∙ ap (slice_set (map short_value c.in-Short.values.items) c.args.place) c.in-Some.ensures
-    ∙ ap (λ l. slice_set (cell_values l) c.args.place c.args.value) (sym c.in-Short.is)
+pub returns-then-is_none : goal.returns-then-is_none
+returns-then-is_none c = null_among (cell_values c.args.cells.now) c.in-Nulls.field-0 c.args.place c.args.value (ap cell_values c.in-Nulls.is) c.if-is_none.ensures

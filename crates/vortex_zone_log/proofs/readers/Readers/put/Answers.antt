@@ -1,9 +1,8 @@
-use Rattle.std.proofs.Common.{◌≡◌, ◌+◌, ℕ, Some, ap, ap₂, arith, get_or, inl, inr, length, sym, ◌∙◌}
+use Rattle.std.proofs.Common.{◌≡◌, ◌+◌, ℕ, Some, ap, arith, get_or, inl, inr, length, sym, ◌∙◌}
 use Rattle.std.proofs.lemmas.List.{get_or_past}
 use Rattle.std.proofs.lemmas.Option.{slice_get-get_or, slice_get_within}
 use Rattle.std.specs.Prelude.{slice_get, slice_set}
 use Rattle.vortex_base.specs.Data.Cells.{cell_values}
-use Rattle.vortex_base.specs.declared.aggregate.AggregateFnRef.{AggregateFnRef}
 use Rattle.vortex_prune.specs.Binding.StatValues.{told_value}
 use Rattle.vortex_stats.proofs.Sets.SlotLemmas.{number_below}
 use Rattle.vortex_zone_log.proofs.LinkLemmas.{slot_within}
@@ -50,7 +49,7 @@ readers-preserved c =
     record {
       mixed = λ before after z at rows wide is.
           let put : cell_values c.put_value.new.cells ≡ slice_set (cell_values one) c.args.zone (told_value h.aggregate t.value z.rows) =
-          c.in_ok-put_value.ensures ∙ ap₂ (λ (f : AggregateFnRef) (k : ℕ). slice_set (cell_values one) c.args.zone (told_value f t.value k)) c.aggregate-aggregate.ensures (sym rows) in
+          c.in_ok-put_value.ensures ∙ ap (λ (k : ℕ). slice_set (cell_values one) c.args.zone (told_value h.aggregate t.value k)) (sym rows) in
           let less = read.1 in
           mixed_on r.heads.now t before after z (n + 1) c.next-place.result _ next
           (mixed_next r.heads.now t before after z n h here read.0 (slot_within t.column (length z.stats) t.stat (omega (arith, less, wide))) c.readers.cells one c.put_value.new.cells c.args.zone put at got
