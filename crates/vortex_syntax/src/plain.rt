@@ -20,7 +20,6 @@ use vortex_base::cells::ShortCell;
 use vortex_base::dtype::DType;
 use vortex_base::pvalue::PValue;
 use vortex_base::scalar_value::ScalarValue;
-use vortex_base::text::Text;
 use vortex_base::types::PType;
 
 // A number up to this one stays below 2 to the 64th with one more digit.
@@ -290,9 +289,34 @@ pub fn plain_cell(dtype: DType, text: &[u8]) -> Option<(ShortCell, &[u8])>
     }
 }
 
-// The value of a word without quotes behind a space at the front of a text, and what follows it.
+/// The text of a type between quotes behind a space at the front of another, and what follows it: a
+/// text of visible ASCII without an escape, then a space or a line feed. None where anything else
+/// stands there. No memory is taken.
+#[inline]
+pub fn plain_text(dtype: DType, text: &[u8]) -> Option<(&str, &[u8])>
+    ensures value { IfSome result (λ x.
+        BeginsValue dtype text.now (Some (value.Utf8 x.0.now)) x.1.now) }
+    ensures shorter { IfSome result (λ x. length x.1.now < length text.now) }
+{
+    let [b' ', b'"', behind @ ..] = text else {
+        return None;
+    };
+    let (DType::Utf8(_), Some((quoted, rest))) = (dtype, quoted(behind)) else {
+        return None;
+    };
+    if ends_word(rest) {
+        Some((quoted, rest))
+    } else {
+        None
+    }
+}
+
+/// The optional value of a type that stands behind one space at the front of a text, and what
+/// follows it: a number, a truth, bytes or `null`, without quotes, then a space or a line feed. None
+/// where anything else stands there. Bytes take memory. `plain_cell` reads numbers and truths
+/// faster, and `plain_text` reads texts.
 #[inline(never)]
-fn word_value(
+pub fn plain_value(
     alloc: Global,
     dtype: DType,
     text: &[u8],
@@ -314,51 +338,6 @@ fn word_value(
         Ok(value) => Ok(Some((value, rest))),
         Err(LineError::Memory) => Err(AllocError),
         Err(LineError::Bad(_)) => Ok(None),
-    }
-}
-
-// The text between quotes behind a space at the front of another, and what follows it.
-#[inline(never)]
-fn quoted_value(
-    alloc: Global,
-    dtype: DType,
-    text: &[u8],
-) -> Result<Option<(Option<ScalarValue>, &[u8])>, AllocError>
-    ensures value { IfOk result (λ o. IfSome o
-        (λ x. BeginsValue dtype text.now x.0 x.1.now)) }
-    ensures shorter { IfOk result (λ o. IfSome o (λ x. length x.1.now < length text.now)) }
-{
-    let [b' ', b'"', behind @ ..] = text else {
-        return Ok(None);
-    };
-    let (DType::Utf8(_), Some((quoted, rest))) = (dtype, quoted(behind)) else {
-        return Ok(None);
-    };
-    if !ends_word(rest) {
-        return Ok(None);
-    }
-    let text = Text::new(String::from_str(alloc, quoted)?);
-    Ok(Some((Some(ScalarValue::Utf8(text)), rest)))
-}
-
-/// The optional value of a type that stands behind one space at the front of a text, and what
-/// follows it: a number, a truth, bytes, a text of visible ASCII between quotes without an escape,
-/// or `null`, then a space or a line feed. None where anything else stands there. Texts and bytes
-/// take memory. `plain_cell` reads numbers and truths faster.
-#[inline(always)]
-pub fn plain_value(
-    alloc: Global,
-    dtype: DType,
-    text: &[u8],
-) -> Result<Option<(Option<ScalarValue>, &[u8])>, AllocError>
-    ensures value { IfOk result (λ o. IfSome o
-        (λ x. BeginsValue dtype text.now x.0 x.1.now)) }
-    ensures shorter { IfOk result (λ o. IfSome o (λ x. length x.1.now < length text.now)) }
-{
-    if let [b' ', b'"', ..] = text {
-        quoted_value(alloc, dtype, text)
-    } else {
-        word_value(alloc, dtype, text)
     }
 }
 

@@ -1,6 +1,6 @@
 use Rattle.std.proofs.Common.{◌≡◌, length, take, drop, get_or, arith, ◌-◌}
 use Rattle.vortex_syntax.proofs.PlainLemmas.{uncons, value_in_word}
-use Rattle.vortex_syntax.proofs.plain.word_value.Goals as goal
+use Rattle.vortex_syntax.proofs.plain.plain_value.Goals as goal
 
 pub returns-in-Ok-clause-value : goal.returns-in-Ok-clause-value
 returns-in-Ok-clause-value c =
