@@ -1,22 +1,12 @@
 -- Columns that take the words of a row, one after another.
-use Rattle.std.proofs.Common.{Vec, map, ◌≡◌, ◌<◌, ◌≤◌, ◌+◌, ℕ, zero, suc, List, [], ◌∷◌, ◌++◌, Option, None, Some, Result, Ok, Err, option_map, option_and_then, length, set, get_or, take, drop, refl, ap, sym, ◌∙◌, append_assoc, append-nil, add-one, drop-cons, arith}
-use Rattle.std.proofs.lemmas.List.{drop_all, map-append, take_all, take_more_set}
-use Rattle.std.specs.declared.alloc.Global.{Global}
-use Rattle.vortex_base.specs.Data.Cells.{cell_values, short_value}
+use Rattle.std.proofs.Common.{◌≡◌, ◌<◌, ◌≤◌, ◌+◌, ℕ, zero, suc, List, [], ◌∷◌, ◌++◌, Option, None, Some, Result, Ok, Err, option_map, option_and_then, length, set, get_or, take, drop, refl, ap, sym, ◌∙◌, append_assoc, append-nil, add-one, drop-cons, arith}
+use Rattle.std.proofs.lemmas.List.{drop_all, take_all, take_more_set}
 use Rattle.vortex_base.specs.Data.Columns.{ColumnData}
-use Rattle.vortex_base.specs.declared.cells.Cells.TheVariants.{Short}
-use Rattle.vortex_base.specs.declared.cells.ShortCell.{ShortCell}
-use Rattle.vortex_base.specs.declared.dtype.DType.{DType}
 use Rattle.vortex_syntax.specs.Fails.{Changes, Fails, Gives}
 use Rattle.vortex_syntax.specs.Words.{Token, no_word}
 use Rattle.vortex_syntax.specs.declared.line_error.LineError.{LineError}
 use Rattle.vortex_syntax.specs.declared.line_error.LineError.TheVariants as errors
-use Rattle.vortex_text.specs.Columns.{behind, taken, with_value, with_values}
-
--- a column of short cells takes one more
-pub short_taken : (t : DType) (old new : Vec ShortCell Global) (cell : ShortCell) → new.items ≡ old.items ++ cell ∷ []
-    → record { dtype = t; values = cell_values (Short new); size = 0 } ≡ with_value (short_value cell) (record { dtype = t; values = cell_values (Short old); size = 0 })
-short_taken t old new cell is = ap (λ vs. record { dtype = t; values = vs; size = 0 }) (ap (map short_value) is ∙ map-append short_value old.items (cell ∷ []))
+use Rattle.vortex_text.specs.Columns.{behind, taken, with_values}
 
 behind_push : (front : List ColumnData) (c : ColumnData) (read : Option (List ColumnData)) → behind (front ++ c ∷ []) read ≡ behind front (option_map (λ more. c ∷ more) read)
 behind_push front c None = refl

@@ -1,6 +1,8 @@
 //! A column that still takes values.
-ghost use Rattle.std.specs.Prelude.{◌≡◌, ◌<◌, [], All, IfOk, IfSome, MatchOption, OnOk, length};
+ghost use Rattle.std.specs.Prelude.{◌≡◌, ◌<◌, [], All, IfOk, IfSome, MatchOption, OnOk, Some, length};
+ghost use Rattle.vortex_base.specs.Data.Cells.{short_value};
 ghost use Rattle.vortex_base.specs.Data.Columns.{IsColumn};
+ghost use Rattle.vortex_base.specs.declared.scalar_value.ScalarValue.TheVariants as value;
 ghost use Rattle.vortex_syntax.specs.Fails.{Changes, GivesAndChanges};
 ghost use Rattle.vortex_syntax.specs.Words.{words};
 ghost use Rattle.vortex_text.specs.Columns.{taken, with_value, with_values};
@@ -8,13 +10,15 @@ ghost use Rattle.vortex_text.specs.FirstLines.{TakesValue};
 
 use std::alloc::{AllocError, Global};
 use std::marker::Model;
-use vortex_base::cells::Cells;
+use vortex_base::cells::{Cells, ShortCell};
 use vortex_base::column::Column;
 use vortex_base::dtype::DType;
 use vortex_base::scalar_value::ScalarValue;
+use vortex_base::texts::TextRef;
+use vortex_base::value_ref::ValueRef;
 use vortex_syntax::expected::Expected;
 use vortex_syntax::line_error::LineError;
-use vortex_syntax::plain::{plain_cell, plain_value};
+use vortex_syntax::plain::{plain_cell, plain_text, plain_value};
 use vortex_syntax::value::optional_value_of;
 use vortex_syntax::word::{first_word, no_word};
 
@@ -69,6 +73,23 @@ impl OpenColumn {
         self.cells.push(value)
     }
 
+    // Adds a truth, a number or null.
+    #[inline]
+    fn push_cell(&mut self, cell: ShortCell) -> Result<(), AllocError>
+        ensures { OnOk result (self.new ≡ with_value (short_value cell) self.old) }
+    {
+        self.cells.push_cell(cell)
+    }
+
+    // Adds a text, whose bytes go into the heap of the others.
+    #[inline]
+    fn push_text(&mut self, alloc: Global, text: &str) -> Result<(), AllocError>
+        ensures { OnOk result (self.new ≡ with_value (Some (value.Utf8 text.now)) self.old) }
+    {
+        self.cells
+            .push_lent(Some(ValueRef::Utf8(TextRef::new(text, alloc))))
+    }
+
     // Adds the value of the first word of a line. The rest of the line comes back.
     fn take_word<'a>(&mut self, alloc: Global, line: &'a [u8]) -> Result<&'a [u8], LineError>
         ensures { GivesAndChanges (λ rest. words rest.now) result
@@ -88,12 +109,10 @@ impl OpenColumn {
         ensures { GivesAndChanges (λ rest. words rest.now) result
             (taken self.old (words line.now)) self.new }
     {
-        if let Cells::Short(cells) = &mut self.cells {
-            if let Some((cell, rest)) = plain_cell(self.dtype, line) {
-                if let [b' ', ..] = rest {
-                    cells.push(cell)?;
-                    return Ok(rest);
-                }
+        if let Some((cell, rest)) = plain_cell(self.dtype, line) {
+            if let [b' ', ..] = rest {
+                self.push_cell(cell)?;
+                return Ok(rest);
             }
         }
         self.take_word(alloc, line)
@@ -112,6 +131,10 @@ impl OpenColumn {
         ensures shorter { IfOk result (λ o. IfSome o
             (λ rest. length rest.now < length text.now)) }
     {
+        if let Some((quoted, rest)) = plain_text(self.dtype, text) {
+            self.push_text(alloc, quoted)?;
+            return Ok(Some(rest));
+        }
         let Some((value, rest)) = plain_value(alloc, self.dtype, text)? else {
             return Ok(None);
         };
@@ -131,11 +154,9 @@ impl OpenColumn {
         ensures shorter { IfOk result (λ o. IfSome o
             (λ rest. length rest.now < length text.now)) }
     {
-        if let Cells::Short(cells) = &mut self.cells {
-            if let Some((cell, rest)) = plain_cell(self.dtype, text) {
-                cells.push(cell)?;
-                return Ok(Some(rest));
-            }
+        if let Some((cell, rest)) = plain_cell(self.dtype, text) {
+            self.push_cell(cell)?;
+            return Ok(Some(rest));
         }
         self.take_value(alloc, text)
     }

@@ -40,7 +40,7 @@ impl Query {
 const BATCH_COLUMNS: usize = 16_384;
 
 // How many parts a batch has at least: for each batch the names of its table are made anew.
-const BATCH_PARTS: usize = 32;
+const BATCH_PARTS: usize = 64;
 
 // How many parts of this many columns a batch has.
 fn batch_size(columns: usize) -> usize

@@ -1,9 +1,14 @@
-use Rattle.std.proofs.Common.{sym}
+use Rattle.std.proofs.Common.{ap, subst}
 use Rattle.vortex_base.specs.Data.Cells.{short_value}
-use Rattle.vortex_text.proofs.ColumnLemmas.{short_taken}
+use Rattle.vortex_base.specs.Data.Columns.{ColumnData}
+use Rattle.vortex_base.specs.declared.dtype.DType.{DType}
+use Rattle.vortex_syntax.specs.Plain.{BeginsValue}
 use Rattle.vortex_text.proofs.open_column.OpenColumn.take_plain.Goals as goal
 
 pub returns-in-Some-clause-taken : goal.returns-in-Some-clause-taken
 returns-in-Some-clause-taken c =
-    rw (sym c.self.view_is)
-    (short_value c.in-Some.cell, c.in-Some.ensures.value, rw c.in-Short.is (short_taken c.self.inside.dtype c.in-Short.cells c.push.new.self c.in-Some.cell c.in_ok-push.ensures.items))
+    let text = c.args.text.now in
+    let rest = c.in-Some.rest.now in
+    let value = short_value c.in-Some.cell in
+    let begins : BeginsValue c.args.self.now.dtype text value rest = subst (λ (t : DType). BeginsValue t text value rest) (ap (λ (k : ColumnData). k.dtype) c.self.view_is) c.in-Some.ensures.value in
+    (value, begins, c.in_ok-push_cell.ensures)
