@@ -5,9 +5,6 @@ use Rattle.std.proofs.Math.Seq.{take-suc}
 use Rattle.std.proofs.lemmas.List.{get_or-drop, length-drop, map_push, replicate_more}
 use Rattle.std.proofs.Math.Nat.{eq-or-lt_of_le}
 use Rattle.std.proofs.lemmas.Option.{same_Some, slice_get-map}
-use Rattle.vortex_base.specs.Data.Cells.{short_value}
-use Rattle.vortex_base.specs.declared.cells.ShortCell.{ShortCell}
-use Rattle.vortex_base.specs.declared.cells.ShortCell.TheVariants.{Null}
 use Rattle.vortex_base.specs.declared.aggregate.AggregateFnRef.{AggregateFnRef}
 use Rattle.vortex_base.specs.declared.scalar_value.ScalarValue.{ScalarValue}
 use Rattle.vortex_base.specs.Data.Scopes.{Named}
@@ -204,13 +201,6 @@ module _ (scope : List Named) (sources : List Source) (rows : List ℕ) (from : 
 pub nulls_are : (f : AggregateFnRef) (rows : List ℕ) (from n : ℕ) → told_cells f None rows from n ≡ Ok (replicate n None)
 nulls_are f rows from zero = refl
 nulls_are f rows from (suc n) = rw (nulls_are f rows from n, told_value-absent f (slice_index rows (from + n))) (ap Ok (replicate_more n None ∙ ap (λ k. replicate k None) (add-one n)))
-
-short_nulls : (n : ℕ) → map short_value (replicate n Null) ≡ replicate n None
-short_nulls zero = refl
-short_nulls (suc n) = ap (λ l. None ∷ l) (short_nulls n)
-
-pub short_nulls_are : (f : AggregateFnRef) (rows : List ℕ) (from n : ℕ) (cells : List ShortCell) → cells ≡ replicate n Null → told_cells f None rows from n ≡ Ok (map short_value cells)
-short_nulls_are f rows from n cells is = nulls_are f rows from n ∙ ap Ok (sym (ap (map short_value) is ∙ short_nulls n))
 
 -- one more zone, and one more statistic, is read
 pub one_more_read : (x : Source) (n : ℕ) → AreRead x n → IsRead x n → AreRead x (n + 1)

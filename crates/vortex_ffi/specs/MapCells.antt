@@ -1,6 +1,7 @@
 -- The cells of a map's table, as the arrays of a caller tell them.
-use Rattle.std.specs.Prelude.{◌≡◌, ◌<◌, ◌≤◌, ℕ, zero, suc, ◌+◌, ◌*◌, ◌==◌, ◌&&◌, Bool, List, Option, None, Some, Result, Ok, Err, IsTrue, if◌then◌else◌, length, nat_le, slice_get, slice_index}
+use Rattle.std.specs.Prelude.{◌≡◌, ◌<◌, ◌≤◌, ℕ, zero, suc, ◌+◌, ◌*◌, ◌==◌, ◌&&◌, Bool, true, false, List, Option, None, Some, Result, Ok, Err, IsTrue, if◌then◌else◌, length, nat_le, slice_get, slice_index}
 use Rattle.vortex_base.specs.declared.aggregate.AggregateFnRef.{AggregateFnRef}
+use Rattle.vortex_base.specs.declared.aggregate.AggregateFnRef.TheVariants as aggregate
 use Rattle.vortex_base.specs.declared.dtype.DType.TheVariants as dtype
 use Rattle.vortex_base.specs.declared.pvalue.PValue.{PValue}
 use Rattle.vortex_base.specs.declared.scalar_value.ScalarValue.{ScalarValue}
@@ -133,3 +134,35 @@ present_in x zone = present_value x.dtype x.stat x.statistic.values.now x.statis
 pub record IsNumberIn (x : Source) (zone : ℕ) (p : Precision PValue) : Type 0 where
   pub read : value_of_source x zone ≡ Ok (numbered p)
   pub fits : IsTrue (value_fits x.stat x.dtype (numbered p))
+
+-- the same of numbers that are kept in another form
+abbrev pub seen : {X : Type 0} → (X → PValue) → Precision X → Precision PValue
+seen f (Exact n) = Exact (f n)
+seen f (Inexact n) = Inexact (f n)
+seen f Absent = Absent
+
+-- ---- numbers that are told themselves
+
+-- a number itself is told for the aggregate, and not whether it is all or none
+abbrev pub tells_value : AggregateFnRef → Bool
+tells_value aggregate.Max = true
+tells_value aggregate.Min = true
+tells_value aggregate.Sum = true
+tells_value aggregate.NullCount = true
+tells_value aggregate.UncompressedSizeInBytes = true
+tells_value aggregate.AllNull = false
+tells_value aggregate.AllNonNull = false
+tells_value aggregate.MinMax = false
+tells_value aggregate.NanCount = false
+
+-- the byte says that a value is known exactly
+abbrev pub is_exact : ℕ → Bool
+is_exact k = k == 1
+
+-- each value of n zones from a place on is
+abbrev pub AreExact : Source → (from n : ℕ) → Type 0
+AreExact x from n = (k : ℕ) → k < n → slice_get x.statistic.known.now (from + k) ≡ Some 1
+
+-- these are told of n zones from a place on, for each aggregate for which a number itself is told
+abbrev pub TellsValues : Source → (from n : ℕ) → List (Option ScalarValue) → Type 0
+TellsValues x from n cells = (f : AggregateFnRef) (rows : List ℕ) → tells_value f ≡ true → told_cells f (Some x) rows from n ≡ Ok cells

@@ -9,8 +9,9 @@ use crate::numbers::{numbers_are_read, told_numbers};
 use crate::table::{Source, source_there};
 use std::alloc::Global;
 use vortex_base::aggregate::AggregateFnRef;
-use vortex_base::cells::{Cells, ShortCell};
+use vortex_base::cells::Cells;
 use vortex_base::dtype::DType;
+use vortex_base::nulls::Nulls;
 use vortex_base::scalar_value::ScalarValue;
 use vortex_prune::StatFn;
 use vortex_stats::stat::Stat;
@@ -133,12 +134,9 @@ pub(crate) fn told_cells(
 }
 
 /// Nulls, which stand where no statistic counts.
-pub(crate) fn null_cells(alloc: Global, count: usize) -> Option<Cells>
-    ensures { IfSome result (λ cells. (f : AggregateFnRef) (rows : List ℕ) (from : ℕ)
-        → spec.told_cells f None rows from count ≡ Ok (cell_values cells)) }
+pub(crate) fn null_cells(alloc: Global, count: usize) -> Cells
+    ensures { (f : AggregateFnRef) (rows : List ℕ) (from : ℕ)
+        → spec.told_cells f None rows from count ≡ Ok (cell_values result) }
 {
-    match vec![in alloc; ShortCell::Null; count] {
-        Ok(cells) => Some(Cells::Short(cells)),
-        Err(_) => None,
-    }
+    Cells::Nulls(Nulls::new(alloc, count))
 }

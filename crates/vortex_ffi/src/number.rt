@@ -5,11 +5,12 @@ ghost use Rattle.vortex_ffi.specs.Encoding as spec;
 ghost use Rattle.vortex_ffi.specs.Types.{number_width};
 
 use crate::types::number_width;
+use vortex_base::native::Native;
 use vortex_base::pvalue::PValue;
 use vortex_base::types::PType;
 
 /// A number of one type as it stands in a caller's bytes.
-pub(crate) trait Number: Ord + Copy {
+pub(crate) trait Number: Ord + Native {
     ghost use Rattle.std.specs.Prelude.{◌≡◌, IfSome, IsTrue, option_map};
     ghost use Rattle.vortex_base.specs.declared.pvalue.PValue.{PValue};
     ghost use Rattle.vortex_base.specs.declared.scalar_value.ScalarValue.TheVariants.{Primitive};
@@ -35,6 +36,8 @@ pub(crate) trait Number: Ord + Copy {
 
     ghost ordered: { (a b : Self)
         → Self.cmp a b ≡ value_cmp (Primitive (pvalue a)) (Primitive (pvalue b)) };
+
+    ghost kept: { (n : Self) → Self.scalar n ≡ Primitive (pvalue n) };
 }
 
 /// Whether the bytes of so many numbers are there.
@@ -64,6 +67,7 @@ pub(crate) fn number_at<N: Number>(values: &[u8], i: usize) -> N
 }
 
 impl Number for u8 {
+    ghost use Rattle.std.specs.Prelude.{refl};
     ghost use Rattle.vortex_base.specs.declared.pvalue.PValue.TheVariants as number;
     ghost use Rattle.vortex_base.specs.declared.types.PType.TheVariants as ptype;
     ghost use Rattle.vortex_stats.specs.Measuring.Codes.{unsigned_ordered};
@@ -76,6 +80,8 @@ impl Number for u8 {
 
     ghost ordered = { unsigned_ordered };
 
+    ghost kept = { λ n. refl };
+
     #[inline]
     fn from_bytes(bytes: &[u8]) -> Option<u8> {
         Some(u8::from_le_bytes(*bytes.first_chunk()?))
@@ -87,6 +93,7 @@ impl Number for u8 {
 }
 
 impl Number for u16 {
+    ghost use Rattle.std.specs.Prelude.{refl};
     ghost use Rattle.vortex_base.specs.declared.pvalue.PValue.TheVariants as number;
     ghost use Rattle.vortex_base.specs.declared.types.PType.TheVariants as ptype;
     ghost use Rattle.vortex_stats.specs.Measuring.Codes.{unsigned_ordered};
@@ -99,6 +106,8 @@ impl Number for u16 {
 
     ghost ordered = { unsigned_ordered };
 
+    ghost kept = { λ n. refl };
+
     #[inline]
     fn from_bytes(bytes: &[u8]) -> Option<u16> {
         Some(u16::from_le_bytes(*bytes.first_chunk()?))
@@ -110,6 +119,7 @@ impl Number for u16 {
 }
 
 impl Number for u32 {
+    ghost use Rattle.std.specs.Prelude.{refl};
     ghost use Rattle.vortex_base.specs.declared.pvalue.PValue.TheVariants as number;
     ghost use Rattle.vortex_base.specs.declared.types.PType.TheVariants as ptype;
     ghost use Rattle.vortex_stats.specs.Measuring.Codes.{unsigned_ordered};
@@ -122,6 +132,8 @@ impl Number for u32 {
 
     ghost ordered = { unsigned_ordered };
 
+    ghost kept = { λ n. refl };
+
     #[inline]
     fn from_bytes(bytes: &[u8]) -> Option<u32> {
         Some(u32::from_le_bytes(*bytes.first_chunk()?))
@@ -133,6 +145,7 @@ impl Number for u32 {
 }
 
 impl Number for u64 {
+    ghost use Rattle.std.specs.Prelude.{refl};
     ghost use Rattle.vortex_base.specs.declared.pvalue.PValue.TheVariants as number;
     ghost use Rattle.vortex_base.specs.declared.types.PType.TheVariants as ptype;
     ghost use Rattle.vortex_stats.specs.Measuring.Codes.{unsigned_ordered};
@@ -145,6 +158,8 @@ impl Number for u64 {
 
     ghost ordered = { unsigned_ordered };
 
+    ghost kept = { λ n. refl };
+
     #[inline]
     fn from_bytes(bytes: &[u8]) -> Option<u64> {
         Some(u64::from_le_bytes(*bytes.first_chunk()?))
@@ -156,6 +171,7 @@ impl Number for u64 {
 }
 
 impl Number for i8 {
+    ghost use Rattle.std.specs.Prelude.{refl};
     ghost use Rattle.vortex_base.specs.declared.pvalue.PValue.TheVariants as number;
     ghost use Rattle.vortex_base.specs.declared.types.PType.TheVariants as ptype;
     ghost use Rattle.vortex_stats.specs.Measuring.Codes.{signed_ordered};
@@ -168,6 +184,8 @@ impl Number for i8 {
 
     ghost ordered = { signed_ordered };
 
+    ghost kept = { λ n. refl };
+
     #[inline]
     fn from_bytes(bytes: &[u8]) -> Option<i8> {
         Some(i8::from_le_bytes(*bytes.first_chunk()?))
@@ -179,6 +197,7 @@ impl Number for i8 {
 }
 
 impl Number for i16 {
+    ghost use Rattle.std.specs.Prelude.{refl};
     ghost use Rattle.vortex_base.specs.declared.pvalue.PValue.TheVariants as number;
     ghost use Rattle.vortex_base.specs.declared.types.PType.TheVariants as ptype;
     ghost use Rattle.vortex_stats.specs.Measuring.Codes.{signed_ordered};
@@ -191,6 +210,8 @@ impl Number for i16 {
 
     ghost ordered = { signed_ordered };
 
+    ghost kept = { λ n. refl };
+
     #[inline]
     fn from_bytes(bytes: &[u8]) -> Option<i16> {
         Some(i16::from_le_bytes(*bytes.first_chunk()?))
@@ -202,6 +223,7 @@ impl Number for i16 {
 }
 
 impl Number for i32 {
+    ghost use Rattle.std.specs.Prelude.{refl};
     ghost use Rattle.vortex_base.specs.declared.pvalue.PValue.TheVariants as number;
     ghost use Rattle.vortex_base.specs.declared.types.PType.TheVariants as ptype;
     ghost use Rattle.vortex_stats.specs.Measuring.Codes.{signed_ordered};
@@ -214,6 +236,8 @@ impl Number for i32 {
 
     ghost ordered = { signed_ordered };
 
+    ghost kept = { λ n. refl };
+
     #[inline]
     fn from_bytes(bytes: &[u8]) -> Option<i32> {
         Some(i32::from_le_bytes(*bytes.first_chunk()?))
@@ -225,6 +249,7 @@ impl Number for i32 {
 }
 
 impl Number for i64 {
+    ghost use Rattle.std.specs.Prelude.{refl};
     ghost use Rattle.vortex_base.specs.declared.pvalue.PValue.TheVariants as number;
     ghost use Rattle.vortex_base.specs.declared.types.PType.TheVariants as ptype;
     ghost use Rattle.vortex_stats.specs.Measuring.Codes.{signed_ordered};
@@ -236,6 +261,8 @@ impl Number for i64 {
     ghost pvalue = { number.I64 };
 
     ghost ordered = { signed_ordered };
+
+    ghost kept = { λ n. refl };
 
     #[inline]
     fn from_bytes(bytes: &[u8]) -> Option<i64> {

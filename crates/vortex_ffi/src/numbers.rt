@@ -1,8 +1,9 @@
 //! Statistics whose values are numbers, read without a value made of each.
-ghost use Rattle.std.specs.Prelude.{◌≡◌, ◌+◌, ◌*◌, ◌≤◌, IfSome, IsTrue, Ok, Some, length};
+ghost use Rattle.std.specs.Prelude.{◌≡◌, ◌+◌, ◌*◌, ◌^◌, ◌<◌, ◌≤◌, ℕ, IfSome, IsTrue, List, Ok, Some, false, length, option_map, true};
 ghost use Rattle.std.specs.Bool.{OnTrue};
 ghost use Rattle.std.specs.List.{list_all};
-ghost use Rattle.vortex_base.specs.Data.Cells.{cell_values, short_value};
+ghost use Rattle.vortex_base.specs.Data.Cells.{cell_values};
+ghost use Rattle.vortex_base.specs.Data.Natives.{optional};
 ghost use Rattle.vortex_base.specs.declared.scalar_value.ScalarValue.TheVariants as value;
 ghost use Rattle.vortex_ffi.specs.Encoding.{AreNumbers, is_number};
 ghost use Rattle.vortex_ffi.specs.MapCells as spec;
@@ -16,33 +17,32 @@ use crate::table::Source;
 use crate::types::number_width;
 use std::alloc::Global;
 use vortex_base::aggregate::AggregateFnRef;
-use vortex_base::cells::{Cells, ShortCell};
+use vortex_base::cells::Cells;
+use vortex_base::natives::Natives;
 use vortex_base::pvalue::PValue;
 use vortex_base::types::PType;
 use vortex_stats::precision::Precision;
 
 // The number that stands for a zone.
 #[inline]
-fn number_there<N: Number>(source: &Source<'_>, zone: usize) -> Option<PValue>
+fn number_there<N: Number>(source: &Source<'_>, zone: usize) -> Option<N>
     requires { spec.HasNumbers N.PTYPE source.now }
     ensures read { IfSome result (λ number.
-        spec.present_in source.now zone ≡ Ok (value.Primitive number)) }
-    ensures fits { IfSome result (λ number. IsTrue (is_number N.PTYPE number)) }
+        spec.present_in source.now zone ≡ Ok (value.Primitive (N.pvalue number))) }
+    ensures fits { IfSome result (λ number. IsTrue (is_number N.PTYPE (N.pvalue number))) }
 {
     match fixed(source.statistic.values, number_width(N::PTYPE), zone) {
-        Some(bytes) => match N::from_bytes(bytes) {
-            Some(number) => Some(number.value()),
-            None => None,
-        },
+        Some(bytes) => N::from_bytes(bytes),
         None => None,
     }
 }
 
 // What a statistic says of a zone, if its value is read.
 #[inline]
-fn number_in<N: Number>(source: &Source<'_>, zone: usize) -> Option<Precision<PValue>>
+fn number_in<N: Number>(source: &Source<'_>, zone: usize) -> Option<Precision<N>>
     requires { spec.HasNumbers N.PTYPE source.now }
-    ensures { IfSome result (spec.IsNumberIn source.now zone) }
+    ensures { IfSome result (λ number.
+        spec.IsNumberIn source.now zone (spec.seen N.pvalue number)) }
 {
     match source.statistic.known.get(zone) {
         Some(0) => Some(Precision::Absent),
@@ -124,89 +124,100 @@ pub(crate) fn numbers_are_read(source: &Source<'_>, ptype: PType, zones: usize) 
     }
 }
 
-// The cell of a number that is known exactly.
+// Whether a number itself is told for an aggregate, or else a truth.
 #[inline]
-fn exact_cell(aggregate: AggregateFnRef, number: PValue, rows: u64) -> ShortCell
-    ensures { short_value result ≡ told_value aggregate (Exact (value.Primitive number)) rows }
+fn tells_value(aggregate: AggregateFnRef) -> bool
+    ensures { result ≡ spec.tells_value aggregate }
 {
     match aggregate {
-        AggregateFnRef::AllNull => match number {
-            PValue::U64(count) => ShortCell::Bool(count == rows),
-            _ => ShortCell::Null,
-        },
-        AggregateFnRef::AllNonNull => match number {
-            PValue::U64(count) => ShortCell::Bool(count == 0),
-            _ => ShortCell::Null,
-        },
-        AggregateFnRef::MinMax | AggregateFnRef::NanCount => ShortCell::Null,
-        _ => ShortCell::of_number(number),
+        AggregateFnRef::Max
+        | AggregateFnRef::Min
+        | AggregateFnRef::Sum
+        | AggregateFnRef::NullCount
+        | AggregateFnRef::UncompressedSizeInBytes => true,
+        AggregateFnRef::AllNull
+        | AggregateFnRef::AllNonNull
+        | AggregateFnRef::MinMax
+        | AggregateFnRef::NanCount => false,
     }
 }
 
-// The cell of a number that is a bound.
+// The number that a bound tells, if it does.
 #[inline]
-fn inexact_cell(aggregate: AggregateFnRef, number: PValue, rows: u64) -> ShortCell
-    ensures { short_value result ≡ told_value aggregate (Inexact (value.Primitive number)) rows }
+fn told_bound<N: Number>(aggregate: AggregateFnRef, bound: N) -> Option<N>
+    requires { spec.tells_value aggregate ≡ true }
+    ensures { (rows : ℕ) → option_map N.scalar result
+        ≡ told_value aggregate (Inexact (value.Primitive (N.pvalue bound))) rows }
 {
     match aggregate {
-        AggregateFnRef::Max | AggregateFnRef::Min => ShortCell::of_number(number),
-        AggregateFnRef::NullCount => match number {
-            PValue::U64(0) => ShortCell::U64(0),
-            _ => ShortCell::Null,
+        AggregateFnRef::Max | AggregateFnRef::Min => Some(bound),
+        AggregateFnRef::NullCount => match bound.value() {
+            PValue::U64(0) => Some(bound),
+            _ => None,
         },
-        AggregateFnRef::AllNull => match number {
-            PValue::U64(count) if count < rows => ShortCell::Bool(false),
-            _ => ShortCell::Null,
-        },
-        AggregateFnRef::AllNonNull => match number {
-            PValue::U64(0) => ShortCell::Bool(true),
-            _ => ShortCell::Null,
-        },
-        _ => ShortCell::Null,
-    }
-}
-
-// What a number tells for an aggregate.
-#[inline]
-fn number_cell(aggregate: AggregateFnRef, number: Precision<PValue>, rows: u64) -> ShortCell
-    ensures { short_value result ≡ told_value aggregate (spec.numbered number) rows }
-{
-    match number {
-        Precision::Exact(number) => exact_cell(aggregate, number, rows),
-        Precision::Inexact(number) => inexact_cell(aggregate, number, rows),
-        Precision::Absent => ShortCell::Null,
-    }
-}
-
-// The number that stands for a zone, whose bytes are there.
-#[inline]
-fn standing<N: Number>(source: &Source<'_>, zone: usize) -> PValue
-    requires numbers { spec.HasNumbers N.PTYPE source.now }
-    requires there { let width = number_width N.PTYPE in
-        zone * width + width ≤ length source.now.statistic.values.now }
-    ensures read { spec.present_in source.now zone ≡ Ok (value.Primitive result) }
-    ensures fits { IsTrue (is_number N.PTYPE result) }
-{
-    number_at::<N>(source.statistic.values, zone).value()
-}
-
-// The number that is known exactly of a zone for which a code and a number are there, if it is.
-#[inline]
-fn exact_standing<N: Number>(source: &Source<'_>, zone: usize) -> Option<PValue>
-    requires numbers { spec.HasNumbers N.PTYPE source.now }
-    requires stand { spec.Stand N.PTYPE source.now (zone + 1) }
-    ensures { IfSome result (λ number. spec.IsNumberIn source.now zone (Exact number)) }
-{
-    match source.statistic.known[zone] {
-        1 => Some(standing::<N>(source, zone)),
         _ => None,
     }
 }
 
-// What a statistic tells for an aggregate of the zones from a place on, for each of which a code
-// and a number are there, if each is known exactly.
+// The number that a number tells, if it does.
+#[inline]
+fn told_number<N: Number>(aggregate: AggregateFnRef, number: Precision<N>) -> Option<N>
+    requires { spec.tells_value aggregate ≡ true }
+    ensures { (rows : ℕ) → option_map N.scalar result
+        ≡ told_value aggregate (spec.numbered (spec.seen N.pvalue number)) rows }
+{
+    match number {
+        Precision::Exact(number) => Some(number),
+        Precision::Inexact(bound) => told_bound(aggregate, bound),
+        Precision::Absent => None,
+    }
+}
+
+// The truth that a number that is known exactly tells, if it does.
+#[inline]
+fn exact_truth(aggregate: AggregateFnRef, number: PValue, rows: u64) -> Option<bool>
+    requires { spec.tells_value aggregate ≡ false }
+    ensures { option_map value.Bool result
+        ≡ told_value aggregate (Exact (value.Primitive number)) rows }
+{
+    match (aggregate, number) {
+        (AggregateFnRef::AllNull, PValue::U64(count)) => Some(count == rows),
+        (AggregateFnRef::AllNonNull, PValue::U64(count)) => Some(count == 0),
+        _ => None,
+    }
+}
+
+// The truth that a bound tells, if it does.
+#[inline]
+fn inexact_truth(aggregate: AggregateFnRef, number: PValue, rows: u64) -> Option<bool>
+    requires { spec.tells_value aggregate ≡ false }
+    ensures { option_map value.Bool result
+        ≡ told_value aggregate (Inexact (value.Primitive number)) rows }
+{
+    match (aggregate, number) {
+        (AggregateFnRef::AllNull, PValue::U64(count)) if count < rows => Some(false),
+        (AggregateFnRef::AllNonNull, PValue::U64(0)) => Some(true),
+        _ => None,
+    }
+}
+
+// The truth that a number tells, if it does.
+#[inline]
+fn told_truth<N: Number>(aggregate: AggregateFnRef, number: Precision<N>, rows: u64) -> Option<bool>
+    requires { spec.tells_value aggregate ≡ false }
+    ensures { option_map value.Bool result
+        ≡ told_value aggregate (spec.numbered (spec.seen N.pvalue number)) rows }
+{
+    match number {
+        Precision::Exact(number) => exact_truth(aggregate, number.value(), rows),
+        Precision::Inexact(number) => inexact_truth(aggregate, number.value(), rows),
+        Precision::Absent => None,
+    }
+}
+
+// The truths that a statistic tells for an aggregate of the zones from a place on.
 #[inline(never)]
-fn told_exactly<N: Number>(
+fn told_truths<N: Number>(
     alloc: Global,
     source: &Source<'_>,
     aggregate: AggregateFnRef,
@@ -215,45 +226,174 @@ fn told_exactly<N: Number>(
     count: usize,
 ) -> Option<Cells>
     requires numbers { spec.HasNumbers N.PTYPE source.now }
+    requires truths { spec.tells_value aggregate ≡ false }
     requires within { from + count ≤ length rows.now }
-    requires stand { spec.Stand N.PTYPE source.now (from + count) }
     ensures { let told = spec.told_cells aggregate (Some source.now) rows.now from count in
         IfSome result (λ cells. told ≡ Ok (cell_values cells)) }
 {
-    let mut cells = Vec::with_capacity(alloc, count).ok()?;
+    let mut truths = Natives::with_capacity(alloc, count).ok()?;
     for place in 0..count {
-        let number = exact_standing::<N>(source, from + place)?;
-        cells.push_reserved(exact_cell(aggregate, number, rows[from + place]));
+        let number = number_in::<N>(source, from + place)?;
+        let truth = told_truth::<N>(aggregate, number, rows[from + place]);
+        match truths.push(truth) {
+            Ok(()) => {}
+            Err(_) => return None,
+        }
     }
-    Some(Cells::Short(cells))
+    Some(Cells::Bool(truths))
 }
 
-// The same, however each is known.
+// An optional value as it is kept: any value where there is none, and whether it is there.
+#[inline]
+fn kept<T: Copy + Default>(value: Option<T>) -> (T, bool)
+    ensures { optional result.1 result.0 ≡ value }
+{
+    match value {
+        Some(value) => (value, true),
+        None => (T::default(), false),
+    }
+}
+
+// The numbers that it tells, however each is known.
 #[inline(never)]
 fn told_each<N: Number>(
     alloc: Global,
     source: &Source<'_>,
     aggregate: AggregateFnRef,
+    from: usize,
+    count: usize,
+) -> Option<Cells>
+    requires numbers { spec.HasNumbers N.PTYPE source.now }
+    requires value { spec.tells_value aggregate ≡ true }
+    requires within { from + count < 2 ^ 64 }
+    ensures { IfSome result (λ cells. (rows : List ℕ)
+        → spec.told_cells aggregate (Some source.now) rows from count ≡ Ok (cell_values cells)) }
+{
+    let mut numbers = Vec::with_capacity(alloc, count).ok()?;
+    let mut there = Vec::with_capacity(alloc, count).ok()?;
+    for place in 0..count {
+        let number = number_in::<N>(source, from + place)?;
+        let told = kept(told_number::<N>(aggregate, number));
+        numbers.push_reserved(told.0);
+        there.push_reserved(told.1);
+    }
+    match Natives::from_slices(alloc, &numbers, &there) {
+        Ok(natives) => Some(N::into_cells(natives)),
+        Err(_) => None,
+    }
+}
+
+// Whether each byte says that a value is known exactly.
+fn are_exact(known: &[u8]) -> bool
+    ensures { result ≡ list_all spec.is_exact known.now }
+{
+    let mut exact = true;
+    for code in known {
+        exact = exact & (*code == 1);
+    }
+    exact
+}
+
+// The number that stands for a zone, whose bytes are there.
+#[inline]
+fn standing<N: Number>(source: &Source<'_>, zone: usize) -> N
+    requires numbers { spec.HasNumbers N.PTYPE source.now }
+    requires there { let width = number_width N.PTYPE in
+        zone * width + width ≤ length source.now.statistic.values.now }
+    ensures { spec.present_in source.now zone ≡ Ok (value.Primitive (N.pvalue result)) }
+{
+    number_at::<N>(source.statistic.values, zone)
+}
+
+// The numbers of the zones from a place on, each of which is known exactly.
+#[inline(never)]
+fn told_exactly<N: Number>(
+    alloc: Global,
+    source: &Source<'_>,
+    from: usize,
+    count: usize,
+) -> Option<Cells>
+    requires numbers { spec.HasNumbers N.PTYPE source.now }
+    requires within { from + count < 2 ^ 64 }
+    requires stand { spec.Stand N.PTYPE source.now (from + count) }
+    requires exact { spec.AreExact source.now from count }
+    ensures { IfSome result (λ cells. spec.TellsValues source.now from count (cell_values cells)) }
+{
+    let mut numbers = Vec::with_capacity(alloc, count).ok()?;
+    for place in 0..count {
+        numbers.push_reserved(standing::<N>(source, from + place));
+    }
+    match Natives::from_slice(alloc, &numbers) {
+        Ok(natives) => Some(N::into_cells(natives)),
+        Err(_) => None,
+    }
+}
+
+// Whether a number that is known exactly is there for each of so many zones from a place on.
+fn stand_exactly<N: Number>(source: &Source<'_>, from: usize, count: usize) -> bool
+    requires { from + count < 2 ^ 64 }
+    ensures stand { OnTrue result (spec.Stand N.PTYPE source.now (from + count)) }
+    ensures exact { OnTrue result (spec.AreExact source.now from count) }
+{
+    let end = from + count;
+    stand::<N>(source, end) && are_exact(&source.statistic.known[from..end])
+}
+
+// The truths that a statistic tells for an aggregate of the zones from a place on, each of which is
+// known exactly. There are none where some zone has none.
+#[inline(never)]
+fn truths_exactly<N: Number>(
+    alloc: Global,
+    source: &Source<'_>,
+    aggregate: AggregateFnRef,
     rows: &[u64],
     from: usize,
     count: usize,
 ) -> Option<Cells>
     requires numbers { spec.HasNumbers N.PTYPE source.now }
+    requires truths { spec.tells_value aggregate ≡ false }
+    requires within { from + count ≤ length rows.now }
+    requires stand { spec.Stand N.PTYPE source.now (from + count) }
+    requires exact { spec.AreExact source.now from count }
+    ensures { let told = spec.told_cells aggregate (Some source.now) rows.now from count in
+        IfSome result (λ cells. told ≡ Ok (cell_values cells)) }
+{
+    let mut truths = Vec::with_capacity(alloc, count).ok()?;
+    for place in 0..count {
+        let number = standing::<N>(source, from + place).value();
+        let truth = exact_truth(aggregate, number, rows[from + place])?;
+        truths.push_reserved(truth);
+    }
+    match Natives::from_slice(alloc, &truths) {
+        Ok(natives) => Some(Cells::Bool(natives)),
+        Err(_) => None,
+    }
+}
+
+// The truths that it tells, by the quicker way where that gives an answer.
+fn truths_told<N: Number>(
+    alloc: Global,
+    source: &Source<'_>,
+    aggregate: AggregateFnRef,
+    rows: &[u64],
+    from: usize,
+    count: usize,
+) -> Option<Cells>
+    requires numbers { spec.HasNumbers N.PTYPE source.now }
+    requires truths { spec.tells_value aggregate ≡ false }
     requires within { from + count ≤ length rows.now }
     ensures { let told = spec.told_cells aggregate (Some source.now) rows.now from count in
         IfSome result (λ cells. told ≡ Ok (cell_values cells)) }
 {
-    let mut cells = Vec::with_capacity(alloc, count).ok()?;
-    for place in 0..count {
-        let number = number_in::<N>(source, from + place)?;
-        cells
-            .push(number_cell(aggregate, number, rows[from + place]))
-            .ok()?;
+    if stand_exactly::<N>(source, from, count) {
+        if let Some(cells) = truths_exactly::<N>(alloc, source, aggregate, rows, from, count) {
+            return Some(cells);
+        }
     }
-    Some(Cells::Short(cells))
+    told_truths::<N>(alloc, source, aggregate, rows, from, count)
 }
 
-// The same, by the quicker way where that gives an answer.
+// What a statistic tells for an aggregate of the zones from a place on.
 fn told<N: Number>(
     alloc: Global,
     source: &Source<'_>,
@@ -267,12 +407,13 @@ fn told<N: Number>(
     ensures { let told = spec.told_cells aggregate (Some source.now) rows.now from count in
         IfSome result (λ cells. told ≡ Ok (cell_values cells)) }
 {
-    if stand::<N>(source, from + count) {
-        if let Some(cells) = told_exactly::<N>(alloc, source, aggregate, rows, from, count) {
-            return Some(cells);
-        }
+    if !tells_value(aggregate) {
+        return truths_told::<N>(alloc, source, aggregate, rows, from, count);
     }
-    told_each::<N>(alloc, source, aggregate, rows, from, count)
+    if stand_exactly::<N>(source, from, count) {
+        return told_exactly::<N>(alloc, source, from, count);
+    }
+    told_each::<N>(alloc, source, aggregate, from, count)
 }
 
 /// The same of a statistic whose values are numbers of a type.

@@ -23,8 +23,8 @@ use vortex_base::column::Column;
 use vortex_base::scope::Scope;
 use vortex_prune::{Head, StatFn, ZoneMap};
 
-// How many cells are made at once. Each takes 16 bytes, and one of a text 32.
-const BATCH_CELLS: usize = 65536;
+// How many cells are made at once of statistics. Each takes up to 9 bytes, and a text its own more.
+const BATCH_CELLS: usize = 32768;
 
 // Some zones of a table, one behind the other.
 #[derive(Clone, Copy)]
@@ -44,7 +44,7 @@ impl Batch<'_> {
     {
         let stat = StatFn::reads(head.aggregate())?;
         match last_of(self.sources, head.source(), stat) {
-            None => null_cells(alloc, self.count),
+            None => Some(null_cells(alloc, self.count)),
             Some(source) => told_cells(
                 alloc,
                 &source,
@@ -168,7 +168,7 @@ fn batches_answers<'a>(
     let Ok(heads) = ZoneMap::heads(alloc, scope) else {
         return None;
     };
-    let size = 1 + BATCH_CELLS / heads.len().max(1);
+    let size = 1 + BATCH_CELLS / sources.len().max(1);
     let mut answers = Vec::with_capacity(alloc, rows.len()).ok()?;
     'batches: while answers.len() < rows.len() {
         let from = answers.len();

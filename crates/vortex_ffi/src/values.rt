@@ -1,22 +1,24 @@
 //! A column of values as a caller hands it in.
-ghost use Rattle.std.specs.Prelude.{◌≡◌, Err, IfOk, IsTrue, MatchResult, Ok};
+ghost use Rattle.std.specs.Prelude.{◌≡◌, Err, IfOk, IsTrue, MatchResult, Ok, option_map};
 ghost use Rattle.std.specs.Bool.{OnTrue};
-ghost use Rattle.vortex_base.specs.Data.Cells.{cell_values, short_value};
+ghost use Rattle.vortex_base.specs.Data.Cells.{cell_values};
 ghost use Rattle.vortex_base.specs.Data.Values.{is_value};
 ghost use Rattle.vortex_base.specs.declared.dtype.DType.TheVariants as types;
 ghost use Rattle.vortex_ffi.specs.Encoding.{ReadsValue};
 ghost use Rattle.vortex_ffi.specs.Refusals.{Answers, Gives};
 ghost use Rattle.vortex_ffi.specs.Values as spec;
 
-use crate::encoding::{are_value_of, number_of, value_of};
+use crate::encoding::{are_value_of, value_of};
 use crate::fault::Refusal;
 use crate::given::{Given, fixed};
+use crate::number::Number;
 use crate::status::Status;
 use crate::types::{dtype_of, number_width};
 use std::alloc::Global;
-use vortex_base::cells::{Cells, ShortCell};
+use vortex_base::cells::Cells;
 use vortex_base::column::Column;
 use vortex_base::dtype::DType;
+use vortex_base::natives::Natives;
 use vortex_base::scalar_value::ScalarValue;
 use vortex_base::types::{Nullability, PType};
 
@@ -115,35 +117,46 @@ impl Values<'_> {
         }
     }
 
-    // The number of a row as a cell, or `Null`.
+    // The number of a row, or `None` for null.
     #[inline]
-    fn number_cell(
-        &self,
-        ptype: PType,
-        nullability: Nullability,
-        row: usize,
-    ) -> Result<ShortCell, Status>
-        ensures { let read = spec.cell (types.Primitive ptype nullability) self.now.values.now
+    fn number<N: Number>(&self, nullability: Nullability, row: usize) -> Result<Option<N>, Status>
+        ensures { let read = spec.cell (types.Primitive N.PTYPE nullability) self.now.values.now
             self.now.start self.now.ends.now self.now.nulls.now row in
-            MatchResult result (λ cell. read ≡ Ok (short_value cell)) (λ s. read ≡ Err s) }
+            MatchResult result (λ number. read ≡ Ok (option_map N.scalar number))
+            (λ s. read ≡ Err s) }
     {
         if is_null(self.nulls, row)? {
             return match nullability {
-                Nullability::Nullable => Ok(ShortCell::Null),
+                Nullability::Nullable => Ok(None),
                 Nullability::NonNullable => Err(Status::BadNull),
             };
         }
-        match fixed(self.values, number_width(ptype), row) {
+        match fixed(self.values, number_width(N::PTYPE), row) {
             None => Err(Status::BadLength),
-            Some(bytes) => match number_of(ptype, bytes) {
-                Some(number) => Ok(ShortCell::of_number(number)),
+            Some(bytes) => match N::from_bytes(bytes) {
+                Some(number) => Ok(Some(number)),
                 None => Err(Status::BadLength),
             },
         }
     }
 
     // The numbers of all rows.
-    fn numbers(
+    fn numbers<N: Number>(&self, alloc: Global, nullability: Nullability) -> Result<Cells, Refusal>
+        ensures { Answers cell_values result (spec.cells (types.Primitive N.PTYPE nullability)
+            self.now.values.now self.now.start self.now.ends.now self.now.nulls.now self.now.rows) }
+    {
+        let mut numbers = Natives::with_capacity(alloc, self.rows)?;
+        for row in 0..self.rows {
+            match self.number::<N>(nullability, row) {
+                Ok(number) => numbers.push(number)?,
+                Err(status) => return Err(Refusal::at_row(status, row)),
+            }
+        }
+        Ok(N::into_cells(numbers))
+    }
+
+    // The numbers of all rows, of a type.
+    fn numbers_of(
         &self,
         alloc: Global,
         ptype: PType,
@@ -152,14 +165,16 @@ impl Values<'_> {
         ensures { Answers cell_values result (spec.cells (types.Primitive ptype nullability)
             self.now.values.now self.now.start self.now.ends.now self.now.nulls.now self.now.rows) }
     {
-        let mut cells = Vec::with_capacity(alloc, self.rows)?;
-        for row in 0..self.rows {
-            match self.number_cell(ptype, nullability, row) {
-                Ok(cell) => cells.push(cell)?,
-                Err(status) => return Err(Refusal::at_row(status, row)),
-            }
+        match ptype {
+            PType::U8 => self.numbers::<u8>(alloc, nullability),
+            PType::U16 => self.numbers::<u16>(alloc, nullability),
+            PType::U32 => self.numbers::<u32>(alloc, nullability),
+            PType::U64 => self.numbers::<u64>(alloc, nullability),
+            PType::I8 => self.numbers::<i8>(alloc, nullability),
+            PType::I16 => self.numbers::<i16>(alloc, nullability),
+            PType::I32 => self.numbers::<i32>(alloc, nullability),
+            PType::I64 => self.numbers::<i64>(alloc, nullability),
         }
-        Ok(Cells::Short(cells))
     }
 
     // The values of all rows.
@@ -168,7 +183,7 @@ impl Values<'_> {
             self.now.ends.now self.now.nulls.now self.now.rows) }
     {
         if let DType::Primitive(ptype, nullability) = dtype {
-            return self.numbers(alloc, ptype, nullability);
+            return self.numbers_of(alloc, ptype, nullability);
         }
         let mut cells = Cells::with_capacity(alloc, dtype, self.rows)?;
         for row in 0..self.rows {

@@ -1,5 +1,7 @@
-use Rattle.vortex_ffi.proofs.CellLemmas.{short_nulls_are}
+use Rattle.std.proofs.Common.{Ok, None, ap, sym, ◌∙◌}
+use Rattle.std.specs.Prelude.{replicate}
+use Rattle.vortex_ffi.proofs.CellLemmas.{nulls_are}
 use Rattle.vortex_ffi.proofs.cells.null_cells.Goals as goal
 
-pub returns-in-Ok : goal.returns-in-Ok
-returns-in-Ok c = λ f rows from. short_nulls_are f rows from c.args.count c.in-Ok.cells.items (c.in-Ok.ensures.items_if_clones_equal (λ y h. search h))
+pub returns : goal.returns
+returns c = λ f rows from. nulls_are f rows from c.args.count ∙ ap (λ n. Ok (replicate n None)) (sym c.new.ensures)

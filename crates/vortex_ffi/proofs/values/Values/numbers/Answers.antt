@@ -1,6 +1,6 @@
 use Rattle.std.proofs.Common.{◌≡◌, ◌++◌, ◌∷◌, [], Err, Ok, map, sym, ap, ◌∙◌}
 use Rattle.std.proofs.lemmas.List.{map-append}
-use Rattle.vortex_base.specs.Data.Cells.{short_value}
+use Rattle.std.specs.Prelude.{option_map}
 use Rattle.vortex_base.specs.declared.dtype.DType.TheVariants as types
 use Rattle.vortex_ffi.specs.Statuses.{at_row}
 use Rattle.vortex_ffi.specs.Values.{cell}
@@ -8,14 +8,17 @@ use Rattle.vortex_ffi.proofs.ReadLemmas.{reads_on, stops}
 use Rattle.vortex_ffi.proofs.values.Values.numbers.Goals as goal
 
 pub returns-in-Err : goal.returns-in-Err
-returns-in-Err c = λ not_memory.
-    let read = cell (types.Primitive c.args.ptype c.args.nullability) c.args.self.now.values.now c.args.self.now.start c.args.self.now.ends.now c.args.self.now.nulls.now in
-    stops at_row read c.loop-row.row c.args.self.now.rows (map short_value c.loop-row.cells.items) c.in-Err.status c.loop-row.invariant c.in-Err.ensures c.loop-row-test.true
+returns-in-Err g c = λ not_memory.
+    let v = c.args.self.now in
+    let read = cell (types.Primitive g.N.Number.PTYPE c.args.nullability) v.values.now v.start v.ends.now v.nulls.now in
+    stops at_row read c.loop-row.row v.rows (map (option_map g.N.Native.scalar) c.loop-row.numbers) c.in-Err.status c.loop-row.invariant c.in-Err.ensures c.loop-row-test.true
     ∙ ap Err (sym c.at_row.ensures)
 
 pub loop-row-preserved : goal.loop-row-preserved
-loop-row-preserved c =
-    let read = cell (types.Primitive c.args.ptype c.args.nullability) c.args.self.now.values.now c.args.self.now.start c.args.self.now.ends.now c.args.self.now.nulls.now in
-    let more : map short_value c.push.new.self.items ≡ map short_value c.loop-row.cells.items ++ short_value c.in-Ok.cell ∷ [] = ap (map short_value) c.in_ok-push-in-Ok.ensures.items ∙ map-append short_value c.loop-row.cells.items (c.in-Ok.cell ∷ []) in
-    reads_on at_row read c.loop-row.row (map short_value c.loop-row.cells.items) (short_value c.in-Ok.cell) c.loop-row.invariant c.in-Ok.ensures
+loop-row-preserved g c =
+    let v = c.args.self.now in
+    let optional = option_map g.N.Native.scalar in
+    let read = cell (types.Primitive g.N.Number.PTYPE c.args.nullability) v.values.now v.start v.ends.now v.nulls.now in
+    let more : map optional c.push.new.self ≡ map optional c.loop-row.numbers ++ optional c.in-Ok.number ∷ [] = ap (map optional) c.in_ok-push-in-Ok.ensures.pushed ∙ map-append optional c.loop-row.numbers (c.in-Ok.number ∷ []) in
+    reads_on at_row read c.loop-row.row (map optional c.loop-row.numbers) (optional c.in-Ok.number) c.loop-row.invariant c.in-Ok.ensures
     ∙ ap Ok (sym more)
