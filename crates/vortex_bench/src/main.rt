@@ -27,6 +27,60 @@ fn count_normal(alloc: Global, name: &str, length: u32) -> Result<usize> {
     }
 }
 
+// A workload over maps of zones, or one over a predicate.
+fn count_pruned(alloc: Global, name: &str, length: u32) -> Result<usize> {
+    match name {
+        "long_map" => Ok(pruning::only_mapped(alloc, pruning::LONG)?),
+        "long_comparison" => Ok(pruning::pruned(alloc, pruning::LONG, 1)?),
+        "long_leaves" => Ok(pruning::pruned(alloc, pruning::LONG, 16)?),
+        "broad_map" => Ok(pruning::only_mapped(alloc, pruning::BROAD)?),
+        "broad_comparison" => Ok(pruning::pruned(alloc, pruning::BROAD, 1)?),
+        "broad_leaves" => Ok(pruning::pruned(alloc, pruning::BROAD, 16)?),
+        "spread_sets" => Ok(chosen::only_sets(alloc)?),
+        "spread_maps" => Ok(chosen::all_mapped(alloc)?),
+        "spread_chosen" => Ok(chosen::chosen_mapped(alloc)?),
+        _ => count_normal(alloc, name, length),
+    }
+}
+
+// A workload over many small parts, or one of those above.
+fn count_scanned(alloc: Global, name: &str, length: u32) -> Result<usize> {
+    match name {
+        "narrow_table" => Ok(scans::only_tabled(alloc, scans::NARROW)?),
+        "narrow_binders" => Ok(scans::scanned_by_binders(alloc, scans::NARROW)?),
+        "narrow_zones" => Ok(scans::scanned_by_table(alloc, scans::NARROW)?),
+        "wide_table" => Ok(scans::only_tabled(alloc, scans::WIDE)?),
+        "wide_binders" => Ok(scans::scanned_by_binders(alloc, scans::WIDE)?),
+        "wide_zones" => Ok(scans::scanned_by_table(alloc, scans::WIDE)?),
+        _ => count_pruned(alloc, name, length),
+    }
+}
+
+// A workload over statistics of large columns, or one of those above.
+fn count_measured(alloc: Global, name: &str, length: u32) -> Result<usize> {
+    match name {
+        "made_numbers" => Ok(measures::made_numbers(alloc)?),
+        "measured_numbers" => Ok(measures::measured_numbers(alloc)?),
+        "checked_numbers" => Ok(measures::checked_numbers(alloc)?),
+        "made_texts" => Ok(measures::made_texts(alloc)?),
+        "measured_texts" => Ok(measures::measured_texts(alloc)?),
+        "checked_texts" => Ok(measures::checked_texts(alloc)?),
+        _ => count_scanned(alloc, name, length),
+    }
+}
+
+// What a workload counts, or 0 for another name.
+fn count(alloc: Global, name: &str, length: u32) -> Result<usize> {
+    match name {
+        "like" => Ok(workload::count_like(alloc)?),
+        "evaluate" => Ok(workload::count_evaluated(alloc)?),
+        "set" => Ok(workload::set_often(alloc)?),
+        "get" => Ok(workload::get_often(alloc)?),
+        "merge" => Ok(workload::merge_often(alloc)?),
+        _ => count_measured(alloc, name, length),
+    }
+}
+
 // Runs the workload that standard input names, with a length behind the name where it has one, and
 // prints what it counted.
 fn main(rt: HostRuntime) -> Result<()> {
@@ -36,35 +90,7 @@ fn main(rt: HostRuntime) -> Result<()> {
     let mut words = line.as_str().split_whitespace();
     let name = words.next().unwrap_or("");
     let length = words.next().unwrap_or("").parse().unwrap_or(0);
-    let count = match name {
-        "like" => workload::count_like(alloc)?,
-        "evaluate" => workload::count_evaluated(alloc)?,
-        "set" => workload::set_often(alloc)?,
-        "get" => workload::get_often(alloc)?,
-        "merge" => workload::merge_often(alloc)?,
-        "made_numbers" => measures::numbers(alloc)?.len(),
-        "measured_numbers" => measures::measured_often(alloc, &measures::numbers(alloc)?)?,
-        "checked_numbers" => measures::checked_often(alloc, &measures::numbers(alloc)?)?,
-        "made_texts" => measures::texts(alloc)?.len(),
-        "measured_texts" => measures::measured_often(alloc, &measures::texts(alloc)?)?,
-        "checked_texts" => measures::checked_often(alloc, &measures::texts(alloc)?)?,
-        "narrow_table" => scans::only_tabled(alloc, scans::NARROW)?,
-        "narrow_binders" => scans::scanned_by_binders(alloc, scans::NARROW)?,
-        "narrow_zones" => scans::scanned_by_table(alloc, scans::NARROW)?,
-        "wide_table" => scans::only_tabled(alloc, scans::WIDE)?,
-        "wide_binders" => scans::scanned_by_binders(alloc, scans::WIDE)?,
-        "wide_zones" => scans::scanned_by_table(alloc, scans::WIDE)?,
-        "long_map" => pruning::only_mapped(alloc, pruning::LONG)?,
-        "long_comparison" => pruning::pruned(alloc, pruning::LONG, 1)?,
-        "long_leaves" => pruning::pruned(alloc, pruning::LONG, 16)?,
-        "broad_map" => pruning::only_mapped(alloc, pruning::BROAD)?,
-        "broad_comparison" => pruning::pruned(alloc, pruning::BROAD, 1)?,
-        "broad_leaves" => pruning::pruned(alloc, pruning::BROAD, 16)?,
-        "spread_sets" => chosen::only_sets(alloc)?,
-        "spread_maps" => chosen::all_mapped(alloc)?,
-        "spread_chosen" => chosen::chosen_mapped(alloc)?,
-        _ => count_normal(alloc, name, length)?,
-    };
+    let count = count(alloc, name, length)?;
     println!(rt; "{count}")?;
     Ok(())
 }

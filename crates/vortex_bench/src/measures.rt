@@ -32,15 +32,8 @@ fn is_null(number: i64) -> bool {
     number / 4_294_967_296 % 8 == 0
 }
 
-fn column(dtype: DType, cells: Cells) -> Result<Column, BaseError> {
-    if !cells.fits(&dtype) {
-        return Err(BaseError::Mismatch);
-    }
-    Ok(Column::new_unchecked(dtype, cells, 0))
-}
-
 /// Two million numbers and nulls.
-pub fn numbers(alloc: Global) -> Result<Column, BaseError> {
+fn numbers(alloc: Global) -> Result<Column, BaseError> {
     let mut cells = Cells::with_capacity(alloc, NUMBER, NUMBERS)?;
     let mut number = 1;
     for _ in 0..NUMBERS {
@@ -48,7 +41,7 @@ pub fn numbers(alloc: Global) -> Result<Column, BaseError> {
         let value = ScalarValue::from(number / 1_000_000_000);
         cells.push(if is_null(number) { None } else { Some(value) })?;
     }
-    column(NUMBER, cells)
+    Column::of_cells(NUMBER, cells, 0)
 }
 
 fn text(alloc: Global, number: i64) -> Result<Option<ScalarValue>, AllocError> {
@@ -60,18 +53,18 @@ fn text(alloc: Global, number: i64) -> Result<Option<ScalarValue>, AllocError> {
 }
 
 /// 300,000 texts of up to twenty characters, and nulls.
-pub fn texts(alloc: Global) -> Result<Column, BaseError> {
+fn texts(alloc: Global) -> Result<Column, BaseError> {
     let mut cells = Cells::with_capacity(alloc, TEXT, TEXTS)?;
     let mut number = 1;
     for _ in 0..TEXTS {
         number = next(number);
         cells.push(text(alloc, number)?)?;
     }
-    column(TEXT, cells)
+    Column::of_cells(TEXT, cells, 0)
 }
 
 /// How many statistics of a column are made, which are made fifty times.
-pub fn measured_often(alloc: Global, column: &Column) -> Result<usize, AllocError> {
+fn measured_often(alloc: Global, column: &Column) -> Result<usize, AllocError> {
     let mut count = 0;
     for _ in 0..REPEATS {
         count = StatsSet::of_column(alloc, column, ALL_STATS)?.len();
@@ -80,7 +73,7 @@ pub fn measured_often(alloc: Global, column: &Column) -> Result<usize, AllocErro
 }
 
 /// How many statistics of a column are made, which are then found to be true fifty times.
-pub fn checked_often(alloc: Global, column: &Column) -> Result<usize, AllocError> {
+fn checked_often(alloc: Global, column: &Column) -> Result<usize, AllocError> {
     let set = StatsSet::of_column(alloc, column, ALL_STATS)?;
     for _ in 0..REPEATS {
         if !set.is_true_of(column) {
@@ -88,4 +81,38 @@ pub fn checked_often(alloc: Global, column: &Column) -> Result<usize, AllocError
         }
     }
     Ok(set.len())
+}
+
+/// How many numbers are made.
+pub fn made_numbers(alloc: Global) -> Result<usize, BaseError> {
+    Ok(numbers(alloc)?.len())
+}
+
+/// How many statistics of them are made.
+pub fn measured_numbers(alloc: Global) -> Result<usize, BaseError> {
+    let column = numbers(alloc)?;
+    Ok(measured_often(alloc, &column)?)
+}
+
+/// How many statistics of them are made and then found to be true.
+pub fn checked_numbers(alloc: Global) -> Result<usize, BaseError> {
+    let column = numbers(alloc)?;
+    Ok(checked_often(alloc, &column)?)
+}
+
+/// How many texts are made.
+pub fn made_texts(alloc: Global) -> Result<usize, BaseError> {
+    Ok(texts(alloc)?.len())
+}
+
+/// How many statistics of them are made.
+pub fn measured_texts(alloc: Global) -> Result<usize, BaseError> {
+    let column = texts(alloc)?;
+    Ok(measured_often(alloc, &column)?)
+}
+
+/// How many statistics of them are made and then found to be true.
+pub fn checked_texts(alloc: Global) -> Result<usize, BaseError> {
+    let column = texts(alloc)?;
+    Ok(checked_often(alloc, &column)?)
 }
