@@ -1,1 +1,2 @@
 pub mod MeasuredScans
+pub mod NullCounts

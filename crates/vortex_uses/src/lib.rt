@@ -2,6 +2,7 @@
 //! its own: to begin from, and to see what the contracts are good for.
 #![tactic(auto)]
 
+pub mod columnar;
 pub mod measured;
 pub mod planner;
 pub mod reader;

@@ -1,0 +1,38 @@
+//! A reader whose file has whole columns: values of one type beside which of them are there.
+ghost use Rattle.std.specs.Prelude.{◌≡◌, IfOk, IfSome, count_by, is_none, length, map, not, option_map};
+ghost use Rattle.vortex_base.specs.Data.Natives.{optionals};
+
+use std::alloc::Global;
+use vortex_base::{BaseError, Column, DType, Native, Natives};
+
+/// The column of a file's values, null where one isn't there. `Mismatch` where they aren't of the
+/// type, or where one isn't there and the type has no null.
+pub fn column_of_numbers<T: Native>(
+    alloc: Global,
+    dtype: DType,
+    values: &[T],
+    there: &[bool],
+) -> Result<Column, BaseError>
+    requires { length values.now ≡ length there.now }
+    ensures { IfOk result (λ column.
+        column.values ≡ map (option_map T.scalar) (optionals values.now there.now)) }
+{
+    let natives = Natives::from_slices(alloc, values, there)?;
+    Column::of_cells(dtype, T::into_cells(natives), 0)
+}
+
+// How many values are told not to be there.
+fn absent(there: &[bool]) -> usize
+    ensures { result ≡ count_by not there.now }
+{
+    there.iter().filter(|is_there| !**is_there).count()
+}
+
+/// How many rows of a column of numbers of a type are null, if it is kept as such, without a look
+/// at any value.
+pub fn nulls_of<T: Native>(column: &Column) -> Option<usize>
+    ensures { IfSome result (λ count. count ≡ count_by is_none column.now.values) }
+{
+    let (_, there) = column.natives::<T>()?.as_slices();
+    Some(absent(there))
+}
