@@ -10,6 +10,10 @@ part_text part = 32 ∷ decimal part
 abbrev pub row_text : ℕ × ℕ → List ℕ
 row_text row = 32 ∷ decimal row.0 ++ 58 ∷ decimal row.1
 
+-- what the rows of a part begin with
+abbrev pub row_begin : ℕ → List ℕ
+row_begin part = 32 ∷ decimal part ++ 58 ∷ []
+
 -- the line of the parts that are whole, where there are any
 abbrev pub whole_text : List ℕ → List ℕ
 whole_text [] = []

@@ -30,8 +30,9 @@ fn add_rows(
     requires { CanRiseRows before more.now }
     ensures { OnOk result (rows.new.items ≡ rows.old.items ++ map (raised_row before) more.now) }
 {
+    rows.reserve(more.len())?;
     for (part, row) in more {
-        rows.push((before + *part, *row))?;
+        rows.push_reserved((before + *part, *row));
     }
     Ok(())
 }

@@ -1,7 +1,7 @@
 //! What is printed.
 ghost use Rattle.std.specs.Prelude.{◌≡◌, ◌++◌, IfOk, OnOk, string_bytes};
 ghost use Rattle.std.specs.List.{flat_map};
-ghost use Rattle.vortex_text.specs.Printing.{bad_text, part_text, row_text, scan_text, whole_text};
+ghost use Rattle.vortex_text.specs.Printing.{bad_text, part_text, row_begin, row_text, scan_text, whole_text};
 
 use itoa::Buffer;
 use std::alloc::{AllocError, Global};
@@ -19,15 +19,43 @@ fn print_parts(text: &mut String, parts: &[usize]) -> Result<(), AllocError>
     Ok(())
 }
 
-fn print_rows(text: &mut String, rows: &[(usize, usize)]) -> Result<(), AllocError>
+// What the rows of a part begin with in place of what they began with.
+fn begin_rows(begin: &mut String, part: usize) -> Result<(), AllocError>
+    ensures { OnOk result (string_bytes begin.new ≡ row_begin part) }
+{
+    let mut digits = Buffer::new();
+    begin.clear();
+    begin.push_str(" ")?;
+    begin.push_str(digits.format(part))?;
+    begin.push_str(":")
+}
+
+// Goes from the rows of one part to those of another, or of the same.
+#[inline(always)]
+fn turn_to(begin: &mut String, begun: &mut usize, part: usize) -> Result<(), AllocError>
+    requires { string_bytes begin.old ≡ row_begin begun.old }
+    ensures begin { OnOk result (string_bytes begin.new ≡ row_begin part) }
+    ensures begun { OnOk result (begun.new ≡ part) }
+{
+    if *begun != part {
+        begin_rows(begin, part)?;
+        *begun = part;
+    }
+    Ok(())
+}
+
+// Rows of one part stand behind one another, so what they begin with is mostly made already.
+fn print_rows(alloc: Global, text: &mut String, rows: &[(usize, usize)]) -> Result<(), AllocError>
     ensures { OnOk result
         (string_bytes text.new ≡ string_bytes text.old ++ flat_map row_text rows.now) }
 {
     let mut digits = Buffer::new();
+    let mut begin = String::new(alloc);
+    let mut begun = 0;
+    begin_rows(&mut begin, begun)?;
     for (part, row) in rows {
-        text.push_str(" ")?;
-        text.push_str(digits.format(*part))?;
-        text.push_str(":")?;
+        turn_to(&mut begin, &mut begun, *part)?;
+        text.push_str(begin.as_str())?;
         text.push_str(digits.format(*row))?;
     }
     Ok(())
@@ -55,7 +83,7 @@ pub fn print_scan(alloc: Global, scan: &Scan) -> Result<String, AllocError>
     let mut text = String::from_str(alloc, "skipped")?;
     print_parts(&mut text, &scan.skipped)?;
     text.push_str("\nrows")?;
-    print_rows(&mut text, &scan.selected)?;
+    print_rows(alloc, &mut text, &scan.selected)?;
     text.push_str("\n")?;
     print_whole(&mut text, &scan.whole)?;
     Ok(text)

@@ -1,7 +1,7 @@
 //! The rows of one part, or of one range of a chunk, that are selected: those that satisfy the
 //! predicate, or all.
 ghost use Rattle.std.specs.Prelude.{◌≡◌, ◌+◌, ◌-◌, ◌^◌, ◌<◌, ◌≤◌, ◌++◌, true, IfErr, OnOk};
-ghost use Rattle.std.specs.Prelude.{length, min, replicate};
+ghost use Rattle.std.specs.Prelude.{length, min, replicate, vec_capacity, vec_len};
 ghost use Rattle.vortex_base.specs.Data.Columns.{row_count};
 ghost use Rattle.vortex_prune.specs.Scanning.Marks.{marked, marked_rows};
 ghost use Rattle.vortex_prune.specs.Scanning.RangeScans.{is_true_in, range_all, range_satisfying};
@@ -21,21 +21,17 @@ pub(crate) struct RowRange<'a> {
     pub(crate) rows: usize,
 }
 
-// Adds a row of the range at a place, if it is marked.
-fn select_if(
-    selected: &mut Vec<(usize, usize)>,
-    mark: bool,
-    place: usize,
-    row: usize,
-) -> Result<(), StatsError>
-    ensures selected { OnOk result
-        (selected.new.items ≡ selected.old.items ++ row_if mark place row) }
-    ensures memory { IfErr result IsMemory }
+// Adds a row of the range at a place, if it is marked. There is room for it.
+#[inline(always)]
+fn select_if(selected: &mut Vec<(usize, usize)>, mark: bool, place: usize, row: usize)
+    requires { vec_len selected.old < vec_capacity selected.old }
+    ensures selected { selected.new.items ≡ selected.old.items ++ row_if mark place row }
+    ensures len { vec_len selected.new ≤ vec_len selected.old + 1 }
+    ensures capacity { vec_capacity selected.new ≡ vec_capacity selected.old }
 {
-    if !mark {
-        return Ok(());
+    if mark {
+        selected.push_reserved((place, row));
     }
-    Ok(selected.push((place, row))?)
 }
 
 // Adds the marked rows of the range at a place, from one of them on.
@@ -50,8 +46,9 @@ fn select_marked(
         ≡ selected.old.items ++ marked_rows place from marks.now) }
     ensures memory { IfErr result IsMemory }
 {
+    selected.reserve(marks.len())?;
     for k in 0..marks.len() {
-        select_if(selected, marks[k], place, from + k)?;
+        select_if(selected, marks[k], place, from + k);
     }
     Ok(())
 }
@@ -128,8 +125,9 @@ pub(crate) fn select_all(
         (selected.new.items ≡ selected.old.items ++ range_all place rows) }
     ensures memory { IfErr result IsMemory }
 {
+    selected.reserve(rows)?;
     for row in 0..rows {
-        selected.push((place, row))?;
+        selected.push_reserved((place, row));
     }
     Ok(())
 }
