@@ -1,4 +1,5 @@
 -- Patterns of LIKE.
+pub mod Chance
 pub mod Like
 pub mod LikeSearch
 pub mod Piece

@@ -5,16 +5,16 @@
 //! steps, a run of letters between two `%` is found by the two-way search, and what follows the
 //! last `%` is compared at the text's end alone. So the search takes linear time, but for a run
 //! with `_` between two `%`, which may take its length times the text's.
-ghost use Rattle.std.specs.Prelude.{◌≡◌, ◌<◌, ◌≤◌, ◌∷◌, [], List, length, MatchOption, IfSome};
+ghost use Rattle.std.specs.Prelude.{◌≡◌, ◌<◌, ◌≤◌, ◌∷◌, [], length, MatchOption, IfSome};
 ghost use Rattle.std.specs.Str.{chars};
 ghost use Rattle.vortex_base.specs.Patterns.Like.{items, like, some_end};
-ghost use Rattle.vortex_base.specs.declared.like.Item.{Item};
-ghost use Rattle.vortex_base.specs.declared.like.Item.TheVariants.{Char};
 ghost use Rattle.vortex_base.specs.Patterns.LikeSearch.{characters, reached, stop};
 
+mod chance;
 mod piece;
 mod substring;
 
+use chance::from_chance;
 use piece::from_piece;
 
 // What the attempts at one place after another may spend at first, and for each place.
@@ -173,36 +173,6 @@ fn is_match<'a>(pattern: Characters<'a>, text: Characters<'a>) -> bool
         Front::Mismatch(_) => false,
         Front::Whole => true,
         Front::BeforeRun(pattern, text) => is_match_at_some_end(pattern, text),
-    }
-}
-
-// The text from the first place on that holds this character, or its end.
-fn from_char(mut text: &str, wanted: char) -> &str
-    ensures same { (is : List Item) → some_end (like (Char wanted ∷ is)) (chars result.now)
-        ≡ some_end (like (Char wanted ∷ is)) (chars text.entry.now) }
-    ensures shorter { length (chars result.now) ≤ length (chars text.entry.now) }
-{
-    while let Some((first, rest)) = split_char(text) {
-        if first == wanted {
-            return text;
-        }
-        text = rest;
-    }
-    text
-}
-
-// The text from the first place on at which the pattern may match.
-fn from_chance<'a>(pattern: Characters<'a>, text: Characters<'a>) -> Characters<'a>
-    ensures same { let test = like (items (characters pattern.entry)) in
-        some_end test (characters result) ≡ some_end test (characters text.entry) }
-    ensures shorter { length (characters result) ≤ length (characters text.entry) }
-{
-    if text.ignore_case {
-        return text;
-    }
-    match next_item(pattern) {
-        Some((Item::Char(first), _)) => Characters::as_written(from_char(text.text, first)),
-        _ => text,
     }
 }
 

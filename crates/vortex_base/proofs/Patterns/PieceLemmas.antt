@@ -104,7 +104,7 @@ unfolding chars
 length-chars [] = omega arith
 length-chars (b ∷ bs) = let h = length-chars_after (continuation_len b) (lead_bits b) bs in omega arith
 
-length-folded : (b : Bool) (cs : List ℕ) → length (folded b cs) ≡ length cs
+pub length-folded : (b : Bool) (cs : List ℕ) → length (folded b cs) ≡ length cs
 length-folded true cs = length-map cs to_ascii_lowercase
 length-folded false cs = refl
 

@@ -4,8 +4,9 @@ ghost use Rattle.vortex_base.specs.Patterns.Like.{items, like, some_end};
 ghost use Rattle.vortex_base.specs.Patterns.LikeSearch.{characters};
 ghost use Rattle.vortex_base.specs.Patterns.Piece.{IsPieceOf};
 
+use super::chance::from_chance;
 use super::substring::{Letters, from_first};
-use super::{Characters, Front, Item, from_chance, match_front, next_item};
+use super::{Characters, Front, Item, match_front, next_item};
 
 // A piece, as far as a text may match it.
 #[derive(Clone, Copy)]
