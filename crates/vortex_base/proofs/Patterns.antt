@@ -1,4 +1,5 @@
 -- On patterns of LIKE.
+pub mod AsciiLemmas
 pub mod ChanceLemmas
 pub mod LikeStops
 pub mod PatternLemmas

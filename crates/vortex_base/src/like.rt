@@ -10,10 +10,12 @@ ghost use Rattle.std.specs.Str.{chars};
 ghost use Rattle.vortex_base.specs.Patterns.Like.{items, like, some_end};
 ghost use Rattle.vortex_base.specs.Patterns.LikeSearch.{characters, reached, stop};
 
+mod ascii;
 mod chance;
 mod piece;
 mod substring;
 
+use ascii::past_same;
 use chance::from_chance;
 use piece::from_piece;
 
@@ -141,10 +143,38 @@ pub(crate) fn next_item<'a>(pattern: Characters<'a>) -> Option<(Item, Characters
     }
 }
 
-fn match_front<'a>(mut pattern: Characters<'a>, mut text: Characters<'a>) -> Front<'a>
+// Where the first items end, of which those that are letters are compared byte by byte at first.
+fn match_front<'a>(pattern: Characters<'a>, text: Characters<'a>) -> Front<'a>
     ensures { reached result ≡ stop (items (characters pattern.entry)) (characters text.entry) }
 {
-    let mut steps: usize = 0;
+    let (pattern_ignores, text_ignores) = (pattern.ignore_case, text.ignore_case);
+    match past_same(pattern.text, pattern_ignores, text.text, text_ignores) {
+        Err(steps) => Front::Mismatch(steps),
+        Ok((left, text_left)) => {
+            let passed = pattern.text.len().saturating_sub(left.len());
+            let left = Characters {
+                text: left,
+                ignore_case: pattern_ignores,
+            };
+            let text_left = Characters {
+                text: text_left,
+                ignore_case: text_ignores,
+            };
+            match_items(left, text_left, passed)
+        }
+    }
+}
+
+// The same item by item, after so many that matched.
+#[inline(never)]
+fn match_items<'a>(
+    mut pattern: Characters<'a>,
+    mut text: Characters<'a>,
+    passed: usize,
+) -> Front<'a>
+    ensures { reached result ≡ stop (items (characters pattern.entry)) (characters text.entry) }
+{
+    let mut steps = passed;
     while let Some((item, rest)) = next_item(pattern) {
         pattern = rest;
         match item {

@@ -1,17 +1,17 @@
 -- A text from the first place on at which a pattern may match has a match at some end if and only if the whole has.
-use Rattle.std.proofs.Common.{◌≡◌, ℕ, zero, suc, ◌+◌, ◌<◌, ◌≤◌, Bool, true, false, ◌&&◌, ◌||◌, ◌==◌, List, [], ◌∷◌, ◌++◌, length, take, drop, map, slice_index, Option, Some, None, take_all, refl, sym, ap, subst, ◌∙◌, arith, length-append, length-drop, append_assoc, ◌⊎◌, inl, inr, ⊎_elim}
-use Rattle.std.proofs.lemmas.List.{take-append-drop, take-append-le, drop-append-le, length-take, length-take-le, get_or-take, get_or_append_left, get_or-append-add}
+use Rattle.std.proofs.Common.{◌≡◌, ℕ, suc, ◌+◌, ◌<◌, ◌≤◌, Bool, true, false, ◌&&◌, ◌||◌, ◌==◌, List, [], ◌∷◌, ◌++◌, length, take, drop, slice_index, Option, Some, None, take_all, refl, sym, ap, subst, ◌∙◌, arith, length-append, length-drop, append_assoc, ◌⊎◌, inl, inr, ⊎_elim}
+use Rattle.std.proofs.lemmas.List.{take-append-drop, drop-append-le, length-take, length-take-le, get_or-take, get_or_append_left, get_or-append-add}
 use Rattle.std.proofs.Math.Seq.{drop-append_seam}
 use Rattle.std.proofs.lemmas.Bool.{eqb-true, eq-eqb, cases_Bool}
 use Rattle.std.proofs.lemmas.Bool.Decides.{nat_tests}
 use Rattle.std.specs.Prelude.{encode_utf8_all}
 use Rattle.std.specs.Char.{to_ascii_lowercase, to_ascii_uppercase, encode_utf8}
 use Rattle.std.specs.Str.{chars, IsUtf8, IsCharBoundary}
-use Rattle.std.proofs.lemmas.Str.{IsUtf8-take, IsUtf8-drop, IsCharBoundary-start, IsCharBoundary-before_ascii, encodes-append, encodes-chars, chars-append, length-le-encodes, encode_ascii}
-use Rattle.memchr.specs.Find.{FindsNeedle, IsFirstByte, OccursAt, Nowhere, Passes, is_byte2, is_byte3}
+use Rattle.std.proofs.lemmas.Str.{IsUtf8-take, IsCharBoundary-start, IsCharBoundary-before_ascii, encodes-append, encodes-chars, chars-append, length-le-encodes, encode_ascii}
+use Rattle.memchr.specs.Find.{FindsNeedle, IsFirstByte, OccursAt, Passes, is_byte2, is_byte3}
 use Rattle.vortex_base.specs.declared.like.Characters.{Characters}
 use Rattle.vortex_base.specs.declared.like.Item.{Item}
-use Rattle.vortex_base.specs.declared.like.Item.TheVariants.{Char, AnyChar, AnyRun}
+use Rattle.vortex_base.specs.declared.like.Item.TheVariants.{Char}
 use Rattle.vortex_base.specs.Patterns.Chance.{IsFromFirst}
 use Rattle.vortex_base.specs.Patterns.Like.{items, like, some_end, folded, sign_of, items_from, items_after}
 use Rattle.vortex_base.specs.Patterns.LikeSearch.{characters}
@@ -47,10 +47,9 @@ from_first test P bs rest f here =
     let size = ap length split ∙ length-append us vs in
     let same_size = ap length left in
     let until : length (encode_utf8_all us) ≡ f.place = ap length (encodes-chars (take f.place bs) (IsUtf8-take bs f.place u f.boundary)) ∙ length-take-le f.place bs f.boundary.0 in
-    let seam : drop (length us) (chars bs) ≡ vs = ap (drop (length us)) split ∙ drop-append_seam us vs in
-    (
+    let seam : drop (length us) (chars bs) ≡ vs = ap (drop (length us)) split ∙ drop-append_seam us vs in (
       ap (some_end test) (left ∙ sym seam) ∙ some_end-drop test (chars bs) (length us)
-      (λ k l le m. 
+          (λ k l le m.
           let cut : chars bs ≡ take k us ++ (drop k us ++ vs) = split ∙ ap (λ xs. xs ++ vs) (sym (take-append-drop k us)) ∙ append_assoc (take k us) (drop k us) vs in
           let after : drop k (chars bs) ≡ drop k us ++ vs = ap (drop k) split ∙ drop-append-le k us vs (omega arith) in
           let short = before_place us vs k l in
@@ -108,6 +107,17 @@ sign_cases c =
     (cases_Bool (c == 92)))
     (cases_Bool (c == 95)))
     (cases_Bool (c == 37))
+
+-- a character that is no wildcard and no backslash is read as itself
+pub items-letter : (c : ℕ) (cs : List ℕ) → ¬ ((c ≡ 37) ⊎ (c ≡ 95)) → ¬ (c ≡ 92) → items (c ∷ cs) ≡ Char c ∷ items cs
+items-letter c cs wild back =
+    ⊎_elim (λ e. absurd (wild (inl e)))
+    (λ o. ⊎_elim (λ e. absurd (wild (inr e)))
+    (λ o'. ⊎_elim (λ e. absurd (back e))
+    (λ own. own (items_after cs))
+    o')
+    o)
+    (sign_cases c)
 
 special : (c d : ℕ) (xs : List ℕ) → IsPlain (encode_utf8 c ++ xs) → c ≡ d → d < 128 → is_byte3 37 95 92 d ≡ true → ⊥
 special c d xs plain e l t =
@@ -169,8 +179,7 @@ from_first_run p t r run rest p_plain t_plain f begins left =
     let test = like (items (characters p)) in
     let w = from_first test (OccursAt t.text.now run) t.text.now rest f
     (λ ws ds e m. OccursAt-left t.text.now ws ds run f.text e (begins ds (ap (λ cs. like (items cs) ds) (sym pattern) ∙ m))) in
-    let shorter = w.1 in
-    (
+    let shorter = w.1 in (
       ap (some_end test) left ∙ w.0 ∙ ap (some_end test) (sym text),
       omega (arith, ap length left, ap length text),
     )
@@ -217,8 +226,7 @@ from_first_letter b a is js bs rest e l f =
     let byte = is_byte2 a (to_ascii_uppercase a) in
     let w = from_first (λ ds. like is (folded b ds)) (Passes byte bs) bs rest f
     (λ ws ds split m. Passes-left byte bs ws ds f.text split (letter_match b a js ds l (ap (λ xs. like xs (folded b ds)) (sym e) ∙ m))) in
-    let shorter = w.1 in
-    (
+    let shorter = w.1 in (
       some_end-folded (like is) b (chars rest) ∙ w.0 ∙ sym (some_end-folded (like is) b (chars bs)),
       omega (arith, length-folded b (chars rest), length-folded b (chars bs)),
     )
@@ -247,8 +255,7 @@ plain_before bs m n h =
     let high = h.0.high in
     let size = length-take m bs in
     let same = front_index bs (take m bs) m n refl high in
-    let ascii = special_byte (slice_index (take m bs) n) h.1 in
-    (
+    let ascii = special_byte (slice_index (take m bs) n) h.1 in (
       IsCharBoundary-before_ascii bs n (omega arith) (omega arith),
       λ k l p.
           let short = length-take n bs in

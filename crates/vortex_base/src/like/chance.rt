@@ -7,6 +7,7 @@ ghost use Rattle.vortex_base.specs.Patterns.Chance.{IsFromFirst};
 ghost use Rattle.vortex_base.specs.Patterns.Like.{items, like, some_end};
 ghost use Rattle.vortex_base.specs.Patterns.LikeSearch.{characters};
 
+use super::ascii::split_ascii;
 use super::{Characters, Item, next_item};
 use memchr::{memchr2, memchr3, memmem};
 
@@ -50,8 +51,9 @@ fn from_either(text: &str, byte: u8, other: u8) -> &str
     }
 }
 
-// The text from the first place on that holds the pattern's first letter, in either case.
-fn from_letter<'a>(pattern: Characters<'a>, text: Characters<'a>) -> Characters<'a>
+// The text from the first place on that holds the pattern's first item, if it is an ASCII letter.
+#[inline(never)]
+fn from_item<'a>(pattern: Characters<'a>, text: Characters<'a>) -> Characters<'a>
     ensures same { let test = like (items (characters pattern.entry)) in
         some_end test (characters result) ≡ some_end test (characters text.entry) }
     ensures shorter { length (characters result) ≤ length (characters text.entry) }
@@ -66,6 +68,24 @@ fn from_letter<'a>(pattern: Characters<'a>, text: Characters<'a>) -> Characters<
             }
         }
         Some(_) => text,
+    }
+}
+
+// The same, of which a letter that stands for itself is read from its byte.
+fn from_letter<'a>(pattern: Characters<'a>, text: Characters<'a>) -> Characters<'a>
+    ensures same { let test = like (items (characters pattern.entry)) in
+        some_end test (characters result) ≡ some_end test (characters text.entry) }
+    ensures shorter { length (characters result) ≤ length (characters text.entry) }
+{
+    match split_ascii(pattern.text, pattern.ignore_case) {
+        Some((b'%' | b'_', _)) => text,
+        Some((b'\\', _)) => from_item(pattern, text),
+        Some((byte, _)) => Characters {
+            text: from_either(text.text, byte, byte.to_ascii_uppercase()),
+            ignore_case: text.ignore_case,
+        },
+        None if pattern.text.is_empty() => from_item(pattern, text),
+        None => text,
     }
 }
 

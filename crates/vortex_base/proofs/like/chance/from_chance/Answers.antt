@@ -1,4 +1,3 @@
-use Rattle.std.proofs.Common.{sym, ◌∙◌, ap}
 use Rattle.vortex_base.proofs.Patterns.ChanceLemmas.{from_first_run}
 use Rattle.vortex_base.proofs.like.chance.from_chance.Goals as goal
 

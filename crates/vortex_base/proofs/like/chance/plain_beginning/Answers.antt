@@ -1,6 +1,5 @@
-use Rattle.std.proofs.Common.{◌≡◌, ◌-◌, ◌≤◌, ℕ, List, Some, None, length, take, true, sym, ap, subst, ◌∙◌, arith, take_all}
+use Rattle.std.proofs.Common.{◌≡◌, ◌-◌, ◌≤◌, Some, None, length, take, sym, ap, subst, ◌∙◌, arith, take_all}
 use Rattle.std.specs.Prelude.{encode_utf8_all}
-use Rattle.std.specs.Str.{chars}
 use Rattle.std.proofs.lemmas.Str.{IsCharBoundary-end}
 use Rattle.memchr.specs.Find.{OccursAt, IsFirstByte, is_byte3}
 use Rattle.vortex_base.proofs.Patterns.ChanceLemmas.{IsFirstByte-same, plain_before, all_plain, plain_beginning}
@@ -25,5 +24,5 @@ returns-in-None c =
     let least = c.min.ensures in
     let all : length bs ≤ c.min.result = omega arith in
     λ ds m.
-        subst (λ xs. OccursAt (encode_utf8_all ds) xs 0) (take_all (length bs) bs (omega arith))
-        (plain_beginning bs (length bs) c.utf8.pattern (IsCharBoundary-end bs) (all_plain bs c.min.result all none) ds m)
+    subst (λ xs. OccursAt (encode_utf8_all ds) xs 0) (take_all (length bs) bs (omega arith))
+    (plain_beginning bs (length bs) c.utf8.pattern (IsCharBoundary-end bs) (all_plain bs c.min.result all none) ds m)

@@ -1,7 +1,7 @@
 use Rattle.std.proofs.Common.{◌≡◌, length}
 use Rattle.vortex_base.specs.Patterns.Like.{items}
 use Rattle.vortex_base.specs.Patterns.LikeSearch.{characters, stop}
-use Rattle.vortex_base.proofs.like.match_front.Given as goal
+use Rattle.vortex_base.proofs.like.match_items.Given as goal
 
 -- the stop is that of what is left
 abbrev pub invariant-loop-item : goal.invariant-loop-item
