@@ -7,7 +7,7 @@
 //! with `_` between two `%`, which may take its length times the text's.
 ghost use Rattle.std.specs.Prelude.{◌≡◌, ◌<◌, ◌≤◌, ◌∷◌, [], length, MatchOption, IfSome};
 ghost use Rattle.std.specs.Str.{chars};
-ghost use Rattle.vortex_base.specs.Patterns.Like.{items, like, some_end};
+ghost use Rattle.vortex_base.specs.Patterns.Like.{folded, items, like, some_end};
 ghost use Rattle.vortex_base.specs.Patterns.LikeSearch.{characters, reached, stop};
 
 mod ascii;
@@ -143,7 +143,7 @@ pub(crate) fn next_item<'a>(pattern: Characters<'a>) -> Option<(Item, Characters
     }
 }
 
-// Where the first items end, of which those that are letters are compared byte by byte at first.
+// Where the items before the first run end. Letters are compared byte by byte at first.
 fn match_front<'a>(pattern: Characters<'a>, text: Characters<'a>) -> Front<'a>
     ensures { reached result ≡ stop (items (characters pattern.entry)) (characters text.entry) }
 {
@@ -151,16 +151,8 @@ fn match_front<'a>(pattern: Characters<'a>, text: Characters<'a>) -> Front<'a>
     match past_same(pattern.text, pattern_ignores, text.text, text_ignores) {
         Err(steps) => Front::Mismatch(steps),
         Ok((left, text_left)) => {
-            let passed = pattern.text.len().saturating_sub(left.len());
-            let left = Characters {
-                text: left,
-                ignore_case: pattern_ignores,
-            };
-            let text_left = Characters {
-                text: text_left,
-                ignore_case: text_ignores,
-            };
-            match_items(left, text_left, passed)
+            let steps = pattern.text.len().saturating_sub(left.len());
+            match_items(left, pattern_ignores, text_left, text_ignores, steps)
         }
     }
 }
@@ -168,12 +160,23 @@ fn match_front<'a>(pattern: Characters<'a>, text: Characters<'a>) -> Front<'a>
 // The same item by item, after so many that matched.
 #[inline(never)]
 fn match_items<'a>(
-    mut pattern: Characters<'a>,
-    mut text: Characters<'a>,
+    left: &'a str,
+    pattern_ignores: bool,
+    text_left: &'a str,
+    text_ignores: bool,
     passed: usize,
 ) -> Front<'a>
-    ensures { reached result ≡ stop (items (characters pattern.entry)) (characters text.entry) }
+    ensures { reached result ≡ stop (items (folded pattern_ignores (chars left.entry.now)))
+        (folded text_ignores (chars text_left.entry.now)) }
 {
+    let mut pattern = Characters {
+        text: left,
+        ignore_case: pattern_ignores,
+    };
+    let mut text = Characters {
+        text: text_left,
+        ignore_case: text_ignores,
+    };
     let mut steps = passed;
     while let Some((item, rest)) = next_item(pattern) {
         pattern = rest;

@@ -1,8 +1,8 @@
 -- A text from the first place on at which a pattern may match has a match at some end if and only if the whole has.
-use Rattle.std.proofs.Common.{◌≡◌, ℕ, suc, ◌+◌, ◌<◌, ◌≤◌, Bool, true, false, ◌&&◌, ◌||◌, ◌==◌, List, [], ◌∷◌, ◌++◌, length, take, drop, slice_index, Option, Some, None, take_all, refl, sym, ap, subst, ◌∙◌, arith, length-append, length-drop, append_assoc, ◌⊎◌, inl, inr, ⊎_elim}
+use Rattle.std.proofs.Common.{◌≡◌, ℕ, suc, ◌+◌, ◌<◌, ◌≤◌, Bool, true, false, not, ◌&&◌, ◌||◌, ◌==◌, List, [], ◌∷◌, ◌++◌, length, take, drop, slice_index, Option, Some, None, take_all, refl, sym, ap, subst, ◌∙◌, arith, length-append, length-drop, append_assoc, ◌⊎◌, inl, inr, ⊎_elim}
 use Rattle.std.proofs.lemmas.List.{take-append-drop, drop-append-le, length-take, length-take-le, get_or-take, get_or_append_left, get_or-append-add}
 use Rattle.std.proofs.Math.Seq.{drop-append_seam}
-use Rattle.std.proofs.lemmas.Bool.{eqb-true, eq-eqb, cases_Bool}
+use Rattle.std.proofs.lemmas.Bool.{eqb-true, eq-eqb, cases_Bool, cases_lt, false≢true}
 use Rattle.std.proofs.lemmas.Bool.Decides.{nat_tests}
 use Rattle.std.specs.Prelude.{encode_utf8_all}
 use Rattle.std.specs.Char.{to_ascii_lowercase, to_ascii_uppercase, encode_utf8}
@@ -12,7 +12,7 @@ use Rattle.memchr.specs.Find.{FindsNeedle, IsFirstByte, OccursAt, Passes, is_byt
 use Rattle.vortex_base.specs.declared.like.Characters.{Characters}
 use Rattle.vortex_base.specs.declared.like.Item.{Item}
 use Rattle.vortex_base.specs.declared.like.Item.TheVariants.{Char}
-use Rattle.vortex_base.specs.Patterns.Chance.{IsFromFirst}
+use Rattle.vortex_base.specs.Patterns.Chance.{IsFromFirst, is_sign_or_letter}
 use Rattle.vortex_base.specs.Patterns.Like.{items, like, some_end, folded, sign_of, items_from, items_after}
 use Rattle.vortex_base.specs.Patterns.LikeSearch.{characters}
 use Rattle.vortex_base.proofs.Patterns.PieceLemmas.{some_end-drop, length-folded}
@@ -89,13 +89,20 @@ FindsNeedle-same hay needle bs run r s e f g h =
 pub IsFirstByte-same : (test : ℕ → Bool) (hay bs : List ℕ) (r s : Option ℕ) → hay ≡ bs → r ≡ s → IsFirstByte test hay r → IsFirstByte test bs s
 IsFirstByte-same test hay bs r s e g h = subst (IsFirstByte test bs) g (subst (λ xs. IsFirstByte test xs r) e h)
 
+-- no byte of xs passes the test
+abbrev pub IsFree : (ℕ → Bool) → List ℕ → Type 0
+IsFree test xs = (k : ℕ) → k < length xs → ¬ Passes test xs k
+
+IsFree-right : (test : ℕ → Bool) (xs ys : List ℕ) → IsFree test (xs ++ ys) → IsFree test ys
+IsFree-right test [] ys h = h
+IsFree-right test (x ∷ xs) ys h = IsFree-right test xs ys (λ k l p. h (suc k) (omega arith) p)
+
 -- no byte of xs is that of a wildcard or a backslash
 abbrev pub IsPlain : List ℕ → Type 0
-IsPlain xs = (k : ℕ) → k < length xs → ¬ Passes (is_byte3 37 95 92) xs k
+IsPlain xs = IsFree (is_byte3 37 95 92) xs
 
 IsPlain-right : (xs ys : List ℕ) → IsPlain (xs ++ ys) → IsPlain ys
-IsPlain-right [] ys h = h
-IsPlain-right (x ∷ xs) ys h = IsPlain-right xs ys (λ k l p. h (suc k) (omega arith) p)
+IsPlain-right = IsFree-right (is_byte3 37 95 92)
 
 -- a character whose byte is plain stands for itself
 sign_cases : (c : ℕ) → (c ≡ 37) ⊎ ((c ≡ 95) ⊎ ((c ≡ 92) ⊎ ((rest : Bool → List Item) → items_from (sign_of c) c rest ≡ Char c ∷ rest false)))
@@ -167,27 +174,21 @@ plain_beginning bs n u b plain ds h =
     let front : encode_utf8_all ds ≡ run ++ encode_utf8_all m.0 = ap encode_utf8_all m.1 ∙ encodes-append (chars run) m.0 ∙ ap (λ xs. xs ++ encode_utf8_all m.0) bytes in
     subst (λ xs. OccursAt xs run 0) (sym front) (OccursAt-front run (encode_utf8_all m.0))
 
--- a pattern's plain beginning is at every place where it may match
-pub from_first_run : (p t : Characters) (r : List ℕ) (run rest : List ℕ) → p.ignore_case ≡ false → t.ignore_case ≡ false
-    → IsFromFirst (OccursAt t.text.now run) t.text.now rest
-    → ((ds : List ℕ) → like (items (chars p.text.now)) ds ≡ true → OccursAt (encode_utf8_all ds) run 0)
-    → r ≡ chars rest
-    → (some_end (like (items (characters p))) r ≡ some_end (like (items (characters p))) (characters t)) × (length r ≤ length (characters t))
-from_first_run p t r run rest p_plain t_plain f begins left =
-    let pattern : characters p ≡ chars p.text.now = ap (λ b. folded b (chars p.text.now)) p_plain in
-    let text : characters t ≡ chars t.text.now = ap (λ b. folded b (chars t.text.now)) t_plain in
-    let test = like (items (characters p)) in
-    let w = from_first test (OccursAt t.text.now run) t.text.now rest f
-    (λ ws ds e m. OccursAt-left t.text.now ws ds run f.text e (begins ds (ap (λ cs. like (items cs) ds) (sym pattern) ∙ m))) in
-    let shorter = w.1 in (
-      ap (some_end test) left ∙ w.0 ∙ ap (some_end test) (sym text),
-      omega (arith, ap length left, ap length text),
-    )
-
 some_end-folded : (test : List ℕ → Bool) (b : Bool) (cs : List ℕ) → some_end test (folded b cs) ≡ some_end (λ ds. test (folded b ds)) cs
 some_end-folded test true [] = refl
 some_end-folded test true (c ∷ cs) = ap (λ x. test (folded true (c ∷ cs)) || x) (some_end-folded test true cs)
 some_end-folded test false cs = refl
+
+-- a pattern's beginning is at every place where it may match
+pub from_first_run : (is : List Item) (b : Bool) (bs run rest : List ℕ) → IsFromFirst (OccursAt bs run) bs rest
+    → ((ds : List ℕ) → like is (folded b ds) ≡ true → OccursAt (encode_utf8_all ds) run 0)
+    → (some_end (like is) (folded b (chars rest)) ≡ some_end (like is) (folded b (chars bs))) × (length (folded b (chars rest)) ≤ length (folded b (chars bs)))
+from_first_run is b bs run rest f begins =
+    let w = from_first (λ ds. like is (folded b ds)) (OccursAt bs run) bs rest f (λ ws ds e m. OccursAt-left bs ws ds run f.text e (begins ds m)) in
+    let shorter = w.1 in (
+      some_end-folded (like is) b (chars rest) ∙ w.0 ∙ sym (some_end-folded (like is) b (chars bs)),
+      omega (arith, length-folded b (chars rest), length-folded b (chars bs)),
+    )
 
 -- a character that reads as an ASCII letter is that letter in one case or the other
 in_either_case : (a d : ℕ) → a ≡ to_ascii_lowercase d → a < 128 → (d < 128) × (is_byte2 a (to_ascii_uppercase a) d ≡ true)
@@ -240,7 +241,7 @@ pub some_end-no_item : (cs ds : List ℕ) → some_end (like []) cs ≡ some_end
 some_end-no_item cs ds = all_end cs ∙ sym (all_end ds)
 
 -- a byte of a wildcard or a backslash is ASCII
-special_byte : (x : ℕ) → is_byte3 37 95 92 x ≡ true → x < 128
+pub special_byte : (x : ℕ) → is_byte3 37 95 92 x ≡ true → x < 128
 special_byte x t = grind (arith, nat_tests)
 
 front_index : (bs front : List ℕ) (m k : ℕ) → front ≡ take m bs → k < length front → slice_index front k ≡ slice_index bs k
@@ -249,24 +250,101 @@ front_index bs front m k e l =
     let inside : k < m = omega arith in
     ap (λ xs. slice_index xs k) e ∙ get_or-take m bs k 0 inside
 
--- the first byte of a wildcard or a backslash among the first m: a character begins there, and what stands before is plain
-pub plain_before : (bs : List ℕ) (m n : ℕ) → IsFirstByte (is_byte3 37 95 92) (take m bs) (Some n) → IsCharBoundary bs n × IsPlain (take n bs)
-plain_before bs m n h =
+-- the first byte among the first m that passes a test of ASCII bytes: a character begins there, and none before passes
+pub free_before : (test : ℕ → Bool) (bs : List ℕ) (m n : ℕ) → ((x : ℕ) → test x ≡ true → x < 128) → IsFirstByte test (take m bs) (Some n)
+    → IsCharBoundary bs n × IsFree test (take n bs)
+free_before test bs m n ascii h =
     let high = h.0.high in
     let size = length-take m bs in
     let same = front_index bs (take m bs) m n refl high in
-    let ascii = special_byte (slice_index (take m bs) n) h.1 in (
+    let low = ascii (slice_index (take m bs) n) h.1 in (
       IsCharBoundary-before_ascii bs n (omega arith) (omega arith),
       λ k l p.
           let short = length-take n bs in
           let within : k < n = omega arith in
           h.0.before k (omega arith) within
-          (ap (is_byte3 37 95 92) (front_index bs (take m bs) m k refl (omega arith) ∙ sym (get_or-take n bs k 0 within)) ∙ p),
+          (ap test (front_index bs (take m bs) m k refl (omega arith) ∙ sym (get_or-take n bs k 0 within)) ∙ p),
     )
 
--- with none among all the bytes, all are plain
-pub all_plain : (bs : List ℕ) (m : ℕ) → length bs ≤ m → IsFirstByte (is_byte3 37 95 92) (take m bs) None → IsPlain (take (length bs) bs)
-all_plain bs m le h k l p =
+-- with none among all the bytes
+pub all_free : (test : ℕ → Bool) (bs : List ℕ) (m : ℕ) → length bs ≤ m → IsFirstByte test (take m bs) None → IsFree test (take (length bs) bs)
+all_free test bs m le h k l p =
     let whole : take m bs ≡ bs = take_all m bs le in
     let own : take (length bs) bs ≡ bs = take_all (length bs) bs (omega arith) in
-    h k (omega arith) (omega (arith, ap length whole, ap length own)) (ap (λ xs. is_byte3 37 95 92 (slice_index xs k)) (whole ∙ sym own) ∙ p)
+    h k (omega arith) (omega (arith, ap length whole, ap length own)) (ap (λ xs. test (slice_index xs k)) (whole ∙ sym own) ∙ p)
+
+pub special_or_letter : (x : ℕ) → is_sign_or_letter x ≡ true → x < 128
+special_or_letter x t = grind (arith, nat_tests)
+
+or-none : (a b : Bool) → ((a || b) ≡ true → ⊥) → (a ≡ true → ⊥) × (b ≡ true → ⊥)
+or-none true b h = absurd (h refl)
+or-none false b h = (λ e. cc, h)
+
+or-left : (a b : Bool) → b ≡ true → (a || b) ≡ true
+or-left true b h = refl
+or-left false b h = h
+
+not_other : (x y : ℕ) → (not (x == y) ≡ true → ⊥) → x ≡ y
+not_other x y h = ⊎_elim (λ t. eqb-true x y t) (λ f. absurd (h (ap not f))) (cases_Bool (x == y))
+
+low_same : (c : ℕ) → to_ascii_lowercase c ≡ to_ascii_uppercase c → to_ascii_lowercase c ≡ c
+low_same c even = grind (arith, nat_tests)
+
+low_own : (c d : ℕ) → to_ascii_lowercase c ≡ to_ascii_uppercase c → to_ascii_lowercase d ≡ c → d ≡ c
+low_own c d even e = grind (arith, nat_tests)
+
+high_same : (c : ℕ) → 128 ≤ c → to_ascii_lowercase c ≡ to_ascii_uppercase c
+high_same c le = grind (arith, nat_tests)
+
+-- a character that is no ASCII letter is lowered to itself, and no other one to it
+same_case : (c : ℕ) → (not (to_ascii_lowercase c == to_ascii_uppercase c) ≡ true → ⊥) → (to_ascii_lowercase c ≡ c) × ((d : ℕ) → to_ascii_lowercase d ≡ c → d ≡ c)
+same_case c h =
+    let even : to_ascii_lowercase c ≡ to_ascii_uppercase c = not_other _ _ h in
+    (low_same c even, λ d e. low_own c d even e)
+
+caseless_char : (c : ℕ) (xs : List ℕ) → IsFree is_sign_or_letter (encode_utf8 c ++ xs) → (to_ascii_lowercase c ≡ c) × ((d : ℕ) → to_ascii_lowercase d ≡ c → d ≡ c)
+caseless_char c xs free =
+    same_case c
+    (λ t. ⊎_elim
+    (λ (low : c < 128).
+    let byte : encode_utf8 c ++ xs ≡ c ∷ xs = ap (λ (l : List ℕ). l ++ xs) (encode_ascii c low) in
+    subst (IsFree is_sign_or_letter) byte free 0 (omega arith) (or-left (is_byte3 37 95 92 c) _ t))
+    (λ (high : 128 ≤ c). false≢true (sym (ap not (eq-eqb (to_ascii_lowercase c) (to_ascii_uppercase c) (high_same c high))) ∙ t))
+    (cases_lt c 128))
+
+-- such characters stay as they are where case is ignored
+folded-free : (b : Bool) (ns ms : List ℕ) → IsFree is_sign_or_letter (encode_utf8_all ns) → folded b (ns ++ ms) ≡ ns ++ folded b ms
+folded-free false ns ms free = refl
+folded-free true [] ms free = refl
+folded-free true (c ∷ ns) ms free =
+    let own = (caseless_char c (encode_utf8_all ns) free).0 in
+    let more = folded-free true ns ms (IsFree-right is_sign_or_letter (encode_utf8 c) (encode_utf8_all ns) free) in
+    cc
+
+folded-begins : (b : Bool) (ns ds es : List ℕ) → IsFree is_sign_or_letter (encode_utf8_all ns) → folded b ds ≡ ns ++ es → (fs : List ℕ) × (ds ≡ ns ++ fs)
+folded-begins false ns ds es free e = (es, e)
+folded-begins true [] ds es free e = (ds, refl)
+folded-begins true (c ∷ ns) [] es free e = cc
+folded-begins true (c ∷ ns) (d ∷ ds) es free e =
+    let low : to_ascii_lowercase d ≡ c = cc in
+    let own : d ≡ c = (caseless_char c (encode_utf8_all ns) free).1 d low in
+    let after : folded true ds ≡ ns ++ es = cc in
+    let more = folded-begins true ns ds es (IsFree-right is_sign_or_letter (encode_utf8 c) (encode_utf8_all ns) free) after in
+    let f : ds ≡ ns ++ more.0 = more.1 in
+    (more.0, cc)
+
+free_plain : (xs : List ℕ) → IsFree is_sign_or_letter xs → IsPlain xs
+free_plain xs free k l p = (or-none _ _ (free k l)).0 p
+
+pub caseless_beginning : (bs : List ℕ) (n : ℕ) → IsUtf8 bs → IsCharBoundary bs n → IsFree is_sign_or_letter (take n bs)
+    → (b d : Bool) (ds : List ℕ) → like (items (folded b (chars bs))) (folded d ds) ≡ true → OccursAt (encode_utf8_all ds) (take n bs) 0
+caseless_beginning bs n u at free b d ds h =
+    let run = take n bs in
+    let is = IsUtf8-take bs n u at in
+    let bytes : encode_utf8_all (chars run) ≡ run = encodes-chars run is in
+    let own : IsFree is_sign_or_letter (encode_utf8_all (chars run)) = subst (IsFree is_sign_or_letter) (sym bytes) free in
+    let split : folded b (chars bs) ≡ chars run ++ folded b (chars (drop n bs)) = ap (folded b) (parted bs n u at) ∙ folded-free b (chars run) (chars (drop n bs)) own in
+    let m = plain_match (chars run) (folded b (chars (drop n bs))) (folded d ds) (free_plain _ own) (ap (λ cs. like (items cs) (folded d ds)) (sym split) ∙ h) in
+    let w = folded-begins d (chars run) ds m.0 own m.1 in
+    let front : encode_utf8_all ds ≡ run ++ encode_utf8_all w.0 = ap encode_utf8_all w.1 ∙ encodes-append (chars run) w.0 ∙ ap (λ xs. xs ++ encode_utf8_all w.0) bytes in
+    subst (λ xs. OccursAt xs run 0) (sym front) (OccursAt-front run (encode_utf8_all w.0))

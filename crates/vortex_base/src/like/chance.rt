@@ -1,10 +1,10 @@
 //! Where in a text a pattern may match next: where its plain beginning stands, which is found among
 //! the text's bytes.
-ghost use Rattle.std.specs.Prelude.{◌≡◌, ◌<◌, ◌≤◌, List, ℕ, true, length, encode_utf8_all};
+ghost use Rattle.std.specs.Prelude.{◌≡◌, ◌<◌, ◌≤◌, Bool, List, ℕ, true, length, encode_utf8_all};
 ghost use Rattle.std.specs.Str.{chars};
-ghost use Rattle.memchr.specs.Find.{OccursAt, Passes, is_byte2};
-ghost use Rattle.vortex_base.specs.Patterns.Chance.{IsFromFirst};
-ghost use Rattle.vortex_base.specs.Patterns.Like.{items, like, some_end};
+ghost use Rattle.memchr.specs.Find.{IsFirstByte, OccursAt, Passes, is_byte2};
+ghost use Rattle.vortex_base.specs.Patterns.Chance.{IsFromFirst, is_sign_or_letter};
+ghost use Rattle.vortex_base.specs.Patterns.Like.{folded, items, like, some_end};
 ghost use Rattle.vortex_base.specs.Patterns.LikeSearch.{characters};
 
 use super::ascii::split_ascii;
@@ -25,6 +25,48 @@ fn plain_beginning(pattern: &str) -> &str
         Some(end) => &pattern[..end],
         None if bytes.len() <= MOST_BYTES => pattern,
         None => "",
+    }
+}
+
+fn first_sign_or_letter(bytes: &[u8]) -> Option<usize>
+    ensures { IsFirstByte is_sign_or_letter bytes.now result }
+{
+    for (place, byte) in bytes.iter().enumerate() {
+        let byte = *byte;
+        if byte == b'%' || byte == b'_' || byte == b'\\' {
+            return Some(place);
+        }
+        if byte.to_ascii_lowercase() != byte.to_ascii_uppercase() {
+            return Some(place);
+        }
+    }
+    None
+}
+
+// The same, before the first ASCII letter too, whose case may be ignored.
+fn caseless_beginning(pattern: &str) -> &str
+    ensures { (b d : Bool) (ds : List ℕ)
+        → like (items (folded b (chars pattern.now))) (folded d ds) ≡ true
+        → OccursAt (encode_utf8_all ds) result.now 0 }
+{
+    let bytes = pattern.as_bytes();
+    let front = &bytes[..bytes.len().min(MOST_BYTES)];
+    match first_sign_or_letter(front) {
+        Some(end) => &pattern[..end],
+        None if bytes.len() <= MOST_BYTES => pattern,
+        None => "",
+    }
+}
+
+fn beginning<'a>(pattern: Characters<'a>, text_ignores: bool) -> &'a str
+    ensures { (ds : List ℕ)
+        → like (items (characters pattern.entry)) (folded text_ignores ds) ≡ true
+        → OccursAt (encode_utf8_all ds) result.now 0 }
+{
+    if pattern.ignore_case || text_ignores {
+        caseless_beginning(pattern.text)
+    } else {
+        plain_beginning(pattern.text)
     }
 }
 
@@ -95,12 +137,12 @@ pub(super) fn from_chance<'a>(pattern: Characters<'a>, text: Characters<'a>) -> 
         some_end test (characters result) ≡ some_end test (characters text.entry) }
     ensures shorter { length (characters result) ≤ length (characters text.entry) }
 {
-    if pattern.ignore_case || text.ignore_case {
-        return from_letter(pattern, text);
-    }
-    let run = plain_beginning(pattern.text);
+    let run = beginning(pattern, text.ignore_case);
     if run.is_empty() {
         return from_letter(pattern, text);
     }
-    Characters::as_written(from_run(text.text, run))
+    Characters {
+        text: from_run(text.text, run),
+        ignore_case: text.ignore_case,
+    }
 }
