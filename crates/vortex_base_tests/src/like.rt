@@ -80,6 +80,28 @@ fn case_of_ascii_letters_alone_is_ignored(rt: HostRuntime) {
 }
 
 #[test]
+fn a_beginning_is_found_among_other_characters(rt: HostRuntime) {
+    assert!(rt; is_like("ααβ東京🦊", "%β東%"));
+    assert!(rt; is_like("ααβ東京🦊", "%🦊%"));
+    assert!(rt; !is_like("ααβ東京🦊", "%東🦊%"));
+    assert!(rt; !is_like("éèê", "%e%"));
+    assert!(rt; is_like("a-é-b", "%é_b"));
+    assert!(rt; is_like("aaé", "%é%"));
+    assert!(rt; is_like("aaé", "%aé%%"));
+    assert!(rt; !is_like("aaé", "%é_%"));
+}
+
+#[test]
+fn a_beginning_without_case_is_found_as_it_is(rt: HostRuntime) {
+    assert!(rt; !is_ilike("12 МИР 34", "%мир%"));
+    assert!(rt; is_ilike("12 МИР k4", "%МИР K%"));
+    assert!(rt; is_ilike("x@[y]", "%@[Y%"));
+    assert!(rt; !is_ilike("x`{y}", "%@[Y%"));
+    assert!(rt; is_ilike("..Ab\\..", "%aB\\\\%"));
+    assert!(rt; is_ilike("ZZz", "%zz_"));
+}
+
+#[test]
 fn a_negated_answer_is_turned_round(rt: HostRuntime) {
     let negated = LikeOptions {
         negated: true,

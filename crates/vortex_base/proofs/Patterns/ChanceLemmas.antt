@@ -9,12 +9,10 @@ use Rattle.std.specs.Char.{to_ascii_lowercase, to_ascii_uppercase, encode_utf8}
 use Rattle.std.specs.Str.{chars, IsUtf8, IsCharBoundary}
 use Rattle.std.proofs.lemmas.Str.{IsUtf8-take, IsCharBoundary-start, IsCharBoundary-before_ascii, encodes-append, encodes-chars, chars-append, length-le-encodes, encode_ascii}
 use Rattle.memchr.specs.Find.{FindsNeedle, IsFirstByte, OccursAt, Passes, is_byte2, is_byte3}
-use Rattle.vortex_base.specs.declared.like.Characters.{Characters}
 use Rattle.vortex_base.specs.declared.like.Item.{Item}
 use Rattle.vortex_base.specs.declared.like.Item.TheVariants.{Char}
 use Rattle.vortex_base.specs.Patterns.Chance.{IsFromFirst, is_sign_or_letter}
 use Rattle.vortex_base.specs.Patterns.Like.{items, like, some_end, folded, sign_of, items_from, items_after}
-use Rattle.vortex_base.specs.Patterns.LikeSearch.{characters}
 use Rattle.vortex_base.proofs.Patterns.PieceLemmas.{some_end-drop, length-folded}
 
 -- a text in UTF-8, split at a character
