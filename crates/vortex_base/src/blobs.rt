@@ -4,6 +4,7 @@ ghost use Rattle.vortex_base.specs.Data.Blobs.{blob_at, start_at};
 
 pub(crate) mod pair;
 
+use crate::natives::have_room;
 use std::alloc::{AllocError, Global};
 use std::marker::Model;
 
@@ -92,8 +93,7 @@ impl Blobs {
         ensures pushed { OnOk result (self.new ≡ self.old ++ option_copied value.entry ∷ []) }
         ensures refused { OnErr result (self.new ≡ self.old) }
     {
-        self.ends.reserve(1)?;
-        self.there.reserve(1)?;
+        have_room(&mut self.ends, &mut self.there)?;
         self.heap.extend_from_slice(value.unwrap_or(&[]))?;
         self.ends.push_reserved(self.heap.len());
         self.there.push_reserved(value.is_some());

@@ -1,5 +1,5 @@
 //! Optional values of one type, kept as a vector of that type beside which of them are there.
-ghost use Rattle.std.specs.Prelude.{◌≡◌, ◌<◌, ◌≤◌, ◌+◌, ◌++◌, ◌∷◌, [], IfOk, None, OnErr, OnOk, Some, length, map, replicate, slice_get, slice_set, take};
+ghost use Rattle.std.specs.Prelude.{◌≡◌, ◌<◌, ◌≤◌, ◌+◌, ◌++◌, ◌∷◌, [], IfOk, None, OnErr, OnOk, Some, length, map, replicate, slice_get, slice_set, take, vec_capacity, vec_len};
 ghost use Rattle.vortex_base.specs.Data.Natives.{native_at, optionals};
 
 mod pair;
@@ -24,6 +24,34 @@ impl<T> Model for Natives<T> {
     ghost view = { λ n. optionals n.values.items n.there.items };
 
     ghost invariant = { λ n. length n.values.items ≡ length n.there.items };
+}
+
+// Makes room for one more value and for whether it is there.
+#[inline(never)]
+fn make_room<T>(values: &mut Vec<T>, there: &mut Vec<bool>) -> Result<(), AllocError>
+    ensures values { values.new.items ≡ values.old.items }
+    ensures there { there.new.items ≡ there.old.items }
+    ensures room { OnOk result (vec_len values.new < vec_capacity values.new) }
+    ensures room_there { OnOk result (vec_len there.new < vec_capacity there.new) }
+{
+    values.reserve(1)?;
+    there.reserve(1)?;
+    Ok(())
+}
+
+// The same, where most often there is room.
+#[inline(always)]
+pub(crate) fn have_room<T>(values: &mut Vec<T>, there: &mut Vec<bool>) -> Result<(), AllocError>
+    ensures values { values.new.items ≡ values.old.items }
+    ensures there { there.new.items ≡ there.old.items }
+    ensures room { OnOk result (vec_len values.new < vec_capacity values.new) }
+    ensures room_there { OnOk result (vec_len there.new < vec_capacity there.new) }
+{
+    if values.len() < values.capacity() && there.len() < there.capacity() {
+        Ok(())
+    } else {
+        make_room(values, there)
+    }
 }
 
 impl<T: Copy + Default> Natives<T> {
@@ -125,13 +153,12 @@ impl<T: Copy + Default> Natives<T> {
     }
 
     /// Adds a value, or null. If memory is refused, the values are as they were.
-    #[inline]
+    #[inline(always)]
     pub fn push(&mut self, value: Option<T>) -> Result<(), AllocError>
         ensures pushed { OnOk result (self.new ≡ self.old ++ value ∷ []) }
         ensures refused { OnErr result (self.new ≡ self.old) }
     {
-        self.values.reserve(1)?;
-        self.there.reserve(1)?;
+        have_room(&mut self.values, &mut self.there)?;
         match value {
             Some(value) => {
                 self.values.push_reserved(value);

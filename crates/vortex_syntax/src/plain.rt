@@ -53,7 +53,8 @@ fn natural(text: &[u8]) -> Option<(u64, &[u8])>
     let mut number: u64 = 0;
     let mut rest = text;
     'fours: while let [a, b, c, d, after @ ..] = rest {
-        if number > MOST_BEFORE_FOUR {
+        // Of a short number the last of the four is none.
+        if !d.is_ascii_digit() || number > MOST_BEFORE_FOUR {
             break;
         }
         let Some(four) = four_digits(*a, *b, *c, *d) else {

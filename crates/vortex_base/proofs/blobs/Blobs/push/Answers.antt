@@ -19,10 +19,10 @@ more ends heap bytes ends' heap' was_ends there there' was_there t end h a b c d
 pub invariant_of-self-2 : goal.invariant_of-self-2
 invariant_of-self-2 c =
     let inside = c.self.inside in
-    (more inside.ends.items inside.heap.items c.unwrap_or.result.now c.push_reserved.new.self.items c.extend_from_slice.new.self.items c.reserve.new.self.items inside.there.items c.push_reserved-2.new.self.items c.reserve-2.new.self.items c.is_some.result c.len.result c.self.invariant c.reserve.ensures.items c.reserve-2.ensures.items c.in_ok-extend_from_slice.ensures.items (c.len.ensures ∙ c.extend_from_slice.new.self.ok.0) c.push_reserved.ensures.items c.push_reserved-2.ensures.items).0
+    (more inside.ends.items inside.heap.items c.unwrap_or.result.now c.push_reserved.new.self.items c.extend_from_slice.new.self.items c.have_room.new.values.items inside.there.items c.push_reserved-2.new.self.items c.have_room.new.there.items c.is_some.result c.len.result c.self.invariant c.have_room.ensures.values c.have_room.ensures.there c.in_ok-extend_from_slice.ensures.items (c.len.ensures ∙ c.extend_from_slice.new.self.ok.0) c.push_reserved.ensures.items c.push_reserved-2.ensures.items).0
 
 pub returns-clause-pushed : goal.returns-clause-pushed
 returns-clause-pushed c =
     let inside = c.self.inside in
-    (more inside.ends.items inside.heap.items c.unwrap_or.result.now c.push_reserved.new.self.items c.extend_from_slice.new.self.items c.reserve.new.self.items inside.there.items c.push_reserved-2.new.self.items c.reserve-2.new.self.items c.is_some.result c.len.result c.self.invariant c.reserve.ensures.items c.reserve-2.ensures.items c.in_ok-extend_from_slice.ensures.items (c.len.ensures ∙ c.extend_from_slice.new.self.ok.0) c.push_reserved.ensures.items c.push_reserved-2.ensures.items).1
+    (more inside.ends.items inside.heap.items c.unwrap_or.result.now c.push_reserved.new.self.items c.extend_from_slice.new.self.items c.have_room.new.values.items inside.there.items c.push_reserved-2.new.self.items c.have_room.new.there.items c.is_some.result c.len.result c.self.invariant c.have_room.ensures.values c.have_room.ensures.there c.in_ok-extend_from_slice.ensures.items (c.len.ensures ∙ c.extend_from_slice.new.self.ok.0) c.push_reserved.ensures.items c.push_reserved-2.ensures.items).1
     ∙ ap₂ (λ bs b. bs ++ b ∷ []) c.self.view_is (ap₂ (λ t (r : Bor (List ℕ)). blob t r.now) c.is_some.ensures c.unwrap_or.ensures ∙ added c.args.value _)
