@@ -3,12 +3,13 @@
 # Each check prints one line. Each answer has to come within the seconds and the memory that its check allows.
 # usage: checks/hostile-input.py
 import os
+import random
 import resource
 import subprocess
 import time
 
 import shim
-from both import PROGRAM, TOP, answer, build, end, faults_of
+from both import PROGRAM, TOP, answer, build, end, faults_of, shown
 
 LIMIT = 16_777_216
 STACK = 8 << 20
@@ -172,6 +173,25 @@ def many_parts():
     yield "parts joined one after the other", b"column a i64\npart\nrow 7\n" + b"part\njoin 0\n" * count + b"where eq col a lit i64 7\n"
 
 
+def parts_of_a_row(count):
+    return b"column a i64\n" + b"part\nrow 7\n" * count
+
+
+def at_both_ends(count, times):
+    """Joins of the first two of so many parts and of the last two in turn."""
+    return b"".join(b"join 0\njoin %d\n" % (count - 3 - 2 * turn) for turn in range(times))
+
+
+def joins_apart():
+    """Joins that stand far apart, one after the other."""
+    count, where = 200_000, b"where eq col a lit i64 7\n"
+    yield "joins at both ends in turn", parts_of_a_row(count) + at_both_ends(count, 2_500) + where
+    order = random.Random(7)
+    places = b"".join(b"join %d\n" % order.randrange(count - 1 - turn) for turn in range(2_500))
+    yield "joins in any order", parts_of_a_row(count) + places + where
+    yield "a join behind the last pair", parts_of_a_row(count) + at_both_ends(count, 1_000) + b"join 197999\n" + where
+
+
 def limits():
     front = b"column a i64\npart\nrow 7\nwhere eq col a lit i64 7\n"
     yield "16,777,216 bytes", front + b"\n" * (LIMIT - len(front))
@@ -210,7 +230,19 @@ INPUTS = [("every prefix of an input of 40 lines", prefixes, 20, 100),
           ("long patterns", long_patterns, 20, 200),
           ("many LIKEs and BETWEENs", many_tests, 60, 100),
           ("a million parts, rows and statistics", many_parts, 60, 700),
+          ("joins far apart", joins_apart, 40, 100),
           ("inputs at the limit", limits, 60, 300)]
+
+
+def joined_to_two():
+    """200,000 parts joined at both ends in turn until two are left, which is fast wherever joins stand."""
+    count = 200_000
+    half = count // 2
+    data = parts_of_a_row(count) + at_both_ends(count, half - 1) + b"where eq col a lit i64 7\n"
+    rows = [b"%d:%d" % (part, row) for part in range(2) for row in range(half)]
+    wanted = 0, b"skipped\nrows " + b" ".join(rows) + b"\n"
+    said = answer(PROGRAM, data, 3)
+    return [] if said == wanted else [f"joined to two: {shown(said)}"], 1
 
 
 def byte_by_byte():
@@ -243,7 +275,8 @@ def compared(inputs, seconds, mebibytes):
 
 # Each check by its name; it gives what is wrong, and how many inputs there were.
 CHECKS = [(name, compared(inputs, seconds, mebibytes)) for name, inputs, seconds, mebibytes in INPUTS]
-CHECKS += [("all of these, one byte a read and a write", byte_by_byte),
+CHECKS += [("200,000 parts joined to two in 3 s", joined_to_two),
+           ("all of these, one byte a read and a write", byte_by_byte),
            ("inputs and outputs that fail", streams)]
 
 

@@ -1,10 +1,10 @@
+pub mod BlockLemmas
 pub mod FillLemmas
 pub mod JoinLemmas
 pub mod KeptLemmas
 pub mod LinkLemmas
 pub mod LogLemmas
 pub mod MapLemmas
-pub mod RunLemmas
 pub mod StepLemmas
 pub mod TableLemmas
 pub mod WorkedRows

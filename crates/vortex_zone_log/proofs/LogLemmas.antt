@@ -1,5 +1,5 @@
 -- What is told in order makes the sets of zones, and what is told later changes none.
-use Rattle.std.proofs.Common.{◌≡◌, ◌≤◌, ◌+◌, ◌-◌, ◌++◌, ◌∙◌, ℕ, zero, suc, List, [], ◌∷◌, Option, None, Some, ap, ap₂, arith, drop, length, refl, sym, take}
+use Rattle.std.proofs.Common.{◌≡◌, ◌≤◌, ◌+◌, ◌-◌, ◌++◌, ◌∙◌, ℕ, zero, suc, List, [], ◌∷◌, Option, None, Some, ap, ap₂, arith, drop, length, refl, subst, sym, take}
 use Rattle.std.proofs.lemmas.List.{drop-append-le, drop_at, length-append, length-drop, length-replicate, map-append, take-append-le, take_all}
 use Rattle.std.proofs.lemmas.Option.{same_Some, slice_get_past}
 use Rattle.std.specs.List.{AllByRecursion}
@@ -107,3 +107,10 @@ pub zone_long : (n : ℕ) (ts : List Saying) (ss : List Stretch) (i : ℕ) (z : 
 zone_long n ts [] i z at = absurd cc
 zone_long n ts (s ∷ ss) zero z at = let same = same_Some (zone_of n ts s) z at in ap (λ (x : ZoneData). length x.stats) (sym same) ∙ length-sets_of n (stretch_of ts s)
 zone_long n ts (s ∷ ss) (suc i) z at = zone_long n ts ss i z at
+
+-- ---- one of them all
+
+pub all_at : {X : Type 0} (P : X → Type 0) (xs : List X) (i : ℕ) (x : X) → AllByRecursion P xs → slice_get xs i ≡ Some x → P x
+all_at P [] i x all at = absurd cc
+all_at P (y ∷ ys) zero x (is, all) at = subst P (same_Some y x at) is
+all_at P (y ∷ ys) (suc i) x (is, all) at = all_at P ys i x all at

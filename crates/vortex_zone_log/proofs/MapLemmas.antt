@@ -13,7 +13,7 @@ use Rattle.vortex_prune.specs.Binding.StatValues.{stat_value}
 use Rattle.vortex_prune.specs.Part.{Entries, ZoneData}
 use Rattle.vortex_prune.specs.Zones.{Head, set_value}
 use Rattle.vortex_zone_log.proofs.JoinLemmas.{one_more_zone}
-use Rattle.vortex_zone_log.proofs.RunLemmas.{all_at}
+use Rattle.vortex_zone_log.proofs.LogLemmas.{all_at}
 use Rattle.vortex_zone_log.proofs.TableLemmas.{zone_with}
 use Rattle.vortex_zone_log.specs.Kept.{IsWithin, said, saying}
 use Rattle.vortex_zone_log.specs.Logs.{empty_sets, zones_from}

@@ -1,5 +1,5 @@
 -- Worked rows: logs of three zones of two columns, found by computation alone.
-use Rattle.std.specs.Prelude.{◌≡◌, ℕ, [], ◌∷◌, Some, None, codes, pos, refl}
+use Rattle.std.specs.Prelude.{◌≡◌, ◌+◌, ◌++◌, ℕ, [], ◌∷◌, Some, None, codes, length, pos, refl}
 use Rattle.vortex_base.specs.declared.cells.ShortCell.TheVariants as cell
 use Rattle.vortex_base.specs.declared.pvalue.PValue.TheVariants as number
 use Rattle.vortex_base.specs.declared.scalar_value.ScalarValue.{ScalarValue}
@@ -7,8 +7,10 @@ use Rattle.vortex_base.specs.declared.scalar_value.ScalarValue.TheVariants as va
 use Rattle.vortex_prune.specs.Part.{Entries, ZoneData}
 use Rattle.vortex_stats.specs.declared.precision.Precision.TheVariants.{Absent, Exact, Inexact}
 use Rattle.vortex_stats.specs.declared.stat.Stat.TheVariants.{Max, Min, NullCount}
-use Rattle.vortex_zone_log.specs.Kept.{both_runs, log_of}
+use Rattle.vortex_zone_log.specs.Blocks.{all_in, before}
+use Rattle.vortex_zone_log.specs.Kept.{log_of}
 use Rattle.vortex_zone_log.specs.Logs.{LogData, empty_sets, ended, joined_at, with_told, zones_from}
+use Rattle.vortex_zone_log.specs.declared.blocks.Block.{Block}
 use Rattle.vortex_zone_log.specs.declared.kept.Form.TheVariants as form
 use Rattle.vortex_zone_log.specs.declared.stretch.Stretch.{Stretch}
 use Rattle.vortex_zone_log.specs.declared.told.Told.{Told}
@@ -90,7 +92,7 @@ last_two = refl
 none_of_them : zones_from 3 0 third.zones ≡ []
 none_of_them = refl
 
--- ---- how it is kept: one zone in front, two behind it the other way round, and a text
+-- ---- how it is kept: three zones, and a text
 
 abbrev told : ℕ → Told
 told n = record { column = 0; stat = Max; form = form.Exact; cell = cell.I64 (pos n) }
@@ -102,10 +104,24 @@ abbrev stretch : (rows from to : ℕ) → Stretch
 stretch rows from to = record { rows = rows; from = from; to = to }
 
 abbrev kept : LogData
-kept = log_of 2 (value.Utf8 (codes "k") ∷ []) (told 5 ∷ told 7 ∷ told 8 ∷ text ∷ told 9 ∷ []) (told 6 ∷ []) (both_runs (stretch 3 0 2 ∷ []) (stretch 5 4 5 ∷ stretch 4 2 4 ∷ []))
+kept = log_of 2 (value.Utf8 (codes "k") ∷ []) (told 5 ∷ told 7 ∷ told 8 ∷ text ∷ told 9 ∷ []) (told 6 ∷ []) (stretch 3 0 2 ∷ stretch 4 2 4 ∷ stretch 5 4 5 ∷ [])
 
 kept_zones : kept.zones ≡ zone 3 ((Max, Exact (num 7)) ∷ []) [] ∷ zone 4 ((Max, Exact (num 8)) ∷ []) ((Max, Inexact (value.Utf8 (codes "k"))) ∷ []) ∷ zone 5 ((Max, Exact (num 9)) ∷ []) [] ∷ []
 kept_zones = refl
 
 kept_current : kept.current ≡ ((Max, Exact (num 6)) ∷ []) ∷ [] ∷ []
 kept_current = refl
+
+-- ---- three blocks, whatever they have
+
+in_order : (a b c : Block) → all_in (a ∷ b ∷ c ∷ []) ≡ a.stretches.items ++ (b.stretches.items ++ (c.stretches.items ++ []))
+in_order a b c = refl
+
+before_the_first : (a b c : Block) → before (a ∷ b ∷ c ∷ []) 0 ≡ 0
+before_the_first a b c = refl
+
+before_the_last : (a b c : Block) → before (a ∷ b ∷ c ∷ []) 2 ≡ length a.stretches.items + (length b.stretches.items + 0)
+before_the_last a b c = refl
+
+before_none : (a b c : Block) → before (a ∷ b ∷ c ∷ []) 4 ≡ length a.stretches.items + (length b.stretches.items + (length c.stretches.items + 0))
+before_none a b c = refl

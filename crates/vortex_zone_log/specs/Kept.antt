@@ -1,5 +1,5 @@
 -- A log as it is kept: what is told in order, and which stretch of it tells of each zone.
-use Rattle.std.specs.Prelude.{◌≡◌, ◌<◌, ◌≤◌, ◌-◌, ◌++◌, ℕ, List, [], ◌∷◌, Option, None, Some, drop, length, map, reverse, slice_get, take, ⊤}
+use Rattle.std.specs.Prelude.{◌≡◌, ◌<◌, ◌≤◌, ◌-◌, ◌++◌, ℕ, List, [], ◌∷◌, Option, None, Some, drop, length, map, slice_get, take, ⊤}
 use Rattle.std.specs.List.{AllByRecursion}
 use Rattle.vortex_base.specs.Data.Cells.{short_value}
 use Rattle.vortex_base.specs.declared.cells.ShortCell.{ShortCell}
@@ -48,10 +48,6 @@ zone_of n ts s = record { rows = s.rows; stats = sets_of n (stretch_of ts s) }
 -- each zone
 abbrev pub zones_of : ℕ → List Saying → List Stretch → List ZoneData
 zones_of n ts ss = map (zone_of n ts) ss
-
--- the stretches of two runs, of which the second one stands backwards
-abbrev pub both_runs : List Stretch → List Stretch → List Stretch
-both_runs front back = front ++ reverse back
 
 -- the stretch is one of so many that are said
 pub record IsWithin (n : ℕ) (s : Stretch) : Type 0 where

@@ -1,6 +1,7 @@
 //! The statistics of zones one after another, and the map of any that stand together.
 #![tactic(auto)]
 
+mod blocks;
 mod columns;
 mod fill;
 mod join;

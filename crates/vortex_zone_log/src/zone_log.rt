@@ -7,13 +7,13 @@ ghost use Rattle.vortex_zone_log.specs.Known.{known_zone};
 ghost use Rattle.vortex_zone_log.specs.Tables.{AreCells};
 ghost use Rattle.vortex_zone_log.specs.Logs.{MayJoinAt, empty_sets, ended, joined_at, with_told, zones_from};
 
+use crate::blocks::{Blocks, Run};
 use crate::columns::columns_of;
 use crate::fill::blank_table;
 use crate::join::{merged_sets, told_of};
 use crate::known::Known;
 use crate::links::links_of;
 use crate::readers::Readers;
-use crate::stretch::{Stretch, join_at, push, stretch_at};
 use crate::told::{Told, move_behind, next_stretch, sets_of, tell, told_in};
 use std::alloc::{AllocError, Global};
 use std::marker::Model;
@@ -35,23 +35,23 @@ pub struct ZoneLog {
     told: Vec<Told>,
     // What is told of the one that hasn't.
     current: Vec<Told>,
-    // The zones that have ended, in two runs that meet where zones were last ended or joined, so
-    // that a join there moves no other zone. The second run stands backwards.
-    front: Vec<Stretch>,
-    back: Vec<Stretch>,
+    // Where it is told of each of them.
+    stretches: Blocks,
 }
 
 impl Model for ZoneLog {
-    ghost use Rattle.vortex_zone_log.specs.Kept.{IsLog, both_runs, log_of};
+    ghost use Rattle.vortex_zone_log.specs.Blocks.{IsCounted, all_of};
+    ghost use Rattle.vortex_zone_log.specs.Kept.{IsLog, log_of};
     ghost use Rattle.vortex_zone_log.specs.Logs.{LogData};
 
     ghost Value = { LogData };
 
-    ghost view = { λ l. log_of l.columns l.longs.items l.told.items l.current.items
-        (both_runs l.front.items l.back.items) };
+    ghost view = { λ l.
+        log_of l.columns l.longs.items l.told.items l.current.items (all_of l.stretches) };
 
     ghost invariant = { λ l.
-        IsLog l.longs.items l.told.items l.current.items (both_runs l.front.items l.back.items) };
+        IsLog l.longs.items l.told.items l.current.items (all_of l.stretches)
+        × IsCounted l.stretches };
 }
 
 impl ZoneLog {
@@ -64,8 +64,7 @@ impl ZoneLog {
             longs: Vec::new(alloc),
             told: Vec::new(alloc),
             current: Vec::new(alloc),
-            front: Vec::new(alloc),
-            back: Vec::new(alloc),
+            stretches: Blocks::new(alloc),
         }
     }
 
@@ -93,7 +92,7 @@ impl ZoneLog {
         ensures refused { OnErr result (self.new ≡ self.old) }
     {
         let next = next_stretch(&mut self.told, self.current.len(), rows)?;
-        push(&mut self.front, &mut self.back, next)?;
+        self.stretches.push(next)?;
         move_behind(&mut self.told, &mut self.current);
         Ok(())
     }
@@ -102,7 +101,7 @@ impl ZoneLog {
     pub fn len(&self) -> usize
         ensures { result ≡ length self.now.zones }
     {
-        self.front.len() + self.back.len()
+        self.stretches.count
     }
 
     /// How many rows the zone at a place has.
@@ -110,7 +109,7 @@ impl ZoneLog {
         requires { place < length self.now.zones }
         ensures { option_map (λ zone. zone.rows) (slice_get self.now.zones place) ≡ Some result }
     {
-        stretch_at(&self.front, &self.back, place).rows
+        self.stretches.at(place).rows
     }
 
     // What is known of the zone at a place.
@@ -118,7 +117,7 @@ impl ZoneLog {
         requires { place < length self.now.zones }
         ensures { IfOk result (λ known. slice_get self.now.zones place ≡ Some (known_zone known)) }
     {
-        let stretch = stretch_at(&self.front, &self.back, place);
+        let stretch = self.stretches.at(place);
         let told = &self.told[stretch.from..stretch.to];
         let sets = sets_of(alloc, self.columns, &self.longs, told)?;
         Ok(Known {
@@ -128,7 +127,7 @@ impl ZoneLog {
     }
 
     /// Joins the zone at a place and the one behind it: their row counts are added, and their sets
-    /// merged in that order, which these columns tell to fit. The zones behind them don't move.
+    /// merged in that order, which these columns tell to fit.
     /// Where memory is refused, the log is as it was.
     pub fn join_at(
         &mut self,
@@ -148,7 +147,7 @@ impl ZoneLog {
         let sets = merged_sets(alloc, columns, left.sets, &right.sets)?;
         let mut told = told_of(alloc, &mut self.longs, sets)?;
         let joined = next_stretch(&mut self.told, told.len(), rows)?;
-        join_at(&mut self.front, &mut self.back, place, joined)?;
+        self.stretches.join_at(place, joined);
         move_behind(&mut self.told, &mut told);
         Ok(())
     }
@@ -161,8 +160,10 @@ impl ZoneLog {
     {
         let _zones = self.len();
         let mut rows = Vec::with_capacity(alloc, count)?;
+        let mut run = Run::none();
         for next in 0..count {
-            rows.push(self.rows(from + next))?;
+            let stretch = self.stretches.at_hand(&mut run, from + next);
+            rows.push(stretch.rows)?;
         }
         Ok(rows)
     }
@@ -187,8 +188,9 @@ impl ZoneLog {
             links: &links,
             longs: &self.longs,
         };
+        let mut run = Run::none();
         for next in 0..count {
-            let stretch = stretch_at(&self.front, &self.back, from + next);
+            let stretch = self.stretches.at_hand(&mut run, from + next);
             let told = told_in(&self.told, stretch);
             readers.put_all(&mut cells, told, next, stretch.rows)?;
         }

@@ -1,4 +1,5 @@
 use Rattle.std.proofs.Common.{◌++◌, drop, map, take}
+use Rattle.vortex_zone_log.specs.Blocks.{IsRun, all_of}
 use Rattle.vortex_zone_log.specs.Logs.{zones_from}
 use Rattle.vortex_zone_log.specs.Tables.{AreCells, blank_zone}
 use Rattle.vortex_zone_log.proofs.zone_log.ZoneLog.cells_from.Given as goal
@@ -7,4 +8,7 @@ use Rattle.vortex_zone_log.proofs.zone_log.ZoneLog.cells_from.Given as goal
 abbrev pub invariant-loop-next : goal.invariant-loop-next
 invariant-loop-next l =
     let zones = zones_from l.from l.count l.self.zones in
-    AreCells l.heads (take l.next zones ++ map (blank_zone l.self-inside.columns) (drop l.next zones)) l.cells.items
+    record {
+      run : IsRun (all_of l.self-inside.stretches) l.run.first l.run.stretches.now;
+      told : AreCells l.heads (take l.next zones ++ map (blank_zone l.self-inside.columns) (drop l.next zones)) l.cells.items;
+    }

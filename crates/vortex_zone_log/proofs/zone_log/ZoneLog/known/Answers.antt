@@ -3,20 +3,20 @@ use Rattle.std.proofs.lemmas.Option.{slice_get-map}
 use Rattle.std.specs.Prelude.{option_map, slice_get}
 use Rattle.vortex_prune.specs.Part.{Entries, ZoneData}
 use Rattle.vortex_zone_log.proofs.JoinLemmas.{stretch_said}
-use Rattle.vortex_zone_log.specs.Kept.{both_runs, said, sets_of, zone_of}
+use Rattle.vortex_zone_log.specs.Blocks.{all_of}
+use Rattle.vortex_zone_log.specs.Kept.{said, sets_of, zone_of}
 use Rattle.vortex_zone_log.specs.Logs.{LogData}
-use Rattle.vortex_zone_log.specs.declared.stretch.Stretch.{Stretch}
 use Rattle.vortex_zone_log.specs.declared.told.Told.{Told}
 use Rattle.vortex_zone_log.proofs.zone_log.ZoneLog.known.Goals as goal
 
 pub returns : goal.returns
 returns c =
     let l = c.self.inside in
-    let runs = both_runs l.front.items l.back.items in
-    let s = c.stretch_at-stretch.result in
+    let runs = all_of l.stretches in
+    let s = c.at-stretch.result in
     let zone : List Entries → ZoneData = λ sets. record { rows = s.rows; stats = sets } in
-    let there : slice_get runs c.args.place ≡ Some s = ap₂ (λ (f b : List Stretch). slice_get (both_runs f b) c.args.place) (sym c.deref.ensures.value) (sym c.deref-2.ensures.value) ∙ c.stretch_at-stretch.ensures in
-    let says = ap₂ (λ longs (ts : List Told). sets_of l.columns (said longs (take (s.to - s.from) (drop s.from ts)))) c.deref-4.ensures.value c.deref-3.ensures.value
+    let there : slice_get runs c.args.place ≡ Some s = c.at-stretch.ensures in
+    let says = ap₂ (λ longs (ts : List Told). sets_of l.columns (said longs (take (s.to - s.from) (drop s.from ts)))) c.deref-2.ensures.value c.deref.ensures.value
     ∙ ap (sets_of l.columns) (stretch_said l.longs.items l.told.items s) in
     ap (λ (d : LogData). slice_get d.zones c.args.place) (sym c.self.view_is)
     ∙ slice_get-map (zone_of l.columns (said l.longs.items l.told.items)) runs c.args.place

@@ -1,6 +1,7 @@
 use Rattle.std.proofs.Common.{List, ap, arith, sym, ◌∙◌}
 use Rattle.vortex_zone_log.proofs.StepLemmas.{nothing_log, on_err, same_log, told_log}
-use Rattle.vortex_zone_log.specs.Kept.{Saying, both_runs, log_of}
+use Rattle.vortex_zone_log.specs.Blocks.{all_of}
+use Rattle.vortex_zone_log.specs.Kept.{Saying, log_of}
 use Rattle.vortex_zone_log.specs.Logs.{with_told}
 use Rattle.vortex_zone_log.specs.declared.told.Told.{Told}
 use Rattle.vortex_zone_log.proofs.zone_log.ZoneLog.put.Goals as goal
@@ -8,22 +9,22 @@ use Rattle.vortex_zone_log.proofs.zone_log.ZoneLog.put.Goals as goal
 pub returns-in_err-tell-clause-refused : goal.returns-in_err-tell-clause-refused
 returns-in_err-tell-clause-refused c =
     let l = c.self.inside in
-    let runs = both_runs l.front.items l.back.items in
+    let runs = all_of l.stretches in
     on_err c.from_residual.result
     (ap (λ (now : List Told). log_of l.columns c.tell.new.longs.items l.told.items now runs) c.in_err-tell.ensures.refused
-    ∙ same_log l.columns l.longs.items c.tell.new.longs.items c.in_err-tell.ensures.longer l.told.items l.current.items runs c.self.invariant ∙ c.self.view_is)
+    ∙ same_log l.columns l.longs.items c.tell.new.longs.items c.in_err-tell.ensures.longer l.told.items l.current.items runs c.self.invariant.0 ∙ c.self.view_is)
 
 pub returns-in_ok-tell-clause-told : goal.returns-in_ok-tell-clause-told
 returns-in_ok-tell-clause-told c =
     let l = c.self.inside in
-    let runs = both_runs l.front.items l.back.items in
+    let runs = all_of l.stretches in
     let s : Saying = record { column = c.args.column; stat = c.args.stat; value = c.args.value } in
-    told_log l.columns l.longs.items c.tell.new.longs.items c.in_ok-tell.ensures.longer l.told.items l.current.items runs c.self.invariant c.tell.new.told.items s c.in_ok-tell.ensures.told
+    told_log l.columns l.longs.items c.tell.new.longs.items c.in_ok-tell.ensures.longer l.told.items l.current.items runs c.self.invariant.0 c.tell.new.told.items s c.in_ok-tell.ensures.told
     ∙ ap (with_told c.args.column c.args.stat c.args.value) c.self.view_is
 
 pub returns-else-column-self-clause-told : goal.returns-else-column-self-clause-told
 returns-else-column-self-clause-told c =
     let l = c.self.inside in
     sym c.self.view_is
-    ∙ nothing_log l.columns l.longs.items l.told.items l.current.items (both_runs l.front.items l.back.items) c.args.column c.args.stat c.args.value (omega arith)
+    ∙ nothing_log l.columns l.longs.items l.told.items l.current.items (all_of l.stretches) c.args.column c.args.stat c.args.value (omega arith)
     ∙ ap (with_told c.args.column c.args.stat c.args.value) c.self.view_is
