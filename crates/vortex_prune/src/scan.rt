@@ -30,7 +30,7 @@ mod part_scan;
 pub mod prune;
 pub mod ranges;
 mod select;
-pub(crate) mod verdict;
+pub mod verdict;
 pub mod zones;
 
 use crate::bind::stat_binder::StatBinder;

@@ -1,5 +1,6 @@
 -- The verdicts by marks of what is skipped and of what is whole are those that the table tells.
-use Rattle.std.proofs.Common.{◌≡◌, ℕ, ◌+◌, ◌<◌, ◌≤◌, zero, suc, Bool, true, false, List, [], ◌∷◌, ◌++◌, Option, Some, None, arith, get_or, inr, length, map, refl, subst, sym, take, ap, ◌∙◌}
+use Rattle.std.proofs.Common.{◌≡◌, ℕ, ◌+◌, ◌<◌, ◌≤◌, zero, suc, Bool, true, false, List, [], ◌∷◌, ◌++◌, Option, Some, None, arith, drop, get_or, inr, length, map, refl, subst, sym, take, ap, ◌∙◌}
+use Rattle.std.proofs.Math.ListN.{set}
 use Rattle.std.specs.Prelude.{◌&&◌, Contains, not, option_map, replicate, slice_get}
 use Rattle.std.specs.List.{list_all}
 use Rattle.std.proofs.lemmas.List.{length-map, take_all}
@@ -31,6 +32,24 @@ pub some_unset : (bs : List Bool) → list_all (λ b. b) bs ≡ false → Contai
 some_unset [] h = absurd cc
 some_unset (true ∷ bs) h = let c = some_unset bs h in (suc c.0, omega (arith, c.1), c.2)
 some_unset (false ∷ bs) h = (0, omega arith, refl)
+
+-- one more mark was turned round
+turned_next : (k : ℕ) (bs : List Bool) (d : Bool) → k < length bs → set (map not (take k bs) ++ drop k bs) k (not (get_or (map not (take k bs) ++ drop k bs) k d)) ≡ map not (take (suc k) bs) ++ drop (suc k) bs
+turned_next k [] d h = absurd (omega (arith, h))
+turned_next zero (b ∷ bs) d h = refl
+turned_next (suc k) (b ∷ bs) d h = ap (λ l. not b ∷ l) (turned_next k bs d (omega (arith, h)))
+
+pub turned_more : (k : ℕ) (bs ms : List Bool) (y : Bool) → ms ≡ map not (take k bs) ++ drop k bs → k < length bs → y ≡ not (get_or ms k false) → set ms k y ≡ map not (take (k + 1) bs) ++ drop (k + 1) bs
+turned_more k bs ms y is h e =
+    let more : suc k ≡ k + 1 = omega arith in
+    ap (set ms k) e ∙ ap (λ l. set l k (not (get_or l k false))) is ∙ turned_next k bs false h ∙ ap (λ n. map not (take n bs) ++ drop n bs) more
+
+-- and all were
+pub turned_all : (k : ℕ) (bs : List Bool) → length bs ≤ k → map not (take k bs) ++ drop k bs ≡ map not bs
+turned_all zero [] h = refl
+turned_all (suc k) [] h = refl
+turned_all zero (b ∷ bs) h = absurd (omega (arith, h))
+turned_all (suc k) (b ∷ bs) h = ap (λ l. not b ∷ l) (turned_all k bs (omega (arith, h)))
 
 -- the verdict at a place is by the marks there
 verdict_there : (as' bs : List Bool) (i : ℕ) (v : Verdict) → slice_get (marked_verdicts as' bs) i ≡ Some v

@@ -3,11 +3,12 @@ ghost use Rattle.std.specs.Prelude.{◌≡◌, ◌<◌, ◌++◌, Contains, List
 ghost use Rattle.std.specs.List.{list_all};
 ghost use Rattle.std.specs.Prelude.{Some, alloc_error, false, length, map, not, option_copied};
 ghost use Rattle.vortex_base.specs.Meanings.Fitting.{fits_scope};
-ghost use Rattle.vortex_base.specs.Trees.Tree.{has_bare_column, is_plain};
+ghost use Rattle.vortex_base.specs.Trees.Tree.{Place, Tree, has_bare_column, is_plain};
 ghost use Rattle.vortex_rewrite.specs.Answers.{IsMemory};
-ghost use Rattle.vortex_rewrite.specs.Causes.{IsRefusal};
+ghost use Rattle.vortex_rewrite.specs.Causes.{IsRefusal, either_causes};
 ghost use Rattle.vortex_rewrite.specs.Rewriting.Falsifiers.{falsifier as falsifier_of};
 ghost use Rattle.vortex_rewrite.specs.Rewriting.Falsifiers.{satisfier as satisfier_of};
+ghost use Rattle.vortex_rewrite.specs.Rewriting.Lawful.{OwnRule};
 ghost use Rattle.vortex_rewrite.specs.Rewriting.Own.{own_rules};
 ghost use Rattle.vortex_rewrite.specs.Rewriting.Predicates.{is_predicate};
 ghost use Rattle.vortex_rewrite.specs.Rewriting.Proof.{is_open};
@@ -20,7 +21,7 @@ ghost use Rattle.vortex_prune.specs.Scanning.ZoneScans.{AllTold};
 ghost use Rattle.vortex_prune.specs.Scanning.ZoneScans.{IsShutIfKept, IsShutIfVerdict};
 ghost use Rattle.vortex_prune.specs.Scanning.ZoneScans.{IsSoundPruning, TellsAs, is_left_open};
 ghost use Rattle.vortex_prune.specs.Scanning.ZoneScans.{IsTableRefused, most_causes, open_causes};
-ghost use Rattle.vortex_prune.specs.Scanning.ZoneScans.{pruning_causes, skipped_zones};
+ghost use Rattle.vortex_prune.specs.Scanning.ZoneScans.{kept_zones, pruning_causes, skipped_zones};
 ghost use Rattle.vortex_prune.specs.Scanning.ZoneScans.{whole_zones};
 ghost use Rattle.vortex_prune.specs.Scanning.Marks.{marked_verdict, marked_verdicts};
 ghost use Rattle.vortex_prune.specs.Scanning.ZoneScans.{zone_verdicts};
@@ -104,11 +105,22 @@ fn bound_rest(
     bound_once(alloc, map, satisfier)
 }
 
+// Turns each mark round.
+fn turn(marks: &mut [bool])
+    ensures { marks.new ≡ map not marks.old }
+{
+    for place in 0..marks.len() {
+        marks[place] = !marks[place];
+    }
+}
+
 // The marks of the zones that aren't marked.
 fn unmarked(alloc: Global, marks: &[bool]) -> Result<Vec<bool>, AllocError>
     ensures { IfOk result (λ others. others.items ≡ map not marks.now) }
 {
-    marks.iter().map(|mark| !*mark).collect(alloc)
+    let mut others = Vec::from_slice(alloc, marks)?;
+    turn(&mut others);
+    Ok(others)
 }
 
 // The verdict on a zone that is marked as skipped or not, and as whole or not.
@@ -124,6 +136,17 @@ fn marked_verdict(skipped: bool, whole: bool) -> Verdict
     }
 }
 
+// Puts that on each zone in its place.
+fn put_verdicts(skipped: &[bool], whole: &[bool], verdicts: &mut [Verdict])
+    requires same { length skipped.now ≡ length whole.now }
+    requires places { length verdicts.old ≡ length skipped.now }
+    ensures { verdicts.new ≡ marked_verdicts skipped.now whole.now }
+{
+    for place in 0..verdicts.len() {
+        verdicts[place] = marked_verdict(skipped[place], whole[place]);
+    }
+}
+
 // That of each zone.
 fn marked_verdicts(
     alloc: Global,
@@ -134,10 +157,9 @@ fn marked_verdicts(
     ensures { IfOk result (λ verdicts.
         verdicts.items ≡ marked_verdicts skipped.now whole.now) }
 {
-    let mut verdicts = Vec::with_capacity(alloc, skipped.len())?;
-    for place in 0..skipped.len() {
-        verdicts.push(marked_verdict(skipped[place], whole[place]))?;
-    }
+    let mut verdicts = Vec::new(alloc);
+    verdicts.resize(skipped.len(), Verdict::Tested)?;
+    put_verdicts(skipped, whole, &mut verdicts);
     Ok(verdicts)
 }
 
@@ -197,6 +219,59 @@ pub(crate) fn verdicts(
     let satisfier = satisfy(alloc, predicate, rules)?;
     let bound = bound_once(alloc, map, falsifier.as_ref())?;
     verdicts_by(alloc, map, bound.as_ref(), satisfier.as_ref())
+}
+
+/// The verdict on each zone of a map by a falsifier and a satisfier at hand, as `falsify` and
+/// `satisfy` make them: for who prunes many maps under one predicate, whose proofs are so made once.
+/// Each is bound once, as in `prune`.
+///
+/// `OpenProof` if a proof that is about to be bound has a column outside its placeholders, and else
+/// `Memory` alone.
+pub fn prune_by(
+    alloc: Global,
+    map: &ZoneMap,
+    falsifier: Option<&BoundExpression>,
+    satisfier: Option<&BoundExpression>,
+) -> Result<Vec<Verdict>, StatsError>
+    // A zone is skipped exactly if the falsifier is true by its statistics, and whole exactly if it
+    // isn't skipped and the satisfier is.
+    ensures verdicts { let f = option_copied falsifier.entry in
+        let s = option_copied satisfier.entry in
+        IfOk result (λ vs. (zones : List ZoneData) → IsMapOf zones map.now
+        → vs.items ≡ zone_verdicts f s map.now.scope zones) }
+    ensures long { IfOk result (λ vs. length vs.items ≡ length map.now.rows) }
+    // Where they are the proofs of a predicate by lawful rules, whatever rows stand in a zone of
+    // which its statistics are true: of a skipped zone none satisfies the predicate, and of a whole
+    // one each does.
+    ensures sound { let f = option_copied falsifier.entry in
+        let s = option_copied satisfier.entry in
+        IfOk result (λ vs. (zones : List ZoneData) (own : List OwnRule) (p : Tree Place)
+        → IsMapOf zones map.now → IsTrue (is_predicate p) → IsTrue (is_plain p)
+        → IsTrue (fits_scope p map.now.scope) → f ≡ falsifier_of own p → s ≡ satisfier_of own p
+        → IsSoundPruning p map.now.scope zones (places_where is_skipped vs.items)
+        (places_where is_whole vs.items)) }
+    // Where the falsifier is that of a predicate by built-in rules, whose ANDs are apart, a zone is
+    // skipped exactly if no values within its bounds satisfy the predicate.
+    ensures complete { let f = option_copied falsifier.entry in
+        IfOk result (λ vs. (zones : List ZoneData) (p : Tree Place) → IsMapOf zones map.now
+        → IsTrue (is_predicate p) → IsTrue (fits_scope p map.now.scope) → f ≡ falsifier_of [] p
+        → IsTrue (is_apart p) → ZonesSkipExactly p zones (places_where is_skipped vs.items)) }
+    // No falsifier that has a column outside its placeholders was bound.
+    ensures closed { let f = option_copied falsifier.entry in
+        IfOk result (λ _. is_left_open f map.now.rows ≡ false) }
+    // Nor such a satisfier, for a zone that isn't skipped.
+    ensures kept_closed { let s = option_copied satisfier.entry in
+        IfOk result (λ vs. IsShutIfVerdict s vs.items) }
+    // A refusal other than for memory has its cause: such a falsifier and a zone, or such a
+    // satisfier and a zone that isn't skipped.
+    ensures refusal { let f = option_copied falsifier.entry in
+        let s = option_copied satisfier.entry in
+        IfErr result (λ e. (zones : List ZoneData) → IsMapOf zones map.now
+        → IsRefusal (either_causes (open_causes f map.now.rows)
+        (open_causes s (kept_zones f map.now.scope zones))) e) }
+{
+    let bound = bound_once(alloc, map, falsifier)?;
+    verdicts_by(alloc, map, bound.as_ref(), satisfier)
 }
 
 /// What pruning found. Zones count from 0.

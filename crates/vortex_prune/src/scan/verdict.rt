@@ -2,7 +2,7 @@
 
 /// What a scan does with a part.
 #[derive(Clone, Copy, Debug, PartialEq, Eq)]
-pub(crate) enum Verdict {
+pub enum Verdict {
     /// The falsifier is true of it: it is left out unread.
     Skipped,
     /// The satisfier is true of it: all its rows are selected, and none is tested.
