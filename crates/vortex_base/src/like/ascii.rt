@@ -33,10 +33,12 @@ pub(super) fn past_same<'a>(
     text: &'a str,
     text_ignores: bool,
 ) -> Result<(&'a str, &'a str), usize>
-    ensures { let found = stop (items (folded pattern_ignores (chars pattern.entry.now)))
-        (folded text_ignores (chars text.entry.now)) in
-        MatchResult result (λ p. stop (items (folded pattern_ignores (chars p.0.now)))
-        (folded text_ignores (chars p.1.now)) ≡ found) (λ n. found ≡ Mismatch) }
+    ensures { let wanted = folded pattern_ignores (chars pattern.entry.now) in
+        let found = stop (items wanted) (folded text_ignores (chars text.entry.now)) in
+        MatchResult result
+        (λ p. let left = folded pattern_ignores (chars p.0.now) in
+        stop (items left) (folded text_ignores (chars p.1.now)) ≡ found)
+        (λ n. found ≡ Mismatch) }
 {
     let mut left = pattern;
     let mut text = text;

@@ -1,4 +1,4 @@
-use Rattle.std.proofs.Common.{◌<◌, Some, true, false, length, get_or, sym, ap, ◌∙◌, arith, slice_get}
+use Rattle.std.proofs.Common.{◌<◌, Some, length, get_or, sym, ap, ◌∙◌, arith, slice_get}
 use Rattle.vortex_base.specs.Data.Natives.{native_at, optional}
 use Rattle.vortex_base.proofs.Data.NativeLemmas.{optionals-absent, optionals-at, optionals-past}
 use Rattle.vortex_base.proofs.natives.Natives.get.Goals.{else-i-len-via-then-i-len+else-index, else-i-len-via-else-i-len}
