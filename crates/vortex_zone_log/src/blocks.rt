@@ -7,7 +7,7 @@ use crate::stretch::Stretch;
 use std::alloc::{AllocError, Global};
 
 // As many stretches as a block takes.
-const FULL: usize = 128;
+const FULL: usize = 256;
 
 /// Stretches one behind the other.
 #[derive(Debug, Drop)]

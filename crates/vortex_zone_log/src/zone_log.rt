@@ -180,6 +180,7 @@ impl ZoneLog {
         ensures { IfOk result (λ cells.
             AreCells heads.now (zones_from from count self.now.zones) cells.items) }
     {
+        let _zones = self.len();
         let links = links_of(alloc, self.columns, heads)?;
         let mut cells = blank_table(alloc, heads, count)?;
         let readers = Readers {

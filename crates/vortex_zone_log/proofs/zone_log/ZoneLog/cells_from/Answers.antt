@@ -5,10 +5,10 @@ use Rattle.std.specs.Prelude.{option_map, slice_get}
 use Rattle.vortex_base.specs.declared.cells.Cells.{Cells}
 use Rattle.vortex_prune.specs.Part.{Entries}
 use Rattle.vortex_zone_log.proofs.JoinLemmas.{stretch_said}
-use Rattle.vortex_zone_log.proofs.MapLemmas.{blank_first, lent_whole, next_told, zone_there, zones_long}
+use Rattle.vortex_zone_log.proofs.MapLemmas.{blank_first, lent_whole, next_told, stretch_within, zone_there, zones_long}
 use Rattle.vortex_zone_log.proofs.TableLemmas.{zone_with}
 use Rattle.vortex_zone_log.specs.Blocks.{all_of}
-use Rattle.vortex_zone_log.specs.Kept.{said, sets_of, sets_with, stretch_of, zone_of}
+use Rattle.vortex_zone_log.specs.Kept.{IsWithin, said, sets_of, sets_with, stretch_of, zone_of}
 use Rattle.vortex_zone_log.specs.Logs.{LogData, zones_from}
 use Rattle.vortex_zone_log.specs.Tables.{AreCells, blank_zone}
 use Rattle.vortex_zone_log.specs.declared.told.Told.{Told}
@@ -21,6 +21,13 @@ loop-next-init c =
       run = c.none-run.ensures (all_of c.self.inside.stretches);
       told = blank_first c.args.heads.now c.self.inside.columns c.args.count (zones_from c.args.from c.args.count zones) c.in_ok-cells.cells.items (zones_long zones c.args.from c.args.count c.requires) c.in_ok-cells.ensures;
     }
+
+pub told_in-told-requires : goal.told_in-told-requires
+told_in-told-requires c =
+    let l = c.self.inside in
+    let s = c.at_hand-stretch.result in
+    subst (λ (ts : List Told). IsWithin (length ts) s) (sym c.deref-in-loop-next.ensures.value)
+    (stretch_within l.longs.items l.told.items (all_of l.stretches) (c.args.from + c.loop-next.next) s c.self.invariant.0.stretches c.at_hand-stretch.ensures.found)
 
 pub loop-next-preserved : goal.loop-next-preserved
 loop-next-preserved c = record {
