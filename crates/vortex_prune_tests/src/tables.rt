@@ -3,7 +3,8 @@ use crate::testing::{and_exactly, bounds, map_of, no_statistics, one_set, pruned
 use std::alloc::{AllocError, Global};
 use std::test::Fail;
 use vortex_base::{AggregateFnRef, Cells, Column, DType, Nullability, PType, ScalarValue, Scope};
-use vortex_prune::{Head, Pruned, Rules, TableRefused, Zone, ZoneMap};
+use vortex_prune::{Head, Pruned, Rules, TableRefused, Verdict, Zone, ZoneMap, prune_by};
+use vortex_rewrite::rewrite::{falsify, satisfy};
 use vortex_rewrite_tests::nodes::*;
 use vortex_stats::{Stat, StatsError, StatsSet};
 
@@ -169,6 +170,25 @@ fn tables_are_pruned(rt: HostRuntime) -> Result<(), Fail> {
     let found = pruned(alloc, &table_map(alloc)?, 10)?;
     assert!(rt; found.skipped.as_slice() == [0].as_slice());
     assert!(rt; found.whole.as_slice() == [2].as_slice());
+    Ok(())
+}
+
+// The verdicts by proofs that are made apart.
+fn verdicts(alloc: Global, map: &ZoneMap, least: i32) -> Result<Vec<Verdict>, StatsError> {
+    let a = col(alloc, 0, I32_OR_NULL);
+    let predicate = gt(alloc, a, int(alloc, least))?;
+    let rules = Rules::builtin(alloc);
+    let falsifier = falsify(alloc, &predicate, &rules)?;
+    let satisfier = satisfy(alloc, &predicate, &rules)?;
+    prune_by(alloc, map, falsifier.as_ref(), satisfier.as_ref())
+}
+
+#[test]
+fn proofs_at_hand_tell_of_each_zone(rt: HostRuntime) -> Result<(), Fail> {
+    let alloc = rt.alloc();
+    let found = verdicts(alloc, &table_map(alloc)?, 10)?;
+    let all = [Verdict::Skipped, Verdict::Tested, Verdict::Whole];
+    assert!(rt; found.as_slice() == all.as_slice());
     Ok(())
 }
 
