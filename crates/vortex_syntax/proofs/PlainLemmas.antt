@@ -1,6 +1,6 @@
 -- Values in plain form: digits by digits, words up to their end, texts up to the quote that closes them.
 use Rattle.std.proofs.Common.{◌≡◌, ◌≢◌, ◌<◌, ◌≤◌, ◌+◌, ◌-◌, ◌*◌, ◌&&◌, ◌||◌, ◌==◌, ℕ, ℤ, suc, pos, neg_ℤ, Bool, true, false, not, List, [], ◌∷◌, ◌++◌, Option, None, Some, length, length-append, nat_lt, option_and_then, option_map, codes, append_assoc, position, take, drop, get_or, int_le, refl, ap, sym, subst, ◌∙◌, inl, inr, arith, take-append-drop}
-use Rattle.std.proofs.lemmas.Bool.{and_from, and_parts, cases_Bool}
+use Rattle.std.proofs.lemmas.Bool.{and_from, and_parts, cases_Bool, false_from_ne_true}
 use Rattle.std.proofs.lemmas.Bool.Decides.{nat_tests}
 use Rattle.std.proofs.lemmas.Int.Digits.{digits_value_push}
 use Rattle.std.proofs.lemmas.List.{take_rest, length-take-le}
@@ -26,10 +26,10 @@ use Rattle.vortex_base.specs.declared.types.PType.TheVariants as ptype
 use Rattle.vortex_syntax.proofs.Fronts.{front_is}
 use Rattle.vortex_syntax.proofs.NumberLemmas.{all_push, digit_is}
 use Rattle.vortex_syntax.proofs.Spelling.{quotes_open}
-use Rattle.vortex_syntax.specs.Numbers.{four_value, in_64_bits_signed, in_type, number_of, whole_of}
+use Rattle.vortex_syntax.specs.Numbers.{bytes_of, four_value, in_64_bits_signed, in_type, number_of, whole_of}
 use Rattle.vortex_syntax.specs.Plain.{BeginsNatural, BeginsQuoted, BeginsSigned, BeginsValue, BeginsWhole, BeginsWord, EndsWord, is_line_byte, is_text_byte, is_word_byte, truth_name}
 use Rattle.vortex_syntax.specs.Spelling.{CanBeSpelled, spelled_byte}
-use Rattle.vortex_syntax.specs.Values.{optional_value_of}
+use Rattle.vortex_syntax.specs.Values.{binary_of, optional_value_of}
 use Rattle.vortex_syntax.specs.Words.{Plain, Quoted}
 
 -- the text begins with digits, maybe none, that write this number
@@ -265,3 +265,16 @@ pub value_null_at : (t : DType) (text word : List ℕ) → word ≡ take (length
     → BeginsValue t text None (take (length word - 4) (drop 4 word))
 value_null_at t text word is has some first long n u l m ends =
     value_in_word t text word (codes "null") _ None (uncons text 32 some first ∙ ap (λ w. 32 ∷ w) (sym is)) (record { split = front_is (codes "null") word long (n, (u, (l, (m, tt)))); some = omega arith; is_plain = refl }) ends (rw has refl)
+
+-- ---- bytes
+
+begins_x : (word digits : List ℕ) → word ≡ 120 ∷ digits → bytes_eq word (codes "null") ≡ false
+begins_x word digits is = false_from_ne_true (bytes_eq word (codes "null")) (λ e. let first : 120 ≡ 110 = ap (λ (l : List ℕ). get_or l 0 0) (sym is ∙ (bytes_eq-Decides word (codes "null")).0 e) in omega arith)
+
+-- bytes behind a space, whose word this is
+pub value_bytes : (n : Nullability) (text behind word digits rest bytes : List ℕ) → text ≡ 32 ∷ behind → BeginsWord behind word rest → word ≡ 120 ∷ digits → EndsWord rest → bytes_of digits ≡ Some bytes
+    → BeginsValue (dtype.Binary n) text (Some (value.Binary bytes)) rest
+value_bytes n text behind word digits rest bytes is begins x ends read =
+    let null = begins_x word digits x in
+    let held : binary_of (120 ∷ digits) ≡ Some (value.Binary bytes) = rw read refl in
+    value_in_word (dtype.Binary n) text behind word rest (Some (value.Binary bytes)) is begins ends (rw null (ap (λ w. option_map (λ v. Some v) (binary_of w)) x ∙ ap (option_map (λ v. Some v)) held))

@@ -1,6 +1,6 @@
 //! Values in plain form, read straight from the bytes of a text, whose line isn't cut out before.
 //! What isn't in this form is left to the reader of words, by which each form here is specified.
-ghost use Rattle.std.specs.Prelude.{◌≡◌, ◌<◌, ◌∷◌, [], neg_ℤ, not, option_map, pos, position, IfOk, IfSome, IsTrue, Some, length};
+ghost use Rattle.std.specs.Prelude.{◌≡◌, ◌<◌, ◌∷◌, [], neg_ℤ, not, option_map, pos, position, IfOk, IfSome, None, IsTrue, Some, length};
 ghost use Rattle.vortex_base.specs.Data.Cells.{short_value};
 ghost use Rattle.vortex_base.specs.declared.dtype.DType.TheVariants as dtype;
 ghost use Rattle.vortex_base.specs.declared.scalar_value.ScalarValue.TheVariants as value;
@@ -12,7 +12,7 @@ ghost use Rattle.vortex_syntax.specs.Plain as spec;
 
 use crate::line_error::LineError;
 use crate::number::{in_type, is_signed};
-use crate::value::optional_value_of;
+use crate::value::{optional_value_of, read_bytes};
 use crate::word::Word;
 use std::alloc::{AllocError, Global};
 use std::str;
@@ -287,6 +287,59 @@ pub fn plain_cell(dtype: DType, text: &[u8]) -> Option<(ShortCell, &[u8])>
             Some((ShortCell::Bool(truth), rest))
         }
         _ => None,
+    }
+}
+
+/// What follows `null` behind one space at the front of a text, where a type has null and a space or
+/// a line feed follows. None where anything else stands there.
+#[inline(always)]
+pub fn plain_null(dtype: DType, text: &[u8]) -> Option<&[u8]>
+    ensures value { IfSome result (λ rest. BeginsValue dtype text.now None rest.now) }
+    ensures shorter { IfSome result (λ rest. length rest.now < length text.now) }
+{
+    let [b' ', word @ ..] = text else {
+        return None;
+    };
+    let [b'n', b'u', b'l', b'l', rest @ ..] = word else {
+        return None;
+    };
+    if !dtype.is_nullable() {
+        return None;
+    }
+    if ends_word(rest) { Some(rest) } else { None }
+}
+
+/// The bytes of a type behind a space at the front of a text, an `x` and their digits, put into a
+/// vector in the place of what it held, and what follows them: a space or a line feed. None where
+/// anything else stands there; nothing is said of the vector then.
+#[inline]
+pub fn plain_bytes<'a>(
+    dtype: DType,
+    text: &'a [u8],
+    bytes: &mut Vec<u8>,
+) -> Result<Option<&'a [u8]>, AllocError>
+    ensures value { IfOk result (λ o. IfSome o
+        (λ rest. BeginsValue dtype text.now (Some (value.Binary bytes.new.items)) rest.now)) }
+    ensures shorter { IfOk result (λ o. IfSome o
+        (λ rest. length rest.now < length text.now)) }
+{
+    let [b' ', behind @ ..] = text else {
+        return Ok(None);
+    };
+    let Some((word, rest)) = word(behind) else {
+        return Ok(None);
+    };
+    let (DType::Binary(_), [b'x', digits @ ..]) = (dtype, word) else {
+        return Ok(None);
+    };
+    if !ends_word(rest) {
+        return Ok(None);
+    }
+    bytes.clear();
+    if read_bytes(digits, bytes)? {
+        Ok(Some(rest))
+    } else {
+        Ok(None)
     }
 }
 

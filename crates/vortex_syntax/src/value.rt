@@ -1,5 +1,5 @@
 //! The values that words write.
-ghost use Rattle.std.specs.Prelude.{◌≡◌, ◌<◌, ◌≤◌, [], None, IfErr, IsErrOf, IsTrue, length, slice_index};
+ghost use Rattle.std.specs.Prelude.{◌≡◌, ◌<◌, ◌≤◌, [], if◌then◌else◌, None, Some, IfErr, IfOk, IsErrOf, IsTrue, OnErr, length, slice_index};
 ghost use Rattle.vortex_syntax.specs.Copies.{makes_bytes};
 ghost use Rattle.vortex_syntax.specs.Fails.{Gives, IsBad};
 ghost use Rattle.vortex_syntax.specs.Numbers.{byte_of, bytes_of, hexadecimal_of};
@@ -11,7 +11,7 @@ use crate::line_error::{Fault, LineError};
 use crate::names::is;
 use crate::number::number_of;
 use crate::word::Word;
-use std::alloc::Global;
+use std::alloc::{AllocError, Global};
 use vortex_base::bytes::Bytes;
 use vortex_base::dtype::DType;
 use vortex_base::scalar_value::ScalarValue;
@@ -47,21 +47,33 @@ fn byte_of(high: u8, low: u8) -> Option<u8>
     Some(16 * digit_of(high)? + digit_of(low)?)
 }
 
+// Puts the bytes that pairs of hexadecimal digits write into a vector without bytes. False where
+// the digits aren't such pairs.
+#[inline]
+pub(crate) fn read_bytes(digits: &[u8], bytes: &mut Vec<u8>) -> Result<bool, AllocError>
+    requires { bytes.old.items ≡ [] }
+    ensures bytes { IfOk result
+        (λ read. bytes_of digits.now ≡ (if read then Some bytes.new.items else None)) }
+    ensures memory { OnErr result (2 ≤ length digits.now) }
+{
+    let mut rest = digits;
+    'pairs: while let [high, low, after @ ..] = rest {
+        let Some(byte) = byte_of(*high, *low) else {
+            return Ok(false);
+        };
+        bytes.push(byte)?;
+        rest = after;
+    }
+    Ok(rest.is_empty())
+}
+
 // The bytes that pairs of hexadecimal digits write, or the fault of a word that isn't such.
 fn bytes_of(alloc: Global, digits: &[u8], fault: Fault) -> Result<Vec<u8>, LineError>
     ensures bytes { Gives (λ v. v.items) result (bytes_of digits.now) }
     ensures memory { IsErrOf result LineError.Memory → 2 ≤ length digits.now }
 {
     let mut bytes = Vec::with_capacity(alloc, digits.len() / 2)?;
-    let mut rest = digits;
-    'pairs: while let [high, low, after @ ..] = rest {
-        let Some(byte) = byte_of(*high, *low) else {
-            return Err(LineError::Bad(fault));
-        };
-        bytes.push(byte)?;
-        rest = after;
-    }
-    if rest.is_empty() {
+    if read_bytes(digits, &mut bytes)? {
         Ok(bytes)
     } else {
         Err(LineError::Bad(fault))

@@ -42,7 +42,7 @@ has_line (b ∷ text) some = elim (cases_Bool (b == 10)) [
   | inr isnt ↦ rw isnt (parts_have b (slice_split ends text))
 ]
 
-ends_some : (text : List ℕ) → EndsWord text → 0 < length text
+pub ends_some : (text : List ℕ) → EndsWord text → 0 < length text
 ends_some [] end = absurd end
 ends_some (b ∷ text) end = omega arith
 

@@ -1,8 +1,9 @@
 -- The first line of a text, and the lines after it.
-use Rattle.std.specs.Prelude.{◌≡◌, ◌||◌, ℕ, Bool, List, [], ◌∷◌, ◌++◌, Option, None, Some, IsTrue, drop, is_some, option_map, take}
+use Rattle.std.specs.Prelude.{◌≡◌, ◌<◌, ◌-◌, ◌||◌, ℕ, Bool, List, [], ◌∷◌, ◌++◌, Option, None, Some, IsTrue, drop, is_some, length, option_map, take}
 use Rattle.std.specs.List.{list_all}
 use Rattle.std.specs.Str.{is_utf8}
 use Rattle.vortex_base.specs.Data.Columns.{ColumnData}
+use Rattle.vortex_base.specs.declared.dtype.DType.{DType}
 use Rattle.vortex_base.specs.declared.scalar_value.ScalarValue.{ScalarValue}
 use Rattle.vortex_syntax.specs.Fails.{◌>>=◌}
 use Rattle.vortex_syntax.specs.Plain.{BeginsValue, is_line_byte}
@@ -40,6 +41,14 @@ first_values r ls = do
 -- the column takes a value in plain form at the front of a text, and what follows that is the rest
 abbrev pub TakesValue : ColumnData → List ℕ → ColumnData → List ℕ → Type 0
 TakesValue old text new rest = (v : Option ScalarValue) × BeginsValue old.dtype text v rest × (new ≡ with_value v old)
+
+-- the values of a type get a value in plain form at the front of a text behind them, and what follows that is the rest
+abbrev pub AddsValue : DType → List (Option ScalarValue) → List ℕ → List (Option ScalarValue) → List ℕ → Type 0
+AddsValue t old text new rest = (v : Option ScalarValue) × BeginsValue t text v rest × (new ≡ old ++ v ∷ [])
+
+-- so many bytes of the text are left, of which P is true
+abbrev pub LeavesBytes : ℕ → List ℕ → (List ℕ → Type 0) → Type 0
+LeavesBytes left text P = (left < length text) × P (drop (length text - left) text)
 
 -- So many columns took values at the front of a text, and what follows those is the rest. Whatever the line ends with, the others are to take the words of that.
 pub record BeginsRow (old new : List ColumnData) (text rest : List ℕ) (count : ℕ) : Type 0 where

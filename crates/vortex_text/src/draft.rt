@@ -1,8 +1,8 @@
 //! What the lines of a text say, line by line.
-ghost use Rattle.std.specs.Prelude.{◌≡◌, ◌<◌, ◌++◌, ◌||◌, IfOk, IfSome, IsErrOf, IsTrue, OnErr, OnOk, MatchOption, None, Some, [], codes, is_some, length};
+ghost use Rattle.std.specs.Prelude.{◌≡◌, ◌<◌, ◌≤◌, ◌++◌, ◌||◌, IfOk, IfSome, IsErrOf, IsTrue, OnErr, OnOk, MatchOption, None, Some, [], codes, is_some, length, ok_or};
 ghost use Rattle.std.specs.Str.Lines.{lines};
 ghost use Rattle.vortex_base.specs.Data.Scopes.{IsScope, named_columns};
-ghost use Rattle.vortex_syntax.specs.Fails.{Changes, GivesAndChanges, IsBad};
+ghost use Rattle.vortex_syntax.specs.Fails.{Changes, Fails, GivesAndChanges, IsBad};
 ghost use Rattle.vortex_syntax.specs.Plain.{EndsWord};
 ghost use Rattle.vortex_syntax.specs.Words.{words};
 ghost use Rattle.vortex_text.specs.Drafts.{reading_of};
@@ -179,6 +179,7 @@ impl Draft {
     }
 
     // `part`
+    #[inline(never)]
     fn read_part(&mut self, alloc: Global, line: &[u8]) -> Result<(), LineError>
         requires { FitsTogether (reading_of self.old) }
         ensures read { let old = reading_of self.old in
@@ -338,23 +339,34 @@ impl Draft {
         self.read_words(alloc, line)
     }
 
-    // The row that a text begins with, behind its first word. The text after the line comes back.
-    fn read_first_row<'a>(&mut self, alloc: Global, values: &'a [u8]) -> Result<&'a [u8], LineError>
+    // The row that a text begins with, behind its first word. The text after the line comes back,
+    // or none where the line is refused.
+    #[inline(always)]
+    fn read_first_row<'a>(
+        &mut self,
+        alloc: Global,
+        values: &'a [u8],
+        refused: &mut LineError,
+    ) -> Option<&'a [u8]>
         requires { EndsWord values.now }
         ensures read { let old = reading_of self.old in
-            GivesAndChanges (λ rest. lines rest.now) result
+            GivesAndChanges (λ rest. lines rest.now) (ok_or result refused.new)
             (first_values old (lines values.now)) (reading_of self.new) }
-        ensures memory { IsErrOf result LineError.Memory
+        ensures memory { IsErrOf (ok_or result refused.new) LineError.Memory
             → IsTrue (is_some (reading_of self.old).current) }
-        ensures shorter { IfOk result (λ rest. length rest.now < length values.now) }
+        ensures shorter { IfSome result (λ rest. length rest.now < length values.now) }
     {
         match &mut self.store {
-            Some(store) => store.push_first_row(alloc, values),
-            None => Err(LineError::at(values.len(), Expected::OpenPart)),
+            Some(store) => store.push_first_row(alloc, values, refused),
+            None => {
+                *refused = LineError::at(values.len(), Expected::OpenPart);
+                None
+            }
         }
     }
 
     // The first line of a text, whatever it is. The text after it comes back.
+    #[inline(never)]
     fn read_any_first<'a>(&mut self, alloc: Global, text: &'a [u8]) -> Result<&'a [u8], LineError>
         requires some { 0 < length text.now }
         requires fits { FitsTogether (reading_of self.old) }
@@ -396,26 +408,19 @@ impl Draft {
         Ok(after)
     }
 
-    /// Reads the first line of a text. The text after it comes back. A line that isn't UTF-8 is
-    /// bad.
-    pub fn read_first<'a>(&mut self, alloc: Global, text: &'a [u8]) -> Result<&'a [u8], LineError>
+    // The first line of a text, which is no row in an open text. The text after it comes back.
+    fn read_other_first<'a>(&mut self, alloc: Global, text: &'a [u8]) -> Result<&'a [u8], LineError>
         requires some { 0 < length text.now }
         requires fits { FitsTogether (reading_of self.old) }
         ensures read { let old = reading_of self.old in
             GivesAndChanges (λ rest. lines rest.now) result (first_read old (lines text.now))
             (reading_of self.new) }
-        // Memory is refused to a line that takes some, or while a part takes rows.
         ensures memory { IsErrOf result LineError.Memory
             → IsTrue (may_take (reading_of self.old) (lines text.now)) }
         ensures shorter { IfOk result (λ rest. length rest.now < length text.now) }
     {
         if self.predicate.is_some() {
             return self.read_any_first(alloc, text);
-        }
-        if let [b'r', b'o', b'w', values @ ..] = text {
-            if ends_word(values) {
-                return self.read_first_row(alloc, values);
-            }
         }
         if let [b'p', b'a', b'r', b't', b'\n', after @ ..] = text {
             self.read_part(alloc, &[])?;
@@ -425,6 +430,62 @@ impl Draft {
             return self.read_first_stat(alloc, text, said);
         }
         self.read_any_first(alloc, text)
+    }
+
+    // The same, where an error is told apart, so that the reader of rows needs no place for one.
+    // The text itself comes back where the line is refused.
+    #[inline(never)]
+    fn read_other<'a>(&mut self, alloc: Global, text: &'a [u8], refused: &mut LineError) -> &'a [u8]
+        requires some { 0 < length text.now }
+        requires fits { FitsTogether (reading_of self.old) }
+        ensures read { length result.now < length text.now → first_read (reading_of self.old)
+            (lines text.now) ≡ Some (reading_of self.new, lines result.now) }
+        ensures refused { length text.now ≤ length result.now
+            → Fails refused.new (first_read (reading_of self.old) (lines text.now)) }
+        ensures memory { length text.now ≤ length result.now → refused.new ≡ LineError.Memory
+            → IsTrue (may_take (reading_of self.old) (lines text.now)) }
+    {
+        match self.read_other_first(alloc, text) {
+            Ok(after) => after,
+            Err(error) => {
+                *refused = error;
+                text
+            }
+        }
+    }
+
+    /// Reads the first line of a text. The text after it comes back, or none where the line is
+    /// refused, and then why. A line that isn't UTF-8 is bad.
+    #[inline(always)]
+    pub fn read_first<'a>(
+        &mut self,
+        alloc: Global,
+        text: &'a [u8],
+        refused: &mut LineError,
+    ) -> Option<&'a [u8]>
+        requires some { 0 < length text.now }
+        requires fits { FitsTogether (reading_of self.old) }
+        ensures read { let old = reading_of self.old in
+            GivesAndChanges (λ rest. lines rest.now) (ok_or result refused.new)
+            (first_read old (lines text.now)) (reading_of self.new) }
+        // Memory is refused to a line that takes some, or while a part takes rows.
+        ensures memory { IsErrOf (ok_or result refused.new) LineError.Memory
+            → IsTrue (may_take (reading_of self.old) (lines text.now)) }
+        ensures shorter { IfSome result (λ rest. length rest.now < length text.now) }
+    {
+        if self.predicate.is_none() {
+            if let [b'r', b'o', b'w', values @ ..] = text {
+                if ends_word(values) {
+                    return self.read_first_row(alloc, values, refused);
+                }
+            }
+        }
+        let after = self.read_other(alloc, text, refused);
+        if after.len() < text.len() {
+            Some(after)
+        } else {
+            None
+        }
     }
 
     /// All the parts and the predicate, if there is one.

@@ -69,14 +69,15 @@ pub(crate) fn read_lines<'a>(
 {
     let mut rest = text;
     let mut number = first;
+    let mut refused = LineError::Memory;
     while !rest.is_empty() {
-        rest = match draft.read_first(alloc, rest) {
-            Ok(after) => after,
-            Err(LineError::Memory) => return Err(InputError::Memory),
-            Err(LineError::Bad(fault)) => {
-                return Err(InputError::BadLine(bad_line(number, rest, fault)));
-            }
+        let Some(after) = draft.read_first(alloc, rest, &mut refused) else {
+            return match refused {
+                LineError::Memory => Err(InputError::Memory),
+                LineError::Bad(fault) => Err(InputError::BadLine(bad_line(number, rest, fault))),
+            };
         };
+        rest = after;
         number += 1;
     }
     Ok(number)

@@ -1,24 +1,27 @@
 //! A column that still takes values.
-ghost use Rattle.std.specs.Prelude.{◌≡◌, ◌<◌, [], All, IfOk, IfSome, MatchOption, OnOk, Some, length};
-ghost use Rattle.vortex_base.specs.Data.Cells.{short_value};
+ghost use Rattle.std.specs.Prelude.{◌≡◌, ◌<◌, ◌≤◌, ◌-◌, [], All, IfOk, IfSome, MatchOption, OnOk, drop, length, map, option_map};
+ghost use Rattle.vortex_base.specs.Data.Cells.{bytes_value, cell_values, short_value, text_value};
 ghost use Rattle.vortex_base.specs.Data.Columns.{IsColumn};
-ghost use Rattle.vortex_base.specs.declared.scalar_value.ScalarValue.TheVariants as value;
+ghost use Rattle.vortex_base.specs.declared.dtype.DType.TheVariants as dtype;
 ghost use Rattle.vortex_syntax.specs.Fails.{Changes, GivesAndChanges};
 ghost use Rattle.vortex_syntax.specs.Words.{words};
 ghost use Rattle.vortex_text.specs.Columns.{taken, with_value, with_values};
-ghost use Rattle.vortex_text.specs.FirstLines.{TakesValue};
+ghost use Rattle.vortex_text.specs.FirstLines.{AddsValue, LeavesBytes, TakesValue};
 
 use std::alloc::{AllocError, Global};
 use std::marker::Model;
+use vortex_base::blobs::Blobs;
 use vortex_base::cells::{Cells, ShortCell};
 use vortex_base::column::Column;
 use vortex_base::dtype::DType;
+use vortex_base::native::Native;
+use vortex_base::natives::Natives;
 use vortex_base::scalar_value::ScalarValue;
-use vortex_base::texts::TextRef;
-use vortex_base::value_ref::ValueRef;
+use vortex_base::texts::Texts;
+use vortex_base::types::{Nullability, PType};
 use vortex_syntax::expected::Expected;
 use vortex_syntax::line_error::LineError;
-use vortex_syntax::plain::{plain_cell, plain_text, plain_value};
+use vortex_syntax::plain::{plain_bytes, plain_cell, plain_null, plain_text};
 use vortex_syntax::value::optional_value_of;
 use vortex_syntax::word::{first_word, no_word};
 
@@ -27,6 +30,8 @@ use vortex_syntax::word::{first_word, no_word};
 pub struct OpenColumn {
     dtype: DType,
     cells: Cells,
+    // Where bytes are put together that go into the cells.
+    scratch: Vec<u8>,
 }
 
 impl Model for OpenColumn {
@@ -38,6 +43,122 @@ impl Model for OpenColumn {
     ghost view = { λ c. record { dtype = c.dtype; values = cell_values c.cells; size = 0 } };
 }
 
+// Adds the truth or number in plain form of a type that a text begins with, behind a space, or
+// null, to values that are kept as that type.
+#[inline(always)]
+fn take_native<'a, T: Native>(
+    natives: &mut Natives<T>,
+    dtype: DType,
+    text: &'a [u8],
+) -> Option<&'a [u8]>
+    ensures taken { MatchOption result (natives.new ≡ natives.old)
+        (λ rest. AddsValue dtype (map (option_map T.scalar) natives.old) text.now
+        (map (option_map T.scalar) natives.new) rest.now) }
+    ensures shorter { IfSome result (λ rest. length rest.now < length text.now) }
+{
+    let (cell, rest) = plain_cell(dtype, text)?;
+    let native = T::of_cell(cell)?;
+    match natives.push(native) {
+        Ok(()) => Some(rest),
+        Err(AllocError) => None,
+    }
+}
+
+// The same of a number.
+#[inline(always)]
+fn take_number<'a, T: Native>(
+    natives: &mut Natives<T>,
+    ptype: PType,
+    nullability: Nullability,
+    text: &'a [u8],
+) -> Option<&'a [u8]>
+    ensures taken { MatchOption result (natives.new ≡ natives.old)
+        (λ rest. AddsValue (dtype.Primitive ptype nullability)
+        (map (option_map T.scalar) natives.old) text.now
+        (map (option_map T.scalar) natives.new) rest.now) }
+    ensures shorter { IfSome result (λ rest. length rest.now < length text.now) }
+{
+    take_native(natives, DType::Primitive(ptype, nullability), text)
+}
+
+// Adds the text in plain form of a type that another begins with, behind a space. How many bytes
+// are left comes back.
+#[inline(never)]
+fn take_text(texts: &mut Texts, dtype: DType, text: &[u8]) -> Option<usize>
+    ensures taken { MatchOption result (texts.new ≡ texts.old)
+        (λ left. LeavesBytes left text.now (λ rest. AddsValue dtype (map text_value texts.old)
+        text.now (map text_value texts.new) rest)) }
+{
+    let (quoted, rest) = plain_text(dtype, text)?;
+    match texts.push(Some(quoted)) {
+        Ok(()) => Some(rest.len()),
+        Err(AllocError) => None,
+    }
+}
+
+// Adds the bytes in plain form of a type that a text begins with, behind a space. How many bytes of
+// the text are left comes back.
+#[inline(never)]
+fn take_bytes(blobs: &mut Blobs, scratch: &mut Vec<u8>, dtype: DType, text: &[u8]) -> Option<usize>
+    ensures taken { MatchOption result (blobs.new ≡ blobs.old)
+        (λ left. LeavesBytes left text.now (λ rest. AddsValue dtype (map bytes_value blobs.old)
+        text.now (map bytes_value blobs.new) rest)) }
+{
+    let Ok(Some(rest)) = plain_bytes(dtype, text, scratch) else {
+        return None;
+    };
+    match blobs.push(Some(scratch.as_slice())) {
+        Ok(()) => Some(rest.len()),
+        Err(AllocError) => None,
+    }
+}
+
+// The last bytes of a text, so many.
+#[inline(always)]
+fn last_bytes(text: &[u8], left: usize) -> &[u8]
+    requires { left ≤ length text.now }
+    ensures { result.now ≡ drop (length text.now - left) text.now }
+{
+    &text[text.len() - left..]
+}
+
+// Adds the value in plain form of a type that a text begins with, behind a space, to cells in the
+// form of that type. The text after it comes back, or none where anything else stands there, the
+// cells have another form or memory is refused.
+#[inline(always)]
+fn take_own<'a>(
+    cells: &mut Cells,
+    scratch: &mut Vec<u8>,
+    dtype: DType,
+    text: &'a [u8],
+) -> Option<&'a [u8]>
+    ensures taken { MatchOption result (cell_values cells.new ≡ cell_values cells.old)
+        (λ rest. AddsValue dtype (cell_values cells.old) text.now (cell_values cells.new)
+        rest.now) }
+    ensures shorter { IfSome result (λ rest. length rest.now < length text.now) }
+{
+    match (cells, dtype) {
+        (Cells::Bool(truths), DType::Bool(n)) => take_native(truths, DType::Bool(n), text),
+        (Cells::U8(v), DType::Primitive(PType::U8, n)) => take_number(v, PType::U8, n, text),
+        (Cells::U16(v), DType::Primitive(PType::U16, n)) => take_number(v, PType::U16, n, text),
+        (Cells::U32(v), DType::Primitive(PType::U32, n)) => take_number(v, PType::U32, n, text),
+        (Cells::U64(v), DType::Primitive(PType::U64, n)) => take_number(v, PType::U64, n, text),
+        (Cells::I8(v), DType::Primitive(PType::I8, n)) => take_number(v, PType::I8, n, text),
+        (Cells::I16(v), DType::Primitive(PType::I16, n)) => take_number(v, PType::I16, n, text),
+        (Cells::I32(v), DType::Primitive(PType::I32, n)) => take_number(v, PType::I32, n, text),
+        (Cells::I64(v), DType::Primitive(PType::I64, n)) => take_number(v, PType::I64, n, text),
+        (Cells::Texts(texts), _) => {
+            let left = take_text(texts, dtype, text)?;
+            Some(last_bytes(text, left))
+        }
+        (Cells::Binary(blobs), _) => {
+            let left = take_bytes(blobs, scratch, dtype, text)?;
+            Some(last_bytes(text, left))
+        }
+        _ => None,
+    }
+}
+
 impl OpenColumn {
     /// A column with no values yet.
     pub fn new(alloc: Global, dtype: DType) -> OpenColumn
@@ -46,6 +167,7 @@ impl OpenColumn {
         OpenColumn {
             dtype,
             cells: Cells::new(alloc, dtype),
+            scratch: Vec::new(alloc),
         }
     }
 
@@ -61,7 +183,7 @@ impl OpenColumn {
         requires { IsColumn self }
         ensures { result ≡ self }
     {
-        let OpenColumn { dtype, cells } = self;
+        let OpenColumn { dtype, cells, .. } = self;
         Column::new_unchecked(dtype, cells, 0)
     }
 
@@ -79,15 +201,6 @@ impl OpenColumn {
         ensures { OnOk result (self.new ≡ with_value (short_value cell) self.old) }
     {
         self.cells.push_cell(cell)
-    }
-
-    // Adds a text, whose bytes go into the heap of the others.
-    #[inline]
-    fn push_text(&mut self, alloc: Global, text: &str) -> Result<(), AllocError>
-        ensures { OnOk result (self.new ≡ with_value (Some (value.Utf8 text.now)) self.old) }
-    {
-        self.cells
-            .push_lent(Some(ValueRef::Utf8(TextRef::new(text, alloc))))
     }
 
     // Adds the value of the first word of a line. The rest of the line comes back.
@@ -118,47 +231,34 @@ impl OpenColumn {
         self.take_word(alloc, line)
     }
 
-    // Adds the value in plain form that a text begins with, behind a space. The text after it comes
-    // back, or none where anything else stands there.
+    // Adds the null that a text begins with, behind a space, where the type has it. How many bytes
+    // of the text are left comes back.
     #[inline(never)]
-    fn take_value<'a>(
-        &mut self,
-        alloc: Global,
-        text: &'a [u8],
-    ) -> Result<Option<&'a [u8]>, AllocError>
-        ensures taken { IfOk result (λ o. MatchOption o (self.new ≡ self.old)
-            (λ rest. TakesValue self.old text.now self.new rest.now)) }
-        ensures shorter { IfOk result (λ o. IfSome o
-            (λ rest. length rest.now < length text.now)) }
+    fn take_null(&mut self, text: &[u8]) -> Option<usize>
+        ensures taken { MatchOption result (self.new ≡ self.old)
+            (λ left. LeavesBytes left text.now
+            (λ rest. TakesValue self.old text.now self.new rest)) }
     {
-        if let Some((quoted, rest)) = plain_text(self.dtype, text) {
-            self.push_text(alloc, quoted)?;
-            return Ok(Some(rest));
-        }
-        let Some((value, rest)) = plain_value(alloc, self.dtype, text)? else {
-            return Ok(None);
+        let rest = plain_null(self.dtype, text)?;
+        let Ok(()) = self.cells.push(None) else {
+            return None;
         };
-        self.push(value)?;
-        Ok(Some(rest))
+        Some(rest.len())
     }
 
-    // The same. The cell of a truth or a number is made from the bytes.
+    /// Adds the value in plain form that a text begins with, behind a space. The text after it comes
+    /// back, or none where anything else stands there or memory is refused.
     #[inline(always)]
-    pub fn take_plain<'a>(
-        &mut self,
-        alloc: Global,
-        text: &'a [u8],
-    ) -> Result<Option<&'a [u8]>, AllocError>
-        ensures taken { IfOk result (λ o. MatchOption o (self.new ≡ self.old)
-            (λ rest. TakesValue self.old text.now self.new rest.now)) }
-        ensures shorter { IfOk result (λ o. IfSome o
-            (λ rest. length rest.now < length text.now)) }
+    pub fn take_plain<'a>(&mut self, text: &'a [u8]) -> Option<&'a [u8]>
+        ensures taken { MatchOption result (self.new ≡ self.old)
+            (λ rest. TakesValue self.old text.now self.new rest.now) }
+        ensures shorter { IfSome result (λ rest. length rest.now < length text.now) }
     {
-        if let Some((cell, rest)) = plain_cell(self.dtype, text) {
-            self.push_cell(cell)?;
-            return Ok(Some(rest));
+        if let Some(rest) = take_own(&mut self.cells, &mut self.scratch, self.dtype, text) {
+            return Some(rest);
         }
-        self.take_value(alloc, text)
+        let left = self.take_null(text)?;
+        Some(last_bytes(text, left))
     }
 }
 

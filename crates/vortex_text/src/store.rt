@@ -1,5 +1,5 @@
 //! The parts of a text as ranges of the rows of one set of columns.
-ghost use Rattle.std.specs.Prelude.{◌≡◌, ◌<◌, [], All, IfOk, IsErrOf, IsTrue, List, OnErr, OnOk, Some, is_some, length};
+ghost use Rattle.std.specs.Prelude.{◌≡◌, ◌<◌, [], All, IfOk, IfSome, IsErrOf, IsTrue, List, OnErr, OnOk, Some, is_some, length, ok_or};
 ghost use Rattle.std.specs.Str.Lines.{lines};
 ghost use Rattle.vortex_base.specs.Data.Scopes.{IsScope, Named, named_columns};
 ghost use Rattle.vortex_syntax.specs.Fails.{Changes, GivesAndChanges};
@@ -133,26 +133,30 @@ impl Store {
     }
 
     /// Adds the row that a text begins with, behind its first word. The text after the line comes
-    /// back.
+    /// back, or none where the line is refused.
+    #[inline(always)]
     pub fn push_first_row<'a>(
         &mut self,
         alloc: Global,
         text: &'a [u8],
-    ) -> Result<&'a [u8], LineError>
+        refused: &mut LineError,
+    ) -> Option<&'a [u8]>
         requires { EndsWord text.now }
-        ensures row { GivesAndChanges (λ rest. lines rest.now) result
+        ensures row { GivesAndChanges (λ rest. lines rest.now) (ok_or result refused.new)
             (with_first self.old (lines text.now)) self.new }
-        ensures memory { IsErrOf result LineError.Memory → IsTrue (is_some self.old.current) }
-        ensures shorter { IfOk result (λ rest. length rest.now < length text.now) }
+        ensures memory { IsErrOf (ok_or result refused.new) LineError.Memory
+            → IsTrue (is_some self.old.current) }
+        ensures shorter { IfSome result (λ rest. length rest.now < length text.now) }
     {
         if !self.is_open {
-            return Err(LineError::at(text.len(), Expected::OpenPart));
+            *refused = LineError::at(text.len(), Expected::OpenPart);
+            return None;
         }
-        match push_first_row(alloc, &mut self.columns, text) {
-            Ok(after) => Ok(after),
-            Err(refused) => {
+        match push_first_row(alloc, &mut self.columns, text, refused) {
+            Some(after) => Some(after),
+            None => {
                 self.columns.clear();
-                Err(refused)
+                None
             }
         }
     }

@@ -7,8 +7,8 @@ loop-column-preserved c =
     let columns = c.loop-column.columns in
     let i = c.loop-column.column-index in
     let item = get_or columns i c.column-item.result in
-    let took = rw c.in-Some.is at c.in_ok-after.ensures.taken in
-    let shorter = rw c.in-Some.is at c.in_ok-after.ensures.shorter in
+    let took = c.in-Some.ensures.taken in
+    let shorter = c.in-Some.ensures.shorter in
     record {
       row = row_one_more c.args.columns.now columns c.args.text.now c.loop-column.rest.now c.in-Some.after.now i item c.take_plain.new.self c.column-item.result (omega arith) refl took c.loop-column.invariant.row;
       count = omega arith;

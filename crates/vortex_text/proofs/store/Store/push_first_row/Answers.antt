@@ -12,27 +12,27 @@ pub invariant_of-self : goal.invariant_of-self
 invariant_of-self c =
     let s = c.self.inside in
     let ls = lines c.args.text.now in
-    let rest = lines c.in-Ok.after.now in
+    let rest = lines c.in-Some.after.now in
     let new = take s.columns.len (c.push_first_row.new.columns ++ drop (length c.push_first_row.new.columns) s.columns.items) in
     let same : new ≡ c.push_first_row.new.columns = with_items_is s.columns c.push_first_row.new.columns (c.push_first_row.auto.columns ∙ c.deref_mut.ensures.len) in
-    let read : first_row s.columns.items ls ≡ Some (new, rest) = ap (λ cs. first_row cs ls) (sym c.deref_mut.ensures.value) ∙ c.in-Ok.ensures.row ∙ ap (λ cs. Some (cs, rest)) (sym same) in
+    let read : first_row s.columns.items ls ≡ Some (new, rest) = ap (λ cs. first_row cs ls) (sym c.deref_mut.ensures.value) ∙ c.in-Some.ensures.row ∙ ap (λ cs. Some (cs, rest)) (sym same) in
     first_is_store s.scope s.columns.items new s.log s.from s.is_open ls rest c.self.invariant c.if-not-self.false read
 
-pub returns-in-Ok-clause-row : goal.returns-in-Ok-clause-row
-returns-in-Ok-clause-row c =
+pub returns-in-Some-clause-row : goal.returns-in-Some-clause-row
+returns-in-Some-clause-row c =
     let s = c.self.inside in
     let ls = lines c.args.text.now in
-    let rest = lines c.in-Ok.after.now in
+    let rest = lines c.in-Some.after.now in
     let new = take s.columns.len (c.push_first_row.new.columns ++ drop (length c.push_first_row.new.columns) s.columns.items) in
     let same : new ≡ c.push_first_row.new.columns = with_items_is s.columns c.push_first_row.new.columns (c.push_first_row.auto.columns ∙ c.deref_mut.ensures.len) in
-    let read : first_row s.columns.items ls ≡ Some (new, rest) = ap (λ cs. first_row cs ls) (sym c.deref_mut.ensures.value) ∙ c.in-Ok.ensures.row ∙ ap (λ cs. Some (cs, rest)) (sym same) in
+    let read : first_row s.columns.items ls ≡ Some (new, rest) = ap (λ cs. first_row cs ls) (sym c.deref_mut.ensures.value) ∙ c.in-Some.ensures.row ∙ ap (λ cs. Some (cs, rest)) (sym same) in
     ap (λ (x : StoreData). with_first x ls) (sym c.self.view_is)
     ∙ first_view s.scope s.columns.items new s.log s.from s.is_open ls rest c.self.invariant c.if-not-self.false read
 
-pub returns-in-Err-clause-row : goal.returns-in-Err-clause-row
-returns-in-Err-clause-row c =
+pub returns-in-None-clause-row : goal.returns-in-None-clause-row
+returns-in-None-clause-row c =
     let s = c.self.inside in
     let ls = lines c.args.text.now in
-    let fails : Fails c.in-Err.refused (first_row s.columns.items ls) = subst (λ (cs : List ColumnData). Fails c.in-Err.refused (first_row cs ls)) c.deref_mut.ensures.value c.in-Err.ensures.row in
-    subst (λ (x : StoreData). Fails c.in-Err.refused (with_first x ls)) c.self.view_is
-    (first_refused c.in-Err.refused s.scope s.columns.items s.log s.from s.is_open ls c.self.invariant c.if-not-self.false fails)
+    let fails : Fails c.push_first_row.new.refused (first_row s.columns.items ls) = subst (λ (cs : List ColumnData). Fails c.push_first_row.new.refused (first_row cs ls)) c.deref_mut.ensures.value c.in-None.ensures.row in
+    subst (λ (x : StoreData). Fails c.push_first_row.new.refused (with_first x ls)) c.self.view_is
+    (first_refused c.push_first_row.new.refused s.scope s.columns.items s.log s.from s.is_open ls c.self.invariant c.if-not-self.false fails)

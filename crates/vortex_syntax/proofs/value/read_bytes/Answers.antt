@@ -1,6 +1,6 @@
 use Rattle.std.proofs.Common.{ℕ, length-drop, sym, ◌∙◌, arith}
 use Rattle.vortex_syntax.proofs.NumberLemmas.{pairs_more}
-use Rattle.vortex_syntax.proofs.value.bytes_of.Goals as goal
+use Rattle.vortex_syntax.proofs.value.read_bytes.Goals as goal
 
 pub pairs-preserved : goal.pairs-preserved
 pairs-preserved c =

@@ -1,6 +1,6 @@
 use Rattle.std.proofs.Common.{◌≡◌, ◌≤◌, ◌++◌, length, option_map}
 use Rattle.vortex_syntax.specs.Numbers.{bytes_of}
-use Rattle.vortex_syntax.proofs.value.bytes_of.Given as goal
+use Rattle.vortex_syntax.proofs.value.read_bytes.Given as goal
 
 -- the bytes so far stand in front of those to come
 abbrev pub invariant-pairs : goal.invariant-pairs
