@@ -1,5 +1,6 @@
 -- Values in plain form: digits by digits, words up to their end, texts up to the quote that closes them.
 use Rattle.std.proofs.Common.{◌≡◌, ◌≢◌, ◌<◌, ◌≤◌, ◌+◌, ◌-◌, ◌*◌, ◌&&◌, ◌||◌, ◌==◌, ℕ, ℤ, suc, pos, neg_ℤ, Bool, true, false, not, List, [], ◌∷◌, ◌++◌, Option, None, Some, length, length-append, nat_lt, option_and_then, option_map, codes, append_assoc, position, take, drop, get_or, int_le, refl, ap, sym, subst, ◌∙◌, inl, inr, arith, take-append-drop}
+use Rattle.std.specs.Prelude.{IfSome}
 use Rattle.std.proofs.lemmas.Bool.{and_from, and_parts, cases_Bool, false_from_ne_true}
 use Rattle.std.proofs.lemmas.Bool.Decides.{nat_tests}
 use Rattle.std.proofs.lemmas.Int.Digits.{digits_value_push}
@@ -10,7 +11,6 @@ use Rattle.std.specs.List.{AllByRecursion, flat_map, list_all, position_or_len}
 use Rattle.std.proofs.lemmas.Slice.Eq.{bytes_eq-Decides}
 use Rattle.std.specs.Str.{all_ascii_digits, bytes_eq, is_utf8}
 use Rattle.vortex_base.specs.Meanings.Typing.{is_signed}
-use Rattle.std.specs.Str.Parse.{digits_value}
 use Rattle.vortex_base.specs.Data.Values.{greatest, least}
 use Rattle.vortex_base.specs.declared.dtype.DType.{DType}
 use Rattle.vortex_base.specs.Data.Types.{is_nullable}
@@ -27,17 +27,10 @@ use Rattle.vortex_syntax.proofs.Fronts.{front_is}
 use Rattle.vortex_syntax.proofs.NumberLemmas.{all_push, digit_is}
 use Rattle.vortex_syntax.proofs.Spelling.{quotes_open}
 use Rattle.vortex_syntax.specs.Numbers.{bytes_of, four_value, in_64_bits_signed, in_type, number_of, whole_of}
-use Rattle.vortex_syntax.specs.Plain.{BeginsNatural, BeginsQuoted, BeginsSigned, BeginsValue, BeginsWhole, BeginsWord, EndsWord, is_line_byte, is_text_byte, is_word_byte, truth_name}
+use Rattle.vortex_syntax.specs.Plain.{BeginsDigits, BeginsNatural, BeginsQuoted, BeginsSigned, BeginsValue, BeginsWhole, BeginsWord, EndsWord, is_line_byte, is_text_byte, is_word_byte, truth_name}
 use Rattle.vortex_syntax.specs.Spelling.{CanBeSpelled, spelled_byte}
 use Rattle.vortex_syntax.specs.Values.{binary_of, optional_value_of}
 use Rattle.vortex_syntax.specs.Words.{Plain, Quoted}
-
--- the text begins with digits, maybe none, that write this number
-pub record BeginsDigits (text : List ℕ) (n : ℕ) (rest : List ℕ) : Type 0 where
-  pub digits : List ℕ
-  pub split : text ≡ digits ++ rest
-  pub all : all_ascii_digits digits ≡ true
-  pub value : digits_value 10 digits ≡ n
 
 pub digits_none : (text : List ℕ) → BeginsDigits text 0 text
 digits_none text = record { digits = []; split = refl; all = refl; value = refl }
@@ -96,6 +89,37 @@ natural_begins text rest n so_far shorter =
     let long : nat_lt 0 (length so_far.digits) ≡ true = grind (arith, nat_tests) in
     let all = so_far.all in
     (so_far.digits, record { split = so_far.split; some = some; is_plain = word_digits so_far.digits all }, rw (all, long) (ap Some so_far.value))
+
+-- the same, told otherwise
+natural_as : (text rest after : List ℕ) (n m : ℕ) → BeginsDigits text n rest → length rest < length text → rest ≡ after → m ≡ n → BeginsNatural text m after
+natural_as text rest after n m so_far shorter same is = subst (λ k. BeginsNatural text k after) (sym is) (subst (λ l. BeginsNatural text n l) same (natural_begins text rest n so_far shorter))
+
+-- one digit, two and three
+pub one_digit : (text : List ℕ) (n : ℕ) → 1 ≤ length text → is_ascii_digit (get_or text 0 0) ≡ true → n ≡ get_or text 0 0 - 48 → BeginsNatural text n (take (length text - 1) (drop 1 text))
+one_digit [] n long first is = absurd (omega arith)
+one_digit (a ∷ rest) n long first is = natural_as (a ∷ rest) rest _ _ n (digits_push (a ∷ rest) rest a 0 (digits_none (a ∷ rest)) first) (omega arith) (sym (take_rest (a ∷ rest) 1)) (omega (arith, is))
+
+pub two_digits : (text : List ℕ) (n : ℕ) → 2 ≤ length text → is_ascii_digit (get_or text 0 0) ≡ true → is_ascii_digit (get_or text 1 0) ≡ true → n ≡ (get_or text 0 0 - 48) * 10 + (get_or text 1 0 - 48) → BeginsNatural text n (take (length text - 2) (drop 2 text))
+two_digits [] n long first second is = absurd (omega arith)
+two_digits (a ∷ []) n long first second is = absurd (omega arith)
+two_digits (a ∷ b ∷ rest) n long first second is =
+    let text = a ∷ b ∷ rest in
+    natural_as text rest _ _ n (digits_push text rest b _ (digits_push text (b ∷ rest) a 0 (digits_none text) first) second) (omega arith) (sym (take_rest text 2)) (omega (arith, is))
+
+pub three_digits : (text : List ℕ) (n : ℕ) → 3 ≤ length text → is_ascii_digit (get_or text 0 0) ≡ true → is_ascii_digit (get_or text 1 0) ≡ true → is_ascii_digit (get_or text 2 0) ≡ true
+    → n ≡ ((get_or text 0 0 - 48) * 10 + (get_or text 1 0 - 48)) * 10 + (get_or text 2 0 - 48) → BeginsNatural text n (take (length text - 3) (drop 3 text))
+three_digits [] n long first second third is = absurd (omega arith)
+three_digits (a ∷ []) n long first second third is = absurd (omega arith)
+three_digits (a ∷ b ∷ []) n long first second third is = absurd (omega arith)
+three_digits (a ∷ b ∷ c ∷ rest) n long first second third is =
+    let text = a ∷ b ∷ c ∷ rest in
+    natural_as text rest _ _ n (digits_push text rest c _ (digits_push text (c ∷ rest) b _ (digits_push text (b ∷ c ∷ rest) a 0 (digits_none text) first) second) third) (omega arith) (sym (take_rest text 3)) (omega (arith, is))
+
+-- four digits and those that follow them
+pub longer_natural : {X : Type 0} (number : X → ℕ) (behind : X → List ℕ) (o : Option X) (text after : List ℕ) (n : ℕ) → IfSome o (λ x. (whole : List ℕ) → BeginsDigits whole n after → BeginsDigits whole (number x) (behind x))
+    → IfSome o (λ x. length (behind x) ≤ length after) → BeginsDigits text n after → length after < length text → IfSome o (λ x. BeginsNatural text (number x) (behind x))
+longer_natural number behind None text after n more no_longer so_far shorter = tt
+longer_natural number behind (Some x) text after n more no_longer so_far shorter = natural_begins text (behind x) (number x) (more text so_far) (omega (arith, no_longer, shorter))
 
 -- ---- signed numbers
 

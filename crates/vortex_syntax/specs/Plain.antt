@@ -1,7 +1,8 @@
 -- Values in plain form, at the front of a text: what was passed, and what follows.
 use Rattle.std.specs.Prelude.{◌≡◌, ◌<◌, ◌⊎◌, ◌&&◌, ◌||◌, ◌==◌, ℕ, ℤ, Bool, true, false, codes, nat_le, nat_lt, not, List, [], ◌∷◌, ◌++◌, Option, Some, IsTrue, length}
 use Rattle.std.specs.List.{list_all}
-use Rattle.std.specs.Str.{is_utf8}
+use Rattle.std.specs.Str.{all_ascii_digits, is_utf8}
+use Rattle.std.specs.Str.Parse.{digits_value}
 use Rattle.vortex_base.specs.Meanings.Typing.{is_signed}
 use Rattle.vortex_base.specs.declared.dtype.DType.{DType}
 use Rattle.vortex_base.specs.declared.pvalue.PValue.{PValue}
@@ -40,7 +41,14 @@ pub record BeginsQuoted (text quoted rest : List ℕ) : Type 0 where
   pub is_plain : IsTrue (list_all is_text_byte quoted)
   pub utf8 : IsTrue (is_utf8 quoted)
 
--- the text begins with digits that write this number
+-- the text begins with digits, maybe none, that write this number
+pub record BeginsDigits (text : List ℕ) (n : ℕ) (rest : List ℕ) : Type 0 where
+  pub digits : List ℕ
+  pub split : text ≡ digits ++ rest
+  pub all : all_ascii_digits digits ≡ true
+  pub value : digits_value 10 digits ≡ n
+
+-- with some digits
 abbrev pub BeginsNatural : List ℕ → ℕ → List ℕ → Type 0
 BeginsNatural text n rest = (word : List ℕ) × BeginsWord text word rest × (natural_of word ≡ Some n)
 

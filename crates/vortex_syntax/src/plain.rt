@@ -1,25 +1,22 @@
 //! Values in plain form, read straight from the bytes of a text, whose line isn't cut out before.
 //! What isn't in this form is left to the reader of words, by which each form here is specified.
-ghost use Rattle.std.specs.Prelude.{◌≡◌, ◌<◌, ◌∷◌, [], neg_ℤ, not, option_map, pos, position, IfOk, IfSome, None, IsTrue, Some, length};
+ghost use Rattle.std.specs.Prelude.{◌≡◌, ◌<◌, ◌≤◌, ◌∷◌, [], ℕ, List, neg_ℤ, not, option_map, pos, position, IfOk, IfSome, None, IsTrue, Some, length};
 ghost use Rattle.vortex_base.specs.Data.Cells.{short_value};
 ghost use Rattle.vortex_base.specs.declared.dtype.DType.TheVariants as dtype;
 ghost use Rattle.vortex_base.specs.declared.scalar_value.ScalarValue.TheVariants as value;
 ghost use Rattle.vortex_base.specs.declared.types.Nullability.{Nullability};
 ghost use Rattle.std.specs.Str.{all_ascii_digits};
 ghost use Rattle.vortex_syntax.specs.Numbers.{four_value, in_64_bits_signed, in_type};
-ghost use Rattle.vortex_syntax.specs.Plain.{BeginsNatural, BeginsNumber, BeginsQuoted, BeginsSigned, BeginsValue, BeginsWhole, BeginsWord, EndsWord};
+ghost use Rattle.vortex_syntax.specs.Plain.{BeginsDigits, BeginsNatural, BeginsNumber, BeginsQuoted, BeginsSigned, BeginsValue, BeginsWhole, BeginsWord, EndsWord};
 ghost use Rattle.vortex_syntax.specs.Plain as spec;
 
-use crate::line_error::LineError;
 use crate::number::{in_type, is_signed};
-use crate::value::{optional_value_of, read_bytes};
-use crate::word::Word;
-use std::alloc::{AllocError, Global};
+use crate::value::read_bytes;
+use std::alloc::AllocError;
 use std::str;
 use vortex_base::cells::ShortCell;
 use vortex_base::dtype::DType;
 use vortex_base::pvalue::PValue;
-use vortex_base::scalar_value::ScalarValue;
 use vortex_base::types::PType;
 
 // A number up to this one stays below 2 to the 64th with one more digit.
@@ -43,18 +40,18 @@ fn four_digits(a: u8, b: u8, c: u8, d: u8) -> Option<u64>
     Some(high * 100 + low)
 }
 
-// The number that the digits at the front of a text write, and what follows them. None where there
-// are no digits or many.
-#[inline(always)]
-fn natural(text: &[u8]) -> Option<(u64, &[u8])>
-    ensures digits { IfSome result (λ x. BeginsNatural text.now x.0 x.1.now) }
-    ensures shorter { IfSome result (λ x. length x.1.now < length text.now) }
+// The number that the digits of another and those at the front of a text write, and what follows
+// them. None where there are many.
+#[inline(never)]
+fn longer(so_far: u64, text: &[u8]) -> Option<(u64, &[u8])>
+    ensures digits { IfSome result (λ x. (whole : List ℕ)
+        → BeginsDigits whole so_far text.now → BeginsDigits whole x.0 x.1.now) }
+    ensures no_longer { IfSome result (λ x. length x.1.now ≤ length text.now) }
 {
-    let mut number: u64 = 0;
+    let mut number = so_far;
     let mut rest = text;
     'fours: while let [a, b, c, d, after @ ..] = rest {
-        // Of a short number the last of the four is none.
-        if !d.is_ascii_digit() || number > MOST_BEFORE_FOUR {
+        if number > MOST_BEFORE_FOUR {
             break;
         }
         let Some(four) = four_digits(*a, *b, *c, *d) else {
@@ -74,10 +71,50 @@ fn natural(text: &[u8]) -> Option<(u64, &[u8])>
         number = number * 10 + u64::from(digit - b'0');
         rest = after;
     }
-    if rest.len() == text.len() {
+    Some((number, rest))
+}
+
+// The number that the digits at the front of a text write, and what follows them, where the text
+// ends soon. None where there are no digits or many.
+#[inline(never)]
+fn last_natural(text: &[u8]) -> Option<(u64, &[u8])>
+    ensures digits { IfSome result (λ x. BeginsNatural text.now x.0 x.1.now) }
+    ensures shorter { IfSome result (λ x. length x.1.now < length text.now) }
+{
+    let (number, rest) = longer(0, text)?;
+    if rest.len() < text.len() {
+        Some((number, rest))
+    } else {
+        None
+    }
+}
+
+// The number that the digits at the front of a text write, and what follows them. None where there
+// are no digits or many. A number of three digits or fewer is read without a loop.
+#[inline(always)]
+fn natural(text: &[u8]) -> Option<(u64, &[u8])>
+    ensures digits { IfSome result (λ x. BeginsNatural text.now x.0 x.1.now) }
+    ensures shorter { IfSome result (λ x. length x.1.now < length text.now) }
+{
+    let [a, b, c, d, after @ ..] = text else {
+        return last_natural(text);
+    };
+    if !a.is_ascii_digit() {
         return None;
     }
-    Some((number, rest))
+    let one = u64::from(*a - b'0');
+    if !b.is_ascii_digit() {
+        return Some((one, &text[1..]));
+    }
+    let two = one * 10 + u64::from(*b - b'0');
+    if !c.is_ascii_digit() {
+        return Some((two, &text[2..]));
+    }
+    let three = two * 10 + u64::from(*c - b'0');
+    if !d.is_ascii_digit() {
+        return Some((three, &text[3..]));
+    }
+    longer(three * 10 + u64::from(*d - b'0'), after)
 }
 
 // The number below zero, or zero, of this size.
@@ -225,11 +262,8 @@ fn number_cell(dtype: DType, text: &[u8]) -> Option<(ShortCell, &[u8])>
     let DType::Primitive(ptype, _) = dtype else {
         return None;
     };
-    if let [b'n', b'u', b'l', b'l', rest @ ..] = word {
-        if dtype.is_nullable() && ends_word(rest) {
-            return Some((ShortCell::Null, rest));
-        }
-        return None;
+    if let [b'n', ..] = word {
+        return Some((ShortCell::Null, plain_null(dtype, text)?));
     }
     let (number, rest) = whole(ptype, word)?;
     let cell = cell_in_type(ptype, number)?;
@@ -290,8 +324,8 @@ pub fn plain_cell(dtype: DType, text: &[u8]) -> Option<(ShortCell, &[u8])>
     }
 }
 
-/// What follows `null` behind one space at the front of a text, where a type has null and a space or
-/// a line feed follows. None where anything else stands there.
+/// What follows `null` behind one space at the front of a text, where a type has null and a space
+/// or a line feed follows. None where anything else stands there.
 #[inline(always)]
 pub fn plain_null(dtype: DType, text: &[u8]) -> Option<&[u8]>
     ensures value { IfSome result (λ rest. BeginsValue dtype text.now None rest.now) }
@@ -362,36 +396,6 @@ pub fn plain_text(dtype: DType, text: &[u8]) -> Option<(&str, &[u8])>
         Some((quoted, rest))
     } else {
         None
-    }
-}
-
-/// The optional value of a type that stands behind one space at the front of a text, and what
-/// follows it: a number, a truth, bytes or `null`, without quotes, then a space or a line feed. None
-/// where anything else stands there. Bytes take memory. `plain_cell` reads numbers and truths
-/// faster, and `plain_text` reads texts.
-#[inline(never)]
-pub fn plain_value(
-    alloc: Global,
-    dtype: DType,
-    text: &[u8],
-) -> Result<Option<(Option<ScalarValue>, &[u8])>, AllocError>
-    ensures value { IfOk result (λ o. IfSome o
-        (λ x. BeginsValue dtype text.now x.0 x.1.now)) }
-    ensures shorter { IfOk result (λ o. IfSome o (λ x. length x.1.now < length text.now)) }
-{
-    let [b' ', behind @ ..] = text else {
-        return Ok(None);
-    };
-    let Some((word, rest)) = word(behind) else {
-        return Ok(None);
-    };
-    if !ends_word(rest) {
-        return Ok(None);
-    }
-    match optional_value_of(alloc, dtype, Word::Plain(word), 0) {
-        Ok(value) => Ok(Some((value, rest))),
-        Err(LineError::Memory) => Err(AllocError),
-        Err(LineError::Bad(_)) => Ok(None),
     }
 }
 

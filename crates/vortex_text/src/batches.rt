@@ -49,7 +49,8 @@ pub fn nothing_found(alloc: Global, predicate: &BoundExpression) -> Scan
     }
 }
 
-/// Adds what a scan finds in so many more parts, which stand behind some others, and goes past them.
+/// Adds what a scan finds in so many more parts, which stand behind some others, and goes past
+/// them.
 pub fn scan_more(
     alloc: Global,
     scope: &Scope,

@@ -63,8 +63,8 @@ fn push_words<'a>(
 }
 
 /// Adds the row that a text begins with, behind its first word: to each column the value of its
-/// word. The text after the line comes back, or none where the line is refused. Values in plain form
-/// are read from the text itself, and from the first other one on the words of the line are read.
+/// word. The text after the line comes back, or none where the line is refused. Values in plain
+/// form are read from the text itself, and from the first other one on the words of the line are.
 #[inline(always)]
 pub fn push_first_row<'a>(
     alloc: Global,

@@ -246,8 +246,8 @@ impl OpenColumn {
         Some(rest.len())
     }
 
-    /// Adds the value in plain form that a text begins with, behind a space. The text after it comes
-    /// back, or none where anything else stands there or memory is refused.
+    /// Adds the value in plain form that a text begins with, behind a space. The text after it
+    /// comes back, or none where anything else stands there or memory is refused.
     #[inline(always)]
     pub fn take_plain<'a>(&mut self, text: &'a [u8]) -> Option<&'a [u8]>
         ensures taken { MatchOption result (self.new ≡ self.old)

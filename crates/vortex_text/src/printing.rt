@@ -73,8 +73,8 @@ fn print_whole(text: &mut String, parts: &[usize]) -> Result<(), AllocError>
     text.push_str("\n")
 }
 
-/// The lines of a scan: the parts that were skipped, the rows that were selected, and the parts that
-/// are whole where there are any.
+/// The lines of a scan: the parts that were skipped, the rows that were selected, and the parts
+/// that are whole where there are any.
 pub fn print_scan(alloc: Global, scan: &Scan) -> Result<String, AllocError>
     ensures { IfOk result (λ text.
         string_bytes text
