@@ -35,14 +35,14 @@ for work in like evaluate set get merge narrow_table narrow_binders narrow_zones
     python3 "$here/measure.py" "$runs" "$here/data/$work.txt" "$layer"
 done
 
-# Pruning by maps of zones without rows, ten times: 1,000,000 zones of one column and 20,000 of 30, under one comparison and
-# under 16 leaves, beside plain loops over arrays of bounds; the time to make the map alone stands first.
+# Pruning by maps of zones without rows, ten times: 1,000,000 zones of one column and of three, and 20,000 of 30, under one
+# comparison and under 16 leaves, beside plain loops over arrays of bounds; the time to make the map alone stands first.
 loops=()
 if command -v rustc > /dev/null; then
     rustc --edition 2021 "${fast[@]}" "$here/plain/zones.rs" -o "$here/data/zones"
     loops=("$here/data/zones")
 fi
-for work in long_map long_comparison long_leaves broad_map broad_comparison broad_leaves; do
+for work in long_map long_comparison long_leaves table_map table_comparison table_leaves broad_map broad_comparison broad_leaves; do
     echo "$work" > "$here/data/$work.txt"
     python3 "$here/measure.py" "$runs" "$here/data/$work.txt" "$layer" "${loops[@]}"
 done

@@ -46,7 +46,11 @@ fn skipped(columns: &[Bounds], leaves: &[Above]) -> Vec<usize> {
 fn main() {
     let mut name = String::new();
     std::io::stdin().read_to_string(&mut name).expect("standard input");
-    let (zones, columns) = if name.starts_with("long") { (1_000_000, 1) } else { (20_000, 30) };
+    let (zones, columns) = match name.split('_').next() {
+        Some("long") => (1_000_000, 1),
+        Some("table") => (1_000_000, 3),
+        _ => (20_000, 30),
+    };
     let leaves = if name.trim().ends_with("leaves") { 16 } else { 1 };
     let (columns, leaves) = (columns_of(zones, columns), leaves_of(zones, columns, leaves));
     let repeats = if name.trim().ends_with("map") { 0 } else { REPEATS };

@@ -13,6 +13,7 @@ const SPREAD: Size = Size {
     batches: 1,
     batch: 50,
     columns: 4_000,
+    counts_nulls: false,
 };
 
 // The columns that are chosen, and how many.
@@ -22,6 +23,7 @@ const FEW: Size = Size {
     batches: 1,
     batch: 50,
     columns: 3,
+    counts_nulls: false,
 };
 
 // The zones of the chosen columns.

@@ -25,12 +25,14 @@ const REPEATS: u32 = 10;
 /// How many rows each zone has.
 pub const ROWS: u64 = 10_000;
 
-/// How many zones there are, in how many batches they are added, and of how many columns.
+/// How many zones there are, in how many batches they are added, of how many columns, and whether
+/// each column's null count is told.
 #[derive(Clone, Copy)]
 pub struct Size {
     pub batches: i64,
     pub batch: i64,
     pub columns: usize,
+    pub counts_nulls: bool,
 }
 
 /// 1,000,000 zones of one column.
@@ -38,6 +40,15 @@ pub const LONG: Size = Size {
     batches: 100,
     batch: 10_000,
     columns: 1,
+    counts_nulls: false,
+};
+
+/// 1,000,000 zones of three columns, as `callers/c/bench.c` has them.
+pub const TABLE: Size = Size {
+    batches: 100,
+    batch: 10_000,
+    columns: 3,
+    counts_nulls: true,
 };
 
 /// 20,000 zones of 30 columns.
@@ -45,6 +56,7 @@ pub const BROAD: Size = Size {
     batches: 20,
     batch: 1_000,
     columns: 30,
+    counts_nulls: false,
 };
 
 /// The scope of the columns.
@@ -57,18 +69,21 @@ pub fn scope_of(alloc: Global, size: Size) -> Result<Scope> {
 }
 
 // The values of a zone's columns lie from its place to 100 above it.
-fn set_of(alloc: Global, place: i64) -> Result<StatsSet, StatsError> {
+fn set_of(alloc: Global, size: Size, place: i64) -> Result<StatsSet, StatsError> {
     let low = Precision::Exact(ScalarValue::from(place));
     let high = Precision::Exact(ScalarValue::from(place.saturating_add(100)));
     let mut set = StatsSet::of(alloc, Stat::Min, low);
     set.set(Stat::Max, high)?;
+    if size.counts_nulls {
+        set.set(Stat::NullCount, Precision::Exact(ScalarValue::from(0_u64)))?;
+    }
     Ok(set)
 }
 
 fn sets_of(alloc: Global, size: Size, place: i64) -> Result<Vec<StatsSet>, StatsError> {
     let mut sets = Vec::with_capacity(alloc, size.columns)?;
     for _ in 0..size.columns {
-        sets.push(set_of(alloc, place)?)?;
+        sets.push(set_of(alloc, size, place)?)?;
     }
     Ok(sets)
 }

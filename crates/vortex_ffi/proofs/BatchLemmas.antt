@@ -18,7 +18,7 @@ use Rattle.vortex_ffi.specs.declared.fault.Refusal.{Refusal}
 use Rattle.vortex_ffi.specs.declared.named.Proofs.{Proofs}
 use Rattle.vortex_ffi.specs.declared.quick.Batch.{Batch}
 use Rattle.vortex_ffi.specs.declared.table.Source.{Source}
-use Rattle.vortex_ffi.specs.NamedStats.{AreAmong, AreProofsOf, CountAlike, either_names}
+use Rattle.vortex_ffi.specs.NamedStats.{AreAmong, AreProofs, CountAlike, either_names}
 use Rattle.vortex_ffi.specs.MapCells.{AllRead, AreCells, AreZonesFrom, IsBatch, batch_zones, zones_from}
 use Rattle.vortex_ffi.specs.Prunes.{zone_answer, zone_answers}
 use Rattle.vortex_ffi.specs.Refusals.{all_found}
@@ -149,9 +149,9 @@ pub if_some : {X : Type 0} (o : Option X) (P Q : X → Type 0) → ((x : X) → 
 if_some None P Q then_q h = h
 if_some (Some x) P Q then_q h = then_q x h
 
-pub proofs_whole : (p : Tree Place) (scope : List Named) (sources kept lent : List Source) (rows answers : List ℕ) (proofs : Proofs) → All (IsTypedBy scope) sources → AllRead sources (length rows) → AreProofsOf p proofs → AreAmong kept sources
-    → CountAlike proofs.falsifier proofs.satisfier kept sources → lent ≡ kept → ((zones : List ZoneData) → zones_given scope lent rows ≡ Ok zones → answers ≡ zone_answers p scope zones) → IsWhole p scope sources rows answers
-proofs_whole p scope sources kept lent rows answers proofs typed all are among alike same told =
-    named_whole p scope sources kept rows answers typed all among
+pub proofs_whole : (proofs : Proofs) (scope : List Named) (sources kept lent : List Source) (rows answers : List ℕ) → All (IsTypedBy scope) sources → AllRead sources (length rows) → AreProofs proofs → AreAmong kept sources
+    → CountAlike proofs.falsifier proofs.satisfier kept sources → lent ≡ kept → ((zones : List ZoneData) → zones_given scope lent rows ≡ Ok zones → answers ≡ zone_answers proofs.predicate.now scope zones) → IsWhole proofs.predicate.now scope sources rows answers
+proofs_whole proofs scope sources kept lent rows answers typed all are among alike same told =
+    named_whole proofs.predicate.now scope sources kept rows answers typed all among
     (λ i s h. alike i s (ap₂ (λ f t. either_names f t i s) are.falsified are.satisfied ∙ h))
     (λ zones given. told zones (ap (λ l. zones_given scope l rows) same ∙ given))

@@ -1,9 +1,9 @@
+pub mod AnswerLemmas
 pub mod BatchLemmas
 pub mod CellLemmas
 pub mod CheckLemmas
 pub mod ExtentLemmas
 pub mod MadeLemmas
-pub mod MarkLemmas
 pub mod MergeLemmas
 pub mod NamedLemmas
 pub mod NormalLemmas

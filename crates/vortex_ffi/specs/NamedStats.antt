@@ -48,7 +48,7 @@ AreAmong kept all = (k : ℕ) (x : Source) → slice_get kept k ≡ Some x → (
 abbrev pub CountAlike : (falsifier satisfier : Option (Tree Place)) → (kept all : List Source) → Type 0
 CountAlike f t kept all = (i : ℕ) (s : Stat) → either_names f t i s ≡ true → last_of i s kept (length kept) ≡ last_of i s all (length all)
 
--- the falsifier and the satisfier of the predicate by built-in rules
-pub record AreProofsOf (p : Tree Place) (proofs : Proofs) : Type 0 where
-  pub falsified : proofs.falsifier ≡ falsifier [] p
-  pub satisfied : proofs.satisfier ≡ satisfier [] p
+-- the falsifier and the satisfier of their predicate by built-in rules
+pub record AreProofs (proofs : Proofs) : Type 0 where
+  pub falsified : proofs.falsifier ≡ falsifier [] proofs.predicate.now
+  pub satisfied : proofs.satisfier ≡ satisfier [] proofs.predicate.now

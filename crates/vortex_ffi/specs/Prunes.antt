@@ -1,5 +1,5 @@
 -- What a caller asks to be pruned, and what is answered.
-use Rattle.std.specs.Prelude.{◌≡◌, ◌≢◌, ℕ, ◌==◌, Bool, true, false, List, [], ◌∷◌, ◌++◌, Option, Result, Ok, Err, IfOk, IsOk, IsTrue, if◌then◌else◌, length, map, slice_set}
+use Rattle.std.specs.Prelude.{◌≡◌, ◌≢◌, ℕ, ◌==◌, Bool, true, false, List, [], ◌++◌, Option, Result, Ok, Err, IfOk, IsOk, IsTrue, if◌then◌else◌, length, map}
 use Rattle.vortex_base.specs.Data.Scopes.{Named}
 use Rattle.vortex_base.specs.Meanings.Fitting.{fits_scope}
 use Rattle.vortex_base.specs.Trees.Tree.{Place, Tree, is_plain}
@@ -10,6 +10,8 @@ use Rattle.vortex_prune.specs.Part.{ZoneData, zones_fit}
 use Rattle.vortex_prune.specs.Scanning.Complete.{ZonesSkipExactly}
 use Rattle.vortex_prune.specs.Scanning.Selection.{places_where, proves_of}
 use Rattle.vortex_prune.specs.Scanning.ZoneScans.{IsSoundPruning}
+use Rattle.vortex_prune.specs.declared.scan.verdict.Verdict.{Verdict}
+use Rattle.vortex_prune.specs.declared.scan.verdict.Verdict.TheVariants.{Skipped, Tested, Whole}
 use Rattle.vortex_rewrite.specs.Rewriting.Falsifiers.{falsifier, satisfier}
 use Rattle.vortex_rewrite.specs.Rewriting.Predicates.{is_predicate}
 use Rattle.vortex_rewrite.specs.Rewriting.ReadOnce.{is_apart}
@@ -30,6 +32,12 @@ use Rattle.vortex_ffi.specs.Tables.{known_zone, sources_given, zones_given}
 abbrev pub answer_by : (falsifier satisfier : Option (Tree Place)) → List Named → ZoneData → ℕ
 answer_by f s scope zone =
     if proves_of f zone.rows (told_values scope zone) then 1 else (if proves_of s zone.rows (told_values scope zone) then 2 else 0)
+
+-- that for a zone with a verdict
+abbrev pub answer_of : Verdict → ℕ
+answer_of Skipped = 1
+answer_of Whole = 2
+answer_of Tested = 0
 
 -- by built-in rules under a predicate
 abbrev pub zone_answer : Tree Place → List Named → ZoneData → ℕ
@@ -52,11 +60,6 @@ pub record IsReached (p : Tree Place) (scope : List Named) (zones : List ZoneDat
 -- the places of the zones with an answer, ascending
 abbrev pub answered : ℕ → List ℕ → List ℕ
 answered n answers = places_where (λ a. a == n) answers
-
--- bytes, of which those at some places are this one
-abbrev pub marked : ℕ → List ℕ → List ℕ → List ℕ
-marked b [] bytes = bytes
-marked b (p ∷ ps) bytes = marked b ps (slice_set bytes p b)
 
 -- ---- what is asked
 

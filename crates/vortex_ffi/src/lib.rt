@@ -5,6 +5,7 @@
 //! anything, and every array is the caller's.
 #![tactic(auto)]
 
+mod answers;
 mod cells;
 pub mod check;
 mod encoding;
@@ -13,7 +14,6 @@ pub mod fault;
 pub mod field;
 mod given;
 pub mod laws;
-mod marks;
 pub mod measure;
 pub mod merge;
 mod named;

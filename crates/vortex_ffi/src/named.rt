@@ -1,14 +1,21 @@
-//! The statistics that the proofs of a predicate name.
-ghost use Rattle.std.specs.Prelude.{◌≡◌, IfSome};
+//! The proofs of a predicate, the statistics that they name, and what they answer for zones.
+ghost use Rattle.std.specs.Prelude.{◌≡◌, IfErr, IfOk, IfSome, IsTrue, List};
 ghost use Rattle.vortex_ffi.specs.NamedStats as spec;
+ghost use Rattle.vortex_ffi.specs.Prunes.{zone_answers};
+ghost use Rattle.vortex_prune.specs.Part.{ZoneData};
+ghost use Rattle.vortex_prune.specs.Zones.{IsMapOf};
+ghost use Rattle.vortex_rewrite.specs.Answers.{IsMemory};
+ghost use Rattle.vortex_rewrite.specs.Rewriting.Predicates.{is_predicate};
 
+use crate::answers::answers_of;
 use crate::table::{Source, source_there};
-use std::alloc::Global;
+use std::alloc::{AllocError, Global};
 use vortex_base::aggregate::AggregateFnRef;
 use vortex_base::bound_expression::BoundExpression;
 use vortex_base::bound_expression::parts::Parts;
-use vortex_prune::{Rules, StatFn};
+use vortex_prune::{Rules, StatFn, ZoneMap, prune_by};
 use vortex_rewrite::rewrite::{falsify, satisfy};
+use vortex_stats::StatsError;
 use vortex_stats::stat::Stat;
 
 // Whether a statistic, if it is one, is this one.
@@ -63,29 +70,58 @@ fn names_if(proof: &Option<BoundExpression>, column: usize, stat: Stat) -> bool
     }
 }
 
-/// What is looked at for each zone: the falsifier and the satisfier of a predicate, if there are.
+// A proof that built-in rules made, if there is one.
+fn made(
+    proof: Result<Option<BoundExpression>, StatsError>,
+) -> Result<Option<BoundExpression>, AllocError>
+    requires { IfErr proof IsMemory }
+    ensures { IfOk result (λ made. proof ≡ Ok made) }
+{
+    match proof {
+        Ok(made) => Ok(made),
+        Err(fault) => match fault {
+            StatsError::Memory(refused) => Err(refused),
+            _ => unreachable!(),
+        },
+    }
+}
+
+/// A predicate and what is looked at for each zone: its falsifier and its satisfier, if there are.
 #[derive(Drop)]
-pub(crate) struct Proofs {
+pub(crate) struct Proofs<'a> {
+    predicate: &'a BoundExpression,
     falsifier: Option<BoundExpression>,
     satisfier: Option<BoundExpression>,
 }
 
-impl Proofs {
-    /// Those of a predicate by built-in rules, if no memory is refused.
-    pub(crate) fn of_predicate(alloc: Global, predicate: &BoundExpression) -> Option<Proofs>
-        ensures { IfSome result (λ proofs. spec.AreProofsOf predicate.now proofs) }
+impl<'a> Proofs<'a> {
+    /// Those of a predicate by built-in rules.
+    pub(crate) fn of_predicate(
+        alloc: Global,
+        predicate: &'a BoundExpression,
+    ) -> Result<Proofs<'a>, AllocError>
+        requires { IsTrue (is_predicate predicate.now) }
+        ensures proofs { IfOk result spec.AreProofs }
+        ensures predicate { IfOk result (λ proofs. proofs.predicate.now ≡ predicate.now) }
     {
         let rules = Rules::builtin(alloc);
-        let Ok(falsifier) = falsify(alloc, predicate, &rules) else {
-            return None;
-        };
-        let Ok(satisfier) = satisfy(alloc, predicate, &rules) else {
-            return None;
-        };
-        Some(Proofs {
-            falsifier,
-            satisfier,
+        Ok(Proofs {
+            predicate,
+            falsifier: made(falsify(alloc, predicate, &rules))?,
+            satisfier: made(satisfy(alloc, predicate, &rules))?,
         })
+    }
+
+    /// The answer for each zone of a map.
+    pub(crate) fn answers(&self, alloc: Global, map: &ZoneMap) -> Result<Vec<u8>, StatsError>
+        requires { spec.AreProofs self.now }
+        ensures told { IfOk result (λ answers. (zones : List ZoneData) → IsMapOf zones map.now
+            → answers.items ≡ zone_answers self.now.predicate.now map.now.scope zones) }
+        ensures memory { IfErr result (λ e. (zones : List ZoneData) → IsMapOf zones map.now
+            → IsMemory e) }
+    {
+        let verdicts = prune_by(alloc, map, self.falsifier.as_ref(), self.satisfier.as_ref())?;
+        Ok(answers_of(alloc, &verdicts)?)
     }
 
     // Whether one of them asks for this statistic of the column at a place.
@@ -96,7 +132,7 @@ impl Proofs {
     }
 
     /// The statistics of a table that they ask for.
-    pub(crate) fn named<'a>(&self, alloc: Global, sources: &[Source<'a>]) -> Option<Vec<Source<'a>>>
+    pub(crate) fn named<'b>(&self, alloc: Global, sources: &[Source<'b>]) -> Option<Vec<Source<'b>>>
         ensures among { IfSome result (λ kept. spec.AreAmong kept.items sources.now) }
         ensures alike { IfSome result (λ kept. spec.CountAlike self.now.falsifier
             self.now.satisfier kept.items sources.now) }

@@ -1,5 +1,5 @@
 //! Statistics whose values are numbers, read without a value made of each.
-ghost use Rattle.std.specs.Prelude.{◌≡◌, ◌+◌, ◌*◌, ◌^◌, ◌<◌, ◌≤◌, ℕ, IfSome, IsTrue, List, Ok, Some, false, length, option_map, true};
+ghost use Rattle.std.specs.Prelude.{◌≡◌, ◌+◌, ◌*◌, ◌^◌, ◌<◌, ◌≤◌, ℕ, IfSome, IsTrue, List, Ok, Some, false, length, map, option_map, true};
 ghost use Rattle.std.specs.Bool.{OnTrue};
 ghost use Rattle.std.specs.List.{list_all};
 ghost use Rattle.vortex_base.specs.Data.Cells.{cell_values};
@@ -305,6 +305,21 @@ fn standing<N: Number>(source: &Source<'_>, zone: usize) -> N
     number_at::<N>(source.statistic.values, zone)
 }
 
+// Puts the numbers of the zones from a place on, each of which is known exactly, in the place of
+// others.
+fn put_exactly<N: Number>(source: &Source<'_>, from: usize, numbers: &mut [N])
+    requires numbers { spec.HasNumbers N.PTYPE source.now }
+    requires within { from + length numbers.old < 2 ^ 64 }
+    requires stand { spec.Stand N.PTYPE source.now (from + length numbers.old) }
+    requires exact { spec.AreExact source.now from (length numbers.old) }
+    ensures { spec.TellsValues source.now from (length numbers.old)
+        (map (option_map N.scalar) (map Some numbers.new)) }
+{
+    for place in 0..numbers.len() {
+        numbers[place] = standing::<N>(source, from + place);
+    }
+}
+
 // The numbers of the zones from a place on, each of which is known exactly.
 #[inline(never)]
 fn told_exactly<N: Number>(
@@ -319,10 +334,9 @@ fn told_exactly<N: Number>(
     requires exact { spec.AreExact source.now from count }
     ensures { IfSome result (λ cells. spec.TellsValues source.now from count (cell_values cells)) }
 {
-    let mut numbers = Vec::with_capacity(alloc, count).ok()?;
-    for place in 0..count {
-        numbers.push_reserved(standing::<N>(source, from + place));
-    }
+    let mut numbers = Vec::new(alloc);
+    numbers.resize(count, N::default()).ok()?;
+    put_exactly::<N>(source, from, &mut numbers);
     match Natives::from_slice(alloc, &numbers) {
         Ok(natives) => Some(N::into_cells(natives)),
         Err(_) => None,
@@ -337,6 +351,31 @@ fn stand_exactly<N: Number>(source: &Source<'_>, from: usize, count: usize) -> b
 {
     let end = from + count;
     stand::<N>(source, end) && are_exact(&source.statistic.known[from..end])
+}
+
+// Puts the truths that a statistic tells for an aggregate of the zones from a place on, each of
+// which is known exactly, in the place of others. `None` where some zone has none.
+fn put_truths<N: Number>(
+    source: &Source<'_>,
+    aggregate: AggregateFnRef,
+    rows: &[u64],
+    from: usize,
+    truths: &mut [bool],
+) -> Option<()>
+    requires numbers { spec.HasNumbers N.PTYPE source.now }
+    requires truths { spec.tells_value aggregate ≡ false }
+    requires within { from + length truths.old ≤ length rows.now }
+    requires stand { spec.Stand N.PTYPE source.now (from + length truths.old) }
+    requires exact { spec.AreExact source.now from (length truths.old) }
+    ensures { let told =
+        spec.told_cells aggregate (Some source.now) rows.now from (length truths.old) in
+        IfSome result (λ _. told ≡ Ok (map (option_map value.Bool) (map Some truths.new))) }
+{
+    for place in 0..truths.len() {
+        let number = standing::<N>(source, from + place).value();
+        truths[place] = exact_truth(aggregate, number, rows[from + place])?;
+    }
+    Some(())
 }
 
 // The truths that a statistic tells for an aggregate of the zones from a place on, each of which is
@@ -358,12 +397,9 @@ fn truths_exactly<N: Number>(
     ensures { let told = spec.told_cells aggregate (Some source.now) rows.now from count in
         IfSome result (λ cells. told ≡ Ok (cell_values cells)) }
 {
-    let mut truths = Vec::with_capacity(alloc, count).ok()?;
-    for place in 0..count {
-        let number = standing::<N>(source, from + place).value();
-        let truth = exact_truth(aggregate, number, rows[from + place])?;
-        truths.push_reserved(truth);
-    }
+    let mut truths = Vec::new(alloc);
+    truths.resize(count, false).ok()?;
+    put_truths::<N>(source, aggregate, rows, from, &mut truths)?;
     match Natives::from_slice(alloc, &truths) {
         Ok(natives) => Some(Cells::Bool(natives)),
         Err(_) => None,

@@ -3,18 +3,17 @@ ghost use Rattle.std.specs.Prelude.{◌≡◌, ◌≤◌, [], All, IfErr, IfOk, 
 ghost use Rattle.vortex_base.specs.Meanings.Fitting.{fits_scope};
 ghost use Rattle.vortex_base.specs.Trees.Tree.{is_plain};
 ghost use Rattle.vortex_rewrite.specs.Rewriting.Predicates.{is_predicate};
+ghost use Rattle.vortex_ffi.specs.NamedStats.{AreProofs};
 ghost use Rattle.vortex_ffi.specs.Prunes as spec;
 ghost use Rattle.vortex_ffi.specs.Refusals.{Answers, followed};
 ghost use Rattle.vortex_ffi.specs.Tables.{IsTypedBy, known_zone, zones_given};
 ghost use Rattle.vortex_ffi.specs.declared.status.Status.TheVariants.{NoMemory};
 ghost use Rattle.vortex_prune.specs.Part.{ZoneData, zones_fit};
-ghost use Rattle.vortex_prune.specs.Scanning.ZoneScans.{skipped_zones, whole_zones};
 ghost use Rattle.vortex_prune.specs.Zones.{IsMapOf};
-ghost use Rattle.vortex_rewrite.specs.Rewriting.Falsifiers.{falsifier, satisfier};
 
 use crate::fault::{Fault, Refusal};
 use crate::field::{Field, columns_given};
-use crate::marks::answers_of;
+use crate::named::Proofs;
 use crate::predicate::predicate_given;
 use crate::quick::quick_answers;
 use crate::statistic::Statistic;
@@ -24,7 +23,7 @@ use std::alloc::{AllocError, Global};
 use vortex_base::bound_expression::BoundExpression;
 use vortex_base::scope::Scope;
 use vortex_normal::normalize::normalize;
-use vortex_prune::{Pruned, Rules, Zone, ZoneMap, prune};
+use vortex_prune::{Zone, ZoneMap};
 use vortex_stats::StatsError;
 
 // How many sets are made at once, beside those of one zone. Each takes some 500 bytes.
@@ -69,24 +68,21 @@ fn map_of(alloc: Global, scope: &Scope, batch: &[Known]) -> Result<ZoneMap, Allo
     }
 }
 
-/// What is proved of the zones of a map by built-in rules.
-pub(crate) fn proved(
+// The answers for some zones.
+fn batch_answers(
     alloc: Global,
-    map: &ZoneMap,
-    predicate: &BoundExpression,
-) -> Result<Pruned, AllocError>
-    requires plain { IsTrue (is_plain predicate.now) }
-    requires fits { IsTrue (fits_scope predicate.now map.now.scope) }
-    requires predicate { IsTrue (is_predicate predicate.now) }
-    ensures skipped { IfOk result (λ pruned. (zones : List ZoneData) → IsMapOf zones map.now
-        → pruned.skipped.items ≡ skipped_zones (falsifier [] predicate.now) map.now.scope zones) }
-    ensures whole { IfOk result (λ pruned. (zones : List ZoneData) → IsMapOf zones map.now
-        → pruned.whole.items ≡ whole_zones (falsifier [] predicate.now)
-        (satisfier [] predicate.now) map.now.scope zones) }
+    scope: &Scope,
+    proofs: &Proofs<'_>,
+    batch: &[Known],
+) -> Result<Vec<u8>, AllocError>
+    requires proofs { AreProofs proofs.now }
+    requires zones { IsTrue (zones_fit scope.now (map known_zone batch.now)) }
+    ensures { IfOk result (λ v. v.items
+        ≡ spec.zone_answers proofs.now.predicate.now scope.now (map known_zone batch.now)) }
 {
-    let rules = Rules::builtin(alloc);
-    match prune(alloc, map, predicate, &rules) {
-        Ok(pruned) => Ok(pruned),
+    let map = map_of(alloc, scope, batch)?;
+    match proofs.answers(alloc, &map) {
+        Ok(answers) => Ok(answers),
         Err(fault) => match fault {
             StatsError::Memory(refused) => Err(refused),
             _ => unreachable!(),
@@ -94,48 +90,27 @@ pub(crate) fn proved(
     }
 }
 
-// The answers for some zones.
-fn batch_answers(
-    alloc: Global,
-    scope: &Scope,
-    predicate: &BoundExpression,
-    batch: &[Known],
-) -> Result<Vec<u8>, AllocError>
-    requires plain { IsTrue (is_plain predicate.now) }
-    requires fits { IsTrue (fits_scope predicate.now scope.now) }
-    requires predicate { IsTrue (is_predicate predicate.now) }
-    requires zones { IsTrue (zones_fit scope.now (map known_zone batch.now)) }
-    ensures { IfOk result (λ v. v.items
-        ≡ spec.zone_answers predicate.now scope.now (map known_zone batch.now)) }
-{
-    let map = map_of(alloc, scope, batch)?;
-    let pruned = proved(alloc, &map, predicate)?;
-    answers_of(alloc, &pruned, batch.len())
-}
-
 // Adds the answers for the zones of a batch, once it has so many, and empties it.
 fn flush(
     alloc: Global,
     scope: &Scope,
-    predicate: &BoundExpression,
+    proofs: &Proofs<'_>,
     size: usize,
     batch: &mut Vec<Known>,
     answers: &mut Vec<u8>,
 ) -> Result<(), AllocError>
-    requires plain { IsTrue (is_plain predicate.now) }
-    requires fits { IsTrue (fits_scope predicate.now scope.now) }
-    requires predicate { IsTrue (is_predicate predicate.now) }
+    requires proofs { AreProofs proofs.now }
     requires zones { IsTrue (zones_fit scope.now (map known_zone batch.old.items)) }
-    ensures reached { OnOk result ((zones : List ZoneData)
-        → spec.IsReached predicate.now scope.now zones answers.old.items batch.old.items
-        → spec.IsReached predicate.now scope.now zones answers.new.items batch.new.items) }
+    ensures reached { let p = proofs.now.predicate.now in OnOk result ((zones : List ZoneData)
+        → spec.IsReached p scope.now zones answers.old.items batch.old.items
+        → spec.IsReached p scope.now zones answers.new.items batch.new.items) }
     ensures zones { OnOk result (IsTrue (zones_fit scope.now (map known_zone batch.new.items))) }
     ensures emptied { OnOk result (size ≤ length batch.old.items → batch.new.items ≡ []) }
 {
     if batch.len() < size {
         return Ok(());
     }
-    let more = batch_answers(alloc, scope, predicate, batch)?;
+    let more = batch_answers(alloc, scope, proofs, batch)?;
     answers.extend_from_slice(&more)?;
     batch.clear();
     Ok(())
@@ -145,16 +120,14 @@ fn flush(
 fn set_answers(
     alloc: Global,
     scope: &Scope,
-    predicate: &BoundExpression,
+    proofs: &Proofs<'_>,
     sources: &[Source<'_>],
     rows: &[u64],
 ) -> Result<Vec<u8>, Refusal>
-    requires plain { IsTrue (is_plain predicate.now) }
-    requires fits { IsTrue (fits_scope predicate.now scope.now) }
-    requires predicate { IsTrue (is_predicate predicate.now) }
+    requires proofs { AreProofs proofs.now }
     requires typed { All (IsTypedBy scope.now) sources.now }
-    ensures read { Answers (λ v. v.items) result (spec.table_answers predicate.now scope.now
-        (zones_given scope.now sources.now rows.now)) }
+    ensures read { let p = proofs.now.predicate.now in Answers (λ v. v.items) result
+        (spec.table_answers p scope.now (zones_given scope.now sources.now rows.now)) }
     ensures zones { IfOk result (λ v. IfOk (zones_given scope.now sources.now rows.now)
         (λ zones. IsTrue (zones_fit scope.now zones))) }
     ensures long { IfOk result (λ v. length v.items ≡ length rows.now) }
@@ -165,9 +138,9 @@ fn set_answers(
     for zone in 0..rows.len() {
         let known = zone_at(alloc, scope, sources, rows, zone)?;
         batch.push(known)?;
-        flush(alloc, scope, predicate, size, &mut batch, &mut answers)?;
+        flush(alloc, scope, proofs, size, &mut batch, &mut answers)?;
     }
-    flush(alloc, scope, predicate, 0, &mut batch, &mut answers)?;
+    flush(alloc, scope, proofs, 0, &mut batch, &mut answers)?;
     Ok(answers)
 }
 
@@ -180,8 +153,6 @@ fn table_answers(
     sources: &[Source<'_>],
     rows: &[u64],
 ) -> Result<Vec<u8>, Refusal>
-    requires plain { IsTrue (is_plain predicate.now) }
-    requires fits { IsTrue (fits_scope predicate.now scope.now) }
     requires predicate { IsTrue (is_predicate predicate.now) }
     requires typed { All (IsTypedBy scope.now) sources.now }
     ensures read { Answers (λ v. v.items) result (spec.table_answers predicate.now scope.now
@@ -190,9 +161,10 @@ fn table_answers(
         (λ zones. IsTrue (zones_fit scope.now zones))) }
     ensures long { IfOk result (λ v. length v.items ≡ length rows.now) }
 {
-    match quick_answers(alloc, scope, predicate, sources, rows) {
+    let proofs = Proofs::of_predicate(alloc, predicate)?;
+    match quick_answers(alloc, scope, &proofs, sources, rows) {
         Some(answers) => Ok(answers),
-        None => set_answers(alloc, scope, predicate, sources, rows),
+        None => set_answers(alloc, scope, &proofs, sources, rows),
     }
 }
 

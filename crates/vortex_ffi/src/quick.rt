@@ -2,22 +2,17 @@
 //! a set a zone. There are none where a value or memory is refused.
 ghost use Rattle.std.specs.Prelude.{◌≡◌, ◌+◌, ◌<◌, ◌≤◌, All, IfOk, IfSome, IsTrue, List, Ok, length, map};
 ghost use Rattle.vortex_base.specs.Data.Cells.{cell_values};
-ghost use Rattle.vortex_base.specs.Meanings.Fitting.{fits_scope};
-ghost use Rattle.vortex_base.specs.Trees.Tree.{is_plain};
 ghost use Rattle.vortex_ffi.specs.MapCells as spec;
+ghost use Rattle.vortex_ffi.specs.NamedStats.{AreProofs};
 ghost use Rattle.vortex_ffi.specs.Prunes.{table_answers, zone_answers};
 ghost use Rattle.vortex_ffi.specs.Tables.{IsTypedBy, zones_given};
 ghost use Rattle.vortex_prune.specs.Part.{ZoneData, zones_fit};
 ghost use Rattle.vortex_prune.specs.Zones.{IsMapOf, TellsOf, heads as all_heads, zone_column, zone_columns};
-ghost use Rattle.vortex_rewrite.specs.Rewriting.Predicates.{is_predicate};
 
 use crate::cells::{all_read, last_of, null_cells, told_cells};
-use crate::marks::answers_of;
 use crate::named::Proofs;
-use crate::prune::proved;
 use crate::table::Source;
 use std::alloc::Global;
-use vortex_base::bound_expression::BoundExpression;
 use vortex_base::cells::Cells;
 use vortex_base::column::Column;
 use vortex_base::scope::Scope;
@@ -117,21 +112,16 @@ impl Batch<'_> {
     }
 
     // The answers for the zones.
-    fn answers(&self, alloc: Global, heads: &[Head], predicate: &BoundExpression) -> Option<Vec<u8>>
+    fn answers(&self, alloc: Global, heads: &[Head], proofs: &Proofs<'_>) -> Option<Vec<u8>>
         requires batch { spec.IsBatch self.now }
         requires heads { heads.now ≡ all_heads self.now.scope.now }
-        requires plain { IsTrue (is_plain predicate.now) }
-        requires fits { IsTrue (fits_scope predicate.now self.now.scope.now) }
-        requires predicate { IsTrue (is_predicate predicate.now) }
+        requires proofs { AreProofs proofs.now }
         ensures { IfSome result (λ answers. (zones : List ZoneData)
             → spec.batch_zones self.now ≡ Ok zones
-            → answers.items ≡ zone_answers predicate.now self.now.scope.now zones) }
+            → answers.items ≡ zone_answers proofs.now.predicate.now self.now.scope.now zones) }
     {
         let map = self.map(alloc, heads)?;
-        let Ok(pruned) = proved(alloc, &map, predicate) else {
-            return None;
-        };
-        match answers_of(alloc, &pruned, self.count) {
+        match proofs.answers(alloc, &map) {
             Ok(answers) => Some(answers),
             Err(_) => None,
         }
@@ -152,18 +142,16 @@ fn next_count(size: usize, left: usize) -> usize
 fn batches_answers<'a>(
     alloc: Global,
     scope: &'a Scope,
-    predicate: &BoundExpression,
+    proofs: &Proofs<'_>,
     sources: &'a [Source<'a>],
     rows: &'a [u64],
 ) -> Option<Vec<u8>>
-    requires plain { IsTrue (is_plain predicate.now) }
-    requires fits { IsTrue (fits_scope predicate.now scope.now) }
-    requires predicate { IsTrue (is_predicate predicate.now) }
+    requires proofs { AreProofs proofs.now }
     requires typed { All (IsTypedBy scope.now) sources.now }
     requires read { spec.AllRead sources.now (length rows.now) }
     ensures { IfSome result (λ v. (zones : List ZoneData)
         → zones_given scope.now sources.now rows.now ≡ Ok zones
-        → v.items ≡ zone_answers predicate.now scope.now zones) }
+        → v.items ≡ zone_answers proofs.now.predicate.now scope.now zones) }
 {
     let Ok(heads) = ZoneMap::heads(alloc, scope) else {
         return None;
@@ -180,7 +168,7 @@ fn batches_answers<'a>(
             from,
             count,
         };
-        let mut more = batch.answers(alloc, &heads, predicate)?;
+        let mut more = batch.answers(alloc, &heads, proofs)?;
         match answers.append(&mut more) {
             Ok(()) => {}
             Err(_) => return None,
@@ -194,15 +182,13 @@ fn batches_answers<'a>(
 pub(crate) fn quick_answers(
     alloc: Global,
     scope: &Scope,
-    predicate: &BoundExpression,
+    proofs: &Proofs<'_>,
     sources: &[Source<'_>],
     rows: &[u64],
 ) -> Option<Vec<u8>>
-    requires plain { IsTrue (is_plain predicate.now) }
-    requires fits { IsTrue (fits_scope predicate.now scope.now) }
-    requires predicate { IsTrue (is_predicate predicate.now) }
+    requires proofs { AreProofs proofs.now }
     requires typed { All (IsTypedBy scope.now) sources.now }
-    ensures read { IfSome result (λ v. table_answers predicate.now scope.now
+    ensures read { IfSome result (λ v. table_answers proofs.now.predicate.now scope.now
         (zones_given scope.now sources.now rows.now) ≡ Ok v.items) }
     ensures zones { IfSome result (λ v. IfOk (zones_given scope.now sources.now rows.now)
         (λ zones. IsTrue (zones_fit scope.now zones))) }
@@ -211,7 +197,6 @@ pub(crate) fn quick_answers(
     if !all_read(sources, rows.len()) {
         return None;
     }
-    let proofs = Proofs::of_predicate(alloc, predicate)?;
     let kept = proofs.named(alloc, sources)?;
-    batches_answers(alloc, scope, predicate, &kept, rows)
+    batches_answers(alloc, scope, proofs, &kept, rows)
 }

@@ -1,5 +1,5 @@
 -- Worked rows: tables of statistics, merged and pruned, each case by computation.
-use Rattle.std.proofs.Common.{◌≡◌, ℕ, List, [], ◌∷◌, codes, None, Some, Ok, Err, true, false, Bool, Bor, if◌then◌else◌, refl}
+use Rattle.std.proofs.Common.{◌≡◌, ℕ, List, [], ◌∷◌, codes, None, Some, Ok, Err, true, false, Bool, Bor, if◌then◌else◌, map, refl}
 use Rattle.std.specs.Str.{chars, is_utf8}
 use Rattle.vortex_base.specs.Data.Scopes.{Named}
 use Rattle.vortex_base.specs.Trees.Tree.{Place, Tree, column, is_null, literal}
@@ -10,13 +10,14 @@ use Rattle.vortex_base.specs.declared.pvalue.PValue.TheVariants as number
 use Rattle.vortex_base.specs.declared.scalar_value.ScalarValue.TheVariants as value
 use Rattle.vortex_prune.specs.Part.{ZoneData}
 use Rattle.vortex_stats.specs.declared.precision.Precision.TheVariants.{Exact, Inexact, Absent}
+use Rattle.vortex_prune.specs.declared.scan.verdict.Verdict.TheVariants.{Skipped, Tested, Whole}
 use Rattle.vortex_stats.specs.declared.stat.Stat.TheVariants as stat
 use Rattle.vortex_ffi.specs.declared.field.Field.{Field}
 use Rattle.vortex_ffi.specs.declared.statistic.Statistic.{Statistic}
 use Rattle.vortex_ffi.specs.declared.table.Source.{Source}
 use Rattle.vortex_ffi.specs.declared.status.Status.TheVariants.{BadColumn, BadFlag, BadKind, BadKnown, BadLength, BadLine, BadName, BadStat, NotAPredicate}
 use Rattle.vortex_ffi.specs.Merges.{merged, set_given}
-use Rattle.vortex_ffi.specs.Prunes.{answer_by, answered, asked, marked, normalizes}
+use Rattle.vortex_ffi.specs.Prunes.{answer_by, answer_of, answered, asked, normalizes}
 use Rattle.vortex_ffi.specs.Scopes.{predicate_given, scope_given}
 use Rattle.vortex_ffi.specs.Statuses.{at_column, at_entry, in_column, nowhere, status_number}
 use Rattle.vortex_ffi.specs.Tables.{source_of, zones_given}
@@ -170,8 +171,8 @@ read = refl
 places : answered 1 (0 ∷ 1 ∷ 2 ∷ 1 ∷ []) ≡ 1 ∷ 3 ∷ []
 places = refl
 
-marks : marked 2 (0 ∷ 2 ∷ []) (0 ∷ 1 ∷ 0 ∷ []) ≡ 2 ∷ 1 ∷ 2 ∷ []
-marks = refl
+of_verdicts : map answer_of (Skipped ∷ Whole ∷ Tested ∷ []) ≡ 1 ∷ 2 ∷ 0 ∷ []
+of_verdicts = refl
 
 -- ---- what is asked, in the order of the refusals
 

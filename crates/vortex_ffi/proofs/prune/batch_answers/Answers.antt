@@ -1,14 +1,9 @@
-use Rattle.std.proofs.Common.{[], ap, map, ◌∙◌}
-use Rattle.std.proofs.lemmas.List.{length-map}
-use Rattle.vortex_prune.specs.Scanning.ZoneScans.{skipped_zones, whole_zones}
-use Rattle.vortex_rewrite.specs.Rewriting.Falsifiers.{falsifier, satisfier}
+use Rattle.std.proofs.Common.{ap, map, ◌∙◌}
+use Rattle.vortex_ffi.specs.Prunes.{zone_answers}
 use Rattle.vortex_ffi.specs.Tables.{known_zone}
 use Rattle.vortex_ffi.proofs.prune.batch_answers.Goals as goal
 
-pub returns : goal.returns
-returns c =
-    let p = c.args.predicate.now in
+pub returns-in-Ok : goal.returns-in-Ok
+returns-in-Ok c =
     let zones = map known_zone c.args.batch.now in
-    c.answers_of.ensures (falsifier [] p) (satisfier [] p) c.args.scope.now zones (length-map c.args.batch.now known_zone)
-    (c.in_ok-pruned.ensures.skipped zones c.in_ok-map.ensures.is_map ∙ ap (λ s. skipped_zones (falsifier [] p) s zones) c.in_ok-map.ensures.scoped)
-    (c.in_ok-pruned.ensures.whole zones c.in_ok-map.ensures.is_map ∙ ap (λ s. whole_zones (falsifier [] p) (satisfier [] p) s zones) c.in_ok-map.ensures.scoped)
+    c.in-Ok.ensures.told zones c.in_ok-map.ensures.is_map ∙ ap (λ s. zone_answers c.args.proofs.now.predicate.now s zones) c.in_ok-map.ensures.scoped

@@ -1,15 +1,7 @@
-use Rattle.std.proofs.Common.{◌+◌, [], ap, ◌∙◌}
-use Rattle.vortex_prune.specs.Scanning.ZoneScans.{skipped_zones, whole_zones}
-use Rattle.vortex_rewrite.specs.Rewriting.Falsifiers.{falsifier, satisfier}
-use Rattle.vortex_ffi.specs.Tables.{zone_at}
-use Rattle.vortex_ffi.proofs.ReadLemmas.{found_long}
+use Rattle.std.proofs.Common.{ap, ◌∙◌}
+use Rattle.vortex_ffi.specs.Prunes.{zone_answers}
 use Rattle.vortex_ffi.proofs.quick.Batch.answers.Goals as goal
 
-pub returns-in-Ok-answers_of : goal.returns-in-Ok-answers_of
-returns-in-Ok-answers_of c = λ zones found.
-    let p = c.args.predicate.now in
-    let b = c.args.self.now in
-    let is_map = c.in_ok-map.ensures.is_map zones found in
-    c.in-Ok-answers_of.ensures (falsifier [] p) (satisfier [] p) b.scope.now zones (found_long (λ k. zone_at b.scope.now b.sources.now b.rows.now (b.from + k)) b.count zones found)
-    (c.in-Ok.ensures.skipped zones is_map ∙ ap (λ s. skipped_zones (falsifier [] p) s zones) c.in_ok-map.ensures.scoped)
-    (c.in-Ok.ensures.whole zones is_map ∙ ap (λ s. whole_zones (falsifier [] p) (satisfier [] p) s zones) c.in_ok-map.ensures.scoped)
+pub returns-in-Ok : goal.returns-in-Ok
+returns-in-Ok c = λ zones found.
+    c.in-Ok.ensures.told zones (c.in_ok-map.ensures.is_map zones found) ∙ ap (λ s. zone_answers c.args.proofs.now.predicate.now s zones) c.in_ok-map.ensures.scoped
