@@ -315,8 +315,10 @@ fn put_exactly<N: Number>(source: &Source<'_>, from: usize, numbers: &mut [N])
     ensures { spec.TellsValues source.now from (length numbers.old)
         (map (option_map N.scalar) (map Some numbers.new)) }
 {
+    // A copy, which no number that is put can change.
+    let source = *source;
     for place in 0..numbers.len() {
-        numbers[place] = standing::<N>(source, from + place);
+        numbers[place] = standing::<N>(&source, from + place);
     }
 }
 
@@ -371,8 +373,9 @@ fn put_truths<N: Number>(
         spec.told_cells aggregate (Some source.now) rows.now from (length truths.old) in
         IfSome result (λ _. told ≡ Ok (map (option_map value.Bool) (map Some truths.new))) }
 {
+    let source = *source;
     for place in 0..truths.len() {
-        let number = standing::<N>(source, from + place).value();
+        let number = standing::<N>(&source, from + place).value();
         truths[place] = exact_truth(aggregate, number, rows[from + place])?;
     }
     Some(())
