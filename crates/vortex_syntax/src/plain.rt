@@ -42,7 +42,7 @@ fn four_digits(a: u8, b: u8, c: u8, d: u8) -> Option<u64>
 
 // The number that the digits of another and those at the front of a text write, and what follows
 // them. None where there are many.
-#[inline(never)]
+#[inline(always)]
 fn longer(so_far: u64, text: &[u8]) -> Option<(u64, &[u8])>
     ensures digits { IfSome result (λ x. (whole : List ℕ)
         → BeginsDigits whole so_far text.now → BeginsDigits whole x.0 x.1.now) }
@@ -51,7 +51,8 @@ fn longer(so_far: u64, text: &[u8]) -> Option<(u64, &[u8])>
     let mut number = so_far;
     let mut rest = text;
     'fours: while let [a, b, c, d, after @ ..] = rest {
-        if number > MOST_BEFORE_FOUR {
+        // Of a number that ends soon the last of the four is none.
+        if !d.is_ascii_digit() || number > MOST_BEFORE_FOUR {
             break;
         }
         let Some(four) = four_digits(*a, *b, *c, *d) else {
@@ -97,7 +98,8 @@ fn natural(text: &[u8]) -> Option<(u64, &[u8])>
     ensures shorter { IfSome result (λ x. length x.1.now < length text.now) }
 {
     let [a, b, c, d, after @ ..] = text else {
-        return last_natural(text);
+        let (number, rest) = last_natural(text)?;
+        return Some((number, rest));
     };
     if !a.is_ascii_digit() {
         return None;

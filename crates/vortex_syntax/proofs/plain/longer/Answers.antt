@@ -13,7 +13,7 @@ fours-preserved c =
 
 pub digits-preserved : goal.digits-preserved
 digits-preserved c =
-    let digit : is_ascii_digit (get_or c.digits.rest.now 0 0) ≡ true = sym c.is_ascii_digit.ensures.value ∙ c.if-not-is_ascii_digit.false in
+    let digit : is_ascii_digit (get_or c.digits.rest.now 0 0) ≡ true = sym c.is_ascii_digit-in-len1-up.ensures.value ∙ c.if-not-is_ascii_digit-2.false in
     let high : get_or c.digits.rest.now 0 0 ≤ 57 = grind (arith, nat_tests, digit) in
     record {
       read = λ whole begun. digits_more whole c.digits.rest.now c.digits.number c.from.result (c.digits.invariant.read whole begun) (omega arith) digit (omega (arith, c.from.ensures));
