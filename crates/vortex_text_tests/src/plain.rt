@@ -36,9 +36,9 @@ fn behind_bytes(text: &[u8], bytes: &mut Vec<u8>) -> Result<Option<usize>, Fail>
 fn bytes_are_read_in_the_place_of_others(rt: HostRuntime) -> Result<(), Fail> {
     let mut bytes = Vec::new(rt.alloc());
     assert_eq!(rt; behind_bytes(b" x00fF 1\n", &mut bytes)?, Some(3));
-    assert_eq!(rt; bytes.as_slice(), &[0, 255]);
+    assert_eq!(rt; bytes.as_slice(), [0, 255].as_slice());
     assert_eq!(rt; behind_bytes(b" x7a\n", &mut bytes)?, Some(1));
-    assert_eq!(rt; bytes.as_slice(), &[0x7a]);
+    assert_eq!(rt; bytes.as_slice(), [0x7a].as_slice());
     assert_eq!(rt; behind_bytes(b" x\n", &mut bytes)?, Some(1));
     assert_eq!(rt; bytes.len(), 0);
     assert_eq!(rt; behind_bytes(b" x7\n", &mut bytes)?, None);
