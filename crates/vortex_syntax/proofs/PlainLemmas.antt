@@ -23,11 +23,11 @@ use Rattle.vortex_base.specs.declared.scalar_value.ScalarValue.TheVariants as va
 use Rattle.vortex_base.specs.declared.types.Nullability.{Nullability}
 use Rattle.vortex_base.specs.declared.types.PType.{PType}
 use Rattle.vortex_base.specs.declared.types.PType.TheVariants as ptype
-use Rattle.vortex_syntax.proofs.Fronts.{front_is}
+use Rattle.vortex_syntax.proofs.Fronts.{AreAt, front_is}
 use Rattle.vortex_syntax.proofs.NumberLemmas.{all_push, digit_is}
 use Rattle.vortex_syntax.proofs.Spelling.{quotes_open}
 use Rattle.vortex_syntax.specs.Numbers.{bytes_of, four_value, in_64_bits_signed, in_type, number_of, whole_of}
-use Rattle.vortex_syntax.specs.Plain.{BeginsDigits, BeginsNatural, BeginsQuoted, BeginsSigned, BeginsValue, BeginsWhole, BeginsWord, EndsWord, is_line_byte, is_text_byte, is_word_byte, truth_name}
+use Rattle.vortex_syntax.specs.Plain.{BeginsDigits, BeginsNatural, BeginsNumber, BeginsQuoted, BeginsSigned, BeginsValue, BeginsWhole, BeginsWord, EndsWord, is_line_byte, is_text_byte, is_word_byte, truth_name}
 use Rattle.vortex_syntax.specs.Spelling.{CanBeSpelled, spelled_byte}
 use Rattle.vortex_syntax.specs.Values.{binary_of, optional_value_of}
 use Rattle.vortex_syntax.specs.Words.{Plain, Quoted}
@@ -90,32 +90,32 @@ natural_begins text rest n so_far shorter =
     let all = so_far.all in
     (so_far.digits, record { split = so_far.split; some = some; is_plain = word_digits so_far.digits all }, rw (all, long) (ap Some so_far.value))
 
--- the same, told otherwise
-natural_as : (text rest after : List ℕ) (n m : ℕ) → BeginsDigits text n rest → length rest < length text → rest ≡ after → m ≡ n → BeginsNatural text m after
-natural_as text rest after n m so_far shorter same is = subst (λ k. BeginsNatural text k after) (sym is) (subst (λ l. BeginsNatural text n l) same (natural_begins text rest n so_far shorter))
+-- the number with these digits behind it
+abbrev pub value_on : ℕ → List ℕ → ℕ
+value_on n [] = n
+value_on n (d ∷ ds) = value_on (n * 10 + (d - 48)) ds
 
--- one digit, two and three
-pub one_digit : (text : List ℕ) (n : ℕ) → 1 ≤ length text → is_ascii_digit (get_or text 0 0) ≡ true → n ≡ get_or text 0 0 - 48 → BeginsNatural text n (take (length text - 1) (drop 1 text))
-one_digit [] n long first is = absurd (omega arith)
-one_digit (a ∷ rest) n long first is = natural_as (a ∷ rest) rest _ _ n (digits_push (a ∷ rest) rest a 0 (digits_none (a ∷ rest)) first) (omega arith) (sym (take_rest (a ∷ rest) 1)) (omega (arith, is))
+digits_on : (whole rest : List ℕ) (n : ℕ) (ds : List ℕ) → BeginsDigits whole n (ds ++ rest) → all_ascii_digits ds ≡ true → BeginsDigits whole (value_on n ds) rest
+digits_on whole rest n [] so_far all = so_far
+digits_on whole rest n (d ∷ ds) so_far all =
+    let (one, more) = and_parts _ _ all in
+    digits_on whole rest (n * 10 + (d - 48)) ds (digits_push whole (ds ++ rest) d n so_far one) more
 
-pub two_digits : (text : List ℕ) (n : ℕ) → 2 ≤ length text → is_ascii_digit (get_or text 0 0) ≡ true → is_ascii_digit (get_or text 1 0) ≡ true → n ≡ (get_or text 0 0 - 48) * 10 + (get_or text 1 0 - 48) → BeginsNatural text n (take (length text - 2) (drop 2 text))
-two_digits [] n long first second is = absurd (omega arith)
-two_digits (a ∷ []) n long first second is = absurd (omega arith)
-two_digits (a ∷ b ∷ rest) n long first second is =
-    let text = a ∷ b ∷ rest in
-    natural_as text rest _ _ n (digits_push text rest b _ (digits_push text (b ∷ rest) a 0 (digits_none text) first) second) (omega arith) (sym (take_rest text 2)) (omega (arith, is))
+-- the digits at the front of a text, behind others
+pub digits_front : (whole text : List ℕ) (n m : ℕ) (ds : List ℕ) → BeginsDigits whole n text → length ds ≤ length text → AreAt text 0 ds → all_ascii_digits ds ≡ true → m ≡ value_on n ds
+    → BeginsDigits whole m (take (length text - length ds) (drop (length ds) text))
+digits_front whole text n m ds so_far long are all is =
+    let behind = take (length text - length ds) (drop (length ds) text) in
+    let split : BeginsDigits whole n (ds ++ behind) = subst (λ l. BeginsDigits whole n l) (front_is ds text long are) so_far in
+    subst (λ k. BeginsDigits whole k behind) (sym is) (digits_on whole behind n ds split all)
 
-pub three_digits : (text : List ℕ) (n : ℕ) → 3 ≤ length text → is_ascii_digit (get_or text 0 0) ≡ true → is_ascii_digit (get_or text 1 0) ≡ true → is_ascii_digit (get_or text 2 0) ≡ true
-    → n ≡ ((get_or text 0 0 - 48) * 10 + (get_or text 1 0 - 48)) * 10 + (get_or text 2 0 - 48) → BeginsNatural text n (take (length text - 3) (drop 3 text))
-three_digits [] n long first second third is = absurd (omega arith)
-three_digits (a ∷ []) n long first second third is = absurd (omega arith)
-three_digits (a ∷ b ∷ []) n long first second third is = absurd (omega arith)
-three_digits (a ∷ b ∷ c ∷ rest) n long first second third is =
-    let text = a ∷ b ∷ c ∷ rest in
-    natural_as text rest _ _ n (digits_push text rest c _ (digits_push text (c ∷ rest) b _ (digits_push text (b ∷ c ∷ rest) a 0 (digits_none text) first) second) third) (omega arith) (sym (take_rest text 3)) (omega (arith, is))
+-- what follows digits that are known, behind the same as those
+pub behind_more : {X : Type 0} (number : X → ℕ) (behind : X → List ℕ) (o : Option X) (text after : List ℕ) (n m : ℕ) → IfSome o (λ x. (whole : List ℕ) → BeginsDigits whole m after → BeginsDigits whole (number x) (behind x))
+    → ((whole : List ℕ) → BeginsDigits whole n text → BeginsDigits whole m after) → IfSome o (λ x. (whole : List ℕ) → BeginsDigits whole n text → BeginsDigits whole (number x) (behind x))
+behind_more number behind None text after n m more front = tt
+behind_more number behind (Some x) text after n m more front = λ whole begun. more whole (front whole begun)
 
--- four digits and those that follow them
+-- the first digit and those that follow it
 pub longer_natural : {X : Type 0} (number : X → ℕ) (behind : X → List ℕ) (o : Option X) (text after : List ℕ) (n : ℕ) → IfSome o (λ x. (whole : List ℕ) → BeginsDigits whole n after → BeginsDigits whole (number x) (behind x))
     → IfSome o (λ x. length (behind x) ≤ length after) → BeginsDigits text n after → length after < length text → IfSome o (λ x. BeginsNatural text (number x) (behind x))
 longer_natural number behind None text after n more no_longer so_far shorter = tt
@@ -269,19 +269,24 @@ not_null p n word v is = elim (cases_Bool (bytes_eq word (codes "null"))) [
   | inr other ↦ rw other (ap (λ o. option_map (λ x. Some x) (option_map (λ x. value.Primitive x) o)) is)
 ]
 
-cell_value : (p : PType) (z : ℤ) (cell : ShortCell) → option_map short_value (Some cell) ≡ option_map (λ n. Some (value.Primitive n)) (in_type p z) → (v : PValue) × (in_type p z ≡ Some v) × (short_value cell ≡ Some (value.Primitive v))
-cell_value p z cell same = by (in_type p z) refl
+-- a number of a type with numbers below zero
+pub signed_is_whole : (p : PType) (text rest : List ℕ) (z : ℤ) → is_signed p ≡ true → BeginsSigned text z rest → BeginsWhole p text z rest
+signed_is_whole p text rest z signed (word, begins, whole) = (word, begins, ap (λ b. whole_of b word) signed ∙ whole)
+
+-- the number of a type that a cell holds
+pub cell_begins : (p : PType) (text rest : List ℕ) (z : ℤ) (cell : ShortCell) → BeginsWhole p text z rest → Some (short_value cell) ≡ option_map (λ n. Some (value.Primitive n)) (in_type p z)
+    → (n : PValue) × BeginsNumber p text n rest × (short_value cell ≡ Some (value.Primitive n))
+cell_begins p text rest z cell (word, begins, whole) same = by (in_type p z) refl
   where
-    by : (o : Option PValue) → in_type p z ≡ o → (v : PValue) × (in_type p z ≡ Some v) × (short_value cell ≡ Some (value.Primitive v))
+    by : (o : Option PValue) → in_type p z ≡ o → (n : PValue) × BeginsNumber p text n rest × (short_value cell ≡ Some (value.Primitive n))
     by None none = let h = rw none at same in cc
-    by (Some v) is = let h = rw is at same in (v, is, cc)
+    by (Some n) is = let h = rw is at same in (n, (word, begins, ap (option_and_then (in_type p)) whole ∙ is), cc)
 
 -- the cell of a number behind a space
-pub value_cell : (p : PType) (n : Nullability) (text behind rest : List ℕ) (z : ℤ) (cell : ShortCell) → text ≡ 32 ∷ behind → BeginsWhole p behind z rest → EndsWord rest
-    → option_map short_value (Some cell) ≡ option_map (λ v. Some (value.Primitive v)) (in_type p z) → BeginsValue (dtype.Primitive p n) text (short_value cell) rest
-value_cell p n text behind rest z cell is (word, begins, whole) ends same =
-    let (v, held, made) = cell_value p z cell same in
-    rw made (value_in_word (dtype.Primitive p n) text behind word rest (Some (value.Primitive v)) is begins ends (not_null p n word v (ap (option_and_then (in_type p)) whole ∙ held)))
+pub value_cell : (p : PType) (n : Nullability) (text behind rest : List ℕ) (cell : ShortCell) → text ≡ 32 ∷ behind → (v : PValue) × BeginsNumber p behind v rest × (short_value cell ≡ Some (value.Primitive v)) → EndsWord rest
+    → BeginsValue (dtype.Primitive p n) text (short_value cell) rest
+value_cell p n text behind rest cell is (v, (word, begins, number), made) ends =
+    rw made (value_in_word (dtype.Primitive p n) text behind word rest (Some (value.Primitive v)) is begins ends (not_null p n word v number))
 
 -- null, where the type has it
 pub value_null_at : (t : DType) (text word : List ℕ) → word ≡ take (length text - 1) (drop 1 text) → is_nullable t ≡ true → 1 ≤ length text → get_or text 0 0 ≡ 32

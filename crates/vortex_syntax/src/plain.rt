@@ -1,8 +1,9 @@
 //! Values in plain form, read straight from the bytes of a text, whose line isn't cut out before.
 //! What isn't in this form is left to the reader of words, by which each form here is specified.
-ghost use Rattle.std.specs.Prelude.{◌≡◌, ◌<◌, ◌≤◌, ◌∷◌, [], ℕ, List, neg_ℤ, not, option_map, pos, position, IfOk, IfSome, None, IsTrue, Some, length};
+ghost use Rattle.std.specs.Prelude.{◌≡◌, ◌<◌, ◌≤◌, ◌∷◌, ◌++◌, [], ℕ, List, codes, neg_ℤ, not, option_map, pos, position, IfOk, IfSome, None, IsTrue, Some, length};
 ghost use Rattle.vortex_base.specs.Data.Cells.{short_value};
 ghost use Rattle.vortex_base.specs.declared.dtype.DType.TheVariants as dtype;
+ghost use Rattle.vortex_base.specs.declared.pvalue.PValue.{PValue};
 ghost use Rattle.vortex_base.specs.declared.scalar_value.ScalarValue.TheVariants as value;
 ghost use Rattle.vortex_base.specs.declared.types.Nullability.{Nullability};
 ghost use Rattle.std.specs.Str.{all_ascii_digits};
@@ -24,6 +25,21 @@ const MOST: u64 = 1_844_674_407_370_955_160;
 
 // And one up to this with four more.
 const MOST_BEFORE_FOUR: u64 = 1_844_674_407_370_954;
+
+// The bytes `row ` as one number, the first of them lowest.
+const ROW: u32 = 0x2077_6f72;
+
+/// What follows the word `row` at the front of a text, where a space follows it.
+#[inline(always)]
+pub fn behind_row(text: &[u8]) -> Option<&[u8]>
+    ensures row { IfSome result (λ values. text.now ≡ codes "row" ++ values.now) }
+    ensures ends { IfSome result (λ values. EndsWord values.now) }
+{
+    match text {
+        [a, b, c, d, ..] if u32::from_le_bytes([*a, *b, *c, *d]) == ROW => Some(&text[3..]),
+        _ => None,
+    }
+}
 
 // The number that four bytes write, if they are digits.
 #[inline(always)]
@@ -75,48 +91,71 @@ fn longer(so_far: u64, text: &[u8]) -> Option<(u64, &[u8])>
     Some((number, rest))
 }
 
-// The number that the digits at the front of a text write, and what follows them, where the text
-// ends soon. None where there are no digits or many.
+// The same where the text ends soon.
 #[inline(never)]
-fn last_natural(text: &[u8]) -> Option<(u64, &[u8])>
-    ensures digits { IfSome result (λ x. BeginsNatural text.now x.0 x.1.now) }
-    ensures shorter { IfSome result (λ x. length x.1.now < length text.now) }
+fn last_digits(so_far: u64, text: &[u8]) -> Option<(u64, &[u8])>
+    ensures digits { IfSome result (λ x. (whole : List ℕ)
+        → BeginsDigits whole so_far text.now → BeginsDigits whole x.0 x.1.now) }
+    ensures no_longer { IfSome result (λ x. length x.1.now ≤ length text.now) }
 {
-    let (number, rest) = longer(0, text)?;
-    if rest.len() < text.len() {
-        Some((number, rest))
-    } else {
-        None
+    longer(so_far, text)
+}
+
+// The same behind one digit. Up to seven more are read without a loop.
+#[inline(always)]
+fn digits_behind(first: u64, text: &[u8]) -> Option<(u64, &[u8])>
+    requires { first < 10 }
+    ensures digits { IfSome result (λ x. (whole : List ℕ)
+        → BeginsDigits whole first text.now → BeginsDigits whole x.0 x.1.now) }
+    ensures no_longer { IfSome result (λ x. length x.1.now ≤ length text.now) }
+{
+    let [a, b, c, d, e, f, g, after @ ..] = text else {
+        return last_digits(first, text);
+    };
+    if !a.is_ascii_digit() {
+        return Some((first, text));
     }
+    let two = first * 10 + u64::from(*a - b'0');
+    if !b.is_ascii_digit() {
+        return Some((two, &text[1..]));
+    }
+    let three = two * 10 + u64::from(*b - b'0');
+    if !c.is_ascii_digit() {
+        return Some((three, &text[2..]));
+    }
+    let four = three * 10 + u64::from(*c - b'0');
+    if !d.is_ascii_digit() {
+        return Some((four, &text[3..]));
+    }
+    let five = four * 10 + u64::from(*d - b'0');
+    if !e.is_ascii_digit() {
+        return Some((five, &text[4..]));
+    }
+    let six = five * 10 + u64::from(*e - b'0');
+    if !f.is_ascii_digit() {
+        return Some((six, &text[5..]));
+    }
+    let seven = six * 10 + u64::from(*f - b'0');
+    if !g.is_ascii_digit() {
+        return Some((seven, &text[6..]));
+    }
+    longer(seven * 10 + u64::from(*g - b'0'), after)
 }
 
 // The number that the digits at the front of a text write, and what follows them. None where there
-// are no digits or many. A number of three digits or fewer is read without a loop.
+// are no digits or many.
 #[inline(always)]
 fn natural(text: &[u8]) -> Option<(u64, &[u8])>
     ensures digits { IfSome result (λ x. BeginsNatural text.now x.0 x.1.now) }
     ensures shorter { IfSome result (λ x. length x.1.now < length text.now) }
 {
-    let [a, b, c, d, after @ ..] = text else {
-        let (number, rest) = last_natural(text)?;
-        return Some((number, rest));
+    let [first, after @ ..] = text else {
+        return None;
     };
-    if !a.is_ascii_digit() {
+    if !first.is_ascii_digit() {
         return None;
     }
-    let one = u64::from(*a - b'0');
-    if !b.is_ascii_digit() {
-        return Some((one, &text[1..]));
-    }
-    let two = one * 10 + u64::from(*b - b'0');
-    if !c.is_ascii_digit() {
-        return Some((two, &text[2..]));
-    }
-    let three = two * 10 + u64::from(*c - b'0');
-    if !d.is_ascii_digit() {
-        return Some((three, &text[3..]));
-    }
-    longer(three * 10 + u64::from(*d - b'0'), after)
+    digits_behind(u64::from(*first - b'0'), after)
 }
 
 // The number below zero, or zero, of this size.
@@ -233,21 +272,49 @@ fn quoted(text: &[u8]) -> Option<(&str, &[u8])>
     }
 }
 
-// The cell of a whole number of a type, if the type has it.
+// The cell of a number of a type with numbers below zero, if the type has it.
 #[inline(always)]
-fn cell_in_type(ptype: PType, number: i128) -> Option<ShortCell>
-    ensures { option_map short_value result
-        ≡ option_map (λ n. Some (value.Primitive n)) (in_type ptype number) }
+fn signed_cell(ptype: PType, number: i64) -> Option<ShortCell>
+    ensures { IfSome result (λ cell. Some (short_value cell)
+        ≡ option_map (λ n. Some (value.Primitive n)) (in_type ptype number)) }
+{
+    match ptype {
+        PType::I8 => Some(ShortCell::I8(i8::try_from(number).ok()?)),
+        PType::I16 => Some(ShortCell::I16(i16::try_from(number).ok()?)),
+        PType::I32 => Some(ShortCell::I32(i32::try_from(number).ok()?)),
+        PType::I64 => Some(ShortCell::I64(number)),
+        _ => None,
+    }
+}
+
+// The cell of a number of a type without numbers below zero, if the type has it.
+#[inline(always)]
+fn unsigned_cell(ptype: PType, number: u64) -> Option<ShortCell>
+    ensures { IfSome result (λ cell. Some (short_value cell)
+        ≡ option_map (λ n. Some (value.Primitive n)) (in_type ptype (pos number))) }
 {
     match ptype {
         PType::U8 => Some(ShortCell::U8(u8::try_from(number).ok()?)),
         PType::U16 => Some(ShortCell::U16(u16::try_from(number).ok()?)),
         PType::U32 => Some(ShortCell::U32(u32::try_from(number).ok()?)),
-        PType::U64 => Some(ShortCell::U64(u64::try_from(number).ok()?)),
-        PType::I8 => Some(ShortCell::I8(i8::try_from(number).ok()?)),
-        PType::I16 => Some(ShortCell::I16(i16::try_from(number).ok()?)),
-        PType::I32 => Some(ShortCell::I32(i32::try_from(number).ok()?)),
-        PType::I64 => Some(ShortCell::I64(i64::try_from(number).ok()?)),
+        PType::U64 => Some(ShortCell::U64(number)),
+        _ => None,
+    }
+}
+
+// The cell of the number of a type at the front of a text, and what follows it.
+#[inline(always)]
+fn whole_cell(ptype: PType, text: &[u8]) -> Option<(ShortCell, &[u8])>
+    ensures whole { IfSome result (λ x. (n : PValue) × BeginsNumber ptype text.now n x.1.now
+        × (short_value x.0 ≡ Some (value.Primitive n))) }
+    ensures shorter { IfSome result (λ x. length x.1.now < length text.now) }
+{
+    if is_signed(ptype) {
+        let (number, rest) = signed(text)?;
+        Some((signed_cell(ptype, number)?, rest))
+    } else {
+        let (number, rest) = natural(text)?;
+        Some((unsigned_cell(ptype, number)?, rest))
     }
 }
 
@@ -267,8 +334,7 @@ fn number_cell(dtype: DType, text: &[u8]) -> Option<(ShortCell, &[u8])>
     if let [b'n', ..] = word {
         return Some((ShortCell::Null, plain_null(dtype, text)?));
     }
-    let (number, rest) = whole(ptype, word)?;
-    let cell = cell_in_type(ptype, number)?;
+    let (cell, rest) = whole_cell(ptype, word)?;
     if ends_word(rest) {
         Some((cell, rest))
     } else {

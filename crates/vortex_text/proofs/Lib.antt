@@ -9,6 +9,7 @@ pub mod Fitting
 pub mod InputLemmas
 pub mod JoinLemmas
 pub mod LeftLemmas
+pub mod ManyRows
 pub mod MemoryLemmas
 pub mod NamedLines
 pub mod OpenLineLemmas

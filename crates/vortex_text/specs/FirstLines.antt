@@ -1,12 +1,13 @@
 -- The first line of a text, and the lines after it.
-use Rattle.std.specs.Prelude.{◌≡◌, ◌<◌, ◌-◌, ◌||◌, ℕ, Bool, List, [], ◌∷◌, ◌++◌, Option, None, Some, IsTrue, drop, is_some, length, option_map, take}
+use Rattle.std.specs.Prelude.{◌≡◌, ◌<◌, ◌-◌, ◌||◌, ℕ, zero, suc, Bool, List, [], ◌∷◌, ◌++◌, Option, None, Some, IsTrue, codes, drop, is_some, length, option_map, take}
 use Rattle.std.specs.List.{list_all}
 use Rattle.std.specs.Str.{is_utf8}
+use Rattle.std.specs.Str.Lines.{lines}
 use Rattle.vortex_base.specs.Data.Columns.{ColumnData}
 use Rattle.vortex_base.specs.declared.dtype.DType.{DType}
 use Rattle.vortex_base.specs.declared.scalar_value.ScalarValue.{ScalarValue}
 use Rattle.vortex_syntax.specs.Fails.{◌>>=◌}
-use Rattle.vortex_syntax.specs.Plain.{BeginsValue, is_line_byte}
+use Rattle.vortex_syntax.specs.Plain.{BeginsValue, EndsWord, is_line_byte}
 use Rattle.vortex_syntax.specs.Spelling.{IsParted}
 use Rattle.vortex_syntax.specs.Words.{words}
 use Rattle.vortex_text.specs.Columns.{behind, with_value, with_values}
@@ -45,6 +46,20 @@ TakesValue old text new rest = (v : Option ScalarValue) × BeginsValue old.dtype
 -- the values of a type get a value in plain form at the front of a text behind them, and what follows that is the rest
 abbrev pub AddsValue : DType → List (Option ScalarValue) → List ℕ → List (Option ScalarValue) → List ℕ → Type 0
 AddsValue t old text new rest = (v : Option ScalarValue) × BeginsValue t text v rest × (new ≡ old ++ v ∷ [])
+
+-- So many rows stand at the front of a text, each a line that begins with the word `row`, and what follows them is the rest. They lead from old to new, each by what f makes of the lines behind that word.
+abbrev pub TakesRows : {X : Type 0} → (X → List (List ℕ) → Option (X × List (List ℕ))) → ℕ → X → List ℕ → X → List ℕ → Type 0
+TakesRows f zero old text new rest = (old ≡ new) × (text ≡ rest)
+TakesRows f (suc n) old text new rest = (before : _) × (row values : List ℕ) × TakesRows f n old text before row
+    × (row ≡ codes "row" ++ values) × EndsWord values × (f before (lines values) ≡ Some (new, lines rest))
+
+-- the text begins with a row of one value of the type, in plain form, and what follows its line is the rest
+abbrev pub BeginsOnly : DType → List ℕ → Option ScalarValue → List ℕ → Type 0
+BeginsOnly t text v rest = (values : List ℕ) × (text ≡ codes "row" ++ values) × BeginsValue t values v (10 ∷ rest)
+
+-- a column of these values, of no declared size
+abbrev pub open_column : DType → List (Option ScalarValue) → ColumnData
+open_column t vs = record { dtype = t; values = vs; size = 0 }
 
 -- so many bytes of the text are left, of which P is true
 abbrev pub LeavesBytes : ℕ → List ℕ → (List ℕ → Type 0) → Type 0

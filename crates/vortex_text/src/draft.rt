@@ -1,10 +1,11 @@
 //! What the lines of a text say, line by line.
-ghost use Rattle.std.specs.Prelude.{◌≡◌, ◌<◌, ◌≤◌, ◌++◌, ◌||◌, IfOk, IfSome, IsErrOf, IsTrue, OnErr, OnOk, MatchOption, None, Some, [], codes, is_some, length, ok_or};
+ghost use Rattle.std.specs.Prelude.{◌≡◌, ◌<◌, ◌≤◌, ◌+◌, ◌++◌, ◌||◌, IfOk, IfSome, IsErrOf, IsTrue, OnErr, OnOk, MatchOption, None, Some, [], codes, is_some, length, ok_or};
 ghost use Rattle.std.specs.Str.Lines.{lines};
 ghost use Rattle.vortex_base.specs.Data.Scopes.{IsScope, named_columns};
 ghost use Rattle.vortex_syntax.specs.Fails.{Changes, Fails, GivesAndChanges, IsBad};
 ghost use Rattle.vortex_syntax.specs.Plain.{EndsWord};
 ghost use Rattle.vortex_syntax.specs.Words.{words};
+ghost use Rattle.vortex_text.specs.Blocks.{ReadsFront};
 ghost use Rattle.vortex_text.specs.Drafts.{reading_of};
 ghost use Rattle.vortex_text.specs.FirstLines.{first_read, first_values, may_take};
 ghost use Rattle.vortex_text.specs.Fitting.{AreNeighbours, FitsTogether, IsQueryOver};
@@ -31,7 +32,7 @@ use vortex_syntax::line_kind::{LineKind, kind_of};
 use vortex_syntax::lines::{is_utf8, next_line};
 use vortex_syntax::names::{is_name, type_of};
 use vortex_syntax::number::natural_of;
-use vortex_syntax::plain::ends_word;
+use vortex_syntax::plain::behind_row;
 use vortex_syntax::plain_statistic::{Told, plain_stat};
 use vortex_syntax::statistic::{read_claim, read_claimed};
 use vortex_syntax::word::{is_short, no_word, plain_word, skip_spaces};
@@ -365,6 +366,23 @@ impl Draft {
         }
     }
 
+    /// Reads the rows in plain form that a text begins with, where there is one column of numbers or
+    /// truths. How many lines those are comes back, and the text after them.
+    #[inline(always)]
+    pub fn read_rows<'a>(&mut self, text: &'a [u8]) -> (usize, &'a [u8])
+        requires fits { FitsTogether (reading_of self.old) }
+        ensures read { ReadsFront (reading_of self.old) (lines text.now) (λ count reading rest.
+            (result.0 ≡ count) × (reading_of self.new ≡ reading)
+            × (lines result.1.now ≡ rest)) }
+        ensures fits { FitsTogether (reading_of self.new) }
+        ensures bytes { result.0 + length result.1.now ≤ length text.now }
+    {
+        match (&mut self.store, &self.predicate) {
+            (Some(store), None) => store.push_rows(text),
+            _ => (0, text),
+        }
+    }
+
     // The first line of a text, whatever it is. The text after it comes back.
     #[inline(never)]
     fn read_any_first<'a>(&mut self, alloc: Global, text: &'a [u8]) -> Result<&'a [u8], LineError>
@@ -474,10 +492,8 @@ impl Draft {
         ensures shorter { IfSome result (λ rest. length rest.now < length text.now) }
     {
         if self.predicate.is_none() {
-            if let [b'r', b'o', b'w', values @ ..] = text {
-                if ends_word(values) {
-                    return self.read_first_row(alloc, values, refused);
-                }
+            if let Some(values) = behind_row(text) {
+                return self.read_first_row(alloc, values, refused);
             }
         }
         let after = self.read_other(alloc, text, refused);

@@ -70,7 +70,13 @@ pub(crate) fn read_lines<'a>(
     let mut rest = text;
     let mut number = first;
     let mut refused = LineError::Memory;
-    while !rest.is_empty() {
+    'lines: loop {
+        let (rows, after) = draft.read_rows(rest);
+        rest = after;
+        number += rows;
+        if rest.is_empty() {
+            return Ok(number);
+        }
         let Some(after) = draft.read_first(alloc, rest, &mut refused) else {
             return match refused {
                 LineError::Memory => Err(InputError::Memory),
@@ -80,7 +86,6 @@ pub(crate) fn read_lines<'a>(
         rest = after;
         number += 1;
     }
-    Ok(number)
 }
 
 /// Reads the last lines of a text after those that were read. The parts and the predicate that all

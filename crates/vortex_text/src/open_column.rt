@@ -1,12 +1,12 @@
 //! A column that still takes values.
-ghost use Rattle.std.specs.Prelude.{◌≡◌, ◌<◌, ◌≤◌, ◌-◌, [], All, IfOk, IfSome, MatchOption, OnOk, drop, length, map, option_map};
+ghost use Rattle.std.specs.Prelude.{◌≡◌, ◌<◌, ◌≤◌, ◌+◌, ◌-◌, ◌∷◌, [], All, IfOk, IfSome, MatchOption, OnOk, drop, length, map, option_map};
 ghost use Rattle.vortex_base.specs.Data.Cells.{bytes_value, cell_values, short_value, text_value};
 ghost use Rattle.vortex_base.specs.Data.Columns.{IsColumn};
 ghost use Rattle.vortex_base.specs.declared.dtype.DType.TheVariants as dtype;
 ghost use Rattle.vortex_syntax.specs.Fails.{Changes, GivesAndChanges};
 ghost use Rattle.vortex_syntax.specs.Words.{words};
 ghost use Rattle.vortex_text.specs.Columns.{taken, with_value, with_values};
-ghost use Rattle.vortex_text.specs.FirstLines.{AddsValue, LeavesBytes, TakesValue};
+ghost use Rattle.vortex_text.specs.FirstLines.{AddsValue, BeginsOnly, LeavesBytes, TakesRows, TakesValue, first_row, open_column};
 
 use std::alloc::{AllocError, Global};
 use std::marker::Model;
@@ -21,7 +21,7 @@ use vortex_base::texts::Texts;
 use vortex_base::types::{Nullability, PType};
 use vortex_syntax::expected::Expected;
 use vortex_syntax::line_error::LineError;
-use vortex_syntax::plain::{plain_bytes, plain_cell, plain_null, plain_text};
+use vortex_syntax::plain::{behind_row, plain_bytes, plain_cell, plain_null, plain_text};
 use vortex_syntax::value::optional_value_of;
 use vortex_syntax::word::{first_word, no_word};
 
@@ -61,6 +61,118 @@ fn take_native<'a, T: Native>(
     match natives.push(native) {
         Ok(()) => Some(rest),
         Err(AllocError) => None,
+    }
+}
+
+// The truth, the number or the null that stands in the row that a text begins with, where there is
+// one column, and what follows the row's line. None where the row isn't in plain form.
+#[inline(always)]
+fn only_value(dtype: DType, text: &[u8]) -> Option<(ShortCell, &[u8])>
+    ensures value { IfSome result (λ x. BeginsOnly dtype text.now (short_value x.0) x.1.now) }
+    ensures shorter { IfSome result (λ x. length x.1.now < length text.now) }
+{
+    let (cell, rest) = plain_cell(dtype, behind_row(text)?)?;
+    match rest {
+        [b'\n', after @ ..] => Some((cell, after)),
+        _ => None,
+    }
+}
+
+// Adds the values of the rows in plain form that a text begins with to the only column, which is
+// kept as a type. How many rows those are comes back, and what follows them.
+#[inline(always)]
+fn take_native_rows<'a, T: Native>(
+    natives: &mut Natives<T>,
+    dtype: DType,
+    text: &'a [u8],
+) -> (usize, &'a [u8])
+    ensures rows { TakesRows first_row result.0
+        (open_column dtype (map (option_map T.scalar) natives.old) ∷ []) text.now
+        (open_column dtype (map (option_map T.scalar) natives.new) ∷ []) result.1.now }
+    ensures bytes { result.0 + length result.1.now ≤ length text.now }
+{
+    let mut rest = text;
+    let mut count = 0;
+    while let Some((cell, after)) = only_value(dtype, rest) {
+        let Some(native) = T::of_cell(cell) else {
+            break;
+        };
+        let Ok(()) = natives.push(native) else {
+            break;
+        };
+        rest = after;
+        count += 1;
+    }
+    (count, rest)
+}
+
+// The same of numbers.
+#[inline(always)]
+fn take_number_rows<'a, T: Native>(
+    natives: &mut Natives<T>,
+    ptype: PType,
+    nullability: Nullability,
+    text: &'a [u8],
+) -> (usize, &'a [u8])
+    ensures rows { let dtype = dtype.Primitive ptype nullability in
+        TakesRows first_row result.0
+        (open_column dtype (map (option_map T.scalar) natives.old) ∷ []) text.now
+        (open_column dtype (map (option_map T.scalar) natives.new) ∷ []) result.1.now }
+    ensures bytes { result.0 + length result.1.now ≤ length text.now }
+{
+    take_native_rows(natives, DType::Primitive(ptype, nullability), text)
+}
+
+// Adds the values of the rows in plain form that a text begins with to the only column, where it
+// has the form of a type of numbers or truths. How many rows those are comes back, and what follows
+// them: no rows where the column has another form.
+#[inline(never)]
+fn take_own_rows<'a>(cells: &mut Cells, dtype: DType, text: &'a [u8]) -> (usize, &'a [u8])
+    ensures rows { TakesRows first_row result.0 (open_column dtype (cell_values cells.old) ∷ [])
+        text.now (open_column dtype (cell_values cells.new) ∷ []) result.1.now }
+    ensures bytes { result.0 + length result.1.now ≤ length text.now }
+{
+    match (cells, dtype) {
+        (Cells::Bool(v), DType::Bool(n)) => take_native_rows(v, DType::Bool(n), text),
+        (Cells::U8(v), DType::Primitive(PType::U8, n)) => take_number_rows(v, PType::U8, n, text),
+        (Cells::U16(v), DType::Primitive(PType::U16, n)) => take_number_rows(
+            v,
+            PType::U16,
+            n,
+            text,
+        ),
+        (Cells::U32(v), DType::Primitive(PType::U32, n)) => take_number_rows(
+            v,
+            PType::U32,
+            n,
+            text,
+        ),
+        (Cells::U64(v), DType::Primitive(PType::U64, n)) => take_number_rows(
+            v,
+            PType::U64,
+            n,
+            text,
+        ),
+        (Cells::I8(v), DType::Primitive(PType::I8, n)) => take_number_rows(v, PType::I8, n, text),
+        (Cells::I16(v), DType::Primitive(PType::I16, n)) => take_number_rows(
+            v,
+            PType::I16,
+            n,
+            text,
+        ),
+        (Cells::I32(v), DType::Primitive(PType::I32, n)) => take_number_rows(
+            v,
+            PType::I32,
+            n,
+            text,
+        ),
+        (Cells::I64(v), DType::Primitive(PType::I64, n)) => take_number_rows(
+            v,
+            PType::I64,
+            n,
+            text,
+        ),
+        _ => (0, text),
     }
 }
 
@@ -259,6 +371,17 @@ impl OpenColumn {
         }
         let left = self.take_null(text)?;
         Some(last_bytes(text, left))
+    }
+
+    /// Adds the values of the rows in plain form that a text begins with, where this is the only
+    /// column. How many rows those are comes back, and what follows them.
+    #[inline(always)]
+    pub fn take_rows<'a>(&mut self, text: &'a [u8]) -> (usize, &'a [u8])
+        ensures rows { TakesRows first_row result.0 (self.old ∷ []) text.now (self.new ∷ [])
+            result.1.now }
+        ensures bytes { result.0 + length result.1.now ≤ length text.now }
+    {
+        take_own_rows(&mut self.cells, self.dtype, text)
     }
 }
 

@@ -1,10 +1,11 @@
 //! The parts of a text as ranges of the rows of one set of columns.
-ghost use Rattle.std.specs.Prelude.{◌≡◌, ◌<◌, [], All, IfOk, IfSome, IsErrOf, IsTrue, List, OnErr, OnOk, Some, is_some, length, ok_or};
+ghost use Rattle.std.specs.Prelude.{◌≡◌, ◌<◌, ◌≤◌, ◌+◌, [], All, IfOk, IfSome, IsErrOf, IsTrue, List, OnErr, OnOk, Some, is_some, length, ok_or};
 ghost use Rattle.std.specs.Str.Lines.{lines};
 ghost use Rattle.vortex_base.specs.Data.Scopes.{IsScope, Named, named_columns};
 ghost use Rattle.vortex_syntax.specs.Fails.{Changes, GivesAndChanges};
 ghost use Rattle.vortex_syntax.specs.Plain.{EndsWord};
 ghost use Rattle.vortex_syntax.specs.Words.{words};
+ghost use Rattle.vortex_text.specs.FirstLines.{TakesRows};
 ghost use Rattle.vortex_text.specs.Fitting.{AreNeighbours, IsPartOf};
 ghost use Rattle.vortex_text.specs.Lines.{has_part};
 ghost use Rattle.vortex_text.specs.Rows.{empty_part, joined_at};
@@ -158,6 +159,22 @@ impl Store {
                 self.columns.clear();
                 None
             }
+        }
+    }
+
+    /// Adds the rows in plain form that a text begins with to the open part, where there is one
+    /// column of numbers or truths. How many rows those are comes back, and what follows them.
+    #[inline(always)]
+    pub fn push_rows<'a>(&mut self, text: &'a [u8]) -> (usize, &'a [u8])
+        ensures rows { TakesRows with_first result.0 self.old text.now self.new result.1.now }
+        ensures bytes { result.0 + length result.1.now ≤ length text.now }
+    {
+        if !self.is_open {
+            return (0, text);
+        }
+        match &mut self.columns[..] {
+            [column] => column.take_rows(text),
+            _ => (0, text),
         }
     }
 

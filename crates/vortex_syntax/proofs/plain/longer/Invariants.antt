@@ -3,20 +3,18 @@ use Rattle.vortex_syntax.specs.Plain.{BeginsDigits}
 use Rattle.vortex_syntax.proofs.plain.longer.Given as goal
 
 -- the digits so far write the number
+pub record DigitsRead (so_far number : ℕ) (text rest : List ℕ) : Type 0 where
+  pub read : (whole : List ℕ) → BeginsDigits whole so_far text → BeginsDigits whole number rest
+  pub no_longer : length rest ≤ length text
+
 abbrev pub invariant-fours : goal.invariant-fours
-invariant-fours l = record {
-  read : (whole : List ℕ) → BeginsDigits whole l.so_far l.text → BeginsDigits whole l.number l.rest;
-  no_longer : length l.rest ≤ length l.text;
-}
+invariant-fours l = DigitsRead l.so_far l.number l.text l.rest
 
 abbrev pub decreases-fours : goal.decreases-fours
 decreases-fours l = length l.rest
 
 abbrev pub invariant-digits : goal.invariant-digits
-invariant-digits l = record {
-  read : (whole : List ℕ) → BeginsDigits whole l.so_far l.text → BeginsDigits whole l.number l.rest;
-  no_longer : length l.rest ≤ length l.text;
-}
+invariant-digits l = DigitsRead l.so_far l.number l.text l.rest
 
 abbrev pub decreases-digits : goal.decreases-digits
 decreases-digits l = length l.rest

@@ -1,8 +1,4 @@
-use Rattle.std.proofs.Common.{◌≡◌, rules, length, take, drop, get_or, arith, ◌-◌}
-use Rattle.std.proofs.Math.Facts.{to_z-of_z}
-use borrow.Author.Differences.{ints}
-use mir.Syntax.{w128}
-use mir.Val.{of_z, to_z}
+use Rattle.std.proofs.Common.{◌≡◌, length, take, drop, get_or, arith, ◌-◌}
 use Rattle.vortex_syntax.proofs.PlainLemmas.{uncons, value_cell}
 use Rattle.vortex_syntax.proofs.plain.number_cell.Goals as goal
 
@@ -10,8 +6,6 @@ pub returns-then-ends_word-clause-value : goal.returns-then-ends_word-clause-val
 returns-then-ends_word-clause-value c =
     let text = c.args.text.now in
     let space : get_or text 0 0 ≡ 32 = omega arith in
-    let same : to_z w128 (of_z w128 c.in_ok-number.number) ≡ c.in_ok-number.number = search (rules, ints, to_z-of_z) in
-    let held = rw same at c.in_ok-cell.ensures in
     rw c.in-Primitive.is
-    (value_cell c.in-Primitive.ptype c.in-Primitive.field-1 text (take (length text - 1) (drop 1 text)) c.in_ok-number.rest.now c.in_ok-number.number c.in_ok-cell.cell
-    (uncons text 32 (omega arith) space) c.in_ok-number.ensures.whole (c.ends_word.ensures c.if-ends_word.true) held)
+    (value_cell c.in-Primitive.ptype c.in-Primitive.field-1 text (take (length text - 1) (drop 1 text)) c.in_ok-cell.rest.now c.in_ok-cell.cell
+    (uncons text 32 (omega arith) space) c.in_ok-cell.ensures.whole (c.ends_word.ensures c.if-ends_word.true))
