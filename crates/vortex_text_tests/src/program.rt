@@ -12,6 +12,7 @@ mod batches;
 mod deep;
 mod joined_parts;
 mod nulls;
+mod one_column;
 mod plain_rows;
 mod plain_statistics;
 mod ranges;
