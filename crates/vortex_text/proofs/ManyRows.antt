@@ -47,7 +47,7 @@ only_one_more t old was now v text row rest n so_far (values, split, begins) mad
 
 -- ---- the open part of a store
 
-pub rows_store : (n : ℕ) (scope : List Named) (cs ds : List ColumnData) (log : LogData) (from : ℕ) (b : Bool) (text rest : List ℕ) → IsStore (chunk scope cs) log from b → b ≡ true → TakesRows first_row n cs text ds rest
+rows_store : (n : ℕ) (scope : List Named) (cs ds : List ColumnData) (log : LogData) (from : ℕ) (b : Bool) (text rest : List ℕ) → IsStore (chunk scope cs) log from b → b ≡ true → TakesRows first_row n cs text ds rest
     → IsStore (chunk scope ds) log from b × TakesRows with_first n (parts_in (chunk scope cs) log from b) text (parts_in (chunk scope ds) log from b) rest
 rows_store zero scope cs ds log from b text rest s opened (same, is) = (subst (λ (es : List ColumnData). IsStore (chunk scope es) log from b) same s, (ap (λ es. parts_in (chunk scope es) log from b) same, is))
 rows_store (suc n) scope cs ds log from b text rest s opened (es, row, values, earlier, split, ends, read) =
@@ -56,16 +56,24 @@ rows_store (suc n) scope cs ds log from b text rest s opened (es, row, values, e
       (parts_in (chunk scope es) log from b, row, values, gives, split, ends, first_view scope es ds log from b (lines values) (lines rest) so_far opened read),
     )
 
--- the columns of a store with one column
-pub alone : (xs : List ColumnData) (d : ColumnData) → length xs ≡ 1 → get_or xs 0 d ∷ [] ≡ xs
+-- a store with one column, in whose place it stands when it has taken rows
+alone : (xs : List ColumnData) (d : ColumnData) → length xs ≡ 1 → get_or xs 0 d ∷ [] ≡ xs
 alone [] d one = absurd (omega (arith, one))
 alone (x ∷ []) d one = refl
 alone (x ∷ y ∷ xs) d one = absurd (omega (arith, one))
 
-pub alone_set : (xs : List ColumnData) (new : ColumnData) → length xs ≡ 1 → set xs 0 new ≡ new ∷ []
+alone_set : (xs : List ColumnData) (new : ColumnData) → length xs ≡ 1 → set xs 0 new ≡ new ∷ []
 alone_set [] new one = absurd (omega (arith, one))
 alone_set (x ∷ []) new one = refl
 alone_set (x ∷ y ∷ xs) new one = absurd (omega (arith, one))
+
+pub only_store : (n : ℕ) (scope : List Named) (cs xs ds : List ColumnData) (d new : ColumnData) (log : LogData) (from : ℕ) (b : Bool) (text rest : List ℕ) → length xs ≡ 1 → xs ≡ cs → ds ≡ set xs 0 new → IsStore (chunk scope cs) log from b → b ≡ true
+    → TakesRows first_row n (get_or xs 0 d ∷ []) text (new ∷ []) rest → IsStore (chunk scope ds) log from b × TakesRows with_first n (parts_in (chunk scope cs) log from b) text (parts_in (chunk scope ds) log from b) rest
+only_store n scope cs xs ds d new log from b text rest one were are s opened rows =
+    let old : get_or xs 0 d ∷ [] ≡ cs = alone xs d one ∙ were in
+    let now : new ∷ [] ≡ ds = sym (are ∙ alone_set xs new one) in
+    let from_all : TakesRows first_row n cs text (new ∷ []) rest = subst (λ (es : List ColumnData). TakesRows first_row n es text (new ∷ []) rest) old rows in
+    rows_store n scope cs ds log from b text rest s opened (subst (λ (es : List ColumnData). TakesRows first_row n cs text es rest) now from_all)
 
 -- ---- what lines say
 

@@ -52,7 +52,14 @@ fn numbers_of_each_length(rt: HostRuntime) -> Result<(), Fail> {
 // Three rows of a type of numbers, of which the last two are 8 at least.
 fn expect_type(rt: &impl Abort, alloc: Global, name: &str, most: &str) -> Result<(), Fail> {
     let mut text = String::from_str(alloc, "column a ")?;
-    for word in [name, "\npart\nrow 7\nrow 8\nrow ", most, "\nwhere ge col a lit ", name, " 8\n"] {
+    for word in [
+        name,
+        "\npart\nrow 7\nrow 8\nrow ",
+        most,
+        "\nwhere ge col a lit ",
+        name,
+        " 8\n",
+    ] {
         text.push_str(word)?;
     }
     expect_answer(rt, alloc, &text, 0, "skipped\nrows 0:1 0:2\n")
