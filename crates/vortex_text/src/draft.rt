@@ -366,8 +366,8 @@ impl Draft {
         }
     }
 
-    /// Reads the rows in plain form that a text begins with, where there is one column of numbers or
-    /// truths. How many lines those are comes back, and the text after them.
+    /// Reads the rows in plain form that a text begins with, where there is one column of numbers
+    /// or truths. How many lines those are comes back, and the text after them.
     #[inline(always)]
     pub fn read_rows<'a>(&mut self, text: &'a [u8]) -> (usize, &'a [u8])
         requires fits { FitsTogether (reading_of self.old) }
