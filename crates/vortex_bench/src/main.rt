@@ -3,6 +3,7 @@
 // many zones, and normal forms of long chains.
 #![tactic(auto)]
 
+mod arrays;
 mod chosen;
 mod measures;
 mod normal;
@@ -36,6 +37,9 @@ fn count_pruned(alloc: Global, name: &str, length: u32) -> Result<usize> {
         "table_map" => Ok(pruning::only_mapped(alloc, pruning::TABLE)?),
         "table_comparison" => Ok(pruning::pruned(alloc, pruning::TABLE, 1)?),
         "table_leaves" => Ok(pruning::pruned(alloc, pruning::TABLE, 16)?),
+        "table_arrays" => Ok(arrays::only_arrays(alloc, pruning::TABLE)?),
+        "table_arrays_comparison" => Ok(arrays::pruned(alloc, pruning::TABLE, 1)?),
+        "table_arrays_leaves" => Ok(arrays::pruned(alloc, pruning::TABLE, 16)?),
         "broad_map" => Ok(pruning::only_mapped(alloc, pruning::BROAD)?),
         "broad_comparison" => Ok(pruning::pruned(alloc, pruning::BROAD, 1)?),
         "broad_leaves" => Ok(pruning::pruned(alloc, pruning::BROAD, 16)?),

@@ -20,7 +20,8 @@ use vortex_stats::stats_set::StatsSet;
 
 const NUMBER: DType = DType::Primitive(PType::I64, Nullability::NonNullable);
 
-const REPEATS: u32 = 10;
+/// How often a map is pruned.
+pub const REPEATS: u32 = 10;
 
 /// How many rows each zone has.
 pub const ROWS: u64 = 10_000;
@@ -129,9 +130,9 @@ fn above(alloc: Global, place: usize, number: i64) -> Result<BoundExpression, Ba
     bound::gt(alloc, column, bound::lit(alloc, least)?)
 }
 
-// So many comparisons joined by AND, of one column after another, of which most zones fail the
-// last alone.
-fn leaves_of(alloc: Global, size: Size, leaves: usize) -> Result<BoundExpression> {
+/// So many comparisons joined by AND, of one column after another, of which most zones fail the
+/// last alone.
+pub fn leaves_of(alloc: Global, size: Size, leaves: usize) -> Result<BoundExpression> {
     let last = size.batches.saturating_mul(size.batch).saturating_sub(100);
     let mut all = above(alloc, 0, if leaves == 1 { last } else { 0 })?;
     for leaf in 1..leaves {

@@ -1,15 +1,15 @@
 -- What digits write, one after another.
-use Rattle.std.proofs.Common.{◌≡◌, ◌<◌, ◌≤◌, ◌+◌, ◌-◌, ◌*◌, ◌^◌, ◌&&◌, ℕ, zero, suc, true, false, List, [], ◌∷◌, ◌++◌, Option, None, Some, length, nat_lt, option_and_then, option_map, append_assoc, take, drop, get_or, refl, ap, sym, ◌∙◌, inl, inr, arith}
+use Rattle.std.proofs.Common.{◌≡◌, ◌<◌, ◌≤◌, ◌+◌, ◌-◌, ◌*◌, ◌^◌, ◌&&◌, ℕ, zero, suc, true, false, List, [], ◌∷◌, ◌++◌, None, Some, length, nat_lt, option_and_then, take, get_or, refl, sym, ◌∙◌, inl, inr, arith}
 use Rattle.std.proofs.lemmas.Bool.{and_from, and_parts, cases_Bool, false_from_ne_true}
 use Rattle.std.proofs.lemmas.Bool.Decides.{nat_tests}
 use Rattle.std.proofs.lemmas.Int.Digits.{digits_value_more}
-use Rattle.std.proofs.lemmas.List.{take_all, take_more, take_rest}
+use Rattle.std.proofs.lemmas.List.{take_all, take_more}
 use Rattle.std.proofs.lemmas.Str.{digit_value_digit}
 use Rattle.std.proofs.lemmas.Str.Parse.{digits_value-take-le}
 use Rattle.std.specs.Char.{digit_value, is_ascii_digit}
 use Rattle.std.specs.Str.{all_ascii_digits}
 use Rattle.std.specs.Str.Parse.{digits_value}
-use Rattle.vortex_syntax.specs.Numbers.{in_64_bits, byte_of, bytes_of, in_front, natural_of, with_digit}
+use Rattle.vortex_syntax.specs.Numbers.{in_64_bits, natural_of, with_digit}
 
 pub all_push : (ds : List ℕ) (d : ℕ) → all_ascii_digits ds ≡ true → is_ascii_digit d ≡ true → all_ascii_digits (ds ++ d ∷ []) ≡ true
 all_push [] d all one = and_from _ _ one refl
@@ -71,18 +71,3 @@ natural_whole ds i n past some low all value =
     let long : nat_lt 0 (length ds) ≡ true = grind (arith, nat_tests) in
     let short : nat_lt n (2 ^ 64) ≡ true = grind (arith, nat_tests) in
     rw (digits, long, ← is, short) refl
-
--- bytes in front of those to come
-abbrev pub with_front : List ℕ → Option (List ℕ) → Option (List ℕ)
-with_front front read = option_map (λ more. front ++ more) read
-
-front_push : (front : List ℕ) (b : ℕ) (read : Option (List ℕ)) → with_front (front ++ b ∷ []) read ≡ with_front front (in_front (Some b) read)
-front_push front b None = refl
-front_push front b (Some more) = ap Some (append_assoc front (b ∷ []) more)
-
-pub pairs_more : (digits front rest : List ℕ) (b : ℕ) → 2 ≤ length rest → byte_of (get_or rest 0 0) (get_or rest 1 0) ≡ Some b
-    → with_front front (bytes_of rest) ≡ bytes_of digits → with_front (front ++ b ∷ []) (bytes_of (take (length rest - 2) (drop 2 rest))) ≡ bytes_of digits
-pairs_more digits front [] b long pair h = absurd (omega arith)
-pairs_more digits front (x ∷ []) b long pair h = absurd (omega arith)
-pairs_more digits front (high ∷ low ∷ rest) b long pair h =
-    rw (take_rest (high ∷ low ∷ rest) 2) (front_push front b (bytes_of rest) ∙ ap (λ o. with_front front (in_front o (bytes_of rest))) (sym pair) ∙ h)

@@ -1,5 +1,5 @@
 -- Values in plain form: digits by digits, words up to their end, texts up to the quote that closes them.
-use Rattle.std.proofs.Common.{◌≡◌, ◌≢◌, ◌<◌, ◌≤◌, ◌+◌, ◌-◌, ◌*◌, ◌&&◌, ◌||◌, ◌==◌, ℕ, ℤ, suc, pos, neg_ℤ, Bool, true, false, not, List, [], ◌∷◌, ◌++◌, Option, None, Some, length, length-append, nat_lt, option_and_then, option_map, codes, append_assoc, position, take, drop, get_or, int_le, refl, ap, sym, subst, ◌∙◌, inl, inr, arith, take-append-drop}
+use Rattle.std.proofs.Common.{◌≡◌, ◌≢◌, ◌<◌, ◌≤◌, ◌+◌, ◌-◌, ◌*◌, ◌&&◌, ◌||◌, ◌==◌, ℕ, ℤ, zero, suc, pos, neg_ℤ, Bool, true, false, not, List, [], ◌∷◌, ◌++◌, Option, None, Some, length, length-append, nat_lt, option_and_then, option_map, codes, append_assoc, position, take, drop, get_or, int_le, refl, ap, sym, subst, ◌∙◌, inl, inr, arith, take-append-drop}
 use Rattle.std.specs.Prelude.{IfSome}
 use Rattle.std.proofs.lemmas.Bool.{and_from, and_parts, cases_Bool, false_from_ne_true}
 use Rattle.std.proofs.lemmas.Bool.Decides.{nat_tests}
@@ -9,7 +9,8 @@ use Rattle.std.proofs.lemmas.List.Quantifiers.{position-Some}
 use Rattle.std.specs.Char.{is_ascii_digit}
 use Rattle.std.specs.List.{AllByRecursion, flat_map, list_all, position_or_len}
 use Rattle.std.proofs.lemmas.Slice.Eq.{bytes_eq-Decides}
-use Rattle.std.specs.Str.{all_ascii_digits, bytes_eq, is_utf8}
+use Rattle.std.proofs.lemmas.Str.{IsUtf8-from_ascii, is_utf8-from_IsUtf8}
+use Rattle.std.specs.Str.{all_ascii_digits, bytes_eq, is_utf8, IsAscii, IsUtf8}
 use Rattle.vortex_base.specs.Meanings.Typing.{is_signed}
 use Rattle.vortex_base.specs.Data.Values.{greatest, least}
 use Rattle.vortex_base.specs.declared.dtype.DType.{DType}
@@ -27,7 +28,7 @@ use Rattle.vortex_syntax.proofs.Fronts.{AreAt, front_is}
 use Rattle.vortex_syntax.proofs.NumberLemmas.{all_push, digit_is}
 use Rattle.vortex_syntax.proofs.Spelling.{quotes_open}
 use Rattle.vortex_syntax.specs.Numbers.{bytes_of, four_value, in_64_bits_signed, in_type, number_of, whole_of}
-use Rattle.vortex_syntax.specs.Plain.{BeginsDigits, BeginsNatural, BeginsNumber, BeginsQuoted, BeginsSigned, BeginsValue, BeginsWhole, BeginsWord, EndsWord, is_line_byte, is_text_byte, is_word_byte, truth_name}
+use Rattle.vortex_syntax.specs.Plain.{BeginsBytes, BeginsDigits, BeginsNatural, BeginsNumber, BeginsQuoted, BeginsSigned, BeginsValue, BeginsWhole, BeginsWord, EndsWord, is_line_byte, is_text_byte, is_word_byte, truth_name}
 use Rattle.vortex_syntax.specs.Spelling.{CanBeSpelled, spelled_byte}
 use Rattle.vortex_syntax.specs.Values.{binary_of, optional_value_of}
 use Rattle.vortex_syntax.specs.Words.{Plain, Quoted}
@@ -236,10 +237,27 @@ text_in_line (b ∷ t) all =
     let (one, more) = and_parts _ _ all in
     and_from _ _ (not_quoted b one).0 (text_in_line t more)
 
+text_byte_small : (b : ℕ) → is_text_byte b ≡ true → b < 128
+text_byte_small b is = let line = (not_quoted b is).0 in grind (arith, nat_tests, line)
+
+-- bytes that stand for themselves are ASCII
+text_is_ascii : (t : List ℕ) → list_all is_text_byte t ≡ true → IsAscii t
+text_is_ascii [] all i = omega arith
+text_is_ascii (b ∷ t) all zero = text_byte_small b ((and_parts _ _ all).0)
+text_is_ascii (b ∷ t) all (suc i) = text_is_ascii t ((and_parts _ _ all).1) i
+
+-- what stands in front of the first byte that doesn't stand for itself
+pub front_utf8 : (text : List ℕ) (end : ℕ) → position (λ b. not (is_text_byte b)) text ≡ Some end → IsUtf8 (take end text)
+front_utf8 text end found = IsUtf8-from_ascii (take end text) (text_is_ascii (take end text) (front_passes is_text_byte text end found))
+
 -- a text that its first quote closes
-pub quoted_begins : (text rest : List ℕ) (end : ℕ) → position (λ b. not (is_text_byte b)) text ≡ Some end → drop end text ≡ 34 ∷ rest → is_utf8 (take end text) ≡ true → BeginsQuoted text (take end text) rest
-quoted_begins text rest end found closes utf8 =
-    record { split = sym (take-append-drop end text) ∙ ap (λ l. take end text ++ l) closes; is_plain = front_passes is_text_byte text end found; utf8 = utf8 }
+pub quoted_begins : (text rest : List ℕ) (end : ℕ) → position (λ b. not (is_text_byte b)) text ≡ Some end → drop end text ≡ 34 ∷ rest → BeginsQuoted text (take end text) rest
+quoted_begins text rest end found closes =
+    record {
+      split = sym (take-append-drop end text) ∙ ap (λ l. take end text ++ l) closes;
+      is_plain = front_passes is_text_byte text end found;
+      utf8 = is_utf8-from_IsUtf8 (take end text) (front_utf8 text end found);
+    }
 
 -- the value of such a text
 pub value_in_quotes : (n : Nullability) (text behind quoted rest : List ℕ) → text ≡ 32 ∷ 34 ∷ behind → BeginsQuoted behind quoted rest → EndsWord rest → BeginsValue (dtype.Utf8 n) text (Some (value.Utf8 quoted)) rest
@@ -300,10 +318,16 @@ value_null_at t text word is has some first long n u l m ends =
 begins_x : (word digits : List ℕ) → word ≡ 120 ∷ digits → bytes_eq word (codes "null") ≡ false
 begins_x word digits is = false_from_ne_true (bytes_eq word (codes "null")) (λ e. let first : 120 ≡ 110 = ap (λ (l : List ℕ). get_or l 0 0) (sym is ∙ (bytes_eq-Decides word (codes "null")).0 e) in omega arith)
 
--- bytes behind a space, whose word this is
-pub value_bytes : (n : Nullability) (text behind word digits rest bytes : List ℕ) → text ≡ 32 ∷ behind → BeginsWord behind word rest → word ≡ 120 ∷ digits → EndsWord rest → bytes_of digits ≡ Some bytes
-    → BeginsValue (dtype.Binary n) text (Some (value.Binary bytes)) rest
-value_bytes n text behind word digits rest bytes is begins x ends read =
-    let null = begins_x word digits x in
+bytes_in_word : (n : Nullability) (word digits bytes : List ℕ) → word ≡ 120 ∷ digits → bytes_of digits ≡ Some bytes → optional_value_of (dtype.Binary n) (Plain word) ≡ Some (Some (value.Binary bytes))
+bytes_in_word n word digits bytes is read =
+    let null = begins_x word digits is in
     let held : binary_of (120 ∷ digits) ≡ Some (value.Binary bytes) = rw read refl in
-    value_in_word (dtype.Binary n) text behind word rest (Some (value.Binary bytes)) is begins ends (rw null (ap (λ w. option_map (λ v. Some v) (binary_of w)) x ∙ ap (option_map (λ v. Some v)) held))
+    rw null (ap (λ w. option_map (λ v. Some v) (binary_of w)) is ∙ ap (option_map (λ v. Some v)) held)
+
+-- the bytes that pairs of digits write, behind a space and an `x`
+pub value_bytes : (n : Nullability) (text behind rest bytes : List ℕ) → text ≡ 32 ∷ 120 ∷ behind → BeginsBytes behind bytes rest → EndsWord rest
+    → BeginsValue (dtype.Binary n) text (Some (value.Binary bytes)) rest
+value_bytes n text behind rest bytes is begins ends =
+    let word = 120 ∷ begins.digits in
+    let begun : BeginsWord (120 ∷ behind) word rest = record { split = ap (λ l. 120 ∷ l) begins.split; some = omega arith; is_plain = begins.is_plain } in
+    value_in_word (dtype.Binary n) text (120 ∷ behind) word rest (Some (value.Binary bytes)) is begun ends (bytes_in_word n word begins.digits bytes refl begins.value)

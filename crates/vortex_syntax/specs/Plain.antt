@@ -8,7 +8,7 @@ use Rattle.vortex_base.specs.declared.dtype.DType.{DType}
 use Rattle.vortex_base.specs.declared.pvalue.PValue.{PValue}
 use Rattle.vortex_base.specs.declared.scalar_value.ScalarValue.{ScalarValue}
 use Rattle.vortex_base.specs.declared.types.PType.{PType}
-use Rattle.vortex_syntax.specs.Numbers.{natural_of, number_of, whole_of}
+use Rattle.vortex_syntax.specs.Numbers.{bytes_of, natural_of, number_of, whole_of}
 use Rattle.vortex_syntax.specs.Spelling.{CanBeSpelled, spelled}
 use Rattle.vortex_syntax.specs.Values.{optional_value_of}
 use Rattle.vortex_syntax.specs.Words.{Token}
@@ -40,6 +40,13 @@ pub record BeginsQuoted (text quoted rest : List ℕ) : Type 0 where
   pub split : text ≡ quoted ++ 34 ∷ rest
   pub is_plain : IsTrue (list_all is_text_byte quoted)
   pub utf8 : IsTrue (is_utf8 quoted)
+
+-- the text begins with pairs of hexadecimal digits, maybe none, that write these bytes
+pub record BeginsBytes (text bytes rest : List ℕ) : Type 0 where
+  pub digits : List ℕ
+  pub split : text ≡ digits ++ rest
+  pub is_plain : IsTrue (list_all is_word_byte digits)
+  pub value : bytes_of digits ≡ Some bytes
 
 -- the text begins with digits, maybe none, that write this number
 pub record BeginsDigits (text : List ℕ) (n : ℕ) (rest : List ℕ) : Type 0 where

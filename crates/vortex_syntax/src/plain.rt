@@ -12,7 +12,7 @@ ghost use Rattle.vortex_syntax.specs.Plain.{BeginsDigits, BeginsNatural, BeginsN
 ghost use Rattle.vortex_syntax.specs.Plain as spec;
 
 use crate::number::{in_type, is_signed};
-use crate::value::read_bytes;
+use crate::value::read_pairs;
 use std::alloc::AllocError;
 use std::str;
 use vortex_base::cells::ShortCell;
@@ -220,12 +220,12 @@ fn is_word_byte(byte: u8) -> bool
     byte > b'"' && byte < 127
 }
 
-// Whether a byte stands for itself between quotes.
+// Whether a byte stands for itself between quotes. Of a small letter, as most are, one test tells.
 #[inline(always)]
 fn is_text_byte(byte: u8) -> bool
     ensures { result ≡ spec.is_text_byte byte }
 {
-    b' ' <= byte && byte < 127 && !(byte == b'"' || byte == b'\\')
+    (b'\\' < byte && byte < 127) || (b' ' <= byte && byte < b'\\' && byte != b'"')
 }
 
 // Where the first byte stands that isn't of a word in plain form.
@@ -266,10 +266,9 @@ fn quoted(text: &[u8]) -> Option<(&str, &[u8])>
     let [b'"', rest @ ..] = &text[end..] else {
         return None;
     };
-    match str::from_utf8(&text[..end]) {
-        Ok(quoted) => Some((quoted, rest)),
-        Err(_) => None,
-    }
+    // Bytes of ASCII are UTF-8.
+    let quoted = unsafe { str::from_utf8_unchecked(&text[..end]) };
+    Some((quoted, rest))
 }
 
 // The cell of a number of a type with numbers below zero, if the type has it.
@@ -425,20 +424,12 @@ pub fn plain_bytes<'a>(
     ensures shorter { IfOk result (λ o. IfSome o
         (λ rest. length rest.now < length text.now)) }
 {
-    let [b' ', behind @ ..] = text else {
+    let (DType::Binary(_), [b' ', b'x', behind @ ..]) = (dtype, text) else {
         return Ok(None);
     };
-    let Some((word, rest)) = word(behind) else {
-        return Ok(None);
-    };
-    let (DType::Binary(_), [b'x', digits @ ..]) = (dtype, word) else {
-        return Ok(None);
-    };
-    if !ends_word(rest) {
-        return Ok(None);
-    }
     bytes.clear();
-    if read_bytes(digits, bytes)? {
+    let rest = read_pairs(behind, bytes)?;
+    if ends_word(rest) {
         Ok(Some(rest))
     } else {
         Ok(None)

@@ -3,6 +3,7 @@ ghost use Rattle.std.specs.Prelude.{◌≡◌, ◌<◌, ◌≤◌, [], if◌then
 ghost use Rattle.vortex_syntax.specs.Copies.{makes_bytes};
 ghost use Rattle.vortex_syntax.specs.Fails.{Gives, IsBad};
 ghost use Rattle.vortex_syntax.specs.Numbers.{byte_of, bytes_of, hexadecimal_of};
+ghost use Rattle.vortex_syntax.specs.Plain.{BeginsBytes};
 ghost use Rattle.vortex_syntax.specs.Values.{binary_of, optional_value_of, plain_value, quoted_value, text_of, truth_of, value_of};
 ghost use Rattle.vortex_syntax.specs.Words.{Plain, token_of};
 
@@ -29,41 +30,64 @@ fn truth_of(word: &[u8]) -> Option<ScalarValue>
     None
 }
 
-fn digit_of(byte: u8) -> Option<u8>
-    ensures { result ≡ hexadecimal_of byte }
+// The value of a hexadecimal digit, and 16 for any other byte. It takes no branch, since digits and
+// letters stand in no order.
+#[inline(always)]
+fn digit_or_16(byte: u8) -> u8
+    ensures digit { result < 16 → hexadecimal_of byte ≡ Some result }
+    ensures other { 16 ≤ result → hexadecimal_of byte ≡ None }
 {
     match byte {
-        b'0'..=b'9' => Some(byte - b'0'),
-        b'a'..=b'f' => Some(byte - b'a' + 10),
-        b'A'..=b'F' => Some(byte - b'A' + 10),
-        _ => None,
+        b'0'..=b'9' => byte - b'0',
+        b'a'..=b'f' => byte - b'a' + 10,
+        b'A'..=b'F' => byte - b'A' + 10,
+        _ => 16,
     }
 }
 
 // The byte of two hexadecimal digits.
+#[inline(always)]
 fn byte_of(high: u8, low: u8) -> Option<u8>
     ensures { result ≡ byte_of high low }
 {
-    Some(16 * digit_of(high)? + digit_of(low)?)
+    let (high, low) = (digit_or_16(high), digit_or_16(low));
+    if high < 16 && low < 16 {
+        Some(16 * high + low)
+    } else {
+        None
+    }
+}
+
+// Puts the bytes that the pairs of hexadecimal digits at the front of a text write into a vector
+// without bytes. What follows those pairs comes back.
+#[inline(always)]
+pub(crate) fn read_pairs<'a>(text: &'a [u8], bytes: &mut Vec<u8>) -> Result<&'a [u8], AllocError>
+    requires { bytes.old.items ≡ [] }
+    ensures pairs { IfOk result (λ rest. BeginsBytes text.now bytes.new.items rest.now) }
+    ensures stops { IfOk result (λ rest. 0 < length rest.now → bytes_of text.now ≡ None) }
+    ensures no_longer { IfOk result (λ rest. length rest.now ≤ length text.now) }
+    ensures memory { OnErr result (2 ≤ length text.now) }
+{
+    let mut rest = text;
+    'pairs: while let [high, low, after @ ..] = rest {
+        let Some(byte) = byte_of(*high, *low) else {
+            return Ok(rest);
+        };
+        bytes.push(byte)?;
+        rest = after;
+    }
+    Ok(rest)
 }
 
 // Puts the bytes that pairs of hexadecimal digits write into a vector without bytes. False where
 // the digits aren't such pairs.
-#[inline]
-pub(crate) fn read_bytes(digits: &[u8], bytes: &mut Vec<u8>) -> Result<bool, AllocError>
+fn read_bytes(digits: &[u8], bytes: &mut Vec<u8>) -> Result<bool, AllocError>
     requires { bytes.old.items ≡ [] }
     ensures bytes { IfOk result
         (λ read. bytes_of digits.now ≡ (if read then Some bytes.new.items else None)) }
     ensures memory { OnErr result (2 ≤ length digits.now) }
 {
-    let mut rest = digits;
-    'pairs: while let [high, low, after @ ..] = rest {
-        let Some(byte) = byte_of(*high, *low) else {
-            return Ok(false);
-        };
-        bytes.push(byte)?;
-        rest = after;
-    }
+    let rest = read_pairs(digits, bytes)?;
     Ok(rest.is_empty())
 }
 

@@ -26,6 +26,7 @@ use vortex_stats::precision::Precision;
 use vortex_stats::stat::Stat;
 use vortex_syntax::expected::Expected;
 use vortex_syntax::line_error::LineError;
+use vortex_syntax::plain::behind_row;
 use vortex_zone_log::ZoneLog;
 
 /// The parts of a text so far, of which the last one may be open. Their rows stand one behind the
@@ -169,7 +170,7 @@ impl Store {
         ensures rows { TakesRows with_first result.0 self.old text.now self.new result.1.now }
         ensures bytes { result.0 + length result.1.now ≤ length text.now }
     {
-        if !self.is_open {
+        if !self.is_open || behind_row(text).is_none() {
             return (0, text);
         }
         match &mut self.columns[..] {

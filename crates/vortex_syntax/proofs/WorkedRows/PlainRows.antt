@@ -1,5 +1,5 @@
 -- Worked rows: values in plain form, computed.
-use Rattle.std.proofs.Common.{◌≡◌, pos, negsuc, true, false, [], ◌∷◌, None, Some, codes, refl, inl, inr, arith}
+use Rattle.std.proofs.Common.{◌≡◌, pos, negsuc, true, false, [], ◌∷◌, None, Some, append-nil, codes, refl, ap, ◌∙◌, inl, inr, arith}
 use Rattle.std.specs.Str.{chars, is_utf8}
 use Rattle.vortex_base.specs.declared.dtype.DType.TheVariants as dtype
 use Rattle.vortex_base.specs.declared.pvalue.PValue.TheVariants as number
@@ -7,7 +7,8 @@ use Rattle.vortex_base.specs.declared.scalar_value.ScalarValue.TheVariants as va
 use Rattle.vortex_base.specs.declared.types.Nullability.TheVariants.{NonNullable, Nullable}
 use Rattle.vortex_base.specs.declared.types.PType.TheVariants as ptype
 use Rattle.vortex_syntax.proofs.PlainLemmas.{is_spelled}
-use Rattle.vortex_syntax.specs.Plain.{BeginsNatural, BeginsNumber, BeginsQuoted, BeginsSigned, BeginsValue, BeginsWhole, is_line_byte, is_text_byte, is_word_byte}
+use Rattle.vortex_syntax.specs.Numbers.{bytes_of}
+use Rattle.vortex_syntax.specs.Plain.{BeginsBytes, BeginsNatural, BeginsNumber, BeginsQuoted, BeginsSigned, BeginsValue, BeginsWhole, is_line_byte, is_text_byte, is_word_byte}
 use Rattle.vortex_syntax.specs.Words.{Plain, Quoted}
 
 digits_before_a_space : BeginsNatural (codes "012 x") 12 (codes " x")
@@ -32,6 +33,22 @@ text_before_its_quote = record { split = refl; is_plain = refl; utf8 = refl }
 no_text_before_its_quote : BeginsQuoted (codes "\"\n") [] (codes "\n")
 unfolding is_utf8 chars lib.Utf8.encode
 no_text_before_its_quote = record { split = refl; is_plain = refl; utf8 = refl }
+
+pairs_before_a_space : BeginsBytes (codes "0aFf x") (10 ∷ 255 ∷ []) (codes " x")
+pairs_before_a_space = record { digits = codes "0aFf"; split = refl; is_plain = refl; value = refl }
+
+high_digit_first : BeginsBytes (codes "1e") (30 ∷ []) []
+high_digit_first = record { digits = codes "1e"; split = refl; is_plain = refl; value = refl }
+
+pairs_before_an_odd_digit : BeginsBytes (codes "0a1\n") (10 ∷ []) (codes "1\n")
+pairs_before_an_odd_digit = record { digits = codes "0a"; split = refl; is_plain = refl; value = refl }
+
+no_pairs : BeginsBytes (codes "\n") [] (codes "\n")
+no_pairs = record { digits = []; split = refl; is_plain = refl; value = refl }
+
+no_bytes_of_an_odd_digit : BeginsBytes (codes "1") (1 ∷ []) [] → ⊥
+no_bytes_of_an_odd_digit begins =
+    let read : bytes_of (codes "1") ≡ Some (1 ∷ []) = ap bytes_of (begins.split ∙ append-nil begins.digits) ∙ begins.value in cc
 
 number_before_a_line_feed : BeginsValue (dtype.Primitive ptype.U8 NonNullable) (codes " 255\nrow 1") (Some (value.Primitive (number.U8 255))) (codes "\nrow 1")
 number_before_a_line_feed = record { word = Plain (codes "255"); split = refl; in_line = refl; can = is_spelled (codes "255") refl (omega arith); ends = inr refl; value = refl }
