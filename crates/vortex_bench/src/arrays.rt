@@ -16,6 +16,7 @@ use vortex_stats::error::StatsError;
 
 // What is known of each zone: how many rows it has, and of each of its columns the least and the
 // greatest value and how many nulls there are.
+#[derive(Drop)]
 struct Arrays {
     rows: Vec<u64>,
     least: Vec<i64>,
@@ -53,10 +54,7 @@ fn without_nulls(alloc: Global, nulls: &[u64]) -> Result<Cells, AllocError> {
 fn cells_under(alloc: Global, head: &Head, arrays: &Arrays) -> Result<Cells, AllocError> {
     match head.aggregate() {
         AggregateFnRef::Min => Ok(i64::into_cells(Natives::from_slice(alloc, &arrays.least)?)),
-        AggregateFnRef::Max => Ok(i64::into_cells(Natives::from_slice(
-            alloc,
-            &arrays.greatest,
-        )?)),
+        AggregateFnRef::Max => Ok(i64::into_cells(Natives::from_slice(alloc, &arrays.greatest)?)),
         AggregateFnRef::NullCount => {
             Ok(u64::into_cells(Natives::from_slice(alloc, &arrays.nulls)?))
         }

@@ -91,17 +91,8 @@ fn longer(so_far: u64, text: &[u8]) -> Option<(u64, &[u8])>
     Some((number, rest))
 }
 
-// The same where the text ends soon.
-#[inline(never)]
-fn last_digits(so_far: u64, text: &[u8]) -> Option<(u64, &[u8])>
-    ensures digits { IfSome result (λ x. (whole : List ℕ)
-        → BeginsDigits whole so_far text.now → BeginsDigits whole x.0 x.1.now) }
-    ensures no_longer { IfSome result (λ x. length x.1.now ≤ length text.now) }
-{
-    longer(so_far, text)
-}
-
-// The same behind one digit. Up to seven more are read without a loop.
+// The same behind one digit. Up to seven more are read without a loop. None where fewer bytes than
+// those are left, as of a text's last line.
 #[inline(always)]
 fn digits_behind(first: u64, text: &[u8]) -> Option<(u64, &[u8])>
     requires { first < 10 }
@@ -110,7 +101,7 @@ fn digits_behind(first: u64, text: &[u8]) -> Option<(u64, &[u8])>
     ensures no_longer { IfSome result (λ x. length x.1.now ≤ length text.now) }
 {
     let [a, b, c, d, e, f, g, after @ ..] = text else {
-        return last_digits(first, text);
+        return None;
     };
     if !a.is_ascii_digit() {
         return Some((first, text));
@@ -143,7 +134,7 @@ fn digits_behind(first: u64, text: &[u8]) -> Option<(u64, &[u8])>
 }
 
 // The number that the digits at the front of a text write, and what follows them. None where there
-// are no digits or many.
+// are no digits or many, or where the text ends soon.
 #[inline(always)]
 fn natural(text: &[u8]) -> Option<(u64, &[u8])>
     ensures digits { IfSome result (λ x. BeginsNatural text.now x.0 x.1.now) }
@@ -330,10 +321,9 @@ fn number_cell(dtype: DType, text: &[u8]) -> Option<(ShortCell, &[u8])>
     let DType::Primitive(ptype, _) = dtype else {
         return None;
     };
-    if let [b'n', ..] = word {
+    let Some((cell, rest)) = whole_cell(ptype, word) else {
         return Some((ShortCell::Null, plain_null(dtype, text)?));
-    }
-    let (cell, rest) = whole_cell(ptype, word)?;
+    };
     if ends_word(rest) {
         Some((cell, rest))
     } else {
@@ -374,7 +364,8 @@ fn spaced_truth(text: &[u8]) -> Option<(bool, &[u8])>
 
 /// The cell of the truth, the number or the null of a type that stands behind one space at the
 /// front of a text, and what follows it: a number in up to 19 digits, then a space or a line feed.
-/// None where anything else stands there, and where a null of truths does.
+/// None where anything else stands there, where a null of truths does, and of a number where the
+/// text ends a few bytes on.
 #[inline(always)]
 pub fn plain_cell(dtype: DType, text: &[u8]) -> Option<(ShortCell, &[u8])>
     ensures value { IfSome result (λ x.
@@ -459,7 +450,8 @@ pub fn plain_text(dtype: DType, text: &[u8]) -> Option<(&str, &[u8])>
 }
 
 /// The number of a type at the front of a text, and what follows it: up to 19 digits, behind a
-/// minus where it is below zero. None where anything else stands there.
+/// minus where it is below zero. None where anything else stands there, and where the text ends
+/// within a few bytes.
 #[inline(always)]
 pub fn plain_number(ptype: PType, text: &[u8]) -> Option<(PValue, &[u8])>
     ensures number { IfSome result (λ x. BeginsNumber ptype text.now x.0 x.1.now) }

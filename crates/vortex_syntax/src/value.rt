@@ -30,19 +30,19 @@ fn truth_of(word: &[u8]) -> Option<ScalarValue>
     None
 }
 
-// The value of a hexadecimal digit, and 16 for any other byte. It takes no branch, since digits and
-// letters stand in no order.
+// The value of a hexadecimal digit, and 16 for any other byte. Each case is computed, and no branch
+// is taken, since digits and letters stand in no order that a processor could foresee.
 #[inline(always)]
 fn digit_or_16(byte: u8) -> u8
     ensures digit { result < 16 → hexadecimal_of byte ≡ Some result }
     ensures other { 16 ≤ result → hexadecimal_of byte ≡ None }
 {
-    match byte {
-        b'0'..=b'9' => byte - b'0',
-        b'a'..=b'f' => byte - b'a' + 10,
-        b'A'..=b'F' => byte - b'A' + 10,
-        _ => 16,
-    }
+    let digit = byte.wrapping_sub(b'0');
+    let small = byte.wrapping_sub(b'a');
+    let capital = byte.wrapping_sub(b'A');
+    let letter = if small < 6 { small } else { capital };
+    let value = if letter < 6 { letter + 10 } else { 16 };
+    if digit < 10 { digit } else { value }
 }
 
 // The byte of two hexadecimal digits.
