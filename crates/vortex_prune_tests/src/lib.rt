@@ -1,10 +1,9 @@
-//! Tests of `vortex_prune` by its public calls, one module for each of its modules.
+//! Tests of `vortex_prune` by its public calls, one module for each of its modules. Those of maps
+//! of zones and of scans are crates of their own, since one check of all would take longer.
 #![tactic(auto)]
 
 #[cfg(test)]
 mod bind;
-#[cfg(test)]
-mod choosing;
 pub mod hooks;
 #[cfg(test)]
 mod part;
@@ -12,10 +11,4 @@ mod part;
 mod refused;
 #[cfg(test)]
 mod stat_fn;
-#[cfg(test)]
-mod tables;
 pub mod testing;
-#[cfg(test)]
-mod zone_map;
-#[cfg(test)]
-mod zones;

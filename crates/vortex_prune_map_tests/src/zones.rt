@@ -1,9 +1,9 @@
 //! Tables of zones over numbers and nulls, cell by cell.
-use crate::testing::*;
 use std::alloc::{AllocError, Global};
 use std::test::Fail;
 use vortex_base::{DType, Nullability, PType, ScalarValue, Scope, ValueRef};
 use vortex_prune::{Part, Zones, ZonesRefused};
+use vortex_prune_tests::testing::*;
 use vortex_rewrite_tests::nodes::*;
 use vortex_stats::{Stat, StatsError, StatsSet};
 

@@ -1,10 +1,10 @@
 //! Maps of zones without rows, what is pruned by them, and maps put together.
-use crate::testing::*;
 use std::alloc::{AllocError, Global};
 use std::process::Abort;
 use std::test::Fail;
 use vortex_base::Scope;
 use vortex_prune::{Pruned, Rules, Zone, ZoneMap, ZoneMapRefused};
+use vortex_prune_tests::testing::*;
 use vortex_rewrite_tests::nodes::*;
 use vortex_stats::{Stat, StatsError, StatsSet};
 

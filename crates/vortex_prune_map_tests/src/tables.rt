@@ -1,9 +1,9 @@
 //! Maps made of tables that are at hand.
-use crate::testing::{and_exactly, bounds, map_of, no_statistics, one_set, pruned_by};
 use std::alloc::{AllocError, Global};
 use std::test::Fail;
 use vortex_base::{AggregateFnRef, Cells, Column, DType, Nullability, PType, ScalarValue, Scope};
 use vortex_prune::{Head, Pruned, Rules, TableRefused, Verdict, Zone, ZoneMap, prune_by};
+use vortex_prune_tests::testing::{and_exactly, bounds, map_of, no_statistics, one_set, pruned_by};
 use vortex_rewrite::rewrite::{falsify, satisfy};
 use vortex_rewrite_tests::nodes::*;
 use vortex_stats::{Stat, StatsError, StatsSet};

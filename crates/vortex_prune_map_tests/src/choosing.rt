@@ -1,10 +1,10 @@
 //! Zones of chosen columns, and maps of them beside those of sets that were narrowed by hand.
-use crate::testing::*;
 use crate::zone_map::append;
 use std::alloc::Global;
 use std::test::Fail;
 use vortex_base::Scope;
 use vortex_prune::{Pruned, Rules, Zone, ZoneMap};
+use vortex_prune_tests::testing::*;
 use vortex_rewrite_tests::nodes::*;
 use vortex_stats::{Stat, StatsError, StatsSet};
 

@@ -1,0 +1,12 @@
+//! Tests of maps of zones by their public calls: how they are made and joined, what they prune, and
+//! tables that a footer keeps. `vortex_prune_tests` has what they stand on.
+#![tactic(auto)]
+
+#[cfg(test)]
+mod choosing;
+#[cfg(test)]
+mod tables;
+#[cfg(test)]
+mod zone_map;
+#[cfg(test)]
+mod zones;
