@@ -1,7 +1,9 @@
 #!/usr/bin/env bash
 # Runs every check that the gate doesn't run, and prints one line for each.
-# usage: checks/all.sh        proves and builds the program first if it isn't built yet
+# usage: checks/all.sh            proves and builds the program and the tests of refusals first if they aren't built yet
+#        checks/all.sh --built    takes the tests of refusals that the gate left here just before
 set -u
+case "$*" in "" | --built) ;; *) echo "usage: checks/all.sh [--built]" >&2; exit 2 ;; esac
 cd "$(dirname "$0")/.." || exit 1
 log="$(mktemp)"
 trap 'rm -f "$log"' EXIT
@@ -40,6 +42,6 @@ check "callers in other languages" checks/callers.sh
 check "real systems" checks/systems.sh
 check "pruning beside PostgreSQL" checks/power.py
 check "refused growths of the program" checks/refused-growths.py
-check "refused growths of tests" checks/refused-growths-of-tests.py vortex_stats_tests vortex_rewrite_tests vortex_prune_tests vortex_prune_map_tests vortex_normal_scan_tests vortex_text_tests
+check "refused growths of tests" checks/refused-growths-of-tests.py "$@" vortex_stats_tests vortex_rewrite_tests vortex_prune_tests vortex_prune_map_tests vortex_normal_scan_tests vortex_text_tests
 echo "$passed passed, $failed failed"
 [ "$failed" -eq 0 ]
