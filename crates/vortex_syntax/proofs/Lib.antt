@@ -1,6 +1,7 @@
 pub mod FirstLine
 pub mod Found
 pub mod Fronts
+pub mod DigitLemmas
 pub mod NumberLemmas
 pub mod PairLemmas
 pub mod PlaceLemmas

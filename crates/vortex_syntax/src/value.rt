@@ -30,19 +30,34 @@ fn truth_of(word: &[u8]) -> Option<ScalarValue>
     None
 }
 
-// The value of a hexadecimal digit, and 16 for any other byte. Each case is computed, and no branch
-// is taken, since digits and letters stand in no order that a processor could foresee.
+// The value of each byte that is a hexadecimal digit, and 16 of each other.
+const DIGITS: [u8; 256] = [
+    16, 16, 16, 16, 16, 16, 16, 16, 16, 16, 16, 16, 16, 16, 16, 16,
+    16, 16, 16, 16, 16, 16, 16, 16, 16, 16, 16, 16, 16, 16, 16, 16,
+    16, 16, 16, 16, 16, 16, 16, 16, 16, 16, 16, 16, 16, 16, 16, 16,
+    0, 1, 2, 3, 4, 5, 6, 7, 8, 9, 16, 16, 16, 16, 16, 16,
+    16, 10, 11, 12, 13, 14, 15, 16, 16, 16, 16, 16, 16, 16, 16, 16,
+    16, 16, 16, 16, 16, 16, 16, 16, 16, 16, 16, 16, 16, 16, 16, 16,
+    16, 10, 11, 12, 13, 14, 15, 16, 16, 16, 16, 16, 16, 16, 16, 16,
+    16, 16, 16, 16, 16, 16, 16, 16, 16, 16, 16, 16, 16, 16, 16, 16,
+    16, 16, 16, 16, 16, 16, 16, 16, 16, 16, 16, 16, 16, 16, 16, 16,
+    16, 16, 16, 16, 16, 16, 16, 16, 16, 16, 16, 16, 16, 16, 16, 16,
+    16, 16, 16, 16, 16, 16, 16, 16, 16, 16, 16, 16, 16, 16, 16, 16,
+    16, 16, 16, 16, 16, 16, 16, 16, 16, 16, 16, 16, 16, 16, 16, 16,
+    16, 16, 16, 16, 16, 16, 16, 16, 16, 16, 16, 16, 16, 16, 16, 16,
+    16, 16, 16, 16, 16, 16, 16, 16, 16, 16, 16, 16, 16, 16, 16, 16,
+    16, 16, 16, 16, 16, 16, 16, 16, 16, 16, 16, 16, 16, 16, 16, 16,
+    16, 16, 16, 16, 16, 16, 16, 16, 16, 16, 16, 16, 16, 16, 16, 16,
+];
+
+// The value of a hexadecimal digit, and 16 for any other byte. No branch is taken, since digits and
+// letters stand in no order that a processor could foresee.
 #[inline(always)]
 fn digit_or_16(byte: u8) -> u8
     ensures digit { result < 16 → hexadecimal_of byte ≡ Some result }
     ensures other { 16 ≤ result → hexadecimal_of byte ≡ None }
 {
-    let digit = byte.wrapping_sub(b'0');
-    let small = byte.wrapping_sub(b'a');
-    let capital = byte.wrapping_sub(b'A');
-    let letter = if small < 6 { small } else { capital };
-    let value = if letter < 6 { letter + 10 } else { 16 };
-    if digit < 10 { digit } else { value }
+    DIGITS[usize::from(byte)]
 }
 
 // The byte of two hexadecimal digits.
