@@ -51,39 +51,21 @@ fn read(mut input: impl Read) -> Result<Draft, &'static str> {
             break;
         }
         held += count;
-        let mut from = 0;
-        while let Some(end) = line_end(&buffer[searched..held]) {
-            let line = &buffer[from..searched + end];
-            if !draft.is_bad {
-                draft.push(line.strip_suffix(b"\r").unwrap_or(line));
-            }
-            from = searched + end + 1;
-            searched = from;
-        }
-        if from > 0 {
-            buffer.copy_within(from..held, 0);
-            held -= from;
-        }
+        // Up to the last line feed stand whole lines.
+        let Some(last) = buffer[searched..held].iter().rposition(|b| *b == b'\n') else {
+            searched = held;
+            continue;
+        };
+        let end = searched + last + 1;
+        draft.push_lines(&buffer[..end]);
+        buffer.copy_within(end..held, 0);
+        held -= end;
         searched = held;
     }
     if held > 0 && !draft.is_bad {
         draft.push(&buffer[..held]);
     }
     Ok(draft)
-}
-
-/// The place of the first line feed, found eight bytes at a time.
-fn line_end(bytes: &[u8]) -> Option<usize> {
-    const ONES: u64 = u64::MAX / 255;
-    let (words, rest) = bytes.as_chunks::<8>();
-    for (at, word) in words.iter().enumerate() {
-        let differing = u64::from_le_bytes(*word) ^ (ONES * u64::from(b'\n'));
-        let found = differing.wrapping_sub(ONES) & !differing & (ONES << 7);
-        if found != 0 {
-            return Some(8 * at + found.trailing_zeros() as usize / 8);
-        }
-    }
-    rest.iter().position(|b| *b == b'\n').map(|place| 8 * words.len() + place)
 }
 
 fn answer(draft: Draft, output: &mut impl Write) -> std::io::Result<i32> {
@@ -131,12 +113,19 @@ fn scan(table: &Table, parts: &[Part], predicate: &predicate::Node, output: &mut
     places(&verdicts, Verdict::Skipped, output)?;
     output.write_all(b"\nrows")?;
     let mut test = rows::Test::new(&table.columns);
-    let (mut first, mut selected) = (0, Vec::new());
+    let (mut first, mut selected, mut front) = (0, Vec::new(), Vec::new());
     for (place, (part, verdict)) in parts.iter().zip(&verdicts).enumerate() {
         let rows = part.rows as usize;
-        let front = format!(" {place}:");
+        if *verdict == Verdict::Skipped {
+            first += rows;
+            continue;
+        }
+        front.clear();
+        front.push(b' ');
+        push_digits(&mut front, place);
+        front.push(b':');
         let mut select = |row| {
-            selected.extend_from_slice(front.as_bytes());
+            selected.extend_from_slice(&front);
             push_digits(&mut selected, row);
         };
         match verdict {

@@ -2,54 +2,118 @@
 use crate::table::{Cells, Column};
 use crate::values::{Kind, Value};
 
-/// Pushes a row's values, if all are in plain form. Else some may have been pushed.
-pub fn push(columns: &mut [Column], values: &[u8]) -> bool {
+/// Pushes the rows in plain form that lines begin with. What stands behind them is answered, how many they are, and
+/// whether none of the next row's values were pushed.
+pub fn push<'a>(columns: &mut [Column], text: &'a [u8]) -> (&'a [u8], usize, bool) {
+    if let [column] = columns {
+        return push_single(column, text);
+    }
+    let (mut rest, mut rows) = (text, 0);
+    while let Some(after) = behind_row(rest) {
+        let Some(after) = push_row(columns, after) else { return (rest, rows, false) };
+        rest = after;
+        rows += 1;
+    }
+    (rest, rows, true)
+}
+
+/// What stands behind the word `row`, where a space follows it.
+#[inline(always)]
+fn behind_row(text: &[u8]) -> Option<&[u8]> {
+    match text {
+        [b'r', b'o', b'w', b' ', ..] => Some(&text[3..]),
+        _ => None,
+    }
+}
+
+/// Pushes the values of a row up to the end of its line.
+#[inline(always)]
+fn push_row<'a>(columns: &mut [Column], values: &'a [u8]) -> Option<&'a [u8]> {
     let mut rest = values;
-    let mut columns = columns.iter_mut();
-    if let Some(first) = columns.next() {
-        let Some(after) = push_value(first, rest) else { return false };
-        rest = after;
-    }
     for column in columns {
-        let [b' ', value @ ..] = rest else { return false };
-        let Some(after) = push_value(column, value) else { return false };
-        rest = after;
+        let [b' ', value @ ..] = rest else { return None };
+        rest = push_value(column, value)?;
     }
-    rest.is_empty()
+    rest.strip_prefix(b"\n")
+}
+
+/// The same of rows of one column, whose type is looked at once.
+fn push_single<'a>(column: &mut Column, text: &'a [u8]) -> (&'a [u8], usize, bool) {
+    let nullable = column.dtype.nullable;
+    match (&mut column.cells, column.dtype.kind) {
+        (Cells::Signed(values), Kind::Signed(bits)) => {
+            push_numbers(values, &mut column.there, nullable, text, |value| signed(value, bits))
+        }
+        (Cells::Unsigned(values), Kind::Unsigned(bits)) => {
+            push_numbers(values, &mut column.there, nullable, text, |value| unsigned(value, bits))
+        }
+        _ => {
+            let (mut rest, mut rows) = (text, 0);
+            while let Some([b' ', value @ ..]) = behind_row(rest) {
+                let Some(after) = push_value(column, value) else { return (rest, rows, false) };
+                let [b'\n', after @ ..] = after else { return (rest, rows, false) };
+                rest = after;
+                rows += 1;
+            }
+            (rest, rows, true)
+        }
+    }
+}
+
+#[inline(always)]
+fn push_numbers<'a, T: Default>(
+    values: &mut Vec<T>,
+    there: &mut Vec<bool>,
+    nullable: bool,
+    text: &'a [u8],
+    read: impl Fn(&'a [u8]) -> Option<(T, &'a [u8])>,
+) -> (&'a [u8], usize, bool) {
+    let (mut rest, mut rows) = (text, 0);
+    while let Some([b' ', value @ ..]) = behind_row(rest) {
+        let (number, after) = match read(value) {
+            Some((number, after)) => (Some(number), after),
+            None => match value.strip_prefix(b"null") {
+                Some(after) if nullable => (None, after),
+                _ => break,
+            },
+        };
+        let [b'\n', after @ ..] = after else { break };
+        there.push(number.is_some());
+        values.push(number.unwrap_or_default());
+        rest = after;
+        rows += 1;
+    }
+    (rest, rows, true)
 }
 
 /// Pushes the value that a line begins with, and answers what stands behind it.
-#[inline]
+#[inline(always)]
 fn push_value<'a>(column: &mut Column, line: &'a [u8]) -> Option<&'a [u8]> {
-    if let Some(rest) = line.strip_prefix(b"null") {
-        return column.dtype.nullable.then(|| {
+    let rest = match (&mut column.cells, column.dtype.kind, line) {
+        (_, _, [b'n', b'u', b'l', b'l', rest @ ..]) if column.dtype.nullable => {
             column.push_null();
-            rest
-        });
-    }
-    let rest = match (&mut column.cells, column.dtype.kind) {
-        (Cells::Signed(values), Kind::Signed(bits)) => {
+            return Some(rest);
+        }
+        (Cells::Signed(values), Kind::Signed(bits), _) => {
             let (number, rest) = signed(line, bits)?;
             values.push(number);
             rest
         }
-        (Cells::Unsigned(values), Kind::Unsigned(bits)) => {
+        (Cells::Unsigned(values), Kind::Unsigned(bits), _) => {
             let (number, rest) = unsigned(line, bits)?;
             values.push(number);
             rest
         }
-        (Cells::Bool(values), _) => {
-            let (truth, rest) = match line {
-                [b't', b'r', b'u', b'e', rest @ ..] => (true, rest),
-                [b'f', b'a', b'l', b's', b'e', rest @ ..] => (false, rest),
-                _ => return None,
-            };
-            values.push(truth);
+        (Cells::Bool(values), _, [b't', b'r', b'u', b'e', rest @ ..]) => {
+            values.push(true);
             rest
         }
-        (Cells::Bytes { ends, heap }, Kind::Utf8) => {
-            let [b'"', text @ ..] = line else { return None };
-            let end = text.iter().position(|b| *b == b'"' || *b == b'\\' || *b >= 0x80)?;
+        (Cells::Bool(values), _, [b'f', b'a', b'l', b's', b'e', rest @ ..]) => {
+            values.push(false);
+            rest
+        }
+        (Cells::Bytes { ends, heap }, Kind::Utf8, [b'"', text @ ..]) => {
+            let end = text.iter().position(|b| IS_NO_TEXT[usize::from(*b)])?;
             if text[end] != b'"' {
                 return None;
             }
@@ -57,10 +121,13 @@ fn push_value<'a>(column: &mut Column, line: &'a [u8]) -> Option<&'a [u8]> {
             ends.push(heap.len() as u32);
             &text[end + 1..]
         }
-        (Cells::Bytes { ends, heap }, Kind::Binary) => {
-            let mut rest = line.strip_prefix(b"x")?;
+        (Cells::Bytes { ends, heap }, Kind::Binary, [b'x', digits @ ..]) => {
+            let mut rest = digits;
             while let [high, low, after @ ..] = rest {
-                let (Some(high), Some(low)) = (digit(*high), digit(*low)) else { break };
+                let (high, low) = (DIGITS[usize::from(*high)], DIGITS[usize::from(*low)]);
+                if high | low > 15 {
+                    break;
+                }
                 heap.push(high << 4 | low);
                 rest = after;
             }
@@ -73,9 +140,29 @@ fn push_value<'a>(column: &mut Column, line: &'a [u8]) -> Option<&'a [u8]> {
     Some(rest)
 }
 
-fn digit(b: u8) -> Option<u8> {
-    (b as char).to_digit(16).map(|d| d as u8)
-}
+/// Whether a byte ends a text's plain part: a quote, a backslash, what ends a line and what isn't ASCII.
+const IS_NO_TEXT: [bool; 256] = {
+    let mut table = [true; 256];
+    let mut b = 32;
+    while b < 127 {
+        table[b] = b == b'"' as usize || b == b'\\' as usize;
+        b += 1;
+    }
+    table
+};
+
+/// The value of each byte that is a hexadecimal digit, and 16 of each other.
+const DIGITS: [u8; 256] = {
+    let mut table = [16; 256];
+    let mut b = 0;
+    while b < 256 {
+        if let Some(value) = (b as u8 as char).to_digit(16) {
+            table[b] = value as u8;
+        }
+        b += 1;
+    }
+    table
+};
 
 /// The number that a line begins with, of 19 digits at most, and what stands behind it.
 #[inline(always)]

@@ -1,7 +1,7 @@
 //! The language of the input: lines of words that give columns, parts and a predicate.
 use crate::predicate::{Comparison, Node};
 use crate::table::{Cells, Claim, Column, Table};
-use crate::plain_rows as rows;
+use crate::plain_rows;
 use crate::values::{Kind, Type, Value};
 use std::borrow::Cow;
 use std::collections::HashMap;
@@ -216,22 +216,55 @@ fn push_word(column: &mut Column, word: &Word) -> Option<()> {
 }
 
 impl Draft {
+    /// Reads lines that end with line feeds, up to the first bad one.
+    pub fn push_lines(&mut self, text: &[u8]) {
+        let mut rest = text;
+        while !self.is_bad {
+            rest = self.push_rows(rest);
+            if let Some(after) = self.begin_part(rest) {
+                rest = after;
+                continue;
+            }
+            let Some(end) = line_end(rest) else { return };
+            let line = &rest[..end];
+            self.push(line.strip_suffix(b"\r").unwrap_or(line));
+            rest = &rest[end + 1..];
+        }
+    }
+
     /// Reads the next line, which may be bad.
     pub fn push(&mut self, line: &[u8]) {
         self.lines += 1;
         self.is_bad = self.line(line).is_none();
     }
 
+    /// Reads a line `part` without spaces, and answers what stands behind it.
+    fn begin_part<'a>(&mut self, text: &'a [u8]) -> Option<&'a [u8]> {
+        let rest = text.strip_prefix(b"part\n")?;
+        if self.predicate.is_some() || self.table.columns.is_empty() {
+            return None;
+        }
+        self.lines += 1;
+        self.table.begin_part();
+        Some(rest)
+    }
+
+    /// Reads the rows in plain form that lines begin with, and answers what stands behind them.
+    fn push_rows<'a>(&mut self, text: &'a [u8]) -> &'a [u8] {
+        if self.predicate.is_some() || !self.table.is_open() || !text.starts_with(b"row ") {
+            return text;
+        }
+        let (rest, rows, is_whole) = plain_rows::push(&mut self.table.columns, text);
+        self.table.rows += rows;
+        self.lines += rows;
+        if !is_whole {
+            self.table.give_up_row();
+        }
+        rest
+    }
+
     fn line(&mut self, line: &[u8]) -> Option<()> {
-        if let Some(values) = line.strip_prefix(b"row ") {
-            if self.predicate.is_none() && self.table.is_open() {
-                if rows::push(&mut self.table.columns, values) {
-                    self.table.rows += 1;
-                    return Some(());
-                }
-                self.table.give_up_row();
-            }
-        } else if line.starts_with(b"stat ") && self.plain_stat(line).is_some() {
+        if line.starts_with(b"stat ") && self.plain_stat(line).is_some() {
             return Some(());
         }
         self.words(std::str::from_utf8(line).ok()?)
@@ -288,7 +321,7 @@ impl Draft {
         let place = self.place_of(std::str::from_utf8(words.next()?).ok()?)?;
         let stat = Stat::read(words.next()?, self.table.columns[place].dtype)?;
         let exact = precision(words.next()?)?;
-        let value = rows::whole(words.next()?, stat.dtype().kind)?;
+        let value = plain_rows::whole(words.next()?, stat.dtype().kind)?;
         words.next().is_none().then(|| self.claim(place, stat, exact, value))
     }
 
@@ -415,4 +448,18 @@ impl Draft {
             _ => None,
         }
     }
+}
+
+/// The place of the first line feed, found eight bytes at a time.
+fn line_end(bytes: &[u8]) -> Option<usize> {
+    const ONES: u64 = u64::MAX / 255;
+    let (words, rest) = bytes.as_chunks::<8>();
+    for (at, word) in words.iter().enumerate() {
+        let differing = u64::from_le_bytes(*word) ^ (ONES * u64::from(b'\n'));
+        let found = differing.wrapping_sub(ONES) & !differing & (ONES << 7);
+        if found != 0 {
+            return Some(8 * at + found.trailing_zeros() as usize / 8);
+        }
+    }
+    rest.iter().position(|b| *b == b'\n').map(|place| 8 * words.len() + place)
 }
