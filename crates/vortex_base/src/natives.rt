@@ -91,12 +91,7 @@ impl<T: Copy + Default> Natives<T> {
     {
         let mut copies = Vec::new(alloc);
         copies.extend_from_slice(values)?;
-        let mut there = Vec::new(alloc);
-        there.resize(values.len(), true)?;
-        Ok(Natives {
-            values: copies,
-            there,
-        })
+        Natives::from_vec(alloc, copies)
     }
 
     /// The values of which it is told that they are there, and nulls in the place of the others.
@@ -112,10 +107,25 @@ impl<T: Copy + Default> Natives<T> {
         copies.extend_from_slice(values)?;
         let mut told = Vec::new(alloc);
         told.extend_from_slice(there)?;
-        Ok(Natives {
-            values: copies,
-            there: told,
-        })
+        Ok(Natives::from_vecs(copies, told))
+    }
+
+    /// The values of a vector, each of which is there.
+    pub fn from_vec(alloc: Global, values: Vec<T>) -> Result<Natives<T>, AllocError>
+        ensures { IfOk result (λ natives. natives ≡ map Some values.items) }
+    {
+        let mut there = Vec::new(alloc);
+        there.resize(values.len(), true)?;
+        Ok(Natives { values, there })
+    }
+
+    /// The values of a vector of which it is told that they are there, and nulls in the place of
+    /// the others.
+    pub fn from_vecs(values: Vec<T>, there: Vec<bool>) -> Natives<T>
+        requires { vec_len values ≡ vec_len there }
+        ensures { result ≡ optionals values.items there.items }
+    {
+        Natives { values, there }
     }
 
     // The allocator of the values.
