@@ -277,10 +277,7 @@ fn told_each<N: Number>(
         numbers.push_reserved(told.0);
         there.push_reserved(told.1);
     }
-    match Natives::from_slices(alloc, &numbers, &there) {
-        Ok(natives) => Some(N::into_cells(natives)),
-        Err(_) => None,
-    }
+    Some(N::into_cells(Natives::from_vecs(numbers, there)))
 }
 
 // Whether each byte says that a value is known exactly.
@@ -339,7 +336,7 @@ fn told_exactly<N: Number>(
     let mut numbers = Vec::new(alloc);
     numbers.resize(count, N::default()).ok()?;
     put_exactly::<N>(source, from, &mut numbers);
-    match Natives::from_slice(alloc, &numbers) {
+    match Natives::from_vec(alloc, numbers) {
         Ok(natives) => Some(N::into_cells(natives)),
         Err(_) => None,
     }
@@ -403,7 +400,7 @@ fn truths_exactly<N: Number>(
     let mut truths = Vec::new(alloc);
     truths.resize(count, false).ok()?;
     put_truths::<N>(source, aggregate, rows, from, &mut truths)?;
-    match Natives::from_slice(alloc, &truths) {
+    match Natives::from_vec(alloc, truths) {
         Ok(natives) => Some(Cells::Bool(natives)),
         Err(_) => None,
     }

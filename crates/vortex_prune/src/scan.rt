@@ -30,6 +30,7 @@ mod part_scan;
 pub mod prune;
 pub mod ranges;
 mod select;
+mod strings;
 pub mod verdict;
 pub mod zones;
 

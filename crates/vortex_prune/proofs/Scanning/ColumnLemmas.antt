@@ -1,6 +1,8 @@
 -- What stands at a place of a column that keeps its values beside which of them are there.
 use Rattle.std.proofs.Common.{◌≡◌, ℕ, ◌+◌, ◌<◌, Bool, true, false, List, [], ◌∷◌, Option, Some, None, arith, get_or, length, map, replicate, refl, sym, ap, ◌∙◌, zero, suc, ◌⊎◌, inl, inr}
 use Rattle.std.specs.Prelude.{◌&&◌, is_none, not, option_map, slice_get}
+use Rattle.std.specs.declared.cmp.Ordering.{Ordering}
+use Rattle.vortex_base.specs.Data.Blobs.{blob_at}
 use Rattle.vortex_base.specs.Data.Columns.{value_at}
 use Rattle.vortex_base.specs.Data.Natives.{optional, optionals}
 use Rattle.vortex_base.specs.Data.Values.{value_cmp}
@@ -13,6 +15,11 @@ use Rattle.vortex_prune.specs.Scanning.Leaves.{compares, compares_at, passes, pa
 use Rattle.vortex_prune.specs.Scanning.Marks.{marked}
 use Rattle.vortex_prune.specs.declared.scan.leaf.Test.{Test}
 use Rattle.vortex_prune.specs.declared.scan.leaf.Test.TheVariants.{Null, NotNull}
+
+-- an operator holds of an order, if there is one
+abbrev pub holds_if : Operator → Option Ordering → Bool
+holds_if o None = false
+holds_if o (Some r) = holds o r
 
 -- the value at a place, if it is there
 pub value_there : {X : Type 0} (f : X → ScalarValue) (xs : List X) (ts : List Bool) (i : ℕ) (d : X) (b : Bool) → length xs ≡ length ts → i < length ts
@@ -30,6 +37,20 @@ compares_there f o v false x = refl
 pub so_there : {X : Type 0} (f : X → ScalarValue) (o : Operator) (v : ScalarValue) (xs : List X) (ts : List Bool) (i : ℕ) (d : X) (b : Bool) → length xs ≡ length ts → i < length ts
     → compares_at o v (map (option_map f) (optionals xs ts)) i ≡ (get_or ts i b && holds o (value_cmp (f (get_or xs i d)) v))
 so_there f o v xs ts i d b h low = ap (λ x. compares o x (Some v)) (value_there f xs ts i d b h low) ∙ compares_there f o v (get_or ts i b) (get_or xs i d)
+
+-- the comparison of a string that may be there, by how it compares
+strings_at : (f : List ℕ → ScalarValue) (xs : List (Option (List ℕ))) (i : ℕ) → value_at (slice_get (map (option_map f) xs) i) ≡ option_map f (blob_at (slice_get xs i))
+strings_at f [] i = refl
+strings_at f (x ∷ xs) zero = refl
+strings_at f (x ∷ xs) (suc i) = strings_at f xs i
+
+by_order : (f : List ℕ → ScalarValue) (o : Operator) (v : ScalarValue) (x : Option (List ℕ)) → compares o (option_map f x) (Some v) ≡ holds_if o (option_map (λ bytes. value_cmp (f bytes) v) x)
+by_order f o v None = refl
+by_order f o v (Some x) = refl
+
+pub so_lent : (f : List ℕ → ScalarValue) (o : Operator) (v : ScalarValue) (xs : List (Option (List ℕ))) (i : ℕ) (r : Option Ordering) → r ≡ option_map (λ bytes. value_cmp (f bytes) v) (blob_at (slice_get xs i))
+    → compares_at o v (map (option_map f) xs) i ≡ holds_if o r
+so_lent f o v xs i r h = ap (λ x. compares o x (Some v)) (strings_at f xs i) ∙ by_order f o v (blob_at (slice_get xs i)) ∙ ap (holds_if o) (sym h)
 
 -- none stays at a null that doesn't pass, and each at one that does
 null_at : (n i : ℕ) → value_at (slice_get (replicate n None) i) ≡ None

@@ -4,8 +4,9 @@ ghost use Rattle.vortex_base.specs.Data.Natives.{optionals};
 ghost use Rattle.vortex_prune.specs.Scanning.Leaves.{compares_at, passes_at};
 ghost use Rattle.vortex_prune.specs.Scanning.Marks.{marked};
 
-use crate::scan::comparison::{Above, AtLeast, AtMost, Below, Comparison, Equal, Unequal};
+use crate::scan::comparison::{Comparison, match_each_comparison};
 use crate::scan::leaf::{Test, passes};
+use crate::scan::strings::{Strings, keep_strings};
 use vortex_base::cells::Cells;
 use vortex_base::column::Column;
 use vortex_base::match_each_native;
@@ -57,15 +58,11 @@ fn keep_natives<T: Native>(
     ensures { let cells = map (option_map T.scalar) (optionals values.now there.now) in
         marks.new ≡ marked (compares_at operator (T.scalar number) cells) from marks.old }
 {
-    match operator {
-        Operator::Eq => keep_compared::<T, Equal>(values, there, number, from, marks),
-        Operator::NotEq => keep_compared::<T, Unequal>(values, there, number, from, marks),
-        Operator::Gt => keep_compared::<T, Above>(values, there, number, from, marks),
-        Operator::Gte => keep_compared::<T, AtLeast>(values, there, number, from, marks),
-        Operator::Lt => keep_compared::<T, Below>(values, there, number, from, marks),
-        Operator::Lte => keep_compared::<T, AtMost>(values, there, number, from, marks),
-        Operator::And | Operator::Or => marks.fill(false),
-    }
+    match_each_comparison!(
+        operator,
+        keep_compared::<T>(values, there, number, from, marks),
+        marks.fill(false)
+    )
 }
 
 // Takes away the marks, from a place on, at which a truth is set.
@@ -149,6 +146,26 @@ fn keep_typed<T: Native>(
     }
 }
 
+// The same of a column of texts or byte strings.
+fn keep_lent<S: Strings>(
+    column: &Column,
+    strings: &S,
+    test: Test<'_>,
+    from: usize,
+    marks: &mut [bool],
+)
+    requires room { from + length marks.old < 2 ^ 64 }
+    requires same { column.now.values ≡ map (option_map S.scalar) (S.strings strings.now) }
+    ensures { marks.new ≡ marked (passes_at test.entry column.now.values) from marks.old }
+{
+    if let Test::Is(operator, other) = test {
+        if let Some(bytes) = S::bytes_of(other) {
+            return keep_strings(strings, operator, bytes, from, marks);
+        }
+    }
+    keep_values(column, test, from, marks)
+}
+
 /// Takes away the marks, from a place on, at which a value of a column doesn't pass.
 pub(crate) fn keep_passing(column: &Column, test: Test<'_>, from: usize, marks: &mut [bool])
     requires { from + length marks.old < 2 ^ 64 }
@@ -157,5 +174,7 @@ pub(crate) fn keep_passing(column: &Column, test: Test<'_>, from: usize, marks: 
     match_each_native!(column.cells(),
         natives => keep_typed(column, natives, test, from, marks),
         Cells::Nulls(nulls) => keep_at_nulls(test, nulls.count(), from, marks),
+        Cells::Texts(texts) => keep_lent(column, texts, test, from, marks),
+        Cells::Binary(blobs) => keep_lent(column, blobs, test, from, marks),
         _ => keep_values(column, test, from, marks))
 }

@@ -3,6 +3,24 @@ ghost use Rattle.std.specs.Prelude.{◌≡◌};
 
 use std::cmp::Ordering;
 
+/// Calls a function of a type and a comparison's, the one that an operator is; another answer where
+/// it is none.
+macro_rules! match_each_comparison {
+    ($operator:expr, $call:ident::<$type:ty>($($given:expr),+), $other:expr) => {
+        match $operator {
+            Operator::Eq => $call::<$type, $crate::scan::comparison::Equal>($($given),+),
+            Operator::NotEq => $call::<$type, $crate::scan::comparison::Unequal>($($given),+),
+            Operator::Gt => $call::<$type, $crate::scan::comparison::Above>($($given),+),
+            Operator::Gte => $call::<$type, $crate::scan::comparison::AtLeast>($($given),+),
+            Operator::Lt => $call::<$type, $crate::scan::comparison::Below>($($given),+),
+            Operator::Lte => $call::<$type, $crate::scan::comparison::AtMost>($($given),+),
+            Operator::And | Operator::Or => $other,
+        }
+    };
+}
+
+pub(crate) use match_each_comparison;
+
 /// A comparison of two values in order.
 pub(crate) trait Comparison {
     ghost use Rattle.vortex_base.specs.Meanings.Meaning as spec;

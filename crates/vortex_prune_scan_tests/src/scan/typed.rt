@@ -1,8 +1,9 @@
-//! Long parts of one column of truths or of numbers of each type, in which null stands at the ends
-//! of blocks and between: a scan selects what each row says by itself.
+//! Long parts of one column of truths, texts, bytes or numbers of each type, in which null stands
+//! at the ends of blocks and between: a scan selects what each row says by itself.
 use super::blocks::{found_rows, rows_alone};
 use super::*;
-use vortex_base::{Cells, Column, DType, Nullability, PType, PValue, ScalarValue};
+use std::alloc::AllocError;
+use vortex_base::{Bytes, Cells, Column, DType, Nullability, PType, PValue, ScalarValue};
 
 const ROWS: usize = 2_049;
 
@@ -29,11 +30,16 @@ const NUMBERS: [PType; 8] = [
     PType::I64,
 ];
 
-// The types of numbers and then that of truths.
+// How many types there are.
+const KINDS: usize = 11;
+
+// The types of numbers and then those of truths, texts and bytes.
 fn dtype_at(place: usize) -> DType {
     match NUMBERS.get(place) {
         Some(ptype) => DType::Primitive(*ptype, Nullability::Nullable),
-        None => DType::Bool(Nullability::Nullable),
+        None if place == 8 => DType::Bool(Nullability::Nullable),
+        None if place == 9 => DType::Utf8(Nullability::Nullable),
+        None => DType::Binary(Nullability::Nullable),
     }
 }
 
@@ -71,26 +77,42 @@ fn number_of(ptype: PType, place: usize) -> PValue {
     }
 }
 
-fn value_of(dtype: DType, place: usize) -> ScalarValue {
+// Five texts, of which one begins another and one has bytes above those of ASCII.
+fn text_of(place: usize) -> &'static str {
+    match place % 5 {
+        0 => "a",
+        1 => "",
+        2 => "ab",
+        3 => "b",
+        _ => "\u{fc}",
+    }
+}
+
+fn value_of(alloc: Global, dtype: DType, place: usize) -> Result<ScalarValue, AllocError> {
     match dtype {
-        DType::Primitive(ptype, _) => ScalarValue::Primitive(number_of(ptype, place)),
-        _ => ScalarValue::from(place % 2 == 0),
+        DType::Primitive(ptype, _) => Ok(ScalarValue::Primitive(number_of(ptype, place))),
+        DType::Utf8(_) => text_value(alloc, text_of(place)),
+        DType::Binary(_) => {
+            let bytes = text_of(place).as_bytes().to_vec(alloc)?;
+            Ok(ScalarValue::Binary(Bytes::new(bytes)))
+        }
+        _ => Ok(ScalarValue::from(place % 2 == 0)),
     }
 }
 
 // Null at both ends of each block, and at one in seven of the others.
-fn value_at(dtype: DType, row: usize) -> Option<ScalarValue> {
+fn value_at(alloc: Global, dtype: DType, row: usize) -> Result<Option<ScalarValue>, AllocError> {
     if row % 1_024 == 0 || row % 1_024 == 1_023 || row % 7 == 3 {
-        None
+        Ok(None)
     } else {
-        Some(value_of(dtype, row))
+        Ok(Some(value_of(alloc, dtype, row)?))
     }
 }
 
 fn column(alloc: Global, dtype: DType) -> Result<Column, StatsError> {
     let mut cells = Cells::new(alloc, dtype);
     for row in 0..ROWS {
-        cells.push(value_at(dtype, row))?;
+        cells.push(value_at(alloc, dtype, row)?)?;
     }
     told(Column::of_cells(dtype, cells, 0))
 }
@@ -124,9 +146,9 @@ fn is_compared_as_alone(
     operator: Operator,
     place: usize,
 ) -> Result<bool, StatsError> {
-    let value = lit(alloc, dtype, value_of(dtype, place));
+    let value = lit(alloc, dtype, value_of(alloc, dtype, place)?);
     let on_the_right = binary(alloc, operator, first_column(alloc, dtype), value);
-    let value = lit(alloc, dtype, value_of(dtype, place));
+    let value = lit(alloc, dtype, value_of(alloc, dtype, place)?);
     let on_the_left = binary(alloc, operator, value, first_column(alloc, dtype));
     Ok(is_as_alone(alloc, zones, on_the_right)? && is_as_alone(alloc, zones, on_the_left)?)
 }
@@ -134,7 +156,7 @@ fn is_compared_as_alone(
 #[test]
 fn comparisons_of_each_type_have_the_rows(rt: HostRuntime) -> Result<(), Fail> {
     let alloc = rt.alloc();
-    for kind in 0..9 {
+    for kind in 0..KINDS {
         let dtype = dtype_at(kind);
         let zones = table(alloc, dtype)?;
         for operator in OPERATORS {
@@ -150,7 +172,7 @@ fn comparisons_of_each_type_have_the_rows(rt: HostRuntime) -> Result<(), Fail> {
 #[test]
 fn nulls_of_each_type_have_the_rows(rt: HostRuntime) -> Result<(), Fail> {
     let alloc = rt.alloc();
-    for kind in 0..9 {
+    for kind in 0..KINDS {
         let dtype = dtype_at(kind);
         let zones = table(alloc, dtype)?;
         let nulls = is_null(alloc, first_column(alloc, dtype));
@@ -171,15 +193,15 @@ fn count_selected(alloc: Global, zones: &Zones, predicate: Built) -> Result<usiz
 #[test]
 fn counts_of_each_type_are_known(rt: HostRuntime) -> Result<(), Fail> {
     let alloc = rt.alloc();
-    for kind in 0..9 {
+    for kind in 0..KINDS {
         let dtype = dtype_at(kind);
         let zones = table(alloc, dtype)?;
         let nulls = is_null(alloc, first_column(alloc, dtype));
         let nulls = count_selected(alloc, &zones, nulls)?;
-        let least = lit(alloc, dtype, value_of(dtype, 1));
+        let least = lit(alloc, dtype, value_of(alloc, dtype, 1)?);
         let above = gt(alloc, first_column(alloc, dtype), least);
         let above = count_selected(alloc, &zones, above)?;
-        let least = lit(alloc, dtype, value_of(dtype, 1));
+        let least = lit(alloc, dtype, value_of(alloc, dtype, 1)?);
         let others = lt_eq(alloc, first_column(alloc, dtype), least);
         let others = count_selected(alloc, &zones, others)?;
         assert!(rt; nulls == NULLS && above > 0 && others > 0);

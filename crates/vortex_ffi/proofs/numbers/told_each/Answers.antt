@@ -24,18 +24,14 @@ loop-place-preserved g c =
       there_room = c.push_reserved-in-loop-place.ensures.capacity ∙ l.invariant.there_room;
     }
 
-pub from_slices-requires : goal.from_slices-requires
-from_slices-requires g c =
-    let l = c.loop-place in
-    let numbers : length c.deref.result.now ≡ length l.numbers.items = ap length c.deref.ensures.value in
-    let there : length c.deref-2.result.now ≡ length l.there.items = ap length c.deref-2.ensures.value in
-    omega (arith, numbers, there, l.numbers.ok.0, l.there.ok.0, l.invariant.len, l.invariant.there_len)
+pub from_vecs-requires : goal.from_vecs-requires
+from_vecs-requires g c = c.loop-place.invariant.len ∙ sym c.loop-place.invariant.there_len
 
-pub returns-in-Ok : goal.returns-in-Ok
-returns-in-Ok g c = λ rows.
+pub returns : goal.returns
+returns g c = λ rows.
     let l = c.loop-place in
     let cells = cell_values c.into_cells.result in
     let all : map (option_map g.N.Native.scalar) (optionals l.numbers.items l.there.items) ≡ cells =
-    sym (c.into_cells.ensures ∙ ap (map (option_map g.N.Native.scalar)) (c.in-Ok.ensures ∙ ap₂ optionals c.deref.ensures.value c.deref-2.ensures.value)) in
+    sym (c.into_cells.ensures ∙ ap (map (option_map g.N.Native.scalar)) c.from_vecs.ensures) in
     let end : l.place ≡ c.args.count = omega arith in
     subst (λ n. told_cells c.args.aggregate (Some c.args.source.now) rows c.args.from n ≡ Ok cells) end (l.invariant.told rows ∙ ap Ok all)
