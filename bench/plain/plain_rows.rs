@@ -1,16 +1,84 @@
-//! Rows in plain form, read from their bytes: one space before each value, no escapes and ASCII alone in texts.
-use crate::table::{Cells, Column};
-use crate::values::{Kind, Value};
+//! Rows and values in plain form, read from their bytes: one space before each value, and ASCII alone in texts.
+use crate::bits::Bits;
+use crate::table::{match_cells, Cells, Column, Strings};
+use crate::values::{Kind, Scalar};
+use crate::words;
 
-/// Pushes the rows in plain form that lines begin with. What stands behind them is answered, how many they are, and
-/// whether none of the next row's values were pushed.
-pub fn push<'a>(columns: &mut [Column], text: &'a [u8]) -> (&'a [u8], usize, bool) {
-    if let [column] = columns {
-        return push_single(column, text);
+/// A type of whole numbers.
+pub trait Whole: Copy + Ord + Default {
+    const IS_SIGNED: bool;
+
+    /// The number of a size, where the type has it.
+    fn of(size: u64, is_negative: bool) -> Option<Self>;
+}
+
+macro_rules! whole {
+    ($is_signed:literal: $($number:ty)*) => {
+        $(impl Whole for $number {
+            const IS_SIGNED: bool = $is_signed;
+
+            #[inline(always)]
+            fn of(size: u64, is_negative: bool) -> Option<$number> {
+                if size > <$number>::MAX as u64 + u64::from($is_signed && is_negative) {
+                    return None;
+                }
+                let number = size as $number;
+                Some(if $is_signed && is_negative { number.wrapping_neg() } else { number })
+            }
+        })*
+    };
+}
+
+whole!(true: i8 i16 i32 i64);
+whole!(false: u8 u16 u32 u64);
+
+/// The number that a line begins with, and what stands behind it.
+#[inline(always)]
+pub fn whole<T: Whole>(line: &[u8]) -> Option<(T, &[u8])> {
+    let is_negative = T::IS_SIGNED && line.first() == Some(&b'-');
+    let (size, rest) = words::number(&line[usize::from(is_negative)..])?;
+    Some((T::of(size, is_negative)?, rest))
+}
+
+#[inline(always)]
+fn truth(line: &[u8]) -> Option<(bool, &[u8])> {
+    match line.strip_prefix(b"true") {
+        Some(rest) => Some((true, rest)),
+        None => Some((false, line.strip_prefix(b"false")?)),
+    }
+}
+
+/// The number, truth or text that a line begins with, where it has plain form, and what stands behind it.
+#[inline(always)]
+pub fn value(line: &[u8], kind: Kind) -> Option<(Scalar<'_>, &[u8])> {
+    match (kind, line) {
+        (Kind::Signed(bits), _) => {
+            let (number, rest) = whole::<i64>(line)?;
+            matches!(number >> (bits - 1), 0 | -1).then_some((Scalar::Signed(number), rest))
+        }
+        (Kind::Unsigned(bits), _) => {
+            let (number, rest) = whole::<u64>(line)?;
+            (number <= u64::MAX >> (64 - bits)).then_some((Scalar::Unsigned(number), rest))
+        }
+        (Kind::Bool, _) => truth(line).map(|(b, rest)| (Scalar::Bool(b), rest)),
+        (Kind::Utf8, [b'"', text @ ..]) => {
+            let (text, rest) = text.split_at(words::plain_text(text)?);
+            Some((Scalar::Bytes(text), rest.strip_prefix(b"\"")?))
+        }
+        _ => None,
+    }
+}
+
+/// Pushes the rows in plain form that lines begin with, the first of them at a place. What stands behind them is
+/// answered, how many they are, and whether none of the next row's values were pushed.
+pub fn push<'a>(columns: &mut [Column], first: usize, text: &'a [u8]) -> (&'a [u8], usize, bool) {
+    if let [Column { cells, nulls, dtype, .. }] = columns {
+        let nulls = dtype.nullable.then_some(nulls);
+        match_cells!(cells, numbers values => return push_numbers(values, nulls, text), _ => {});
     }
     let (mut rest, mut rows) = (text, 0);
     while let Some(after) = behind_row(rest) {
-        let Some(after) = push_row(columns, after) else { return (rest, rows, false) };
+        let Some(after) = push_row(columns, first + rows, after) else { return (rest, rows, false) };
         rest = after;
         rows += 1;
     }
@@ -20,136 +88,113 @@ pub fn push<'a>(columns: &mut [Column], text: &'a [u8]) -> (&'a [u8], usize, boo
 /// What stands behind the word `row`, where a space follows it.
 #[inline(always)]
 fn behind_row(text: &[u8]) -> Option<&[u8]> {
-    match text {
-        [b'r', b'o', b'w', b' ', ..] => Some(&text[3..]),
-        _ => None,
+    (text.first_chunk()? == b"row ").then(|| &text[3..])
+}
+
+/// Pushes the rows of an only column of numbers, of which each has all of its values or none.
+fn push_numbers<'a, T: Whole>(
+    values: &mut Vec<T>,
+    mut nulls: Option<&mut Bits>,
+    text: &'a [u8],
+) -> (&'a [u8], usize, bool) {
+    let (mut rest, first) = (text, values.len());
+    while let Some([b' ', value @ ..]) = behind_row(rest) {
+        let after = match (whole(value), &mut nulls) {
+            (Some((number, [b'\n', after @ ..])), _) => {
+                values.push(number);
+                after
+            }
+            (None, Some(nulls)) => {
+                let Some(after) = value.strip_prefix(b"null\n") else { break };
+                nulls.put(values.len());
+                values.push(T::default());
+                after
+            }
+            _ => break,
+        };
+        rest = after;
     }
+    (rest, values.len() - first, true)
 }
 
 /// Pushes the values of a row up to the end of its line.
 #[inline(always)]
-fn push_row<'a>(columns: &mut [Column], values: &'a [u8]) -> Option<&'a [u8]> {
+fn push_row<'a>(columns: &mut [Column], row: usize, values: &'a [u8]) -> Option<&'a [u8]> {
     let mut rest = values;
     for column in columns {
+        // Asked once, so that neither a space, a sign and eight digits nor a word is looked for behind the end.
+        if rest.len() < 10 {
+            return None;
+        }
         let [b' ', value @ ..] = rest else { return None };
-        rest = push_value(column, value)?;
+        rest = push_value(column, row, value)?;
     }
     rest.strip_prefix(b"\n")
 }
 
-/// The same of rows of one column, whose type is looked at once.
-fn push_single<'a>(column: &mut Column, text: &'a [u8]) -> (&'a [u8], usize, bool) {
-    let nullable = column.dtype.nullable;
-    match (&mut column.cells, column.dtype.kind) {
-        (Cells::Signed(values), Kind::Signed(bits)) => {
-            push_numbers(values, &mut column.there, nullable, text, |value| signed(value, bits))
-        }
-        (Cells::Unsigned(values), Kind::Unsigned(bits)) => {
-            push_numbers(values, &mut column.there, nullable, text, |value| unsigned(value, bits))
-        }
-        _ => {
-            let (mut rest, mut rows) = (text, 0);
-            while let Some([b' ', value @ ..]) = behind_row(rest) {
-                let Some(after) = push_value(column, value) else { return (rest, rows, false) };
-                let [b'\n', after @ ..] = after else { return (rest, rows, false) };
-                rest = after;
-                rows += 1;
-            }
-            (rest, rows, true)
-        }
-    }
-}
-
-#[inline(always)]
-fn push_numbers<'a, T: Default>(
-    values: &mut Vec<T>,
-    there: &mut Vec<bool>,
-    nullable: bool,
-    text: &'a [u8],
-    read: impl Fn(&'a [u8]) -> Option<(T, &'a [u8])>,
-) -> (&'a [u8], usize, bool) {
-    let (mut rest, mut rows) = (text, 0);
-    while let Some([b' ', value @ ..]) = behind_row(rest) {
-        let (number, after) = match read(value) {
-            Some((number, after)) => (Some(number), after),
-            None => match value.strip_prefix(b"null") {
-                Some(after) if nullable => (None, after),
-                _ => break,
-            },
-        };
-        let [b'\n', after @ ..] = after else { break };
-        there.push(number.is_some());
-        values.push(number.unwrap_or_default());
-        rest = after;
-        rows += 1;
-    }
-    (rest, rows, true)
-}
-
 /// Pushes the value that a line begins with, and answers what stands behind it.
 #[inline(always)]
-fn push_value<'a>(column: &mut Column, line: &'a [u8]) -> Option<&'a [u8]> {
-    let rest = match (&mut column.cells, column.dtype.kind, line) {
-        (_, _, [b'n', b'u', b'l', b'l', rest @ ..]) if column.dtype.nullable => {
-            column.push_null();
+fn push_value<'a>(column: &mut Column, row: usize, line: &'a [u8]) -> Option<&'a [u8]> {
+    if column.dtype.nullable {
+        if let [b'n', b'u', b'l', b'l', rest @ ..] = line {
+            column.push_null(row);
             return Some(rest);
         }
-        (Cells::Signed(values), Kind::Signed(bits), _) => {
-            let (number, rest) = signed(line, bits)?;
+    }
+    match_cells!(
+        &mut column.cells,
+        numbers values => {
+            let (number, rest) = whole(line)?;
             values.push(number);
-            rest
+            Some(rest)
+        },
+        Cells::Bool(values) => {
+            let (b, rest) = truth(line)?;
+            values.push(b);
+            Some(rest)
         }
-        (Cells::Unsigned(values), Kind::Unsigned(bits), _) => {
-            let (number, rest) = unsigned(line, bits)?;
-            values.push(number);
-            rest
-        }
-        (Cells::Bool(values), _, [b't', b'r', b'u', b'e', rest @ ..]) => {
-            values.push(true);
-            rest
-        }
-        (Cells::Bool(values), _, [b'f', b'a', b'l', b's', b'e', rest @ ..]) => {
-            values.push(false);
-            rest
-        }
-        (Cells::Bytes { ends, heap }, Kind::Utf8, [b'"', text @ ..]) => {
-            let end = text.iter().position(|b| IS_NO_TEXT[usize::from(*b)])?;
-            if text[end] != b'"' {
-                return None;
-            }
-            heap.extend_from_slice(&text[..end]);
-            ends.push(heap.len() as u32);
-            &text[end + 1..]
-        }
-        (Cells::Bytes { ends, heap }, Kind::Binary, [b'x', digits @ ..]) => {
-            let mut rest = digits;
-            while let [high, low, after @ ..] = rest {
-                let (high, low) = (DIGITS[usize::from(*high)], DIGITS[usize::from(*low)]);
-                if high | low > 15 {
-                    break;
-                }
-                heap.push(high << 4 | low);
-                rest = after;
-            }
-            ends.push(heap.len() as u32);
-            rest
-        }
-        _ => return None,
-    };
-    column.there.push(true);
-    Some(rest)
+        Cells::Texts(texts) => push_text(texts, line.strip_prefix(b"\"")?),
+        Cells::Bytes(bytes) => Some(push_bytes(bytes, line.strip_prefix(b"x")?)),
+        Cells::Null => None,
+    )
 }
 
-/// Whether a byte ends a text's plain part: a quote, a backslash, what ends a line and what isn't ASCII.
-const IS_NO_TEXT: [bool; 256] = {
-    let mut table = [true; 256];
-    let mut b = 32;
-    while b < 127 {
-        table[b] = b == b'"' as usize || b == b'\\' as usize;
-        b += 1;
+/// Pushes a text up to its quote.
+#[inline(always)]
+fn push_text<'a>(texts: &mut Strings, text: &'a [u8]) -> Option<&'a [u8]> {
+    let mut rest = text;
+    loop {
+        let end = words::plain_text(rest)?;
+        texts.heap.extend_from_slice(&rest[..end]);
+        match &rest[end..] {
+            [b'"', after @ ..] => {
+                texts.end();
+                return Some(after);
+            }
+            [b'\\', escaped @ (b'"' | b'\\'), after @ ..] => {
+                texts.heap.push(*escaped);
+                rest = after;
+            }
+            _ => return None,
+        }
     }
-    table
-};
+}
+
+/// Pushes the bytes of which a line begins with the digits.
+#[inline(always)]
+fn push_bytes<'a>(bytes: &mut Strings, digits: &'a [u8]) -> &'a [u8] {
+    let mut rest = digits;
+    while let [high, low, after @ ..] = rest {
+        let (high, low) = (DIGITS[usize::from(*high)], DIGITS[usize::from(*low)]);
+        if high | low > 15 {
+            break;
+        }
+        bytes.heap.push(high << 4 | low);
+        rest = after;
+    }
+    bytes.end();
+    rest
+}
 
 /// The value of each byte that is a hexadecimal digit, and 16 of each other.
 const DIGITS: [u8; 256] = {
@@ -163,45 +208,3 @@ const DIGITS: [u8; 256] = {
     }
     table
 };
-
-/// The number that a line begins with, of 19 digits at most, and what stands behind it.
-#[inline(always)]
-pub fn number(line: &[u8]) -> Option<(u64, &[u8])> {
-    let mut number = 0u64;
-    let mut rest = line;
-    while let [digit @ b'0'..=b'9', after @ ..] = rest {
-        number = number.wrapping_mul(10).wrapping_add(u64::from(digit - b'0'));
-        rest = after;
-    }
-    (1..=19).contains(&(line.len() - rest.len())).then_some((number, rest))
-}
-
-/// The number of a type that a line begins with, and what stands behind it.
-#[inline(always)]
-fn signed(line: &[u8], bits: u32) -> Option<(i64, &[u8])> {
-    let (digits, is_negative) = match line {
-        [b'-', digits @ ..] => (digits, true),
-        _ => (line, false),
-    };
-    let (size, rest) = number(digits)?;
-    let least = 1u64 << (bits - 1);
-    if size > least || (size == least && !is_negative) {
-        return None;
-    }
-    Some((if is_negative { (size as i64).wrapping_neg() } else { size as i64 }, rest))
-}
-
-#[inline(always)]
-fn unsigned(line: &[u8], bits: u32) -> Option<(u64, &[u8])> {
-    number(line).filter(|(number, _)| *number <= u64::MAX >> (64 - bits))
-}
-
-/// The number of a kind that a word is.
-pub fn whole(word: &[u8], kind: Kind) -> Option<Value> {
-    let (value, rest) = match kind {
-        Kind::Signed(bits) => signed(word, bits).map(|(number, rest)| (Value::Signed(number), rest))?,
-        Kind::Unsigned(bits) => unsigned(word, bits).map(|(number, rest)| (Value::Unsigned(number), rest))?,
-        _ => return None,
-    };
-    rest.is_empty().then_some(value)
-}

@@ -1,13 +1,14 @@
 //! Whether the statistics of a part prove that no row of it satisfies a predicate, or that every row does.
 use crate::like::Range;
 use crate::predicate::{Comparison, Node, Op};
-use crate::table::Stats;
-use crate::values::Value;
+use crate::log::{Entry, Log, Stats};
+use crate::values::{Scalar, Value};
 use std::cmp::Ordering;
 
-/// What is known of a part: the statistics of its columns, and how many rows it has.
+/// What is known of a part: the statistics of its columns, which are entries of a log, and how many rows it has.
 pub struct Known<'a> {
     pub stats: &'a [Stats<'a>],
+    pub log: &'a Log,
     pub rows: u64,
 }
 
@@ -48,21 +49,25 @@ pub fn is_satisfied(e: &Node, part: &Known) -> bool {
 }
 
 /// The least and the greatest value, where they are known.
-type Bounds<'a> = (Option<&'a Value>, Option<&'a Value>);
+type Bounds<'a> = (Option<Scalar<'a>>, Option<Scalar<'a>>);
 
 fn bounds<'a>(e: &'a Node, part: &Known<'a>) -> Bounds<'a> {
     match &e.op {
-        Op::Literal(value) => (value.as_ref(), value.as_ref()),
+        Op::Literal(value) => {
+            let scalar = value.as_ref().map(Value::scalar);
+            (scalar, scalar)
+        }
         Op::Column(place) => {
             let Stats { min, max, .. } = part.stats[*place];
-            (min, max)
+            let bound = |entry| part.log.bound(e.dtype.kind, entry);
+            (min.map(bound), max.map(bound))
         }
         _ => (None, None),
     }
 }
 
-fn holds(left: Option<&Value>, test: fn(Ordering) -> bool, right: Option<&Value>) -> bool {
-    matches!((left, right), (Some(l), Some(r)) if test(l.order(r)))
+fn holds(left: Option<Scalar>, test: fn(Ordering) -> bool, right: Option<Scalar>) -> bool {
+    matches!((left, right), (Some(l), Some(r)) if test(l.cmp(&r)))
 }
 
 fn compared(by: Comparison, l: Bounds, r: Bounds) -> bool {
@@ -77,21 +82,22 @@ fn compared(by: Comparison, l: Bounds, r: Bounds) -> bool {
 }
 
 /// The ends of a range of numbers, strict ones moved in by one.
-fn closed(lower: bool, upper: bool, low: &Value, high: &Value) -> Option<(i128, i128)> {
+fn closed(lower: bool, upper: bool, low: Scalar, high: Scalar) -> Option<(i128, i128)> {
     Some((low.number()? + i128::from(lower), high.number()? - i128::from(upper)))
 }
 
 fn is_beyond(lower: bool, upper: bool, [x, l, u]: &[Node; 3], part: &Known) -> bool {
     let by = |strict: bool| if strict { Comparison::Lt } else { Comparison::Le };
     if let (Op::Literal(Some(low)), Op::Literal(Some(high))) = (&l.op, &u.op) {
+        let (low, high) = (low.scalar(), high.scalar());
         if let Some((low, high)) = closed(lower, upper, low, high) {
             let (least, greatest) = bounds(x, part);
-            let number = |value: &Value| value.number().expect("a number");
+            let number = |value: Scalar| value.number().expect("a number");
             return low > high
                 || greatest.is_some_and(|value| low > number(value))
                 || least.is_some_and(|value| number(value) > high);
         }
-        match low.order(high) {
+        match low.cmp(&high) {
             Ordering::Greater => return true,
             Ordering::Equal if lower || upper => return true,
             _ => {}
@@ -133,15 +139,16 @@ fn is_within(lower: bool, upper: bool, [x, l, u]: &[Node; 3], part: &Known) -> b
     let by = |strict: bool| if strict { Comparison::Lt } else { Comparison::Le };
     let operand = side(x, part);
     if let (Op::Literal(Some(low)), Op::Literal(Some(high))) = (&l.op, &u.op) {
+        let (low, high) = (low.scalar(), high.scalar());
         if let Some((low, high)) = closed(lower, upper, low, high) {
-            let number = |value: &Value| value.number().expect("a number");
+            let number = |value: Scalar| value.number().expect("a number");
             let (least, greatest) = operand.bounds;
             return low <= high
                 && operand.has_values
                 && least.is_some_and(|value| low <= number(value))
                 && greatest.is_some_and(|value| number(value) <= high);
         }
-        match low.order(high) {
+        match low.cmp(&high) {
             Ordering::Greater => return false,
             Ordering::Equal if lower || upper => return false,
             _ => {}
@@ -151,14 +158,15 @@ fn is_within(lower: bool, upper: bool, [x, l, u]: &[Node; 3], part: &Known) -> b
 }
 
 fn is_outside(range: &Range, (min, max): Bounds) -> bool {
-    let text = |text: &str| Value::Bytes(text.as_bytes().into());
+    fn text(text: &str) -> Option<Scalar<'_>> {
+        Some(Scalar::Bytes(text.as_bytes()))
+    }
     match range {
         Range::Exact(t) => {
-            let t = text(t);
-            holds(min, Ordering::is_gt, Some(&t)) || holds(max, Ordering::is_lt, Some(&t))
+            holds(min, Ordering::is_gt, text(t)) || holds(max, Ordering::is_lt, text(t))
         }
         Range::Prefix { prefix, successor } => {
-            holds(min, Ordering::is_ge, Some(&text(successor))) || holds(max, Ordering::is_lt, Some(&text(prefix)))
+            holds(min, Ordering::is_ge, text(successor)) || holds(max, Ordering::is_lt, text(prefix))
         }
     }
 }
@@ -166,7 +174,7 @@ fn is_outside(range: &Range, (min, max): Bounds) -> bool {
 fn has_no_null(x: &Node, part: &Known) -> bool {
     match &x.op {
         Op::Literal(value) => value.is_some(),
-        Op::Column(place) => matches!(part.stats[*place].nulls, Some((0, _))),
+        Op::Column(place) => matches!(part.stats[*place].nulls.map(Entry::count), Some((0, _))),
         _ => false,
     }
 }
@@ -175,7 +183,7 @@ fn has_only_nulls(x: &Node, part: &Known) -> bool {
     let rows = part.rows;
     match &x.op {
         Op::Literal(value) => u64::from(value.is_none()) == rows,
-        Op::Column(place) => match part.stats[*place].nulls {
+        Op::Column(place) => match part.stats[*place].nulls.map(Entry::count) {
             Some((count, true)) => count == rows,
             // an inexact count of 0 is handed out as 0
             Some((0, false)) => rows == 0,

@@ -1,89 +1,134 @@
 //! Typed columns of the rows of all parts, the parts as ranges of them, and one log of their statistics.
-use crate::values::{Kind, Type, Value};
-use std::cmp::Ordering;
+use crate::bits::Bits;
+use crate::log::{Entry, Log, Stats};
+use crate::values::{Kind, Type};
 
-/// The values of a column; the value of a null is a filler.
+/// Texts or lists of bytes, one behind the other, and where each ends.
+#[derive(Default)]
+pub struct Strings {
+    pub ends: Vec<u32>,
+    pub heap: Vec<u8>,
+}
+
+impl Strings {
+    /// Ends the value that the heap's last bytes are.
+    #[inline(always)]
+    pub fn end(&mut self) {
+        self.ends.push(self.heap.len() as u32);
+    }
+
+    pub fn get(&self, row: usize) -> &[u8] {
+        let start = if row == 0 { 0 } else { self.ends[row - 1] };
+        &self.heap[start as usize..self.ends[row] as usize]
+    }
+
+    fn truncate(&mut self, rows: usize) {
+        self.ends.truncate(rows);
+        self.heap.truncate(self.ends.last().map_or(0, |end| *end as usize));
+    }
+}
+
+/// The values of a column in a vector of their type; the value of a null is a filler.
 pub enum Cells {
     Null,
     Bool(Vec<bool>),
-    Signed(Vec<i64>),
-    Unsigned(Vec<u64>),
-    /// Where each text or each list of bytes ends.
-    Bytes { ends: Vec<u32>, heap: Vec<u8> },
+    I8(Vec<i8>),
+    I16(Vec<i16>),
+    I32(Vec<i32>),
+    I64(Vec<i64>),
+    U8(Vec<u8>),
+    U16(Vec<u16>),
+    U32(Vec<u32>),
+    U64(Vec<u64>),
+    Texts(Strings),
+    Bytes(Strings),
+}
+
+/// A match of cells with one arm for the vectors of all types of numbers, and then others.
+macro_rules! match_cells {
+    ($cells:expr, numbers $values:ident => $does:expr, $($others:tt)*) => {
+        match $cells {
+            Cells::I8($values) => $does,
+            Cells::I16($values) => $does,
+            Cells::I32($values) => $does,
+            Cells::I64($values) => $does,
+            Cells::U8($values) => $does,
+            Cells::U16($values) => $does,
+            Cells::U32($values) => $does,
+            Cells::U64($values) => $does,
+            $($others)*
+        }
+    };
+}
+pub(crate) use match_cells;
+
+impl Cells {
+    fn new(kind: Kind) -> Cells {
+        match kind {
+            Kind::Null => Cells::Null,
+            Kind::Bool => Cells::Bool(Vec::new()),
+            Kind::Signed(8) => Cells::I8(Vec::new()),
+            Kind::Signed(16) => Cells::I16(Vec::new()),
+            Kind::Signed(32) => Cells::I32(Vec::new()),
+            Kind::Signed(_) => Cells::I64(Vec::new()),
+            Kind::Unsigned(8) => Cells::U8(Vec::new()),
+            Kind::Unsigned(16) => Cells::U16(Vec::new()),
+            Kind::Unsigned(32) => Cells::U32(Vec::new()),
+            Kind::Unsigned(_) => Cells::U64(Vec::new()),
+            Kind::Utf8 => Cells::Texts(Strings::default()),
+            Kind::Binary => Cells::Bytes(Strings::default()),
+        }
+    }
 }
 
 pub struct Column {
     pub name: String,
     pub dtype: Type,
     pub cells: Cells,
-    /// Whether each row has a value.
-    pub there: Vec<bool>,
+    /// The rows that are null, where the type isn't.
+    pub nulls: Bits,
 }
 
 impl Column {
     fn new(name: &str, dtype: Type) -> Column {
-        let cells = match dtype.kind {
-            Kind::Null => Cells::Null,
-            Kind::Bool => Cells::Bool(Vec::new()),
-            Kind::Signed(_) => Cells::Signed(Vec::new()),
-            Kind::Unsigned(_) => Cells::Unsigned(Vec::new()),
-            Kind::Utf8 | Kind::Binary => Cells::Bytes { ends: Vec::new(), heap: Vec::new() },
-        };
-        Column { name: name.to_owned(), dtype, cells, there: Vec::new() }
+        Column { name: name.to_owned(), dtype, cells: Cells::new(dtype.kind), nulls: Bits::default() }
     }
 
-    pub fn push_null(&mut self) {
-        self.there.push(false);
-        match &mut self.cells {
-            Cells::Null => {}
+    pub fn push_null(&mut self, row: usize) {
+        match_cells!(
+            &mut self.cells,
+            numbers values => values.push(0),
+            Cells::Null => return,
             Cells::Bool(values) => values.push(false),
-            Cells::Signed(values) => values.push(0),
-            Cells::Unsigned(values) => values.push(0),
-            Cells::Bytes { ends, heap } => ends.push(heap.len() as u32),
+            Cells::Texts(strings) | Cells::Bytes(strings) => strings.end(),
+        );
+        self.nulls.put(row);
+    }
+
+    /// The rows that are null, of 64 from 64 times a number on.
+    #[inline(always)]
+    pub fn nulls_of(&self, block: usize) -> u64 {
+        match self.cells {
+            Cells::Null => u64::MAX,
+            _ => self.nulls.word(block),
         }
     }
 
-    pub fn bytes(&self, row: usize) -> &[u8] {
-        let Cells::Bytes { ends, heap } = &self.cells else { unreachable!("a column of texts or bytes") };
-        let start = if row == 0 { 0 } else { ends[row - 1] };
-        &heap[start as usize..ends[row] as usize]
+    pub fn is_null(&self, row: usize) -> bool {
+        self.nulls_of(row / 64) >> (row % 64) & 1 == 1
     }
 
-    /// Drops the rows behind the first ones of this number.
-    fn truncate(&mut self, rows: usize) {
-        self.there.truncate(rows);
-        match &mut self.cells {
+    /// Drops what stands at a row behind the others.
+    fn give_up(&mut self, row: usize) {
+        self.nulls.remove(row);
+        match_cells!(
+            &mut self.cells,
+            numbers values => values.truncate(row),
             Cells::Null => {}
-            Cells::Bool(values) => values.truncate(rows),
-            Cells::Signed(values) => values.truncate(rows),
-            Cells::Unsigned(values) => values.truncate(rows),
-            Cells::Bytes { ends, heap } => {
-                ends.truncate(rows);
-                heap.truncate(ends.last().map_or(0, |end| *end as usize));
-            }
-        }
+            Cells::Bool(values) => values.truncate(row),
+            Cells::Texts(strings) | Cells::Bytes(strings) => strings.truncate(row),
+        );
     }
-}
-
-/// The statistics that pruning asks for.
-pub enum Claim {
-    Min(Value),
-    Max(Value),
-    /// A count of nulls knows whether it is exact.
-    Nulls(u64, bool),
-}
-
-pub struct Entry {
-    column: u32,
-    claim: Claim,
-}
-
-/// What is known of a column.
-#[derive(Clone, Copy, Default)]
-pub struct Stats<'a> {
-    pub min: Option<&'a Value>,
-    pub max: Option<&'a Value>,
-    pub nulls: Option<(u64, bool)>,
 }
 
 /// A number of rows behind those of the parts before, and where its statistics stand in the log.
@@ -95,26 +140,8 @@ pub struct Part {
 }
 
 impl Part {
-    pub fn entries<'a>(&self, log: &'a [Entry]) -> &'a [Entry] {
-        &log[self.from as usize..self.to as usize]
-    }
-}
-
-/// Notes what entries say, the last of a column's statistic counting. Of no other column anything is noted.
-pub fn note<'a>(known: &mut [Stats<'a>], entries: &'a [Entry]) {
-    for entry in entries {
-        let stats = &mut known[entry.column as usize];
-        match &entry.claim {
-            Claim::Min(value) => stats.min = Some(value),
-            Claim::Max(value) => stats.max = Some(value),
-            Claim::Nulls(count, exact) => stats.nulls = Some((*count, *exact)),
-        }
-    }
-}
-
-pub fn forget(known: &mut [Stats], entries: &[Entry]) {
-    for entry in entries {
-        known[entry.column as usize] = Stats::default();
+    pub fn entries<'a>(&self, log: &'a Log) -> &'a [Entry] {
+        log.entries(self.from..self.to)
     }
 }
 
@@ -122,12 +149,12 @@ pub fn forget(known: &mut [Stats], entries: &[Entry]) {
 pub struct Table {
     pub columns: Vec<Column>,
     pub rows: usize,
-    pub log: Vec<Entry>,
+    pub log: Log,
     /// The parts that have ended, in two runs that meet at the last join; the second runs backwards.
     front: Vec<Part>,
     back: Vec<Part>,
     /// The first row and the first entry of the part that takes rows.
-    open: Option<(usize, usize)>,
+    open: Option<(usize, u32)>,
 }
 
 impl Table {
@@ -149,20 +176,16 @@ impl Table {
     }
 
     fn end_part(&mut self) {
-        if let Some((row, entry)) = self.open.take() {
+        if let Some((row, from)) = self.open.take() {
             self.meet_at(self.front.len() + self.back.len());
-            self.front.push(Part { rows: (self.rows - row) as u32, from: entry as u32, to: self.log.len() as u32 });
+            self.front.push(Part { rows: (self.rows - row) as u32, from, to: self.log.len() });
         }
-    }
-
-    pub fn claim(&mut self, column: usize, claim: Claim) {
-        self.log.push(Entry { column: column as u32, claim });
     }
 
     /// Drops what a row has pushed that is no row.
     pub fn give_up_row(&mut self) {
         for column in &mut self.columns {
-            column.truncate(self.rows);
+            column.give_up(self.rows);
         }
     }
 
@@ -182,46 +205,31 @@ impl Table {
         }
         self.meet_at(place + 1);
         let (left, right) = (self.front.pop()?, self.back.pop()?);
-        let from = self.log.len() as u32;
-        let merged = self.merged(&left, &right);
-        self.log.extend(merged);
-        self.front.push(Part { rows: left.rows + right.rows, from, to: self.log.len() as u32 });
+        let from = self.log.len();
+        self.merge(&left, &right);
+        self.front.push(Part { rows: left.rows + right.rows, from, to: self.log.len() });
         Some(())
     }
 
-    fn merged(&self, left: &Part, right: &Part) -> Vec<Entry> {
-        let (left, right) = (left.entries(&self.log), right.entries(&self.log));
+    /// Puts behind the log what it says of two parts together.
+    fn merge(&mut self, left: &Part, right: &Part) {
         let mut first = vec![Stats::default(); self.columns.len()];
         let mut second = first.clone();
-        note(&mut first, left);
-        note(&mut second, right);
+        let (left, right) = (left.entries(&self.log), right.entries(&self.log));
+        left.iter().for_each(|entry| entry.note(&mut first));
+        right.iter().for_each(|entry| entry.note(&mut second));
         let mut merged = Vec::new();
-        for entry in left {
-            let column = entry.column;
-            let (a, b) = (std::mem::take(&mut first[column as usize]), second[column as usize]);
-            merged.extend(joined(&a, &b).map(|claim| Entry { column, claim }));
+        for column in left.iter().map(Entry::column) {
+            let (a, b) = (std::mem::take(&mut first[column]), &second[column]);
+            merged.extend(self.log.joined(self.columns[column].dtype.kind, &a, b).map(|claim| (column, claim)));
         }
-        merged
+        merged.into_iter().for_each(|(column, (claim, bits))| self.log.push(column, claim, bits));
     }
 
-    /// All parts in order.
-    pub fn parts(&mut self) -> &[Part] {
+    /// All parts in order, and no part is left.
+    pub fn take_parts(&mut self) -> Vec<Part> {
         self.end_part();
         self.meet_at(self.front.len() + self.back.len());
-        &self.front
+        std::mem::take(&mut self.front)
     }
-}
-
-fn joined(a: &Stats, b: &Stats) -> impl Iterator<Item = Claim> {
-    let outer = |a: Option<&Value>, b: Option<&Value>, keeps: Ordering| {
-        let (a, b) = (a?, b?);
-        Some(if b.order(a) == keeps { b.clone() } else { a.clone() })
-    };
-    let nulls = match (a.nulls, b.nulls) {
-        (Some((a, exact)), Some((b, also))) => a.checked_add(b).map(|sum| Claim::Nulls(sum, exact && also)),
-        _ => None,
-    };
-    let min = outer(a.min, b.min, Ordering::Less).map(Claim::Min);
-    let max = outer(a.max, b.max, Ordering::Greater).map(Claim::Max);
-    min.into_iter().chain(max).chain(nulls)
 }

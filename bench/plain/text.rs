@@ -1,8 +1,10 @@
 //! The language of the input: lines of words that give columns, parts and a predicate.
-use crate::predicate::{Comparison, Node};
-use crate::table::{Cells, Claim, Column, Table};
+use crate::log::Claim;
 use crate::plain_rows;
-use crate::values::{Kind, Type, Value};
+use crate::predicate::{Comparison, Node};
+use crate::table::{match_cells, Cells, Column, Table};
+use crate::values::{Kind, Scalar, Type, Value};
+use crate::words;
 use std::borrow::Cow;
 use std::collections::HashMap;
 
@@ -162,6 +164,16 @@ impl Stat {
         })
     }
 
+    /// What the log takes of it: those that pruning asks for.
+    fn claim(self, exact: bool) -> Option<Claim> {
+        match self {
+            Stat::Min(_) => Some(Claim::Min),
+            Stat::Max(_) => Some(Claim::Max),
+            Stat::NullCount => Some(Claim::Nulls { exact }),
+            Stat::Other(_) => None,
+        }
+    }
+
     fn dtype(self) -> Type {
         match self {
             Stat::Min(dtype) | Stat::Max(dtype) | Stat::Other(dtype) => dtype,
@@ -170,12 +182,12 @@ impl Stat {
     }
 }
 
-/// Whether a statistic is exact.
-fn precision(word: &[u8]) -> Option<bool> {
-    match word {
-        b"exact" => Some(true),
-        b"inexact" => Some(false),
-        _ => None,
+/// Whether a statistic is exact, by the word between two spaces that bytes begin with, and what stands behind them.
+#[inline(always)]
+fn behind_precision(bytes: &[u8]) -> Option<(bool, &[u8])> {
+    match bytes.strip_prefix(b" exact ") {
+        Some(rest) => Some((true, rest)),
+        None => Some((false, bytes.strip_prefix(b" inexact ")?)),
     }
 }
 
@@ -192,26 +204,28 @@ pub struct Draft {
     pub is_bad: bool,
 }
 
-fn push_word(column: &mut Column, word: &Word) -> Option<()> {
+fn push_word(column: &mut Column, row: usize, word: &Word) -> Option<()> {
     let kind = column.dtype.kind;
     if matches!(word, Word::Plain("null")) {
-        return column.dtype.nullable.then(|| column.push_null());
+        return column.dtype.nullable.then(|| column.push_null(row));
     }
-    match (&mut column.cells, word) {
-        (Cells::Signed(values), Word::Plain(word)) => values.push(whole_number(word, kind)? as i64),
-        (Cells::Unsigned(values), Word::Plain(word)) => values.push(whole_number(word, kind)? as u64),
-        (Cells::Bool(values), Word::Plain(word)) => values.push(truth(word)?),
-        (Cells::Bytes { ends, heap }, Word::Quoted(text)) if kind == Kind::Utf8 => {
-            heap.extend_from_slice(text.as_bytes());
-            ends.push(heap.len() as u32);
+    match word {
+        Word::Quoted(text) => {
+            let Cells::Texts(texts) = &mut column.cells else { return None };
+            texts.heap.extend_from_slice(text.as_bytes());
+            texts.end();
         }
-        (Cells::Bytes { ends, heap }, Word::Plain(word)) if kind == Kind::Binary => {
-            heap.extend_from_slice(&hex(word)?);
-            ends.push(heap.len() as u32);
-        }
-        _ => return None,
+        Word::Plain(word) => match_cells!(
+            &mut column.cells,
+            numbers values => values.push(whole_number(word, kind)? as _),
+            Cells::Bool(values) => values.push(truth(word)?),
+            Cells::Bytes(bytes) => {
+                bytes.heap.extend_from_slice(&hex(word)?);
+                bytes.end();
+            }
+            Cells::Null | Cells::Texts(_) => return None,
+        ),
     }
-    column.there.push(true);
     Some(())
 }
 
@@ -221,11 +235,12 @@ impl Draft {
         let mut rest = text;
         while !self.is_bad {
             rest = self.push_rows(rest);
-            if let Some(after) = self.begin_part(rest) {
+            if let Some(after) = self.begin_part(rest).or_else(|| self.plain_stat(rest)) {
+                self.lines += 1;
                 rest = after;
                 continue;
             }
-            let Some(end) = line_end(rest) else { return };
+            let Some(end) = words::line_end(rest) else { return };
             let line = &rest[..end];
             self.push(line.strip_suffix(b"\r").unwrap_or(line));
             rest = &rest[end + 1..];
@@ -235,7 +250,7 @@ impl Draft {
     /// Reads the next line, which may be bad.
     pub fn push(&mut self, line: &[u8]) {
         self.lines += 1;
-        self.is_bad = self.line(line).is_none();
+        self.is_bad = std::str::from_utf8(line).ok().and_then(|line| self.words(line)).is_none();
     }
 
     /// Reads a line `part` without spaces, and answers what stands behind it.
@@ -244,7 +259,6 @@ impl Draft {
         if self.predicate.is_some() || self.table.columns.is_empty() {
             return None;
         }
-        self.lines += 1;
         self.table.begin_part();
         Some(rest)
     }
@@ -254,20 +268,13 @@ impl Draft {
         if self.predicate.is_some() || !self.table.is_open() || !text.starts_with(b"row ") {
             return text;
         }
-        let (rest, rows, is_whole) = plain_rows::push(&mut self.table.columns, text);
+        let (rest, rows, is_whole) = plain_rows::push(&mut self.table.columns, self.table.rows, text);
         self.table.rows += rows;
         self.lines += rows;
         if !is_whole {
             self.table.give_up_row();
         }
         rest
-    }
-
-    fn line(&mut self, line: &[u8]) -> Option<()> {
-        if line.starts_with(b"stat ") && self.plain_stat(line).is_some() {
-            return Some(());
-        }
-        self.words(std::str::from_utf8(line).ok()?)
     }
 
     fn words(&mut self, line: &str) -> Option<()> {
@@ -312,53 +319,65 @@ impl Draft {
         Some(())
     }
 
-    /// A statistic whose value is a number, with one space before each word.
-    fn plain_stat(&mut self, line: &[u8]) -> Option<()> {
+    /// Reads a line of a statistic in plain form, and answers what stands behind it.
+    fn plain_stat<'a>(&mut self, text: &'a [u8]) -> Option<&'a [u8]> {
+        let rest = text.strip_prefix(b"stat ")?;
         if self.predicate.is_some() || !self.table.is_open() {
             return None;
         }
-        let mut words = line.split(|b| *b == b' ').skip(1);
-        let place = self.place_of(std::str::from_utf8(words.next()?).ok()?)?;
-        let stat = Stat::read(words.next()?, self.table.columns[place].dtype)?;
-        let exact = precision(words.next()?)?;
-        let value = plain_rows::whole(words.next()?, stat.dtype().kind)?;
-        words.next().is_none().then(|| self.claim(place, stat, exact, value))
+        let (place, rest) = self.plain_name(rest)?;
+        let dtype = self.table.columns[place].dtype;
+        let (stat, rest) = match rest {
+            [b'm', b'i', b'n', rest @ ..] => (Stat::Min(dtype), rest),
+            [b'm', b'a', b'x', rest @ ..] => (Stat::Max(dtype), rest),
+            _ => {
+                let (word, rest) = rest.split_at(rest.iter().position(|b| *b == b' ')?);
+                (Stat::read(word, dtype)?, rest)
+            }
+        };
+        let (exact, rest) = behind_precision(rest)?;
+        let (value, rest) = plain_rows::value(rest, stat.dtype().kind)?;
+        let rest = rest.strip_prefix(b"\n")?;
+        self.claim(place, stat.claim(exact), value);
+        Some(rest)
+    }
+
+    /// The place of the column whose name a line begins with, and what stands behind the space behind it.
+    fn plain_name<'a>(&mut self, line: &'a [u8]) -> Option<(usize, &'a [u8])> {
+        for place in [self.last, self.last + 1] {
+            let name = self.table.columns.get(place).map(|column| column.name.as_bytes());
+            if let Some([b' ', rest @ ..]) = name.and_then(|name| line.strip_prefix(name)) {
+                self.last = place;
+                return Some((place, rest));
+            }
+        }
+        let len = line.iter().take(BYTES_OF_A_NAME + 1).position(|b| *b == b' ')?;
+        self.last = *self.names.get(std::str::from_utf8(&line[..len]).ok()?)?;
+        Some((self.last, &line[len + 1..]))
     }
 
     fn stat(&mut self, mut words: Words) -> Option<()> {
         if !self.table.is_open() {
             return None;
         }
-        let place = self.place_of(words.plain()?)?;
+        let place = *self.names.get(words.plain()?)?;
         let stat = Stat::read(words.plain()?.as_bytes(), self.table.columns[place].dtype)?;
-        let exact = precision(words.plain()?.as_bytes())?;
+        let exact = match words.plain()? {
+            "exact" => true,
+            "inexact" => false,
+            _ => return None,
+        };
         let value = value(&words.next().ok()??, stat.dtype())??;
         words.end()?;
-        self.claim(place, stat, exact, value);
+        self.claim(place, stat.claim(exact), value.scalar());
         Some(())
     }
 
-    /// Of the statistics the log takes those that pruning asks for.
-    fn claim(&mut self, place: usize, stat: Stat, exact: bool, value: Value) {
-        match (stat, value) {
-            (Stat::Max(_), value) => self.table.claim(place, Claim::Max(value)),
-            (Stat::Min(_), value) => self.table.claim(place, Claim::Min(value)),
-            (Stat::NullCount, Value::Unsigned(count)) => self.table.claim(place, Claim::Nulls(count, exact)),
-            _ => {}
+    #[inline(always)]
+    fn claim(&mut self, place: usize, claim: Option<Claim>, value: Scalar) {
+        if let Some(claim) = claim {
+            self.table.log.claim(place, claim, value);
         }
-    }
-
-    /// The place of a column, looked for first at that of the last call and behind it.
-    fn place_of(&mut self, name: &str) -> Option<usize> {
-        let last = self.last;
-        for place in [last, last + 1] {
-            if self.table.columns.get(place).is_some_and(|column| column.name == name) {
-                self.last = place;
-                return Some(place);
-            }
-        }
-        self.last = *self.names.get(name)?;
-        Some(self.last)
     }
 
     fn row(&mut self, mut words: Words) -> Option<()> {
@@ -366,7 +385,7 @@ impl Draft {
             return None;
         }
         for column in &mut self.table.columns {
-            push_word(column, &words.next().ok()??)?;
+            push_word(column, self.table.rows, &words.next().ok()??)?;
         }
         self.table.rows += 1;
         words.end()
@@ -448,18 +467,4 @@ impl Draft {
             _ => None,
         }
     }
-}
-
-/// The place of the first line feed, found eight bytes at a time.
-fn line_end(bytes: &[u8]) -> Option<usize> {
-    const ONES: u64 = u64::MAX / 255;
-    let (words, rest) = bytes.as_chunks::<8>();
-    for (at, word) in words.iter().enumerate() {
-        let differing = u64::from_le_bytes(*word) ^ (ONES * u64::from(b'\n'));
-        let found = differing.wrapping_sub(ONES) & !differing & (ONES << 7);
-        if found != 0 {
-            return Some(8 * at + found.trailing_zeros() as usize / 8);
-        }
-    }
-    rest.iter().position(|b| *b == b'\n').map(|place| 8 * words.len() + place)
 }

@@ -1,5 +1,4 @@
 //! Types, values and their order.
-use std::cmp::Ordering;
 
 #[derive(Clone, Copy, PartialEq, Eq, Debug)]
 pub enum Kind {
@@ -52,23 +51,32 @@ pub enum Value {
     Bytes(Box<[u8]>),
 }
 
+/// The same, borrowed. Values of one type are ordered by what they hold.
+#[derive(Clone, Copy, PartialEq, Eq, PartialOrd, Ord, Debug)]
+pub enum Scalar<'a> {
+    Bool(bool),
+    Signed(i64),
+    Unsigned(u64),
+    Bytes(&'a [u8]),
+}
+
 impl Value {
-    /// The order of two values of one type.
-    pub fn order(&self, other: &Value) -> Ordering {
-        match (self, other) {
-            (Value::Signed(a), Value::Signed(b)) => a.cmp(b),
-            (Value::Unsigned(a), Value::Unsigned(b)) => a.cmp(b),
-            (Value::Bool(a), Value::Bool(b)) => a.cmp(b),
-            (Value::Bytes(a), Value::Bytes(b)) => a.cmp(b),
-            _ => unreachable!("values of one type"),
+    pub fn scalar(&self) -> Scalar<'_> {
+        match self {
+            Value::Bool(b) => Scalar::Bool(*b),
+            Value::Signed(n) => Scalar::Signed(*n),
+            Value::Unsigned(n) => Scalar::Unsigned(*n),
+            Value::Bytes(bytes) => Scalar::Bytes(bytes),
         }
     }
+}
 
+impl Scalar<'_> {
     /// A number in a type that has room for the next one and the one before.
-    pub fn number(&self) -> Option<i128> {
+    pub fn number(self) -> Option<i128> {
         match self {
-            Value::Signed(n) => Some(i128::from(*n)),
-            Value::Unsigned(n) => Some(i128::from(*n)),
+            Scalar::Signed(n) => Some(i128::from(n)),
+            Scalar::Unsigned(n) => Some(i128::from(n)),
             _ => None,
         }
     }
