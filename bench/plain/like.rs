@@ -56,7 +56,8 @@ impl Pattern {
         }
     }
 
-    /// The first piece stands at the front, the last at the end, and each other one at the first place behind the one before.
+    /// The first piece stands at the front, the last at the end, and each other one at the first place behind the one
+    /// before.
     fn matches_lowered(&self, text: &str) -> bool {
         let Some(mut rest) = self.pieces[0].strip(text) else { return false };
         let Some((last, middle)) = self.pieces[1..].split_last() else { return rest.is_empty() };

@@ -430,10 +430,7 @@ impl Draft {
             Node::like(negated, ignores_case, x, self.expression(words)?)
         };
         match words.plain()? {
-            "col" => {
-                let place = *self.names.get(words.plain()?)?;
-                Some(Node::column(place, self.table.columns[place].dtype))
-            }
+            "col" => self.column_named(words.plain()?),
             "lit" => {
                 let dtype = Type::read(words.plain()?)?;
                 Some(Node::literal(dtype, value(&words.next().ok()??, dtype)?))
@@ -446,17 +443,7 @@ impl Draft {
             "le" => compare(Comparison::Le, words),
             "and" => connect(true, words),
             "or" => connect(false, words),
-            "between" => {
-                let strict = |word: &str| match word {
-                    "<" => Some(true),
-                    "<=" => Some(false),
-                    _ => None,
-                };
-                let (lower, upper) = (strict(words.plain()?)?, strict(words.plain()?)?);
-                let x = self.expression(words)?;
-                let low = self.expression(words)?;
-                Node::between(lower, upper, x, low, self.expression(words)?)
-            }
+            "between" => self.between(words),
             "isnull" => Some(Node::null_test(true, self.expression(words)?)),
             "notnull" => Some(Node::null_test(false, self.expression(words)?)),
             "not" => Node::not(self.expression(words)?),
@@ -466,5 +453,22 @@ impl Draft {
             "notilike" => like(true, true, words),
             _ => None,
         }
+    }
+
+    fn column_named(&self, name: &str) -> Option<Node> {
+        let place = *self.names.get(name)?;
+        Some(Node::column(place, self.table.columns[place].dtype))
+    }
+
+    fn between(&self, words: &mut Words) -> Option<Node> {
+        let strict = |word: &str| match word {
+            "<" => Some(true),
+            "<=" => Some(false),
+            _ => None,
+        };
+        let (lower, upper) = (strict(words.plain()?)?, strict(words.plain()?)?);
+        let x = self.expression(words)?;
+        let low = self.expression(words)?;
+        Node::between(lower, upper, x, low, self.expression(words)?)
     }
 }
