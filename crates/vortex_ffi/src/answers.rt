@@ -11,15 +11,16 @@ const SKIP: u8 = 1;
 
 const WHOLE: u8 = 2;
 
-// The answer for a zone.
+// The answer for a zone, without a branch, so that a loop of vector instructions is made of it.
+#[inline]
 fn answer_of(verdict: Verdict) -> u8
     ensures { result ≡ spec.answer_of verdict }
 {
-    match verdict {
-        Verdict::Skipped => SKIP,
-        Verdict::Whole => WHOLE,
-        Verdict::Tested => READ,
-    }
+    let (skipped, whole) = (
+        u8::from(matches!(verdict, Verdict::Skipped)),
+        u8::from(matches!(verdict, Verdict::Whole)),
+    );
+    skipped * SKIP + whole * WHOLE
 }
 
 // Puts that for each zone in its place.
