@@ -6,6 +6,7 @@ ghost use Rattle.vortex_base.specs.declared.types.PType.TheVariants.{I64};
 use crate::testing::{PlainValue, Sets, exact, sets};
 use crate::writers::accumulated;
 use std::alloc::Global;
+use std::process::Abort;
 use vortex_base::column::Column;
 use vortex_base::dtype::DType;
 use vortex_base::scalar_value::ScalarValue;
@@ -69,46 +70,48 @@ fn has(set: &StatsSet, stat: Stat, value: PlainValue) -> bool {
     sets::has(set, stat, value)
 }
 
+fn expect_has(rt: &impl Abort, set: &StatsSet, stat: Stat, value: PlainValue) {
+    assert!(rt; has(set, stat, value));
+}
+
 fn is_missing(set: &StatsSet, stat: Stat) -> bool {
     matches!(set.get(stat), Ok(Precision::Absent))
 }
 
 #[test]
-fn batches_add_up(rt: HostRuntime) -> Result<(), StatsError> {
+fn batches_add_up(rt: HostRuntime) {
     let alloc = rt.alloc();
     let kept = of_batches(
         alloc,
         [&[Some(5), None, Some(-3)], &[Some(7)], &[None, Some(2)]],
-    )?;
+    )
+    .expect(&rt, "kept");
     let rows = [Some(5), None, Some(-3), Some(7), None, Some(2)];
-    let measured = of_all(alloc, &rows)?;
-    assert!(rt; are_equal(&kept, &measured)?);
+    let measured = of_all(alloc, &rows).expect(&rt, "measured");
+    assert!(rt; are_equal(&kept, &measured).expect(&rt, "values"));
     assert!(rt; has(&kept, Stat::Max, exact(7i64)) && has(&kept, Stat::Min, exact(-3i64)));
     assert!(rt; has(&kept, Stat::Sum, exact(11i64)) && has(&kept, Stat::NullCount, exact(2u64)));
-    assert!(rt; has(&kept, Stat::UncompressedSizeInBytes, exact(60u64)));
-    Ok(())
+    expect_has(&rt, &kept, Stat::UncompressedSizeInBytes, exact(60u64));
 }
 
 // A batch of nulls leaves no bounds, and the rest adds up all the same.
 #[test]
-fn a_batch_without_values(rt: HostRuntime) -> Result<(), StatsError> {
+fn a_batch_without_values(rt: HostRuntime) {
     let alloc = rt.alloc();
-    let kept = of_batches(alloc, [&[Some(5)], &[None], &[Some(2)]])?;
+    let kept = of_batches(alloc, [&[Some(5)], &[None], &[Some(2)]]).expect(&rt, "kept");
     assert!(rt; is_missing(&kept, Stat::Max) && is_missing(&kept, Stat::Min));
     assert!(rt; has(&kept, Stat::Sum, exact(7i64)) && has(&kept, Stat::NullCount, exact(1u64)));
-    let measured = of_all(alloc, &[Some(5), None, Some(2)])?;
-    assert!(rt; has(&measured, Stat::Max, exact(5i64)));
-    Ok(())
+    let measured = of_all(alloc, &[Some(5), None, Some(2)]).expect(&rt, "measured");
+    expect_has(&rt, &measured, Stat::Max, exact(5i64));
 }
 
 // A sum that leaves its type on the way is given up, even if all rows have one.
 #[test]
-fn a_sum_that_left_its_type(rt: HostRuntime) -> Result<(), StatsError> {
+fn a_sum_that_left_its_type(rt: HostRuntime) {
     let alloc = rt.alloc();
-    let kept = of_batches(alloc, [&[Some(i64::MAX)], &[Some(1)], &[Some(-1)]])?;
+    let kept = of_batches(alloc, [&[Some(i64::MAX)], &[Some(1)], &[Some(-1)]]).expect(&rt, "kept");
     assert!(rt; is_missing(&kept, Stat::Sum));
     assert!(rt; has(&kept, Stat::Max, exact(i64::MAX)) && has(&kept, Stat::Min, exact(-1i64)));
-    let measured = of_all(alloc, &[Some(i64::MAX), Some(1), Some(-1)])?;
-    assert!(rt; has(&measured, Stat::Sum, exact(i64::MAX)));
-    Ok(())
+    let measured = of_all(alloc, &[Some(i64::MAX), Some(1), Some(-1)]).expect(&rt, "measured");
+    expect_has(&rt, &measured, Stat::Sum, exact(i64::MAX));
 }

@@ -3,6 +3,7 @@ use crate::testing::{is_yes, text_of};
 use std::alloc::{AllocError, Global};
 use std::cell::Cell;
 use std::cmp::Ordering;
+use std::process::Abort;
 use std::test::Fail;
 use vortex_base::text::Text;
 use vortex_stats::bound::{IntersectionResult, LowerBound, UpperBound};
@@ -35,23 +36,32 @@ fn unites<B: StatBound<i32>>(
     }
 }
 
+fn expect_union<B: StatBound<i32>>(
+    rt: &impl Abort,
+    a: Precision<i32>,
+    b: Precision<i32>,
+    expected: Option<Precision<i32>>,
+) {
+    assert!(rt; unites::<B>(a, b, expected));
+}
+
 #[test]
 fn unions_of_uppers(rt: HostRuntime) {
-    assert!(rt; unites::<UpperBound<i32>>(INEXACT_10, EXACT_12, Some(EXACT_12)));
-    assert!(rt; unites::<UpperBound<i32>>(INEXACT_12, EXACT_10, Some(INEXACT_12)));
-    assert!(rt; unites::<UpperBound<i32>>(EXACT_10, INEXACT_12, Some(INEXACT_12)));
-    assert!(rt; unites::<UpperBound<i32>>(EXACT_10, EXACT_12, Some(EXACT_12)));
-    assert!(rt; unites::<UpperBound<i32>>(INEXACT_10, INEXACT_12, Some(INEXACT_12)));
-    assert!(rt; unites::<UpperBound<i32>>(EXACT_12, Precision::Absent, None));
+    expect_union::<UpperBound<i32>>(&rt, INEXACT_10, EXACT_12, Some(EXACT_12));
+    expect_union::<UpperBound<i32>>(&rt, INEXACT_12, EXACT_10, Some(INEXACT_12));
+    expect_union::<UpperBound<i32>>(&rt, EXACT_10, INEXACT_12, Some(INEXACT_12));
+    expect_union::<UpperBound<i32>>(&rt, EXACT_10, EXACT_12, Some(EXACT_12));
+    expect_union::<UpperBound<i32>>(&rt, INEXACT_10, INEXACT_12, Some(INEXACT_12));
+    expect_union::<UpperBound<i32>>(&rt, EXACT_12, Precision::Absent, None);
 }
 
 #[test]
 fn unions_of_lowers(rt: HostRuntime) {
     let five = Precision::Exact(5);
-    assert!(rt; unites::<LowerBound<i32>>(INEXACT_4, five, Some(INEXACT_4)));
-    assert!(rt; unites::<LowerBound<i32>>(INEXACT_5, five, Some(five)));
-    assert!(rt; unites::<LowerBound<i32>>(Precision::Absent, INEXACT_12, None));
-    assert!(rt; unites::<Precision<i32>>(EXACT_12, INEXACT_10, Some(INEXACT_10)));
+    expect_union::<LowerBound<i32>>(&rt, INEXACT_4, five, Some(INEXACT_4));
+    expect_union::<LowerBound<i32>>(&rt, INEXACT_5, five, Some(five));
+    expect_union::<LowerBound<i32>>(&rt, Precision::Absent, INEXACT_12, None);
+    expect_union::<Precision<i32>>(&rt, EXACT_12, INEXACT_10, Some(INEXACT_10));
 }
 
 // Whether this is the value of the intersection.
@@ -66,14 +76,23 @@ fn meets<B: StatBound<i32>>(
     }
 }
 
+fn expect_intersection<B: StatBound<i32>>(
+    rt: &impl Abort,
+    a: Precision<i32>,
+    b: Precision<i32>,
+    expected: Precision<i32>,
+) {
+    assert!(rt; meets::<B>(a, b, expected));
+}
+
 #[test]
 fn intersections(rt: HostRuntime) {
-    assert!(rt; meets::<UpperBound<i32>>(EXACT_10, INEXACT_12, EXACT_10));
-    assert!(rt; meets::<LowerBound<i32>>(EXACT_12, INEXACT_10, EXACT_12));
+    expect_intersection::<UpperBound<i32>>(&rt, EXACT_10, INEXACT_12, EXACT_10);
+    expect_intersection::<LowerBound<i32>>(&rt, EXACT_12, INEXACT_10, EXACT_12);
     let three = Precision::Exact(3);
     let five = Precision::Exact(5);
-    assert!(rt; meets::<Precision<i32>>(three, INEXACT_5, Precision::Inexact(3)));
-    assert!(rt; meets::<Precision<i32>>(five, Precision::Inexact(3), five));
+    expect_intersection::<Precision<i32>>(&rt, three, INEXACT_5, Precision::Inexact(3));
+    expect_intersection::<Precision<i32>>(&rt, five, Precision::Inexact(3), five);
 }
 
 // Whether the intersection is this, as the bounds compare.
@@ -93,13 +112,21 @@ fn are_apart<B: StatBound<i32> + PartialEq>(a: Precision<i32>, b: Precision<i32>
     is_met_in::<B>(a, b, Some(IntersectionResult::Empty))
 }
 
+fn expect_apart<B: StatBound<i32> + PartialEq>(
+    rt: &impl Abort,
+    a: Precision<i32>,
+    b: Precision<i32>,
+) {
+    assert!(rt; are_apart::<B>(a, b));
+}
+
 #[test]
 fn empty_intersections(rt: HostRuntime) {
     let thirteen = Precision::Exact(13);
-    assert!(rt; are_apart::<UpperBound<i32>>(thirteen, INEXACT_12));
-    assert!(rt; are_apart::<LowerBound<i32>>(EXACT_12, Precision::Inexact(13)));
+    expect_apart::<UpperBound<i32>>(&rt, thirteen, INEXACT_12);
+    expect_apart::<LowerBound<i32>>(&rt, EXACT_12, Precision::Inexact(13));
     assert!(rt; is_met_in::<LowerBound<i32>>(EXACT_12, Precision::Absent, None));
-    assert!(rt; are_apart::<Precision<i32>>(Precision::Absent, Precision::Exact(1)));
+    expect_apart::<Precision<i32>>(&rt, Precision::Absent, Precision::Exact(1));
 }
 
 fn upper_equals(bound: Precision<i32>, value: i32) -> bool {
@@ -110,6 +137,15 @@ fn upper_against(bound: Precision<i32>, value: i32) -> Option<Ordering> {
     UpperBound::lift(bound).partial_cmp_value(&value)
 }
 
+fn expect_upper_against(
+    rt: &impl Abort,
+    bound: Precision<i32>,
+    value: i32,
+    expected: Option<Ordering>,
+) {
+    assert!(rt; upper_against(bound, value) == expected);
+}
+
 fn exact_upper(bound: Precision<i32>) -> Option<i32> {
     UpperBound::lift(bound).to_exact().copied()
 }
@@ -118,12 +154,12 @@ fn exact_upper(bound: Precision<i32>) -> Option<i32> {
 fn uppers_against_values(rt: HostRuntime) {
     assert!(rt; upper_equals(EXACT_10, 10));
     assert!(rt; exact_upper(EXACT_10) == Some(10));
-    assert!(rt; upper_against(EXACT_10, 9) == Some(Ordering::Greater));
-    assert!(rt; upper_against(EXACT_10, 10) == Some(Ordering::Equal));
+    expect_upper_against(&rt, EXACT_10, 9, Some(Ordering::Greater));
+    expect_upper_against(&rt, EXACT_10, 10, Some(Ordering::Equal));
     assert!(rt; !upper_equals(INEXACT_10, 10));
-    assert!(rt; upper_against(INEXACT_10, 9) == None);
-    assert!(rt; upper_against(INEXACT_10, 10) == Some(Ordering::Equal));
-    assert!(rt; upper_against(INEXACT_10, 11) == Some(Ordering::Less));
+    expect_upper_against(&rt, INEXACT_10, 9, None);
+    expect_upper_against(&rt, INEXACT_10, 10, Some(Ordering::Equal));
+    expect_upper_against(&rt, INEXACT_10, 11, Some(Ordering::Less));
 }
 
 fn lower_equals(bound: Precision<i32>, value: i32) -> bool {
@@ -159,12 +195,13 @@ fn clones_equal_lowers(bound: Precision<i32>) -> Result<bool, StatsError> {
 }
 
 #[test]
-fn results(rt: HostRuntime) -> Result<(), Fail> {
-    assert!(rt; cloned_or_e(IntersectionResult::Value(10))? == Ok(10));
-    assert!(rt; cloned_or_e(IntersectionResult::Empty)? == Err('e'));
+fn results(rt: HostRuntime) {
+    let ten = cloned_or_e(IntersectionResult::Value(10)).expect(&rt, "ten");
+    assert!(rt; ten == Ok(10));
+    let empty = cloned_or_e(IntersectionResult::Empty).expect(&rt, "none");
+    assert!(rt; empty == Err('e'));
     assert!(rt; is_yes(clones_equal_uppers(INEXACT_10)));
     assert!(rt; is_yes(clones_equal_lowers(EXACT_10)));
-    Ok(())
 }
 
 // An inexact text as a bound.
@@ -209,12 +246,21 @@ fn orders_fruits<B: StatBound<Text> + PartialEq>(
     Ok(unite_and_meet(&apple, &pear, union, intersection))
 }
 
+fn expect_order_of_fruits<B: StatBound<Text> + PartialEq>(
+    rt: &impl Abort,
+    alloc: Global,
+    unites_to_pear: bool,
+    meets_in_pear: bool,
+) {
+    assert!(rt; is_yes(orders_fruits::<B>(alloc, unites_to_pear, meets_in_pear)));
+}
+
 #[test]
 fn texts(rt: HostRuntime) {
     let alloc = rt.alloc();
-    assert!(rt; is_yes(orders_fruits::<UpperBound<Text>>(alloc, true, false)));
-    assert!(rt; is_yes(orders_fruits::<LowerBound<Text>>(alloc, false, true)));
-    assert!(rt; is_yes(orders_fruits::<Precision<Text>>(alloc, false, false)));
+    expect_order_of_fruits::<UpperBound<Text>>(&rt, alloc, true, false);
+    expect_order_of_fruits::<LowerBound<Text>>(&rt, alloc, false, true);
+    expect_order_of_fruits::<Precision<Text>>(&rt, alloc, false, false);
 }
 
 // Whether an inexact upper bound is never equal to a value and stands in this order to it.
@@ -430,6 +476,10 @@ fn union_of<B: StatBound<Fragile>>(a: &B, b: &B) -> Answer {
     }
 }
 
+fn expect_union_of<B: StatBound<Fragile>>(rt: &impl Abort, a: &B, b: &B, expected: Answer) {
+    assert!(rt; union_of(a, b) == expected);
+}
+
 fn intersection_of<B: StatBound<Fragile>>(a: &B, b: &B) -> Answer {
     match a.intersection(b) {
         Ok(Some(IntersectionResult::Value(_))) => Answer::Found,
@@ -439,18 +489,22 @@ fn intersection_of<B: StatBound<Fragile>>(a: &B, b: &B) -> Answer {
     }
 }
 
+fn expect_intersection_of<B: StatBound<Fragile>>(rt: &impl Abort, a: &B, b: &B, expected: Answer) {
+    assert!(rt; intersection_of(a, b) == expected);
+}
+
 // The answer's value alone is cloned, so that only its clone can refuse the call.
 #[test]
 fn refused_clones_of_uppers(rt: HostRuntime) {
     let low = UpperBound::lift(Precision::Exact(refusing(3)));
     let high = UpperBound::lift(Precision::Inexact(cloning(5)));
-    assert!(rt; union_of(&low, &high) == Answer::Found);
-    assert!(rt; union_of(&high, &low) == Answer::Found);
-    assert!(rt; intersection_of(&low, &high) == Answer::Refused);
-    assert!(rt; intersection_of(&high, &low) == Answer::Refused);
+    expect_union_of(&rt, &low, &high, Answer::Found);
+    expect_union_of(&rt, &high, &low, Answer::Found);
+    expect_intersection_of(&rt, &low, &high, Answer::Refused);
+    expect_intersection_of(&rt, &high, &low, Answer::Refused);
     assert!(rt; low == UpperBound::lift(Precision::Exact(refusing(3))));
     let absent = UpperBound::lift(Precision::Absent);
-    assert!(rt; union_of(&low, &absent) == Answer::Nothing);
+    expect_union_of(&rt, &low, &absent, Answer::Nothing);
 }
 
 // Whether a clone of the bound is refused.
@@ -466,8 +520,8 @@ fn clones_to(bound: &LowerBound<Fragile>, value: u32) -> Result<bool, StatsError
 fn refused_clones_of_lowers(rt: HostRuntime) -> Result<(), Fail> {
     let low = LowerBound::lift(Precision::Inexact(refusing(3)));
     let high = LowerBound::lift(Precision::Inexact(cloning(5)));
-    assert!(rt; union_of(&low, &high) == Answer::Refused);
-    assert!(rt; intersection_of(&low, &high) == Answer::Found);
+    expect_union_of(&rt, &low, &high, Answer::Refused);
+    expect_intersection_of(&rt, &low, &high, Answer::Found);
     assert!(rt; refuses_clone(&low));
     assert!(rt; clones_to(&high, 5)?);
     Ok(())
@@ -477,6 +531,6 @@ fn refused_clones_of_lowers(rt: HostRuntime) -> Result<(), Fail> {
 fn refused_clones_of_values(rt: HostRuntime) {
     let low = Precision::Exact(refusing(3));
     let high = Precision::Exact(cloning(5));
-    assert!(rt; union_of(&low, &high) == Answer::Refused);
-    assert!(rt; intersection_of(&low, &high) == Answer::Empty);
+    expect_union_of(&rt, &low, &high, Answer::Refused);
+    expect_intersection_of(&rt, &low, &high, Answer::Empty);
 }

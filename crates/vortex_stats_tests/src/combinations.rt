@@ -2,6 +2,7 @@
 use crate::callers::combined_through_view;
 use crate::testing::{I32, PlainValue, Row, Sets, exact, inexact, sets};
 use std::alloc::Global;
+use std::process::Abort;
 use vortex_stats::error::StatsError;
 use vortex_stats::precision::Precision;
 use vortex_stats::stat::Stat;
@@ -46,6 +47,17 @@ fn combines(
     sets::is(alloc, set, expected)
 }
 
+fn expect_combination(
+    rt: &impl Abort,
+    alloc: Global,
+    first: &[Row],
+    other: &[Row],
+    expected: &[Row],
+    conflict: Option<Stat>,
+) {
+    assert!(rt; combines(alloc, first, other, expected, conflict));
+}
+
 #[test]
 fn conflict_at_min(rt: HostRuntime) {
     let other = [
@@ -55,14 +67,13 @@ fn conflict_at_min(rt: HostRuntime) {
     ];
     let expected = [(Stat::Min, exact(5)), (Stat::Max, exact(9))];
     let conflict = Some(Stat::Min);
-    assert!(rt;
-        combines(
-            rt.alloc(),
-            &[(Stat::Min, exact(5))],
-            &other,
-            &expected,
-            conflict
-        )
+    expect_combination(
+        &rt,
+        rt.alloc(),
+        &[(Stat::Min, exact(5))],
+        &other,
+        &expected,
+        conflict,
     );
 }
 
@@ -83,10 +94,10 @@ fn absent() -> [Row; 1] {
 #[test]
 fn absent_entries(rt: HostRuntime) {
     let alloc = rt.alloc();
-    assert!(rt; combines(alloc, &[], &absent(), &[], None));
-    assert!(rt; combines(alloc, &absent(), &absent(), &[], None));
-    assert!(rt; combines(alloc, &three(), &absent(), &three(), None));
-    assert!(rt; combines(alloc, &absent(), &three(), &three(), None));
+    expect_combination(&rt, alloc, &[], &absent(), &[], None);
+    expect_combination(&rt, alloc, &absent(), &absent(), &[], None);
+    expect_combination(&rt, alloc, &three(), &absent(), &three(), None);
+    expect_combination(&rt, alloc, &absent(), &three(), &three(), None);
 }
 
 // Whether two values of the statistic meet in the last one.
@@ -106,6 +117,17 @@ fn meet(
     )
 }
 
+fn expect_meeting(
+    rt: &impl Abort,
+    alloc: Global,
+    stat: Stat,
+    first: PlainValue,
+    other: PlainValue,
+    expected: PlainValue,
+) {
+    assert!(rt; meet(alloc, stat, first, other, expected));
+}
+
 // Whether two values of the statistic contradict each other, and the first stays.
 fn conflict(alloc: Global, stat: Stat, first: PlainValue, other: PlainValue) -> bool {
     let entry = [(stat, first)];
@@ -116,10 +138,17 @@ fn conflict(alloc: Global, stat: Stat, first: PlainValue, other: PlainValue) -> 
 fn truths(rt: HostRuntime) {
     let alloc = rt.alloc();
     let stat = Stat::IsConstant;
-    assert!(rt; meet(alloc, stat, exact(true), exact(true), exact(true)));
-    assert!(rt; meet(alloc, stat, exact(true), inexact(false), exact(true)));
-    assert!(rt; meet(alloc, stat, exact(false), inexact(false), exact(false)));
-    assert!(rt; meet(alloc, stat, exact(false), inexact(true), inexact(false)));
+    expect_meeting(&rt, alloc, stat, exact(true), exact(true), exact(true));
+    expect_meeting(&rt, alloc, stat, exact(true), inexact(false), exact(true));
+    expect_meeting(&rt, alloc, stat, exact(false), inexact(false), exact(false));
+    expect_meeting(
+        &rt,
+        alloc,
+        stat,
+        exact(false),
+        inexact(true),
+        inexact(false),
+    );
 }
 
 // Whether the rows are constant, and that they are sorted.
@@ -134,16 +163,23 @@ fn sorted(is_constant: bool) -> [Row; 2] {
 fn conflict_of_truths(rt: HostRuntime) {
     let alloc = rt.alloc();
     let stat = Some(Stat::IsConstant);
-    assert!(rt; combines(alloc, &sorted(true), &sorted(false), &sorted(true), stat));
+    expect_combination(
+        &rt,
+        alloc,
+        &sorted(true),
+        &sorted(false),
+        &sorted(true),
+        stat,
+    );
 }
 
 #[test]
 fn bounds(rt: HostRuntime) {
     let alloc = rt.alloc();
-    assert!(rt; meet(alloc, Stat::Max, exact(5), inexact(7), exact(5)));
-    assert!(rt; meet(alloc, Stat::Max, inexact(7), exact(5), exact(5)));
+    expect_meeting(&rt, alloc, Stat::Max, exact(5), inexact(7), exact(5));
+    expect_meeting(&rt, alloc, Stat::Max, inexact(7), exact(5), exact(5));
     assert!(rt; conflict(alloc, Stat::Max, inexact(5), exact(7)));
-    assert!(rt; meet(alloc, Stat::Max, inexact(7), inexact(5), inexact(5)));
+    expect_meeting(&rt, alloc, Stat::Max, inexact(7), inexact(5), inexact(5));
     assert!(rt; conflict(alloc, Stat::Sum, exact(1i64), exact(2i64)));
 }
 
@@ -190,7 +226,7 @@ fn inexact_bounds(rt: HostRuntime) {
         (Stat::IsConstant, exact(false)),
         (Stat::IsSorted, exact(true)),
     ];
-    assert!(rt; combines(rt.alloc(), &first, &other, &expected, None));
+    expect_combination(&rt, rt.alloc(), &first, &other, &expected, None);
 }
 
 #[test]
@@ -206,7 +242,7 @@ fn missing_stats(rt: HostRuntime) {
         (Stat::Max, exact(100)),
         (Stat::IsStrictSorted, exact(true)),
     ];
-    assert!(rt; combines(rt.alloc(), &first, &other, &expected, None));
+    expect_combination(&rt, rt.alloc(), &first, &other, &expected, None);
 }
 
 // Combines through a view, where both sets fit I32, and tells whether that is a conflict at Min.

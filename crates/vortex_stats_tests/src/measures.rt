@@ -1,6 +1,7 @@
 //! Statistics that are made from columns, row by row, and checks of sets against columns.
 use crate::testing::{Entry, Plain, Row, Sets, exact, inexact, made, name, scalar_value, sets};
 use std::alloc::{AllocError, Global};
+use std::process::Abort;
 use vortex_base::cells::Cells;
 use vortex_base::column::Column;
 use vortex_base::dtype::DType;
@@ -73,12 +74,26 @@ fn has(alloc: Global, dtype: DType, rows: &[Option<Plain>], expected: &[Row]) ->
     sets::is(alloc, kept, expected) && sets::is(alloc, packed, expected)
 }
 
+fn expect_has(
+    rt: &impl Abort,
+    alloc: Global,
+    dtype: DType,
+    rows: &[Option<Plain>],
+    expected: &[Row],
+) {
+    assert!(rt; has(alloc, dtype, rows, expected));
+}
+
 // Whether these are true of the column.
 fn is_true(alloc: Global, rows: &[Row], column: Columns) -> bool {
     match (sets::of(alloc, rows), column) {
         (Ok(set), Ok(column)) => set.is_true_of(&column),
         _ => false,
     }
+}
+
+fn expect_true(rt: &impl Abort, alloc: Global, rows: &[Row], column: Columns, expected: bool) {
+    assert!(rt; is_true(alloc, rows, column) == expected);
 }
 
 fn long(n: i64) -> Option<Plain> {
@@ -107,7 +122,7 @@ fn numbers_and_nulls(rt: HostRuntime) {
         (Stat::NullCount, exact(2u64)),
         (Stat::UncompressedSizeInBytes, exact(40u64)),
     ];
-    assert!(rt; has(alloc, LONG, &rows, &expected));
+    expect_has(&rt, alloc, LONG, &rows, &expected);
 }
 
 #[test]
@@ -121,7 +136,7 @@ fn nulls_alone(rt: HostRuntime) {
         (Stat::NullCount, exact(1u64)),
         (Stat::UncompressedSizeInBytes, exact(40u64)),
     ];
-    assert!(rt; has(alloc, TRUTH, &[None], &expected));
+    expect_has(&rt, alloc, TRUTH, &[None], &expected);
 }
 
 #[test]
@@ -137,7 +152,7 @@ fn truths(rt: HostRuntime) {
         (Stat::NullCount, exact(0u64)),
         (Stat::UncompressedSizeInBytes, exact(40u64)),
     ];
-    assert!(rt; has(alloc, TRUTH, &[truth(true), truth(false)], &expected));
+    expect_has(&rt, alloc, TRUTH, &[truth(true), truth(false)], &expected);
 }
 
 fn sum_of(alloc: Global, dtype: DType, rows: &[Option<Plain>], expected: &[Row]) -> bool {
@@ -145,22 +160,31 @@ fn sum_of(alloc: Global, dtype: DType, rows: &[Option<Plain>], expected: &[Row])
     sets::is(alloc, set, expected)
 }
 
+fn expect_sum_of(
+    rt: &impl Abort,
+    alloc: Global,
+    dtype: DType,
+    rows: &[Option<Plain>],
+    expected: &[Row],
+) {
+    assert!(rt; sum_of(alloc, dtype, rows, expected));
+}
+
 #[test]
 fn sums_at_the_ends(rt: HostRuntime) {
     let alloc = rt.alloc();
     let past = [long(i64::MAX), long(1)];
     let back = [long(i64::MAX), long(1), long(-1)];
-    assert!(rt; sum_of(alloc, LONG, &past, &[]));
-    assert!(rt; sum_of(alloc, LONG, &back, &[(Stat::Sum, exact(i64::MAX))]));
-    assert!(rt; sum_of(alloc, LONG, &[long(i64::MIN), long(-1)], &[]));
-    assert!(rt; sum_of(alloc, WORD, &[word(u64::MAX), word(1)], &[]));
-    assert!(rt;
-        sum_of(
-            alloc,
-            WORD,
-            &[word(u64::MAX)],
-            &[(Stat::Sum, exact(u64::MAX))]
-        )
+    expect_sum_of(&rt, alloc, LONG, &past, &[]);
+    expect_sum_of(&rt, alloc, LONG, &back, &[(Stat::Sum, exact(i64::MAX))]);
+    expect_sum_of(&rt, alloc, LONG, &[long(i64::MIN), long(-1)], &[]);
+    expect_sum_of(&rt, alloc, WORD, &[word(u64::MAX), word(1)], &[]);
+    expect_sum_of(
+        &rt,
+        alloc,
+        WORD,
+        &[word(u64::MAX)],
+        &[(Stat::Sum, exact(u64::MAX))],
     );
 }
 
@@ -182,9 +206,8 @@ fn texts_are_measured(alloc: Global) -> Result<bool, AllocError> {
 
 // By bytes as by characters; in UTF-16 the second stands first.
 #[test]
-fn texts_in_the_order_wanted(rt: HostRuntime) -> Result<(), AllocError> {
-    assert!(rt; texts_are_measured(rt.alloc())?);
-    Ok(())
+fn texts_in_the_order_wanted(rt: HostRuntime) {
+    assert!(rt; texts_are_measured(rt.alloc()).expect(&rt, "a set"));
 }
 
 #[test]
@@ -192,11 +215,11 @@ fn checks_of_bounds(rt: HostRuntime) {
     let alloc = rt.alloc();
     let rows = [long(3), None, long(7)];
     let holds = [(Stat::Max, inexact(7i64)), (Stat::Min, exact(3i64))];
-    assert!(rt; is_true(alloc, &holds, column(alloc, LONG, &rows)));
+    expect_true(&rt, alloc, &holds, column(alloc, LONG, &rows), true);
     let below = [(Stat::Max, inexact(6i64))];
-    assert!(rt; !is_true(alloc, &below, typed(alloc, LONG, &rows)));
+    expect_true(&rt, alloc, &below, typed(alloc, LONG, &rows), false);
     let none = [(Stat::Max, exact(8i64))];
-    assert!(rt; !is_true(alloc, &none, typed(alloc, LONG, &rows)));
+    expect_true(&rt, alloc, &none, typed(alloc, LONG, &rows), false);
 }
 
 #[test]
@@ -204,9 +227,9 @@ fn checks_of_counts(rt: HostRuntime) {
     let alloc = rt.alloc();
     let rows = [long(3), None, long(7)];
     let holds = [(Stat::NullCount, inexact(2u64)), (Stat::Sum, exact(10i64))];
-    assert!(rt; is_true(alloc, &holds, typed(alloc, LONG, &rows)));
+    expect_true(&rt, alloc, &holds, typed(alloc, LONG, &rows), true);
     let few = [(Stat::Sum, exact(10i64)), (Stat::NullCount, inexact(0u64))];
-    assert!(rt; !is_true(alloc, &few, column(alloc, LONG, &rows)));
+    expect_true(&rt, alloc, &few, column(alloc, LONG, &rows), false);
     let unfit = [(Stat::Sum, exact(10u64))];
-    assert!(rt; !is_true(alloc, &unfit, column(alloc, LONG, &rows)));
+    expect_true(&rt, alloc, &unfit, column(alloc, LONG, &rows), false);
 }

@@ -4,6 +4,7 @@ use crate::testing::{
     Entry, I32, I64, PlainValue, Row, Sets, U8, UTF8, exact, inexact, is_yes, push_text, sets,
 };
 use std::alloc::{AllocError, Global};
+use std::process::Abort;
 use vortex_base::dtype::DType;
 use vortex_stats::error::StatsError;
 use vortex_stats::precision::Precision;
@@ -14,6 +15,10 @@ use vortex_stats::stats_set::StatsSet;
 fn merges(alloc: Global, first: &[Row], other: &[Row], expected: &[Row]) -> bool {
     let set = sets::merge(sets::of(alloc, first), sets::of(alloc, other), &I32);
     sets::is(alloc, set, expected)
+}
+
+fn expect_merges(rt: &impl Abort, alloc: Global, first: &[Row], other: &[Row], expected: &[Row]) {
+    assert!(rt; merges(alloc, first, other, expected));
 }
 
 // The set of the statistic's value, or of no entry.
@@ -58,28 +63,46 @@ fn sums(
     merges_values(alloc, dtype, Stat::Sum, Some(first), Some(other), expected)
 }
 
+fn expect_sums(
+    rt: &impl Abort,
+    alloc: Global,
+    dtype: &DType,
+    first: PlainValue,
+    other: PlainValue,
+    expected: Option<PlainValue>,
+) {
+    assert!(rt; sums(alloc, dtype, first, other, expected));
+}
+
 #[test]
 fn overflowing_sums(rt: HostRuntime) {
     let alloc = rt.alloc();
     let (least, most) = (exact(i64::MIN), exact(i64::MAX));
-    assert!(rt; sums(alloc, &I64, most, most, None));
-    assert!(rt; sums(alloc, &I64, least, exact(-1i64), None));
-    assert!(rt; sums(alloc, &I64, least, most, Some(exact(-1i64))));
+    expect_sums(&rt, alloc, &I64, most, most, None);
+    expect_sums(&rt, alloc, &I64, least, exact(-1i64), None);
+    expect_sums(&rt, alloc, &I64, least, most, Some(exact(-1i64)));
 }
 
 #[test]
 fn overflowing_sums_of_bytes(rt: HostRuntime) {
     let alloc = rt.alloc();
     let most = exact(u64::MAX);
-    assert!(rt; sums(alloc, &U8, most, exact(1u64), None));
-    assert!(rt; sums(alloc, &U8, most, exact(0u64), Some(most)));
+    expect_sums(&rt, alloc, &U8, most, exact(1u64), None);
+    expect_sums(&rt, alloc, &U8, most, exact(0u64), Some(most));
 }
 
 #[test]
 fn sums_that_stay(rt: HostRuntime) {
     let alloc = rt.alloc();
-    assert!(rt; sums(alloc, &I32, exact(37i64), exact(42i64), Some(exact(79i64))));
-    assert!(rt; sums(alloc, &I32, exact(37i64), inexact(42i64), None));
+    expect_sums(
+        &rt,
+        alloc,
+        &I32,
+        exact(37i64),
+        exact(42i64),
+        Some(exact(79i64)),
+    );
+    expect_sums(&rt, alloc, &I32, exact(37i64), inexact(42i64), None);
 }
 
 // Counts of the statistic that add up, overflow, or stand on one side alone.
@@ -135,19 +158,31 @@ fn from_42() -> [Row; 2] {
 fn constants_that_differ(rt: HostRuntime) {
     let alloc = rt.alloc();
     let all_7 = constant(exact(7), exact(true));
-    assert!(rt; merges(alloc, &all_42(), &all_7, &constant(exact(7), exact(false))));
-    assert!(rt; merges(alloc, &all_42(), &all_42(), &all_42()));
-    assert!(rt; merges(alloc, &from_42(), &all_42(), &from_42()));
-    assert!(rt; merges(alloc, &all_42(), &from_42(), &from_42()));
+    expect_merges(
+        &rt,
+        alloc,
+        &all_42(),
+        &all_7,
+        &constant(exact(7), exact(false)),
+    );
+    expect_merges(&rt, alloc, &all_42(), &all_42(), &all_42());
+    expect_merges(&rt, alloc, &from_42(), &all_42(), &from_42());
+    expect_merges(&rt, alloc, &all_42(), &from_42(), &from_42());
 }
 
 #[test]
 fn constants_of_unsure_sides(rt: HostRuntime) {
     let alloc = rt.alloc();
     let unsure_min = constant(inexact(42), exact(true));
-    assert!(rt; merges(alloc, &all_42(), &unsure_min, &[(Stat::Min, exact(42))]));
+    expect_merges(
+        &rt,
+        alloc,
+        &all_42(),
+        &unsure_min,
+        &[(Stat::Min, exact(42))],
+    );
     let unsure = constant(exact(42), inexact(true));
-    assert!(rt; merges(alloc, &unsure, &all_42(), &[(Stat::Min, exact(42))]));
+    expect_merges(&rt, alloc, &unsure, &all_42(), &[(Stat::Min, exact(42))]);
 }
 
 // Whether a value on one side alone is cleared, whichever side that is.
@@ -156,15 +191,19 @@ fn is_cleared(alloc: Global, stat: Stat, value: PlainValue) -> bool {
         && merges_values(alloc, &I32, stat, None, Some(value), None)
 }
 
+fn expect_cleared(rt: &impl Abort, alloc: Global, stat: Stat, value: PlainValue) {
+    assert!(rt; is_cleared(alloc, stat, value));
+}
+
 #[test]
 fn one_side_absent(rt: HostRuntime) {
     let alloc = rt.alloc();
     let varied = Some(exact(false));
     assert!(rt; merges_values(alloc, &I32, Stat::IsConstant, None, varied, varied));
-    assert!(rt; is_cleared(alloc, Stat::Min, exact(42)));
-    assert!(rt; is_cleared(alloc, Stat::Max, exact(42)));
-    assert!(rt; is_cleared(alloc, Stat::Sum, exact(42i64)));
-    assert!(rt; is_cleared(alloc, Stat::IsStrictSorted, exact(true)));
+    expect_cleared(&rt, alloc, Stat::Min, exact(42));
+    expect_cleared(&rt, alloc, Stat::Max, exact(42));
+    expect_cleared(&rt, alloc, Stat::Sum, exact(42i64));
+    expect_cleared(&rt, alloc, Stat::IsStrictSorted, exact(true));
 }
 
 // Max 3, and that the rows are no constant.
@@ -178,8 +217,8 @@ fn places_of_is_constant(rt: HostRuntime) {
     let alloc = rt.alloc();
     let unknown = [(Stat::IsConstant, Precision::Absent), (Stat::Max, exact(1))];
     let known = [(Stat::IsConstant, exact(false)), (Stat::Max, exact(3))];
-    assert!(rt; merges(alloc, &unknown, &up_to_3(), &known));
-    assert!(rt; merges(alloc, &[(Stat::Max, exact(1))], &up_to_3(), &up_to_3()));
+    expect_merges(&rt, alloc, &unknown, &up_to_3(), &known);
+    expect_merges(&rt, alloc, &[(Stat::Max, exact(1))], &up_to_3(), &up_to_3());
 }
 
 // No count of NaNs fits the column, so that an entry of it is Absent, and a merge clears it.
@@ -188,8 +227,8 @@ fn counts_of_nans(rt: HostRuntime) {
     let alloc = rt.alloc();
     let unknown = [(Stat::NaNCount, Precision::Absent), (Stat::Max, exact(1))];
     let other = [(Stat::Max, exact(3)), (Stat::NaNCount, Precision::Absent)];
-    assert!(rt; merges(alloc, &unknown, &other, &[(Stat::Max, exact(3))]));
-    assert!(rt; merges(alloc, &[(Stat::NaNCount, Precision::Absent)], &[], &[]));
+    expect_merges(&rt, alloc, &unknown, &other, &[(Stat::Max, exact(3))]);
+    expect_merges(&rt, alloc, &[(Stat::NaNCount, Precision::Absent)], &[], &[]);
 }
 
 // Whether two values of a bound merge to the last one.
@@ -203,15 +242,26 @@ fn joins(
     merges_values(alloc, &I32, stat, Some(first), Some(other), Some(expected))
 }
 
+fn expect_join(
+    rt: &impl Abort,
+    alloc: Global,
+    stat: Stat,
+    first: PlainValue,
+    other: PlainValue,
+    expected: PlainValue,
+) {
+    assert!(rt; joins(alloc, stat, first, other, expected));
+}
+
 #[test]
 fn bounds(rt: HostRuntime) {
     let alloc = rt.alloc();
-    assert!(rt; joins(alloc, Stat::Min, exact(37), exact(42), exact(37)));
-    assert!(rt; joins(alloc, Stat::Max, exact(37), exact(42), exact(42)));
-    assert!(rt; joins(alloc, Stat::Max, exact(42), inexact(43), inexact(43)));
-    assert!(rt; joins(alloc, Stat::Min, inexact(5), exact(5), exact(5)));
-    assert!(rt; joins(alloc, Stat::Min, inexact(4), exact(5), inexact(4)));
-    assert!(rt; joins(alloc, Stat::Max, exact(43), inexact(42), exact(43)));
+    expect_join(&rt, alloc, Stat::Min, exact(37), exact(42), exact(37));
+    expect_join(&rt, alloc, Stat::Max, exact(37), exact(42), exact(42));
+    expect_join(&rt, alloc, Stat::Max, exact(42), inexact(43), inexact(43));
+    expect_join(&rt, alloc, Stat::Min, inexact(5), exact(5), exact(5));
+    expect_join(&rt, alloc, Stat::Min, inexact(4), exact(5), inexact(4));
+    expect_join(&rt, alloc, Stat::Max, exact(43), inexact(42), exact(43));
 }
 
 // Rows in strict order, with a bound.
@@ -227,13 +277,23 @@ fn merges_strict(alloc: Global, max: i32, min: PlainValue, order: PlainValue) ->
     merges(alloc, &first, &other, &[(Stat::IsStrictSorted, order)])
 }
 
+fn expect_strict_merge(
+    rt: &impl Abort,
+    alloc: Global,
+    max: i32,
+    min: PlainValue,
+    order: PlainValue,
+) {
+    assert!(rt; merges_strict(alloc, max, min, order));
+}
+
 #[test]
 fn strict_order_at_the_seam(rt: HostRuntime) {
     let alloc = rt.alloc();
-    assert!(rt; merges_strict(alloc, 2, exact(1), inexact(false)));
-    assert!(rt; merges_strict(alloc, 1, exact(1), inexact(false)));
-    assert!(rt; merges_strict(alloc, 1, inexact(2), exact(true)));
-    assert!(rt; merges_strict(alloc, 1, exact(2), exact(true)));
+    expect_strict_merge(&rt, alloc, 2, exact(1), inexact(false));
+    expect_strict_merge(&rt, alloc, 1, exact(1), inexact(false));
+    expect_strict_merge(&rt, alloc, 1, inexact(2), exact(true));
+    expect_strict_merge(&rt, alloc, 1, exact(2), exact(true));
 }
 
 // Whether the merge of rows in strict order up to 1 with the others has no entry.
@@ -249,7 +309,13 @@ fn order_without_a_seam(rt: HostRuntime) {
     assert!(rt; clears_strict(alloc, &[(Stat::IsStrictSorted, exact(true))]));
     let sorted = [(Stat::IsSorted, exact(true)), (Stat::Max, exact(1))];
     let other = [(Stat::IsSorted, exact(true)), (Stat::Min, exact(1))];
-    assert!(rt; merges(alloc, &sorted, &other, &[(Stat::IsSorted, exact(true))]));
+    expect_merges(
+        &rt,
+        alloc,
+        &sorted,
+        &other,
+        &[(Stat::IsSorted, exact(true))],
+    );
 }
 
 // A set with every statistic but the sum.

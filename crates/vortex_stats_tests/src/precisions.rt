@@ -3,6 +3,7 @@ use crate::testing::{
     self, I32, UTF8, Value, is_exact_scalar, is_inexact_scalar, is_mismatch, is_yes, text_of,
 };
 use std::alloc::{AllocError, Global};
+use std::process::Abort;
 use vortex_base::dtype::DType;
 use vortex_base::scalar::Scalar;
 use vortex_base::scalar_value::ScalarValue;
@@ -23,6 +24,10 @@ fn is_shown_as(alloc: Global, value: Precision<u8>, text: &str) -> Result<bool, 
     Ok(format!(in alloc; "{}", value)?.as_str() == text)
 }
 
+fn expect_shown_as(rt: &impl Abort, alloc: Global, value: Precision<u8>, text: &str) {
+    assert!(rt; is_yes(is_shown_as(alloc, value, text)));
+}
+
 // Whether the inexact name is shown behind a tilde.
 fn shows_inexact_name(alloc: Global) -> Result<bool, AllocError> {
     let name = String::from_str(alloc, "a name")?;
@@ -32,9 +37,9 @@ fn shows_inexact_name(alloc: Global) -> Result<bool, AllocError> {
 #[test]
 fn texts(rt: HostRuntime) {
     let alloc = rt.alloc();
-    assert!(rt; is_yes(is_shown_as(alloc, EXACT, "7")));
-    assert!(rt; is_yes(is_shown_as(alloc, INEXACT, "~7")));
-    assert!(rt; is_yes(is_shown_as(alloc, ABSENT, "{empty}")));
+    expect_shown_as(&rt, alloc, EXACT, "7");
+    expect_shown_as(&rt, alloc, INEXACT, "~7");
+    expect_shown_as(&rt, alloc, ABSENT, "{empty}");
     assert!(rt; is_yes(shows_inexact_name(alloc)));
 }
 
@@ -76,6 +81,10 @@ fn is_known(value: Precision<u8>) -> (bool, bool) {
     (value.is_exact(), value.is_absent())
 }
 
+fn expect_known(rt: &impl Abort, value: Precision<u8>, expected: (bool, bool)) {
+    assert!(rt; is_known(value) == expected);
+}
+
 fn equals(value: Precision<u8>, number: u8) -> bool {
     value.eq_value(&number)
 }
@@ -87,9 +96,9 @@ fn cases(rt: HostRuntime) {
     assert!(rt; as_inexact(INEXACT) == Some(7));
     assert!(rt; as_inexact(EXACT) == None);
     assert!(rt; inner(INEXACT) == Some(7));
-    assert!(rt; is_known(EXACT) == (true, false));
-    assert!(rt; is_known(INEXACT) == (false, false));
-    assert!(rt; is_known(ABSENT) == (false, true));
+    expect_known(&rt, EXACT, (true, false));
+    expect_known(&rt, INEXACT, (false, false));
+    expect_known(&rt, ABSENT, (false, true));
     assert!(rt; equals(EXACT, 7) && !equals(EXACT, 8) && !equals(INEXACT, 7));
 }
 
@@ -109,6 +118,15 @@ fn zipped(a: Precision<u8>, b: Precision<u8>) -> Precision<(u8, u8)> {
     a.zip(b)
 }
 
+fn expect_zipped(
+    rt: &impl Abort,
+    a: Precision<u8>,
+    b: Precision<u8>,
+    expected: Precision<(u8, u8)>,
+) {
+    assert!(rt; zipped(a, b) == expected);
+}
+
 fn transposed(value: Precision<Result<u8, char>>) -> Result<Precision<u8>, char> {
     value.transpose()
 }
@@ -119,9 +137,9 @@ fn closures(rt: HostRuntime) {
     assert!(rt; halved(INEXACT) == Precision::Inexact(3));
     assert!(rt; less(INEXACT, 7) == Precision::Inexact(0));
     assert!(rt; less(EXACT, 8) == ABSENT);
-    assert!(rt; zipped(EXACT, EXACT) == Precision::Exact((7, 7)));
-    assert!(rt; zipped(EXACT, INEXACT) == Precision::Inexact((7, 7)));
-    assert!(rt; zipped(INEXACT, ABSENT) == Precision::Absent);
+    expect_zipped(&rt, EXACT, EXACT, Precision::Exact((7, 7)));
+    expect_zipped(&rt, EXACT, INEXACT, Precision::Inexact((7, 7)));
+    expect_zipped(&rt, INEXACT, ABSENT, Precision::Absent);
     assert!(rt; transposed(Precision::Inexact(Ok(7))) == Ok(INEXACT));
     assert!(rt; transposed(Precision::Exact(Err('e'))) == Err('e'));
 }
@@ -232,6 +250,14 @@ fn bound<S: StatType<u8>>(value: Precision<u8>) -> Option<Precision<u8>> {
     value.bound::<S>().map(|bound| bound.into_value())
 }
 
+fn expect_bound<S: StatType<u8>>(
+    rt: &impl Abort,
+    value: Precision<u8>,
+    expected: Option<Precision<u8>>,
+) {
+    assert!(rt; bound::<S>(value) == expected);
+}
+
 // Whether IsConstant is read as the value itself.
 fn is_read_as_it_is(value: Precision<bool>) -> bool {
     value.bound::<IsConstant>() == Some(value)
@@ -239,10 +265,10 @@ fn is_read_as_it_is(value: Precision<bool>) -> bool {
 
 #[test]
 fn bounds_of_statistics(rt: HostRuntime) {
-    assert!(rt; bound::<Max>(EXACT) == Some(EXACT));
-    assert!(rt; bound::<Min>(INEXACT) == Some(INEXACT));
-    assert!(rt; bound::<Sum>(INEXACT) == Some(INEXACT));
-    assert!(rt; bound::<Sum>(ABSENT) == None);
+    expect_bound::<Max>(&rt, EXACT, Some(EXACT));
+    expect_bound::<Min>(&rt, INEXACT, Some(INEXACT));
+    expect_bound::<Sum>(&rt, INEXACT, Some(INEXACT));
+    expect_bound::<Sum>(&rt, ABSENT, None);
     assert!(rt; is_read_as_it_is(Precision::Exact(true)));
 }
 

@@ -6,6 +6,7 @@ use crate::testing::{
 };
 use smallvec::SmallVec;
 use std::alloc::{AllocError, Global};
+use std::process::Abort;
 use vortex_base::dtype::DType;
 use vortex_stats::error::StatsError;
 use vortex_stats::precision::Precision;
@@ -223,6 +224,16 @@ fn reads_max(alloc: Global, max: i32, stat: Stat, expected: Option<Precision<u8>
     reads(&sets::one(alloc, Stat::Max, exact(max)), stat, expected)
 }
 
+fn expect_max(
+    rt: &impl Abort,
+    alloc: Global,
+    max: i32,
+    stat: Stat,
+    expected: Option<Precision<u8>>,
+) {
+    assert!(rt; reads_max(alloc, max, stat, expected));
+}
+
 // Whether an exact Max of 200 is refused under the type of texts.
 fn is_refused_as_text(alloc: Global) -> bool {
     let set = sets::one(alloc, Stat::Max, exact(200));
@@ -232,10 +243,10 @@ fn is_refused_as_text(alloc: Global) -> bool {
 #[test]
 fn readings(rt: HostRuntime) {
     let alloc = rt.alloc();
-    assert!(rt; reads_max(alloc, 200, Stat::Max, Some(Precision::Exact(200))));
-    assert!(rt; reads_max(alloc, 200, Stat::Min, Some(Precision::Absent)));
+    expect_max(&rt, alloc, 200, Stat::Max, Some(Precision::Exact(200)));
+    expect_max(&rt, alloc, 200, Stat::Min, Some(Precision::Absent));
     assert!(rt; is_refused_as_text(alloc));
-    assert!(rt; reads_max(alloc, 300, Stat::Max, None));
+    expect_max(&rt, alloc, 300, Stat::Max, None);
 }
 
 fn is_inexact_text(read: Precision<String>, text: &str) -> bool {
@@ -266,12 +277,23 @@ fn fits(alloc: Global, stat: Stat, value: PlainValue, dtype: &DType) -> bool {
     sets::fits(&sets::one(alloc, stat, value), dtype)
 }
 
+fn expect_fits(
+    rt: &impl Abort,
+    alloc: Global,
+    stat: Stat,
+    value: PlainValue,
+    dtype: &DType,
+    expected: bool,
+) {
+    assert!(rt; fits(alloc, stat, value, dtype) == expected);
+}
+
 #[test]
 fn fitting(rt: HostRuntime) {
     let alloc = rt.alloc();
-    assert!(rt; fits(alloc, Stat::Sum, exact(6i64), &I32));
-    assert!(rt; !fits(alloc, Stat::Sum, exact(6i64), &UTF8));
+    expect_fits(&rt, alloc, Stat::Sum, exact(6i64), &I32, true);
+    expect_fits(&rt, alloc, Stat::Sum, exact(6i64), &UTF8, false);
     assert!(rt; !may_be_nan_count(exact(0u64)));
-    assert!(rt; !fits(alloc, Stat::NaNCount, exact(0u64), &I32));
-    assert!(rt; fits(alloc, Stat::NaNCount, Precision::Absent, &I32));
+    expect_fits(&rt, alloc, Stat::NaNCount, exact(0u64), &I32, false);
+    expect_fits(&rt, alloc, Stat::NaNCount, Precision::Absent, &I32, true);
 }

@@ -1,6 +1,6 @@
 //! The table of statistics, their numbers, names and types.
 use std::alloc::{AllocError, Global};
-use std::test::Fail;
+use std::process::Abort;
 use vortex_base::aggregate::AggregateFnRef;
 use vortex_base::dtype::DType;
 use vortex_base::types::{Nullability, PType};
@@ -25,7 +25,7 @@ fn count() -> usize {
 }
 
 // Whether the statistic has the name, also as a text, and is found by its number.
-fn is_named(alloc: Global, stat: Stat, name: &str) -> Result<bool, Fail> {
+fn is_named(alloc: Global, stat: Stat, name: &str) -> Result<bool, AllocError> {
     let shown = format!(in alloc; "{stat}")?;
     Ok(
         stat.name() == name
@@ -35,7 +35,7 @@ fn is_named(alloc: Global, stat: Stat, name: &str) -> Result<bool, Fail> {
 }
 
 // Whether each statistic has its name.
-fn are_named(alloc: Global) -> Result<bool, Fail> {
+fn are_named(alloc: Global) -> Result<bool, AllocError> {
     let mut are_named = true;
     for (stat, name) in Stat::all().zip(NAMES) {
         are_named = is_named(alloc, stat, name)? && are_named;
@@ -44,13 +44,12 @@ fn are_named(alloc: Global) -> Result<bool, Fail> {
 }
 
 #[test]
-fn names(rt: HostRuntime) -> Result<(), Fail> {
+fn names(rt: HostRuntime) {
     assert_eq!(rt; count(), 9);
-    assert!(rt; are_named(rt.alloc())?);
+    assert!(rt; are_named(rt.alloc()).expect(&rt, "names"));
     assert!(rt; Stat::from_number(9).is_none());
     assert_eq!(rt; Stat::default(), Stat::IsConstant);
     assert!(rt; Stat::Max < Stat::Min && Stat::Sum > Stat::Min);
-    Ok(())
 }
 
 // Whether the statistic keeps the column's type and commutes as told, and its aggregate, which it
@@ -65,17 +64,21 @@ fn is_kind(stat: Stat, is_extreme: bool, is_order: bool) -> bool {
         && told == (if has_aggregate { Some(stat) } else { None })
 }
 
+fn expect_kind(rt: &impl Abort, stat: Stat, is_extreme: bool, is_order: bool) {
+    assert!(rt; is_kind(stat, is_extreme, is_order));
+}
+
 #[test]
 fn kinds(rt: HostRuntime) {
-    assert!(rt; is_kind(Stat::IsConstant, false, false));
-    assert!(rt; is_kind(Stat::IsSorted, false, true));
-    assert!(rt; is_kind(Stat::IsStrictSorted, false, true));
-    assert!(rt; is_kind(Stat::Max, true, false));
-    assert!(rt; is_kind(Stat::Min, true, false));
-    assert!(rt; is_kind(Stat::Sum, false, false));
-    assert!(rt; is_kind(Stat::NullCount, false, false));
-    assert!(rt; is_kind(Stat::UncompressedSizeInBytes, false, false));
-    assert!(rt; is_kind(Stat::NaNCount, false, false));
+    expect_kind(&rt, Stat::IsConstant, false, false);
+    expect_kind(&rt, Stat::IsSorted, false, true);
+    expect_kind(&rt, Stat::IsStrictSorted, false, true);
+    expect_kind(&rt, Stat::Max, true, false);
+    expect_kind(&rt, Stat::Min, true, false);
+    expect_kind(&rt, Stat::Sum, false, false);
+    expect_kind(&rt, Stat::NullCount, false, false);
+    expect_kind(&rt, Stat::UncompressedSizeInBytes, false, false);
+    expect_kind(&rt, Stat::NaNCount, false, false);
 }
 
 fn stat_of(aggregate: AggregateFnRef) -> Option<Stat> {
@@ -100,19 +103,23 @@ fn has_type(stat: Stat, column: DType, expected: Option<DType>) -> bool {
     stat.dtype(&column) == expected
 }
 
+fn expect_type(rt: &impl Abort, stat: Stat, column: DType, expected: Option<DType>) {
+    assert!(rt; has_type(stat, column, expected));
+}
+
 #[test]
 fn types(rt: HostRuntime) {
     let nullable = Nullability::Nullable;
-    assert!(rt; has_type(Stat::IsConstant, DType::Null, Some(DType::Bool(PLAIN))));
-    assert!(rt; has_type(Stat::IsSorted, NUMBER, Some(DType::Bool(PLAIN))));
+    expect_type(&rt, Stat::IsConstant, DType::Null, Some(DType::Bool(PLAIN)));
+    expect_type(&rt, Stat::IsSorted, NUMBER, Some(DType::Bool(PLAIN)));
     let sum = DType::Primitive(PType::I64, nullable);
-    assert!(rt; has_type(Stat::Sum, NUMBER, Some(sum)));
+    expect_type(&rt, Stat::Sum, NUMBER, Some(sum));
     let trues = DType::Primitive(PType::U64, nullable);
-    assert!(rt; has_type(Stat::Sum, DType::Bool(nullable), Some(trues)));
-    assert!(rt; has_type(Stat::Sum, DType::Utf8(nullable), None));
-    assert!(rt; has_type(Stat::NullCount, DType::Null, Some(COUNT)));
-    assert!(rt; has_type(Stat::UncompressedSizeInBytes, NUMBER, Some(COUNT)));
-    assert!(rt; has_type(Stat::NaNCount, NUMBER, None));
+    expect_type(&rt, Stat::Sum, DType::Bool(nullable), Some(trues));
+    expect_type(&rt, Stat::Sum, DType::Utf8(nullable), None);
+    expect_type(&rt, Stat::NullCount, DType::Null, Some(COUNT));
+    expect_type(&rt, Stat::UncompressedSizeInBytes, NUMBER, Some(COUNT));
+    expect_type(&rt, Stat::NaNCount, NUMBER, None);
 }
 
 // Whether Max and Min have the column's own type.
@@ -120,31 +127,39 @@ fn have_own_type(column: DType) -> bool {
     has_type(Stat::Max, column, Some(column)) && has_type(Stat::Min, column, Some(column))
 }
 
+fn expect_own_type(rt: &impl Abort, column: DType) {
+    assert!(rt; have_own_type(column));
+}
+
 #[test]
 fn types_of_extremes(rt: HostRuntime) {
-    assert!(rt; have_own_type(NUMBER));
-    assert!(rt; have_own_type(DType::Bool(Nullability::Nullable)));
-    assert!(rt; have_own_type(DType::Utf8(Nullability::Nullable)));
-    assert!(rt; have_own_type(DType::Binary(PLAIN)));
-    assert!(rt; has_type(Stat::Max, DType::Null, None));
-    assert!(rt; has_type(Stat::Min, DType::Null, None));
+    expect_own_type(&rt, NUMBER);
+    expect_own_type(&rt, DType::Bool(Nullability::Nullable));
+    expect_own_type(&rt, DType::Utf8(Nullability::Nullable));
+    expect_own_type(&rt, DType::Binary(PLAIN));
+    expect_type(&rt, Stat::Max, DType::Null, None);
+    expect_type(&rt, Stat::Min, DType::Null, None);
 }
 
 fn number(error: StatsError) -> u8 {
     error.number()
 }
 
+fn expect_number(rt: &impl Abort, error: StatsError, expected: u8) {
+    assert!(rt; number(error) == expected);
+}
+
 #[test]
 fn causes(rt: HostRuntime) {
-    assert!(rt; number(StatsError::Memory(AllocError)) == 1);
-    assert!(rt; number(StatsError::NotPredicate) == 2);
-    assert!(rt; number(StatsError::Mismatch) == 3);
-    assert!(rt; number(StatsError::Unsupported) == 4);
-    assert!(rt; number(StatsError::Conflict(Stat::Min)) == 5);
-    assert!(rt; number(StatsError::Binder(BinderFault::WrongType)) == 6);
-    assert!(rt; number(StatsError::Binder(BinderFault::Own(1))) == 6);
-    assert!(rt; number(StatsError::Rule(RuleFault::NotBool)) == 7);
-    assert!(rt; number(StatsError::Rule(RuleFault::Own(1))) == 7);
-    assert!(rt; number(StatsError::OpenProof) == 8);
-    assert!(rt; number(StatsError::TooLarge) == 9);
+    expect_number(&rt, StatsError::Memory(AllocError), 1);
+    expect_number(&rt, StatsError::NotPredicate, 2);
+    expect_number(&rt, StatsError::Mismatch, 3);
+    expect_number(&rt, StatsError::Unsupported, 4);
+    expect_number(&rt, StatsError::Conflict(Stat::Min), 5);
+    expect_number(&rt, StatsError::Binder(BinderFault::WrongType), 6);
+    expect_number(&rt, StatsError::Binder(BinderFault::Own(1)), 6);
+    expect_number(&rt, StatsError::Rule(RuleFault::NotBool), 7);
+    expect_number(&rt, StatsError::Rule(RuleFault::Own(1)), 7);
+    expect_number(&rt, StatsError::OpenProof, 8);
+    expect_number(&rt, StatsError::TooLarge, 9);
 }
