@@ -2,7 +2,6 @@
 use crate::testing::{placed, *};
 use std::alloc::Global;
 use std::process::Abort;
-use std::test::Fail;
 use vortex_base::bound::binary;
 use vortex_base::types::{
     BetweenOptions, Element, ExprKind, Nullability, Operator, PType, StrictComparison,
@@ -54,105 +53,98 @@ fn asked(alloc: Global, input: DType, aggregate: AggregateFnRef) -> Typed {
 }
 
 // The expression is made, and of this type.
-fn expect_type(rt: &impl Abort, found: Typed, expected: DType) -> Result<(), Fail> {
-    let found = found?;
-    assert!(rt; found == expected);
-    Ok(())
+fn expect_type(rt: &impl Abort, found: Typed, expected: DType) {
+    assert!(rt; found.expect(rt, "a type") == expected);
 }
 
-fn is_type_fault(answer: Typed) -> bool {
-    matches!(answer, Err(BaseError::TypeFault))
+fn expect_type_fault(rt: &impl Abort, found: Typed) {
+    assert!(rt; matches!(found, Err(BaseError::TypeFault)));
 }
 
-fn is_unsupported(answer: Typed) -> bool {
-    matches!(answer, Err(BaseError::Unsupported))
+fn expect_unsupported(rt: &impl Abort, found: Typed) {
+    assert!(rt; matches!(found, Err(BaseError::Unsupported)));
 }
 
 #[test]
-fn comparisons_take_two_of_one_type(rt: HostRuntime) -> Result<(), Fail> {
+fn comparisons_take_two_of_one_type(rt: HostRuntime) {
     let alloc = rt.alloc();
-    expect_type(&rt, joined(alloc, Operator::Lt, I32, I32), BOOL)?;
+    expect_type(&rt, joined(alloc, Operator::Lt, I32, I32), BOOL);
     expect_type(
         &rt,
         joined(alloc, Operator::Eq, I32, I32_OR_NULL),
         BOOL_OR_NULL,
-    )?;
+    );
     expect_type(
         &rt,
         joined(alloc, Operator::Eq, DType::Null, DType::Null),
         BOOL_OR_NULL,
-    )?;
-    assert!(rt; is_type_fault(joined(alloc, Operator::Gte, I32, I64)));
-    assert!(rt; is_type_fault(joined(alloc, Operator::NotEq, UTF8, BINARY)));
-    assert!(rt; is_type_fault(joined(alloc, Operator::Eq, STATE, STATE)));
-    Ok(())
+    );
+    expect_type_fault(&rt, joined(alloc, Operator::Gte, I32, I64));
+    expect_type_fault(&rt, joined(alloc, Operator::NotEq, UTF8, BINARY));
+    expect_type_fault(&rt, joined(alloc, Operator::Eq, STATE, STATE));
 }
 
 #[test]
-fn connectives_take_two_truths(rt: HostRuntime) -> Result<(), Fail> {
+fn connectives_take_two_truths(rt: HostRuntime) {
     let alloc = rt.alloc();
-    expect_type(&rt, joined(alloc, Operator::And, BOOL, BOOL), BOOL)?;
+    expect_type(&rt, joined(alloc, Operator::And, BOOL, BOOL), BOOL);
     expect_type(
         &rt,
         joined(alloc, Operator::And, BOOL, BOOL_OR_NULL),
         BOOL_OR_NULL,
-    )?;
+    );
     expect_type(
         &rt,
         joined(alloc, Operator::Or, BOOL_OR_NULL, BOOL),
         BOOL_OR_NULL,
-    )?;
-    assert!(rt; is_type_fault(joined(alloc, Operator::Or, BOOL, I32)));
-    assert!(rt; is_type_fault(joined(alloc, Operator::And, I32, I32)));
-    Ok(())
+    );
+    expect_type_fault(&rt, joined(alloc, Operator::Or, BOOL, I32));
+    expect_type_fault(&rt, joined(alloc, Operator::And, I32, I32));
 }
 
 #[test]
-fn ranges_take_three_of_one_type(rt: HostRuntime) -> Result<(), Fail> {
+fn ranges_take_three_of_one_type(rt: HostRuntime) {
     let alloc = rt.alloc();
-    expect_type(&rt, ranged(alloc, I32, I32, I32), BOOL)?;
-    expect_type(&rt, ranged(alloc, I32, I32, I32_OR_NULL), BOOL_OR_NULL)?;
-    assert!(rt; is_type_fault(ranged(alloc, I32, I64, I32)));
-    assert!(rt; is_type_fault(ranged(alloc, I32, I32, I64)));
-    assert!(rt; is_type_fault(ranged(alloc, STATE, STATE, STATE)));
-    Ok(())
+    expect_type(&rt, ranged(alloc, I32, I32, I32), BOOL);
+    expect_type(&rt, ranged(alloc, I32, I32, I32_OR_NULL), BOOL_OR_NULL);
+    expect_type_fault(&rt, ranged(alloc, I32, I64, I32));
+    expect_type_fault(&rt, ranged(alloc, I32, I32, I64));
+    expect_type_fault(&rt, ranged(alloc, STATE, STATE, STATE));
 }
 
 #[test]
-fn negations_and_patterns(rt: HostRuntime) -> Result<(), Fail> {
+fn negations_and_patterns(rt: HostRuntime) {
     let alloc = rt.alloc();
-    expect_type(&rt, negated(alloc, BOOL_OR_NULL), BOOL_OR_NULL)?;
-    assert!(rt; is_type_fault(negated(alloc, I32)));
-    expect_type(&rt, patterned(alloc, UTF8, UTF8), BOOL)?;
-    expect_type(&rt, patterned(alloc, UTF8, UTF8_OR_NULL), BOOL_OR_NULL)?;
-    assert!(rt; is_type_fault(patterned(alloc, BINARY, UTF8)));
-    assert!(rt; is_type_fault(patterned(alloc, UTF8, BINARY)));
-    Ok(())
+    expect_type(&rt, negated(alloc, BOOL_OR_NULL), BOOL_OR_NULL);
+    expect_type_fault(&rt, negated(alloc, I32));
+    expect_type(&rt, patterned(alloc, UTF8, UTF8), BOOL);
+    expect_type(&rt, patterned(alloc, UTF8, UTF8_OR_NULL), BOOL_OR_NULL);
+    expect_type_fault(&rt, patterned(alloc, BINARY, UTF8));
+    expect_type_fault(&rt, patterned(alloc, UTF8, BINARY));
 }
 
 #[test]
-fn null_tests_and_row_counts_are_never_null(rt: HostRuntime) -> Result<(), Fail> {
+fn null_tests_and_row_counts_are_never_null(rt: HostRuntime) {
     let alloc = rt.alloc();
     let null = placed::is_null(alloc, col(alloc, 0, I32_OR_NULL));
-    expect_type(&rt, dtype_of(null), BOOL)?;
+    expect_type(&rt, dtype_of(null), BOOL);
     let not_null = placed::is_not_null(alloc, col(alloc, 0, STATE));
-    expect_type(&rt, dtype_of(not_null), BOOL)?;
-    expect_type(&rt, dtype_of(placed::row_count(alloc)), U64)
+    expect_type(&rt, dtype_of(not_null), BOOL);
+    expect_type(&rt, dtype_of(placed::row_count(alloc)), U64);
 }
 
 #[test]
-fn placeholders_are_nullable(rt: HostRuntime) -> Result<(), Fail> {
+fn placeholders_are_nullable(rt: HostRuntime) {
     use AggregateFnRef::{AllNull, Max, Min, MinMax, NanCount, NullCount, Sum};
     let alloc = rt.alloc();
-    expect_type(&rt, asked(alloc, I32, Max), I32_OR_NULL)?;
-    expect_type(&rt, asked(alloc, UTF8, Min), UTF8_OR_NULL)?;
-    expect_type(&rt, asked(alloc, BOOL, MinMax), STATE)?;
-    expect_type(&rt, asked(alloc, BOOL, Sum), U64_OR_NULL)?;
-    expect_type(&rt, asked(alloc, STATE, NullCount), U64_OR_NULL)?;
-    expect_type(&rt, asked(alloc, I32, AllNull), BOOL_OR_NULL)?;
-    assert!(rt; is_unsupported(asked(alloc, I32, NanCount)));
-    assert!(rt; is_unsupported(asked(alloc, DType::Null, Max)));
-    Ok(())
+    expect_type(&rt, asked(alloc, I32, Max), I32_OR_NULL);
+    expect_type(&rt, asked(alloc, UTF8, Min), UTF8_OR_NULL);
+    expect_type(&rt, asked(alloc, BOOL, MinMax), STATE);
+    expect_type(&rt, asked(alloc, BOOL, Sum), U64_OR_NULL);
+    expect_type(&rt, asked(alloc, STATE, NullCount), U64_OR_NULL);
+    expect_type(&rt, asked(alloc, I32, AllNull), BOOL_OR_NULL);
+    expect_unsupported(&rt, asked(alloc, I32, NanCount));
+    expect_unsupported(&rt, asked(alloc, DType::Null, Max));
 }
 
 fn state(aggregate: AggregateFnRef, dtype: DType) -> Option<DType> {
@@ -177,22 +169,20 @@ fn truth(alloc: Global) -> Built {
 }
 
 // The expression is made, and is a node of this operator.
-fn expect_operator(rt: &impl Abort, found: Built, expected: Operator) -> Result<(), Fail> {
-    let found = found?;
-    assert!(rt; found.kind() == ExprKind::Binary(expected));
-    Ok(())
+fn expect_operator(rt: &impl Abort, found: Built, expected: Operator) {
+    assert!(rt; found.expect(rt, "an expression").kind() == ExprKind::Binary(expected));
 }
 
 #[test]
-fn each_constructor_has_its_operator(rt: HostRuntime) -> Result<(), Fail> {
+fn each_constructor_has_its_operator(rt: HostRuntime) {
     use Operator::{And, Eq, Gt, Gte, Lt, Lte, NotEq, Or};
     let alloc = rt.alloc();
-    expect_operator(&rt, placed::eq(alloc, five(alloc), five(alloc)), Eq)?;
-    expect_operator(&rt, placed::not_eq(alloc, five(alloc), five(alloc)), NotEq)?;
-    expect_operator(&rt, placed::gt(alloc, five(alloc), five(alloc)), Gt)?;
-    expect_operator(&rt, placed::gt_eq(alloc, five(alloc), five(alloc)), Gte)?;
-    expect_operator(&rt, placed::lt(alloc, five(alloc), five(alloc)), Lt)?;
-    expect_operator(&rt, placed::lt_eq(alloc, five(alloc), five(alloc)), Lte)?;
-    expect_operator(&rt, placed::and(alloc, truth(alloc), truth(alloc)), And)?;
-    expect_operator(&rt, placed::or(alloc, truth(alloc), truth(alloc)), Or)
+    expect_operator(&rt, placed::eq(alloc, five(alloc), five(alloc)), Eq);
+    expect_operator(&rt, placed::not_eq(alloc, five(alloc), five(alloc)), NotEq);
+    expect_operator(&rt, placed::gt(alloc, five(alloc), five(alloc)), Gt);
+    expect_operator(&rt, placed::gt_eq(alloc, five(alloc), five(alloc)), Gte);
+    expect_operator(&rt, placed::lt(alloc, five(alloc), five(alloc)), Lt);
+    expect_operator(&rt, placed::lt_eq(alloc, five(alloc), five(alloc)), Lte);
+    expect_operator(&rt, placed::and(alloc, truth(alloc), truth(alloc)), And);
+    expect_operator(&rt, placed::or(alloc, truth(alloc), truth(alloc)), Or);
 }

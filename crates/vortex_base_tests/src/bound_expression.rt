@@ -2,7 +2,6 @@
 use crate::testing::{placed, *};
 use std::alloc::Global;
 use std::process::Abort;
-use std::test::Fail;
 use vortex_base::types::{BetweenOptions, ExprKind, Operator, ScalarFnId, StrictComparison};
 use vortex_base::{AggregateFnRef, BaseError, BoundExpression, Parts, Scalar, ScalarValue, Scope};
 
@@ -25,14 +24,16 @@ fn range(alloc: Global) -> Built {
 }
 
 #[test]
-fn list_their_children(rt: HostRuntime) -> Result<(), Fail> {
-    let (range, five) = (range(rt.alloc())?, int(rt.alloc(), 5)?);
+fn list_their_children(rt: HostRuntime) {
+    let (range, five) = (
+        range(rt.alloc()).expect(&rt, "range"),
+        int(rt.alloc(), 5).expect(&rt, "five"),
+    );
     assert!(rt; range.kind() == ExprKind::Between(HALF_OPEN));
     assert!(rt; range.scalar_fn_id() == Some(ScalarFnId::Between));
     assert!(rt; range.child_count() == 3);
     assert!(rt; range.child(0).kind() == ExprKind::Column(0));
     assert!(rt; *range.child(2) == five);
-    Ok(())
 }
 
 fn lends(x: &BoundExpression, value: &Scalar) -> bool {
@@ -40,13 +41,12 @@ fn lends(x: &BoundExpression, value: &Scalar) -> bool {
 }
 
 #[test]
-fn lend_their_literals(rt: HostRuntime) -> Result<(), Fail> {
-    let value = scalar(I32, Some(ScalarValue::from(5i32)))?;
-    assert!(rt; lends(&int(rt.alloc(), 5)?, &value));
-    let column = a(rt.alloc())?;
+fn lend_their_literals(rt: HostRuntime) {
+    let value = scalar(I32, Some(ScalarValue::from(5i32))).expect(&rt, "value");
+    assert!(rt; lends(&int(rt.alloc(), 5).expect(&rt, "five"), &value));
+    let column = a(rt.alloc()).expect(&rt, "column");
     assert!(rt; column.literal().is_none());
     assert!(rt; column.scalar_fn_id().is_none());
-    Ok(())
 }
 
 fn is_null_test_of(x: &BoundExpression, of: &BoundExpression) -> bool {
@@ -57,64 +57,62 @@ fn is_null_test_of(x: &BoundExpression, of: &BoundExpression) -> bool {
 }
 
 #[test]
-fn come_apart_by_their_top(rt: HostRuntime) -> Result<(), Fail> {
-    let is_null = placed::is_null(rt.alloc(), range(rt.alloc()))?;
-    let range = range(rt.alloc())?;
+fn come_apart_by_their_top(rt: HostRuntime) {
+    let is_null = placed::is_null(rt.alloc(), range(rt.alloc())).expect(&rt, "is null");
+    let range = range(rt.alloc()).expect(&rt, "range");
     assert!(rt; is_null_test_of(&is_null, &range));
-    Ok(())
 }
 
 // The two are made, and differ.
-fn expect_other(rt: &impl Abort, found: Built, other: Built) -> Result<(), Fail> {
-    let (found, other) = (found?, other?);
-    assert!(rt; found != other);
-    Ok(())
+fn expect_other(rt: &impl Abort, found: Built, other: Built) {
+    assert!(rt; found.expect(rt, "found") != other.expect(rt, "another"));
 }
 
 #[test]
-fn are_equal_if_they_are_one_tree(rt: HostRuntime) -> Result<(), Fail> {
+fn are_equal_if_they_are_one_tree(rt: HostRuntime) {
     let alloc = rt.alloc();
-    expect_other(&rt, int(alloc, 1), int(alloc, 5))?;
-    expect_other(&rt, a(alloc), placed::col(alloc, 1, I32))?;
-    expect_other(&rt, a(alloc), placed::col(alloc, 0, I32_OR_NULL))
+    expect_other(&rt, int(alloc, 1), int(alloc, 5));
+    expect_other(&rt, a(alloc), placed::col(alloc, 1, I32));
+    expect_other(&rt, a(alloc), placed::col(alloc, 0, I32_OR_NULL));
 }
 
-fn fits(x: Built, scope: &Scope) -> Result<bool, BaseError> {
-    Ok(x?.fits_scope(scope))
+fn fits(x: Built, scope: &Scope) -> Option<bool> {
+    Some(x.ok()?.fits_scope(scope))
 }
 
 #[test]
-fn fit_a_scope_by_place_and_type(rt: HostRuntime) -> Result<(), Fail> {
+fn fit_a_scope_by_place_and_type(rt: HostRuntime) {
     let alloc = rt.alloc();
-    let scope = scope_of_a(alloc)?;
-    assert!(rt; fits(range(alloc), &scope)?);
-    assert!(rt; !fits(placed::col(alloc, 1, I32), &scope)?);
-    assert!(rt; !fits(placed::col(alloc, 0, I32_OR_NULL), &scope)?);
-    Ok(())
+    let scope = scope_of_a(alloc).expect(&rt, "scope");
+    assert!(rt; fits(range(alloc), &scope) == Some(true));
+    assert!(rt; fits(placed::col(alloc, 1, I32), &scope) == Some(false));
+    assert!(rt; fits(placed::col(alloc, 0, I32_OR_NULL), &scope) == Some(false));
 }
 
 // Whether it is plain, is closed and has a bare column, as told.
-fn expect_held(rt: &impl Abort, x: Built, told: (bool, bool, bool)) -> Result<(), Fail> {
-    let x = x?;
+fn expect_held(rt: &impl Abort, x: Built, told: (bool, bool, bool)) {
+    let x = x.expect(rt, "an expression");
     assert!(rt; (x.is_plain(), x.is_closed(), x.has_bare_column()) == told);
-    Ok(())
 }
 
 #[test]
-fn tell_what_they_hold(rt: HostRuntime) -> Result<(), Fail> {
+fn tell_what_they_hold(rt: HostRuntime) {
     let alloc = rt.alloc();
-    expect_held(&rt, range(alloc), (true, false, true))?;
-    expect_held(&rt, placed::row_count(alloc), (false, true, false))?;
+    expect_held(&rt, range(alloc), (true, false, true));
+    expect_held(&rt, placed::row_count(alloc), (false, true, false));
     let greatest = placed::new_stat(alloc, range(alloc), AggregateFnRef::Max);
-    expect_held(&rt, greatest, (false, false, false))
+    expect_held(&rt, greatest, (false, false, false));
 }
 
 // The copy of it is equal to it; what is answered is it.
-fn copied(rt: &impl Abort, x: Built) -> Result<BoundExpression, Fail> {
-    let x = x?;
-    let copy = copy(&x)?;
-    assert!(rt; copy == x);
+fn copied(rt: &impl Abort, x: Built) -> Built {
+    let x = x.expect(rt, "an expression");
+    assert!(rt; copy(&x).expect(rt, "a copy") == x);
     Ok(x)
+}
+
+fn expect_copied(rt: &impl Abort, x: Built) {
+    let _x = copied(rt, x);
 }
 
 fn pattern(alloc: Global) -> Built {
@@ -126,29 +124,27 @@ fn pattern(alloc: Global) -> Built {
 }
 
 #[test]
-fn copies_are_equal(rt: HostRuntime) -> Result<(), Fail> {
+fn copies_are_equal(rt: HostRuntime) {
     let alloc = rt.alloc();
-    let is_null = copied(&rt, placed::is_null(alloc, range(alloc)))?;
-    let is_not_null = copied(&rt, placed::is_not_null(alloc, Ok(is_null)))?;
-    let opposite = copied(&rt, placed::not(alloc, Ok(is_not_null)))?;
-    let greatest = placed::new_stat(alloc, Ok(opposite), AggregateFnRef::Max);
-    let _greatest = copied(&rt, greatest)?;
-    let _like = copied(&rt, pattern(alloc))?;
-    let _rows = copied(&rt, placed::row_count(alloc))?;
-    Ok(())
+    let is_null = copied(&rt, placed::is_null(alloc, range(alloc)));
+    let is_not_null = copied(&rt, placed::is_not_null(alloc, is_null));
+    let opposite = copied(&rt, placed::not(alloc, is_not_null));
+    expect_copied(&rt, placed::new_stat(alloc, opposite, AggregateFnRef::Max));
+    expect_copied(&rt, pattern(alloc));
+    expect_copied(&rt, placed::row_count(alloc));
 }
 
-fn printed(alloc: Global, x: Built) -> Result<String, Fail> {
+fn printed(alloc: Global, x: Built) -> Result<String, BaseError> {
     let x = x?;
     Ok(format!(in alloc; "{x:?}")?)
 }
 
 #[test]
-fn print_their_nodes(rt: HostRuntime) -> Result<(), Fail> {
+fn print_their_nodes(rt: HostRuntime) {
     let alloc = rt.alloc();
     let rows = placed::not(alloc, placed::is_null(alloc, int(alloc, 1)));
-    assert!(rt; printed(alloc, rows)?.as_str().contains("IsNull"));
-    Ok(())
+    let printed = printed(alloc, rows).expect(&rt, "printed");
+    assert!(rt; printed.as_str().contains("IsNull"));
 }
 
 // Whether a copy is equal to its source, or refused for memory with the source as it was.

@@ -1,6 +1,5 @@
 //! Tests of `bytes`.
 use std::alloc::{AllocError, Global};
-use std::test::Fail;
 use vortex_base::{BaseError, Bytes, laws};
 
 fn bytes(alloc: Global) -> Result<Bytes, AllocError> {
@@ -12,10 +11,9 @@ fn is_copied(bytes: &Bytes) -> Result<bool, BaseError> {
 }
 
 #[test]
-fn lend_what_they_were_made_of(rt: HostRuntime) -> Result<(), Fail> {
-    let bytes = bytes(rt.alloc())?;
+fn lend_what_they_were_made_of(rt: HostRuntime) {
+    let bytes = bytes(rt.alloc()).expect(&rt, "bytes");
     assert!(rt; bytes.as_slice() == [0, 255].as_slice());
-    assert!(rt; is_copied(&bytes)?);
+    assert!(rt; is_copied(&bytes).expect(&rt, "a copy"));
     assert!(rt; bytes.into_vec().as_slice() == [0, 255].as_slice());
-    Ok(())
 }

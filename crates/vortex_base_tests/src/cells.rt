@@ -2,7 +2,6 @@
 use crate::testing::{self, *};
 use std::alloc::{AllocError, Global};
 use std::process::Abort;
-use std::test::Fail;
 use vortex_base::{
     BaseError, Cells, Chunk, Column, DType, Nullability, PType, ScalarValue, ValueRef,
 };
@@ -56,78 +55,125 @@ fn holds_and_null(column: &Column, value: &ScalarValue) -> Result<bool, AllocErr
 }
 
 // The value and null, pushed into cells of the type and read again.
-fn is_kept(alloc: Global, dtype: DType, value: ScalarValue) -> Result<bool, BaseError> {
-    let cells = pushed(alloc, dtype, and_null(alloc, value.try_clone()?)?)?;
+fn is_kept(alloc: Global, dtype: DType, value: &ScalarValue) -> Result<bool, BaseError> {
+    let cells = with_null(alloc, dtype, Ok(value.try_clone()?))?;
     let column = column_of(dtype, cells, 9)?;
-    Ok(holds_and_null(&column, &value)? && column.dtype() == dtype && column.size() == 9)
+    keeps(&column, dtype, value)
 }
 
-fn expect_kept(
+fn keeps(column: &Column, dtype: DType, value: &ScalarValue) -> Result<bool, BaseError> {
+    Ok(holds_and_null(column, value)? && column.dtype() == dtype && column.size() == 9)
+}
+
+fn expect_kept(rt: &impl Abort, alloc: Global, dtype: DType, value: ScalarValue) {
+    assert!(rt; is_kept(alloc, dtype, &value).expect(rt, "a column"));
+}
+
+fn expect_made_kept(
     rt: &impl Abort,
     alloc: Global,
     dtype: DType,
-    value: ScalarValue,
-) -> Result<(), Fail> {
-    assert!(rt; is_kept(alloc, dtype, value)?);
-    Ok(())
+    value: Result<ScalarValue, AllocError>,
+) {
+    expect_kept(rt, alloc, dtype, value.expect(rt, "a value"));
 }
 
 #[test]
-fn numbers_are_kept(rt: HostRuntime) -> Result<(), Fail> {
+fn numbers_are_kept(rt: HostRuntime) {
     let alloc = rt.alloc();
-    expect_kept(&rt, alloc, number(PType::U8), ScalarValue::from(255u8))?;
-    expect_kept(&rt, alloc, number(PType::U16), ScalarValue::from(256u16))?;
-    expect_kept(&rt, alloc, number(PType::U32), ScalarValue::from(65536u32))?;
-    expect_kept(&rt, alloc, number(PType::U64), ScalarValue::from(u64::MAX))?;
-    expect_kept(&rt, alloc, number(PType::I8), ScalarValue::from(-128i8))?;
-    expect_kept(&rt, alloc, number(PType::I16), ScalarValue::from(-129i16))?;
-    expect_kept(&rt, alloc, number(PType::I32), ScalarValue::from(-32769i32))?;
-    expect_kept(&rt, alloc, number(PType::I64), ScalarValue::from(i64::MIN))
+    expect_kept(&rt, alloc, number(PType::U8), ScalarValue::from(255u8));
+    expect_kept(&rt, alloc, number(PType::U16), ScalarValue::from(256u16));
+    expect_kept(&rt, alloc, number(PType::U32), ScalarValue::from(65536u32));
+    expect_kept(&rt, alloc, number(PType::U64), ScalarValue::from(u64::MAX));
+    expect_kept(&rt, alloc, number(PType::I8), ScalarValue::from(-128i8));
+    expect_kept(&rt, alloc, number(PType::I16), ScalarValue::from(-129i16));
+    expect_kept(&rt, alloc, number(PType::I32), ScalarValue::from(-32769i32));
+    expect_kept(&rt, alloc, number(PType::I64), ScalarValue::from(i64::MIN));
 }
 
 #[test]
-fn truths_texts_and_bytes_are_kept(rt: HostRuntime) -> Result<(), Fail> {
+fn truths_texts_and_bytes_are_kept(rt: HostRuntime) {
     let alloc = rt.alloc();
-    expect_kept(&rt, alloc, BOOL_OR_NULL, ScalarValue::from(true))?;
-    expect_kept(&rt, alloc, BOOL_OR_NULL, ScalarValue::from(false))?;
-    expect_kept(&rt, alloc, UTF8_OR_NULL, text_value(alloc, "é")?)?;
-    expect_kept(&rt, alloc, BINARY_OR_NULL, bytes_value(alloc, &[0xC1, 0])?)
+    expect_kept(&rt, alloc, BOOL_OR_NULL, ScalarValue::from(true));
+    expect_kept(&rt, alloc, BOOL_OR_NULL, ScalarValue::from(false));
+    expect_made_kept(&rt, alloc, UTF8_OR_NULL, text_value(alloc, "é"));
+    expect_made_kept(&rt, alloc, BINARY_OR_NULL, bytes_value(alloc, &[0xC1, 0]));
 }
 
 // A value of another kind makes all of them values of any kind.
-fn five_and(alloc: Global, value: ScalarValue) -> Result<Cells, AllocError> {
+fn five_and(alloc: Global, value: Result<ScalarValue, AllocError>) -> Result<Cells, AllocError> {
     let mut cells = Cells::with_capacity(alloc, I32, 1)?;
-    cells.push(Some(ScalarValue::from(5i32)))?;
-    cells.push(Some(value))?;
-    cells.shrink_to_fit();
+    push_five_and(&mut cells, value)?;
     Ok(cells)
+}
+
+fn push_five_and(
+    cells: &mut Cells,
+    value: Result<ScalarValue, AllocError>,
+) -> Result<(), AllocError> {
+    cells.push(Some(ScalarValue::from(5i32)))?;
+    cells.push(Some(value?))?;
+    cells.shrink_to_fit();
+    Ok(())
 }
 
 fn fits_neither(cells: &Cells) -> bool {
     cells.len() == 2 && !cells.fits(&I32) && !cells.fits(&UTF8)
 }
 
-#[test]
-fn mixed_values_fit_no_type(rt: HostRuntime) -> Result<(), Fail> {
-    let alloc = rt.alloc();
-    assert!(rt; fits_neither(&five_and(alloc, text_value(alloc, "x")?)?));
-    assert!(rt; five_and(alloc, ScalarValue::from(6i32))?.fits(&I32));
-    assert!(rt; !five_and(alloc, ScalarValue::from(6i64))?.fits(&I32));
-    Ok(())
-}
-
-fn fits_with_null(alloc: Global, dtype: DType, value: ScalarValue) -> Result<bool, AllocError> {
-    Ok(pushed(alloc, dtype, and_null(alloc, value)?)?.fits(&dtype))
+fn expect_fits_neither(rt: &impl Abort, cells: Result<Cells, AllocError>) {
+    assert!(rt; fits_neither(&cells.expect(rt, "cells")));
 }
 
 #[test]
-fn null_fits_where_it_may_stand(rt: HostRuntime) -> Result<(), Fail> {
+fn mixed_values_fit_no_type(rt: HostRuntime) {
     let alloc = rt.alloc();
-    assert!(rt; fits_with_null(alloc, I32_OR_NULL, ScalarValue::from(5i32))?);
-    assert!(rt; !fits_with_null(alloc, I32, ScalarValue::from(5i32))?);
-    assert!(rt; fits_with_null(alloc, UTF8_OR_NULL, text_value(alloc, "x")?)?);
-    assert!(rt; !fits_with_null(alloc, UTF8, text_value(alloc, "x")?)?);
-    Ok(())
+    expect_fits_neither(&rt, five_and(alloc, text_value(alloc, "x")));
+    expect_fit(&rt, I32, five_and(alloc, Ok(ScalarValue::from(6i32))), true);
+    expect_fit(
+        &rt,
+        I32,
+        five_and(alloc, Ok(ScalarValue::from(6i64))),
+        false,
+    );
+}
+
+fn with_null(
+    alloc: Global,
+    dtype: DType,
+    value: Result<ScalarValue, AllocError>,
+) -> Result<Cells, AllocError> {
+    pushed(alloc, dtype, and_null(alloc, value?)?)
+}
+
+// Whether the cells of a value and null fit their type, as told.
+fn expect_fit(rt: &impl Abort, dtype: DType, cells: Result<Cells, AllocError>, expected: bool) {
+    assert!(rt; cells.expect(rt, "cells").fits(&dtype) == expected);
+}
+
+fn five() -> Result<ScalarValue, AllocError> {
+    Ok(ScalarValue::from(5i32))
+}
+
+#[test]
+fn null_fits_where_it_may_stand(rt: HostRuntime) {
+    let alloc = rt.alloc();
+    expect_fit(
+        &rt,
+        I32_OR_NULL,
+        with_null(alloc, I32_OR_NULL, five()),
+        true,
+    );
+    expect_fit(&rt, I32, with_null(alloc, I32, five()), false);
+    let text = text_value(alloc, "x");
+    expect_fit(
+        &rt,
+        UTF8_OR_NULL,
+        with_null(alloc, UTF8_OR_NULL, text),
+        true,
+    );
+    let text = text_value(alloc, "x");
+    expect_fit(&rt, UTF8, with_null(alloc, UTF8, text), false);
 }
 
 // The column of a value and null: in cells of the type's own form, or as values of any kind.
@@ -145,10 +191,18 @@ fn side(
     }
 }
 
-fn chunk_of(alloc: Global, dtype: DType, side: Column) -> Result<Chunk, BaseError> {
+fn chunk_of(
+    alloc: Global,
+    dtype: DType,
+    side: Result<Column, BaseError>,
+) -> Result<Chunk, BaseError> {
+    testing::chunk(scope(alloc, &[("a", dtype)])?, one_column(alloc, side?)?)
+}
+
+fn one_column(alloc: Global, column: Column) -> Result<Vec<Column>, AllocError> {
     let mut columns = Vec::new(alloc);
-    columns.push(side)?;
-    testing::chunk(scope(alloc, &[("a", dtype)])?, columns)
+    columns.push(column)?;
+    Ok(columns)
 }
 
 // Moves the rows of the second chunk behind the first's, where that may be done.
@@ -198,10 +252,20 @@ fn goes_behind(
     first: (&ScalarValue, bool),
     second: (&ScalarValue, bool),
 ) -> Result<bool, BaseError> {
-    let mut chunk = chunk_of(alloc, dtype, side(alloc, dtype, first.0, first.1)?)?;
-    let mut other = chunk_of(alloc, dtype, side(alloc, dtype, second.0, second.1)?)?;
-    append(&mut chunk, &mut other)?;
-    Ok(is_appended(&chunk, first.0, second.0)? && is_emptied(&other))
+    let mut chunk = chunk_of(alloc, dtype, side(alloc, dtype, first.0, first.1))?;
+    let mut other = chunk_of(alloc, dtype, side(alloc, dtype, second.0, second.1))?;
+    moves(&mut chunk, &mut other, first.0, second.0)
+}
+
+// Whether the rows of the second chunk go behind the first's.
+fn moves(
+    chunk: &mut Chunk,
+    other: &mut Chunk,
+    first: &ScalarValue,
+    second: &ScalarValue,
+) -> Result<bool, BaseError> {
+    append(chunk, other)?;
+    Ok(is_appended(chunk, first, second)? && is_emptied(other))
 }
 
 fn go_behind_in_each_form(
@@ -223,33 +287,33 @@ fn expect_behind(
     dtype: DType,
     first: ScalarValue,
     second: ScalarValue,
-) -> Result<(), Fail> {
-    assert!(rt; go_behind_in_each_form(alloc, dtype, &first, &second)?);
-    Ok(())
+) {
+    assert!(rt; go_behind_in_each_form(alloc, dtype, &first, &second).expect(rt, "chunks"));
 }
 
 #[test]
-fn chunks_of_each_form_are_appended(rt: HostRuntime) -> Result<(), Fail> {
+fn chunks_of_each_form_are_appended(rt: HostRuntime) {
     let alloc = rt.alloc();
-    let (five, six) = (ScalarValue::from(5i32), ScalarValue::from(6i32));
-    expect_behind(&rt, alloc, I32_OR_NULL, five, six)?;
-    let (x, y) = (text_value(alloc, "x")?, text_value(alloc, "y")?);
-    expect_behind(&rt, alloc, UTF8_OR_NULL, x, y)?;
-    let (ab, c) = (bytes_value(alloc, &[1, 2])?, bytes_value(alloc, &[3])?);
-    expect_behind(&rt, alloc, BINARY_OR_NULL, ab, c)
+    expect_behind(&rt, alloc, I32_OR_NULL, 5i32.into(), 6i32.into());
+    let x = text_value(alloc, "x").expect(&rt, "x");
+    let y = text_value(alloc, "y").expect(&rt, "y");
+    expect_behind(&rt, alloc, UTF8_OR_NULL, x, y);
+    let ab = bytes_value(alloc, &[1, 2]).expect(&rt, "two bytes");
+    let c = bytes_value(alloc, &[3]).expect(&rt, "a byte");
+    expect_behind(&rt, alloc, BINARY_OR_NULL, ab, c);
 }
 
 #[test]
-fn chunks_of_each_number_type_are_appended(rt: HostRuntime) -> Result<(), Fail> {
+fn chunks_of_each_number_type_are_appended(rt: HostRuntime) {
     let alloc = rt.alloc();
-    expect_behind(&rt, alloc, number(PType::U8), 5u8.into(), 6u8.into())?;
-    expect_behind(&rt, alloc, number(PType::U16), 5u16.into(), 6u16.into())?;
-    expect_behind(&rt, alloc, number(PType::U32), 5u32.into(), 6u32.into())?;
-    expect_behind(&rt, alloc, number(PType::U64), 5u64.into(), 6u64.into())?;
-    expect_behind(&rt, alloc, number(PType::I8), 5i8.into(), 6i8.into())?;
-    expect_behind(&rt, alloc, number(PType::I16), 5i16.into(), 6i16.into())?;
-    expect_behind(&rt, alloc, number(PType::I64), 5i64.into(), 6i64.into())?;
-    expect_behind(&rt, alloc, BOOL_OR_NULL, true.into(), false.into())
+    expect_behind(&rt, alloc, number(PType::U8), 5u8.into(), 6u8.into());
+    expect_behind(&rt, alloc, number(PType::U16), 5u16.into(), 6u16.into());
+    expect_behind(&rt, alloc, number(PType::U32), 5u32.into(), 6u32.into());
+    expect_behind(&rt, alloc, number(PType::U64), 5u64.into(), 6u64.into());
+    expect_behind(&rt, alloc, number(PType::I8), 5i8.into(), 6i8.into());
+    expect_behind(&rt, alloc, number(PType::I16), 5i16.into(), 6i16.into());
+    expect_behind(&rt, alloc, number(PType::I64), 5i64.into(), 6i64.into());
+    expect_behind(&rt, alloc, BOOL_OR_NULL, true.into(), false.into());
 }
 
 // Two chunks of nulls alone, one row and two.
@@ -258,13 +322,13 @@ fn nulls(alloc: Global, count: usize) -> Result<Chunk, BaseError> {
     for _null in 0..count {
         cells.push(None)?;
     }
-    chunk_of(alloc, DType::Null, column_of(DType::Null, cells, 1)?)
+    chunk_of(alloc, DType::Null, column_of(DType::Null, cells, 1))
 }
 
 #[test]
-fn chunks_of_nulls_are_appended(rt: HostRuntime) -> Result<(), Fail> {
-    let (mut chunk, mut other) = (nulls(rt.alloc(), 1)?, nulls(rt.alloc(), 2)?);
-    append(&mut chunk, &mut other)?;
+fn chunks_of_nulls_are_appended(rt: HostRuntime) {
+    let mut chunk = nulls(rt.alloc(), 1).expect(&rt, "a chunk");
+    let mut other = nulls(rt.alloc(), 2).expect(&rt, "another");
+    append(&mut chunk, &mut other).expect(&rt, "appended");
     assert!(rt; chunk.rows() == 3 && other.rows() == 0);
-    Ok(())
 }

@@ -60,11 +60,11 @@ fn is_true(value: Option<ValueRef<'_>>) -> bool {
 }
 
 #[test]
-fn lend_their_scope(rt: HostRuntime) -> Result<(), Fail> {
-    let (chunk, scope) = (two_rows(rt.alloc())?, scope(rt.alloc())?);
+fn lend_their_scope(rt: HostRuntime) {
+    let chunk = two_rows(rt.alloc()).expect(&rt, "chunk");
+    let scope = scope(rt.alloc()).expect(&rt, "scope");
     assert!(rt; *chunk.scope() == scope);
     assert!(rt; chunk.scope().len() == 2);
-    Ok(())
 }
 
 fn is_of_numbers(column: &Column) -> bool {
@@ -76,12 +76,11 @@ fn is_number_and_null(column: &Column) -> bool {
 }
 
 #[test]
-fn lend_columns(rt: HostRuntime) -> Result<(), Fail> {
-    let chunk = two_rows(rt.alloc())?;
+fn lend_columns(rt: HostRuntime) {
+    let chunk = two_rows(rt.alloc()).expect(&rt, "chunk");
     let column = chunk.column(0);
     assert!(rt; is_of_numbers(column));
     assert!(rt; is_number_and_null(column));
-    Ok(())
 }
 
 // Whether there is no value at a place, whose column has this type.
@@ -90,15 +89,14 @@ fn is_null_of(row: &Row<'_>, place: usize, dtype: Option<DType>) -> bool {
 }
 
 #[test]
-fn lend_rows(rt: HostRuntime) -> Result<(), Fail> {
-    let chunk = two_rows(rt.alloc())?;
+fn lend_rows(rt: HostRuntime) {
+    let chunk = two_rows(rt.alloc()).expect(&rt, "chunk");
     assert!(rt; chunk.rows() == 2);
     let row = chunk.row(1);
     assert!(rt; row.len() == 2);
     assert!(rt; is_null_of(&row, 0, Some(NUMBER)));
     assert!(rt; is_true(row.value(1)));
     assert!(rt; is_null_of(&row, 2, None));
-    Ok(())
 }
 
 fn is_row_shape(made: Result<Chunk, BaseError>) -> bool {
@@ -165,15 +163,15 @@ fn are_emptied(chunk: &Chunk) -> bool {
 }
 
 #[test]
-fn append_a_hundred_thousand_columns(rt: HostRuntime) -> Result<(), Fail> {
-    let scope = named(rt.alloc(), 100_000)?;
-    let mut other = wide(rt.alloc(), scope.try_clone()?)?;
-    let mut chunk = wide(rt.alloc(), scope)?;
+fn append_a_hundred_thousand_columns(rt: HostRuntime) {
+    let scope = named(rt.alloc(), 100_000).expect(&rt, "scope");
+    let copy = scope.try_clone().expect(&rt, "copy");
+    let mut other = wide(rt.alloc(), copy).expect(&rt, "other");
+    let mut chunk = wide(rt.alloc(), scope).expect(&rt, "chunk");
     assert!(rt; *chunk.scope() == *other.scope());
     assert!(rt; chunk.sizes_fit(&other));
-    chunk.append(&mut other)?;
+    chunk.append(&mut other).expect(&rt, "appended");
     assert!(rt; are_doubled(&chunk) && are_emptied(&other));
-    Ok(())
 }
 
 // A row of two optional values.
@@ -210,27 +208,25 @@ fn are_long(chunk: &Chunk, rows: usize) -> bool {
 }
 
 #[test]
-fn take_rows(rt: HostRuntime) -> Result<(), Fail> {
+fn take_rows(rt: HostRuntime) {
     let alloc = rt.alloc();
-    let mut chunk = two_rows(alloc)?;
-    push(&mut chunk, row(alloc, None, truth()))?;
-    push(&mut chunk, row(alloc, number(), truth()))?;
+    let mut chunk = two_rows(alloc).expect(&rt, "chunk");
+    push(&mut chunk, row(alloc, None, truth())).expect(&rt, "a row");
+    push(&mut chunk, row(alloc, number(), truth())).expect(&rt, "a row");
     assert!(rt; are_long(&chunk, 4));
     assert!(rt; chunk.rows() == 4);
     assert!(rt; is_null_of(&chunk.row(2), 0, Some(NUMBER)));
     assert!(rt; is_number(chunk.row(3).value(0)));
-    Ok(())
 }
 
 #[test]
-fn take_no_row_of_others(rt: HostRuntime) -> Result<(), Fail> {
+fn take_no_row_of_others(rt: HostRuntime) {
     let alloc = rt.alloc();
-    let mut chunk = two_rows(alloc)?;
+    let mut chunk = two_rows(alloc).expect(&rt, "chunk");
     assert!(rt; is_mismatch(push(&mut chunk, row(alloc, number(), None))));
     assert!(rt; is_mismatch(push(&mut chunk, row(alloc, truth(), number()))));
     assert!(rt; is_mismatch(push(&mut chunk, Ok(Vec::new(alloc)))));
     assert!(rt; are_long(&chunk, 2));
-    Ok(())
 }
 
 // Whether a row was added, or memory was refused and all columns are as they were.

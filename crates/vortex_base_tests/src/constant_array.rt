@@ -1,6 +1,6 @@
 //! Tests of `constant_array`.
 use crate::testing::scalar;
-use std::test::Fail;
+use std::process::Abort;
 use vortex_base::{BaseError, ConstantArray, DType, Nullability, PType, Scalar, ScalarValue};
 
 const I64: DType = DType::Primitive(PType::I64, Nullability::Nullable);
@@ -14,12 +14,31 @@ fn sixes(count: u64) -> Result<ConstantArray, BaseError> {
     Ok(ConstantArray::new(six()?, count))
 }
 
+fn expect_six(rt: &impl Abort, found: &Scalar) {
+    assert!(rt; *found == six().expect(rt, "six"));
+}
+
+// Whether the array is equal to the other one, as told.
+fn expect_equal(
+    rt: &impl Abort,
+    array: &ConstantArray,
+    other: Result<ConstantArray, BaseError>,
+    expected: bool,
+) {
+    assert!(rt; (*array == other.expect(rt, "another")) == expected);
+}
+
 #[test]
-fn hold_one_value_at_each_place(rt: HostRuntime) -> Result<(), Fail> {
-    let (array, same, longer) = (sixes(3)?, sixes(3)?, sixes(4)?);
-    assert!(rt; *array.scalar() == six()?);
+fn hold_one_value_at_each_place(rt: HostRuntime) {
+    let array = sixes(3).expect(&rt, "an array");
+    expect_six(&rt, array.scalar());
     assert!(rt; array.len() == 3);
-    assert!(rt; array == same && array != longer);
-    assert!(rt; array != ConstantArray::new(Scalar::null(I64), 3));
-    Ok(())
+    expect_equal(&rt, &array, sixes(3), true);
+    expect_equal(&rt, &array, sixes(4), false);
+    expect_equal(
+        &rt,
+        &array,
+        Ok(ConstantArray::new(Scalar::null(I64), 3)),
+        false,
+    );
 }

@@ -1,25 +1,25 @@
 //! Tests of `error`.
-use std::test::Fail;
+use std::alloc::Global;
+use std::process::Abort;
 use vortex_base::BaseError;
 
+// The fault is printed so.
+fn expect_printed(rt: &impl Abort, alloc: Global, fault: BaseError, text: &str) {
+    let printed = format!(in alloc; "{fault}").expect(rt, "a text");
+    assert_eq!(rt; printed.as_str(), text);
+}
+
 #[test]
-fn print_their_cause(rt: HostRuntime) -> Result<(), Fail> {
-    let cases = [
-        (BaseError::UnknownColumn, "no column has this name"),
-        (BaseError::DuplicateColumn, "two columns have one name"),
-        (BaseError::EmptyScope, "a scope needs a column"),
-        (BaseError::TypeFault, "the types do not fit"),
-        (
-            BaseError::Unsupported,
-            "the aggregate does not support the type",
-        ),
-        (BaseError::Mismatch, "a value does not fit its type"),
-        (BaseError::RowShape, "the columns do not make up the rows"),
-        (BaseError::Placeholder, "a placeholder has no value"),
-    ];
-    for (error, text) in &cases {
-        let printed = format!(in rt.alloc(); "{error}")?;
-        assert_eq!(rt; printed.as_str(), *text);
-    }
-    Ok(())
+fn print_their_cause(rt: HostRuntime) {
+    use BaseError::*;
+    let alloc = rt.alloc();
+    expect_printed(&rt, alloc, UnknownColumn, "no column has this name");
+    expect_printed(&rt, alloc, DuplicateColumn, "two columns have one name");
+    expect_printed(&rt, alloc, EmptyScope, "a scope needs a column");
+    expect_printed(&rt, alloc, TypeFault, "the types do not fit");
+    let unsupported = "the aggregate does not support the type";
+    expect_printed(&rt, alloc, Unsupported, unsupported);
+    expect_printed(&rt, alloc, Mismatch, "a value does not fit its type");
+    expect_printed(&rt, alloc, RowShape, "the columns do not make up the rows");
+    expect_printed(&rt, alloc, Placeholder, "a placeholder has no value");
 }

@@ -1,8 +1,7 @@
 //! Tests of evaluation.
 use crate::testing::{placed, *};
-use std::alloc::Global;
+use std::alloc::{AllocError, Global};
 use std::process::Abort;
-use std::test::Fail;
 use vortex_base::{
     AggregateFnRef, BaseError, BetweenOptions, Chunk, LikeOptions, Row, ScalarValue,
     StrictComparison,
@@ -41,46 +40,44 @@ fn on_nothing(x: Built, rows: u64) -> Value {
 }
 
 // The value of an expression without columns.
-fn expect_value(rt: &impl Abort, x: Built, expected: Option<ScalarValue>) -> Result<(), Fail> {
-    let value = on_nothing(x, 3)?;
-    assert!(rt; value == expected);
-    Ok(())
+fn expect_value(rt: &impl Abort, x: Built, expected: Option<ScalarValue>) {
+    assert!(rt; on_nothing(x, 3).expect(rt, "a value") == expected);
 }
 
-fn expect_truth(rt: &impl Abort, x: Built, expected: bool) -> Result<(), Fail> {
-    expect_value(rt, x, Some(ScalarValue::Bool(expected)))
+fn expect_truth(rt: &impl Abort, x: Built, expected: bool) {
+    expect_value(rt, x, Some(ScalarValue::Bool(expected)));
 }
 
 #[test]
-fn connectives_have_three_values(rt: HostRuntime) -> Result<(), Fail> {
+fn connectives_have_three_values(rt: HostRuntime) {
     let alloc = rt.alloc();
     expect_truth(
         &rt,
         placed::and(alloc, unknown(alloc), truth(alloc, false)),
         false,
-    )?;
+    );
     expect_value(
         &rt,
         placed::or(alloc, unknown(alloc), truth(alloc, false)),
         None,
-    )?;
-    expect_value(&rt, placed::not(alloc, unknown(alloc)), None)
+    );
+    expect_value(&rt, placed::not(alloc, unknown(alloc)), None);
 }
 
 #[test]
-fn comparisons_follow_the_order_of_values(rt: HostRuntime) -> Result<(), Fail> {
+fn comparisons_follow_the_order_of_values(rt: HostRuntime) {
     let alloc = rt.alloc();
-    expect_truth(&rt, placed::lt(alloc, int(alloc, -1), int(alloc, 1)), true)?;
+    expect_truth(&rt, placed::lt(alloc, int(alloc, -1), int(alloc, 1)), true);
     expect_truth(
         &rt,
         placed::gt_eq(alloc, text(alloc, "b"), text(alloc, "ab")),
         true,
-    )?;
+    );
     expect_truth(
         &rt,
         placed::not_eq(alloc, text(alloc, "a"), text(alloc, "a")),
         false,
-    )
+    );
 }
 
 // Whether a number is at least 1 and below 5.
@@ -95,25 +92,26 @@ fn from_one_to_five(alloc: Global, value: i32) -> Built {
 }
 
 #[test]
-fn open_ends_are_left_out(rt: HostRuntime) -> Result<(), Fail> {
+fn open_ends_are_left_out(rt: HostRuntime) {
     let alloc = rt.alloc();
-    expect_truth(&rt, from_one_to_five(alloc, 1), true)?;
-    expect_truth(&rt, from_one_to_five(alloc, 5), false)
+    expect_truth(&rt, from_one_to_five(alloc, 1), true);
+    expect_truth(&rt, from_one_to_five(alloc, 5), false);
 }
 
 #[test]
-fn patterns_and_null_tests(rt: HostRuntime) -> Result<(), Fail> {
+fn patterns_and_null_tests(rt: HostRuntime) {
     let alloc = rt.alloc();
     let plain = placed::like(alloc, text(alloc, "axxbc"), text(alloc, "a%b_"));
-    expect_truth(&rt, plain, true)?;
+    expect_truth(&rt, plain, true);
     let e = placed::like_with(alloc, text(alloc, "é"), text(alloc, "É"), ILIKE);
-    expect_truth(&rt, e, false)?;
-    expect_truth(&rt, placed::is_null(alloc, unknown(alloc)), true)?;
-    expect_truth(&rt, placed::is_not_null(alloc, int(alloc, 1)), true)
+    expect_truth(&rt, e, false);
+    expect_truth(&rt, placed::is_null(alloc, unknown(alloc)), true);
+    expect_truth(&rt, placed::is_not_null(alloc, int(alloc, 1)), true);
 }
 
-fn satisfies(x: Built) -> Result<bool, BaseError> {
-    Ok(x?.is_satisfied(&Row::empty(), 1))
+fn expect_satisfied(rt: &impl Abort, x: Built, expected: bool) {
+    let x = x.expect(rt, "an expression");
+    assert!(rt; x.is_satisfied(&Row::empty(), 1) == expected);
 }
 
 // Null or true.
@@ -128,22 +126,21 @@ fn both(alloc: Global) -> Built {
 }
 
 #[test]
-fn only_true_satisfies(rt: HostRuntime) -> Result<(), Fail> {
+fn only_true_satisfies(rt: HostRuntime) {
     let alloc = rt.alloc();
-    assert!(rt; satisfies(either(alloc))?);
-    assert!(rt; !satisfies(both(alloc))?);
-    assert!(rt; !satisfies(placed::not(alloc, both(alloc)))?);
-    assert!(rt; !satisfies(placed::row_count(alloc))?);
-    Ok(())
+    expect_satisfied(&rt, either(alloc), true);
+    expect_satisfied(&rt, both(alloc), false);
+    expect_satisfied(&rt, placed::not(alloc, both(alloc)), false);
+    expect_satisfied(&rt, placed::row_count(alloc), false);
 }
 
 #[test]
-fn the_row_count_is_handed_in(rt: HostRuntime) -> Result<(), Fail> {
+fn the_row_count_is_handed_in(rt: HostRuntime) {
     expect_value(
         &rt,
         placed::row_count(rt.alloc()),
         Some(ScalarValue::from(3u64)),
-    )
+    );
 }
 
 fn is_row_shape(value: Value) -> bool {
@@ -199,15 +196,24 @@ fn is_value(value: Value, expected: &ScalarValue) -> bool {
     }
 }
 
+// Whether the value is this one, as told.
+fn expect_read(
+    rt: &impl Abort,
+    value: Value,
+    other: Result<ScalarValue, AllocError>,
+    expected: bool,
+) {
+    assert!(rt; is_value(value, &other.expect(rt, "a value")) == expected);
+}
+
 #[test]
-fn columns_are_read_at_the_row(rt: HostRuntime) -> Result<(), Fail> {
+fn columns_are_read_at_the_row(rt: HostRuntime) {
     let alloc = rt.alloc();
-    let chunk = texts(alloc)?;
+    let chunk = texts(alloc).expect(&rt, "chunk");
     assert!(rt; chunk.rows() == 2);
-    let y = text_value(alloc, "y")?;
-    assert!(rt; is_value(on_row(placed::col(alloc, 0, UTF8_OR_NULL), &chunk, 1), &y));
+    let second = on_row(placed::col(alloc, 0, UTF8_OR_NULL), &chunk, 1);
+    expect_read(&rt, second, text_value(alloc, "y"), true);
     assert!(rt; is_row_shape(on_row(a(alloc), &chunk, 0)));
-    Ok(())
 }
 
 fn two_strings(alloc: Global) -> Result<Vec<Option<ScalarValue>>, BaseError> {
@@ -225,14 +231,15 @@ fn strings(alloc: Global) -> Result<Chunk, BaseError> {
 }
 
 #[test]
-fn columns_of_bytes_are_read_at_the_row(rt: HostRuntime) -> Result<(), Fail> {
+fn columns_of_bytes_are_read_at_the_row(rt: HostRuntime) {
     let alloc = rt.alloc();
-    let chunk = strings(alloc)?;
-    let (first, second) = (bytes_value(alloc, &[0xC1, 0xA1])?, bytes_value(alloc, &[])?);
-    assert!(rt; is_value(on_row(placed::col(alloc, 0, BINARY), &chunk, 0), &first));
-    assert!(rt; is_value(on_row(placed::col(alloc, 0, BINARY), &chunk, 1), &second));
-    assert!(rt; !is_value(on_row(placed::col(alloc, 0, BINARY), &chunk, 1), &first));
-    Ok(())
+    let chunk = strings(alloc).expect(&rt, "chunk");
+    let first = on_row(placed::col(alloc, 0, BINARY), &chunk, 0);
+    expect_read(&rt, first, bytes_value(alloc, &[0xC1, 0xA1]), true);
+    let second = on_row(placed::col(alloc, 0, BINARY), &chunk, 1);
+    expect_read(&rt, second, bytes_value(alloc, &[]), true);
+    let second = on_row(placed::col(alloc, 0, BINARY), &chunk, 1);
+    expect_read(&rt, second, bytes_value(alloc, &[0xC1, 0xA1]), false);
 }
 
 fn is_some_or_memory(value: Value) -> bool {

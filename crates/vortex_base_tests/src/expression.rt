@@ -55,10 +55,10 @@ fn copy(x: &Expression) -> Made {
 }
 
 #[test]
-fn copies_are_bound_alike(rt: HostRuntime) -> Result<(), Fail> {
+fn copies_are_bound_alike(rt: HostRuntime) {
     let alloc = rt.alloc();
-    let x = whole(alloc)?;
-    expect_same(&rt, bound_to_a(alloc, copy(&x)), bound_to_a(alloc, Ok(x)))
+    let x = whole(alloc).expect(&rt, "an expression");
+    expect_same(&rt, bound_to_a(alloc, copy(&x)), bound_to_a(alloc, Ok(x)));
 }
 
 // Whether there is a copy, or memory was refused.

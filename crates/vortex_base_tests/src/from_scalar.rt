@@ -1,7 +1,7 @@
 //! Tests of `from_scalar`.
 use crate::testing::*;
 use std::alloc::Global;
-use std::test::Fail;
+use std::process::Abort;
 use vortex_base::{BaseError, DType, FromScalar, Nullability, Scalar, ScalarValue};
 
 fn number(value: i32) -> Result<Scalar, BaseError> {
@@ -22,64 +22,65 @@ fn is_as<T: PartialEq + Drop>(read: Result<T, BaseError>, expected: Option<T>) -
 }
 
 // One function for each type, since a proof that reads several types is long.
-fn is_u8(scalar: &Scalar, expected: Option<u8>) -> bool {
-    is_as(read::<u8>(scalar), expected)
+fn expect_u8(rt: &impl Abort, scalar: &Scalar, expected: Option<u8>) {
+    assert!(rt; is_as(read::<u8>(scalar), expected));
 }
 
-fn is_u16(scalar: &Scalar, expected: Option<u16>) -> bool {
-    is_as(read::<u16>(scalar), expected)
+fn expect_u16(rt: &impl Abort, scalar: &Scalar, expected: Option<u16>) {
+    assert!(rt; is_as(read::<u16>(scalar), expected));
 }
 
-fn is_u32(scalar: &Scalar, expected: Option<u32>) -> bool {
-    is_as(read::<u32>(scalar), expected)
+fn expect_u32(rt: &impl Abort, scalar: &Scalar, expected: Option<u32>) {
+    assert!(rt; is_as(read::<u32>(scalar), expected));
 }
 
-fn is_u64(scalar: &Scalar, expected: Option<u64>) -> bool {
-    is_as(read::<u64>(scalar), expected)
+fn expect_u64(rt: &impl Abort, scalar: &Scalar, expected: Option<u64>) {
+    assert!(rt; is_as(read::<u64>(scalar), expected));
 }
 
-fn is_i8(scalar: &Scalar, expected: Option<i8>) -> bool {
-    is_as(read::<i8>(scalar), expected)
+fn expect_i8(rt: &impl Abort, scalar: &Scalar, expected: Option<i8>) {
+    assert!(rt; is_as(read::<i8>(scalar), expected));
 }
 
-fn is_i16(scalar: &Scalar, expected: Option<i16>) -> bool {
-    is_as(read::<i16>(scalar), expected)
+fn expect_i16(rt: &impl Abort, scalar: &Scalar, expected: Option<i16>) {
+    assert!(rt; is_as(read::<i16>(scalar), expected));
 }
 
-fn is_i32(scalar: &Scalar, expected: Option<i32>) -> bool {
-    is_as(read::<i32>(scalar), expected)
+fn expect_i32(rt: &impl Abort, scalar: &Scalar, expected: Option<i32>) {
+    assert!(rt; is_as(read::<i32>(scalar), expected));
 }
 
-fn is_i64(scalar: &Scalar, expected: Option<i64>) -> bool {
-    is_as(read::<i64>(scalar), expected)
+fn expect_i64(rt: &impl Abort, scalar: &Scalar, expected: Option<i64>) {
+    assert!(rt; is_as(read::<i64>(scalar), expected));
 }
 
-fn is_bool(scalar: &Scalar, expected: Option<bool>) -> bool {
-    is_as(read::<bool>(scalar), expected)
-}
-
-#[test]
-fn numbers(rt: HostRuntime) -> Result<(), Fail> {
-    let positive = number(200)?;
-    assert!(rt; is_u8(&positive, Some(200)));
-    assert!(rt; is_i8(&positive, None));
-    assert!(rt; is_u16(&positive, Some(200)));
-    assert!(rt; is_i16(&positive, Some(200)));
-    assert!(rt; is_u32(&positive, Some(200)));
-    assert!(rt; is_i32(&positive, Some(200)));
-    assert!(rt; is_u64(&positive, Some(200)));
-    assert!(rt; is_i64(&positive, Some(200)));
-    assert!(rt; is_bool(&positive, None));
-    Ok(())
+fn expect_bool(rt: &impl Abort, scalar: &Scalar, expected: Option<bool>) {
+    assert!(rt; is_as(read::<bool>(scalar), expected));
 }
 
 #[test]
-fn numbers_out_of_range(rt: HostRuntime) -> Result<(), Fail> {
-    assert!(rt; is_u8(&number(300)?, None));
-    assert!(rt; is_u64(&number(-1)?, None));
-    assert!(rt; is_i8(&number(-128)?, Some(-128)));
-    assert!(rt; is_i64(&Scalar::null(I32_OR_NULL), None));
-    Ok(())
+fn numbers(rt: HostRuntime) {
+    let positive = number(200).expect(&rt, "positive");
+    expect_u8(&rt, &positive, Some(200));
+    expect_i8(&rt, &positive, None);
+    expect_u16(&rt, &positive, Some(200));
+    expect_i16(&rt, &positive, Some(200));
+    expect_u32(&rt, &positive, Some(200));
+    expect_i32(&rt, &positive, Some(200));
+    expect_u64(&rt, &positive, Some(200));
+    expect_i64(&rt, &positive, Some(200));
+    expect_bool(&rt, &positive, None);
+}
+
+#[test]
+fn numbers_out_of_range(rt: HostRuntime) {
+    let above = number(300).expect(&rt, "a number");
+    expect_u8(&rt, &above, None);
+    let below = number(-1).expect(&rt, "a number");
+    expect_u64(&rt, &below, None);
+    let least = number(-128).expect(&rt, "a number");
+    expect_i8(&rt, &least, Some(-128));
+    expect_i64(&rt, &Scalar::null(I32_OR_NULL), None);
 }
 
 fn text(alloc: Global) -> Result<Scalar, BaseError> {
@@ -112,23 +113,20 @@ fn truth() -> Result<Scalar, BaseError> {
 }
 
 #[test]
-fn truths(rt: HostRuntime) -> Result<(), Fail> {
-    assert!(rt; is_bool(&truth()?, Some(true)));
-    Ok(())
+fn truths(rt: HostRuntime) {
+    expect_bool(&rt, &truth().expect(&rt, "a truth"), Some(true));
 }
 
 #[test]
-fn texts(rt: HostRuntime) -> Result<(), Fail> {
-    let text = text(rt.alloc())?;
+fn texts(rt: HostRuntime) {
+    let text = text(rt.alloc()).expect(&rt, "text");
     assert!(rt; is_text(&text, Some("a name")));
     assert!(rt; are_bytes(&text, None));
-    Ok(())
 }
 
 #[test]
-fn bytes_alone(rt: HostRuntime) -> Result<(), Fail> {
-    let bytes = bytes(rt.alloc())?;
+fn bytes_alone(rt: HostRuntime) {
+    let bytes = bytes(rt.alloc()).expect(&rt, "bytes");
     assert!(rt; are_bytes(&bytes, Some([7, 8].as_slice())));
     assert!(rt; is_text(&bytes, None));
-    Ok(())
 }

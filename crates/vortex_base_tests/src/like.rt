@@ -1,6 +1,6 @@
 //! Tests of LIKE.
 use std::alloc::{AllocError, Global};
-use std::test::Fail;
+use std::process::Abort;
 use vortex_base::LikeOptions;
 
 const PLAIN: LikeOptions = LikeOptions {
@@ -13,13 +13,12 @@ const IGNORING_CASE: LikeOptions = LikeOptions {
     case_insensitive: true,
 };
 
-// Without a contract, since a test only compares.
-fn is_like(text: &str, pattern: &str) -> bool {
-    PLAIN.matches(text, pattern)
-}
-
-fn is_ilike(text: &str, pattern: &str) -> bool {
-    IGNORING_CASE.matches(text, pattern)
+// Whether each text is like the pattern beside it, as told.
+fn expect(rt: &impl Abort, options: LikeOptions, cases: &[(&str, &str, bool)]) {
+    for (text, pattern, expected) in cases {
+        let answer = options.matches(text, pattern);
+        assert!(rt; answer == *expected, "{text} against {pattern}");
+    }
 }
 
 #[test]
@@ -29,76 +28,117 @@ fn the_default_is_plain(rt: HostRuntime) {
 
 #[test]
 fn runs_and_single_characters(rt: HostRuntime) {
-    assert!(rt; is_like("axxbc", "a%b_"));
-    assert!(rt; is_like("aab", "%ab"));
-    assert!(rt; is_like("mississippi", "m%iss%ip%i"));
-    assert!(rt; !is_like("mississippi", "m%iss%ip%ip"));
-    assert!(rt; !is_like("ab", "a_b"));
-    assert!(rt; is_like("abc", "%_%_%_%"));
-    assert!(rt; !is_like("ab", "%_%_%_%"));
+    expect(
+        &rt,
+        PLAIN,
+        &[
+            ("axxbc", "a%b_", true),
+            ("aab", "%ab", true),
+            ("mississippi", "m%iss%ip%i", true),
+            ("mississippi", "m%iss%ip%ip", false),
+            ("ab", "a_b", false),
+            ("abc", "%_%_%_%", true),
+            ("ab", "%_%_%_%", false),
+        ],
+    );
 }
 
 #[test]
 fn the_whole_text_is_matched(rt: HostRuntime) {
-    assert!(rt; is_like("", ""));
-    assert!(rt; is_like("", "%"));
-    assert!(rt; !is_like("", "_"));
-    assert!(rt; !is_like("a", ""));
-    assert!(rt; !is_like("abc", "ab"));
-    assert!(rt; !is_like("abc", "bc"));
+    expect(
+        &rt,
+        PLAIN,
+        &[
+            ("", "", true),
+            ("", "%", true),
+            ("", "_", false),
+            ("a", "", false),
+            ("abc", "ab", false),
+            ("abc", "bc", false),
+        ],
+    );
 }
 
 #[test]
 fn escapes_make_the_next_character_literal(rt: HostRuntime) {
-    assert!(rt; is_like("%", "\\%"));
-    assert!(rt; !is_like("x", "\\%"));
-    assert!(rt; is_like("_", "\\_"));
-    assert!(rt; !is_like("x", "\\_"));
-    assert!(rt; is_like("\\", "\\\\"));
-    assert!(rt; is_like("a\\", "a\\"));
-    assert!(rt; !is_like("a", "a\\"));
-    assert!(rt; is_like("é", "\\é"));
+    expect(
+        &rt,
+        PLAIN,
+        &[
+            ("%", "\\%", true),
+            ("x", "\\%", false),
+            ("_", "\\_", true),
+            ("x", "\\_", false),
+            ("\\", "\\\\", true),
+            ("a\\", "a\\", true),
+            ("a", "a\\", false),
+            ("é", "\\é", true),
+        ],
+    );
 }
 
 #[test]
 fn characters_may_have_several_bytes(rt: HostRuntime) {
-    assert!(rt; is_like("é", "_"));
-    assert!(rt; !is_like("é", "__"));
-    assert!(rt; is_like("a😀b", "a_b"));
-    assert!(rt; is_like("日本語", "%本_"));
-    assert!(rt; !is_like("日本語", "日_"));
+    expect(
+        &rt,
+        PLAIN,
+        &[
+            ("é", "_", true),
+            ("é", "__", false),
+            ("a😀b", "a_b", true),
+            ("日本語", "%本_", true),
+            ("日本語", "日_", false),
+        ],
+    );
 }
 
 #[test]
 fn case_of_ascii_letters_alone_is_ignored(rt: HostRuntime) {
-    assert!(rt; is_ilike("prefix", "PRE%"));
-    assert!(rt; is_ilike("PREFIX", "pre%"));
-    assert!(rt; !is_like("prefix", "PRE%"));
-    assert!(rt; !is_ilike("é", "É"));
-    assert!(rt; is_ilike("éA", "éa"));
-    assert!(rt; !is_ilike("[", "{"));
+    expect(
+        &rt,
+        IGNORING_CASE,
+        &[("prefix", "PRE%", true), ("PREFIX", "pre%", true)],
+    );
+    expect(&rt, PLAIN, &[("prefix", "PRE%", false)]);
+    expect(
+        &rt,
+        IGNORING_CASE,
+        &[("é", "É", false), ("éA", "éa", true), ("[", "{", false)],
+    );
 }
 
 #[test]
 fn a_beginning_is_found_among_other_characters(rt: HostRuntime) {
-    assert!(rt; is_like("ααβ東京🦊", "%β東%"));
-    assert!(rt; is_like("ααβ東京🦊", "%🦊%"));
-    assert!(rt; !is_like("ααβ東京🦊", "%東🦊%"));
-    assert!(rt; !is_like("éèê", "%e%"));
-    assert!(rt; is_like("a-é-b", "%é_b"));
-    assert!(rt; is_like("aaé", "%é%"));
-    assert!(rt; is_like("aaé", "%aé%%"));
-    assert!(rt; !is_like("aaé", "%é_%"));
+    expect(
+        &rt,
+        PLAIN,
+        &[
+            ("ααβ東京🦊", "%β東%", true),
+            ("ααβ東京🦊", "%🦊%", true),
+            ("ααβ東京🦊", "%東🦊%", false),
+            ("éèê", "%e%", false),
+            ("a-é-b", "%é_b", true),
+            ("aaé", "%é%", true),
+            ("aaé", "%aé%%", true),
+            ("aaé", "%é_%", false),
+        ],
+    );
 }
 
 #[test]
 fn a_beginning_without_case_is_found_as_it_is(rt: HostRuntime) {
-    assert!(rt; !is_ilike("12 МИР 34", "%мир%"));
-    assert!(rt; is_ilike("12 МИР k4", "%МИР K%"));
-    assert!(rt; is_ilike("x@[y]", "%@[Y%"));
-    assert!(rt; !is_ilike("x`{y}", "%@[Y%"));
-    assert!(rt; is_ilike("..Ab\\..", "%aB\\\\%"));
-    assert!(rt; is_ilike("ZZz", "%zz_"));
+    expect(
+        &rt,
+        IGNORING_CASE,
+        &[
+            ("12 МИР 34", "%мир%", false),
+            ("12 МИР k4", "%МИР K%", true),
+            ("x@[y]", "%@[Y%", true),
+            ("x`{y}", "%@[Y%", false),
+            ("..Ab\\..", "%aB\\\\%", true),
+            ("ZZz", "%zz_", true),
+        ],
+    );
 }
 
 #[test]
@@ -107,27 +147,12 @@ fn a_negated_answer_is_turned_round(rt: HostRuntime) {
         negated: true,
         case_insensitive: false,
     };
-    assert!(rt; negated.matches("b", "a%"));
-    assert!(rt; !negated.matches("a", "a%"));
+    expect(&rt, negated, &[("b", "a%", true), ("a", "a%", false)]);
 }
 
-fn text_of_a(alloc: Global, length: usize) -> Result<String, AllocError> {
-    let mut text = String::new(alloc);
-    for _ in 0..length {
-        text.push('a')?;
-    }
-    Ok(text)
-}
+type Made = Result<String, AllocError>;
 
-#[test]
-fn many_runs_end_at_once(rt: HostRuntime) -> Result<(), Fail> {
-    let text = text_of_a(rt.alloc(), 5000)?;
-    assert!(rt; is_like(text.as_str(), "%a%a%a%a"));
-    assert!(rt; !is_like(text.as_str(), "%a%a%a%a%a%a%a%a%b"));
-    Ok(())
-}
-
-fn repeated(alloc: Global, part: &str, count: usize, last: &str) -> Result<String, AllocError> {
+fn repeated(alloc: Global, part: &str, count: usize, last: &str) -> Made {
     let mut text = String::new(alloc);
     for _ in 0..count {
         text.push_str(part)?;
@@ -136,95 +161,212 @@ fn repeated(alloc: Global, part: &str, count: usize, last: &str) -> Result<Strin
     Ok(text)
 }
 
+fn text_of_a(alloc: Global, length: usize) -> Made {
+    repeated(alloc, "a", length, "")
+}
+
 // `%`, the letters, and what follows them.
-fn anywhere(alloc: Global, letters: &str, count: usize, last: &str) -> Result<String, AllocError> {
+fn anywhere(alloc: Global, letters: &str, count: usize, last: &str) -> Made {
     let run = repeated(alloc, letters, count, last)?;
     repeated(alloc, "%", 1, run.as_str())
 }
 
-#[test]
-fn a_long_run_of_letters_takes_linear_time(rt: HostRuntime) -> Result<(), Fail> {
-    let text = text_of_a(rt.alloc(), 40000)?;
-    let pattern = anywhere(rt.alloc(), "a", 20000, "b%")?;
-    assert!(rt; !is_like(text.as_str(), pattern.as_str()));
-    assert!(rt; !is_ilike(text.as_str(), pattern.as_str()));
-    Ok(())
+// Whether a long text is like a pattern, as told.
+fn expect_long(rt: &impl Abort, options: LikeOptions, text: Made, pattern: Made, expected: bool) {
+    let (text, pattern) = (text.expect(rt, "a text"), pattern.expect(rt, "a pattern"));
+    assert!(rt; options.matches(text.as_str(), pattern.as_str()) == expected);
+}
+
+fn expect_plain(rt: &impl Abort, text: Made, pattern: Made, expected: bool) {
+    expect_long(rt, PLAIN, text, pattern, expected);
+}
+
+fn expect_ignoring_case(rt: &impl Abort, text: Made, pattern: Made, expected: bool) {
+    expect_long(rt, IGNORING_CASE, text, pattern, expected);
 }
 
 #[test]
-fn a_periodic_run_is_found_at_the_end(rt: HostRuntime) -> Result<(), Fail> {
-    let text = repeated(rt.alloc(), "ab", 2000, "b")?;
-    let there = anywhere(rt.alloc(), "ab", 1000, "b%")?;
-    let missing = anywhere(rt.alloc(), "ab", 1000, "bb%")?;
-    assert!(rt; is_like(text.as_str(), there.as_str()));
-    assert!(rt; is_ilike(text.as_str(), there.as_str()));
-    assert!(rt; !is_like(text.as_str(), missing.as_str()));
-    assert!(rt; !is_ilike(text.as_str(), missing.as_str()));
-    Ok(())
+fn many_runs_end_at_once(rt: HostRuntime) {
+    let alloc = rt.alloc();
+    let there = repeated(alloc, "%a", 4, "");
+    expect_plain(&rt, text_of_a(alloc, 5000), there, true);
+    let missing = repeated(alloc, "%a", 8, "%b");
+    expect_plain(&rt, text_of_a(alloc, 5000), missing, false);
 }
 
 #[test]
-fn pieces_do_not_overlap(rt: HostRuntime) -> Result<(), Fail> {
-    let front = repeated(rt.alloc(), "ab", 1000, "")?;
-    let twice = anywhere(rt.alloc(), "ab", 1000, "ba%ba%")?;
-    let overlapping = repeated(rt.alloc(), front.as_str(), 2, "ba")?;
-    let apart = repeated(rt.alloc(), front.as_str(), 2, "baba")?;
-    assert!(rt; !is_like(overlapping.as_str(), twice.as_str()));
-    assert!(rt; is_like(apart.as_str(), twice.as_str()));
-    assert!(rt; !is_like("xababax", "%aba%aba%"));
-    assert!(rt; is_like("xabaabax", "%aba%aba%"));
-    Ok(())
+fn a_long_run_of_letters_takes_linear_time(rt: HostRuntime) {
+    let alloc = rt.alloc();
+    let missing = anywhere(alloc, "a", 20000, "b%");
+    expect_plain(&rt, text_of_a(alloc, 40000), missing, false);
+    let missing = anywhere(alloc, "a", 20000, "b%");
+    expect_ignoring_case(&rt, text_of_a(alloc, 40000), missing, false);
+}
+
+fn periodic(alloc: Global) -> Made {
+    repeated(alloc, "ab", 2000, "b")
 }
 
 #[test]
-fn a_long_run_may_have_escapes(rt: HostRuntime) -> Result<(), Fail> {
-    let text = repeated(rt.alloc(), "a%", 2000, "_b")?;
-    let there = anywhere(rt.alloc(), "\\a\\%", 1000, "\\_%")?;
-    let missing = anywhere(rt.alloc(), "\\a\\%", 1000, "\\_a%")?;
-    assert!(rt; is_like(text.as_str(), there.as_str()));
-    assert!(rt; !is_like(text.as_str(), missing.as_str()));
-    Ok(())
+fn a_periodic_run_is_found_at_the_end(rt: HostRuntime) {
+    let alloc = rt.alloc();
+    expect_plain(
+        &rt,
+        periodic(alloc),
+        anywhere(alloc, "ab", 1000, "b%"),
+        true,
+    );
+    expect_ignoring_case(
+        &rt,
+        periodic(alloc),
+        anywhere(alloc, "ab", 1000, "b%"),
+        true,
+    );
+    expect_plain(
+        &rt,
+        periodic(alloc),
+        anywhere(alloc, "ab", 1000, "bb%"),
+        false,
+    );
+    expect_ignoring_case(
+        &rt,
+        periodic(alloc),
+        anywhere(alloc, "ab", 1000, "bb%"),
+        false,
+    );
 }
 
 #[test]
-fn a_long_run_may_ignore_case(rt: HostRuntime) -> Result<(), Fail> {
-    let text = repeated(rt.alloc(), "aB", 2000, "Cx")?;
-    let pattern = anywhere(rt.alloc(), "Ab", 1000, "c%")?;
-    assert!(rt; is_ilike(text.as_str(), pattern.as_str()));
-    assert!(rt; !is_like(text.as_str(), pattern.as_str()));
-    Ok(())
+fn pieces_do_not_overlap(rt: HostRuntime) {
+    let alloc = rt.alloc();
+    let overlapping = repeated(alloc, "ab", 2000, "ba");
+    expect_plain(
+        &rt,
+        overlapping,
+        anywhere(alloc, "ab", 1000, "ba%ba%"),
+        false,
+    );
+    let apart = repeated(alloc, "ab", 2000, "baba");
+    expect_plain(&rt, apart, anywhere(alloc, "ab", 1000, "ba%ba%"), true);
+    expect(
+        &rt,
+        PLAIN,
+        &[
+            ("xababax", "%aba%aba%", false),
+            ("xabaabax", "%aba%aba%", true),
+        ],
+    );
+}
+
+fn escaped(alloc: Global) -> Made {
+    repeated(alloc, "a%", 2000, "_b")
 }
 
 #[test]
-fn a_long_run_may_have_characters_of_several_bytes(rt: HostRuntime) -> Result<(), Fail> {
-    let text = repeated(rt.alloc(), "é日", 2000, "😀é")?;
-    let there = anywhere(rt.alloc(), "é日", 1000, "😀%")?;
-    let missing = anywhere(rt.alloc(), "é日", 1000, "😀日%")?;
-    assert!(rt; is_like(text.as_str(), there.as_str()));
-    assert!(rt; !is_like(text.as_str(), missing.as_str()));
-    Ok(())
+fn a_long_run_may_have_escapes(rt: HostRuntime) {
+    let alloc = rt.alloc();
+    expect_plain(
+        &rt,
+        escaped(alloc),
+        anywhere(alloc, "\\a\\%", 1000, "\\_%"),
+        true,
+    );
+    expect_plain(
+        &rt,
+        escaped(alloc),
+        anywhere(alloc, "\\a\\%", 1000, "\\_a%"),
+        false,
+    );
+}
+
+fn of_two_cases(alloc: Global) -> Made {
+    repeated(alloc, "aB", 2000, "Cx")
 }
 
 #[test]
-fn the_last_piece_is_compared_at_the_end(rt: HostRuntime) -> Result<(), Fail> {
-    let text = text_of_a(rt.alloc(), 4000)?;
-    let last = anywhere(rt.alloc(), "a", 2000, "")?;
-    let other = anywhere(rt.alloc(), "a", 2000, "b")?;
-    let any_char = anywhere(rt.alloc(), "a_", 1000, "")?;
-    let too_long = anywhere(rt.alloc(), "a", 4000, "b")?;
-    assert!(rt; is_like(text.as_str(), last.as_str()));
-    assert!(rt; !is_like(text.as_str(), other.as_str()));
-    assert!(rt; is_like(text.as_str(), any_char.as_str()));
-    assert!(rt; !is_like(text.as_str(), too_long.as_str()));
-    Ok(())
+fn a_long_run_may_ignore_case(rt: HostRuntime) {
+    let alloc = rt.alloc();
+    expect_ignoring_case(
+        &rt,
+        of_two_cases(alloc),
+        anywhere(alloc, "Ab", 1000, "c%"),
+        true,
+    );
+    expect_plain(
+        &rt,
+        of_two_cases(alloc),
+        anywhere(alloc, "Ab", 1000, "c%"),
+        false,
+    );
+}
+
+fn of_wide_characters(alloc: Global) -> Made {
+    repeated(alloc, "é日", 2000, "😀é")
 }
 
 #[test]
-fn any_character_may_stand_in_a_long_piece(rt: HostRuntime) -> Result<(), Fail> {
-    let text = repeated(rt.alloc(), "a", 1000, "bc")?;
-    let there = anywhere(rt.alloc(), "a", 400, "_c%")?;
-    let missing = anywhere(rt.alloc(), "a", 400, "_d%")?;
-    assert!(rt; is_like(text.as_str(), there.as_str()));
-    assert!(rt; !is_like(text.as_str(), missing.as_str()));
-    Ok(())
+fn a_long_run_may_have_characters_of_several_bytes(rt: HostRuntime) {
+    let alloc = rt.alloc();
+    expect_plain(
+        &rt,
+        of_wide_characters(alloc),
+        anywhere(alloc, "é日", 1000, "😀%"),
+        true,
+    );
+    expect_plain(
+        &rt,
+        of_wide_characters(alloc),
+        anywhere(alloc, "é日", 1000, "😀日%"),
+        false,
+    );
+}
+
+#[test]
+fn the_last_piece_is_compared_at_the_end(rt: HostRuntime) {
+    let alloc = rt.alloc();
+    expect_plain(
+        &rt,
+        text_of_a(alloc, 4000),
+        anywhere(alloc, "a", 2000, ""),
+        true,
+    );
+    expect_plain(
+        &rt,
+        text_of_a(alloc, 4000),
+        anywhere(alloc, "a", 2000, "b"),
+        false,
+    );
+    expect_plain(
+        &rt,
+        text_of_a(alloc, 4000),
+        anywhere(alloc, "a_", 1000, ""),
+        true,
+    );
+    expect_plain(
+        &rt,
+        text_of_a(alloc, 4000),
+        anywhere(alloc, "a", 4000, "b"),
+        false,
+    );
+}
+
+fn before_b_and_c(alloc: Global) -> Made {
+    repeated(alloc, "a", 1000, "bc")
+}
+
+#[test]
+fn any_character_may_stand_in_a_long_piece(rt: HostRuntime) {
+    let alloc = rt.alloc();
+    expect_plain(
+        &rt,
+        before_b_and_c(alloc),
+        anywhere(alloc, "a", 400, "_c%"),
+        true,
+    );
+    expect_plain(
+        &rt,
+        before_b_and_c(alloc),
+        anywhere(alloc, "a", 400, "_d%"),
+        false,
+    );
 }

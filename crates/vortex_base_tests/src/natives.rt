@@ -2,7 +2,7 @@
 //! values that are set in the place of others.
 use crate::testing::*;
 use std::alloc::{AllocError, Global};
-use std::test::Fail;
+use std::process::Abort;
 use vortex_base::cells::ShortCell;
 use vortex_base::laws::kept_examples_hold;
 use vortex_base::{
@@ -55,34 +55,45 @@ fn worked_cases_hold() {
     kept_examples_hold();
 }
 
+// Of a column of signed numbers of 64 bits none of another type is lent.
+fn lends_no_others(column: &Column) -> bool {
+    column.natives::<u64>().is_none() && column.natives::<bool>().is_none()
+}
+
 #[test]
-fn numbers_of_a_slice_are_lent_again(rt: HostRuntime) -> Result<(), Fail> {
-    let column = numbers(rt.alloc(), I64, &[-5, 0, i64::MAX])?;
+fn numbers_of_a_slice_are_lent_again(rt: HostRuntime) {
+    let column = numbers(rt.alloc(), I64, &[-5, 0, i64::MAX]).expect(&rt, "column");
     assert!(rt; lends(&column, &[-5, 0, i64::MAX], &[true, true, true]));
-    assert!(rt; column.natives::<u64>().is_none());
-    assert!(rt; column.natives::<bool>().is_none());
-    assert!(rt; column.len() == 3 && column.size() == 8);
-    Ok(())
+    assert!(rt; lends_no_others(&column));
+    assert!(rt; (column.len(), column.size()) == (3, 8));
+}
+
+fn is_seven_null_nine(column: &Column) -> bool {
+    column.len() == 3
+        && is_number(column.get(0), 7)
+        && column.get(1).is_none()
+        && is_number(column.get(2), 9)
 }
 
 #[test]
-fn nulls_stand_where_no_number_is_there(rt: HostRuntime) -> Result<(), Fail> {
-    let column = some_numbers(rt.alloc(), I64_OR_NULL, &[7, 8, 9], &[true, false, true])?;
-    assert!(rt; lends(&column, &[7, 8, 9], &[true, false, true]));
-    assert_eq!(rt; column.len(), 3);
-    assert!(rt; is_number(column.get(0), 7) && is_number(column.get(2), 9));
-    assert!(rt; column.get(1).is_none());
-    Ok(())
+fn nulls_stand_where_no_number_is_there(rt: HostRuntime) {
+    let (values, there) = ([7, 8, 9], [true, false, true]);
+    let column = some_numbers(rt.alloc(), I64_OR_NULL, &values, &there).expect(&rt, "column");
+    assert!(rt; lends(&column, &values, &there));
+    assert!(rt; is_seven_null_nine(&column));
+}
+
+fn expect_mismatch(rt: &impl Abort, column: Result<Column, BaseError>) {
+    assert!(rt; is_mismatch(column));
 }
 
 #[test]
-fn slices_that_do_not_fit_a_type_are_refused(rt: HostRuntime) -> Result<(), Fail> {
+fn slices_that_do_not_fit_a_type_are_refused(rt: HostRuntime) {
     let alloc = rt.alloc();
-    assert!(rt; is_mismatch(some_numbers(alloc, I64, &[7, 8], &[true, false])));
-    assert!(rt; is_mismatch(numbers(alloc, I32, &[7])));
-    assert!(rt; is_mismatch(numbers(alloc, UTF8, &[7])));
+    expect_mismatch(&rt, some_numbers(alloc, I64, &[7, 8], &[true, false]));
+    expect_mismatch(&rt, numbers(alloc, I32, &[7]));
+    expect_mismatch(&rt, numbers(alloc, UTF8, &[7]));
     assert!(rt; numbers(alloc, I32, &[]).is_ok());
-    Ok(())
 }
 
 fn is_number(lent: Option<ValueRef<'_>>, number: i64) -> bool {
@@ -100,15 +111,33 @@ fn is_bytes(lent: Option<ValueRef<'_>>, expected: &[u8]) -> bool {
     matches!(lent, Some(ValueRef::Binary(bytes)) if bytes.as_slice() == expected)
 }
 
+fn push_text(cells: &mut Cells, alloc: Global, text: &str) -> Result<(), AllocError> {
+    let value = text_value(alloc, text)?;
+    cells.push(Some(value))
+}
+
+fn push_lent_text(cells: &mut Cells, alloc: Global, text: &str) -> Result<(), AllocError> {
+    let value = text_value(alloc, text)?;
+    cells.push_lent(Some(value.lend()))
+}
+
+fn push_texts(cells: &mut Cells, alloc: Global) -> Result<(), AllocError> {
+    push_text(cells, alloc, "é")?;
+    push_text(cells, alloc, "")?;
+    cells.push(None)?;
+    push_lent_text(cells, alloc, "abc")
+}
+
 // Texts, one of them empty and one null, one behind another.
 fn texts(alloc: Global) -> Result<Cells, AllocError> {
     let mut cells = Cells::with_capacity(alloc, UTF8_OR_NULL, 4)?;
-    cells.push(Some(text_value(alloc, "é")?))?;
-    cells.push(Some(text_value(alloc, "")?))?;
-    cells.push(None)?;
-    cells.push_lent(Some(text_value(alloc, "abc")?.lend()))?;
+    push_texts(&mut cells, alloc)?;
     cells.shrink_to_fit();
     Ok(cells)
+}
+
+fn of_texts(alloc: Global, dtype: DType) -> Result<Column, BaseError> {
+    Column::of_cells(dtype, texts(alloc)?, 0)
 }
 
 fn are_texts(column: &Column) -> bool {
@@ -120,20 +149,33 @@ fn are_texts(column: &Column) -> bool {
 }
 
 #[test]
-fn texts_of_one_heap_are_kept_apart(rt: HostRuntime) -> Result<(), Fail> {
-    let column = Column::of_cells(UTF8_OR_NULL, texts(rt.alloc())?, 0)?;
+fn texts_of_one_heap_are_kept_apart(rt: HostRuntime) {
+    let column = of_texts(rt.alloc(), UTF8_OR_NULL).expect(&rt, "column");
     assert!(rt; are_texts(&column));
-    assert!(rt; is_mismatch(Column::of_cells(UTF8, texts(rt.alloc())?, 0)));
-    Ok(())
+    expect_mismatch(&rt, of_texts(rt.alloc(), UTF8));
+}
+
+fn push_bytes(cells: &mut Cells, alloc: Global, bytes: &[u8]) -> Result<(), AllocError> {
+    let value = bytes_value(alloc, bytes)?;
+    cells.push(Some(value))
+}
+
+fn push_lent_bytes(cells: &mut Cells, alloc: Global, bytes: &[u8]) -> Result<(), AllocError> {
+    let value = bytes_value(alloc, bytes)?;
+    cells.push_lent(Some(value.lend()))
+}
+
+fn push_byte_strings(cells: &mut Cells, alloc: Global) -> Result<(), AllocError> {
+    push_bytes(cells, alloc, &[0xC1, 0])?;
+    cells.push(None)?;
+    push_lent_bytes(cells, alloc, &[])?;
+    push_bytes(cells, alloc, &[7])
 }
 
 // Byte strings, one of them empty and one null, one behind another.
 fn byte_strings(alloc: Global) -> Result<Cells, AllocError> {
     let mut cells = Cells::new(alloc, BINARY_OR_NULL);
-    cells.push(Some(bytes_value(alloc, &[0xC1, 0])?))?;
-    cells.push(None)?;
-    cells.push_lent(Some(bytes_value(alloc, &[])?.lend()))?;
-    cells.push(Some(bytes_value(alloc, &[7])?))?;
+    push_byte_strings(&mut cells, alloc)?;
     Ok(cells)
 }
 
@@ -146,14 +188,15 @@ fn are_byte_strings(column: &Column) -> bool {
 }
 
 #[test]
-fn byte_strings_of_one_heap_are_kept_apart(rt: HostRuntime) -> Result<(), Fail> {
-    let column = Column::of_cells(BINARY_OR_NULL, byte_strings(rt.alloc())?, 0)?;
+fn byte_strings_of_one_heap_are_kept_apart(rt: HostRuntime) {
+    let strings = byte_strings(rt.alloc()).expect(&rt, "strings");
+    let column = Column::of_cells(BINARY_OR_NULL, strings, 0).expect(&rt, "column");
     assert!(rt; are_byte_strings(&column));
-    Ok(())
 }
 
 // A value of another kind makes of each form values of any kind, which are those that were there.
-fn with_a_truth(mut cells: Cells) -> Result<Cells, AllocError> {
+fn with_a_truth(cells: Result<Cells, AllocError>) -> Result<Cells, AllocError> {
+    let mut cells = cells?;
     cells.push_cell(ShortCell::Bool(true))?;
     Ok(cells)
 }
@@ -163,38 +206,55 @@ fn still_fits(cells: &Cells, count: usize, dtype: &DType) -> bool {
 }
 
 #[test]
-fn values_of_another_kind_stand_beside_each_form(rt: HostRuntime) -> Result<(), Fail> {
+fn values_of_another_kind_stand_beside_each_form(rt: HostRuntime) {
     let alloc = rt.alloc();
-    assert!(rt; still_fits(&with_a_truth(texts(alloc)?)?, 5, &UTF8_OR_NULL));
-    assert!(rt; still_fits(&with_a_truth(byte_strings(alloc)?)?, 5, &BINARY_OR_NULL));
-    let nulls = with_a_truth(Cells::Nulls(Nulls::new(alloc, 2)))?;
+    let texts = with_a_truth(texts(alloc)).expect(&rt, "texts");
+    assert!(rt; still_fits(&texts, 5, &UTF8_OR_NULL));
+    let strings = with_a_truth(byte_strings(alloc)).expect(&rt, "strings");
+    assert!(rt; still_fits(&strings, 5, &BINARY_OR_NULL));
+    let nulls = with_a_truth(Ok(Cells::Nulls(Nulls::new(alloc, 2)))).expect(&rt, "nulls");
     assert!(rt; nulls.len() == 3 && nulls.fits(&BOOL_OR_NULL) && !nulls.fits(&BOOL));
-    Ok(())
 }
 
-#[test]
-fn nulls_alone_fit_where_null_may_stand(rt: HostRuntime) -> Result<(), Fail> {
-    let alloc = rt.alloc();
+fn two_nulls(alloc: Global) -> Result<Cells, AllocError> {
     let mut cells = Cells::new(alloc, DType::Null);
     cells.push(None)?;
     cells.push_cell(ShortCell::Null)?;
-    assert!(rt; cells.len() == 2 && cells.fits(&DType::Null) && cells.fits(&UTF8_OR_NULL));
-    assert!(rt; !cells.fits(&UTF8));
+    Ok(cells)
+}
+
+fn fits_where_null_may_stand(cells: &Cells) -> bool {
+    cells.len() == 2 && cells.fits(&DType::Null) && cells.fits(&UTF8_OR_NULL) && !cells.fits(&UTF8)
+}
+
+#[test]
+fn nulls_alone_fit_where_null_may_stand(rt: HostRuntime) {
+    let alloc = rt.alloc();
+    let cells = two_nulls(alloc).expect(&rt, "cells");
+    assert!(rt; fits_where_null_may_stand(&cells));
     assert!(rt; Cells::new(alloc, DType::Null).fits(&UTF8));
+}
+
+fn set_second(cells: &mut Cells, value: ScalarValue) -> Result<(), AllocError> {
+    if cells.len() == 2 {
+        cells.set(1, Some(value))?;
+    }
     Ok(())
 }
 
 // Two nulls of a type, of which the second is set to a value.
 fn second_set(alloc: Global, dtype: DType, value: ScalarValue) -> Result<Cells, AllocError> {
     let mut cells = Cells::nulls(alloc, dtype, 2)?;
-    if cells.len() == 2 {
-        cells.set(1, Some(value))?;
-    }
+    set_second(&mut cells, value)?;
     Ok(cells)
 }
 
 fn is_second(cells: Cells, dtype: DType, value: &ScalarValue) -> Result<bool, BaseError> {
     let column = Column::of_cells(dtype, cells, 0)?;
+    holds_second(&column, value)
+}
+
+fn holds_second(column: &Column, value: &ScalarValue) -> Result<bool, BaseError> {
     if column.len() != 2 || column.get(0).is_some() {
         return Ok(false);
     }
@@ -204,9 +264,12 @@ fn is_second(cells: Cells, dtype: DType, value: &ScalarValue) -> Result<bool, Ba
     }
 }
 
-fn is_set(alloc: Global, dtype: DType, value: ScalarValue) -> Result<bool, BaseError> {
-    let copy = value.try_clone()?;
-    is_second(second_set(alloc, dtype, value)?, dtype, &copy)
+fn is_set(alloc: Global, dtype: DType, value: &ScalarValue) -> Result<bool, BaseError> {
+    is_second(second_set(alloc, dtype, value.try_clone()?)?, dtype, value)
+}
+
+fn expect_set(rt: &impl Abort, alloc: Global, dtype: DType, value: ScalarValue) {
+    assert!(rt; is_set(alloc, dtype, &value).expect(rt, "a column"));
 }
 
 const fn number(ptype: PType) -> DType {
@@ -214,28 +277,29 @@ const fn number(ptype: PType) -> DType {
 }
 
 #[test]
-fn numbers_are_set_in_the_place_of_nulls(rt: HostRuntime) -> Result<(), Fail> {
+fn numbers_are_set_in_the_place_of_nulls(rt: HostRuntime) {
     let alloc = rt.alloc();
-    assert!(rt; is_set(alloc, number(PType::U8), ScalarValue::from(255u8))?);
-    assert!(rt; is_set(alloc, number(PType::U16), ScalarValue::from(256u16))?);
-    assert!(rt; is_set(alloc, number(PType::U32), ScalarValue::from(65536u32))?);
-    assert!(rt; is_set(alloc, number(PType::U64), ScalarValue::from(u64::MAX))?);
-    assert!(rt; is_set(alloc, number(PType::I8), ScalarValue::from(-128i8))?);
-    assert!(rt; is_set(alloc, number(PType::I16), ScalarValue::from(-129i16))?);
-    assert!(rt; is_set(alloc, number(PType::I32), ScalarValue::from(-32769i32))?);
-    assert!(rt; is_set(alloc, number(PType::I64), ScalarValue::from(i64::MIN))?);
-    Ok(())
+    expect_set(&rt, alloc, number(PType::U8), ScalarValue::from(255u8));
+    expect_set(&rt, alloc, number(PType::U16), ScalarValue::from(256u16));
+    expect_set(&rt, alloc, number(PType::U32), ScalarValue::from(65536u32));
+    expect_set(&rt, alloc, number(PType::U64), ScalarValue::from(u64::MAX));
+    expect_set(&rt, alloc, number(PType::I8), ScalarValue::from(-128i8));
+    expect_set(&rt, alloc, number(PType::I16), ScalarValue::from(-129i16));
+    expect_set(&rt, alloc, number(PType::I32), ScalarValue::from(-32769i32));
+    expect_set(&rt, alloc, number(PType::I64), ScalarValue::from(i64::MIN));
 }
 
 #[test]
-fn other_values_are_set_in_the_place_of_nulls(rt: HostRuntime) -> Result<(), Fail> {
+fn other_values_are_set_in_the_place_of_nulls(rt: HostRuntime) {
     let alloc = rt.alloc();
-    assert!(rt; is_set(alloc, BOOL_OR_NULL, ScalarValue::from(true))?);
-    assert!(rt; is_set(alloc, UTF8_OR_NULL, text_value(alloc, "é")?)?);
-    assert!(rt; is_set(alloc, BINARY_OR_NULL, bytes_value(alloc, &[0xC1])?)?);
-    let mut cells = second_set(alloc, I64_OR_NULL, ScalarValue::from(5i64))?;
+    expect_set(&rt, alloc, BOOL_OR_NULL, ScalarValue::from(true));
+    let text = text_value(alloc, "é").expect(&rt, "a text");
+    expect_set(&rt, alloc, UTF8_OR_NULL, text);
+    let bytes = bytes_value(alloc, &[0xC1]).expect(&rt, "bytes");
+    expect_set(&rt, alloc, BINARY_OR_NULL, bytes);
+    let mut cells = second_set(alloc, I64_OR_NULL, ScalarValue::from(5i64)).expect(&rt, "cells");
     assert_eq!(rt; cells.len(), 2);
-    cells.set_cell(1, ShortCell::I64(6))?;
-    assert!(rt; is_second(cells, I64_OR_NULL, &ScalarValue::from(6i64))?);
-    Ok(())
+    cells.set_cell(1, ShortCell::I64(6)).expect(&rt, "a number");
+    let is_six = is_second(cells, I64_OR_NULL, &ScalarValue::from(6i64));
+    assert!(rt; is_six.expect(&rt, "a column"));
 }

@@ -1,7 +1,6 @@
 //! Tests of `scalar`.
 use crate::testing::*;
 use std::alloc::Global;
-use std::test::Fail;
 use vortex_base::{BaseError, DType, Scalar, ScalarValue};
 
 fn five() -> Result<Scalar, BaseError> {
@@ -23,13 +22,12 @@ fn is_copied(scalar: &Scalar) -> Result<bool, BaseError> {
 }
 
 #[test]
-fn hold_values_of_their_types(rt: HostRuntime) -> Result<(), Fail> {
-    let five = five()?;
+fn hold_values_of_their_types(rt: HostRuntime) {
+    let five = five().expect(&rt, "five");
     assert!(rt; five.dtype() == I32);
     assert!(rt; !is_null(&five));
-    assert!(rt; is_copied(&five)?);
+    assert!(rt; is_copied(&five).expect(&rt, "a copy"));
     assert!(rt; five.into_value() == Some(ScalarValue::from(5i32)));
-    Ok(())
 }
 
 #[test]
@@ -43,18 +41,16 @@ fn text(alloc: Global) -> Result<Scalar, BaseError> {
 }
 
 #[test]
-fn may_be_null(rt: HostRuntime) -> Result<(), Fail> {
+fn may_be_null(rt: HostRuntime) {
     let null = Scalar::null(UTF8_OR_NULL);
     assert!(rt; is_null(&null));
-    assert!(rt; is_copied(&null)?);
+    assert!(rt; is_copied(&null).expect(&rt, "a copy"));
     assert!(rt; null != Scalar::null(DType::Null));
-    Ok(())
 }
 
 #[test]
-fn may_be_texts(rt: HostRuntime) -> Result<(), Fail> {
-    let text = text(rt.alloc())?;
-    assert!(rt; is_copied(&text)?);
+fn may_be_texts(rt: HostRuntime) {
+    let text = text(rt.alloc()).expect(&rt, "text");
+    assert!(rt; is_copied(&text).expect(&rt, "a copy"));
     assert!(rt; text != Scalar::null(UTF8_OR_NULL));
-    Ok(())
 }

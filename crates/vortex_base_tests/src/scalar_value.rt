@@ -3,7 +3,6 @@ use crate::testing::*;
 use std::alloc::{AllocError, Global};
 use std::cmp::Ordering;
 use std::process::Abort;
-use std::test::Fail;
 use vortex_base::{BaseError, DType, Nullability, PType, ScalarValue, laws};
 
 // Truths and numbers in ascending order.
@@ -24,23 +23,21 @@ fn numbers() -> [ScalarValue; 12] {
     ]
 }
 
-// Texts and bytes in ascending order.
-fn strings(alloc: Global) -> Result<[ScalarValue; 5], AllocError> {
-    Ok([
-        text_value(alloc, "")?,
-        text_value(alloc, "ab")?,
-        text_value(alloc, "é")?,
-        bytes_value(alloc, &[])?,
-        bytes_value(alloc, &[0xC1, 0xA1])?,
-    ])
+// Adds texts and bytes in ascending order.
+fn push_strings(values: &mut Vec<ScalarValue>, alloc: Global) -> Result<(), AllocError> {
+    for text in ["", "ab", "é"] {
+        values.push(text_value(alloc, text)?)?;
+    }
+    for bytes in [[].as_slice(), [0xC1, 0xA1].as_slice()] {
+        values.push(bytes_value(alloc, bytes)?)?;
+    }
+    Ok(())
 }
 
 // All of them.
 fn ascending(alloc: Global) -> Result<Vec<ScalarValue>, AllocError> {
     let mut values = Vec::from_array(alloc, numbers())?;
-    for value in Vec::from_array(alloc, strings(alloc)?)? {
-        values.push(value)?;
-    }
+    push_strings(&mut values, alloc)?;
     Ok(values)
 }
 
@@ -58,9 +55,9 @@ fn stand_in_order(rt: &impl Abort, ascending: &[ScalarValue]) {
 }
 
 #[test]
-fn stand_in_one_order(rt: HostRuntime) -> Result<(), Fail> {
-    stand_in_order(&rt, &ascending(rt.alloc())?);
-    Ok(())
+fn stand_in_one_order(rt: HostRuntime) {
+    let ascending = ascending(rt.alloc()).expect(&rt, "values");
+    stand_in_order(&rt, &ascending);
 }
 
 // Whether copies of the value are equal to it.
@@ -69,18 +66,21 @@ fn is_copied(value: &ScalarValue) -> Result<bool, BaseError> {
     Ok(is_same && laws::clone_of_value(value)?.cmp(value) == Ordering::Equal)
 }
 
-#[test]
-fn clones_are_equal(rt: HostRuntime) -> Result<(), Fail> {
-    assert!(rt; is_copied(&text_value(rt.alloc(), "é")?)?);
-    assert!(rt; is_copied(&bytes_value(rt.alloc(), &[1, 2])?)?);
-    Ok(())
+fn expect_copied(rt: &impl Abort, value: Result<ScalarValue, AllocError>) {
+    let value = value.expect(rt, "a value");
+    assert!(rt; is_copied(&value).expect(rt, "copies"));
 }
 
 #[test]
-fn clones_of_numbers_and_truths_are_equal(rt: HostRuntime) -> Result<(), Fail> {
-    assert!(rt; is_copied(&ScalarValue::from(5i32))?);
-    assert!(rt; is_copied(&ScalarValue::from(true))?);
-    Ok(())
+fn clones_are_equal(rt: HostRuntime) {
+    expect_copied(&rt, text_value(rt.alloc(), "é"));
+    expect_copied(&rt, bytes_value(rt.alloc(), &[1, 2]));
+}
+
+#[test]
+fn clones_of_numbers_and_truths_are_equal(rt: HostRuntime) {
+    expect_copied(&rt, Ok(ScalarValue::from(5i32)));
+    expect_copied(&rt, Ok(ScalarValue::from(true)));
 }
 
 fn fits(value: &ScalarValue, dtype: DType) -> bool {
@@ -97,13 +97,13 @@ fn fit_their_width(rt: HostRuntime) {
 }
 
 #[test]
-fn fit_their_kind(rt: HostRuntime) -> Result<(), Fail> {
+fn fit_their_kind(rt: HostRuntime) {
     let binary = DType::Binary(Nullability::NonNullable);
-    let letters = text_value(rt.alloc(), "ab")?;
+    let letters = text_value(rt.alloc(), "ab").expect(&rt, "letters");
     assert!(rt; fits(&letters, UTF8));
     assert!(rt; !fits(&letters, binary));
-    assert!(rt; fits(&bytes_value(rt.alloc(), &[])?, binary));
-    Ok(())
+    let no_bytes = bytes_value(rt.alloc(), &[]).expect(&rt, "no bytes");
+    assert!(rt; fits(&no_bytes, binary));
 }
 
 #[test]

@@ -2,7 +2,6 @@
 //! answered: a test is one straight line of calls, so its proof stays short.
 use std::alloc::{AllocError, Global};
 use std::process::Abort;
-use std::test::Fail;
 use vortex_base::{
     BaseError, BoundExpression, Bytes, Chunk, Column, DType, Expression, Nullability, PType, Row,
     Scalar, ScalarValue, Scope, Text,
@@ -90,10 +89,8 @@ pub fn evaluated(
 }
 
 /// The two are made, and alike.
-pub fn expect_same(rt: &impl Abort, found: Built, expected: Built) -> Result<(), Fail> {
-    let (found, expected) = (found?, expected?);
-    assert!(rt; found == expected);
-    Ok(())
+pub fn expect_same(rt: &impl Abort, found: Built, expected: Built) {
+    assert!(rt; found.expect(rt, "found") == expected.expect(rt, "expected"));
 }
 
 /// Expressions over names.

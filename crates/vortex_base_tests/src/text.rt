@@ -1,6 +1,5 @@
 //! Tests of `text`.
 use std::alloc::{AllocError, Global};
-use std::test::Fail;
 use vortex_base::{BaseError, Text, laws};
 
 fn text(alloc: Global) -> Result<Text, AllocError> {
@@ -12,10 +11,9 @@ fn is_copied(text: &Text) -> Result<bool, BaseError> {
 }
 
 #[test]
-fn lends_what_it_was_made_of(rt: HostRuntime) -> Result<(), Fail> {
-    let text = text(rt.alloc())?;
+fn lends_what_it_was_made_of(rt: HostRuntime) {
+    let text = text(rt.alloc()).expect(&rt, "text");
     assert!(rt; text.as_str() == "é");
-    assert!(rt; is_copied(&text)?);
+    assert!(rt; is_copied(&text).expect(&rt, "a copy"));
     assert!(rt; text.into_string().as_str() == "é");
-    Ok(())
 }
