@@ -2,7 +2,6 @@
 use crate::nodes::*;
 use std::alloc::Global;
 use std::process::Abort;
-use std::test::Fail;
 use vortex_base::{AggregateFnRef, Expression, Scope};
 use vortex_rewrite::expr::{
     all_non_null, all_null, bound as placed, min_max, null_count, stat as aggregated, sum,
@@ -28,15 +27,9 @@ fn bound_to_a(alloc: Global, named: Named) -> Built {
 }
 
 // The placeholder is bound to that for the aggregate of the column.
-fn expect_aggregate(
-    rt: &impl Abort,
-    alloc: Global,
-    named: Named,
-    aggregate: AggregateFnRef,
-) -> Result<(), Fail> {
+fn expect_aggregate(rt: &impl Abort, alloc: Global, named: Named, aggregate: AggregateFnRef) {
     let expected = stat(alloc, col(alloc, 0, I32), aggregate);
-    assert!(rt; are_same(bound_to_a(alloc, named), expected)?);
-    Ok(())
+    assert!(rt; are_same(bound_to_a(alloc, named), expected).expect(rt, "an answer"));
 }
 
 fn sum_of_a(alloc: Global) -> Named {
@@ -64,15 +57,15 @@ fn max_of_a(alloc: Global) -> Named {
 }
 
 #[test]
-fn are_bound_to_placeholders(rt: HostRuntime) -> Result<(), Fail> {
+fn are_bound_to_placeholders(rt: HostRuntime) {
     use AggregateFnRef::{AllNonNull, AllNull, Max, MinMax, NullCount, Sum};
     let alloc = rt.alloc();
-    expect_aggregate(&rt, alloc, sum_of_a(alloc), Sum)?;
-    expect_aggregate(&rt, alloc, null_count_of_a(alloc), NullCount)?;
-    expect_aggregate(&rt, alloc, all_null_of_a(alloc), AllNull)?;
-    expect_aggregate(&rt, alloc, all_non_null_of_a(alloc), AllNonNull)?;
-    expect_aggregate(&rt, alloc, min_max_of_a(alloc), MinMax)?;
-    expect_aggregate(&rt, alloc, max_of_a(alloc), Max)
+    expect_aggregate(&rt, alloc, sum_of_a(alloc), Sum);
+    expect_aggregate(&rt, alloc, null_count_of_a(alloc), NullCount);
+    expect_aggregate(&rt, alloc, all_null_of_a(alloc), AllNull);
+    expect_aggregate(&rt, alloc, all_non_null_of_a(alloc), AllNonNull);
+    expect_aggregate(&rt, alloc, min_max_of_a(alloc), MinMax);
+    expect_aggregate(&rt, alloc, max_of_a(alloc), Max);
 }
 
 fn placed_sum(alloc: Global) -> Built {
@@ -85,11 +78,10 @@ fn placed_null_count(alloc: Global) -> Built {
 
 // What is made over a name and bound is what is made over the bound column.
 #[test]
-fn are_those_over_bound_columns(rt: HostRuntime) -> Result<(), Fail> {
+fn are_those_over_bound_columns(rt: HostRuntime) {
     let alloc = rt.alloc();
     let found = bound_to_a(alloc, sum_of_a(alloc));
-    assert!(rt; are_same(found, placed_sum(alloc))?);
+    assert!(rt; are_same(found, placed_sum(alloc)).expect(&rt, "an answer"));
     let found = bound_to_a(alloc, null_count_of_a(alloc));
-    assert!(rt; are_same(found, placed_null_count(alloc))?);
-    Ok(())
+    assert!(rt; are_same(found, placed_null_count(alloc)).expect(&rt, "an answer"));
 }

@@ -2,7 +2,6 @@
 use crate::nodes::*;
 use std::alloc::Global;
 use std::process::Abort;
-use std::test::Fail;
 use vortex_base::types::Element;
 use vortex_base::{AggregateFnRef, DType, Nullability, PType};
 use vortex_rewrite::expr::bound as placed;
@@ -49,52 +48,60 @@ fn aggregated(alloc: Global, x: Built, aggregate: AggregateFnRef) -> Built {
 }
 
 // The placeholder has this type.
-fn expect_type(rt: &impl Abort, placeholder: Built, expected: DType) -> Result<(), Fail> {
-    let placeholder = placeholder?;
+fn expect_type(rt: &impl Abort, placeholder: Built, expected: DType) {
+    let placeholder = placeholder.expect(rt, "placeholder");
     assert!(rt; placeholder.dtype() == expected);
-    Ok(())
 }
 
 // The placeholder has this input.
-fn expect_input(rt: &impl Abort, placeholder: Built, expected: Built) -> Result<(), Fail> {
-    let (placeholder, expected) = (placeholder?, expected?);
+fn expect_input(rt: &impl Abort, placeholder: Built, expected: Built) {
+    let (placeholder, expected) = (
+        placeholder.expect(rt, "placeholder"),
+        expected.expect(rt, "expected"),
+    );
     assert!(rt; placeholder.child_count() == 1);
     if placeholder.child_count() == 1 {
         assert!(rt; *placeholder.child(0) == expected);
     }
-    Ok(())
 }
 
 fn is_unsupported(answer: Built) -> bool {
     matches!(answer, Err(StatsError::Unsupported))
 }
 
+fn expect_unsupported(rt: &impl Abort, answer: Built) {
+    assert!(rt; is_unsupported(answer));
+}
+
 #[test]
-fn keep_the_input_and_take_the_state(rt: HostRuntime) -> Result<(), Fail> {
+fn keep_the_input_and_take_the_state(rt: HostRuntime) {
     let alloc = rt.alloc();
     expect_input(
         &rt,
         sum(alloc, numbers_column(alloc)),
         numbers_column(alloc),
-    )?;
-    expect_type(&rt, sum(alloc, numbers_column(alloc)), I64)?;
-    expect_type(&rt, null_count(alloc, numbers_column(alloc)), COUNT)?;
-    expect_type(&rt, all_null(alloc, numbers_column(alloc)), TRUTH)?;
-    expect_type(&rt, all_non_null(alloc, numbers_column(alloc)), TRUTH)
+    );
+    expect_type(&rt, sum(alloc, numbers_column(alloc)), I64);
+    expect_type(&rt, null_count(alloc, numbers_column(alloc)), COUNT);
+    expect_type(&rt, all_null(alloc, numbers_column(alloc)), TRUTH);
+    expect_type(&rt, all_non_null(alloc, numbers_column(alloc)), TRUTH);
 }
 
 #[test]
-fn have_extremes_of_the_input(rt: HostRuntime) -> Result<(), Fail> {
+fn have_extremes_of_the_input(rt: HostRuntime) {
     let alloc = rt.alloc();
-    expect_type(&rt, min_max(alloc, numbers_column(alloc)), STATE)?;
+    expect_type(&rt, min_max(alloc, numbers_column(alloc)), STATE);
     let min = aggregated(alloc, numbers_column(alloc), AggregateFnRef::Min);
-    expect_type(&rt, min, I32_OR_NULL)
+    expect_type(&rt, min, I32_OR_NULL);
 }
 
 #[test]
 fn need_a_type_that_the_aggregate_supports(rt: HostRuntime) {
     let alloc = rt.alloc();
-    assert!(rt; is_unsupported(sum(alloc, texts(alloc))));
-    assert!(rt; is_unsupported(aggregated(alloc, texts(alloc), AggregateFnRef::NanCount)));
-    assert!(rt; is_unsupported(min_max(alloc, col(alloc, 0, DType::Null))));
+    expect_unsupported(&rt, sum(alloc, texts(alloc)));
+    expect_unsupported(
+        &rt,
+        aggregated(alloc, texts(alloc), AggregateFnRef::NanCount),
+    );
+    expect_unsupported(&rt, min_max(alloc, col(alloc, 0, DType::Null)));
 }

@@ -4,7 +4,7 @@ ghost use Rattle.vortex_rewrite.specs.Rewriting.Predicates.{is_predicate};
 
 use crate::nodes::*;
 use std::alloc::Global;
-use std::test::Fail;
+use std::process::Abort;
 use vortex_base::BoundExpression;
 use vortex_rewrite::expr::proofs;
 use vortex_rewrite::hook_fault::HookFault;
@@ -29,16 +29,27 @@ fn is_some_same(
     }
 }
 
+fn expect_some_same(
+    rt: &impl Abort,
+    found: Result<Option<BoundExpression>, HookFault>,
+    expected: Built,
+) {
+    assert!(rt; is_some_same(found, expected).expect(rt, "an answer"));
+}
+
 fn is_none(found: Result<Option<BoundExpression>, HookFault>) -> Result<bool, StatsError> {
     Ok(told_rule(found)?.is_none())
 }
 
+fn expect_none(rt: &impl Abort, found: Result<Option<BoundExpression>, HookFault>) {
+    assert!(rt; is_none(found).expect(rt, "an answer"));
+}
+
 #[test]
-fn a_literal_truth(rt: HostRuntime) -> Result<(), Fail> {
+fn a_literal_truth(rt: HostRuntime) {
     let alloc = rt.alloc();
-    let found = told_rule(proofs::truth(alloc, true))?;
-    assert!(rt; found == truth(alloc, true)?);
-    Ok(())
+    let found = told_rule(proofs::truth(alloc, true)).expect(&rt, "found");
+    assert!(rt; found == truth(alloc, true).expect(&rt, "truth"));
 }
 
 fn proof_of(alloc: Global, truth: Option<bool>) -> Result<Option<BoundExpression>, HookFault>
@@ -72,24 +83,22 @@ fn both(
 }
 
 #[test]
-fn either_of_two(rt: HostRuntime) -> Result<(), Fail> {
+fn either_of_two(rt: HostRuntime) {
     let alloc = rt.alloc();
     let joined = or(alloc, truth(alloc, true), truth(alloc, false));
-    assert!(rt; is_some_same(either(alloc, Some(true), Some(false)), joined)?);
-    assert!(rt; is_some_same(either(alloc, Some(true), None), truth(alloc, true))?);
-    assert!(rt; is_some_same(either(alloc, None, Some(false)), truth(alloc, false))?);
-    assert!(rt; is_none(either(alloc, None, None))?);
-    Ok(())
+    expect_some_same(&rt, either(alloc, Some(true), Some(false)), joined);
+    expect_some_same(&rt, either(alloc, Some(true), None), truth(alloc, true));
+    expect_some_same(&rt, either(alloc, None, Some(false)), truth(alloc, false));
+    expect_none(&rt, either(alloc, None, None));
 }
 
 #[test]
-fn both_of_two(rt: HostRuntime) -> Result<(), Fail> {
+fn both_of_two(rt: HostRuntime) {
     let alloc = rt.alloc();
     let joined = and(alloc, truth(alloc, true), truth(alloc, false));
-    assert!(rt; is_some_same(both(alloc, Some(true), Some(false)), joined)?);
-    assert!(rt; is_none(both(alloc, Some(true), None))?);
-    assert!(rt; is_none(both(alloc, None, Some(false)))?);
-    Ok(())
+    expect_some_same(&rt, both(alloc, Some(true), Some(false)), joined);
+    expect_none(&rt, both(alloc, Some(true), None));
+    expect_none(&rt, both(alloc, None, Some(false)));
 }
 
 // Whether the two proofs are joined, or memory was refused.

@@ -7,6 +7,7 @@ use super::*;
 use crate::hooks::{Claim, ValueTests, truth_answer};
 use crate::rules::{new_claiming, rules_of, two_rules};
 use std::alloc::AllocError;
+use std::process::Abort;
 use vortex_base::{Parts, ScalarFnId};
 use vortex_rewrite::{HookFault, StatsRewriteRule, StatsRewriteRuleRef};
 use vortex_stats::RuleFault;
@@ -93,6 +94,10 @@ fn is_not_bool(answer: Proof) -> bool {
     matches!(answer, Err(StatsError::Rule(RuleFault::NotBool)))
 }
 
+fn expect_not_bool(rt: &impl Abort, answer: Proof) {
+    assert!(rt; is_not_bool(answer));
+}
+
 fn new_opposite(alloc: Global, answer: bool) -> Result<StatsRewriteRuleRef, AllocError> {
     Ok(Box::new(alloc, Opposite { answer })?)
 }
@@ -131,35 +136,35 @@ fn either_truth(alloc: Global) -> Built {
 }
 
 #[test]
-fn proofs_of_two_rules_are_joined(rt: HostRuntime) -> Result<(), Fail> {
+fn proofs_of_two_rules_are_joined(rt: HostRuntime) {
     let alloc = rt.alloc();
-    let rules = two_opposites(alloc)?;
+    let rules = two_opposites(alloc).expect(&rt, "rules");
     expect_proof(
         &rt,
         falsified(alloc, not_true(alloc), &rules),
         either_truth(alloc),
-    )?;
-    expect_none(&rt, satisfied(alloc, not_true(alloc), &rules))?;
+    );
+    expect_none(&rt, satisfied(alloc, not_true(alloc), &rules));
     expect_proof(
         &rt,
         satisfied(alloc, not_false(alloc), &rules),
         either_truth(alloc),
-    )?;
-    expect_none(&rt, falsified(alloc, not_false(alloc), &rules))
+    );
+    expect_none(&rt, falsified(alloc, not_false(alloc), &rules));
 }
 
 #[test]
-fn without_a_rule_of_its_own_not_has_no_proof(rt: HostRuntime) -> Result<(), Fail> {
+fn without_a_rule_of_its_own_not_has_no_proof(rt: HostRuntime) {
     let alloc = rt.alloc();
-    expect_no_falsifier(&rt, alloc, not_true(alloc))?;
+    expect_no_falsifier(&rt, alloc, not_true(alloc));
     expect_none(
         &rt,
         satisfied(alloc, not_true(alloc), &Rules::builtin(alloc)),
-    )?;
+    );
     expect_none(
         &rt,
         satisfied(alloc, not_false(alloc), &Rules::builtin(alloc)),
-    )
+    );
 }
 
 fn value_test_rules(alloc: Global) -> Result<Rules, AllocError> {
@@ -172,14 +177,14 @@ fn all_null(alloc: Global) -> Built {
 
 // A rule's proof may hold placeholders, and be true by what answers them.
 #[test]
-fn a_rule_proves_by_placeholders(rt: HostRuntime) -> Result<(), Fail> {
+fn a_rule_proves_by_placeholders(rt: HostRuntime) {
     let alloc = rt.alloc();
-    let rules = value_test_rules(alloc)?;
+    let rules = value_test_rules(alloc).expect(&rt, "rules");
     let found = falsified(alloc, not(alloc, null_test(alloc)), &rules);
-    expect_proof(&rt, found, all_null(alloc))?;
+    expect_proof(&rt, found, all_null(alloc));
     let found = satisfied(alloc, not(alloc, null_test(alloc)), &rules);
-    expect_proof(&rt, found, all_non_null(alloc))?;
-    expect_none(&rt, falsified(alloc, not_true(alloc), &rules))
+    expect_proof(&rt, found, all_non_null(alloc));
+    expect_none(&rt, falsified(alloc, not_true(alloc), &rules));
 }
 
 fn truths(alloc: Global) -> Built {
@@ -188,21 +193,21 @@ fn truths(alloc: Global) -> Built {
 
 // A column of truths is of type Bool: rewriting takes it for a proof, though no scan does.
 #[test]
-fn a_bare_column_is_answered(rt: HostRuntime) -> Result<(), Fail> {
+fn a_bare_column_is_answered(rt: HostRuntime) {
     let alloc = rt.alloc();
     let column = Claim::Column(0);
-    let rule = new_claiming(alloc, ScalarFnId::Not, column, column, 3)?;
-    let rules = rules_of(alloc, rule)?;
+    let rule = new_claiming(alloc, ScalarFnId::Not, column, column, 3).expect(&rt, "rule");
+    let rules = rules_of(alloc, rule).expect(&rt, "rules");
     expect_proof(
         &rt,
         falsified(alloc, not_true(alloc), &rules),
         truths(alloc),
-    )?;
+    );
     expect_proof(
         &rt,
         satisfied(alloc, not_true(alloc), &rules),
         truths(alloc),
-    )
+    );
 }
 
 fn unsure_rules(alloc: Global, function: ScalarFnId) -> Result<Rules, AllocError> {
@@ -215,11 +220,11 @@ fn and_unsure(alloc: Global, proof: Built) -> Built {
 }
 
 #[test]
-fn own_proofs_follow_the_built_in_ones(rt: HostRuntime) -> Result<(), Fail> {
+fn own_proofs_follow_the_built_in_ones(rt: HostRuntime) {
     let alloc = rt.alloc();
-    let rules = unsure_rules(alloc, ScalarFnId::IsNull)?;
+    let rules = unsure_rules(alloc, ScalarFnId::IsNull).expect(&rt, "rules");
     let found = falsified(alloc, is_null(alloc, a(alloc)), &rules);
-    expect_proof(&rt, found, and_unsure(alloc, no_null(alloc)))
+    expect_proof(&rt, found, and_unsure(alloc, no_null(alloc)));
 }
 
 fn above_ten_or_never(alloc: Global) -> Built {
@@ -231,16 +236,16 @@ fn above_ten_or_never(alloc: Global) -> Built {
 }
 
 #[test]
-fn rules_are_asked_at_connectives_too(rt: HostRuntime) -> Result<(), Fail> {
+fn rules_are_asked_at_connectives_too(rt: HostRuntime) {
     let alloc = rt.alloc();
-    let rules = unsure_rules(alloc, ScalarFnId::Binary)?;
+    let rules = unsure_rules(alloc, ScalarFnId::Binary).expect(&rt, "rules");
     let left = and_unsure(alloc, lt_eq(alloc, max_a(alloc), int(alloc, 10)));
     let sides = and(alloc, left, truth(alloc, true));
     let found = falsified(alloc, above_ten_or_never(alloc), &rules);
-    expect_proof(&rt, found, and_unsure(alloc, sides))?;
+    expect_proof(&rt, found, and_unsure(alloc, sides));
     let sides = or(alloc, unsure_above_ten(alloc), truth(alloc, false));
     let found = satisfied(alloc, above_ten_or_never(alloc), &rules);
-    expect_proof(&rt, found, and_unsure(alloc, sides))
+    expect_proof(&rt, found, and_unsure(alloc, sides));
 }
 
 // What satisfies `a > 10`, where the unsure rule is asked.
@@ -254,30 +259,32 @@ fn above_ten_and(alloc: Global, other: Built) -> Built {
 }
 
 #[test]
-fn rules_are_asked_for_satisfiers_at_and(rt: HostRuntime) -> Result<(), Fail> {
+fn rules_are_asked_for_satisfiers_at_and(rt: HostRuntime) {
     let alloc = rt.alloc();
-    let rules = unsure_rules(alloc, ScalarFnId::Binary)?;
+    let rules = unsure_rules(alloc, ScalarFnId::Binary).expect(&rt, "rules");
     let sides = and(alloc, unsure_above_ten(alloc), truth(alloc, true));
     let found = satisfied(alloc, above_ten_and(alloc, truth(alloc, true)), &rules);
-    expect_proof(&rt, found, and_unsure(alloc, sides))?;
+    expect_proof(&rt, found, and_unsure(alloc, sides));
     // A side without a satisfier leaves the rule of the AND alone.
     let found = satisfied(alloc, above_ten_and(alloc, not_false(alloc)), &rules);
-    expect_proof(&rt, found, truth(alloc, false))
+    expect_proof(&rt, found, truth(alloc, false));
 }
 
 #[test]
-fn satisfiers_of_rules_stand_in_for_a_side(rt: HostRuntime) -> Result<(), Fail> {
+fn satisfiers_of_rules_stand_in_for_a_side(rt: HostRuntime) {
     let alloc = rt.alloc();
-    let rules = rules_of(alloc, new_opposite(alloc, true)?)?;
+    let rules = rules_of(alloc, new_opposite(alloc, true).expect(&rt, "new opposite")).expect(
+        &rt, "rules",
+    );
     let side = gt(alloc, min_a(alloc), int(alloc, 10));
     let side = and(alloc, side, all_non_null(alloc));
     let found = satisfied(alloc, above_ten_and(alloc, not_false(alloc)), &rules);
-    expect_proof(&rt, found, and(alloc, side, truth(alloc, true)))?;
+    expect_proof(&rt, found, and(alloc, side, truth(alloc, true)));
     let side = gt(alloc, min_a(alloc), int(alloc, 10));
     let side = and(alloc, side, all_non_null(alloc));
     let above = gt(alloc, a(alloc), int(alloc, 10));
     let found = satisfied(alloc, or(alloc, not_false(alloc), above), &rules);
-    expect_proof(&rt, found, or(alloc, truth(alloc, true), side))
+    expect_proof(&rt, found, or(alloc, truth(alloc, true), side));
 }
 
 // What falsifies a range from 10 to 50, where the unsure rule is asked at its comparisons.
@@ -288,16 +295,16 @@ fn unsure_range(alloc: Global) -> Built {
 }
 
 #[test]
-fn rules_are_asked_within_a_between(rt: HostRuntime) -> Result<(), Fail> {
+fn rules_are_asked_within_a_between(rt: HostRuntime) {
     let alloc = rt.alloc();
-    let rules = unsure_rules(alloc, ScalarFnId::Binary)?;
+    let rules = unsure_rules(alloc, ScalarFnId::Binary).expect(&rt, "rules");
     let found = falsified(alloc, closed_range(alloc, 10, 50), &rules);
-    expect_proof(&rt, found, unsure_range(alloc))?;
+    expect_proof(&rt, found, unsure_range(alloc));
     // Strict ends are moved first, and the rules are asked at the comparisons as they then stand.
     let found = falsified(alloc, open_range(alloc, 9, 51), &rules);
-    expect_proof(&rt, found, unsure_range(alloc))?;
+    expect_proof(&rt, found, unsure_range(alloc));
     let found = satisfied(alloc, open_range(alloc, 9, 51), &rules);
-    expect_proof(&rt, found, unsure_satisfied_range(alloc))
+    expect_proof(&rt, found, unsure_satisfied_range(alloc));
 }
 
 // What satisfies that range.
@@ -315,16 +322,15 @@ fn faulty_within_unsure(alloc: Global) -> Result<Rules, AllocError> {
 }
 
 #[test]
-fn an_empty_between_is_asked_for_itself_alone(rt: HostRuntime) -> Result<(), Fail> {
+fn an_empty_between_is_asked_for_itself_alone(rt: HostRuntime) {
     let alloc = rt.alloc();
-    let rules = faulty_within_unsure(alloc)?;
+    let rules = faulty_within_unsure(alloc).expect(&rt, "rules");
     let found = falsified(alloc, open_range(alloc, 3, 4), &rules);
-    expect_proof(&rt, found, and_unsure(alloc, truth(alloc, true)))?;
+    expect_proof(&rt, found, and_unsure(alloc, truth(alloc, true)));
     let found = satisfied(alloc, open_range(alloc, 3, 4), &rules);
-    expect_proof(&rt, found, truth(alloc, false))?;
+    expect_proof(&rt, found, truth(alloc, false));
     expect_fault(&rt, falsified(alloc, open_range(alloc, 3, 5), &rules), 3);
     expect_fault(&rt, satisfied(alloc, open_range(alloc, 3, 5), &rules), 3);
-    Ok(())
 }
 
 fn two_faulty(alloc: Global) -> Result<Rules, AllocError> {
@@ -337,9 +343,9 @@ fn null_test(alloc: Global) -> Built {
 }
 
 #[test]
-fn the_first_fault_ends_the_call(rt: HostRuntime) -> Result<(), Fail> {
+fn the_first_fault_ends_the_call(rt: HostRuntime) {
     let alloc = rt.alloc();
-    let rules = two_faulty(alloc)?;
+    let rules = two_faulty(alloc).expect(&rt, "rules");
     expect_fault(&rt, satisfied(alloc, null_test(alloc), &rules), 4);
     let e = and(alloc, not_true(alloc), null_test(alloc));
     expect_fault(&rt, falsified(alloc, e, &rules), 3);
@@ -349,7 +355,6 @@ fn the_first_fault_ends_the_call(rt: HostRuntime) -> Result<(), Fail> {
     expect_fault(&rt, falsified(alloc, e, &rules), 4);
     let e = or(alloc, null_test(alloc), not_true(alloc));
     expect_fault(&rt, satisfied(alloc, e, &rules), 4);
-    Ok(())
 }
 
 // A rule of this list is asked first that stands first.
@@ -365,22 +370,29 @@ fn two_of_one_function(
 }
 
 #[test]
-fn rules_of_one_node_are_asked_in_their_order(rt: HostRuntime) -> Result<(), Fail> {
+fn rules_of_one_node_are_asked_in_their_order(rt: HostRuntime) {
     let alloc = rt.alloc();
-    let rules = two_of_one_function(alloc, (Claim::Fault, 4), (Claim::Fault, 3))?;
+    let rules = two_of_one_function(alloc, (Claim::Fault, 4), (Claim::Fault, 3)).expect(
+        &rt, "rules",
+    );
     expect_fault(&rt, falsified(alloc, not_true(alloc), &rules), 4);
     expect_fault(&rt, satisfied(alloc, not_true(alloc), &rules), 4);
-    let rules = two_of_one_function(alloc, (Claim::Number, 4), (Claim::Fault, 3))?;
-    assert!(rt; is_not_bool(falsified(alloc, not_true(alloc), &rules)));
-    assert!(rt; is_not_bool(satisfied(alloc, not_true(alloc), &rules)));
-    let rules = two_of_one_function(alloc, (Claim::Fault, 4), (Claim::Number, 3))?;
+    let rules = two_of_one_function(alloc, (Claim::Number, 4), (Claim::Fault, 3)).expect(
+        &rt, "rules",
+    );
+    expect_not_bool(&rt, falsified(alloc, not_true(alloc), &rules));
+    expect_not_bool(&rt, satisfied(alloc, not_true(alloc), &rules));
+    let rules = two_of_one_function(alloc, (Claim::Fault, 4), (Claim::Number, 3)).expect(
+        &rt, "rules",
+    );
     expect_fault(&rt, falsified(alloc, not_true(alloc), &rules), 4);
     expect_fault(&rt, satisfied(alloc, not_true(alloc), &rules), 4);
     // A proof of the first doesn't keep the second from being asked.
-    let rules = two_of_one_function(alloc, (Claim::False, 4), (Claim::Fault, 3))?;
+    let rules = two_of_one_function(alloc, (Claim::False, 4), (Claim::Fault, 3)).expect(
+        &rt, "rules",
+    );
     expect_fault(&rt, falsified(alloc, not_true(alloc), &rules), 3);
     expect_fault(&rt, satisfied(alloc, not_true(alloc), &rules), 3);
-    Ok(())
 }
 
 // A rule for connectives and comparisons that faults by 5, before one for NOT that faults by 3.
@@ -390,58 +402,58 @@ fn faulty_above(alloc: Global, function: ScalarFnId) -> Result<Rules, AllocError
 }
 
 // A predicate in which both rules would be asked meets this fault, by both calls.
-fn expect_first(
-    rt: &impl Abort,
-    alloc: Global,
-    rules: &Rules,
-    predicate: Built,
-    fault: u32,
-) -> Result<(), Fail> {
-    let predicate = predicate?;
+fn expect_first(rt: &impl Abort, alloc: Global, rules: &Rules, predicate: Built, fault: u32) {
+    let predicate = predicate.expect(rt, "predicate");
     expect_fault(rt, falsify(alloc, &predicate, rules), fault);
     expect_fault(rt, satisfy(alloc, &predicate, rules), fault);
-    Ok(())
 }
 
 // A node is asked about after its children, wherever its rule stands in the list.
 #[test]
-fn children_are_asked_before_their_parent(rt: HostRuntime) -> Result<(), Fail> {
+fn children_are_asked_before_their_parent(rt: HostRuntime) {
     let alloc = rt.alloc();
-    let rules = faulty_above(alloc, ScalarFnId::Binary)?;
+    let rules = faulty_above(alloc, ScalarFnId::Binary).expect(&rt, "rules");
     let e = and(alloc, not_true(alloc), truth(alloc, true));
-    expect_first(&rt, alloc, &rules, e, 3)?;
+    expect_first(&rt, alloc, &rules, e, 3);
     let e = and(alloc, truth(alloc, true), not_true(alloc));
-    expect_first(&rt, alloc, &rules, e, 3)?;
+    expect_first(&rt, alloc, &rules, e, 3);
     let e = or(alloc, not_true(alloc), truth(alloc, true));
-    expect_first(&rt, alloc, &rules, e, 3)?;
+    expect_first(&rt, alloc, &rules, e, 3);
     let e = or(alloc, truth(alloc, true), not_true(alloc));
-    expect_first(&rt, alloc, &rules, e, 3)?;
+    expect_first(&rt, alloc, &rules, e, 3);
     // The AND on the left is asked about before the NOT on the right.
     let left = and(alloc, truth(alloc, true), truth(alloc, true));
     let e = or(alloc, left, not_true(alloc));
-    expect_first(&rt, alloc, &rules, e, 5)
+    expect_first(&rt, alloc, &rules, e, 5);
 }
 
 // A BETWEEN is asked about after the comparisons that it stands for.
 #[test]
-fn comparisons_are_asked_before_their_between(rt: HostRuntime) -> Result<(), Fail> {
+fn comparisons_are_asked_before_their_between(rt: HostRuntime) {
     let alloc = rt.alloc();
-    let above = new_faulty(alloc, ScalarFnId::Between, 5)?;
-    let rules = two_rules(alloc, above, new_faulty(alloc, ScalarFnId::Binary, 3)?)?;
-    expect_first(&rt, alloc, &rules, closed_range(alloc, 1, 2), 3)
+    let above = new_faulty(alloc, ScalarFnId::Between, 5).expect(&rt, "above");
+    let rules = two_rules(
+        alloc,
+        above,
+        new_faulty(alloc, ScalarFnId::Binary, 3).expect(&rt, "new faulty"),
+    )
+    .expect(&rt, "rules");
+    expect_first(&rt, alloc, &rules, closed_range(alloc, 1, 2), 3);
 }
 
 #[test]
-fn a_proof_has_to_be_a_truth(rt: HostRuntime) -> Result<(), Fail> {
+fn a_proof_has_to_be_a_truth(rt: HostRuntime) {
     let alloc = rt.alloc();
-    let rule = new_claiming(alloc, ScalarFnId::Not, Claim::Number, Claim::Number, 3)?;
-    let rules = rules_of(alloc, rule)?;
-    assert!(rt; is_not_bool(falsified(alloc, not_true(alloc), &rules)));
-    assert!(rt; is_not_bool(satisfied(alloc, not_true(alloc), &rules)));
+    let rule = new_claiming(alloc, ScalarFnId::Not, Claim::Number, Claim::Number, 3).expect(
+        &rt, "rule",
+    );
+    let rules = rules_of(alloc, rule).expect(&rt, "rules");
+    expect_not_bool(&rt, falsified(alloc, not_true(alloc), &rules));
+    expect_not_bool(&rt, satisfied(alloc, not_true(alloc), &rules));
     let e = or(alloc, not_true(alloc), truth(alloc, true));
-    assert!(rt; is_not_bool(satisfied(alloc, e, &rules)));
+    expect_not_bool(&rt, satisfied(alloc, e, &rules));
     let found = falsified(alloc, truth(alloc, true), &rules);
-    expect_proof(&rt, found, truth(alloc, false))
+    expect_proof(&rt, found, truth(alloc, false));
 }
 
 fn many_unsure(alloc: Global) -> Result<Vec<StatsRewriteRuleRef>, AllocError> {
@@ -456,61 +468,65 @@ fn is_bool(proof: Proof) -> bool {
     matches!(proof, Ok(Some(proof)) if matches!(proof.dtype(), DType::Bool(_)))
 }
 
+fn expect_bool(rt: &impl Abort, proof: Proof) {
+    assert!(rt; is_bool(proof));
+}
+
 // The proofs of 64 rules at one node are joined beside the built-in one.
 #[test]
-fn many_rules_at_one_node(rt: HostRuntime) -> Result<(), Fail> {
+fn many_rules_at_one_node(rt: HostRuntime) {
     let alloc = rt.alloc();
-    let rules = Rules::with_own(many_unsure(alloc)?);
+    let rules = Rules::with_own(many_unsure(alloc).expect(&rt, "many unsure"));
     let above = gt(alloc, a(alloc), int(alloc, 10));
-    assert!(rt; is_bool(falsified(alloc, above, &rules)));
+    expect_bool(&rt, falsified(alloc, above, &rules));
     let above = gt(alloc, a(alloc), int(alloc, 10));
-    assert!(rt; is_bool(satisfied(alloc, above, &rules)));
-    Ok(())
+    expect_bool(&rt, satisfied(alloc, above, &rules));
 }
 
 // A rule that faults wherever it is asked is met at a node of its function, by both calls.
-fn expect_asked(
-    rt: &impl Abort,
-    alloc: Global,
-    function: ScalarFnId,
-    predicate: Built,
-) -> Result<(), Fail> {
-    let rules = rules_of(alloc, new_faulty(alloc, function, 5)?)?;
-    let predicate = predicate?;
+fn expect_asked(rt: &impl Abort, alloc: Global, function: ScalarFnId, predicate: Built) {
+    let rules = rules_of(
+        alloc,
+        new_faulty(alloc, function, 5).expect(rt, "new faulty"),
+    )
+    .expect(rt, "rules");
+    let predicate = predicate.expect(rt, "predicate");
     expect_fault(rt, falsify(alloc, &predicate, &rules), 5);
     expect_fault(rt, satisfy(alloc, &predicate, &rules), 5);
-    Ok(())
 }
 
 #[test]
-fn rules_are_asked_at_each_function(rt: HostRuntime) -> Result<(), Fail> {
+fn rules_are_asked_at_each_function(rt: HostRuntime) {
     let alloc = rt.alloc();
-    expect_asked(&rt, alloc, ScalarFnId::Literal, truth(alloc, true))?;
+    expect_asked(&rt, alloc, ScalarFnId::Literal, truth(alloc, true));
     expect_asked(
         &rt,
         alloc,
         ScalarFnId::Binary,
         eq(alloc, a(alloc), b(alloc)),
-    )?;
-    expect_asked(&rt, alloc, ScalarFnId::Between, closed_range(alloc, 1, 2))?;
-    expect_asked(&rt, alloc, ScalarFnId::IsNull, null_test(alloc))?;
+    );
+    expect_asked(&rt, alloc, ScalarFnId::Between, closed_range(alloc, 1, 2));
+    expect_asked(&rt, alloc, ScalarFnId::IsNull, null_test(alloc));
     expect_asked(
         &rt,
         alloc,
         ScalarFnId::IsNotNull,
         is_not_null(alloc, a(alloc)),
-    )?;
-    expect_asked(&rt, alloc, ScalarFnId::Not, not_true(alloc))?;
-    expect_asked(&rt, alloc, ScalarFnId::Like, like_of(alloc, "x%"))?;
-    expect_asked(&rt, alloc, ScalarFnId::Stat, all_non_null(alloc))
+    );
+    expect_asked(&rt, alloc, ScalarFnId::Not, not_true(alloc));
+    expect_asked(&rt, alloc, ScalarFnId::Like, like_of(alloc, "x%"));
+    expect_asked(&rt, alloc, ScalarFnId::Stat, all_non_null(alloc));
 }
 
 // A count of rows is no predicate, and stands below no node that is visited.
 #[test]
-fn no_rule_is_asked_at_a_count_of_rows(rt: HostRuntime) -> Result<(), Fail> {
+fn no_rule_is_asked_at_a_count_of_rows(rt: HostRuntime) {
     let alloc = rt.alloc();
-    let rules = rules_of(alloc, new_faulty(alloc, ScalarFnId::RowCount, 5)?)?;
+    let rules = rules_of(
+        alloc,
+        new_faulty(alloc, ScalarFnId::RowCount, 5).expect(&rt, "new faulty"),
+    )
+    .expect(&rt, "rules");
     let e = gt(alloc, row_count(alloc), nulls(alloc, 1));
-    assert!(rt; is_bool(falsified(alloc, e, &rules)));
-    Ok(())
+    expect_bool(&rt, falsified(alloc, e, &rules));
 }
