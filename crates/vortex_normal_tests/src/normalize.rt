@@ -1,7 +1,6 @@
 //! Normal forms of predicates over the columns a and b of I32 with nulls, c of Bool and s of texts.
 use std::alloc::Global;
 use std::process::Abort;
-use std::test::Fail;
 use vortex_base::{BoundExpression, DType, Nullability, PType, ScalarValue};
 use vortex_normal::normalize::normalize;
 use vortex_rewrite_tests::nodes::*;
@@ -86,8 +85,7 @@ fn normal(alloc: Global, predicate: &BoundExpression) -> Built {
     normalize(alloc, predicate)
 }
 
-fn expect(rt: &impl Abort, alloc: Global, predicate: Built, expected: Built) -> Result<(), Fail> {
-    let found = normal(alloc, &predicate?);
-    assert!(rt; are_same(found, expected)?);
-    Ok(())
+fn expect(rt: &impl Abort, alloc: Global, predicate: Built, expected: Built) {
+    let found = normal(alloc, &predicate.expect(rt, "predicate"));
+    assert!(rt; are_same(found, expected).expect(rt, "an answer"));
 }

@@ -1,5 +1,6 @@
 // Chains of as many words as a predicate may have, and refused memory.
 use super::*;
+use std::test::Fail;
 
 // Comparisons in a chain: of three nodes each, joined, they make 4,091.
 const LINKS: i32 = 1023;
@@ -52,33 +53,32 @@ fn deep_not(alloc: Global) -> Built {
 }
 
 #[test]
-fn deep_at_the_left(rt: HostRuntime) -> Result<(), Fail> {
+fn deep_at_the_left(rt: HostRuntime) {
     let alloc = rt.alloc();
     let greatest = LINKS.saturating_sub(1);
-    expect(&rt, alloc, deep_and(alloc, true), a_gt(alloc, greatest))?;
-    expect(&rt, alloc, deep_or(alloc, true), a_lt(alloc, greatest))
+    expect(&rt, alloc, deep_and(alloc, true), a_gt(alloc, greatest));
+    expect(&rt, alloc, deep_or(alloc, true), a_lt(alloc, greatest));
 }
 
 #[test]
-fn deep_at_the_right(rt: HostRuntime) -> Result<(), Fail> {
+fn deep_at_the_right(rt: HostRuntime) {
     let alloc = rt.alloc();
     let greatest = LINKS.saturating_sub(1);
-    expect(&rt, alloc, deep_and(alloc, false), a_gt(alloc, greatest))?;
-    expect(&rt, alloc, deep_or(alloc, false), a_lt(alloc, greatest))
+    expect(&rt, alloc, deep_and(alloc, false), a_gt(alloc, greatest));
+    expect(&rt, alloc, deep_or(alloc, false), a_lt(alloc, greatest));
 }
 
 #[test]
-fn deep_in_not(rt: HostRuntime) -> Result<(), Fail> {
+fn deep_in_not(rt: HostRuntime) {
     let alloc = rt.alloc();
-    expect(&rt, alloc, deep_not(alloc), a_lt(alloc, 5))
+    expect(&rt, alloc, deep_not(alloc), a_lt(alloc, 5));
 }
 
 #[test]
-fn deep_turns_are_answered(rt: HostRuntime) -> Result<(), Fail> {
+fn deep_turns_are_answered(rt: HostRuntime) {
     let alloc = rt.alloc();
-    let found = normal(alloc, &deep_turns(alloc)?)?;
+    let found = normal(alloc, &deep_turns(alloc).expect(&rt, "deep turns")).expect(&rt, "found");
     assert!(rt; found.is_plain());
-    Ok(())
 }
 
 // As many values as a chain can name, none beside another.
@@ -91,12 +91,12 @@ fn points(alloc: Global) -> Built {
 }
 
 #[test]
-fn many_values(rt: HostRuntime) -> Result<(), Fail> {
+fn many_values(rt: HostRuntime) {
     let alloc = rt.alloc();
-    let found = normal(alloc, &points(alloc)?)?;
+    let found = normal(alloc, &points(alloc).expect(&rt, "points")).expect(&rt, "found");
     assert!(rt; found.is_plain());
     let none = and(alloc, points(alloc), a_lt(alloc, 0));
-    expect(&rt, alloc, none, never(alloc))
+    expect(&rt, alloc, none, never(alloc));
 }
 
 // The same values from the greatest down.
@@ -158,12 +158,12 @@ fn points_in_order(alloc: Global, count: i32) -> Built {
 }
 
 #[test]
-fn many_values_are_put_in_order(rt: HostRuntime) -> Result<(), Fail> {
+fn many_values_are_put_in_order(rt: HostRuntime) {
     let alloc = rt.alloc();
     let in_order = points_in_order(alloc, LINKS);
-    expect(&rt, alloc, points_downwards(alloc), in_order)?;
+    expect(&rt, alloc, points_downwards(alloc), in_order);
     let in_order = points_in_order(alloc, LINKS);
-    expect(&rt, alloc, points(alloc), in_order)
+    expect(&rt, alloc, points(alloc), in_order);
 }
 
 // All values but as many as a chain can name.
@@ -176,12 +176,12 @@ fn holes(alloc: Global) -> Built {
 }
 
 #[test]
-fn many_holes(rt: HostRuntime) -> Result<(), Fail> {
+fn many_holes(rt: HostRuntime) {
     let alloc = rt.alloc();
-    let found = normal(alloc, &holes(alloc)?)?;
+    let found = normal(alloc, &holes(alloc).expect(&rt, "holes")).expect(&rt, "found");
     assert!(rt; found.is_plain());
     let none = and(alloc, holes(alloc), a_eq(alloc, 511));
-    expect(&rt, alloc, none, never(alloc))
+    expect(&rt, alloc, none, never(alloc));
 }
 
 // Half as many columns as a chain has links.
@@ -213,23 +213,25 @@ fn column_between(alloc: Global, place: usize) -> Built {
 }
 
 #[test]
-fn many_columns(rt: HostRuntime) -> Result<(), Fail> {
+fn many_columns(rt: HostRuntime) {
     let alloc = rt.alloc();
     let mut ranges = Vec::new(alloc);
     for place in 0..COLUMNS {
-        ranges.push(column_between(alloc, place)?)?;
+        ranges
+            .push(column_between(alloc, place).expect(&rt, "column between"))
+            .expect(&rt, "push");
     }
-    expect(&rt, alloc, wide(alloc), balanced(alloc, true, ranges))
+    expect(&rt, alloc, wide(alloc), balanced(alloc, true, ranges));
 }
 
 // More than a stack could hold one below the other: 17 deep they are normalized as they stand.
 const LEAVES: i32 = 100_000;
 
 #[test]
-fn very_many_values(rt: HostRuntime) -> Result<(), Fail> {
+fn very_many_values(rt: HostRuntime) {
     let alloc = rt.alloc();
     let in_order = points_in_order(alloc, LEAVES);
-    expect(&rt, alloc, points_in_order(alloc, LEAVES), in_order)
+    expect(&rt, alloc, points_in_order(alloc, LEAVES), in_order);
 }
 
 // All values but as many.
@@ -242,12 +244,16 @@ fn very_many_holes(alloc: Global) -> Built {
 }
 
 #[test]
-fn very_many_values_are_left_out(rt: HostRuntime) -> Result<(), Fail> {
+fn very_many_values_are_left_out(rt: HostRuntime) {
     let alloc = rt.alloc();
-    let found = normal(alloc, &very_many_holes(alloc)?)?;
+    let found = normal(
+        alloc,
+        &very_many_holes(alloc).expect(&rt, "very many holes"),
+    )
+    .expect(&rt, "found");
     assert!(rt; found.is_plain());
     let none = and(alloc, very_many_holes(alloc), a_eq(alloc, 511));
-    expect(&rt, alloc, none, never(alloc))
+    expect(&rt, alloc, none, never(alloc));
 }
 
 // As many columns, each compared.
@@ -260,10 +266,10 @@ fn very_wide(alloc: Global, is_and: bool) -> Built {
 }
 
 #[test]
-fn very_many_columns(rt: HostRuntime) -> Result<(), Fail> {
+fn very_many_columns(rt: HostRuntime) {
     let alloc = rt.alloc();
-    expect(&rt, alloc, very_wide(alloc, true), very_wide(alloc, true))?;
-    expect(&rt, alloc, very_wide(alloc, false), very_wide(alloc, false))
+    expect(&rt, alloc, very_wide(alloc, true), very_wide(alloc, true));
+    expect(&rt, alloc, very_wide(alloc, false), very_wide(alloc, false));
 }
 
 // An answer, or a refusal of memory.
@@ -273,6 +279,10 @@ fn is_answer(found: Built, expected: Built) -> bool {
         (Err(StatsError::Memory(_)), _) | (_, Err(StatsError::Memory(_))) => true,
         _ => false,
     }
+}
+
+fn is_made_or_memory(found: Built) -> bool {
+    matches!(found, Ok(_) | Err(StatsError::Memory(_)))
 }
 
 // With a growth refused, as `rt try --test --fail-alloc` refuses one,
@@ -287,12 +297,10 @@ fn refused_normal_forms(rt: HostRuntime) -> Result<(), Fail> {
         and(alloc, outside, not(alloc, like_a)),
         a_gt(alloc, 1),
     )?;
-    let found = normal(alloc, &chain);
-    assert!(rt; matches!(found, Ok(_) | Err(StatsError::Memory(_))));
+    assert!(rt; is_made_or_memory(normal(alloc, &chain)));
     let holes = and(alloc, a_not_eq(alloc, 3), a_not_eq(alloc, 5));
     let more = and(alloc, and(alloc, holes, b_lt(alloc, 1)), c_eq(alloc, true))?;
-    let found = normal(alloc, &more);
-    assert!(rt; matches!(found, Ok(_) | Err(StatsError::Memory(_))));
+    assert!(rt; is_made_or_memory(normal(alloc, &more)));
     let range = between(alloc, a(alloc), num(alloc, 3), num(alloc, 9), CLOSED);
     let both = and(alloc, range, a_lt_eq(alloc, 5))?;
     assert!(rt; is_answer(normal(alloc, &both), a_within(alloc, 3, 5)));
