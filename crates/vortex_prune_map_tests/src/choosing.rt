@@ -1,7 +1,7 @@
 //! Zones of chosen columns, and maps of them beside those of sets that were narrowed by hand.
 use crate::zone_map::append;
 use std::alloc::Global;
-use std::test::Fail;
+use std::process::Abort;
 use vortex_base::Scope;
 use vortex_prune::{Pruned, Rules, Zone, ZoneMap};
 use vortex_prune_tests::testing::*;
@@ -32,9 +32,7 @@ fn of_texts(alloc: Global) -> Sets {
 }
 
 fn sets_of(alloc: Global, first: Sets, second: Sets) -> ManySets {
-    let mut sets = one_set(alloc, first?)?;
-    sets.push(second?)?;
-    Ok(sets)
+    two_sets(alloc, first, second)
 }
 
 // The map of one zone of the columns at these places, which have this scope.
@@ -80,67 +78,87 @@ fn is_narrowed(
     places: &[usize],
     alone: &[StatsSet],
 ) -> Result<bool, StatsError> {
-    let scope = scope?;
-    let narrow = narrow_map(alloc, Ok(scope.try_clone()?), alone)?;
-    is_same(alloc, &chosen_map(alloc, Ok(scope), sets, places)?, &narrow)
+    let chosen = chosen_map(alloc, scope, sets, places)?;
+    is_narrow(alloc, &chosen, alone)
+}
+
+fn is_narrow(alloc: Global, chosen: &ZoneMap, alone: &[StatsSet]) -> Result<bool, StatsError> {
+    let scope = chosen.scope().try_clone()?;
+    is_same(alloc, chosen, &narrow_map(alloc, Ok(scope), alone)?)
+}
+
+fn expect_narrowed(
+    rt: &impl Abort,
+    alloc: Global,
+    scope: Result<Scope, StatsError>,
+    sets: &[StatsSet],
+    places: &[usize],
+    alone: &[StatsSet],
+) {
+    assert!(rt; is_narrowed(alloc, scope, sets, places, alone).expect(rt, "an answer"));
 }
 
 #[test]
-fn chosen_columns_are_narrowed_sets(rt: HostRuntime) -> Result<(), Fail> {
+fn chosen_columns_are_narrowed_sets(rt: HostRuntime) {
     let alloc = rt.alloc();
-    let sets = sets_of(alloc, numbers(alloc), counts(alloc))?;
-    let first = one_set(alloc, numbers(alloc)?)?;
-    assert!(rt; is_narrowed(alloc, first_scope(alloc), &sets, &[0], &first)?);
-    let last = one_set(alloc, counts(alloc)?)?;
-    assert!(rt; is_narrowed(alloc, last_scope(alloc), &sets, &[1], &last)?);
-    let swapped = sets_of(alloc, counts(alloc), numbers(alloc))?;
-    assert!(rt; is_narrowed(alloc, turned(alloc), &sets, &[1, 0], &swapped)?);
-    Ok(())
+    let sets = sets_of(alloc, numbers(alloc), counts(alloc)).expect(&rt, "sets");
+    let first = one_set(alloc, numbers(alloc).expect(&rt, "numbers")).expect(&rt, "first");
+    expect_narrowed(&rt, alloc, first_scope(alloc), &sets, &[0], &first);
+    let last = one_set(alloc, counts(alloc).expect(&rt, "counts")).expect(&rt, "last");
+    expect_narrowed(&rt, alloc, last_scope(alloc), &sets, &[1], &last);
+    let swapped = sets_of(alloc, counts(alloc), numbers(alloc)).expect(&rt, "swapped");
+    expect_narrowed(&rt, alloc, turned(alloc), &sets, &[1, 0], &swapped);
 }
 
 fn is_misfit(made: Result<ZoneMap, StatsError>) -> bool {
     matches!(made, Err(StatsError::Mismatch))
 }
 
+fn expect_misfit(rt: &impl Abort, made: Result<ZoneMap, StatsError>) {
+    assert!(rt; is_misfit(made));
+}
+
 #[test]
-fn places_past_the_sets_make_no_zone(rt: HostRuntime) -> Result<(), Fail> {
+fn places_past_the_sets_make_no_zone(rt: HostRuntime) {
     let alloc = rt.alloc();
-    let sets = sets_of(alloc, numbers(alloc), counts(alloc))?;
+    let sets = sets_of(alloc, numbers(alloc), counts(alloc)).expect(&rt, "sets");
     assert!(rt; Zone::of_columns(9, &sets, &[0, 2]).is_none());
     assert!(rt; Zone::of_columns(9, &sets, &[2]).is_none());
     assert!(rt; Zone::of_columns(9, &sets, &[1, 1]).is_some());
     let none = Zone::of_columns(9, &sets, &[]).expect(&rt, "No place is past the sets.");
     assert!(rt; none.columns() == 0 && none.rows() == 9);
-    Ok(())
 }
 
 #[test]
-fn chosen_sets_alone_have_to_fit(rt: HostRuntime) -> Result<(), Fail> {
+fn chosen_sets_alone_have_to_fit(rt: HostRuntime) {
     let alloc = rt.alloc();
-    let sets = sets_of(alloc, of_texts(alloc), counts(alloc))?;
-    assert!(rt; is_misfit(chosen_map(alloc, first_scope(alloc), &sets, &[0])));
-    assert!(rt; chosen_map(alloc, last_scope(alloc), &sets, &[1])?.len() == 1);
-    assert!(rt; is_misfit(chosen_map(alloc, last_scope(alloc), &sets, &[1, 0])));
-    assert!(rt; is_misfit(chosen_map(alloc, both(alloc), &sets, &[1])));
-    Ok(())
+    let sets = sets_of(alloc, of_texts(alloc), counts(alloc)).expect(&rt, "sets");
+    expect_misfit(&rt, chosen_map(alloc, first_scope(alloc), &sets, &[0]));
+    assert!(rt;
+        chosen_map(alloc, last_scope(alloc), &sets, &[1])
+            .expect(&rt, "chosen map")
+            .len()
+            == 1
+    );
+    expect_misfit(&rt, chosen_map(alloc, last_scope(alloc), &sets, &[1, 0]));
+    expect_misfit(&rt, chosen_map(alloc, both(alloc), &sets, &[1]));
 }
 
 #[test]
-fn chosen_zones_are_added(rt: HostRuntime) -> Result<(), Fail> {
+fn chosen_zones_are_added(rt: HostRuntime) {
     let alloc = rt.alloc();
-    let sets = sets_of(alloc, numbers(alloc), counts(alloc))?;
+    let sets = sets_of(alloc, numbers(alloc), counts(alloc)).expect(&rt, "sets");
     let places = [1];
-    let mut map = chosen_map(alloc, last_scope(alloc), &sets, &places)?;
-    let mut more = chosen_map(alloc, last_scope(alloc), &sets, &places)?;
+    let mut map = chosen_map(alloc, last_scope(alloc), &sets, &places).expect(&rt, "map");
+    let mut more = chosen_map(alloc, last_scope(alloc), &sets, &places).expect(&rt, "more");
     let zone = Zone::of_columns(9, &sets, &places).expect(&rt, "The place is that of a set.");
-    map.push(alloc, &zone)?;
-    map.extend(alloc, &[zone])?;
-    append(&mut map, &mut more)?;
+    map.push(alloc, &zone).expect(&rt, "push");
+    map.extend(alloc, &[zone]).expect(&rt, "extend");
+    append(&mut map, &mut more).expect(&rt, "append");
     assert!(rt; map.len() == 4);
     let whole = Zone::new(9, &sets);
     assert!(rt; matches!(map.push(alloc, &whole), Err(StatsError::Mismatch)));
     assert!(rt; map.len() == 4);
-    Ok(())
 }
 
 fn above(alloc: Global, place: usize, least: i32) -> Built {
@@ -152,14 +170,13 @@ fn skipped_by(alloc: Global, map: &ZoneMap, predicate: Built) -> Result<Pruned, 
 }
 
 #[test]
-fn chosen_columns_prune_as_all_do(rt: HostRuntime) -> Result<(), Fail> {
+fn chosen_columns_prune_as_all_do(rt: HostRuntime) {
     let alloc = rt.alloc();
-    let sets = sets_of(alloc, counts(alloc), numbers(alloc))?;
-    let whole = narrow_map(alloc, turned(alloc), &sets)?;
-    let chosen = chosen_map(alloc, first_scope(alloc), &sets, &[1])?;
-    let by_all = skipped_by(alloc, &whole, above(alloc, 1, 10))?;
-    let by_chosen = skipped_by(alloc, &chosen, above(alloc, 0, 10))?;
+    let sets = sets_of(alloc, counts(alloc), numbers(alloc)).expect(&rt, "sets");
+    let whole = narrow_map(alloc, turned(alloc), &sets).expect(&rt, "whole");
+    let chosen = chosen_map(alloc, first_scope(alloc), &sets, &[1]).expect(&rt, "chosen");
+    let by_all = skipped_by(alloc, &whole, above(alloc, 1, 10)).expect(&rt, "by all");
+    let by_chosen = skipped_by(alloc, &chosen, above(alloc, 0, 10)).expect(&rt, "by chosen");
     assert!(rt; by_all.skipped.len() == 1);
     assert!(rt; by_all.skipped.as_slice() == by_chosen.skipped.as_slice());
-    Ok(())
 }

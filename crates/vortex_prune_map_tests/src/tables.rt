@@ -1,9 +1,13 @@
 //! Maps made of tables that are at hand.
+use crate::zone_map::push_alone;
 use std::alloc::{AllocError, Global};
+use std::process::Abort;
 use std::test::Fail;
-use vortex_base::{AggregateFnRef, Cells, Column, DType, Nullability, PType, ScalarValue, Scope};
+use vortex_base::{
+    AggregateFnRef, BoundExpression, Cells, Column, DType, Nullability, PType, ScalarValue, Scope,
+};
 use vortex_prune::{Head, Pruned, Rules, TableRefused, Verdict, Zone, ZoneMap, prune_by};
-use vortex_prune_tests::testing::{and_exactly, bounds, map_of, no_statistics, one_set, pruned_by};
+use vortex_prune_tests::testing::{and_exactly, bounds, map_of, no_statistics, pruned_by};
 use vortex_rewrite::rewrite::{falsify, satisfy};
 use vortex_rewrite_tests::nodes::*;
 use vortex_stats::{Stat, StatsError, StatsSet};
@@ -91,17 +95,38 @@ fn column_at(alloc: Global, head: &Head, fault: Fault, place: usize) -> Result<C
 
 // The columns of the table.
 fn columns(alloc: Global, fault: Fault) -> Result<Vec<Column>, StatsError> {
-    let heads = ZoneMap::heads(alloc, &scope(alloc)?)?;
     let mut columns = Vec::new(alloc);
-    for place in 0..heads.len() {
+    push_columns(&mut columns, alloc, &heads(alloc)?, fault)?;
+    Ok(columns)
+}
+
+fn heads(alloc: Global) -> Result<Vec<Head>, StatsError> {
+    Ok(ZoneMap::heads(alloc, &scope(alloc)?)?)
+}
+
+fn push_columns(
+    columns: &mut Vec<Column>,
+    alloc: Global,
+    heads: &[Head],
+    fault: Fault,
+) -> Result<(), StatsError> {
+    for (place, head) in heads.iter().enumerate() {
         if fault != Fault::Missing(place) {
-            columns.push(column_at(alloc, &heads[place], fault, place)?)?;
+            push_column(columns, column_at(alloc, head, fault, place))?;
         }
         if fault == Fault::Twice(place) {
-            columns.push(column_at(alloc, &heads[place], fault, place)?)?;
+            push_column(columns, column_at(alloc, head, fault, place))?;
         }
     }
-    Ok(columns)
+    Ok(())
+}
+
+fn push_column(
+    columns: &mut Vec<Column>,
+    column: Result<Column, StatsError>,
+) -> Result<(), StatsError> {
+    columns.push(column?)?;
+    Ok(())
 }
 
 fn rows(alloc: Global, fault: Fault) -> Result<Vec<u64>, AllocError> {
@@ -113,9 +138,22 @@ fn rows(alloc: Global, fault: Fault) -> Result<Vec<u64>, AllocError> {
     Ok(rows)
 }
 
+fn table(
+    alloc: Global,
+    scope: Result<Scope, StatsError>,
+    rows: Result<Vec<u64>, AllocError>,
+    columns: Result<Vec<Column>, StatsError>,
+) -> Result<Result<ZoneMap, TableRefused>, StatsError> {
+    Ok(ZoneMap::of_table(alloc, scope?, rows?, columns?))
+}
+
 fn made(alloc: Global, fault: Fault) -> Result<Result<ZoneMap, TableRefused>, StatsError> {
-    let (scope, rows, columns) = (scope(alloc)?, rows(alloc, fault)?, columns(alloc, fault)?);
-    Ok(ZoneMap::of_table(alloc, scope, rows, columns))
+    table(
+        alloc,
+        scope(alloc),
+        rows(alloc, fault),
+        columns(alloc, fault),
+    )
 }
 
 fn table_map(alloc: Global) -> Result<ZoneMap, StatsError> {
@@ -127,12 +165,16 @@ fn table_map(alloc: Global) -> Result<ZoneMap, StatsError> {
 
 // The sets of the three zones.
 fn sets(alloc: Global) -> Result<Vec<Vec<StatsSet>>, StatsError> {
-    let last = and_exactly(bounds(alloc, 20, 30)?, Stat::NullCount, count(0))?;
     let mut sets = Vec::new(alloc);
-    sets.push(one_set(alloc, bounds(alloc, 0, 5)?)?)?;
-    sets.push(one_set(alloc, no_statistics(alloc))?)?;
-    sets.push(one_set(alloc, last)?)?;
+    push_sets(&mut sets, alloc)?;
     Ok(sets)
+}
+
+fn push_sets(sets: &mut Vec<Vec<StatsSet>>, alloc: Global) -> Result<(), StatsError> {
+    push_alone(sets, alloc, bounds(alloc, 0, 5))?;
+    push_alone(sets, alloc, Ok(no_statistics(alloc)))?;
+    let last = bounds(alloc, 20, 30)?;
+    push_alone(sets, alloc, and_exactly(last, Stat::NullCount, count(0)))
 }
 
 // The map of the three zones' sets.
@@ -150,12 +192,14 @@ fn printed(alloc: Global, map: &ZoneMap) -> Result<String, StatsError> {
 }
 
 #[test]
-fn tables_make_the_map_of_their_zones(rt: HostRuntime) -> Result<(), Fail> {
+fn tables_make_the_map_of_their_zones(rt: HostRuntime) {
     let alloc = rt.alloc();
-    let map = table_map(alloc)?;
+    let map = table_map(alloc).expect(&rt, "map");
     assert!(rt; map.len() == 3 && map.rows(0) == 9);
-    assert!(rt; printed(alloc, &map)? == printed(alloc, &sets_map(alloc)?)?);
-    Ok(())
+    assert!(rt;
+        printed(alloc, &map).expect(&rt, "printed")
+            == printed(alloc, &sets_map(alloc).expect(&rt, "sets map")).expect(&rt, "printed")
+    );
 }
 
 fn pruned(alloc: Global, map: &ZoneMap, least: i32) -> Result<Pruned, StatsError> {
@@ -165,12 +209,11 @@ fn pruned(alloc: Global, map: &ZoneMap, least: i32) -> Result<Pruned, StatsError
 }
 
 #[test]
-fn tables_are_pruned(rt: HostRuntime) -> Result<(), Fail> {
+fn tables_are_pruned(rt: HostRuntime) {
     let alloc = rt.alloc();
-    let found = pruned(alloc, &table_map(alloc)?, 10)?;
+    let found = pruned(alloc, &table_map(alloc).expect(&rt, "table map"), 10).expect(&rt, "found");
     assert!(rt; found.skipped.as_slice() == [0].as_slice());
     assert!(rt; found.whole.as_slice() == [2].as_slice());
-    Ok(())
 }
 
 // The verdicts by proofs that are made apart.
@@ -179,17 +222,26 @@ fn verdicts(alloc: Global, map: &ZoneMap, least: i32) -> Result<Vec<Verdict>, St
     let predicate = gt(alloc, a, int(alloc, least))?;
     let rules = Rules::builtin(alloc);
     let falsifier = falsify(alloc, &predicate, &rules)?;
-    let satisfier = satisfy(alloc, &predicate, &rules)?;
-    prune_by(alloc, map, falsifier.as_ref(), satisfier.as_ref())
+    by_proofs(alloc, map, falsifier, satisfy(alloc, &predicate, &rules))
+}
+
+fn by_proofs(
+    alloc: Global,
+    map: &ZoneMap,
+    falsifier: Option<BoundExpression>,
+    satisfier: Result<Option<BoundExpression>, StatsError>,
+) -> Result<Vec<Verdict>, StatsError> {
+    prune_by(alloc, map, falsifier.as_ref(), satisfier?.as_ref())
 }
 
 #[test]
-fn proofs_at_hand_tell_of_each_zone(rt: HostRuntime) -> Result<(), Fail> {
+fn proofs_at_hand_tell_of_each_zone(rt: HostRuntime) {
     let alloc = rt.alloc();
-    let found = verdicts(alloc, &table_map(alloc)?, 10)?;
+    let found = verdicts(alloc, &table_map(alloc).expect(&rt, "table map"), 10).expect(
+        &rt, "found",
+    );
     let all = [Verdict::Skipped, Verdict::Tested, Verdict::Whole];
     assert!(rt; found.as_slice() == all.as_slice());
-    Ok(())
 }
 
 // Whether a head has this name, aggregate and type.
@@ -200,36 +252,54 @@ fn is_head(head: &Head, name: &str, aggregate: AggregateFnRef, dtype: DType) -> 
         && head.dtype() == dtype
 }
 
+fn expect_head(rt: &impl Abort, head: &Head, name: &str, aggregate: AggregateFnRef, dtype: DType) {
+    assert!(rt; is_head(head, name, aggregate, dtype));
+}
+
 #[test]
-fn heads_name_the_columns(rt: HostRuntime) -> Result<(), Fail> {
+fn heads_name_the_columns(rt: HostRuntime) {
     let alloc = rt.alloc();
-    let heads = ZoneMap::heads(alloc, &scope(alloc)?)?;
+    let heads = heads(alloc).expect(&rt, "heads");
     assert!(rt; heads.len() == 7);
-    assert!(rt; is_head(&heads[0], "a#0", AggregateFnRef::Max, I32_OR_NULL));
-    assert!(rt; is_head(&heads[1], "a#1", AggregateFnRef::Min, I32_OR_NULL));
-    assert!(rt; is_head(&heads[2], "a#2", AggregateFnRef::Sum, SUM));
-    assert!(rt; is_head(&heads[3], "a#3", AggregateFnRef::NullCount, COUNT));
-    assert!(rt;
-        is_head(
-            &heads[4],
-            "a#4",
-            AggregateFnRef::UncompressedSizeInBytes,
-            COUNT
-        )
+    expect_head(&rt, &heads[0], "a#0", AggregateFnRef::Max, I32_OR_NULL);
+    expect_head(&rt, &heads[1], "a#1", AggregateFnRef::Min, I32_OR_NULL);
+    expect_head(&rt, &heads[2], "a#2", AggregateFnRef::Sum, SUM);
+    expect_head(&rt, &heads[3], "a#3", AggregateFnRef::NullCount, COUNT);
+    expect_head(
+        &rt,
+        &heads[4],
+        "a#4",
+        AggregateFnRef::UncompressedSizeInBytes,
+        COUNT,
     );
-    assert!(rt; is_head(&heads[5], "a#5", AggregateFnRef::AllNull, TRUTH));
-    assert!(rt; is_head(&heads[6], "a#6", AggregateFnRef::AllNonNull, TRUTH));
-    Ok(())
+    expect_head(&rt, &heads[5], "a#5", AggregateFnRef::AllNull, TRUTH);
+    expect_head(&rt, &heads[6], "a#6", AggregateFnRef::AllNonNull, TRUTH);
 }
 
 // Whether what was given comes back with a refusal.
 fn comes_back(alloc: Global, refused: &TableRefused, fault: Fault) -> Result<bool, StatsError> {
-    let columns = columns(alloc, fault)?;
     Ok(
-        refused.scope == scope(alloc)?
-            && refused.rows == rows(alloc, fault)?
-            && format!(in alloc; "{:?}", refused.columns)? == format!(in alloc; "{columns:?}")?,
+        is_scope(alloc, &refused.scope)?
+            && are_rows(alloc, &refused.rows, fault)?
+            && are_columns(alloc, &refused.columns, fault)?,
     )
+}
+
+fn is_scope(alloc: Global, found: &Scope) -> Result<bool, StatsError> {
+    Ok(*found == scope(alloc)?)
+}
+
+fn are_rows(alloc: Global, found: &[u64], fault: Fault) -> Result<bool, StatsError> {
+    Ok(found == rows(alloc, fault)?.as_slice())
+}
+
+fn are_columns(alloc: Global, found: &[Column], fault: Fault) -> Result<bool, StatsError> {
+    let expected = columns(alloc, fault)?;
+    Ok(printed_columns(alloc, found)? == printed_columns(alloc, &expected)?)
+}
+
+fn printed_columns(alloc: Global, columns: &[Column]) -> Result<String, StatsError> {
+    Ok(format!(in alloc; "{columns:?}")?)
 }
 
 // Whether no map is made, and what was given comes back.
@@ -242,20 +312,23 @@ fn is_misfit(alloc: Global, fault: Fault) -> Result<bool, StatsError> {
     }
 }
 
+fn expect_misfit(rt: &impl Abort, alloc: Global, fault: Fault, expected: bool) {
+    assert!(rt; is_misfit(alloc, fault).expect(rt, "an answer") == expected);
+}
+
 #[test]
-fn columns_that_make_no_table_come_back(rt: HostRuntime) -> Result<(), Fail> {
+fn columns_that_make_no_table_come_back(rt: HostRuntime) {
     let alloc = rt.alloc();
     for place in 0..7 {
-        assert!(rt; is_misfit(alloc, Fault::Missing(place))?);
-        assert!(rt; is_misfit(alloc, Fault::Twice(place))?);
-        assert!(rt; is_misfit(alloc, Fault::Short(place))?);
-        assert!(rt; is_misfit(alloc, Fault::Long(place))?);
-        assert!(rt; is_misfit(alloc, Fault::Sized(place))?);
-        assert!(rt; is_misfit(alloc, Fault::Typed(place))?);
+        expect_misfit(&rt, alloc, Fault::Missing(place), true);
+        expect_misfit(&rt, alloc, Fault::Twice(place), true);
+        expect_misfit(&rt, alloc, Fault::Short(place), true);
+        expect_misfit(&rt, alloc, Fault::Long(place), true);
+        expect_misfit(&rt, alloc, Fault::Sized(place), true);
+        expect_misfit(&rt, alloc, Fault::Typed(place), true);
     }
-    assert!(rt; is_misfit(alloc, Fault::Uncounted)?);
-    assert!(rt; !is_misfit(alloc, Fault::None)?);
-    Ok(())
+    expect_misfit(&rt, alloc, Fault::Uncounted, true);
+    expect_misfit(&rt, alloc, Fault::None, false);
 }
 
 // Whether the map is made, or memory is refused and what was given comes back.
@@ -274,8 +347,8 @@ fn is_made(made: Result<ZoneMap, TableRefused>, scope: &Scope) -> bool {
 #[test]
 fn refused_tables_hand_back(rt: HostRuntime) -> Result<(), Fail> {
     let alloc = rt.alloc();
-    let (same, given) = (scope(alloc)?, scope(alloc)?);
-    let (rows, columns) = (rows(alloc, Fault::None)?, columns(alloc, Fault::None)?);
-    assert!(rt; is_made(ZoneMap::of_table(alloc, given, rows, columns), &same));
+    let same = scope(alloc)?;
+    let made = made(alloc, Fault::None)?;
+    assert!(rt; is_made(made, &same));
     Ok(())
 }

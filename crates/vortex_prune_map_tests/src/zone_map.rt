@@ -21,8 +21,19 @@ fn no_sets(alloc: Global) -> SetsOfZones {
 // The sets of zones of one column, with those of one more.
 fn and_set(alloc: Global, sets: SetsOfZones, set: Sets) -> SetsOfZones {
     let mut sets = sets?;
-    sets.push(one_set(alloc, set?)?)?;
+    push_alone(&mut sets, alloc, set)?;
     Ok(sets)
+}
+
+// Adds a zone's one set to those of the others.
+pub(crate) fn push_alone(
+    sets: &mut Vec<Vec<StatsSet>>,
+    alloc: Global,
+    set: Sets,
+) -> Result<(), StatsError> {
+    let alone = one_set(alloc, set?)?;
+    sets.push(alone)?;
+    Ok(())
 }
 
 // Those with no set for the column of one more.
@@ -55,8 +66,15 @@ fn pruned(
     sets: SetsOfZones,
     predicate: Built,
 ) -> Result<Pruned, StatsError> {
-    let map = map_with(alloc, rows, &sets?)?;
-    pruned_by(alloc, &map, &predicate?, &Rules::builtin(alloc))
+    pruned_by_map(alloc, &map_of_sets(alloc, rows, sets)?, predicate)
+}
+
+fn map_of_sets(alloc: Global, rows: u64, sets: SetsOfZones) -> Result<ZoneMap, StatsError> {
+    map_with(alloc, rows, &sets?)
+}
+
+fn pruned_by_map(alloc: Global, map: &ZoneMap, predicate: Built) -> Result<Pruned, StatsError> {
+    pruned_by(alloc, map, &predicate?, &Rules::builtin(alloc))
 }
 
 fn lists(found: &Pruned, skipped: &[usize], whole: &[usize]) -> bool {
@@ -69,10 +87,9 @@ fn expect_pruned(
     found: Result<Pruned, StatsError>,
     skipped: &[usize],
     whole: &[usize],
-) -> Result<(), Fail> {
-    let found = found?;
+) {
+    let found = found.expect(rt, "found");
     assert!(rt; lists(&found, skipped, whole));
-    Ok(())
 }
 
 fn a(alloc: Global) -> Built {
@@ -99,19 +116,19 @@ fn three_zones(alloc: Global) -> SetsOfZones {
 }
 
 #[test]
-fn zones_are_pruned_without_rows(rt: HostRuntime) -> Result<(), Fail> {
+fn zones_are_pruned_without_rows(rt: HostRuntime) {
     let alloc = rt.alloc();
     let found = pruned(alloc, 100, three_zones(alloc), above(alloc, 10));
-    expect_pruned(&rt, found, &[0], &[2])?;
+    expect_pruned(&rt, found, &[0], &[2]);
     let found = pruned(alloc, 100, three_zones(alloc), above(alloc, 40));
-    expect_pruned(&rt, found, &[0, 2], &[])
+    expect_pruned(&rt, found, &[0, 2], &[]);
 }
 
 #[test]
-fn without_zones_nothing_is_pruned(rt: HostRuntime) -> Result<(), Fail> {
+fn without_zones_nothing_is_pruned(rt: HostRuntime) {
     let alloc = rt.alloc();
     let found = pruned(alloc, 100, no_sets(alloc), above(alloc, 10));
-    expect_pruned(&rt, found, &[], &[])
+    expect_pruned(&rt, found, &[], &[]);
 }
 
 fn is_not_predicate(found: Result<Pruned, StatsError>) -> bool {
@@ -119,11 +136,10 @@ fn is_not_predicate(found: Result<Pruned, StatsError>) -> bool {
 }
 
 #[test]
-fn what_is_no_predicate_is_told(rt: HostRuntime) -> Result<(), Fail> {
+fn what_is_no_predicate_is_told(rt: HostRuntime) {
     let alloc = rt.alloc();
     assert!(rt; is_not_predicate(pruned(alloc, 100, no_sets(alloc), a(alloc))));
     assert!(rt; is_not_predicate(pruned(alloc, 100, three_zones(alloc), a(alloc))));
-    Ok(())
 }
 
 // A zone of which the number of nulls alone is known.
@@ -133,28 +149,28 @@ fn counted_nulls(alloc: Global, count: u64) -> SetsOfZones {
 
 // The row count is the zone's own: no null among no rows is each of them.
 #[test]
-fn nulls_are_compared_with_the_row_count(rt: HostRuntime) -> Result<(), Fail> {
+fn nulls_are_compared_with_the_row_count(rt: HostRuntime) {
     let alloc = rt.alloc();
     let present = is_not_null(alloc, a(alloc));
     let found = pruned(alloc, 0, counted_nulls(alloc, 0), present);
-    expect_pruned(&rt, found, &[0], &[])?;
+    expect_pruned(&rt, found, &[0], &[]);
     let present = is_not_null(alloc, a(alloc));
     let found = pruned(alloc, 1, counted_nulls(alloc, 0), present);
-    expect_pruned(&rt, found, &[], &[0])
+    expect_pruned(&rt, found, &[], &[0]);
 }
 
 #[test]
-fn zones_have_up_to_all_rows(rt: HostRuntime) -> Result<(), Fail> {
+fn zones_have_up_to_all_rows(rt: HostRuntime) {
     let alloc = rt.alloc();
     let present = is_not_null(alloc, a(alloc));
     let found = pruned(alloc, u64::MAX, counted_nulls(alloc, u64::MAX), present);
-    expect_pruned(&rt, found, &[0], &[])?;
+    expect_pruned(&rt, found, &[0], &[]);
     let absent = is_null(alloc, a(alloc));
     let found = pruned(alloc, u64::MAX, counted_nulls(alloc, u64::MAX), absent);
-    expect_pruned(&rt, found, &[], &[0])?;
+    expect_pruned(&rt, found, &[], &[0]);
     let present = is_not_null(alloc, a(alloc));
     let found = pruned(alloc, u64::MAX, counted_nulls(alloc, u64::MAX - 1), present);
-    expect_pruned(&rt, found, &[], &[])
+    expect_pruned(&rt, found, &[], &[]);
 }
 
 // A set of a text's greatest value.
@@ -193,10 +209,22 @@ fn one_without(alloc: Global, place: usize) -> SetsOfZones {
 fn is_misfit(alloc: Global, sets: SetsOfZones) -> Result<bool, StatsError> {
     let sets = sets?;
     let zones = zones_of(alloc, 7, &sets)?;
-    match ZoneMap::try_new(alloc, scope(alloc)?, &zones) {
+    hands_back(alloc, ZoneMap::try_new(alloc, scope(alloc)?, &zones))
+}
+
+fn hands_back(alloc: Global, made: Result<ZoneMap, ZoneMapRefused>) -> Result<bool, StatsError> {
+    match made {
         Ok(_) => Ok(false),
-        Err(refused) => Ok(is_mismatch(&refused.error) && refused.scope == scope(alloc)?),
+        Err(refused) => Ok(is_mismatch(&refused.error) && is_scope(alloc, &refused.scope)?),
     }
+}
+
+fn is_scope(alloc: Global, found: &Scope) -> Result<bool, StatsError> {
+    Ok(*found == scope(alloc)?)
+}
+
+fn expect_misfit(rt: &impl Abort, alloc: Global, sets: SetsOfZones, expected: bool) {
+    assert!(rt; is_misfit(alloc, sets).expect(rt, "an answer") == expected);
 }
 
 fn is_mismatch(refused: &StatsError) -> bool {
@@ -204,22 +232,20 @@ fn is_mismatch(refused: &StatsError) -> bool {
 }
 
 #[test]
-fn sets_of_another_type_do_not_fit(rt: HostRuntime) -> Result<(), Fail> {
+fn sets_of_another_type_do_not_fit(rt: HostRuntime) {
     let alloc = rt.alloc();
-    assert!(rt; is_misfit(alloc, one_of_texts(alloc, 0))?);
-    assert!(rt; is_misfit(alloc, one_of_texts(alloc, 1))?);
-    assert!(rt; is_misfit(alloc, one_of_texts(alloc, 2))?);
-    assert!(rt; !is_misfit(alloc, one_of_texts(alloc, 3))?);
-    Ok(())
+    expect_misfit(&rt, alloc, one_of_texts(alloc, 0), true);
+    expect_misfit(&rt, alloc, one_of_texts(alloc, 1), true);
+    expect_misfit(&rt, alloc, one_of_texts(alloc, 2), true);
+    expect_misfit(&rt, alloc, one_of_texts(alloc, 3), false);
 }
 
 #[test]
-fn a_set_too_few_does_not_fit(rt: HostRuntime) -> Result<(), Fail> {
+fn a_set_too_few_does_not_fit(rt: HostRuntime) {
     let alloc = rt.alloc();
-    assert!(rt; is_misfit(alloc, one_without(alloc, 0))?);
-    assert!(rt; is_misfit(alloc, one_without(alloc, 1))?);
-    assert!(rt; is_misfit(alloc, one_without(alloc, 2))?);
-    Ok(())
+    expect_misfit(&rt, alloc, one_without(alloc, 0), true);
+    expect_misfit(&rt, alloc, one_without(alloc, 1), true);
+    expect_misfit(&rt, alloc, one_without(alloc, 2), true);
 }
 
 fn printed(alloc: Global, map: &ZoneMap) -> Result<String, StatsError> {
@@ -266,6 +292,10 @@ fn is_whole(alloc: Global, map: &ZoneMap) -> Result<bool, StatsError> {
     are_same(alloc, map, &whole_map(alloc)?)
 }
 
+fn expect_whole(rt: &impl Abort, alloc: Global, map: &ZoneMap) {
+    assert!(rt; is_whole(alloc, map).expect(rt, "an answer"));
+}
+
 fn is_empty(alloc: Global, map: &ZoneMap) -> Result<bool, StatsError> {
     are_same(alloc, map, &no_zones_map(alloc)?)
 }
@@ -281,14 +311,13 @@ pub(crate) fn append(one: &mut ZoneMap, other: &mut ZoneMap) -> Result<(), Stats
 
 // Maps appended are the map of all zones, and the other is left without any.
 #[test]
-fn appended_maps_are_one(rt: HostRuntime) -> Result<(), Fail> {
+fn appended_maps_are_one(rt: HostRuntime) {
     let alloc = rt.alloc();
-    let mut one = first_map(alloc)?;
-    let mut other = others_map(alloc)?;
-    append(&mut one, &mut other)?;
-    assert!(rt; is_whole(alloc, &one)?);
-    assert!(rt; is_empty(alloc, &other)?);
-    Ok(())
+    let mut one = first_map(alloc).expect(&rt, "one");
+    let mut other = others_map(alloc).expect(&rt, "other");
+    append(&mut one, &mut other).expect(&rt, "append");
+    expect_whole(&rt, alloc, &one);
+    assert!(rt; is_empty(alloc, &other).expect(&rt, "an answer"));
 }
 
 // The map, extended by zones of these sets.
@@ -298,12 +327,16 @@ fn extend(alloc: Global, map: &mut ZoneMap, sets: &[Vec<StatsSet>]) -> Result<()
 }
 
 #[test]
-fn extended_maps_are_one(rt: HostRuntime) -> Result<(), Fail> {
+fn extended_maps_are_one(rt: HostRuntime) {
     let alloc = rt.alloc();
-    let mut one = first_map(alloc)?;
-    extend(alloc, &mut one, &other_zones(alloc)?)?;
-    assert!(rt; is_whole(alloc, &one)?);
-    Ok(())
+    let mut one = first_map(alloc).expect(&rt, "one");
+    extend(
+        alloc,
+        &mut one,
+        &other_zones(alloc).expect(&rt, "other zones"),
+    )
+    .expect(&rt, "extend");
+    expect_whole(&rt, alloc, &one);
 }
 
 fn push_all(alloc: Global, map: &mut ZoneMap, sets: &[Vec<StatsSet>]) -> Result<(), StatsError> {
@@ -314,23 +347,30 @@ fn push_all(alloc: Global, map: &mut ZoneMap, sets: &[Vec<StatsSet>]) -> Result<
 }
 
 #[test]
-fn pushed_zones_are_one_map(rt: HostRuntime) -> Result<(), Fail> {
+fn pushed_zones_are_one_map(rt: HostRuntime) {
     let alloc = rt.alloc();
-    let mut map = no_zones_map(alloc)?;
-    push_all(alloc, &mut map, &three_zones(alloc)?)?;
-    assert!(rt; is_whole(alloc, &map)?);
-    Ok(())
+    let mut map = no_zones_map(alloc).expect(&rt, "map");
+    push_all(
+        alloc,
+        &mut map,
+        &three_zones(alloc).expect(&rt, "three zones"),
+    )
+    .expect(&rt, "push all");
+    expect_whole(&rt, alloc, &map);
 }
 
 // A map that zones don't fit stays as it was.
 #[test]
-fn maps_are_not_extended_by_misfits(rt: HostRuntime) -> Result<(), Fail> {
+fn maps_are_not_extended_by_misfits(rt: HostRuntime) {
     let alloc = rt.alloc();
-    let mut map = whole_map(alloc)?;
-    let refused = extend(alloc, &mut map, &one_of_texts(alloc, 1)?);
+    let mut map = whole_map(alloc).expect(&rt, "map");
+    let refused = extend(
+        alloc,
+        &mut map,
+        &one_of_texts(alloc, 1).expect(&rt, "one of texts"),
+    );
     assert!(rt; matches!(refused, Err(StatsError::Mismatch)));
-    assert!(rt; is_whole(alloc, &map)?);
-    Ok(())
+    expect_whole(&rt, alloc, &map);
 }
 
 fn is_memory(refused: &StatsError) -> bool {
@@ -345,12 +385,18 @@ fn is_made(made: Result<ZoneMap, ZoneMapRefused>, same: &Scope) -> bool {
     }
 }
 
+fn made_of_three(alloc: Global) -> Result<Result<ZoneMap, ZoneMapRefused>, StatsError> {
+    let sets = three_zones(alloc)?;
+    let zones = zones_of(alloc, 9, &sets)?;
+    Ok(ZoneMap::try_new(alloc, scope(alloc)?, &zones))
+}
+
 #[test]
 fn refused_maps_hand_back(rt: HostRuntime) -> Result<(), Fail> {
     let alloc = rt.alloc();
-    let (same, given, sets) = (scope(alloc)?, scope(alloc)?, three_zones(alloc)?);
-    let zones = zones_of(alloc, 9, &sets)?;
-    assert!(rt; is_made(ZoneMap::try_new(alloc, given, &zones), &same));
+    let same = scope(alloc)?;
+    let made = made_of_three(alloc)?;
+    assert!(rt; is_made(made, &same));
     Ok(())
 }
 
@@ -418,8 +464,8 @@ fn is_pruned(found: Result<Pruned, StatsError>) -> bool {
 #[test]
 fn refused_prunings(rt: HostRuntime) -> Result<(), Fail> {
     let alloc = rt.alloc();
-    let map = map_with(alloc, 9, &three_zones(alloc)?)?;
-    let (rules, predicate) = (Rules::builtin(alloc), above(alloc, 10)?);
-    assert!(rt; is_pruned(pruned_by(alloc, &map, &predicate, &rules)));
+    let map = map_of_sets(alloc, 9, three_zones(alloc))?;
+    let predicate = above(alloc, 10)?;
+    assert!(rt; is_pruned(pruned_by(alloc, &map, &predicate, &Rules::builtin(alloc))));
     Ok(())
 }

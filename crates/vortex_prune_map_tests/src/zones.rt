@@ -52,10 +52,7 @@ fn three(
     second: Option<ScalarValue>,
     third: Option<ScalarValue>,
 ) -> Result<Cells, AllocError> {
-    let mut values = one_value(alloc, first)?;
-    values.push(second)?;
-    values.push(third)?;
-    Ok(values)
+    Ok(Vec::from_array(alloc, [first, second, third])?)
 }
 
 // The rows 1, 5, 10 with exact bounds.
@@ -207,22 +204,20 @@ fn knows_no_truth(zones: &Zones) -> bool {
 }
 
 #[test]
-fn numbers_have_all_aggregates(rt: HostRuntime) -> Result<(), Fail> {
-    let zones = number_table(rt.alloc())?;
+fn numbers_have_all_aggregates(rt: HostRuntime) {
+    let zones = number_table(rt.alloc()).expect(&rt, "zones");
     assert!(rt; has_shape(&zones, 7, 2));
     assert!(rt; has_values(&zones));
     assert!(rt; has_counts(&zones));
     assert!(rt; has_truths(&zones));
-    Ok(())
 }
 
 #[test]
-fn numbers_are_known_by_their_bounds(rt: HostRuntime) -> Result<(), Fail> {
-    let zones = number_table(rt.alloc())?;
+fn numbers_are_known_by_their_bounds(rt: HostRuntime) {
+    let zones = number_table(rt.alloc()).expect(&rt, "zones");
     assert!(rt; has_bounds(&zones, 0, 10, 1));
     assert!(rt; has_bounds(&zones, 1, 25, 8));
     assert!(rt; knows_bounds_alone(&zones));
-    Ok(())
 }
 
 // Whether the columns of the counts and truths of nulls are the only ones.
@@ -245,22 +240,20 @@ fn has_nulls(zones: &Zones, row: usize, nulls: u64, all_null: bool, all_non_null
 }
 
 #[test]
-fn nulls_have_counts_alone(rt: HostRuntime) -> Result<(), Fail> {
-    let zones = null_table(rt.alloc())?;
+fn nulls_have_counts_alone(rt: HostRuntime) {
+    let zones = null_table(rt.alloc()).expect(&rt, "zones");
     assert!(rt; has_counts_alone(&zones));
     assert!(rt; are_null(&zones, 1));
     assert!(rt; has_nulls(&zones, 0, 2, true, false));
     // Of no rows both are true.
     assert!(rt; has_nulls(&zones, 1, 0, true, true));
-    Ok(())
 }
 
 #[test]
-fn without_parts_there_are_no_rows(rt: HostRuntime) -> Result<(), Fail> {
-    let zones = empty_table(rt.alloc())?;
+fn without_parts_there_are_no_rows(rt: HostRuntime) {
+    let zones = empty_table(rt.alloc()).expect(&rt, "zones");
     assert!(rt; has_shape(&zones, 7, 0));
     assert!(rt; zones.parts().is_empty());
-    Ok(())
 }
 
 fn printed(alloc: Global, parts: &[Part]) -> Result<String, StatsError> {

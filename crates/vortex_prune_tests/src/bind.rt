@@ -10,7 +10,6 @@ use crate::hooks::Answerer;
 use crate::testing::*;
 use std::alloc::Global;
 use std::process::Abort;
-use std::test::Fail;
 use vortex_base::{AggregateFnRef, BoundExpression, DType, Parts, bound};
 use vortex_prune::bind::bind_stats;
 use vortex_prune::{HookFault, StatBinder};
@@ -53,9 +52,8 @@ fn expect_bound<B: StatBinder>(
     e: Built,
     binder: &B,
     expected: Built,
-) -> Result<(), Fail> {
-    assert!(rt; are_same(bound_by(alloc, e, binder), expected)?);
-    Ok(())
+) {
+    assert!(rt; are_same(bound_by(alloc, e, binder), expected).expect(rt, "an answer"));
 }
 
 // Answers the count of nulls of the first column, of numbers, by the second column of a table of
@@ -133,29 +131,29 @@ const QUIET: Answerer = Answerer::Quiet;
 const ZERO: Answerer = Answerer::Zero;
 
 #[test]
-fn a_count_of_nulls_is_a_column(rt: HostRuntime) -> Result<(), Fail> {
+fn a_count_of_nulls_is_a_column(rt: HostRuntime) {
     let alloc = rt.alloc();
     let count = null_count(alloc, a(alloc));
-    expect_bound(&rt, alloc, count, &knowing(), counts(alloc))?;
+    expect_bound(&rt, alloc, count, &knowing(), counts(alloc));
     let elsewhere = null_count(alloc, col(alloc, 1, I32));
-    expect_bound(&rt, alloc, elsewhere, &knowing(), null_of(alloc, U64))
+    expect_bound(&rt, alloc, elsewhere, &knowing(), null_of(alloc, U64));
 }
 
 #[test]
-fn a_truth_is_not_derived_from_a_count(rt: HostRuntime) -> Result<(), Fail> {
+fn a_truth_is_not_derived_from_a_count(rt: HostRuntime) {
     let alloc = rt.alloc();
-    expect_bound(&rt, alloc, all_null(alloc), &KNOWN, null(alloc))
+    expect_bound(&rt, alloc, all_null(alloc), &KNOWN, null(alloc));
 }
 
 #[test]
-fn nothing_is_reduced(rt: HostRuntime) -> Result<(), Fail> {
+fn nothing_is_reduced(rt: HostRuntime) {
     let alloc = rt.alloc();
     let both = and(alloc, truth(alloc, false), all_null(alloc));
     let kept = and(alloc, truth(alloc, false), null(alloc));
-    expect_bound(&rt, alloc, both, &UNKNOWN, kept)?;
+    expect_bound(&rt, alloc, both, &UNKNOWN, kept);
     let either = or(alloc, truth(alloc, true), all_null(alloc));
     let kept = or(alloc, truth(alloc, true), null(alloc));
-    expect_bound(&rt, alloc, either, &UNKNOWN, kept)
+    expect_bound(&rt, alloc, either, &UNKNOWN, kept);
 }
 
 fn null_test(alloc: Global) -> Built {
@@ -163,17 +161,17 @@ fn null_test(alloc: Global) -> Built {
 }
 
 #[test]
-fn what_holds_no_placeholder_is_kept(rt: HostRuntime) -> Result<(), Fail> {
+fn what_holds_no_placeholder_is_kept(rt: HostRuntime) {
     let alloc = rt.alloc();
-    expect_bound(&rt, alloc, null_test(alloc), &FAULTY, null_test(alloc))?;
-    expect_bound(&rt, alloc, row_count(alloc), &FAULTY, row_count(alloc))
+    expect_bound(&rt, alloc, null_test(alloc), &FAULTY, null_test(alloc));
+    expect_bound(&rt, alloc, row_count(alloc), &FAULTY, row_count(alloc));
 }
 
 #[test]
-fn an_inner_placeholder_is_not_met(rt: HostRuntime) -> Result<(), Fail> {
+fn an_inner_placeholder_is_not_met(rt: HostRuntime) {
     let alloc = rt.alloc();
     let outer = null_count(alloc, null_count(alloc, a(alloc)));
-    expect_bound(&rt, alloc, outer, &KNOWN, null_of(alloc, U64))
+    expect_bound(&rt, alloc, outer, &KNOWN, null_of(alloc, U64));
 }
 
 fn is_own(answer: Built) -> bool {
@@ -184,28 +182,31 @@ fn is_wrong_type(answer: Built) -> bool {
     matches!(answer, Err(StatsError::Binder(BinderFault::WrongType)))
 }
 
+fn expect_wrong_type(rt: &impl Abort, answer: Built) {
+    assert!(rt; is_wrong_type(answer));
+}
+
 fn dtype_of(answer: Built) -> Result<DType, StatsError> {
     Ok(answer?.dtype())
 }
 
 #[test]
-fn faults_are_the_binders(rt: HostRuntime) -> Result<(), Fail> {
+fn faults_are_the_binders(rt: HostRuntime) {
     let alloc = rt.alloc();
     assert!(rt; is_own(bound_by(alloc, all_null(alloc), &FAULTY)));
-    assert!(rt; is_wrong_type(bound_by(alloc, all_null(alloc), &QUIET)));
+    expect_wrong_type(&rt, bound_by(alloc, all_null(alloc), &QUIET));
     let right = bound_by(alloc, null_count(alloc, a(alloc)), &QUIET);
-    assert!(rt; dtype_of(right)? == U64.as_nullable());
-    Ok(())
+    assert!(rt; dtype_of(right).expect(&rt, "dtype of") == U64.as_nullable());
 }
 
 // What stands for a missing answer is what the binder says: null is not put in its place.
 #[test]
-fn what_is_missing_is_asked_for(rt: HostRuntime) -> Result<(), Fail> {
+fn what_is_missing_is_asked_for(rt: HostRuntime) {
     let alloc = rt.alloc();
     let zero = lit(alloc, U64, count(0));
-    expect_bound(&rt, alloc, null_count(alloc, a(alloc)), &ZERO, zero)?;
-    assert!(rt; is_wrong_type(bound_by(alloc, all_null(alloc), &ZERO)));
-    assert!(rt; is_wrong_type(bound_by(alloc, min(alloc, a(alloc)), &ZERO)));
+    expect_bound(&rt, alloc, null_count(alloc, a(alloc)), &ZERO, zero);
+    expect_wrong_type(&rt, bound_by(alloc, all_null(alloc), &ZERO));
+    expect_wrong_type(&rt, bound_by(alloc, min(alloc, a(alloc)), &ZERO));
     let null = null_of(alloc, U64);
-    expect_bound(&rt, alloc, null_count(alloc, a(alloc)), &QUIET, null)
+    expect_bound(&rt, alloc, null_count(alloc, a(alloc)), &QUIET, null);
 }

@@ -156,17 +156,18 @@ fn looks(alloc: Global, left: Made, right: Made) -> Result<String, StatsError> {
 }
 
 #[test]
-fn joins_the_first_run(rt: HostRuntime) -> Result<(), Fail> {
+fn joins_the_first_run(rt: HostRuntime) {
     let alloc = rt.alloc();
-    let part = joined_part(alloc, first_part(alloc, 24), second_part(alloc, 16))?;
+    let part = joined_part(alloc, first_part(alloc, 24), second_part(alloc, 16)).expect(
+        &rt, "part",
+    );
     expect_numbers(
         &rt,
         &part,
         &[Some(1), Some(5), Some(10), Some(8), None, Some(20)],
     );
     assert!(rt; size(&part) == 40);
-    assert!(rt; is_within(&part, 1, 25)?);
-    Ok(())
+    assert!(rt; is_within(&part, 1, 25).expect(&rt, "an answer"));
 }
 
 // Whether the statistic of the first column is exactly this text.
@@ -180,20 +181,20 @@ fn are_texts(alloc: Global, part: &Part, least: &str, greatest: &str) -> Result<
 }
 
 #[test]
-fn joins_texts(rt: HostRuntime) -> Result<(), Fail> {
+fn joins_texts(rt: HostRuntime) {
     let alloc = rt.alloc();
-    let part = joined_part(alloc, pear(alloc), apple(alloc))?;
+    let part = joined_part(alloc, pear(alloc), apple(alloc)).expect(&rt, "part");
     assert!(rt; rows(&part) == 2);
-    assert!(rt; are_texts(alloc, &part, "apple", "pear")?);
-    Ok(())
+    assert!(rt; are_texts(alloc, &part, "apple", "pear").expect(&rt, "an answer"));
 }
 
 #[test]
-fn joins_sizes_up_to_the_greatest(rt: HostRuntime) -> Result<(), Fail> {
+fn joins_sizes_up_to_the_greatest(rt: HostRuntime) {
     let alloc = rt.alloc();
-    let part = joined_part(alloc, first_part(alloc, u64::MAX), second_part(alloc, 0))?;
+    let part = joined_part(alloc, first_part(alloc, u64::MAX), second_part(alloc, 0)).expect(
+        &rt, "part",
+    );
     assert!(rt; size(&part) == u64::MAX);
-    Ok(())
 }
 
 // Whether a refused join handed back two parts that look so.
@@ -202,8 +203,10 @@ fn hands_back(alloc: Global, refused: &JoinRefused, looks: &str) -> Result<bool,
     Ok(back.as_str() == looks)
 }
 
-fn refused_join(alloc: Global, left: Made, right: Made) -> Result<JoinRefused, Fail> {
-    Ok(joined(alloc, left, right)?.err().ok_or("a refusal")?)
+fn refused_join(rt: &impl Abort, alloc: Global, left: Made, right: Made) -> JoinRefused {
+    joined(alloc, left, right)
+        .expect(rt, "parts")
+        .expect_err(rt, "a refusal")
 }
 
 fn is_too_large(error: &StatsError) -> bool {
@@ -211,13 +214,19 @@ fn is_too_large(error: &StatsError) -> bool {
 }
 
 #[test]
-fn refuses_sizes_past_their_type(rt: HostRuntime) -> Result<(), Fail> {
+fn refuses_sizes_past_their_type(rt: HostRuntime) {
     let alloc = rt.alloc();
-    let looks = looks(alloc, first_part(alloc, u64::MAX), second_part(alloc, 1))?;
-    let refused = refused_join(alloc, first_part(alloc, u64::MAX), second_part(alloc, 1))?;
+    let looks = looks(alloc, first_part(alloc, u64::MAX), second_part(alloc, 1)).expect(
+        &rt, "looks",
+    );
+    let refused = refused_join(
+        &rt,
+        alloc,
+        first_part(alloc, u64::MAX),
+        second_part(alloc, 1),
+    );
     assert!(rt; is_too_large(&refused.error));
-    assert!(rt; hands_back(alloc, &refused, looks.as_str())?);
-    Ok(())
+    assert!(rt; hands_back(alloc, &refused, looks.as_str()).expect(&rt, "an answer"));
 }
 
 fn single(alloc: Global) -> Result<Chunk, StatsError> {
@@ -225,8 +234,8 @@ fn single(alloc: Global) -> Result<Chunk, StatsError> {
     chunk_of(alloc, scope_of(alloc, I32_OR_NULL), column)
 }
 
-fn refused_part(chunk: Chunk, sets: Vec<StatsSet>) -> Result<PartRefused, Fail> {
-    Ok(new_part(chunk, sets).err().ok_or("a refusal")?)
+fn refused_part(rt: &impl Abort, chunk: Chunk, sets: Vec<StatsSet>) -> PartRefused {
+    new_part(chunk, sets).expect_err(rt, "a refusal")
 }
 
 fn is_mismatch(error: &StatsError) -> bool {
@@ -239,16 +248,17 @@ fn text_set(alloc: Global) -> Result<Vec<StatsSet>, AllocError> {
 }
 
 #[test]
-fn refuses_sets_that_do_not_fit(rt: HostRuntime) -> Result<(), Fail> {
+fn refuses_sets_that_do_not_fit(rt: HostRuntime) {
     let alloc = rt.alloc();
     // A text's bound for a column of numbers, and no set at all.
-    let refused = refused_part(single(alloc)?, text_set(alloc)?)?;
+    let chunk = single(alloc).expect(&rt, "a chunk");
+    let set = text_set(alloc).expect(&rt, "a set");
+    let refused = refused_part(&rt, chunk, set);
     assert!(rt; is_mismatch(&refused.error));
     assert!(rt; refused.stats.len() == 1);
     assert!(rt; refused.chunk.rows() == 1);
-    let refused = refused_part(refused.chunk, Vec::new(alloc))?;
+    let refused = refused_part(&rt, refused.chunk, Vec::new(alloc));
     assert!(rt; is_mismatch(&refused.error));
-    Ok(())
 }
 
 fn apart(part: Made) -> Result<(Chunk, Vec<StatsSet>), StatsError> {
@@ -272,11 +282,12 @@ fn printed_made(alloc: Global, part: Made) -> Result<String, StatsError> {
 }
 
 #[test]
-fn comes_apart_into_what_makes_it(rt: HostRuntime) -> Result<(), Fail> {
+fn comes_apart_into_what_makes_it(rt: HostRuntime) {
     let alloc = rt.alloc();
-    let looks = printed_made(alloc, first_part(alloc, 3))?;
-    assert!(rt; printed_made(alloc, made_again(first_part(alloc, 3)))? == looks);
-    Ok(())
+    let looks = printed_made(alloc, first_part(alloc, 3)).expect(&rt, "looks");
+    assert!(rt;
+        printed_made(alloc, made_again(first_part(alloc, 3))).expect(&rt, "printed made") == looks
+    );
 }
 
 fn pear(alloc: Global) -> Made {

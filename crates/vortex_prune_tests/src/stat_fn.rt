@@ -2,7 +2,6 @@
 use crate::testing::*;
 use std::alloc::Global;
 use std::process::Abort;
-use std::test::Fail;
 use vortex_base::types::Element;
 use vortex_base::{
     AggregateFnRef, ConstantArray, DType, Nullability, PType, Scalar, ScalarFnId, ScalarValue,
@@ -34,7 +33,11 @@ fn array(scalar: Scalar, rows: u64) -> ConstantArray {
 }
 
 // This value at each row.
-fn repeated(dtype: DType, value: Option<ScalarValue>, rows: u64) -> Result<ConstantArray, Fail> {
+fn repeated(
+    dtype: DType,
+    value: Option<ScalarValue>,
+    rows: u64,
+) -> Result<ConstantArray, StatsError> {
     Ok(array(scalar(dtype, value)?, rows))
 }
 
@@ -46,28 +49,27 @@ fn expect(
     rows: u64,
     dtype: DType,
     value: Option<ScalarValue>,
-) -> Result<(), Fail> {
-    let expected = repeated(dtype, value, rows)?;
-    let found = answer(&set, aggregate, rows)?;
+) {
+    let expected = repeated(dtype, value, rows).expect(rt, "expected");
+    let found = answer(&set, aggregate, rows).expect(rt, "found");
     assert!(rt; found == expected);
-    Ok(())
 }
 
 fn six() -> ScalarValue {
     ScalarValue::from(6i64)
 }
 
-fn expect_sum(rt: &impl Abort, set: StatsSet, value: Option<ScalarValue>) -> Result<(), Fail> {
-    expect(rt, set, AggregateFnRef::Sum, 3, I64, value)
+fn expect_sum(rt: &impl Abort, set: StatsSet, value: Option<ScalarValue>) {
+    expect(rt, set, AggregateFnRef::Sum, 3, I64, value);
 }
 
 // What a count of nulls in four rows is answered by.
-fn expect_count(rt: &impl Abort, set: StatsSet, value: Option<u64>) -> Result<(), Fail> {
+fn expect_count(rt: &impl Abort, set: StatsSet, value: Option<u64>) {
     let value = match value {
         Some(n) => Some(count(n)),
         None => None,
     };
-    expect(rt, set, AggregateFnRef::NullCount, 4, COUNT, value)
+    expect(rt, set, AggregateFnRef::NullCount, 4, COUNT, value);
 }
 
 fn expect_truth(
@@ -76,12 +78,12 @@ fn expect_truth(
     aggregate: AggregateFnRef,
     rows: u64,
     value: Option<bool>,
-) -> Result<(), Fail> {
+) {
     let value = match value {
         Some(truth) => Some(ScalarValue::Bool(truth)),
         None => None,
     };
-    expect(rt, set, aggregate, rows, TRUTH, value)
+    expect(rt, set, aggregate, rows, TRUTH, value);
 }
 
 fn exact_nulls(alloc: Global, nulls: u64) -> StatsSet {
@@ -101,16 +103,15 @@ fn return_dtype(options: &StatOptions, dtype: DType) -> Result<DType, StatsError
 }
 
 #[test]
-fn name_the_function_and_its_child(rt: HostRuntime) -> Result<(), Fail> {
+fn name_the_function_and_its_child(rt: HostRuntime) {
     let sum = options(AggregateFnRef::Sum);
     assert!(rt; StatFn::id() == ScalarFnId::Stat);
     assert!(rt; StatFn::arity(&sum) == 1);
     assert!(rt; StatFn::child_name(&sum, 0) == "input");
     assert!(rt; !StatFn::is_strict(&sum));
-    assert!(rt; return_dtype(&sum, I32)? == I64);
+    assert!(rt; return_dtype(&sum, I32).expect(&rt, "return dtype") == I64);
     let of_texts = return_dtype(&sum, DType::Utf8(Nullability::Nullable));
     assert!(rt; matches!(of_texts, Err(StatsError::Unsupported)));
-    Ok(())
 }
 
 #[test]
@@ -123,11 +124,11 @@ fn options_compare_by_their_aggregate(rt: HostRuntime) {
 }
 
 #[test]
-fn sums_are_exact_or_null(rt: HostRuntime) -> Result<(), Fail> {
+fn sums_are_exact_or_null(rt: HostRuntime) {
     let alloc = rt.alloc();
-    expect_sum(&rt, exactly(alloc, Stat::Sum, six()), Some(six()))?;
-    expect_sum(&rt, at_most(alloc, Stat::Sum, six()), None)?;
-    expect_sum(&rt, no_statistics(alloc), None)
+    expect_sum(&rt, exactly(alloc, Stat::Sum, six()), Some(six()));
+    expect_sum(&rt, at_most(alloc, Stat::Sum, six()), None);
+    expect_sum(&rt, no_statistics(alloc), None);
 }
 
 fn extremes(alloc: Global) -> Sets {
@@ -140,8 +141,15 @@ fn expect_extreme(
     aggregate: AggregateFnRef,
     dtype: DType,
     value: Option<ScalarValue>,
-) -> Result<(), Fail> {
-    expect(rt, extremes(alloc)?, aggregate, 3, dtype, value)
+) {
+    expect(
+        rt,
+        extremes(alloc).expect(rt, "extremes"),
+        aggregate,
+        3,
+        dtype,
+        value,
+    );
 }
 
 fn is_unsupported(answer: Result<ConstantArray, StatsError>) -> bool {
@@ -149,7 +157,7 @@ fn is_unsupported(answer: Result<ConstantArray, StatsError>) -> bool {
 }
 
 #[test]
-fn extremes_are_bounds(rt: HostRuntime) -> Result<(), Fail> {
+fn extremes_are_bounds(rt: HostRuntime) {
     let alloc = rt.alloc();
     expect_extreme(
         &rt,
@@ -157,52 +165,51 @@ fn extremes_are_bounds(rt: HostRuntime) -> Result<(), Fail> {
         AggregateFnRef::Min,
         I32_OR_NULL,
         Some(number(1)),
-    )?;
+    );
     expect_extreme(
         &rt,
         alloc,
         AggregateFnRef::Max,
         I32_OR_NULL,
         Some(number(3)),
-    )?;
+    );
     expect_extreme(
         &rt,
         alloc,
         AggregateFnRef::UncompressedSizeInBytes,
         COUNT,
         None,
-    )?;
-    let set = extremes(alloc)?;
+    );
+    let set = extremes(alloc).expect(&rt, "set");
     assert!(rt; is_unsupported(answer(&set, AggregateFnRef::NanCount, 3)));
-    Ok(())
 }
 
 #[test]
-fn counts_of_nulls_are_exact(rt: HostRuntime) -> Result<(), Fail> {
+fn counts_of_nulls_are_exact(rt: HostRuntime) {
     let alloc = rt.alloc();
-    expect_count(&rt, exact_nulls(alloc, 2), Some(2))?;
-    expect_count(&rt, nulls_at_most(alloc, 2), None)?;
-    expect_count(&rt, nulls_at_most(alloc, 0), Some(0))
+    expect_count(&rt, exact_nulls(alloc, 2), Some(2));
+    expect_count(&rt, nulls_at_most(alloc, 2), None);
+    expect_count(&rt, nulls_at_most(alloc, 0), Some(0));
 }
 
 #[test]
-fn all_null_by_the_count(rt: HostRuntime) -> Result<(), Fail> {
+fn all_null_by_the_count(rt: HostRuntime) {
     let (alloc, all_null) = (rt.alloc(), AggregateFnRef::AllNull);
-    expect_truth(&rt, nulls_at_most(alloc, 2), all_null, 3, Some(false))?;
-    expect_truth(&rt, nulls_at_most(alloc, 3), all_null, 3, None)?;
-    expect_truth(&rt, exact_nulls(alloc, 3), all_null, 3, Some(true))
+    expect_truth(&rt, nulls_at_most(alloc, 2), all_null, 3, Some(false));
+    expect_truth(&rt, nulls_at_most(alloc, 3), all_null, 3, None);
+    expect_truth(&rt, exact_nulls(alloc, 3), all_null, 3, Some(true));
 }
 
 #[test]
-fn all_non_null_by_the_count(rt: HostRuntime) -> Result<(), Fail> {
+fn all_non_null_by_the_count(rt: HostRuntime) {
     let (alloc, no_null) = (rt.alloc(), AggregateFnRef::AllNonNull);
-    expect_truth(&rt, nulls_at_most(alloc, 0), no_null, 3, Some(true))?;
-    expect_truth(&rt, nulls_at_most(alloc, 2), no_null, 4, None)?;
-    expect_truth(&rt, exact_nulls(alloc, 0), no_null, 4, Some(true))
+    expect_truth(&rt, nulls_at_most(alloc, 0), no_null, 3, Some(true));
+    expect_truth(&rt, nulls_at_most(alloc, 2), no_null, 4, None);
+    expect_truth(&rt, exact_nulls(alloc, 0), no_null, 4, Some(true));
 }
 
 // What a declared size is answered by.
-fn expect_size(rt: &impl Abort, set: StatsSet, value: Option<ScalarValue>) -> Result<(), Fail> {
+fn expect_size(rt: &impl Abort, set: StatsSet, value: Option<ScalarValue>) {
     expect(
         rt,
         set,
@@ -210,16 +217,16 @@ fn expect_size(rt: &impl Abort, set: StatsSet, value: Option<ScalarValue>) -> Re
         3,
         COUNT,
         value,
-    )
+    );
 }
 
 #[test]
-fn sizes_are_exact_or_null(rt: HostRuntime) -> Result<(), Fail> {
+fn sizes_are_exact_or_null(rt: HostRuntime) {
     let (alloc, size) = (rt.alloc(), Stat::UncompressedSizeInBytes);
-    expect_size(&rt, exactly(alloc, size, count(12)), Some(count(12)))?;
-    expect_size(&rt, at_most(alloc, size, count(12)), None)?;
-    expect_size(&rt, at_most(alloc, size, count(0)), None)?;
-    expect_size(&rt, no_statistics(alloc), None)
+    expect_size(&rt, exactly(alloc, size, count(12)), Some(count(12)));
+    expect_size(&rt, at_most(alloc, size, count(12)), None);
+    expect_size(&rt, at_most(alloc, size, count(0)), None);
+    expect_size(&rt, no_statistics(alloc), None);
 }
 
 const STATE: DType = DType::MinMaxState(Element::Primitive(PType::I32), Nullability::Nullable);
@@ -230,34 +237,48 @@ fn exact_extremes(alloc: Global) -> Sets {
 }
 
 #[test]
-fn exact_extremes_are_bounds_too(rt: HostRuntime) -> Result<(), Fail> {
+fn exact_extremes_are_bounds_too(rt: HostRuntime) {
     let (alloc, min, max) = (rt.alloc(), AggregateFnRef::Min, AggregateFnRef::Max);
-    let set = exact_extremes(alloc)?;
-    expect(&rt, set, min, 3, I32_OR_NULL, Some(number(1)))?;
-    let set = exact_extremes(alloc)?;
-    expect(&rt, set, max, 3, I32_OR_NULL, Some(number(3)))?;
-    expect(&rt, no_statistics(alloc), max, 3, I32_OR_NULL, None)
+    let set = exact_extremes(alloc).expect(&rt, "set");
+    expect(&rt, set, min, 3, I32_OR_NULL, Some(number(1)));
+    let set = exact_extremes(alloc).expect(&rt, "set");
+    expect(&rt, set, max, 3, I32_OR_NULL, Some(number(3)));
+    expect(&rt, no_statistics(alloc), max, 3, I32_OR_NULL, None);
 }
 
 #[test]
-fn a_pair_of_extremes_is_null(rt: HostRuntime) -> Result<(), Fail> {
+fn a_pair_of_extremes_is_null(rt: HostRuntime) {
     let (alloc, pair) = (rt.alloc(), AggregateFnRef::MinMax);
-    expect(&rt, exact_extremes(alloc)?, pair, 3, STATE, None)?;
-    expect(&rt, extremes(alloc)?, pair, 3, STATE, None)?;
-    expect(&rt, no_statistics(alloc), pair, 3, STATE, None)
+    expect(
+        &rt,
+        exact_extremes(alloc).expect(&rt, "exact extremes"),
+        pair,
+        3,
+        STATE,
+        None,
+    );
+    expect(
+        &rt,
+        extremes(alloc).expect(&rt, "extremes"),
+        pair,
+        3,
+        STATE,
+        None,
+    );
+    expect(&rt, no_statistics(alloc), pair, 3, STATE, None);
 }
 
 // An exact count of nulls tells both ways.
 #[test]
-fn some_rows_are_null_by_the_count(rt: HostRuntime) -> Result<(), Fail> {
+fn some_rows_are_null_by_the_count(rt: HostRuntime) {
     let alloc = rt.alloc();
     let (all_null, no_null) = (AggregateFnRef::AllNull, AggregateFnRef::AllNonNull);
-    expect_truth(&rt, exact_nulls(alloc, 2), all_null, 3, Some(false))?;
-    expect_truth(&rt, exact_nulls(alloc, 0), all_null, 3, Some(false))?;
-    expect_truth(&rt, exact_nulls(alloc, 0), all_null, 0, Some(true))?;
-    expect_truth(&rt, exact_nulls(alloc, 2), no_null, 3, Some(false))?;
-    expect_truth(&rt, exact_nulls(alloc, 3), no_null, 3, Some(false))?;
-    expect_truth(&rt, no_statistics(alloc), all_null, 3, None)
+    expect_truth(&rt, exact_nulls(alloc, 2), all_null, 3, Some(false));
+    expect_truth(&rt, exact_nulls(alloc, 0), all_null, 3, Some(false));
+    expect_truth(&rt, exact_nulls(alloc, 0), all_null, 0, Some(true));
+    expect_truth(&rt, exact_nulls(alloc, 2), no_null, 3, Some(false));
+    expect_truth(&rt, exact_nulls(alloc, 3), no_null, 3, Some(false));
+    expect_truth(&rt, no_statistics(alloc), all_null, 3, None);
 }
 
 const AGGREGATES: [AggregateFnRef; 9] = [
@@ -297,22 +318,25 @@ fn answers_alike(set: &StatsSet, rows: u64) -> Result<bool, StatsError> {
     Ok(true)
 }
 
+fn expect_answers_alike(rt: &impl Abort, set: &StatsSet, rows: u64) {
+    assert!(rt; answers_alike(set, rows).expect(rt, "an answer"));
+}
+
 #[test]
-fn one_statistic_answers_for_its_set(rt: HostRuntime) -> Result<(), Fail> {
+fn one_statistic_answers_for_its_set(rt: HostRuntime) {
     let alloc = rt.alloc();
-    assert!(rt; answers_alike(&no_statistics(alloc), 3)?);
-    assert!(rt; answers_alike(&exact_extremes(alloc)?, 3)?);
-    assert!(rt; answers_alike(&extremes(alloc)?, 3)?);
+    expect_answers_alike(&rt, &no_statistics(alloc), 3);
+    expect_answers_alike(&rt, &exact_extremes(alloc).expect(&rt, "exact extremes"), 3);
+    expect_answers_alike(&rt, &extremes(alloc).expect(&rt, "extremes"), 3);
     for nulls in 0..5 {
-        assert!(rt; answers_alike(&exact_nulls(alloc, nulls), 3)?);
-        assert!(rt; answers_alike(&nulls_at_most(alloc, nulls), 3)?);
+        expect_answers_alike(&rt, &exact_nulls(alloc, nulls), 3);
+        expect_answers_alike(&rt, &nulls_at_most(alloc, nulls), 3);
     }
-    assert!(rt; answers_alike(&exactly(alloc, Stat::Sum, six()), 3)?);
-    assert!(rt; answers_alike(&at_most(alloc, Stat::Sum, six()), 3)?);
+    expect_answers_alike(&rt, &exactly(alloc, Stat::Sum, six()), 3);
+    expect_answers_alike(&rt, &at_most(alloc, Stat::Sum, six()), 3);
     let size = Stat::UncompressedSizeInBytes;
-    assert!(rt; answers_alike(&exactly(alloc, size, count(12)), 3)?);
-    assert!(rt; answers_alike(&at_most(alloc, size, count(12)), 3)?);
-    Ok(())
+    expect_answers_alike(&rt, &exactly(alloc, size, count(12)), 3);
+    expect_answers_alike(&rt, &at_most(alloc, size, count(12)), 3);
 }
 
 #[test]

@@ -45,20 +45,35 @@ pub fn column(
     told(Column::try_new(dtype, values?, size))
 }
 
-fn one_column(alloc: Global, column: Column) -> Result<Vec<Column>, AllocError> {
+fn push_column(
+    columns: &mut Vec<Column>,
+    column: Result<Column, StatsError>,
+) -> Result<(), StatsError> {
+    columns.push(column?)?;
+    Ok(())
+}
+
+fn one_column(alloc: Global, only: Result<Column, StatsError>) -> Result<Vec<Column>, StatsError> {
     let mut columns = Vec::new(alloc);
-    columns.push(column)?;
+    push_column(&mut columns, only)?;
     Ok(columns)
 }
 
-fn two_columns(alloc: Global, first: Column, second: Column) -> Result<Vec<Column>, AllocError> {
+fn two_columns(
+    alloc: Global,
+    first: Result<Column, StatsError>,
+    second: Result<Column, StatsError>,
+) -> Result<Vec<Column>, StatsError> {
     let mut columns = one_column(alloc, first)?;
-    columns.push(second)?;
+    push_column(&mut columns, second)?;
     Ok(columns)
 }
 
-fn chunk(scope: Scope, columns: Vec<Column>) -> Result<Chunk, StatsError> {
-    told(Chunk::try_new(scope, columns))
+fn chunk(
+    scope: Result<Scope, StatsError>,
+    columns: Result<Vec<Column>, StatsError>,
+) -> Result<Chunk, StatsError> {
+    told(Chunk::try_new(scope?, columns?))
 }
 
 pub fn chunk_of(
@@ -66,7 +81,7 @@ pub fn chunk_of(
     scope: Result<Scope, StatsError>,
     only: Result<Column, StatsError>,
 ) -> Result<Chunk, StatsError> {
-    chunk(scope?, one_column(alloc, only?)?)
+    chunk(scope, one_column(alloc, only))
 }
 
 pub fn chunk_of_two(
@@ -75,7 +90,7 @@ pub fn chunk_of_two(
     first: Result<Column, StatsError>,
     second: Result<Column, StatsError>,
 ) -> Result<Chunk, StatsError> {
-    chunk(scope?, two_columns(alloc, first?, second?)?)
+    chunk(scope, two_columns(alloc, first, second))
 }
 
 pub fn no_statistics(alloc: Global) -> StatsSet {
@@ -124,9 +139,17 @@ pub fn one_set(alloc: Global, set: StatsSet) -> Result<Vec<StatsSet>, AllocError
     Ok(sets)
 }
 
-fn two_sets(alloc: Global, first: StatsSet, second: StatsSet) -> Result<Vec<StatsSet>, AllocError> {
-    let mut sets = one_set(alloc, first)?;
-    sets.push(second)?;
+/// Adds the set to the sets.
+pub fn push_set(sets: &mut Vec<StatsSet>, set: Sets) -> Result<(), StatsError> {
+    sets.push(set?)?;
+    Ok(())
+}
+
+/// The two sets, in order.
+pub fn two_sets(alloc: Global, first: Sets, second: Sets) -> Result<Vec<StatsSet>, StatsError> {
+    let mut sets = Vec::new(alloc);
+    push_set(&mut sets, first)?;
+    push_set(&mut sets, second)?;
     Ok(sets)
 }
 
@@ -141,13 +164,24 @@ fn part(chunk: Chunk, sets: Vec<StatsSet>) -> Result<Part, StatsError> {
     }
 }
 
+fn made(
+    chunk: Result<Chunk, StatsError>,
+    sets: Result<Vec<StatsSet>, StatsError>,
+) -> Result<Part, StatsError> {
+    part(chunk?, sets?)
+}
+
+fn set_alone(alloc: Global, set: Sets) -> Result<Vec<StatsSet>, StatsError> {
+    Ok(one_set(alloc, set?)?)
+}
+
 /// A part of a chunk of one column.
 pub fn part_of(
     alloc: Global,
     chunk: Result<Chunk, StatsError>,
     set: Sets,
 ) -> Result<Part, StatsError> {
-    part(chunk?, one_set(alloc, set?)?)
+    made(chunk, set_alone(alloc, set))
 }
 
 /// A part of a chunk of two columns.
@@ -157,7 +191,7 @@ pub fn part_of_two(
     first: Sets,
     second: Sets,
 ) -> Result<Part, StatsError> {
-    part(chunk?, two_sets(alloc, first?, second?)?)
+    made(chunk, two_sets(alloc, first, second))
 }
 
 pub type Parts = Result<Vec<Part>, StatsError>;
@@ -169,8 +203,13 @@ pub fn no_parts(alloc: Global) -> Parts {
 /// The parts with one more.
 pub fn and_part(parts: Parts, part: Result<Part, StatsError>) -> Parts {
     let mut parts = parts?;
-    parts.push(part?)?;
+    push_part(&mut parts, part)?;
     Ok(parts)
+}
+
+fn push_part(parts: &mut Vec<Part>, part: Result<Part, StatsError>) -> Result<(), StatsError> {
+    parts.push(part?)?;
+    Ok(())
 }
 
 pub fn one_part(alloc: Global, part: Result<Part, StatsError>) -> Parts {
@@ -359,12 +398,15 @@ fn push_rows(alloc: Global, whole: &mut Chunk, chunk: &Chunk) -> Result<(), Stat
 
 /// The rows of all parts as one chunk.
 pub fn chunk_of_all(alloc: Global, zones: &Zones) -> Result<Chunk, StatsError> {
-    let columns = empty_columns(alloc, zones.scope())?;
-    let mut whole = chunk(zones.scope().try_clone()?, columns)?;
+    let mut whole = chunk(copied(zones.scope()), empty_columns(alloc, zones.scope()))?;
     for part in zones.parts() {
         push_rows(alloc, &mut whole, part.chunk())?;
     }
     Ok(whole)
+}
+
+fn copied(scope: &Scope) -> Result<Scope, StatsError> {
+    Ok(scope.try_clone()?)
 }
 
 /// The scan of a chunk by a map; `Mismatch` where the predicate doesn't fit it.

@@ -2,7 +2,6 @@
 use crate::testing::*;
 use std::alloc::{AllocError, Global};
 use std::process::Abort;
-use std::test::Fail;
 use vortex_base::evaluate::evaluate;
 use vortex_base::{BaseError, BoundExpression, DType, Nullability, Row, ScalarValue};
 use vortex_prune::bind::bind_stats;
@@ -58,29 +57,28 @@ fn bound_to_part(alloc: Global, e: Built) -> Built {
 }
 
 // The expression is bound to this one.
-fn expect_bound(rt: &impl Abort, alloc: Global, e: Built, expected: Built) -> Result<(), Fail> {
-    assert!(rt; are_same(bound_to_part(alloc, e), expected)?);
-    Ok(())
+fn expect_bound(rt: &impl Abort, alloc: Global, e: Built, expected: Built) {
+    assert!(rt; are_same(bound_to_part(alloc, e), expected).expect(rt, "an answer"));
 }
 
 #[test]
-fn literals_of_what_is_known(rt: HostRuntime) -> Result<(), Fail> {
+fn literals_of_what_is_known(rt: HostRuntime) {
     let alloc = rt.alloc();
-    expect_bound(&rt, alloc, max(alloc, a(alloc)), int_or_null(alloc, 20))?;
-    expect_bound(&rt, alloc, min(alloc, a(alloc)), null_of(alloc, I32))?;
+    expect_bound(&rt, alloc, max(alloc, a(alloc)), int_or_null(alloc, 20));
+    expect_bound(&rt, alloc, min(alloc, a(alloc)), null_of(alloc, I32));
     let is_truth = lit(alloc, TRUTH, ScalarValue::Bool(false));
-    expect_bound(&rt, alloc, all_null(alloc, a(alloc)), is_truth)
+    expect_bound(&rt, alloc, all_null(alloc, a(alloc)), is_truth);
 }
 
 #[test]
-fn null_of_what_is_not(rt: HostRuntime) -> Result<(), Fail> {
+fn null_of_what_is_not(rt: HostRuntime) {
     let alloc = rt.alloc();
     let elsewhere = all_null(alloc, col(alloc, 1, I32_OR_NULL));
-    expect_bound(&rt, alloc, elsewhere, unknown_truth(alloc))?;
+    expect_bound(&rt, alloc, elsewhere, unknown_truth(alloc));
     let other_type = all_null(alloc, col(alloc, 0, TEXT));
-    expect_bound(&rt, alloc, other_type, unknown_truth(alloc))?;
+    expect_bound(&rt, alloc, other_type, unknown_truth(alloc));
     let no_column = all_null(alloc, int_or_null(alloc, 1));
-    expect_bound(&rt, alloc, no_column, unknown_truth(alloc))
+    expect_bound(&rt, alloc, no_column, unknown_truth(alloc));
 }
 
 fn value(e: &BoundExpression, rows: u64) -> Result<Option<ScalarValue>, BaseError> {
@@ -88,17 +86,16 @@ fn value(e: &BoundExpression, rows: u64) -> Result<Option<ScalarValue>, BaseErro
 }
 
 // The value of an expression over no columns and these rows.
-fn value_of(e: Built, rows: u64) -> Result<Option<ScalarValue>, Fail> {
-    Ok(value(&e?, rows)?)
+fn value_of(e: Built, rows: u64) -> Result<Option<ScalarValue>, StatsError> {
+    told(value(&e?, rows))
 }
 
 #[test]
-fn a_proof_can_be_evaluated(rt: HostRuntime) -> Result<(), Fail> {
+fn a_proof_can_be_evaluated(rt: HostRuntime) {
     let alloc = rt.alloc();
     let max = max(alloc, col(alloc, 0, I32));
     let bound = bound_to_part(alloc, lt_eq(alloc, max, int_or_null(alloc, 25)));
-    assert!(rt; value_of(bound, 3)? == Some(ScalarValue::Bool(true)));
-    Ok(())
+    assert!(rt; value_of(bound, 3).expect(&rt, "value of") == Some(ScalarValue::Bool(true)));
 }
 
 // The expression, bound by the statistics of the zone that the part stands for, without its rows.
@@ -114,14 +111,39 @@ fn greatest_and_least(alloc: Global) -> Built {
 }
 
 #[test]
-fn zones_answer_as_their_parts(rt: HostRuntime) -> Result<(), Fail> {
+fn zones_answer_as_their_parts(rt: HostRuntime) {
     let alloc = rt.alloc();
-    let part = part(alloc)?;
-    let by_zone = bound_without_rows(alloc, greatest_and_least(alloc)?, &part)?;
-    assert!(rt; by_zone == bound_by(alloc, greatest_and_least(alloc)?, &part)?);
-    let by_zone = bound_without_rows(alloc, all_null(alloc, a(alloc))?, &part)?;
-    assert!(rt; by_zone == bound_by(alloc, all_null(alloc, a(alloc))?, &part)?);
-    Ok(())
+    let part = part(alloc).expect(&rt, "part");
+    let by_zone = bound_without_rows(
+        alloc,
+        greatest_and_least(alloc).expect(&rt, "greatest and least"),
+        &part,
+    )
+    .expect(&rt, "by zone");
+    assert!(rt;
+        by_zone
+            == bound_by(
+                alloc,
+                greatest_and_least(alloc).expect(&rt, "greatest and least"),
+                &part
+            )
+            .expect(&rt, "bound by")
+    );
+    let by_zone = bound_without_rows(
+        alloc,
+        all_null(alloc, a(alloc)).expect(&rt, "all null"),
+        &part,
+    )
+    .expect(&rt, "by zone");
+    assert!(rt;
+        by_zone
+            == bound_by(
+                alloc,
+                all_null(alloc, a(alloc)).expect(&rt, "all null"),
+                &part
+            )
+            .expect(&rt, "bound by")
+    );
 }
 
 fn is_misfit(part: &Part, zone: &Zone<'_>) -> bool {
@@ -130,9 +152,8 @@ fn is_misfit(part: &Part, zone: &Zone<'_>) -> bool {
 }
 
 #[test]
-fn a_zone_without_sets_has_no_binder(rt: HostRuntime) -> Result<(), Fail> {
-    let part = part(rt.alloc())?;
+fn a_zone_without_sets_has_no_binder(rt: HostRuntime) {
+    let part = part(rt.alloc()).expect(&rt, "part");
     assert!(rt; is_misfit(&part, &Zone::new(3, &[])));
     assert!(rt; !is_misfit(&part, &part.zone()));
-    Ok(())
 }

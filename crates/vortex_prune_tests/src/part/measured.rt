@@ -1,5 +1,7 @@
 //! Parts that are measured from their chunks, and checks of parts against their rows.
 use super::*;
+use std::process::Abort;
+use std::test::Fail;
 use vortex_base::{Bytes, Column, DType, Nullability, PType, Scope};
 use vortex_prune::MeasureRefused;
 
@@ -37,9 +39,14 @@ fn chunk_of_values(
 // The least value, a null and the greatest value.
 fn around_null(alloc: Global, least: Value, greatest: Value) -> Result<Cells, AllocError> {
     let mut values = one_value(alloc, greatest?)?;
-    values.push(None)?;
-    values.push(least?)?;
+    push_null_and(&mut values, least)?;
     Ok(values)
+}
+
+fn push_null_and(values: &mut Cells, last: Value) -> Result<(), AllocError> {
+    values.push(None)?;
+    values.push(last?)?;
+    Ok(())
 }
 
 // Whether the statistic is exactly the value, and not there if there is none.
@@ -117,18 +124,22 @@ fn measures(alloc: Global, dtype: DType) -> Result<bool, StatsError> {
         value_of(alloc, dtype, true),
     );
     let part = measured(alloc, chunk_of_values(alloc, dtype, values))?;
+    has_all(alloc, &part, dtype)
+}
+
+fn has_all(alloc: Global, part: &Part, dtype: DType) -> Result<bool, StatsError> {
     Ok(
-        is_known(&part, Stat::Min, value_of(alloc, dtype, false))?
-            && is_known(&part, Stat::Max, value_of(alloc, dtype, true))?
-            && is_known(&part, Stat::Sum, Ok(sum_of(dtype)))?
-            && is_ordered(&part, false, false)?
-            && is_counted(&part, 1)?
+        is_known(part, Stat::Min, value_of(alloc, dtype, false))?
+            && is_known(part, Stat::Max, value_of(alloc, dtype, true))?
+            && is_known(part, Stat::Sum, Ok(sum_of(dtype)))?
+            && is_ordered(part, false, false)?
+            && is_counted(part, 1)?
             && part.is_true(),
     )
 }
 
 #[test]
-fn each_type_is_measured(rt: HostRuntime) -> Result<(), Fail> {
+fn each_type_is_measured(rt: HostRuntime) {
     let alloc = rt.alloc();
     let types = [
         DType::Bool(Nullability::Nullable),
@@ -144,9 +155,8 @@ fn each_type_is_measured(rt: HostRuntime) -> Result<(), Fail> {
         DType::Binary(Nullability::Nullable),
     ];
     for dtype in types {
-        assert!(rt; measures(alloc, dtype)?);
+        assert!(rt; measures(alloc, dtype).expect(&rt, "measures"));
     }
-    Ok(())
 }
 
 // Whether of a column without values neither a least nor a greatest value is measured.
@@ -157,23 +167,33 @@ fn measures_no_value(
     nulls: u64,
 ) -> Result<bool, StatsError> {
     let part = measured(alloc, chunk_of_values(alloc, dtype, values))?;
+    has_no_value(&part, nulls)
+}
+
+fn has_no_value(part: &Part, nulls: u64) -> Result<bool, StatsError> {
     Ok(
-        is_known(&part, Stat::Min, Ok(None))?
-            && is_known(&part, Stat::Max, Ok(None))?
-            && is_ordered(&part, true, true)?
-            && is_counted(&part, nulls)?
+        is_known(part, Stat::Min, Ok(None))?
+            && is_known(part, Stat::Max, Ok(None))?
+            && is_ordered(part, true, true)?
+            && is_counted(part, nulls)?
             && part.is_true(),
     )
 }
 
 #[test]
-fn no_rows_and_nulls_alone_are_measured(rt: HostRuntime) -> Result<(), Fail> {
+fn no_rows_and_nulls_alone_are_measured(rt: HostRuntime) {
     let alloc = rt.alloc();
     for dtype in [DType::Null, I32_OR_NULL, TEXT_OR_NULL] {
-        assert!(rt; measures_no_value(alloc, dtype, Ok(Vec::new(alloc)), 0)?);
-        assert!(rt; measures_no_value(alloc, dtype, one_value(alloc, None), 1)?);
+        assert!(rt;
+            measures_no_value(alloc, dtype, Ok(Vec::new(alloc)), 0).expect(&rt, "measures no value")
+        );
+        assert!(rt;
+            measures_no_value(alloc, dtype, one_value(alloc, None), 1).expect(
+                &rt,
+                "measures no value"
+            )
+        );
     }
-    Ok(())
 }
 
 // A text, a null and another text.
@@ -286,16 +306,19 @@ fn is_true(alloc: Global, of: [(u64, i32); 3]) -> Result<bool, StatsError> {
     Ok(together((three_columns(alloc)?, three_known(alloc, of)?))?.is_true())
 }
 
+fn expect_true(rt: &impl Abort, alloc: Global, of: [(u64, i32); 3], expected: bool) {
+    assert!(rt; is_true(alloc, of).expect(rt, "an answer") == expected);
+}
+
 #[test]
-fn a_false_statistic_of_any_column_is_found(rt: HostRuntime) -> Result<(), Fail> {
+fn a_false_statistic_of_any_column_is_found(rt: HostRuntime) {
     let alloc = rt.alloc();
-    assert!(rt; is_true(alloc, [(1, 3), (1, 4), (1, 5)])?);
+    expect_true(&rt, alloc, [(1, 3), (1, 4), (1, 5)], true);
     // A count of nulls that is wrong, and a greatest value that a row is above.
     for (nulls, greatest) in [(0, 3), (2, 3), (1, 2)] {
         let wrong = (nulls, greatest);
-        assert!(rt; !is_true(alloc, [wrong, (1, 3), (1, 3)])?);
-        assert!(rt; !is_true(alloc, [(1, 3), wrong, (1, 3)])?);
-        assert!(rt; !is_true(alloc, [(1, 3), (1, 3), wrong])?);
+        expect_true(&rt, alloc, [wrong, (1, 3), (1, 3)], false);
+        expect_true(&rt, alloc, [(1, 3), wrong, (1, 3)], false);
+        expect_true(&rt, alloc, [(1, 3), (1, 3), wrong], false);
     }
-    Ok(())
 }
