@@ -1,7 +1,6 @@
 //! Scans over parts of one column of numbers, row by row.
 use std::alloc::{AllocError, Global};
 use std::process::Abort;
-use std::test::Fail;
 use vortex_base::{BetweenOptions, Operator, ScalarFnId};
 use vortex_prune::{Part, Rules, StatsRewriteRuleRef, Zones};
 use vortex_prune_tests::testing::*;
@@ -47,16 +46,10 @@ fn rules_that_claim(
 }
 
 // The scan skipped these parts and selected these rows.
-fn expect_found(
-    rt: &impl Abort,
-    found: Found,
-    skipped: &[usize],
-    selected: &[(usize, usize)],
-) -> Result<(), Fail> {
-    let found = found?;
+fn expect_found(rt: &impl Abort, found: Found, skipped: &[usize], selected: &[(usize, usize)]) {
+    let found = found.expect(rt, "found");
     assert!(rt; found.skipped.as_slice() == skipped);
     assert!(rt; found.selected.as_slice() == selected);
-    Ok(())
 }
 
 // A part of one column `a`, with these statistics of it.
@@ -129,31 +122,19 @@ fn range(alloc: Global, options: BetweenOptions, lower: i32, upper: i32) -> Buil
 }
 
 // The one part is skipped.
-fn expect_skipped(
-    rt: &impl Abort,
-    alloc: Global,
-    parts: Table,
-    predicate: Built,
-) -> Result<(), Fail> {
-    expect_found(rt, scanned(alloc, &parts, predicate), &[0], &[])
+fn expect_skipped(rt: &impl Abort, alloc: Global, parts: Table, predicate: Built) {
+    expect_found(rt, scanned(alloc, &parts, predicate), &[0], &[]);
 }
 
 // The one part is looked at, and so many of its rows satisfy the predicate.
-fn expect_rows(
-    rt: &impl Abort,
-    alloc: Global,
-    parts: Table,
-    predicate: Built,
-    rows: usize,
-) -> Result<(), Fail> {
-    let found = scanned(alloc, &parts, predicate)?;
+fn expect_rows(rt: &impl Abort, alloc: Global, parts: Table, predicate: Built, rows: usize) {
+    let found = scanned(alloc, &parts, predicate).expect(rt, "found");
     assert!(rt; found.skipped.is_empty());
     assert!(rt; found.selected.len() == rows);
-    Ok(())
 }
 
 #[test]
-fn one_part_is_skipped(rt: HostRuntime) -> Result<(), Fail> {
+fn one_part_is_skipped(rt: HostRuntime) {
     let alloc = rt.alloc();
     let parts = two_parts(alloc);
     expect_found(
@@ -161,47 +142,47 @@ fn one_part_is_skipped(rt: HostRuntime) -> Result<(), Fail> {
         scanned(alloc, &parts, above(alloc, 10)),
         &[0],
         &[(1, 2)],
-    )?;
+    );
     let found = scanned(alloc, &parts, above(alloc, 9));
-    expect_found(&rt, found, &[], &[(0, 2), (1, 2)])
+    expect_found(&rt, found, &[], &[(0, 2), (1, 2)]);
 }
 
 #[test]
-fn a_repeated_column_is_kept(rt: HostRuntime) -> Result<(), Fail> {
+fn a_repeated_column_is_kept(rt: HostRuntime) {
     let alloc = rt.alloc();
     let both = and(alloc, above(alloc, 10), compare(alloc, Operator::Lt, 5));
-    expect_rows(&rt, alloc, bounded(alloc, &[Some(3)], 0, 20), both, 0)
+    expect_rows(&rt, alloc, bounded(alloc, &[Some(3)], 0, 20), both, 0);
 }
 
 #[test]
-fn ranges(rt: HostRuntime) -> Result<(), Fail> {
+fn ranges(rt: HostRuntime) {
     let alloc = rt.alloc();
     let crossed = range(alloc, CLOSED, 50, 10);
-    expect_skipped(&rt, alloc, bounded(alloc, &[Some(3)], 0, 60), crossed)?;
+    expect_skipped(&rt, alloc, bounded(alloc, &[Some(3)], 0, 60), crossed);
     let neighbours = range(alloc, OPEN, 3, 4);
-    expect_skipped(&rt, alloc, bounded(alloc, &[Some(3)], 0, 10), neighbours)?;
+    expect_skipped(&rt, alloc, bounded(alloc, &[Some(3)], 0, 10), neighbours);
     let closed = range(alloc, CLOSED, 10, 50);
-    expect_skipped(&rt, alloc, bounded(alloc, &[Some(51)], 51, 60), closed)?;
+    expect_skipped(&rt, alloc, bounded(alloc, &[Some(51)], 51, 60), closed);
     let closed = range(alloc, CLOSED, 10, 50);
-    expect_rows(&rt, alloc, bounded(alloc, &[Some(50)], 50, 60), closed, 1)
+    expect_rows(&rt, alloc, bounded(alloc, &[Some(50)], 50, 60), closed, 1);
 }
 
 #[test]
-fn null_tests(rt: HostRuntime) -> Result<(), Fail> {
+fn null_tests(rt: HostRuntime) {
     let alloc = rt.alloc();
     let rows = [None, Some(2), None];
     let is_value = is_not_null(alloc, a(alloc));
-    expect_rows(&rt, alloc, with_nulls(alloc, &rows, 3), is_value, 1)?;
+    expect_rows(&rt, alloc, with_nulls(alloc, &rows, 3), is_value, 1);
     let is_value = is_not_null(alloc, a(alloc));
-    expect_rows(&rt, alloc, with_nulls(alloc, &rows, 2), is_value, 1)?;
+    expect_rows(&rt, alloc, with_nulls(alloc, &rows, 2), is_value, 1);
     let null = is_null(alloc, a(alloc));
-    expect_skipped(&rt, alloc, with_nulls(alloc, &[], 0), null)?;
+    expect_skipped(&rt, alloc, with_nulls(alloc, &[], 0), null);
     let null = is_null(alloc, a(alloc));
-    expect_skipped(&rt, alloc, with_nulls(alloc, &[Some(1)], 0), null)
+    expect_skipped(&rt, alloc, with_nulls(alloc, &[Some(1)], 0), null);
 }
 
 #[test]
-fn a_comparison_with_null_proves_nothing(rt: HostRuntime) -> Result<(), Fail> {
+fn a_comparison_with_null_proves_nothing(rt: HostRuntime) {
     let alloc = rt.alloc();
     let predicate = eq(alloc, a(alloc), null_of(alloc, I32));
     expect_rows(
@@ -210,7 +191,7 @@ fn a_comparison_with_null_proves_nothing(rt: HostRuntime) -> Result<(), Fail> {
         bounded(alloc, &[Some(1), None], 1, 1),
         predicate,
         0,
-    )
+    );
 }
 
 fn is_no_predicate(found: Found) -> bool {
@@ -218,18 +199,18 @@ fn is_no_predicate(found: Found) -> bool {
 }
 
 #[test]
-fn without_parts(rt: HostRuntime) -> Result<(), Fail> {
+fn without_parts(rt: HostRuntime) {
     let alloc = rt.alloc();
     let parts = without_part(alloc);
     assert!(rt; is_no_predicate(scanned(alloc, &parts, int(alloc, 7))));
-    expect_found(&rt, scanned(alloc, &parts, above(alloc, 10)), &[], &[])
+    expect_found(&rt, scanned(alloc, &parts, above(alloc, 10)), &[], &[]);
 }
 
 #[test]
-fn without_statistics(rt: HostRuntime) -> Result<(), Fail> {
+fn without_statistics(rt: HostRuntime) {
     let alloc = rt.alloc();
     let parts = with_set(alloc, &[Some(11)], no_statistics(alloc));
-    expect_rows(&rt, alloc, parts, above(alloc, 10), 1)?;
+    expect_rows(&rt, alloc, parts, above(alloc, 10), 1);
     let parts = with_set(alloc, &[Some(11)], unknown(alloc, Stat::Max));
-    expect_rows(&rt, alloc, parts, above(alloc, 10), 1)
+    expect_rows(&rt, alloc, parts, above(alloc, 10), 1);
 }

@@ -78,7 +78,7 @@ fn long(alloc: Global, rows: usize) -> Table {
 }
 
 // The rows of a part that satisfy a predicate, each by itself.
-pub(super) fn rows_alone(
+fn rows_alone(
     alloc: Global,
     part: &Part,
     predicate: &BoundExpression,
@@ -94,18 +94,38 @@ pub(super) fn rows_alone(
 }
 
 // Whether a scan found these rows, and tested so many.
-pub(super) fn found_rows(found: &Scan, rows: &[(usize, usize)], tested: usize) -> bool {
+fn found_rows(found: &Scan, rows: &[(usize, usize)], tested: usize) -> bool {
     found.selected.as_slice() == rows && found.evaluated == tested as u64
 }
 
 // Whether the scan of the long part finds what its rows say by themselves.
 fn is_as_alone(alloc: Global, rows: usize, predicate: Built) -> Result<bool, StatsError> {
     let (zones, predicate) = (long(alloc, rows)?, predicate?);
-    let found = scanned_by_part(alloc, zones.parts(), &predicate, &Rules::builtin(alloc))?;
+    scans_as_alone(alloc, &zones, &predicate, rows)
+}
+
+// Whether the scan of one part of so many rows finds what these say by themselves.
+pub(super) fn scans_as_alone(
+    alloc: Global,
+    zones: &Zones,
+    predicate: &BoundExpression,
+    rows: usize,
+) -> Result<bool, StatsError> {
+    let found = scanned_by_part(alloc, zones.parts(), predicate, &Rules::builtin(alloc))?;
     match zones.parts().first() {
         None => Ok(false),
-        Some(part) => Ok(found_rows(&found, &rows_alone(alloc, part, &predicate)?, rows)),
+        Some(part) => finds_alone(alloc, &found, part, predicate, rows),
     }
+}
+
+fn finds_alone(
+    alloc: Global,
+    found: &Scan,
+    part: &Part,
+    predicate: &BoundExpression,
+    rows: usize,
+) -> Result<bool, StatsError> {
+    Ok(found_rows(found, &rows_alone(alloc, part, predicate)?, rows))
 }
 
 fn copied(predicate: &BoundExpression) -> Built {
@@ -113,13 +133,12 @@ fn copied(predicate: &BoundExpression) -> Built {
 }
 
 // The scan is that of the rows by themselves, at lengths about those of a block and of two.
-fn expect_as_alone(rt: &impl Abort, alloc: Global, predicate: Built) -> Result<(), Fail> {
-    let predicate = predicate?;
+fn expect_as_alone(rt: &impl Abort, alloc: Global, predicate: Built) {
+    let predicate = predicate.expect(rt, "predicate");
     for rows in [0, 1, 1_023, 1_024, 1_025, 2_049] {
-        let is_alike = is_as_alone(alloc, rows, copied(&predicate))?;
+        let is_alike = is_as_alone(alloc, rows, copied(&predicate)).expect(rt, "is alike");
         assert!(rt; is_alike);
     }
-    Ok(())
 }
 
 fn b(alloc: Global) -> Built {
@@ -135,51 +154,57 @@ fn count_selected(alloc: Global, rows: usize, predicate: Built) -> Result<usize,
 
 // Of each five rows two have a number above 4, and so has the last one.
 #[test]
-fn counts_are_known(rt: HostRuntime) -> Result<(), Fail> {
+fn counts_are_known(rt: HostRuntime) {
     let alloc = rt.alloc();
-    assert!(rt; count_selected(alloc, 2_049, above(alloc, 4))? == 819);
-    assert!(rt; count_selected(alloc, 1_024, is_null(alloc, a(alloc)))? == 205);
-    assert!(rt; count_selected(alloc, 3, eq(alloc, b(alloc), text(alloc, "larch")))? == 1);
-    Ok(())
+    assert!(rt; count_selected(alloc, 2_049, above(alloc, 4)).expect(&rt, "count selected") == 819);
+    assert!(rt;
+        count_selected(alloc, 1_024, is_null(alloc, a(alloc))).expect(&rt, "count selected") == 205
+    );
+    assert!(rt;
+        count_selected(alloc, 3, eq(alloc, b(alloc), text(alloc, "larch"))).expect(
+            &rt,
+            "count selected"
+        ) == 1
+    );
 }
 
 #[test]
-fn comparisons_have_the_rows(rt: HostRuntime) -> Result<(), Fail> {
+fn comparisons_have_the_rows(rt: HostRuntime) {
     let alloc = rt.alloc();
-    expect_as_alone(&rt, alloc, above(alloc, 4))?;
-    expect_as_alone(&rt, alloc, not_eq(alloc, a(alloc), int(alloc, 5)))?;
-    expect_as_alone(&rt, alloc, lt(alloc, int(alloc, 3), a(alloc)))?;
-    expect_as_alone(&rt, alloc, eq(alloc, a(alloc), a(alloc)))
+    expect_as_alone(&rt, alloc, above(alloc, 4));
+    expect_as_alone(&rt, alloc, not_eq(alloc, a(alloc), int(alloc, 5)));
+    expect_as_alone(&rt, alloc, lt(alloc, int(alloc, 3), a(alloc)));
+    expect_as_alone(&rt, alloc, eq(alloc, a(alloc), a(alloc)));
 }
 
 #[test]
-fn texts_have_the_rows(rt: HostRuntime) -> Result<(), Fail> {
+fn texts_have_the_rows(rt: HostRuntime) {
     let alloc = rt.alloc();
-    expect_as_alone(&rt, alloc, gt(alloc, b(alloc), text(alloc, "cedar")))?;
-    expect_as_alone(&rt, alloc, lt_eq(alloc, text(alloc, "larch"), b(alloc)))?;
-    expect_as_alone(&rt, alloc, like(alloc, b(alloc), text(alloc, "%rc%h")))
+    expect_as_alone(&rt, alloc, gt(alloc, b(alloc), text(alloc, "cedar")));
+    expect_as_alone(&rt, alloc, lt_eq(alloc, text(alloc, "larch"), b(alloc)));
+    expect_as_alone(&rt, alloc, like(alloc, b(alloc), text(alloc, "%rc%h")));
 }
 
 #[test]
-fn nulls_have_the_rows(rt: HostRuntime) -> Result<(), Fail> {
+fn nulls_have_the_rows(rt: HostRuntime) {
     let alloc = rt.alloc();
-    expect_as_alone(&rt, alloc, is_null(alloc, a(alloc)))?;
-    expect_as_alone(&rt, alloc, is_not_null(alloc, b(alloc)))?;
-    expect_as_alone(&rt, alloc, not(alloc, above(alloc, 4)))?;
+    expect_as_alone(&rt, alloc, is_null(alloc, a(alloc)));
+    expect_as_alone(&rt, alloc, is_not_null(alloc, b(alloc)));
+    expect_as_alone(&rt, alloc, not(alloc, above(alloc, 4)));
     let null = null_of(alloc, I32_OR_NULL);
-    expect_as_alone(&rt, alloc, gt(alloc, a(alloc), null))
+    expect_as_alone(&rt, alloc, gt(alloc, a(alloc), null));
 }
 
 #[test]
-fn ranges_have_the_rows(rt: HostRuntime) -> Result<(), Fail> {
+fn ranges_have_the_rows(rt: HostRuntime) {
     let alloc = rt.alloc();
-    expect_as_alone(&rt, alloc, range(alloc, CLOSED, 3, 5))?;
-    expect_as_alone(&rt, alloc, range(alloc, OPEN, 3, 7))?;
+    expect_as_alone(&rt, alloc, range(alloc, CLOSED, 3, 5));
+    expect_as_alone(&rt, alloc, range(alloc, OPEN, 3, 7));
     let turned = between(alloc, int(alloc, 4), a(alloc), int(alloc, 9), OPEN_BELOW);
-    expect_as_alone(&rt, alloc, turned)?;
+    expect_as_alone(&rt, alloc, turned);
     let null = null_of(alloc, I32_OR_NULL);
     let half = between(alloc, a(alloc), null, int(alloc, 5), CLOSED);
-    expect_as_alone(&rt, alloc, half)
+    expect_as_alone(&rt, alloc, half);
 }
 
 // The numbers above 4 beside a text below `cedar`, or minus one.
@@ -190,12 +215,12 @@ fn inner(alloc: Global) -> Built {
 }
 
 #[test]
-fn connectives_have_the_rows(rt: HostRuntime) -> Result<(), Fail> {
+fn connectives_have_the_rows(rt: HostRuntime) {
     let alloc = rt.alloc();
     let there = is_not_null(alloc, b(alloc));
-    expect_as_alone(&rt, alloc, and(alloc, inner(alloc), there))?;
+    expect_as_alone(&rt, alloc, and(alloc, inner(alloc), there));
     let odd = not(alloc, compare(alloc, Operator::Lt, 7));
-    expect_as_alone(&rt, alloc, or(alloc, odd, inner(alloc)))?;
+    expect_as_alone(&rt, alloc, or(alloc, odd, inner(alloc)));
     let both = or(alloc, above(alloc, 4), compare(alloc, Operator::Gte, 3));
-    expect_as_alone(&rt, alloc, both)
+    expect_as_alone(&rt, alloc, both);
 }

@@ -48,7 +48,7 @@ fn scanned_table(alloc: Global, zones: &Table, predicate: Built) -> Found {
 }
 
 #[test]
-fn a_caller_has_the_rows(rt: HostRuntime) -> Result<(), Fail> {
+fn a_caller_has_the_rows(rt: HostRuntime) {
     let alloc = rt.alloc();
     let zones = bounded(alloc, &[Some(8), None, Some(20)], 8, 25);
     expect_found(
@@ -56,5 +56,5 @@ fn a_caller_has_the_rows(rt: HostRuntime) -> Result<(), Fail> {
         scanned_table(alloc, &zones, above(alloc, 10)),
         &[],
         &[(0, 2)],
-    )
+    );
 }

@@ -1,5 +1,6 @@
 //! Binders of a user that answer what they shouldn't or fault, and statistics at odds.
 use super::*;
+use std::process::Abort;
 use vortex_base::AggregateFnRef;
 use vortex_prune::bind::bind_stats;
 use vortex_prune_tests::hooks::Answerer;
@@ -32,8 +33,16 @@ fn is_open(found: Found) -> bool {
     matches!(found, Err(StatsError::OpenProof))
 }
 
+fn expect_open(rt: &impl Abort, found: Found) {
+    assert!(rt; is_open(found));
+}
+
 fn is_wrong_type(found: Found) -> bool {
     matches!(found, Err(StatsError::Binder(BinderFault::WrongType)))
+}
+
+fn expect_wrong_type(rt: &impl Abort, found: Found) {
+    assert!(rt; is_wrong_type(found));
 }
 
 fn is_fault(found: Found) -> bool {
@@ -43,9 +52,18 @@ fn is_fault(found: Found) -> bool {
 #[test]
 fn answers_that_leave_a_proof_open(rt: HostRuntime) {
     let alloc = rt.alloc();
-    assert!(rt; is_open(scanned_by_one(alloc, above(alloc, 10), Answerer::Itself)));
-    assert!(rt; is_open(scanned_by_one(alloc, above(alloc, 10), Answerer::Least)));
-    assert!(rt; is_open(scanned_by_one(alloc, above(alloc, 10), Answerer::Input)));
+    expect_open(
+        &rt,
+        scanned_by_one(alloc, above(alloc, 10), Answerer::Itself),
+    );
+    expect_open(
+        &rt,
+        scanned_by_one(alloc, above(alloc, 10), Answerer::Least),
+    );
+    expect_open(
+        &rt,
+        scanned_by_one(alloc, above(alloc, 10), Answerer::Input),
+    );
 }
 
 fn greatest(alloc: Global) -> Built {
@@ -57,29 +75,34 @@ fn bound_by(alloc: Global, e: Built, binder: &Answerer) -> Built {
 }
 
 #[test]
-fn binding_takes_a_placeholder_for_itself(rt: HostRuntime) -> Result<(), Fail> {
+fn binding_takes_a_placeholder_for_itself(rt: HostRuntime) {
     let alloc = rt.alloc();
     let found = bound_by(alloc, greatest(alloc), &Answerer::Itself);
-    assert!(rt; are_same(found, greatest(alloc))?);
-    Ok(())
+    assert!(rt; are_same(found, greatest(alloc)).expect(&rt, "an answer"));
 }
 
 #[test]
 fn a_count_is_no_greatest_value(rt: HostRuntime) {
     let alloc = rt.alloc();
-    assert!(rt; is_wrong_type(scanned_by_one(alloc, above(alloc, 10), Answerer::Quiet)));
+    expect_wrong_type(
+        &rt,
+        scanned_by_one(alloc, above(alloc, 10), Answerer::Quiet),
+    );
 }
 
 #[test]
 fn what_stands_for_a_missing_value_has_its_type(rt: HostRuntime) {
     let alloc = rt.alloc();
-    assert!(rt; is_wrong_type(scanned_by_one(alloc, above(alloc, 10), Answerer::Zero)));
+    expect_wrong_type(&rt, scanned_by_one(alloc, above(alloc, 10), Answerer::Zero));
 }
 
 #[test]
 fn a_truth_is_no_greatest_value(rt: HostRuntime) {
     let alloc = rt.alloc();
-    assert!(rt; is_wrong_type(scanned_by_one(alloc, above(alloc, 10), Answerer::Truth)));
+    expect_wrong_type(
+        &rt,
+        scanned_by_one(alloc, above(alloc, 10), Answerer::Truth),
+    );
 }
 
 #[test]
@@ -99,16 +122,21 @@ fn a_binder_without_memory_ends_the_scan(rt: HostRuntime) {
 }
 
 #[test]
-fn a_rule_without_memory_ends_the_scan(rt: HostRuntime) -> Result<(), Fail> {
+fn a_rule_without_memory_ends_the_scan(rt: HostRuntime) {
     let alloc = rt.alloc();
-    let rules = rules_that_claim(alloc, ScalarFnId::Not, Claim::Memory, Claim::Memory)?;
+    let rules = rules_that_claim(alloc, ScalarFnId::Not, Claim::Memory, Claim::Memory).expect(
+        &rt, "rules",
+    );
     let opposite = not(alloc, above(alloc, 10));
     assert!(rt; is_memory(scanned_by(alloc, &twenty(alloc), opposite, &rules)));
-    Ok(())
 }
 
 fn is_not_bool(found: Found) -> bool {
     matches!(found, Err(StatsError::Rule(RuleFault::NotBool)))
+}
+
+fn expect_not_bool(rt: &impl Abort, found: Found) {
+    assert!(rt; is_not_bool(found));
 }
 
 // The scan of the one number for those above 10, by a rule that claims so of each comparison.
@@ -120,12 +148,16 @@ fn scanned_by_claims(alloc: Global, falsifier: Claim, satisfier: Claim) -> Found
 #[test]
 fn a_number_is_no_proof(rt: HostRuntime) {
     let alloc = rt.alloc();
-    assert!(rt; is_not_bool(scanned_by_claims(alloc, Claim::Number, Claim::Nothing)));
-    assert!(rt; is_not_bool(scanned_by_claims(alloc, Claim::Nothing, Claim::Number)));
+    expect_not_bool(&rt, scanned_by_claims(alloc, Claim::Number, Claim::Nothing));
+    expect_not_bool(&rt, scanned_by_claims(alloc, Claim::Nothing, Claim::Number));
 }
 
 fn is_fault_of_rule(found: Found) -> bool {
     matches!(found, Err(StatsError::Rule(RuleFault::Own(3))))
+}
+
+fn expect_fault_of_rule(rt: &impl Abort, found: Found) {
+    assert!(rt; is_fault_of_rule(found));
 }
 
 // Both proofs are made before either is bound: so the satisfier's fault comes before the falsifier
@@ -134,27 +166,33 @@ fn is_fault_of_rule(found: Found) -> bool {
 fn a_fault_of_the_satisfier_comes_before_an_open_falsifier(rt: HostRuntime) {
     let alloc = rt.alloc();
     let found = scanned_by_claims(alloc, Claim::Column(0), Claim::Fault);
-    assert!(rt; is_fault_of_rule(found));
+    expect_fault_of_rule(&rt, found);
     let found = scanned_by_claims(alloc, Claim::Fault, Claim::Column(0));
-    assert!(rt; is_fault_of_rule(found));
-    assert!(rt; is_open(scanned_by_claims(alloc, Claim::Column(0), Claim::Nothing)));
-    assert!(rt; is_open(scanned_by_claims(alloc, Claim::Nothing, Claim::Column(0))));
+    expect_fault_of_rule(&rt, found);
+    expect_open(
+        &rt,
+        scanned_by_claims(alloc, Claim::Column(0), Claim::Nothing),
+    );
+    expect_open(
+        &rt,
+        scanned_by_claims(alloc, Claim::Nothing, Claim::Column(0)),
+    );
 }
 
 // The falsifier's fault comes before the satisfier's number, and its number before a fault.
 #[test]
 fn the_falsifier_is_made_first(rt: HostRuntime) {
     let alloc = rt.alloc();
-    assert!(rt; is_fault_of_rule(scanned_by_claims(alloc, Claim::Fault, Claim::Number)));
-    assert!(rt; is_not_bool(scanned_by_claims(alloc, Claim::Number, Claim::Fault)));
+    expect_fault_of_rule(&rt, scanned_by_claims(alloc, Claim::Fault, Claim::Number));
+    expect_not_bool(&rt, scanned_by_claims(alloc, Claim::Number, Claim::Fault));
 }
 
 // Without a falsifier and a satisfier no binder is asked.
 #[test]
-fn no_binder_is_asked_without_a_proof(rt: HostRuntime) -> Result<(), Fail> {
+fn no_binder_is_asked_without_a_proof(rt: HostRuntime) {
     let alloc = rt.alloc();
     let found = scanned_by_one(alloc, not(alloc, above(alloc, 10)), Answerer::Faulty);
-    expect_found(&rt, found, &[], &[])
+    expect_found(&rt, found, &[], &[]);
 }
 
 // The numbers 1 and 2, in a part each.
@@ -175,9 +213,15 @@ fn scanned_by_two(alloc: Global, binders: [Answerer; 2]) -> Found {
 #[test]
 fn a_later_binder_faults(rt: HostRuntime) {
     let alloc = rt.alloc();
-    assert!(rt; is_wrong_type(scanned_by_two(alloc, [Answerer::Quiet, Answerer::Faulty])));
+    expect_wrong_type(
+        &rt,
+        scanned_by_two(alloc, [Answerer::Quiet, Answerer::Faulty]),
+    );
     assert!(rt; is_fault(scanned_by_two(alloc, [Answerer::Faulty, Answerer::Quiet])));
-    assert!(rt; is_open(scanned_by_two(alloc, [Answerer::Itself, Answerer::Faulty])));
+    expect_open(
+        &rt,
+        scanned_by_two(alloc, [Answerer::Itself, Answerer::Faulty]),
+    );
 }
 
 // The scan for numbers that aren't above 10.
@@ -186,16 +230,18 @@ fn scanned_for_others(alloc: Global, parts: &Table, rules: &Rules) -> Found {
 }
 
 #[test]
-fn a_column_of_another_scope_leaves_a_proof_open(rt: HostRuntime) -> Result<(), Fail> {
+fn a_column_of_another_scope_leaves_a_proof_open(rt: HostRuntime) {
     let alloc = rt.alloc();
-    let rules = rules_that_claim(alloc, ScalarFnId::Not, Claim::Column(7), Claim::Column(7))?;
-    assert!(rt; is_open(scanned_for_others(alloc, &twenty(alloc), &rules)));
+    let rules = rules_that_claim(alloc, ScalarFnId::Not, Claim::Column(7), Claim::Column(7)).expect(
+        &rt, "rules",
+    );
+    expect_open(&rt, scanned_for_others(alloc, &twenty(alloc), &rules));
     expect_found(
         &rt,
         scanned_for_others(alloc, &without_part(alloc), &rules),
         &[],
         &[],
-    )
+    );
 }
 
 // Two nulls, whose least value is said to be above the greatest.
@@ -210,14 +256,14 @@ fn all_nulls(alloc: Global) -> Table {
 }
 
 #[test]
-fn statistics_at_odds(rt: HostRuntime) -> Result<(), Fail> {
+fn statistics_at_odds(rt: HostRuntime) {
     let alloc = rt.alloc();
-    expect_skipped(&rt, alloc, crossed(alloc), compare(alloc, Operator::Eq, 4))?;
+    expect_skipped(&rt, alloc, crossed(alloc), compare(alloc, Operator::Eq, 4));
     let parts = crossed(alloc);
-    expect_rows(&rt, alloc, parts, compare(alloc, Operator::NotEq, 4), 0)?;
-    expect_skipped(&rt, alloc, all_nulls(alloc), is_not_null(alloc, a(alloc)))?;
-    expect_rows(&rt, alloc, all_nulls(alloc), is_null(alloc, a(alloc)), 2)?;
+    expect_rows(&rt, alloc, parts, compare(alloc, Operator::NotEq, 4), 0);
+    expect_skipped(&rt, alloc, all_nulls(alloc), is_not_null(alloc, a(alloc)));
+    expect_rows(&rt, alloc, all_nulls(alloc), is_null(alloc, a(alloc)), 2);
     let set = exactly(alloc, Stat::NullCount, count(0));
     let parts = with_set(alloc, &[], set);
-    expect_skipped(&rt, alloc, parts, is_not_null(alloc, a(alloc)))
+    expect_skipped(&rt, alloc, parts, is_not_null(alloc, a(alloc)));
 }

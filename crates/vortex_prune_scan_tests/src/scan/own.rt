@@ -84,13 +84,13 @@ fn declared_rules(alloc: Global) -> Result<Rules, AllocError> {
 }
 
 #[test]
-fn a_rule_may_rest_on_a_type(rt: HostRuntime) -> Result<(), Fail> {
+fn a_rule_may_rest_on_a_type(rt: HostRuntime) {
     let alloc = rt.alloc();
-    let rules = declared_rules(alloc)?;
+    let rules = declared_rules(alloc).expect(&rt, "rules");
     let parts = table_of_values(alloc);
     let found = scanned_by(alloc, &parts, null_test(alloc), &rules);
-    expect_found(&rt, found, &[0], &[])?;
-    expect_found(&rt, scanned(alloc, &parts, null_test(alloc)), &[], &[])
+    expect_found(&rt, found, &[0], &[]);
+    expect_found(&rt, scanned(alloc, &parts, null_test(alloc)), &[], &[]);
 }
 
 fn value_test_rules(alloc: Global) -> Result<Rules, AllocError> {
@@ -106,15 +106,14 @@ fn scanned_for_values(alloc: Global, rows: &[Option<i32>], nulls: u64) -> Found 
 
 // The rule's proofs are true by facts of the part: that all rows are null, or that none is.
 #[test]
-fn a_rule_may_rest_on_facts(rt: HostRuntime) -> Result<(), Fail> {
+fn a_rule_may_rest_on_facts(rt: HostRuntime) {
     let alloc = rt.alloc();
-    let found = scanned_for_values(alloc, &[None, None], 2)?;
+    let found = scanned_for_values(alloc, &[None, None], 2).expect(&rt, "found");
     assert!(rt; has_found(&found, &[0], &[], &[]));
-    let found = scanned_for_values(alloc, &[Some(1), Some(2)], 0)?;
+    let found = scanned_for_values(alloc, &[Some(1), Some(2)], 0).expect(&rt, "found");
     assert!(rt; has_found(&found, &[], &[0], &[(0, 0), (0, 1)]));
-    let found = scanned_for_values(alloc, &[Some(1), None], 1)?;
+    let found = scanned_for_values(alloc, &[Some(1), None], 1).expect(&rt, "found");
     assert!(rt; has_found(&found, &[], &[], &[(0, 0)]));
-    Ok(())
 }
 
 fn is_open(found: Found) -> bool {
@@ -122,27 +121,31 @@ fn is_open(found: Found) -> bool {
 }
 
 // The rules prove NOT of a comparison by an open proof, which no part is there to meet, or one.
-fn expect_open(rt: &impl Abort, alloc: Global, rules: &Rules) -> Result<(), Fail> {
+fn expect_open(rt: &impl Abort, alloc: Global, rules: &Rules) {
     let opposite = not(alloc, above(alloc, 10));
     let parts = bounded(alloc, &[Some(1)], 1, 1);
     assert!(rt; is_open(scanned_by(alloc, &parts, opposite, rules)));
     let opposite = not(alloc, above(alloc, 10));
     let found = scanned_by(alloc, &without_part(alloc), opposite, rules);
-    expect_found(rt, found, &[], &[])
+    expect_found(rt, found, &[], &[]);
 }
 
 #[test]
-fn an_open_proof_ends_the_scan_at_a_part(rt: HostRuntime) -> Result<(), Fail> {
+fn an_open_proof_ends_the_scan_at_a_part(rt: HostRuntime) {
     let alloc = rt.alloc();
-    let rules = rules_that_claim(alloc, ScalarFnId::Not, Claim::NullTest, Claim::Nothing)?;
-    expect_open(&rt, alloc, &rules)
+    let rules = rules_that_claim(alloc, ScalarFnId::Not, Claim::NullTest, Claim::Nothing).expect(
+        &rt, "rules",
+    );
+    expect_open(&rt, alloc, &rules);
 }
 
 #[test]
-fn a_bare_column_ends_the_scan_at_a_part(rt: HostRuntime) -> Result<(), Fail> {
+fn a_bare_column_ends_the_scan_at_a_part(rt: HostRuntime) {
     let alloc = rt.alloc();
-    let rules = rules_that_claim(alloc, ScalarFnId::Not, Claim::Column(0), Claim::Nothing)?;
-    expect_open(&rt, alloc, &rules)
+    let rules = rules_that_claim(alloc, ScalarFnId::Not, Claim::Column(0), Claim::Nothing).expect(
+        &rt, "rules",
+    );
+    expect_open(&rt, alloc, &rules);
 }
 
 fn is_fault(found: Found) -> bool {
@@ -150,9 +153,11 @@ fn is_fault(found: Found) -> bool {
 }
 
 #[test]
-fn an_own_fault_ends_the_scan(rt: HostRuntime) -> Result<(), Fail> {
+fn an_own_fault_ends_the_scan(rt: HostRuntime) {
     let alloc = rt.alloc();
-    let rules = rules_that_claim(alloc, ScalarFnId::IsNotNull, Claim::Fault, Claim::Fault)?;
+    let rules = rules_that_claim(alloc, ScalarFnId::IsNotNull, Claim::Fault, Claim::Fault).expect(
+        &rt, "rules",
+    );
     let parts = bounded(alloc, &[Some(1)], 1, 1);
     let is_value = is_not_null(alloc, a(alloc));
     assert!(rt; is_fault(scanned_by(alloc, &parts, is_value, &rules)));
@@ -161,5 +166,5 @@ fn an_own_fault_ends_the_scan(rt: HostRuntime) -> Result<(), Fail> {
         scanned_by(alloc, &parts, above(alloc, 10), &rules),
         &[0],
         &[],
-    )
+    );
 }

@@ -1,6 +1,6 @@
 //! Long parts of one column of truths, texts, bytes or numbers of each type, in which null stands
 //! at the ends of blocks and between: a scan selects what each row says by itself.
-use super::blocks::{found_rows, rows_alone};
+use super::blocks::scans_as_alone;
 use super::*;
 use std::alloc::AllocError;
 use vortex_base::{Bytes, Cells, Column, DType, Nullability, PType, PValue, ScalarValue};
@@ -126,12 +126,7 @@ fn table(alloc: Global, dtype: DType) -> Table {
 
 // Whether the scan of the table finds what its rows say by themselves.
 fn is_as_alone(alloc: Global, zones: &Zones, predicate: Built) -> Result<bool, StatsError> {
-    let predicate = predicate?;
-    let found = scanned_by_part(alloc, zones.parts(), &predicate, &Rules::builtin(alloc))?;
-    match zones.parts().first() {
-        None => Ok(false),
-        Some(part) => Ok(found_rows(&found, &rows_alone(alloc, part, &predicate)?, ROWS)),
-    }
+    scans_as_alone(alloc, zones, &predicate?, ROWS)
 }
 
 fn first_column(alloc: Global, dtype: DType) -> Built {
@@ -146,41 +141,51 @@ fn is_compared_as_alone(
     operator: Operator,
     place: usize,
 ) -> Result<bool, StatsError> {
-    let value = lit(alloc, dtype, value_of(alloc, dtype, place)?);
+    let value = literal(alloc, dtype, place);
     let on_the_right = binary(alloc, operator, first_column(alloc, dtype), value);
-    let value = lit(alloc, dtype, value_of(alloc, dtype, place)?);
-    let on_the_left = binary(alloc, operator, value, first_column(alloc, dtype));
-    Ok(is_as_alone(alloc, zones, on_the_right)? && is_as_alone(alloc, zones, on_the_left)?)
+    if !is_as_alone(alloc, zones, on_the_right)? {
+        return Ok(false);
+    }
+    let value = literal(alloc, dtype, place);
+    is_as_alone(
+        alloc,
+        zones,
+        binary(alloc, operator, value, first_column(alloc, dtype)),
+    )
+}
+
+fn literal(alloc: Global, dtype: DType, place: usize) -> Built {
+    lit(alloc, dtype, value_of(alloc, dtype, place)?)
 }
 
 #[test]
-fn comparisons_of_each_type_have_the_rows(rt: HostRuntime) -> Result<(), Fail> {
+fn comparisons_of_each_type_have_the_rows(rt: HostRuntime) {
     let alloc = rt.alloc();
     for kind in 0..KINDS {
         let dtype = dtype_at(kind);
-        let zones = table(alloc, dtype)?;
+        let zones = table(alloc, dtype).expect(&rt, "zones");
         for operator in OPERATORS {
             for place in 0..3 {
-                let is_alike = is_compared_as_alone(alloc, &zones, dtype, operator, place)?;
+                let is_alike = is_compared_as_alone(alloc, &zones, dtype, operator, place).expect(
+                    &rt, "is alike",
+                );
                 assert!(rt; is_alike);
             }
         }
     }
-    Ok(())
 }
 
 #[test]
-fn nulls_of_each_type_have_the_rows(rt: HostRuntime) -> Result<(), Fail> {
+fn nulls_of_each_type_have_the_rows(rt: HostRuntime) {
     let alloc = rt.alloc();
     for kind in 0..KINDS {
         let dtype = dtype_at(kind);
-        let zones = table(alloc, dtype)?;
+        let zones = table(alloc, dtype).expect(&rt, "zones");
         let nulls = is_null(alloc, first_column(alloc, dtype));
-        assert!(rt; is_as_alone(alloc, &zones, nulls)?);
+        assert!(rt; is_as_alone(alloc, &zones, nulls).expect(&rt, "an answer"));
         let values = is_not_null(alloc, first_column(alloc, dtype));
-        assert!(rt; is_as_alone(alloc, &zones, values)?);
+        assert!(rt; is_as_alone(alloc, &zones, values).expect(&rt, "an answer"));
     }
-    Ok(())
 }
 
 // How many rows of a table a predicate selects.
@@ -191,37 +196,45 @@ fn count_selected(alloc: Global, zones: &Zones, predicate: Built) -> Result<usiz
 
 // A null compares with nothing, and each value is above another or isn't.
 #[test]
-fn counts_of_each_type_are_known(rt: HostRuntime) -> Result<(), Fail> {
+fn counts_of_each_type_are_known(rt: HostRuntime) {
     let alloc = rt.alloc();
     for kind in 0..KINDS {
         let dtype = dtype_at(kind);
-        let zones = table(alloc, dtype)?;
+        let zones = table(alloc, dtype).expect(&rt, "zones");
         let nulls = is_null(alloc, first_column(alloc, dtype));
-        let nulls = count_selected(alloc, &zones, nulls)?;
-        let least = lit(alloc, dtype, value_of(alloc, dtype, 1)?);
+        let nulls = count_selected(alloc, &zones, nulls).expect(&rt, "nulls");
+        let least = lit(
+            alloc,
+            dtype,
+            value_of(alloc, dtype, 1).expect(&rt, "value of"),
+        );
         let above = gt(alloc, first_column(alloc, dtype), least);
-        let above = count_selected(alloc, &zones, above)?;
-        let least = lit(alloc, dtype, value_of(alloc, dtype, 1)?);
+        let above = count_selected(alloc, &zones, above).expect(&rt, "above");
+        let least = lit(
+            alloc,
+            dtype,
+            value_of(alloc, dtype, 1).expect(&rt, "value of"),
+        );
         let others = lt_eq(alloc, first_column(alloc, dtype), least);
-        let others = count_selected(alloc, &zones, others)?;
+        let others = count_selected(alloc, &zones, others).expect(&rt, "others");
         assert!(rt; nulls == NULLS && above > 0 && others > 0);
         assert!(rt; nulls.checked_add(above).and_then(|n| n.checked_add(others)) == Some(ROWS));
     }
-    Ok(())
 }
 
 // A column of nulls alone.
 #[test]
-fn nulls_alone_have_the_rows(rt: HostRuntime) -> Result<(), Fail> {
+fn nulls_alone_have_the_rows(rt: HostRuntime) {
     let alloc = rt.alloc();
-    let cells = Cells::nulls(alloc, DType::Null, ROWS)?;
+    let cells = Cells::nulls(alloc, DType::Null, ROWS).expect(&rt, "cells");
     let column = told(Column::of_cells(DType::Null, cells, 0));
     let chunk = chunk_of(alloc, scope_of(alloc, DType::Null), column);
     let part = part_of(alloc, chunk, Ok(no_statistics(alloc)));
-    let zones = zones_of(alloc, scope_of(alloc, DType::Null), one_part(alloc, part))?;
+    let zones = zones_of(alloc, scope_of(alloc, DType::Null), one_part(alloc, part)).expect(
+        &rt, "zones",
+    );
     let nulls = is_null(alloc, first_column(alloc, DType::Null));
-    assert!(rt; count_selected(alloc, &zones, nulls)? == ROWS);
+    assert!(rt; count_selected(alloc, &zones, nulls).expect(&rt, "count selected") == ROWS);
     let values = is_not_null(alloc, first_column(alloc, DType::Null));
-    assert!(rt; count_selected(alloc, &zones, values)? == 0);
-    Ok(())
+    assert!(rt; count_selected(alloc, &zones, values).expect(&rt, "count selected") == 0);
 }

@@ -16,19 +16,17 @@ fn within(alloc: Global, low: i32, high: i32) -> Sets {
 }
 
 // The one part is whole: both its rows are selected, and none was tested.
-fn expect_whole(rt: &impl Abort, found: Found) -> Result<(), Fail> {
-    let found = found?;
+fn expect_whole(rt: &impl Abort, found: Found) {
+    let found = found.expect(rt, "found");
     assert!(rt; has_found(&found, &[], &[0], &[(0, 0), (0, 1)]));
     assert!(rt; found.evaluated == 0);
-    Ok(())
 }
 
 // The one part of two rows is neither skipped nor whole: both were tested, and this one selected.
-fn expect_tested(rt: &impl Abort, found: Found, row: usize) -> Result<(), Fail> {
-    let found = found?;
+fn expect_tested(rt: &impl Abort, found: Found, row: usize) {
+    let found = found.expect(rt, "found");
     assert!(rt; has_found(&found, &[], &[], &[(0, row)]));
     assert!(rt; found.evaluated == 2);
-    Ok(())
 }
 
 // The scan of one part for numbers above 10.
@@ -37,19 +35,19 @@ fn above_10(alloc: Global, rows: &[Option<i32>], set: Sets) -> Found {
 }
 
 #[test]
-fn a_null_is_tested(rt: HostRuntime) -> Result<(), Fail> {
+fn a_null_is_tested(rt: HostRuntime) {
     let alloc = rt.alloc();
     let set = exactly(alloc, Stat::Min, number(20));
-    expect_tested(&rt, above_10(alloc, &[Some(20), None], Ok(set)), 0)
+    expect_tested(&rt, above_10(alloc, &[Some(20), None], Ok(set)), 0);
 }
 
 #[test]
-fn above_all_is_whole(rt: HostRuntime) -> Result<(), Fail> {
+fn above_all_is_whole(rt: HostRuntime) {
     let alloc = rt.alloc();
     let rows = [Some(20), Some(30)];
-    expect_whole(&rt, above_10(alloc, &rows, from(alloc, 20, 0)))?;
+    expect_whole(&rt, above_10(alloc, &rows, from(alloc, 20, 0)));
     let rows = [Some(10), Some(30)];
-    expect_tested(&rt, above_10(alloc, &rows, from(alloc, 10, 0)), 1)
+    expect_tested(&rt, above_10(alloc, &rows, from(alloc, 10, 0)), 1);
 }
 
 // The scan of the numbers 20 and 30 for those of a range.
@@ -59,29 +57,30 @@ fn in_range(alloc: Global, options: BetweenOptions, lower: i32, upper: i32) -> F
 }
 
 #[test]
-fn a_range_of_all_values_is_whole(rt: HostRuntime) -> Result<(), Fail> {
+fn a_range_of_all_values_is_whole(rt: HostRuntime) {
     let alloc = rt.alloc();
-    expect_whole(&rt, in_range(alloc, CLOSED, 20, 30))?;
-    expect_whole(&rt, in_range(alloc, OPEN, 19, 31))?;
-    expect_tested(&rt, in_range(alloc, CLOSED, 21, 30), 1)?;
-    expect_tested(&rt, in_range(alloc, OPEN, 19, 30), 0)
+    expect_whole(&rt, in_range(alloc, CLOSED, 20, 30));
+    expect_whole(&rt, in_range(alloc, OPEN, 19, 31));
+    expect_tested(&rt, in_range(alloc, CLOSED, 21, 30), 1);
+    expect_tested(&rt, in_range(alloc, OPEN, 19, 30), 0);
 }
 
 // Untrue statistics select rows that don't satisfy.
 #[test]
-fn all_rows_of_a_whole_part_are_selected(rt: HostRuntime) -> Result<(), Fail> {
+fn all_rows_of_a_whole_part_are_selected(rt: HostRuntime) {
     let alloc = rt.alloc();
-    expect_whole(&rt, above_10(alloc, &[Some(1), None], from(alloc, 20, 0)))
+    expect_whole(&rt, above_10(alloc, &[Some(1), None], from(alloc, 20, 0)));
 }
 
 #[test]
-fn a_skipped_part_is_not_whole(rt: HostRuntime) -> Result<(), Fail> {
+fn a_skipped_part_is_not_whole(rt: HostRuntime) {
     let alloc = rt.alloc();
     let set = exactly(alloc, Stat::NullCount, count(0));
-    let found = scanned(alloc, &with_set(alloc, &[], set), is_null(alloc, a(alloc)))?;
+    let found = scanned(alloc, &with_set(alloc, &[], set), is_null(alloc, a(alloc))).expect(
+        &rt, "found",
+    );
     assert!(rt; has_found(&found, &[0], &[], &[]));
     assert!(rt; found.evaluated == 0);
-    Ok(())
 }
 
 // A part that is skipped, one that is whole, and two that are tested.
@@ -103,13 +102,12 @@ fn four_parts(alloc: Global) -> Table {
 }
 
 #[test]
-fn each_part_by_itself(rt: HostRuntime) -> Result<(), Fail> {
+fn each_part_by_itself(rt: HostRuntime) {
     let alloc = rt.alloc();
-    let found = scanned(alloc, &four_parts(alloc), above(alloc, 10))?;
+    let found = scanned(alloc, &four_parts(alloc), above(alloc, 10)).expect(&rt, "found");
     let selected = [(1, 0), (1, 1), (2, 0), (3, 2)];
     assert!(rt; has_found(&found, &[0], &[1], &selected));
     assert!(rt; found.evaluated == 4);
-    Ok(())
 }
 
 fn no_cells(alloc: Global) -> Cells {
@@ -142,12 +140,12 @@ fn ends_in_x(alloc: Global) -> Built {
 }
 
 #[test]
-fn one_side_makes_or_whole_but_not_and(rt: HostRuntime) -> Result<(), Fail> {
+fn one_side_makes_or_whole_but_not_and(rt: HostRuntime) {
     let alloc = rt.alloc();
     let either = or(alloc, above(alloc, 10), ends_in_x(alloc));
-    expect_whole(&rt, scanned(alloc, &numbers_and_texts(alloc), either))?;
+    expect_whole(&rt, scanned(alloc, &numbers_and_texts(alloc), either));
     let both = and(alloc, above(alloc, 10), ends_in_x(alloc));
-    expect_tested(&rt, scanned(alloc, &numbers_and_texts(alloc), both), 0)
+    expect_tested(&rt, scanned(alloc, &numbers_and_texts(alloc), both), 0);
 }
 
 fn is_open(found: Found) -> bool {
@@ -166,21 +164,22 @@ fn by_open_satisfiers(alloc: Global, parts: Table) -> Found {
 
 // The satisfier is bound at the first part that isn't skipped: an open one is refused there.
 #[test]
-fn an_open_satisfier_ends_the_scan_at_a_kept_part(rt: HostRuntime) -> Result<(), Fail> {
+fn an_open_satisfier_ends_the_scan_at_a_kept_part(rt: HostRuntime) {
     let alloc = rt.alloc();
     let kept = bounded(alloc, &[Some(11)], 11, 11);
     assert!(rt; is_open(by_open_satisfiers(alloc, kept)));
     let skipped = bounded(alloc, &[Some(1)], 1, 1);
-    expect_found(&rt, by_open_satisfiers(alloc, skipped), &[0], &[])?;
+    expect_found(&rt, by_open_satisfiers(alloc, skipped), &[0], &[]);
     let found = by_open_satisfiers(alloc, without_part(alloc));
-    expect_found(&rt, found, &[], &[])
+    expect_found(&rt, found, &[], &[]);
 }
 
 #[test]
-fn a_fault_of_a_satisfier_ends_the_scan(rt: HostRuntime) -> Result<(), Fail> {
+fn a_fault_of_a_satisfier_ends_the_scan(rt: HostRuntime) {
     let alloc = rt.alloc();
-    let rules = rules_that_claim(alloc, ScalarFnId::Binary, Claim::Nothing, Claim::Fault)?;
+    let rules = rules_that_claim(alloc, ScalarFnId::Binary, Claim::Nothing, Claim::Fault).expect(
+        &rt, "rules",
+    );
     let skipped = bounded(alloc, &[Some(1)], 1, 1);
     assert!(rt; is_fault(scanned_by(alloc, &skipped, above(alloc, 10), &rules)));
-    Ok(())
 }
