@@ -1,7 +1,6 @@
 //! Refusals of what isn't a predicate, and of a rule that fails.
 use crate::testing::*;
 use std::alloc::Global;
-use std::test::Fail;
 use vortex_base::ScalarFnId;
 use vortex_prune::{Rules, StatsRewriteRuleRef};
 use vortex_rewrite_tests::hooks::{Claim, Claiming};
@@ -14,14 +13,16 @@ fn one(alloc: Global) -> Parts {
 
 // A number isn't a predicate, also where there are no parts.
 #[test]
-fn a_number_is_no_predicate(rt: HostRuntime) -> Result<(), Fail> {
+fn a_number_is_no_predicate(rt: HostRuntime) {
     let alloc = rt.alloc();
-    let (parts, number) = (no_parts(alloc)?, a(alloc)?);
+    let (parts, number) = (
+        no_parts(alloc).expect(&rt, "no parts"),
+        a(alloc).expect(&rt, "a"),
+    );
     let found = scanned(alloc, &parts, &number, &Rules::builtin(alloc));
     assert!(rt; matches!(found, Err(StatsError::NotPredicate)));
     let found = pruned(alloc, &parts, &number);
     assert!(rt; matches!(found, Err(StatsError::NotPredicate)));
-    Ok(())
 }
 
 // A rule whose falsifier of a comparison faults.
@@ -34,14 +35,20 @@ const FAILING: Claiming = Claiming {
 
 // A rule is asked at the nodes of the normal form: where that is a literal at none.
 #[test]
-fn a_rule_is_asked_at_the_normal_form(rt: HostRuntime) -> Result<(), Fail> {
+fn a_rule_is_asked_at_the_normal_form(rt: HostRuntime) {
     let alloc = rt.alloc();
     let mut own: Vec<StatsRewriteRuleRef> = Vec::new(alloc);
-    own.push(Box::new(alloc, FAILING)?)?;
-    let (parts, rules) = (one(alloc)?, Rules::with_own(own));
-    let found = scanned(alloc, &parts, &a_gt(alloc, 5)?, &rules);
+    own.push(Box::new(alloc, FAILING).expect(&rt, "new"))
+        .expect(&rt, "push");
+    let (parts, rules) = (one(alloc).expect(&rt, "one"), Rules::with_own(own));
+    let found = scanned(alloc, &parts, &a_gt(alloc, 5).expect(&rt, "a gt"), &rules);
     assert!(rt; matches!(found, Err(StatsError::Rule(RuleFault::Own(3)))));
-    let found = scanned(alloc, &parts, &a_inside(alloc, 5, 3)?, &rules)?;
+    let found = scanned(
+        alloc,
+        &parts,
+        &a_inside(alloc, 5, 3).expect(&rt, "a inside"),
+        &rules,
+    )
+    .expect(&rt, "found");
     assert!(rt; found.skipped.as_slice() == [0].as_slice());
-    Ok(())
 }

@@ -1,9 +1,9 @@
 //! Zones of one column of texts, pruned by LIKE as it is and by its normal form.
-use std::alloc::Global;
-use std::test::Fail;
-use vortex_base::{BoundExpression, LikeOptions, Scope};
+use std::alloc::{AllocError, Global};
+use std::process::Abort;
+use vortex_base::{BoundExpression, LikeOptions, ScalarValue, Scope};
 use vortex_normal_scan::prune::prune_normalized;
-use vortex_prune::{Rules, Zone, ZoneMap, prune};
+use vortex_prune::{Pruned, Rules, Zone, ZoneMap, prune};
 use vortex_rewrite_tests::nodes::*;
 use vortex_stats::{Precision, Stat, StatsError, StatsSet};
 
@@ -13,14 +13,24 @@ fn scope(alloc: Global) -> Result<Scope, StatsError> {
     told(Scope::try_new(named))
 }
 
-// One zone of two texts, of which these are the least and the greatest.
-fn map_of(alloc: Global, least: &str, greatest: &str) -> Result<ZoneMap, StatsError> {
+fn bounds(alloc: Global, least: &str, greatest: &str) -> Result<StatsSet, StatsError> {
     let least = Precision::Exact(text_value(alloc, least)?);
     let mut set = StatsSet::of(alloc, Stat::Min, least);
-    set.set(Stat::Max, Precision::Exact(text_value(alloc, greatest)?))?;
-    let sets = [set];
-    let zones = [Zone::new(2, &sets)];
-    match ZoneMap::try_new(alloc, scope(alloc)?, &zones) {
+    set_greatest(&mut set, text_value(alloc, greatest))?;
+    Ok(set)
+}
+
+fn set_greatest(
+    set: &mut StatsSet,
+    value: Result<ScalarValue, AllocError>,
+) -> Result<(), StatsError> {
+    set.set(Stat::Max, Precision::Exact(value?))
+}
+
+// One zone of two texts, of which these are the least and the greatest.
+fn map_of(alloc: Global, least: &str, greatest: &str) -> Result<ZoneMap, StatsError> {
+    let sets = [bounds(alloc, least, greatest)?];
+    match ZoneMap::try_new(alloc, scope(alloc)?, &[Zone::new(2, &sets)]) {
         Ok(map) => Ok(map),
         Err(refused) => Err(refused.error),
     }
@@ -36,9 +46,28 @@ fn skips(
         return Err(StatsError::Mismatch);
     }
     let rules = Rules::builtin(alloc);
-    let given = prune(alloc, map, predicate, &rules)?;
-    let normal = prune_normalized(alloc, map, predicate, &rules)?;
-    Ok((!given.skipped.is_empty(), !normal.skipped.is_empty()))
+    let given = prune(alloc, map, predicate, &rules);
+    let normal = prune_normalized(alloc, map, predicate, &rules);
+    Ok((skips_any(given)?, skips_any(normal)?))
+}
+
+fn skips_any(pruned: Result<Pruned, StatsError>) -> Result<bool, StatsError> {
+    Ok(!pruned?.skipped.is_empty())
+}
+
+// The zone is skipped with the predicate as it is, and with its normal form, as told.
+fn expect_skips(
+    rt: &impl Abort,
+    alloc: Global,
+    map: &ZoneMap,
+    predicate: Built,
+    expected: (bool, bool),
+) {
+    let predicate = predicate.expect(rt, "a predicate");
+    assert_eq!(rt;
+        skips(alloc, map, &predicate).expect(rt, "answers"),
+        expected
+    );
 }
 
 fn s_like(alloc: Global, pattern: &str) -> Built {
@@ -54,36 +83,39 @@ fn s_not_like(alloc: Global, pattern: &str) -> Built {
 }
 
 #[test]
-fn a_beginning_that_all_have(rt: HostRuntime) -> Result<(), Fail> {
+fn a_beginning_that_all_have(rt: HostRuntime) {
     let alloc = rt.alloc();
-    let map = map_of(alloc, "abca", "abcz")?;
-    let other = s_not_like(alloc, "abc%")?;
-    assert_eq!(rt; skips(alloc, &map, &other)?, (false, true));
-    let further = s_not_like(alloc, "abcd%")?;
-    assert_eq!(rt; skips(alloc, &map, &further)?, (false, false));
-    Ok(())
+    let map = map_of(alloc, "abca", "abcz").expect(&rt, "map");
+    expect_skips(&rt, alloc, &map, s_not_like(alloc, "abc%"), (false, true));
+    expect_skips(&rt, alloc, &map, s_not_like(alloc, "abcd%"), (false, false));
 }
 
 #[test]
-fn a_beginning_that_none_has(rt: HostRuntime) -> Result<(), Fail> {
+fn a_beginning_that_none_has(rt: HostRuntime) {
     let alloc = rt.alloc();
-    let map = map_of(alloc, "abca", "abcz")?;
-    let above = s_like(alloc, "abd%")?;
-    assert_eq!(rt; skips(alloc, &map, &above)?, (true, true));
-    let within = s_like(alloc, "abc%")?;
-    assert_eq!(rt; skips(alloc, &map, &within)?, (false, false));
-    Ok(())
+    let map = map_of(alloc, "abca", "abcz").expect(&rt, "map");
+    expect_skips(&rt, alloc, &map, s_like(alloc, "abd%"), (true, true));
+    expect_skips(&rt, alloc, &map, s_like(alloc, "abc%"), (false, false));
 }
 
 // No text both begins so and is above all that do.
 #[test]
-fn a_beginning_and_a_range(rt: HostRuntime) -> Result<(), Fail> {
+fn a_beginning_and_a_range(rt: HostRuntime) {
     let alloc = rt.alloc();
-    let map = map_of(alloc, "a", "z")?;
+    let map = map_of(alloc, "a", "z").expect(&rt, "map");
     let above = gt(alloc, col(alloc, 0, UTF8), text(alloc, "b"));
-    let both = and(alloc, s_like(alloc, "a%"), above)?;
-    assert_eq!(rt; skips(alloc, &map, &both)?, (false, true));
-    let two = and(alloc, s_like(alloc, "ab"), s_like(alloc, "ac"))?;
-    assert_eq!(rt; skips(alloc, &map, &two)?, (false, true));
-    Ok(())
+    expect_skips(
+        &rt,
+        alloc,
+        &map,
+        and(alloc, s_like(alloc, "a%"), above),
+        (false, true),
+    );
+    expect_skips(
+        &rt,
+        alloc,
+        &map,
+        and(alloc, s_like(alloc, "ab"), s_like(alloc, "ac")),
+        (false, true),
+    );
 }

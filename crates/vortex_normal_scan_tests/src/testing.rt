@@ -6,7 +6,6 @@ ghost use Rattle.vortex_base.specs.Meanings.Fitting.{fits_scope};
 
 use std::alloc::{AllocError, Global};
 use std::process::Abort;
-use std::test::Fail;
 use vortex_base::{BoundExpression, Chunk, Column, ScalarValue, Scope};
 use vortex_normal_scan::prune::prune_normalized;
 use vortex_normal_scan::scan::scan_normalized;
@@ -71,10 +70,22 @@ pub fn scope(alloc: Global) -> Result<Scope, StatsError> {
     scope_of_two(alloc, ("a", I32_OR_NULL), ("b", I32_OR_NULL))
 }
 
-fn two_columns(alloc: Global, first: Column, second: Column) -> Result<Vec<Column>, AllocError> {
+fn push_column(
+    columns: &mut Vec<Column>,
+    column: Result<Column, StatsError>,
+) -> Result<(), StatsError> {
+    columns.push(column?)?;
+    Ok(())
+}
+
+fn two_columns(
+    alloc: Global,
+    first: &[Option<i32>],
+    second: &[Option<i32>],
+) -> Result<Vec<Column>, StatsError> {
     let mut columns = Vec::new(alloc);
-    columns.push(first)?;
-    columns.push(second)?;
+    push_column(&mut columns, column(alloc, first))?;
+    push_column(&mut columns, column(alloc, second))?;
     Ok(columns)
 }
 
@@ -83,7 +94,7 @@ fn chunk(
     first: &[Option<i32>],
     second: &[Option<i32>],
 ) -> Result<Chunk, StatsError> {
-    let columns = two_columns(alloc, column(alloc, first)?, column(alloc, second)?)?;
+    let columns = two_columns(alloc, first, second)?;
     told(Chunk::try_new(scope(alloc)?, columns))
 }
 
@@ -107,15 +118,23 @@ pub fn unknown(alloc: Global) -> Sets {
     Ok(StatsSet::new(alloc))
 }
 
-fn two_sets(alloc: Global, first: StatsSet, second: StatsSet) -> Result<Vec<StatsSet>, AllocError> {
+fn push_set(sets: &mut Vec<StatsSet>, set: Sets) -> Result<(), StatsError> {
+    sets.push(set?)?;
+    Ok(())
+}
+
+fn two_sets(alloc: Global, first: Sets, second: Sets) -> Result<Vec<StatsSet>, StatsError> {
     let mut sets = Vec::new(alloc);
-    sets.push(first)?;
-    sets.push(second)?;
+    push_set(&mut sets, first)?;
+    push_set(&mut sets, second)?;
     Ok(sets)
 }
 
-fn made(chunk: Chunk, sets: Vec<StatsSet>) -> Result<Part, StatsError> {
-    match Part::try_new(chunk, sets) {
+fn made(
+    chunk: Result<Chunk, StatsError>,
+    sets: Result<Vec<StatsSet>, StatsError>,
+) -> Result<Part, StatsError> {
+    match Part::try_new(chunk?, sets?) {
         Ok(part) => Ok(part),
         Err(refused) => Err(refused.error),
     }
@@ -123,18 +142,22 @@ fn made(chunk: Chunk, sets: Vec<StatsSet>) -> Result<Part, StatsError> {
 
 /// A part of these rows of a, each with a null beside it, and of what is known of a.
 pub fn part(alloc: Global, rows: &[Option<i32>], known: Sets) -> Result<Part, StatsError> {
+    let sets = two_sets(alloc, known, unknown(alloc));
+    made(beside_nulls(alloc, rows), sets)
+}
+
+fn beside_nulls(alloc: Global, rows: &[Option<i32>]) -> Result<Chunk, StatsError> {
     let mut nulls = Vec::new(alloc);
     for _ in 0..rows.len() {
         nulls.push(None)?;
     }
-    let sets = two_sets(alloc, known?, unknown(alloc)?)?;
-    made(chunk(alloc, rows, &nulls)?, sets)
+    chunk(alloc, rows, &nulls)
 }
 
 /// A part of one row, of which these bounds are known.
 pub fn pair(alloc: Global, row: (i32, i32), first: Sets, second: Sets) -> Result<Part, StatsError> {
-    let sets = two_sets(alloc, first?, second?)?;
-    made(chunk(alloc, &[Some(row.0)], &[Some(row.1)])?, sets)
+    let chunk = chunk(alloc, &[Some(row.0)], &[Some(row.1)]);
+    made(chunk, two_sets(alloc, first, second))
 }
 
 pub type Parts = Result<Vec<Part>, StatsError>;
@@ -145,8 +168,13 @@ pub fn no_parts(alloc: Global) -> Parts {
 
 pub fn and_part(parts: Parts, part: Result<Part, StatsError>) -> Parts {
     let mut parts = parts?;
-    parts.push(part?)?;
+    push_part(&mut parts, part)?;
     Ok(parts)
+}
+
+fn push_part(parts: &mut Vec<Part>, part: Result<Part, StatsError>) -> Result<(), StatsError> {
+    parts.push(part?)?;
+    Ok(())
 }
 
 pub fn one_part(alloc: Global, part: Result<Part, StatsError>) -> Parts {
@@ -261,9 +289,20 @@ fn skipped_as_given(
     predicate: &BoundExpression,
     expected: &[usize],
 ) -> Result<bool, StatsError> {
-    let found = scanned_as_given(alloc, parts, predicate, &Rules::builtin(alloc))?;
-    let pruned = pruned_as_given(alloc, parts, predicate)?;
-    Ok(found.skipped.as_slice() == expected && pruned.skipped.as_slice() == expected)
+    let found = scanned_as_given(alloc, parts, predicate, &Rules::builtin(alloc));
+    Ok(scan_skips(found, expected)? && prunes(pruned_as_given(alloc, parts, predicate), expected)?)
+}
+
+fn scan_skips(found: Found, expected: &[usize]) -> Result<bool, StatsError> {
+    Ok(found?.skipped.as_slice() == expected)
+}
+
+fn scan_selects(found: Found, expected: &[(usize, usize)]) -> Result<bool, StatsError> {
+    Ok(found?.selected.as_slice() == expected)
+}
+
+fn prunes(pruned: Result<Pruned, StatsError>, expected: &[usize]) -> Result<bool, StatsError> {
+    Ok(pruned?.skipped.as_slice() == expected)
 }
 
 fn skipped(
@@ -272,9 +311,8 @@ fn skipped(
     predicate: &BoundExpression,
     expected: &[usize],
 ) -> Result<bool, StatsError> {
-    let found = scanned(alloc, parts, predicate, &Rules::builtin(alloc))?;
-    let pruned = pruned(alloc, parts, predicate)?;
-    Ok(found.skipped.as_slice() == expected && pruned.skipped.as_slice() == expected)
+    let found = scanned(alloc, parts, predicate, &Rules::builtin(alloc));
+    Ok(scan_skips(found, expected)? && prunes(pruned(alloc, parts, predicate), expected)?)
 }
 
 fn selected(
@@ -283,9 +321,9 @@ fn selected(
     predicate: &BoundExpression,
     expected: &[(usize, usize)],
 ) -> Result<bool, StatsError> {
-    let found = scanned(alloc, parts, predicate, &Rules::builtin(alloc))?;
-    let given = scanned_as_given(alloc, parts, predicate, &Rules::builtin(alloc))?;
-    Ok(found.selected.as_slice() == expected && given.selected.as_slice() == expected)
+    let found = scanned(alloc, parts, predicate, &Rules::builtin(alloc));
+    let given = scanned_as_given(alloc, parts, predicate, &Rules::builtin(alloc));
+    Ok(scan_selects(found, expected)? && scan_selects(given, expected)?)
 }
 
 /// A scan and pruning skip the first parts with the predicate as it is and the others with its
@@ -297,10 +335,11 @@ pub fn expect(
     predicate: Built,
     skips: (&[usize], &[usize]),
     rows: &[(usize, usize)],
-) -> Result<(), Fail> {
-    let (parts, predicate) = (parts?, predicate?);
-    assert!(rt; skipped_as_given(alloc, &parts, &predicate, skips.0)?);
-    assert!(rt; skipped(alloc, &parts, &predicate, skips.1)?);
-    assert!(rt; selected(alloc, &parts, &predicate, rows)?);
-    Ok(())
+) {
+    let (parts, predicate) = (parts.expect(rt, "parts"), predicate.expect(rt, "predicate"));
+    assert!(rt;
+        skipped_as_given(alloc, &parts, &predicate, skips.0).expect(rt, "skipped as given")
+    );
+    assert!(rt; skipped(alloc, &parts, &predicate, skips.1).expect(rt, "skipped"));
+    assert!(rt; selected(alloc, &parts, &predicate, rows).expect(rt, "selected"));
 }

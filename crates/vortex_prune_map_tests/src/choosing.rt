@@ -134,30 +134,36 @@ fn chosen_sets_alone_have_to_fit(rt: HostRuntime) {
     let alloc = rt.alloc();
     let sets = sets_of(alloc, of_texts(alloc), counts(alloc)).expect(&rt, "sets");
     expect_misfit(&rt, chosen_map(alloc, first_scope(alloc), &sets, &[0]));
-    assert!(rt;
-        chosen_map(alloc, last_scope(alloc), &sets, &[1])
-            .expect(&rt, "chosen map")
-            .len()
-            == 1
-    );
+    let map = chosen_map(alloc, last_scope(alloc), &sets, &[1]).expect(&rt, "a map");
+    assert!(rt; map.len() == 1);
     expect_misfit(&rt, chosen_map(alloc, last_scope(alloc), &sets, &[1, 0]));
     expect_misfit(&rt, chosen_map(alloc, both(alloc), &sets, &[1]));
+}
+
+// Adds the zone of the second column by itself, among others, and in a map of its own.
+fn add_chosen(rt: &impl Abort, alloc: Global, map: &mut ZoneMap, sets: &[StatsSet]) {
+    let zone = Zone::of_columns(9, sets, &[1]).expect(rt, "The place is that of a set.");
+    map.push(alloc, &zone).expect(rt, "a zone");
+    map.extend(alloc, &[zone]).expect(rt, "zones");
+    let mut more = chosen_map(alloc, last_scope(alloc), sets, &[1]).expect(rt, "a map");
+    append(map, &mut more).expect(rt, "zones of a map");
+}
+
+fn takes_no_whole(alloc: Global, map: &mut ZoneMap, sets: &[StatsSet]) -> bool {
+    matches!(
+        map.push(alloc, &Zone::new(9, sets)),
+        Err(StatsError::Mismatch)
+    )
 }
 
 #[test]
 fn chosen_zones_are_added(rt: HostRuntime) {
     let alloc = rt.alloc();
     let sets = sets_of(alloc, numbers(alloc), counts(alloc)).expect(&rt, "sets");
-    let places = [1];
-    let mut map = chosen_map(alloc, last_scope(alloc), &sets, &places).expect(&rt, "map");
-    let mut more = chosen_map(alloc, last_scope(alloc), &sets, &places).expect(&rt, "more");
-    let zone = Zone::of_columns(9, &sets, &places).expect(&rt, "The place is that of a set.");
-    map.push(alloc, &zone).expect(&rt, "push");
-    map.extend(alloc, &[zone]).expect(&rt, "extend");
-    append(&mut map, &mut more).expect(&rt, "append");
+    let mut map = chosen_map(alloc, last_scope(alloc), &sets, &[1]).expect(&rt, "a map");
+    add_chosen(&rt, alloc, &mut map, &sets);
     assert!(rt; map.len() == 4);
-    let whole = Zone::new(9, &sets);
-    assert!(rt; matches!(map.push(alloc, &whole), Err(StatsError::Mismatch)));
+    assert!(rt; takes_no_whole(alloc, &mut map, &sets));
     assert!(rt; map.len() == 4);
 }
 
@@ -165,18 +171,32 @@ fn above(alloc: Global, place: usize, least: i32) -> Built {
     gt(alloc, col(alloc, place, I32_OR_NULL), int(alloc, least))
 }
 
-fn skipped_by(alloc: Global, map: &ZoneMap, predicate: Built) -> Result<Pruned, StatsError> {
-    pruned_by(alloc, map, &predicate?, &Rules::builtin(alloc))
+fn skipped_by(
+    alloc: Global,
+    map: Result<ZoneMap, StatsError>,
+    predicate: Built,
+) -> Result<Pruned, StatsError> {
+    let map = map?;
+    pruned_by(alloc, &map, &predicate?, &Rules::builtin(alloc))
+}
+
+// The map's one zone is skipped.
+fn expect_skipped(
+    rt: &impl Abort,
+    alloc: Global,
+    map: Result<ZoneMap, StatsError>,
+    predicate: Built,
+) {
+    let found = skipped_by(alloc, map, predicate).expect(rt, "a list");
+    assert!(rt; found.skipped.as_slice() == [0].as_slice());
 }
 
 #[test]
 fn chosen_columns_prune_as_all_do(rt: HostRuntime) {
     let alloc = rt.alloc();
     let sets = sets_of(alloc, counts(alloc), numbers(alloc)).expect(&rt, "sets");
-    let whole = narrow_map(alloc, turned(alloc), &sets).expect(&rt, "whole");
-    let chosen = chosen_map(alloc, first_scope(alloc), &sets, &[1]).expect(&rt, "chosen");
-    let by_all = skipped_by(alloc, &whole, above(alloc, 1, 10)).expect(&rt, "by all");
-    let by_chosen = skipped_by(alloc, &chosen, above(alloc, 0, 10)).expect(&rt, "by chosen");
-    assert!(rt; by_all.skipped.len() == 1);
-    assert!(rt; by_all.skipped.as_slice() == by_chosen.skipped.as_slice());
+    let whole = narrow_map(alloc, turned(alloc), &sets);
+    expect_skipped(&rt, alloc, whole, above(alloc, 1, 10));
+    let chosen = chosen_map(alloc, first_scope(alloc), &sets, &[1]);
+    expect_skipped(&rt, alloc, chosen, above(alloc, 0, 10));
 }
