@@ -1,6 +1,6 @@
 //! The rule beside the built-in ones, over a column a of I32 and a column s of texts.
 use std::alloc::{AllocError, Global};
-use std::test::Fail;
+use std::process::Abort;
 use vortex_base::{AggregateFnRef, BoundExpression, ScalarFnId};
 use vortex_own_rules::null_operands::NullOperands;
 use vortex_rewrite::Rules;
@@ -26,6 +26,15 @@ fn all_null(alloc: Global, x: Built) -> Built {
     stat(alloc, x, AggregateFnRef::AllNull)
 }
 
+fn falsifier(
+    alloc: Global,
+    function: ScalarFnId,
+    predicate: Built,
+) -> Result<Option<BoundExpression>, StatsError> {
+    let rules = rules_for(alloc, function)?;
+    falsify(alloc, &predicate?, &rules)
+}
+
 // Whether the falsifier is this expression.
 fn has_falsifier(
     alloc: Global,
@@ -33,11 +42,20 @@ fn has_falsifier(
     predicate: Built,
     expected: Built,
 ) -> Result<bool, StatsError> {
-    let rules = rules_for(alloc, function)?;
-    match falsify(alloc, &predicate?, &rules)? {
+    match falsifier(alloc, function, predicate)? {
         Some(found) => Ok(found == expected?),
         None => Ok(false),
     }
+}
+
+fn expect_falsifier(
+    rt: &impl Abort,
+    alloc: Global,
+    function: ScalarFnId,
+    predicate: Built,
+    expected: Built,
+) {
+    assert!(rt; has_falsifier(alloc, function, predicate, expected).expect(rt, "an answer"));
 }
 
 fn has_no_falsifier(
@@ -45,42 +63,45 @@ fn has_no_falsifier(
     function: ScalarFnId,
     predicate: Built,
 ) -> Result<bool, StatsError> {
-    let rules = rules_for(alloc, function)?;
-    Ok(falsify(alloc, &predicate?, &rules)?.is_none())
+    Ok(falsifier(alloc, function, predicate)?.is_none())
 }
 
 // Whether both lists of rules have one satisfier.
 fn has_satisfier_of_built_in(alloc: Global, predicate: Built) -> Result<bool, StatsError> {
-    let rules = rules_for(alloc, ScalarFnId::Binary)?;
     let predicate = predicate?;
-    let found: Option<BoundExpression> = satisfy(alloc, &predicate, &rules)?;
+    let found = own_satisfier(alloc, &predicate)?;
     Ok(found == satisfy(alloc, &predicate, &Rules::builtin(alloc))?)
 }
 
+fn own_satisfier(
+    alloc: Global,
+    predicate: &BoundExpression,
+) -> Result<Option<BoundExpression>, StatsError> {
+    satisfy(alloc, predicate, &rules_for(alloc, ScalarFnId::Binary)?)
+}
+
 #[test]
-fn of_a_comparison_with_a_literal(rt: HostRuntime) -> Result<(), Fail> {
+fn of_a_comparison_with_a_literal(rt: HostRuntime) {
     let alloc = rt.alloc();
     // By its greatest value, or that the column is null in every row.
     let built_in = lt_eq(alloc, max(alloc, a(alloc)), int(alloc, 3));
     let expected = or(alloc, built_in, all_null(alloc, a(alloc)));
     let predicate = gt(alloc, a(alloc), int(alloc, 3));
-    assert!(rt; has_falsifier(alloc, ScalarFnId::Binary, predicate, expected)?);
-    Ok(())
+    expect_falsifier(&rt, alloc, ScalarFnId::Binary, predicate, expected);
 }
 
 #[test]
-fn of_a_comparison_with_null(rt: HostRuntime) -> Result<(), Fail> {
+fn of_a_comparison_with_null(rt: HostRuntime) {
     let alloc = rt.alloc();
     let either = or(alloc, all_null(alloc, a(alloc)), truth(alloc, true));
     let built_in = lt_eq(alloc, max(alloc, a(alloc)), null_of(alloc, I32_OR_NULL));
     let expected = or(alloc, built_in, either);
     let predicate = gt(alloc, a(alloc), null_of(alloc, I32_OR_NULL));
-    assert!(rt; has_falsifier(alloc, ScalarFnId::Binary, predicate, expected)?);
-    Ok(())
+    expect_falsifier(&rt, alloc, ScalarFnId::Binary, predicate, expected);
 }
 
 #[test]
-fn of_two_columns(rt: HostRuntime) -> Result<(), Fail> {
+fn of_two_columns(rt: HostRuntime) {
     let alloc = rt.alloc();
     let b = col(alloc, 1, I32);
     let built_in = lt_eq(alloc, max(alloc, a(alloc)), min(alloc, col(alloc, 1, I32)));
@@ -91,33 +112,31 @@ fn of_two_columns(rt: HostRuntime) -> Result<(), Fail> {
     );
     let expected = or(alloc, built_in, either);
     let predicate = gt(alloc, a(alloc), b);
-    assert!(rt; has_falsifier(alloc, ScalarFnId::Binary, predicate, expected)?);
-    Ok(())
+    expect_falsifier(&rt, alloc, ScalarFnId::Binary, predicate, expected);
 }
 
 #[test]
-fn of_like(rt: HostRuntime) -> Result<(), Fail> {
+fn of_like(rt: HostRuntime) {
     let alloc = rt.alloc();
     let predicate = like(alloc, s(alloc), text(alloc, "%x"));
     let expected = all_null(alloc, s(alloc));
-    assert!(rt; has_falsifier(alloc, ScalarFnId::Like, predicate, expected)?);
-    Ok(())
+    expect_falsifier(&rt, alloc, ScalarFnId::Like, predicate, expected);
 }
 
 // A connective of truths isn't asked: null OR true is true.
 #[test]
-fn of_no_connective(rt: HostRuntime) -> Result<(), Fail> {
+fn of_no_connective(rt: HostRuntime) {
     let alloc = rt.alloc();
     let t = col(alloc, 0, BOOL);
     let u = col(alloc, 1, BOOL);
-    assert!(rt; has_no_falsifier(alloc, ScalarFnId::Binary, or(alloc, t, u))?);
-    Ok(())
+    assert!(rt;
+        has_no_falsifier(alloc, ScalarFnId::Binary, or(alloc, t, u)).expect(&rt, "an answer")
+    );
 }
 
 #[test]
-fn it_has_no_satisfier(rt: HostRuntime) -> Result<(), Fail> {
+fn it_has_no_satisfier(rt: HostRuntime) {
     let alloc = rt.alloc();
     let predicate = gt(alloc, a(alloc), int(alloc, 3));
-    assert!(rt; has_satisfier_of_built_in(alloc, predicate)?);
-    Ok(())
+    assert!(rt; has_satisfier_of_built_in(alloc, predicate).expect(&rt, "an answer"));
 }

@@ -1,7 +1,6 @@
 //! Zones that are told and read back, and neighbours that are joined.
 use crate::fixtures::{join_first, map_of, three_zones, told};
 use std::process::Abort;
-use std::test::Fail;
 use vortex_base::{PValue, ValueRef};
 use vortex_prune::ZoneMap;
 
@@ -39,32 +38,30 @@ fn expect_bytes(rt: &impl Abort, map: &ZoneMap, zone: usize, nulls: u64, last: &
 }
 
 #[test]
-fn zones_are_read_as_they_are_told(rt: HostRuntime) -> Result<(), Fail> {
+fn zones_are_read_as_they_are_told(rt: HostRuntime) {
     let alloc = rt.alloc();
-    let log = three_zones(alloc)?;
+    let log = three_zones(alloc).expect(&rt, "log");
     assert!(rt; log.len() == 3);
     assert!(rt; log.rows(0) == 3 && log.rows(1) == 4 && log.rows(2) == 5);
-    let map = map_of(alloc, &log)?;
+    let map = map_of(alloc, &log).expect(&rt, "map");
     expect_numbers(&rt, &map, 0, 2, 7);
     expect_bytes(&rt, &map, 0, 0, b"pear");
     expect_numbers(&rt, &map, 1, 8, 9);
     expect_bytes(&rt, &map, 1, 1, b"quince");
     expect_numbers(&rt, &map, 2, -5, 1);
     expect_bytes(&rt, &map, 2, 5, b"fig");
-    Ok(())
 }
 
 #[test]
-fn neighbours_are_joined(rt: HostRuntime) -> Result<(), Fail> {
+fn neighbours_are_joined(rt: HostRuntime) {
     let alloc = rt.alloc();
-    let mut log = three_zones(alloc)?;
-    join_first(alloc, &mut log)?;
+    let mut log = three_zones(alloc).expect(&rt, "log");
+    join_first(alloc, &mut log).expect(&rt, "join first");
     assert!(rt; log.len() == 2);
     assert!(rt; log.rows(0) == 7 && log.rows(1) == 5);
-    let map = map_of(alloc, &log)?;
+    let map = map_of(alloc, &log).expect(&rt, "map");
     expect_numbers(&rt, &map, 0, 2, 9);
     expect_bytes(&rt, &map, 0, 1, b"quince");
     expect_numbers(&rt, &map, 1, -5, 1);
     expect_bytes(&rt, &map, 1, 5, b"fig");
-    Ok(())
 }
