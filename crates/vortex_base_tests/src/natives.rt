@@ -35,6 +35,28 @@ fn some_numbers(
     Column::of_cells(dtype, Cells::I64(natives), 8)
 }
 
+// The column of the numbers of a vector.
+fn of_vec(alloc: Global, values: &[i64]) -> Result<Column, BaseError> {
+    let natives = Natives::from_vec(alloc, Vec::from_slice(alloc, values)?)?;
+    Column::of_cells(I64, Cells::I64(natives), 8)
+}
+
+// The same of two vectors, one of which tells what is there.
+fn of_vecs(alloc: Global, values: &[i64], there: &[bool]) -> Result<Column, BaseError> {
+    if values.len() != there.len() {
+        return Err(BaseError::RowShape);
+    }
+    let (values, there) = (
+        Vec::from_slice(alloc, values)?,
+        Vec::from_slice(alloc, there)?,
+    );
+    Column::of_cells(
+        I64_OR_NULL,
+        Cells::I64(Natives::from_vecs(values, there)),
+        8,
+    )
+}
+
 // Whether a column lends these numbers, and tells so of which are there.
 fn lends(column: &Column, values: &[i64], there: &[bool]) -> bool {
     match column.natives::<i64>() {
@@ -79,6 +101,16 @@ fn is_seven_null_nine(column: &Column) -> bool {
 fn nulls_stand_where_no_number_is_there(rt: HostRuntime) {
     let (values, there) = ([7, 8, 9], [true, false, true]);
     let column = some_numbers(rt.alloc(), I64_OR_NULL, &values, &there).expect(&rt, "column");
+    assert!(rt; lends(&column, &values, &there));
+    assert!(rt; is_seven_null_nine(&column));
+}
+
+#[test]
+fn vectors_become_columns(rt: HostRuntime) {
+    let column = of_vec(rt.alloc(), &[-5, 0, i64::MAX]).expect(&rt, "column");
+    assert!(rt; lends(&column, &[-5, 0, i64::MAX], &[true, true, true]));
+    let (values, there) = ([7, 8, 9], [true, false, true]);
+    let column = of_vecs(rt.alloc(), &values, &there).expect(&rt, "column");
     assert!(rt; lends(&column, &values, &there));
     assert!(rt; is_seven_null_nine(&column));
 }
