@@ -1,11 +1,12 @@
 //! Values in plain form, read straight from the bytes of a text, whose line isn't cut out before.
 //! What isn't in this form is left to the reader of words, by which each form here is specified.
-ghost use Rattle.std.specs.Prelude.{◌≡◌, ◌<◌, ◌≤◌, ◌∷◌, ◌++◌, [], ℕ, List, codes, neg_ℤ, not, option_map, pos, position, IfOk, IfSome, None, IsTrue, Some, length};
+ghost use Rattle.std.specs.Prelude.{◌≡◌, ◌<◌, ◌≤◌, ◌∷◌, ◌++◌, [], ℕ, List, codes, neg_ℤ, not, option_map, pos, position, IfOk, IfSome, None, IsTrue, Some, length, take};
 ghost use Rattle.vortex_base.specs.Data.Cells.{short_value};
 ghost use Rattle.vortex_base.specs.declared.dtype.DType.TheVariants as dtype;
 ghost use Rattle.vortex_base.specs.declared.pvalue.PValue.{PValue};
 ghost use Rattle.vortex_base.specs.declared.scalar_value.ScalarValue.TheVariants as value;
 ghost use Rattle.vortex_base.specs.declared.types.Nullability.{Nullability};
+ghost use Rattle.std.specs.List.{list_all};
 ghost use Rattle.std.specs.Str.{all_ascii_digits};
 ghost use Rattle.vortex_syntax.specs.Numbers.{four_value, in_64_bits_signed, in_type};
 ghost use Rattle.vortex_syntax.specs.Plain.{BeginsDigits, BeginsNatural, BeginsNumber, BeginsQuoted, BeginsSigned, BeginsValue, BeginsWhole, BeginsWord, EndsWord};
@@ -211,12 +212,12 @@ fn is_word_byte(byte: u8) -> bool
     byte > b'"' && byte < 127
 }
 
-// Whether a byte stands for itself between quotes. Of a small letter, as most are, one test tells.
+// Whether a byte stands for itself between quotes.
 #[inline(always)]
 fn is_text_byte(byte: u8) -> bool
     ensures { result ≡ spec.is_text_byte byte }
 {
-    (b'\\' < byte && byte < 127) || (b' ' <= byte && byte < b'\\' && byte != b'"')
+    (b' ' <= byte) & (byte < 127) & (byte != b'"') & (byte != b'\\')
 }
 
 // Where the first byte stands that isn't of a word in plain form.
@@ -227,12 +228,43 @@ fn word_end(text: &[u8]) -> Option<usize>
     text.iter().position(|byte| !is_word_byte(*byte))
 }
 
+// How many bytes at the front, eight by eight, stand for themselves between quotes. None is judged
+// before all eight are looked at, which takes less than a jump for each.
+#[inline(always)]
+fn text_eights(text: &[u8]) -> usize
+    ensures plain { IsTrue (list_all spec.is_text_byte (take result text.now)) }
+    ensures within { result ≤ length text.now }
+{
+    let mut rest = text;
+    'eights: while let [a, b, c, d, e, f, g, h, after @ ..] = rest {
+        let first = is_text_byte(*a) & is_text_byte(*b) & is_text_byte(*c) & is_text_byte(*d);
+        let last = is_text_byte(*e) & is_text_byte(*f) & is_text_byte(*g) & is_text_byte(*h);
+        if !(first & last) {
+            break;
+        }
+        rest = after;
+    }
+    text.len() - rest.len()
+}
+
+// Where the first byte stands that doesn't stand for itself between quotes, byte by byte.
+#[inline(always)]
+fn text_end_soon(text: &[u8]) -> Option<usize>
+    ensures { result ≡ position (λ b. not (spec.is_text_byte b)) text.now }
+{
+    text.iter().position(|byte| !is_text_byte(*byte))
+}
+
 // Where the first byte stands that doesn't stand for itself between quotes.
 #[inline]
 fn text_end(text: &[u8]) -> Option<usize>
     ensures { result ≡ position (λ b. not (spec.is_text_byte b)) text.now }
 {
-    text.iter().position(|byte| !is_text_byte(*byte))
+    let passed = text_eights(text);
+    match text_end_soon(&text[passed..]) {
+        Some(end) => Some(passed + end),
+        None => None,
+    }
 }
 
 // The word in plain form at the front of a text, and what follows it.
