@@ -1,5 +1,6 @@
 //! Values in plain form at the front of a text: what is left behind them, and what isn't one.
-use std::test::Fail;
+use std::alloc::AllocError;
+use std::process::Abort;
 use vortex_base::dtype::DType;
 use vortex_base::types::{Nullability, PType};
 use vortex_syntax::plain::{plain_bytes, plain_null};
@@ -15,33 +16,44 @@ fn behind_null(dtype: DType, text: &[u8]) -> Option<usize> {
     Some(plain_null(dtype, text)?.len())
 }
 
+fn expect_behind_null(rt: &impl Abort, dtype: DType, text: &[u8], left: Option<usize>) {
+    assert_eq!(rt; behind_null(dtype, text), left);
+}
+
 #[test]
 fn nulls_are_read_where_the_type_has_them(rt: HostRuntime) {
-    assert_eq!(rt; behind_null(NULLABLE, b" null 7\n"), Some(3));
-    assert_eq!(rt; behind_null(NULLABLE, b" null\n"), Some(1));
-    assert_eq!(rt; behind_null(NULLABLE, b" nulls\n"), None);
-    assert_eq!(rt; behind_null(NULLABLE, b" null"), None);
-    assert_eq!(rt; behind_null(NON_NULLABLE, b" null\n"), None);
+    expect_behind_null(&rt, NULLABLE, b" null 7\n", Some(3));
+    expect_behind_null(&rt, NULLABLE, b" null\n", Some(1));
+    expect_behind_null(&rt, NULLABLE, b" nulls\n", None);
+    expect_behind_null(&rt, NULLABLE, b" null", None);
+    expect_behind_null(&rt, NON_NULLABLE, b" null\n", None);
 }
 
 // How many bytes are left behind bytes, which are put into a vector.
-fn behind_bytes(text: &[u8], bytes: &mut Vec<u8>) -> Result<Option<usize>, Fail> {
+fn behind_bytes(text: &[u8], bytes: &mut Vec<u8>) -> Result<Option<usize>, AllocError> {
     match plain_bytes(BYTES, text, bytes)? {
         Some(rest) => Ok(Some(rest.len())),
         None => Ok(None),
     }
 }
 
+// So many bytes are left behind these, which are read.
+fn expect_bytes(rt: &impl Abort, bytes: &mut Vec<u8>, text: &[u8], left: usize, read: &[u8]) {
+    let found = behind_bytes(text, bytes).expect(rt, "memory");
+    assert!(rt; found == Some(left));
+    assert!(rt; bytes.as_slice() == read);
+}
+
+fn expect_no_bytes(rt: &impl Abort, bytes: &mut Vec<u8>, text: &[u8]) {
+    assert!(rt; behind_bytes(text, bytes).expect(rt, "memory") == None);
+}
+
 #[test]
-fn bytes_are_read_in_the_place_of_others(rt: HostRuntime) -> Result<(), Fail> {
+fn bytes_are_read_in_the_place_of_others(rt: HostRuntime) {
     let mut bytes = Vec::new(rt.alloc());
-    assert_eq!(rt; behind_bytes(b" x00fF 1\n", &mut bytes)?, Some(3));
-    assert_eq!(rt; bytes.as_slice(), [0, 255].as_slice());
-    assert_eq!(rt; behind_bytes(b" x7a\n", &mut bytes)?, Some(1));
-    assert_eq!(rt; bytes.as_slice(), [0x7a].as_slice());
-    assert_eq!(rt; behind_bytes(b" x\n", &mut bytes)?, Some(1));
-    assert_eq!(rt; bytes.len(), 0);
-    assert_eq!(rt; behind_bytes(b" x7\n", &mut bytes)?, None);
-    assert_eq!(rt; behind_bytes(b" 7a\n", &mut bytes)?, None);
-    Ok(())
+    expect_bytes(&rt, &mut bytes, b" x00fF 1\n", 3, &[0, 255]);
+    expect_bytes(&rt, &mut bytes, b" x7a\n", 1, &[0x7a]);
+    expect_bytes(&rt, &mut bytes, b" x\n", 1, &[]);
+    expect_no_bytes(&rt, &mut bytes, b" x7\n");
+    expect_no_bytes(&rt, &mut bytes, b" 7a\n");
 }

@@ -2,7 +2,7 @@
 use super::*;
 
 #[test]
-fn other_first_words_and_numbers_of_words(rt: HostRuntime) -> Result<(), Fail> {
+fn other_first_words_and_numbers_of_words(rt: HostRuntime) {
     let cases = "
         x => line 1: bad
         column a i64 / rows 1 => line 2: bad
@@ -12,23 +12,23 @@ fn other_first_words_and_numbers_of_words(rt: HostRuntime) -> Result<(), Fail> {
         column a i64 i64 => line 1: bad
         column a i64 / part 0 => line 2: bad
     ";
-    expect_each(&rt, rt.alloc(), "", cases)
+    expect_each(&rt, rt.alloc(), "", cases);
 }
 
 // Lines are counted past a thousand, those without words too.
 #[test]
-fn a_bad_line_past_the_thousandth(rt: HostRuntime) -> Result<(), Fail> {
+fn a_bad_line_past_the_thousandth(rt: HostRuntime) {
     let alloc = rt.alloc();
-    let mut text = String::from_str(alloc, "column a i64\npart\n")?;
+    let mut text = String::from_str(alloc, "column a i64\npart\n").expect(&rt, "text");
     for _ in 0..1000 {
-        text.push_str("row 1\n\n")?;
+        text.push_str("row 1\n\n").expect(&rt, "push str");
     }
-    text.push_str("row\n")?;
-    expect_answer(&rt, alloc, text.as_str(), 2, "line 2003: bad\n")
+    text.push_str("row\n").expect(&rt, "push str");
+    expect_answer(&rt, alloc, text.as_str(), 2, "line 2003: bad\n");
 }
 
 #[test]
-fn lines_out_of_order(rt: HostRuntime) -> Result<(), Fail> {
+fn lines_out_of_order(rt: HostRuntime) {
     let cases = "
         part => line 1: bad
         where lit bool true => line 1: bad
@@ -38,11 +38,11 @@ fn lines_out_of_order(rt: HostRuntime) -> Result<(), Fail> {
         column a i64 / part / column b i64 => line 3: bad
         column a i64 / column b i64 / column a u8 => line 3: bad
     ";
-    expect_each(&rt, rt.alloc(), "", cases)
+    expect_each(&rt, rt.alloc(), "", cases);
 }
 
 #[test]
-fn rows_that_do_not_fit(rt: HostRuntime) -> Result<(), Fail> {
+fn rows_that_do_not_fit(rt: HostRuntime) {
     let cases = "
         row 1 => line 5: bad
         row => line 5: bad
@@ -52,11 +52,11 @@ fn rows_that_do_not_fit(rt: HostRuntime) -> Result<(), Fail> {
         row 1 \"true\" => line 5: bad
     ";
     let front = "column a i64\ncolumn t bool\npart\nrow 0 false\n";
-    expect_each(&rt, rt.alloc(), front, cases)
+    expect_each(&rt, rt.alloc(), front, cases);
 }
 
 #[test]
-fn statistics_that_are_none(rt: HostRuntime) -> Result<(), Fail> {
+fn statistics_that_are_none(rt: HostRuntime) {
     let cases = "
         stat b min exact 1 => line 3: bad
         stat a least exact 1 => line 3: bad
@@ -68,11 +68,11 @@ fn statistics_that_are_none(rt: HostRuntime) -> Result<(), Fail> {
         stat a min exact null => line 3: bad
         stat a => line 3: bad
     ";
-    expect_each(&rt, rt.alloc(), "column a i64\npart\n", cases)
+    expect_each(&rt, rt.alloc(), "column a i64\npart\n", cases);
 }
 
 #[test]
-fn expressions_that_are_none(rt: HostRuntime) -> Result<(), Fail> {
+fn expressions_that_are_none(rt: HostRuntime) {
     let cases = "
         where => line 2: bad
         where gt col a => line 2: bad
@@ -84,11 +84,11 @@ fn expressions_that_are_none(rt: HostRuntime) -> Result<(), Fail> {
         where eq col a lit i64 null => line 2: bad
         where lit bool True => line 2: bad
     ";
-    expect_each(&rt, rt.alloc(), "column a i64\n", cases)
+    expect_each(&rt, rt.alloc(), "column a i64\n", cases);
 }
 
 #[test]
-fn expressions_that_do_not_bind(rt: HostRuntime) -> Result<(), Fail> {
+fn expressions_that_do_not_bind(rt: HostRuntime) {
     let cases = r#"
         where gt col a lit i32 1 => line 3: bad
         where and col a col t => line 3: bad
@@ -99,12 +99,12 @@ fn expressions_that_do_not_bind(rt: HostRuntime) -> Result<(), Fail> {
         where eq col t lit utf8 "true" => line 3: bad
         where or col t lit null null => line 3: bad
     "#;
-    expect_each(&rt, rt.alloc(), "column a i64\ncolumn t bool\n", cases)
+    expect_each(&rt, rt.alloc(), "column a i64\ncolumn t bool\n", cases);
 }
 
 // A predicate of another type is found by the scan, after every line.
 #[test]
-fn predicates_of_another_type(rt: HostRuntime) -> Result<(), Fail> {
+fn predicates_of_another_type(rt: HostRuntime) {
     let cases = r#"
         where lit i64 7 => predicate
         where col a => predicate
@@ -114,11 +114,11 @@ fn predicates_of_another_type(rt: HostRuntime) -> Result<(), Fail> {
         where lit i64 7 / x => line 3: bad
         where lit i64 7 / part => line 3: bad
     "#;
-    expect_each(&rt, rt.alloc(), "column a i64\n", cases)
+    expect_each(&rt, rt.alloc(), "column a i64\n", cases);
 }
 
 #[test]
-fn lines_after_the_predicate(rt: HostRuntime) -> Result<(), Fail> {
+fn lines_after_the_predicate(rt: HostRuntime) {
     let cases = r#"
         where col t / where col t => line 3: bad
         where col t / part => line 3: bad
@@ -127,15 +127,15 @@ fn lines_after_the_predicate(rt: HostRuntime) -> Result<(), Fail> {
         where col t / " => line 3: bad
         where col t /    /  => skipped / rows
     "#;
-    expect_each(&rt, rt.alloc(), "column t bool\n", cases)
+    expect_each(&rt, rt.alloc(), "column t bool\n", cases);
 }
 
 #[test]
-fn the_first_of_some_bad_lines(rt: HostRuntime) -> Result<(), Fail> {
+fn the_first_of_some_bad_lines(rt: HostRuntime) {
     let cases = "
         part / row x / y / where => line 3: bad
         column b / part 1 => line 2: bad
         part / row 1 / row / where gt => line 4: bad
     ";
-    expect_each(&rt, rt.alloc(), "column a i64\n", cases)
+    expect_each(&rt, rt.alloc(), "column a i64\n", cases);
 }

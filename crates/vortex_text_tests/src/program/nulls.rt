@@ -10,7 +10,7 @@ row null
 ";
 
 #[test]
-fn inexact_null_counts(rt: HostRuntime) -> Result<(), Fail> {
+fn inexact_null_counts(rt: HostRuntime) {
     let cases = "
         stat a null_count inexact 3 / where notnull col a => skipped / rows 0:1
         stat a null_count inexact 2 / where notnull col a => skipped / rows 0:1
@@ -19,11 +19,11 @@ fn inexact_null_counts(rt: HostRuntime) -> Result<(), Fail> {
         stat a null_count exact 0 / stat a null_count inexact 2
         where isnull col a => skipped / rows 0:0 0:2
     ";
-    expect_each(&rt, rt.alloc(), TWO_NULLS, cases)
+    expect_each(&rt, rt.alloc(), TWO_NULLS, cases);
 }
 
 #[test]
-fn exact_null_counts(rt: HostRuntime) -> Result<(), Fail> {
+fn exact_null_counts(rt: HostRuntime) {
     let cases = "
         stat a null_count exact 2 / where notnull col a => skipped / rows 0:1
         stat a null_count exact 2 / where isnull col a => skipped / rows 0:0 0:2
@@ -32,11 +32,11 @@ fn exact_null_counts(rt: HostRuntime) -> Result<(), Fail> {
         part / row null / row null / stat a null_count exact 2
         where notnull col a => skipped 1 / rows 0:1
     ";
-    expect_each(&rt, rt.alloc(), TWO_NULLS, cases)
+    expect_each(&rt, rt.alloc(), TWO_NULLS, cases);
 }
 
 #[test]
-fn comparisons_with_null(rt: HostRuntime) -> Result<(), Fail> {
+fn comparisons_with_null(rt: HostRuntime) {
     let cases = "
         stat a min exact 2 / stat a max exact 2 / where eq col a lit i32? null => skipped / rows
         where ne col a lit i32 2 => skipped / rows
@@ -44,11 +44,11 @@ fn comparisons_with_null(rt: HostRuntime) -> Result<(), Fail> {
         where not eq col a lit i32? null => skipped / rows
         where or eq col a lit i32 2 eq col a lit i32? null => skipped / rows 0:1
     ";
-    expect_each(&rt, rt.alloc(), TWO_NULLS, cases)
+    expect_each(&rt, rt.alloc(), TWO_NULLS, cases);
 }
 
 #[test]
-fn no_parts_and_no_rows(rt: HostRuntime) -> Result<(), Fail> {
+fn no_parts_and_no_rows(rt: HostRuntime) {
     let cases = "
         where isnull col a => skipped / rows
         part / stat a null_count exact 0 / where isnull col a => skipped 0 / rows
@@ -57,12 +57,12 @@ fn no_parts_and_no_rows(rt: HostRuntime) -> Result<(), Fail> {
         part / where notnull col a => skipped / rows
         part / where notnull lit i64 1 => skipped 0 / rows
     ";
-    expect_each(&rt, rt.alloc(), "column a i32?\n", cases)
+    expect_each(&rt, rt.alloc(), "column a i32?\n", cases);
 }
 
 // Of two counts of one column the later is taken, with its own precision.
 #[test]
-fn exact_counts_beside_inexact_ones(rt: HostRuntime) -> Result<(), Fail> {
+fn exact_counts_beside_inexact_ones(rt: HostRuntime) {
     let front = "column a i32?\npart\nrow null\nrow null\n";
     let cases = "
         stat a null_count exact 2 / where notnull col a => skipped 0 / rows
@@ -74,12 +74,12 @@ fn exact_counts_beside_inexact_ones(rt: HostRuntime) -> Result<(), Fail> {
         stat a null_count inexact 2 / stat a null_count exact 2
         where notnull col a => skipped 0 / rows
     ";
-    expect_each(&rt, rt.alloc(), front, cases)
+    expect_each(&rt, rt.alloc(), front, cases);
 }
 
 // The null count of a null literal is taken to be 1, whatever the rows.
 #[test]
-fn null_tests_of_literals(rt: HostRuntime) -> Result<(), Fail> {
+fn null_tests_of_literals(rt: HostRuntime) {
     let front = "column a i64\npart\nrow 1\npart\nrow 2\nrow 3\n";
     let cases = "
         where notnull lit i64? null => skipped 0 / rows
@@ -92,12 +92,12 @@ fn null_tests_of_literals(rt: HostRuntime) -> Result<(), Fail> {
         where and notnull lit i64 7 eq col a lit i64 2 => skipped / rows 1:0
         where and isnull lit i64? null eq col a lit i64 3 => skipped / rows 1:1
     ";
-    expect_each(&rt, rt.alloc(), front, cases)
+    expect_each(&rt, rt.alloc(), front, cases);
 }
 
 // Crossed bounds, a count of all, a count of none over no rows.
 #[test]
-fn statistics_at_odds(rt: HostRuntime) -> Result<(), Fail> {
+fn statistics_at_odds(rt: HostRuntime) {
     let front = "column a i32?\npart\nrow null\nrow null\nstat a min inexact 5\n\
         stat a max inexact 3\n";
     let cases = "
@@ -106,11 +106,11 @@ fn statistics_at_odds(rt: HostRuntime) -> Result<(), Fail> {
         stat a null_count exact 2 / where notnull col a => skipped 0 / rows
         stat a null_count exact 2 / where isnull col a => skipped / rows 0:0 0:1 / whole 0
     ";
-    expect_each(&rt, rt.alloc(), front, cases)
+    expect_each(&rt, rt.alloc(), front, cases);
 }
 
 #[test]
-fn columns_of_type_null(rt: HostRuntime) -> Result<(), Fail> {
+fn columns_of_type_null(rt: HostRuntime) {
     let front = "column a null\npart\nrow null\n";
     let cases = "
         where eq col a lit null null => skipped / rows
@@ -119,11 +119,11 @@ fn columns_of_type_null(rt: HostRuntime) -> Result<(), Fail> {
         where isnull eq col a lit null null => skipped / rows 0:0
         stat a null_count exact 1 / where notnull col a => skipped 0 / rows
     ";
-    expect_each(&rt, rt.alloc(), front, cases)
+    expect_each(&rt, rt.alloc(), front, cases);
 }
 
 #[test]
-fn statistics_of_type_null(rt: HostRuntime) -> Result<(), Fail> {
+fn statistics_of_type_null(rt: HostRuntime) {
     let cases = "
         stat a max exact null => line 3: bad
         stat a min inexact null => line 3: bad
@@ -133,5 +133,5 @@ fn statistics_of_type_null(rt: HostRuntime) -> Result<(), Fail> {
         stat a is_constant exact true / stat a is_sorted exact true
         where notnull col a => skipped / rows
     ";
-    expect_each(&rt, rt.alloc(), "column a null\npart\n", cases)
+    expect_each(&rt, rt.alloc(), "column a null\npart\n", cases);
 }

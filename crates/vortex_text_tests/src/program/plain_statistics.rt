@@ -6,7 +6,7 @@ const FRONT: &str = "column a i64?\ncolumn ab u8\ncolumn t bool\n";
 
 // Each statistic but the last of the spellings leaves its part out.
 #[test]
-fn plain_statistics_and_ones_with_more_spaces(rt: HostRuntime) -> Result<(), Fail> {
+fn plain_statistics_and_ones_with_more_spaces(rt: HostRuntime) {
     let cases = "
         stat a max exact 5 / where gt col a lit i64 7 => skipped 0 / rows
         stat  a max exact 5 / where gt col a lit i64 7 => skipped 0 / rows
@@ -26,12 +26,12 @@ fn plain_statistics_and_ones_with_more_spaces(rt: HostRuntime) -> Result<(), Fai
         stat ab max exact 5 / where gt col a lit i64 7 => skipped / rows 0:0
     ";
     let front = "column a i64?\ncolumn ab u8\ncolumn t bool\npart\nrow 9 9 true\n";
-    expect_each(&rt, rt.alloc(), front, cases)
+    expect_each(&rt, rt.alloc(), front, cases);
 }
 
 // The null count tells exact from inexact: only an exact one says that each value is null.
 #[test]
-fn plain_precisions(rt: HostRuntime) -> Result<(), Fail> {
+fn plain_precisions(rt: HostRuntime) {
     let cases = "
         stat a null_count exact 1 / where notnull col a => skipped 0 / rows
         stat a null_count inexact 1 / where notnull col a => skipped / rows 0:0
@@ -50,12 +50,12 @@ fn plain_precisions(rt: HostRuntime) -> Result<(), Fail> {
         stat a null_count \"exact\" 1 => line 6: bad
     ";
     let front = "column a i64?\ncolumn ab u8\ncolumn t bool\npart\nrow 9 9 true\n";
-    expect_each(&rt, rt.alloc(), front, cases)
+    expect_each(&rt, rt.alloc(), front, cases);
 }
 
 // Names of which one begins with the other, in either order, and the one that was found last.
 #[test]
-fn plain_names(rt: HostRuntime) -> Result<(), Fail> {
+fn plain_names(rt: HostRuntime) {
     let cases = "
         stat ab max exact 5 / where gt col ab lit u8 7 => skipped 0 / rows
         stat ab max exact 5 / stat a max exact 5 / where gt col a lit i64 7 => skipped 0 / rows
@@ -77,11 +77,11 @@ fn plain_names(rt: HostRuntime) -> Result<(), Fail> {
         stat a  => line 6: bad
     ";
     let front = "column a i64?\ncolumn ab u8\ncolumn t bool\npart\nrow 9 9 true\n";
-    expect_each(&rt, rt.alloc(), front, cases)
+    expect_each(&rt, rt.alloc(), front, cases);
 }
 
 #[test]
-fn plain_words_for_statistics(rt: HostRuntime) -> Result<(), Fail> {
+fn plain_words_for_statistics(rt: HostRuntime) {
     let cases = "
         stat a min exact 9 / where lt col a lit i64 7 => skipped 0 / rows
         stat a sum exact 9 / stat a is_constant exact true / stat a is_sorted exact true
@@ -102,11 +102,11 @@ fn plain_words_for_statistics(rt: HostRuntime) -> Result<(), Fail> {
         stat t min exact 0 => line 6: bad
     ";
     let front = "column a i64?\ncolumn ab u8\ncolumn t bool\npart\nrow 9 9 true\n";
-    expect_each(&rt, rt.alloc(), front, cases)
+    expect_each(&rt, rt.alloc(), front, cases);
 }
 
 #[test]
-fn values_that_are_none(rt: HostRuntime) -> Result<(), Fail> {
+fn values_that_are_none(rt: HostRuntime) {
     let cases = "
         stat a max exact 1_0 => line 5: bad
         stat a max exact +1 => line 5: bad
@@ -132,11 +132,11 @@ fn values_that_are_none(rt: HostRuntime) -> Result<(), Fail> {
         stat => line 5: bad
     ";
     let front = "column a i64?\ncolumn ab u8\ncolumn t bool\npart\n";
-    expect_each(&rt, rt.alloc(), front, cases)
+    expect_each(&rt, rt.alloc(), front, cases);
 }
 
 #[test]
-fn plain_statistics_out_of_order(rt: HostRuntime) -> Result<(), Fail> {
+fn plain_statistics_out_of_order(rt: HostRuntime) {
     let cases = "
         stat a max exact 5 => line 4: bad
         part / stat a max exact 5 / part / join 0 / stat a max exact 5 => line 8: bad
@@ -144,20 +144,20 @@ fn plain_statistics_out_of_order(rt: HostRuntime) -> Result<(), Fail> {
         part / stat a max exact 5 / part / stat a max exact 8 / join 0 / part / row 9 9 true
         where gt col a lit i64 7 => skipped / rows 1:0
     ";
-    expect_each(&rt, rt.alloc(), FRONT, cases)?;
+    expect_each(&rt, rt.alloc(), FRONT, cases);
     let alloc = rt.alloc();
     let cut = "column a i64\npart\nrow 1\nwhere col a\nstat a max exact 5";
-    expect_answer(&rt, alloc, cut, 2, "line 5: bad\n")?;
+    expect_answer(&rt, alloc, cut, 2, "line 5: bad\n");
     let cut = "column a i64\npart\nstat a max exact 5";
-    expect_answer(&rt, alloc, cut, 2, "line 4: bad\n")?;
+    expect_answer(&rt, alloc, cut, 2, "line 4: bad\n");
     let cut = "column a i64\npart\nstat a max exact 5_";
-    expect_answer(&rt, alloc, cut, 2, "line 3: bad\n")?;
+    expect_answer(&rt, alloc, cut, 2, "line 3: bad\n");
     let broken = b"column a i64\npart\nstat a max exact 5\xff\n";
-    expect_reply(&rt, alloc, broken, 2, "line 3: bad\n")
+    expect_reply(&rt, alloc, broken, 2, "line 3: bad\n");
 }
 
 #[test]
-fn plain_parts_and_others(rt: HostRuntime) -> Result<(), Fail> {
+fn plain_parts_and_others(rt: HostRuntime) {
     let cases = "
         part / row 1 / part / row 2 / where eq col a lit i64 2 => skipped / rows 1:0
         part  / row 1 /  part / row 2 / where eq col a lit i64 2 => skipped / rows 1:0
@@ -174,8 +174,8 @@ fn plain_parts_and_others(rt: HostRuntime) -> Result<(), Fail> {
         part / \"part\" => line 3: bad
         where eq col a lit i64 2 / part => line 3: bad
     ";
-    expect_each(&rt, rt.alloc(), "column a i64\n", cases)?;
+    expect_each(&rt, rt.alloc(), "column a i64\n", cases);
     let alloc = rt.alloc();
-    expect_answer(&rt, alloc, "part\n", 2, "line 1: bad\n")?;
-    expect_answer(&rt, alloc, "column a i64\npart", 2, "line 3: bad\n")
+    expect_answer(&rt, alloc, "part\n", 2, "line 1: bad\n");
+    expect_answer(&rt, alloc, "column a i64\npart", 2, "line 3: bad\n");
 }

@@ -12,29 +12,29 @@ row 60
 ";
 
 #[test]
-fn a_repeated_column_and_crossed_ends(rt: HostRuntime) -> Result<(), Fail> {
+fn a_repeated_column_and_crossed_ends(rt: HostRuntime) {
     let cases = "
         where and gt col a lit i32 10 lt col a lit i32 5 => skipped / rows
         where between <= <= col a lit i32 50 lit i32 10 => skipped 0 / rows
         where between <= <= col a lit i32 4 lit i32 4 => skipped / rows 0:1
         where between <= < col a lit i32 4 lit i32 4 => skipped 0 / rows
     ";
-    expect_each(&rt, rt.alloc(), NUMBERS, cases)
+    expect_each(&rt, rt.alloc(), NUMBERS, cases);
 }
 
 #[test]
-fn an_open_range_of_neighbours(rt: HostRuntime) -> Result<(), Fail> {
+fn an_open_range_of_neighbours(rt: HostRuntime) {
     let cases = "
         where between < < col a lit i32 3 lit i32 4 => skipped 0 / rows
         where between < < col a lit i32 3 lit i32 5 => skipped / rows 0:1
         where between < <= col a lit i32 3 lit i32 4 => skipped / rows 0:1
         where between <= < col a lit i32? 3 lit i32? 3 => skipped 0 / rows
     ";
-    expect_each(&rt, rt.alloc(), NUMBERS, cases)
+    expect_each(&rt, rt.alloc(), NUMBERS, cases);
 }
 
 #[test]
-fn strict_ends_move_by_one(rt: HostRuntime) -> Result<(), Fail> {
+fn strict_ends_move_by_one(rt: HostRuntime) {
     let front = "column a i32\npart\nrow 3\n";
     let cases = "
         stat a max exact 3 / where between < <= col a lit i32 3 lit i32 10 => skipped 0 / rows
@@ -42,11 +42,11 @@ fn strict_ends_move_by_one(rt: HostRuntime) -> Result<(), Fail> {
         stat a min exact 10 / where between < <= col a lit i32 3 lit i32 10 => skipped / rows
         stat a min exact 11 / where between < <= col a lit i32 3 lit i32 10 => skipped 0 / rows
     ";
-    expect_each(&rt, rt.alloc(), front, cases)
+    expect_each(&rt, rt.alloc(), front, cases);
 }
 
 #[test]
-fn strict_ends_at_the_ends_of_a_type(rt: HostRuntime) -> Result<(), Fail> {
+fn strict_ends_at_the_ends_of_a_type(rt: HostRuntime) {
     let front = "column a i8\ncolumn u u64\npart\nrow 0 0\n";
     let cases = "
         where between < <= col a lit i8 127 lit i8 127 => skipped 0 / rows
@@ -55,11 +55,11 @@ fn strict_ends_at_the_ends_of_a_type(rt: HostRuntime) -> Result<(), Fail> {
         where between <= < col u lit u64 0 lit u64 0 => skipped 0 / rows
         where between < < col u lit u64 0 lit u64 18446744073709551615 => skipped / rows
     ";
-    expect_each(&rt, rt.alloc(), front, cases)
+    expect_each(&rt, rt.alloc(), front, cases);
 }
 
 #[test]
-fn an_open_range_of_a_whole_type(rt: HostRuntime) -> Result<(), Fail> {
+fn an_open_range_of_a_whole_type(rt: HostRuntime) {
     let front = "column a i8\npart\nrow 126\n";
     let cases = "
         where between < < col a lit i8 -128 lit i8 127 => skipped / rows 0:0
@@ -68,11 +68,11 @@ fn an_open_range_of_a_whole_type(rt: HostRuntime) -> Result<(), Fail> {
         stat a min exact 127 / where between < < col a lit i8 -128 lit i8 127 => skipped 0 / rows
         stat a min exact 126 / where between < < col a lit i8 -128 lit i8 127 => skipped / rows 0:0
     ";
-    expect_each(&rt, rt.alloc(), front, cases)
+    expect_each(&rt, rt.alloc(), front, cases);
 }
 
 #[test]
-fn ranges_of_texts(rt: HostRuntime) -> Result<(), Fail> {
+fn ranges_of_texts(rt: HostRuntime) {
     let front = "column s utf8\npart\nrow \"b\"\n";
     let cases = r#"
         where between < <= col s lit utf8 "b" lit utf8 "b" => skipped 0 / rows
@@ -85,11 +85,11 @@ fn ranges_of_texts(rt: HostRuntime) -> Result<(), Fail> {
         stat s min exact "d"
         where between < <= col s lit utf8 "a" lit utf8 "c" => skipped 0 / rows
     "#;
-    expect_each(&rt, rt.alloc(), front, cases)
+    expect_each(&rt, rt.alloc(), front, cases);
 }
 
 #[test]
-fn ranges_of_truths_and_bytes(rt: HostRuntime) -> Result<(), Fail> {
+fn ranges_of_truths_and_bytes(rt: HostRuntime) {
     let front = "column t bool\ncolumn x binary\npart\nrow false x01\n";
     let cases = "
         where between < < col t lit bool false lit bool true => skipped / rows
@@ -101,12 +101,12 @@ fn ranges_of_truths_and_bytes(rt: HostRuntime) -> Result<(), Fail> {
         where between < < col x lit binary x lit binary x0100 => skipped / rows 0:0
         where between < < col x lit binary x01 lit binary x => skipped 0 / rows
     ";
-    expect_each(&rt, rt.alloc(), front, cases)
+    expect_each(&rt, rt.alloc(), front, cases);
 }
 
 // A null end decides nothing where the other end is false of the value.
 #[test]
-fn null_ends(rt: HostRuntime) -> Result<(), Fail> {
+fn null_ends(rt: HostRuntime) {
     let front = "column a i32\npart\nstat a min exact 6\nrow 6\n";
     let cases = "
         where not between <= <= lit i32 5 lit i32? null lit i32 4 => skipped / rows 0:0
@@ -115,11 +115,11 @@ fn null_ends(rt: HostRuntime) -> Result<(), Fail> {
         where between <= <= col a lit i32? null lit i32 6 => skipped / rows
         where isnull between <= <= col a lit i32? null lit i32 6 => skipped / rows 0:0
     ";
-    expect_each(&rt, rt.alloc(), front, cases)
+    expect_each(&rt, rt.alloc(), front, cases);
 }
 
 #[test]
-fn ranges_of_expressions(rt: HostRuntime) -> Result<(), Fail> {
+fn ranges_of_expressions(rt: HostRuntime) {
     let front = "column a i32\ncolumn b i32\npart\nstat a max exact 4\nstat b min exact 5\n\
         row 4 5\n";
     let cases = "
@@ -129,5 +129,5 @@ fn ranges_of_expressions(rt: HostRuntime) -> Result<(), Fail> {
         where between <= <= col a col b lit i32 9 => skipped 0 / rows
         where between <= <= col b col a lit i32 9 => skipped / rows 0:0
     ";
-    expect_each(&rt, rt.alloc(), front, cases)
+    expect_each(&rt, rt.alloc(), front, cases);
 }

@@ -3,43 +3,41 @@ use super::*;
 
 // The cases are whole inputs. Each goes up to `=>`, behind which stands what is told of it; ` / `
 // stands for a line feed.
-fn expect_reasons(rt: &impl Abort, alloc: Global, front: &str, cases: &str) -> Result<(), Fail> {
-    let mut text = String::from_str(alloc, front)?;
+fn expect_reasons(rt: &impl Abort, alloc: Global, front: &str, cases: &str) {
+    let mut text = String::from_str(alloc, front).expect(rt, "text");
     for line in cases.lines() {
         let Some((end, reason)) = line.trim().split_once(" => ") else {
             assert!(rt; line.trim().is_empty(), "a case without its reason");
             continue;
         };
-        push_lines(&mut text, end)?;
+        push_lines(&mut text, end).expect(rt, "push lines");
         let mut want = String::new(alloc);
-        push_lines(&mut want, reason)?;
-        expect_reason(rt, alloc, text.as_bytes(), &want)?;
-        text = String::from_str(alloc, front)?;
+        push_lines(&mut want, reason).expect(rt, "push lines");
+        expect_reason(rt, alloc, text.as_bytes(), &want);
+        text = String::from_str(alloc, front).expect(rt, "from str");
     }
-    Ok(())
 }
 
 // What is told of some bytes.
-fn expect_reason(rt: &impl Abort, alloc: Global, input: &[u8], want: &str) -> Result<(), Fail> {
+fn expect_reason(rt: &impl Abort, alloc: Global, input: &[u8], want: &str) {
     let mut reader = input;
     let mut told = Vec::new(alloc);
     program::run(alloc, &mut reader, &mut io::sink(), &mut told);
     assert_eq!(rt; told.as_slice(), want.as_bytes(), "{want}");
-    Ok(())
 }
 
 #[test]
-fn lines_of_no_kind(rt: HostRuntime) -> Result<(), Fail> {
+fn lines_of_no_kind(rt: HostRuntime) {
     let cases = "
         rows 1 => line 1: word 1 \"rows\": a line begins with column, part, stat, row, join or where
         \"row\" 1 => line 1: word 1 \"\\\"row\\\"\": a line begins with column, part, stat, row, \
             join or where
     ";
-    expect_reasons(&rt, rt.alloc(), "", cases)
+    expect_reasons(&rt, rt.alloc(), "", cases);
 }
 
 #[test]
-fn lines_out_of_order(rt: HostRuntime) -> Result<(), Fail> {
+fn lines_out_of_order(rt: HostRuntime) {
     let cases = "
         part => line 1: a line column has to stand before it
         where lit bool true => line 1: a line column has to stand before it
@@ -52,11 +50,11 @@ fn lines_out_of_order(rt: HostRuntime) -> Result<(), Fail> {
             words
         column a i64 => line 2: a text ends with a line where and the predicate
     ";
-    expect_reasons(&rt, rt.alloc(), "", cases)
+    expect_reasons(&rt, rt.alloc(), "", cases);
 }
 
 #[test]
-fn names_and_types(rt: HostRuntime) -> Result<(), Fail> {
+fn names_and_types(rt: HostRuntime) {
     let cases = "
         column 1a i64 => line 2: word 2 \"1a\": a name is an ASCII letter or _, then letters, \
             digits or _, 64 bytes at most
@@ -69,13 +67,13 @@ fn names_and_types(rt: HostRuntime) -> Result<(), Fail> {
             i64, utf8 or binary, or one of these with a ? behind it, or null
         column b u8 null => line 2: word 4 \"null\": the line ends before this word
     ";
-    expect_reasons(&rt, rt.alloc(), "column a i64?\n", cases)
+    expect_reasons(&rt, rt.alloc(), "column a i64?\n", cases);
 }
 
 const PART: &str = "column a u8\ncolumn t utf8?\ncolumn n null\npart\n";
 
 #[test]
-fn statistics(rt: HostRuntime) -> Result<(), Fail> {
+fn statistics(rt: HostRuntime) {
     let cases = "
         stat b min exact 1 => line 5: word 2 \"b\": the name of a column is expected
         stat a least exact 1 => line 5: word 3 \"least\": a statistic is min, max, null_count, \
@@ -87,11 +85,11 @@ fn statistics(rt: HostRuntime) -> Result<(), Fail> {
         stat t min exact null => line 5: word 5 \"null\": utf8 is a text between quotes
         stat a min exact 1 2 => line 5: word 6 \"2\": the line ends before this word
     ";
-    expect_reasons(&rt, rt.alloc(), PART, cases)
+    expect_reasons(&rt, rt.alloc(), PART, cases);
 }
 
 #[test]
-fn values_of_rows(rt: HostRuntime) -> Result<(), Fail> {
+fn values_of_rows(rt: HostRuntime) {
     let cases = "
         row 300 \"\" null => line 5: word 2 \"300\": u8 is 0 to 255
         row 3 => line 5: word 3 is missing: utf8 is a text between quotes, or null
@@ -105,11 +103,11 @@ fn values_of_rows(rt: HostRuntime) -> Result<(), Fail> {
         row 3 \"two words\" 4 => line 5: word 4 \"4\": the one value of null is null
         row 3 null null 1 => line 5: word 5 \"1\": the line ends before this word
     ";
-    expect_reasons(&rt, rt.alloc(), PART, cases)
+    expect_reasons(&rt, rt.alloc(), PART, cases);
 }
 
 #[test]
-fn numbers_of_each_type(rt: HostRuntime) -> Result<(), Fail> {
+fn numbers_of_each_type(rt: HostRuntime) {
     let cases = "
         where lit u16 x => line 2: word 4 \"x\": u16 is 0 to 65535
         where lit u32 x => line 2: word 4 \"x\": u32 is 0 to 4294967295
@@ -123,11 +121,11 @@ fn numbers_of_each_type(rt: HostRuntime) -> Result<(), Fail> {
         where lit binary? 00 => line 2: word 4 \"00\": binary is x and pairs of hexadecimal \
             digits, or null
     ";
-    expect_reasons(&rt, rt.alloc(), "column a u8\n", cases)
+    expect_reasons(&rt, rt.alloc(), "column a u8\n", cases);
 }
 
 #[test]
-fn joins(rt: HostRuntime) -> Result<(), Fail> {
+fn joins(rt: HostRuntime) {
     let cases = "
         join x => line 3: word 2 \"x\": the place of a part is written in digits, \
             18446744073709551615 at most
@@ -135,11 +133,11 @@ fn joins(rt: HostRuntime) -> Result<(), Fail> {
         part / part / join 2 => line 5: word 2 \"2\": the place of the first of two neighbouring \
             parts is 0 to 1
     ";
-    expect_reasons(&rt, rt.alloc(), "column a u8\npart\n", cases)
+    expect_reasons(&rt, rt.alloc(), "column a u8\npart\n", cases);
 }
 
 #[test]
-fn expressions(rt: HostRuntime) -> Result<(), Fail> {
+fn expressions(rt: HostRuntime) {
     let cases = "
         where => line 2: word 2 is missing: an expression begins with col, lit, eq, ne, gt, ge, \
             lt, le, and, or, not, between, isnull, notnull, like, notlike, ilike or notilike
@@ -154,40 +152,40 @@ fn expressions(rt: HostRuntime) -> Result<(), Fail> {
             don't fit
         where col a col a => line 2: word 4 \"col\": the line ends before this word
     ";
-    expect_reasons(&rt, rt.alloc(), "column a u8\n", cases)
+    expect_reasons(&rt, rt.alloc(), "column a u8\n", cases);
 }
 
 #[test]
-fn a_predicate_of_too_many_words(rt: HostRuntime) -> Result<(), Fail> {
+fn a_predicate_of_too_many_words(rt: HostRuntime) {
     let alloc = rt.alloc();
-    let mut text = String::from_str(alloc, "column a u8\nwhere")?;
+    let mut text = String::from_str(alloc, "column a u8\nwhere").expect(&rt, "text");
     for _ in 0..4094 {
-        text.push_str(" not")?;
+        text.push_str(" not").expect(&rt, "push str");
     }
-    text.push_str(" lit bool true\n")?;
+    text.push_str(" lit bool true\n").expect(&rt, "push str");
     expect_reason(
         &rt,
         alloc,
         text.as_bytes(),
         "line 2: a predicate has 4096 words at most\n",
-    )
+    );
 }
 
 #[test]
-fn bytes_that_are_no_text(rt: HostRuntime) -> Result<(), Fail> {
+fn bytes_that_are_no_text(rt: HostRuntime) {
     let alloc = rt.alloc();
     expect_reason(
         &rt,
         alloc,
         b"column a u8\npart\nrow \xff\n",
         "line 3: the line is not UTF-8\n",
-    )?;
-    expect_reason(&rt, alloc, b"\xff\n", "line 1: the line is not UTF-8\n")
+    );
+    expect_reason(&rt, alloc, b"\xff\n", "line 1: the line is not UTF-8\n");
 }
 
 // A long word is cut behind 40 characters, and none of them is sent as it is to a terminal.
 #[test]
-fn words_as_they_are_shown(rt: HostRuntime) -> Result<(), Fail> {
+fn words_as_they_are_shown(rt: HostRuntime) {
     let cases = "
         0123456789012345678901234567890123456789x => line 1: word 1 \
             \"0123456789012345678901234567890123456789\": a line begins with column, part, stat, \
@@ -195,24 +193,23 @@ fn words_as_they_are_shown(rt: HostRuntime) -> Result<(), Fail> {
         \u{1b}[2J => line 1: word 1 \"\\u{1b}[2J\": a line begins with column, part, stat, row, \
             join or where
     ";
-    expect_reasons(&rt, rt.alloc(), "", cases)
+    expect_reasons(&rt, rt.alloc(), "", cases);
 }
 
 #[test]
-fn why_there_is_no_answer(rt: HostRuntime) -> Result<(), Fail> {
+fn why_there_is_no_answer(rt: HostRuntime) {
     let alloc = rt.alloc();
     let text = "column a u8\nwhere col a\n";
     let want = "predicate: the expression behind where is not of type bool\n";
-    expect_reason(&rt, alloc, text.as_bytes(), want)?;
+    expect_reason(&rt, alloc, text.as_bytes(), want);
     let mut told = Vec::new(alloc);
     program::run(alloc, &mut Endless { reads: 0 }, &mut io::sink(), &mut told);
     let want = "input: the input is longer than 16777216 bytes\n";
     assert_eq!(&rt; told.as_slice(), want.as_bytes());
-    Ok(())
 }
 
 // A scan tells nothing beside its answer.
 #[test]
-fn an_answer_has_no_reason(rt: HostRuntime) -> Result<(), Fail> {
-    expect_reason(&rt, rt.alloc(), FIRST_RUN.as_bytes(), "")
+fn an_answer_has_no_reason(rt: HostRuntime) {
+    expect_reason(&rt, rt.alloc(), FIRST_RUN.as_bytes(), "");
 }

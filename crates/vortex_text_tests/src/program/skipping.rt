@@ -2,7 +2,7 @@
 use super::*;
 
 #[test]
-fn comparisons_with_a_literal(rt: HostRuntime) -> Result<(), Fail> {
+fn comparisons_with_a_literal(rt: HostRuntime) {
     let front = "column a i32\npart\nstat a min exact 5\nstat a max exact 10\nrow 5\nrow 10\n";
     let cases = "
         where gt col a lit i32 10 => skipped 0 / rows
@@ -16,12 +16,12 @@ fn comparisons_with_a_literal(rt: HostRuntime) -> Result<(), Fail> {
         where eq lit i32 7 col a => skipped / rows
         where ne col a lit i32 5 => skipped / rows 0:1
     ";
-    expect_each(&rt, rt.alloc(), front, cases)
+    expect_each(&rt, rt.alloc(), front, cases);
 }
 
 // Row by row, with no bounds.
 #[test]
-fn comparisons_at_equality(rt: HostRuntime) -> Result<(), Fail> {
+fn comparisons_at_equality(rt: HostRuntime) {
     let front = "column a i32\npart\nrow 4\nrow 5\nrow 6\n";
     let cases = "
         where lt col a lit i32 5 => skipped / rows 0:0
@@ -31,11 +31,11 @@ fn comparisons_at_equality(rt: HostRuntime) -> Result<(), Fail> {
         where eq col a lit i32 5 => skipped / rows 0:1
         where ne col a lit i32 5 => skipped / rows 0:0 0:2
     ";
-    expect_each(&rt, rt.alloc(), front, cases)
+    expect_each(&rt, rt.alloc(), front, cases);
 }
 
 #[test]
-fn comparisons_of_two_columns(rt: HostRuntime) -> Result<(), Fail> {
+fn comparisons_of_two_columns(rt: HostRuntime) {
     let front = "column a i32\ncolumn b i32\npart\nstat a min exact 5\nstat a max exact 9\n\
         stat b min exact 1\nstat b max inexact 5\nrow 5 1\nrow 9 5\n";
     let cases = "
@@ -46,11 +46,11 @@ fn comparisons_of_two_columns(rt: HostRuntime) -> Result<(), Fail> {
         where gt col a col b => skipped / rows 0:0 0:1
         where ne col a col a => skipped / rows
     ";
-    expect_each(&rt, rt.alloc(), front, cases)
+    expect_each(&rt, rt.alloc(), front, cases);
 }
 
 #[test]
-fn columns_that_differ(rt: HostRuntime) -> Result<(), Fail> {
+fn columns_that_differ(rt: HostRuntime) {
     let front = "column a i32\ncolumn b i32\npart\nstat a min exact 5\nstat a max exact 5\n\
         stat b min exact 5\nrow 5 5\n";
     let cases = "
@@ -59,11 +59,11 @@ fn columns_that_differ(rt: HostRuntime) -> Result<(), Fail> {
         stat b max exact 5 / where eq col a col b => skipped / rows 0:0
         where ne col a lit i32 5 => skipped 0 / rows
     ";
-    expect_each(&rt, rt.alloc(), front, cases)
+    expect_each(&rt, rt.alloc(), front, cases);
 }
 
 #[test]
-fn connectives(rt: HostRuntime) -> Result<(), Fail> {
+fn connectives(rt: HostRuntime) {
     let front = "column a i32\ncolumn b i32\npart\nstat a min exact 0\nstat a max exact 9\n\
         stat b min exact 0\nstat b max exact 7\nrow 3 7\n";
     let cases = "
@@ -74,11 +74,11 @@ fn connectives(rt: HostRuntime) -> Result<(), Fail> {
         where not gt col a lit i32 9 => skipped / rows 0:0
         where not not gt col a lit i32 9 => skipped / rows
     ";
-    expect_each(&rt, rt.alloc(), front, cases)
+    expect_each(&rt, rt.alloc(), front, cases);
 }
 
 #[test]
-fn connectives_of_ranges(rt: HostRuntime) -> Result<(), Fail> {
+fn connectives_of_ranges(rt: HostRuntime) {
     let front = "column a i32\npart\nrow 7\n";
     let cases = "
         stat a max exact 10 / where and gt col a lit i32 10 lt col a lit i32 50 => skipped 0 / rows
@@ -91,11 +91,11 @@ fn connectives_of_ranges(rt: HostRuntime) -> Result<(), Fail> {
         stat a max exact 10 / stat a min exact 10
         where between <= <= col a lit i32 10 lit i32 50 => skipped / rows
     ";
-    expect_each(&rt, rt.alloc(), front, cases)
+    expect_each(&rt, rt.alloc(), front, cases);
 }
 
 #[test]
-fn literal_truths(rt: HostRuntime) -> Result<(), Fail> {
+fn literal_truths(rt: HostRuntime) {
     let front = "column a i32\npart\npart\nrow 1\n";
     let cases = "
         where lit bool false => skipped 0 1 / rows
@@ -106,12 +106,12 @@ fn literal_truths(rt: HostRuntime) -> Result<(), Fail> {
         where gt lit i32 1 lit i32 2 => skipped 0 1 / rows
         where eq lit i32 1 lit i32? null => skipped / rows
     ";
-    expect_each(&rt, rt.alloc(), front, cases)
+    expect_each(&rt, rt.alloc(), front, cases);
 }
 
 // An operand that is neither a column nor a literal has no bounds.
 #[test]
-fn operands_without_bounds(rt: HostRuntime) -> Result<(), Fail> {
+fn operands_without_bounds(rt: HostRuntime) {
     let front = "column t bool\npart\nstat t min exact true\nstat t max exact true\nrow true\n";
     let cases = "
         where eq not col t lit bool true => skipped / rows
@@ -120,11 +120,11 @@ fn operands_without_bounds(rt: HostRuntime) -> Result<(), Fail> {
         where eq col t lit bool false => skipped 0 / rows
         where col t => skipped / rows 0:0
     ";
-    expect_each(&rt, rt.alloc(), front, cases)
+    expect_each(&rt, rt.alloc(), front, cases);
 }
 
 #[test]
-fn prefixes_of_patterns(rt: HostRuntime) -> Result<(), Fail> {
+fn prefixes_of_patterns(rt: HostRuntime) {
     let front = "column s utf8\npart\nrow \"prefix1\"\n";
     let cases = r#"
         stat s min exact "prefiy" / where like col s lit utf8 "prefix%" => skipped 0 / rows
@@ -135,11 +135,11 @@ fn prefixes_of_patterns(rt: HostRuntime) -> Result<(), Fail> {
         stat s min exact "prefz" / where like col s lit utf8 "pref_ix_" => skipped / rows
         stat s max exact "pre" / where like col s lit utf8 "pref_x_" => skipped 0 / rows
     "#;
-    expect_each(&rt, rt.alloc(), front, cases)
+    expect_each(&rt, rt.alloc(), front, cases);
 }
 
 #[test]
-fn patterns_without_a_prefix(rt: HostRuntime) -> Result<(), Fail> {
+fn patterns_without_a_prefix(rt: HostRuntime) {
     let front = "column s utf8\npart\nstat s min exact \"exacu\"\n\
         stat s max exact \"exacu\"\nrow \"exacu\"\n";
     let cases = r#"
@@ -151,11 +151,11 @@ fn patterns_without_a_prefix(rt: HostRuntime) -> Result<(), Fail> {
         where like col s lit utf8 "\\%%" => skipped 0 / rows
         where like col s lit utf8 "exacu\\" => skipped 0 / rows
     "#;
-    expect_each(&rt, rt.alloc(), front, cases)
+    expect_each(&rt, rt.alloc(), front, cases);
 }
 
 #[test]
-fn other_forms_of_like_rule_nothing_out(rt: HostRuntime) -> Result<(), Fail> {
+fn other_forms_of_like_rule_nothing_out(rt: HostRuntime) {
     let front = "column s utf8?\npart\nstat s min exact \"x\"\nrow \"xA\"\nrow null\n";
     let cases = r#"
         where notlike col s lit utf8 "a%" => skipped / rows 0:0
@@ -167,12 +167,12 @@ fn other_forms_of_like_rule_nothing_out(rt: HostRuntime) -> Result<(), Fail> {
         where like col s col s => skipped / rows 0:0
         where like lit utf8 "abc" lit utf8 "b%" => skipped 0 / rows
     "#;
-    expect_each(&rt, rt.alloc(), front, cases)
+    expect_each(&rt, rt.alloc(), front, cases);
 }
 
 // The successor of a prefix skips the characters that there aren't.
 #[test]
-fn prefixes_of_the_last_characters(rt: HostRuntime) -> Result<(), Fail> {
+fn prefixes_of_the_last_characters(rt: HostRuntime) {
     let front = "column s utf8\npart\n";
     let cases = "
         stat s min exact \"c\" / where like col s lit utf8 \"b\u{D7FF}%\" => skipped 0 / rows
@@ -182,16 +182,16 @@ fn prefixes_of_the_last_characters(rt: HostRuntime) -> Result<(), Fail> {
         stat s max exact \"a\" / where like col s lit utf8 \"\u{10FFFF}%\" => skipped / rows
         stat s min exact \"b\" / where like col s lit utf8 \"a\u{10FFFF}%\" => skipped 0 / rows
     ";
-    expect_each(&rt, rt.alloc(), front, cases)
+    expect_each(&rt, rt.alloc(), front, cases);
 }
 
 // Where statistics are untrue, rows are lost or a part is kept.
 #[test]
-fn untrue_statistics(rt: HostRuntime) -> Result<(), Fail> {
+fn untrue_statistics(rt: HostRuntime) {
     let cases = "
         stat a max exact 5 / row 20 / where gt col a lit i64 10 => skipped 0 / rows
         stat a min exact 20 / row 1 / where gt col a lit i64 10 => skipped / rows
         stat a null_count exact 0 / row null / where isnull col a => skipped 0 / rows
     ";
-    expect_each(&rt, rt.alloc(), "column a i64?\npart\n", cases)
+    expect_each(&rt, rt.alloc(), "column a i64?\npart\n", cases);
 }

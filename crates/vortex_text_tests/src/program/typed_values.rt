@@ -2,7 +2,7 @@
 use super::*;
 
 #[test]
-fn numbers_in_many_spellings(rt: HostRuntime) -> Result<(), Fail> {
+fn numbers_in_many_spellings(rt: HostRuntime) {
     let front = "column a i8\npart\n";
     let cases = "
         row -0 / where eq col a lit i8 0 => skipped / rows 0:0
@@ -13,11 +13,11 @@ fn numbers_in_many_spellings(rt: HostRuntime) -> Result<(), Fail> {
         row 127 / row 128 => line 4: bad
         row -129 => line 3: bad
     ";
-    expect_each(&rt, rt.alloc(), front, cases)
+    expect_each(&rt, rt.alloc(), front, cases);
 }
 
 #[test]
-fn words_that_are_no_numbers(rt: HostRuntime) -> Result<(), Fail> {
+fn words_that_are_no_numbers(rt: HostRuntime) {
     let cases = "
         row - => line 3: bad
         row +1 => line 3: bad
@@ -30,11 +30,11 @@ fn words_that_are_no_numbers(rt: HostRuntime) -> Result<(), Fail> {
         row true => line 3: bad
         row null => line 3: bad
     ";
-    expect_each(&rt, rt.alloc(), "column a i64\npart\n", cases)
+    expect_each(&rt, rt.alloc(), "column a i64\npart\n", cases);
 }
 
 #[test]
-fn ends_of_the_signed_types(rt: HostRuntime) -> Result<(), Fail> {
+fn ends_of_the_signed_types(rt: HostRuntime) {
     let front = "column a i16\ncolumn b i32\ncolumn c i64\npart\n";
     let cases = "
         row 32767 2147483647 9223372036854775807 / where lt col a lit i16 0 => skipped / rows
@@ -45,11 +45,11 @@ fn ends_of_the_signed_types(rt: HostRuntime) -> Result<(), Fail> {
         row 0 0 -9223372036854775809 => line 5: bad
         row 0 0 -18446744073709551616 => line 5: bad
     ";
-    expect_each(&rt, rt.alloc(), front, cases)
+    expect_each(&rt, rt.alloc(), front, cases);
 }
 
 #[test]
-fn ends_of_the_unsigned_types(rt: HostRuntime) -> Result<(), Fail> {
+fn ends_of_the_unsigned_types(rt: HostRuntime) {
     let front = "column a u8\ncolumn b u16\ncolumn c u32\ncolumn d u64\npart\n";
     let cases = "
         row 255 65535 4294967295 18446744073709551615
@@ -61,11 +61,11 @@ fn ends_of_the_unsigned_types(rt: HostRuntime) -> Result<(), Fail> {
         row -0 0 0 0 => line 6: bad
         row 0 0 0 -1 => line 6: bad
     ";
-    expect_each(&rt, rt.alloc(), front, cases)
+    expect_each(&rt, rt.alloc(), front, cases);
 }
 
 #[test]
-fn bytes_in_hexadecimal_digits(rt: HostRuntime) -> Result<(), Fail> {
+fn bytes_in_hexadecimal_digits(rt: HostRuntime) {
     let cases = "
         row x / where eq col x lit binary x => skipped / rows 0:0
         row xaBfF09 / where eq col x lit binary xAbFf09 => skipped / rows 0:0
@@ -75,23 +75,23 @@ fn bytes_in_hexadecimal_digits(rt: HostRuntime) -> Result<(), Fail> {
         row 00 => line 3: bad
         row x-1 => line 3: bad
     ";
-    expect_each(&rt, rt.alloc(), "column x binary\npart\n", cases)
+    expect_each(&rt, rt.alloc(), "column x binary\npart\n", cases);
 }
 
 // A quoted word is a text, and bytes stand in no quotes.
 #[test]
-fn quoted_words_of_bytes(rt: HostRuntime) -> Result<(), Fail> {
+fn quoted_words_of_bytes(rt: HostRuntime) {
     let cases = r#"
         row "x00" => line 3: bad
         row "" => line 3: bad
         stat x min exact "x00" => line 3: bad
         where eq col x lit binary "x00" => line 3: bad
     "#;
-    expect_each(&rt, rt.alloc(), "column x binary\npart\n", cases)
+    expect_each(&rt, rt.alloc(), "column x binary\npart\n", cases);
 }
 
 #[test]
-fn nullable_bytes(rt: HostRuntime) -> Result<(), Fail> {
+fn nullable_bytes(rt: HostRuntime) {
     let front = "column x binary?\npart\nrow x00\nrow null\nrow x\n";
     let cases = "
         where eq col x lit binary x00 => skipped / rows 0:0
@@ -100,12 +100,12 @@ fn nullable_bytes(rt: HostRuntime) -> Result<(), Fail> {
         stat x min exact x00 / stat x max exact x00
         where gt col x lit binary x00 => skipped 0 / rows
     ";
-    expect_each(&rt, rt.alloc(), front, cases)
+    expect_each(&rt, rt.alloc(), front, cases);
 }
 
 // Each type of numbers by its own word, with null and without.
 #[test]
-fn words_of_the_number_types(rt: HostRuntime) -> Result<(), Fail> {
+fn words_of_the_number_types(rt: HostRuntime) {
     let cases = "
         column a u8 / part / row 1 / where eq col a lit u8 1 => skipped / rows 0:0
         column a u16 / part / row 1 / where eq col a lit u16 1 => skipped / rows 0:0
@@ -123,11 +123,11 @@ fn words_of_the_number_types(rt: HostRuntime) -> Result<(), Fail> {
         column a i16 / part / row 1 / where eq col a lit i32 1 => line 4: bad
         column a i32 / part / row 1 / where eq col a lit i64 1 => line 4: bad
     ";
-    expect_each(&rt, rt.alloc(), "", cases)
+    expect_each(&rt, rt.alloc(), "", cases);
 }
 
 #[test]
-fn words_of_types_with_null(rt: HostRuntime) -> Result<(), Fail> {
+fn words_of_types_with_null(rt: HostRuntime) {
     let front =
         "column a u16?\ncolumn b u32?\ncolumn c u64?\ncolumn d i16?\ncolumn e bool?\npart\n";
     let cases = "
@@ -137,11 +137,11 @@ fn words_of_types_with_null(rt: HostRuntime) -> Result<(), Fail> {
         row 1 2 3 -4 null / where isnull col e => skipped / rows 0:0
         row 1 2 3 4 0 => line 7: bad
     ";
-    expect_each(&rt, rt.alloc(), front, cases)
+    expect_each(&rt, rt.alloc(), front, cases);
 }
 
 #[test]
-fn truths_and_nulls(rt: HostRuntime) -> Result<(), Fail> {
+fn truths_and_nulls(rt: HostRuntime) {
     let front = "column t bool?\ncolumn s utf8\npart\n";
     let cases = r#"
         row true "" / row false "" / row null "" / where col t => skipped / rows 0:0
@@ -152,12 +152,12 @@ fn truths_and_nulls(rt: HostRuntime) -> Result<(), Fail> {
         row true null => line 4: bad
         row true text => line 4: bad
     "#;
-    expect_each(&rt, rt.alloc(), front, cases)
+    expect_each(&rt, rt.alloc(), front, cases);
 }
 
 // What another word is elsewhere may be a name.
 #[test]
-fn names_of_columns(rt: HostRuntime) -> Result<(), Fail> {
+fn names_of_columns(rt: HostRuntime) {
     let front = "column null i64\ncolumn col i64\ncolumn true i64\ncolumn x00 i64\n\
         column _ i64\npart\nrow 1 2 3 4 5\n";
     let cases = "
@@ -167,11 +167,11 @@ fn names_of_columns(rt: HostRuntime) -> Result<(), Fail> {
         stat x00 max exact 3 / where eq col x00 lit i64 4 => skipped 0 / rows
         where eq col _ lit i64 5 => skipped / rows 0:0
     ";
-    expect_each(&rt, rt.alloc(), front, cases)
+    expect_each(&rt, rt.alloc(), front, cases);
 }
 
 #[test]
-fn words_that_are_no_names(rt: HostRuntime) -> Result<(), Fail> {
+fn words_that_are_no_names(rt: HostRuntime) {
     let cases = "
         column 1a i64 => line 1: bad
         column a-b i64 => line 1: bad
@@ -181,24 +181,26 @@ fn words_that_are_no_names(rt: HostRuntime) -> Result<(), Fail> {
         column . i64 => line 1: bad
         column A i64 / column a i64 / column A u8 => line 3: bad
     ";
-    expect_each(&rt, rt.alloc(), "", cases)
+    expect_each(&rt, rt.alloc(), "", cases);
 }
 
 #[test]
-fn names_of_64_bytes(rt: HostRuntime) -> Result<(), Fail> {
+fn names_of_64_bytes(rt: HostRuntime) {
     let alloc = rt.alloc();
     let mut name = String::new(alloc);
     for _ in 0..64 {
-        name.push_str("a")?;
+        name.push_str("a").expect(&rt, "push str");
     }
-    let longest = format!(in alloc; "column {name} i64\nwhere eq col {name} lit i64 1\n")?;
-    expect_answer(&rt, alloc, longest.as_str(), 0, "skipped\nrows\n")?;
-    let longer = format!(in alloc; "column a i64\ncolumn {name}a i64\n")?;
-    expect_answer(&rt, alloc, longer.as_str(), 2, "line 2: bad\n")
+    let longest = format!(in alloc; "column {name} i64\nwhere eq col {name} lit i64 1\n").expect(
+        &rt, "a value",
+    );
+    expect_answer(&rt, alloc, longest.as_str(), 0, "skipped\nrows\n");
+    let longer = format!(in alloc; "column a i64\ncolumn {name}a i64\n").expect(&rt, "longer");
+    expect_answer(&rt, alloc, longer.as_str(), 2, "line 2: bad\n");
 }
 
 #[test]
-fn words_that_are_no_types(rt: HostRuntime) -> Result<(), Fail> {
+fn words_that_are_no_types(rt: HostRuntime) {
     let cases = "
         column a i128 => line 1: bad
         column a null? => line 1: bad
@@ -208,12 +210,12 @@ fn words_that_are_no_types(rt: HostRuntime) -> Result<(), Fail> {
         column a i64 ? => line 1: bad
         column a f32 => line 1: bad
     ";
-    expect_each(&rt, rt.alloc(), "", cases)
+    expect_each(&rt, rt.alloc(), "", cases);
 }
 
 // Bounds are of the column's type, sums of the widest one, counts are u64.
 #[test]
-fn types_of_statistics(rt: HostRuntime) -> Result<(), Fail> {
+fn types_of_statistics(rt: HostRuntime) {
     let front = "column i i8\ncolumn u u8\ncolumn t bool\npart\n";
     let cases = "
         stat i sum exact 300 / stat i sum inexact -9223372036854775808
@@ -227,11 +229,11 @@ fn types_of_statistics(rt: HostRuntime) -> Result<(), Fail> {
         stat i null_count exact -1 => line 5: bad
         stat i is_sorted exact 1 => line 5: bad
     ";
-    expect_each(&rt, rt.alloc(), front, cases)
+    expect_each(&rt, rt.alloc(), front, cases);
 }
 
 #[test]
-fn statistics_of_texts(rt: HostRuntime) -> Result<(), Fail> {
+fn statistics_of_texts(rt: HostRuntime) {
     let cases = r#"
         stat s sum exact 0 => line 3: bad
         stat s max exact null => line 3: bad
@@ -241,11 +243,11 @@ fn statistics_of_texts(rt: HostRuntime) -> Result<(), Fail> {
         stat s is_constant exact null => line 3: bad
         stat s uncompressed_size_in_bytes exact 18446744073709551616 => line 3: bad
     "#;
-    expect_each(&rt, rt.alloc(), "column s utf8?\npart\n", cases)
+    expect_each(&rt, rt.alloc(), "column s utf8?\npart\n", cases);
 }
 
 #[test]
-fn later_statistics_win(rt: HostRuntime) -> Result<(), Fail> {
+fn later_statistics_win(rt: HostRuntime) {
     let front = "column a i64\npart\nrow 20\nstat a max exact 5\n";
     let cases = "
         where gt col a lit i64 10 => skipped 0 / rows
@@ -253,5 +255,5 @@ fn later_statistics_win(rt: HostRuntime) -> Result<(), Fail> {
         stat a max inexact 30 / stat a max exact 6 / where gt col a lit i64 10 => skipped 0 / rows
         part / stat a max exact 30 / where gt col a lit i64 10 => skipped 0 / rows
     ";
-    expect_each(&rt, rt.alloc(), front, cases)
+    expect_each(&rt, rt.alloc(), front, cases);
 }

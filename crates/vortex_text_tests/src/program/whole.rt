@@ -2,7 +2,7 @@
 use super::*;
 
 #[test]
-fn above_all_values(rt: HostRuntime) -> Result<(), Fail> {
+fn above_all_values(rt: HostRuntime) {
     let front = "column a i32?\npart\n";
     let cases = "
         row 20 / row null / stat a min exact 20
@@ -16,11 +16,11 @@ fn above_all_values(rt: HostRuntime) -> Result<(), Fail> {
         row null / row 1 / stat a min exact 20 / stat a null_count exact 0
         where gt col a lit i32 10 => skipped / rows 0:0 0:1 / whole 0
     ";
-    expect_each(&rt, rt.alloc(), front, cases)
+    expect_each(&rt, rt.alloc(), front, cases);
 }
 
 #[test]
-fn within_a_range(rt: HostRuntime) -> Result<(), Fail> {
+fn within_a_range(rt: HostRuntime) {
     let front = "column a i32?\npart\nstat a min exact 20\nstat a max exact 30\n\
         stat a null_count inexact 0\nrow 20\nrow 30\n";
     let cases = "
@@ -32,11 +32,11 @@ fn within_a_range(rt: HostRuntime) -> Result<(), Fail> {
         where ne col a lit i32 31 => skipped / rows 0:0 0:1 / whole 0
         where notnull col a => skipped / rows 0:0 0:1 / whole 0
     ";
-    expect_each(&rt, rt.alloc(), front, cases)
+    expect_each(&rt, rt.alloc(), front, cases);
 }
 
 #[test]
-fn beside_a_text(rt: HostRuntime) -> Result<(), Fail> {
+fn beside_a_text(rt: HostRuntime) {
     let front = "column a i32?\ncolumn s utf8\npart\nrow 20 \"ax\"\nrow 30 \"ay\"\n\
         stat a min exact 20\nstat a null_count exact 0\n";
     let cases = r#"
@@ -45,12 +45,12 @@ fn beside_a_text(rt: HostRuntime) -> Result<(), Fail> {
         where and gt col a lit i32 10 like col s lit utf8 "%x" => skipped / rows 0:0
         where or gt col a lit i32 20 like col s lit utf8 "%x" => skipped / rows 0:0 0:1
     "#;
-    expect_each(&rt, rt.alloc(), front, cases)
+    expect_each(&rt, rt.alloc(), front, cases);
 }
 
 // A part of which both proofs are true is skipped.
 #[test]
-fn without_rows(rt: HostRuntime) -> Result<(), Fail> {
+fn without_rows(rt: HostRuntime) {
     let front = "column a i32?\npart\n";
     let cases = "
         stat a null_count exact 0 / where isnull col a => skipped 0 / rows
@@ -58,5 +58,5 @@ fn without_rows(rt: HostRuntime) -> Result<(), Fail> {
         where lit bool true => skipped / rows / whole 0
         part / row 1 / where lit bool true => skipped / rows 1:0 / whole 0 1
     ";
-    expect_each(&rt, rt.alloc(), front, cases)
+    expect_each(&rt, rt.alloc(), front, cases);
 }
