@@ -14,6 +14,7 @@ pub mod MemoryLemmas
 pub mod NamedLines
 pub mod OpenLineLemmas
 pub mod OpenTextLemmas
+pub mod PageLemmas
 pub mod PlainLines
 pub mod QueryLemmas
 pub mod Refusals

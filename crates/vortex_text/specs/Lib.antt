@@ -12,6 +12,7 @@ pub mod OpenTexts
 pub mod Printing
 pub mod Program
 pub mod Progress
+pub mod Replies
 pub mod Rows
 pub mod Stores
 pub mod Streams

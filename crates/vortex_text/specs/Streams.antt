@@ -24,3 +24,11 @@ MayHaveFailed has_failed = has_failed ≢ Some false
 abbrev pub AppendsUnlessFailed : (has_failed : Option Bool) → Option (List ℕ) → Option (List ℕ) → List ℕ → Type 0
 AppendsUnlessFailed (Some false) old new bytes = Appends old new bytes
 AppendsUnlessFailed has_failed old new bytes = AppendsFront old new bytes
+
+-- Bytes went behind those that waited: a front of all of them was written, and the rest waits.
+abbrev pub Passes : Option (List ℕ) → Option (List ℕ) → (waited waits : List ℕ) → List ℕ → Type 0
+Passes old new waited waits bytes = (out : List ℕ) × (waited ++ bytes ≡ out ++ waits) × Appends old new out
+
+-- a write failed, and cut the bytes off
+abbrev pub IsCutOff : (has_failed : Option Bool) → Option (List ℕ) → Option (List ℕ) → List ℕ → Type 0
+IsCutOff has_failed old new bytes = MayHaveFailed has_failed × AppendsProperFront old new bytes

@@ -10,6 +10,7 @@ pub mod naming;
 mod open_column;
 mod open_line;
 pub mod open_text;
+mod page;
 mod parts;
 mod printing;
 pub mod program;

@@ -1,92 +1,126 @@
 //! What is printed.
-ghost use Rattle.std.specs.Prelude.{◌≡◌, ◌++◌, IfOk, OnOk, string_bytes};
+ghost use Rattle.std.specs.Prelude.{◌≡◌, ◌++◌, [], IfOk, OnErr, OnOk, decimal, string_bytes};
+ghost use Rattle.std.specs.Io.KnownBytes.{Appends};
 ghost use Rattle.std.specs.List.{flat_map};
 ghost use Rattle.vortex_text.specs.Printing.{bad_text, part_text, row_begin, row_text, scan_text, whole_text};
+ghost use Rattle.vortex_text.specs.Streams.{IsCutOff, Passes};
 
+use crate::page::{CutOff, Page};
+use crate::streams::Sink;
+use arrayvec::ArrayString;
 use itoa::Buffer;
 use std::alloc::{AllocError, Global};
 use vortex_prune::scan::outcome::Scan;
 
-fn print_parts(text: &mut String, parts: &[usize]) -> Result<(), AllocError>
-    ensures { OnOk result
-        (string_bytes text.new ≡ string_bytes text.old ++ flat_map part_text parts.now) }
+// A part's number takes 20 digits at the most.
+const BEGIN: usize = 22;
+
+// A number behind what stands in front of it.
+#[inline(always)]
+fn print_number<W: Sink>(
+    writer: &mut W,
+    page: &mut Page,
+    front: &str,
+    number: usize,
+) -> Result<(), CutOff>
+    ensures printed { OnOk result (Passes (W.contents writer.old) (W.contents writer.new)
+        page.old.bytes.items page.new.bytes.items (front.now ++ decimal number)) }
+    ensures cut { OnErr result (IsCutOff (W.has_failed writer.new) (W.contents writer.old)
+        (W.contents writer.new) (page.old.bytes.items ++ (front.now ++ decimal number))) }
 {
-    let mut digits = Buffer::new();
+    page.put(writer, front.as_bytes())?;
+    page.put(writer, Buffer::new().format(number).as_bytes())
+}
+
+fn print_parts<W: Sink>(writer: &mut W, page: &mut Page, parts: &[usize]) -> Result<(), CutOff>
+    ensures printed { OnOk result (Passes (W.contents writer.old) (W.contents writer.new)
+        page.old.bytes.items page.new.bytes.items (flat_map part_text parts.now)) }
+    ensures cut { OnErr result (IsCutOff (W.has_failed writer.new) (W.contents writer.old)
+        (W.contents writer.new) (page.old.bytes.items ++ flat_map part_text parts.now)) }
+{
     for part in parts {
-        text.push_str(" ")?;
-        text.push_str(digits.format(*part))?;
+        print_number(writer, page, " ", *part)?;
     }
     Ok(())
 }
 
-// What the rows of a part begin with in place of what they began with.
-fn begin_rows(begin: &mut String, part: usize) -> Result<(), AllocError>
-    ensures { OnOk result (string_bytes begin.new ≡ row_begin part) }
+// What the rows of a part begin with.
+fn row_begin(part: usize) -> ArrayString<BEGIN>
+    ensures { result.bytes ≡ row_begin part }
 {
-    let mut digits = Buffer::new();
-    begin.clear();
-    begin.push_str(" ")?;
-    begin.push_str(digits.format(part))?;
-    begin.push_str(":")
+    let mut begin = ArrayString::new();
+    begin.push_str(" ");
+    begin.push_str(Buffer::new().format(part));
+    begin.push_str(":");
+    begin
 }
 
 // Goes from the rows of one part to those of another, or of the same.
 #[inline(always)]
-fn turn_to(begin: &mut String, begun: &mut usize, part: usize) -> Result<(), AllocError>
-    requires { string_bytes begin.old ≡ row_begin begun.old }
-    ensures begin { OnOk result (string_bytes begin.new ≡ row_begin part) }
-    ensures begun { OnOk result (begun.new ≡ part) }
+fn turn_to(begin: &mut ArrayString<BEGIN>, begun: &mut usize, part: usize)
+    requires { begin.old.bytes ≡ row_begin begun.old }
+    ensures begin { begin.new.bytes ≡ row_begin part }
+    ensures begun { begun.new ≡ part }
 {
     if *begun != part {
-        begin_rows(begin, part)?;
+        *begin = row_begin(part);
         *begun = part;
     }
-    Ok(())
 }
 
 // Rows of one part stand behind one another, so what they begin with is mostly made already.
-fn print_rows(alloc: Global, text: &mut String, rows: &[(usize, usize)]) -> Result<(), AllocError>
-    ensures { OnOk result
-        (string_bytes text.new ≡ string_bytes text.old ++ flat_map row_text rows.now) }
+fn print_rows<W: Sink>(
+    writer: &mut W,
+    page: &mut Page,
+    rows: &[(usize, usize)],
+) -> Result<(), CutOff>
+    ensures printed { OnOk result (Passes (W.contents writer.old) (W.contents writer.new)
+        page.old.bytes.items page.new.bytes.items (flat_map row_text rows.now)) }
+    ensures cut { OnErr result (IsCutOff (W.has_failed writer.new) (W.contents writer.old)
+        (W.contents writer.new) (page.old.bytes.items ++ flat_map row_text rows.now)) }
 {
-    let mut digits = Buffer::new();
-    let mut begin = String::new(alloc);
     let mut begun = 0;
-    begin_rows(&mut begin, begun)?;
+    let mut begin = row_begin(begun);
     for (part, row) in rows {
-        turn_to(&mut begin, &mut begun, *part)?;
-        text.push_str(begin.as_str())?;
-        text.push_str(digits.format(*row))?;
+        turn_to(&mut begin, &mut begun, *part);
+        print_number(writer, page, begin.as_str(), *row)?;
     }
     Ok(())
 }
 
 // The line of the parts that are whole, where there are any.
-fn print_whole(text: &mut String, parts: &[usize]) -> Result<(), AllocError>
-    ensures { OnOk result (string_bytes text.new ≡ string_bytes text.old ++ whole_text parts.now) }
+fn print_whole<W: Sink>(writer: &mut W, page: &mut Page, parts: &[usize]) -> Result<(), CutOff>
+    ensures printed { OnOk result (Passes (W.contents writer.old) (W.contents writer.new)
+        page.old.bytes.items page.new.bytes.items (whole_text parts.now)) }
+    ensures cut { OnErr result (IsCutOff (W.has_failed writer.new) (W.contents writer.old)
+        (W.contents writer.new) (page.old.bytes.items ++ whole_text parts.now)) }
 {
     if parts.is_empty() {
         return Ok(());
     }
-    text.push_str("whole")?;
-    print_parts(text, parts)?;
-    text.push_str("\n")
+    page.put(writer, b"whole")?;
+    print_parts(writer, page, parts)?;
+    page.put(writer, b"\n")
 }
 
-/// The lines of a scan: the parts that were skipped, the rows that were selected, and the parts
-/// that are whole where there are any.
-pub fn print_scan(alloc: Global, scan: &Scan) -> Result<String, AllocError>
-    ensures { IfOk result (λ text.
-        string_bytes text
-        ≡ scan_text scan.now.skipped.items scan.now.selected.items scan.now.whole.items) }
+/// Writes the lines of a scan, in no memory: the parts that were skipped, the rows that were
+/// selected, and the parts that are whole where there are any. It stops at the first write that
+/// fails or takes nothing.
+pub fn print_scan<W: Sink>(writer: &mut W, scan: &Scan) -> Result<(), CutOff>
+    ensures printed { OnOk result (Appends (W.contents writer.old) (W.contents writer.new)
+        (scan_text scan.now.skipped.items scan.now.selected.items scan.now.whole.items)) }
+    ensures cut { OnErr result (IsCutOff (W.has_failed writer.new) (W.contents writer.old)
+        (W.contents writer.new)
+        (scan_text scan.now.skipped.items scan.now.selected.items scan.now.whole.items)) }
 {
-    let mut text = String::from_str(alloc, "skipped")?;
-    print_parts(&mut text, &scan.skipped)?;
-    text.push_str("\nrows")?;
-    print_rows(alloc, &mut text, &scan.selected)?;
-    text.push_str("\n")?;
-    print_whole(&mut text, &scan.whole)?;
-    Ok(text)
+    let mut page = Page::new();
+    page.put(writer, b"skipped")?;
+    print_parts(writer, &mut page, &scan.skipped)?;
+    page.put(writer, b"\nrows")?;
+    print_rows(writer, &mut page, &scan.selected)?;
+    page.put(writer, b"\n")?;
+    print_whole(writer, &mut page, &scan.whole)?;
+    page.flush(writer)
 }
 
 /// The line that says which line is bad.

@@ -1,16 +1,20 @@
 //! From the bytes that come in to those that go out.
-ghost use Rattle.std.specs.Prelude.{◌≡◌, ◌≢◌, ◌⊎◌, [], ℕ, List, IfOk, IfSome, string_bytes};
+ghost use Rattle.std.specs.Prelude.{◌≡◌, ◌≢◌, ◌⊎◌, ◌∷◌, ◌++◌, [], ℕ, List, IfOk, IfSome, IfNone, OnSome, codes, string_bytes};
+ghost use Rattle.std.specs.Io.KnownBytes.{Appends};
 ghost use Rattle.vortex_text.specs.OpenTexts.{IsOpenText};
+ghost use Rattle.vortex_text.specs.Printing.{bad_text};
 ghost use Rattle.vortex_text.specs.Program.{Answers, IsFullScan, Stops, WritesFullScan, reply_to};
-ghost use Rattle.vortex_text.specs.Streams.{AppendsUnlessFailed};
+ghost use Rattle.vortex_text.specs.Replies.{said};
+ghost use Rattle.vortex_text.specs.Streams.{AppendsUnlessFailed, IsCutOff};
 
-use crate::bad_line::TextError;
+use crate::bad_line::{BadInput, TextError};
 use crate::input::{ReadError, read_all};
 use crate::open_text::OpenText;
 use crate::printing::{print_bad, print_scan};
 use crate::query::scan_query;
 use crate::streams::{Sink, Source, write_out};
 use std::alloc::{AllocError, Global};
+use vortex_prune::Scan;
 
 // Why there is no answer, beside the word that the answer is then.
 const NO_PREDICATE: &str = "predicate: the expression behind where is not of type bool\n";
@@ -21,13 +25,15 @@ const NOT_READ: &str = "read: the input could not be read to its end\n";
 
 const TOO_LONG: &str = "input: the input is longer than 16777216 bytes\n";
 
-// What a text is answered: the status, what is printed, and why there is no answer.
+// What a text without a scan is answered: the status, what is printed, and why there is no scan.
 #[derive(Drop)]
-struct Reply {
+struct Refusal {
     status: u8,
     answer: String,
     reason: String,
 }
+
+type Reply = Result<Scan, Refusal>;
 
 // A reason, if there was memory for it: where there was none the answer stands without it.
 fn told(alloc: Global, reason: Result<String, AllocError>) -> String {
@@ -37,40 +43,48 @@ fn told(alloc: Global, reason: Result<String, AllocError>) -> String {
     }
 }
 
+// The reply to a bad line.
+fn refused_line(alloc: Global, bad: BadInput) -> Result<Refusal, AllocError>
+    ensures status { IfOk result (λ r. r.status ≡ 2) }
+    ensures printed { IfOk result (λ r. string_bytes r.answer ≡ bad_text bad.number) }
+{
+    let answer = print_bad(alloc, bad.number)?;
+    let reason = told(alloc, bad.reason(alloc));
+    Ok(Refusal {
+        status: 2,
+        answer,
+        reason,
+    })
+}
+
+// The reply to a predicate of another type than Bool.
+fn refused_predicate(alloc: Global) -> Result<Refusal, AllocError>
+    ensures status { IfOk result (λ r. r.status ≡ 1) }
+    ensures printed { IfOk result (λ r. string_bytes r.answer ≡ codes "predicate" ++ 10 ∷ []) }
+{
+    Ok(Refusal {
+        status: 1,
+        answer: String::from_str(alloc, "predicate\n")?,
+        reason: told(alloc, String::from_str(alloc, NO_PREDICATE)),
+    })
+}
+
 // The reply to a text that was pushed.
 fn reply_to(alloc: Global, input: OpenText) -> Result<Reply, AllocError>
-    ensures status { (text : List ℕ) → IsOpenText text input
-        → IfOk result (λ r. r.status ≡ (reply_to text).0) }
-    ensures printed { (text : List ℕ) → IsOpenText text input
-        → IfOk result (λ r. string_bytes r.answer ≡ (reply_to text).1) }
+    ensures said { (text : List ℕ) → IsOpenText text input
+        → IfOk result (λ reply. said reply ≡ reply_to text) }
     // Where all statistics are true no row is lost.
     ensures lossless { (text : List ℕ) → IsOpenText text input
-        → IfOk result (λ r. IsFullScan text (string_bytes r.answer)) }
+        → IfOk result (λ reply. IsFullScan text (said reply).1) }
 {
     let query = match input.close(alloc) {
         Ok(query) => query,
-        Err(TextError::BadLine(bad)) => {
-            let answer = print_bad(alloc, bad.number)?;
-            let reason = told(alloc, bad.reason(alloc));
-            return Ok(Reply {
-                status: 2,
-                answer,
-                reason,
-            });
-        }
+        Err(TextError::BadLine(bad)) => return Ok(Err(refused_line(alloc, bad)?)),
         Err(TextError::Memory) => return Err(AllocError),
     };
     match scan_query(alloc, query)? {
-        Some(scan) => Ok(Reply {
-            status: 0,
-            answer: print_scan(alloc, &scan)?,
-            reason: String::new(alloc),
-        }),
-        None => Ok(Reply {
-            status: 1,
-            answer: String::from_str(alloc, "predicate\n")?,
-            reason: told(alloc, String::from_str(alloc, NO_PREDICATE)),
-        }),
+        Some(scan) => Ok(Ok(scan)),
+        None => Ok(Err(refused_predicate(alloc)?)),
     }
 }
 
@@ -89,6 +103,26 @@ fn refuse<W: Sink, E: Sink>(writer: &mut W, reasons: &mut E, word: &[u8], senten
     let _ = write_out(writer, word);
     tell(reasons, sentence);
     1
+}
+
+// Writes a reply, and tells its status. None where a write failed.
+fn send<W: Sink, E: Sink>(writer: &mut W, reasons: &mut E, reply: Reply) -> Option<u8>
+    ensures status { IfSome result (λ status. status ≡ (said reply).0) }
+    ensures written { OnSome result
+        (Appends (W.contents writer.old) (W.contents writer.new) (said reply).1) }
+    ensures cut { IfNone result (IsCutOff (W.has_failed writer.new) (W.contents writer.old)
+        (W.contents writer.new) (said reply).1) }
+{
+    let refusal = match reply {
+        Ok(scan) => return print_scan(writer, &scan).is_ok().then_some(0),
+        Err(refusal) => refusal,
+    };
+    tell(reasons, &refusal.reason);
+    if write_out(writer, refusal.answer.as_bytes()) {
+        Some(refusal.status)
+    } else {
+        None
+    }
 }
 
 /// Reads the whole input, and writes the answer to it and nothing else. The status is 0 for a scan,
@@ -132,10 +166,8 @@ pub fn run<R: Source, W: Sink, E: Sink>(
     let Ok(reply) = reply_to(alloc, input) else {
         return refuse(writer, reasons, b"memory\n", NO_MEMORY);
     };
-    tell(reasons, &reply.reason);
-    if write_out(writer, reply.answer.as_bytes()) {
-        reply.status
-    } else {
-        1
+    match send(writer, reasons, reply) {
+        Some(status) => status,
+        None => 1,
     }
 }

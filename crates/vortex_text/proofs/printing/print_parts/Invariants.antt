@@ -1,7 +1,10 @@
-use Rattle.std.proofs.Common.{◌≡◌, ◌++◌, take, string_bytes}
+use Rattle.std.proofs.Common.{take}
 use Rattle.std.specs.List.{flat_map}
 use Rattle.vortex_text.specs.Printing.{part_text}
+use Rattle.vortex_text.specs.Streams.{Passes}
 use Rattle.vortex_text.proofs.printing.print_parts.Given as goal
 
+-- the parts so far are printed
 abbrev pub invariant-loop-part : goal.invariant-loop-part
-invariant-loop-part l = string_bytes l.text ≡ string_bytes l.fn.text ++ flat_map part_text (take l.part-index l.parts)
+invariant-loop-part g l =
+    Passes (g.W.Sink.contents l.initial.writer) (g.W.Sink.contents l.writer) l.initial.page.bytes.items l.page.bytes.items (flat_map part_text (take l.part-index l.parts))

@@ -1,7 +1,6 @@
-use Rattle.std.proofs.Common.{[], refl, inl, inr, subst, sym, string_bytes, ◌∙◌}
-use Rattle.std.specs.Io.KnownBytes.{Appends}
-use Rattle.vortex_text.proofs.Refusals.{stops_at_word, stops_cut, stops_too_long, too_long, writes_full_scan}
-use Rattle.vortex_text.specs.Streams.{AppendsProperFront}
+use Rattle.std.proofs.Common.{[], refl, inl, inr, ap}
+use Rattle.vortex_text.proofs.Refusals.{stops_at_word, stops_cut, stops_too_long, too_long}
+use Rattle.vortex_text.specs.Replies.{said}
 use Rattle.vortex_text.proofs.program.run.Goals as goal
 
 pub returns-in-Err-Memory-clause-refused : goal.returns-in-Err-Memory-clause-refused
@@ -32,33 +31,8 @@ returns-in_default-clause-refused g c = λ _. stops_at_word _ _ _ _ _ _ (λ inpu
 pub returns-in_default-clause-some_refused : goal.returns-in_default-clause-some_refused
 returns-in_default-clause-some_refused g c = λ _. ([], inr (inl (_, inl refl, c.refuse-in_default.ensures.written)))
 
-pub returns-then-write_out-clause-lossless : goal.returns-then-write_out-clause-lossless
-returns-then-write_out-clause-lossless g c = λ _.
+pub returns-in-None-clause-refused : goal.returns-in-None-clause-refused
+returns-in-None-clause-refused g c =
     let (text, is) = c.in-Ok.ensures.whole in
-    writes_full_scan _ _ _ text (string_bytes c.in-Ok-reply_to.reply.answer) c.as_bytes.result.now is.whole c.as_bytes.ensures.value (c.in-Ok-reply_to.ensures.lossless text is.pushed)
-    (c.write_out.ensures.whole c.if-write_out.true)
-
-pub returns-clause-refused : goal.returns-clause-refused
-returns-clause-refused g c =
-    let (text, is) = c.in-Ok.ensures.whole in
-    let same = c.as_bytes.ensures.value ∙ c.in-Ok-reply_to.ensures.printed text is.pushed in
-    λ _. stops_cut _ _ _ _ _ text c.as_bytes.result.now is.whole same c.if-write_out.ensures.failed c.if-write_out.ensures.cut
-
-pub returns-clause-some_refused : goal.returns-clause-some_refused
-returns-clause-some_refused g c =
-    let (text, is) = c.in-Ok.ensures.whole in
-    let same = c.as_bytes.ensures.value ∙ c.in-Ok-reply_to.ensures.printed text is.pushed in
-    λ _. (text, inr (inr (c.if-write_out.ensures.failed, subst (AppendsProperFront (g.W.Sink.contents c.args.writer.now) (g.W.Sink.contents c.write_out.new.writer)) same c.if-write_out.ensures.cut)))
-
-pub returns-then-write_out-clause-some_refused : goal.returns-then-write_out-clause-some_refused
-returns-then-write_out-clause-some_refused g c =
-    let (text, is) = c.in-Ok.ensures.whole in
-    let same = c.as_bytes.ensures.value ∙ c.in-Ok-reply_to.ensures.printed text is.pushed in
-    λ one. (
-      text,
-      inl (record {
-        short = is.short;
-        same_status = sym one ∙ c.in-Ok-reply_to.ensures.status text is.pushed;
-        written = subst (Appends (g.W.Sink.contents c.args.writer.now) (g.W.Sink.contents c.write_out.new.writer)) same (c.write_out.ensures.whole c.if-write_out.true);
-      }),
-    )
+    let (may, cut) = c.in-None.ensures.cut in
+    λ _. stops_cut _ _ _ _ _ text (said c.in-Ok-reply_to.reply).1 is.whole (ap (λ r. r.1) (c.in-Ok-reply_to.ensures.said text is.pushed)) may cut

@@ -1,0 +1,94 @@
+-- Bytes that go out a page at a time.
+use Rattle.std.proofs.Common.{◌≡◌, ◌<◌, ◌+◌, ℕ, Bool, List, codes, decimal, [], ◌∷◌, ◌++◌, Option, Result, Ok, Err, OnErr, OnOk, length, length-append, append_assoc, append-nil, take, drop, get_or, ap, sym, subst, ◌∙◌, refl, arith, take-append-drop}
+use Rattle.std.specs.Io.KnownBytes.{Appends}
+use Rattle.std.specs.List.{flat_map}
+use Rattle.std.proofs.KnownBytes.{Appends-trans}
+use Rattle.std.proofs.lemmas.Grind.{flat_map-append}
+use Rattle.std.proofs.lemmas.List.{take_more}
+use Rattle.vortex_text.specs.Printing.{part_text, row_begin, row_text, whole_text}
+use Rattle.vortex_text.specs.Streams.{IsCutOff, Passes}
+
+-- what follows from what a call that was answered gives
+pub ok_then : {T E P Q : Type 0} (r : Result T E) → (P → Q) → OnOk r P → OnOk r Q
+ok_then (Ok v) so h = so h
+ok_then (Err e) so h = tt
+
+-- and from what one that was refused gives
+pub err_then : {T E P Q : Type 0} (r : Result T E) → (P → Q) → OnErr r P → OnErr r Q
+err_then (Ok v) so h = tt
+err_then (Err e) so h = so h
+
+-- what holds anyhow holds where a call was refused
+pub on_err : {T E P : Type 0} (r : Result T E) → P → OnErr r P
+on_err (Ok v) h = tt
+on_err (Err e) h = h
+
+-- the bytes went behind those that wait
+pub passes_at_once : (old : Option (List ℕ)) (waited waits bytes : List ℕ) → Appends old old [] → waits ≡ waited ++ bytes → Passes old old waited waits bytes
+passes_at_once old waited waits bytes nothing same = ([], sym same, nothing)
+
+-- more bytes went behind the others
+pub passes_more : (old mid new : Option (List ℕ)) (waited between waits bytes more all : List ℕ) → Passes old mid waited between bytes → Passes mid new between waits more → all ≡ bytes ++ more
+    → Passes old new waited waits all
+passes_more old mid new waited between waits bytes more all (out, same, written) (next, next_same, next_written) is = (
+  out ++ next,
+  ap (λ l. waited ++ l) is ∙ sym (append_assoc waited bytes more) ∙ ap (λ l. l ++ more) same ∙ append_assoc out between more ∙ ap (λ l. out ++ l) next_same ∙ sym (append_assoc out next waits),
+  Appends-trans _ _ _ _ _ written next_written,
+)
+
+-- bytes that are cut off are so with more behind them
+pub cut_longer : (failed : Option Bool) (old new : Option (List ℕ)) (bytes more all : List ℕ) → IsCutOff failed old new bytes → all ≡ bytes ++ more → IsCutOff failed old new all
+cut_longer failed old new bytes more all (may, (front, rest, same, some, written)) is =
+    (may, (front, rest ++ more, is ∙ ap (λ l. l ++ more) same ∙ append_assoc front rest more, omega (arith, some, length-append rest more), written))
+
+-- bytes were cut off behind others, maybe with more behind them
+pub cut_after : (failed : Option Bool) (old mid new : Option (List ℕ)) (waited between bytes next more all : List ℕ) → Passes old mid waited between bytes → IsCutOff failed mid new (between ++ next)
+    → all ≡ bytes ++ (next ++ more) → IsCutOff failed old new (waited ++ all)
+cut_after failed old mid new waited between bytes next more all (out, same, written) (may, (front, rest, next_same, some, next_written)) is =
+    let split : waited ++ all ≡ out ++ (front ++ (rest ++ more)) =
+    ap (λ l. waited ++ l) is ∙ sym (append_assoc waited bytes (next ++ more)) ∙ ap (λ l. l ++ (next ++ more)) same ∙ append_assoc out between (next ++ more) ∙ ap (λ l. out ++ l) (sym (append_assoc between next more) ∙ ap (λ l. l ++ more) next_same ∙ append_assoc front rest more) in
+    (may, (out ++ front, rest ++ more, split ∙ sym (append_assoc out front (rest ++ more)), omega (arith, some, length-append rest more), Appends-trans _ _ _ _ _ written next_written))
+
+-- what was cut off behind no bytes
+pub cut_off : (failed : Option Bool) (old new : Option (List ℕ)) (waited all : List ℕ) → waited ≡ [] → IsCutOff failed old new (waited ++ all) → IsCutOff failed old new all
+cut_off failed old new waited all none cut = subst (λ l. IsCutOff failed old new (l ++ all)) none cut
+
+-- all went behind no bytes, and what waited was written
+pub passes_out : (old mid new : Option (List ℕ)) (waited waits all : List ℕ) → waited ≡ [] → Passes old mid waited waits all → Appends mid new waits → Appends old new all
+passes_out old mid new waited waits all none (out, same, written) rest =
+    subst (Appends old new) (sym same ∙ ap (λ l. l ++ all) none) (Appends-trans _ _ _ _ _ written rest)
+
+-- or was cut off
+pub cut_out : (failed : Option Bool) (old mid new : Option (List ℕ)) (waited waits all : List ℕ) → waited ≡ [] → Passes old mid waited waits all → IsCutOff failed mid new waits → IsCutOff failed old new all
+cut_out failed old mid new waited waits all none (out, same, written) (may, (front, rest, split, some, next)) =
+    (may, (out ++ front, rest, ap (λ l. l ++ all) (sym none) ∙ same ∙ ap (λ l. out ++ l) split ∙ sym (append_assoc out front rest), some, Appends-trans _ _ _ _ _ written next))
+
+-- a page was written, and then bytes that are more than one
+pub passes_beside : (old mid new : Option (List ℕ)) (waited waits bytes : List ℕ) → Appends old mid waited → waits ≡ [] → Appends mid new bytes → Passes old new waited waits bytes
+passes_beside old mid new waited waits bytes written none more =
+    (waited ++ bytes, sym (append-nil (waited ++ bytes)) ∙ ap (λ l. (waited ++ bytes) ++ l) (sym none), Appends-trans _ _ _ _ _ written more)
+
+-- or they were cut off
+pub cut_beside : (failed : Option Bool) (old mid new : Option (List ℕ)) (waited bytes : List ℕ) → Appends old mid waited → IsCutOff failed mid new bytes → IsCutOff failed old new (waited ++ bytes)
+cut_beside failed old mid new waited bytes written (may, (front, rest, split, some, next)) =
+    (may, (waited ++ front, rest, ap (λ l. waited ++ l) split ∙ sym (append_assoc waited front rest), some, Appends-trans _ _ _ _ _ written next))
+
+-- what is made of the elements up to a place, and of that one
+pub flat_map_next : {X : Type 0} (f : X → List ℕ) (xs : List X) (i : ℕ) (d : X) → i < length xs → flat_map f (take (i + 1) xs) ≡ flat_map f (take i xs) ++ f (get_or xs i d)
+flat_map_next f xs i d within =
+    ap (flat_map f) (take_more xs i d within) ∙ flat_map-append f (take i xs) (get_or xs i d ∷ []) ∙ ap (λ l. flat_map f (take i xs) ++ l) (append-nil (f (get_or xs i d)))
+
+-- and of those behind it
+pub flat_map_parted : {X : Type 0} (f : X → List ℕ) (xs : List X) (i : ℕ) (d : X) → i < length xs → flat_map f xs ≡ flat_map f (take i xs) ++ (f (get_or xs i d) ++ flat_map f (drop (i + 1) xs))
+flat_map_parted f xs i d within =
+    ap (flat_map f) (sym (take-append-drop (i + 1) xs)) ∙ flat_map-append f (take (i + 1) xs) (drop (i + 1) xs) ∙ ap (λ l. l ++ flat_map f (drop (i + 1) xs)) (flat_map_next f xs i d within)
+    ∙ append_assoc (flat_map f (take i xs)) (f (get_or xs i d)) (flat_map f (drop (i + 1) xs))
+
+-- a row behind what the rows of its part begin with
+pub row_parted : (x : ℕ × ℕ) (begin : List ℕ) → begin ≡ row_begin x.0 → row_text x ≡ begin ++ decimal x.1
+row_parted x begin is = sym (append_assoc (32 ∷ decimal x.0) (58 ∷ []) (decimal x.1)) ∙ ap (λ l. l ++ decimal x.1) (sym is)
+
+-- the line of the parts that are whole, where there are any
+pub whole_parted : (parts : List ℕ) → 0 < length parts → whole_text parts ≡ codes "whole" ++ (flat_map part_text parts ++ 10 ∷ [])
+whole_parted [] some = absurd (omega arith)
+whole_parted (part ∷ parts) some = refl
