@@ -1,18 +1,19 @@
 // Pruning of zones whose statistics stand in arrays, as a reader of a footer or a caller in C has
 // them: the map is made from the arrays each time.
+use crate::made::{add, scope_of};
 use crate::pruning::{self, REPEATS, ROWS, Size};
 use anyhow::Result;
 use std::alloc::{AllocError, Global};
 use vortex_base::aggregate::AggregateFnRef;
+use vortex_base::bound_expression::BoundExpression;
 use vortex_base::cells::Cells;
 use vortex_base::column::Column;
+use vortex_base::error::BaseError;
 use vortex_base::native::Native;
 use vortex_base::natives::Natives;
 use vortex_base::nulls::Nulls;
-use vortex_prune::scan::prune::prune;
+use vortex_base::scope::Scope;
 use vortex_prune::zone_map::{Head, ZoneMap};
-use vortex_rewrite::rewrite::rules::Rules;
-use vortex_stats::error::StatsError;
 
 // What is known of each zone: how many rows it has, and of each of its columns the least and the
 // greatest value and how many nulls there are.
@@ -24,6 +25,14 @@ struct Arrays {
     nulls: Vec<u64>,
 }
 
+fn add_zone(arrays: &mut Arrays, place: i64) -> Result<(), AllocError> {
+    arrays.rows.push(ROWS)?;
+    arrays.least.push(place)?;
+    arrays.greatest.push(place.saturating_add(100))?;
+    arrays.nulls.push(0)?;
+    Ok(())
+}
+
 // The same zones as those of the sets.
 fn arrays_of(alloc: Global, size: Size) -> Result<Arrays> {
     let mut arrays = Arrays {
@@ -33,10 +42,7 @@ fn arrays_of(alloc: Global, size: Size) -> Result<Arrays> {
         nulls: Vec::new(alloc),
     };
     for place in 0..size.batches.saturating_mul(size.batch) {
-        arrays.rows.push(ROWS)?;
-        arrays.least.push(place)?;
-        arrays.greatest.push(place.saturating_add(100))?;
-        arrays.nulls.push(0)?;
+        add_zone(&mut arrays, place)?;
     }
     Ok(arrays)
 }
@@ -63,18 +69,33 @@ fn cells_under(alloc: Global, head: &Head, arrays: &Arrays) -> Result<Cells, All
     }
 }
 
-// The map of the zones of the arrays.
-fn map_of(alloc: Global, size: Size, arrays: &Arrays) -> Result<ZoneMap> {
-    let scope = pruning::scope_of(alloc, size)?;
-    let heads = ZoneMap::heads(alloc, &scope)?;
+fn column_under(alloc: Global, head: &Head, arrays: &Arrays) -> Result<Column, BaseError> {
+    Column::of_cells(head.dtype(), cells_under(alloc, head, arrays)?, 0)
+}
+
+fn columns_under(alloc: Global, heads: &[Head], arrays: &Arrays) -> Result<Vec<Column>, BaseError> {
     let mut columns = Vec::with_capacity(alloc, heads.len())?;
-    for head in &heads {
-        let cells = cells_under(alloc, head, arrays)?;
-        columns.push(Column::of_cells(head.dtype(), cells, 0)?)?;
+    for head in heads {
+        add(&mut columns, column_under(alloc, head, arrays))?;
     }
+    Ok(columns)
+}
+
+fn columns_of(alloc: Global, scope: &Scope, arrays: &Arrays) -> Result<Vec<Column>, BaseError> {
+    columns_under(alloc, &ZoneMap::heads(alloc, scope)?, arrays)
+}
+
+fn rows_of(alloc: Global, arrays: &Arrays) -> Result<Vec<u64>, AllocError> {
     let mut rows = Vec::new(alloc);
     rows.extend_from_slice(&arrays.rows)?;
-    match ZoneMap::of_table(alloc, scope, rows, columns) {
+    Ok(rows)
+}
+
+// The map of the zones of the arrays.
+fn map_of(alloc: Global, size: Size, arrays: &Arrays) -> Result<ZoneMap> {
+    let scope = scope_of(alloc, size.columns)?;
+    let columns = columns_of(alloc, &scope, arrays)?;
+    match ZoneMap::of_table(alloc, scope, rows_of(alloc, arrays)?, columns) {
         Ok(map) => Ok(map),
         Err(refused) => Err(refused.error.into()),
     }
@@ -85,19 +106,32 @@ pub fn only_arrays(alloc: Global, size: Size) -> Result<usize> {
     Ok(arrays_of(alloc, size)?.rows.len())
 }
 
+fn pruned_once(
+    alloc: Global,
+    size: Size,
+    arrays: &Arrays,
+    predicate: &BoundExpression,
+) -> Result<usize> {
+    pruning::skipped(alloc, &map_of(alloc, size, arrays)?, predicate, 1)
+}
+
+fn pruned_often(
+    alloc: Global,
+    size: Size,
+    arrays: &Arrays,
+    predicate: &BoundExpression,
+) -> Result<usize> {
+    let mut skipped = 0;
+    for _ in 0..REPEATS {
+        skipped = pruned_once(alloc, size, arrays, predicate)?;
+    }
+    Ok(skipped)
+}
+
 /// The zones that the last of some prunings under so many comparisons skips, where each makes its
 /// map from the arrays.
 pub fn pruned(alloc: Global, size: Size, leaves: usize) -> Result<usize> {
     let arrays = arrays_of(alloc, size)?;
     let predicate = pruning::leaves_of(alloc, size, leaves)?;
-    let rules = Rules::builtin(alloc);
-    let mut skipped = 0;
-    for _ in 0..REPEATS {
-        let map = map_of(alloc, size, &arrays)?;
-        if !predicate.is_plain() || !predicate.fits_scope(map.scope()) {
-            return Err(StatsError::Mismatch.into());
-        }
-        skipped = prune(alloc, &map, &predicate, &rules)?.skipped.len();
-    }
-    Ok(skipped)
+    pruned_often(alloc, size, &arrays, &predicate)
 }

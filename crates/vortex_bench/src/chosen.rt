@@ -1,9 +1,8 @@
 // Maps of a few columns out of many.
-use crate::pruning::{ROWS, Size, batch_of, scope_of, zones_of};
+use crate::pruning::{ROWS, Size, batch_of, map_of_zones, zones_of};
 use anyhow::Result;
 use std::alloc::{AllocError, Global};
 use vortex_prune::zone::Zone;
-use vortex_prune::zone_map::ZoneMap;
 use vortex_stats::stats_set::StatsSet;
 
 const REPEATS: usize = 10;
@@ -42,10 +41,7 @@ fn zones_of_chosen<'a>(
 }
 
 fn mapped(alloc: Global, size: Size, zones: &[Zone<'_>]) -> Result<usize> {
-    match ZoneMap::try_new(alloc, scope_of(alloc, size)?, zones) {
-        Ok(map) => Ok(map.len()),
-        Err(refused) => Err(refused.error.into()),
-    }
+    Ok(map_of_zones(alloc, size.columns, zones)?.len())
 }
 
 /// The sets of the zones, of which no map is made.

@@ -5,6 +5,7 @@
 
 mod arrays;
 mod chosen;
+mod made;
 mod measures;
 mod normal;
 mod pruning;
@@ -14,38 +15,46 @@ mod workload;
 use anyhow::Result;
 use std::alloc::Global;
 use std::io::Read;
+use vortex_base::bound_expression::BoundExpression;
+
+// The sides of a predicate, as it is made or in normal form.
+fn count_sides(alloc: Global, name: &str, predicate: &BoundExpression) -> Result<usize> {
+    if name.starts_with("made") {
+        Ok(normal::only_made(predicate))
+    } else {
+        normal::normalized_often(alloc, predicate)
+    }
+}
 
 // A workload over a predicate of some length, or 0 for another name.
 fn count_normal(alloc: Global, name: &str, length: u32) -> Result<usize> {
-    match name {
-        "made_values" => Ok(normal::only_made(&normal::values(alloc, length)?)),
-        "normal_values" => normal::normalized_often(alloc, &normal::values(alloc, length)?),
-        "made_columns" => Ok(normal::only_made(&normal::columns(alloc, length)?)),
-        "normal_columns" => normal::normalized_often(alloc, &normal::columns(alloc, length)?),
-        "made_turns" => Ok(normal::only_made(&normal::turns(alloc, length)?)),
-        "normal_turns" => normal::normalized_often(alloc, &normal::turns(alloc, length)?),
-        _ => Ok(0),
-    }
+    let predicate = match name {
+        "made_values" | "normal_values" => normal::values(alloc, length),
+        "made_columns" | "normal_columns" => normal::columns(alloc, length),
+        "made_turns" | "normal_turns" => normal::turns(alloc, length),
+        _ => return Ok(0),
+    };
+    count_sides(alloc, name, &predicate?)
 }
 
 // A workload over maps of zones, or one over a predicate.
 fn count_pruned(alloc: Global, name: &str, length: u32) -> Result<usize> {
     match name {
-        "long_map" => Ok(pruning::only_mapped(alloc, pruning::LONG)?),
-        "long_comparison" => Ok(pruning::pruned(alloc, pruning::LONG, 1)?),
-        "long_leaves" => Ok(pruning::pruned(alloc, pruning::LONG, 16)?),
-        "table_map" => Ok(pruning::only_mapped(alloc, pruning::TABLE)?),
-        "table_comparison" => Ok(pruning::pruned(alloc, pruning::TABLE, 1)?),
-        "table_leaves" => Ok(pruning::pruned(alloc, pruning::TABLE, 16)?),
-        "table_arrays" => Ok(arrays::only_arrays(alloc, pruning::TABLE)?),
-        "table_arrays_comparison" => Ok(arrays::pruned(alloc, pruning::TABLE, 1)?),
-        "table_arrays_leaves" => Ok(arrays::pruned(alloc, pruning::TABLE, 16)?),
-        "broad_map" => Ok(pruning::only_mapped(alloc, pruning::BROAD)?),
-        "broad_comparison" => Ok(pruning::pruned(alloc, pruning::BROAD, 1)?),
-        "broad_leaves" => Ok(pruning::pruned(alloc, pruning::BROAD, 16)?),
-        "spread_sets" => Ok(chosen::only_sets(alloc)?),
-        "spread_maps" => Ok(chosen::all_mapped(alloc)?),
-        "spread_chosen" => Ok(chosen::chosen_mapped(alloc)?),
+        "long_map" => pruning::only_mapped(alloc, pruning::LONG),
+        "long_comparison" => pruning::pruned(alloc, pruning::LONG, 1),
+        "long_leaves" => pruning::pruned(alloc, pruning::LONG, 16),
+        "table_map" => pruning::only_mapped(alloc, pruning::TABLE),
+        "table_comparison" => pruning::pruned(alloc, pruning::TABLE, 1),
+        "table_leaves" => pruning::pruned(alloc, pruning::TABLE, 16),
+        "table_arrays" => arrays::only_arrays(alloc, pruning::TABLE),
+        "table_arrays_comparison" => arrays::pruned(alloc, pruning::TABLE, 1),
+        "table_arrays_leaves" => arrays::pruned(alloc, pruning::TABLE, 16),
+        "broad_map" => pruning::only_mapped(alloc, pruning::BROAD),
+        "broad_comparison" => pruning::pruned(alloc, pruning::BROAD, 1),
+        "broad_leaves" => pruning::pruned(alloc, pruning::BROAD, 16),
+        "spread_sets" => chosen::only_sets(alloc),
+        "spread_maps" => chosen::all_mapped(alloc),
+        "spread_chosen" => chosen::chosen_mapped(alloc),
         _ => count_normal(alloc, name, length),
     }
 }
@@ -53,27 +62,28 @@ fn count_pruned(alloc: Global, name: &str, length: u32) -> Result<usize> {
 // A workload over many small parts, or one of those above.
 fn count_scanned(alloc: Global, name: &str, length: u32) -> Result<usize> {
     match name {
-        "narrow_table" => Ok(scans::only_tabled(alloc, scans::NARROW)?),
-        "narrow_binders" => Ok(scans::scanned_by_binders(alloc, scans::NARROW)?),
-        "narrow_zones" => Ok(scans::scanned_by_table(alloc, scans::NARROW)?),
-        "wide_table" => Ok(scans::only_tabled(alloc, scans::WIDE)?),
-        "wide_binders" => Ok(scans::scanned_by_binders(alloc, scans::WIDE)?),
-        "wide_zones" => Ok(scans::scanned_by_table(alloc, scans::WIDE)?),
+        "narrow_table" => scans::only_tabled(alloc, scans::NARROW),
+        "narrow_binders" => scans::scanned_by_binders(alloc, scans::NARROW),
+        "narrow_zones" => scans::scanned_by_table(alloc, scans::NARROW),
+        "wide_table" => scans::only_tabled(alloc, scans::WIDE),
+        "wide_binders" => scans::scanned_by_binders(alloc, scans::WIDE),
+        "wide_zones" => scans::scanned_by_table(alloc, scans::WIDE),
         _ => count_pruned(alloc, name, length),
     }
 }
 
 // A workload over statistics of large columns, or one of those above.
 fn count_measured(alloc: Global, name: &str, length: u32) -> Result<usize> {
-    match name {
-        "made_numbers" => Ok(measures::made_numbers(alloc)?),
-        "measured_numbers" => Ok(measures::measured_numbers(alloc)?),
-        "checked_numbers" => Ok(measures::checked_numbers(alloc)?),
-        "made_texts" => Ok(measures::made_texts(alloc)?),
-        "measured_texts" => Ok(measures::measured_texts(alloc)?),
-        "checked_texts" => Ok(measures::checked_texts(alloc)?),
-        _ => count_scanned(alloc, name, length),
-    }
+    let counted = match name {
+        "made_numbers" => measures::made_numbers(alloc),
+        "measured_numbers" => measures::measured_numbers(alloc),
+        "checked_numbers" => measures::checked_numbers(alloc),
+        "made_texts" => measures::made_texts(alloc),
+        "measured_texts" => measures::measured_texts(alloc),
+        "checked_texts" => measures::checked_texts(alloc),
+        _ => return count_scanned(alloc, name, length),
+    };
+    Ok(counted?)
 }
 
 // What a workload counts, or 0 for another name.

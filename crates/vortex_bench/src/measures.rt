@@ -32,16 +32,14 @@ fn is_null(number: i64) -> bool {
     number / 4_294_967_296 % 8 == 0
 }
 
-/// Two million numbers and nulls.
-fn numbers(alloc: Global) -> Result<Column, BaseError> {
-    let mut cells = Cells::with_capacity(alloc, NUMBER, NUMBERS)?;
+fn push_numbers(cells: &mut Cells) -> Result<(), BaseError> {
     let mut number = 1;
     for _ in 0..NUMBERS {
         number = next(number);
         let value = ScalarValue::from(number / 1_000_000_000);
         cells.push(if is_null(number) { None } else { Some(value) })?;
     }
-    Column::of_cells(NUMBER, cells, 0)
+    Ok(())
 }
 
 fn text(alloc: Global, number: i64) -> Result<Option<ScalarValue>, AllocError> {
@@ -52,19 +50,40 @@ fn text(alloc: Global, number: i64) -> Result<Option<ScalarValue>, AllocError> {
     Ok(Some(ScalarValue::Utf8(text)))
 }
 
-/// 300,000 texts of up to twenty characters, and nulls.
-fn texts(alloc: Global) -> Result<Column, BaseError> {
-    let mut cells = Cells::with_capacity(alloc, TEXT, TEXTS)?;
+fn push_texts(alloc: Global, cells: &mut Cells) -> Result<(), BaseError> {
     let mut number = 1;
     for _ in 0..TEXTS {
         number = next(number);
         cells.push(text(alloc, number)?)?;
     }
-    Column::of_cells(TEXT, cells, 0)
+    Ok(())
+}
+
+fn push_values(alloc: Global, dtype: DType, cells: &mut Cells) -> Result<(), BaseError> {
+    match dtype {
+        DType::Utf8(_) => push_texts(alloc, cells),
+        _ => push_numbers(cells),
+    }
+}
+
+fn column_of(alloc: Global, dtype: DType, count: usize) -> Result<Column, BaseError> {
+    let mut cells = Cells::with_capacity(alloc, dtype, count)?;
+    push_values(alloc, dtype, &mut cells)?;
+    Column::of_cells(dtype, cells, 0)
+}
+
+// Two million numbers and nulls.
+fn numbers(alloc: Global) -> Result<Column, BaseError> {
+    column_of(alloc, NUMBER, NUMBERS)
+}
+
+// 300,000 texts of up to twenty characters, and nulls.
+fn texts(alloc: Global) -> Result<Column, BaseError> {
+    column_of(alloc, TEXT, TEXTS)
 }
 
 /// How many statistics of a column are made, which are made fifty times.
-fn measured_often(alloc: Global, column: &Column) -> Result<usize, AllocError> {
+fn measured_often(alloc: Global, column: &Column) -> Result<usize, BaseError> {
     let mut count = 0;
     for _ in 0..REPEATS {
         count = StatsSet::of_column(alloc, column, ALL_STATS)?.len();
@@ -73,7 +92,7 @@ fn measured_often(alloc: Global, column: &Column) -> Result<usize, AllocError> {
 }
 
 /// How many statistics of a column are made, which are then found to be true fifty times.
-fn checked_often(alloc: Global, column: &Column) -> Result<usize, AllocError> {
+fn checked_often(alloc: Global, column: &Column) -> Result<usize, BaseError> {
     let set = StatsSet::of_column(alloc, column, ALL_STATS)?;
     for _ in 0..REPEATS {
         if !set.is_true_of(column) {
@@ -83,36 +102,57 @@ fn checked_often(alloc: Global, column: &Column) -> Result<usize, AllocError> {
     Ok(set.len())
 }
 
+// What is done with a column.
+#[derive(Clone, Copy)]
+enum Work {
+    Made,
+    Measured,
+    Checked,
+}
+
+fn count_of(alloc: Global, column: &Column, work: Work) -> Result<usize, BaseError> {
+    match work {
+        Work::Made => Ok(column.len()),
+        Work::Measured => measured_often(alloc, column),
+        Work::Checked => checked_often(alloc, column),
+    }
+}
+
+// What is counted of a column, or why there is none.
+fn counted(
+    alloc: Global,
+    column: Result<Column, BaseError>,
+    work: Work,
+) -> Result<usize, BaseError> {
+    count_of(alloc, &column?, work)
+}
+
 /// How many numbers are made.
 pub fn made_numbers(alloc: Global) -> Result<usize, BaseError> {
-    Ok(numbers(alloc)?.len())
+    counted(alloc, numbers(alloc), Work::Made)
 }
 
 /// How many statistics of them are made.
 pub fn measured_numbers(alloc: Global) -> Result<usize, BaseError> {
-    let column = numbers(alloc)?;
-    Ok(measured_often(alloc, &column)?)
+    counted(alloc, numbers(alloc), Work::Measured)
 }
 
 /// How many statistics of them are made and then found to be true.
 pub fn checked_numbers(alloc: Global) -> Result<usize, BaseError> {
-    let column = numbers(alloc)?;
-    Ok(checked_often(alloc, &column)?)
+    counted(alloc, numbers(alloc), Work::Checked)
 }
 
 /// How many texts are made.
 pub fn made_texts(alloc: Global) -> Result<usize, BaseError> {
-    Ok(texts(alloc)?.len())
+    counted(alloc, texts(alloc), Work::Made)
 }
 
 /// How many statistics of them are made.
 pub fn measured_texts(alloc: Global) -> Result<usize, BaseError> {
-    let column = texts(alloc)?;
-    Ok(measured_often(alloc, &column)?)
+    counted(alloc, texts(alloc), Work::Measured)
 }
 
 /// How many statistics of them are made and then found to be true.
 pub fn checked_texts(alloc: Global) -> Result<usize, BaseError> {
-    let column = texts(alloc)?;
-    Ok(checked_often(alloc, &column)?)
+    counted(alloc, texts(alloc), Work::Checked)
 }

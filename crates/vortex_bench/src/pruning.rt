@@ -1,24 +1,15 @@
 // Pruning by maps of zones, without rows.
+use crate::made::{above, bounds, scope_of, tell_no_nulls};
 use anyhow::Result;
 use std::alloc::{AllocError, Global};
 use vortex_base::bound;
 use vortex_base::bound_expression::BoundExpression;
-use vortex_base::dtype::DType;
-use vortex_base::error::BaseError;
-use vortex_base::scalar::Scalar;
-use vortex_base::scalar_value::ScalarValue;
-use vortex_base::scope::Scope;
-use vortex_base::types::{Nullability, PType};
 use vortex_prune::scan::prune::prune;
 use vortex_prune::zone::Zone;
 use vortex_prune::zone_map::ZoneMap;
 use vortex_rewrite::rewrite::rules::Rules;
 use vortex_stats::error::StatsError;
-use vortex_stats::precision::Precision;
-use vortex_stats::stat::Stat;
 use vortex_stats::stats_set::StatsSet;
-
-const NUMBER: DType = DType::Primitive(PType::I64, Nullability::NonNullable);
 
 /// How often a map is pruned.
 pub const REPEATS: u32 = 10;
@@ -60,23 +51,11 @@ pub const BROAD: Size = Size {
     counts_nulls: false,
 };
 
-/// The scope of the columns.
-pub fn scope_of(alloc: Global, size: Size) -> Result<Scope> {
-    let mut columns = Vec::new(alloc);
-    for place in 0..size.columns {
-        columns.push((format!(in alloc; "c{place}")?, NUMBER))?;
-    }
-    Ok(Scope::try_new(columns)?)
-}
-
 // The values of a zone's columns lie from its place to 100 above it.
 fn set_of(alloc: Global, size: Size, place: i64) -> Result<StatsSet, StatsError> {
-    let low = Precision::Exact(ScalarValue::from(place));
-    let high = Precision::Exact(ScalarValue::from(place.saturating_add(100)));
-    let mut set = StatsSet::of(alloc, Stat::Min, low);
-    set.set(Stat::Max, high)?;
+    let mut set = bounds(alloc, place, place.saturating_add(100))?;
     if size.counts_nulls {
-        set.set(Stat::NullCount, Precision::Exact(ScalarValue::from(0_u64)))?;
+        tell_no_nulls(&mut set)?;
     }
     Ok(set)
 }
@@ -107,27 +86,26 @@ pub fn zones_of<'a>(alloc: Global, sets: &'a [Vec<StatsSet>]) -> Result<Vec<Zone
     Ok(zones)
 }
 
-fn empty_map(alloc: Global, size: Size) -> Result<ZoneMap> {
-    match ZoneMap::try_new(alloc, scope_of(alloc, size)?, &[]) {
+/// The map of zones of so many columns.
+pub fn map_of_zones(alloc: Global, columns: usize, zones: &[Zone<'_>]) -> Result<ZoneMap> {
+    match ZoneMap::try_new(alloc, scope_of(alloc, columns)?, zones) {
         Ok(map) => Ok(map),
         Err(refused) => Err(refused.error.into()),
     }
 }
 
-// The map of all zones, batch by batch.
-fn map_of(alloc: Global, size: Size) -> Result<ZoneMap> {
-    let mut map = empty_map(alloc, size)?;
-    for batch in 0..size.batches {
-        let sets = batch_of(alloc, size, batch.saturating_mul(size.batch))?;
-        map.extend(alloc, &zones_of(alloc, &sets)?)?;
-    }
-    Ok(map)
+fn add_batch(alloc: Global, size: Size, map: &mut ZoneMap, batch: i64) -> Result<(), StatsError> {
+    let sets = batch_of(alloc, size, batch.saturating_mul(size.batch))?;
+    map.extend(alloc, &zones_of(alloc, &sets)?)
 }
 
-fn above(alloc: Global, place: usize, number: i64) -> Result<BoundExpression, BaseError> {
-    let column = bound::col(alloc, place, NUMBER)?;
-    let least = Scalar::try_new(NUMBER, Some(ScalarValue::from(number)))?;
-    bound::gt(alloc, column, bound::lit(alloc, least)?)
+// The map of all zones, batch by batch.
+fn map_of(alloc: Global, size: Size) -> Result<ZoneMap> {
+    let mut map = map_of_zones(alloc, size.columns, &[])?;
+    for batch in 0..size.batches {
+        add_batch(alloc, size, &mut map, batch)?;
+    }
+    Ok(map)
 }
 
 /// So many comparisons joined by AND, of one column after another, of which most zones fail the
@@ -152,17 +130,27 @@ pub fn only_mapped(alloc: Global, size: Size) -> Result<usize> {
     Ok(map_of(alloc, size)?.len())
 }
 
-/// The zones that the last of some prunings under so many comparisons skips.
-pub fn pruned(alloc: Global, size: Size, leaves: usize) -> Result<usize> {
-    let map = map_of(alloc, size)?;
-    let predicate = leaves_of(alloc, size, leaves)?;
+/// The zones of a map that the last of some prunings skips.
+pub fn skipped(
+    alloc: Global,
+    map: &ZoneMap,
+    predicate: &BoundExpression,
+    repeats: u32,
+) -> Result<usize> {
     if !predicate.is_plain() || !predicate.fits_scope(map.scope()) {
         return Err(StatsError::Mismatch.into());
     }
     let rules = Rules::builtin(alloc);
     let mut skipped = 0;
-    for _ in 0..REPEATS {
-        skipped = prune(alloc, &map, &predicate, &rules)?.skipped.len();
+    for _ in 0..repeats {
+        skipped = prune(alloc, map, predicate, &rules)?.skipped.len();
     }
     Ok(skipped)
+}
+
+/// The zones that the last of some prunings under so many comparisons skips.
+pub fn pruned(alloc: Global, size: Size, leaves: usize) -> Result<usize> {
+    let map = map_of(alloc, size)?;
+    let predicate = leaves_of(alloc, size, leaves)?;
+    skipped(alloc, &map, &predicate, REPEATS)
 }

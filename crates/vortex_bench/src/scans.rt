@@ -2,20 +2,19 @@
 ghost use Rattle.std.specs.Bool.{OnTrue};
 ghost use Rattle.std.specs.Prelude.{◌≡◌, All, IfOk, IsTrue};
 ghost use Rattle.vortex_base.specs.Meanings.Fitting.{fits_scope};
+ghost use Rattle.vortex_base.specs.Trees.Tree.{is_plain};
 ghost use Rattle.vortex_prune.specs.Zones.{HaveScope};
 
+use crate::made::{NUMBER, above, add, bounds, scope_of};
 use anyhow::Result;
 use std::alloc::{AllocError, Global};
 use vortex_base::bound;
 use vortex_base::bound_expression::BoundExpression;
 use vortex_base::chunk::Chunk;
 use vortex_base::column::Column;
-use vortex_base::dtype::DType;
 use vortex_base::error::BaseError;
-use vortex_base::scalar::Scalar;
 use vortex_base::scalar_value::ScalarValue;
 use vortex_base::scope::Scope;
-use vortex_base::types::{Nullability, PType};
 use vortex_prune::bind::stats_binder::StatsBinder;
 use vortex_prune::part::Part;
 use vortex_prune::scan::scan;
@@ -23,11 +22,7 @@ use vortex_prune::scan::zones::scan_zones;
 use vortex_prune::zones::Zones;
 use vortex_rewrite::rewrite::rules::Rules;
 use vortex_stats::error::StatsError;
-use vortex_stats::precision::Precision;
-use vortex_stats::stat::Stat;
 use vortex_stats::stats_set::StatsSet;
-
-const NUMBER: DType = DType::Primitive(PType::I64, Nullability::NonNullable);
 
 const REPEATS: u32 = 10;
 
@@ -50,33 +45,37 @@ pub const WIDE: Size = Size {
     columns: 30,
 };
 
-fn scope_of(alloc: Global, size: Size) -> Result<Scope> {
-    let mut columns = Vec::new(alloc);
-    for place in 0..size.columns {
-        columns.push((format!(in alloc; "c{place}")?, NUMBER))?;
-    }
-    Ok(Scope::try_new(columns)?)
+fn column_of(alloc: Global, number: i64) -> Result<Column, BaseError> {
+    let values = vec![in alloc; Some(ScalarValue::from(number))]?;
+    Column::try_new(NUMBER, values, 8)
 }
 
-// The statistics of a column of this number alone.
-fn set_of(alloc: Global, number: i64) -> Result<StatsSet, StatsError> {
-    let exact = Precision::Exact(ScalarValue::from(number));
-    let mut set = StatsSet::of(alloc, Stat::Min, exact);
-    set.set(Stat::Max, Precision::Exact(ScalarValue::from(number)))?;
-    Ok(set)
+fn columns_of(alloc: Global, size: Size, number: i64) -> Result<Vec<Column>, BaseError> {
+    let mut columns = Vec::new(alloc);
+    for _ in 0..size.columns {
+        add(&mut columns, column_of(alloc, number))?;
+    }
+    Ok(columns)
+}
+
+// A row whose columns all hold this number.
+fn chunk_of(alloc: Global, size: Size, number: i64) -> Result<Chunk, BaseError> {
+    let columns = columns_of(alloc, size, number)?;
+    Chunk::try_new(scope_of(alloc, size.columns)?, columns)
+}
+
+fn sets_of(alloc: Global, size: Size, number: i64) -> Result<Vec<StatsSet>, StatsError> {
+    let mut sets = Vec::new(alloc);
+    for _ in 0..size.columns {
+        sets.push(bounds(alloc, number, number)?)?;
+    }
+    Ok(sets)
 }
 
 // A part of one row, whose columns all hold this number.
 fn part_of(alloc: Global, size: Size, number: i64) -> Result<Part> {
-    let mut columns = Vec::new(alloc);
-    let mut sets = Vec::new(alloc);
-    for _ in 0..size.columns {
-        let values = vec![in alloc; Some(ScalarValue::from(number))]?;
-        columns.push(Column::try_new(NUMBER, values, 8)?)?;
-        sets.push(set_of(alloc, number)?)?;
-    }
-    let chunk = Chunk::try_new(scope_of(alloc, size)?, columns)?;
-    match Part::try_new(chunk, sets) {
+    let sets = sets_of(alloc, size, number)?;
+    match Part::try_new(chunk_of(alloc, size, number)?, sets) {
         Ok(part) => Ok(part),
         Err(refused) => Err(refused.error.into()),
     }
@@ -101,13 +100,24 @@ fn all_scoped(scope: &Scope, parts: &[Part]) -> bool
     true
 }
 
-// The table of the parts, of which each holds its own place.
-fn table_of(alloc: Global, size: Size) -> Result<Zones> {
-    let scope = scope_of(alloc, size)?;
+fn add_part(parts: &mut Vec<Part>, part: Result<Part>) -> Result<()> {
+    parts.push(part?)?;
+    Ok(())
+}
+
+// Parts of which each holds its own place.
+fn parts_of(alloc: Global, size: Size) -> Result<Vec<Part>> {
     let mut parts = Vec::new(alloc);
     for number in 0..size.parts {
-        parts.push(part_of(alloc, size, number)?)?;
+        add_part(&mut parts, part_of(alloc, size, number))?;
     }
+    Ok(parts)
+}
+
+// The table of the parts.
+fn table_of(alloc: Global, size: Size) -> Result<Zones> {
+    let parts = parts_of(alloc, size)?;
+    let scope = scope_of(alloc, size.columns)?;
     if !all_scoped(&scope, &parts) {
         return Err(StatsError::Mismatch.into());
     }
@@ -115,12 +125,6 @@ fn table_of(alloc: Global, size: Size) -> Result<Zones> {
         Ok(zones) => Ok(zones),
         Err(refused) => Err(refused.error.into()),
     }
-}
-
-fn above(alloc: Global, place: usize, number: i64) -> Result<BoundExpression, BaseError> {
-    let column = bound::col(alloc, place, NUMBER)?;
-    let least = Scalar::try_new(NUMBER, Some(ScalarValue::from(number)))?;
-    bound::gt(alloc, column, bound::lit(alloc, least)?)
 }
 
 // Each column is above a number that all but a hundred parts lie below.
@@ -157,51 +161,117 @@ fn binders_of<'a>(alloc: Global, parts: &'a [Part]) -> Result<Vec<StatsBinder<'a
     Ok(binders)
 }
 
-/// The parts that have a row in their table, which is made and not scanned.
-pub fn only_tabled(alloc: Global, size: Size) -> Result<usize> {
-    let zones = table_of(alloc, size)?;
-    let predicate = all_above(alloc, size)?;
-    if !all_fit(zones.parts(), &predicate) {
-        return Err(StatsError::Mismatch.into());
-    }
-    Ok(zones.table().rows())
+// A table, and what it is scanned for.
+#[derive(Drop)]
+struct Work {
+    zones: Zones,
+    predicate: BoundExpression,
 }
 
-/// The rows that the last of some scans by a binder for each part selects.
-pub fn scanned_by_binders(alloc: Global, size: Size) -> Result<usize> {
+fn work_of(alloc: Global, size: Size) -> Result<Work> {
     let zones = table_of(alloc, size)?;
     let predicate = all_above(alloc, size)?;
-    let parts = zones.parts();
-    if !predicate.is_plain() || !all_fit(parts, &predicate) {
+    Ok(Work { zones, predicate })
+}
+
+fn rows_of(work: &Work) -> Result<usize> {
+    if !all_fit(work.zones.parts(), &work.predicate) {
+        return Err(StatsError::Mismatch.into());
+    }
+    Ok(work.zones.table().rows())
+}
+
+// The rows that one scan by a binder for each part selects.
+fn by_binders(
+    alloc: Global,
+    parts: &[Part],
+    predicate: &BoundExpression,
+    rules: &Rules,
+) -> Result<usize, StatsError>
+    requires plain { IsTrue (is_plain predicate.now) }
+    requires fits { All (λ part. IsTrue (fits_scope predicate.now part.chunk.scope)) parts.now }
+{
+    let binders = binders_of(alloc, parts)?;
+    let scan = scan(alloc, parts, &binders, predicate, rules)?;
+    Ok(scan.selected.len())
+}
+
+fn often_by_binders(alloc: Global, work: &Work) -> Result<usize> {
+    let parts = work.zones.parts();
+    let predicate = &work.predicate;
+    if !predicate.is_plain() || !all_fit(parts, predicate) {
         return Err(StatsError::Mismatch.into());
     }
     let rules = Rules::builtin(alloc);
     let mut selected = 0;
     for _ in 0..REPEATS {
-        let binders = binders_of(alloc, parts)?;
-        selected = scan(alloc, parts, &binders, &predicate, &rules)?
-            .selected
-            .len();
+        selected = by_binders(alloc, parts, predicate, &rules)?;
     }
     Ok(selected)
 }
 
-/// The rows that the last of some scans by the table selects.
-pub fn scanned_by_table(alloc: Global, size: Size) -> Result<usize> {
-    let zones = table_of(alloc, size)?;
-    let predicate = all_above(alloc, size)?;
+// The rows that one scan by the table selects.
+fn by_table(
+    alloc: Global,
+    zones: &Zones,
+    predicate: &BoundExpression,
+    rules: &Rules,
+) -> Result<usize, StatsError>
+    requires plain { IsTrue (is_plain predicate.now) }
+    requires fits { IsTrue (fits_scope predicate.now zones.now.scope) }
+{
+    let scan = scan_zones(alloc, zones, predicate, rules)?;
+    Ok(scan.selected.len())
+}
+
+fn often_by_table(alloc: Global, work: &Work) -> Result<usize> {
+    let zones = &work.zones;
+    let predicate = &work.predicate;
     if !predicate.is_plain()
         || !predicate.fits_scope(zones.scope())
-        || !all_fit(zones.parts(), &predicate)
+        || !all_fit(zones.parts(), predicate)
     {
         return Err(StatsError::Mismatch.into());
     }
     let rules = Rules::builtin(alloc);
     let mut selected = 0;
     for _ in 0..REPEATS {
-        selected = scan_zones(alloc, &zones, &predicate, &rules)?
-            .selected
-            .len();
+        selected = by_table(alloc, zones, predicate, &rules)?;
     }
     Ok(selected)
+}
+
+// What is done with a table.
+#[derive(Clone, Copy)]
+enum Way {
+    Made,
+    Binders,
+    Table,
+}
+
+fn count_of(alloc: Global, work: &Work, way: Way) -> Result<usize> {
+    match way {
+        Way::Made => rows_of(work),
+        Way::Binders => often_by_binders(alloc, work),
+        Way::Table => often_by_table(alloc, work),
+    }
+}
+
+fn counted(alloc: Global, size: Size, way: Way) -> Result<usize> {
+    count_of(alloc, &work_of(alloc, size)?, way)
+}
+
+/// The parts that have a row in their table, which is made and not scanned.
+pub fn only_tabled(alloc: Global, size: Size) -> Result<usize> {
+    counted(alloc, size, Way::Made)
+}
+
+/// The rows that the last of some scans by a binder for each part selects.
+pub fn scanned_by_binders(alloc: Global, size: Size) -> Result<usize> {
+    counted(alloc, size, Way::Binders)
+}
+
+/// The rows that the last of some scans by the table selects.
+pub fn scanned_by_table(alloc: Global, size: Size) -> Result<usize> {
+    counted(alloc, size, Way::Table)
 }
