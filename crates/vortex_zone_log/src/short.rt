@@ -16,18 +16,17 @@ pub fn tells_itself(aggregate: AggregateFnRef, form: Form) -> bool
     ensures { IsTrue result → (longs : List ScalarValue) (cell : spec.ShortCell) (rows : ℕ)
         → short_value cell ≡ told_value aggregate (formed longs form cell) rows }
 {
-    match form {
-        Form::Exact => matches!(
+    if matches!(form, Form::Exact) {
+        return matches!(
             aggregate,
             AggregateFnRef::Max
                 | AggregateFnRef::Min
                 | AggregateFnRef::Sum
                 | AggregateFnRef::NullCount
                 | AggregateFnRef::UncompressedSizeInBytes
-        ),
-        Form::Inexact => matches!(aggregate, AggregateFnRef::Max | AggregateFnRef::Min),
-        Form::Absent | Form::LongExact | Form::LongInexact => false,
+        );
     }
+    matches!(form, Form::Inexact) && matches!(aggregate, AggregateFnRef::Max | AggregateFnRef::Min)
 }
 
 /// What an exact count of nulls tells of so many rows, if the aggregate is one that asks for it.

@@ -1,6 +1,8 @@
 //! What is told of the columns of a zone, one statistic after another.
 ghost use Rattle.std.specs.Prelude.{◌≡◌, ◌+◌, ◌++◌, ◌-◌, ◌∷◌, ◌≤◌, [], IfOk, OnErr, OnOk, drop, length, slice_get, take};
-ghost use Rattle.std.specs.Prelude.{vec_capacity, vec_len};
+ghost use Rattle.std.specs.Prelude.{Some, vec_capacity, vec_len};
+ghost use Rattle.vortex_base.specs.Data.Cells.{short_value};
+ghost use Rattle.vortex_base.specs.declared.scalar_value.ScalarValue.TheVariants as value;
 ghost use Rattle.vortex_zone_log.specs.Kept.{AreKept, IsLonger, IsWithin, said, sets_of};
 ghost use Rattle.vortex_zone_log.specs.Logs as spec;
 
@@ -8,6 +10,7 @@ use crate::kept::{Form, Kept, copy_of, keep, number_in};
 use crate::stretch::Stretch;
 use std::alloc::{AllocError, Global};
 use vortex_base::cells::ShortCell;
+use vortex_base::pvalue::PValue;
 use vortex_base::scalar_value::ScalarValue;
 use vortex_stats::precision::Precision;
 use vortex_stats::stat::Stat;
@@ -102,6 +105,31 @@ fn tell_other(
     Ok(())
 }
 
+// The cell of a number of any type.
+#[inline(never)]
+fn other_cell(number: PValue) -> ShortCell
+    ensures { short_value result ≡ Some (value.Primitive number) }
+{
+    ShortCell::of_number(number)
+}
+
+// The same, where the types that most columns have are told apart by a test each, as a cell is put.
+#[inline(always)]
+fn number_cell(number: PValue) -> ShortCell
+    ensures { short_value result ≡ Some (value.Primitive number) }
+{
+    if let PValue::I64(number) = number {
+        return ShortCell::I64(number);
+    }
+    if let PValue::I32(number) = number {
+        return ShortCell::I32(number);
+    }
+    if let PValue::U64(number) = number {
+        return ShortCell::U64(number);
+    }
+    other_cell(number)
+}
+
 /// Tells a statistic behind others. Where memory is refused, or a column is past 32 bits, the
 /// others stay.
 pub fn tell(
@@ -129,7 +157,7 @@ pub fn tell(
                 column: column as u32,
                 stat,
                 form,
-                cell: ShortCell::of_number(number),
+                cell: number_cell(number),
             });
             Ok(())
         }
@@ -161,7 +189,11 @@ pub fn move_behind(told: &mut Vec<Told>, more: &mut Vec<Told>)
     ensures told { told.new.items ≡ told.old.items ++ more.old.items }
     ensures emptied { more.new.items ≡ [] }
 {
-    let _ = told.append(more);
+    // They are few, and a call that copies them takes longer.
+    for next in more.iter() {
+        told.push_reserved(*next);
+    }
+    more.clear();
 }
 
 /// What a stretch tells.
