@@ -2,6 +2,7 @@ pub mod FirstLine
 pub mod Found
 pub mod Fronts
 pub mod DigitLemmas
+pub mod EightLemmas
 pub mod NumberLemmas
 pub mod PairLemmas
 pub mod PlaceLemmas

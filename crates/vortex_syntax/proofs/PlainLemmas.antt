@@ -13,6 +13,7 @@ use Rattle.std.specs.List.{AllByRecursion, flat_map, list_all, position_or_len}
 use Rattle.std.proofs.lemmas.Slice.Eq.{bytes_eq-Decides}
 use Rattle.std.proofs.lemmas.Str.{IsUtf8-from_ascii, is_utf8-from_IsUtf8}
 use Rattle.std.specs.Str.{all_ascii_digits, bytes_eq, is_utf8, IsAscii, IsUtf8}
+use Rattle.std.specs.Str.Parse.{digits_value, digits_value_after}
 use Rattle.vortex_base.specs.Meanings.Typing.{is_signed}
 use Rattle.vortex_base.specs.Data.Values.{greatest, least}
 use Rattle.vortex_base.specs.declared.dtype.DType.{DType}
@@ -29,8 +30,8 @@ use Rattle.vortex_base.specs.declared.types.PType.TheVariants as ptype
 use Rattle.vortex_syntax.proofs.Fronts.{AreAt, front_is}
 use Rattle.vortex_syntax.proofs.NumberLemmas.{all_push, digit_is}
 use Rattle.vortex_syntax.proofs.Spelling.{quotes_open}
-use Rattle.vortex_syntax.specs.Numbers.{bytes_of, four_value, in_64_bits_signed, in_type, number_of, whole_of}
-use Rattle.vortex_syntax.specs.Plain.{BeginsBytes, BeginsDigits, BeginsNatural, BeginsNumber, BeginsQuoted, BeginsSigned, BeginsValue, BeginsWhole, BeginsWord, EndsWord, is_line_byte, is_text_byte, is_word_byte, truth_name}
+use Rattle.vortex_syntax.specs.Numbers.{bytes_of, in_64_bits_signed, in_type, number_of, whole_of}
+use Rattle.vortex_syntax.specs.Plain.{BeginsBytes, BeginsDigits, BeginsNatural, BeginsNumber, BeginsQuoted, BeginsSigned, BeginsValue, BeginsWord, EndsWord, is_line_byte, is_text_byte, is_word_byte, truth_name}
 use Rattle.vortex_syntax.specs.Spelling.{CanBeSpelled, spelled_byte}
 use Rattle.vortex_syntax.specs.Values.{binary_of, optional_value_of}
 use Rattle.vortex_syntax.specs.Words.{Plain, Quoted}
@@ -56,26 +57,6 @@ digits_push text after d n so_far digit = record {
   all = all_push so_far.digits d so_far.all digit;
   value = digits_value_push 10 so_far.digits d ∙ omega (arith, digit_is d digit, so_far.value);
 }
-
--- four more digits
-pub digits_four : (text rest : List ℕ) (n m : ℕ) → BeginsDigits text n rest → 4 ≤ length rest → all_ascii_digits (get_or rest 0 0 ∷ get_or rest 1 0 ∷ get_or rest 2 0 ∷ get_or rest 3 0 ∷ []) ≡ true
-    → m ≡ four_value (get_or rest 0 0) (get_or rest 1 0) (get_or rest 2 0) (get_or rest 3 0)
-    → BeginsDigits text (n * 10000 + m) (take (length rest - 4) (drop 4 rest))
-digits_four text [] n m so_far long all is = absurd (omega arith)
-digits_four text (a ∷ []) n m so_far long all is = absurd (omega arith)
-digits_four text (a ∷ b ∷ []) n m so_far long all is = absurd (omega arith)
-digits_four text (a ∷ b ∷ c ∷ []) n m so_far long all is = absurd (omega arith)
-digits_four text (a ∷ b ∷ c ∷ d ∷ rest) n m so_far long all is =
-    let (first, all_1) = and_parts _ _ all in
-    let (second, all_2) = and_parts _ _ all_1 in
-    let (third, all_3) = and_parts _ _ all_2 in
-    let (fourth, none) = and_parts _ _ all_3 in
-    let one = digits_push text (b ∷ c ∷ d ∷ rest) a n so_far first in
-    let two = digits_push text (c ∷ d ∷ rest) b (n * 10 + (a - 48)) one second in
-    let three = digits_push text (d ∷ rest) c ((n * 10 + (a - 48)) * 10 + (b - 48)) two third in
-    let four = digits_push text rest d (((n * 10 + (a - 48)) * 10 + (b - 48)) * 10 + (c - 48)) three fourth in
-    let same : (((n * 10 + (a - 48)) * 10 + (b - 48)) * 10 + (c - 48)) * 10 + (d - 48) ≡ n * 10000 + m = omega (arith, is) in
-    subst (λ l. BeginsDigits text (n * 10000 + m) l) (sym (take_rest (a ∷ b ∷ c ∷ d ∷ rest) 4)) (subst (λ k. BeginsDigits text k rest) same four)
 
 -- eight bytes pass where eight tests hold together
 pub all_eight : (passes : ℕ → Bool) (a b c d e f g h : ℕ) (p q r s t u v w : Bool) → p ≡ passes a → q ≡ passes b → r ≡ passes c → s ≡ passes d → t ≡ passes e → u ≡ passes f → v ≡ passes g → w ≡ passes h → (((p && q) && r) && s) && (((t && u) && v) && w) ≡ true → list_all passes (a ∷ b ∷ c ∷ d ∷ e ∷ f ∷ g ∷ h ∷ []) ≡ true
@@ -168,6 +149,11 @@ abbrev pub value_on : ℕ → List ℕ → ℕ
 value_on n [] = n
 value_on n (d ∷ ds) = value_on (n * 10 + (d - 48)) ds
 
+-- the same number, as std says it
+pub value_on_digits : (ds : List ℕ) (n : ℕ) → all_ascii_digits ds ≡ true → digits_value_after 10 n ds ≡ value_on n ds
+value_on_digits [] n all = refl
+value_on_digits (d ∷ ds) n all = let (one, more) = and_parts _ _ all in rw (digit_is d one) (value_on_digits ds (n * 10 + (d - 48)) more)
+
 digits_on : (whole rest : List ℕ) (n : ℕ) (ds : List ℕ) → BeginsDigits whole n (ds ++ rest) → all_ascii_digits ds ≡ true → BeginsDigits whole (value_on n ds) rest
 digits_on whole rest n [] so_far all = so_far
 digits_on whole rest n (d ∷ ds) so_far all =
@@ -181,6 +167,16 @@ digits_front whole text n m ds so_far long are all is =
     let behind = take (length text - length ds) (drop (length ds) text) in
     let split : BeginsDigits whole n (ds ++ behind) = subst (λ l. BeginsDigits whole n l) (front_is ds text long are) so_far in
     subst (λ k. BeginsDigits whole k behind) (sym is) (digits_on whole behind n ds split all)
+
+-- eight bytes at the front of a text
+abbrev pub eight_of : List ℕ → List ℕ
+eight_of text = get_or text 0 0 ∷ get_or text 1 0 ∷ get_or text 2 0 ∷ get_or text 3 0 ∷ get_or text 4 0 ∷ get_or text 5 0 ∷ get_or text 6 0 ∷ get_or text 7 0 ∷ []
+
+-- eight more digits
+pub digits_eight : (whole rest : List ℕ) (n m : ℕ) → BeginsDigits whole n rest → 8 ≤ length rest → all_ascii_digits (eight_of rest) ≡ true → m ≡ digits_value 10 (eight_of rest)
+    → BeginsDigits whole (n * 100000000 + m) (take (length rest - 8) (drop 8 rest))
+digits_eight whole rest n m so_far long all is =
+    digits_front whole rest n (n * 100000000 + m) (eight_of rest) so_far long (refl, (refl, (refl, (refl, (refl, (refl, (refl, (refl, tt)))))))) all (omega (arith, value_on_digits (eight_of rest) 0 all))
 
 -- what follows digits that are known, behind the same as those
 pub behind_more : {X : Type 0} (number : X → ℕ) (behind : X → List ℕ) (o : Option X) (text after : List ℕ) (n m : ℕ) → IfSome o (λ x. (whole : List ℕ) → BeginsDigits whole m after → BeginsDigits whole (number x) (behind x))
@@ -359,18 +355,14 @@ not_null p n word v is = elim (cases_Bool (bytes_eq word (codes "null"))) [
   | inr other ↦ rw other (ap (λ o. option_map (λ x. Some x) (option_map (λ x. value.Primitive x) o)) is)
 ]
 
--- a number of a type with numbers below zero
-pub signed_is_whole : (p : PType) (text rest : List ℕ) (z : ℤ) → is_signed p ≡ true → BeginsSigned text z rest → BeginsWhole p text z rest
-signed_is_whole p text rest z signed (word, begins, whole) = (word, begins, ap (λ b. whole_of b word) signed ∙ whole)
-
--- the number of a type that a cell holds
-pub cell_begins : (p : PType) (text rest : List ℕ) (z : ℤ) (cell : ShortCell) → BeginsWhole p text z rest → Some (short_value cell) ≡ option_map (λ n. Some (value.Primitive n)) (in_type p z)
+-- the number of a type with numbers below zero that a cell holds
+pub cell_begins : (p : PType) (text rest : List ℕ) (z : ℤ) (cell : ShortCell) → is_signed p ≡ true → BeginsSigned text z rest → Some (short_value cell) ≡ option_map (λ n. Some (value.Primitive n)) (in_type p z)
     → (n : PValue) × BeginsNumber p text n rest × (short_value cell ≡ Some (value.Primitive n))
-cell_begins p text rest z cell (word, begins, whole) same = by (in_type p z) refl
+cell_begins p text rest z cell signed (word, begins, whole) same = by (in_type p z) refl
   where
     by : (o : Option PValue) → in_type p z ≡ o → (n : PValue) × BeginsNumber p text n rest × (short_value cell ≡ Some (value.Primitive n))
     by None none = let h = rw none at same in cc
-    by (Some n) is = let h = rw is at same in (n, (word, begins, ap (option_and_then (in_type p)) whole ∙ is), cc)
+    by (Some n) is = let h = rw is at same in (n, (word, begins, ap (option_and_then (in_type p)) (ap (λ b. whole_of b word) signed ∙ whole) ∙ is), cc)
 
 -- the cell of a number behind a space
 pub value_cell : (p : PType) (n : Nullability) (text behind rest : List ℕ) (cell : ShortCell) → text ≡ 32 ∷ behind → (v : PValue) × BeginsNumber p behind v rest × (short_value cell ≡ Some (value.Primitive v)) → EndsWord rest

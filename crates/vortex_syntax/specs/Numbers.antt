@@ -69,10 +69,6 @@ in_64_bits n = if nat_lt n (2 ^ 64) then Some n else None
 abbrev pub with_digit : ℕ → ℕ → Option ℕ
 with_digit n digit = if is_ascii_digit digit then in_64_bits (n * 10 + (digit - 48)) else None
 
--- the number that four digits write
-abbrev pub four_value : ℕ → ℕ → ℕ → ℕ → ℕ
-four_value a b c d = (a - 48) * 1000 + (b - 48) * 100 + (c - 48) * 10 + (d - 48)
-
 -- a number that 64 bits hold, one of them for the sign
 abbrev pub in_64_bits_signed : ℤ → Option ℤ
 in_64_bits_signed z = if int_le (least ptype.I64) z && int_le z (greatest ptype.I64) then Some z else None

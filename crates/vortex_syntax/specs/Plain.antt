@@ -3,7 +3,6 @@ use Rattle.std.specs.Prelude.{◌≡◌, ◌<◌, ◌⊎◌, ◌&&◌, ◌||◌,
 use Rattle.std.specs.List.{list_all}
 use Rattle.std.specs.Str.{all_ascii_digits, is_utf8}
 use Rattle.std.specs.Str.Parse.{digits_value}
-use Rattle.vortex_base.specs.Meanings.Typing.{is_signed}
 use Rattle.vortex_base.specs.declared.dtype.DType.{DType}
 use Rattle.vortex_base.specs.declared.pvalue.PValue.{PValue}
 use Rattle.vortex_base.specs.declared.scalar_value.ScalarValue.{ScalarValue}
@@ -62,10 +61,6 @@ BeginsNatural text n rest = (word : List ℕ) × BeginsWord text word rest × (n
 -- with digits, maybe behind a minus, that write this one
 abbrev pub BeginsSigned : List ℕ → ℤ → List ℕ → Type 0
 BeginsSigned text z rest = (word : List ℕ) × BeginsWord text word rest × (whole_of true word ≡ Some z)
-
--- with digits, maybe behind a minus where the type has numbers below zero, that write this one
-abbrev pub BeginsWhole : PType → List ℕ → ℤ → List ℕ → Type 0
-BeginsWhole p text z rest = (word : List ℕ) × BeginsWord text word rest × (whole_of (is_signed p) word ≡ Some z)
 
 -- with a number of this type
 abbrev pub BeginsNumber : PType → List ℕ → PValue → List ℕ → Type 0

@@ -1,6 +1,6 @@
 //! Values in plain form, read straight from the bytes of a text, whose line isn't cut out before.
 //! What isn't in this form is left to the reader of words, by which each form here is specified.
-ghost use Rattle.std.specs.Prelude.{◌≡◌, ◌<◌, ◌≤◌, ◌∷◌, ◌++◌, [], ℕ, List, codes, neg_ℤ, not, option_map, pos, position, IfOk, IfSome, None, IsTrue, Some, length, take};
+ghost use Rattle.std.specs.Prelude.{◌≡◌, ◌<◌, ◌≤◌, ◌++◌, [], ℕ, List, codes, neg_ℤ, not, option_map, pos, position, IfOk, IfSome, None, IsTrue, Some, length, take};
 ghost use Rattle.vortex_base.specs.Data.Cells.{short_value};
 ghost use Rattle.vortex_base.specs.declared.dtype.DType.TheVariants as dtype;
 ghost use Rattle.vortex_base.specs.declared.pvalue.PValue.{PValue};
@@ -8,8 +8,9 @@ ghost use Rattle.vortex_base.specs.declared.scalar_value.ScalarValue.TheVariants
 ghost use Rattle.vortex_base.specs.declared.types.Nullability.{Nullability};
 ghost use Rattle.std.specs.List.{list_all};
 ghost use Rattle.std.specs.Str.{all_ascii_digits};
-ghost use Rattle.vortex_syntax.specs.Numbers.{four_value, in_64_bits_signed, in_type};
-ghost use Rattle.vortex_syntax.specs.Plain.{BeginsDigits, BeginsNatural, BeginsNumber, BeginsQuoted, BeginsSigned, BeginsValue, BeginsWhole, BeginsWord, EndsWord};
+ghost use Rattle.std.specs.Str.Parse.{digits_value};
+ghost use Rattle.vortex_syntax.specs.Numbers.{in_64_bits_signed, in_type};
+ghost use Rattle.vortex_syntax.specs.Plain.{BeginsDigits, BeginsNatural, BeginsNumber, BeginsQuoted, BeginsSigned, BeginsValue, BeginsWord, EndsWord};
 ghost use Rattle.vortex_syntax.specs.Plain as spec;
 
 use crate::number::{in_type, is_signed};
@@ -24,8 +25,17 @@ use vortex_base::types::PType;
 // A number up to this one stays below 2 to the 64th with one more digit.
 const MOST: u64 = 1_844_674_407_370_955_160;
 
-// And one up to this with four more.
-const MOST_BEFORE_FOUR: u64 = 1_844_674_407_370_954;
+// And one up to this with eight more.
+const MOST_BEFORE_EIGHT: u64 = 184_467_440_736;
+
+// In each byte of a word the four bits that are the same in all digits.
+const HIGH_BITS: u64 = 0xf0f0_f0f0_f0f0_f0f0;
+
+// The digit zero in each.
+const ZEROS: u64 = 0x3030_3030_3030_3030;
+
+// And what takes each byte above the digit nine to other such bits.
+const SIXES: u64 = 0x0606_0606_0606_0606;
 
 // The bytes `row ` as one number, the first of them lowest.
 const ROW: u32 = 0x2077_6f72;
@@ -42,19 +52,26 @@ pub fn behind_row(text: &[u8]) -> Option<&[u8]>
     }
 }
 
-// The number that four bytes write, if they are digits.
+// The number that eight bytes write, if they are digits. They are looked at together, as a word
+// whose lowest byte is the first of them, and go into pairs by a sum and a product of it.
 #[inline(always)]
-fn four_digits(a: u8, b: u8, c: u8, d: u8) -> Option<u64>
-    ensures digits { IfSome result (λ _. IsTrue (all_ascii_digits (a ∷ b ∷ c ∷ d ∷ []))) }
-    ensures number { IfSome result (λ n. n ≡ four_value a b c d) }
-    ensures below { IfSome result (λ n. n < 10000) }
+fn eight_digits(bytes: [u8; 8]) -> Option<u64>
+    ensures digits { IfSome result (λ _. IsTrue (all_ascii_digits bytes)) }
+    ensures number { IfSome result (λ n. n ≡ digits_value 10 bytes) }
+    ensures below { IfSome result (λ n. n < 100000000) }
 {
-    if !(a.is_ascii_digit() && b.is_ascii_digit() && c.is_ascii_digit() && d.is_ascii_digit()) {
+    let word = u64::from_le_bytes(bytes);
+    if word & HIGH_BITS != ZEROS {
         return None;
     }
-    let high = u64::from(a - b'0') * 10 + u64::from(b - b'0');
-    let low = u64::from(c - b'0') * 10 + u64::from(d - b'0');
-    Some(high * 100 + low)
+    if (word + SIXES) & HIGH_BITS != ZEROS {
+        return None;
+    }
+    let digits = word - ZEROS;
+    let pairs = digits * 10 + (digits >> 8);
+    let first = pairs % 256 * 100 + (pairs >> 16) % 256;
+    let last = (pairs >> 32) % 256 * 100 + (pairs >> 48) % 256;
+    Some(first * 10_000 + last)
 }
 
 // The number that the digits of another and those at the front of a text write, and what follows
@@ -67,16 +84,13 @@ fn longer(so_far: u64, text: &[u8]) -> Option<(u64, &[u8])>
 {
     let mut number = so_far;
     let mut rest = text;
-    'fours: while let [a, b, c, d, after @ ..] = rest {
-        // Of a number that ends soon the last of the four is none.
-        if !d.is_ascii_digit() || number > MOST_BEFORE_FOUR {
-            break;
+    if let [a, b, c, d, e, f, g, h, after @ ..] = rest {
+        if number <= MOST_BEFORE_EIGHT {
+            if let Some(eight) = eight_digits([*a, *b, *c, *d, *e, *f, *g, *h]) {
+                number = number * 100_000_000 + eight;
+                rest = after;
+            }
         }
-        let Some(four) = four_digits(*a, *b, *c, *d) else {
-            break;
-        };
-        number = number * 10_000 + four;
-        rest = after;
     }
     'digits: while let [digit, after @ ..] = rest {
         let digit = *digit;
@@ -173,22 +187,6 @@ fn signed(text: &[u8]) -> Option<(i64, &[u8])>
             let (size, rest) = natural(text)?;
             Some((i64::try_from(size).ok()?, rest))
         }
-    }
-}
-
-// The whole number at the front of a text, behind a minus where the type has numbers below zero,
-// and what follows it.
-#[inline(always)]
-fn whole(ptype: PType, text: &[u8]) -> Option<(i128, &[u8])>
-    ensures whole { IfSome result (λ x. BeginsWhole ptype text.now x.0 x.1.now) }
-    ensures shorter { IfSome result (λ x. length x.1.now < length text.now) }
-{
-    if is_signed(ptype) {
-        let (number, rest) = signed(text)?;
-        Some((i128::from(number), rest))
-    } else {
-        let (number, rest) = natural(text)?;
-        Some((i128::from(number), rest))
     }
 }
 
@@ -481,6 +479,39 @@ pub fn plain_text(dtype: DType, text: &[u8]) -> Option<(&str, &[u8])>
     }
 }
 
+// A number of any type. Its arms become a jump by a table, which a processor that guards against
+// Spectre doesn't foresee, so it is called only for types that no test tells apart before.
+#[inline(never)]
+fn other_number(ptype: PType, number: i128) -> Option<PValue>
+    ensures { result ≡ in_type ptype number }
+{
+    in_type(ptype, number)
+}
+
+// A number of a type with numbers below zero. Tests, which are foreseen, tell I64 and I32 apart.
+#[inline(always)]
+fn signed_number(ptype: PType, number: i64) -> Option<PValue>
+    ensures { result ≡ in_type ptype number }
+{
+    match ptype {
+        PType::I64 => Some(PValue::I64(number)),
+        PType::I32 => Some(PValue::I32(i32::try_from(number).ok()?)),
+        _ => other_number(ptype, i128::from(number)),
+    }
+}
+
+// A number of a type without numbers below zero. Tests tell U64 and U32 apart.
+#[inline(always)]
+fn unsigned_number(ptype: PType, number: u64) -> Option<PValue>
+    ensures { result ≡ in_type ptype (pos number) }
+{
+    match ptype {
+        PType::U64 => Some(PValue::U64(number)),
+        PType::U32 => Some(PValue::U32(u32::try_from(number).ok()?)),
+        _ => other_number(ptype, i128::from(number)),
+    }
+}
+
 /// The number of a type at the front of a text, and what follows it: up to 19 digits, behind a
 /// minus where it is below zero. None where anything else stands there, and where the text ends
 /// within a few bytes.
@@ -489,6 +520,11 @@ pub fn plain_number(ptype: PType, text: &[u8]) -> Option<(PValue, &[u8])>
     ensures number { IfSome result (λ x. BeginsNumber ptype text.now x.0 x.1.now) }
     ensures shorter { IfSome result (λ x. length x.1.now < length text.now) }
 {
-    let (number, rest) = whole(ptype, text)?;
-    Some((in_type(ptype, number)?, rest))
+    if is_signed(ptype) {
+        let (number, rest) = signed(text)?;
+        Some((signed_number(ptype, number)?, rest))
+    } else {
+        let (number, rest) = natural(text)?;
+        Some((unsigned_number(ptype, number)?, rest))
+    }
 }

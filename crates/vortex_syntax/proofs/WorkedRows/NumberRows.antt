@@ -2,10 +2,7 @@
 use Rattle.std.proofs.Common.{◌≡◌, pos, negsuc, None, Some, [], ◌∷◌, codes, refl}
 use Rattle.vortex_base.specs.declared.types.PType.TheVariants as ptype
 use Rattle.vortex_base.specs.declared.pvalue.PValue.TheVariants as number
-use Rattle.vortex_syntax.specs.Numbers.{bytes_of, four_value, number_of}
-
-four_digits_in_their_places : four_value 49 50 51 52 ≡ 1234
-four_digits_in_their_places = refl
+use Rattle.vortex_syntax.specs.Numbers.{bytes_of, number_of}
 
 zeros_in_front : number_of ptype.U8 (codes "000000000000000000000000000000000000000000000000000000000007") ≡ Some (number.U8 7)
 zeros_in_front = refl

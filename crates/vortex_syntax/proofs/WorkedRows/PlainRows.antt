@@ -1,5 +1,5 @@
 -- Worked rows: values in plain form, computed.
-use Rattle.std.proofs.Common.{◌≡◌, pos, negsuc, true, false, [], ◌∷◌, None, Some, append-nil, codes, refl, ap, ◌∙◌, inl, inr, arith}
+use Rattle.std.proofs.Common.{◌≡◌, negsuc, true, false, [], ◌∷◌, None, Some, append-nil, codes, refl, ap, ◌∙◌, inl, inr, arith}
 use Rattle.std.specs.Str.{chars, is_utf8}
 use Rattle.vortex_base.specs.declared.dtype.DType.TheVariants as dtype
 use Rattle.vortex_base.specs.declared.pvalue.PValue.TheVariants as number
@@ -8,7 +8,7 @@ use Rattle.vortex_base.specs.declared.types.Nullability.TheVariants.{NonNullable
 use Rattle.vortex_base.specs.declared.types.PType.TheVariants as ptype
 use Rattle.vortex_syntax.proofs.PlainLemmas.{is_spelled}
 use Rattle.vortex_syntax.specs.Numbers.{bytes_of}
-use Rattle.vortex_syntax.specs.Plain.{BeginsBytes, BeginsNatural, BeginsNumber, BeginsQuoted, BeginsSigned, BeginsValue, BeginsWhole, is_line_byte, is_text_byte, is_word_byte}
+use Rattle.vortex_syntax.specs.Plain.{BeginsBytes, BeginsNatural, BeginsNumber, BeginsQuoted, BeginsSigned, BeginsValue, is_line_byte, is_text_byte, is_word_byte}
 use Rattle.vortex_syntax.specs.Words.{Plain, Quoted}
 
 digits_before_a_space : BeginsNatural (codes "012 x") 12 (codes " x")
@@ -19,12 +19,6 @@ digits_behind_a_minus = (codes "-12", record { split = refl; is_plain = refl; so
 
 least_of_a_type : BeginsNumber ptype.I8 (codes "-128\n") (number.I8 (negsuc 127)) (codes "\n")
 least_of_a_type = (codes "-128", record { split = refl; is_plain = refl; some = omega arith }, refl)
-
-minus_of_a_signed_type : BeginsWhole ptype.I8 (codes "-12\n") (negsuc 11) (codes "\n")
-minus_of_a_signed_type = (codes "-12", record { split = refl; is_plain = refl; some = omega arith }, refl)
-
-digits_of_another_type : BeginsWhole ptype.U8 (codes "300 x") (pos 300) (codes " x")
-digits_of_another_type = (codes "300", record { split = refl; is_plain = refl; some = omega arith }, refl)
 
 text_before_its_quote : BeginsQuoted (codes "a b\" x") (codes "a b") (codes " x")
 unfolding is_utf8 chars lib.Utf8.encode

@@ -7,12 +7,6 @@ pub record DigitsRead (so_far number : ℕ) (text rest : List ℕ) : Type 0 wher
   pub read : (whole : List ℕ) → BeginsDigits whole so_far text → BeginsDigits whole number rest
   pub no_longer : length rest ≤ length text
 
-abbrev pub invariant-fours : goal.invariant-fours
-invariant-fours l = DigitsRead l.so_far l.number l.text l.rest
-
-abbrev pub decreases-fours : goal.decreases-fours
-decreases-fours l = length l.rest
-
 abbrev pub invariant-digits : goal.invariant-digits
 invariant-digits l = DigitsRead l.so_far l.number l.text l.rest
 
