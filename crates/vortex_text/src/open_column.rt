@@ -25,6 +25,51 @@ use vortex_syntax::plain::{behind_row, plain_bytes, plain_cell, plain_null, plai
 use vortex_syntax::value::optional_value_of;
 use vortex_syntax::word::{first_word, no_word};
 
+// Whether a type stands before another one.
+#[inline(always)]
+fn is_before(ptype: PType, other: PType) -> bool {
+    (ptype as u8) < (other as u8)
+}
+
+// Does something with the values of cells in the form of a type of numbers, and that type, or else
+// something other. The type is found by a few tests, which are foreseen where a jump by a table of
+// all types isn't, as on a processor that guards against Spectre.
+macro_rules! match_number_type {
+    ($cells:expr, $ptype:expr, $natives:ident, $own:ident => $each:expr, $other:expr) => {
+        if is_before($ptype, PType::I8) {
+            if is_before($ptype, PType::U32) {
+                number_type_of!($cells, $ptype, $natives, $own => $each, $other, U8, U16)
+            } else {
+                number_type_of!($cells, $ptype, $natives, $own => $each, $other, U32, U64)
+            }
+        } else if is_before($ptype, PType::I32) {
+            number_type_of!($cells, $ptype, $natives, $own => $each, $other, I8, I16)
+        } else {
+            number_type_of!($cells, $ptype, $natives, $own => $each, $other, I32, I64)
+        }
+    };
+}
+
+// The same of two types.
+macro_rules! number_type_of {
+    (
+        $cells:expr, $ptype:expr, $natives:ident, $own:ident => $each:expr, $other:expr,
+        $first:ident, $last:ident
+    ) => {
+        match ($cells, $ptype) {
+            (Cells::$first($natives), PType::$first) => {
+                let $own = PType::$first;
+                $each
+            }
+            (Cells::$last($natives), PType::$last) => {
+                let $own = PType::$last;
+                $each
+            }
+            _ => $other,
+        }
+    };
+}
+
 /// The values of a column so far. Its declared size is 0.
 #[derive(Debug, Drop)]
 pub struct OpenColumn {
@@ -123,6 +168,24 @@ fn take_number_rows<'a, T: Native>(
     take_native_rows(natives, DType::Primitive(ptype, nullability), text)
 }
 
+// The same, where the column has the form of its type of numbers; else no rows.
+#[inline(always)]
+fn take_own_number_rows<'a>(
+    cells: &mut Cells,
+    ptype: PType,
+    nullability: Nullability,
+    text: &'a [u8],
+) -> (usize, &'a [u8])
+    ensures rows { let dtype = dtype.Primitive ptype nullability in
+        TakesRows first_row result.0 (open_column dtype (cell_values cells.old) ∷ [])
+        text.now (open_column dtype (cell_values cells.new) ∷ []) result.1.now }
+    ensures bytes { result.0 + length result.1.now ≤ length text.now }
+{
+    match_number_type!(cells, ptype,
+        natives, own => take_number_rows(natives, own, nullability, text),
+        (0, text))
+}
+
 // Adds the values of the rows in plain form that a text begins with to the only column, where it
 // has the form of a type of numbers or truths. How many rows those are comes back, and what follows
 // them: no rows where the column has another form.
@@ -132,46 +195,11 @@ fn take_own_rows<'a>(cells: &mut Cells, dtype: DType, text: &'a [u8]) -> (usize,
         text.now (open_column dtype (cell_values cells.new) ∷ []) result.1.now }
     ensures bytes { result.0 + length result.1.now ≤ length text.now }
 {
+    if let DType::Primitive(ptype, nullability) = dtype {
+        return take_own_number_rows(cells, ptype, nullability, text);
+    }
     match (cells, dtype) {
         (Cells::Bool(v), DType::Bool(n)) => take_native_rows(v, DType::Bool(n), text),
-        (Cells::U8(v), DType::Primitive(PType::U8, n)) => take_number_rows(v, PType::U8, n, text),
-        (Cells::U16(v), DType::Primitive(PType::U16, n)) => take_number_rows(
-            v,
-            PType::U16,
-            n,
-            text,
-        ),
-        (Cells::U32(v), DType::Primitive(PType::U32, n)) => take_number_rows(
-            v,
-            PType::U32,
-            n,
-            text,
-        ),
-        (Cells::U64(v), DType::Primitive(PType::U64, n)) => take_number_rows(
-            v,
-            PType::U64,
-            n,
-            text,
-        ),
-        (Cells::I8(v), DType::Primitive(PType::I8, n)) => take_number_rows(v, PType::I8, n, text),
-        (Cells::I16(v), DType::Primitive(PType::I16, n)) => take_number_rows(
-            v,
-            PType::I16,
-            n,
-            text,
-        ),
-        (Cells::I32(v), DType::Primitive(PType::I32, n)) => take_number_rows(
-            v,
-            PType::I32,
-            n,
-            text,
-        ),
-        (Cells::I64(v), DType::Primitive(PType::I64, n)) => take_number_rows(
-            v,
-            PType::I64,
-            n,
-            text,
-        ),
         _ => (0, text),
     }
 }
@@ -234,6 +262,25 @@ fn last_bytes(text: &[u8], left: usize) -> &[u8]
     &text[text.len() - left..]
 }
 
+// Adds the number in plain form of a type that a text begins with, behind a space, to cells in the
+// form of that type.
+#[inline(always)]
+fn take_own_number<'a>(
+    cells: &mut Cells,
+    ptype: PType,
+    nullability: Nullability,
+    text: &'a [u8],
+) -> Option<&'a [u8]>
+    ensures taken { MatchOption result (cell_values cells.new ≡ cell_values cells.old)
+        (λ rest. AddsValue (dtype.Primitive ptype nullability) (cell_values cells.old) text.now
+        (cell_values cells.new) rest.now) }
+    ensures shorter { IfSome result (λ rest. length rest.now < length text.now) }
+{
+    match_number_type!(cells, ptype,
+        natives, own => take_number(natives, own, nullability, text),
+        None)
+}
+
 // Adds the value in plain form of a type that a text begins with, behind a space, to cells in the
 // form of that type. The text after it comes back, or none where anything else stands there, the
 // cells have another form or memory is refused.
@@ -249,21 +296,21 @@ fn take_own<'a>(
         rest.now) }
     ensures shorter { IfSome result (λ rest. length rest.now < length text.now) }
 {
-    match (cells, dtype) {
-        (Cells::Bool(truths), DType::Bool(n)) => take_native(truths, DType::Bool(n), text),
-        (Cells::U8(v), DType::Primitive(PType::U8, n)) => take_number(v, PType::U8, n, text),
-        (Cells::U16(v), DType::Primitive(PType::U16, n)) => take_number(v, PType::U16, n, text),
-        (Cells::U32(v), DType::Primitive(PType::U32, n)) => take_number(v, PType::U32, n, text),
-        (Cells::U64(v), DType::Primitive(PType::U64, n)) => take_number(v, PType::U64, n, text),
-        (Cells::I8(v), DType::Primitive(PType::I8, n)) => take_number(v, PType::I8, n, text),
-        (Cells::I16(v), DType::Primitive(PType::I16, n)) => take_number(v, PType::I16, n, text),
-        (Cells::I32(v), DType::Primitive(PType::I32, n)) => take_number(v, PType::I32, n, text),
-        (Cells::I64(v), DType::Primitive(PType::I64, n)) => take_number(v, PType::I64, n, text),
-        (Cells::Texts(texts), _) => {
+    if let DType::Primitive(ptype, nullability) = dtype {
+        return take_own_number(cells, ptype, nullability, text);
+    }
+    if let DType::Bool(n) = dtype {
+        return match cells {
+            Cells::Bool(truths) => take_native(truths, DType::Bool(n), text),
+            _ => None,
+        };
+    }
+    match cells {
+        Cells::Texts(texts) => {
             let left = take_text(texts, dtype, text)?;
             Some(last_bytes(text, left))
         }
-        (Cells::Binary(blobs), _) => {
+        Cells::Binary(blobs) => {
             let left = take_bytes(blobs, scratch, dtype, text)?;
             Some(last_bytes(text, left))
         }
@@ -285,6 +332,20 @@ impl OpenColumn {
 
     /// How many values there are.
     pub fn len(&self) -> usize
+        ensures { result ≡ length self.now.values }
+    {
+        if let Cells::I64(natives) = &self.cells {
+            return natives.len();
+        }
+        if let Cells::I32(natives) = &self.cells {
+            return natives.len();
+        }
+        self.other_len()
+    }
+
+    // The same in any form.
+    #[inline(never)]
+    fn other_len(&self) -> usize
         ensures { result ≡ length self.now.values }
     {
         self.cells.len()
