@@ -1,10 +1,12 @@
 -- Bytes that go out a page at a time.
-use Rattle.std.proofs.Common.{◌≡◌, ◌<◌, ◌+◌, ℕ, Bool, List, codes, decimal, [], ◌∷◌, ◌++◌, Option, Result, Ok, Err, OnErr, OnOk, length, length-append, append_assoc, append-nil, take, drop, get_or, ap, sym, subst, ◌∙◌, refl, arith, take-append-drop}
+use Rattle.std.proofs.Common.{◌≡◌, ◌<◌, ◌≤◌, ◌+◌, ◌/◌, ◌^◌, ℕ, Bool, List, codes, decimal, [], ◌∷◌, ◌++◌, Option, Result, Ok, Err, OnErr, OnOk, length, length-append, append_assoc, append-nil, take, drop, get_or, ap, sym, subst, ◌∙◌, refl, arith, take-append-drop}
 use Rattle.std.specs.Io.KnownBytes.{Appends}
 use Rattle.std.specs.List.{flat_map}
 use Rattle.std.proofs.KnownBytes.{Appends-trans}
 use Rattle.std.proofs.lemmas.Grind.{flat_map-append}
+use Rattle.std.proofs.lemmas.Fmt.{length-decimal-le}
 use Rattle.std.proofs.lemmas.List.{take_more}
+use Rattle.itoa.proofs.Decimal.{length_one, length_pair, length_two}
 use Rattle.vortex_text.specs.Printing.{part_text, row_begin, row_text, whole_text}
 use Rattle.vortex_text.specs.Streams.{IsCutOff, Passes}
 
@@ -84,6 +86,10 @@ flat_map_parted f xs i d within =
     ap (flat_map f) (sym (take-append-drop (i + 1) xs)) ∙ flat_map-append f (take (i + 1) xs) (drop (i + 1) xs) ∙ ap (λ l. l ++ flat_map f (drop (i + 1) xs)) (flat_map_next f xs i d within)
     ∙ append_assoc (flat_map f (take i xs)) (f (get_or xs i d)) (flat_map f (drop (i + 1) xs))
 
+-- a part's number behind its space
+pub part_parted : (part : ℕ) (space : List ℕ) → space ≡ 32 ∷ [] → part_text part ≡ space ++ decimal part
+part_parted part space is = ap (λ l. l ++ decimal part) (sym is)
+
 -- a row behind what the rows of its part begin with
 pub row_parted : (x : ℕ × ℕ) (begin : List ℕ) → begin ≡ row_begin x.0 → row_text x ≡ begin ++ decimal x.1
 row_parted x begin is = sym (append_assoc (32 ∷ decimal x.0) (58 ∷ []) (decimal x.1)) ∙ ap (λ l. l ++ decimal x.1) (sym is)
@@ -92,3 +98,14 @@ row_parted x begin is = sym (append_assoc (32 ∷ decimal x.0) (58 ∷ []) (deci
 pub whole_parted : (parts : List ℕ) → 0 < length parts → whole_text parts ≡ codes "whole" ++ (flat_map part_text parts ++ 10 ∷ [])
 whole_parted [] some = absurd (omega arith)
 whole_parted (part ∷ parts) some = refl
+
+-- how many digits a number of three or four takes
+pub digits_three : (n : ℕ) → 100 ≤ n → n < 1000 → length (decimal n) ≡ 3
+digits_three n low high = length_pair n low (omega arith) ∙ ap (λ k. k + 2) (length_one (n / 100) (omega arith))
+
+pub digits_four : (n : ℕ) → 1000 ≤ n → n < 10000 → length (decimal n) ≡ 4
+digits_four n low high = length_pair n (omega arith) (omega arith) ∙ ap (λ k. k + 2) (length_two (n / 100) (omega arith) (omega arith))
+
+-- and one of 64 bits takes 20 at the most
+pub few_decimals : (n : ℕ) → n < 2 ^ 64 → length (decimal n) ≤ 20
+few_decimals n fits = length-decimal-le 20 n (omega arith) (omega arith) fits

@@ -1,69 +1,37 @@
 //! What is printed.
-ghost use Rattle.std.specs.Prelude.{◌≡◌, ◌++◌, [], IfOk, OnErr, OnOk, decimal, string_bytes};
+ghost use Rattle.std.specs.Prelude.{◌≡◌, ◌++◌, [], IfOk, OnErr, OnOk, string_bytes};
 ghost use Rattle.std.specs.Io.KnownBytes.{Appends};
 ghost use Rattle.std.specs.List.{flat_map};
 ghost use Rattle.vortex_text.specs.Printing.{bad_text, part_text, row_begin, row_text, scan_text, whole_text};
 ghost use Rattle.vortex_text.specs.Streams.{IsCutOff, Passes};
 
-use crate::page::{CutOff, Page};
+use crate::page::{CutOff, Front, Page};
 use crate::streams::Sink;
-use arrayvec::ArrayString;
-use itoa::Buffer;
 use std::alloc::{AllocError, Global};
 use vortex_prune::scan::outcome::Scan;
 
-// A part's number takes 20 digits at the most.
-const BEGIN: usize = 22;
-
-// A number behind what stands in front of it.
-#[inline(always)]
-fn print_number<W: Sink>(
-    writer: &mut W,
-    page: &mut Page,
-    front: &str,
-    number: usize,
-) -> Result<(), CutOff>
-    ensures printed { OnOk result (Passes (W.contents writer.old) (W.contents writer.new)
-        page.old.bytes.items page.new.bytes.items (front.now ++ decimal number)) }
-    ensures cut { OnErr result (IsCutOff (W.has_failed writer.new) (W.contents writer.old)
-        (W.contents writer.new) (page.old.bytes.items ++ (front.now ++ decimal number))) }
-{
-    page.put(writer, front.as_bytes())?;
-    page.put(writer, Buffer::new().format(number).as_bytes())
-}
-
 fn print_parts<W: Sink>(writer: &mut W, page: &mut Page, parts: &[usize]) -> Result<(), CutOff>
     ensures printed { OnOk result (Passes (W.contents writer.old) (W.contents writer.new)
-        page.old.bytes.items page.new.bytes.items (flat_map part_text parts.now)) }
+        page.old page.new (flat_map part_text parts.now)) }
     ensures cut { OnErr result (IsCutOff (W.has_failed writer.new) (W.contents writer.old)
-        (W.contents writer.new) (page.old.bytes.items ++ flat_map part_text parts.now)) }
+        (W.contents writer.new) (page.old ++ flat_map part_text parts.now)) }
 {
+    let space = Front::space();
     for part in parts {
-        print_number(writer, page, " ", *part)?;
+        page.put_number(writer, &space, *part)?;
     }
     Ok(())
 }
 
-// What the rows of a part begin with.
-fn row_begin(part: usize) -> ArrayString<BEGIN>
-    ensures { result.bytes ≡ row_begin part }
-{
-    let mut begin = ArrayString::new();
-    begin.push_str(" ");
-    begin.push_str(Buffer::new().format(part));
-    begin.push_str(":");
-    begin
-}
-
 // Goes from the rows of one part to those of another, or of the same.
 #[inline(always)]
-fn turn_to(begin: &mut ArrayString<BEGIN>, begun: &mut usize, part: usize)
-    requires { begin.old.bytes ≡ row_begin begun.old }
-    ensures begin { begin.new.bytes ≡ row_begin part }
+fn turn_to(begin: &mut Front, begun: &mut usize, part: usize)
+    requires { begin.old ≡ row_begin begun.old }
+    ensures begin { begin.new ≡ row_begin part }
     ensures begun { begun.new ≡ part }
 {
     if *begun != part {
-        *begin = row_begin(part);
+        *begin = Front::of_part(part);
         *begun = part;
     }
 }
@@ -75,15 +43,15 @@ fn print_rows<W: Sink>(
     rows: &[(usize, usize)],
 ) -> Result<(), CutOff>
     ensures printed { OnOk result (Passes (W.contents writer.old) (W.contents writer.new)
-        page.old.bytes.items page.new.bytes.items (flat_map row_text rows.now)) }
+        page.old page.new (flat_map row_text rows.now)) }
     ensures cut { OnErr result (IsCutOff (W.has_failed writer.new) (W.contents writer.old)
-        (W.contents writer.new) (page.old.bytes.items ++ flat_map row_text rows.now)) }
+        (W.contents writer.new) (page.old ++ flat_map row_text rows.now)) }
 {
     let mut begun = 0;
-    let mut begin = row_begin(begun);
+    let mut begin = Front::of_part(begun);
     for (part, row) in rows {
         turn_to(&mut begin, &mut begun, *part);
-        print_number(writer, page, begin.as_str(), *row)?;
+        page.put_number(writer, &begin, *row)?;
     }
     Ok(())
 }
@@ -91,9 +59,9 @@ fn print_rows<W: Sink>(
 // The line of the parts that are whole, where there are any.
 fn print_whole<W: Sink>(writer: &mut W, page: &mut Page, parts: &[usize]) -> Result<(), CutOff>
     ensures printed { OnOk result (Passes (W.contents writer.old) (W.contents writer.new)
-        page.old.bytes.items page.new.bytes.items (whole_text parts.now)) }
+        page.old page.new (whole_text parts.now)) }
     ensures cut { OnErr result (IsCutOff (W.has_failed writer.new) (W.contents writer.old)
-        (W.contents writer.new) (page.old.bytes.items ++ whole_text parts.now)) }
+        (W.contents writer.new) (page.old ++ whole_text parts.now)) }
 {
     if parts.is_empty() {
         return Ok(());

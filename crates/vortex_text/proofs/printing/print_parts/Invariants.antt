@@ -7,4 +7,4 @@ use Rattle.vortex_text.proofs.printing.print_parts.Given as goal
 -- the parts so far are printed
 abbrev pub invariant-loop-part : goal.invariant-loop-part
 invariant-loop-part g l =
-    Passes (g.W.Sink.contents l.initial.writer) (g.W.Sink.contents l.writer) l.initial.page.bytes.items l.page.bytes.items (flat_map part_text (take l.part-index l.parts))
+    Passes (g.W.Sink.contents l.initial.writer) (g.W.Sink.contents l.writer) l.initial.page l.page (flat_map part_text (take l.part-index l.parts))

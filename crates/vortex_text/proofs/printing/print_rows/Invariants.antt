@@ -7,6 +7,6 @@ use Rattle.vortex_text.proofs.printing.print_rows.Given as goal
 -- the rows so far are printed, and what those of the part begin with is made
 abbrev pub invariant-loop-part : goal.invariant-loop-part
 invariant-loop-part g l = record {
-  printed : Passes (g.W.Sink.contents l.initial.writer) (g.W.Sink.contents l.writer) l.initial.page.bytes.items l.page.bytes.items (flat_map row_text (take l.part-index l.rows));
-  begun : l.begin.bytes ≡ row_begin l.begun;
+  printed : Passes (g.W.Sink.contents l.initial.writer) (g.W.Sink.contents l.writer) l.initial.page l.page (flat_map row_text (take l.part-index l.rows));
+  begun : l.begin ≡ row_begin l.begun;
 }

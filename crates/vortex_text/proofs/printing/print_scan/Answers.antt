@@ -12,7 +12,7 @@ returns-in_err-put-clause-cut g c =
     let R : List ℕ = flat_map row_text c.args.scan.now.selected.items in
     let L : List ℕ = 10 ∷ [] in
     let W : List ℕ = whole_text c.args.scan.now.whole.items in
-    let page = c.new-page.result.bytes.items in
+    let page = c.new-page.result in
     let all : (((S ++ P) ++ N) ++ R) ++ (L ++ W) ≡ S ++ (P ++ (N ++ (R ++ (L ++ W)))) = append_assoc ((S ++ P) ++ N) R (L ++ W) ∙ append_assoc (S ++ P) N (R ++ (L ++ W)) ∙ append_assoc S P (N ++ (R ++ (L ++ W))) in
     on_err _ (cut_off _ _ _ _ ((((S ++ P) ++ N) ++ R) ++ (L ++ W)) c.new-page.ensures (cut_longer _ _ _ _ (P ++ (N ++ (R ++ (L ++ W)))) _ c.in_err-put.ensures.cut (ap (λ l. page ++ l) all ∙ sym (append_assoc page S (P ++ (N ++ (R ++ (L ++ W))))))))
 

@@ -7,7 +7,7 @@ use Rattle.vortex_text.proofs.printing.print_whole.Goals as goal
 
 pub returns-in_err-put-clause-cut : goal.returns-in_err-put-clause-cut
 returns-in_err-put-clause-cut g c =
-    let page = c.args.page.now.bytes.items in
+    let page = c.args.page.now in
     let rest = flat_map part_text c.args.parts.now ++ 10 ∷ [] in
     let some : 0 < length c.args.parts.now = grind (arith, nat_tests, c.is_empty.ensures, c.if-is_empty.false) in
     on_err _ (cut_longer _ _ _ _ rest _ c.in_err-put.ensures.cut (ap (λ l. page ++ l) (whole_parted c.args.parts.now some) ∙ sym (append_assoc page (codes "whole") rest)))
