@@ -21,7 +21,8 @@ pub(crate) struct RowRange<'a> {
     pub(crate) rows: usize,
 }
 
-// Adds a row of the range at a place, if it is marked. There is room for it.
+// Adds a row of the range at a place, if it is marked. There is room for it. It's put there in any
+// case and taken away again, for which no jump is made that depends on the mark.
 #[inline(always)]
 fn select_if(selected: &mut Vec<(usize, usize)>, mark: bool, place: usize, row: usize)
     requires { vec_len selected.old < vec_capacity selected.old }
@@ -29,8 +30,10 @@ fn select_if(selected: &mut Vec<(usize, usize)>, mark: bool, place: usize, row: 
     ensures len { vec_len selected.new ≤ vec_len selected.old + 1 }
     ensures capacity { vec_capacity selected.new ≡ vec_capacity selected.old }
 {
-    if mark {
-        selected.push_reserved((place, row));
+    let before = selected.len();
+    selected.push_reserved((place, row));
+    if !mark {
+        selected.truncate(before);
     }
 }
 
