@@ -2,13 +2,14 @@ pub mod FirstLine
 pub mod Found
 pub mod Fronts
 pub mod DigitLemmas
-pub mod EightLemmas
+pub mod FrontLemmas
 pub mod NumberLemmas
 pub mod PairLemmas
 pub mod PlaceLemmas
 pub mod PlainLemmas
 pub mod PlainStatisticLemmas
 pub mod Spelling
+pub mod StopLemmas
 pub mod BadLemmas
 pub mod LiteralLemmas
 pub mod Steps

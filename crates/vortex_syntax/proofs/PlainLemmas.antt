@@ -1,12 +1,11 @@
 -- Values in plain form: digits by digits, words up to their end, texts up to the quote that closes them.
-use Rattle.std.proofs.Common.{◌≡◌, ◌≢◌, ◌<◌, ◌≤◌, ◌+◌, ◌-◌, ◌*◌, ◌&&◌, ◌||◌, ◌==◌, ℕ, ℤ, zero, suc, pos, neg_ℤ, Bool, true, false, not, List, [], ◌∷◌, ◌++◌, Option, None, Some, length, length-append, nat_lt, option_and_then, option_map, cond, codes, append_assoc, position, take, drop, get_or, int_le, refl, ap, sym, subst, ◌∙◌, inl, inr, arith, take-append-drop}
+use Rattle.std.proofs.Common.{◌≡◌, ◌≢◌, ◌<◌, ◌≤◌, ◌+◌, ◌-◌, ◌*◌, ◌&&◌, ◌||◌, ◌==◌, ℕ, ℤ, zero, suc, pos, neg_ℤ, Bool, true, false, not, List, [], ◌∷◌, ◌++◌, Option, None, Some, length, length-append, nat_lt, option_and_then, option_map, codes, append_assoc, position, take, drop, get_or, int_le, refl, ap, sym, subst, ◌∙◌, inl, inr, arith, take-append-drop}
 use Rattle.std.specs.Prelude.{IfSome}
 use Rattle.std.proofs.lemmas.Bool.{and_from, and_parts, cases_Bool, false_from_ne_true}
 use Rattle.std.proofs.lemmas.Bool.Decides.{nat_tests}
 use Rattle.std.proofs.lemmas.Int.Digits.{digits_value_push}
-use Rattle.std.proofs.Math.Seq.{take-append_seam}
-use Rattle.std.proofs.lemmas.List.Folds.{list_all-append}
-use Rattle.std.proofs.lemmas.List.{take_rest, length-take-le}
+use Rattle.std.proofs.lemmas.Str.Parse.{digits_value_short, numerals_by_value, tells_all_ascii_digits}
+use Rattle.std.proofs.lemmas.List.{length-drop, length-take, take-append-le, take_rest, length-take-le}
 use Rattle.std.proofs.lemmas.List.Quantifiers.{position-Some}
 use Rattle.std.specs.Char.{is_ascii_digit}
 use Rattle.std.specs.List.{AllByRecursion, flat_map, list_all, position_or_len}
@@ -58,76 +57,6 @@ digits_push text after d n so_far digit = record {
   value = digits_value_push 10 so_far.digits d ∙ omega (arith, digit_is d digit, so_far.value);
 }
 
--- eight bytes pass where eight tests hold together
-pub all_eight : (passes : ℕ → Bool) (a b c d e f g h : ℕ) (p q r s t u v w : Bool) → p ≡ passes a → q ≡ passes b → r ≡ passes c → s ≡ passes d → t ≡ passes e → u ≡ passes f → v ≡ passes g → w ≡ passes h → (((p && q) && r) && s) && (((t && u) && v) && w) ≡ true → list_all passes (a ∷ b ∷ c ∷ d ∷ e ∷ f ∷ g ∷ h ∷ []) ≡ true
-all_eight passes a b c d e f g h p q r s t u v w e_p e_q e_r e_s e_t e_u e_v e_w all =
-    let (front, back) = and_parts _ _ all in
-    let (front_3, is_s) = and_parts _ _ front in
-    let (front_2, is_r) = and_parts _ _ front_3 in
-    let (is_p, is_q) = and_parts _ _ front_2 in
-    let (back_3, is_w) = and_parts _ _ back in
-    let (back_2, is_v) = and_parts _ _ back_3 in
-    let (is_t, is_u) = and_parts _ _ back_2 in
-    and_from _ _ (sym e_p ∙ is_p) (and_from _ _ (sym e_q ∙ is_q) (and_from _ _ (sym e_r ∙ is_r) (and_from _ _ (sym e_s ∙ is_s) (and_from _ _ (sym e_t ∙ is_t) (and_from _ _ (sym e_u ∙ is_u) (and_from _ _ (sym e_v ∙ is_v) (and_from _ _ (sym e_w ∙ is_w) refl)))))))
-
--- The front of a text that passes, and what is left of it.
-pub record Passed (passes : ℕ → Bool) (text rest : List ℕ) : Type 0 where
-  pub front : List ℕ
-  pub split : text ≡ front ++ rest
-  pub all : list_all passes front ≡ true
-
-pub passed_none : (passes : ℕ → Bool) (text : List ℕ) → Passed passes text text
-passed_none passes text = record { front = []; split = refl; all = refl }
-
--- eight more bytes pass
-pub passed_eight : (passes : ℕ → Bool) (text front rest : List ℕ) → text ≡ front ++ rest → list_all passes front ≡ true → 8 ≤ length rest → list_all passes (get_or rest 0 0 ∷ get_or rest 1 0 ∷ get_or rest 2 0 ∷ get_or rest 3 0 ∷ get_or rest 4 0 ∷ get_or rest 5 0 ∷ get_or rest 6 0 ∷ get_or rest 7 0 ∷ []) ≡ true
-    → Passed passes text (take (length rest - 8) (drop 8 rest))
-passed_eight passes text front [] split all long tests = absurd (omega arith)
-passed_eight passes text front (a ∷ []) split all long tests = absurd (omega arith)
-passed_eight passes text front (a ∷ b ∷ []) split all long tests = absurd (omega arith)
-passed_eight passes text front (a ∷ b ∷ c ∷ []) split all long tests = absurd (omega arith)
-passed_eight passes text front (a ∷ b ∷ c ∷ d ∷ []) split all long tests = absurd (omega arith)
-passed_eight passes text front (a ∷ b ∷ c ∷ d ∷ e ∷ []) split all long tests = absurd (omega arith)
-passed_eight passes text front (a ∷ b ∷ c ∷ d ∷ e ∷ f ∷ []) split all long tests = absurd (omega arith)
-passed_eight passes text front (a ∷ b ∷ c ∷ d ∷ e ∷ f ∷ g ∷ []) split all long tests = absurd (omega arith)
-passed_eight passes text front (a ∷ b ∷ c ∷ d ∷ e ∷ f ∷ g ∷ h ∷ rest) split all long tests = record {
-  front = front ++ a ∷ b ∷ c ∷ d ∷ e ∷ f ∷ g ∷ h ∷ [];
-  split = split ∙ sym (append_assoc front (a ∷ b ∷ c ∷ d ∷ e ∷ f ∷ g ∷ h ∷ []) rest) ∙ ap (λ l. (front ++ a ∷ b ∷ c ∷ d ∷ e ∷ f ∷ g ∷ h ∷ []) ++ l) (sym (take_rest (a ∷ b ∷ c ∷ d ∷ e ∷ f ∷ g ∷ h ∷ rest) 8));
-  all = list_all-append passes front (a ∷ b ∷ c ∷ d ∷ e ∷ f ∷ g ∷ h ∷ []) ∙ and_from _ _ all tests;
-}
-
--- what has passed is the front of the text
-pub passed_front : (passes : ℕ → Bool) (text rest : List ℕ) → Passed passes text rest → list_all passes (take (length text - length rest) text) ≡ true
-passed_front passes text rest passed =
-    let long : length text - length rest ≡ length passed.front = omega (arith, ap length passed.split, length-append passed.front rest) in
-    let same : take (length passed.front) text ≡ passed.front = ap (take (length passed.front)) passed.split ∙ take-append_seam passed.front rest in
-    ap (λ n. list_all passes (take n text)) long ∙ ap (list_all passes) same ∙ passed.all
-
-or_len_behind : (passes : ℕ → Bool) (front rest : List ℕ) → list_all passes front ≡ true → position_or_len (λ b. not (passes b)) (front ++ rest) ≡ length front + position_or_len (λ b. not (passes b)) rest
-or_len_behind passes [] rest all = omega arith
-or_len_behind passes (b ∷ front) rest all =
-    let (one, others) = and_parts (passes b) (list_all passes front) all in
-    let more : position_or_len (λ b. not (passes b)) (b ∷ front ++ rest) ≡ 1 + position_or_len (λ b. not (passes b)) (front ++ rest) = rw one refl in
-    omega (arith, more, or_len_behind passes front rest others)
-
-same_position : (k n long all : ℕ) (at : ℕ) → at ≡ n + k → all ≡ n + long → cond (nat_lt at all) (Some at) None ≡ option_map (λ i. n + i) (cond (nat_lt k long) (Some k) None)
-same_position k n long all at is_at is_all = elim (cases_Bool (nat_lt k long)) [
-  | inl within ↦ (let there : nat_lt at all ≡ true = grind (arith, nat_tests, within, is_at, is_all) in rw (within, there) (ap Some is_at))
-  | inr past ↦ (let none : nat_lt at all ≡ false = grind (arith, nat_tests, past, is_at, is_all) in rw (past, none) refl)
-]
-
--- the first byte that doesn't pass stands behind those that do
-pub position_behind : (passes : ℕ → Bool) (text : List ℕ) (n : ℕ) → n ≤ length text → list_all passes (take n text) ≡ true
-    → position (λ b. not (passes b)) text ≡ option_map (λ i. n + i) (position (λ b. not (passes b)) (drop n text))
-position_behind passes text n within all =
-    let front = take n text in
-    let rest = drop n text in
-    let long : length front ≡ n = length-take-le n text within in
-    let split : front ++ rest ≡ text = take-append-drop n text in
-    let at : position_or_len (λ b. not (passes b)) text ≡ n + position_or_len (λ b. not (passes b)) rest =
-    sym (ap (position_or_len (λ b. not (passes b))) split) ∙ or_len_behind passes front rest all ∙ ap (λ m. m + position_or_len (λ b. not (passes b)) rest) long in
-    same_position _ n (length rest) (length text) _ at (sym (ap length split) ∙ length-append front rest ∙ ap (λ m. m + length rest) long)
-
 word_digits : (ds : List ℕ) → all_ascii_digits ds ≡ true → list_all is_word_byte ds ≡ true
 word_digits [] all = refl
 word_digits (d ∷ ds) all =
@@ -172,17 +101,42 @@ digits_front whole text n m ds so_far long are all is =
 abbrev pub eight_of : List ℕ → List ℕ
 eight_of text = get_or text 0 0 ∷ get_or text 1 0 ∷ get_or text 2 0 ∷ get_or text 3 0 ∷ get_or text 4 0 ∷ get_or text 5 0 ∷ get_or text 6 0 ∷ get_or text 7 0 ∷ []
 
+-- the first eight of a text, one by one
+front_eight : (text : List ℕ) → 8 ≤ length text → take 8 text ≡ eight_of text
+front_eight text long = ap (take 8) (front_is (eight_of text) text long (refl, (refl, (refl, (refl, (refl, (refl, (refl, (refl, tt))))))))) ∙ take-append-le 8 (eight_of text) (take (length text - 8) (drop 8 text)) (omega arith)
+
 -- eight more digits
-pub digits_eight : (whole rest : List ℕ) (n m : ℕ) → BeginsDigits whole n rest → 8 ≤ length rest → all_ascii_digits (eight_of rest) ≡ true → m ≡ digits_value 10 (eight_of rest)
+pub digits_eight : (whole rest : List ℕ) (n m : ℕ) → BeginsDigits whole n rest → 8 ≤ length rest → all_ascii_digits (take 8 rest) ≡ true → m ≡ digits_value 10 (take 8 rest)
     → BeginsDigits whole (n * 100000000 + m) (take (length rest - 8) (drop 8 rest))
 digits_eight whole rest n m so_far long all is =
-    digits_front whole rest n (n * 100000000 + m) (eight_of rest) so_far long (refl, (refl, (refl, (refl, (refl, (refl, (refl, (refl, tt)))))))) all (omega (arith, value_on_digits (eight_of rest) 0 all))
+    let same = front_eight rest long in
+    let digits : all_ascii_digits (eight_of rest) ≡ true = ap all_ascii_digits (sym same) ∙ all in
+    digits_front whole rest n (n * 100000000 + m) (eight_of rest) so_far long (refl, (refl, (refl, (refl, (refl, (refl, (refl, (refl, tt)))))))) digits (omega (arith, value_on_digits (eight_of rest) 0 digits, ap (digits_value 10) same))
 
--- what follows digits that are known, behind the same as those
-pub behind_more : {X : Type 0} (number : X → ℕ) (behind : X → List ℕ) (o : Option X) (text after : List ℕ) (n m : ℕ) → IfSome o (λ x. (whole : List ℕ) → BeginsDigits whole m after → BeginsDigits whole (number x) (behind x))
-    → ((whole : List ℕ) → BeginsDigits whole n text → BeginsDigits whole m after) → IfSome o (λ x. (whole : List ℕ) → BeginsDigits whole n text → BeginsDigits whole (number x) (behind x))
-behind_more number behind None text after n m more front = tt
-behind_more number behind (Some x) text after n m more front = λ whole begun. more whole (front whole begun)
+-- the number that up to eight digits write is short
+pub eight_short : (text : List ℕ) (n : ℕ) → all_ascii_digits (take 8 text) ≡ true → n ≡ digits_value 10 (take 8 text) → n < 100000000
+eight_short text n all is =
+    let few : digits_value 10 (take 8 text) < 100000000 = digits_value_short (numerals_by_value _ tells_all_ascii_digits) (take 8 text) 8 all (omega (arith, length-take 8 text)) in
+    omega arith
+
+-- eight digits, and no more known
+pub first_eight : (text : List ℕ) (n : ℕ) → 8 ≤ length text → all_ascii_digits (take 8 text) ≡ true → n ≡ digits_value 10 (take 8 text) → BeginsDigits text n (take (length text - 8) (drop 8 text))
+first_eight text n long all is =
+    let same : 0 * 100000000 + n ≡ n = omega arith in
+    subst (λ m. BeginsDigits text m (take (length text - 8) (drop 8 text))) same (digits_eight text text 0 n (digits_none text) long all is)
+
+-- some digits at the front of a text
+pub natural_front : (text : List ℕ) (k n : ℕ) → k ≤ length text → k ≢ 0 → all_ascii_digits (take k text) ≡ true → n ≡ digits_value 10 (take k text)
+    → BeginsNatural text n (take (length text - k) (drop k text))
+natural_front text k n within some all is =
+    let behind : take (length text - k) (drop k text) ≡ drop k text = take_rest text k in
+    let shorter : length (take (length text - k) (drop k text)) < length text = omega (arith, ap length behind, length-drop k text) in
+    natural_begins text (take (length text - k) (drop k text)) n record {
+      digits = take k text;
+      split = sym (take-append-drop k text) ∙ ap (λ l. take k text ++ l) (sym behind);
+      all = all;
+      value = sym is;
+    } shorter
 
 -- the first digit and those that follow it
 pub longer_natural : {X : Type 0} (number : X → ℕ) (behind : X → List ℕ) (o : Option X) (text after : List ℕ) (n : ℕ) → IfSome o (λ x. (whole : List ℕ) → BeginsDigits whole n after → BeginsDigits whole (number x) (behind x))

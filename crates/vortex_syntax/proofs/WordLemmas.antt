@@ -1,8 +1,9 @@
 -- What a line's first word is.
-use Rattle.std.proofs.Common.{◌≡◌, ◌<◌, ◌≤◌, ◌==◌, ◌||◌, ◌+◌, ℕ, suc, Bool, true, false, List, [], ◌∷◌, ◌++◌, Option, None, Some, length, nat_lt, position, take, drop, get_or, refl, ap, sym, ◌∙◌, inl, inr, arith, append_assoc, append-nil}
+use Rattle.std.proofs.Common.{◌≡◌, ◌<◌, ◌≤◌, ◌==◌, ◌||◌, ◌+◌, ◌-◌, ℕ, zero, suc, Bool, true, false, List, [], ◌∷◌, ◌++◌, Option, None, Some, length, nat_lt, position, take, drop, get_or, refl, ap, sym, ◌∙◌, inl, inr, arith, append_assoc, append-nil}
 use Rattle.std.proofs.lemmas.Bool.{cases_Bool}
 use Rattle.std.proofs.lemmas.Bool.Decides.{nat_tests}
-use Rattle.std.proofs.lemmas.List.{drop_all, take_all}
+use Rattle.std.proofs.lemmas.List.{drop_all, length-drop, take_all}
+use Rattle.memchr.specs.Find.{IsFirstByte, Passes, is_byte2}
 use Rattle.std.specs.List.{position_or_len}
 use Rattle.vortex_syntax.specs.Copies.{first_is_copied}
 use Rattle.vortex_syntax.specs.QuotedSteps.{escape_of, step_of}
@@ -59,11 +60,6 @@ quoted_closed bytes rest after w step h = h ∙ quoted_step w rest ∙ ap (after
 pub quoted_broken : (bytes rest w : List ℕ) → step_of rest ≡ None → words_from bytes (quoted []) ≡ words_from rest (quoted w)
     → words_from bytes (quoted []) ≡ Broken ∷ []
 quoted_broken bytes rest w step h = h ∙ quoted_step w rest ∙ ap (after_quoted w) step
-
-pub quoted_cut : (bytes rest w : List ℕ) → length rest ≡ 0 → words_from bytes (quoted []) ≡ words_from rest (quoted w)
-    → words_from bytes (quoted []) ≡ Broken ∷ []
-quoted_cut bytes [] w none h = h
-quoted_cut bytes (b ∷ rest) w none h = absurd (omega arith)
 
 found_at : (text : List ℕ) (end : ℕ) → position is_space text ≡ Some end → position_or_len is_space text ≡ end
 found_at text end found = elim (cases_Bool (nat_lt (position_or_len is_space text) (length text))) [
@@ -157,9 +153,9 @@ has_byte (escaped w) = true
 has_byte (closed []) = false
 has_byte (closed (b ∷ bs)) = true
 
-one_byte_more : (w : List ℕ) (b : ℕ) → has_byte (quoted (w ++ b ∷ [])) ≡ true
-one_byte_more [] b = refl
-one_byte_more (c ∷ w) b = refl
+more_bytes : (w : List ℕ) (b : ℕ) (bs : List ℕ) → has_byte (quoted (w ++ b ∷ bs)) ≡ true
+more_bytes [] b bs = refl
+more_bytes (c ∷ w) b bs = refl
 
 -- it is copied
 copied : (bs : List ℕ) (p : Place) → has_byte p ≡ true → first_is_copied (words_from bs p) ≡ true
@@ -177,11 +173,70 @@ copied (b ∷ bs) (quoted (c ∷ w)) h = elim (cases_Bool (b == 34)) [
   | inl is ↦ rw is (copied bs (closed (c ∷ w)) refl)
   | inr isnt ↦ (elim (cases_Bool (b == 92)) [ inl is ↦ rw (isnt, is) (copied bs (escaped (c ∷ w)) refl) | inr none ↦ rw (isnt, none) (copied bs (quoted (c ∷ (w ++ b ∷ []))) refl) ])
 ]
-copied (b ∷ bs) (escaped w) h = elim (cases_Bool (b == 34 || b == 92)) [ inl is ↦ rw is (copied bs (quoted (w ++ b ∷ [])) (one_byte_more w b)) | inr isnt ↦ rw isnt refl ]
+copied (b ∷ bs) (escaped w) h = elim (cases_Bool (b == 34 || b == 92)) [ inl is ↦ rw is (copied bs (quoted (w ++ b ∷ [])) (more_bytes w b [])) | inr isnt ↦ rw isnt refl ]
 copied (b ∷ bs) (closed []) h = cc
 copied (b ∷ bs) (closed (c ∷ w)) h = elim (cases_Bool (b == 32)) [ inl is ↦ rw is refl | inr isnt ↦ rw isnt refl ]
 
 -- a text between quotes to which a byte is added is copied
 pub quoted_copied : (bytes rest after w : List ℕ) (b : ℕ) → step_of rest ≡ Some (Some b, after) → words_from bytes (quoted []) ≡ words_from rest (quoted w)
     → first_is_copied (words_from bytes (quoted [])) ≡ true
-quoted_copied bytes rest after w b step h = ap first_is_copied (quoted_more bytes rest after w b step h) ∙ copied after (quoted (w ++ b ∷ [])) (one_byte_more w b)
+quoted_copied bytes rest after w b step h = ap first_is_copied (quoted_more bytes rest after w b step h) ∙ copied after (quoted (w ++ b ∷ [])) (more_bytes w b [])
+
+-- none of the first n bytes is a quote or a backslash
+abbrev pub IsTextRun : List ℕ → ℕ → Type 0
+IsTextRun bs n = (k : ℕ) → k < n → ¬ Passes (is_byte2 34 92) bs k
+
+-- the first byte of a run is neither
+text_byte : (b : ℕ) (bs : List ℕ) (n : ℕ) → IsTextRun (b ∷ bs) (suc n) → (b == 34 || b == 92) ≡ false
+text_byte b bs n free = elim (cases_Bool (b == 34 || b == 92)) [ inl is ↦ absurd (free 0 (omega arith) is) | inr isnt ↦ isnt ]
+
+-- what follows it is a run
+text_after : (b : ℕ) (bs : List ℕ) (n : ℕ) → IsTextRun (b ∷ bs) (suc n) → IsTextRun bs n
+text_after b bs n free k below = free (suc k) (omega arith)
+
+-- a byte that is neither goes into the text
+text_step : (b : ℕ) (bs w : List ℕ) → (b == 34 || b == 92) ≡ false → words_from (b ∷ bs) (quoted w) ≡ words_from bs (quoted (w ++ b ∷ []))
+text_step b bs w neither = elim (cases_Bool (b == 34)) [
+  | inl is ↦ (let same = rw is at neither in cc)
+  | inr isnt ↦ (let other : (b == 92) ≡ false = (let same = rw isnt at neither in cc) in rw (isnt, other) refl)
+]
+
+-- a run goes into the text as it is
+run_into : (bs w : List ℕ) (n : ℕ) → IsTextRun bs n → words_from bs (quoted w) ≡ words_from (drop n bs) (quoted (w ++ take n bs))
+run_into bs w zero free = ap (λ v. words_from bs (quoted v)) (sym (append-nil w))
+run_into [] w (suc n) free = refl
+run_into (b ∷ bs) w (suc n) free =
+    text_step b bs w (text_byte b bs n free)
+    ∙ run_into bs (w ++ b ∷ []) n (text_after b bs n free)
+    ∙ ap (λ v. words_from (drop n bs) (quoted v)) (append_assoc w (b ∷ []) (take n bs))
+
+-- the bytes from a place on, as indexing cuts them out
+abbrev pub bytes_from : ℕ → List ℕ → List ℕ
+bytes_from n bs = take (length bs - n) (drop n bs)
+
+bytes_from_drop : (n : ℕ) (bs : List ℕ) → bytes_from n bs ≡ drop n bs
+bytes_from_drop n bs = take_all (length bs - n) (drop n bs) (omega (arith, length-drop n bs))
+
+-- the bytes before the first quote or backslash go into the text
+pub run_read : (bytes rest w v : List ℕ) (n : ℕ) → IsFirstByte (is_byte2 34 92) rest (Some n) → v ≡ w ++ take n rest → words_from bytes (quoted []) ≡ words_from rest (quoted w)
+    → words_from bytes (quoted []) ≡ words_from (bytes_from n rest) (quoted v)
+run_read bytes rest w v n found added h =
+    h ∙ run_into rest w n (λ k below. found.0.before k (omega arith) below) ∙ ap (λ bs. words_from bs (quoted (w ++ take n rest))) (sym (bytes_from_drop n rest))
+    ∙ ap (λ u. words_from (bytes_from n rest) (quoted u)) (sym added)
+
+-- with neither, no quote closes the text
+pub run_broken : (bytes rest w : List ℕ) → IsFirstByte (is_byte2 34 92) rest None → words_from bytes (quoted []) ≡ words_from rest (quoted w)
+    → words_from bytes (quoted []) ≡ Broken ∷ []
+run_broken bytes rest w none h =
+    h ∙ run_into rest w (length rest) (λ k below. none k (omega arith) below)
+    ∙ ap (λ bs. words_from bs (quoted (w ++ take (length rest) rest))) (drop_all (length rest) rest (omega arith))
+
+-- a text to which bytes are added is copied
+text_copied : (bs w xs : List ℕ) → 0 < length xs → first_is_copied (words_from bs (quoted (w ++ xs))) ≡ true
+text_copied bs w [] some = absurd (omega arith)
+text_copied bs w (x ∷ xs) some = copied bs (quoted (w ++ x ∷ xs)) (more_bytes w x xs)
+
+-- and so is one that a run of some bytes goes into
+pub run_copied : (bytes rest w : List ℕ) (n : ℕ) → IsFirstByte (is_byte2 34 92) rest (Some n) → words_from bytes (quoted []) ≡ words_from rest (quoted w)
+    → 0 < length (take n rest) → first_is_copied (words_from bytes (quoted [])) ≡ true
+run_copied bytes rest w n found h some = ap first_is_copied (run_read bytes rest w (w ++ take n rest) n found refl h) ∙ text_copied (bytes_from n rest) w (take n rest) some

@@ -1,12 +1,13 @@
 //! Values in plain form, read straight from the bytes of a text, whose line isn't cut out before.
 //! What isn't in this form is left to the reader of words, by which each form here is specified.
-ghost use Rattle.std.specs.Prelude.{◌≡◌, ◌<◌, ◌≤◌, ◌++◌, [], ℕ, List, codes, neg_ℤ, not, option_map, pos, position, IfOk, IfSome, None, IsTrue, Some, length, take};
+ghost use Rattle.std.specs.Prelude.{◌≡◌, ◌<◌, ◌≤◌, ◌+◌, ◌++◌, [], ℕ, List, codes, neg_ℤ, not, option_map, pos, position, IfOk, IfSome, None, IsTrue, Some, length, map, take, true};
 ghost use Rattle.vortex_base.specs.Data.Cells.{short_value};
 ghost use Rattle.vortex_base.specs.declared.dtype.DType.TheVariants as dtype;
 ghost use Rattle.vortex_base.specs.declared.pvalue.PValue.{PValue};
 ghost use Rattle.vortex_base.specs.declared.scalar_value.ScalarValue.TheVariants as value;
 ghost use Rattle.vortex_base.specs.declared.types.Nullability.{Nullability};
-ghost use Rattle.std.specs.List.{list_all};
+ghost use Rattle.std.specs.Int.{from_le_bytes, w64};
+ghost use Rattle.std.specs.Simd.Lanes.{mask_l};
 ghost use Rattle.std.specs.Str.{all_ascii_digits};
 ghost use Rattle.std.specs.Str.Parse.{digits_value};
 ghost use Rattle.vortex_syntax.specs.Numbers.{in_64_bits_signed, in_type};
@@ -16,6 +17,7 @@ ghost use Rattle.vortex_syntax.specs.Plain as spec;
 use crate::number::{in_type, is_signed};
 use crate::value::read_pairs;
 use std::alloc::AllocError;
+use std::simd::{u8x8, u8x16, u64x1};
 use std::str;
 use vortex_base::cells::ShortCell;
 use vortex_base::dtype::DType;
@@ -28,14 +30,19 @@ const MOST: u64 = 1_844_674_407_370_955_160;
 // And one up to this with eight more.
 const MOST_BEFORE_EIGHT: u64 = 184_467_440_736;
 
-// In each byte of a word the four bits that are the same in all digits.
-const HIGH_BITS: u64 = 0xf0f0_f0f0_f0f0_f0f0;
-
-// The digit zero in each.
+// The digit zero in each byte of a word.
 const ZEROS: u64 = 0x3030_3030_3030_3030;
 
-// And what takes each byte above the digit nine to other such bits.
-const SIXES: u64 = 0x0606_0606_0606_0606;
+// What takes a byte above nine to its highest bit, in each byte.
+const ABOVE_NINE: u64 = 0x7676_7676_7676_7676;
+
+// The highest bit of each byte.
+const HIGHEST_BITS: u64 = 0x8080_8080_8080_8080;
+
+// Each second byte, and each second two.
+const PAIRS: u64 = 0x00ff_00ff_00ff_00ff;
+
+const FOURS: u64 = 0x0000_ffff_0000_ffff;
 
 // The bytes `row ` as one number, the first of them lowest.
 const ROW: u32 = 0x2077_6f72;
@@ -52,26 +59,53 @@ pub fn behind_row(text: &[u8]) -> Option<&[u8]>
     }
 }
 
-// The number that eight bytes write, if they are digits. They are looked at together, as a word
-// whose lowest byte is the first of them, and go into pairs by a sum and a product of it.
+// The number that eight digits write, of a word that has what they are worth in its bytes, the
+// first of them lowest. Each product brings neighbours together, digits into pairs, pairs into
+// fours, and those into the number.
 #[inline(always)]
-fn eight_digits(bytes: [u8; 8]) -> Option<u64>
-    ensures digits { IfSome result (λ _. IsTrue (all_ascii_digits bytes)) }
-    ensures number { IfSome result (λ n. n ≡ digits_value 10 bytes) }
-    ensures below { IfSome result (λ n. n < 100000000) }
+fn eight_value(worth: u64) -> u64
+    ensures { (digits : List ℕ) → length digits ≡ 8 → all_ascii_digits digits ≡ true
+        → worth + ZEROS ≡ from_le_bytes w64 digits → result ≡ digits_value 10 digits }
 {
-    let word = u64::from_le_bytes(bytes);
-    if word & HIGH_BITS != ZEROS {
-        return None;
+    let pairs = (worth.wrapping_mul(10 * 256 + 1) >> 8) & PAIRS;
+    let fours = (pairs.wrapping_mul(100 * 65_536 + 1) >> 16) & FOURS;
+    fours.wrapping_mul(10_000 * 4_294_967_296 + 1) >> 32
+}
+
+// The first eight bytes of a text as one word, the first of them lowest. They are read as a vector:
+// of bytes one by one the compiler makes one read only where none of them is looked at elsewhere.
+#[inline(always)]
+fn front_word(text: &[u8]) -> u64
+    requires { 8 ≤ length text.now }
+    ensures { result ≡ from_le_bytes w64 (take 8 text.now) }
+{
+    u64x1::from_le_bytes(u8x8::from_slice(text)).to_array()[0]
+}
+
+// How many of the first eight bytes of a text are digits, up to the first that isn't one, and the
+// number that they write. All are looked at together: less what zero is, a byte that is no digit is
+// above nine, and has its highest bit set in `others`. The digits then go to the word's end, with
+// zeros in front of them.
+#[inline(always)]
+fn front_digits(text: &[u8]) -> (usize, u64)
+    requires { 8 ≤ length text.now }
+    ensures within { result.0 ≤ 8 }
+    ensures digits { IsTrue (all_ascii_digits (take result.0 text.now)) }
+    ensures number { result.1 ≡ digits_value 10 (take result.0 text.now) }
+{
+    let worth = front_word(text) ^ ZEROS;
+    let others = (worth.wrapping_add(ABOVE_NINE) | worth) & HIGHEST_BITS;
+    if others == 0 {
+        return (8, eight_value(worth));
     }
-    if (word + SIXES) & HIGH_BITS != ZEROS {
-        return None;
+    let count = others.trailing_zeros() / 8;
+    if count == 0 {
+        return (0, 0);
     }
-    let digits = word - ZEROS;
-    let pairs = digits * 10 + (digits >> 8);
-    let first = pairs % 256 * 100 + (pairs >> 16) % 256;
-    let last = (pairs >> 32) % 256 * 100 + (pairs >> 48) % 256;
-    Some(first * 10_000 + last)
+    (
+        count as usize,
+        eight_value(worth.wrapping_shl(64 - 8 * count)),
+    )
 }
 
 // The number that the digits of another and those at the front of a text write, and what follows
@@ -84,9 +118,10 @@ fn longer(so_far: u64, text: &[u8]) -> Option<(u64, &[u8])>
 {
     let mut number = so_far;
     let mut rest = text;
-    if let [a, b, c, d, e, f, g, h, after @ ..] = rest {
+    if let [_, _, _, _, _, _, _, _, after @ ..] = rest {
         if number <= MOST_BEFORE_EIGHT {
-            if let Some(eight) = eight_digits([*a, *b, *c, *d, *e, *f, *g, *h]) {
+            let (count, eight) = front_digits(rest);
+            if count == 8 {
                 number = number * 100_000_000 + eight;
                 rest = after;
             }
@@ -106,62 +141,24 @@ fn longer(so_far: u64, text: &[u8]) -> Option<(u64, &[u8])>
     Some((number, rest))
 }
 
-// The same behind one digit. Up to seven more are read without a loop. None where fewer bytes than
-// those are left, as of a text's last line.
-#[inline(always)]
-fn digits_behind(first: u64, text: &[u8]) -> Option<(u64, &[u8])>
-    requires { first < 10 }
-    ensures digits { IfSome result (λ x. (whole : List ℕ)
-        → BeginsDigits whole first text.now → BeginsDigits whole x.0 x.1.now) }
-    ensures no_longer { IfSome result (λ x. length x.1.now ≤ length text.now) }
-{
-    let [a, b, c, d, e, f, g, after @ ..] = text else {
-        return None;
-    };
-    if !a.is_ascii_digit() {
-        return Some((first, text));
-    }
-    let two = first * 10 + u64::from(*a - b'0');
-    if !b.is_ascii_digit() {
-        return Some((two, &text[1..]));
-    }
-    let three = two * 10 + u64::from(*b - b'0');
-    if !c.is_ascii_digit() {
-        return Some((three, &text[2..]));
-    }
-    let four = three * 10 + u64::from(*c - b'0');
-    if !d.is_ascii_digit() {
-        return Some((four, &text[3..]));
-    }
-    let five = four * 10 + u64::from(*d - b'0');
-    if !e.is_ascii_digit() {
-        return Some((five, &text[4..]));
-    }
-    let six = five * 10 + u64::from(*e - b'0');
-    if !f.is_ascii_digit() {
-        return Some((six, &text[5..]));
-    }
-    let seven = six * 10 + u64::from(*f - b'0');
-    if !g.is_ascii_digit() {
-        return Some((seven, &text[6..]));
-    }
-    longer(seven * 10 + u64::from(*g - b'0'), after)
-}
-
 // The number that the digits at the front of a text write, and what follows them. None where there
-// are no digits or many, or where the text ends soon.
+// are no digits or many, or where fewer than eight bytes are left, as of a text's last line.
 #[inline(always)]
 fn natural(text: &[u8]) -> Option<(u64, &[u8])>
     ensures digits { IfSome result (λ x. BeginsNatural text.now x.0 x.1.now) }
     ensures shorter { IfSome result (λ x. length x.1.now < length text.now) }
 {
-    let [first, after @ ..] = text else {
+    let [_, _, _, _, _, _, _, _, after @ ..] = text else {
         return None;
     };
-    if !first.is_ascii_digit() {
+    let (count, number) = front_digits(text);
+    if count == 8 {
+        return longer(number, after);
+    }
+    if count == 0 {
         return None;
     }
-    digits_behind(u64::from(*first - b'0'), after)
+    Some((number, &text[count..]))
 }
 
 // The number below zero, or zero, of this size.
@@ -226,39 +223,41 @@ fn word_end(text: &[u8]) -> Option<usize>
     text.iter().position(|byte| !is_word_byte(*byte))
 }
 
-// How many bytes at the front, eight by eight, stand for themselves between quotes. None is judged
-// before all eight are looked at, which takes less than a jump for each.
+// In which of the first sixteen bytes of a text one stands that doesn't stand for itself between
+// quotes, a bit each, the first of them lowest.
 #[inline(always)]
-fn text_eights(text: &[u8]) -> usize
-    ensures plain { IsTrue (list_all spec.is_text_byte (take result text.now)) }
-    ensures within { result ≤ length text.now }
+fn text_stops(text: &[u8]) -> u64
+    requires { 16 ≤ length text.now }
+    ensures { result ≡ mask_l (map (λ b. not (spec.is_text_byte b)) (take 16 text.now)) }
 {
-    let mut rest = text;
-    'eights: while let [a, b, c, d, e, f, g, h, after @ ..] = rest {
-        let first = is_text_byte(*a) & is_text_byte(*b) & is_text_byte(*c) & is_text_byte(*d);
-        let last = is_text_byte(*e) & is_text_byte(*f) & is_text_byte(*g) & is_text_byte(*h);
-        if !(first & last) {
-            break;
-        }
-        rest = after;
-    }
-    text.len() - rest.len()
+    let bytes = u8x16::from_slice(text);
+    let outside = bytes.simd_lt(u8x16::splat(b' ')) | bytes.simd_gt(u8x16::splat(b'~'));
+    let signs = bytes.simd_eq(u8x16::splat(b'"')) | bytes.simd_eq(u8x16::splat(b'\\'));
+    (outside | signs).to_bitmask()
 }
 
 // Where the first byte stands that doesn't stand for itself between quotes, byte by byte.
-#[inline(always)]
+#[inline(never)]
 fn text_end_soon(text: &[u8]) -> Option<usize>
     ensures { result ≡ position (λ b. not (spec.is_text_byte b)) text.now }
 {
     text.iter().position(|byte| !is_text_byte(*byte))
 }
 
-// Where the first byte stands that doesn't stand for itself between quotes.
-#[inline]
+// Where the first byte stands that doesn't stand for itself between quotes. Sixteen bytes are
+// looked at together.
+#[inline(always)]
 fn text_end(text: &[u8]) -> Option<usize>
     ensures { result ≡ position (λ b. not (spec.is_text_byte b)) text.now }
 {
-    let passed = text_eights(text);
+    let mut passed = 0;
+    while text.len() - passed >= 16 {
+        let stops = text_stops(&text[passed..]);
+        if stops != 0 {
+            return Some(passed + stops.trailing_zeros() as usize);
+        }
+        passed += 16;
+    }
     match text_end_soon(&text[passed..]) {
         Some(end) => Some(passed + end),
         None => None,
@@ -338,7 +337,7 @@ fn whole_cell(ptype: PType, text: &[u8]) -> Option<(ShortCell, &[u8])>
     }
 }
 
-// The cell of the number behind a space at the front of a text, or of null, and what follows it.
+// The cell of the number behind a space at the front of a text, and what follows it.
 #[inline(always)]
 fn number_cell(dtype: DType, text: &[u8]) -> Option<(ShortCell, &[u8])>
     ensures value { IfSome result (λ x.
@@ -351,9 +350,7 @@ fn number_cell(dtype: DType, text: &[u8]) -> Option<(ShortCell, &[u8])>
     let DType::Primitive(ptype, _) = dtype else {
         return None;
     };
-    let Some((cell, rest)) = whole_cell(ptype, word) else {
-        return Some((ShortCell::Null, plain_null(dtype, text)?));
-    };
+    let (cell, rest) = whole_cell(ptype, word)?;
     if ends_word(rest) {
         Some((cell, rest))
     } else {
@@ -392,12 +389,11 @@ fn spaced_truth(text: &[u8]) -> Option<(bool, &[u8])>
     }
 }
 
-/// The cell of the truth, the number or the null of a type that stands behind one space at the
-/// front of a text, and what follows it: a number in up to 19 digits, then a space or a line feed.
-/// None where anything else stands there, where a null of truths does, and of a number where the
-/// text ends a few bytes on.
+/// The cell of the truth or the number of a type that stands behind one space at the front of a
+/// text, and what follows it: a number in up to 19 digits, then a space or a line feed. None where
+/// anything else stands there, and of a number where the text ends a few bytes on.
 #[inline(always)]
-pub fn plain_cell(dtype: DType, text: &[u8]) -> Option<(ShortCell, &[u8])>
+pub fn plain_value(dtype: DType, text: &[u8]) -> Option<(ShortCell, &[u8])>
     ensures value { IfSome result (λ x.
         BeginsValue dtype text.now (short_value x.0) x.1.now) }
     ensures shorter { IfSome result (λ x. length x.1.now < length text.now) }
@@ -429,6 +425,20 @@ pub fn plain_null(dtype: DType, text: &[u8]) -> Option<&[u8]>
         return None;
     }
     if ends_word(rest) { Some(rest) } else { None }
+}
+
+/// The cell of the truth, the number or the null of a type that stands behind one space at the
+/// front of a text, and what follows it.
+#[inline(always)]
+pub fn plain_cell(dtype: DType, text: &[u8]) -> Option<(ShortCell, &[u8])>
+    ensures value { IfSome result (λ x.
+        BeginsValue dtype text.now (short_value x.0) x.1.now) }
+    ensures shorter { IfSome result (λ x. length x.1.now < length text.now) }
+{
+    if let Some((cell, rest)) = plain_value(dtype, text) {
+        return Some((cell, rest));
+    }
+    Some((ShortCell::Null, plain_null(dtype, text)?))
 }
 
 /// The bytes of a type behind a space at the front of a text, an `x` and their digits, put into a

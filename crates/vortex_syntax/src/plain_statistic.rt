@@ -73,10 +73,10 @@ fn spaced_precision(text: &[u8]) -> Option<(bool, &[u8])>
     ensures word { IfSome result (λ x. BeginsSpaced text.now (precision_name x.0) x.1.now) }
     ensures shorter { IfSome result (λ x. length x.1.now < length text.now) }
 {
-    if let Some(rest) = text.strip_prefix(b" exact".as_slice()) {
+    if let [b' ', b'e', b'x', b'a', b'c', b't', rest @ ..] = text {
         return Some((true, rest));
     }
-    if let Some(rest) = text.strip_prefix(b" inexact".as_slice()) {
+    if let [b' ', b'i', b'n', b'e', b'x', b'a', b'c', b't', rest @ ..] = text {
         return Some((false, rest));
     }
     None

@@ -9,6 +9,7 @@ ghost use Rattle.vortex_syntax.specs.Words.{word_limit, Plain, first_word, no_wo
 
 use crate::expected::Expected;
 use crate::line_error::LineError;
+use memchr::memchr2;
 use std::alloc::Global;
 
 /// A word of a line.
@@ -45,9 +46,10 @@ fn quoted_at(alloc: Global, bytes: &[u8], left: usize) -> Result<(Vec<u8>, &[u8]
 {
     let mut text = Vec::new(alloc);
     let mut rest = bytes;
-    'bytes: while !rest.is_empty() {
-        let Some((byte, after)) = step_of(rest) else {
-            return Err(LineError::at(left, Expected::ClosingQuote));
+    'runs: while let Some(run) = memchr2(b'"', b'\\', rest) {
+        text.extend_from_slice(&rest[..run])?;
+        let Some((byte, after)) = step_of(&rest[run..]) else {
+            break;
         };
         let Some(byte) = byte else {
             return Ok((text, after));

@@ -402,7 +402,7 @@ impl Draft {
 
     // The first line of a text, of which the word `stat` was passed. A line in plain form is read
     // from its bytes, without a look at where it ends.
-    #[inline(never)]
+    #[inline(always)]
     fn read_first_stat<'a>(
         &mut self,
         alloc: Global,
@@ -426,7 +426,37 @@ impl Draft {
         Ok(after)
     }
 
-    // The first line of a text, which is no row in an open text. The text after it comes back.
+    // The same, where an error is told apart, so that none is handed from one to another with the
+    // rest. The text itself comes back where the line is refused.
+    #[inline(never)]
+    fn read_stat_line<'a>(
+        &mut self,
+        alloc: Global,
+        text: &'a [u8],
+        said: &'a [u8],
+        refused: &mut LineError,
+    ) -> &'a [u8]
+        requires split { text.now ≡ codes "stat" ++ said.now }
+        requires open_yet { (reading_of self.old).predicate ≡ None }
+        requires fits { FitsTogether (reading_of self.old) }
+        ensures read { length result.now < length text.now → first_read (reading_of self.old)
+            (lines text.now) ≡ Some (reading_of self.new, lines result.now) }
+        ensures refused { length text.now ≤ length result.now
+            → Fails refused.new (first_read (reading_of self.old) (lines text.now)) }
+        ensures memory { length text.now ≤ length result.now → refused.new ≡ LineError.Memory
+            → IsTrue (may_take (reading_of self.old) (lines text.now)) }
+    {
+        match self.read_first_stat(alloc, text, said) {
+            Ok(after) => after,
+            Err(error) => {
+                *refused = error;
+                text
+            }
+        }
+    }
+
+    // The first line of a text, which is neither a row nor a statistic in an open text. The text
+    // after it comes back.
     fn read_other_first<'a>(&mut self, alloc: Global, text: &'a [u8]) -> Result<&'a [u8], LineError>
         requires some { 0 < length text.now }
         requires fits { FitsTogether (reading_of self.old) }
@@ -443,9 +473,6 @@ impl Draft {
         if let [b'p', b'a', b'r', b't', b'\n', after @ ..] = text {
             self.read_part(alloc, &[])?;
             return Ok(after);
-        }
-        if let [b's', b't', b'a', b't', said @ ..] = text {
-            return self.read_first_stat(alloc, text, said);
         }
         self.read_any_first(alloc, text)
     }
@@ -496,7 +523,12 @@ impl Draft {
                 return self.read_first_row(alloc, values, refused);
             }
         }
-        let after = self.read_other(alloc, text, refused);
+        let after = match text {
+            [b's', b't', b'a', b't', said @ ..] if self.predicate.is_none() => {
+                self.read_stat_line(alloc, text, said, refused)
+            }
+            _ => self.read_other(alloc, text, refused),
+        };
         if after.len() < text.len() {
             Some(after)
         } else {

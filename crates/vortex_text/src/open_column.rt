@@ -21,7 +21,9 @@ use vortex_base::texts::Texts;
 use vortex_base::types::{Nullability, PType};
 use vortex_syntax::expected::Expected;
 use vortex_syntax::line_error::LineError;
-use vortex_syntax::plain::{behind_row, plain_bytes, plain_cell, plain_null, plain_text};
+use vortex_syntax::plain::{
+    behind_row, plain_bytes, plain_cell, plain_null, plain_text, plain_value,
+};
 use vortex_syntax::value::optional_value_of;
 use vortex_syntax::word::{first_word, no_word};
 
@@ -88,8 +90,8 @@ impl Model for OpenColumn {
     ghost view = { λ c. record { dtype = c.dtype; values = cell_values c.cells; size = 0 } };
 }
 
-// Adds the truth or number in plain form of a type that a text begins with, behind a space, or
-// null, to values that are kept as that type.
+// Adds the truth or number in plain form of a type that a text begins with, behind a space, to
+// values that are kept as that type.
 #[inline(always)]
 fn take_native<'a, T: Native>(
     natives: &mut Natives<T>,
@@ -101,7 +103,7 @@ fn take_native<'a, T: Native>(
         (map (option_map T.scalar) natives.new) rest.now) }
     ensures shorter { IfSome result (λ rest. length rest.now < length text.now) }
 {
-    let (cell, rest) = plain_cell(dtype, text)?;
+    let (cell, rest) = plain_value(dtype, text)?;
     let native = T::of_cell(cell)?;
     match natives.push(native) {
         Ok(()) => Some(rest),

@@ -181,6 +181,7 @@ impl Store {
 
     /// Tells a statistic of a column of the open part. There has to be one; else the line is bad
     /// where so many bytes of it are left.
+    #[inline(always)]
     pub fn tell(
         &mut self,
         column: usize,

@@ -132,6 +132,7 @@ fn number_cell(number: PValue) -> ShortCell
 
 /// Tells a statistic behind others. Where memory is refused, or a column is past 32 bits, the
 /// others stay.
+#[inline(always)]
 pub fn tell(
     told: &mut Vec<Told>,
     longs: &mut Vec<ScalarValue>,

@@ -71,6 +71,7 @@ impl ZoneLog {
     /// Tells a statistic of a column of the zone that hasn't ended, as `StatsSet::put` does: one
     /// that is known keeps its place, another goes last. Nothing is told where there is no such
     /// column.
+    #[inline(always)]
     pub fn put(
         &mut self,
         column: usize,

@@ -1,19 +1,12 @@
-use Rattle.std.proofs.Common.{◌+◌, ◌∙◌, not, option_map, position, ap, sym}
-use Rattle.std.proofs.lemmas.List.{take_rest}
-use Rattle.vortex_syntax.proofs.PlainLemmas.{position_behind}
+use Rattle.std.proofs.Common.{not, sym, arith}
+use Rattle.vortex_syntax.proofs.StopLemmas.{found_in_sixteen, passed_sixteen}
 use Rattle.vortex_syntax.specs.Plain.{is_text_byte}
 use Rattle.vortex_syntax.proofs.plain.text_end.Goals as goal
 
-pub returns-in-Some : goal.returns-in-Some
-returns-in-Some c =
-    let text = c.args.text.now in
-    let n = c.text_eights-passed.result in
-    let found = sym c.in-Some.is ∙ c.text_end_soon.ensures ∙ ap (position (λ b. not (is_text_byte b))) (take_rest text n) in
-    ap (option_map (λ i. n + i)) found ∙ sym (position_behind is_text_byte text n c.text_eights-passed.ensures.within c.text_eights-passed.ensures.plain)
+pub returns-then-stops-ne0 : goal.returns-then-stops-ne0
+returns-then-stops-ne0 c =
+    sym (found_in_sixteen (λ b. not (is_text_byte b)) c.args.text.now c.loop-passed.passed _ (omega arith) c.loop-passed.invariant.1 c.text_stops-stops.ensures (omega arith))
 
-pub returns-in-None : goal.returns-in-None
-returns-in-None c =
-    let text = c.args.text.now in
-    let n = c.text_eights-passed.result in
-    let found = sym c.in-None.is ∙ c.text_end_soon.ensures ∙ ap (position (λ b. not (is_text_byte b))) (take_rest text n) in
-    ap (option_map (λ i. n + i)) found ∙ sym (position_behind is_text_byte text n c.text_eights-passed.ensures.within c.text_eights-passed.ensures.plain)
+pub loop-passed-preserved : goal.loop-passed-preserved
+loop-passed-preserved c =
+    (omega arith, passed_sixteen (λ b. not (is_text_byte b)) c.args.text.now c.loop-passed.passed _ (omega arith) c.loop-passed.invariant.1 c.text_stops-stops.ensures (omega arith))
