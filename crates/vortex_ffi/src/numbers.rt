@@ -353,8 +353,10 @@ fn stand_exactly<N: Number>(source: &Source<'_>, from: usize, count: usize) -> b
 }
 
 // Puts the truths that a statistic tells for an aggregate of the zones from a place on, each of
-// which is known exactly, in the place of others. `None` where some zone has none.
-fn put_truths<N: Number>(
+// which is known exactly, in the place of others. `None` where some zone has none. Where a call
+// writes out the aggregate, a loop of vector instructions is made of it.
+#[inline(always)]
+fn put_truths_of<N: Number>(
     source: &Source<'_>,
     aggregate: AggregateFnRef,
     rows: &[u64],
@@ -376,6 +378,33 @@ fn put_truths<N: Number>(
         truths[place] = exact_truth(aggregate, number, rows[from + place])?;
     }
     Some(())
+}
+
+// The same, with the aggregate looked at once.
+fn put_truths<N: Number>(
+    source: &Source<'_>,
+    aggregate: AggregateFnRef,
+    rows: &[u64],
+    from: usize,
+    truths: &mut [bool],
+) -> Option<()>
+    requires numbers { spec.HasNumbers N.PTYPE source.now }
+    requires within { from + length truths.old ≤ length rows.now }
+    requires stand { spec.Stand N.PTYPE source.now (from + length truths.old) }
+    requires exact { spec.AreExact source.now from (length truths.old) }
+    ensures { let told =
+        spec.told_cells aggregate (Some source.now) rows.now from (length truths.old) in
+        IfSome result (λ _. told ≡ Ok (map (option_map value.Bool) (map Some truths.new))) }
+{
+    match aggregate {
+        AggregateFnRef::AllNull => {
+            put_truths_of::<N>(source, AggregateFnRef::AllNull, rows, from, truths)
+        }
+        AggregateFnRef::AllNonNull => {
+            put_truths_of::<N>(source, AggregateFnRef::AllNonNull, rows, from, truths)
+        }
+        _ => None,
+    }
 }
 
 // The truths that a statistic tells for an aggregate of the zones from a place on, each of which is

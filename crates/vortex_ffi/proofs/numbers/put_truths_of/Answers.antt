@@ -4,7 +4,7 @@ use Rattle.vortex_base.specs.declared.scalar_value.ScalarValue.TheVariants as va
 use Rattle.vortex_stats.specs.declared.precision.Precision.TheVariants.{Exact}
 use Rattle.vortex_ffi.specs.MapCells.{told_cells}
 use Rattle.vortex_ffi.proofs.NumberLemmas.{cells_of, read_exactly, told_on}
-use Rattle.vortex_ffi.proofs.numbers.put_truths.Goals as goal
+use Rattle.vortex_ffi.proofs.numbers.put_truths_of.Goals as goal
 
 pub loop-place-preserved : goal.loop-place-preserved
 loop-place-preserved g c =
