@@ -1,5 +1,5 @@
 // Pruning of zones whose statistics stand in arrays, as a reader of a footer or a caller in C has
-// them: the map is made from the arrays each time.
+// them: the map is made from the arrays each time, or once.
 use crate::made::{add, scope_of};
 use crate::pruning::{self, REPEATS, ROWS, Size};
 use anyhow::Result;
@@ -134,4 +134,16 @@ pub fn pruned(alloc: Global, size: Size, leaves: usize) -> Result<usize> {
     let arrays = arrays_of(alloc, size)?;
     let predicate = pruning::leaves_of(alloc, size, leaves)?;
     pruned_often(alloc, size, &arrays, &predicate)
+}
+
+/// The zones of a map that is made of arrays and not pruned.
+pub fn only_mapped(alloc: Global, size: Size) -> Result<usize> {
+    Ok(map_of(alloc, size, &arrays_of(alloc, size)?)?.len())
+}
+
+/// The zones that the last of some prunings skips, as above, of one map that is made of the arrays.
+pub fn map_pruned(alloc: Global, size: Size, leaves: usize) -> Result<usize> {
+    let map = map_of(alloc, size, &arrays_of(alloc, size)?)?;
+    let predicate = pruning::leaves_of(alloc, size, leaves)?;
+    pruning::skipped(alloc, &map, &predicate, REPEATS)
 }
