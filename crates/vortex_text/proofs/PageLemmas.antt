@@ -7,7 +7,7 @@ use Rattle.std.proofs.lemmas.Grind.{flat_map-append}
 use Rattle.std.proofs.lemmas.Fmt.{length-decimal-le}
 use Rattle.std.proofs.lemmas.List.{take_more}
 use Rattle.itoa.proofs.Decimal.{length_one, length_pair, length_two}
-use Rattle.vortex_text.specs.Printing.{part_text, row_begin, row_text, whole_text}
+use Rattle.vortex_text.specs.Printing.{line_of, part_text, row_begin, row_text, scan_text, whole_text}
 use Rattle.vortex_text.specs.Streams.{IsCutOff, Passes}
 
 -- what follows from what a call that was answered gives
@@ -94,10 +94,46 @@ part_parted part space is = ap (λ l. l ++ decimal part) (sym is)
 pub row_parted : (x : ℕ × ℕ) (begin : List ℕ) → begin ≡ row_begin x.0 → row_text x ≡ begin ++ decimal x.1
 row_parted x begin is = sym (append_assoc (32 ∷ decimal x.0) (58 ∷ []) (decimal x.1)) ∙ ap (λ l. l ++ decimal x.1) (sym is)
 
+-- a line that goes out as its word, what it says and its end
+module _ (word said : List ℕ) where
+  -- the word was cut off
+  pub word_cut : (failed : Option Bool) (old new : Option (List ℕ)) (waited : List ℕ) → IsCutOff failed old new (waited ++ word) → IsCutOff failed old new (waited ++ line_of word said)
+  word_cut failed old new waited cut = cut_longer failed old new (waited ++ word) (said ++ 10 ∷ []) (waited ++ line_of word said) cut (sym (append_assoc waited word (said ++ 10 ∷ [])))
+
+  module _ (old mid : Option (List ℕ)) (waited between : List ℕ) (begun : Passes old mid waited between word) where
+    -- what it says was
+    pub said_cut : (failed : Option Bool) (new : Option (List ℕ)) → IsCutOff failed mid new (between ++ said) → IsCutOff failed old new (waited ++ line_of word said)
+    said_cut failed new cut = cut_after failed old mid new waited between word said (10 ∷ []) (line_of word said) begun cut refl
+
+    module _ (late : Option (List ℕ)) (behind : List ℕ) (told : Passes mid late between behind said) where
+      front : Passes old late waited behind (word ++ said)
+      front = passes_more old mid late waited between behind word said (word ++ said) begun told refl
+
+      -- its end was
+      pub end_cut : (failed : Option Bool) (new : Option (List ℕ)) → IsCutOff failed late new (behind ++ 10 ∷ []) → IsCutOff failed old new (waited ++ line_of word said)
+      end_cut failed new cut = cut_after failed old late new waited behind (word ++ said) (10 ∷ []) [] (line_of word said) front cut (sym (append_assoc word said (10 ∷ [])))
+
+      -- all went out
+      pub passes_line : (new : Option (List ℕ)) (waits : List ℕ) → Passes late new behind waits (10 ∷ []) → Passes old new waited waits (line_of word said)
+      passes_line new waits ended = passes_more old late new waited behind waits (word ++ said) (10 ∷ []) (line_of word said) front ended (sym (append_assoc word said (10 ∷ [])))
+
 -- the line of the parts that are whole, where there are any
-pub whole_parted : (parts : List ℕ) → 0 < length parts → whole_text parts ≡ codes "whole" ++ (flat_map part_text parts ++ 10 ∷ [])
-whole_parted [] some = absurd (omega arith)
-whole_parted (part ∷ parts) some = refl
+pub whole_line : (parts : List ℕ) → 0 < length parts → whole_text parts ≡ line_of (codes "whole") (flat_map part_text parts)
+whole_line [] some = absurd (omega arith)
+whole_line (part ∷ parts) some = refl
+
+-- what is printed of a scan, line by line
+pub scan_lines : (skipped : List ℕ) (selected : List (ℕ × ℕ)) (whole : List ℕ)
+    → scan_text skipped selected whole ≡ line_of (codes "skipped") (flat_map part_text skipped) ++ (line_of (codes "rows") (flat_map row_text selected) ++ whole_text whole)
+scan_lines skipped selected whole =
+    let S : List ℕ = codes "skipped" in
+    let P : List ℕ = flat_map part_text skipped in
+    let Q : List ℕ = codes "rows" in
+    let R : List ℕ = flat_map row_text selected in
+    let L : List ℕ = 10 ∷ [] in
+    let W : List ℕ = whole_text whole in
+    append_assoc ((S ++ P) ++ (L ++ Q)) R (L ++ W) ∙ append_assoc (S ++ P) (L ++ Q) (R ++ (L ++ W))
+    ∙ sym (ap (λ l. l ++ (line_of Q R ++ W)) (sym (append_assoc S P L)) ∙ append_assoc (S ++ P) L (line_of Q R ++ W) ∙ ap (λ l. (S ++ P) ++ (L ++ l)) (append_assoc Q (R ++ L) W ∙ ap (λ l. Q ++ l) (append_assoc R L W)))
 
 -- how many digits a number of three or four takes
 pub digits_three : (n : ℕ) → 100 ≤ n → n < 1000 → length (decimal n) ≡ 3

@@ -1,15 +1,17 @@
 -- The first line of a text, and the lines after it.
-use Rattle.std.specs.Prelude.{◌≡◌, ◌<◌, ◌-◌, ◌||◌, ℕ, zero, suc, Bool, List, [], ◌∷◌, ◌++◌, Option, None, Some, IsTrue, codes, drop, is_some, length, option_map, take}
+use Rattle.std.specs.Prelude.{◌≡◌, ◌<◌, ◌≤◌, ◌-◌, ◌||◌, ℕ, zero, suc, Bool, List, [], ◌∷◌, ◌++◌, Option, None, Some, IsTrue, codes, drop, is_some, length, option_map, take}
 use Rattle.std.specs.List.{list_all}
 use Rattle.std.specs.Str.{is_utf8}
 use Rattle.std.specs.Str.Lines.{lines}
 use Rattle.vortex_base.specs.Data.Columns.{ColumnData}
 use Rattle.vortex_base.specs.declared.dtype.DType.{DType}
 use Rattle.vortex_base.specs.declared.scalar_value.ScalarValue.{ScalarValue}
-use Rattle.vortex_syntax.specs.Fails.{◌>>=◌}
+use Rattle.vortex_syntax.specs.Fails.{◌>>=◌, Fails}
 use Rattle.vortex_syntax.specs.Plain.{BeginsValue, EndsWord, is_line_byte}
 use Rattle.vortex_syntax.specs.Spelling.{IsParted}
 use Rattle.vortex_syntax.specs.Words.{words}
+use Rattle.vortex_syntax.specs.declared.line_error.LineError.{LineError}
+use Rattle.vortex_syntax.specs.declared.line_error.LineError.TheVariants.{Memory}
 use Rattle.vortex_text.specs.Columns.{behind, with_value, with_values}
 use Rattle.vortex_text.specs.Lines.{Reading, read_line, when}
 use Rattle.vortex_text.specs.MemoryTaken.{line_takes}
@@ -23,6 +25,12 @@ first_read r (line ∷ more) = option_map (λ next. (next, more)) (read_line r l
 abbrev pub may_take : Reading → List (List ℕ) → Bool
 may_take r [] = is_some r.current
 may_take r (line ∷ more) = is_some r.current || line_takes r line
+
+-- The first line of a text led from one reading to another, and what follows it is the rest; where it is refused the rest is the text itself, and then why.
+pub record IsFirstApart (old new : Reading) (text rest : List ℕ) (why : LineError) : Type 0 where
+  pub read : length rest < length text → first_read old (lines text) ≡ Some (new, lines rest)
+  pub refused : length text ≤ length rest → Fails why (first_read old (lines text))
+  pub memory : length text ≤ length rest → why ≡ Memory → IsTrue (may_take old (lines text))
 
 -- the columns with the values of the first line, of which the word `row` was passed, and the lines after it
 abbrev pub first_row : List ColumnData → List (List ℕ) → Option (List ColumnData × List (List ℕ))

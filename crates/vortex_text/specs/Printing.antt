@@ -14,6 +14,10 @@ row_text row = 32 ∷ decimal row.0 ++ 58 ∷ decimal row.1
 abbrev pub row_begin : ℕ → List ℕ
 row_begin part = 32 ∷ decimal part ++ 58 ∷ []
 
+-- a line behind its first word
+abbrev pub line_of : (word said : List ℕ) → List ℕ
+line_of word said = word ++ (said ++ 10 ∷ [])
+
 -- the line of the parts that are whole, where there are any
 abbrev pub whole_text : List ℕ → List ℕ
 whole_text [] = []

@@ -2,12 +2,12 @@
 ghost use Rattle.std.specs.Prelude.{◌≡◌, ◌<◌, ◌≤◌, ◌+◌, ◌++◌, ◌||◌, IfOk, IfSome, IsErrOf, IsTrue, OnErr, OnOk, MatchOption, None, Some, [], codes, is_some, length, ok_or};
 ghost use Rattle.std.specs.Str.Lines.{lines};
 ghost use Rattle.vortex_base.specs.Data.Scopes.{IsScope, named_columns};
-ghost use Rattle.vortex_syntax.specs.Fails.{Changes, Fails, GivesAndChanges, IsBad};
+ghost use Rattle.vortex_syntax.specs.Fails.{Changes, GivesAndChanges, IsBad};
 ghost use Rattle.vortex_syntax.specs.Plain.{EndsWord};
 ghost use Rattle.vortex_syntax.specs.Words.{words};
 ghost use Rattle.vortex_text.specs.Blocks.{ReadsFront};
 ghost use Rattle.vortex_text.specs.Drafts.{reading_of};
-ghost use Rattle.vortex_text.specs.FirstLines.{first_read, first_values, may_take};
+ghost use Rattle.vortex_text.specs.FirstLines.{IsFirstApart, first_read, first_values, may_take};
 ghost use Rattle.vortex_text.specs.Fitting.{AreNeighbours, FitsTogether, IsQueryOver};
 ghost use Rattle.vortex_text.specs.Lines.{has_part, is_new, nothing_read, parts_of};
 ghost use Rattle.vortex_text.specs.Lines.{read_column, read_join, read_kind, read_line, read_part};
@@ -429,7 +429,7 @@ impl Draft {
     // The same, where an error is told apart, so that none is handed from one to another with the
     // rest. The text itself comes back where the line is refused.
     #[inline(never)]
-    fn read_stat_line<'a>(
+    fn read_first_stat_apart<'a>(
         &mut self,
         alloc: Global,
         text: &'a [u8],
@@ -439,12 +439,8 @@ impl Draft {
         requires split { text.now ≡ codes "stat" ++ said.now }
         requires open_yet { (reading_of self.old).predicate ≡ None }
         requires fits { FitsTogether (reading_of self.old) }
-        ensures read { length result.now < length text.now → first_read (reading_of self.old)
-            (lines text.now) ≡ Some (reading_of self.new, lines result.now) }
-        ensures refused { length text.now ≤ length result.now
-            → Fails refused.new (first_read (reading_of self.old) (lines text.now)) }
-        ensures memory { length text.now ≤ length result.now → refused.new ≡ LineError.Memory
-            → IsTrue (may_take (reading_of self.old) (lines text.now)) }
+        ensures { IsFirstApart (reading_of self.old) (reading_of self.new) text.now result.now
+            refused.new }
     {
         match self.read_first_stat(alloc, text, said) {
             Ok(after) => after,
@@ -457,7 +453,7 @@ impl Draft {
 
     // The first line of a text, which is neither a row nor a statistic in an open text. The text
     // after it comes back.
-    fn read_other_first<'a>(&mut self, alloc: Global, text: &'a [u8]) -> Result<&'a [u8], LineError>
+    fn read_first_other<'a>(&mut self, alloc: Global, text: &'a [u8]) -> Result<&'a [u8], LineError>
         requires some { 0 < length text.now }
         requires fits { FitsTogether (reading_of self.old) }
         ensures read { let old = reading_of self.old in
@@ -480,17 +476,18 @@ impl Draft {
     // The same, where an error is told apart, so that the reader of rows needs no place for one.
     // The text itself comes back where the line is refused.
     #[inline(never)]
-    fn read_other<'a>(&mut self, alloc: Global, text: &'a [u8], refused: &mut LineError) -> &'a [u8]
+    fn read_first_other_apart<'a>(
+        &mut self,
+        alloc: Global,
+        text: &'a [u8],
+        refused: &mut LineError,
+    ) -> &'a [u8]
         requires some { 0 < length text.now }
         requires fits { FitsTogether (reading_of self.old) }
-        ensures read { length result.now < length text.now → first_read (reading_of self.old)
-            (lines text.now) ≡ Some (reading_of self.new, lines result.now) }
-        ensures refused { length text.now ≤ length result.now
-            → Fails refused.new (first_read (reading_of self.old) (lines text.now)) }
-        ensures memory { length text.now ≤ length result.now → refused.new ≡ LineError.Memory
-            → IsTrue (may_take (reading_of self.old) (lines text.now)) }
+        ensures { IsFirstApart (reading_of self.old) (reading_of self.new) text.now result.now
+            refused.new }
     {
-        match self.read_other_first(alloc, text) {
+        match self.read_first_other(alloc, text) {
             Ok(after) => after,
             Err(error) => {
                 *refused = error;
@@ -525,9 +522,9 @@ impl Draft {
         }
         let after = match text {
             [b's', b't', b'a', b't', said @ ..] if self.predicate.is_none() => {
-                self.read_stat_line(alloc, text, said, refused)
+                self.read_first_stat_apart(alloc, text, said, refused)
             }
-            _ => self.read_other(alloc, text, refused),
+            _ => self.read_first_other_apart(alloc, text, refused),
         };
         if after.len() < text.len() {
             Some(after)

@@ -1,8 +1,9 @@
 //! What is printed.
-ghost use Rattle.std.specs.Prelude.{◌≡◌, ◌++◌, [], IfOk, OnErr, OnOk, string_bytes};
+ghost use Rattle.std.specs.Prelude.{◌≡◌, ◌++◌, IfOk, OnErr, OnOk, codes, string_bytes};
 ghost use Rattle.std.specs.Io.KnownBytes.{Appends};
 ghost use Rattle.std.specs.List.{flat_map};
-ghost use Rattle.vortex_text.specs.Printing.{bad_text, part_text, row_begin, row_text, scan_text, whole_text};
+ghost use Rattle.vortex_text.specs.Printing.{bad_text, line_of, part_text, row_begin, row_text};
+ghost use Rattle.vortex_text.specs.Printing.{scan_text, whole_text};
 ghost use Rattle.vortex_text.specs.Streams.{IsCutOff, Passes};
 
 use crate::page::{CutOff, Front, Page};
@@ -56,6 +57,40 @@ fn print_rows<W: Sink>(
     Ok(())
 }
 
+// A line of parts behind its first word.
+fn print_part_line<W: Sink>(
+    writer: &mut W,
+    page: &mut Page,
+    word: &[u8],
+    parts: &[usize],
+) -> Result<(), CutOff>
+    ensures printed { OnOk result (Passes (W.contents writer.old) (W.contents writer.new)
+        page.old page.new (line_of word.now (flat_map part_text parts.now))) }
+    ensures cut { OnErr result (IsCutOff (W.has_failed writer.new) (W.contents writer.old)
+        (W.contents writer.new) (page.old ++ line_of word.now (flat_map part_text parts.now))) }
+{
+    page.put(writer, word)?;
+    print_parts(writer, page, parts)?;
+    page.put(writer, b"\n")
+}
+
+// The line of rows.
+fn print_row_line<W: Sink>(
+    writer: &mut W,
+    page: &mut Page,
+    rows: &[(usize, usize)],
+) -> Result<(), CutOff>
+    ensures printed { OnOk result (Passes (W.contents writer.old) (W.contents writer.new)
+        page.old page.new (line_of (codes "rows") (flat_map row_text rows.now))) }
+    ensures cut { OnErr result (IsCutOff (W.has_failed writer.new) (W.contents writer.old)
+        (W.contents writer.new)
+        (page.old ++ line_of (codes "rows") (flat_map row_text rows.now))) }
+{
+    page.put(writer, b"rows")?;
+    print_rows(writer, page, rows)?;
+    page.put(writer, b"\n")
+}
+
 // The line of the parts that are whole, where there are any.
 fn print_whole<W: Sink>(writer: &mut W, page: &mut Page, parts: &[usize]) -> Result<(), CutOff>
     ensures printed { OnOk result (Passes (W.contents writer.old) (W.contents writer.new)
@@ -66,9 +101,7 @@ fn print_whole<W: Sink>(writer: &mut W, page: &mut Page, parts: &[usize]) -> Res
     if parts.is_empty() {
         return Ok(());
     }
-    page.put(writer, b"whole")?;
-    print_parts(writer, page, parts)?;
-    page.put(writer, b"\n")
+    print_part_line(writer, page, b"whole", parts)
 }
 
 /// Writes the lines of a scan, in no memory: the parts that were skipped, the rows that were
@@ -82,11 +115,8 @@ pub fn print_scan<W: Sink>(writer: &mut W, scan: &Scan) -> Result<(), CutOff>
         (scan_text scan.now.skipped.items scan.now.selected.items scan.now.whole.items)) }
 {
     let mut page = Page::new();
-    page.put(writer, b"skipped")?;
-    print_parts(writer, &mut page, &scan.skipped)?;
-    page.put(writer, b"\nrows")?;
-    print_rows(writer, &mut page, &scan.selected)?;
-    page.put(writer, b"\n")?;
+    print_part_line(writer, &mut page, b"skipped", &scan.skipped)?;
+    print_row_line(writer, &mut page, &scan.selected)?;
     print_whole(writer, &mut page, &scan.whole)?;
     page.flush(writer)
 }

@@ -1,121 +1,71 @@
-use Rattle.std.proofs.Common.{◌≡◌, ◌++◌, ℕ, List, [], ◌∷◌, codes, sym, ◌∙◌, append_assoc, append-nil, ap, refl}
+use Rattle.std.proofs.Common.{◌≡◌, ◌++◌, ℕ, List, [], codes, sym, ◌∙◌, append_assoc, append-nil, ap, refl}
 use Rattle.std.specs.List.{flat_map}
-use Rattle.vortex_text.proofs.PageLemmas.{cut_after, cut_longer, cut_off, cut_out, err_then, ok_then, on_err, passes_more, passes_out}
-use Rattle.vortex_text.specs.Printing.{part_text, row_text, whole_text}
+use Rattle.vortex_text.proofs.PageLemmas.{cut_after, cut_longer, cut_off, cut_out, err_then, ok_then, on_err, passes_more, passes_out, scan_lines}
+use Rattle.vortex_text.specs.Printing.{line_of, part_text, row_text, scan_text, whole_text}
 use Rattle.vortex_text.proofs.printing.print_scan.Goals as goal
 
-pub returns-in_err-put-clause-cut : goal.returns-in_err-put-clause-cut
-returns-in_err-put-clause-cut g c =
-    let S : List ℕ = codes "skipped" in
-    let P : List ℕ = flat_map part_text c.args.scan.now.skipped.items in
-    let N : List ℕ = 10 ∷ codes "rows" in
-    let R : List ℕ = flat_map row_text c.args.scan.now.selected.items in
-    let L : List ℕ = 10 ∷ [] in
-    let W : List ℕ = whole_text c.args.scan.now.whole.items in
+-- the three lines of a scan, and all of them
+module _ (skipped : List ℕ) (selected : List (ℕ × ℕ)) (whole : List ℕ) where
+  abbrev A : List ℕ
+  A = line_of (codes "skipped") (flat_map part_text skipped)
+
+  abbrev B : List ℕ
+  B = line_of (codes "rows") (flat_map row_text selected)
+
+  abbrev W : List ℕ
+  W = whole_text whole
+
+  abbrev all : List ℕ
+  all = scan_text skipped selected whole
+
+  -- they are A ++ (B ++ W)
+  apart : all ≡ (A ++ B) ++ W
+  apart = scan_lines skipped selected whole ∙ sym (append_assoc A B W)
+
+pub returns-in_err-print_part_line-clause-cut : goal.returns-in_err-print_part_line-clause-cut
+returns-in_err-print_part_line-clause-cut g c =
+    let s = c.args.scan.now.skipped.items in
+    let r = c.args.scan.now.selected.items in
+    let w = c.args.scan.now.whole.items in
     let page = c.new-page.result in
-    let all : (((S ++ P) ++ N) ++ R) ++ (L ++ W) ≡ S ++ (P ++ (N ++ (R ++ (L ++ W)))) = append_assoc ((S ++ P) ++ N) R (L ++ W) ∙ append_assoc (S ++ P) N (R ++ (L ++ W)) ∙ append_assoc S P (N ++ (R ++ (L ++ W))) in
-    on_err _ (cut_off _ _ _ _ ((((S ++ P) ++ N) ++ R) ++ (L ++ W)) c.new-page.ensures (cut_longer _ _ _ _ (P ++ (N ++ (R ++ (L ++ W)))) _ c.in_err-put.ensures.cut (ap (λ l. page ++ l) all ∙ sym (append_assoc page S (P ++ (N ++ (R ++ (L ++ W))))))))
+    let cut = rw c.deref.ensures.value at c.in_err-print_part_line.ensures.cut in
+    on_err _ (cut_off _ _ _ page (all s r w) c.new-page.ensures (cut_longer _ _ _ _ (B s r w ++ W s r w) _ cut (ap (λ l. page ++ l) (scan_lines s r w) ∙ sym (append_assoc page (A s r w) (B s r w ++ W s r w)))))
 
-pub returns-in_err-print_parts-clause-cut : goal.returns-in_err-print_parts-clause-cut
-returns-in_err-print_parts-clause-cut g c =
-    let S : List ℕ = codes "skipped" in
-    let P : List ℕ = flat_map part_text c.args.scan.now.skipped.items in
-    let N : List ℕ = 10 ∷ codes "rows" in
-    let R : List ℕ = flat_map row_text c.args.scan.now.selected.items in
-    let L : List ℕ = 10 ∷ [] in
-    let W : List ℕ = whole_text c.args.scan.now.whole.items in
-    let so_far_1 = c.in_ok-put.ensures.put in
-    let all : (((S ++ P) ++ N) ++ R) ++ (L ++ W) ≡ S ++ (P ++ (N ++ (R ++ (L ++ W)))) = append_assoc ((S ++ P) ++ N) R (L ++ W) ∙ append_assoc (S ++ P) N (R ++ (L ++ W)) ∙ append_assoc S P (N ++ (R ++ (L ++ W))) in
-    on_err _ (cut_off _ _ _ _ ((((S ++ P) ++ N) ++ R) ++ (L ++ W)) c.new-page.ensures (cut_after _ _ _ _ _ _ S P (N ++ (R ++ (L ++ W))) _ so_far_1 (rw c.deref.ensures.value at c.in_err-print_parts.ensures.cut) all))
-
-pub returns-in_err-put-2-clause-cut : goal.returns-in_err-put-2-clause-cut
-returns-in_err-put-2-clause-cut g c =
-    let S : List ℕ = codes "skipped" in
-    let P : List ℕ = flat_map part_text c.args.scan.now.skipped.items in
-    let N : List ℕ = 10 ∷ codes "rows" in
-    let R : List ℕ = flat_map row_text c.args.scan.now.selected.items in
-    let L : List ℕ = 10 ∷ [] in
-    let W : List ℕ = whole_text c.args.scan.now.whole.items in
-    let so_far_1 = c.in_ok-put.ensures.put in
-    let so_far_2 = passes_more _ _ _ _ _ _ S P _ so_far_1 (rw c.deref.ensures.value at c.in_ok-print_parts.ensures.printed) refl in
-    let all : (((S ++ P) ++ N) ++ R) ++ (L ++ W) ≡ (S ++ P) ++ (N ++ (R ++ (L ++ W))) = append_assoc ((S ++ P) ++ N) R (L ++ W) ∙ append_assoc (S ++ P) N (R ++ (L ++ W)) in
-    on_err _ (cut_off _ _ _ _ ((((S ++ P) ++ N) ++ R) ++ (L ++ W)) c.new-page.ensures (cut_after _ _ _ _ _ _ (S ++ P) N (R ++ (L ++ W)) _ so_far_2 c.in_err-put-2.ensures.cut all))
-
-pub returns-in_err-print_rows-clause-cut : goal.returns-in_err-print_rows-clause-cut
-returns-in_err-print_rows-clause-cut g c =
-    let S : List ℕ = codes "skipped" in
-    let P : List ℕ = flat_map part_text c.args.scan.now.skipped.items in
-    let N : List ℕ = 10 ∷ codes "rows" in
-    let R : List ℕ = flat_map row_text c.args.scan.now.selected.items in
-    let L : List ℕ = 10 ∷ [] in
-    let W : List ℕ = whole_text c.args.scan.now.whole.items in
-    let so_far_1 = c.in_ok-put.ensures.put in
-    let so_far_2 = passes_more _ _ _ _ _ _ S P _ so_far_1 (rw c.deref.ensures.value at c.in_ok-print_parts.ensures.printed) refl in
-    let so_far_3 = passes_more _ _ _ _ _ _ (S ++ P) N _ so_far_2 c.in_ok-put-2.ensures.put refl in
-    let all : (((S ++ P) ++ N) ++ R) ++ (L ++ W) ≡ ((S ++ P) ++ N) ++ (R ++ (L ++ W)) = append_assoc ((S ++ P) ++ N) R (L ++ W) in
-    on_err _ (cut_off _ _ _ _ ((((S ++ P) ++ N) ++ R) ++ (L ++ W)) c.new-page.ensures (cut_after _ _ _ _ _ _ ((S ++ P) ++ N) R (L ++ W) _ so_far_3 (rw c.deref-2.ensures.value at c.in_err-print_rows.ensures.cut) all))
-
-pub returns-in_err-put-3-clause-cut : goal.returns-in_err-put-3-clause-cut
-returns-in_err-put-3-clause-cut g c =
-    let S : List ℕ = codes "skipped" in
-    let P : List ℕ = flat_map part_text c.args.scan.now.skipped.items in
-    let N : List ℕ = 10 ∷ codes "rows" in
-    let R : List ℕ = flat_map row_text c.args.scan.now.selected.items in
-    let L : List ℕ = 10 ∷ [] in
-    let W : List ℕ = whole_text c.args.scan.now.whole.items in
-    let so_far_1 = c.in_ok-put.ensures.put in
-    let so_far_2 = passes_more _ _ _ _ _ _ S P _ so_far_1 (rw c.deref.ensures.value at c.in_ok-print_parts.ensures.printed) refl in
-    let so_far_3 = passes_more _ _ _ _ _ _ (S ++ P) N _ so_far_2 c.in_ok-put-2.ensures.put refl in
-    let so_far_4 = passes_more _ _ _ _ _ _ ((S ++ P) ++ N) R _ so_far_3 (rw c.deref-2.ensures.value at c.in_ok-print_rows.ensures.printed) refl in
-    let all : (((S ++ P) ++ N) ++ R) ++ (L ++ W) ≡ (((S ++ P) ++ N) ++ R) ++ (L ++ W) = refl in
-    on_err _ (cut_off _ _ _ _ ((((S ++ P) ++ N) ++ R) ++ (L ++ W)) c.new-page.ensures (cut_after _ _ _ _ _ _ (((S ++ P) ++ N) ++ R) L W _ so_far_4 c.in_err-put-3.ensures.cut all))
+pub returns-in_err-print_row_line-clause-cut : goal.returns-in_err-print_row_line-clause-cut
+returns-in_err-print_row_line-clause-cut g c =
+    let s = c.args.scan.now.skipped.items in
+    let r = c.args.scan.now.selected.items in
+    let w = c.args.scan.now.whole.items in
+    let first = rw c.deref.ensures.value at c.in_ok-print_part_line.ensures.printed in
+    let cut = rw c.deref-2.ensures.value at c.in_err-print_row_line.ensures.cut in
+    on_err _ (cut_off _ _ _ _ (all s r w) c.new-page.ensures (cut_after _ _ _ _ _ _ (A s r w) (B s r w) (W s r w) _ first cut (scan_lines s r w)))
 
 pub returns-in_err-print_whole-clause-cut : goal.returns-in_err-print_whole-clause-cut
 returns-in_err-print_whole-clause-cut g c =
-    let S : List ℕ = codes "skipped" in
-    let P : List ℕ = flat_map part_text c.args.scan.now.skipped.items in
-    let N : List ℕ = 10 ∷ codes "rows" in
-    let R : List ℕ = flat_map row_text c.args.scan.now.selected.items in
-    let L : List ℕ = 10 ∷ [] in
-    let W : List ℕ = whole_text c.args.scan.now.whole.items in
-    let so_far_1 = c.in_ok-put.ensures.put in
-    let so_far_2 = passes_more _ _ _ _ _ _ S P _ so_far_1 (rw c.deref.ensures.value at c.in_ok-print_parts.ensures.printed) refl in
-    let so_far_3 = passes_more _ _ _ _ _ _ (S ++ P) N _ so_far_2 c.in_ok-put-2.ensures.put refl in
-    let so_far_4 = passes_more _ _ _ _ _ _ ((S ++ P) ++ N) R _ so_far_3 (rw c.deref-2.ensures.value at c.in_ok-print_rows.ensures.printed) refl in
-    let so_far_5 = passes_more _ _ _ _ _ _ (((S ++ P) ++ N) ++ R) L _ so_far_4 c.in_ok-put-3.ensures.put refl in
-    let all : (((S ++ P) ++ N) ++ R) ++ (L ++ W) ≡ ((((S ++ P) ++ N) ++ R) ++ L) ++ (W ++ []) = sym (append_assoc (((S ++ P) ++ N) ++ R) L W) ∙ ap (λ l. ((((S ++ P) ++ N) ++ R) ++ L) ++ l) (sym (append-nil W)) in
-    on_err _ (cut_off _ _ _ _ ((((S ++ P) ++ N) ++ R) ++ (L ++ W)) c.new-page.ensures (cut_after _ _ _ _ _ _ ((((S ++ P) ++ N) ++ R) ++ L) W [] _ so_far_5 (rw c.deref-3.ensures.value at c.in_err-print_whole.ensures.cut) all))
+    let s = c.args.scan.now.skipped.items in
+    let r = c.args.scan.now.selected.items in
+    let w = c.args.scan.now.whole.items in
+    let first = rw c.deref.ensures.value at c.in_ok-print_part_line.ensures.printed in
+    let both = passes_more _ _ _ _ _ _ (A s r w) (B s r w) _ first (rw c.deref-2.ensures.value at c.in_ok-print_row_line.ensures.printed) refl in
+    let cut = rw c.deref-3.ensures.value at c.in_err-print_whole.ensures.cut in
+    on_err _ (cut_off _ _ _ _ (all s r w) c.new-page.ensures (cut_after _ _ _ _ _ _ (A s r w ++ B s r w) (W s r w) [] _ both cut (apart s r w ∙ ap (λ l. (A s r w ++ B s r w) ++ l) (sym (append-nil (W s r w))))))
 
 pub returns-clause-printed : goal.returns-clause-printed
 returns-clause-printed g c =
-    let S : List ℕ = codes "skipped" in
-    let P : List ℕ = flat_map part_text c.args.scan.now.skipped.items in
-    let N : List ℕ = 10 ∷ codes "rows" in
-    let R : List ℕ = flat_map row_text c.args.scan.now.selected.items in
-    let L : List ℕ = 10 ∷ [] in
-    let W : List ℕ = whole_text c.args.scan.now.whole.items in
-    let so_far_1 = c.in_ok-put.ensures.put in
-    let so_far_2 = passes_more _ _ _ _ _ _ S P _ so_far_1 (rw c.deref.ensures.value at c.in_ok-print_parts.ensures.printed) refl in
-    let so_far_3 = passes_more _ _ _ _ _ _ (S ++ P) N _ so_far_2 c.in_ok-put-2.ensures.put refl in
-    let so_far_4 = passes_more _ _ _ _ _ _ ((S ++ P) ++ N) R _ so_far_3 (rw c.deref-2.ensures.value at c.in_ok-print_rows.ensures.printed) refl in
-    let so_far_5 = passes_more _ _ _ _ _ _ (((S ++ P) ++ N) ++ R) L _ so_far_4 c.in_ok-put-3.ensures.put refl in
-    let all : (((S ++ P) ++ N) ++ R) ++ (L ++ W) ≡ ((((S ++ P) ++ N) ++ R) ++ L) ++ W = sym (append_assoc (((S ++ P) ++ N) ++ R) L W) in
-    let printed = passes_more _ _ _ _ _ _ ((((S ++ P) ++ N) ++ R) ++ L) W _ so_far_5 (rw c.deref-3.ensures.value at c.in_ok-print_whole.ensures.printed) all in
-    ok_then c.flush.result (λ rest. passes_out _ _ _ _ _ ((((S ++ P) ++ N) ++ R) ++ (L ++ W)) c.new-page.ensures printed rest) c.flush.ensures.written
+    let s = c.args.scan.now.skipped.items in
+    let r = c.args.scan.now.selected.items in
+    let w = c.args.scan.now.whole.items in
+    let first = rw c.deref.ensures.value at c.in_ok-print_part_line.ensures.printed in
+    let both = passes_more _ _ _ _ _ _ (A s r w) (B s r w) _ first (rw c.deref-2.ensures.value at c.in_ok-print_row_line.ensures.printed) refl in
+    let printed = passes_more _ _ _ _ _ _ (A s r w ++ B s r w) (W s r w) _ both (rw c.deref-3.ensures.value at c.in_ok-print_whole.ensures.printed) (apart s r w) in
+    ok_then c.flush.result (λ rest. passes_out _ _ _ _ _ (all s r w) c.new-page.ensures printed rest) c.flush.ensures.written
 
 pub returns-clause-cut : goal.returns-clause-cut
 returns-clause-cut g c =
-    let S : List ℕ = codes "skipped" in
-    let P : List ℕ = flat_map part_text c.args.scan.now.skipped.items in
-    let N : List ℕ = 10 ∷ codes "rows" in
-    let R : List ℕ = flat_map row_text c.args.scan.now.selected.items in
-    let L : List ℕ = 10 ∷ [] in
-    let W : List ℕ = whole_text c.args.scan.now.whole.items in
-    let so_far_1 = c.in_ok-put.ensures.put in
-    let so_far_2 = passes_more _ _ _ _ _ _ S P _ so_far_1 (rw c.deref.ensures.value at c.in_ok-print_parts.ensures.printed) refl in
-    let so_far_3 = passes_more _ _ _ _ _ _ (S ++ P) N _ so_far_2 c.in_ok-put-2.ensures.put refl in
-    let so_far_4 = passes_more _ _ _ _ _ _ ((S ++ P) ++ N) R _ so_far_3 (rw c.deref-2.ensures.value at c.in_ok-print_rows.ensures.printed) refl in
-    let so_far_5 = passes_more _ _ _ _ _ _ (((S ++ P) ++ N) ++ R) L _ so_far_4 c.in_ok-put-3.ensures.put refl in
-    let all : (((S ++ P) ++ N) ++ R) ++ (L ++ W) ≡ ((((S ++ P) ++ N) ++ R) ++ L) ++ W = sym (append_assoc (((S ++ P) ++ N) ++ R) L W) in
-    let printed = passes_more _ _ _ _ _ _ ((((S ++ P) ++ N) ++ R) ++ L) W _ so_far_5 (rw c.deref-3.ensures.value at c.in_ok-print_whole.ensures.printed) all in
-    err_then c.flush.result (λ cut. cut_out _ _ _ _ _ _ ((((S ++ P) ++ N) ++ R) ++ (L ++ W)) c.new-page.ensures printed cut) c.flush.ensures.cut
+    let s = c.args.scan.now.skipped.items in
+    let r = c.args.scan.now.selected.items in
+    let w = c.args.scan.now.whole.items in
+    let first = rw c.deref.ensures.value at c.in_ok-print_part_line.ensures.printed in
+    let both = passes_more _ _ _ _ _ _ (A s r w) (B s r w) _ first (rw c.deref-2.ensures.value at c.in_ok-print_row_line.ensures.printed) refl in
+    let printed = passes_more _ _ _ _ _ _ (A s r w ++ B s r w) (W s r w) _ both (rw c.deref-3.ensures.value at c.in_ok-print_whole.ensures.printed) (apart s r w) in
+    err_then c.flush.result (λ cut. cut_out _ _ _ _ _ _ (all s r w) c.new-page.ensures printed cut) c.flush.ensures.cut

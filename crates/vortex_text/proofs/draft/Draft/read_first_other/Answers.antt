@@ -6,7 +6,7 @@ use Rattle.vortex_syntax.specs.declared.line_error.LineError.TheVariants.{Memory
 use Rattle.vortex_text.proofs.PlainLines.{part_first, part_may}
 use Rattle.vortex_text.specs.Drafts.{reading_of}
 use Rattle.vortex_text.specs.Lines.{Reading}
-use Rattle.vortex_text.proofs.draft.Draft.read_other_first.Goals as goal
+use Rattle.vortex_text.proofs.draft.Draft.read_first_other.Goals as goal
 
 pub returns-in-112-clause-read : goal.returns-in-112-clause-read
 returns-in-112-clause-read c =
