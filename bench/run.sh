@@ -37,14 +37,16 @@ done
 
 # Pruning by maps of zones without rows, ten times: 1,000,000 zones of one column and of three, and 20,000 of 30, under one
 # comparison and under 16 leaves, beside plain loops over arrays of bounds; the time to make the map alone stands first.
-# `table_arrays` has the statistics in arrays, and makes the map of them each time, as a call from C does.
+# `table_arrays` has the statistics in arrays, and makes the map of them each time, as a call from C does; `table_once`
+# makes it once, so that less it the two below it are the library's own pruning of a map at hand.
 loops=()
 if command -v rustc > /dev/null; then
     rustc --edition 2021 "${fast[@]}" "$here/plain/zones.rs" -o "$here/data/zones"
     loops=("$here/data/zones")
 fi
 for work in long_map long_comparison long_leaves table_map table_comparison table_leaves \
-    table_arrays table_arrays_comparison table_arrays_leaves broad_map broad_comparison broad_leaves; do
+    table_arrays table_arrays_comparison table_arrays_leaves \
+    table_once table_once_comparison table_once_leaves broad_map broad_comparison broad_leaves; do
     echo "$work" > "$here/data/$work.txt"
     python3 "$here/measure.py" "$runs" "$here/data/$work.txt" "$layer" "${loops[@]}"
 done
