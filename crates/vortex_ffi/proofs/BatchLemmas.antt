@@ -1,37 +1,41 @@
 -- The table of a batch of zones that is filled from a caller's arrays is that of their sets.
-use Rattle.std.proofs.Common.{◌≡◌, ◌<◌, ◌+◌, ◌++◌, ℕ, zero, suc, All, List, [], ◌∷◌, Option, Some, Result, Ok, IsTrue, ap, ap₂, append-nil, append_assoc, arith, get_or, length, map, refl, subst, sym, ◌∙◌}
+use Rattle.std.proofs.Common.{◌≡◌, ◌<◌, ◌+◌, ◌++◌, ℕ, zero, suc, Bool, true, All, List, [], ◌∷◌, Option, Some, Result, Ok, IsTrue, ap, append-nil, append_assoc, arith, get_or, length, map, refl, subst, sym, ◌∙◌}
 use Rattle.std.proofs.lemmas.List.{length-map, map-append}
-use Rattle.std.proofs.lemmas.Option.{slice_get-get_or, slice_get_within}
-use Rattle.std.specs.Prelude.{IfOk, IfSome, None, slice_get, slice_index}
+use Rattle.std.proofs.lemmas.Option.{same_Some, slice_get-get_or}
+use Rattle.std.specs.Prelude.{IfOk, IfSome, None, replicate, slice_get, slice_index}
+use Rattle.vortex_base.proofs.Meanings.MeaningFits.{null_fits}
 use Rattle.vortex_base.specs.Data.Columns.{ColumnData, all_fit}
+use Rattle.vortex_base.specs.Data.Exact.{both_hold}
 use Rattle.vortex_base.specs.Data.Scopes.{Named}
+use Rattle.vortex_base.specs.Data.Types.{as_nullable, is_nullable}
+use Rattle.vortex_base.specs.Meanings.Typing.{placeholder_type, state_dtype}
 use Rattle.vortex_base.specs.Trees.Tree.{Place, Tree}
+use Rattle.vortex_base.specs.declared.aggregate.AggregateFnRef.{AggregateFnRef}
+use Rattle.vortex_base.specs.declared.aggregate.AggregateFnRef.TheVariants as aggregate
 use Rattle.vortex_base.specs.declared.dtype.DType.{DType}
 use Rattle.vortex_base.specs.declared.scalar_value.ScalarValue.{ScalarValue}
 use Rattle.vortex_prune.proofs.ZoneMaps.ZoneKept.{zones_are}
 use Rattle.vortex_prune.proofs.ZoneMaps.ZoneNames.{column_is_made, zones_tell}
-use Rattle.vortex_prune.specs.GivenTables.{IsTableOf}
+use Rattle.vortex_prune.proofs.ZoneMaps.ZoneScan.{all_pushed}
+use Rattle.vortex_prune.specs.GivenTables.{is_table, map_with}
 use Rattle.vortex_prune.specs.Part.{ZoneData, zones_fit}
-use Rattle.vortex_prune.specs.Zones.{Head, TellsOf, zone_column, zone_columns, zone_value}
-use Rattle.vortex_rewrite.specs.Rewriting.Falsifiers.{falsifier, satisfier}
+use Rattle.vortex_prune.specs.Zones.{Head, MapData, TellsOf, heads, zone_column, zone_value}
 use Rattle.vortex_ffi.specs.declared.fault.Refusal.{Refusal}
-use Rattle.vortex_ffi.specs.declared.named.Proofs.{Proofs}
 use Rattle.vortex_ffi.specs.declared.quick.Batch.{Batch}
 use Rattle.vortex_ffi.specs.declared.table.Source.{Source}
-use Rattle.vortex_ffi.specs.NamedStats.{AreAmong, AreProofs, CountAlike, either_names}
-use Rattle.vortex_ffi.specs.MapCells.{AllRead, AreCells, AreZonesFrom, IsBatch, batch_zones, zones_from}
+use Rattle.vortex_ffi.specs.NamedStats.{AreNamed, HasNamed}
+use Rattle.vortex_ffi.specs.MapCells.{AllRead, AreCells, AreZonesFrom, IsBatch, batch_zones, told_cells, zones_from}
 use Rattle.vortex_ffi.specs.Prunes.{zone_answer, zone_answers}
 use Rattle.vortex_ffi.specs.Refusals.{all_found}
 use Rattle.vortex_ffi.specs.Tables.{IsTypedBy, zone_at, zones_given}
-use Rattle.vortex_ffi.proofs.CellLemmas.{cells_are, next_zone, zones_there}
-use Rattle.vortex_ffi.proofs.NamedLemmas.{answers_by_named}
+use Rattle.vortex_ffi.proofs.CellLemmas.{cells_are, next_zone, nulls_are, zones_there}
 use Rattle.vortex_ffi.proofs.PruneLemmas.{IsWhole}
-use Rattle.vortex_ffi.proofs.TableLemmas.{both_fit, typed_there}
+use Rattle.vortex_ffi.proofs.TableLemmas.{both_fit}
 use Rattle.vortex_ffi.proofs.ReadLemmas.{followed_read, found_goes_on, found_long}
 
 -- ---- the table
 
-abbrev made_of : DType → List (Option ScalarValue) → ColumnData
+abbrev pub made_of : DType → List (Option ScalarValue) → ColumnData
 made_of t vs = record { dtype = t; values = vs; size = 0 }
 
 module _ (b : Batch) (is : IsBatch b) where
@@ -54,13 +58,37 @@ module _ (b : Batch) (is : IsBatch b) where
     pub column_of_head : (column : ColumnData) (t : DType) → column ≡ record { dtype = t; values = cells; size = 0 } → t ≡ h.dtype → (zones : List ZoneData) → batch_zones b ≡ Ok zones → column ≡ zone_column zones h
     column_of_head column t made typed zones found = made ∙ ap (λ (u : DType). made_of u cells) typed ∙ ap (made_of h.dtype) (cells_of_head zones found)
 
-  pub table_of_batch : (rows : List ℕ) (columns : List ColumnData) → ((zones : List ZoneData) → batch_zones b ≡ Ok zones → rows ≡ map (λ zone. zone.rows) zones)
-      → ((zones : List ZoneData) → batch_zones b ≡ Ok zones → columns ≡ zone_columns b.scope.now zones) → (zones : List ZoneData) → batch_zones b ≡ Ok zones → IsTableOf b.scope.now zones rows columns
-  table_of_batch rows columns counted told zones found = record {
-    are_zones = zones_are b.scope.now zones (zones_of_batch zones found);
-    counted = counted zones found;
-    told = told zones found;
-  }
+-- nulls fit below each head
+nullable_type : (o : Option DType) (t : DType) → placeholder_type o ≡ Ok t → is_nullable t ≡ true
+nullable_type None t h = absurd cc
+nullable_type (Some u) t h = let same : as_nullable u ≡ t = cc in ap is_nullable (sym same) ∙ null_fits u
+
+all_nulls_fit : (t : DType) (n : ℕ) → is_nullable t ≡ true → all_fit t (replicate n None) ≡ true
+all_nulls_fit t zero h = refl
+all_nulls_fit t (suc n) h = both_hold _ _ h (all_nulls_fit t n h)
+
+pub nulls_there : (n : ℕ) (vs : List (Option ScalarValue)) → ((f : AggregateFnRef) (rows : List ℕ) (from : ℕ) → told_cells f None rows from n ≡ Ok vs) → vs ≡ replicate n None
+nulls_there n vs told =
+    let same : Ok vs ≡ Ok (replicate n None) = sym (told aggregate.NullCount [] 0) ∙ nulls_are aggregate.NullCount [] 0 n in
+    cc
+
+pub nulls_fit : (scope : List Named) (h : Head) → TellsOf scope h → (n : ℕ) → IsTrue (all_fit h.dtype (replicate n None))
+nulls_fit scope h tells n = all_nulls_fit h.dtype n (nullable_type (state_dtype h.aggregate tells.0.1) h.dtype tells.2)
+
+-- one more column
+pub named_pushed : (named : List Bool) (hs : List Head) (zones : List ZoneData) (cs new : List ColumnData) (n : ℕ) (h : Head) (b : Bool) (c : ColumnData) → new ≡ cs ++ c ∷ [] → length cs ≡ n → slice_get hs n ≡ Some h → slice_get named n ≡ Some b
+    → (b ≡ true → c ≡ zone_column zones h) → AreNamed named hs zones cs → AreNamed named hs zones new
+named_pushed named hs zones cs new n h b c pushed long at mark own before k g x there asked is =
+    all_pushed (λ j y. (e : Head) → slice_get hs j ≡ Some e → slice_get named j ≡ Some true → y ≡ zone_column zones e) cs c n long
+    (λ e here set. own (same_Some b true (sym mark ∙ set)) ∙ ap (zone_column zones) (same_Some h e (sym at ∙ here)))
+    (λ i y h e here set. before i e y here set h) k x (ap (λ l. slice_get l k) (sym pushed) ∙ is) g there asked
+
+-- the map with the columns that are named
+pub has_named : (scope own : List Named) (rows : List ℕ) (cs : List ColumnData) (hs : List Head) (named : List Bool) (zones : List ZoneData) (m : MapData) → m ≡ map_with scope rows cs → scope ≡ own → hs ≡ heads own → rows ≡ map (λ zone. zone.rows) zones
+    → IsTrue (is_table (length rows) scope cs) → AreNamed named hs zones cs → HasNamed named zones m
+has_named scope own rows cs hs named zones m made same all counted table told =
+    subst (HasNamed named zones) (sym made)
+    (record { counted = counted; table = table; told = subst (λ l. AreNamed named l zones cs) (all ∙ ap heads (sym same)) told })
 
 pub head_there : (heads : List Head) (place : ℕ) (h : Head) → place < length heads → h ≡ get_or heads place h → slice_get heads place ≡ Some h
 head_there heads place h within is = slice_get-get_or heads place h within ∙ ap Some (sym is)
@@ -103,17 +131,7 @@ module _ (p : Tree Place) (scope : List Named) (sources : List Source) (rows : L
   pub batch_long : (from n : ℕ) (more : List ℕ) (batch : AreZonesFrom scope sources rows from n) → more ≡ zone_answers p scope batch.zones → length more ≡ n
   batch_long from n more batch told = ap length told ∙ length-map batch.zones (zone_answer p scope) ∙ found_long (λ k. zone_at scope sources rows (from + k)) n batch.zones batch.found
 
--- ---- the answers by the statistics that are named
-
-module _ (scope : List Named) (sources kept : List Source) (among : AreAmong kept sources) where
-  pub typed_among : All (IsTypedBy scope) sources → All (IsTypedBy scope) kept
-  typed_among typed = λ i d h.
-      let at : slice_get kept i ≡ Some (get_or kept i d) = slice_get-get_or kept i d h in
-      let j = among i (get_or kept i d) at in
-      typed_there scope sources j.0 (get_or kept i d) typed (slice_get_within sources j.0 (get_or kept i d) j.1) j.1
-
-  pub read_among : (n : ℕ) → AllRead sources n → AllRead kept n
-  read_among n all i x at = let j = among i x at in all j.0 x j.1
+-- ---- the answers for a table that is read
 
 module _ (scope : List Named) (sources : List Source) (rows : List ℕ) (typed : All (IsTypedBy scope) sources) (all : AllRead sources (length rows)) where
   -- the zones of a table that is read
@@ -123,7 +141,7 @@ module _ (scope : List Named) (sources : List Source) (rows : List ℕ) (typed :
     pub given : zones_given scope sources rows ≡ Ok zones
     pub fit : IsTrue (zones_fit scope zones)
 
-  pub all_given : IsGiven
+  all_given : IsGiven
   all_given =
       let z = zones_there scope sources rows typed all 0 (length rows) (omega arith) in
       let end : 0 + length rows ≡ length rows = omega arith in record {
@@ -133,25 +151,16 @@ module _ (scope : List Named) (sources : List Source) (rows : List ℕ) (typed :
         fit = z.fit;
       }
 
-pub named_whole : (p : Tree Place) (scope : List Named) (sources kept : List Source) (rows answers : List ℕ) → All (IsTypedBy scope) sources → AllRead sources (length rows) → AreAmong kept sources → CountAlike (falsifier [] p) (satisfier [] p) kept sources
-    → ((zones : List ZoneData) → zones_given scope kept rows ≡ Ok zones → answers ≡ zone_answers p scope zones) → IsWhole p scope sources rows answers
-named_whole p scope sources kept rows answers typed all among alike told =
-    let z = all_given scope sources rows typed all in
-    let k = all_given scope kept rows (typed_among scope sources kept among typed) (read_among scope sources kept among (length rows) all) in
-    let same : answers ≡ zone_answers p scope z.zones = told k.zones k.given ∙ sym (answers_by_named scope sources kept rows (falsifier [] p) (satisfier [] p) alike 0 (length rows) z.zones k.zones z.found k.found) in
-    record {
-      read = followed_read (zones_given scope sources rows) (λ zs. Ok (zone_answers p scope zs)) z.zones z.given ∙ ap Ok (sym same);
-      long = ap length same ∙ length-map z.zones (zone_answer p scope) ∙ found_long (zone_at scope sources rows) (length rows) z.zones z.given;
-      fit = subst (λ (x : Result (List ZoneData) Refusal). IfOk x (λ zs. IsTrue (zones_fit scope zs))) (sym z.given) z.fit;
-    }
+  pub given_whole : (p : Tree Place) (answers : List ℕ) → ((zones : List ZoneData) → zones_given scope sources rows ≡ Ok zones → answers ≡ zone_answers p scope zones) → IsWhole p scope sources rows answers
+  given_whole p answers told =
+      let z = all_given in
+      let same = told z.zones z.given in
+      record {
+        read = followed_read (zones_given scope sources rows) (λ zs. Ok (zone_answers p scope zs)) z.zones z.given ∙ ap Ok (sym same);
+        long = ap length same ∙ length-map z.zones (zone_answer p scope) ∙ found_long (zone_at scope sources rows) (length rows) z.zones z.given;
+        fit = subst (λ (x : Result (List ZoneData) Refusal). IfOk x (λ zs. IsTrue (zones_fit scope zs))) (sym z.given) z.fit;
+      }
 
 pub if_some : {X : Type 0} (o : Option X) (P Q : X → Type 0) → ((x : X) → P x → Q x) → IfSome o P → IfSome o Q
 if_some None P Q then_q h = h
 if_some (Some x) P Q then_q h = then_q x h
-
-pub proofs_whole : (proofs : Proofs) (scope : List Named) (sources kept lent : List Source) (rows answers : List ℕ) → All (IsTypedBy scope) sources → AllRead sources (length rows) → AreProofs proofs → AreAmong kept sources
-    → CountAlike proofs.falsifier proofs.satisfier kept sources → lent ≡ kept → ((zones : List ZoneData) → zones_given scope lent rows ≡ Ok zones → answers ≡ zone_answers proofs.predicate.now scope zones) → IsWhole proofs.predicate.now scope sources rows answers
-proofs_whole proofs scope sources kept lent rows answers typed all are among alike same told =
-    named_whole proofs.predicate.now scope sources kept rows answers typed all among
-    (λ i s h. alike i s (ap₂ (λ f t. either_names f t i s) are.falsified are.satisfied ∙ h))
-    (λ zones given. told zones (ap (λ l. zones_given scope l rows) same ∙ given))

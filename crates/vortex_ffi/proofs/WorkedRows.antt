@@ -2,3 +2,4 @@
 pub mod CallRows
 pub mod TableRows
 pub mod CellRows
+pub mod NamedRows

@@ -1,5 +1,5 @@
 -- The cells of a map's table, as the arrays of a caller tell them.
-use Rattle.std.specs.Prelude.{◌≡◌, ◌<◌, ◌≤◌, ℕ, zero, suc, ◌+◌, ◌*◌, ◌==◌, ◌&&◌, Bool, true, false, List, Option, None, Some, Result, Ok, Err, IsTrue, if◌then◌else◌, length, nat_le, slice_get, slice_index}
+use Rattle.std.specs.Prelude.{◌≡◌, ◌<◌, ◌≤◌, ℕ, zero, suc, ◌+◌, ◌*◌, ◌==◌, ◌&&◌, Bool, true, false, List, Option, None, Some, Result, Ok, Err, IsTrue, if◌then◌else◌, length, nat_le, replicate, slice_get, slice_index}
 use Rattle.vortex_base.specs.declared.aggregate.AggregateFnRef.{AggregateFnRef}
 use Rattle.vortex_base.specs.declared.aggregate.AggregateFnRef.TheVariants as aggregate
 use Rattle.vortex_base.specs.declared.dtype.DType.TheVariants as dtype
@@ -8,6 +8,7 @@ use Rattle.vortex_base.specs.declared.scalar_value.ScalarValue.{ScalarValue}
 use Rattle.vortex_base.specs.declared.scalar_value.ScalarValue.TheVariants as value
 use Rattle.vortex_base.specs.declared.types.Nullability.{Nullability}
 use Rattle.vortex_base.specs.declared.types.PType.{PType}
+use Rattle.vortex_base.specs.Data.Columns.{ColumnData}
 use Rattle.vortex_base.specs.Data.Scopes.{Named}
 use Rattle.vortex_prune.specs.Binding.StatValues.{read_stat, told_value}
 use Rattle.vortex_prune.specs.Part.{ZoneData, zones_fit}
@@ -97,6 +98,10 @@ batch_zones b = zones_from b.scope.now b.sources.now b.rows.now b.from b.count
 pub record IsBatch (b : Batch) : Type 0 where
   pub within : b.from + b.count ≤ length b.rows.now
   pub there : AreZonesFrom b.scope.now b.sources.now b.rows.now b.from b.count
+
+-- nulls below a head, in a table of n zones
+abbrev pub null_column : Head → ℕ → ColumnData
+null_column h n = record { dtype = h.dtype; values = replicate n None; size = 0 }
 
 -- these are what the statistics that count tell below a head of its zones
 pub record AreCells (b : Batch) (h : Head) (cells : List (Option ScalarValue)) : Type 0 where

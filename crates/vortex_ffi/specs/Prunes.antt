@@ -9,7 +9,8 @@ use Rattle.vortex_prune.specs.Binding.PartAnswers.{told_values}
 use Rattle.vortex_prune.specs.Part.{ZoneData, zones_fit}
 use Rattle.vortex_prune.specs.Scanning.Complete.{ZonesSkipExactly}
 use Rattle.vortex_prune.specs.Scanning.Selection.{places_where, proves_of}
-use Rattle.vortex_prune.specs.Scanning.ZoneScans.{IsSoundPruning}
+use Rattle.vortex_prune.specs.Scanning.ZoneScans.{AreRowVerdicts, IsSoundPruning}
+use Rattle.vortex_prune.specs.Zones.{MapData}
 use Rattle.vortex_prune.specs.declared.scan.verdict.Verdict.{Verdict}
 use Rattle.vortex_prune.specs.declared.scan.verdict.Verdict.TheVariants.{Skipped, Tested, Whole}
 use Rattle.vortex_rewrite.specs.Rewriting.Falsifiers.{falsifier, satisfier}
@@ -38,6 +39,13 @@ abbrev pub answer_of : Verdict → ℕ
 answer_of Skipped = 1
 answer_of Whole = 2
 answer_of Tested = 0
+
+-- these are the answers for the rows of a map's table, by a falsifier and a satisfier
+pub record AreRowAnswers (f s : Option (Tree Place)) (m : MapData) (answers : List ℕ) : Type 0 where
+  pub verdicts : List Verdict
+  pub rows : AreRowVerdicts f s m verdicts
+  pub long : length verdicts ≡ length m.rows
+  pub told : answers ≡ map answer_of verdicts
 
 -- by built-in rules under a predicate
 abbrev pub zone_answer : Tree Place → List Named → ZoneData → ℕ

@@ -1,72 +1,67 @@
-//! The proofs of a predicate, the statistics that they name, and what they answer for zones.
-ghost use Rattle.std.specs.Prelude.{◌≡◌, IfErr, IfOk, IfSome, IsTrue, List};
+//! The proofs of a predicate, the aggregates that they name, and what they answer for zones.
+ghost use Rattle.std.specs.Prelude.{◌≡◌, IfErr, IfOk, IfSome, IsTrue, List, map};
 ghost use Rattle.vortex_ffi.specs.NamedStats as spec;
-ghost use Rattle.vortex_ffi.specs.Prunes.{zone_answers};
+ghost use Rattle.vortex_ffi.specs.Prunes.{AreRowAnswers, zone_answers};
 ghost use Rattle.vortex_prune.specs.Part.{ZoneData};
 ghost use Rattle.vortex_prune.specs.Zones.{IsMapOf};
 ghost use Rattle.vortex_rewrite.specs.Answers.{IsMemory};
 ghost use Rattle.vortex_rewrite.specs.Rewriting.Predicates.{is_predicate};
 
 use crate::answers::answers_of;
-use crate::table::{Source, source_there};
 use std::alloc::{AllocError, Global};
 use vortex_base::aggregate::AggregateFnRef;
 use vortex_base::bound_expression::BoundExpression;
 use vortex_base::bound_expression::parts::Parts;
-use vortex_prune::{Rules, StatFn, ZoneMap, prune_by};
+use vortex_prune::{Head, Rules, ZoneMap, prune_by};
 use vortex_rewrite::rewrite::{falsify, satisfy};
 use vortex_stats::StatsError;
-use vortex_stats::stat::Stat;
 
-// Whether a statistic, if it is one, is this one.
-fn is_stat(read: Option<Stat>, stat: Stat) -> bool
-    ensures { result ≡ spec.is_stat read stat }
-{
-    match read {
-        None => false,
-        Some(read) => read.number() == stat.number(),
-    }
-}
-
-// Whether an aggregate of an input is told by this statistic of the column at a place.
-fn asks(aggregate: AggregateFnRef, input: &BoundExpression, column: usize, stat: Stat) -> bool
-    ensures { result ≡ spec.asks aggregate input.now column stat }
+// Whether an aggregate of an input is this one of the column at a place.
+fn asks(
+    aggregate: AggregateFnRef,
+    input: &BoundExpression,
+    column: usize,
+    wanted: AggregateFnRef,
+) -> bool
+    ensures { result ≡ spec.asks aggregate input.now column wanted }
 {
     match input.parts() {
-        Parts::Column(place, _) => place == column && is_stat(StatFn::reads(aggregate), stat),
+        Parts::Column(place, _) => place == column && aggregate == wanted,
         _ => false,
     }
 }
 
 // Whether a placeholder of an expression asks for it.
-fn names(e: &BoundExpression, column: usize, stat: Stat) -> bool
-    ensures { result ≡ spec.names e.now column stat }
+fn names(e: &BoundExpression, column: usize, wanted: AggregateFnRef) -> bool
+    ensures { result ≡ spec.names e.now column wanted }
 {
     match e.parts() {
         Parts::Column(_, _) => false,
         Parts::Literal(_) => false,
-        Parts::Binary(_, left, right) => names(left, column, stat) || names(right, column, stat),
+        Parts::Binary(_, left, right) => {
+            names(left, column, wanted) || names(right, column, wanted)
+        }
         Parts::Between(_, x, lower, upper) => {
-            names(x, column, stat) || names(lower, column, stat) || names(upper, column, stat)
+            names(x, column, wanted) || names(lower, column, wanted) || names(upper, column, wanted)
         }
-        Parts::IsNull(x) => names(x, column, stat),
-        Parts::IsNotNull(x) => names(x, column, stat),
-        Parts::Not(x) => names(x, column, stat),
+        Parts::IsNull(x) => names(x, column, wanted),
+        Parts::IsNotNull(x) => names(x, column, wanted),
+        Parts::Not(x) => names(x, column, wanted),
         Parts::Like(_, text, pattern) => {
-            names(text, column, stat) || names(pattern, column, stat)
+            names(text, column, wanted) || names(pattern, column, wanted)
         }
-        Parts::Stat(aggregate, input) => asks(aggregate, input, column, stat),
+        Parts::Stat(aggregate, input) => asks(aggregate, input, column, wanted),
         Parts::RowCount => false,
     }
 }
 
 // The same of a proof, if there is one.
-fn names_if(proof: &Option<BoundExpression>, column: usize, stat: Stat) -> bool
-    ensures { result ≡ spec.names_if proof.now column stat }
+fn names_if(proof: &Option<BoundExpression>, column: usize, wanted: AggregateFnRef) -> bool
+    ensures { result ≡ spec.names_if proof.now column wanted }
 {
     match proof {
         None => false,
-        Some(proof) => names(proof, column, stat),
+        Some(proof) => names(proof, column, wanted),
     }
 }
 
@@ -115,6 +110,8 @@ impl<'a> Proofs<'a> {
     /// The answer for each zone of a map.
     pub(crate) fn answers(&self, alloc: Global, map: &ZoneMap) -> Result<Vec<u8>, StatsError>
         requires { spec.AreProofs self.now }
+        ensures rows { IfOk result (λ answers. AreRowAnswers self.now.falsifier self.now.satisfier
+            map.now answers.items) }
         ensures told { IfOk result (λ answers. (zones : List ZoneData) → IsMapOf zones map.now
             → answers.items ≡ zone_answers self.now.predicate.now map.now.scope zones) }
         ensures memory { IfErr result (λ e. (zones : List ZoneData) → IsMapOf zones map.now
@@ -124,29 +121,23 @@ impl<'a> Proofs<'a> {
         Ok(answers_of(alloc, &verdicts)?)
     }
 
-    // Whether one of them asks for this statistic of the column at a place.
-    fn name(&self, column: usize, stat: Stat) -> bool
-        ensures { result ≡ spec.either_names self.now.falsifier self.now.satisfier column stat }
+    // Whether one of them asks for what stands below a head.
+    fn name(&self, head: &Head) -> bool
+        ensures { result ≡ spec.names_head self.now.falsifier self.now.satisfier head.now }
     {
-        names_if(&self.falsifier, column, stat) || names_if(&self.satisfier, column, stat)
+        let (column, aggregate) = (head.source(), head.aggregate());
+        names_if(&self.falsifier, column, aggregate) || names_if(&self.satisfier, column, aggregate)
     }
 
-    /// The statistics of a table that they ask for.
-    pub(crate) fn named<'b>(&self, alloc: Global, sources: &[Source<'b>]) -> Option<Vec<Source<'b>>>
-        ensures among { IfSome result (λ kept. spec.AreAmong kept.items sources.now) }
-        ensures alike { IfSome result (λ kept. spec.CountAlike self.now.falsifier
-            self.now.satisfier kept.items sources.now) }
+    /// The same of each head.
+    pub(crate) fn named(&self, alloc: Global, heads: &[Head]) -> Option<Vec<bool>>
+        ensures { IfSome result (λ named. named.items
+            ≡ map (spec.names_head self.now.falsifier self.now.satisfier) heads.now) }
     {
-        let mut kept = Vec::new(alloc);
-        for entry in 0..sources.len() {
-            let source = source_there(sources, entry);
-            if self.name(source.statistic.column, source.stat) {
-                match kept.push(*source) {
-                    Ok(()) => {}
-                    Err(_) => return None,
-                }
-            }
+        let mut named = Vec::with_capacity(alloc, heads.len()).ok()?;
+        for place in 0..heads.len() {
+            named.push(self.name(&heads[place])).ok()?;
         }
-        Some(kept)
+        Some(named)
     }
 }

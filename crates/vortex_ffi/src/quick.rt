@@ -1,13 +1,13 @@
 //! The answers for zones by maps whose tables are filled straight from a caller's arrays, without
 //! a set a zone. There are none where a value or memory is refused.
-ghost use Rattle.std.specs.Prelude.{◌≡◌, ◌+◌, ◌<◌, ◌≤◌, All, IfOk, IfSome, IsTrue, List, Ok, length, map};
+ghost use Rattle.std.specs.Prelude.{◌≡◌, ◌+◌, ◌<◌, ◌≤◌, All, IfOk, IfSome, IsTrue, List, Ok, length, map, true};
 ghost use Rattle.vortex_base.specs.Data.Cells.{cell_values};
 ghost use Rattle.vortex_ffi.specs.MapCells as spec;
-ghost use Rattle.vortex_ffi.specs.NamedStats.{AreProofs};
+ghost use Rattle.vortex_ffi.specs.NamedStats.{AreNamed, AreProofs, HasNamed, names_head};
 ghost use Rattle.vortex_ffi.specs.Prunes.{table_answers, zone_answers};
 ghost use Rattle.vortex_ffi.specs.Tables.{IsTypedBy, zones_given};
 ghost use Rattle.vortex_prune.specs.Part.{ZoneData, zones_fit};
-ghost use Rattle.vortex_prune.specs.Zones.{IsMapOf, TellsOf, heads as all_heads, zone_column, zone_columns};
+ghost use Rattle.vortex_prune.specs.Zones.{TellsOf, heads as all_heads, zone_column};
 
 use crate::cells::{all_read, last_of, null_cells, told_cells};
 use crate::named::Proofs;
@@ -62,17 +62,41 @@ impl Batch<'_> {
         Some(Column::new_unchecked(head.dtype(), cells, 0))
     }
 
+    // Nulls below a head.
+    fn null_column(&self, alloc: Global, head: &Head) -> Column
+        requires { TellsOf self.now.scope.now head.now }
+        ensures { result ≡ spec.null_column head.now self.now.count }
+    {
+        Column::new_unchecked(head.dtype(), null_cells(alloc, self.count), 0)
+    }
+
+    // The column below a head if that is named, or else nulls.
+    fn column_if(&self, alloc: Global, head: &Head, is_named: bool) -> Option<Column>
+        requires batch { spec.IsBatch self.now }
+        requires tells { TellsOf self.now.scope.now head.now }
+        ensures { IfSome result (λ column. (zones : List ZoneData)
+            → spec.batch_zones self.now ≡ Ok zones → is_named ≡ true
+            → column ≡ zone_column zones head.now) }
+    {
+        if is_named {
+            self.column(alloc, head)
+        } else {
+            Some(self.null_column(alloc, head))
+        }
+    }
+
     // Those below all heads of the scope.
-    fn columns(&self, alloc: Global, heads: &[Head]) -> Option<Vec<Column>>
+    fn columns(&self, alloc: Global, heads: &[Head], named: &[bool]) -> Option<Vec<Column>>
         requires batch { spec.IsBatch self.now }
         requires heads { heads.now ≡ all_heads self.now.scope.now }
+        requires named { length named.now ≡ length heads.now }
         ensures { IfSome result (λ columns. (zones : List ZoneData)
             → spec.batch_zones self.now ≡ Ok zones
-            → columns.items ≡ zone_columns self.now.scope.now zones) }
+            → AreNamed named.now heads.now zones columns.items) }
     {
         let mut columns = Vec::with_capacity(alloc, heads.len()).ok()?;
         for place in 0..heads.len() {
-            let column = self.column(alloc, &heads[place])?;
+            let column = self.column_if(alloc, &heads[place], named[place])?;
             columns.push(column).ok()?;
         }
         Some(columns)
@@ -92,19 +116,20 @@ impl Batch<'_> {
         }
     }
 
-    // The map of the zones.
-    fn map(&self, alloc: Global, heads: &[Head]) -> Option<ZoneMap>
+    // The map of the zones, with what is named.
+    fn map(&self, alloc: Global, heads: &[Head], named: &[bool]) -> Option<ZoneMap>
         requires batch { spec.IsBatch self.now }
         requires heads { heads.now ≡ all_heads self.now.scope.now }
+        requires named { length named.now ≡ length heads.now }
         ensures scoped { IfSome result (λ made. made.scope ≡ self.now.scope.now) }
-        ensures is_map { IfSome result (λ made. (zones : List ZoneData)
-            → spec.batch_zones self.now ≡ Ok zones → IsMapOf zones made) }
+        ensures has { IfSome result (λ made. (zones : List ZoneData)
+            → spec.batch_zones self.now ≡ Ok zones → HasNamed named.now zones made) }
     {
         let Ok(scope) = self.scope.try_clone() else {
             return None;
         };
         let rows = self.row_counts(alloc)?;
-        let columns = self.columns(alloc, heads)?;
+        let columns = self.columns(alloc, heads, named)?;
         match ZoneMap::of_table(alloc, scope, rows, columns) {
             Ok(made) => Some(made),
             Err(_) => None,
@@ -112,20 +137,33 @@ impl Batch<'_> {
     }
 
     // The answers for the zones.
-    fn answers(&self, alloc: Global, heads: &[Head], proofs: &Proofs<'_>) -> Option<Vec<u8>>
+    fn answers(
+        &self,
+        alloc: Global,
+        heads: &[Head],
+        named: &[bool],
+        proofs: &Proofs<'_>,
+    ) -> Option<Vec<u8>>
         requires batch { spec.IsBatch self.now }
         requires heads { heads.now ≡ all_heads self.now.scope.now }
+        requires named { named.now
+            ≡ map (names_head proofs.now.falsifier proofs.now.satisfier) heads.now }
         requires proofs { AreProofs proofs.now }
         ensures { IfSome result (λ answers. (zones : List ZoneData)
             → spec.batch_zones self.now ≡ Ok zones
             → answers.items ≡ zone_answers proofs.now.predicate.now self.now.scope.now zones) }
     {
-        let map = self.map(alloc, heads)?;
+        let map = self.map(alloc, heads, named)?;
         match proofs.answers(alloc, &map) {
             Ok(answers) => Some(answers),
             Err(_) => None,
         }
     }
+}
+
+// How many heads are named.
+fn count_named(named: &[bool]) -> usize {
+    named.iter().filter(|named| **named).count()
 }
 
 // How many zones are answered next, of those that are left.
@@ -156,7 +194,8 @@ fn batches_answers<'a>(
     let Ok(heads) = ZoneMap::heads(alloc, scope) else {
         return None;
     };
-    let size = 1 + BATCH_CELLS / sources.len().max(1);
+    let named = proofs.named(alloc, &heads)?;
+    let size = 1 + BATCH_CELLS / count_named(&named).max(1);
     let mut answers = Vec::with_capacity(alloc, rows.len()).ok()?;
     'batches: while answers.len() < rows.len() {
         let from = answers.len();
@@ -168,7 +207,7 @@ fn batches_answers<'a>(
             from,
             count,
         };
-        let mut more = batch.answers(alloc, &heads, proofs)?;
+        let mut more = batch.answers(alloc, &heads, &named, proofs)?;
         match answers.append(&mut more) {
             Ok(()) => {}
             Err(_) => return None,
@@ -178,7 +217,7 @@ fn batches_answers<'a>(
 }
 
 /// The answers for the zones of a table, if each value is read and no memory is refused. Cells are
-/// made of the statistics alone that the proofs of the predicate name.
+/// made below the heads alone that the proofs of the predicate name.
 pub(crate) fn quick_answers(
     alloc: Global,
     scope: &Scope,
@@ -197,6 +236,5 @@ pub(crate) fn quick_answers(
     if !all_read(sources, rows.len()) {
         return None;
     }
-    let kept = proofs.named(alloc, sources)?;
-    batches_answers(alloc, scope, proofs, &kept, rows)
+    batches_answers(alloc, scope, proofs, sources, rows)
 }

@@ -1,16 +1,12 @@
 -- Worked rows: the cells of maps' tables, filled from a caller's arrays.
 use Rattle.std.proofs.Common.{◌≡◌, ℕ, List, [], ◌∷◌, None, Some, Ok, Err, true, false, Bor, refl}
 use Rattle.vortex_base.specs.Data.Scopes.{Named}
-use Rattle.vortex_base.specs.Trees.Tree.{Place, Tree, between, binary, column, is_not_null, is_null, like, literal, not, row_count, stat as placeholder}
 use Rattle.vortex_base.specs.declared.aggregate.AggregateFnRef.TheVariants as aggregate
 use Rattle.vortex_base.specs.declared.dtype.DType.TheVariants as dtype
 use Rattle.vortex_base.specs.declared.pvalue.PValue.TheVariants as number
 use Rattle.vortex_base.specs.declared.scalar_value.ScalarValue.{ScalarValue}
 use Rattle.vortex_base.specs.declared.scalar_value.ScalarValue.TheVariants as value
-use Rattle.vortex_base.specs.declared.types.BetweenOptions.{BetweenOptions}
-use Rattle.vortex_base.specs.declared.like.LikeOptions.{LikeOptions}
 use Rattle.vortex_base.specs.declared.types.Nullability.TheVariants.{Nullable}
-use Rattle.vortex_base.specs.declared.types.Operator.TheVariants.{Gt}
 use Rattle.vortex_base.specs.declared.types.PType.TheVariants as ptype
 use Rattle.vortex_stats.specs.declared.precision.Precision.TheVariants.{Exact, Inexact, Absent}
 use Rattle.vortex_stats.specs.declared.stat.Stat.{Stat}
@@ -18,7 +14,6 @@ use Rattle.vortex_stats.specs.declared.stat.Stat.TheVariants as stat
 use Rattle.vortex_ffi.specs.declared.status.Status.TheVariants.{BadKnown, BadLength}
 use Rattle.vortex_ffi.specs.declared.table.Source.{Source}
 use Rattle.vortex_ffi.specs.MapCells.{is_of, last_of, told_cell, told_cells, value_by, zones_from}
-use Rattle.vortex_ffi.specs.NamedStats.{asks, either_names, names}
 use Rattle.vortex_ffi.specs.Statuses.{at_entry, in_column}
 
 abbrev lent : List ℕ → Bor (List ℕ)
@@ -111,80 +106,3 @@ last_two = refl
 
 third_refused : zones_from scope (least ∷ []) (3 ∷ 4 ∷ 5 ∷ []) 1 2 ≡ Err (in_column 2 0 BadKnown 0)
 third_refused = refl
-
--- ---- the statistics that proofs name, with the placeholder at each place of each node
-
-abbrev place : ℕ → Tree Place
-place i = column (record { index = i; dtype = dtype.Primitive ptype.U8 Nullable })
-
-abbrev truth : Tree Place
-truth = literal (record { dtype = dtype.Bool Nullable; value = Some (value.Bool true) })
-
-abbrev greatest : Tree Place
-greatest = placeholder aggregate.Max (place 1)
-
-own_placeholder : names greatest 1 stat.Max ≡ true
-own_placeholder = refl
-
-another_column : names greatest 0 stat.Max ≡ false
-another_column = refl
-
-another_statistic : names greatest 1 stat.Min ≡ false
-another_statistic = refl
-
-by_the_nulls : asks aggregate.AllNonNull (place 1) 1 stat.NullCount ≡ true
-by_the_nulls = refl
-
-never_told : asks aggregate.NanCount (place 1) 1 stat.NaNCount ≡ false
-never_told = refl
-
-of_no_column : asks aggregate.Max truth 1 stat.Max ≡ false
-of_no_column = refl
-
-bare_column : names (place 1) 1 stat.Max ≡ false
-bare_column = refl
-
-no_placeholder : names truth 1 stat.Max ≡ false
-no_placeholder = refl
-
-no_row_count : names row_count 1 stat.Max ≡ false
-no_row_count = refl
-
-below_is_null : names (is_null greatest) 1 stat.Max ≡ true
-below_is_null = refl
-
-below_is_not_null : names (is_not_null greatest) 1 stat.Max ≡ true
-below_is_not_null = refl
-
-on_the_left : names (binary Gt greatest truth) 1 stat.Max ≡ true
-on_the_left = refl
-
-on_the_right : names (binary Gt truth greatest) 1 stat.Max ≡ true
-on_the_right = refl
-
-below_not : names (not greatest) 1 stat.Max ≡ true
-below_not = refl
-
-of_a_range : (o : BetweenOptions) → names (between o greatest truth truth) 1 stat.Max ≡ true
-of_a_range o = refl
-
-of_its_lower_end : (o : BetweenOptions) → names (between o truth greatest truth) 1 stat.Max ≡ true
-of_its_lower_end o = refl
-
-of_its_upper_end : (o : BetweenOptions) → names (between o truth truth greatest) 1 stat.Max ≡ true
-of_its_upper_end o = refl
-
-of_a_text : (o : LikeOptions) → names (like o greatest truth) 1 stat.Max ≡ true
-of_a_text o = refl
-
-of_its_pattern : (o : LikeOptions) → names (like o truth greatest) 1 stat.Max ≡ true
-of_its_pattern o = refl
-
-by_the_first : either_names (Some greatest) None 1 stat.Max ≡ true
-by_the_first = refl
-
-by_the_second : either_names None (Some greatest) 1 stat.Max ≡ true
-by_the_second = refl
-
-by_neither : either_names None None 1 stat.Max ≡ false
-by_neither = refl

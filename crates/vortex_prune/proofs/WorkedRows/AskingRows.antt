@@ -1,18 +1,18 @@
 -- Worked rows: the parts and binders that are asked for a satisfier, and what that may cause.
-use Rattle.std.specs.Prelude.{◌≡◌, ◌==◌, ℕ, Bool, true, false, List, [], ◌∷◌, Option, Some, None, pos, codes, refl}
+use Rattle.std.specs.Prelude.{◌≡◌, ◌==◌, ℕ, zero, suc, Bool, true, false, List, [], ◌∷◌, Option, Some, None, pos, codes, refl}
 use Rattle.std.proofs.Common.{arith, inl, inr, subst, sym, ◌∙◌}
 use Rattle.vortex_base.specs.declared.aggregate.AggregateFnRef.TheVariants.{Max}
 use Rattle.vortex_base.specs.declared.dtype.DType.{DType}
 use Rattle.vortex_base.specs.declared.dtype.DType.TheVariants as dtype
 use Rattle.vortex_base.specs.declared.types.Nullability.TheVariants.{Nullable}
-use Rattle.vortex_base.specs.declared.types.Operator.TheVariants.{And, Lte}
+use Rattle.vortex_base.specs.declared.types.Operator.TheVariants.{And, Eq, Lte}
 use Rattle.vortex_base.specs.declared.types.PType.TheVariants as ptype
 use Rattle.vortex_base.specs.declared.types.ScalarFnId.TheVariants as functions
 use Rattle.vortex_base.specs.declared.pvalue.PValue.TheVariants as number
 use Rattle.vortex_base.specs.declared.scalar_value.ScalarValue.{ScalarValue}
 use Rattle.vortex_base.specs.declared.scalar_value.ScalarValue.TheVariants as value
 use Rattle.vortex_base.specs.Data.Scalars.{Constant}
-use Rattle.vortex_base.specs.Trees.Tree.{Tree, Place, column, literal, binary, not, stat}
+use Rattle.vortex_base.specs.Trees.Tree.{Tree, Place, column, literal, binary, not, row_count, stat}
 use Rattle.vortex_rewrite.specs.Causes.{Causes}
 use Rattle.vortex_rewrite.specs.Rewriting.Falsifiers.{bool_literal, node, reduce_balanced}
 use Rattle.vortex_rewrite.specs.Rewriting.Lawful.{IsLawful, OwnRule}
@@ -22,7 +22,8 @@ use Rattle.vortex_stats.specs.declared.stat.Stat.TheVariants as stats
 use Rattle.vortex_prune.specs.Binding.PartBinder.{IsNullOf}
 use Rattle.vortex_prune.specs.Part.{PartData}
 use Rattle.vortex_prune.specs.Scanning.ScanRefusals.{faithful_causes, kept_binders, verdict_causes}
-use Rattle.vortex_prune.specs.Scanning.ZoneScans.{is_left_open, kept_parts, table_refuses, zone_causes}
+use Rattle.vortex_prune.specs.Scanning.ZoneScans.{AreRowVerdicts, is_left_open, kept_parts, row_verdict, table_refuses, zone_causes}
+use Rattle.vortex_prune.specs.declared.scan.verdict.Verdict.TheVariants.{Skipped, Tested, Whole}
 use Rattle.vortex_prune.specs.Zones.{MapData, zone_map, zones_of}
 use Rattle.vortex_stats.specs.declared.error.StatsError.TheVariants.{OpenProof}
 use mathlib.Core.Bool.{true≢false}
@@ -174,10 +175,44 @@ closed_if_skipped (inl (inr h)) = h
 closed_if_skipped (inr (inl h)) = true≢false (sym h.0)
 closed_if_skipped (inr (inr h)) = absurd (omega (arith, h.1.2))
 
--- ---- one zone of a table
+-- ---- the verdicts on the rows of a table, by what they hold
 
 abbrev table : MapData
 table = zone_map ((codes "a", i32_type) ∷ []) (zones_of parts)
+
+below_a_falsifier : row_verdict (Some at_most_ten) None table 1 1 ≡ Skipped
+below_a_falsifier = refl
+
+on_another_row : row_verdict (Some at_most_ten) None table 0 1 ≡ Tested
+on_another_row = refl
+
+below_a_satisfier : row_verdict None (Some at_most_ten) table 1 1 ≡ Whole
+below_a_satisfier = refl
+
+below_both : row_verdict (Some at_most_ten) (Some at_most_ten) table 1 1 ≡ Skipped
+below_both = refl
+
+-- the rows of the zone are counted
+abbrev seven_rows : Tree Place
+seven_rows = binary Eq row_count (literal (record { dtype = dtype.Primitive ptype.U64 Nullable; value = Some (value.Primitive (number.U64 7)) }))
+
+of_seven_rows : row_verdict (Some seven_rows) None table 0 7 ≡ Skipped
+of_seven_rows = refl
+
+of_eight_rows : row_verdict (Some seven_rows) None table 0 8 ≡ Tested
+of_eight_rows = refl
+
+each_verdict : AreRowVerdicts (Some at_most_ten) None table (Tested ∷ Skipped ∷ Tested ∷ Skipped ∷ [])
+each_verdict zero n v at is = cc
+each_verdict (suc zero) n v at is = cc
+each_verdict (suc (suc zero)) n v at is = cc
+each_verdict (suc (suc (suc zero))) n v at is = cc
+each_verdict (suc (suc (suc (suc r)))) n v at is = absurd cc
+
+turned_round : AreRowVerdicts (Some at_most_ten) None table (Skipped ∷ []) → ⊥
+turned_round h = let no : Skipped ≡ Tested = h 0 1 Skipped refl refl in absurd cc
+
+-- ---- one zone of a table
 
 refused_at_a_kept_zone : table_refuses (Some (bool_literal false)) (Some a) table 0 OpenProof
 refused_at_a_kept_zone = ((λ n at. refl), refl)

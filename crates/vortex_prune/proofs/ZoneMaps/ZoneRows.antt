@@ -52,12 +52,17 @@ row_is_zone_row scope table r is named = row_types (heads scope) table.columns r
 abbrev cell_of : ℕ → ColumnData → Constant
 cell_of r c = record { dtype = c.dtype; value = value_at (slice_get c.values r) }
 
+-- in a table with the zones' column below a head
+pub cell_told : (cs : List ColumnData) (zones : List ZoneData) (r k : ℕ) (h : Head) (z : ZoneData) (c : ColumnData) → slice_get cs k ≡ Some c → c ≡ zone_column zones h → slice_get zones r ≡ Some z
+    → cell_value (slice_get (row_of r cs) k) ≡ zone_value h.aggregate h.source z
+cell_told cs zones r k h z c there is zone =
+    let one : slice_get (row_of r cs) k ≡ Some (cell_of r (zone_column zones h)) = slice_get-map (cell_of r) cs k ∙ ap (option_map (cell_of r)) (there ∙ ap Some is) in
+    ap cell_value one ∙ ap value_at (slice_get-map (zone_value h.aggregate h.source) zones r ∙ ap (option_map (zone_value h.aggregate h.source)) zone)
+
 cell_is : (hs : List Head) (zones : List ZoneData) (r k : ℕ) (h : Head) (z : ZoneData) → slice_get hs k ≡ Some h → slice_get zones r ≡ Some z
     → cell_value (slice_get (row_of r (map (zone_column zones) hs)) k) ≡ zone_value h.aggregate h.source z
 cell_is hs zones r k h z there zone =
-    let one : slice_get (row_of r (map (zone_column zones) hs)) k ≡ Some (cell_of r (zone_column zones h)) =
-    slice_get-map (cell_of r) (map (zone_column zones) hs) k ∙ ap (option_map (cell_of r)) (slice_get-map (zone_column zones) hs k ∙ ap (option_map (zone_column zones)) there) in
-    ap cell_value one ∙ ap value_at (slice_get-map (zone_value h.aggregate h.source) zones r ∙ ap (option_map (zone_value h.aggregate h.source)) zone)
+    cell_told (map (zone_column zones) hs) zones r k h z (zone_column zones h) (slice_get-map (zone_column zones) hs k ∙ ap (option_map (zone_column zones)) there) refl zone
 
 -- ---- an aggregate that has no column in the table has no value
 
@@ -132,13 +137,22 @@ module _ (f : AggregateFnRef) (t : DType) (n : ℕ) where
   known_at : (cs : List Named) (o : Option Entries) (i : ℕ) (c : Named) → slice_get cs i ≡ Some c → eq_ignore_nullability c.1 t ≡ true → set_value f o n ≡ column_value f t (slice_get cs i) o n
   known_at cs o i c there e = known_set c o e ∙ ap (λ x. column_value f t x o n) (sym there)
 
+module _ (scope : List Named) (cs : List ColumnData) (r : ℕ) (z : ZoneData) where
+  -- below a head for this aggregate of the column at a place the row holds what the zone tells
+  abbrev pub HoldsTold : AggregateFnRef → ℕ → Type 0
+  HoldsTold f i = (k : ℕ) (c : Named) → slice_get (heads scope) k ≡ Some (head i c f) → cell_value (slice_get (row_of r cs) k) ≡ zone_value f i z
+
+  pub column_told : fits_zone scope z.stats ≡ true → (f : AggregateFnRef) (i : ℕ) (t : DType) (o : Option ℕ) → zone_place scope i f t ≡ o → HoldsTold f i
+      → cell_at (row_of r cs) o ≡ column_value f t (slice_get scope i) (slice_get z.stats i) z.rows
+  column_told is f i t None e holds = sym (unknown_at f t z.rows scope z.stats i is e)
+  column_told is f i t (Some k) e holds =
+      let q = place_of scope i f t k e in
+      holds k q.0 q.3 ∙ known_at f t z.rows scope (slice_get z.stats i) i q.0 q.1 q.2
+
 module _ (scope : List Named) (zones : List ZoneData) (r : ℕ) (z : ZoneData) (zone : slice_get zones r ≡ Some z) (is : fits_zone scope z.stats ≡ true) where
   column_same : (f : AggregateFnRef) (i : ℕ) (t : DType) (o : Option ℕ) → zone_place scope i f t ≡ o
       → cell_at (row_of r (zone_columns scope zones)) o ≡ column_value f t (slice_get scope i) (slice_get z.stats i) z.rows
-  column_same f i t None e = sym (unknown_at f t z.rows scope z.stats i is e)
-  column_same f i t (Some k) e =
-      let q = place_of scope i f t k e in
-      cell_is (heads scope) zones r k (head i q.0 f) z q.3 zone ∙ known_at f t z.rows scope (slice_get z.stats i) i q.0 q.1 q.2
+  column_same f i t o e = column_told scope (zone_columns scope zones) r z is f i t o e (λ k c there. cell_is (heads scope) zones r k (head i c f) z there zone)
 
   value_same : (f : AggregateFnRef) (x : Tree Place) → zone_values scope (row_of r (zone_columns scope zones)) f x ≡ told_values scope z f x
   value_same f (column c) = column_same f c.index c.dtype (zone_place scope c.index f c.dtype) refl

@@ -14,29 +14,27 @@ use Rattle.vortex_prune.proofs.Scanning.ScanLemmas.{answered_long}
 use Rattle.vortex_prune.proofs.Scanning.WholeScan.{all_at}
 use Rattle.vortex_prune.proofs.ZoneMaps.ZoneRows.{values_same}
 use Rattle.vortex_prune.specs.Binding.BoundTo.{HasNoColumnOn, WhereFaithful}
-use Rattle.vortex_prune.specs.Binding.PartAnswers.{part_values, told_values}
+use Rattle.vortex_prune.specs.Binding.PartAnswers.{part_values}
 use Rattle.vortex_prune.specs.Part.{PartData, ZoneData, zone_of}
 use Rattle.vortex_prune.specs.Scanning.PartScans.{AreTold, TellsOf}
-use Rattle.vortex_prune.specs.Scanning.Selection.{Answered, proves_of, verdict}
+use Rattle.vortex_prune.specs.Scanning.Selection.{Answered, proves_of, verdict, verdict_of}
 use Rattle.vortex_prune.proofs.ZoneMaps.ZoneRefusals.{causes_alike, is_opened, kept_open, some_open}
 use Rattle.vortex_rewrite.proofs.Rewriting.CauseLemmas.{refusal-more}
 use Rattle.vortex_rewrite.specs.Causes.{IsRefusal, no_causes}
 use Rattle.vortex_rewrite.specs.Rewriting.Falsifiers.{falsifier}
 use Rattle.vortex_rewrite.specs.Rewriting.Lawful.{OwnRule}
 use Rattle.vortex_prune.specs.Scanning.ZoneScans.{IsTableRefused, is_proved_part, is_proved_zone, kept_zones, open_causes, pruning_causes, table_refuses, zone_causes}
-use Rattle.vortex_prune.specs.Scanning.ZoneScans.{AllTold, IsShutIfKept, IsShutIfVerdict, TellsAs, statistics_answers, table_tells, table_verdict, zone_truth, zone_verdict, zone_verdicts}
+use Rattle.vortex_prune.specs.Scanning.ZoneScans.{AllTold, AreRowVerdicts, IsShutIfKept, IsShutIfVerdict, TellsAs, row_values, statistics_answers, table_tells, table_verdict, zone_truth, zone_verdict, zone_verdicts}
 use Rattle.vortex_prune.specs.Zones.{HaveScope, IsMapOf, MapData, is_zone_row, zone_values, zones_of}
 use Rattle.vortex_prune.specs.declared.scan.verdict.Verdict.{Verdict}
 use Rattle.vortex_prune.specs.declared.scan.verdict.Verdict.TheVariants.{Skipped, Whole, Tested}
-use Rattle.vortex_rewrite.specs.Rewriting.Proof.{Assignment, is_open, value_under}
+use Rattle.vortex_rewrite.specs.Rewriting.Proof.{is_open, value_under}
 use Rattle.vortex_stats.specs.declared.error.StatsError.{StatsError}
 
 -- ---- a bound proof tells on each row what the proof does of the zone
 
 tells_as : (m : MapData) (e b : Tree Place) → has_bare_column e ≡ false → ((r n : ℕ) → meaning b (row_of r m.table.columns) n ≡ value_under (zone_values m.scope (row_of r m.table.columns)) n e) → TellsAs (Some b) (Some e) m
-tells_as m e b free value zones r zone is at =
-    ap is_true (value r zone.rows ∙ ap (λ (a : Assignment). value_under a zone.rows e) (values_same m zones r zone is at))
-    ∙ sym (ap (λ t. is_true (if t then None else value_under (told_values m.scope zone) zone.rows e)) free)
+tells_as m e b free value r n at = ap is_true (value r n) ∙ sym (ap (λ t. is_true (if t then None else value_under (row_values m r) n e)) free)
 
 -- it was bound by a binder over the table
 module _ (m s : MapData) (same : s ≡ m) (e : Tree Place) (rows_typed : (r : ℕ) → IsTrue (is_zone_row s.scope (row_of r m.table.columns))) where
@@ -47,13 +45,13 @@ module _ (m s : MapData) (same : s ≡ m) (e : Tree Place) (rows_typed : (r : �
   bound_tells (Err f) shut value = tt
 
 pub tells_none : (m : MapData) → TellsAs None None m
-tells_none m zones r zone is at = refl
+tells_none m r n at = refl
 
 pub rows_long : (m : MapData) (zones : List ZoneData) → IsMapOf zones m → length m.rows ≡ length zones
 rows_long m zones is = ap (λ (x : MapData). length x.rows) is.same ∙ length-map zones (λ (z : ZoneData). z.rows)
 
 pub tells_nothing : (m : MapData) (bound proof : Option (Tree Place)) → length m.rows ≡ 0 → TellsAs bound proof m
-tells_nothing m bound proof h zones r zone is at = absurd (omega (arith, h, rows_long m zones is, slice_get_within zones r zone at))
+tells_nothing m bound proof h r n at = absurd (omega (arith, h, slice_get_within m.rows r n at))
 
 -- ---- the verdict on a zone
 
@@ -68,22 +66,20 @@ IsTruth bound m i b = (n : ℕ) → slice_get m.rows i ≡ Some n → b ≡ zone
 module _ (falsifier satisfier : Option (Tree Place)) (m : MapData) (i : ℕ) where
   pub is_skipped_zone : (b : Bool) → b ≡ true → IsTruth falsifier m i b → table_tells falsifier satisfier m i Skipped
   is_skipped_zone b holds told = (
-    (λ zones zone is there. ap (λ c. if c then Skipped else if proves_of satisfier zone.rows (told_values m.scope zone) then Whole else Tested) (sym holds ∙ told zone.rows (row_count_at m zones i zone is there))),
+    (λ n at. ap (λ c. if c then Skipped else if proves_of satisfier n (row_values m i) then Whole else Tested) (sym holds ∙ told n at)),
     tt,
   )
 
   module _ (bound : Option (Tree Place)) (a : Bool) (no : a ≡ false) (not_told : IsTruth falsifier m i a) (tells : TellsAs bound satisfier m) (shut : is_open satisfier ≡ false) where
-    by_satisfier : (b : Bool) → IsTruth bound m i b → (zones : List ZoneData) (zone : ZoneData) → IsMapOf zones m → slice_get zones i ≡ Some zone → (if b then Whole else Tested) ≡ table_verdict falsifier satisfier m i zone
-    by_satisfier b told zones zone is there =
-        let at = row_count_at m zones i zone is there in
-        ap (λ c. if c then Whole else Tested) (told zone.rows at ∙ tells zones i zone is there)
-        ∙ ap (λ c. if c then Skipped else if proves_of satisfier zone.rows (told_values m.scope zone) then Whole else Tested) (sym no ∙ not_told zone.rows at)
+    by_satisfier : (b : Bool) → IsTruth bound m i b → (n : ℕ) → slice_get m.rows i ≡ Some n → (if b then Whole else Tested) ≡ table_verdict falsifier satisfier m i n
+    by_satisfier b told n at =
+        ap (λ c. if c then Whole else Tested) (told n at ∙ tells i n at) ∙ ap (λ c. if c then Skipped else if proves_of satisfier n (row_values m i) then Whole else Tested) (sym no ∙ not_told n at)
 
     pub is_whole_zone : (b : Bool) → b ≡ true → IsTruth bound m i b → table_tells falsifier satisfier m i Whole
-    is_whole_zone b holds told = ((λ zones zone is there. ap (λ c. if c then Whole else Tested) (sym holds) ∙ by_satisfier b told zones zone is there), shut)
+    is_whole_zone b holds told = ((λ n at. ap (λ c. if c then Whole else Tested) (sym holds) ∙ by_satisfier b told n at), shut)
 
     pub is_tested_zone : (b : Bool) → b ≡ false → IsTruth bound m i b → table_tells falsifier satisfier m i Tested
-    is_tested_zone b other told = ((λ zones zone is there. ap (λ c. if c then Whole else Tested) (sym other) ∙ by_satisfier b told zones zone is there), shut)
+    is_tested_zone b other told = ((λ n at. ap (λ c. if c then Whole else Tested) (sym other) ∙ by_satisfier b told n at), shut)
 
 -- ---- refusals
 
@@ -99,6 +95,7 @@ pub refused_kept : (bound s f : Option (Tree Place)) (m : MapData) (zones : List
 refused_kept bound s f m zones e tells is (inl memory) = subst (IsRefusal (open_causes s (kept_zones f m.scope zones))) (sym memory) tt
 refused_kept bound s f m zones e tells is (inr h) =
     let z = element_there zones h.0 (omega (arith, h.1, rows_long m zones is)) in
+    let counted = row_count_at m zones h.0 z.0 is z.1 in
     refusal-more (record no_causes { open_proof = ((n : ℕ) → slice_get m.rows h.0 ≡ Some n → zone_truth bound m.table.columns h.0 n ≡ false) × (is_open s ≡ true) })
     (open_causes s (kept_zones f m.scope zones)) e
     (record {
@@ -106,7 +103,7 @@ refused_kept bound s f m zones e tells is (inr h) =
       not_bool = λ x. x;
       binder = λ k x. x;
       wrong_type = λ x. x;
-      open_proof = λ x. kept_open (is_proved_zone m.scope f) s x.1 zones h.0 z.0 z.1 (sym (tells zones h.0 z.0 is z.1) ∙ x.0 z.0.rows (row_count_at m zones h.0 z.0 is z.1));
+      open_proof = λ x. kept_open (is_proved_zone m.scope f) s x.1 zones h.0 z.0 z.1 (ap (proves_of f z.0.rows) (sym (values_same m zones h.0 z.0 is z.1)) ∙ sym (tells h.0 z.0.rows counted) ∙ x.0 z.0.rows counted);
     })
     h.2
 
@@ -134,26 +131,31 @@ same_lists (x ∷ xs) [] long h = absurd (omega (arith, long))
 same_lists (x ∷ xs) (y ∷ ys) long h =
     ap (λ z. z ∷ xs) (sym (same_Some y x (h 0 x refl))) ∙ ap (λ l. y ∷ l) (same_lists xs ys (omega (arith, long)) (λ i z e. h (suc i) z e))
 
-verdict_same : (bound f s : Option (Tree Place)) (m : MapData) (zones : List ZoneData) (i : ℕ) (zone : ZoneData) → TellsAs bound f m → IsMapOf zones m → slice_get zones i ≡ Some zone → table_verdict bound s m i zone ≡ zone_verdict f s m.scope zone
-verdict_same bound f s m zones i zone tells is there =
-    ap (λ c. if c then Skipped else if proves_of s zone.rows (told_values m.scope zone) then Whole else Tested) (tells zones i zone is there)
+-- by what was bound the verdicts on all rows are told
+rows_told : (bound f s : Option (Tree Place)) (m : MapData) (vs : List Verdict) → AllTold bound s m vs → TellsAs bound f m → AreRowVerdicts f s m vs
+rows_told bound f s m vs told tells r n v at there =
+    (told r v there).0 n at ∙ ap (λ c. if c then Skipped else if proves_of s n (row_values m r) then Whole else Tested) (tells r n at)
 
-pub all_verdicts : (bound f s : Option (Tree Place)) (m : MapData) (vs : List Verdict) → AllTold bound s m vs → length vs ≡ length m.rows → TellsAs bound f m → (zones : List ZoneData) → IsMapOf zones m → vs ≡ zone_verdicts f s m.scope zones
-all_verdicts bound f s m vs told long tells zones is =
+-- in the map of zones each row answers what its zone's statistics do
+pub all_verdicts : (f s : Option (Tree Place)) (m : MapData) (vs : List Verdict) → AreRowVerdicts f s m vs → length vs ≡ length m.rows → (zones : List ZoneData) → IsMapOf zones m → vs ≡ zone_verdicts f s m.scope zones
+all_verdicts f s m vs told long zones is =
     same_lists vs (zone_verdicts f s m.scope zones) (long ∙ rows_long m zones is ∙ sym (length-map zones (zone_verdict f s m.scope)))
     (λ i v e.
     let z = element_there zones i (omega (arith, slice_get_within vs i v e, long, rows_long m zones is)) in
     slice_get-map (zone_verdict f s m.scope) zones i ∙ ap (option_map (zone_verdict f s m.scope)) z.1
-    ∙ ap Some (sym ((told i v e).0 zones z.0 is z.1 ∙ verdict_same bound f s m zones i z.0 tells is z.1)))
+    ∙ ap Some (sym (told i z.0.rows v (row_count_at m zones i z.0 is z.1) e ∙ ap (verdict_of f s z.0.rows) (values_same m zones i z.0 is z.1))))
 
 -- the same by equal proofs
 module _ {V : Type 0} (items : V → List Verdict) where
-  pub verdicts_found : (bound told f other a b : Option (Tree Place)) (m : MapData) (r : Result V StatsError) → told ≡ bound → f ≡ other → a ≡ b → TellsAs bound f m
-      → IfOk r (λ vs. AllTold told a m (items vs)) → IfOk r (λ vs. length (items vs) ≡ length m.rows) → IfOk r (λ vs. (zones : List ZoneData) → IsMapOf zones m → items vs ≡ zone_verdicts other b m.scope zones)
-  verdicts_found bound told f other a b m (Ok vs) is same also tells h long =
+  pub rows_found : (bound told f other a b : Option (Tree Place)) (m : MapData) (r : Result V StatsError) → told ≡ bound → f ≡ other → a ≡ b → TellsAs bound f m → IfOk r (λ vs. AllTold told a m (items vs)) → IfOk r (λ vs. AreRowVerdicts other b m (items vs))
+  rows_found bound told f other a b m (Ok vs) is same also tells h =
       let by_bound = subst (λ (o : Option (Tree Place)). AllTold o b m (items vs)) is (subst (λ (o : Option (Tree Place)). AllTold told o m (items vs)) also h) in
-      all_verdicts bound other b m (items vs) by_bound long (subst (λ (o : Option (Tree Place)). TellsAs bound o m) same tells)
-  verdicts_found bound told f other a b m (Err fault) is same also tells h long = tt
+      rows_told bound other b m (items vs) by_bound (subst (λ (o : Option (Tree Place)). TellsAs bound o m) same tells)
+  rows_found bound told f other a b m (Err fault) is same also tells h = tt
+
+  pub verdicts_found : (f s : Option (Tree Place)) (m : MapData) (r : Result V StatsError) → IfOk r (λ vs. AreRowVerdicts f s m (items vs)) → IfOk r (λ vs. length (items vs) ≡ length m.rows) → IfOk r (λ vs. (zones : List ZoneData) → IsMapOf zones m → items vs ≡ zone_verdicts f s m.scope zones)
+  verdicts_found f s m (Ok vs) told long = all_verdicts f s m (items vs) told long
+  verdicts_found f s m (Err fault) told long = tt
 
 -- one more zone was looked at
 pub all_pushed : {X : Type 0} (P : ℕ → X → Type 0) (xs : List X) (x : X) (n : ℕ) → length xs ≡ n → P n x → ((i : ℕ) (y : X) → slice_get xs i ≡ Some y → P i y) → (i : ℕ) (y : X) → slice_get (xs ++ x ∷ []) i ≡ Some y → P i y

@@ -8,14 +8,14 @@ use Rattle.vortex_rewrite.specs.Causes.{Causes, IsRefusal, no_causes}
 use Rattle.vortex_rewrite.specs.Rewriting.Lawful.{OwnRule}
 use Rattle.vortex_prune.specs.Part.{IsPartOf, IsTruePart, PartData, ZoneData}
 use Rattle.vortex_prune.specs.Binding.PartAnswers.{part_values, told_values}
-use Rattle.vortex_rewrite.specs.Rewriting.Proof.{is_open}
+use Rattle.vortex_rewrite.specs.Rewriting.Proof.{Assignment, is_open}
 use Rattle.vortex_rewrite.specs.Rewriting.Falsifiers.{falsifier}
 use Rattle.vortex_prune.specs.Scanning.ScanRefusals.{causes_by}
 use Rattle.vortex_prune.specs.Scanning.PartScans.{UnlessSkipped}
 use Rattle.vortex_prune.specs.Scanning.Selection.{Answered, answered, is_whole, is_proved, places_where, proves_of, verdict_of}
 use Rattle.vortex_prune.specs.declared.scan.verdict.Verdict.{Verdict}
 use Rattle.vortex_prune.specs.declared.scan.verdict.Verdict.TheVariants.{Skipped, Whole, Tested}
-use Rattle.vortex_prune.specs.Zones.{IsMapOf, MapData}
+use Rattle.vortex_prune.specs.Zones.{MapData, zone_values}
 use Rattle.vortex_stats.specs.declared.error.StatsError.{StatsError}
 use Rattle.vortex_stats.specs.declared.error.StatsError.TheVariants.{Memory}
 
@@ -57,22 +57,33 @@ abbrev pub zone_truth : Option (Tree Place) → List ColumnData → (r n : ℕ) 
 zone_truth None cs r n = false
 zone_truth (Some b) cs r n = is_true (meaning b (row_of r cs) n)
 
--- on the row of each zone of which the map is, it tells what the proof does by the zone's statistics
+-- what the row of the table at a place answers to the placeholders of a proof
+abbrev pub row_values : MapData → ℕ → Assignment
+row_values m r = zone_values m.scope (row_of r m.table.columns)
+
+-- on each row it tells what the proof does by what the row answers
 abbrev pub TellsAs : (bound proof : Option (Tree Place)) → MapData → Type 0
-TellsAs bound proof m =
-    (zones : List ZoneData) (r : ℕ) (zone : ZoneData) → IsMapOf zones m → slice_get zones r ≡ Some zone → zone_truth bound m.table.columns r zone.rows ≡ proves_of proof zone.rows (told_values m.scope zone)
+TellsAs bound proof m = (r n : ℕ) → slice_get m.rows r ≡ Some n → zone_truth bound m.table.columns r n ≡ proves_of proof n (row_values m r)
 
--- the verdict by a falsifier that was bound, on the row of the zone, and by a satisfier
-abbrev pub table_verdict : (bound satisfier : Option (Tree Place)) → MapData → ℕ → ZoneData → Verdict
-table_verdict bound satisfier m r zone =
-    if zone_truth bound m.table.columns r zone.rows then Skipped else if proves_of satisfier zone.rows (told_values m.scope zone) then Whole else Tested
+-- the verdict on the row at a place, whose zone has n rows, by what it answers
+abbrev pub row_verdict : (falsifier satisfier : Option (Tree Place)) → MapData → (r n : ℕ) → Verdict
+row_verdict falsifier satisfier m r n = verdict_of falsifier satisfier n (row_values m r)
 
--- this is told of the zone at a place, and the satisfier has no column outside its placeholders, if the zone isn't skipped
+-- these are the verdicts on the rows of the table, in their order
+abbrev pub AreRowVerdicts : (falsifier satisfier : Option (Tree Place)) → MapData → List Verdict → Type 0
+AreRowVerdicts falsifier satisfier m vs = (r n : ℕ) (v : Verdict) → slice_get m.rows r ≡ Some n → slice_get vs r ≡ Some v → v ≡ row_verdict falsifier satisfier m r n
+
+-- the verdict on a row by a falsifier that was bound, and by a satisfier
+abbrev pub table_verdict : (bound satisfier : Option (Tree Place)) → MapData → (r n : ℕ) → Verdict
+table_verdict bound satisfier m r n =
+    if zone_truth bound m.table.columns r n then Skipped else if proves_of satisfier n (row_values m r) then Whole else Tested
+
+-- this is told of the row at a place, and the satisfier has no column outside its placeholders, if the zone isn't skipped
 abbrev pub table_tells : (bound satisfier : Option (Tree Place)) → MapData → ℕ → Verdict → Type 0
 table_tells bound satisfier m r v =
-    ((zones : List ZoneData) (zone : ZoneData) → IsMapOf zones m → slice_get zones r ≡ Some zone → v ≡ table_verdict bound satisfier m r zone) × UnlessSkipped v (is_open satisfier ≡ false)
+    ((n : ℕ) → slice_get m.rows r ≡ Some n → v ≡ table_verdict bound satisfier m r n) × UnlessSkipped v (is_open satisfier ≡ false)
 
--- it was told of each zone
+-- it was told of each row
 abbrev pub AllTold : (bound satisfier : Option (Tree Place)) → MapData → List Verdict → Type 0
 AllTold bound satisfier m vs = (r : ℕ) (v : Verdict) → slice_get vs r ≡ Some v → table_tells bound satisfier m r v
 

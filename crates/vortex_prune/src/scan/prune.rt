@@ -17,7 +17,7 @@ ghost use Rattle.vortex_prune.specs.Part.{ZoneData};
 ghost use Rattle.vortex_prune.specs.Scanning.Complete.{ZonesSkipExactly};
 ghost use Rattle.vortex_prune.specs.Scanning.Selection.{is_skipped, is_whole, place_if};
 ghost use Rattle.vortex_prune.specs.Scanning.Selection.{places_where};
-ghost use Rattle.vortex_prune.specs.Scanning.ZoneScans.{AllTold};
+ghost use Rattle.vortex_prune.specs.Scanning.ZoneScans.{AllTold, AreRowVerdicts};
 ghost use Rattle.vortex_prune.specs.Scanning.ZoneScans.{IsShutIfKept, IsShutIfVerdict};
 ghost use Rattle.vortex_prune.specs.Scanning.ZoneScans.{IsSoundPruning, TellsAs, is_left_open};
 ghost use Rattle.vortex_prune.specs.Scanning.ZoneScans.{IsTableRefused, most_causes, open_causes};
@@ -233,8 +233,13 @@ pub fn prune_by(
     falsifier: Option<&BoundExpression>,
     satisfier: Option<&BoundExpression>,
 ) -> Result<Vec<Verdict>, StatsError>
-    // A zone is skipped exactly if the falsifier is true by its statistics, and whole exactly if it
-    // isn't skipped and the satisfier is.
+    // On each row of the table, whatever it was made of: its zone is skipped exactly if the
+    // falsifier is true by what the row holds, and whole exactly if it isn't skipped and the
+    // satisfier is.
+    ensures rows { let f = option_copied falsifier.entry in
+        let s = option_copied satisfier.entry in
+        IfOk result (λ vs. AreRowVerdicts f s map.now vs.items) }
+    // So where the map is that of zones, by their statistics.
     ensures verdicts { let f = option_copied falsifier.entry in
         let s = option_copied satisfier.entry in
         IfOk result (λ vs. (zones : List ZoneData) → IsMapOf zones map.now

@@ -1,11 +1,7 @@
-use Rattle.std.proofs.Common.{subst, sym}
-use Rattle.vortex_prune.specs.GivenTables.{IsTableOf}
-use Rattle.vortex_ffi.proofs.BatchLemmas.{table_of_batch}
+use Rattle.vortex_ffi.proofs.BatchLemmas.{has_named}
 use Rattle.vortex_ffi.proofs.quick.Batch.map.Goals as goal
 
-pub returns-in-Ok-of_table-clause-is_map : goal.returns-in-Ok-of_table-clause-is_map
-returns-in-Ok-of_table-clause-is_map c = λ zones found.
-    let rows = c.in_ok-rows.rows.items in
-    let columns = c.in_ok-columns.columns.items in
-    c.in-Ok-of_table.ensures.is_map zones
-    (subst (λ s. IsTableOf s zones rows columns) (sym c.in-Ok.ensures) (table_of_batch c.args.self.now c.requires.batch rows columns c.in_ok-rows.ensures c.in_ok-columns.ensures zones found))
+pub returns-in-Ok-of_table-clause-has : goal.returns-in-Ok-of_table-clause-has
+returns-in-Ok-of_table-clause-has c = λ zones found.
+    has_named c.in-Ok.scope c.args.self.now.scope.now c.in_ok-rows.rows.items c.in_ok-columns.columns.items c.args.heads.now c.args.named.now zones c.in-Ok-of_table.made c.in-Ok-of_table.ensures.made c.in-Ok.ensures c.requires.heads
+    (c.in_ok-rows.ensures zones found) c.in-Ok-of_table.ensures.table (c.in_ok-columns.ensures zones found)

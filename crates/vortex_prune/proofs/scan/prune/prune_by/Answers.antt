@@ -3,7 +3,7 @@ use Rattle.std.specs.Prelude.{option_copied}
 use Rattle.std.proofs.lemmas.Result.{IfErr-weaker, IfOk-weaker, err_from_is_err_and}
 use Rattle.vortex_base.specs.Trees.Tree.{Place, Tree}
 use Rattle.vortex_prune.proofs.ZoneMaps.ZonePruned.{pruning_is_complete, pruning_is_sound, skipped_listed, whole_listed}
-use Rattle.vortex_prune.proofs.ZoneMaps.ZoneScan.{refused_kept, verdicts_found}
+use Rattle.vortex_prune.proofs.ZoneMaps.ZoneScan.{refused_kept, rows_found, verdicts_found}
 use Rattle.vortex_prune.specs.Scanning.Selection.{is_skipped, is_whole, places_where}
 use Rattle.vortex_prune.specs.Scanning.ZoneScans.{TellsAs, kept_zones, open_causes, skipped_zones, whole_zones}
 use Rattle.vortex_rewrite.proofs.Rewriting.CauseLemmas.{either-left, either-right}
@@ -17,11 +17,15 @@ returns-in_err-bound-clause-refusal c =
     let m = c.args.map.now in
     rw (q.1, q.2) (λ zones of. either-left (open_causes f m.rows) (open_causes (option_copied c.args.satisfier) (kept_zones f m.scope zones)) _ c.in_err-bound.ensures.refusal)
 
-pub returns-clause-verdicts : goal.returns-clause-verdicts
-returns-clause-verdicts c =
+pub returns-clause-rows : goal.returns-clause-rows
+returns-clause-rows c =
     let f = option_copied c.args.falsifier in
     let s = option_copied c.args.satisfier in
-    verdicts_found (λ vs. vs.items) c.in_ok-bound.bound (option_copied c.as_ref.result) f f s s c.args.map.now c.verdicts_by.result c.as_ref.ensures.value refl refl c.in_ok-bound.ensures.tells c.verdicts_by.ensures.told c.verdicts_by.ensures.long
+    rows_found (λ vs. vs.items) c.in_ok-bound.bound (option_copied c.as_ref.result) f f s s c.args.map.now c.verdicts_by.result c.as_ref.ensures.value refl refl c.in_ok-bound.ensures.tells c.verdicts_by.ensures.told
+
+pub returns-clause-verdicts : goal.returns-clause-verdicts
+returns-clause-verdicts c =
+    verdicts_found (λ vs. vs.items) (option_copied c.args.falsifier) (option_copied c.args.satisfier) c.args.map.now c.verdicts_by.result (returns-clause-rows c) c.verdicts_by.ensures.long
 
 pub returns-clause-sound : goal.returns-clause-sound
 returns-clause-sound c =
