@@ -1,5 +1,5 @@
 //! Plain pruning of zones by arrays of bounds, for timing beside `vortex_bench`: the same zones and predicates.
-//! Standard input names the workload; prints how many zones the last of ten prunings skips.
+//! Standard input names the workload; prints how many zones the last of ten prunings skips, or without a predicate how many there are.
 use std::hint::black_box;
 use std::io::Read;
 
@@ -51,9 +51,13 @@ fn main() {
         Some("table") => (1_000_000, 3),
         _ => (20_000, 30),
     };
-    let leaves = if name.trim().ends_with("leaves") { 16 } else { 1 };
+    let leaves = match name.trim().rsplit('_').next() {
+        Some("leaves") => 16,
+        Some("comparison") => 1,
+        _ => 0,
+    };
     let (columns, leaves) = (columns_of(zones, columns), leaves_of(zones, columns, leaves));
-    let repeats = if name.trim().ends_with("map") { 0 } else { REPEATS };
+    let repeats = if leaves.is_empty() { 0 } else { REPEATS };
     let mut found = 0;
     for _ in 0..repeats {
         found = skipped(black_box(&columns), black_box(&leaves)).len();

@@ -73,7 +73,7 @@ static int pruning(void) {
         vortex_fault fault;
         double least = 1e9;
         uint8_t status = 0;
-        for (int run = 0; run < 5; run++) {
+        for (int run = 0; run < 25; run++) {
             double start = now();
             status = vortex_prune(scope, COLUMNS, rows, ZONES, stats, 3 * COLUMNS, (const uint8_t *)predicates[i],
                                   strlen(predicates[i]), 0, answers, ZONES, &fault);
