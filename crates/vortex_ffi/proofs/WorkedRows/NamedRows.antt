@@ -1,5 +1,5 @@
 -- Worked rows: the aggregates that proofs name, and a map that has no others.
-use Rattle.std.proofs.Common.{◌≡◌, ℕ, zero, suc, Bool, List, [], ◌∷◌, codes, None, Some, true, false, refl}
+use Rattle.std.proofs.Common.{◌≡◌, ℕ, zero, suc, Bool, List, [], ◌∷◌, Option, ap, codes, get_or, None, Some, true, false, refl}
 use Rattle.vortex_base.specs.Data.Columns.{ColumnData}
 use Rattle.vortex_base.specs.Data.Scopes.{Named}
 use Rattle.vortex_base.specs.Trees.Tree.{Place, Tree, between, binary, column, is_not_null, is_null, like, literal, not, row_count, stat as placeholder}
@@ -8,6 +8,7 @@ use Rattle.vortex_base.specs.declared.aggregate.AggregateFnRef.TheVariants as ag
 use Rattle.vortex_base.specs.declared.dtype.DType.TheVariants as dtype
 use Rattle.vortex_base.specs.declared.like.LikeOptions.{LikeOptions}
 use Rattle.vortex_base.specs.declared.pvalue.PValue.TheVariants as number
+use Rattle.vortex_base.specs.declared.scalar_value.ScalarValue.{ScalarValue}
 use Rattle.vortex_base.specs.declared.scalar_value.ScalarValue.TheVariants as value
 use Rattle.vortex_base.specs.declared.types.BetweenOptions.{BetweenOptions}
 use Rattle.vortex_base.specs.declared.types.Nullability.TheVariants.{Nullable}
@@ -16,7 +17,7 @@ use Rattle.vortex_base.specs.declared.types.PType.TheVariants as ptype
 use Rattle.vortex_prune.specs.GivenTables.{map_with}
 use Rattle.vortex_prune.specs.Part.{ZoneData}
 use Rattle.vortex_prune.specs.Scanning.ZoneScans.{AreRowVerdicts}
-use Rattle.vortex_prune.specs.Zones.{MapData, head, heads, zone_column}
+use Rattle.vortex_prune.specs.Zones.{MapData, head, heads}
 use Rattle.vortex_prune.specs.declared.scan.verdict.Verdict.TheVariants.{Tested, Whole}
 use Rattle.vortex_stats.specs.declared.precision.Precision.TheVariants.{Exact}
 use Rattle.vortex_stats.specs.declared.stat.Stat.TheVariants as stats
@@ -155,10 +156,18 @@ partial_has = record { counted = refl; table = refl; told = partial_told }
 
 -- not where more is named, nor where the truths are turned round
 not_the_first : AreNamed (true ∷ []) (heads scope) zones partial.table.columns → ⊥
-not_the_first h = let no : below aggregate.NullCount ≡ zone_column zones (head 0 (codes "n", dtype.Null) aggregate.NullCount) = h 0 _ _ refl refl refl in absurd cc
+not_the_first h =
+    let no : None ≡ Some (value.Primitive (number.U64 1)) = ap (λ (c : ColumnData). get_or c.values 0 None) (h 0 _ _ refl refl refl) in
+    absurd cc
+
+abbrev first_of : List (Option ScalarValue) → Bool
+first_of (Some (value.Bool b) ∷ vs) = b
+first_of vs = false
 
 not_turned_round : AreNamed (true ∷ []) (head 0 (codes "n", dtype.Null) aggregate.AllNonNull ∷ []) zones (truths (true ∷ false ∷ []) ∷ []) → ⊥
-not_turned_round h = let no : truths (true ∷ false ∷ []) ≡ zone_column zones (head 0 (codes "n", dtype.Null) aggregate.AllNonNull) = h 0 _ _ refl refl refl in absurd cc
+not_turned_round h =
+    let no : true ≡ false = ap (λ (c : ColumnData). first_of c.values) (h 0 _ _ refl refl refl) in
+    absurd cc
 
 -- so the second zone is whole
 each_verdict : AreRowVerdicts None (Some none_null) partial (Tested ∷ Whole ∷ [])
