@@ -7,6 +7,7 @@ usage: checks/build.py [NAME]    builds crates/NAME/out/NAME, by default vortex_
 Crates that don't stand on each other are proved side by side where memory allows. An interrupted build goes on where
 it was: `rt` keeps in each crate's out/ what it has proved. The status is 70 where something isn't proved or built.
 """
+import contextlib
 import fcntl
 import hashlib
 import os
@@ -21,7 +22,7 @@ import time
 TOP = os.path.dirname(os.path.dirname(os.path.abspath(__file__)))
 SOURCES = ("src", "specs", "proofs")
 # The top of copies of crates, to prove one beside another: only one `rt` at a time works in a crate's folder and in those below it.
-BESIDE = os.path.join(TOP, "out")
+BESIDE = os.path.join(TOP, "out", "beside")
 # What the proofs of vortex_scan take on one processor, of which several do up to twice the minutes since crates wait for those
 # below them; and the memory that each of several processes takes.
 MINUTES = 40
@@ -31,11 +32,11 @@ NOT_BUILT = 70
 SECONDS_A_LINE = 30
 
 
-def crates_below(program):
-    """The program and the crates of the repository below it, each with those that it names, lowest first."""
+def crates_below(*tops):
+    """These crates and those of the repository below them, each with those that it names, lowest first."""
     with open(f"{TOP}/crates.txt", encoding="utf-8") as listed:
         rows = [line.partition("#")[0].partition(":") for line in listed]
-    named = {name.strip(): libraries.split() for name, colon, libraries in rows if colon}
+    named = {name.split()[0]: libraries.split() for name, colon, libraries in rows if colon}
     found = {}
 
     def visit(name):
@@ -44,18 +45,17 @@ def crates_below(program):
             visit(it)
         found[name] = own
 
-    visit(program)
+    for it in tops:
+        visit(it)
     return found
 
 
-def sum_of(crates, program):
-    """A sum of the built program, its sources and the toolchain, or None where nothing is built."""
-    if not os.access(program, os.X_OK):
-        return None
+def sum_of(crates, *others):
+    """A sum of the sources of crates, of other files and of the toolchain."""
     folders = [f"{TOP}/crates/{name}/{part}" for name in crates for part in SOURCES]
     files = [f"{at}/{name}" for it in folders for at, _, names in os.walk(it) for name in names]
     found = hashlib.sha256(subprocess.run(["rt", "version"], stdout=subprocess.PIPE, check=True).stdout)
-    for file in sorted([*files, f"{TOP}/crates.txt", program]):
+    for file in sorted([*files, f"{TOP}/crates.txt", *others]):
         with open(file, "rb") as it:
             found.update(f"\n{os.path.relpath(file, TOP)} {os.path.getsize(file)}\n".encode() + it.read())
     return found.hexdigest()
@@ -80,20 +80,25 @@ def link(file, to):
         shutil.copy2(file, to)
 
 
-def put_beside(crates, name):
-    """Moves what is proved of a crate, and copies its sources and the built crates below it, so that it is proved there."""
+def copy_beside(crates, name, room):
+    """Copies the sources of a crate, and the built crates below it, to a folder in which it can be proved beside others."""
     below = set(crates[name])
     for it in reversed(list(crates)):
         below.update(crates[it] if it in below else ())
     for it in (name, *below):
         for part in (*SOURCES, *(("out/rlib",) if it in below else ())):
             if os.path.isdir(f"{TOP}/crates/{it}/{part}"):
-                shutil.copytree(f"{TOP}/crates/{it}/{part}", f"{BESIDE}/crates/{it}/{part}", copy_function=link)
+                shutil.copytree(f"{TOP}/crates/{it}/{part}", f"{room}/crates/{it}/{part}", copy_function=link)
+    rows = [line for line in text_of(f"{TOP}/crates.txt").split("\n") if re.match(r"\w*", line)[0] in (name, *below)]
+    with open(f"{room}/crates.txt", "w", encoding="utf-8") as it:
+        it.write("\n".join(rows) + "\n")
+
+
+def put_beside(crates, name):
+    """Moves what is proved of a crate to a copy of it, so that it is proved there."""
+    copy_beside(crates, name, BESIDE)
     if os.path.isdir(f"{TOP}/crates/{name}/out"):
         os.rename(f"{TOP}/crates/{name}/out", f"{BESIDE}/crates/{name}/out")
-    rows = [line for line in text_of(f"{TOP}/crates.txt").split("\n") if line.partition(":")[0] in (name, *below)]
-    with open(f"{BESIDE}/crates.txt", "w", encoding="utf-8") as it:
-        it.write("\n".join(rows) + "\n")
 
 
 def put_back():
@@ -107,11 +112,12 @@ def put_back():
 class Run:
     """A run of `rt` on one crate, which says how many of its functions are checked."""
 
-    def __init__(self, name, is_program, top, jobs):
-        self.name, self.is_program, self.top, self.far, self.said = name, is_program, top, name, []
-        words = ["rt", "run" if is_program else "lib", "--jobs", str(jobs)]
+    def __init__(self, name, top, jobs):
+        self.name, self.top, self.far, self.said = name, top, name, []
+        self.is_program = os.path.isfile(f"{top}/crates/{name}/src/main.rt")
+        words = ["rt", "run" if self.is_program else "lib", "--jobs", str(jobs)]
         # `rt run` tells of its work on standard error, and then runs the program.
-        streams = {"stdout": subprocess.DEVNULL, "stderr": subprocess.PIPE} if is_program else {"stdout": subprocess.PIPE, "stderr": subprocess.STDOUT}
+        streams = {"stdout": subprocess.DEVNULL, "stderr": subprocess.PIPE} if self.is_program else {"stdout": subprocess.PIPE, "stderr": subprocess.STDOUT}
         how = {"cwd": f"{top}/crates/{name}", "stdin": subprocess.DEVNULL, "text": True, "errors": "replace"}
         self.process = subprocess.Popen(words, **how, **streams)
         self.reader = threading.Thread(target=self.read, daemon=True)
@@ -164,7 +170,7 @@ def build(crates, jobs, progress):
                     is_beside = any(run.top == TOP for run in runs)
                     if is_beside:
                         put_beside(crates, name)
-                    runs.append(Run(name, name == list(crates)[-1], BESIDE if is_beside else TOP, share))
+                    runs.append(Run(name, BESIDE if is_beside else TOP, share))
             time.sleep(0.2)
             for run in [it for it in runs if it.process.poll() is not None]:
                 if not run.is_built():
@@ -184,9 +190,9 @@ def build(crates, jobs, progress):
     return None
 
 
-def built(name):
-    """Builds a program unless the built one is of the sources as they stand, and returns its file, or None if that fails."""
-    crates, program = crates_below(name), f"{TOP}/crates/{name}/out/{name}"
+@contextlib.contextmanager
+def alone():
+    """Waits until no other build goes on, and keeps others waiting."""
     with open(f"{TOP}/crates.txt", encoding="utf-8") as held:
         try:
             fcntl.flock(held, fcntl.LOCK_EX | fcntl.LOCK_NB)
@@ -194,18 +200,35 @@ def built(name):
             print("proving: another build is going on, which this one waits for", file=sys.stderr, flush=True)
             fcntl.flock(held, fcntl.LOCK_EX)
         put_back()
-        if text_of(f"{program}.sum") == (sum_of(crates, program) or ""):
+        yield
+
+
+def jobs_that_fit():
+    return int(max(1, min(len(os.sched_getaffinity(0)), free_bytes() // BYTES_A_JOB - 1)))
+
+
+def are_built(crates, jobs):
+    """Proves and builds crates, and says on standard error which of them isn't, if one isn't."""
+    failed = build(crates, jobs, Progress())
+    if failed:
+        print(*failed.said, f"proving: {failed.name} is not proved or not built, as said above", sep="", file=sys.stderr)
+    return not failed
+
+
+def built(name):
+    """Builds a program unless the built one is of the sources as they stand, and returns its file, or None if that fails."""
+    crates, program = crates_below(name), f"{TOP}/crates/{name}/out/{name}"
+    with alone():
+        if os.access(program, os.X_OK) and text_of(f"{program}.sum") == sum_of(crates, program):
             return program
-        jobs = int(max(1, min(len(os.sched_getaffinity(0)), free_bytes() // BYTES_A_JOB - 1)))
+        jobs = jobs_that_fit()
         print(
             f"proving: {name} is proved before it runs. From nothing that takes {MINUTES // jobs} to {2 * MINUTES // jobs} minutes"
             f" on {jobs} processors; an interrupted run goes on where it was.",
             file=sys.stderr,
             flush=True,
         )
-        failed = build(crates, jobs, Progress())
-        if failed:
-            print(*failed.said, f"proving: {failed.name} is not proved or not built, as said above", sep="", file=sys.stderr)
+        if not are_built(crates, jobs):
             return None
         with open(f"{program}.sum", "w", encoding="utf-8") as it:
             it.write(sum_of(crates, program))
@@ -223,4 +246,5 @@ def main(words):
     return 0 if program else NOT_BUILT
 
 
-sys.exit(main(sys.argv[1:]))
+if __name__ == "__main__":
+    sys.exit(main(sys.argv[1:]))

@@ -1,22 +1,35 @@
 #!/usr/bin/env python3
 """Tries wrong bodies that the gate doesn't try: the prover has to refuse each by the open goal that is named for it.
 
-usage: checks/edits.py [--gate] [CRATE..]    --gate tries those of the gate, in crates/CRATE/must-fail, in place of those in checks/edits/CRATE
+usage: checks/edits.py [--gate] [--jobs N] [CRATE..]
+    --gate tries those of the gate, in crates/CRATE/must-fail, in place of those in checks/edits/CRATE
+    --jobs tries those of N crates side by side, in place of as many as processors and memory allow
 
 checks/edits/goals.txt names for each edit the goal of the turned function that it leaves open, as `rt` names it by the clause
-and the branch. The crates are copied, and `rt must-fail` tries the edits in the copy, as many side by side as memory allows.
-What was tried before and has not changed since is not tried again. Prints a line for each edit that isn't refused so, and how
-many are.
+and the branch. The crates below are built first. Then `rt must-fail` tries the edits of each crate in a copy of it. An edit that
+was refused at its goal is not tried again while it, the goal, the sources that its crate stands on and the toolchain stay as
+they are, so an interrupted run goes on with the crates that it left. Prints a line for each crate and for each edit that isn't
+refused so, and last how many are.
 """
+import argparse
+import concurrent.futures
+import hashlib
 import os
 import re
 import shutil
 import subprocess
 import sys
 import tempfile
+import time
 
-TOP = os.path.dirname(os.path.dirname(os.path.abspath(__file__)))
-PARTS = ("src", "specs", "proofs")
+sys.dont_write_bytecode = True
+import build
+
+TOP = build.TOP
+# What a check of a crate takes at most, of which one runs for each crate that is tried.
+BYTES_A_CRATE = 4_000_000_000
+# The check of a crate takes as long as that of so many of its edits, and both grow with its lines.
+EDITS_A_PROOF = 10
 
 
 def listed_crates():
@@ -35,20 +48,6 @@ def edits_of(crate, of_gate):
     return {name: f"{folder}/{name}" for name in sorted(os.listdir(folder))} if os.path.isdir(folder) else {}
 
 
-def copy_of(room, edits):
-    """Copies the crates, with these edits as those that have to be refused."""
-    for name in ("crates.txt", "HANDLES"):
-        shutil.copy2(f"{TOP}/{name}", f"{room}/{name}")
-    for crate in listed_crates():
-        for part in PARTS:
-            if os.path.isdir(f"{TOP}/crates/{crate}/{part}"):
-                shutil.copytree(f"{TOP}/crates/{crate}/{part}", f"{room}/crates/{crate}/{part}")
-    for crate, of_crate in edits.items():
-        os.mkdir(f"{room}/crates/{crate}/must-fail")
-        for name, file in of_crate.items():
-            shutil.copy2(file, f"{room}/crates/{crate}/must-fail/{name}")
-
-
 def fault_of(goal, told):
     """Why what was told of an edit is no refusal at its goal, or None where it is one."""
     if told is None:
@@ -64,30 +63,76 @@ def fault_of(goal, told):
     return None
 
 
-def main(words):
-    of_gate = "--gate" in words
-    names = [it for it in words if it != "--gate"]
-    unknown = [it for it in names if it not in listed_crates()]
+class Crate:
+    """A crate whose edits are tried, with those that were refused before on the same sources."""
+
+    def __init__(self, name, edits, goals):
+        self.name, self.edits, self.goals = name, edits, {it: goals.get(f"{name}/{it}") for it in edits}
+        self.below = build.crates_below(name)
+        self.kept, sources = f"{TOP}/out/refused-edits/{name}", build.sum_of(self.below)
+        sum_of = lambda it: hashlib.sha256(f"{sources}\n{self.goals[it]}\n{build.text_of(edits[it])}".encode()).hexdigest()
+        self.sums = {it: sum_of(it) for it in edits}
+        before = set((build.text_of(self.kept) or "").split())
+        self.left = [it for it in edits if self.sums[it] not in before]
+
+    def cost(self):
+        files = [f"{at}/{it}" for part in build.SOURCES for at, _, names in os.walk(f"{TOP}/crates/{self.name}/{part}") for it in names]
+        return sum(map(os.path.getsize, files)) * (EDITS_A_PROOF + len(self.left))
+
+    def try_left(self):
+        """Tries the edits that are left, and returns how many aren't refused at their goal, and what is told of these and of the run."""
+        began = time.monotonic()
+        with tempfile.TemporaryDirectory() as room:
+            build.copy_beside(self.below, self.name, room)
+            os.mkdir(f"{room}/crates/{self.name}/must-fail")
+            for it in self.left:
+                shutil.copy2(self.edits[it], f"{room}/crates/{self.name}/must-fail/{it}")
+            how = {"stdin": subprocess.DEVNULL, "stdout": subprocess.PIPE, "stderr": subprocess.STDOUT}
+            ran = subprocess.run(["rt", "must-fail", self.name], cwd=room, text=True, check=False, **how)
+        told = dict(re.findall(rf"^(?:rt: )?must-fail {self.name}/(\S+\.edit): (.*)$", ran.stdout, re.M))
+        faults = {it: fault_of(self.goals[it], told.get(it)) for it in self.left}
+        os.makedirs(os.path.dirname(self.kept), exist_ok=True)
+        with open(self.kept, "a", encoding="utf-8") as kept:
+            kept.writelines(f"{self.sums[it]}\n" for it, fault in faults.items() if not fault)
+        minutes = (time.monotonic() - began) / 60
+        lines = [f"{self.name}/{it}: {fault}" for it, fault in faults.items() if fault]
+        more = [] if told else [ran.stdout[-2000:]]
+        return len(lines), [*lines, *more, f"{self.name}: {len(self.left)} tried in {minutes:.0f} minutes"]
+
+
+def processes_that_fit():
+    return int(max(1, min(len(os.sched_getaffinity(0)), build.free_bytes() // BYTES_A_CRATE)))
+
+
+def main():
+    words = argparse.ArgumentParser(usage=__doc__.partition("usage: ")[2].partition("\n\n")[0])
+    words.add_argument("--gate", action="store_true")
+    words.add_argument("--jobs", type=int)
+    words.add_argument("crates", nargs="*")
+    asked = words.parse_args()
+    unknown = [it for it in asked.crates if it not in listed_crates()]
     if unknown:
         sys.exit(f"edits: there is no crate {unknown[0]}")
-    edits = {it: edits_of(it, of_gate) for it in names or listed_crates()}
-    edits = {crate: found for crate, found in edits.items() if found}
-    if not edits:
-        sys.exit("edits: there is no edit to try")
-    with tempfile.TemporaryDirectory() as room:
-        copy_of(room, edits)
-        ran = subprocess.run(["rt", "must-fail", *edits], cwd=room, stdout=subprocess.PIPE, stderr=subprocess.STDOUT, text=True, check=False)
-    told = dict(re.findall(r"^(?:rt: )?must-fail (\S+\.edit): (.*)$", ran.stdout, re.M))
     goals = named_goals()
-    faults = {it: fault_of(goals.get(it), told.get(it)) for it in [f"{crate}/{name}" for crate, found in edits.items() for name in found]}
-    faults = {name: fault for name, fault in faults.items() if fault}
-    for name, fault in faults.items():
-        print(f"{name}: {fault}")
-    if len(told) == 0:
-        print(ran.stdout[-2000:])
-    count = sum(len(it) for it in edits.values())
-    print(f"{count - len(faults)} of {count} edits refused at their goal")
+    crates = [Crate(it, edits_of(it, asked.gate), goals) for it in asked.crates or listed_crates()]
+    count = sum(len(it.edits) for it in crates)
+    if not count:
+        sys.exit("edits: there is no edit to try")
+    left = sorted((it for it in crates if it.left), key=Crate.cost, reverse=True)
+    own = {it.name for it in left}
+    libraries = {name: deps for name, deps in build.crates_below(*own).items() if any(name in it.below and name != it.name for it in left)}
+    with build.alone():
+        if libraries and not build.are_built(libraries, build.jobs_that_fit()):
+            return 1
+    faults = 0
+    with concurrent.futures.ThreadPoolExecutor(asked.jobs or processes_that_fit()) as pool:
+        for done in concurrent.futures.as_completed([pool.submit(it.try_left) for it in left]):
+            found, lines = done.result()
+            faults += found
+            print(*lines, sep="\n", flush=True)
+    tried = sum(len(it.left) for it in left)
+    print(f"{count - faults} of {count} edits refused at their goal, {count - tried} of them before, on the same sources")
     return 1 if faults else 0
 
 
-sys.exit(main(sys.argv[1:]))
+sys.exit(main())
