@@ -25,7 +25,7 @@ SOURCES = ("src", "specs", "proofs")
 BESIDE = os.path.join(TOP, "out", "beside")
 # What the proofs of vortex_scan take on one processor, of which several do up to twice the minutes since crates wait for those
 # below them; and the memory that each of several processes takes.
-MINUTES = 40
+MINUTES = 75
 BYTES_A_JOB = 1_500_000_000
 NOT_BUILT = 70
 # How often a line is written where standard error is no terminal.

@@ -1,10 +1,10 @@
 #!/usr/bin/env python3
 """Runs the gate in a clone of the last commit, and prints what it cost: processor minutes of each crate's proof, tests and must-fail edits.
 
-usage: checks/gate-cost.py [CRATE..]    of these crates and those below them alone, in place of the whole gate
+usage: checks/gate-cost.py
 
 It looks at the processes of the gate once a second, so of a process that ends less than a second is lost. It takes as long as
-the gate, and fails if the gate fails. What an earlier run on this machine passed is not proved again, and costs nothing.
+the gate, and fails if the gate fails. Where `rt` keeps what an earlier run on this machine passed, that costs nothing.
 """
 import collections
 import os
@@ -75,7 +75,7 @@ def main():
         subprocess.run(["git", "clone", "-q", TOP, clone], check=True)
         with open(os.path.join(room, "log"), "w+") as log:
             began = time.time()
-            gate = subprocess.Popen(["rt", "ci", *sys.argv[1:]], cwd=clone, stdout=log, stderr=subprocess.STDOUT)
+            gate = subprocess.Popen([".ci/run"], cwd=clone, stdout=log, stderr=subprocess.STDOUT)
             cost = watch(gate)
             minutes = (time.time() - began) / 60
             log.seek(0)
