@@ -6,10 +6,10 @@ usage: checks/edits.py [--gate] [--jobs N] [CRATE..]
     --jobs tries those of N crates side by side, in place of as many as processors and memory allow
 
 checks/edits/goals.txt names for each edit the goal of the turned function that it leaves open, as `rt` names it by the clause
-and the branch. The crates below are built first. Then `rt must-fail` tries the edits of each crate in a copy of it. An edit that
-was refused at its goal is not tried again while it, the goal, the sources that its crate stands on and the toolchain stay as
-they are, so an interrupted run goes on with the crates that it left. Prints a line for each crate and for each edit that isn't
-refused so, and last how many are.
+and the branch. The crates are built first. Then `rt must-fail` tries the edits of each crate in a copy of it, over what the build
+kept. An edit that was refused at its goal is not tried again while it, the goal, the sources that its crate stands on and the
+toolchain stay as they are, so an interrupted run goes on with the crates that it left. Prints a line for each crate and for each
+edit that isn't refused so, and last how many are.
 """
 import argparse
 import concurrent.futures
@@ -28,8 +28,6 @@ import build
 TOP = build.TOP
 # What a check of a crate takes at most, of which one runs for each crate that is tried.
 BYTES_A_CRATE = 4_000_000_000
-# The check of a crate takes as long as that of so many of its edits, and both grow with its lines.
-EDITS_A_PROOF = 10
 
 
 def listed_crates():
@@ -63,6 +61,17 @@ def fault_of(goal, told):
     return None
 
 
+def hand_over(seed, to, run):
+    """Moves what a build kept to the folder that `rt must-fail` makes for what its checks keep, so that its first one needn't prove all anew."""
+    while run.poll() is None:
+        for made in os.listdir(to):
+            if made.startswith("rt-edits-"):
+                for it in os.listdir(seed):
+                    os.rename(f"{seed}/{it}", f"{to}/{made}/{it}")
+                return
+        time.sleep(0.05)
+
+
 class Crate:
     """A crate whose edits are tried, with those that were refused before on the same sources."""
 
@@ -76,8 +85,9 @@ class Crate:
         self.left = [it for it in edits if self.sums[it] not in before]
 
     def cost(self):
+        """What its edits cost beside those of others: each takes longer the longer the crate is."""
         files = [f"{at}/{it}" for part in build.SOURCES for at, _, names in os.walk(f"{TOP}/crates/{self.name}/{part}") for it in names]
-        return sum(map(os.path.getsize, files)) * (EDITS_A_PROOF + len(self.left))
+        return sum(map(os.path.getsize, files)) * len(self.left)
 
     def try_left(self):
         """Tries the edits that are left, and returns how many aren't refused at their goal, and what is told of these and of the run."""
@@ -87,16 +97,20 @@ class Crate:
             os.mkdir(f"{room}/crates/{self.name}/must-fail")
             for it in self.left:
                 shutil.copy2(self.edits[it], f"{room}/crates/{self.name}/must-fail/{it}")
-            how = {"stdin": subprocess.DEVNULL, "stdout": subprocess.PIPE, "stderr": subprocess.STDOUT}
-            ran = subprocess.run(["rt", "must-fail", self.name], cwd=room, text=True, check=False, **how)
-        told = dict(re.findall(rf"^(?:rt: )?must-fail {self.name}/(\S+\.edit): (.*)$", ran.stdout, re.M))
+            shutil.copytree(f"{TOP}/crates/{self.name}/out/incremental", f"{room}/kept")
+            os.mkdir(f"{room}/tmp")
+            how = {"stdin": subprocess.DEVNULL, "stdout": subprocess.PIPE, "stderr": subprocess.STDOUT, "env": {**os.environ, "TMPDIR": f"{room}/tmp"}}
+            with subprocess.Popen(["rt", "must-fail", self.name], cwd=room, text=True, **how) as run:
+                hand_over(f"{room}/kept", f"{room}/tmp", run)
+                said = run.communicate()[0]
+        told = dict(re.findall(rf"^(?:rt: )?must-fail {self.name}/(\S+\.edit): (.*)$", said, re.M))
         faults = {it: fault_of(self.goals[it], told.get(it)) for it in self.left}
         os.makedirs(os.path.dirname(self.kept), exist_ok=True)
         with open(self.kept, "a", encoding="utf-8") as kept:
             kept.writelines(f"{self.sums[it]}\n" for it, fault in faults.items() if not fault)
         minutes = (time.monotonic() - began) / 60
         lines = [f"{self.name}/{it}: {fault}" for it, fault in faults.items() if fault]
-        more = [] if told else [ran.stdout[-2000:]]
+        more = [] if told else [said[-2000:]]
         return len(lines), [*lines, *more, f"{self.name}: {len(self.left)} tried in {minutes:.0f} minutes"]
 
 
@@ -119,10 +133,8 @@ def main():
     if not count:
         sys.exit("edits: there is no edit to try")
     left = sorted((it for it in crates if it.left), key=Crate.cost, reverse=True)
-    own = {it.name for it in left}
-    libraries = {name: deps for name, deps in build.crates_below(*own).items() if any(name in it.below and name != it.name for it in left)}
     with build.alone():
-        if libraries and not build.are_built(libraries, build.jobs_that_fit()):
+        if left and not build.are_built(build.crates_below(*(it.name for it in left)), build.jobs_that_fit()):
             return 1
     faults = 0
     with concurrent.futures.ThreadPoolExecutor(asked.jobs or processes_that_fit()) as pool:
