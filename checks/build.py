@@ -32,11 +32,16 @@ NOT_BUILT = 70
 SECONDS_A_LINE = 30
 
 
+def listed_crates():
+    """The line of each crate in crates.txt, by its name."""
+    with open(f"{TOP}/crates.txt", encoding="utf-8") as listed:
+        lines = [line.partition("#")[0].strip() for line in listed]
+    return {line.partition(":")[0].split()[0]: line for line in lines if ":" in line}
+
+
 def crates_below(*tops):
     """These crates and those of the repository below them, each with those that it names, lowest first."""
-    with open(f"{TOP}/crates.txt", encoding="utf-8") as listed:
-        rows = [line.partition("#")[0].partition(":") for line in listed]
-    named = {name.split()[0]: libraries.split() for name, colon, libraries in rows if colon}
+    named = {name: line.partition(":")[2].split() for name, line in listed_crates().items()}
     found = {}
 
     def visit(name):
@@ -51,11 +56,12 @@ def crates_below(*tops):
 
 
 def sum_of(crates, *others):
-    """A sum of the sources of crates, of other files and of the toolchain."""
+    """A sum of the sources of crates and their lines in crates.txt, of other files and of the toolchain."""
     folders = [f"{TOP}/crates/{name}/{part}" for name in crates for part in SOURCES]
     files = [f"{at}/{name}" for it in folders for at, _, names in os.walk(it) for name in names]
     found = hashlib.sha256(subprocess.run(["rt", "version"], stdout=subprocess.PIPE, check=True).stdout)
-    for file in sorted([*files, f"{TOP}/crates.txt", *others]):
+    found.update("\n".join(line for name, line in sorted(listed_crates().items()) if name in crates).encode())
+    for file in sorted([*files, *others]):
         with open(file, "rb") as it:
             found.update(f"\n{os.path.relpath(file, TOP)} {os.path.getsize(file)}\n".encode() + it.read())
     return found.hexdigest()
@@ -89,7 +95,7 @@ def copy_beside(crates, name, room):
         for part in (*SOURCES, *(("out/rlib",) if it in below else ())):
             if os.path.isdir(f"{TOP}/crates/{it}/{part}"):
                 shutil.copytree(f"{TOP}/crates/{it}/{part}", f"{room}/crates/{it}/{part}", copy_function=link)
-    rows = [line for line in text_of(f"{TOP}/crates.txt").split("\n") if re.match(r"\w*", line)[0] in (name, *below)]
+    rows = [line for it, line in listed_crates().items() if it in (name, *below)]
     with open(f"{room}/crates.txt", "w", encoding="utf-8") as it:
         it.write("\n".join(rows) + "\n")
 

@@ -30,11 +30,6 @@ TOP = build.TOP
 BYTES_A_CRATE = 4_000_000_000
 
 
-def listed_crates():
-    with open(f"{TOP}/crates.txt", encoding="utf-8") as listed:
-        return [it.partition(":")[0].split()[0] for it in listed if ":" in it.partition("#")[0]]
-
-
 def named_goals():
     with open(f"{TOP}/checks/edits/goals.txt", encoding="utf-8") as listed:
         return dict(it.split() for it in listed)
@@ -124,11 +119,12 @@ def main():
     words.add_argument("--jobs", type=int)
     words.add_argument("crates", nargs="*")
     asked = words.parse_args()
-    unknown = [it for it in asked.crates if it not in listed_crates()]
+    listed = build.listed_crates()
+    unknown = [it for it in asked.crates if it not in listed]
     if unknown:
         sys.exit(f"edits: there is no crate {unknown[0]}")
     goals = named_goals()
-    crates = [Crate(it, edits_of(it, asked.gate), goals) for it in asked.crates or listed_crates()]
+    crates = [Crate(it, edits_of(it, asked.gate), goals) for it in asked.crates or listed]
     count = sum(len(it.edits) for it in crates)
     if not count:
         sys.exit("edits: there is no edit to try")
