@@ -3,9 +3,9 @@ ghost use Rattle.std.specs.Prelude.{◌≡◌, take};
 ghost use Rattle.vortex_ffi.specs.Runs.{IsDelivered, Replies};
 ghost use Rattle.vortex_text.specs.Program.{IsFullScan};
 
-use crate::status::Status;
 use std::alloc::Global;
 use std::io;
+use vortex_calls::status::Status;
 use vortex_text::program::run;
 
 // Writes an answer to the front of an array that is long enough for it, and its length in any case.

@@ -3,8 +3,8 @@ use crate::testing::*;
 use std::alloc::Global;
 use vortex_base::ScalarFnId;
 use vortex_prune::{Rules, StatsRewriteRuleRef};
-use vortex_rewrite_tests::hooks::{Claim, Claiming};
-use vortex_rewrite_tests::nodes::*;
+use vortex_rewrite_testing::hooks::{Claim, Claiming};
+use vortex_rewrite_testing::nodes::*;
 use vortex_stats::{RuleFault, StatsError};
 
 fn one(alloc: Global) -> Parts {

@@ -4,7 +4,7 @@ use std::process::Abort;
 use vortex_base::{BoundExpression, LikeOptions, ScalarValue, Scope};
 use vortex_normal_scan::prune::prune_normalized;
 use vortex_prune::{Pruned, Rules, Zone, ZoneMap, prune};
-use vortex_rewrite_tests::nodes::*;
+use vortex_rewrite_testing::nodes::*;
 use vortex_stats::{Precision, Stat, StatsError, StatsSet};
 
 fn scope(alloc: Global) -> Result<Scope, StatsError> {

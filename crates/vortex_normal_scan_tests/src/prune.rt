@@ -2,7 +2,7 @@
 use crate::testing::*;
 use std::alloc::Global;
 use vortex_prune::Pruned;
-use vortex_rewrite_tests::nodes::*;
+use vortex_rewrite_testing::nodes::*;
 use vortex_stats::StatsError;
 
 // Rows from 6 to 7, of which none is null.

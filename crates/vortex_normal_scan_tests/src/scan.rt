@@ -1,7 +1,7 @@
 //! Parts that the rules keep with a predicate as it is, and skip with its normal form.
 use crate::testing::*;
 use std::alloc::Global;
-use vortex_rewrite_tests::nodes::*;
+use vortex_rewrite_testing::nodes::*;
 
 // Rows from 1 to 9, and rows from 6 to 7.
 fn wide_and_narrow(alloc: Global) -> Parts {

@@ -11,7 +11,7 @@ use vortex_normal_scan::prune::prune_normalized;
 use vortex_normal_scan::scan::scan_normalized;
 use vortex_prune::scan::scan;
 use vortex_prune::{Part, Pruned, Rules, Scan, StatsBinder, Zone, ZoneMap, prune};
-use vortex_rewrite_tests::nodes::*;
+use vortex_rewrite_testing::nodes::*;
 use vortex_stats::{Precision, Stat, StatsError, StatsSet};
 
 pub fn a(alloc: Global) -> Built {

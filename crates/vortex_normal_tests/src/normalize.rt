@@ -3,7 +3,7 @@ use std::alloc::Global;
 use std::process::Abort;
 use vortex_base::{BoundExpression, DType, Nullability, PType, ScalarValue};
 use vortex_normal::normalize::normalize;
-use vortex_rewrite_tests::nodes::*;
+use vortex_rewrite_testing::nodes::*;
 use vortex_stats::StatsError;
 
 mod deep;

@@ -4,7 +4,7 @@ use std::process::Abort;
 use vortex_base::{AggregateFnRef, BoundExpression, DType, ScalarValue};
 use vortex_own_rules::known::{Entry, Known};
 use vortex_prune::{HookFault, StatBinder};
-use vortex_rewrite_tests::nodes::*;
+use vortex_rewrite_testing::nodes::*;
 use vortex_stats::StatsError;
 
 fn a(alloc: Global) -> Built {

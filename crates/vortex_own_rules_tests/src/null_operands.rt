@@ -5,7 +5,7 @@ use vortex_base::{AggregateFnRef, BoundExpression, ScalarFnId};
 use vortex_own_rules::null_operands::NullOperands;
 use vortex_rewrite::Rules;
 use vortex_rewrite::rewrite::{falsify, satisfy};
-use vortex_rewrite_tests::nodes::*;
+use vortex_rewrite_testing::nodes::*;
 use vortex_stats::StatsError;
 
 fn rules_for(alloc: Global, function: ScalarFnId) -> Result<Rules, AllocError> {

@@ -4,8 +4,8 @@ use std::alloc::Global;
 use std::process::Abort;
 use vortex_base::Scope;
 use vortex_prune::{Pruned, Rules, Zone, ZoneMap};
-use vortex_prune_tests::testing::*;
-use vortex_rewrite_tests::nodes::*;
+use vortex_prune_testing::parts::*;
+use vortex_rewrite_testing::nodes::*;
 use vortex_stats::{Stat, StatsError, StatsSet};
 
 type ManySets = Result<Vec<StatsSet>, StatsError>;

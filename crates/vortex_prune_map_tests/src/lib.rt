@@ -1,5 +1,5 @@
 //! Tests of maps of zones by their public calls: how they are made and joined, what they prune, and
-//! tables that a footer keeps. `vortex_prune_tests` has what they stand on.
+//! tables that a footer keeps. `vortex_prune_testing` has what they stand on.
 #![tactic(auto)]
 
 #[cfg(test)]

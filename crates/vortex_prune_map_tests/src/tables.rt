@@ -7,9 +7,9 @@ use vortex_base::{
     AggregateFnRef, BoundExpression, Cells, Column, DType, Nullability, PType, ScalarValue, Scope,
 };
 use vortex_prune::{Head, Pruned, Rules, TableRefused, Verdict, Zone, ZoneMap, prune_by};
-use vortex_prune_tests::testing::{and_exactly, bounds, map_of, no_statistics, pruned_by};
+use vortex_prune_testing::parts::{and_exactly, bounds, map_of, no_statistics, pruned_by};
 use vortex_rewrite::rewrite::{falsify, satisfy};
-use vortex_rewrite_tests::nodes::*;
+use vortex_rewrite_testing::nodes::*;
 use vortex_stats::{Stat, StatsError, StatsSet};
 
 const SUM: DType = DType::Primitive(PType::I64, Nullability::Nullable);

@@ -4,8 +4,8 @@ use std::process::Abort;
 use std::test::Fail;
 use vortex_base::Scope;
 use vortex_prune::{Pruned, Rules, Zone, ZoneMap, ZoneMapRefused};
-use vortex_prune_tests::testing::*;
-use vortex_rewrite_tests::nodes::*;
+use vortex_prune_testing::parts::*;
+use vortex_rewrite_testing::nodes::*;
 use vortex_stats::{Stat, StatsError, StatsSet};
 
 type SetsOfZones = Result<Vec<Vec<StatsSet>>, StatsError>;

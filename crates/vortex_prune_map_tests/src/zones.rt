@@ -3,8 +3,8 @@ use std::alloc::{AllocError, Global};
 use std::test::Fail;
 use vortex_base::{DType, Nullability, PType, ScalarValue, Scope, ValueRef};
 use vortex_prune::{Part, Zones, ZonesRefused};
-use vortex_prune_tests::testing::*;
-use vortex_rewrite_tests::nodes::*;
+use vortex_prune_testing::parts::*;
+use vortex_rewrite_testing::nodes::*;
 use vortex_stats::{Stat, StatsError, StatsSet};
 
 const NUMBER: DType = DType::Primitive(PType::I64, Nullability::Nullable);

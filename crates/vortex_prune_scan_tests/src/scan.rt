@@ -3,9 +3,9 @@ use std::alloc::{AllocError, Global};
 use std::process::Abort;
 use vortex_base::{BetweenOptions, Operator, ScalarFnId};
 use vortex_prune::{Part, Rules, StatsRewriteRuleRef, Zones};
-use vortex_prune_tests::testing::*;
-use vortex_rewrite_tests::hooks::{Claim, Claiming};
-use vortex_rewrite_tests::nodes::*;
+use vortex_prune_testing::parts::*;
+use vortex_rewrite_testing::hooks::{Claim, Claiming};
+use vortex_rewrite_testing::nodes::*;
 use vortex_stats::{Stat, StatsError, StatsSet};
 
 mod blocks;

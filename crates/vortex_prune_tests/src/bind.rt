@@ -6,15 +6,15 @@ ghost use Rattle.vortex_prune.specs.Binding.Binders.{IsHonestOver};
 ghost use Rattle.vortex_prune.specs.Binding.PartBinder.{IsNullOf};
 ghost use Rattle.vortex_prune_tests.specs.Counting.{is_first, one_null, three_numbers};
 
-use crate::hooks::Answerer;
-use crate::testing::*;
 use std::alloc::Global;
 use std::process::Abort;
 use vortex_base::{AggregateFnRef, BoundExpression, DType, Parts, bound};
 use vortex_prune::bind::bind_stats;
 use vortex_prune::{HookFault, StatBinder};
+use vortex_prune_testing::hooks::Answerer;
+use vortex_prune_testing::parts::*;
 use vortex_rewrite::expr::bound as placed;
-use vortex_rewrite_tests::nodes::*;
+use vortex_rewrite_testing::nodes::*;
 use vortex_stats::{BinderFault, StatsError};
 
 mod stats_binder;

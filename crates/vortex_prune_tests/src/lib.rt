@@ -4,11 +4,9 @@
 
 #[cfg(test)]
 mod bind;
-pub mod hooks;
 #[cfg(test)]
 mod part;
 #[cfg(test)]
 mod refused;
 #[cfg(test)]
 mod stat_fn;
-pub mod testing;

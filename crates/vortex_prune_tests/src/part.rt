@@ -2,13 +2,13 @@
 ghost use Rattle.std.specs.Bool.{OnTrue};
 ghost use Rattle.std.specs.Prelude.{◌≡◌};
 
-use crate::testing::*;
 use std::alloc::{AllocError, Global};
 use std::process::Abort;
 use std::test::Fail;
 use vortex_base::{Chunk, PValue, ScalarValue, ValueRef};
 use vortex_prune::{JoinRefused, Part, PartRefused};
-use vortex_rewrite_tests::nodes::*;
+use vortex_prune_testing::parts::*;
+use vortex_rewrite_testing::nodes::*;
 use vortex_stats::{Precision, Stat, StatsError, StatsSet};
 
 mod measured;

@@ -1,14 +1,14 @@
 //! Calls of which a request for memory may be refused: each gives its answer, or `Memory` alone.
 use crate::bind::UNKNOWN;
-use crate::testing::*;
 use std::alloc::{AllocError, Global};
 use std::test::Fail;
 use vortex_base::{BoundExpression, Column, DType, Nullability, PType, ScalarValue, Scope};
 use vortex_prune::bind::bind_stats;
 use vortex_prune::{Part, Rules, StatsBinder, Zones};
+use vortex_prune_testing::parts::*;
 use vortex_rewrite::expr::bound as placed;
 use vortex_rewrite::rewrite::{falsify, falsify_counted, satisfy};
-use vortex_rewrite_tests::nodes::*;
+use vortex_rewrite_testing::nodes::*;
 use vortex_stats::{Stat, StatsError};
 
 fn a(alloc: Global) -> Built {

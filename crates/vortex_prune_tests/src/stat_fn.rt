@@ -1,5 +1,4 @@
 //! What sets over a column of numbers answer.
-use crate::testing::*;
 use std::alloc::Global;
 use std::process::Abort;
 use vortex_base::types::Element;
@@ -7,7 +6,8 @@ use vortex_base::{
     AggregateFnRef, ConstantArray, DType, Nullability, PType, Scalar, ScalarFnId, ScalarValue,
 };
 use vortex_prune::{StatFn, StatOptions};
-use vortex_rewrite_tests::nodes::*;
+use vortex_prune_testing::parts::*;
+use vortex_rewrite_testing::nodes::*;
 use vortex_stats::{Precision, Stat, StatsError, StatsSet};
 
 const I64: DType = DType::Primitive(PType::I64, Nullability::Nullable);

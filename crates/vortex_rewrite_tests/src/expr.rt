@@ -1,11 +1,11 @@
 //! Placeholders over named columns, bound to a scope.
-use crate::nodes::*;
 use std::alloc::Global;
 use std::process::Abort;
 use vortex_base::{AggregateFnRef, Expression, Scope};
 use vortex_rewrite::expr::{
     all_non_null, all_null, bound as placed, min_max, null_count, stat as aggregated, sum,
 };
+use vortex_rewrite_testing::nodes::*;
 use vortex_stats::StatsError;
 
 mod bound;

@@ -3,8 +3,6 @@
 
 #[cfg(test)]
 mod expr;
-pub mod hooks;
-pub mod nodes;
 #[cfg(test)]
 mod rewrite;
 #[cfg(test)]

@@ -1,11 +1,11 @@
 //! Proofs of predicates over the columns a and b of I32, s and t of texts.
-use crate::nodes::*;
 use std::alloc::Global;
 use std::process::Abort;
 use std::test::Fail;
 use vortex_base::{AggregateFnRef, BoundExpression, DType, LikeOptions, ScalarValue};
 use vortex_rewrite::Rules;
 use vortex_rewrite::rewrite::{falsify, falsify_counted, satisfy};
+use vortex_rewrite_testing::nodes::*;
 use vortex_stats::StatsError;
 
 mod ends;

@@ -1,8 +1,8 @@
 //! Lists of a user's rules for the tests.
-use crate::hooks::{Claim, Claiming};
 use std::alloc::{AllocError, Global};
 use vortex_base::ScalarFnId;
 use vortex_rewrite::{Rules, StatsRewriteRuleRef};
+use vortex_rewrite_testing::hooks::{Claim, Claiming};
 
 /// The built-in rules and then this one.
 pub fn rules_of(alloc: Global, rule: StatsRewriteRuleRef) -> Result<Rules, AllocError> {

@@ -1,4 +1,5 @@
 pub mod FirstLine
+pub mod Fitting
 pub mod Found
 pub mod Fronts
 pub mod DigitLemmas

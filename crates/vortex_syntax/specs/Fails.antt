@@ -1,5 +1,5 @@
 -- What a call answers that reads a part of a line.
-use Rattle.std.specs.Prelude.{◌≡◌, Option, None, Some, Result, Ok, Err, option_and_then, ⊤}
+use Rattle.std.specs.Prelude.{◌≡◌, Bool, if◌then◌else◌, Option, None, Some, Result, Ok, Err, option_and_then, ⊤}
 use Rattle.vortex_syntax.specs.declared.line_error.LineError.{LineError}
 use Rattle.vortex_syntax.specs.declared.line_error.LineError.TheVariants as errors
 
@@ -22,6 +22,9 @@ Gives view (Err e) read = Fails e read
 abbrev pub Changes : {X : Type 0} → Result (Unit {0}) LineError → Option X → X → Type 0
 Changes (Ok x) read new = read ≡ Some new
 Changes (Err e) read new = Fails e read
+
+abbrev pub when : {X : Type 0} → Bool → X → Option X
+when b x = if b then Some x else None
 
 infixl 10 ◌>>=◌
 abbrev pub ◌>>=◌ : {A B : Type 0} → Option A → (A → Option B) → Option B

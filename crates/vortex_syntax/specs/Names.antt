@@ -1,8 +1,9 @@
 -- The words that name columns, types and statistics.
-use Rattle.std.specs.Prelude.{ℕ, Bool, ◌&&◌, ◌||◌, ◌==◌, nat_le, if◌then◌else◌, List, length, Option, Some, None, option_map, codes, slice_index, take, ◌-◌}
+use Rattle.std.specs.Prelude.{ℕ, Bool, true, false, ◌&&◌, ◌||◌, ◌==◌, nat_le, if◌then◌else◌, List, length, Option, Some, None, is_some, option_map, codes, slice_index, take, ◌-◌}
 use Rattle.std.specs.Char.{is_ascii_alphabetic, is_ascii_alphanumeric}
 use Rattle.std.specs.List.{list_all}
 use Rattle.std.specs.Str.{bytes_eq}
+use Rattle.vortex_base.specs.Data.Scopes.{Named, place_of}
 use Rattle.vortex_base.specs.declared.dtype.DType.{DType}
 use Rattle.vortex_base.specs.declared.dtype.DType.TheVariants as dtype
 use Rattle.vortex_base.specs.declared.types.Nullability.{Nullability}
@@ -25,6 +26,10 @@ name_limit = 64
 -- the name of a column
 abbrev pub is_name : List ℕ → Bool
 is_name word = nat_le (length word) name_limit && (begins_name (slice_index word 0) && list_all continues_name word)
+
+-- a name that no column has yet
+abbrev pub is_new : List Named → List ℕ → Bool
+is_new scope name = if is_name name then (if is_some (place_of name scope) then false else true) else false
 
 -- the type of numbers of a word
 abbrev pub ptype_of : List ℕ → Option PType

@@ -8,12 +8,12 @@ use Rattle.vortex_base.specs.declared.dtype.DType.{DType}
 use Rattle.vortex_prune.specs.Part.{PartData}
 use Rattle.vortex_syntax.specs.Fails.{Fails}
 use Rattle.vortex_syntax.specs.LineKinds.{kind_of}
-use Rattle.vortex_syntax.specs.Names.{is_name}
+use Rattle.vortex_syntax.specs.Names.{is_name, is_new}
 use Rattle.vortex_syntax.specs.Words.{Token, plain_word}
 use Rattle.vortex_syntax.specs.declared.line_error.LineError.{LineError}
 use Rattle.vortex_syntax.specs.declared.line_kind.LineKind.{LineKind}
 use Rattle.vortex_text.proofs.ColumnLemmas.{fails_on}
-use Rattle.vortex_text.specs.Lines.{Reading, and_current, has_part, is_new, read_kind, read_words, with_column}
+use Rattle.vortex_text.specs.Lines.{Reading, and_current, has_part, read_kind, read_words, with_column}
 
 pub has_last : (parts : List PartData) (part : PartData) → has_part (parts ++ part ∷ []) ≡ true
 has_last [] part = refl

@@ -1,8 +1,5 @@
--- What a text names fits together: its values, columns, expressions and parts.
-pub mod ExpressionFits
+-- What a text names fits together: its rows, parts and lines.
 pub mod LineFits
 pub mod NamedFits
 pub mod PartFits
 pub mod RowFits
-pub mod ScopeFits
-pub mod ValueFits

@@ -14,9 +14,10 @@ use Rattle.vortex_syntax.specs.Statistics.{claimed, claimed_value}
 use Rattle.vortex_syntax.specs.Words.{Token, Plain, Quoted, Broken, no_word, plain_word, word_limit, words}
 use Rattle.vortex_syntax.specs.declared.line_kind.LineKind.{LineKind}
 use Rattle.vortex_syntax.specs.declared.line_kind.LineKind.TheVariants as kind
-use Rattle.vortex_text.proofs.Fitting.ExpressionFits.{step_of}
-use Rattle.vortex_text.proofs.Fitting.ValueFits.{chosen}
-use Rattle.vortex_text.specs.Lines.{Reading, nothing_read, read_join, read_kind, read_line, read_stat, read_where, read_words, when}
+use Rattle.vortex_syntax.proofs.Fitting.ExpressionFits.{step_of}
+use Rattle.vortex_syntax.proofs.Fitting.ValueFits.{chosen}
+use Rattle.vortex_text.specs.Lines.{Reading, nothing_read, read_join, read_kind, read_line, read_stat, read_where, read_words}
+use Rattle.vortex_syntax.specs.Fails.{when}
 use Rattle.vortex_text.specs.MemoryTaken.{TakesMemory, kind_takes, line_takes, place_in, words_take}
 use Rattle.vortex_text.specs.Naming.{Reads}
 

@@ -27,7 +27,7 @@ use Rattle.vortex_text.proofs.ColumnLemmas.{fails_on}
 use Rattle.vortex_text.proofs.DraftLemmas.{by_kind}
 use Rattle.vortex_text.proofs.FirstLineLemmas.{lines_behind, lines_ended, utf8_behind}
 use Rattle.vortex_text.proofs.FirstReads.{line_may}
-use Rattle.vortex_text.proofs.Fitting.ExpressionFits.{one_made, step_of}
+use Rattle.vortex_syntax.proofs.Fitting.ExpressionFits.{one_made, step_of}
 use Rattle.vortex_text.specs.FirstLines.{first_read, may_take}
 use Rattle.vortex_text.specs.Lines.{Reading, read_kind, read_line, read_part, read_stat, with_claim}
 use Rattle.vortex_text.specs.MemoryTaken.{kind_takes, line_takes}

@@ -18,10 +18,10 @@ use Rattle.vortex_prune.specs.Scanning.RangeScans.{counts_of, range_chunk, range
 use Rattle.vortex_syntax.specs.Values.{optional_value_of}
 use Rattle.vortex_syntax.specs.Words.{Token, first_word, no_word, words}
 use Rattle.vortex_text.proofs.ColumnLemmas.{row_after}
-use Rattle.vortex_text.proofs.Fitting.ExpressionFits.{one_made, step_of}
+use Rattle.vortex_syntax.proofs.Fitting.ExpressionFits.{one_made, step_of}
 use Rattle.vortex_text.specs.Columns.{taken, with_value, with_values}
 use Rattle.vortex_text.specs.FirstLines.{first_row}
-use Rattle.vortex_text.specs.Lines.{when}
+use Rattle.vortex_syntax.specs.Fails.{when}
 use Rattle.vortex_text.specs.Rows.{empty_column, no_entries}
 use Rattle.vortex_text.specs.Stores.{AreLong, HaveRows, last_row, rest_column}
 

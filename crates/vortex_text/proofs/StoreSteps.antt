@@ -16,7 +16,7 @@ use Rattle.vortex_base.specs.declared.dtype.DType.{DType}
 use Rattle.vortex_base.specs.Data.Types.{dtype_eq}
 use Rattle.vortex_prune.specs.Part.{Entries, PartData, ZoneData, joined}
 use Rattle.vortex_prune.specs.Scanning.RangeScans.{counts_of, range_column, range_parts}
-use Rattle.vortex_syntax.specs.Fails.{Fails}
+use Rattle.vortex_syntax.specs.Fails.{Fails, when}
 use Rattle.vortex_syntax.specs.Words.{Token}
 use Rattle.vortex_syntax.specs.declared.line_error.LineError.{LineError}
 use Rattle.vortex_text.proofs.ColumnLemmas.{fails_on}
@@ -27,7 +27,7 @@ use Rattle.vortex_text.proofs.StoreLemmas.{both_zones, chunk, counts_append, res
 use Rattle.vortex_text.specs.Columns.{with_values}
 use Rattle.vortex_text.specs.FirstLines.{first_row}
 use Rattle.vortex_text.specs.Fitting.{AreNeighbours, IsPartOf}
-use Rattle.vortex_text.specs.Lines.{has_part, when}
+use Rattle.vortex_text.specs.Lines.{has_part}
 use Rattle.vortex_text.specs.Rows.{empty_column, empty_part, joined_at, no_entries}
 use Rattle.vortex_text.specs.Stores.{AreLong, HaveRows, IsShut, IsStore, StoreData, all_parts, ended_all, last_row, parts_in, rest_column, rest_part, with_first, with_joined, with_words}
 use Rattle.vortex_zone_log.specs.Logs as logs

@@ -6,14 +6,14 @@ use Rattle.std.specs.Str.Lines.{lines}
 use Rattle.vortex_base.specs.Data.Columns.{ColumnData}
 use Rattle.vortex_base.specs.declared.dtype.DType.{DType}
 use Rattle.vortex_base.specs.declared.scalar_value.ScalarValue.{ScalarValue}
-use Rattle.vortex_syntax.specs.Fails.{◌>>=◌, Fails}
+use Rattle.vortex_syntax.specs.Fails.{Fails, when, ◌>>=◌}
 use Rattle.vortex_syntax.specs.Plain.{BeginsValue, EndsWord, is_line_byte}
 use Rattle.vortex_syntax.specs.Spelling.{IsParted}
 use Rattle.vortex_syntax.specs.Words.{words}
 use Rattle.vortex_syntax.specs.declared.line_error.LineError.{LineError}
 use Rattle.vortex_syntax.specs.declared.line_error.LineError.TheVariants.{Memory}
 use Rattle.vortex_text.specs.Columns.{behind, with_value, with_values}
-use Rattle.vortex_text.specs.Lines.{Reading, read_line, when}
+use Rattle.vortex_text.specs.Lines.{Reading, read_line}
 use Rattle.vortex_text.specs.MemoryTaken.{line_takes}
 
 -- what the first of some lines says, after those that gave r, and the lines after it

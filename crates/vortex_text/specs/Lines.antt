@@ -1,7 +1,7 @@
 -- What the lines of a text say, one after another.
 use Rattle.std.specs.Prelude.{ℕ, Bool, true, false, nat_le, List, [], ◌∷◌, ◌++◌, Option, None, Some, is_some, length, if◌then◌else◌}
 use Rattle.std.specs.Str.{is_utf8}
-use Rattle.vortex_base.specs.Data.Scopes.{Named, is_empty, place_of}
+use Rattle.vortex_base.specs.Data.Scopes.{Named, is_empty}
 use Rattle.vortex_base.specs.Trees.Tree.{Tree, Place}
 use Rattle.vortex_base.specs.declared.dtype.DType.{DType}
 use Rattle.vortex_base.specs.declared.scalar_value.ScalarValue.{ScalarValue}
@@ -9,9 +9,9 @@ use Rattle.vortex_prune.specs.Part.{PartData}
 use Rattle.vortex_stats.specs.declared.precision.Precision.{Precision}
 use Rattle.vortex_stats.specs.declared.stat.Stat.{Stat}
 use Rattle.vortex_syntax.specs.Expressions.{expression_of}
-use Rattle.vortex_syntax.specs.Fails.{◌>>=◌}
+use Rattle.vortex_syntax.specs.Fails.{◌>>=◌, when}
 use Rattle.vortex_syntax.specs.LineKinds.{kind_of}
-use Rattle.vortex_syntax.specs.Names.{is_name, type_of}
+use Rattle.vortex_syntax.specs.Names.{is_new, type_of}
 use Rattle.vortex_syntax.specs.Numbers.{in_64_bits, natural_of}
 use Rattle.vortex_syntax.specs.Statistics.{claimed, claimed_value}
 use Rattle.vortex_syntax.specs.Words.{Token, no_word, plain_word, word_limit, words}
@@ -40,13 +40,6 @@ parts_of r = and_current r.ended r.current
 abbrev pub has_part : List PartData → Bool
 has_part [] = false
 has_part (p ∷ ps) = true
-
-abbrev pub when : {X : Type 0} → Bool → X → Option X
-when b x = if b then Some x else None
-
--- a name that no column has yet
-abbrev pub is_new : List Named → List ℕ → Bool
-is_new scope name = if is_name name then (if is_some (place_of name scope) then false else true) else false
 
 -- one more column, before the first part
 abbrev pub with_column : Reading → List ℕ → DType → Option Reading

@@ -7,14 +7,14 @@ use Rattle.vortex_base.specs.declared.dtype.DType.{DType}
 use Rattle.vortex_stats.specs.declared.stat.Stat.{Stat}
 use Rattle.vortex_syntax.specs.Copies.{claim_takes, is_copied}
 use Rattle.vortex_syntax.specs.Expressions.{begins_expression}
-use Rattle.vortex_syntax.specs.Fails.{◌>>=◌}
+use Rattle.vortex_syntax.specs.Fails.{when, ◌>>=◌}
 use Rattle.vortex_syntax.specs.LineKinds.{kind_of}
 use Rattle.vortex_syntax.specs.Numbers.{in_64_bits, natural_of}
 use Rattle.vortex_syntax.specs.Statistics.{claimed}
 use Rattle.vortex_syntax.specs.Words.{Token, no_word, plain_word, words}
 use Rattle.vortex_syntax.specs.declared.line_kind.LineKind.{LineKind}
 use Rattle.vortex_syntax.specs.declared.line_kind.LineKind.TheVariants as kind
-use Rattle.vortex_text.specs.Lines.{Reading, nothing_read, read_column, read_join, read_part, read_stat, when}
+use Rattle.vortex_text.specs.Lines.{Reading, nothing_read, read_column, read_join, read_part, read_stat}
 use Rattle.vortex_text.specs.Naming.{Reads}
 
 -- the value of a statistic takes memory, where one is claimed

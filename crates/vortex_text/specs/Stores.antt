@@ -7,10 +7,10 @@ use Rattle.vortex_prune.specs.Part.{Entries, PartData}
 use Rattle.vortex_prune.specs.Scanning.RangeScans.{counts_of, range_parts}
 use Rattle.vortex_stats.specs.declared.precision.Precision.{Precision}
 use Rattle.vortex_stats.specs.declared.stat.Stat.{Stat}
-use Rattle.vortex_syntax.specs.Fails.{◌>>=◌}
+use Rattle.vortex_syntax.specs.Fails.{when, ◌>>=◌}
 use Rattle.vortex_syntax.specs.Words.{Token}
 use Rattle.vortex_text.specs.FirstLines.{first_row}
-use Rattle.vortex_text.specs.Lines.{and_current, when}
+use Rattle.vortex_text.specs.Lines.{and_current}
 use Rattle.vortex_text.specs.Rows.{joined_at, with_row, with_statistic}
 use Rattle.vortex_zone_log.specs.Logs.{LogData, empty_sets}
 

@@ -3,7 +3,7 @@ use super::*;
 use std::process::Abort;
 use vortex_base::AggregateFnRef;
 use vortex_prune::bind::bind_stats;
-use vortex_prune_tests::hooks::Answerer;
+use vortex_prune_testing::hooks::Answerer;
 use vortex_stats::{BinderFault, RuleFault};
 
 // The scan by the built-in rules and these binders.

@@ -6,7 +6,7 @@ ghost use Rattle.vortex_prune_scan_tests.specs.RuleExamples.{at_null_test};
 use super::*;
 use vortex_base::{BoundExpression, Parts};
 use vortex_prune::{HookFault, StatsRewriteRule};
-use vortex_rewrite_tests::hooks::{ValueTests, truth_answer};
+use vortex_rewrite_testing::hooks::{ValueTests, truth_answer};
 use vortex_stats::RuleFault;
 
 // Whether it is IS NULL of a column whose type has no null.

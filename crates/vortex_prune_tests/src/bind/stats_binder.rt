@@ -1,13 +1,13 @@
 //! What the statistics of a part of one column answer.
-use crate::testing::*;
 use std::alloc::{AllocError, Global};
 use std::process::Abort;
 use vortex_base::evaluate::evaluate;
 use vortex_base::{BaseError, BoundExpression, DType, Nullability, Row, ScalarValue};
 use vortex_prune::bind::bind_stats;
 use vortex_prune::{Part, StatsBinder, Zone, ZoneStatsBinder};
+use vortex_prune_testing::parts::*;
 use vortex_rewrite::expr::bound as placed;
-use vortex_rewrite_tests::nodes::*;
+use vortex_rewrite_testing::nodes::*;
 use vortex_stats::{Stat, StatsError};
 
 const TRUTH: DType = DType::Bool(Nullability::Nullable);

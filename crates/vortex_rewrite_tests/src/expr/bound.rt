@@ -1,10 +1,10 @@
 //! Placeholders over columns of numbers and texts.
-use crate::nodes::*;
 use std::alloc::Global;
 use std::process::Abort;
 use vortex_base::types::Element;
 use vortex_base::{AggregateFnRef, DType, Nullability, PType};
 use vortex_rewrite::expr::bound as placed;
+use vortex_rewrite_testing::nodes::*;
 use vortex_stats::StatsError;
 
 const I64: DType = DType::Primitive(PType::I64, Nullability::Nullable);

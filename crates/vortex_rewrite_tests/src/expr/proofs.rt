@@ -2,12 +2,12 @@
 ghost use Rattle.std.specs.Prelude.{IfOk, IfSome, IsTrue};
 ghost use Rattle.vortex_rewrite.specs.Rewriting.Predicates.{is_predicate};
 
-use crate::nodes::*;
 use std::alloc::Global;
 use std::process::Abort;
 use vortex_base::BoundExpression;
 use vortex_rewrite::expr::proofs;
 use vortex_rewrite::hook_fault::HookFault;
+use vortex_rewrite_testing::nodes::*;
 use vortex_stats::StatsError;
 
 // What a rule was told, as a node.

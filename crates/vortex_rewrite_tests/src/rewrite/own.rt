@@ -1,15 +1,15 @@
 //! Rules of a user, boxed and asked.
 ghost use Rattle.std.specs.Prelude.{◌≡◌, Bool, Some, None, if◌then◌else◌};
 ghost use Rattle.vortex_rewrite.specs.Rewriting.Falsifiers.{bool_literal};
-ghost use Rattle.vortex_rewrite_tests.specs.RuleExamples.{at_opposite};
+ghost use Rattle.vortex_rewrite_testing.specs.RuleExamples.{at_opposite};
 
 use super::*;
-use crate::hooks::{Claim, ValueTests, truth_answer};
 use crate::rules::{new_claiming, rules_of, two_rules};
 use std::alloc::AllocError;
 use std::process::Abort;
 use vortex_base::{Parts, ScalarFnId};
 use vortex_rewrite::{HookFault, StatsRewriteRule, StatsRewriteRuleRef};
+use vortex_rewrite_testing::hooks::{Claim, ValueTests, truth_answer};
 use vortex_stats::RuleFault;
 
 fn is_not_of(e: &BoundExpression, truth: bool) -> bool
@@ -37,7 +37,7 @@ struct Opposite {
 impl StatsRewriteRule for Opposite {
     ghost use Rattle.std.specs.Prelude.{true, false};
     ghost use Rattle.vortex_base.specs.declared.types.ScalarFnId.TheVariants as function;
-    ghost use Rattle.vortex_rewrite_tests.specs.RuleExamples.{at_opposite, opposite_is_lawful};
+    ghost use Rattle.vortex_rewrite_testing.specs.RuleExamples.{at_opposite, opposite_is_lawful};
 
     ghost id = { λ s. function.Not };
 

@@ -19,9 +19,9 @@ use Rattle.vortex_stats.specs.declared.precision.Precision.{Precision}
 use Rattle.vortex_stats.specs.declared.precision.Precision.TheVariants.{Exact, Inexact}
 use Rattle.vortex_stats.specs.declared.stat.Stat.{Stat}
 use Rattle.vortex_syntax.specs.Expressions.{expression_of}
-use Rattle.vortex_syntax.specs.Fails.{Changes}
+use Rattle.vortex_syntax.specs.Fails.{Changes, when}
 use Rattle.vortex_syntax.specs.LineKinds.{kind_of}
-use Rattle.vortex_syntax.specs.Names.{type_of}
+use Rattle.vortex_syntax.specs.Names.{is_new, type_of}
 use Rattle.vortex_syntax.specs.Numbers.{in_64_bits, natural_of}
 use Rattle.vortex_syntax.specs.Statistics.{claimed, claimed_value, precision_of, stat_of}
 use Rattle.vortex_syntax.specs.Values.{value_of}
@@ -30,12 +30,12 @@ use Rattle.vortex_syntax.specs.declared.line_error.LineError.{LineError}
 use Rattle.vortex_syntax.specs.declared.line_kind.LineKind.{LineKind}
 use Rattle.vortex_syntax.specs.declared.line_kind.LineKind.TheVariants as kind
 use Rattle.vortex_text.proofs.DraftLemmas.{has_last}
-use Rattle.vortex_text.proofs.Fitting.ExpressionFits.{expression_fits, found_place, one_made, step_of}
+use Rattle.vortex_syntax.proofs.Fitting.ExpressionFits.{expression_fits, found_place, one_made, step_of}
 use Rattle.vortex_text.proofs.Fitting.PartFits.{empty_is_part, joined_at_are_parts, row_is_part, shape_of, statistic_is_part, type_at}
-use Rattle.vortex_text.proofs.Fitting.ScopeFits.{distinct_more, storable_more, type_storable}
-use Rattle.vortex_text.proofs.Fitting.ValueFits.{chosen, value_of_fits}
+use Rattle.vortex_syntax.proofs.Fitting.ScopeFits.{distinct_more, storable_more, type_storable}
+use Rattle.vortex_syntax.proofs.Fitting.ValueFits.{chosen, value_of_fits}
 use Rattle.vortex_text.specs.Fitting.{FitsTogether, IsPartOf, IsPredicateOver}
-use Rattle.vortex_text.specs.Lines.{Reading, and_current, has_part, is_new, parts_of, read_column, read_join, read_kind, read_line, read_part, read_row, read_stat, read_where, read_words, when, with_claim, with_column}
+use Rattle.vortex_text.specs.Lines.{Reading, and_current, has_part, parts_of, read_column, read_join, read_kind, read_line, read_part, read_row, read_stat, read_where, read_words, with_claim, with_column}
 use Rattle.vortex_text.specs.Rows.{empty_part, joined_at, with_row, with_statistic}
 
 -- a test that holds after another that doesn't

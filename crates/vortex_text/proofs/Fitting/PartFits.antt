@@ -16,7 +16,7 @@ use Rattle.vortex_stats.specs.Sets.Entries.{entries_fit, value_fits, with_entry}
 use Rattle.vortex_stats.specs.declared.precision.Precision.{Precision}
 use Rattle.vortex_stats.specs.declared.stat.Stat.{Stat}
 use Rattle.vortex_syntax.specs.Words.{Token}
-use Rattle.vortex_text.proofs.Fitting.ExpressionFits.{one_made, step_of}
+use Rattle.vortex_syntax.proofs.Fitting.ExpressionFits.{one_made, step_of}
 use Rattle.vortex_text.proofs.Fitting.RowFits.{Grown, grown_alike, grown_count, grown_fit, grown_sets, grown_types, grown_unsized, row_grows}
 use Rattle.vortex_text.specs.Columns.{with_values}
 use Rattle.vortex_zone_log.specs.Logs.{set_at}

@@ -15,8 +15,8 @@ use Rattle.vortex_prune.specs.Part.{Entries, sets_fit}
 use Rattle.vortex_stats.specs.Sets.Entries.{entries_fit}
 use Rattle.vortex_syntax.specs.Values.{optional_value_of}
 use Rattle.vortex_syntax.specs.Words.{Token, first_word, no_word}
-use Rattle.vortex_text.proofs.Fitting.ExpressionFits.{one_made, step_of}
-use Rattle.vortex_text.proofs.Fitting.ValueFits.{optional_value_fits}
+use Rattle.vortex_syntax.proofs.Fitting.ExpressionFits.{one_made, step_of}
+use Rattle.vortex_syntax.proofs.Fitting.ValueFits.{optional_value_fits}
 use Rattle.vortex_text.specs.Columns.{taken, with_value, with_values}
 use Rattle.vortex_text.specs.Fitting.{is_unsized}
 

@@ -1,7 +1,7 @@
 use Rattle.std.proofs.Common.{◌≡◌, sym, string_bytes, ◌∙◌}
 use Rattle.vortex_base.specs.Data.Scopes.{named_columns}
 use Rattle.vortex_text.proofs.DraftLemmas.{new_has_no_place}
-use Rattle.vortex_text.proofs.Fitting.ScopeFits.{new_is_text}
+use Rattle.vortex_syntax.proofs.Fitting.ScopeFits.{new_is_text}
 use Rattle.vortex_text.proofs.draft.Draft.add_column.Goals as goal
 
 pub push-requires : goal.push-requires

@@ -1,0 +1,5 @@
+use Rattle.vortex_calls.proofs.ExtentLemmas.{first_range}
+use Rattle.vortex_calls.proofs.extent.Range.new.Goals as goal
+
+pub returns : goal.returns
+returns g c = λ xs none. first_range g.N.Number.pvalue xs c.args.number none

@@ -1,0 +1,13 @@
+use Rattle.std.proofs.Common.{◌≢◌, Err, sym, ap, ◌∙◌}
+use Rattle.vortex_base.specs.Data.Cells.{cell_values}
+use Rattle.vortex_calls.specs.declared.status.Status.TheVariants.{NoMemory}
+use Rattle.vortex_calls.specs.Statuses.{at_row}
+use Rattle.vortex_calls.specs.Values.{cell}
+use Rattle.vortex_calls.proofs.ReadLemmas.{stops}
+use Rattle.vortex_calls.proofs.values.Values.cells.Goals as goal
+
+pub returns-in-Err : goal.returns-in-Err
+returns-in-Err c = λ not_memory.
+    let h : c.in-Err.status ≢ NoMemory = rw c.at_row.ensures at not_memory in
+    stops at_row (cell c.args.dtype c.args.self.now.values.now c.args.self.now.start c.args.self.now.ends.now c.args.self.now.nulls.now) c.loop-row.row c.args.self.now.rows (cell_values c.loop-row.cells) c.in-Err.status c.loop-row.invariant (c.in-Err.ensures h) c.loop-row-test.true
+    ∙ ap Err (sym c.at_row.ensures)

@@ -1,0 +1,8 @@
+use Rattle.vortex_calls.proofs.ExtentLemmas.{column_read}
+use Rattle.vortex_calls.proofs.values.Values.extent_of.Goals as goal
+
+pub returns-then-has_numbers : goal.returns-then-has_numbers
+returns-then-has_numbers g c = column_read g.N.Number.pvalue g.N.Number.PTYPE c.args.nullability c.args.self.now 0 c.range.result c.new.result (c.range.ensures c.args.nullability) c.new.ensures
+
+pub returns : goal.returns
+returns g c = column_read g.N.Number.pvalue g.N.Number.PTYPE c.args.nullability c.args.self.now c.in_ok-nulls.nulls c.in_ok-nulls.range c.new-2.result c.in_ok-nulls.ensures c.new-2.ensures

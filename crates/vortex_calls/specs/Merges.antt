@@ -1,0 +1,82 @@
+-- The statistics of neighbouring chunks, merged pair by pair.
+use Rattle.std.specs.Prelude.{ℕ, ◌==◌, List, [], Option, None, Some, Result, Ok, Err, if◌then◌else◌, length, map, min, slice_get, slice_index}
+use Rattle.std.specs.List.{flat_map}
+use Rattle.vortex_base.specs.declared.dtype.DType.{DType}
+use Rattle.vortex_stats.specs.declared.stat.Stat.{Stat}
+use Rattle.vortex_stats.specs.Merging.Merges.{merged_ordered}
+use Rattle.vortex_stats.specs.Sets.Entries.{entry_value, with_entry}
+use Rattle.vortex_calls.specs.declared.fault.Refusal.{Refusal}
+use Rattle.vortex_calls.specs.declared.statistic.Statistic.{Statistic}
+use Rattle.vortex_calls.specs.declared.status.Status.{Status}
+use Rattle.vortex_calls.specs.declared.status.Status.TheVariants.{BadLength, BadStat}
+use Rattle.vortex_calls.specs.Measures.{stat_of}
+use Rattle.vortex_calls.specs.Refusals.{all_found, all_read, followed, placed, stepped}
+use Rattle.vortex_calls.specs.Slots.{Slot, slot_of}
+use Rattle.vortex_calls.specs.Statistics.{Entry, entry}
+use Rattle.vortex_calls.specs.Statuses.{at_entry, in_column}
+use Rattle.vortex_calls.specs.Types.{dtype_of}
+
+-- a set of statistics, as the list of its entries
+abbrev pub Entries : Type 0
+Entries = List Entry
+
+-- ---- what both tables tell
+
+-- the statistic that has this number in both
+abbrev pub common_stat : DType → ℕ → ℕ → Result Stat Status
+common_stat t m n = if m == n then stat_of t m else Err BadStat
+
+-- the numbers of a table's statistics
+abbrev pub numbers_of : List Statistic → List ℕ
+numbers_of xs = map (λ x. x.stat) xs
+
+abbrev pub common_of : DType → List ℕ → List ℕ → Result (List Stat) Refusal
+common_of t ms ns = all_read at_entry (λ i. common_stat t (slice_index ms i) (slice_index ns i)) (length ms)
+
+-- the statistics, which are the same in both in the same order, or the first place where they aren't
+abbrev pub common : DType → List Statistic → List Statistic → Result (List Stat) Refusal
+common t left right =
+    if length left == length right then common_of t (numbers_of left) (numbers_of right) else Err (at_entry BadLength (min (length left) (length right)))
+
+-- ---- the sets of a zone
+
+abbrev pub entry_or : DType → ℕ → Option Statistic → Result Entry Status
+entry_or t zone None = Err BadLength
+entry_or t zone (Some x) = entry t zone x
+
+-- the statistic at a place of a table with its value in a zone; a refusal tells which table it is
+abbrev pub entry_at : ℕ → DType → ℕ → List Statistic → ℕ → Result Entry Refusal
+entry_at table t zone xs i = placed (λ s. in_column zone table s i) (entry_or t zone (slice_get xs i))
+
+-- the set with the next statistic; of two of the same number the later counts
+abbrev pub with_next : ℕ → DType → ℕ → List Statistic → ℕ → Entries → Result Entries Refusal
+with_next table t zone xs i set = followed (entry_at table t zone xs i) (λ e. Ok (with_entry e.0 e.1 set))
+
+-- the set that a table gives for a zone of a column of a type
+abbrev pub set_given : ℕ → DType → ℕ → List Statistic → Result Entries Refusal
+set_given table t zone xs = stepped (with_next table t zone xs) [] (length xs)
+
+-- ---- the merge
+
+-- the set of the left table's zone, table 0, followed by that of the right one's, table 1
+abbrev pub merged_set : DType → List Statistic → List Statistic → ℕ → Result Entries Refusal
+merged_set t left right zone = followed (set_given 0 t zone left) (λ a. followed (set_given 1 t zone right) (λ b. Ok (merged_ordered a b)))
+
+-- that of each zone, in order
+abbrev pub merged_sets : DType → List Statistic → List Statistic → ℕ → Result (List Entries) Refusal
+merged_sets t left right zones = all_found (merged_set t left right) zones
+
+-- a statistic in each zone
+abbrev pub slots_of_stat : DType → List Entries → Stat → List Slot
+slots_of_stat t sets s = map (λ set. slot_of t s (entry_value s set)) sets
+
+-- the statistics one after another, each in all zones
+abbrev pub slots_by_stat : DType → List Entries → List Stat → List Slot
+slots_by_stat t sets wanted = flat_map (slots_of_stat t sets) wanted
+
+-- the merged statistics of a column of a type
+abbrev pub merged_as : List Statistic → List Statistic → ℕ → DType → Result (List Slot) Refusal
+merged_as left right zones t = followed (common t left right) (λ wanted. followed (merged_sets t left right zones) (λ sets. Ok (slots_by_stat t sets wanted)))
+
+abbrev pub merged : (kind nullable zones : ℕ) → List Statistic → List Statistic → Result (List Slot) Refusal
+merged kind nullable zones left right = followed (placed (λ s. at_entry s 0) (dtype_of kind nullable)) (merged_as left right zones)

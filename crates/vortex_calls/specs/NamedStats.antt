@@ -1,0 +1,60 @@
+-- The aggregates that proofs name.
+use Rattle.std.specs.Prelude.{◌≡◌, ℕ, ◌==◌, ◌&&◌, ◌||◌, Bool, true, false, List, [], Option, None, Some, IsTrue, length, map, slice_get}
+use Rattle.vortex_base.specs.declared.aggregate.AggregateFnRef.{AggregateFnRef}
+use Rattle.vortex_base.specs.Data.Columns.{ColumnData}
+use Rattle.vortex_base.specs.Trees.Tree.{Place, Tree, between, binary, column, is_not_null, is_null, like, literal, not, row_count, stat}
+use Rattle.vortex_base.specs.Trees.TreeEq.{aggregate_eq}
+use Rattle.vortex_prune.specs.GivenTables.{is_table}
+use Rattle.vortex_prune.specs.Part.{ZoneData}
+use Rattle.vortex_prune.specs.Zones.{Head, MapData, heads, zone_column}
+use Rattle.vortex_rewrite.specs.Rewriting.Falsifiers.{falsifier, satisfier}
+use Rattle.vortex_calls.specs.declared.named.Proofs.{Proofs}
+
+-- ---- the placeholders of a proof
+
+-- the aggregate of an input is this one of the column at a place
+abbrev pub asks : AggregateFnRef → Tree Place → ℕ → AggregateFnRef → Bool
+asks f (column c) i g = (c.index == i) && aggregate_eq f g
+asks f x i g = false
+
+-- a placeholder of the tree asks for it
+abbrev pub names : Tree Place → ℕ → AggregateFnRef → Bool
+names (column c) i g = false
+names (literal c) i g = false
+names (binary o l r) i g = names l i g || names r i g
+names (between o x l u) i g = (names x i g || names l i g) || names u i g
+names (is_null x) i g = names x i g
+names (is_not_null x) i g = names x i g
+names (not x) i g = names x i g
+names (like o x p) i g = names x i g || names p i g
+names (stat f x) i g = asks f x i g
+names row_count i g = false
+
+abbrev pub names_if : Option (Tree Place) → ℕ → AggregateFnRef → Bool
+names_if None i g = false
+names_if (Some e) i g = names e i g
+
+-- one of the two proofs names it
+abbrev pub either_names : (falsifier satisfier : Option (Tree Place)) → ℕ → AggregateFnRef → Bool
+either_names f t i g = names_if f i g || names_if t i g
+
+-- what stands below a head
+abbrev pub names_head : (falsifier satisfier : Option (Tree Place)) → Head → Bool
+names_head f t h = either_names f t h.source h.aggregate
+
+-- the falsifier and the satisfier of their predicate by built-in rules
+pub record AreProofs (proofs : Proofs) : Type 0 where
+  pub falsified : proofs.falsifier ≡ falsifier [] proofs.predicate.now
+  pub satisfied : proofs.satisfier ≡ satisfier [] proofs.predicate.now
+
+-- ---- a table that has what they name
+
+-- below each head that is named stands the column of these zones, whatever stands below the others
+abbrev pub AreNamed : (named : List Bool) → List Head → List ZoneData → List ColumnData → Type 0
+AreNamed named hs zones cs = (k : ℕ) (h : Head) (c : ColumnData) → slice_get hs k ≡ Some h → slice_get named k ≡ Some true → slice_get cs k ≡ Some c → c ≡ zone_column zones h
+
+-- the map has the zones' row counts, and their columns below the heads that are named
+pub record HasNamed (named : List Bool) (zones : List ZoneData) (m : MapData) : Type 0 where
+  pub counted : m.rows ≡ map (λ zone. zone.rows) zones
+  pub table : IsTrue (is_table (length m.rows) m.scope m.table.columns)
+  pub told : AreNamed named (heads m.scope) zones m.table.columns

@@ -1,0 +1,142 @@
+-- What a caller asks to be pruned, and what is answered.
+use Rattle.std.specs.Prelude.{◌≡◌, ◌≢◌, ℕ, ◌==◌, Bool, true, false, List, [], ◌++◌, Option, Result, Ok, Err, IfOk, IsOk, IsTrue, if◌then◌else◌, length, map}
+use Rattle.vortex_base.specs.Data.Scopes.{Named}
+use Rattle.vortex_base.specs.Meanings.Fitting.{fits_scope}
+use Rattle.vortex_base.specs.Trees.Tree.{Place, Tree, is_plain}
+use Rattle.vortex_normal.specs.Groups.{normal}
+use Rattle.vortex_normal.specs.Same.{Same}
+use Rattle.vortex_prune.specs.Binding.PartAnswers.{told_values}
+use Rattle.vortex_prune.specs.Part.{ZoneData, zones_fit}
+use Rattle.vortex_prune.specs.Scanning.Complete.{ZonesSkipExactly}
+use Rattle.vortex_prune.specs.Scanning.Selection.{places_where, proves_of}
+use Rattle.vortex_prune.specs.Scanning.ZoneScans.{AreRowVerdicts, IsSoundPruning}
+use Rattle.vortex_prune.specs.Zones.{MapData}
+use Rattle.vortex_prune.specs.declared.scan.verdict.Verdict.{Verdict}
+use Rattle.vortex_prune.specs.declared.scan.verdict.Verdict.TheVariants.{Skipped, Tested, Whole}
+use Rattle.vortex_rewrite.specs.Rewriting.Falsifiers.{falsifier, satisfier}
+use Rattle.vortex_rewrite.specs.Rewriting.Predicates.{is_predicate}
+use Rattle.vortex_rewrite.specs.Rewriting.ReadOnce.{is_apart}
+use Rattle.vortex_calls.specs.declared.fault.Fault.{Fault}
+use Rattle.vortex_calls.specs.declared.fault.Refusal.{Refusal}
+use Rattle.vortex_calls.specs.declared.field.Field.{Field}
+use Rattle.vortex_calls.specs.declared.statistic.Statistic.{Statistic}
+use Rattle.vortex_calls.specs.declared.status.Status.TheVariants.{BadFlag, BadLength}
+use Rattle.vortex_calls.specs.declared.table.Known.{Known}
+use Rattle.vortex_calls.specs.Refusals.{followed}
+use Rattle.vortex_calls.specs.Scopes.{predicate_given, scope_given}
+use Rattle.vortex_calls.specs.Statuses.{nowhere, status_number}
+use Rattle.vortex_calls.specs.Tables.{known_zone, sources_given, zones_given}
+
+-- ---- the answers
+
+-- the answer for a zone by a falsifier and a satisfier: 1, to skip it, where the first is true of it by its statistics, else 2, for a whole one, where the second is, else 0, to read it
+abbrev pub answer_by : (falsifier satisfier : Option (Tree Place)) → List Named → ZoneData → ℕ
+answer_by f s scope zone =
+    if proves_of f zone.rows (told_values scope zone) then 1 else (if proves_of s zone.rows (told_values scope zone) then 2 else 0)
+
+-- that for a zone with a verdict
+abbrev pub answer_of : Verdict → ℕ
+answer_of Skipped = 1
+answer_of Whole = 2
+answer_of Tested = 0
+
+-- these are the answers for the rows of a map's table, by a falsifier and a satisfier
+pub record AreRowAnswers (f s : Option (Tree Place)) (m : MapData) (answers : List ℕ) : Type 0 where
+  pub verdicts : List Verdict
+  pub rows : AreRowVerdicts f s m verdicts
+  pub long : length verdicts ≡ length m.rows
+  pub told : answers ≡ map answer_of verdicts
+
+-- by built-in rules under a predicate
+abbrev pub zone_answer : Tree Place → List Named → ZoneData → ℕ
+zone_answer p scope zone = answer_by (falsifier [] p) (satisfier [] p) scope zone
+
+-- that of each zone, in order
+abbrev pub zone_answers : Tree Place → List Named → List ZoneData → List ℕ
+zone_answers p scope zones = map (zone_answer p scope) zones
+
+-- those of zones that may be refused
+abbrev pub table_answers : Tree Place → List Named → Result (List ZoneData) Refusal → Result (List ℕ) Refusal
+table_answers p scope given = followed given (λ zones. Ok (zone_answers p scope zones))
+
+-- some of the zones are answered, and the others stand in a batch behind them
+pub record IsReached (p : Tree Place) (scope : List Named) (zones : List ZoneData) (answers : List ℕ) (batch : List Known) : Type 0 where
+  pub done : List ZoneData
+  pub same : zones ≡ done ++ map known_zone batch
+  pub told : answers ≡ zone_answers p scope done
+
+-- the places of the zones with an answer, ascending
+abbrev pub answered : ℕ → List ℕ → List ℕ
+answered n answers = places_where (λ a. a == n) answers
+
+-- ---- what is asked
+
+-- zones of a scope, the predicate as it was given, and the one that they are pruned by
+pub record Asked : Type 0 where
+  pub scope : List Named
+  pub zones : List ZoneData
+  pub given : Tree Place
+  pub pruned_by : Tree Place
+
+-- whether the flags ask for the normal form
+abbrev pub normalizes : ℕ → Result Bool Refusal
+normalizes flags = if flags == 0 then Ok false else (if flags == 1 then Ok true else Err (nowhere BadFlag))
+
+-- the predicate that zones are pruned by
+abbrev pub pruning_form : Bool → Tree Place → Tree Place
+pruning_form normalized p = if normalized then normal p else p
+
+-- a predicate over a scope that is satisfied by the same rows as p
+pub record IsFormOver (scope : List Named) (p e : Tree Place) : Type 0 where
+  pub plain : IsTrue (is_plain e)
+  pub fits : IsTrue (fits_scope e scope)
+  pub truth : IsTrue (is_predicate e)
+  pub same : Same p e
+
+-- there is a place for each answer, and no other
+abbrev pub with_places : ℕ → List ℕ → Result (Unit {0}) Refusal
+with_places n rows = if n == length rows then Ok tt else Err (nowhere BadLength)
+
+abbrev pub asked_of : List Named → List ℕ → List Statistic → Bool → Tree Place → Result Asked Refusal
+asked_of scope rows stats normalized p =
+    followed (sources_given scope stats) (λ sources. followed (zones_given scope sources rows) (λ zones.
+    Ok (record { scope = scope; zones = zones; given = p; pruned_by = pruning_form normalized p })))
+
+-- what the arguments ask for, or the first of them that is refused: the flags, the room for the answers, the scope, the predicate, the statistics, and their values zone by zone
+abbrev pub asked : List Field → List ℕ → List Statistic → List ℕ → (flags room : ℕ) → Result Asked Refusal
+asked fields rows stats text flags room =
+    followed (normalizes flags) (λ normalized. followed (with_places room rows) (λ there. followed (scope_given fields) (λ scope.
+    followed (predicate_given scope text) (asked_of scope rows stats normalized))))
+
+-- the sets of the zones fit the scope, and both predicates are ones over it, satisfied by the same rows
+pub record IsWellAsked (a : Asked) : Type 0 where
+  pub zones : IsTrue (zones_fit a.scope a.zones)
+  pub plain : IsTrue (is_plain a.given)
+  pub fits : IsTrue (fits_scope a.given a.scope)
+  pub form : IsFormOver a.scope a.given a.pruned_by
+
+-- ---- what a call says
+
+-- each zone has the answer that its statistics prove under the predicate that is pruned by
+abbrev pub answers_of : Asked → List ℕ
+answers_of a = zone_answers a.pruned_by a.scope a.zones
+
+-- why a call was refused but for memory
+abbrev pub IsRefused : Result Asked Refusal → ℕ → Fault → Type 0
+IsRefused (Ok a) result fault = ⊥
+IsRefused (Err r) result fault = (result ≡ status_number r.status) × (fault ≡ r.fault)
+
+-- what a call makes of the answers
+pub record IsPruned (asked : Result Asked Refusal) (old : List ℕ) (result : ℕ) (new : List ℕ) (fault : Fault) : Type 0 where
+  pub answered : result ≡ 0 → IfOk asked (λ a. new ≡ answers_of a)
+  pub answers : result ≡ 0 → IsOk asked
+  pub unchanged : result ≢ 0 → new ≡ old
+  pub refused : result ≢ 0 → result ≢ 4 → IsRefused asked result fault
+
+-- whatever rows stand in a zone of which its statistics are true: none satisfies the predicate as it was given where the answer is 1, and each does where it is 2
+abbrev pub IsSound : List ℕ → Asked → Type 0
+IsSound answers a = IsSoundPruning a.given a.scope a.zones (answered 1 answers) (answered 2 answers)
+
+-- where the ANDs of the predicate that is pruned by are apart, the answer is 1 exactly if no values within a zone's bounds satisfy it, wherever they are known and in order
+abbrev pub IsComplete : List ℕ → Asked → Type 0
+IsComplete answers a = IsTrue (is_apart a.pruned_by) → ZonesSkipExactly a.pruned_by a.zones (answered 1 answers)

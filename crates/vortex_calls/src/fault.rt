@@ -1,0 +1,111 @@
+//! Where a call was refused.
+ghost use Rattle.std.specs.Prelude.{◌≡◌};
+ghost use Rattle.vortex_calls.specs.Statuses.{at_column, at_entry, at_row, in_column, in_zone};
+
+use crate::status::Status;
+use std::alloc::{AllocError, AllocFailed};
+
+/// The place of what was refused: `vortex_fault` of the header.
+#[repr(C)]
+#[derive(Clone, Copy, Debug)]
+pub struct Fault {
+    /// The row of a column of values, or the zone of a table.
+    pub row: usize,
+    /// The column.
+    pub column: usize,
+    /// The statistic, by its place among those that were handed in.
+    pub entry: usize,
+}
+
+/// Why a call was refused, and where.
+#[derive(Clone, Copy, Debug)]
+pub(crate) struct Refusal {
+    pub(crate) status: Status,
+    pub(crate) fault: Fault,
+}
+
+impl Refusal {
+    /// In this row, whatever statistic.
+    pub(crate) fn at_row(status: Status, row: usize) -> Refusal
+        ensures { result ≡ at_row status row }
+    {
+        let fault = Fault {
+            row,
+            column: 0,
+            entry: 0,
+        };
+        Refusal { status, fault }
+    }
+
+    /// In this zone, at this statistic.
+    pub(crate) fn in_zone(status: Status, zone: usize, entry: usize) -> Refusal
+        ensures { result ≡ in_zone zone status entry }
+    {
+        let fault = Fault {
+            row: zone,
+            column: 0,
+            entry,
+        };
+        Refusal { status, fault }
+    }
+
+    /// At this column of a scope.
+    pub(crate) fn at_column(status: Status, column: usize) -> Refusal
+        ensures { result ≡ at_column status column }
+    {
+        let fault = Fault {
+            row: 0,
+            column,
+            entry: 0,
+        };
+        Refusal { status, fault }
+    }
+
+    /// In this zone, at this statistic of a column.
+    pub(crate) fn in_column(status: Status, zone: usize, column: usize, entry: usize) -> Refusal
+        ensures { result ≡ in_column zone column status entry }
+    {
+        let fault = Fault {
+            row: zone,
+            column,
+            entry,
+        };
+        Refusal { status, fault }
+    }
+
+    /// At this statistic, whatever row.
+    pub(crate) fn at_entry(status: Status, entry: usize) -> Refusal
+        ensures { result ≡ at_entry status entry }
+    {
+        let fault = Fault {
+            row: 0,
+            column: 0,
+            entry,
+        };
+        Refusal { status, fault }
+    }
+}
+
+impl From<AllocError> for Refusal {
+    ghost use Rattle.std.specs.Prelude.{◌≡◌};
+    ghost use Rattle.vortex_calls.specs.Statuses.{at_entry};
+    ghost use Rattle.vortex_calls.specs.declared.status.Status.TheVariants.{NoMemory};
+
+    ghost from_gives = { λ _ r. r ≡ at_entry NoMemory 0 };
+
+    fn from(_refused: AllocError) -> Refusal {
+        Refusal::at_entry(Status::NoMemory, 0)
+    }
+}
+
+impl<T: Drop> From<AllocFailed<T>> for Refusal {
+    ghost use Rattle.std.specs.Prelude.{◌≡◌};
+    ghost use Rattle.vortex_calls.specs.Statuses.{at_entry};
+    ghost use Rattle.vortex_calls.specs.declared.status.Status.TheVariants.{NoMemory};
+
+    ghost from_gives = { λ _ r. r ≡ at_entry NoMemory 0 };
+
+    fn from(_refused: AllocFailed<T>) -> Refusal {
+        Refusal::at_entry(Status::NoMemory, 0)
+    }
+}

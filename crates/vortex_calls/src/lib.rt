@@ -1,0 +1,29 @@
+//! The calls of other languages: arrays of bytes and numbers in, arrays out.
+//!
+//! `vortex_ffi` exports them under the names of `callers/c/vortex.h`, which declares what crosses
+//! and says what each call needs. No call keeps anything, and every array is the caller's.
+#![tactic(auto)]
+
+mod answers;
+mod cells;
+pub mod check;
+mod encoding;
+mod extent;
+pub mod fault;
+pub mod field;
+mod given;
+pub mod laws;
+pub mod measure;
+pub mod merge;
+mod named;
+mod number;
+mod numbers;
+mod predicate;
+pub mod prune;
+mod quick;
+mod slots;
+pub mod statistic;
+pub mod status;
+mod table;
+mod types;
+pub mod values;

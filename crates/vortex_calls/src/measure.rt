@@ -1,0 +1,142 @@
+//! The statistics of a column of values.
+ghost use Rattle.std.specs.Prelude.{◌≡◌, IsTrue, Ok};
+ghost use Rattle.std.specs.List.{list_all};
+ghost use Rattle.vortex_base.specs.Data.Columns.{ColumnData};
+ghost use Rattle.vortex_calls.specs.Extents.{IsExtentOf, follows};
+ghost use Rattle.vortex_calls.specs.Measures as spec;
+ghost use Rattle.vortex_calls.specs.Refusals.{Answers};
+ghost use Rattle.vortex_calls.specs.Slots.{IsTold, Makes};
+ghost use Rattle.vortex_stats.specs.Measuring.Told.{exactly};
+
+use crate::extent::{Extent, all_follow};
+use crate::fault::{Fault, Refusal};
+use crate::slots::{Slots, tell};
+use crate::status::Status;
+use crate::values::Values;
+use std::alloc::{AllocError, Global};
+use vortex_base::column::Column;
+use vortex_base::dtype::DType;
+use vortex_base::scalar_value::ScalarValue;
+use vortex_stats::precision::Precision;
+use vortex_stats::stat::Stat;
+use vortex_stats::stats_set::StatsSet;
+
+/// The statistic of a number, if the type has it.
+pub(crate) fn stat_of(dtype: DType, number: u8) -> Result<Stat, Status>
+    ensures { result ≡ spec.stat_of dtype number }
+{
+    let Some(stat) = Stat::from_number(number) else {
+        return Err(Status::BadStat);
+    };
+    match stat.dtype(&dtype) {
+        Some(_) => Ok(stat),
+        None => Err(Status::BadStat),
+    }
+}
+
+// The statistics of the numbers, which the type has.
+fn wanted_of(alloc: Global, dtype: DType, numbers: &[u8]) -> Result<Vec<Stat>, Refusal>
+    ensures { Answers (λ v. v.items) result (spec.wanted_of dtype numbers.now) }
+{
+    let mut wanted = Vec::new(alloc);
+    for entry in 0..numbers.len() {
+        match stat_of(dtype, numbers[entry]) {
+            Ok(stat) => wanted.push(stat)?,
+            Err(status) => return Err(Refusal::at_entry(status, entry)),
+        }
+    }
+    Ok(wanted)
+}
+
+// The wanted statistics of a set of a column of this type.
+fn slots_in(alloc: Global, dtype: DType, set: &StatsSet, wanted: &[Stat]) -> Result<Slots, Refusal>
+    ensures { Makes result (Ok (spec.slots_in dtype set.now wanted.now)) }
+{
+    let mut slots = Slots::new(alloc);
+    for stat in wanted {
+        let Ok(value) = set.get(*stat) else {
+            return Err(Refusal::from(AllocError));
+        };
+        slots.push(dtype, *stat, &value)?;
+    }
+    Ok(slots)
+}
+
+// The statistics of a column.
+fn slots_of(alloc: Global, column: &Column, wanted: &[Stat]) -> Result<Slots, Refusal>
+    ensures { Makes result (Ok (spec.slots_of column.now wanted.now)) }
+{
+    let set = StatsSet::of_column(alloc, column, wanted)?;
+    slots_in(alloc, column.dtype(), &set, wanted)
+}
+
+// Exactly the value, if there is one.
+fn exactly(value: Option<ScalarValue>) -> Precision<ScalarValue>
+    ensures { result ≡ exactly value }
+{
+    match value {
+        Some(value) => Precision::Exact(value),
+        None => Precision::Absent,
+    }
+}
+
+// The statistics of a column of this type, extent and size.
+fn slots_of_extent(
+    alloc: Global,
+    dtype: DType,
+    extent: &Extent,
+    size: u64,
+    wanted: &[Stat],
+) -> Result<Slots, Refusal>
+    requires { IsTrue (list_all follows wanted.now) }
+    ensures { (c : ColumnData) → IsExtentOf extent.now c → c.dtype ≡ dtype → c.size ≡ size
+        → Makes result (Ok (spec.slots_of c wanted.now)) }
+{
+    let mut slots = Slots::new(alloc);
+    for stat in wanted {
+        slots.push(dtype, *stat, &exactly(extent.value(*stat, size)))?;
+    }
+    Ok(slots)
+}
+
+// The statistics of the values that a caller hands in.
+fn measured(alloc: Global, values: &Values<'_>, numbers: &[u8]) -> Result<Slots, Refusal>
+    ensures { Makes result (spec.measured values.now numbers.now) }
+{
+    let dtype = values.dtype()?;
+    let wanted = wanted_of(alloc, dtype, numbers)?;
+    if all_follow(&wanted) {
+        if let Some(extent) = values.extent(dtype) {
+            return slots_of_extent(alloc, dtype, &extent, values.size, &wanted);
+        }
+    }
+    let column = values.column(alloc, dtype)?;
+    slots_of(alloc, &column, &wanted)
+}
+
+/// The statistics of a column of values, `vortex_measure` of the header: for each wanted number how
+/// it is known, and its value's bytes.
+pub fn measure(
+    alloc: Global,
+    column: &Values<'_>,
+    stats: &[u8],
+    known: &mut [u8],
+    ends: &mut [u64],
+    values: &mut [u8],
+    len: &mut usize,
+    fault: &mut Fault,
+) -> u8
+    // The statistics of the column's values stand in the arrays, or the arrays are as they were.
+    ensures { IsTold (spec.measured column.now stats.now)
+        (record { known = known.old; ends = ends.old; values = values.old }) result
+        (record { known = known.new; ends = ends.new; values = values.new }) len.new fault.new }
+{
+    tell(
+        measured(alloc, column, stats),
+        known,
+        ends,
+        values,
+        len,
+        fault,
+    )
+}

@@ -1,0 +1,287 @@
+//! What to do with each zone of a table under a predicate.
+ghost use Rattle.std.specs.Prelude.{◌≡◌, ◌≤◌, [], All, IfErr, IfOk, List, IsTrue, Ok, OnOk, length, map};
+ghost use Rattle.vortex_base.specs.Meanings.Fitting.{fits_scope};
+ghost use Rattle.vortex_base.specs.Trees.Tree.{is_plain};
+ghost use Rattle.vortex_rewrite.specs.Rewriting.Predicates.{is_predicate};
+ghost use Rattle.vortex_calls.specs.NamedStats.{AreProofs};
+ghost use Rattle.vortex_calls.specs.Prunes as spec;
+ghost use Rattle.vortex_calls.specs.Refusals.{Answers, followed};
+ghost use Rattle.vortex_calls.specs.Tables.{IsTypedBy, known_zone, zones_given};
+ghost use Rattle.vortex_calls.specs.declared.status.Status.TheVariants.{NoMemory};
+ghost use Rattle.vortex_prune.specs.Part.{ZoneData, zones_fit};
+ghost use Rattle.vortex_prune.specs.Zones.{IsMapOf};
+
+use crate::fault::{Fault, Refusal};
+use crate::field::{Field, columns_given};
+use crate::named::Proofs;
+use crate::predicate::predicate_given;
+use crate::quick::quick_answers;
+use crate::statistic::Statistic;
+use crate::status::Status;
+use crate::table::{Known, Source, sources_given, zone_at};
+use std::alloc::{AllocError, Global};
+use vortex_base::bound_expression::BoundExpression;
+use vortex_base::scope::Scope;
+use vortex_normal::normalize::normalize;
+use vortex_prune::{Zone, ZoneMap};
+use vortex_stats::StatsError;
+
+// How many sets are made at once, beside those of one zone. Each takes some 500 bytes.
+const BATCH_SETS: usize = 1024;
+
+// Whether the flags ask for the normal form.
+fn normalizes(flags: u8) -> Result<bool, Refusal>
+    ensures { result ≡ spec.normalizes flags }
+{
+    match flags {
+        0 => Ok(false),
+        1 => Ok(true),
+        _ => Err(Refusal::at_entry(Status::BadFlag, 0)),
+    }
+}
+
+// The zones, as the library takes them.
+fn zones_of<'a>(alloc: Global, batch: &'a [Known]) -> Result<Vec<Zone<'a>>, AllocError>
+    ensures { IfOk result (λ v. v.items ≡ map known_zone batch.now) }
+{
+    let mut zones = Vec::with_capacity(alloc, batch.len())?;
+    for known in batch {
+        zones.push(Zone::new(known.rows, &known.sets))?;
+    }
+    Ok(zones)
+}
+
+// Their map.
+fn map_of(alloc: Global, scope: &Scope, batch: &[Known]) -> Result<ZoneMap, AllocError>
+    requires { IsTrue (zones_fit scope.now (map known_zone batch.now)) }
+    ensures scoped { IfOk result (λ made. made.scope ≡ scope.now) }
+    ensures is_map { IfOk result (IsMapOf (map known_zone batch.now)) }
+{
+    let zones = zones_of(alloc, batch)?;
+    let scope = scope.try_clone()?;
+    match ZoneMap::try_new(alloc, scope, &zones) {
+        Ok(map) => Ok(map),
+        Err(refused) => match refused.error {
+            StatsError::Memory(refused) => Err(refused),
+            _ => unreachable!(),
+        },
+    }
+}
+
+// The answers for some zones.
+fn batch_answers(
+    alloc: Global,
+    scope: &Scope,
+    proofs: &Proofs<'_>,
+    batch: &[Known],
+) -> Result<Vec<u8>, AllocError>
+    requires proofs { AreProofs proofs.now }
+    requires zones { IsTrue (zones_fit scope.now (map known_zone batch.now)) }
+    ensures { IfOk result (λ v. v.items
+        ≡ spec.zone_answers proofs.now.predicate.now scope.now (map known_zone batch.now)) }
+{
+    let map = map_of(alloc, scope, batch)?;
+    match proofs.answers(alloc, &map) {
+        Ok(answers) => Ok(answers),
+        Err(fault) => match fault {
+            StatsError::Memory(refused) => Err(refused),
+            _ => unreachable!(),
+        },
+    }
+}
+
+// Adds the answers for the zones of a batch, once it has so many, and empties it.
+fn flush(
+    alloc: Global,
+    scope: &Scope,
+    proofs: &Proofs<'_>,
+    size: usize,
+    batch: &mut Vec<Known>,
+    answers: &mut Vec<u8>,
+) -> Result<(), AllocError>
+    requires proofs { AreProofs proofs.now }
+    requires zones { IsTrue (zones_fit scope.now (map known_zone batch.old.items)) }
+    ensures reached { let p = proofs.now.predicate.now in OnOk result ((zones : List ZoneData)
+        → spec.IsReached p scope.now zones answers.old.items batch.old.items
+        → spec.IsReached p scope.now zones answers.new.items batch.new.items) }
+    ensures zones { OnOk result (IsTrue (zones_fit scope.now (map known_zone batch.new.items))) }
+    ensures emptied { OnOk result (size ≤ length batch.old.items → batch.new.items ≡ []) }
+{
+    if batch.len() < size {
+        return Ok(());
+    }
+    let more = batch_answers(alloc, scope, proofs, batch)?;
+    answers.extend_from_slice(&more)?;
+    batch.clear();
+    Ok(())
+}
+
+// The answers for the zones of a table, by a set for each column of a zone.
+fn set_answers(
+    alloc: Global,
+    scope: &Scope,
+    proofs: &Proofs<'_>,
+    sources: &[Source<'_>],
+    rows: &[u64],
+) -> Result<Vec<u8>, Refusal>
+    requires proofs { AreProofs proofs.now }
+    requires typed { All (IsTypedBy scope.now) sources.now }
+    ensures read { let p = proofs.now.predicate.now in Answers (λ v. v.items) result
+        (spec.table_answers p scope.now (zones_given scope.now sources.now rows.now)) }
+    ensures zones { IfOk result (λ v. IfOk (zones_given scope.now sources.now rows.now)
+        (λ zones. IsTrue (zones_fit scope.now zones))) }
+    ensures long { IfOk result (λ v. length v.items ≡ length rows.now) }
+{
+    let size = 1 + BATCH_SETS / scope.len().max(1);
+    let mut answers = Vec::with_capacity(alloc, rows.len())?;
+    let mut batch = Vec::new(alloc);
+    for zone in 0..rows.len() {
+        let known = zone_at(alloc, scope, sources, rows, zone)?;
+        batch.push(known)?;
+        flush(alloc, scope, proofs, size, &mut batch, &mut answers)?;
+    }
+    flush(alloc, scope, proofs, 0, &mut batch, &mut answers)?;
+    Ok(answers)
+}
+
+// The answers for the zones of a table: by maps that are filled from the arrays, and where anything
+// is refused there by sets, which tell its place.
+fn table_answers(
+    alloc: Global,
+    scope: &Scope,
+    predicate: &BoundExpression,
+    sources: &[Source<'_>],
+    rows: &[u64],
+) -> Result<Vec<u8>, Refusal>
+    requires predicate { IsTrue (is_predicate predicate.now) }
+    requires typed { All (IsTypedBy scope.now) sources.now }
+    ensures read { Answers (λ v. v.items) result (spec.table_answers predicate.now scope.now
+        (zones_given scope.now sources.now rows.now)) }
+    ensures zones { IfOk result (λ v. IfOk (zones_given scope.now sources.now rows.now)
+        (λ zones. IsTrue (zones_fit scope.now zones))) }
+    ensures long { IfOk result (λ v. length v.items ≡ length rows.now) }
+{
+    let proofs = Proofs::of_predicate(alloc, predicate)?;
+    match quick_answers(alloc, scope, &proofs, sources, rows) {
+        Some(answers) => Ok(answers),
+        None => set_answers(alloc, scope, &proofs, sources, rows),
+    }
+}
+
+// The predicate that zones are pruned by.
+fn pruning_form(
+    alloc: Global,
+    scope: &Scope,
+    predicate: BoundExpression,
+    normalized: bool,
+) -> Result<BoundExpression, Refusal>
+    requires plain { IsTrue (is_plain predicate) }
+    requires fits { IsTrue (fits_scope predicate scope.now) }
+    requires predicate { IsTrue (is_predicate predicate) }
+    ensures form { IfOk result (λ e. e ≡ spec.pruning_form normalized predicate) }
+    ensures over { IfOk result (spec.IsFormOver scope.now predicate) }
+    ensures memory { IfErr result (λ refusal. refusal.status ≡ NoMemory) }
+{
+    if !normalized {
+        return Ok(predicate);
+    }
+    match normalize(alloc, &predicate) {
+        Ok(normal) => Ok(normal),
+        Err(fault) => match fault {
+            StatsError::Memory(refused) => Err(Refusal::from(refused)),
+            _ => unreachable!(),
+        },
+    }
+}
+
+// The answers for the zones of a scope under a predicate.
+fn scope_answers(
+    alloc: Global,
+    scope: &Scope,
+    predicate: BoundExpression,
+    rows: &[u64],
+    stats: &[Statistic<'_>],
+    normalized: bool,
+) -> Result<Vec<u8>, Refusal>
+    requires plain { IsTrue (is_plain predicate) }
+    requires fits { IsTrue (fits_scope predicate scope.now) }
+    requires predicate { IsTrue (is_predicate predicate) }
+    ensures read { Answers (λ v. v.items) result (followed
+        (spec.asked_of scope.now rows.now stats.now normalized predicate)
+        (λ a. Ok (spec.answers_of a))) }
+    ensures well { IfOk result (λ v.
+        IfOk (spec.asked_of scope.now rows.now stats.now normalized predicate)
+        spec.IsWellAsked) }
+    ensures long { IfOk result (λ v. length v.items ≡ length rows.now) }
+{
+    let sources = sources_given(alloc, scope, stats)?;
+    let form = pruning_form(alloc, scope, predicate, normalized)?;
+    table_answers(alloc, scope, &form, &sources, rows)
+}
+
+// The answers that the arguments ask for.
+fn answers_given(
+    alloc: Global,
+    fields: &[Field<'_>],
+    rows: &[u64],
+    stats: &[Statistic<'_>],
+    text: &[u8],
+    flags: u8,
+    room: usize,
+) -> Result<Vec<u8>, Refusal>
+    ensures read { Answers (λ v. v.items) result (followed
+        (spec.asked fields.now rows.now stats.now text.now flags room)
+        (λ a. Ok (spec.answers_of a))) }
+    ensures well { IfOk result (λ v.
+        IfOk (spec.asked fields.now rows.now stats.now text.now flags room) spec.IsWellAsked) }
+    ensures long { IfOk result (λ v. length v.items ≡ room) }
+{
+    let normalized = normalizes(flags)?;
+    if room != rows.len() {
+        return Err(Refusal::at_entry(Status::BadLength, 0));
+    }
+    let columns = columns_given(alloc, fields)?;
+    let predicate = predicate_given(alloc, &columns, text)?;
+    let scope = Scope::new_unchecked(columns.into_vec()).try_shared(alloc)?;
+    scope_answers(alloc, &scope, predicate, rows, stats, normalized)
+}
+
+/// What to do with each zone of a table under a predicate, `vortex_prune` of the header.
+pub fn prune(
+    alloc: Global,
+    scope: &[Field<'_>],
+    rows: &[u64],
+    stats: &[Statistic<'_>],
+    predicate: &[u8],
+    flags: u8,
+    answers: &mut [u8],
+    fault: &mut Fault,
+) -> u8
+    // The answer that the statistics of each zone prove, or the arrays are as they were.
+    ensures answers { let asked =
+        spec.asked scope.now rows.now stats.now predicate.now flags (length answers.old) in
+        spec.IsPruned asked answers.old result answers.new fault.new }
+    // A place is told where the call is refused.
+    ensures told { result ≡ 0 → fault.new ≡ fault.old }
+    // Whatever rows a zone holds, if its statistics are true of them: of a skipped zone none
+    // satisfies the predicate as it was given, and of a whole one each does.
+    ensures sound { let asked =
+        spec.asked scope.now rows.now stats.now predicate.now flags (length answers.old) in
+        result ≡ 0 → IfOk asked (spec.IsSound answers.new) }
+    // Where the ANDs of the predicate that is pruned by are apart, a zone is skipped exactly if no
+    // values within its bounds satisfy it.
+    ensures complete { let asked =
+        spec.asked scope.now rows.now stats.now predicate.now flags (length answers.old) in
+        result ≡ 0 → IfOk asked (spec.IsComplete answers.new) }
+{
+    match answers_given(alloc, scope, rows, stats, predicate, flags, answers.len()) {
+        Ok(found) => {
+            answers.copy_from_slice(&found);
+            0
+        }
+        Err(refusal) => {
+            *fault = refusal.fault;
+            refusal.status.number()
+        }
+    }
+}

@@ -1,6 +1,0 @@
-use Rattle.std.proofs.lemmas.List.{map-append}
-use Rattle.vortex_ffi.specs.Prunes.{zone_answer}
-use Rattle.vortex_ffi.proofs.laws.pieces_answer_alike.Goals as goal
-
-pub returns : goal.returns
-returns c = λ p scope zones more. map-append (zone_answer p scope) zones more

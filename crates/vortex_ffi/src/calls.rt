@@ -1,0 +1,112 @@
+//! The calls over columns, statistics and tables, under the names of the header.
+ghost use Rattle.std.specs.Prelude.{◌≡◌, IfOk, length};
+ghost use Rattle.vortex_calls.specs.Checks as checks;
+ghost use Rattle.vortex_calls.specs.Measures.{measured};
+ghost use Rattle.vortex_calls.specs.Merges.{merged};
+ghost use Rattle.vortex_calls.specs.Prunes as prunes;
+ghost use Rattle.vortex_calls.specs.Slots.{IsTold};
+ghost use Rattle.vortex_calls.specs.Values.{given_column};
+
+use std::alloc::Global;
+use vortex_calls::check::check;
+use vortex_calls::fault::Fault;
+use vortex_calls::field::Field;
+use vortex_calls::measure::measure;
+use vortex_calls::merge::merge;
+use vortex_calls::prune::prune;
+use vortex_calls::statistic::Statistic;
+use vortex_calls::values::Values;
+
+/// Whether each statistic is true of a column's values in a zone, `vortex_check` of the header.
+#[unsafe(no_mangle)]
+pub extern "C" fn vortex_check(
+    alloc: Global,
+    column: &Values<'_>,
+    stats: &[Statistic<'_>],
+    zone: usize,
+    fault: &mut Fault,
+) -> u8
+    // Each is true, or the first that isn't or that is refused is told.
+    ensures { checks.IsTold (given_column column.now) zone stats.now result fault.new }
+{
+    check(alloc, column, stats, zone, fault)
+}
+
+/// The statistics of a column of values, `vortex_measure` of the header: for each wanted number how
+/// it is known, and its value's bytes.
+#[unsafe(no_mangle)]
+pub extern "C" fn vortex_measure(
+    alloc: Global,
+    column: &Values<'_>,
+    stats: &[u8],
+    known: &mut [u8],
+    ends: &mut [u64],
+    values: &mut [u8],
+    len: &mut usize,
+    fault: &mut Fault,
+) -> u8
+    // The statistics of the column's values stand in the arrays, or the arrays are as they were.
+    ensures { IsTold (measured column.now stats.now)
+        (record { known = known.old; ends = ends.old; values = values.old }) result
+        (record { known = known.new; ends = ends.new; values = values.new }) len.new fault.new }
+{
+    measure(alloc, column, stats, known, ends, values, len, fault)
+}
+
+/// The statistics of chunks, each a chunk of the left table followed by that of the right one in
+/// the same zone, `vortex_merge` of the header.
+#[unsafe(no_mangle)]
+pub extern "C" fn vortex_merge(
+    alloc: Global,
+    kind: u8,
+    nullable: u8,
+    zones: usize,
+    left: &[Statistic<'_>],
+    right: &[Statistic<'_>],
+    known: &mut [u8],
+    ends: &mut [u64],
+    values: &mut [u8],
+    len: &mut usize,
+    fault: &mut Fault,
+) -> u8
+    // The merged statistics stand in the arrays, or the arrays are as they were.
+    ensures { IsTold (merged kind nullable zones left.now right.now)
+        (record { known = known.old; ends = ends.old; values = values.old }) result
+        (record { known = known.new; ends = ends.new; values = values.new }) len.new fault.new }
+{
+    merge(
+        alloc, kind, nullable, zones, left, right, known, ends, values, len, fault,
+    )
+}
+
+/// What to do with each zone of a table under a predicate, `vortex_prune` of the header.
+#[unsafe(no_mangle)]
+pub extern "C" fn vortex_prune(
+    alloc: Global,
+    scope: &[Field<'_>],
+    rows: &[u64],
+    stats: &[Statistic<'_>],
+    predicate: &[u8],
+    flags: u8,
+    answers: &mut [u8],
+    fault: &mut Fault,
+) -> u8
+    // The answer that the statistics of each zone prove, or the arrays are as they were.
+    ensures answers { let asked =
+        prunes.asked scope.now rows.now stats.now predicate.now flags (length answers.old) in
+        prunes.IsPruned asked answers.old result answers.new fault.new }
+    // A place is told where the call is refused.
+    ensures told { result ≡ 0 → fault.new ≡ fault.old }
+    // Whatever rows a zone holds, if its statistics are true of them: of a skipped zone none
+    // satisfies the predicate as it was given, and of a whole one each does.
+    ensures sound { let asked =
+        prunes.asked scope.now rows.now stats.now predicate.now flags (length answers.old) in
+        result ≡ 0 → IfOk asked (prunes.IsSound answers.new) }
+    // Where the ANDs of the predicate that is pruned by are apart, a zone is skipped exactly if no
+    // values within its bounds satisfy it.
+    ensures complete { let asked =
+        prunes.asked scope.now rows.now stats.now predicate.now flags (length answers.old) in
+        result ≡ 0 → IfOk asked (prunes.IsComplete answers.new) }
+{
+    prune(alloc, scope, rows, stats, predicate, flags, answers, fault)
+}
