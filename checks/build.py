@@ -25,8 +25,8 @@ SOURCES = ("src", "specs", "proofs")
 BESIDE = os.path.join(TOP, "out", "beside")
 # What the proofs of vortex_scan take on one processor, of which several do up to twice the minutes since crates wait for those
 # below them; and the memory that each of several processes takes.
-MINUTES = 75
-BYTES_A_JOB = 1_500_000_000
+MINUTES = 60
+BYTES_A_JOB = 1_700_000_000
 NOT_BUILT = 70
 # How often a line is written where standard error is no terminal.
 SECONDS_A_LINE = 30
@@ -164,19 +164,20 @@ class Progress:
 
 
 def build(crates, jobs, progress):
-    """Proves and builds each crate once those below it are built, at most two at a time. Returns the run that failed, if one did."""
-    runs, done = [], []
+    """Proves and builds each crate once those below it are built. Returns the run that failed, if one did.
+
+    At most two are proved at a time, each with as many jobs as one alone has, since one leaves processors idle now and then.
+    """
+    runs, done, room = [], [], free_bytes()
     try:
         while len(done) < len(crates):
             ready = [it for it in crates if it not in done and it not in [run.name for run in runs] and set(crates[it]) <= set(done)]
             for name in ready:
-                is_shared = len(ready) + len(runs) > 1
-                share = jobs // 2 + 1 if is_shared else jobs
-                if len(runs) == 0 or len(runs) == 1 and free_bytes() > 2 * (share + 1) * BYTES_A_JOB:
+                if not runs or len(runs) == 1 and room >= 2 * (jobs + 1) * BYTES_A_JOB:
                     is_beside = any(run.top == TOP for run in runs)
                     if is_beside:
                         put_beside(crates, name)
-                    runs.append(Run(name, BESIDE if is_beside else TOP, share))
+                    runs.append(Run(name, BESIDE if is_beside else TOP, jobs))
             time.sleep(0.2)
             for run in [it for it in runs if it.process.poll() is not None]:
                 if not run.is_built():
@@ -209,8 +210,12 @@ def alone():
         yield
 
 
+def processors():
+    return len(os.sched_getaffinity(0))
+
+
 def jobs_that_fit():
-    return int(max(1, min(len(os.sched_getaffinity(0)), free_bytes() // BYTES_A_JOB - 1)))
+    return int(max(1, min(processors(), free_bytes() // BYTES_A_JOB - 1)))
 
 
 def are_built(crates, jobs):

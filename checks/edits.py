@@ -26,8 +26,9 @@ sys.dont_write_bytecode = True
 import build
 
 TOP = build.TOP
-# What a check of a crate takes at most, of which one runs for each crate that is tried.
-BYTES_A_CRATE = 4_000_000_000
+# How many edits of a crate are tried side by side, by kits that do so, and the memory that they take at most.
+JOBS_A_CRATE = 2
+BYTES_A_CRATE = 5_000_000_000
 
 
 def named_goals():
@@ -56,13 +57,15 @@ def fault_of(goal, told):
     return None
 
 
-def hand_over(seed, to, run):
-    """Moves what a build kept to the folder that `rt must-fail` makes for what its checks keep, so that its first one needn't prove all anew."""
+def hand_over(kept, to, run):
+    """Gives what a build kept to the folder that `rt must-fail` makes for what its checks keep, so that its first one needn't prove all anew.
+
+    Kits that begin with what stands in the crate's own `out` take it from there.
+    """
     while run.poll() is None:
         for made in os.listdir(to):
             if made.startswith("rt-edits-"):
-                for it in os.listdir(seed):
-                    os.rename(f"{seed}/{it}", f"{to}/{made}/{it}")
+                shutil.copytree(kept, f"{to}/{made}", copy_function=build.link, dirs_exist_ok=True)
                 return
         time.sleep(0.05)
 
@@ -92,11 +95,13 @@ class Crate:
             os.mkdir(f"{room}/crates/{self.name}/must-fail")
             for it in self.left:
                 shutil.copy2(self.edits[it], f"{room}/crates/{self.name}/must-fail/{it}")
-            shutil.copytree(f"{TOP}/crates/{self.name}/out/incremental", f"{room}/kept")
+            kept = f"{room}/crates/{self.name}/out/incremental"
+            shutil.copytree(f"{TOP}/crates/{self.name}/out/incremental", kept)
             os.mkdir(f"{room}/tmp")
-            how = {"stdin": subprocess.DEVNULL, "stdout": subprocess.PIPE, "stderr": subprocess.STDOUT, "env": {**os.environ, "TMPDIR": f"{room}/tmp"}}
+            own = {"TMPDIR": f"{room}/tmp", "RT_JOBS": str(JOBS_A_CRATE)}
+            how = {"stdin": subprocess.DEVNULL, "stdout": subprocess.PIPE, "stderr": subprocess.STDOUT, "env": {**os.environ, **own}}
             with subprocess.Popen(["rt", "must-fail", self.name], cwd=room, text=True, **how) as run:
-                hand_over(f"{room}/kept", f"{room}/tmp", run)
+                hand_over(kept, f"{room}/tmp", run)
                 said = run.communicate()[0]
         told = dict(re.findall(rf"^(?:rt: )?must-fail {self.name}/(\S+\.edit): (.*)$", said, re.M))
         faults = {it: fault_of(self.goals[it], told.get(it)) for it in self.left}
@@ -110,7 +115,7 @@ class Crate:
 
 
 def processes_that_fit():
-    return int(max(1, min(len(os.sched_getaffinity(0)), build.free_bytes() // BYTES_A_CRATE)))
+    return int(max(1, min(build.processors(), build.free_bytes() // BYTES_A_CRATE)))
 
 
 def main():
