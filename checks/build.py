@@ -24,9 +24,10 @@ SOURCES = ("src", "specs", "proofs")
 # The top of copies of crates, to prove one beside another: only one `rt` at a time works in a crate's folder and in those below it.
 BESIDE = os.path.join(TOP, "out", "beside")
 # What the proofs of vortex_scan take on one processor, of which several do up to twice the minutes since crates wait for those
-# below them; and the memory that each of several processes takes.
+# below them; and the memory that a crate takes, and with each more of the processes that prove its functions.
 MINUTES = 60
-BYTES_A_JOB = 1_700_000_000
+BYTES_A_CRATE = 3_000_000_000
+BYTES_A_JOB = 700_000_000
 NOT_BUILT = 70
 # How often a line is written where standard error is no terminal.
 SECONDS_A_LINE = 30
@@ -173,7 +174,7 @@ def build(crates, jobs, progress):
         while len(done) < len(crates):
             ready = [it for it in crates if it not in done and it not in [run.name for run in runs] and set(crates[it]) <= set(done)]
             for name in ready:
-                if not runs or len(runs) == 1 and room >= 2 * (jobs + 1) * BYTES_A_JOB:
+                if not runs or len(runs) == 1 and room >= 2 * (BYTES_A_CRATE + jobs * BYTES_A_JOB):
                     is_beside = any(run.top == TOP for run in runs)
                     if is_beside:
                         put_beside(crates, name)
@@ -215,7 +216,8 @@ def processors():
 
 
 def jobs_that_fit():
-    return int(max(1, min(processors(), free_bytes() // BYTES_A_JOB - 1)))
+    """How many processes prove a crate's functions: two for each processor, since a wave of functions ends with the slowest, if memory holds them."""
+    return int(max(1, min(2 * processors(), (free_bytes() - BYTES_A_CRATE) // BYTES_A_JOB)))
 
 
 def are_built(crates, jobs):
@@ -233,9 +235,10 @@ def built(name):
         if os.access(program, os.X_OK) and text_of(f"{program}.sum") == sum_of(crates, program):
             return program
         jobs = jobs_that_fit()
+        used = min(jobs, processors())
         print(
-            f"proving: {name} is proved before it runs. From nothing that takes {MINUTES // jobs} to {2 * MINUTES // jobs} minutes"
-            f" on {jobs} processors; an interrupted run goes on where it was.",
+            f"proving: {name} is proved before it runs. From nothing that takes {MINUTES // used} to {2 * MINUTES // used} minutes"
+            f" on {used} processors; an interrupted run goes on where it was.",
             file=sys.stderr,
             flush=True,
         )
