@@ -10,7 +10,6 @@ pub mod OrderLemmas
 pub mod PairLemmas
 pub mod PushLemmas
 pub mod RowLemmas
-pub mod RowsFit
 pub mod ScopeLemmas
 pub mod TextLemmas
 pub mod TextOrder

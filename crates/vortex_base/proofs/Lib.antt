@@ -1,5 +1,3 @@
 -- Lemmas, and worked rows of the definitions.
 pub mod Data
-pub mod Meanings
-pub mod Patterns
 pub mod WorkedRows

@@ -1,8 +1,6 @@
 -- What a call that checks first and then takes memory answers.
 use Rattle.std.specs.Prelude.{◌≡◌, Result, Ok, Err}
 use Rattle.vortex_base.specs.declared.error.BaseError.{BaseError}
-use Rattle.vortex_base.specs.Trees.Tree.{Tree, Place}
-use Rattle.vortex_base.specs.Meanings.Typing.{type_of}
 pub use Rattle.vortex_base.specs.Made.{Makes}
 
 -- the check's fault, or else this value, unless memory was refused
@@ -14,7 +12,3 @@ Answers (Ok a) v r = Makes v r
 abbrev pub Gives : {B : Type 0} → Result B BaseError → Result B BaseError → Type 0
 Gives (Err f) r = r ≡ Err f
 Gives (Ok v) r = Makes v r
-
--- this typed tree, if the typing table gives it a type, and else its fault
-abbrev pub Builds : Tree Place → Result (Tree Place) BaseError → Type 0
-Builds e r = Answers (type_of e) e r

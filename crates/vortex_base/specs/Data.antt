@@ -14,6 +14,7 @@ pub mod Pairs
 pub mod Repeated
 pub mod Scalars
 pub mod Scopes
+pub mod States
 pub mod Texts
 pub mod Types
 pub mod Values

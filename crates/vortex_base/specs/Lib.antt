@@ -2,8 +2,5 @@
 pub mod Answer
 pub mod Data
 pub mod Made
-pub mod Meanings
-pub mod Patterns
 pub mod Reading
-pub mod Trees
 pub mod Worked

@@ -1,6 +1,6 @@
 //! The aggregates that a placeholder can ask for, and the types of their states.
 ghost use Rattle.std.specs.Prelude.{◌≡◌};
-ghost use Rattle.vortex_base.specs.Meanings.Typing as table;
+ghost use Rattle.vortex_base.specs.Data.States as table;
 
 use crate::dtype::DType;
 use crate::types::{Element, Nullability, PType};
@@ -29,7 +29,7 @@ pub enum AggregateFnRef {
 }
 
 impl AggregateFnRef {
-    ghost use Rattle.vortex_base.specs.Meanings.Typing.{state_dtype};
+    ghost use Rattle.vortex_base.specs.Data.States.{state_dtype};
 
     /// The type of the aggregate's state over an input of this type, or `None` where it does not
     /// support the type.

@@ -1,25 +1,14 @@
 //! Laws of this layer, in the words of its definitions. The functions carry them by their
 //! contracts.
 ghost use Rattle.std.specs.Prelude.{◌≡◌, ◌↔◌, IfOk, IsTrue};
-ghost use Rattle.std.specs.Str.{chars};
 ghost use Rattle.vortex_base.specs.Worked.Examples.{TypeExamples, ValueExamples, OrderExamples};
 ghost use Rattle.vortex_base.specs.Worked.Examples.{ScopeExamples, ChunkExamples};
 ghost use Rattle.vortex_base.specs.Worked.KeptExamples.{BlobExamples, CellExamples, NativeExamples};
-ghost use Rattle.vortex_base.specs.Worked.ExpressionExamples.{LikeExamples, TypingExamples};
-ghost use Rattle.vortex_base.specs.Worked.ExpressionExamples.{AggregateExamples, BindingExamples};
-ghost use Rattle.vortex_base.specs.Worked.ExpressionExamples.{MeaningExamples};
-ghost use Rattle.vortex_base.specs.Meanings.Fitting.{RowsFit, RowsMatch};
-ghost use Rattle.vortex_base.specs.Meanings.Meaning.{MeaningFits, MeaningIsTyped};
-ghost use Rattle.vortex_base.specs.Meanings.Meaning.{NullOnlyWhereNullable};
 ghost use Rattle.vortex_base.specs.Data.Orders.{ValuesAreOrdered, NumbersAreOrdered, pvalue_cmp};
-ghost use Rattle.vortex_base.specs.Patterns.Prefix.{AreBelowSuccessor};
 ghost use Rattle.vortex_base.specs.Data.Values.{value_cmp};
 
-use crate::bound_expression::BoundExpression;
 use crate::bytes::Bytes;
-use crate::chunk::Chunk;
 use crate::pvalue::PValue;
-use crate::row::Row;
 use crate::scalar_value::ScalarValue;
 use crate::text::Text;
 use std::alloc::AllocError;
@@ -50,11 +39,6 @@ pub fn numbers_compare(left: PValue, right: PValue) -> (Ordering, bool)
 {
     (left.cmp(&right), left == right)
 }
-
-/// Each text that begins with a text is below that text's successor, where it has one.
-pub fn texts_are_below_successors(beginning: &str)
-    ensures { AreBelowSuccessor (chars beginning.now) }
-{}
 
 /// A clone in generic code equals its source, where the type's clones do.
 pub fn clone_of<T: Clone>(source: &T) -> Result<T, AllocError>
@@ -100,32 +84,4 @@ pub fn kept_examples_hold()
     ensures natives { NativeExamples }
     ensures blobs { BlobExamples }
     ensures cells { CellExamples }
-{}
-
-/// Worked cases of the definitions of expressions: LIKE, typing, binding and meaning.
-pub fn expression_examples_hold()
-    ensures like { LikeExamples }
-    ensures typing { TypingExamples }
-    ensures aggregates { AggregateExamples }
-    ensures binding { BindingExamples }
-    ensures meaning { MeaningExamples }
-{}
-
-/// The value of an expression on a row that it fits is of the expression's type, or null.
-pub fn meaning_fits(expression: &BoundExpression, row: &Row<'_>, row_count: u64)
-    ensures { MeaningFits expression.now row.now row_count }
-{}
-
-/// On a row that has the very types of an expression's columns, its value is of the expression's
-/// type, and null only where that type has null.
-pub fn meaning_is_typed(expression: &BoundExpression, row: &Row<'_>, row_count: u64)
-    ensures typed { MeaningIsTyped expression.now row.now row_count }
-    ensures null { NullOnlyWhereNullable expression.now row.now row_count }
-{}
-
-/// An expression that fits the scope of a chunk fits each of its rows, which have the very types of
-/// its columns.
-pub fn rows_fit(expression: &BoundExpression, chunk: &Chunk, i: usize)
-    ensures fit { RowsFit expression.now chunk.now i }
-    ensures matched { RowsMatch expression.now chunk.now i }
 {}

@@ -1,11 +1,8 @@
-//! Types, values, columns and typed expressions, and what an expression means on a row.
+//! Types, values, columns, scopes and chunks.
 #![tactic(auto)]
 
 pub mod aggregate;
-mod bind;
 pub mod blobs;
-pub mod bound;
-pub mod bound_expression;
 pub mod bytes;
 pub mod cells;
 pub mod chunk;
@@ -13,13 +10,8 @@ pub mod column;
 pub mod constant_array;
 pub mod dtype;
 pub mod error;
-pub mod evaluate;
-pub mod expr;
-pub mod expression;
 pub mod from_scalar;
 pub mod laws;
-pub mod like;
-pub mod like_pattern;
 pub mod native;
 pub mod natives;
 pub mod nulls;
@@ -31,13 +23,10 @@ pub mod scope;
 pub mod text;
 pub mod texts;
 pub mod types;
-mod typing;
 pub mod value_ref;
 
 pub use aggregate::AggregateFnRef;
 pub use blobs::{Blobs, BytesRef};
-pub use bound_expression::BoundExpression;
-pub use bound_expression::parts::Parts;
 pub use bytes::Bytes;
 pub use cells::Cells;
 pub use chunk::Chunk;
@@ -45,10 +34,7 @@ pub use column::Column;
 pub use constant_array::ConstantArray;
 pub use dtype::DType;
 pub use error::BaseError;
-pub use expression::Expression;
 pub use from_scalar::FromScalar;
-pub use like::LikeOptions;
-pub use like_pattern::LikePattern;
 pub use native::Native;
 pub use natives::Natives;
 pub use nulls::Nulls;
@@ -59,5 +45,5 @@ pub use scalar_value::ScalarValue;
 pub use scope::Scope;
 pub use text::Text;
 pub use texts::{TextRef, Texts};
-pub use types::{BetweenOptions, Nullability, Operator, PType, ScalarFnId, StrictComparison};
+pub use types::{Nullability, PType};
 pub use value_ref::ValueRef;

@@ -5,7 +5,7 @@ ghost use Rattle.vortex_base.specs.Made.{Makes};
 ghost use Rattle.vortex_base.specs.Data.Exact.{exact_equivalence};
 ghost use Rattle.vortex_base.specs.Data.Types.{is_nullable};
 ghost use Rattle.vortex_base.specs.Data.Scalars.{constant_eq, constant_eq_is_exact, constant_of, null_of, IsConstant};
-ghost use Rattle.vortex_base.specs.Meanings.Meaning.{is_long};
+ghost use Rattle.vortex_base.specs.Data.Scalars.{is_long};
 
 use crate::dtype::DType;
 use crate::error::BaseError;

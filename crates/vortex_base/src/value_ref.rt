@@ -3,7 +3,7 @@ ghost use Rattle.std.specs.Prelude.{◌≡◌, IfOk, IsTrue, OnErr, Some, option
 ghost use Rattle.vortex_base.specs.Data.Cells.{value_of};
 ghost use Rattle.vortex_base.specs.Data.Scalars.{is_optional_value};
 ghost use Rattle.vortex_base.specs.Data.Values.{is_value, kind_index, value_cmp};
-ghost use Rattle.vortex_base.specs.Meanings.Meaning.{is_long};
+ghost use Rattle.vortex_base.specs.Data.Scalars.{is_long};
 
 use crate::blobs::BytesRef;
 use crate::bytes::Bytes;
@@ -95,9 +95,9 @@ impl<'a> ValueRef<'a> {
     }
 }
 
-// An optional value, lent.
+/// An optional value, lent.
 #[inline]
-pub(crate) fn lend(value: Option<&ScalarValue>) -> Option<ValueRef<'_>>
+pub fn lend(value: Option<&ScalarValue>) -> Option<ValueRef<'_>>
     ensures { option_map value_of result ≡ option_copied value.entry }
 {
     match value {

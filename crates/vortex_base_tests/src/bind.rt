@@ -2,10 +2,8 @@
 use crate::testing::{named, placed, *};
 use std::alloc::Global;
 use std::process::Abort;
-use vortex_base::{
-    AggregateFnRef, BaseError, BetweenOptions, BoundExpression, DType, LikeOptions, Nullability,
-    PType, Row, Scalar, ScalarValue, StrictComparison,
-};
+use vortex_base::{AggregateFnRef, BaseError, DType, Nullability, PType, Row, Scalar, ScalarValue};
+use vortex_expr::{BetweenOptions, BoundExpression, LikeOptions, StrictComparison};
 
 const I64: DType = DType::Primitive(PType::I64, Nullability::NonNullable);
 

@@ -2,11 +2,11 @@
 use crate::testing::{placed, *};
 use std::alloc::Global;
 use std::process::Abort;
-use vortex_base::bound::binary;
-use vortex_base::types::{
-    BetweenOptions, Element, ExprKind, Nullability, Operator, PType, StrictComparison,
-};
-use vortex_base::{AggregateFnRef, BaseError, BoundExpression, DType, ScalarValue};
+use vortex_base::types::{Element, Nullability, PType};
+use vortex_base::{AggregateFnRef, BaseError, DType, ScalarValue};
+use vortex_expr::BoundExpression;
+use vortex_expr::bound::binary;
+use vortex_expr::scalar_fn::{BetweenOptions, ExprKind, Operator, StrictComparison};
 
 const I64: DType = DType::Primitive(PType::I64, Nullability::NonNullable);
 

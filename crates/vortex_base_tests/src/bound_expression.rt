@@ -2,8 +2,9 @@
 use crate::testing::{placed, *};
 use std::alloc::Global;
 use std::process::Abort;
-use vortex_base::types::{BetweenOptions, ExprKind, Operator, ScalarFnId, StrictComparison};
-use vortex_base::{AggregateFnRef, BaseError, BoundExpression, Parts, Scalar, ScalarValue, Scope};
+use vortex_base::{AggregateFnRef, BaseError, Scalar, ScalarValue, Scope};
+use vortex_expr::scalar_fn::{BetweenOptions, ExprKind, Operator, ScalarFnId, StrictComparison};
+use vortex_expr::{BoundExpression, Parts};
 
 const HALF_OPEN: BetweenOptions = BetweenOptions {
     lower_strict: StrictComparison::Strict,

@@ -2,10 +2,8 @@
 use crate::testing::{placed, *};
 use std::alloc::{AllocError, Global};
 use std::process::Abort;
-use vortex_base::{
-    AggregateFnRef, BaseError, BetweenOptions, Chunk, LikeOptions, Row, ScalarValue,
-    StrictComparison,
-};
+use vortex_base::{AggregateFnRef, BaseError, Chunk, Row, ScalarValue};
+use vortex_expr::{BetweenOptions, LikeOptions, StrictComparison};
 
 const OPEN_ABOVE: BetweenOptions = BetweenOptions {
     lower_strict: StrictComparison::NonStrict,

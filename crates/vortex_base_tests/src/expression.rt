@@ -2,9 +2,8 @@
 use crate::testing::{BOOL, I32, Made, UTF8, bound_to_a, expect_same, named, scalar, text_value};
 use std::alloc::Global;
 use std::test::Fail;
-use vortex_base::{
-    AggregateFnRef, BaseError, BetweenOptions, Expression, ScalarValue, StrictComparison,
-};
+use vortex_base::{AggregateFnRef, BaseError, ScalarValue};
+use vortex_expr::{BetweenOptions, Expression, StrictComparison};
 
 const OPEN: BetweenOptions = BetweenOptions {
     lower_strict: StrictComparison::Strict,

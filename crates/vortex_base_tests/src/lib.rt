@@ -1,4 +1,4 @@
-//! Tests of `vortex_base` by its public calls, one module for each of its modules.
+//! Tests of `vortex_base` and `vortex_expr` by their public calls, one module for each of theirs.
 #![tactic(auto)]
 
 #[cfg(test)]

@@ -1,7 +1,7 @@
 //! Tests of LIKE.
 use std::alloc::{AllocError, Global};
 use std::process::Abort;
-use vortex_base::LikeOptions;
+use vortex_expr::LikeOptions;
 
 const PLAIN: LikeOptions = LikeOptions {
     negated: false,

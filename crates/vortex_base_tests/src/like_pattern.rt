@@ -1,8 +1,8 @@
 //! Tests of the beginnings of patterns, and of successors.
 use std::alloc::Global;
 use std::process::Abort;
-use vortex_base::LikePattern;
-use vortex_base::like_pattern::successor;
+use vortex_expr::LikePattern;
+use vortex_expr::like_pattern::successor;
 
 // What each pattern reads as: its prefix, and whether it is exact.
 fn expect_readings(rt: &impl Abort, alloc: Global, cases: &[(&str, &str, bool)]) {

@@ -3,9 +3,10 @@
 use std::alloc::{AllocError, Global};
 use std::process::Abort;
 use vortex_base::{
-    BaseError, BoundExpression, Bytes, Chunk, Column, DType, Expression, Nullability, PType, Row,
-    Scalar, ScalarValue, Scope, Text,
+    BaseError, Bytes, Chunk, Column, DType, Nullability, PType, Row, Scalar, ScalarValue, Scope,
+    Text,
 };
+use vortex_expr::{BoundExpression, Expression};
 
 pub type Built = Result<BoundExpression, BaseError>;
 
@@ -85,7 +86,7 @@ pub fn evaluated(
     row: &Row<'_>,
     rows: u64,
 ) -> Result<Option<ScalarValue>, BaseError> {
-    vortex_base::evaluate::evaluate(x, row, rows)
+    vortex_expr::evaluate::evaluate(x, row, rows)
 }
 
 /// The two are made, and alike.
@@ -96,9 +97,8 @@ pub fn expect_same(rt: &impl Abort, found: Built, expected: Built) {
 /// Expressions over names.
 pub mod named {
     use std::alloc::Global;
-    use vortex_base::{
-        AggregateFnRef, BaseError, BetweenOptions, Expression, LikeOptions, Scalar, expr,
-    };
+    use vortex_base::{AggregateFnRef, BaseError, Scalar};
+    use vortex_expr::{BetweenOptions, Expression, LikeOptions, expr};
 
     pub type Built = Result<Expression, BaseError>;
 
@@ -185,10 +185,8 @@ pub mod named {
 pub mod placed {
     use super::Built;
     use std::alloc::Global;
-    use vortex_base::{
-        AggregateFnRef, BetweenOptions, BoundExpression, DType, LikeOptions, Scalar, ScalarValue,
-        bound,
-    };
+    use vortex_base::{AggregateFnRef, DType, Scalar, ScalarValue};
+    use vortex_expr::{BetweenOptions, BoundExpression, LikeOptions, bound};
 
     pub fn col(alloc: Global, place: usize, dtype: DType) -> Built {
         bound::col(alloc, place, dtype)

@@ -5,7 +5,6 @@ use crate::pruning::{self, REPEATS, ROWS, Size};
 use anyhow::Result;
 use std::alloc::{AllocError, Global};
 use vortex_base::aggregate::AggregateFnRef;
-use vortex_base::bound_expression::BoundExpression;
 use vortex_base::cells::Cells;
 use vortex_base::column::Column;
 use vortex_base::error::BaseError;
@@ -13,6 +12,7 @@ use vortex_base::native::Native;
 use vortex_base::natives::Natives;
 use vortex_base::nulls::Nulls;
 use vortex_base::scope::Scope;
+use vortex_expr::bound_expression::BoundExpression;
 use vortex_prune::zone_map::{Head, ZoneMap};
 
 // What is known of each zone: how many rows it has, and of each of its columns the least and the

@@ -1,7 +1,5 @@
 // What several workloads make.
 use std::alloc::Global;
-use vortex_base::bound;
-use vortex_base::bound_expression::BoundExpression;
 use vortex_base::column::Column;
 use vortex_base::dtype::DType;
 use vortex_base::error::BaseError;
@@ -9,6 +7,8 @@ use vortex_base::scalar::Scalar;
 use vortex_base::scalar_value::ScalarValue;
 use vortex_base::scope::Scope;
 use vortex_base::types::{Nullability, PType};
+use vortex_expr::bound;
+use vortex_expr::bound_expression::BoundExpression;
 use vortex_stats::error::StatsError;
 use vortex_stats::precision::Precision;
 use vortex_stats::stat::Stat;

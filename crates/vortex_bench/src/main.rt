@@ -15,7 +15,7 @@ mod workload;
 use anyhow::Result;
 use std::alloc::Global;
 use std::io::Read;
-use vortex_base::bound_expression::BoundExpression;
+use vortex_expr::bound_expression::BoundExpression;
 
 // The sides of a predicate, as it is made or in normal form.
 fn count_sides(alloc: Global, name: &str, predicate: &BoundExpression) -> Result<usize> {

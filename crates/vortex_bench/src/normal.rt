@@ -1,13 +1,14 @@
 // Normal forms of long chains.
 use anyhow::Result;
 use std::alloc::Global;
-use vortex_base::bound;
-use vortex_base::bound_expression::BoundExpression;
 use vortex_base::dtype::DType;
 use vortex_base::error::BaseError;
 use vortex_base::scalar::Scalar;
 use vortex_base::scalar_value::ScalarValue;
-use vortex_base::types::{Nullability, Operator, PType};
+use vortex_base::types::{Nullability, PType};
+use vortex_expr::bound;
+use vortex_expr::bound_expression::BoundExpression;
+use vortex_expr::scalar_fn::Operator;
 use vortex_normal::normalize::normalize;
 
 const NUMBER: DType = DType::Primitive(PType::I64, Nullability::NonNullable);

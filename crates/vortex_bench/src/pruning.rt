@@ -2,8 +2,8 @@
 use crate::made::{above, bounds, scope_of, tell_no_nulls};
 use anyhow::Result;
 use std::alloc::{AllocError, Global};
-use vortex_base::bound;
-use vortex_base::bound_expression::BoundExpression;
+use vortex_expr::bound;
+use vortex_expr::bound_expression::BoundExpression;
 use vortex_prune::scan::prune::prune;
 use vortex_prune::zone::Zone;
 use vortex_prune::zone_map::ZoneMap;

@@ -1,20 +1,20 @@
 // Scans of many small parts: by a binder for each, and by one for their table.
 ghost use Rattle.std.specs.Bool.{OnTrue};
 ghost use Rattle.std.specs.Prelude.{◌≡◌, All, IfOk, IsTrue};
-ghost use Rattle.vortex_base.specs.Meanings.Fitting.{fits_scope};
-ghost use Rattle.vortex_base.specs.Trees.Tree.{is_plain};
+ghost use Rattle.vortex_expr.specs.Meanings.Fitting.{fits_scope};
+ghost use Rattle.vortex_expr.specs.Trees.Tree.{is_plain};
 ghost use Rattle.vortex_prune.specs.Zones.{HaveScope};
 
 use crate::made::{NUMBER, above, add, bounds, scope_of};
 use anyhow::Result;
 use std::alloc::{AllocError, Global};
-use vortex_base::bound;
-use vortex_base::bound_expression::BoundExpression;
 use vortex_base::chunk::Chunk;
 use vortex_base::column::Column;
 use vortex_base::error::BaseError;
 use vortex_base::scalar_value::ScalarValue;
 use vortex_base::scope::Scope;
+use vortex_expr::bound;
+use vortex_expr::bound_expression::BoundExpression;
 use vortex_prune::bind::stats_binder::StatsBinder;
 use vortex_prune::part::Part;
 use vortex_prune::scan::scan;

@@ -3,14 +3,14 @@ ghost use Rattle.std.specs.Prelude.{◌≤◌, IfOk};
 
 use crate::made::{NUMBER, add, bounds, scope_of, tell_no_nulls};
 use std::alloc::{AllocError, Global};
-use vortex_base::bound;
-use vortex_base::bound_expression::BoundExpression;
 use vortex_base::chunk::Chunk;
 use vortex_base::column::Column;
 use vortex_base::error::BaseError;
-use vortex_base::evaluate::evaluate;
-use vortex_base::like::LikeOptions;
 use vortex_base::scalar_value::ScalarValue;
+use vortex_expr::bound;
+use vortex_expr::bound_expression::BoundExpression;
+use vortex_expr::evaluate::evaluate;
+use vortex_expr::like::LikeOptions;
 use vortex_stats::error::StatsError;
 use vortex_stats::precision::Precision;
 use vortex_stats::stat::Stat;

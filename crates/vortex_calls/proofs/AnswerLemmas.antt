@@ -2,7 +2,7 @@
 use Rattle.std.proofs.Common.{◌≡◌, ◌<◌, ◌+◌, ◌∷◌, ◌++◌, ℕ, Bool, true, false, List, [], Option, Result, Err, ap, ap₂, get_or, inl, inr, length, map, refl, subst, sym, take, ◌∙◌}
 use Rattle.std.proofs.lemmas.List.{map_more}
 use Rattle.vortex_base.specs.Data.Scopes.{Named}
-use Rattle.vortex_base.specs.Trees.Tree.{Place, Tree}
+use Rattle.vortex_expr.specs.Trees.Tree.{Place, Tree}
 use Rattle.vortex_prune.proofs.ZoneMaps.ZoneRefusals.{most_refused_for_memory, most_refuses, open_satisfier_refuses, zones_refused_for_memory}
 use Rattle.vortex_prune.specs.Binding.PartAnswers.{told_values}
 use Rattle.vortex_prune.specs.Part.{ZoneData}

@@ -3,13 +3,14 @@ use Rattle.std.proofs.Common.{◌≡◌, ◌<◌, ◌+◌, ◌++◌, ℕ, zero, 
 use Rattle.std.proofs.lemmas.List.{length-map, map-append}
 use Rattle.std.proofs.lemmas.Option.{same_Some, slice_get-get_or}
 use Rattle.std.specs.Prelude.{IfOk, IfSome, None, replicate, slice_get, slice_index}
-use Rattle.vortex_base.proofs.Meanings.MeaningFits.{null_fits}
+use Rattle.vortex_expr.proofs.Meanings.MeaningFits.{null_fits}
 use Rattle.vortex_base.specs.Data.Columns.{ColumnData, all_fit}
 use Rattle.vortex_base.specs.Data.Exact.{both_hold}
 use Rattle.vortex_base.specs.Data.Scopes.{Named}
 use Rattle.vortex_base.specs.Data.Types.{as_nullable, is_nullable}
-use Rattle.vortex_base.specs.Meanings.Typing.{placeholder_type, state_dtype}
-use Rattle.vortex_base.specs.Trees.Tree.{Place, Tree}
+use Rattle.vortex_base.specs.Data.States.{state_dtype}
+use Rattle.vortex_expr.specs.Meanings.Typing.{placeholder_type}
+use Rattle.vortex_expr.specs.Trees.Tree.{Place, Tree}
 use Rattle.vortex_base.specs.declared.aggregate.AggregateFnRef.{AggregateFnRef}
 use Rattle.vortex_base.specs.declared.aggregate.AggregateFnRef.TheVariants as aggregate
 use Rattle.vortex_base.specs.declared.dtype.DType.{DType}

@@ -3,8 +3,8 @@ use Rattle.std.proofs.Common.{◌≡◌, ◌≢◌, ◌==◌, ◌+◌, ◌++◌,
 use Rattle.std.proofs.lemmas.List.{length-map, map-append, map_push}
 use Rattle.std.specs.List.{enumerate_from}
 use Rattle.vortex_base.specs.Data.Scopes.{Named}
-use Rattle.vortex_base.specs.Meanings.Fitting.{fits_scope}
-use Rattle.vortex_base.specs.Trees.Tree.{Place, Tree, is_plain}
+use Rattle.vortex_expr.specs.Meanings.Fitting.{fits_scope}
+use Rattle.vortex_expr.specs.Trees.Tree.{Place, Tree, is_plain}
 use Rattle.vortex_prune.proofs.ZoneMaps.ZoneKept.{zones_are}
 use Rattle.vortex_prune.proofs.ZoneMaps.ZonePruned.{pruning_is_complete, pruning_is_sound}
 use Rattle.vortex_prune.specs.Binding.PartAnswers.{told_values}

@@ -1,7 +1,7 @@
 -- What pruning apart changes: nothing.
 use Rattle.std.specs.Prelude.{◌≡◌, ◌++◌, List}
 use Rattle.vortex_base.specs.Data.Scopes.{Named}
-use Rattle.vortex_base.specs.Trees.Tree.{Place, Tree}
+use Rattle.vortex_expr.specs.Trees.Tree.{Place, Tree}
 use Rattle.vortex_prune.specs.Part.{ZoneData}
 use Rattle.vortex_calls.specs.Prunes.{zone_answers}
 

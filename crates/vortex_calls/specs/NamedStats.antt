@@ -2,8 +2,8 @@
 use Rattle.std.specs.Prelude.{◌≡◌, ℕ, ◌==◌, ◌&&◌, ◌||◌, Bool, true, false, List, [], Option, None, Some, IsTrue, length, map, slice_get}
 use Rattle.vortex_base.specs.declared.aggregate.AggregateFnRef.{AggregateFnRef}
 use Rattle.vortex_base.specs.Data.Columns.{ColumnData}
-use Rattle.vortex_base.specs.Trees.Tree.{Place, Tree, between, binary, column, is_not_null, is_null, like, literal, not, row_count, stat}
-use Rattle.vortex_base.specs.Trees.TreeEq.{aggregate_eq}
+use Rattle.vortex_expr.specs.Trees.Tree.{Place, Tree, between, binary, column, is_not_null, is_null, like, literal, not, row_count, stat}
+use Rattle.vortex_expr.specs.Trees.TreeEq.{aggregate_eq}
 use Rattle.vortex_prune.specs.GivenTables.{is_table}
 use Rattle.vortex_prune.specs.Part.{ZoneData}
 use Rattle.vortex_prune.specs.Zones.{Head, MapData, heads, zone_column}

@@ -1,8 +1,8 @@
 -- What a caller asks to be pruned, and what is answered.
 use Rattle.std.specs.Prelude.{◌≡◌, ◌≢◌, ℕ, ◌==◌, Bool, true, false, List, [], ◌++◌, Option, Result, Ok, Err, IfOk, IsOk, IsTrue, if◌then◌else◌, length, map}
 use Rattle.vortex_base.specs.Data.Scopes.{Named}
-use Rattle.vortex_base.specs.Meanings.Fitting.{fits_scope}
-use Rattle.vortex_base.specs.Trees.Tree.{Place, Tree, is_plain}
+use Rattle.vortex_expr.specs.Meanings.Fitting.{fits_scope}
+use Rattle.vortex_expr.specs.Trees.Tree.{Place, Tree, is_plain}
 use Rattle.vortex_normal.specs.Groups.{normal}
 use Rattle.vortex_normal.specs.Same.{Same}
 use Rattle.vortex_prune.specs.Binding.PartAnswers.{told_values}

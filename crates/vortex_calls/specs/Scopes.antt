@@ -3,7 +3,7 @@ use Rattle.std.specs.Prelude.{ℕ, true, false, nat_le, List, [], ◌∷◌, ◌
 use Rattle.std.specs.Str.{is_utf8}
 use Rattle.vortex_base.specs.declared.dtype.DType.{DType}
 use Rattle.vortex_base.specs.Data.Scopes.{Named, is_empty}
-use Rattle.vortex_base.specs.Trees.Tree.{Place, Tree}
+use Rattle.vortex_expr.specs.Trees.Tree.{Place, Tree}
 use Rattle.vortex_rewrite.specs.Rewriting.Predicates.{is_predicate}
 use Rattle.vortex_syntax.specs.Expressions.{expression_of}
 use Rattle.vortex_syntax.specs.Fails.{when, ◌>>=◌}

@@ -1,7 +1,7 @@
 //! What to do with each zone of a table under a predicate.
 ghost use Rattle.std.specs.Prelude.{◌≡◌, ◌≤◌, [], All, IfErr, IfOk, List, IsTrue, Ok, OnOk, length, map};
-ghost use Rattle.vortex_base.specs.Meanings.Fitting.{fits_scope};
-ghost use Rattle.vortex_base.specs.Trees.Tree.{is_plain};
+ghost use Rattle.vortex_expr.specs.Meanings.Fitting.{fits_scope};
+ghost use Rattle.vortex_expr.specs.Trees.Tree.{is_plain};
 ghost use Rattle.vortex_rewrite.specs.Rewriting.Predicates.{is_predicate};
 ghost use Rattle.vortex_calls.specs.NamedStats.{AreProofs};
 ghost use Rattle.vortex_calls.specs.Prunes as spec;
@@ -20,8 +20,8 @@ use crate::statistic::Statistic;
 use crate::status::Status;
 use crate::table::{Known, Source, sources_given, zone_at};
 use std::alloc::{AllocError, Global};
-use vortex_base::bound_expression::BoundExpression;
 use vortex_base::scope::Scope;
+use vortex_expr::bound_expression::BoundExpression;
 use vortex_normal::normalize::normalize;
 use vortex_prune::{Zone, ZoneMap};
 use vortex_stats::StatsError;

@@ -2,8 +2,8 @@
 use crate::leaves::push_leaves;
 use crate::proofs::{PartAt, Proofs, holds, push_shown, push_told};
 use std::alloc::{AllocError, Global};
-use vortex_base::bound_expression::BoundExpression;
 use vortex_base::scope::Scope;
+use vortex_expr::bound_expression::BoundExpression;
 use vortex_normal::normalize::normalize;
 use vortex_prune::zone_map::ZoneMap;
 use vortex_rewrite::rewrite::rules::Rules;

@@ -1,8 +1,8 @@
 //! The leaves of a predicate: what stands below its ANDs and ORs.
 use std::alloc::AllocError;
-use vortex_base::bound_expression::BoundExpression;
-use vortex_base::bound_expression::parts::Parts;
-use vortex_base::types::Operator;
+use vortex_expr::bound_expression::BoundExpression;
+use vortex_expr::bound_expression::parts::Parts;
+use vortex_expr::scalar_fn::Operator;
 
 /// Adds the leaves of a predicate, from the left to the right.
 pub(crate) fn push_leaves<'a>(

@@ -2,11 +2,11 @@
 use crate::leaves::push_placeholders;
 use crate::shown::Shown;
 use std::alloc::{AllocError, Global};
-use vortex_base::bound_expression::BoundExpression;
 use vortex_base::error::BaseError;
-use vortex_base::evaluate::evaluate;
 use vortex_base::scalar_value::ScalarValue;
 use vortex_base::scope::Scope;
+use vortex_expr::bound_expression::BoundExpression;
+use vortex_expr::evaluate::evaluate;
 use vortex_prune::bind::bind_stats;
 use vortex_prune::bind::zone_binder::ZoneBinder;
 use vortex_prune::zone_map::ZoneMap;

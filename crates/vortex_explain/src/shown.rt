@@ -2,13 +2,13 @@
 //! `stat($.a, max)` for a placeholder.
 use std::fmt;
 use vortex_base::aggregate::AggregateFnRef;
-use vortex_base::bound_expression::BoundExpression;
-use vortex_base::bound_expression::parts::Parts;
-use vortex_base::like::LikeOptions;
 use vortex_base::pvalue::PValue;
 use vortex_base::scalar_value::ScalarValue;
 use vortex_base::scope::Scope;
-use vortex_base::types::{ExprKind, Operator, StrictComparison};
+use vortex_expr::bound_expression::BoundExpression;
+use vortex_expr::bound_expression::parts::Parts;
+use vortex_expr::like::LikeOptions;
+use vortex_expr::scalar_fn::{ExprKind, Operator, StrictComparison};
 
 /// An expression to be printed, with the scope that names its columns.
 #[derive(Clone, Copy)]

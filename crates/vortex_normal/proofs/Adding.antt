@@ -4,7 +4,7 @@ use Rattle.std.specs.List.{position, position_or_len}
 use Rattle.std.proofs.lemmas.Grind.{common_steps}
 use Rattle.std.proofs.lemmas.List.Quantifiers.{position-Some}
 use Rattle.std.proofs.lemmas.List.Sums.{fails_before_first}
-use Rattle.vortex_base.specs.Trees.Tree.{Place}
+use Rattle.vortex_expr.specs.Trees.Tree.{Place}
 use Rattle.vortex_normal.specs.declared.groups.Item.{Item as Kept}
 use Rattle.vortex_normal.specs.Groups.{inside, add_sets, is_of, item_of, widened}
 use Rattle.vortex_normal.specs.Intervals.{Interval}

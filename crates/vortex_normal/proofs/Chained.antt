@@ -8,9 +8,9 @@ use Rattle.std.proofs.lemmas.Bool.Decides.{nat_tests}
 use Rattle.std.proofs.lemmas.Iterator.Adapters.{position_from-zero}
 use Rattle.std.proofs.lemmas.List.{length-set, length_push, get_or-set_same, get_or-set_other, get_or_append_left, get_or_default, get_or_push}
 use Rattle.std.proofs.lemmas.List.Folds.{position_or_len-set}
-use Rattle.vortex_base.specs.Trees.Tree.{Place}
+use Rattle.vortex_expr.specs.Trees.Tree.{Place}
 use Rattle.vortex_base.specs.Data.Types.{dtype_eq}
-use Rattle.vortex_base.specs.Trees.TreeEq.{place_eq}
+use Rattle.vortex_expr.specs.Trees.TreeEq.{place_eq}
 use Rattle.vortex_normal.specs.declared.groups.Item.{Item as Kept}
 use Rattle.vortex_normal.specs.Chains.{IsIndexOf, Tells, item_at}
 use Rattle.vortex_normal.specs.Groups.{Item, inside, other, is_of, item_of, widened}

@@ -5,8 +5,8 @@ use Rattle.std.specs.List.{AllByRecursion}
 use Rattle.std.proofs.lemmas.Bool.{and_parts, eq-eqb, not-true, or_cases, or_parts, or_right}
 use Rattle.std.proofs.lemmas.Bool.Decides.{nat_tests}
 use Rattle.vortex_base.specs.Data.Exact.{both_hold}
-use Rattle.vortex_base.specs.Trees.Tree.{Tree, Place, all_columns, column, literal, binary, between, is_null, is_not_null, not, like, stat, row_count, has_placeholder, has_row_count, is_plain}
-use Rattle.vortex_base.specs.Trees.TreeEq.{place_eq, tree_eq_is_exact}
+use Rattle.vortex_expr.specs.Trees.Tree.{Tree, Place, all_columns, column, literal, binary, between, is_null, is_not_null, not, like, stat, row_count, has_placeholder, has_row_count, is_plain}
+use Rattle.vortex_expr.specs.Trees.TreeEq.{place_eq, tree_eq_is_exact}
 use Rattle.vortex_rewrite.proofs.Completeness.Choices.{all_back, all_front, all_map}
 use Rattle.vortex_rewrite.proofs.Logic.{all_append}
 use Rattle.vortex_rewrite.specs.Rewriting.ReadOnce.{columns_of, has_index}

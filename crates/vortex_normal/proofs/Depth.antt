@@ -2,10 +2,10 @@
 use Rattle.std.proofs.Common.{◌≡◌, ℕ, zero, suc, ◌+◌, ◌^◌, ◌≤◌, Bool, true, false, ◌&&◌, List, [], ◌∷◌, Option, Some, None, length, map, refl, subst, arith, if◌then◌else◌}
 use Rattle.std.proofs.Math.Nat.{pow-suc}
 use Rattle.std.specs.List.{AllByRecursion}
-use Rattle.vortex_base.specs.Trees.Tree.{Tree, Place, column, binary}
+use Rattle.vortex_expr.specs.Trees.Tree.{Tree, Place, column, binary}
 use Rattle.vortex_base.specs.declared.scalar_value.ScalarValue.{ScalarValue}
-use Rattle.vortex_base.specs.declared.types.Operator.TheVariants.{Eq, Or}
-use Rattle.vortex_base.specs.declared.types.StrictComparison.TheVariants.{NonStrict}
+use Rattle.vortex_expr.specs.declared.scalar_fn.Operator.TheVariants.{Eq, Or}
+use Rattle.vortex_expr.specs.declared.scalar_fn.StrictComparison.TheVariants.{NonStrict}
 use Rattle.vortex_rewrite.specs.Rewriting.Falsifiers.{bool_literal}
 use Rattle.vortex_normal.specs.Balanced.{balanced, in_turns, paired}
 use Rattle.vortex_normal.specs.Groups.{Item, item_test}

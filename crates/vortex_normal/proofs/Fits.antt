@@ -4,21 +4,21 @@ use Rattle.std.proofs.Common.{ℕ, zero, suc, ◌<◌, length, get_or, arith}
 use Rattle.std.specs.List.{AllByRecursion, flat_map}
 use Rattle.std.proofs.lemmas.Bool.{and_parts}
 use Rattle.std.proofs.lemmas.Option.{none-some, same_Some}
-use Rattle.vortex_base.proofs.Meanings.MeaningFits.{is_value-as_nullable}
+use Rattle.vortex_expr.proofs.Meanings.MeaningFits.{is_value-as_nullable}
 use Rattle.vortex_base.specs.Data.Exact.{both_hold}
 use Rattle.vortex_base.specs.Data.Scalars.{Constant, is_optional_value}
 use Rattle.vortex_base.specs.Data.Types.{as_nullable}
 use Rattle.vortex_base.specs.Data.Values.{is_value}
-use Rattle.vortex_base.specs.Meanings.Typing.{binary_type, comparison_type, type_of, with_types}
-use Rattle.vortex_base.specs.Trees.Tree.{Tree, Place, column, literal, binary, is_null, is_not_null}
-use Rattle.vortex_base.specs.Trees.TreeEq.{place_eq, tree_eq_is_exact}
+use Rattle.vortex_expr.specs.Meanings.Typing.{binary_type, comparison_type, type_of, with_types}
+use Rattle.vortex_expr.specs.Trees.Tree.{Tree, Place, column, literal, binary, is_null, is_not_null}
+use Rattle.vortex_expr.specs.Trees.TreeEq.{place_eq, tree_eq_is_exact}
 use Rattle.vortex_base.specs.declared.dtype.DType.{DType}
 use Rattle.vortex_base.specs.declared.error.BaseError.{BaseError}
 use Rattle.vortex_base.specs.declared.error.BaseError.TheVariants.{Mismatch}
 use Rattle.vortex_base.specs.declared.scalar_value.ScalarValue.{ScalarValue}
-use Rattle.vortex_base.specs.declared.types.Operator.{Operator}
-use Rattle.vortex_base.specs.declared.types.StrictComparison.TheVariants.{Strict, NonStrict}
-use Rattle.vortex_base.specs.declared.types.Operator.TheVariants.{Eq, NotEq, Gt, Gte, Lt, Lte, And, Or}
+use Rattle.vortex_expr.specs.declared.scalar_fn.Operator.{Operator}
+use Rattle.vortex_expr.specs.declared.scalar_fn.StrictComparison.TheVariants.{Strict, NonStrict}
+use Rattle.vortex_expr.specs.declared.scalar_fn.Operator.TheVariants.{Eq, NotEq, Gt, Gte, Lt, Lte, And, Or}
 use Rattle.vortex_rewrite.proofs.Completeness.Interval.{is_comparison}
 use Rattle.vortex_rewrite.proofs.Rewriting.ProofTypes.{AreComparable, alike_turned, are_alike, binary_is_predicate, predicates_connect}
 use Rattle.vortex_rewrite.specs.Rewriting.Predicates.{is_connective, is_predicate}

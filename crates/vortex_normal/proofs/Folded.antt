@@ -1,22 +1,22 @@
 -- Operands without a column and without placeholders, which become literals.
 use Rattle.std.proofs.Common.{◌≡◌, lit<, Bool, true, false, not as not_b, ◌&&◌, ◌||◌, [], Option, Result, Ok, Err, IsOk, refl, sym, ap, ap₂, ◌∙◌, subst₂, if◌then◌else◌}
 use Rattle.std.proofs.lemmas.Bool.{and_parts, not-true, or_parts}
-use Rattle.vortex_base.proofs.Meanings.MeaningFits.{meaning-fits}
+use Rattle.vortex_expr.proofs.Meanings.MeaningFits.{meaning-fits}
 use Rattle.vortex_base.specs.Data.Exact.{both_hold}
 use Rattle.vortex_base.specs.Data.Scalars.{is_optional_value}
 use Rattle.vortex_base.specs.Data.Types.{as_nullable, dtype_eq, is_nullable}
-use Rattle.vortex_base.specs.Meanings.Fitting.{fits_row}
+use Rattle.vortex_expr.specs.Meanings.Fitting.{fits_row}
 use Rattle.vortex_base.specs.Answer.{Answers, Makes}
-use Rattle.vortex_base.specs.Meanings.Meaning.{can_evaluate, meaning}
+use Rattle.vortex_expr.specs.Meanings.Meaning.{can_evaluate, meaning}
 use Rattle.vortex_base.specs.declared.scalar_value.ScalarValue.{ScalarValue}
-use Rattle.vortex_base.specs.Meanings.Typing.{are_comparable, between_type, binary_type, is_bool, is_state, like_type, not_type, null_test_type, type_if, type_of, truth_type, with_type, with_types}
-use Rattle.vortex_base.specs.Trees.Tree.{Tree, Place, all_columns, column, literal, binary, between, is_null, is_not_null, not, like, stat, row_count, has_bare_column, has_placeholder, has_row_count, is_plain}
+use Rattle.vortex_expr.specs.Meanings.Typing.{are_comparable, between_type, binary_type, is_bool, is_state, like_type, not_type, null_test_type, type_if, type_of, truth_type, with_type, with_types}
+use Rattle.vortex_expr.specs.Trees.Tree.{Tree, Place, all_columns, column, literal, binary, between, is_null, is_not_null, not, like, stat, row_count, has_bare_column, has_placeholder, has_row_count, is_plain}
 use Rattle.vortex_base.specs.declared.dtype.DType.{DType}
 use Rattle.vortex_base.specs.declared.dtype.DType.TheVariants as dtype
 use Rattle.vortex_base.specs.declared.error.BaseError.{BaseError}
 use Rattle.vortex_base.specs.declared.types.Nullability.TheVariants.{Nullable, NonNullable}
-use Rattle.vortex_base.specs.declared.types.Operator.{Operator}
-use Rattle.vortex_base.specs.declared.types.Operator.TheVariants.{Eq, NotEq, Gt, Gte, Lt, Lte, And, Or}
+use Rattle.vortex_expr.specs.declared.scalar_fn.Operator.{Operator}
+use Rattle.vortex_expr.specs.declared.scalar_fn.Operator.TheVariants.{Eq, NotEq, Gt, Gte, Lt, Lte, And, Or}
 use Rattle.vortex_rewrite.proofs.Rewriting.ProofTypes.{comparable_if}
 use Rattle.vortex_normal.specs.Pushed.{folded, is_literal}
 use Rattle.vortex_normal.proofs.Forms.{if_as, not_constant}

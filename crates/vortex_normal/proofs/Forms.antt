@@ -1,14 +1,14 @@
 -- The cases of what a leaf or a connective becomes.
 use Rattle.std.proofs.Common.{◌≡◌, Bool, true, false, not, ◌&&◌, ◌||◌, ◌⊎◌, [], Option, Some, None, refl, if◌then◌else◌}
 use Rattle.std.proofs.lemmas.Bool.{or_cases}
-use Rattle.vortex_base.specs.Trees.Tree.{Tree, Place, binary, is_not_null, like, literal, has_bare_column, has_placeholder, has_row_count, is_plain}
-use Rattle.vortex_base.specs.Trees.TreeEq.{tree_eq, tree_eq_is_exact}
-use Rattle.vortex_base.specs.Meanings.Meaning.{meaning, satisfies}
+use Rattle.vortex_expr.specs.Trees.Tree.{Tree, Place, binary, is_not_null, like, literal, has_bare_column, has_placeholder, has_row_count, is_plain}
+use Rattle.vortex_expr.specs.Trees.TreeEq.{tree_eq, tree_eq_is_exact}
+use Rattle.vortex_expr.specs.Meanings.Meaning.{meaning, satisfies}
 use Rattle.vortex_base.specs.declared.dtype.DType.TheVariants as dtype
 use Rattle.vortex_base.specs.declared.types.Nullability.TheVariants.{Nullable}
-use Rattle.vortex_base.specs.declared.types.Operator.{Operator}
-use Rattle.vortex_base.specs.declared.types.Operator.TheVariants.{And, Or}
-use Rattle.vortex_base.specs.declared.like.LikeOptions.{LikeOptions}
+use Rattle.vortex_expr.specs.declared.scalar_fn.Operator.{Operator}
+use Rattle.vortex_expr.specs.declared.scalar_fn.Operator.TheVariants.{And, Or}
+use Rattle.vortex_expr.specs.declared.like.LikeOptions.{LikeOptions}
 use Rattle.vortex_rewrite.specs.Rewriting.Falsifiers.{bool_literal}
 use Rattle.vortex_normal.specs.Pushed.{all_by, all_of, any_by, any_of, as_comparisons, comparison_of, connected, decided, folded, given_or, is_literal, is_null_literal, is_reflexive, liked, settled}
 

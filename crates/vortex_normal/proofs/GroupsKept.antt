@@ -3,11 +3,11 @@ use Rattle.std.proofs.Common.{◌≡◌, Bool, true, false, not as not_b, ◌&&�
 use Rattle.std.specs.List.{AllByRecursion}
 use Rattle.std.proofs.lemmas.Bool.{and_parts, or_parts, not-true}
 use Rattle.vortex_base.specs.Data.Exact.{both_hold}
-use Rattle.vortex_base.specs.Trees.Tree.{Tree, Place, all_columns, column, literal, binary, is_null, is_not_null, some_node, has_placeholder, has_row_count, is_placeholder, is_plain, is_row_count}
+use Rattle.vortex_expr.specs.Trees.Tree.{Tree, Place, all_columns, column, literal, binary, is_null, is_not_null, some_node, has_placeholder, has_row_count, is_placeholder, is_plain, is_row_count}
 use Rattle.vortex_base.specs.declared.scalar_value.ScalarValue.{ScalarValue}
-use Rattle.vortex_base.specs.declared.types.Operator.{Operator}
-use Rattle.vortex_base.specs.declared.types.Operator.TheVariants.{Eq, NotEq, Gt, Gte, Lt, Lte, And, Or}
-use Rattle.vortex_base.specs.declared.types.StrictComparison.TheVariants.{Strict, NonStrict}
+use Rattle.vortex_expr.specs.declared.scalar_fn.Operator.{Operator}
+use Rattle.vortex_expr.specs.declared.scalar_fn.Operator.TheVariants.{Eq, NotEq, Gt, Gte, Lt, Lte, And, Or}
+use Rattle.vortex_expr.specs.declared.scalar_fn.StrictComparison.TheVariants.{Strict, NonStrict}
 use Rattle.vortex_normal.specs.Balanced.{balanced}
 use Rattle.vortex_normal.specs.Groups.{Item, inside, other, add, add_sets, as_one, binary_item, collected, compared_item, grouped, is_of, item_test, items_test, leaf_item, lone_item, not_null_item, null_item, widened}
 use Rattle.vortex_normal.specs.Intervals.{Cut, Lowest, Before, After, Highest, Interval, all_but, at_most, between_cuts, combined, hole_by, interval_test, is_full, literal_as, range_of, set_test, swapped, values_test}

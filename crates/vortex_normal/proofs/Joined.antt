@@ -6,8 +6,8 @@ use Rattle.std.specs.List.{AllByRecursion}
 use Rattle.std.proofs.lemmas.Bool.{and_parts, not-true, or_parts}
 use Rattle.std.proofs.lemmas.Bool.Decides.{nat_tests}
 use Rattle.vortex_base.specs.Data.Exact.{both_hold}
-use Rattle.vortex_base.specs.Trees.Tree.{Tree, Place, all_columns, column, literal, binary, between, is_null, is_not_null, not, like, stat, row_count, has_placeholder}
-use Rattle.vortex_base.specs.declared.types.Operator.TheVariants.{Eq, NotEq, Gt, Gte, Lt, Lte, And, Or}
+use Rattle.vortex_expr.specs.Trees.Tree.{Tree, Place, all_columns, column, literal, binary, between, is_null, is_not_null, not, like, stat, row_count, has_placeholder}
+use Rattle.vortex_expr.specs.declared.scalar_fn.Operator.TheVariants.{Eq, NotEq, Gt, Gte, Lt, Lte, And, Or}
 use Rattle.vortex_rewrite.proofs.Completeness.Choices.{all_map}
 use Rattle.vortex_rewrite.proofs.Soundness.TruthLogic.{clash, refuted}
 use Rattle.vortex_rewrite.specs.Rewriting.Falsifiers.{bool_literal}

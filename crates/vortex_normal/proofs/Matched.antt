@@ -4,13 +4,13 @@ use Rattle.std.specs.Prelude.{encode_utf8_all}
 use Rattle.std.specs.Option.{is_some}
 use Rattle.std.specs.Str.{chars}
 use Rattle.std.proofs.lemmas.Option.{none-some, same_Some}
-use Rattle.vortex_base.specs.Patterns.Like.{items}
-use Rattle.vortex_base.specs.Patterns.Prefix.{is_exact, literal_prefix, successor}
-use Rattle.vortex_base.specs.Trees.Tree.{Tree, Place, column, literal, binary, between, is_null, is_not_null, not, like, stat, row_count}
-use Rattle.vortex_base.specs.declared.like.Item.{Item}
-use Rattle.vortex_base.specs.declared.like.LikeOptions.{LikeOptions}
-use Rattle.vortex_base.specs.declared.types.Operator.{Operator}
-use Rattle.vortex_base.specs.declared.types.Operator.TheVariants.{Eq, Gte, Lt}
+use Rattle.vortex_expr.specs.Patterns.Like.{items}
+use Rattle.vortex_expr.specs.Patterns.Prefix.{is_exact, literal_prefix, successor}
+use Rattle.vortex_expr.specs.Trees.Tree.{Tree, Place, column, literal, binary, between, is_null, is_not_null, not, like, stat, row_count}
+use Rattle.vortex_expr.specs.declared.like.Item.{Item}
+use Rattle.vortex_expr.specs.declared.like.LikeOptions.{LikeOptions}
+use Rattle.vortex_expr.specs.declared.scalar_fn.Operator.{Operator}
+use Rattle.vortex_expr.specs.declared.scalar_fn.Operator.TheVariants.{Eq, Gte, Lt}
 use Rattle.vortex_rewrite.proofs.Completeness.Interval.{is_comparison}
 use Rattle.vortex_rewrite.specs.Rewriting.Falsifiers.{bytes_literal, text_in}
 use Rattle.vortex_normal.specs.Pushed.{as_comparisons, begins, comparison, connected, is_beginning, is_last_raised, is_literal, items_matched, like_as, operator_as, same_text, text_matched}

@@ -10,16 +10,16 @@ use Rattle.vortex_base.specs.Data.Columns.{IsRow, cell_value}
 use Rattle.vortex_base.specs.Data.Exact.{both_hold}
 use Rattle.vortex_base.specs.Data.Scalars.{Constant, is_optional_value, null_of}
 use Rattle.vortex_base.specs.Data.Types.{as_nullable, dtype_eq_is_exact, eq_ignore_nullability}
-use Rattle.vortex_base.specs.Meanings.Fitting.{fits_row, is_cell_of}
-use Rattle.vortex_base.specs.Meanings.Meaning.{is_true, satisfies}
-use Rattle.vortex_base.specs.Trees.Tree.{Tree, Place, all_columns, column, literal, binary, between, is_null, is_not_null, not, like, stat, row_count, some_node, has_bare_column, has_placeholder, has_row_count, is_plain}
-use Rattle.vortex_base.specs.Trees.TreeEq.{place_eq}
+use Rattle.vortex_expr.specs.Meanings.Fitting.{fits_row, is_cell_of}
+use Rattle.vortex_expr.specs.Meanings.Meaning.{is_true, satisfies}
+use Rattle.vortex_expr.specs.Trees.Tree.{Tree, Place, all_columns, column, literal, binary, between, is_null, is_not_null, not, like, stat, row_count, some_node, has_bare_column, has_placeholder, has_row_count, is_plain}
+use Rattle.vortex_expr.specs.Trees.TreeEq.{place_eq}
 use Rattle.vortex_base.specs.declared.dtype.DType.{DType}
 use Rattle.vortex_base.specs.declared.dtype.DType.TheVariants as dtype
 use Rattle.vortex_base.specs.declared.scalar_value.ScalarValue.{ScalarValue}
-use Rattle.vortex_base.specs.declared.types.BetweenOptions.{BetweenOptions}
-use Rattle.vortex_base.specs.declared.types.Operator.TheVariants.{Eq, NotEq, Gt, Gte, Lt, Lte, And, Or}
-use Rattle.vortex_base.specs.declared.types.StrictComparison.TheVariants.{Strict, NonStrict}
+use Rattle.vortex_expr.specs.declared.scalar_fn.BetweenOptions.{BetweenOptions}
+use Rattle.vortex_expr.specs.declared.scalar_fn.Operator.TheVariants.{Eq, NotEq, Gt, Gte, Lt, Lte, And, Or}
+use Rattle.vortex_expr.specs.declared.scalar_fn.StrictComparison.TheVariants.{Strict, NonStrict}
 use Rattle.vortex_rewrite.proofs.Completeness.Choices.{RowsAgree, meaning_agreed}
 use Rattle.vortex_rewrite.proofs.Logic.{all_append}
 use Rattle.vortex_rewrite.proofs.Soundness.TruthLogic.{clash}

@@ -6,12 +6,12 @@ use Rattle.vortex_base.specs.declared.dtype.DType.TheVariants as dtype
 use Rattle.vortex_base.specs.declared.pvalue.PValue.TheVariants as number
 use Rattle.vortex_base.specs.declared.scalar_value.ScalarValue.TheVariants as value
 use Rattle.vortex_base.specs.declared.types.Nullability.TheVariants.{Nullable}
-use Rattle.vortex_base.specs.declared.types.Operator.{Operator}
-use Rattle.vortex_base.specs.declared.types.Operator.TheVariants.{Eq, Gt, Gte, Lt, Lte, And, Or}
+use Rattle.vortex_expr.specs.declared.scalar_fn.Operator.{Operator}
+use Rattle.vortex_expr.specs.declared.scalar_fn.Operator.TheVariants.{Eq, Gt, Gte, Lt, Lte, And, Or}
 use Rattle.vortex_base.specs.declared.types.PType.TheVariants.{U16}
-use Rattle.vortex_base.specs.declared.types.StrictComparison.TheVariants.{NonStrict}
+use Rattle.vortex_expr.specs.declared.scalar_fn.StrictComparison.TheVariants.{NonStrict}
 use Rattle.vortex_base.specs.Data.Scalars.{Constant}
-use Rattle.vortex_base.specs.Trees.Tree.{Tree, Place, column, literal, binary, between, is_null, is_not_null, not, like, stat, row_count}
+use Rattle.vortex_expr.specs.Trees.Tree.{Tree, Place, column, literal, binary, between, is_null, is_not_null, not, like, stat, row_count}
 use Rattle.vortex_rewrite.specs.Rewriting.Falsifiers.{bool_literal}
 use Rattle.vortex_rewrite.specs.Rewriting.ReadOnce.{is_apart}
 use Rattle.vortex_normal.specs.Groups.{normal}

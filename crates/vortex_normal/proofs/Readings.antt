@@ -5,12 +5,12 @@ use Rattle.std.specs.Str.{chars, IsUtf8}
 use Rattle.std.proofs.lemmas.Bool.{eqb-true}
 use Rattle.std.proofs.lemmas.Option.{none-some, same_Some}
 use Rattle.std.proofs.lemmas.Str.{encodes-chars, encodes_same}
-use Rattle.vortex_base.specs.Patterns.Like.{Sign, Percent, Underscore, Backslash, Plain, items, items_after, items_from, sign_of}
-use Rattle.vortex_base.specs.Patterns.Prefix.{PatternData, exact_text, has_next, is_exact, literal_prefix, pattern_of, successor}
-use Rattle.vortex_base.specs.declared.like.Item.{Item}
-use Rattle.vortex_base.specs.declared.like.Item.TheVariants.{Char, AnyChar, AnyRun}
+use Rattle.vortex_expr.specs.Patterns.Like.{Sign, Percent, Underscore, Backslash, Plain, items, items_after, items_from, sign_of}
+use Rattle.vortex_expr.specs.Patterns.Prefix.{PatternData, exact_text, has_next, is_exact, literal_prefix, pattern_of, successor}
+use Rattle.vortex_expr.specs.declared.like.Item.{Item}
+use Rattle.vortex_expr.specs.declared.like.Item.TheVariants.{Char, AnyChar, AnyRun}
 use Rattle.vortex_rewrite.proofs.Soundness.TruthLogic.{refuted}
-use Rattle.vortex_base.specs.Trees.Tree.{Tree, Place}
+use Rattle.vortex_expr.specs.Trees.Tree.{Tree, Place}
 use Rattle.vortex_normal.specs.Pushed.{begins, is_beginning, is_last_raised, items_matched, same_text, text_range}
 
 -- ---- the last character

@@ -2,10 +2,10 @@
 use Rattle.std.proofs.Common.{◌≡◌, Bool, true, false, not as not_b, ◌&&◌, List, [], ◌∷◌, ◌++◌, Option, Some, None, refl, ap, if◌then◌else◌}
 use Rattle.std.proofs.lemmas.Bool.{and_parts}
 use Rattle.vortex_base.specs.Data.Exact.{both_hold}
-use Rattle.vortex_base.specs.Trees.Tree.{Tree, Place, column, literal, binary, is_null, is_not_null}
+use Rattle.vortex_expr.specs.Trees.Tree.{Tree, Place, column, literal, binary, is_null, is_not_null}
 use Rattle.vortex_base.specs.declared.scalar_value.ScalarValue.{ScalarValue}
-use Rattle.vortex_base.specs.declared.types.Operator.{Operator}
-use Rattle.vortex_base.specs.declared.types.Operator.TheVariants.{Eq, NotEq, Gt, Gte, Lt, Lte, And, Or}
+use Rattle.vortex_expr.specs.declared.scalar_fn.Operator.{Operator}
+use Rattle.vortex_expr.specs.declared.scalar_fn.Operator.TheVariants.{Eq, NotEq, Gt, Gte, Lt, Lte, And, Or}
 use Rattle.vortex_rewrite.proofs.Soundness.ValueTests.{le_refl}
 use Rattle.vortex_normal.specs.Groups.{Item, inside, other, add, add_sets, as_one, binary_item, collected, compared_item, is_of, leaf_item, lone_item, not_null_item, null_item, widened}
 use Rattle.vortex_normal.specs.Intervals.{Interval, combined, comparison_set, swapped}

@@ -7,16 +7,16 @@ use Rattle.vortex_base.specs.Data.Values.{is_value}
 use Rattle.vortex_base.specs.declared.scalar_value.ScalarValue.{ScalarValue}
 use Rattle.vortex_base.specs.declared.scalar_value.ScalarValue.TheVariants as value
 use Rattle.vortex_normal.specs.Intervals.{literal_as, range_of}
-use Rattle.vortex_base.specs.Trees.Between.{to_operator}
-use Rattle.vortex_base.specs.Trees.Tree.{Tree, Place, column, literal, binary, between, not}
-use Rattle.vortex_base.specs.Meanings.Typing.{are_comparable, between_type, binary_type, comparison_type, is_bool, is_state, not_type, type_if, type_of, truth_type, with_type, with_types}
+use Rattle.vortex_expr.specs.Trees.Between.{to_operator}
+use Rattle.vortex_expr.specs.Trees.Tree.{Tree, Place, column, literal, binary, between, not}
+use Rattle.vortex_expr.specs.Meanings.Typing.{are_comparable, between_type, binary_type, comparison_type, is_bool, is_state, not_type, type_if, type_of, truth_type, with_type, with_types}
 use Rattle.vortex_base.specs.Data.Types.{as_nullable, dtype_eq_is_exact}
 use Rattle.vortex_base.specs.declared.dtype.DType.{DType}
 use Rattle.vortex_base.specs.declared.dtype.DType.TheVariants as dtype
 use Rattle.vortex_base.specs.declared.error.BaseError.{BaseError}
-use Rattle.vortex_base.specs.declared.types.BetweenOptions.{BetweenOptions}
-use Rattle.vortex_base.specs.declared.types.Operator.{Operator}
-use Rattle.vortex_base.specs.declared.types.Operator.TheVariants.{Eq, NotEq, Gt, Gte, Lt, Lte, And, Or}
+use Rattle.vortex_expr.specs.declared.scalar_fn.BetweenOptions.{BetweenOptions}
+use Rattle.vortex_expr.specs.declared.scalar_fn.Operator.{Operator}
+use Rattle.vortex_expr.specs.declared.scalar_fn.Operator.TheVariants.{Eq, NotEq, Gt, Gte, Lt, Lte, And, Or}
 use Rattle.vortex_rewrite.specs.Rewriting.Predicates.{has_type, is_predicate, is_connective, is_text}
 use Rattle.vortex_rewrite.specs.Rewriting.Falsifiers.{bool_literal}
 use Rattle.vortex_rewrite.proofs.Rewriting.ProofTypes.{alike_compare, comparable_if, lower_compares, texts_compare, upper_compares}

@@ -4,8 +4,8 @@ use Rattle.std.specs.Prelude.{◌==◌}
 use Rattle.std.specs.List.{AllByRecursion}
 use Rattle.std.proofs.lemmas.Bool.{and_parts, not-true}
 use Rattle.vortex_base.specs.Data.Exact.{both_hold}
-use Rattle.vortex_base.specs.Trees.Tree.{Tree, Place, binary}
-use Rattle.vortex_base.specs.declared.types.Operator.TheVariants.{And}
+use Rattle.vortex_expr.specs.Trees.Tree.{Tree, Place, binary}
+use Rattle.vortex_expr.specs.declared.scalar_fn.Operator.TheVariants.{And}
 use Rattle.vortex_rewrite.specs.Rewriting.Falsifiers.{bool_literal}
 use Rattle.vortex_rewrite.specs.Rewriting.ReadOnce.{are_apart, are_sides_apart, columns_of, has_index, is_apart, is_simple}
 use Rattle.vortex_normal.specs.Balanced.{balanced, first_or, in_turns, paired}

@@ -10,16 +10,16 @@ use Rattle.std.proofs.lemmas.Option.{none-some, same_Some}
 use Rattle.std.proofs.lemmas.Str.{encodes-append, encodes-chars, encodes_same, length-encode, len_utf8_bounds, IsUtf8-from_is_utf8}
 use Rattle.vortex_base.proofs.Data.OrderLemmas.{value_cmp-ties, value_cmp-total}
 use Rattle.vortex_base.proofs.Data.TextOrder.{bytes_cmp, encode_less, same_front}
-use Rattle.vortex_base.proofs.Patterns.Successors.{below_successor}
+use Rattle.vortex_expr.proofs.Patterns.Successors.{below_successor}
 use Rattle.vortex_base.specs.Data.Exact.{both_hold}
 use Rattle.vortex_base.specs.Data.Values.{value_cmp}
-use Rattle.vortex_base.specs.Meanings.Meaning.{holds}
-use Rattle.vortex_base.specs.Patterns.Like.{like, some_end}
-use Rattle.vortex_base.specs.Patterns.Prefix.{has_next, is_exact, literal_prefix, next_after, successor}
-use Rattle.vortex_base.specs.declared.like.Item.{Item}
-use Rattle.vortex_base.specs.declared.like.Item.TheVariants.{Char, AnyChar, AnyRun}
+use Rattle.vortex_expr.specs.Meanings.Meaning.{holds}
+use Rattle.vortex_expr.specs.Patterns.Like.{like, some_end}
+use Rattle.vortex_expr.specs.Patterns.Prefix.{has_next, is_exact, literal_prefix, next_after, successor}
+use Rattle.vortex_expr.specs.declared.like.Item.{Item}
+use Rattle.vortex_expr.specs.declared.like.Item.TheVariants.{Char, AnyChar, AnyRun}
 use Rattle.vortex_base.specs.declared.scalar_value.ScalarValue.TheVariants as value
-use Rattle.vortex_base.specs.declared.types.Operator.TheVariants.{Eq, Gte, Lt}
+use Rattle.vortex_expr.specs.declared.scalar_fn.Operator.TheVariants.{Eq, Gte, Lt}
 use Rattle.vortex_normal.specs.Pushed.{is_beginning, is_last_raised}
 
 same_truth : (a b : Bool) → (a ≡ true → b ≡ true) → (b ≡ true → a ≡ true) → a ≡ b

@@ -8,30 +8,30 @@ use Rattle.std.specs.declared.cmp.Ordering.{Ordering}
 use Rattle.std.specs.Ordering.{is_lt, is_eq, is_gt}
 use Rattle.std.specs.Cmp.{tied_itself}
 use Rattle.vortex_base.proofs.Data.OrderLemmas.{value_cmp-total}
-use Rattle.vortex_base.proofs.Meanings.MeaningFits.{meaning-fits}
-use Rattle.vortex_base.specs.Trees.Between.{to_operator}
+use Rattle.vortex_expr.proofs.Meanings.MeaningFits.{meaning-fits}
+use Rattle.vortex_expr.specs.Trees.Between.{to_operator}
 use Rattle.vortex_base.specs.Data.Columns.{IsRow}
 use Rattle.vortex_base.specs.Data.Scalars.{Constant, is_optional_value}
 use Rattle.vortex_base.specs.Data.Types.{as_nullable}
 use Rattle.vortex_base.specs.Data.Values.{value_cmp}
-use Rattle.vortex_base.specs.Meanings.Fitting.{fits_row}
-use Rattle.vortex_base.specs.Meanings.Meaning.{applied, both, compared, either, holds, is_true, liked as liked_values, meaning, opposite, satisfies, truth, truth_value, within}
-use Rattle.vortex_base.specs.Meanings.RowTest.{is_wanted}
-use Rattle.vortex_base.specs.Meanings.Typing.{is_bool, is_utf8 as is_text_type, like_type, type_if, type_of, with_types}
-use Rattle.vortex_base.specs.Patterns.Like.{items, like as like_items, like_text}
-use Rattle.vortex_base.specs.Patterns.Prefix.{is_exact, literal_prefix, successor}
-use Rattle.vortex_base.specs.declared.like.Item.{Item}
-use Rattle.vortex_base.specs.Trees.Tree.{Tree, Place, column, literal, binary, between, is_null, is_not_null, not, like, stat, row_count, has_bare_column, has_row_count}
+use Rattle.vortex_expr.specs.Meanings.Fitting.{fits_row}
+use Rattle.vortex_expr.specs.Meanings.Meaning.{applied, both, compared, either, holds, is_true, liked as liked_values, meaning, opposite, satisfies, truth, truth_value, within}
+use Rattle.vortex_expr.specs.Meanings.RowTest.{is_wanted}
+use Rattle.vortex_expr.specs.Meanings.Typing.{is_bool, is_utf8 as is_text_type, like_type, type_if, type_of, with_types}
+use Rattle.vortex_expr.specs.Patterns.Like.{items, like as like_items, like_text}
+use Rattle.vortex_expr.specs.Patterns.Prefix.{is_exact, literal_prefix, successor}
+use Rattle.vortex_expr.specs.declared.like.Item.{Item}
+use Rattle.vortex_expr.specs.Trees.Tree.{Tree, Place, column, literal, binary, between, is_null, is_not_null, not, like, stat, row_count, has_bare_column, has_row_count}
 use Rattle.vortex_base.specs.declared.dtype.DType.{DType}
 use Rattle.vortex_base.specs.declared.dtype.DType.TheVariants as dtype
 use Rattle.vortex_base.specs.declared.error.BaseError.{BaseError}
-use Rattle.vortex_base.specs.declared.like.LikeOptions.{LikeOptions}
+use Rattle.vortex_expr.specs.declared.like.LikeOptions.{LikeOptions}
 use Rattle.vortex_base.specs.declared.scalar_value.ScalarValue.{ScalarValue}
 use Rattle.vortex_base.specs.declared.scalar_value.ScalarValue.TheVariants as value
-use Rattle.vortex_base.specs.declared.types.Operator.{Operator}
-use Rattle.vortex_base.specs.declared.types.Operator.TheVariants.{Eq, NotEq, Gt, Gte, Lt, Lte, And, Or}
-use Rattle.vortex_base.specs.declared.types.StrictComparison.{StrictComparison}
-use Rattle.vortex_base.specs.declared.types.StrictComparison.TheVariants.{Strict, NonStrict}
+use Rattle.vortex_expr.specs.declared.scalar_fn.Operator.{Operator}
+use Rattle.vortex_expr.specs.declared.scalar_fn.Operator.TheVariants.{Eq, NotEq, Gt, Gte, Lt, Lte, And, Or}
+use Rattle.vortex_expr.specs.declared.scalar_fn.StrictComparison.{StrictComparison}
+use Rattle.vortex_expr.specs.declared.scalar_fn.StrictComparison.TheVariants.{Strict, NonStrict}
 use Rattle.vortex_rewrite.proofs.Completeness.Decided.{comparison_applied}
 use Rattle.vortex_rewrite.proofs.Completeness.Interval.{is_comparison}
 use Rattle.vortex_rewrite.proofs.Soundness.TruthLogic.{true_and, true_or, truth_back}

@@ -1,7 +1,7 @@
 -- What is a literal truth, or has a property that no literal has: so is what two of these are connected to.
 use Rattle.std.proofs.Common.{◌≡◌, ◌⊎◌, inl, inr, Bool, true, false, Some, None, Option, refl, sym, subst, subst₂}
-use Rattle.vortex_base.specs.Trees.Tree.{Tree, Place, binary}
-use Rattle.vortex_base.specs.declared.types.Operator.TheVariants.{And, Or}
+use Rattle.vortex_expr.specs.Trees.Tree.{Tree, Place, binary}
+use Rattle.vortex_expr.specs.declared.scalar_fn.Operator.TheVariants.{And, Or}
 use Rattle.vortex_rewrite.specs.Rewriting.Falsifiers.{bool_literal}
 use Rattle.vortex_normal.specs.Pushed.{all_by, all_of, any_by, any_of, connected, decided}
 

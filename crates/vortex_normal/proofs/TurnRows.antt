@@ -1,7 +1,7 @@
 -- Worked rows of leaves and of turns, found by computation alone.
 use Rattle.std.specs.Prelude.{◌≡◌, true, false, refl}
-use Rattle.vortex_base.specs.Trees.Tree.{Tree, Place, binary, is_null, not}
-use Rattle.vortex_base.specs.declared.types.Operator.TheVariants.{Lt, Gt, And, Or}
+use Rattle.vortex_expr.specs.Trees.Tree.{Tree, Place, binary, is_null, not}
+use Rattle.vortex_expr.specs.declared.scalar_fn.Operator.TheVariants.{Lt, Gt, And, Or}
 use Rattle.vortex_normal.specs.Laws.{leaves, turns}
 use Rattle.vortex_normal.specs.Worked.{a, b, compare, range}
 

@@ -3,7 +3,7 @@ use Rattle.std.specs.Prelude.{◌≡◌, ◌<◌, ℕ, true, List, Option, Some,
 use Rattle.std.specs.BTreeMap.{BTreeMap, get}
 use Rattle.std.specs.List.{position}
 use Rattle.std.specs.Ordering.{nat_cmp}
-use Rattle.vortex_base.specs.Trees.Tree.{Place}
+use Rattle.vortex_expr.specs.Trees.Tree.{Place}
 use Rattle.vortex_normal.specs.declared.groups.Item.{Item as Kept}
 use Rattle.vortex_normal.specs.Groups.{is_of, item_of}
 

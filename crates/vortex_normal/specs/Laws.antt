@@ -2,10 +2,10 @@
 use Rattle.std.specs.Prelude.{◌≡◌, ◌+◌, ◌*◌, ◌^◌, ◌≤◌, ℕ, Bool, true, false, not as not_b, List, length, max}
 use Rattle.std.specs.List.{AllByRecursion}
 use Rattle.vortex_base.specs.Data.Scalars.{Constant}
-use Rattle.vortex_base.specs.Meanings.Meaning.{satisfies}
-use Rattle.vortex_base.specs.Trees.Tree.{Tree, Place, binary, between, not, like}
-use Rattle.vortex_base.specs.declared.types.Operator.{Operator}
-use Rattle.vortex_base.specs.declared.types.Operator.TheVariants.{And, Or}
+use Rattle.vortex_expr.specs.Meanings.Meaning.{satisfies}
+use Rattle.vortex_expr.specs.Trees.Tree.{Tree, Place, binary, between, not, like}
+use Rattle.vortex_expr.specs.declared.scalar_fn.Operator.{Operator}
+use Rattle.vortex_expr.specs.declared.scalar_fn.Operator.TheVariants.{And, Or}
 use Rattle.vortex_normal.specs.Balanced.{depth}
 use Rattle.vortex_normal.specs.Groups.{Item, grouped, item_test, items_test, normal}
 use Rattle.vortex_normal.specs.Intervals.{Interval, set_test}

@@ -4,11 +4,11 @@ use Rattle.std.specs.Option.{is_some}
 use Rattle.vortex_base.specs.Data.Columns.{cell_value}
 use Rattle.vortex_base.specs.Data.Scalars.{Constant}
 use Rattle.vortex_base.specs.Data.Values.{is_value}
-use Rattle.vortex_base.specs.Meanings.Meaning.{satisfies}
-use Rattle.vortex_base.specs.Trees.Tree.{Tree, Place, column, literal, binary, between, is_null, is_not_null, not, like, stat, row_count, has_bare_column, is_plain, some_node}
-use Rattle.vortex_base.specs.Trees.TreeEq.{place_eq}
+use Rattle.vortex_expr.specs.Meanings.Meaning.{satisfies}
+use Rattle.vortex_expr.specs.Trees.Tree.{Tree, Place, column, literal, binary, between, is_null, is_not_null, not, like, stat, row_count, has_bare_column, is_plain, some_node}
+use Rattle.vortex_expr.specs.Trees.TreeEq.{place_eq}
 use Rattle.vortex_base.specs.declared.scalar_value.ScalarValue.{ScalarValue}
-use Rattle.vortex_base.specs.declared.types.Operator.TheVariants.{And, Or}
+use Rattle.vortex_expr.specs.declared.scalar_fn.Operator.TheVariants.{And, Or}
 use Rattle.vortex_rewrite.specs.Rewriting.Predicates.{is_predicate}
 use Rattle.vortex_rewrite.specs.Rewriting.ReadOnce.{are_apart, columns_of, has_closed_end, is_apart, is_number_type, is_simple_binary}
 use Rattle.vortex_normal.specs.Groups.{normal}

@@ -2,21 +2,21 @@
 use Rattle.std.specs.Prelude.{ℕ, Bool, true, false, ◌&&◌, ◌||◌, not as not_b, List, [], ◌∷◌, Option, Some, None, is_none, encode_utf8_all, if◌then◌else◌}
 use Rattle.std.specs.Str.{chars}
 use Rattle.std.specs.declared.cmp.Ordering.TheVariants.{Equal}
-use Rattle.vortex_base.specs.declared.types.Operator.{Operator}
-use Rattle.vortex_base.specs.declared.types.Operator.TheVariants.{Eq, NotEq, Gt, Gte, Lt, Lte, And, Or}
-use Rattle.vortex_base.specs.declared.types.BetweenOptions.{BetweenOptions}
+use Rattle.vortex_expr.specs.declared.scalar_fn.Operator.{Operator}
+use Rattle.vortex_expr.specs.declared.scalar_fn.Operator.TheVariants.{Eq, NotEq, Gt, Gte, Lt, Lte, And, Or}
+use Rattle.vortex_expr.specs.declared.scalar_fn.BetweenOptions.{BetweenOptions}
 use Rattle.vortex_base.specs.declared.dtype.DType.TheVariants as dtype
-use Rattle.vortex_base.specs.declared.like.LikeOptions.{LikeOptions}
-use Rattle.vortex_base.specs.declared.like.Item.{Item}
-use Rattle.vortex_base.specs.declared.like.Item.TheVariants.{Char, AnyChar, AnyRun}
-use Rattle.vortex_base.specs.Patterns.Like.{items}
-use Rattle.vortex_base.specs.Patterns.Prefix.{has_next, is_exact, literal_prefix, successor}
+use Rattle.vortex_expr.specs.declared.like.LikeOptions.{LikeOptions}
+use Rattle.vortex_expr.specs.declared.like.Item.{Item}
+use Rattle.vortex_expr.specs.declared.like.Item.TheVariants.{Char, AnyChar, AnyRun}
+use Rattle.vortex_expr.specs.Patterns.Like.{items}
+use Rattle.vortex_expr.specs.Patterns.Prefix.{has_next, is_exact, literal_prefix, successor}
 use Rattle.vortex_base.specs.declared.types.Nullability.TheVariants.{Nullable}
-use Rattle.vortex_base.specs.Trees.Between.{to_operator}
-use Rattle.vortex_base.specs.Trees.Tree.{Tree, Place, column, literal, binary, between, is_null, is_not_null, not, like, has_bare_column, is_plain}
-use Rattle.vortex_base.specs.Trees.TreeEq.{tree_eq}
-use Rattle.vortex_base.specs.Meanings.Meaning.{holds, is_true, meaning, satisfies, truth}
-use Rattle.vortex_base.specs.Meanings.RowTest.{is_wanted}
+use Rattle.vortex_expr.specs.Trees.Between.{to_operator}
+use Rattle.vortex_expr.specs.Trees.Tree.{Tree, Place, column, literal, binary, between, is_null, is_not_null, not, like, has_bare_column, is_plain}
+use Rattle.vortex_expr.specs.Trees.TreeEq.{tree_eq}
+use Rattle.vortex_expr.specs.Meanings.Meaning.{holds, is_true, meaning, satisfies, truth}
+use Rattle.vortex_expr.specs.Meanings.RowTest.{is_wanted}
 use Rattle.vortex_rewrite.specs.Rewriting.Falsifiers.{bool_literal, bytes_literal, text_in}
 
 -- ---- leaves

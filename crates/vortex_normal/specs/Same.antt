@@ -2,9 +2,9 @@
 use Rattle.std.specs.Prelude.{◌≡◌, ◌<◌, ◌^◌, ℕ, Bool, List, IsTrue}
 use Rattle.vortex_base.specs.Data.Columns.{IsRow}
 use Rattle.vortex_base.specs.Data.Scalars.{Constant}
-use Rattle.vortex_base.specs.Meanings.Fitting.{fits_row}
-use Rattle.vortex_base.specs.Meanings.Meaning.{satisfies}
-use Rattle.vortex_base.specs.Trees.Tree.{Tree, Place, all_columns, is_plain}
+use Rattle.vortex_expr.specs.Meanings.Fitting.{fits_row}
+use Rattle.vortex_expr.specs.Meanings.Meaning.{satisfies}
+use Rattle.vortex_expr.specs.Trees.Tree.{Tree, Place, all_columns, is_plain}
 
 -- on every row that the first fits, the second is satisfied exactly where the first is
 abbrev pub Same : (p q : Tree Place) → Type 0

@@ -17,11 +17,11 @@ use crate::ranges::combined;
 use crate::tests_of::values_test;
 use std::alloc::Global;
 use std::collections::BTreeMap;
-use vortex_base::bound_expression::BoundExpression;
-use vortex_base::bound_expression::parts::Parts;
 use vortex_base::dtype::DType;
 use vortex_base::scalar::Scalar;
-use vortex_base::types::Operator;
+use vortex_expr::bound_expression::BoundExpression;
+use vortex_expr::bound_expression::parts::Parts;
+use vortex_expr::scalar_fn::Operator;
 use vortex_stats::error::StatsError;
 
 /// The column at a place, of a type, is null where that counts, or has a value in sets that the

@@ -10,7 +10,7 @@ ghost use Rattle.vortex_normal.specs.Separate.{hull, lower};
 use std::alloc::Global;
 use std::cmp::Ordering;
 use vortex_base::scalar_value::ScalarValue;
-use vortex_base::types::Operator;
+use vortex_expr::scalar_fn::Operator;
 use vortex_stats::error::StatsError;
 
 /// A place between values, in their order; the values are lent by the predicate that names them.

@@ -1,25 +1,26 @@
 //! Leaves and connectives of a normal form.
 ghost use Rattle.std.specs.Prelude.{◌≡◌, [], IsOk, IsTrue, false};
-ghost use Rattle.vortex_base.specs.Trees.Tree as tree;
-ghost use Rattle.vortex_base.specs.Trees.Tree.{has_bare_column, is_plain};
+ghost use Rattle.vortex_expr.specs.Trees.Tree as tree;
+ghost use Rattle.vortex_expr.specs.Trees.Tree.{has_bare_column, is_plain};
 ghost use Rattle.vortex_base.specs.Data.Scalars.{is_optional_value};
-ghost use Rattle.vortex_base.specs.Meanings.Meaning.{meaning};
-ghost use Rattle.vortex_base.specs.Meanings.Typing.{type_of};
+ghost use Rattle.vortex_expr.specs.Meanings.Meaning.{meaning};
+ghost use Rattle.vortex_expr.specs.Meanings.Typing.{type_of};
 ghost use Rattle.vortex_base.specs.declared.types.Nullability.TheVariants.{Nullable};
 ghost use Rattle.vortex_rewrite.specs.Answers.{Makes};
 ghost use Rattle.vortex_normal.specs.Pushed as normal;
 
 use crate::predicate::Predicate;
 use std::alloc::Global;
-use vortex_base::bound;
-use vortex_base::bound_expression::BoundExpression;
-use vortex_base::bound_expression::parts::Parts;
 use vortex_base::dtype::DType;
-use vortex_base::evaluate::evaluate;
 use vortex_base::row::Row;
 use vortex_base::scalar::Scalar;
 use vortex_base::scalar_value::ScalarValue;
-use vortex_base::types::{Nullability, Operator};
+use vortex_base::types::Nullability;
+use vortex_expr::bound;
+use vortex_expr::bound_expression::BoundExpression;
+use vortex_expr::bound_expression::parts::Parts;
+use vortex_expr::evaluate::evaluate;
+use vortex_expr::scalar_fn::Operator;
 use vortex_rewrite::built::{built, cloned};
 use vortex_stats::error::StatsError;
 

@@ -9,8 +9,8 @@ ghost use Rattle.vortex_normal.specs.Same.{HasNoOther, Same, StaysPlain};
 use crate::groups::grouped;
 use crate::pushed::pushed;
 use std::alloc::Global;
-use vortex_base::bound_expression::BoundExpression;
 use vortex_base::dtype::DType;
+use vortex_expr::bound_expression::BoundExpression;
 use vortex_stats::error::StatsError;
 
 fn is_truth(expression: &BoundExpression) -> bool

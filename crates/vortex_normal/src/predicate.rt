@@ -1,20 +1,21 @@
 //! Expressions of type Bool.
 ghost use Rattle.std.specs.Prelude.{◌≡◌, IsOk, IsTrue};
-ghost use Rattle.vortex_base.specs.Trees.Tree as tree;
-ghost use Rattle.vortex_base.specs.Meanings.Typing.{type_of};
+ghost use Rattle.vortex_expr.specs.Trees.Tree as tree;
+ghost use Rattle.vortex_expr.specs.Meanings.Typing.{type_of};
 ghost use Rattle.vortex_rewrite.specs.Answers.{Makes};
 ghost use Rattle.vortex_rewrite.specs.Rewriting.Predicates.{is_connective, is_predicate};
 ghost use Rattle.vortex_rewrite.specs.Rewriting.Falsifiers.{bool_literal};
 
 use std::alloc::Global;
 use std::marker::Model;
-use vortex_base::bound;
-use vortex_base::bound_expression::BoundExpression;
 use vortex_base::dtype::DType;
-use vortex_base::like::LikeOptions;
 use vortex_base::scalar::Scalar;
 use vortex_base::scalar_value::ScalarValue;
-use vortex_base::types::{BetweenOptions, Nullability, Operator};
+use vortex_base::types::Nullability;
+use vortex_expr::bound;
+use vortex_expr::bound_expression::BoundExpression;
+use vortex_expr::like::LikeOptions;
+use vortex_expr::scalar_fn::{BetweenOptions, Operator};
 use vortex_rewrite::built::{built, cloned};
 use vortex_stats::error::StatsError;
 
@@ -26,8 +27,8 @@ pub(crate) struct Predicate {
 
 impl Model for Predicate {
     ghost use Rattle.std.specs.Prelude.{IsTrue};
-    ghost use Rattle.vortex_base.specs.Trees.Tree.{Tree, Place};
-    ghost use Rattle.vortex_base.specs.Trees.TreeCode.{tree_code, place_code};
+    ghost use Rattle.vortex_expr.specs.Trees.Tree.{Tree, Place};
+    ghost use Rattle.vortex_expr.specs.Trees.TreeCode.{tree_code, place_code};
 
     ghost Value = { Tree Place };
 

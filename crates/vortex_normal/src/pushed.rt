@@ -2,22 +2,22 @@
 ghost use Rattle.std.specs.Prelude.{◌≡◌, IsTrue};
 ghost use Rattle.vortex_rewrite.specs.Answers.{Makes};
 ghost use Rattle.vortex_rewrite.specs.Rewriting.Predicates.{is_predicate};
-ghost use Rattle.vortex_base.specs.Trees.Tree as tree;
-ghost use Rattle.vortex_base.specs.Meanings.Typing.{type_of};
+ghost use Rattle.vortex_expr.specs.Trees.Tree as tree;
+ghost use Rattle.vortex_expr.specs.Meanings.Typing.{type_of};
 ghost use Rattle.std.specs.Prelude.{IsOk};
-ghost use Rattle.vortex_base.specs.Meanings.Meaning.{truth as truth_of};
-ghost use Rattle.vortex_base.specs.Meanings.RowTest.{is_wanted as wanted_of};
+ghost use Rattle.vortex_expr.specs.Meanings.Meaning.{truth as truth_of};
+ghost use Rattle.vortex_expr.specs.Meanings.RowTest.{is_wanted as wanted_of};
 ghost use Rattle.vortex_normal.specs.Pushed as normal;
 
 use crate::leaves::{comparison, connected, null_test, operator_as};
 use crate::likes::{like_as, liked};
 use crate::predicate::{Predicate, truth_literal};
 use std::alloc::Global;
-use vortex_base::bound_expression::BoundExpression;
-use vortex_base::bound_expression::parts::Parts;
 use vortex_base::scalar::Scalar;
 use vortex_base::scalar_value::ScalarValue;
-use vortex_base::types::{BetweenOptions, Operator};
+use vortex_expr::bound_expression::BoundExpression;
+use vortex_expr::bound_expression::parts::Parts;
+use vortex_expr::scalar_fn::{BetweenOptions, Operator};
 use vortex_rewrite::built::cloned;
 use vortex_stats::error::StatsError;
 

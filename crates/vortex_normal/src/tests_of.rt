@@ -1,6 +1,6 @@
 //! Sets of values as predicates of a column.
 ghost use Rattle.std.specs.Prelude.{◌≡◌, IsTrue, Some, false, map, option_map};
-ghost use Rattle.vortex_base.specs.Trees.Tree as tree;
+ghost use Rattle.vortex_expr.specs.Trees.Tree as tree;
 ghost use Rattle.vortex_base.specs.Data.Values.{is_value};
 ghost use Rattle.vortex_rewrite.specs.Answers.{Makes, OkOrMemory};
 ghost use Rattle.vortex_rewrite.specs.Rewriting.Predicates.{is_connective};
@@ -12,12 +12,12 @@ use crate::balanced::balanced;
 use crate::interval::{Cut, Interval, is_at_most};
 use crate::predicate::Predicate;
 use std::alloc::Global;
-use vortex_base::bound;
-use vortex_base::bound_expression::BoundExpression;
 use vortex_base::dtype::DType;
 use vortex_base::scalar::Scalar;
 use vortex_base::scalar_value::ScalarValue;
-use vortex_base::types::{BetweenOptions, Operator, StrictComparison};
+use vortex_expr::bound;
+use vortex_expr::bound_expression::BoundExpression;
+use vortex_expr::scalar_fn::{BetweenOptions, Operator, StrictComparison};
 use vortex_rewrite::built::built;
 use vortex_stats::error::StatsError;
 

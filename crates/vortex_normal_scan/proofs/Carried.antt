@@ -11,9 +11,9 @@ use Rattle.vortex_base.specs.Data.Scalars.{Constant, is_optional_value, null_of}
 use Rattle.vortex_base.specs.Data.Scopes.{Named}
 use Rattle.vortex_base.specs.Data.Types.{as_nullable, dtype_eq_is_exact, eq_ignore_nullability}
 use Rattle.vortex_base.specs.Data.Values.{is_value, value_cmp}
-use Rattle.vortex_base.specs.Meanings.Fitting.{is_cell_of, is_of_type}
-use Rattle.vortex_base.specs.Meanings.Meaning.{is_true, satisfies}
-use Rattle.vortex_base.specs.Trees.Tree.{Tree, Place, is_plain}
+use Rattle.vortex_expr.specs.Meanings.Fitting.{is_cell_of, is_of_type}
+use Rattle.vortex_expr.specs.Meanings.Meaning.{is_true, satisfies}
+use Rattle.vortex_expr.specs.Trees.Tree.{Tree, Place, is_plain}
 use Rattle.vortex_base.specs.declared.dtype.DType.{DType}
 use Rattle.vortex_base.specs.declared.dtype.DType.TheVariants as dtype
 use Rattle.vortex_base.specs.declared.scalar_value.ScalarValue.{ScalarValue}

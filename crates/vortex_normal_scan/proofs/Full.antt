@@ -5,12 +5,12 @@ use Rattle.std.proofs.Common.{length, get_or}
 use Rattle.std.specs.List.{AllByRecursion, enumerate_from, filter, flat_map, range_with_len}
 use Rattle.std.proofs.lemmas.Bool.{and_parts, or_parts, not-true}
 use Rattle.vortex_base.proofs.Data.RowLemmas.{row_of-IsRow}
-use Rattle.vortex_base.proofs.Data.RowsFit.{rows-fit}
+use Rattle.vortex_expr.proofs.Meanings.RowsFit.{rows-fit}
 use Rattle.vortex_base.specs.Data.Columns.{ChunkData, IsChunk, row_of, row_count as rows_of}
 use Rattle.vortex_base.specs.Data.Scalars.{Constant}
-use Rattle.vortex_base.specs.Meanings.Fitting.{fits_scope}
-use Rattle.vortex_base.specs.Meanings.Meaning.{applied, is_true, liked, meaning, opposite, satisfies, truth, truth_value, within}
-use Rattle.vortex_base.specs.Trees.Tree.{Tree, Place, column, literal, binary, between, is_null, is_not_null, not, like, stat, row_count, has_placeholder, has_row_count, is_plain}
+use Rattle.vortex_expr.specs.Meanings.Fitting.{fits_scope}
+use Rattle.vortex_expr.specs.Meanings.Meaning.{applied, is_true, liked, meaning, opposite, satisfies, truth, truth_value, within}
+use Rattle.vortex_expr.specs.Trees.Tree.{Tree, Place, column, literal, binary, between, is_null, is_not_null, not, like, stat, row_count, has_placeholder, has_row_count, is_plain}
 use Rattle.vortex_base.specs.declared.scalar_value.ScalarValue.TheVariants as value
 use Rattle.vortex_prune.specs.Part.{AreParts, PartData}
 use Rattle.vortex_prune.specs.Scanning.Selection.{full, satisfying_rows}

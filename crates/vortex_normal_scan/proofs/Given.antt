@@ -6,8 +6,8 @@ use Rattle.std.proofs.lemmas.List.Elements.{recursion_from_All}
 use Rattle.std.proofs.lemmas.Option.{same_Some, slice_get-map, slice_get_within}
 use Rattle.vortex_base.specs.Data.Columns.{row_count as rows_of}
 use Rattle.vortex_base.specs.Data.Scopes.{Named}
-use Rattle.vortex_base.specs.Meanings.Fitting.{fits_scope}
-use Rattle.vortex_base.specs.Trees.Tree.{Tree, Place, is_plain}
+use Rattle.vortex_expr.specs.Meanings.Fitting.{fits_scope}
+use Rattle.vortex_expr.specs.Trees.Tree.{Tree, Place, is_plain}
 use Rattle.vortex_base.specs.Data.Values.{value_cmp}
 use Rattle.vortex_prune.proofs.Honesty.ZoneLemmas.{part_is_zone}
 use Rattle.vortex_prune.proofs.Scanning.BinderScan.{element_there}

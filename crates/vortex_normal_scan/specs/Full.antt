@@ -1,8 +1,8 @@
 -- Predicates that are satisfied by the same rows select the same rows.
 use Rattle.std.specs.Prelude.{◌≡◌, List, IsTrue}
 use Rattle.std.specs.List.{AllByRecursion}
-use Rattle.vortex_base.specs.Meanings.Fitting.{fits_scope}
-use Rattle.vortex_base.specs.Trees.Tree.{Tree, Place, is_plain}
+use Rattle.vortex_expr.specs.Meanings.Fitting.{fits_scope}
+use Rattle.vortex_expr.specs.Trees.Tree.{Tree, Place, is_plain}
 use Rattle.vortex_prune.specs.Part.{IsPart, PartData}
 use Rattle.vortex_prune.specs.Scanning.Selection.{full}
 use Rattle.vortex_normal.specs.Same.{Same}

@@ -1,7 +1,7 @@
 //! Scans by the normal form of a predicate.
 ghost use Rattle.std.specs.Prelude.{◌≡◌, ◌-◌, ◌^◌, ℕ, [], All, Err, IfErr, IfOk, IsTrue, false, length, min, true};
-ghost use Rattle.vortex_base.specs.Meanings.Fitting.{fits_scope};
-ghost use Rattle.vortex_base.specs.Trees.Tree.{Place, is_plain};
+ghost use Rattle.vortex_expr.specs.Meanings.Fitting.{fits_scope};
+ghost use Rattle.vortex_expr.specs.Trees.Tree.{Place, is_plain};
 ghost use Rattle.vortex_stats.specs.declared.error.StatsError.TheVariants.{NotPredicate};
 ghost use Rattle.vortex_rewrite.specs.Answers.{IsMemory};
 ghost use Rattle.vortex_rewrite.specs.Causes.{IsRefusal};
@@ -19,7 +19,7 @@ ghost use Rattle.vortex_normal.specs.Groups.{normal};
 ghost use Rattle.vortex_normal.specs.OneColumn.{IsJoining, IsSelective, are_ends_seen, is_over};
 
 use std::alloc::Global;
-use vortex_base::bound_expression::BoundExpression;
+use vortex_expr::bound_expression::BoundExpression;
 use vortex_normal::normalize::normalize;
 use vortex_prune::bind::stat_binder::StatBinder;
 use vortex_prune::part::Part;

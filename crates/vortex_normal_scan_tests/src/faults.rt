@@ -1,7 +1,7 @@
 //! Refusals of what isn't a predicate, and of a rule that fails.
 use crate::testing::*;
 use std::alloc::Global;
-use vortex_base::ScalarFnId;
+use vortex_expr::ScalarFnId;
 use vortex_prune::{Rules, StatsRewriteRuleRef};
 use vortex_rewrite_testing::hooks::{Claim, Claiming};
 use vortex_rewrite_testing::nodes::*;

@@ -1,7 +1,8 @@
 //! Zones of one column of texts, pruned by LIKE as it is and by its normal form.
 use std::alloc::{AllocError, Global};
 use std::process::Abort;
-use vortex_base::{BoundExpression, LikeOptions, ScalarValue, Scope};
+use vortex_base::{ScalarValue, Scope};
+use vortex_expr::{BoundExpression, LikeOptions};
 use vortex_normal_scan::prune::prune_normalized;
 use vortex_prune::{Pruned, Rules, Zone, ZoneMap, prune};
 use vortex_rewrite_testing::nodes::*;

@@ -2,11 +2,12 @@
 //! without a contract that take what other calls answered: a test is one straight line of calls.
 ghost use Rattle.std.specs.Bool.{OnTrue};
 ghost use Rattle.std.specs.Prelude.{All, IfOk, IsTrue, ◌≡◌};
-ghost use Rattle.vortex_base.specs.Meanings.Fitting.{fits_scope};
+ghost use Rattle.vortex_expr.specs.Meanings.Fitting.{fits_scope};
 
 use std::alloc::{AllocError, Global};
 use std::process::Abort;
-use vortex_base::{BoundExpression, Chunk, Column, ScalarValue, Scope};
+use vortex_base::{Chunk, Column, ScalarValue, Scope};
+use vortex_expr::BoundExpression;
 use vortex_normal_scan::prune::prune_normalized;
 use vortex_normal_scan::scan::scan_normalized;
 use vortex_prune::scan::scan;

@@ -1,7 +1,8 @@
 //! Normal forms of predicates over the columns a and b of I32 with nulls, c of Bool and s of texts.
 use std::alloc::Global;
 use std::process::Abort;
-use vortex_base::{BoundExpression, DType, Nullability, PType, ScalarValue};
+use vortex_base::{DType, Nullability, PType, ScalarValue};
+use vortex_expr::BoundExpression;
 use vortex_normal::normalize::normalize;
 use vortex_rewrite_testing::nodes::*;
 use vortex_stats::StatsError;

@@ -7,10 +7,10 @@ use Rattle.vortex_base.specs.declared.error.BaseError.{BaseError}
 use Rattle.vortex_base.specs.declared.scalar_value.ScalarValue.{ScalarValue}
 use Rattle.vortex_base.specs.Data.Columns.{ColumnData}
 use Rattle.vortex_base.specs.Data.Scalars.{Constant, IsConstant}
-use Rattle.vortex_base.specs.Trees.Tree.{Tree, Place, literal, stat}
-use Rattle.vortex_base.specs.Trees.TreeEq.{aggregate_eq, tree_eq}
+use Rattle.vortex_expr.specs.Trees.Tree.{Tree, Place, literal, stat}
+use Rattle.vortex_expr.specs.Trees.TreeEq.{aggregate_eq, tree_eq}
 use Rattle.vortex_base.specs.Data.Types.{eq_ignore_nullability}
-use Rattle.vortex_base.specs.Meanings.Typing.{type_of}
+use Rattle.vortex_expr.specs.Meanings.Typing.{type_of}
 use Rattle.vortex_own_rules.specs.declared.known.Entry.{Entry}
 use Rattle.vortex_prune.specs.Binding.Binders.{BinderAnswer}
 use Rattle.vortex_rewrite.specs.Facts.{IsFact, IsHonest, is_over, meanings, size_of}

@@ -4,19 +4,19 @@ use Rattle.std.specs.Prelude.{MatchBool, Result, Ok, Err, option_map, ifâ—Œthenâ
 use Rattle.std.specs.List.{AllByRecursion}
 use Rattle.std.proofs.lemmas.Bool.{and_parts}
 use Rattle.std.proofs.lemmas.Option.{none-some, same_Some}
-use Rattle.vortex_base.proofs.Meanings.MeaningFits.{is_value-as_nullable, null_fits}
+use Rattle.vortex_expr.proofs.Meanings.MeaningFits.{is_value-as_nullable, null_fits}
 use Rattle.vortex_base.specs.declared.aggregate.AggregateFnRef.{AggregateFnRef}
 use Rattle.vortex_base.specs.declared.dtype.DType.{DType}
 use Rattle.vortex_base.specs.declared.error.BaseError.{BaseError}
 use Rattle.vortex_base.specs.declared.scalar_value.ScalarValue.{ScalarValue}
 use Rattle.vortex_base.specs.Data.Columns.{ColumnData}
 use Rattle.vortex_base.specs.Data.Exact.{IsExact}
-use Rattle.vortex_base.specs.Meanings.Meaning.{meaning}
+use Rattle.vortex_expr.specs.Meanings.Meaning.{meaning}
 use Rattle.vortex_base.specs.Data.Scalars.{Constant, is_optional_value, null_of}
-use Rattle.vortex_base.specs.Trees.Tree.{Tree, Place, literal, stat}
-use Rattle.vortex_base.specs.Trees.TreeEq.{aggregate_eq, tree_eq, tree_eq_is_exact}
+use Rattle.vortex_expr.specs.Trees.Tree.{Tree, Place, literal, stat}
+use Rattle.vortex_expr.specs.Trees.TreeEq.{aggregate_eq, tree_eq, tree_eq_is_exact}
 use Rattle.vortex_base.specs.Data.Types.{as_nullable, dtype_eq_is_exact, eq_ignore_nullability}
-use Rattle.vortex_base.specs.Meanings.Typing.{type_of}
+use Rattle.vortex_expr.specs.Meanings.Typing.{type_of}
 use Rattle.vortex_own_rules.specs.declared.known.Entry.{Entry}
 use Rattle.vortex_own_rules.specs.Known.{IsKnownOf, KnownFactsAreHonest, found, is_for, known_answer, known_at, known_values, value_found}
 use Rattle.vortex_prune.specs.Binding.Binders.{IsAnswerOf, IsFaithful}

@@ -1,8 +1,8 @@
 -- Comparisons and patterns that an operand makes null in every row.
 use Rattle.std.specs.Prelude.{true, Option, Some, None, is_none, if◌then◌else◌}
 use Rattle.vortex_base.specs.declared.aggregate.AggregateFnRef.TheVariants.{AllNull}
-use Rattle.vortex_base.specs.declared.types.Operator.TheVariants.{Or}
-use Rattle.vortex_base.specs.Trees.Tree.{Tree, Place, literal, binary, like, stat}
+use Rattle.vortex_expr.specs.declared.scalar_fn.Operator.TheVariants.{Or}
+use Rattle.vortex_expr.specs.Trees.Tree.{Tree, Place, literal, binary, like, stat}
 use Rattle.vortex_rewrite.specs.Rewriting.Predicates.{is_connective}
 use Rattle.vortex_rewrite.specs.Rewriting.Falsifiers.{bool_literal, either_of}
 

@@ -3,14 +3,14 @@ use Rattle.std.proofs.Common.{◌≡◌, ◌∙◌, ℕ, Bool, true, false, List
 use Rattle.std.specs.Prelude.{is_none, if◌then◌else◌}
 use Rattle.std.proofs.lemmas.Option.{same_Some, none-some, cond_some}
 use Rattle.vortex_base.specs.declared.aggregate.AggregateFnRef.TheVariants.{AllNull}
-use Rattle.vortex_base.specs.declared.like.LikeOptions.{LikeOptions}
-use Rattle.vortex_base.specs.declared.types.Operator.{Operator}
-use Rattle.vortex_base.specs.declared.types.Operator.TheVariants.{Eq, NotEq, Gt, Gte, Lt, Lte, And, Or}
+use Rattle.vortex_expr.specs.declared.like.LikeOptions.{LikeOptions}
+use Rattle.vortex_expr.specs.declared.scalar_fn.Operator.{Operator}
+use Rattle.vortex_expr.specs.declared.scalar_fn.Operator.TheVariants.{Eq, NotEq, Gt, Gte, Lt, Lte, And, Or}
 use Rattle.vortex_base.specs.declared.scalar_value.ScalarValue.{ScalarValue}
 use Rattle.vortex_base.specs.Data.Columns.{row_of, row_count as rows_of}
-use Rattle.vortex_base.specs.Meanings.Meaning.{applied, holds, is_like, is_true, meaning, truth_value, unless_null}
+use Rattle.vortex_expr.specs.Meanings.Meaning.{applied, holds, is_like, is_true, meaning, truth_value, unless_null}
 use Rattle.vortex_base.specs.Data.Scalars.{Constant}
-use Rattle.vortex_base.specs.Trees.Tree.{Tree, Place, literal, binary, like, stat}
+use Rattle.vortex_expr.specs.Trees.Tree.{Tree, Place, literal, binary, like, stat}
 use Rattle.vortex_base.specs.Data.Values.{value_cmp}
 use Rattle.vortex_own_rules.specs.NullOperands.{either_null, null_operands, null_proof}
 use Rattle.vortex_rewrite.proofs.Soundness.RowFacts.{right_at}

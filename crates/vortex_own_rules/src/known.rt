@@ -1,7 +1,7 @@
 //! A binder that answers what it was told, and a scan by such binders.
 ghost use Rattle.std.specs.Prelude.{◌≡◌, [], All, Err, IfErr, IfOk, IsTrue, MatchResult, false, length};
-ghost use Rattle.vortex_base.specs.Meanings.Fitting.{fits_scope};
-ghost use Rattle.vortex_base.specs.Trees.Tree.{is_plain};
+ghost use Rattle.vortex_expr.specs.Meanings.Fitting.{fits_scope};
+ghost use Rattle.vortex_expr.specs.Trees.Tree.{is_plain};
 ghost use Rattle.vortex_own_rules.specs.Known.{KnownFactsAreHonest, is_for as is_for_of};
 ghost use Rattle.vortex_own_rules.specs.Known.{known_answer as known_answer_of};
 ghost use Rattle.vortex_own_rules.specs.KnownParts.{AreKnown};
@@ -12,7 +12,8 @@ ghost use Rattle.vortex_rewrite.specs.Rewriting.Predicates.{is_predicate};
 ghost use Rattle.vortex_stats.specs.declared.error.StatsError.TheVariants.{NotPredicate};
 
 use std::alloc::Global;
-use vortex_base::{AggregateFnRef, BoundExpression, DType, Scalar, bound};
+use vortex_base::{AggregateFnRef, DType, Scalar};
+use vortex_expr::{BoundExpression, bound};
 use vortex_prune::scan::scan;
 use vortex_prune::{HookFault, Part, Rules, Scan, StatBinder};
 use vortex_stats::StatsError;

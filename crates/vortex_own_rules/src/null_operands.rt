@@ -6,9 +6,9 @@ ghost use Rattle.vortex_rewrite.specs.HookFaults.{IsHookFault};
 ghost use Rattle.vortex_rewrite.specs.Rewriting.Predicates.{is_connective, is_predicate};
 
 use std::alloc::Global;
-use vortex_base::Parts;
-use vortex_base::bound_expression::BoundExpression;
-use vortex_base::types::{Operator, ScalarFnId};
+use vortex_expr::Parts;
+use vortex_expr::bound_expression::BoundExpression;
+use vortex_expr::scalar_fn::{Operator, ScalarFnId};
 use vortex_rewrite::expr::bound::all_null;
 use vortex_rewrite::expr::proofs::{either, truth};
 use vortex_rewrite::{HookFault, StatsRewriteRule};

@@ -1,7 +1,8 @@
 //! The binder of what it was told: the entry that fits, by its input, its aggregate and its type.
 use std::alloc::{AllocError, Global};
 use std::process::Abort;
-use vortex_base::{AggregateFnRef, BoundExpression, DType, ScalarValue};
+use vortex_base::{AggregateFnRef, DType, ScalarValue};
+use vortex_expr::BoundExpression;
 use vortex_own_rules::known::{Entry, Known};
 use vortex_prune::{HookFault, StatBinder};
 use vortex_rewrite_testing::nodes::*;

@@ -1,7 +1,8 @@
 //! The rule beside the built-in ones, over a column a of I32 and a column s of texts.
 use std::alloc::{AllocError, Global};
 use std::process::Abort;
-use vortex_base::{AggregateFnRef, BoundExpression, ScalarFnId};
+use vortex_base::AggregateFnRef;
+use vortex_expr::{BoundExpression, ScalarFnId};
 use vortex_own_rules::null_operands::NullOperands;
 use vortex_rewrite::Rules;
 use vortex_rewrite::rewrite::{falsify, satisfy};

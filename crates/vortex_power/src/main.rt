@@ -7,11 +7,11 @@
 use anyhow::Result;
 use std::alloc::Global;
 use std::io::{self, BufRead, BufReader, BufWriter, Write};
-use vortex_base::bound_expression::BoundExpression;
 use vortex_base::dtype::DType;
 use vortex_base::scalar_value::ScalarValue;
 use vortex_base::scope::Scope;
 use vortex_base::types::{Nullability, PType};
+use vortex_expr::bound_expression::BoundExpression;
 use vortex_normal_scan::prune::prune_normalized;
 use vortex_prune::scan::prune::prune;
 use vortex_prune::zone::Zone;

@@ -3,8 +3,8 @@ use Rattle.std.specs.Prelude.{◌≡◌, ℕ, List, None}
 use Rattle.vortex_base.specs.declared.dtype.DType.{DType}
 use Rattle.vortex_base.specs.Data.Scalars.{Constant, null_of}
 use Rattle.vortex_base.specs.Data.Types.{as_nullable}
-use Rattle.vortex_base.specs.Meanings.Meaning.{meaning}
-use Rattle.vortex_base.specs.Trees.Tree.{literal}
+use Rattle.vortex_expr.specs.Meanings.Meaning.{meaning}
+use Rattle.vortex_expr.specs.Trees.Tree.{literal}
 use Rattle.vortex_rewrite.specs.Facts.{IsHonest}
 use Rattle.vortex_prune.specs.Binding.Binders.{IsAnswerOf}
 use Rattle.vortex_prune.specs.Part.{IsPart, IsTruePart, PartData}

@@ -11,10 +11,10 @@ use Rattle.vortex_base.specs.declared.scalar_value.ScalarValue.{ScalarValue}
 use Rattle.vortex_base.specs.Data.Columns.{ChunkData, ColumnData, appended_chunk, cell_value, emptied_chunk, row_count as rows_of}
 use Rattle.vortex_base.specs.Data.Scalars.{Constant}
 use Rattle.vortex_base.specs.Data.Scopes.{Named}
-use Rattle.vortex_base.specs.Trees.Tree.{column}
-use Rattle.vortex_base.specs.Trees.TreeEq.{aggregate_eq}
+use Rattle.vortex_expr.specs.Trees.Tree.{column}
+use Rattle.vortex_expr.specs.Trees.TreeEq.{aggregate_eq}
 use Rattle.vortex_base.specs.Data.Types.{dtype_eq, eq_ignore_nullability}
-use Rattle.vortex_base.specs.Meanings.Typing.{stat_type}
+use Rattle.vortex_expr.specs.Meanings.Typing.{stat_type}
 use Rattle.vortex_stats.specs.Sets.Entries.{entries_fit}
 use Rattle.vortex_prune.specs.Binding.Binders.{BinderAnswer}
 use Rattle.vortex_prune.specs.Part.{AreParts, AreZonesOf, Entries, PartData, ZoneData, zone_of}

@@ -1,9 +1,9 @@
 //! Binding: each placeholder of an expression is replaced by what a binder answers to it.
 ghost use Rattle.std.specs.Prelude.{◌≡◌, false, Ok, Err, IfOk, IfErr, IsTrue, MatchResult};
-ghost use Rattle.vortex_base.specs.Meanings.Fitting.{fits_row};
-ghost use Rattle.vortex_base.specs.Meanings.Meaning.{meaning};
-ghost use Rattle.vortex_base.specs.Trees.Tree.{stat, has_bare_column, has_placeholder};
-ghost use Rattle.vortex_base.specs.Meanings.Typing.{type_of};
+ghost use Rattle.vortex_expr.specs.Meanings.Fitting.{fits_row};
+ghost use Rattle.vortex_expr.specs.Meanings.Meaning.{meaning};
+ghost use Rattle.vortex_expr.specs.Trees.Tree.{stat, has_bare_column, has_placeholder};
+ghost use Rattle.vortex_expr.specs.Meanings.Typing.{type_of};
 ghost use Rattle.vortex_prune.specs.Binding.BoundTo as spec;
 ghost use Rattle.vortex_prune.specs.Binding.BoundTo.{IsBinding, IsReplacement, Replaces, HasNoColumnOn, WhereFaithful, binding_causes, hook_causes};
 ghost use Rattle.vortex_rewrite.specs.Causes.{IsRefusal};
@@ -18,10 +18,10 @@ pub mod zone_binder;
 use crate::bind::stat_binder::StatBinder;
 use std::alloc::Global;
 use vortex_base::aggregate::AggregateFnRef;
-use vortex_base::bound;
-use vortex_base::bound_expression::BoundExpression;
-use vortex_base::bound_expression::parts::Parts;
 use vortex_base::dtype::DType;
+use vortex_expr::bound;
+use vortex_expr::bound_expression::BoundExpression;
+use vortex_expr::bound_expression::parts::Parts;
 use vortex_rewrite::built::built;
 use vortex_rewrite::hook_fault::HookFault;
 use vortex_stats::error::{BinderFault, StatsError};

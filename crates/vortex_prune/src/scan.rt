@@ -1,8 +1,8 @@
 //! Scans: which rows of which parts a predicate selects, and which parts it needn't look at.
 ghost use Rattle.std.specs.Prelude.{◌≡◌, ◌-◌, ◌^◌, ℕ, [], false, All, Option, Err, IfErr, IfOk, IsTrue};
 ghost use Rattle.std.specs.Prelude.{length, min, option_copied};
-ghost use Rattle.vortex_base.specs.Meanings.Fitting.{fits_scope};
-ghost use Rattle.vortex_base.specs.Trees.Tree.{Place, Tree, is_plain};
+ghost use Rattle.vortex_expr.specs.Meanings.Fitting.{fits_scope};
+ghost use Rattle.vortex_expr.specs.Trees.Tree.{Place, Tree, is_plain};
 ghost use Rattle.vortex_prune.specs.Part.{AreParts};
 ghost use Rattle.vortex_prune.specs.Scanning.Selection.{AreByStatistics, AreFaithful, AreHonest};
 ghost use Rattle.vortex_prune.specs.Scanning.Selection.{answered, any_binder, full, selected_rows};
@@ -41,7 +41,7 @@ use crate::scan::outcome::Scan;
 use crate::scan::part_scan::{PartTest, scan_parts};
 use crate::scan::verdict::Verdict;
 use std::alloc::Global;
-use vortex_base::bound_expression::BoundExpression;
+use vortex_expr::bound_expression::BoundExpression;
 use vortex_rewrite::rewrite::rule::StatsRewriteRule;
 use vortex_rewrite::rewrite::rules::Rules;
 use vortex_rewrite::rewrite::{falsify, satisfy};

@@ -1,6 +1,6 @@
 //! The function that a placeholder applies: what a set of statistics answers to it.
 ghost use Rattle.std.specs.Prelude.{◌≡◌, codes, false, IsTrue};
-ghost use Rattle.vortex_base.specs.Meanings.Typing.{stat_type};
+ghost use Rattle.vortex_expr.specs.Meanings.Typing.{stat_type};
 ghost use Rattle.vortex_stats.specs.Sets.Entries.{entries_fit};
 ghost use Rattle.vortex_prune.specs.Binding.StatValues as values;
 ghost use Rattle.vortex_rewrite.specs.Answers.{IfSupported, Makes, supported};
@@ -13,7 +13,7 @@ use vortex_base::dtype::DType;
 use vortex_base::pvalue::PValue;
 use vortex_base::scalar::Scalar;
 use vortex_base::scalar_value::ScalarValue;
-use vortex_base::types::ScalarFnId;
+use vortex_expr::scalar_fn::ScalarFnId;
 use vortex_stats::error::StatsError;
 use vortex_stats::precision::Precision;
 use vortex_stats::stat::Stat;

@@ -8,7 +8,7 @@ ghost use Rattle.std.specs.List.{list_all, zip};
 ghost use Rattle.vortex_base.specs.Data.Cells.{cell_values};
 ghost use Rattle.vortex_base.specs.Data.Columns.{chunk_of, row_count};
 ghost use Rattle.vortex_base.specs.Data.Scopes.{IsScope, Named, named_columns};
-ghost use Rattle.vortex_base.specs.Meanings.Typing.{stat_type};
+ghost use Rattle.vortex_expr.specs.Meanings.Typing.{stat_type};
 ghost use Rattle.vortex_prune.specs.GivenTables.{IsNoTable, IsTableOf, all_stand, chunk_with};
 ghost use Rattle.vortex_prune.specs.GivenTables.{is_table, map_with, stands_under};
 ghost use Rattle.vortex_prune.specs.Part.{AreZonesOf, IsZone, ZoneData, fits_zone, zones_fit};

@@ -3,9 +3,8 @@ use crate::zone_map::push_alone;
 use std::alloc::{AllocError, Global};
 use std::process::Abort;
 use std::test::Fail;
-use vortex_base::{
-    AggregateFnRef, BoundExpression, Cells, Column, DType, Nullability, PType, ScalarValue, Scope,
-};
+use vortex_base::{AggregateFnRef, Cells, Column, DType, Nullability, PType, ScalarValue, Scope};
+use vortex_expr::BoundExpression;
 use vortex_prune::{Head, Pruned, Rules, TableRefused, Verdict, Zone, ZoneMap, prune_by};
 use vortex_prune_testing::parts::{and_exactly, bounds, map_of, no_statistics, pruned_by};
 use vortex_rewrite::rewrite::{falsify, satisfy};

@@ -6,10 +6,10 @@ use Rattle.vortex_base.specs.declared.dtype.DType.{DType}
 use Rattle.vortex_base.specs.declared.scalar_value.ScalarValue.{ScalarValue}
 use Rattle.vortex_base.specs.Data.Columns.{ColumnData, cell_value, has_types, is_row, row_of, value_at}
 use Rattle.vortex_base.specs.Data.Exact.{both_true}
-use Rattle.vortex_base.specs.Meanings.Fitting.{is_of_type}
+use Rattle.vortex_expr.specs.Meanings.Fitting.{is_of_type}
 use Rattle.vortex_base.specs.Data.Scalars.{is_optional_value}
 use Rattle.vortex_base.specs.Data.Scopes.{Named}
-use Rattle.vortex_base.specs.Trees.Tree.{Tree, Place, column, is_null}
+use Rattle.vortex_expr.specs.Trees.Tree.{Tree, Place, column, is_null}
 use Rattle.vortex_base.specs.Data.Types.{dtype_eq_is_exact, is_nullable}
 use Rattle.vortex_rewrite.specs.Rewriting.Lawful.{IsLawful, IsSoundFalsifier}
 use Rattle.vortex_rewrite.specs.Rewriting.Falsifiers.{bool_literal}

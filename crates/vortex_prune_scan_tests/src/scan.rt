@@ -1,7 +1,7 @@
 //! Scans over parts of one column of numbers, row by row.
 use std::alloc::{AllocError, Global};
 use std::process::Abort;
-use vortex_base::{BetweenOptions, Operator, ScalarFnId};
+use vortex_expr::{BetweenOptions, Operator, ScalarFnId};
 use vortex_prune::{Part, Rules, StatsRewriteRuleRef, Zones};
 use vortex_prune_testing::parts::*;
 use vortex_rewrite_testing::hooks::{Claim, Claiming};

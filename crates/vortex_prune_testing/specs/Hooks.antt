@@ -2,7 +2,7 @@
 use Rattle.std.specs.Prelude.{true, Option, Some, None}
 use Rattle.vortex_base.specs.declared.aggregate.AggregateFnRef.{AggregateFnRef}
 use Rattle.vortex_base.specs.declared.aggregate.AggregateFnRef.TheVariants.{Min}
-use Rattle.vortex_base.specs.Trees.Tree.{Tree, Place, stat as placeholder}
+use Rattle.vortex_expr.specs.Trees.Tree.{Tree, Place, stat as placeholder}
 use Rattle.vortex_rewrite.specs.Rewriting.Falsifiers.{bool_literal}
 use Rattle.vortex_prune_testing.specs.declared.hooks.Answerer.{Answerer}
 use Rattle.vortex_prune_testing.specs.declared.hooks.Answerer.TheVariants as answerer

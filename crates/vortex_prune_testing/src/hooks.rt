@@ -2,15 +2,13 @@
 ghost use Rattle.std.specs.Prelude.{◌≡◌, ◌==◌, ⊤, MatchResult, None, Some, false};
 ghost use Rattle.std.proofs.Common.{sym};
 ghost use mathlib.Core.Bool.{true≢false};
-ghost use Rattle.vortex_base.specs.Trees.Tree.{stat as placeholder};
+ghost use Rattle.vortex_expr.specs.Trees.Tree.{stat as placeholder};
 ghost use Rattle.vortex_rewrite.specs.HookFaults.{IsHookFault};
 ghost use Rattle.vortex_prune_testing.specs.Hooks.{answered};
 
 use std::alloc::{AllocError, Global};
-use vortex_base::{
-    AggregateFnRef, BaseError, BoundExpression, DType, Nullability, PType, Scalar, ScalarValue,
-    bound,
-};
+use vortex_base::{AggregateFnRef, BaseError, DType, Nullability, PType, Scalar, ScalarValue};
+use vortex_expr::{BoundExpression, bound};
 use vortex_prune::{HookFault, StatBinder};
 use vortex_rewrite_testing::hooks::truth_answer;
 

@@ -3,11 +3,12 @@
 ghost use Rattle.std.specs.Bool.{OnTrue};
 ghost use Rattle.std.specs.Prelude.{◌≡◌, ◌<◌, All, IfOk, IsTrue};
 ghost use Rattle.vortex_base.specs.Data.Columns.{row_count};
-ghost use Rattle.vortex_base.specs.Meanings.Fitting.{fits_scope};
+ghost use Rattle.vortex_expr.specs.Meanings.Fitting.{fits_scope};
 ghost use Rattle.vortex_prune.specs.Zones.{HaveScope};
 
 use std::alloc::{AllocError, Global};
-use vortex_base::{BoundExpression, Chunk, Column, DType, ScalarValue, Scope};
+use vortex_base::{Chunk, Column, DType, ScalarValue, Scope};
+use vortex_expr::BoundExpression;
 use vortex_prune::scan::scan;
 use vortex_prune::scan::zones::scan_zones;
 use vortex_prune::{

@@ -16,10 +16,10 @@ use Rattle.vortex_base.specs.declared.scalar_value.ScalarValue.TheVariants as va
 use Rattle.vortex_base.specs.Data.Columns.{ChunkData, cell_value}
 use Rattle.vortex_base.specs.Data.Scalars.{Constant, is_optional_value, null_of}
 use Rattle.vortex_base.specs.Data.Types.{as_nullable, dtype_eq, dtype_eq_is_exact}
-use Rattle.vortex_base.specs.Meanings.Fitting.{is_cell_of}
-use Rattle.vortex_base.specs.Meanings.Meaning.{meaning}
-use Rattle.vortex_base.specs.Meanings.Typing.{stat_type, type_of, with_type}
-use Rattle.vortex_base.specs.Trees.Tree.{Tree, Place, column, stat}
+use Rattle.vortex_expr.specs.Meanings.Fitting.{is_cell_of}
+use Rattle.vortex_expr.specs.Meanings.Meaning.{meaning}
+use Rattle.vortex_expr.specs.Meanings.Typing.{stat_type, type_of, with_type}
+use Rattle.vortex_expr.specs.Trees.Tree.{Tree, Place, column, stat}
 use Rattle.vortex_rewrite.proofs.NullErasure.{typed_null}
 use Rattle.vortex_rewrite.specs.Facts.{IsFact, is_over, meanings, size_of}
 use Rattle.vortex_rewrite.specs.Rewriting.Proof.{Assignment}

@@ -1,14 +1,15 @@
 //! Binding by binders that know a count of nulls or nothing, and by ones that fault.
 ghost use Rattle.std.specs.Prelude.{◌≡◌, ℕ, List, IsTrue, false, refl, slice_get};
 ghost use Rattle.vortex_base.specs.Data.Scalars.{Constant};
-ghost use Rattle.vortex_base.specs.Meanings.Fitting.{is_cell_of};
+ghost use Rattle.vortex_expr.specs.Meanings.Fitting.{is_cell_of};
 ghost use Rattle.vortex_prune.specs.Binding.Binders.{IsHonestOver};
 ghost use Rattle.vortex_prune.specs.Binding.PartBinder.{IsNullOf};
 ghost use Rattle.vortex_prune_tests.specs.Counting.{is_first, one_null, three_numbers};
 
 use std::alloc::Global;
 use std::process::Abort;
-use vortex_base::{AggregateFnRef, BoundExpression, DType, Parts, bound};
+use vortex_base::{AggregateFnRef, DType};
+use vortex_expr::{BoundExpression, Parts, bound};
 use vortex_prune::bind::bind_stats;
 use vortex_prune::{HookFault, StatBinder};
 use vortex_prune_testing::hooks::Answerer;

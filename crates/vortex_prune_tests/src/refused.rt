@@ -2,7 +2,8 @@
 use crate::bind::UNKNOWN;
 use std::alloc::{AllocError, Global};
 use std::test::Fail;
-use vortex_base::{BoundExpression, Column, DType, Nullability, PType, ScalarValue, Scope};
+use vortex_base::{Column, DType, Nullability, PType, ScalarValue, Scope};
+use vortex_expr::BoundExpression;
 use vortex_prune::bind::bind_stats;
 use vortex_prune::{Part, Rules, StatsBinder, Zones};
 use vortex_prune_testing::parts::*;

@@ -2,9 +2,8 @@
 use std::alloc::Global;
 use std::process::Abort;
 use vortex_base::types::Element;
-use vortex_base::{
-    AggregateFnRef, ConstantArray, DType, Nullability, PType, Scalar, ScalarFnId, ScalarValue,
-};
+use vortex_base::{AggregateFnRef, ConstantArray, DType, Nullability, PType, Scalar, ScalarValue};
+use vortex_expr::ScalarFnId;
 use vortex_prune::{StatFn, StatOptions};
 use vortex_prune_testing::parts::*;
 use vortex_rewrite_testing::nodes::*;

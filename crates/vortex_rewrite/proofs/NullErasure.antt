@@ -1,12 +1,13 @@
 -- What does not depend on whether a type has null, and that a placeholder's type has it.
 use Rattle.std.proofs.Common.{◌≡◌, true, Option, Some, None, Result, Ok, Err, refl, sym, ap, ◌∙◌}
-use Rattle.vortex_base.proofs.Meanings.MeaningFits.{null_fits}
+use Rattle.vortex_expr.proofs.Meanings.MeaningFits.{null_fits}
 use Rattle.vortex_base.specs.declared.aggregate.AggregateFnRef.{AggregateFnRef}
 use Rattle.vortex_base.specs.declared.dtype.DType.{DType}
 use Rattle.vortex_base.specs.declared.dtype.DType.TheVariants as dtype
 use Rattle.vortex_base.specs.declared.error.BaseError.{BaseError}
 use Rattle.vortex_base.specs.Data.Types.{as_nullable, is_nullable}
-use Rattle.vortex_base.specs.Meanings.Typing.{is_bool, is_state, is_utf8, placeholder_type, stat_type, state_dtype, with_type}
+use Rattle.vortex_base.specs.Data.States.{state_dtype}
+use Rattle.vortex_expr.specs.Meanings.Typing.{is_bool, is_state, is_utf8, placeholder_type, stat_type, with_type}
 use Rattle.vortex_rewrite.proofs.Logic.{same_ok}
 
 pub is_state-as_nullable : (t : DType) → is_state (as_nullable t) ≡ is_state t

@@ -7,11 +7,11 @@ use Rattle.vortex_base.specs.declared.dtype.DType.{DType}
 use Rattle.vortex_base.specs.declared.scalar_value.ScalarValue.{ScalarValue}
 use Rattle.vortex_base.specs.declared.scalar_value.ScalarValue.TheVariants as value
 use Rattle.vortex_base.specs.Data.Columns.{ColumnData, row_of, row_count as rows_of}
-use Rattle.vortex_base.specs.Meanings.Meaning.{meaning}
+use Rattle.vortex_expr.specs.Meanings.Meaning.{meaning}
 use Rattle.vortex_base.specs.Data.Scalars.{is_optional_value}
-use Rattle.vortex_base.specs.Trees.Tree.{Tree, Place, column, stat, all_columns, has_placeholder}
+use Rattle.vortex_expr.specs.Trees.Tree.{Tree, Place, column, stat, all_columns, has_placeholder}
 use Rattle.vortex_base.specs.Data.Types.{eq_ignore_nullability}
-use Rattle.vortex_base.specs.Meanings.Typing.{type_of}
+use Rattle.vortex_expr.specs.Meanings.Typing.{type_of}
 use Rattle.vortex_base.specs.Data.Values.{number_of}
 use Rattle.vortex_stats.specs.Sets.Claims.{NoneAbove, NoneBelow, null_count, present, sum_of, count_value}
 use Rattle.vortex_rewrite.specs.Rewriting.Proof.{Assignment}

@@ -1,6 +1,6 @@
 -- What makes rewriting right, over the definitions alone.
 use Rattle.std.specs.Prelude.{◌≡◌, Some, List, IsTrue}
-use Rattle.vortex_base.specs.Trees.Tree.{Tree, Place}
+use Rattle.vortex_expr.specs.Trees.Tree.{Tree, Place}
 use Rattle.vortex_rewrite.specs.Rewriting.Lawful.{IsSoundFalsifier, IsSoundSatisfier, OwnRule}
 use Rattle.vortex_rewrite.specs.Rewriting.Falsifiers.{falsifier, satisfier}
 use Rattle.vortex_rewrite.specs.Rewriting.ReadOnce.{is_apart, is_read_once}

@@ -4,18 +4,18 @@ use Rattle.std.specs.List.{AllByRecursion}
 use Rattle.vortex_base.specs.declared.aggregate.AggregateFnRef.{AggregateFnRef}
 use Rattle.vortex_base.specs.declared.aggregate.AggregateFnRef.TheVariants.{Max, Min, NullCount, AllNull, AllNonNull}
 use Rattle.vortex_base.specs.declared.dtype.DType.{DType}
-use Rattle.vortex_base.specs.declared.like.LikeOptions.{LikeOptions}
+use Rattle.vortex_expr.specs.declared.like.LikeOptions.{LikeOptions}
 use Rattle.vortex_base.specs.declared.scalar_value.ScalarValue.{ScalarValue}
 use Rattle.vortex_base.specs.declared.scalar_value.ScalarValue.TheVariants as value
-use Rattle.vortex_base.specs.declared.types.BetweenOptions.{BetweenOptions}
-use Rattle.vortex_base.specs.declared.types.Operator.{Operator}
-use Rattle.vortex_base.specs.declared.types.Operator.TheVariants.{And, Or}
+use Rattle.vortex_expr.specs.declared.scalar_fn.BetweenOptions.{BetweenOptions}
+use Rattle.vortex_expr.specs.declared.scalar_fn.Operator.{Operator}
+use Rattle.vortex_expr.specs.declared.scalar_fn.Operator.TheVariants.{And, Or}
 use Rattle.vortex_base.specs.Data.Columns.{ChunkData, ColumnData, row_count as rows_of, row_of}
 use Rattle.vortex_base.specs.Data.Types.{as_nullable}
 use Rattle.vortex_base.specs.Data.Values.{value_cmp}
-use Rattle.vortex_base.specs.Meanings.Meaning.{meaning}
-use Rattle.vortex_base.specs.Meanings.Typing.{type_of}
-use Rattle.vortex_base.specs.Trees.Tree.{Tree, Place, binary, between, like, stat}
+use Rattle.vortex_expr.specs.Meanings.Meaning.{meaning}
+use Rattle.vortex_expr.specs.Meanings.Typing.{type_of}
+use Rattle.vortex_expr.specs.Trees.Tree.{Tree, Place, binary, between, like, stat}
 use Rattle.vortex_stats.specs.Bounds.Order.{AtMost}
 use Rattle.vortex_stats.specs.Sets.Claims.{count_value}
 use Rattle.vortex_rewrite.specs.Facts.{IsHonest}

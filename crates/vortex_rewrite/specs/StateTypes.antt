@@ -8,7 +8,8 @@ use Rattle.vortex_base.specs.declared.dtype.DType.TheVariants as dtype
 use Rattle.vortex_base.specs.declared.error.BaseError.{BaseError}
 use Rattle.vortex_base.specs.declared.types.Nullability.TheVariants.{Nullable}
 use Rattle.vortex_base.specs.Data.Types.{as_nullable}
-use Rattle.vortex_base.specs.Meanings.Typing.{element_of, of_element, placeholder_type, state_dtype, stat_type, sum_type, with_type}
+use Rattle.vortex_base.specs.Data.States.{element_of, of_element, state_dtype, sum_type}
+use Rattle.vortex_expr.specs.Meanings.Typing.{placeholder_type, stat_type, with_type}
 
 abbrev ok : DType → Result DType BaseError
 ok t = Ok t

@@ -3,8 +3,8 @@ ghost use Rattle.std.specs.Prelude.{◌≡◌, Ok, IfErr, alloc_error};
 ghost use Rattle.vortex_base.specs.declared.error.BaseError.TheVariants.{Memory};
 ghost use Rattle.vortex_rewrite.specs.Answers.{Makes, OkOrMemory};
 
-use vortex_base::bound_expression::BoundExpression;
 use vortex_base::error::BaseError;
+use vortex_expr::bound_expression::BoundExpression;
 use vortex_stats::error::StatsError;
 
 /// What a constructor made of operands that fit; `Memory` is the one refusal that is left.

@@ -1,7 +1,7 @@
 //! Placeholders for statistics, over expressions that are not bound yet.
 //!
 //! Each is refused for memory alone, and drops its input then.
-ghost use Rattle.vortex_base.specs.Trees.Tree as tree;
+ghost use Rattle.vortex_expr.specs.Trees.Tree as tree;
 ghost use Rattle.vortex_rewrite.specs.Answers.{Makes};
 
 pub mod bound;
@@ -10,7 +10,7 @@ pub mod proofs;
 use crate::built::built;
 use std::alloc::Global;
 use vortex_base::aggregate::AggregateFnRef;
-use vortex_base::expression::Expression;
+use vortex_expr::expression::Expression;
 use vortex_stats::error::StatsError;
 
 /// The placeholder for an aggregate of an input.

@@ -24,7 +24,7 @@ use crate::rewrite::rule::StatsRewriteRule;
 use crate::rewrite::rules::Rules;
 use crate::rewrite::side::Side;
 use std::alloc::Global;
-use vortex_base::bound_expression::BoundExpression;
+use vortex_expr::bound_expression::BoundExpression;
 use vortex_stats::error::StatsError;
 
 fn into_expression(proof: Option<Proof>) -> Option<BoundExpression>

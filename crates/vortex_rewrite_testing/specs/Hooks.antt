@@ -4,7 +4,7 @@ use Rattle.std.proofs.Common.{subst}
 use Rattle.vortex_base.specs.declared.dtype.DType.TheVariants as dtype
 use Rattle.vortex_base.specs.declared.types.Nullability.TheVariants.{NonNullable, Nullable}
 use Rattle.vortex_base.specs.declared.types.PType.TheVariants.{I32}
-use Rattle.vortex_base.specs.Trees.Tree.{Tree, Place, column, is_null}
+use Rattle.vortex_expr.specs.Trees.Tree.{Tree, Place, column, is_null}
 use Rattle.vortex_rewrite.specs.Rewriting.Falsifiers.{bool_literal, count_literal}
 use Rattle.vortex_rewrite.specs.Rewriting.Lawful.{IsLawful}
 use Rattle.vortex_rewrite.specs.Rewriting.Proof.{Assignment, proves}

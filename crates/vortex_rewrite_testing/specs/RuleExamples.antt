@@ -3,9 +3,9 @@ use Rattle.std.specs.Prelude.{◌≡◌, Bool, true, false, Option, Some, None, 
 use Rattle.std.proofs.Common.{ap, subst, sym}
 use Rattle.vortex_base.specs.declared.scalar_value.ScalarValue.{ScalarValue}
 use Rattle.vortex_base.specs.declared.scalar_value.ScalarValue.TheVariants as value
-use Rattle.vortex_base.specs.Meanings.Meaning.{is_true, opposite, truth, truth_value}
+use Rattle.vortex_expr.specs.Meanings.Meaning.{is_true, opposite, truth, truth_value}
 use Rattle.vortex_base.specs.Data.Columns.{row_count as rows_of}
-use Rattle.vortex_base.specs.Trees.Tree.{Tree, Place, column, is_null, literal, not, stat}
+use Rattle.vortex_expr.specs.Trees.Tree.{Tree, Place, column, is_null, literal, not, stat}
 use Rattle.vortex_base.specs.declared.aggregate.AggregateFnRef.{AggregateFnRef}
 use Rattle.vortex_base.specs.declared.aggregate.AggregateFnRef.TheVariants.{AllNull, AllNonNull}
 use Rattle.vortex_rewrite.proofs.Soundness.RowFacts.{right_at}

@@ -1,17 +1,15 @@
 //! Rules of a user for the tests, by what they claim wherever they are asked.
 ghost use Rattle.std.specs.Prelude.{◌≡◌, ◌==◌, MatchResult, Some, false, option_map};
 ghost use Rattle.vortex_base.specs.declared.aggregate.AggregateFnRef.{AggregateFnRef};
-ghost use Rattle.vortex_base.specs.Trees.Tree.{column, stat as placeholder};
+ghost use Rattle.vortex_expr.specs.Trees.Tree.{column, stat as placeholder};
 ghost use Rattle.vortex_rewrite.specs.HookFaults.{IsHookFault};
 ghost use Rattle.vortex_rewrite.specs.Rewriting.Falsifiers.{bool_literal, count_literal};
 ghost use Rattle.vortex_rewrite_testing.specs.Hooks.{claimed, claims_are_lawful};
 ghost use Rattle.vortex_rewrite_testing.specs.RuleExamples.{at_value_test};
 
 use std::alloc::{AllocError, Global};
-use vortex_base::{
-    AggregateFnRef, BaseError, BoundExpression, DType, Nullability, PType, Parts, Scalar,
-    ScalarFnId, ScalarValue, bound,
-};
+use vortex_base::{AggregateFnRef, BaseError, DType, Nullability, PType, Scalar, ScalarValue};
+use vortex_expr::{BoundExpression, Parts, ScalarFnId, bound};
 use vortex_rewrite::{HookFault, StatsRewriteRule};
 
 const BOOL: DType = DType::Bool(Nullability::NonNullable);
@@ -169,7 +167,7 @@ pub struct ValueTests;
 
 impl StatsRewriteRule for ValueTests {
     ghost use Rattle.vortex_base.specs.declared.aggregate.AggregateFnRef.TheVariants as aggregate;
-    ghost use Rattle.vortex_base.specs.declared.types.ScalarFnId.TheVariants as function;
+    ghost use Rattle.vortex_expr.specs.declared.scalar_fn.ScalarFnId.TheVariants as function;
     ghost use Rattle.vortex_rewrite_testing.specs.RuleExamples.{value_test_is_lawful};
 
     ghost id = { λ s. function.Not };

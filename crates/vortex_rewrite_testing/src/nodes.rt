@@ -3,8 +3,10 @@
 
 use std::alloc::{AllocError, Global};
 use vortex_base::{
-    AggregateFnRef, BaseError, BetweenOptions, BoundExpression, DType, LikeOptions, Nullability,
-    Operator, PType, Scalar, ScalarValue, Scope, StrictComparison, Text, bound,
+    AggregateFnRef, BaseError, DType, Nullability, PType, Scalar, ScalarValue, Scope, Text,
+};
+use vortex_expr::{
+    BetweenOptions, BoundExpression, LikeOptions, Operator, StrictComparison, bound,
 };
 use vortex_stats::StatsError;
 

@@ -1,7 +1,8 @@
 //! Placeholders over named columns, bound to a scope.
 use std::alloc::Global;
 use std::process::Abort;
-use vortex_base::{AggregateFnRef, Expression, Scope};
+use vortex_base::{AggregateFnRef, Scope};
+use vortex_expr::Expression;
 use vortex_rewrite::expr::{
     all_non_null, all_null, bound as placed, min_max, null_count, stat as aggregated, sum,
 };

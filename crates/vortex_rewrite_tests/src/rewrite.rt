@@ -2,7 +2,8 @@
 use std::alloc::Global;
 use std::process::Abort;
 use std::test::Fail;
-use vortex_base::{AggregateFnRef, BoundExpression, DType, LikeOptions, ScalarValue};
+use vortex_base::{AggregateFnRef, DType, ScalarValue};
+use vortex_expr::{BoundExpression, LikeOptions};
 use vortex_rewrite::Rules;
 use vortex_rewrite::rewrite::{falsify, falsify_counted, satisfy};
 use vortex_rewrite_testing::nodes::*;

@@ -1,6 +1,6 @@
 //! Lists of a user's rules for the tests.
 use std::alloc::{AllocError, Global};
-use vortex_base::ScalarFnId;
+use vortex_expr::ScalarFnId;
 use vortex_rewrite::{Rules, StatsRewriteRuleRef};
 use vortex_rewrite_testing::hooks::{Claim, Claiming};
 

@@ -6,7 +6,7 @@ use Rattle.vortex_base.specs.declared.dtype.DType.{DType}
 use Rattle.vortex_base.specs.declared.dtype.DType.TheVariants as dtype
 use Rattle.vortex_base.specs.declared.scalar_value.ScalarValue.{ScalarValue}
 use Rattle.vortex_base.specs.declared.scalar_value.ScalarValue.TheVariants as value
-use Rattle.vortex_base.specs.Meanings.Meaning.{is_long}
+use Rattle.vortex_base.specs.Data.Scalars.{is_long}
 use Rattle.vortex_base.specs.Data.Values.{value_cmp}
 use Rattle.vortex_stats.specs.declared.bound.IntersectionResult.{IntersectionResult}
 use Rattle.vortex_stats.specs.declared.bound.IntersectionResult.TheVariants.{Value, Empty}

@@ -4,7 +4,7 @@ use Rattle.std.specs.List.{list_any}
 use Rattle.vortex_base.specs.declared.dtype.DType.{DType}
 use Rattle.vortex_base.specs.declared.dtype.DType.TheVariants as dtype
 use Rattle.vortex_base.specs.declared.scalar_value.ScalarValue.{ScalarValue}
-use Rattle.vortex_base.specs.Meanings.Meaning.{is_long}
+use Rattle.vortex_base.specs.Data.Scalars.{is_long}
 use Rattle.vortex_base.specs.Data.Scalars.{value_eq}
 use Rattle.vortex_stats.specs.declared.bound.IntersectionResult.{IntersectionResult}
 use Rattle.vortex_stats.specs.declared.bound.IntersectionResult.TheVariants.{Value, Empty}

@@ -5,7 +5,7 @@ ghost use Rattle.vortex_stats.specs.declared.precision.Precision.{Precision};
 ghost use Rattle.vortex_stats.specs.declared.error.StatsError.TheVariants.{Mismatch};
 ghost use Rattle.vortex_stats.specs.Bounds.Bound.{ClonesEqual};
 ghost use Rattle.vortex_stats.specs.Scalars.{precise_scalar, checked_scalar, IsAnswerOrMemory};
-ghost use Rattle.vortex_base.specs.Meanings.Meaning.{is_long};
+ghost use Rattle.vortex_base.specs.Data.Scalars.{is_long};
 ghost use Rattle.vortex_stats.specs.Copies.{is_copied};
 ghost use Rattle.vortex_stats.specs.StatsError.{OnMemory};
 ghost use Rattle.vortex_stats.specs.Precision.{

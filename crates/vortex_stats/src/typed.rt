@@ -3,7 +3,7 @@ ghost use Rattle.std.specs.Prelude.{◌≡◌, IfOk, IfErr, OnErr, IsOk, IsTrue,
 ghost use Rattle.vortex_stats.specs.declared.error.StatsError.TheVariants.{Memory};
 ghost use Rattle.vortex_stats.specs.Merging.Merges.{merged_ordered, merged_unordered};
 ghost use Rattle.vortex_stats.specs.Merging.Combined.{combined, Combines};
-ghost use Rattle.vortex_base.specs.Meanings.Meaning.{is_long};
+ghost use Rattle.vortex_base.specs.Data.Scalars.{is_long};
 ghost use Rattle.vortex_stats.specs.Copies.{is_copied, merge_copies, combination_copies};
 ghost use Rattle.vortex_stats.specs.StatsError.{OnMemory};
 ghost use Rattle.std.specs.Borrow.{sem};

@@ -1,7 +1,7 @@
 -- The column of a name, among columns as they are held.
 use Rattle.std.proofs.Common.{◌≡◌, ℕ, List, Option, None, Some, String, slice_get, refl, ap, sym, ◌∙◌}
 use Rattle.std.specs.declared.alloc.Global.{Global}
-use Rattle.vortex_base.specs.Meanings.Binding.{find_column, found}
+use Rattle.vortex_expr.specs.Meanings.Binding.{find_column, found}
 use Rattle.vortex_base.specs.Data.Scopes.{named, named_columns, place_of}
 use Rattle.vortex_base.specs.declared.dtype.DType.{DType}
 

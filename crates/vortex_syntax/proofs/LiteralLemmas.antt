@@ -1,7 +1,7 @@
 -- A literal is typed where its value fits its type.
 use Rattle.std.proofs.Common.{◌≡◌, Bool, true, false, Option, Result, Ok, Err, refl, subst, if◌then◌else◌}
 use Rattle.vortex_base.specs.Data.Scalars.{Constant, constant_of, is_optional_value}
-use Rattle.vortex_base.specs.Trees.Tree.{Tree, Place, literal}
+use Rattle.vortex_expr.specs.Trees.Tree.{Tree, Place, literal}
 use Rattle.vortex_base.specs.declared.dtype.DType.{DType}
 use Rattle.vortex_base.specs.declared.error.BaseError.{BaseError}
 use Rattle.vortex_base.specs.declared.error.BaseError.TheVariants.{Mismatch}

@@ -15,7 +15,7 @@ use Rattle.std.specs.Ordering.{is_eq, nat_cmp}
 use Rattle.std.specs.Str.{bytes_eq}
 use Rattle.std.specs.declared.alloc.Global.{Global}
 use Rattle.vortex_base.proofs.Data.MapLemmas.{position-map}
-use Rattle.vortex_base.specs.Meanings.Binding.{find_column}
+use Rattle.vortex_expr.specs.Meanings.Binding.{find_column}
 use Rattle.vortex_base.specs.Data.Scopes.{is_named, named, named_columns, place_of}
 use Rattle.vortex_base.specs.declared.dtype.DType.{DType}
 use Rattle.vortex_syntax.proofs.Found.{found_some}

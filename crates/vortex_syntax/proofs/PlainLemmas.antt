@@ -13,7 +13,7 @@ use Rattle.std.proofs.lemmas.Slice.Eq.{bytes_eq-Decides}
 use Rattle.std.proofs.lemmas.Str.{IsUtf8-from_ascii, is_utf8-from_IsUtf8}
 use Rattle.std.specs.Str.{all_ascii_digits, bytes_eq, is_utf8, IsAscii, IsUtf8}
 use Rattle.std.specs.Str.Parse.{digits_value, digits_value_after}
-use Rattle.vortex_base.specs.Meanings.Typing.{is_signed}
+use Rattle.vortex_base.specs.Data.States.{is_signed}
 use Rattle.vortex_base.specs.Data.Values.{greatest, least}
 use Rattle.vortex_base.specs.declared.dtype.DType.{DType}
 use Rattle.vortex_base.specs.Data.Types.{is_nullable}

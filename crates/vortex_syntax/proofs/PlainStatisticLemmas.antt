@@ -1,7 +1,7 @@
 -- A `stat` line in plain form, word by word.
 use Rattle.std.proofs.Common.{◌≡◌, ℕ, Bool, true, false, List, [], ◌∷◌, Some, codes, map, refl}
 use Rattle.vortex_base.specs.Data.Scopes.{Named}
-use Rattle.vortex_base.specs.Meanings.Binding.{find_column}
+use Rattle.vortex_expr.specs.Meanings.Binding.{find_column}
 use Rattle.vortex_base.specs.declared.dtype.DType.{DType}
 use Rattle.vortex_base.specs.declared.scalar_value.ScalarValue.{ScalarValue}
 use Rattle.vortex_stats.specs.Stat.{stat_dtype}

@@ -1,7 +1,7 @@
 -- An expression by its first word.
 use Rattle.std.proofs.Common.{◌≡◌, ◌<◌, ◌≤◌, ℕ, zero, suc, List, Option, Some, Result, length, option_and_then, subst, sym, ap, ◌∙◌, arith}
 use Rattle.vortex_base.specs.Data.Scopes.{Named}
-use Rattle.vortex_base.specs.Trees.Tree.{Tree, Place}
+use Rattle.vortex_expr.specs.Trees.Tree.{Tree, Place}
 use Rattle.vortex_syntax.specs.Expressions.{expression_by, expression_within, form_of}
 use Rattle.vortex_syntax.specs.Fails.{Gives}
 use Rattle.vortex_syntax.specs.Words.{Token, plain_word}

@@ -1,8 +1,9 @@
 -- What a fault of the layer below says of a line.
 use Rattle.std.proofs.Common.{◌≡◌, None, Result, Ok, Err, refl}
-use Rattle.vortex_base.specs.Answer.{Answers, Builds}
-use Rattle.vortex_base.specs.Trees.Tree.{Tree, Place}
-use Rattle.vortex_base.specs.Meanings.Typing.{type_of}
+use Rattle.vortex_base.specs.Answer.{Answers}
+use Rattle.vortex_expr.specs.Answer.{Builds}
+use Rattle.vortex_expr.specs.Trees.Tree.{Tree, Place}
+use Rattle.vortex_expr.specs.Meanings.Typing.{type_of}
 use Rattle.vortex_base.specs.declared.dtype.DType.{DType}
 use Rattle.vortex_base.specs.declared.error.BaseError.{BaseError}
 use Rattle.vortex_base.specs.declared.error.BaseError.TheVariants as fault

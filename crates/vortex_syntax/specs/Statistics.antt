@@ -1,7 +1,7 @@
 -- The words of a `stat` line.
 use Rattle.std.specs.Prelude.{ℕ, List, Option, Some, None, codes, if◌then◌else◌}
 use Rattle.std.specs.Str.{bytes_eq}
-use Rattle.vortex_base.specs.Meanings.Binding.{find_column}
+use Rattle.vortex_expr.specs.Meanings.Binding.{find_column}
 use Rattle.vortex_base.specs.Data.Scopes.{Named}
 use Rattle.vortex_base.specs.declared.dtype.DType.{DType}
 use Rattle.vortex_base.specs.declared.scalar_value.ScalarValue.{ScalarValue}

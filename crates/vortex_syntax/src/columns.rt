@@ -1,6 +1,6 @@
 //! The columns of a text, found by their names.
 ghost use Rattle.std.specs.Prelude.{◌≡◌, ◌<◌, ◌++◌, ◌∷◌, [], IfSome, None, OnErr, OnOk, Some, length, option_map, string_bytes};
-ghost use Rattle.vortex_base.specs.Meanings.Binding.{find_column};
+ghost use Rattle.vortex_expr.specs.Meanings.Binding.{find_column};
 ghost use Rattle.vortex_base.specs.Data.Scopes.{named_columns, place_of};
 
 use std::alloc::{AllocError, Global};

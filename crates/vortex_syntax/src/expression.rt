@@ -1,7 +1,7 @@
 //! Expressions in prefix form.
 ghost use Rattle.std.specs.Prelude.{◌<◌, ◌≤◌, ℕ, IfOk, IsErrOf, IsTrue, length};
 ghost use Rattle.vortex_base.specs.Data.Scopes.{named_columns};
-ghost use Rattle.vortex_base.specs.Trees.Tree as tree;
+ghost use Rattle.vortex_expr.specs.Trees.Tree as tree;
 ghost use Rattle.vortex_syntax.specs.Expressions as spec;
 ghost use Rattle.vortex_syntax.specs.Fails.{Gives};
 ghost use Rattle.vortex_syntax.specs.Words.{words};
@@ -14,13 +14,13 @@ use crate::names::type_of;
 use crate::value::optional_value_of;
 use crate::word::{first_word, plain_word};
 use std::alloc::Global;
-use vortex_base::bound;
-use vortex_base::bound_expression::BoundExpression;
 use vortex_base::dtype::DType;
-use vortex_base::like::LikeOptions;
 use vortex_base::scalar::Scalar;
 use vortex_base::scalar_value::ScalarValue;
-use vortex_base::types::{BetweenOptions, Operator};
+use vortex_expr::bound;
+use vortex_expr::bound_expression::BoundExpression;
+use vortex_expr::like::LikeOptions;
+use vortex_expr::scalar_fn::{BetweenOptions, Operator};
 
 #[inline(never)]
 fn binary(

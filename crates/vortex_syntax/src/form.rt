@@ -3,8 +3,8 @@ ghost use Rattle.std.specs.Prelude.{◌≡◌};
 ghost use Rattle.vortex_syntax.specs.Expressions.{form_of, like_of, operator_of, strictness_of};
 
 use crate::names::is;
-use vortex_base::like::LikeOptions;
-use vortex_base::types::{Operator, StrictComparison};
+use vortex_expr::like::LikeOptions;
+use vortex_expr::scalar_fn::{Operator, StrictComparison};
 
 /// What stands behind the first word of an expression.
 #[derive(Clone, Copy, Debug)]

@@ -1,6 +1,6 @@
 //! Whole numbers in decimal digits, and bytes in hexadecimal ones.
 ghost use Rattle.std.specs.Prelude.{◌≡◌, true, option_and_then};
-ghost use Rattle.vortex_base.specs.Meanings.Typing.{is_signed};
+ghost use Rattle.vortex_base.specs.Data.States.{is_signed};
 ghost use Rattle.vortex_syntax.specs.Numbers.{in_64_bits, in_64_bits_signed, in_type, natural_of, number_of, whole_of, with_digit};
 
 use vortex_base::pvalue::PValue;

@@ -5,7 +5,7 @@ use Rattle.std.proofs.lemmas.List.{length-map, map-append}
 use Rattle.std.proofs.lemmas.List.Elements.{All-append, All-cons, All-map, All-nil, All-weaker}
 use Rattle.std.specs.List.{enumerate_from, filter, range_with_len}
 use Rattle.vortex_base.specs.Data.Columns.{row_count as rows_of}
-use Rattle.vortex_base.specs.Trees.Tree.{Place, Tree}
+use Rattle.vortex_expr.specs.Trees.Tree.{Place, Tree}
 use Rattle.vortex_rewrite.proofs.Completeness.Choices.{all_back, all_front}
 use Rattle.vortex_prune.proofs.Scanning.ScanLemmas.{collected, passing_collected}
 use Rattle.vortex_prune.specs.Part.{IsTruePart, PartData}

@@ -3,7 +3,7 @@ use Rattle.std.proofs.Common.{◌≡◌, ◌==◌, String, length, List, [], ◌
 use Rattle.vortex_base.specs.Data.Scopes.{Named, is_empty, named_columns}
 use Rattle.std.specs.declared.alloc.Global.{Global}
 use Rattle.vortex_base.specs.declared.dtype.DType.{DType}
-use Rattle.vortex_base.specs.Trees.Tree.{Tree, Place}
+use Rattle.vortex_expr.specs.Trees.Tree.{Tree, Place}
 use Rattle.vortex_prune.specs.Part.{PartData}
 use Rattle.vortex_syntax.specs.Words.{Token, no_word}
 use Rattle.vortex_text.proofs.Fitting.LineFits.{parts_fit}

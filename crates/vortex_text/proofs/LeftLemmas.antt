@@ -10,7 +10,7 @@ use Rattle.std.proofs.lemmas.Option.{same_Some}
 use Rattle.vortex_base.specs.Data.Columns.{ChunkData, IsChunk, row_count}
 use Rattle.vortex_base.specs.Data.Exact.{both_hold}
 use Rattle.vortex_base.specs.Data.Scopes.{Named, scope_eq_is_exact}
-use Rattle.vortex_base.specs.Trees.Tree.{Place, Tree}
+use Rattle.vortex_expr.specs.Trees.Tree.{Place, Tree}
 use Rattle.vortex_prune.proofs.Honesty.ZoneLemmas.{chunk_alike}
 use Rattle.vortex_prune.proofs.Scanning.RangeThere.{ranges_behind_are_there}
 use Rattle.vortex_prune.specs.Part.{AreZonesOf, IsTruePart, PartData, ZoneData, fits_zone}

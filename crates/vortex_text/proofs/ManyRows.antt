@@ -6,7 +6,7 @@ use Rattle.vortex_base.specs.Data.Columns.{ColumnData}
 use Rattle.vortex_base.specs.Data.Scopes.{Named}
 use Rattle.vortex_base.specs.declared.dtype.DType.{DType}
 use Rattle.vortex_base.specs.declared.scalar_value.ScalarValue.{ScalarValue}
-use Rattle.vortex_base.specs.Trees.Tree.{Tree, Place}
+use Rattle.vortex_expr.specs.Trees.Tree.{Tree, Place}
 use Rattle.vortex_prune.specs.Part.{PartData}
 use Rattle.vortex_syntax.specs.Plain.{BeginsValue, EndsWord}
 use Rattle.vortex_text.proofs.FirstReads.{first_fits, first_is, row_text}

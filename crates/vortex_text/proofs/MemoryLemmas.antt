@@ -5,7 +5,7 @@ use Rattle.std.specs.List.{list_any}
 use Rattle.std.specs.Str.{is_utf8}
 use Rattle.std.specs.Str.Lines.{lines}
 use Rattle.vortex_base.specs.Data.Scopes.{Named}
-use Rattle.vortex_base.specs.Trees.Tree.{Tree, Place}
+use Rattle.vortex_expr.specs.Trees.Tree.{Tree, Place}
 use Rattle.vortex_syntax.specs.Copies.{is_copied}
 use Rattle.vortex_syntax.specs.Expressions.{begins_expression, expression_of, expression_within, form_of}
 use Rattle.vortex_syntax.specs.LineKinds.{kind_of}

@@ -1,7 +1,7 @@
 -- What a text names, in terms of its lines.
 use Rattle.std.proofs.Common.{◌≡◌, ◌+◌, ℕ, List, [], ◌∷◌, ◌++◌, Option, None, Some, Result, Ok, Err, length, refl, sym, ap, ◌∙◌, ◌⊎◌, inl, inr, arith}
 use Rattle.std.specs.Str.Lines.{lines}
-use Rattle.vortex_base.specs.Trees.Tree.{Tree, Place}
+use Rattle.vortex_expr.specs.Trees.Tree.{Tree, Place}
 use Rattle.vortex_prune.specs.Part.{PartData}
 use Rattle.vortex_text.specs.Lines.{Reading, nothing_read, parts_of, read_line}
 use Rattle.vortex_text.specs.Naming.{Query, finish, go_on, named, named_from, IsFirstBad, NamesQuery, Reads, StopsAt}

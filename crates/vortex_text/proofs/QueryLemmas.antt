@@ -7,7 +7,7 @@ use Rattle.std.proofs.lemmas.List.Elements.{All-drop}
 use Rattle.std.specs.List.{AllByRecursion, enumerate_from, filter}
 use Rattle.std.specs.declared.alloc.AllocError.{AllocError}
 use Rattle.vortex_base.specs.Data.Scopes.{Named}
-use Rattle.vortex_base.specs.Trees.Tree.{Place, Tree}
+use Rattle.vortex_expr.specs.Trees.Tree.{Place, Tree}
 use Rattle.vortex_prune.specs.Part.{PartData, zone_of}
 use Rattle.vortex_prune.specs.Binding.PartAnswers.{part_values, told_values}
 use Rattle.vortex_prune.specs.Scanning.Selection.{answered, is_proved, is_whole, proves_of, skipped_parts, verdict, whole_parts}

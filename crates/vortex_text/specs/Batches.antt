@@ -1,7 +1,7 @@
 -- What scans of several batches of parts find together.
 use Rattle.std.specs.Prelude.{◌≡◌, ◌<◌, ◌+◌, ◌^◌, ℕ, List, All}
 use Rattle.std.specs.List.{AllByRecursion}
-use Rattle.vortex_base.specs.Trees.Tree.{Tree, Place}
+use Rattle.vortex_expr.specs.Trees.Tree.{Tree, Place}
 use Rattle.vortex_prune.specs.Part.{IsTruePart, PartData}
 use Rattle.vortex_prune.specs.Scanning.Selection.{full}
 use Rattle.vortex_prune.specs.declared.scan.outcome.Scan.{Scan}

@@ -2,9 +2,9 @@
 use Rattle.std.specs.Prelude.{◌≡◌, ◌==◌, Bool, false, List, All, IfSome, IsTrue}
 use Rattle.std.specs.List.{list_all, list_any}
 use Rattle.vortex_base.specs.Data.Columns.{ColumnData}
-use Rattle.vortex_base.specs.Meanings.Fitting.{fits_scope}
+use Rattle.vortex_expr.specs.Meanings.Fitting.{fits_scope}
 use Rattle.vortex_base.specs.Data.Scopes.{IsScope, Named, has_duplicate, is_empty, is_state_column}
-use Rattle.vortex_base.specs.Trees.Tree.{Tree, Place, is_plain}
+use Rattle.vortex_expr.specs.Trees.Tree.{Tree, Place, is_plain}
 use Rattle.vortex_prune.specs.Part.{IsPart, PartData}
 use Rattle.vortex_text.specs.Lines.{Reading}
 

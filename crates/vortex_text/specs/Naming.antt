@@ -1,7 +1,7 @@
 -- What a whole text names: parts and a predicate, or its first bad line.
 use Rattle.std.specs.Prelude.{◌≡◌, ◌+◌, ℕ, List, [], ◌∷◌, ◌++◌, Option, None, Some, Result, Ok, Err, length, ⊤}
 use Rattle.std.specs.Str.Lines.{lines}
-use Rattle.vortex_base.specs.Trees.Tree.{Tree, Place}
+use Rattle.vortex_expr.specs.Trees.Tree.{Tree, Place}
 use Rattle.vortex_prune.specs.Part.{PartData}
 use Rattle.vortex_text.specs.declared.naming.InputError.{InputError}
 use Rattle.vortex_text.specs.declared.naming.InputError.TheVariants as errors

@@ -7,7 +7,8 @@ ghost use Rattle.vortex_text.specs.Fitting.{IsQueryOver};
 
 use crate::parts::PartsLeft;
 use std::alloc::{AllocError, Global};
-use vortex_base::{BoundExpression, Scope};
+use vortex_base::Scope;
+use vortex_expr::BoundExpression;
 use vortex_prune::Scan;
 
 // Adds places of parts that stand behind some others.

@@ -1,7 +1,7 @@
 //! What a whole text names.
 ghost use Rattle.std.specs.Prelude.{◌≡◌, ◌↔◌, ◌<◌, ◌≤◌, ◌+◌, ◌^◌, ℕ, List, IfOk, IsErrOf, OnOk, Ok, Err, length};
 ghost use Rattle.std.specs.Str.Lines.{lines};
-ghost use Rattle.vortex_base.specs.Trees.Tree.{Tree, Place};
+ghost use Rattle.vortex_expr.specs.Trees.Tree.{Tree, Place};
 ghost use Rattle.vortex_prune.specs.Part.{PartData};
 ghost use Rattle.vortex_text.specs.Blocks.{MayRefuse, ReadsTo};
 ghost use Rattle.vortex_text.specs.Drafts.{reading_of};

@@ -74,7 +74,7 @@ pub struct OpenText {
 
 impl Model for OpenText {
     ghost use Rattle.std.specs.Coded.{codes};
-    ghost use Rattle.vortex_base.specs.contracts.bound_expression.BoundExpression as expression;
+    ghost use Rattle.vortex_expr.specs.contracts.bound_expression.BoundExpression as expression;
     ghost use Rattle.vortex_text.specs.Progress.{Progress, ProgressFits};
 
     ghost Value = { Progress };

@@ -10,9 +10,9 @@ ghost use Rattle.vortex_zone_log.specs.Logs.{zones_from};
 
 use std::alloc::{AllocError, Global};
 use std::marker::Model;
-use vortex_base::bound_expression::BoundExpression;
 use vortex_base::chunk::Chunk;
 use vortex_base::scope::Scope;
+use vortex_expr::bound_expression::BoundExpression;
 use vortex_prune::scan::outcome::Scan;
 use vortex_prune::scan::ranges::scan_ranges_from;
 use vortex_prune::zone_map::ZoneMap;

@@ -11,7 +11,8 @@ ghost use Rattle.vortex_text.specs.Program.{selected, skipped, whole};
 use crate::batches::{nothing_found, scan_more};
 use crate::parts::Parts;
 use std::alloc::{AllocError, Global};
-use vortex_base::{BoundExpression, DType, Scope};
+use vortex_base::{DType, Scope};
+use vortex_expr::BoundExpression;
 use vortex_prune::{Scan, ZoneMap};
 
 /// What a text names: parts of one scope, and a predicate over it.

@@ -2,8 +2,8 @@
 use Rattle.std.proofs.Common.{◌≡◌, ◌+◌, ◌++◌, ℕ, zero, suc, All, IfOk, IsTrue, List, [], ◌∷◌, Result, Ok, Err, arith, ap, map, refl, ◌∙◌}
 use Rattle.std.specs.List.{AllByRecursion, enumerate_from, flat_map}
 use Rattle.vortex_base.specs.Data.Columns.{ChunkData}
-use Rattle.vortex_base.specs.Meanings.Fitting.{fits_scope}
-use Rattle.vortex_base.specs.Trees.Tree.{Place, Tree}
+use Rattle.vortex_expr.specs.Meanings.Fitting.{fits_scope}
+use Rattle.vortex_expr.specs.Trees.Tree.{Place, Tree}
 use Rattle.vortex_prune.specs.Part.{IsTruePart, PartData, measured_part}
 use Rattle.vortex_prune.specs.Scanning.Selection.{full, satisfying_rows}
 use Rattle.vortex_prune.specs.declared.scan.outcome.Scan.{Scan}

@@ -2,7 +2,7 @@
 use Rattle.std.specs.Prelude.{ℕ, List}
 use Rattle.std.specs.List.{enumerate_from, flat_map}
 use Rattle.vortex_base.specs.Data.Columns.{ChunkData}
-use Rattle.vortex_base.specs.Trees.Tree.{Place, Tree}
+use Rattle.vortex_expr.specs.Trees.Tree.{Place, Tree}
 use Rattle.vortex_prune.specs.Scanning.Selection.{satisfying_rows}
 
 -- every row of the chunks that satisfies the predicate, as chunk and row, ascending

@@ -2,8 +2,8 @@
 //! scans, the other checks what came with it.
 ghost use Rattle.std.specs.Prelude.{◌≡◌, ◌↔◌, All, IfErr, IfOk, IfSome, IsSome, IsTrue, map};
 ghost use Rattle.std.specs.List.{AllByRecursion};
-ghost use Rattle.vortex_base.specs.Meanings.Fitting.{fits_scope};
-ghost use Rattle.vortex_base.specs.Trees.Tree.{is_plain};
+ghost use Rattle.vortex_expr.specs.Meanings.Fitting.{fits_scope};
+ghost use Rattle.vortex_expr.specs.Trees.Tree.{is_plain};
 ghost use Rattle.vortex_prune.specs.Part.{IsTruePart, measured_part};
 ghost use Rattle.vortex_prune.specs.Scanning.Selection.{full};
 ghost use Rattle.vortex_rewrite.specs.Answers.{IsMemory};
@@ -11,7 +11,8 @@ ghost use Rattle.vortex_rewrite.specs.Rewriting.Predicates.{is_predicate};
 ghost use Rattle.vortex_uses.specs.Measuring.{rows_of_chunks};
 
 use std::alloc::Global;
-use vortex_base::{BoundExpression, Chunk};
+use vortex_base::Chunk;
+use vortex_expr::BoundExpression;
 use vortex_prune::laws::statistics_binders_are_honest;
 use vortex_prune::scan::scan;
 use vortex_prune::{Part, Rules, Scan, StatsBinder};

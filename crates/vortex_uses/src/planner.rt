@@ -1,13 +1,13 @@
 //! A planner with a rule of its own beside the built-in ones.
 ghost use Rattle.std.specs.Prelude.{◌≡◌, All, IfOk, IsTrue};
 ghost use Rattle.std.specs.List.{AllByRecursion};
-ghost use Rattle.vortex_base.specs.Meanings.Fitting.{fits_scope};
-ghost use Rattle.vortex_base.specs.Trees.Tree.{is_plain};
+ghost use Rattle.vortex_expr.specs.Meanings.Fitting.{fits_scope};
+ghost use Rattle.vortex_expr.specs.Trees.Tree.{is_plain};
 ghost use Rattle.vortex_prune.specs.Part.{IsTruePart};
 ghost use Rattle.vortex_prune.specs.Scanning.Selection.{full};
 
 use std::alloc::Global;
-use vortex_base::{BoundExpression, ScalarFnId};
+use vortex_expr::{BoundExpression, ScalarFnId};
 use vortex_own_rules::null_operands::NullOperands;
 use vortex_prune::laws::statistics_binders_are_honest;
 use vortex_prune::scan::scan;

@@ -1,7 +1,7 @@
 //! A reader of a footer, which fetches the zones that the footer doesn't rule out.
 ghost use Rattle.std.specs.Prelude.{◌≡◌, ℕ, false, Contains, IfErr, IfOk, IsTrue, List, Some, slice_get};
-ghost use Rattle.vortex_base.specs.Meanings.Fitting.{fits_scope};
-ghost use Rattle.vortex_base.specs.Trees.Tree.{is_plain};
+ghost use Rattle.vortex_expr.specs.Meanings.Fitting.{fits_scope};
+ghost use Rattle.vortex_expr.specs.Trees.Tree.{is_plain};
 ghost use Rattle.vortex_prune.specs.Part.{IsPartOf, IsTruePart, PartData, ZoneData};
 ghost use Rattle.vortex_prune.specs.Scanning.ZoneScans.{EachSatisfies};
 ghost use Rattle.vortex_prune.specs.Zones.{IsMapOf};
@@ -9,7 +9,7 @@ ghost use Rattle.vortex_rewrite.specs.Answers.{IsMemory};
 ghost use Rattle.vortex_rewrite.specs.Rewriting.Predicates.{is_predicate};
 
 use std::alloc::Global;
-use vortex_base::BoundExpression;
+use vortex_expr::BoundExpression;
 use vortex_prune::{Pruned, Rules, ZoneMap, prune};
 use vortex_stats::StatsError;
 

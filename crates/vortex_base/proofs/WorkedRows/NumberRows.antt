@@ -10,7 +10,7 @@ use Rattle.vortex_base.specs.declared.pvalue.PValue.TheVariants.{U8, U16, U32, U
 use Rattle.vortex_base.specs.declared.scalar_value.ScalarValue.TheVariants as value
 use Rattle.vortex_base.specs.Data.Values.{is_value, least, greatest, ptype_of}
 use Rattle.vortex_base.specs.Data.Neighbours.{next_number, prev_number}
-use Rattle.vortex_base.specs.Meanings.Typing.{is_signed}
+use Rattle.vortex_base.specs.Data.States.{is_signed}
 
 abbrev unsigned : List PType
 unsigned = ptype.U8 ∷ ptype.U16 ∷ ptype.U32 ∷ ptype.U64 ∷ []

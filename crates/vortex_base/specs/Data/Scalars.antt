@@ -6,6 +6,7 @@ use Rattle.vortex_base.specs.Data.Types.{is_nullable, dtype_eq, dtype_eq_is_exac
 use Rattle.vortex_base.specs.Data.Values.{is_value}
 use Rattle.vortex_base.specs.declared.dtype.DType.{DType}
 use Rattle.vortex_base.specs.declared.scalar_value.ScalarValue.{ScalarValue}
+use Rattle.vortex_base.specs.declared.scalar_value.ScalarValue.TheVariants as value
 use Rattle.vortex_base.specs.declared.error.BaseError.{BaseError}
 use Rattle.vortex_base.specs.declared.error.BaseError.TheVariants.{Mismatch}
 use Rattle.vortex_base.specs.contracts.scalar_value.ScalarValuePartialEq.TheImpl as values
@@ -23,6 +24,12 @@ is_optional_value (Some v) t = is_value v t
 -- the optional value may stand under the type beside it
 abbrev pub IsConstant : Constant → Type 0
 IsConstant c = IsTrue (is_optional_value c.value c.dtype)
+
+-- a copy of the value takes memory
+abbrev pub is_long : Option ScalarValue → Bool
+is_long (Some (value.Utf8 bs)) = true
+is_long (Some (value.Binary bs)) = true
+is_long v = false
 
 abbrev pub null_of : DType → Constant
 null_of t = record { dtype = t; value = None }

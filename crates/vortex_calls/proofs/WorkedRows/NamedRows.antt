@@ -2,17 +2,17 @@
 use Rattle.std.proofs.Common.{◌≡◌, ℕ, zero, suc, Bool, List, [], ◌∷◌, Option, ap, codes, get_or, None, Some, true, false, refl}
 use Rattle.vortex_base.specs.Data.Columns.{ColumnData}
 use Rattle.vortex_base.specs.Data.Scopes.{Named}
-use Rattle.vortex_base.specs.Trees.Tree.{Place, Tree, between, binary, column, is_not_null, is_null, like, literal, not, row_count, stat as placeholder}
+use Rattle.vortex_expr.specs.Trees.Tree.{Place, Tree, between, binary, column, is_not_null, is_null, like, literal, not, row_count, stat as placeholder}
 use Rattle.vortex_base.specs.declared.aggregate.AggregateFnRef.{AggregateFnRef}
 use Rattle.vortex_base.specs.declared.aggregate.AggregateFnRef.TheVariants as aggregate
 use Rattle.vortex_base.specs.declared.dtype.DType.TheVariants as dtype
-use Rattle.vortex_base.specs.declared.like.LikeOptions.{LikeOptions}
+use Rattle.vortex_expr.specs.declared.like.LikeOptions.{LikeOptions}
 use Rattle.vortex_base.specs.declared.pvalue.PValue.TheVariants as number
 use Rattle.vortex_base.specs.declared.scalar_value.ScalarValue.{ScalarValue}
 use Rattle.vortex_base.specs.declared.scalar_value.ScalarValue.TheVariants as value
-use Rattle.vortex_base.specs.declared.types.BetweenOptions.{BetweenOptions}
+use Rattle.vortex_expr.specs.declared.scalar_fn.BetweenOptions.{BetweenOptions}
 use Rattle.vortex_base.specs.declared.types.Nullability.TheVariants.{Nullable}
-use Rattle.vortex_base.specs.declared.types.Operator.TheVariants.{Gt}
+use Rattle.vortex_expr.specs.declared.scalar_fn.Operator.TheVariants.{Gt}
 use Rattle.vortex_base.specs.declared.types.PType.TheVariants as ptype
 use Rattle.vortex_prune.specs.GivenTables.{map_with}
 use Rattle.vortex_prune.specs.Part.{ZoneData}

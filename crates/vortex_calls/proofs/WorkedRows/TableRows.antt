@@ -2,7 +2,7 @@
 use Rattle.std.proofs.Common.{◌≡◌, ℕ, List, [], ◌∷◌, codes, None, Some, Ok, Err, true, false, Bool, Bor, if◌then◌else◌, map, refl}
 use Rattle.std.specs.Str.{chars, is_utf8}
 use Rattle.vortex_base.specs.Data.Scopes.{Named}
-use Rattle.vortex_base.specs.Trees.Tree.{Place, Tree, column, is_null, literal}
+use Rattle.vortex_expr.specs.Trees.Tree.{Place, Tree, column, is_null, literal}
 use Rattle.vortex_base.specs.declared.dtype.DType.TheVariants as dtype
 use Rattle.vortex_base.specs.declared.types.Nullability.TheVariants.{Nullable, NonNullable}
 use Rattle.vortex_base.specs.declared.types.PType.TheVariants as ptype

@@ -1,6 +1,6 @@
 // Leaves: NOT pushed to them, and what doesn't depend on a row.
 use super::*;
-use vortex_base::LikeOptions;
+use vortex_expr::LikeOptions;
 use vortex_stats::StatsError;
 
 fn expect_not(rt: &impl Abort, alloc: Global, predicate: Built, expected: Built) {

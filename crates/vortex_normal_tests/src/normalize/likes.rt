@@ -1,6 +1,6 @@
 // LIKE as comparisons, where they say the same.
 use super::*;
-use vortex_base::{BetweenOptions, LikeOptions, StrictComparison};
+use vortex_expr::{BetweenOptions, LikeOptions, StrictComparison};
 
 fn s_like(alloc: Global, pattern: &str) -> Built {
     like(alloc, s(alloc), text(alloc, pattern))

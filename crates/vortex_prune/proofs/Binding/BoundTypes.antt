@@ -2,20 +2,21 @@
 use Rattle.std.proofs.Common.{◌≡◌, ◌&&◌, ◌||◌, not, Bool, true, false, refl, sym, ap, ap₂, subst, ◌∙◌}
 use Rattle.std.specs.Prelude.{Result, Ok, Err, IfOk, MatchResult, alloc_error, ⊤}
 use Rattle.vortex_base.specs.declared.aggregate.AggregateFnRef.{AggregateFnRef}
-use Rattle.vortex_base.specs.declared.types.BetweenOptions.{BetweenOptions}
+use Rattle.vortex_expr.specs.declared.scalar_fn.BetweenOptions.{BetweenOptions}
 use Rattle.vortex_base.specs.declared.dtype.DType.{DType}
 use Rattle.vortex_base.specs.declared.dtype.DType.TheVariants as dtype
 use Rattle.vortex_base.specs.declared.error.BaseError.{BaseError}
 use Rattle.vortex_base.specs.declared.error.BaseError.TheVariants.{Memory}
-use Rattle.vortex_base.specs.declared.like.LikeOptions.{LikeOptions}
+use Rattle.vortex_expr.specs.declared.like.LikeOptions.{LikeOptions}
 use Rattle.vortex_base.specs.declared.types.Nullability.TheVariants.{Nullable}
-use Rattle.vortex_base.specs.declared.types.Operator.{Operator}
-use Rattle.vortex_base.specs.declared.types.Operator.TheVariants as operator
-use Rattle.vortex_base.specs.Answer.{Answers, Builds, Makes}
-use Rattle.vortex_base.specs.Trees.Tree as tree
-use Rattle.vortex_base.specs.Trees.Tree.{Tree, Place}
+use Rattle.vortex_expr.specs.declared.scalar_fn.Operator.{Operator}
+use Rattle.vortex_expr.specs.declared.scalar_fn.Operator.TheVariants as operator
+use Rattle.vortex_base.specs.Answer.{Answers, Makes}
+use Rattle.vortex_expr.specs.Answer.{Builds}
+use Rattle.vortex_expr.specs.Trees.Tree as tree
+use Rattle.vortex_expr.specs.Trees.Tree.{Tree, Place}
 use Rattle.vortex_base.specs.Data.Types.{as_nullable, dtype_eq, is_nullable}
-use Rattle.vortex_base.specs.Meanings.Typing.{are_comparable, between_type, binary_type, comparison_type, connective_type, is_bool, is_utf8, like_type, null_test_type, not_type, truth_type, type_if, type_of, with_type, with_types}
+use Rattle.vortex_expr.specs.Meanings.Typing.{are_comparable, between_type, binary_type, comparison_type, connective_type, is_bool, is_utf8, like_type, null_test_type, not_type, truth_type, type_if, type_of, with_type, with_types}
 use Rattle.vortex_stats.specs.declared.error.StatsError.{StatsError}
 use Rattle.vortex_prune.specs.Binding.BoundTo.{IsBinding, base_type}
 use Rattle.vortex_rewrite.specs.StateTypes.{as_nullable-again}

@@ -9,13 +9,13 @@ use Rattle.vortex_base.specs.declared.scalar_value.ScalarValue.{ScalarValue}
 use Rattle.vortex_base.specs.declared.scalar_value.ScalarValue.TheVariants as value
 use Rattle.vortex_base.specs.Data.Columns.{cell_value}
 use Rattle.vortex_base.specs.Data.Exact.{both_true}
-use Rattle.vortex_base.specs.Meanings.Fitting.{fits_row}
-use Rattle.vortex_base.specs.Meanings.Meaning.{applied, liked, meaning, opposite, truth, truth_value, within}
+use Rattle.vortex_expr.specs.Meanings.Fitting.{fits_row}
+use Rattle.vortex_expr.specs.Meanings.Meaning.{applied, liked, meaning, opposite, truth, truth_value, within}
 use Rattle.vortex_base.specs.Data.Scalars.{Constant}
-use Rattle.vortex_base.specs.Trees.Tree.{Tree, Place, column, literal, binary, between, is_null, is_not_null, not, like, stat, row_count, has_bare_column, has_column, has_placeholder, is_closed}
+use Rattle.vortex_expr.specs.Trees.Tree.{Tree, Place, column, literal, binary, between, is_null, is_not_null, not, like, stat, row_count, has_bare_column, has_column, has_placeholder, is_closed}
 use Rattle.vortex_base.specs.Data.Types.{as_nullable, dtype_eq_is_exact}
-use Rattle.vortex_base.specs.Meanings.Typing.{between_type, binary_type, like_type, not_type, null_test_type, type_of}
-use Rattle.vortex_base.proofs.Meanings.PlacedTypes.{with_type-ok, with_types-ok, with_three-ok}
+use Rattle.vortex_expr.specs.Meanings.Typing.{between_type, binary_type, like_type, not_type, null_test_type, type_of}
+use Rattle.vortex_expr.proofs.Meanings.PlacedTypes.{with_type-ok, with_types-ok, with_three-ok}
 use Rattle.vortex_stats.specs.declared.error.BinderFault.TheVariants.{WrongType}
 use Rattle.vortex_stats.specs.declared.error.StatsError.{StatsError}
 use Rattle.vortex_stats.specs.declared.error.StatsError.TheVariants.{Binder}

@@ -5,7 +5,7 @@ use Rattle.vortex_base.specs.Data.Columns.{ColumnData, has_types, row_count as r
 use Rattle.vortex_base.specs.Data.Exact.{both_true}
 use Rattle.vortex_base.specs.Data.Scopes.{Named}
 use Rattle.vortex_base.specs.Data.Types.{dtype_eq_is_exact, eq_ignore_nullability}
-use Rattle.vortex_base.specs.Trees.Tree.{Place, Tree, column}
+use Rattle.vortex_expr.specs.Trees.Tree.{Place, Tree, column}
 use Rattle.vortex_base.specs.declared.aggregate.AggregateFnRef.{AggregateFnRef}
 use Rattle.vortex_base.specs.declared.dtype.DType.{DType}
 use Rattle.vortex_base.specs.declared.scalar_value.ScalarValue.{ScalarValue}

@@ -9,8 +9,8 @@ use Rattle.vortex_base.specs.declared.error.BaseError.{BaseError}
 use Rattle.vortex_base.specs.declared.scalar_value.ScalarValue.{ScalarValue}
 use Rattle.vortex_base.specs.Data.Scalars.{Constant}
 use Rattle.vortex_base.specs.Data.Scopes.{Named}
-use Rattle.vortex_base.specs.Trees.Tree.{Tree, Place, literal}
-use Rattle.vortex_base.specs.Meanings.Typing.{stat_type}
+use Rattle.vortex_expr.specs.Trees.Tree.{Tree, Place, literal}
+use Rattle.vortex_expr.specs.Meanings.Typing.{stat_type}
 use Rattle.vortex_stats.specs.declared.error.StatsError.{StatsError}
 use Rattle.vortex_stats.specs.Sets.Entries.{entries_fit}
 use Rattle.vortex_rewrite.specs.Answers.{IfSupported}

@@ -13,9 +13,10 @@ use Rattle.vortex_base.specs.declared.scalar_value.ScalarValue.{ScalarValue}
 use Rattle.vortex_base.specs.declared.scalar_value.ScalarValue.TheVariants as value
 use Rattle.vortex_base.specs.Data.Scalars.{Constant, constant_of, is_optional_value}
 use Rattle.vortex_base.specs.Data.Types.{as_nullable, is_nullable}
-use Rattle.vortex_base.specs.Meanings.Typing.{placeholder_type, state_dtype, stat_type}
+use Rattle.vortex_base.specs.Data.States.{state_dtype}
+use Rattle.vortex_expr.specs.Meanings.Typing.{placeholder_type, stat_type}
 use Rattle.vortex_base.specs.Data.Values.{is_value}
-use Rattle.vortex_base.proofs.Meanings.MeaningFits.{is_value-as_nullable}
+use Rattle.vortex_expr.proofs.Meanings.MeaningFits.{is_value-as_nullable}
 use Rattle.vortex_stats.specs.declared.error.StatsError.{StatsError}
 use Rattle.vortex_stats.specs.declared.precision.Precision.{Precision}
 use Rattle.vortex_stats.specs.declared.precision.Precision.TheVariants.{Exact, Inexact, Absent}

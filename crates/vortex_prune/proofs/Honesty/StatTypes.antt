@@ -3,9 +3,10 @@ use Rattle.std.proofs.Common.{◌≡◌, ℕ, Bool, true, false, Option, Some, N
 use Rattle.std.specs.Prelude.{Ok, slice_get, if◌then◌else◌}
 use Rattle.vortex_base.specs.Data.Columns.{ColumnData}
 use Rattle.vortex_base.specs.Data.Scalars.{is_optional_value}
-use Rattle.vortex_base.specs.Trees.Tree.{Tree, Place, column, stat}
+use Rattle.vortex_expr.specs.Trees.Tree.{Tree, Place, column, stat}
 use Rattle.vortex_base.specs.Data.Types.{as_nullable, dtype_eq_is_exact, eq_ignore_nullability}
-use Rattle.vortex_base.specs.Meanings.Typing.{stat_type, state_dtype, type_of}
+use Rattle.vortex_base.specs.Data.States.{state_dtype}
+use Rattle.vortex_expr.specs.Meanings.Typing.{stat_type, type_of}
 use Rattle.vortex_base.specs.declared.aggregate.AggregateFnRef.{AggregateFnRef}
 use Rattle.vortex_base.specs.declared.dtype.DType.{DType}
 use Rattle.vortex_rewrite.proofs.NullErasure.{placeholder_null, typed_null}

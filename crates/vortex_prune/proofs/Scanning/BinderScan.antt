@@ -4,7 +4,7 @@ use Rattle.std.proofs.lemmas.Option.{get_or_from_slice_get, same_Some, slice_get
 use Rattle.std.specs.Prelude.{◌⊎◌, Contains, MatchResult, slice_get}
 use Rattle.vortex_base.specs.Data.Columns.{row_count as rows_of}
 use Rattle.vortex_base.specs.Data.Scalars.{Constant}
-use Rattle.vortex_base.specs.Trees.Tree.{Place, Tree}
+use Rattle.vortex_expr.specs.Trees.Tree.{Place, Tree}
 use Rattle.vortex_base.specs.declared.dtype.DType.{DType}
 use Rattle.vortex_prune.proofs.Scanning.ScanLemmas.{answered_long, asking_in, faithful_one, kept_there, refusal_in, refused-if}
 use Rattle.vortex_rewrite.proofs.Rewriting.CauseLemmas.{either-refusal, refusal-more}

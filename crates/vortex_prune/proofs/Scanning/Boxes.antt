@@ -5,7 +5,7 @@ use Rattle.std.specs.List.{AllByRecursion}
 use Rattle.std.specs.Option.{is_some}
 use Rattle.std.specs.declared.cmp.Ordering.{Ordering}
 use Rattle.std.specs.declared.cmp.Ordering.TheVariants.{Less, Equal, Greater}
-use Rattle.vortex_base.specs.Trees.Between.{to_operator}
+use Rattle.vortex_expr.specs.Trees.Between.{to_operator}
 use Rattle.vortex_base.specs.declared.pvalue.PValue.{PValue}
 use Rattle.vortex_rewrite.proofs.Soundness.MovedEnds.{IsMoved, Rewritten, are_numbers, rewritten}
 use Rattle.vortex_rewrite.proofs.Soundness.NumberEnds.{ends_ordered, high_end, low_end}
@@ -13,23 +13,23 @@ use Rattle.vortex_rewrite.proofs.Rewriting.OverParts.{comparable_ends, halves_ty
 use Rattle.vortex_rewrite.proofs.Completeness.Ranges.{Halved, halved, moved_decided, never_decided}
 use Rattle.std.proofs.lemmas.Bool.{and_parts}
 use Rattle.std.proofs.lemmas.Option.{same_Some, none-some, slice_get_within}
-use Rattle.vortex_base.proofs.Meanings.PlacedTypes.{with_types-ok}
-use Rattle.vortex_base.specs.Meanings.Fitting.{fits_scope, is_of_type}
-use Rattle.vortex_base.specs.Meanings.Meaning.{holds, is_true}
+use Rattle.vortex_expr.proofs.Meanings.PlacedTypes.{with_types-ok}
+use Rattle.vortex_expr.specs.Meanings.Fitting.{fits_scope, is_of_type}
+use Rattle.vortex_expr.specs.Meanings.Meaning.{holds, is_true}
 use Rattle.vortex_base.specs.Data.Scalars.{Constant, is_optional_value}
 use Rattle.vortex_base.specs.Data.Scopes.{Named}
-use Rattle.vortex_base.specs.Trees.Tree.{Tree, Place, column, literal, binary, between, is_null, is_not_null, not, like, stat, row_count, all_columns}
+use Rattle.vortex_expr.specs.Trees.Tree.{Tree, Place, column, literal, binary, between, is_null, is_not_null, not, like, stat, row_count, all_columns}
 use Rattle.vortex_base.specs.Data.Types.{as_nullable, dtype_eq_is_exact, eq_ignore_nullability}
-use Rattle.vortex_base.specs.Meanings.Typing.{between_type, binary_type, comparison_type, connective_type, type_of, with_types}
+use Rattle.vortex_expr.specs.Meanings.Typing.{between_type, binary_type, comparison_type, connective_type, type_of, with_types}
 use Rattle.vortex_base.specs.Data.Values.{is_value, value_cmp}
 use Rattle.vortex_base.specs.declared.aggregate.AggregateFnRef.TheVariants as aggregate
-use Rattle.vortex_base.specs.declared.types.BetweenOptions.{BetweenOptions}
-use Rattle.vortex_base.specs.declared.types.StrictComparison.{StrictComparison}
-use Rattle.vortex_base.specs.declared.types.StrictComparison.TheVariants.{Strict, NonStrict}
+use Rattle.vortex_expr.specs.declared.scalar_fn.BetweenOptions.{BetweenOptions}
+use Rattle.vortex_expr.specs.declared.scalar_fn.StrictComparison.{StrictComparison}
+use Rattle.vortex_expr.specs.declared.scalar_fn.StrictComparison.TheVariants.{Strict, NonStrict}
 use Rattle.vortex_base.specs.declared.dtype.DType.{DType}
 use Rattle.vortex_base.specs.declared.dtype.DType.TheVariants as dtype
-use Rattle.vortex_base.specs.declared.types.Operator.{Operator}
-use Rattle.vortex_base.specs.declared.types.Operator.TheVariants.{Eq, NotEq, Gt, Gte, Lt, Lte, And, Or}
+use Rattle.vortex_expr.specs.declared.scalar_fn.Operator.{Operator}
+use Rattle.vortex_expr.specs.declared.scalar_fn.Operator.TheVariants.{Eq, NotEq, Gt, Gte, Lt, Lte, And, Or}
 use Rattle.vortex_base.specs.declared.scalar_value.ScalarValue.{ScalarValue}
 use Rattle.vortex_base.specs.declared.scalar_value.ScalarValue.TheVariants as value
 use Rattle.vortex_rewrite.proofs.Completeness.Apart.{Known, all_inside, and_apart, or_shared}

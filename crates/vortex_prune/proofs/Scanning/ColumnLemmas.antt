@@ -6,10 +6,10 @@ use Rattle.vortex_base.specs.Data.Blobs.{blob_at}
 use Rattle.vortex_base.specs.Data.Columns.{value_at}
 use Rattle.vortex_base.specs.Data.Natives.{optional, optionals}
 use Rattle.vortex_base.specs.Data.Values.{value_cmp}
-use Rattle.vortex_base.specs.Meanings.Meaning.{holds}
+use Rattle.vortex_expr.specs.Meanings.Meaning.{holds}
 use Rattle.vortex_base.specs.declared.scalar_value.ScalarValue.{ScalarValue}
-use Rattle.vortex_base.specs.declared.types.Operator.{Operator}
-use Rattle.vortex_base.specs.declared.types.Operator.TheVariants as operator
+use Rattle.vortex_expr.specs.declared.scalar_fn.Operator.{Operator}
+use Rattle.vortex_expr.specs.declared.scalar_fn.Operator.TheVariants as operator
 use Rattle.vortex_prune.proofs.ZoneMaps.ZoneMarks.{marked-same}
 use Rattle.vortex_prune.specs.Scanning.Leaves.{compares, compares_at, passes, passes_at}
 use Rattle.vortex_prune.specs.Scanning.Marks.{marked}

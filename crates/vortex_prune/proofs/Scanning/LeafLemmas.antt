@@ -1,10 +1,10 @@
 -- A comparison with its sides changed about is true of the same values.
 use Rattle.std.proofs.Common.{◌≡◌, Bool, true, false, Option, Some, None, refl, sym, ◌∙◌}
 use Rattle.vortex_base.specs.Data.Values.{value_cmp}
-use Rattle.vortex_base.specs.Meanings.Meaning.{holds}
+use Rattle.vortex_expr.specs.Meanings.Meaning.{holds}
 use Rattle.vortex_base.specs.declared.scalar_value.ScalarValue.{ScalarValue}
-use Rattle.vortex_base.specs.declared.types.Operator.{Operator}
-use Rattle.vortex_base.specs.declared.types.Operator.TheVariants.{Eq, NotEq, Gt, Gte, Lt, Lte, And, Or}
+use Rattle.vortex_expr.specs.declared.scalar_fn.Operator.{Operator}
+use Rattle.vortex_expr.specs.declared.scalar_fn.Operator.TheVariants.{Eq, NotEq, Gt, Gte, Lt, Lte, And, Or}
 use Rattle.vortex_prune.specs.Scanning.Leaves.{compares, swapped}
 use Rattle.vortex_rewrite.proofs.Soundness.ValueTests.{by_le, holds_by_le, value_le}
 

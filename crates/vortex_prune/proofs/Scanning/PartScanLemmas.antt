@@ -4,7 +4,7 @@ use Rattle.std.proofs.Math.Nat.{eq-or-lt_of_le}
 use Rattle.std.proofs.lemmas.List.Elements.{Contains-append_left, Contains-push}
 use Rattle.std.proofs.lemmas.Option.{same_Some, slice_get_read, slice_get_within, slice_get-get_or}
 use Rattle.std.specs.Prelude.{min, slice_get}
-use Rattle.vortex_base.specs.Trees.Tree.{Place, Tree}
+use Rattle.vortex_expr.specs.Trees.Tree.{Place, Tree}
 use Rattle.vortex_prune.proofs.Scanning.ScanLemmas.{selected_more, skipped_more, tested_more, whole_more}
 use Rattle.vortex_prune.specs.Part.{IsPart, PartData}
 use Rattle.vortex_prune.specs.Scanning.PartScans.{AreTold, IsListed, IsSameTest, TellsOf}

@@ -4,7 +4,7 @@ use Rattle.std.specs.Prelude.{◌&&◌, filter, min, sum}
 use Rattle.std.specs.List.{range_with_len}
 use Rattle.std.proofs.lemmas.List.Sums.{sum_by-cons}
 use Rattle.vortex_base.specs.Data.Columns.{ChunkData}
-use Rattle.vortex_base.specs.Trees.Tree.{Place, Tree}
+use Rattle.vortex_expr.specs.Trees.Tree.{Place, Tree}
 use Rattle.vortex_prune.specs.Scanning.Marks.{marked}
 use Rattle.vortex_prune.specs.Scanning.RangeScans.{range_rows, range_tested, ranges_by, tested_by}
 use Rattle.vortex_prune.specs.declared.scan.verdict.Verdict.{Verdict}

@@ -11,9 +11,9 @@ use Rattle.vortex_base.specs.Data.Columns.{ChunkData, row_of, row_count as rows_
 use Rattle.vortex_base.specs.Data.Exact.{both_hold, both_true}
 use Rattle.vortex_base.specs.Data.Scalars.{Constant}
 use Rattle.vortex_base.specs.Data.Scopes.{Named, scope_eq_is_exact}
-use Rattle.vortex_base.specs.Meanings.Fitting.{fits_scope}
-use Rattle.vortex_base.specs.Meanings.Meaning.{applied, is_true, liked, meaning, opposite, satisfies, truth, truth_value, within}
-use Rattle.vortex_base.specs.Trees.Tree.{Place, Tree, column, literal, binary, between, is_null, is_not_null, not, like, stat, row_count, has_placeholder, has_row_count, is_plain}
+use Rattle.vortex_expr.specs.Meanings.Fitting.{fits_scope}
+use Rattle.vortex_expr.specs.Meanings.Meaning.{applied, is_true, liked, meaning, opposite, satisfies, truth, truth_value, within}
+use Rattle.vortex_expr.specs.Trees.Tree.{Place, Tree, column, literal, binary, between, is_null, is_not_null, not, like, stat, row_count, has_placeholder, has_row_count, is_plain}
 use Rattle.vortex_base.specs.declared.scalar_value.ScalarValue.TheVariants as value
 use Rattle.vortex_prune.proofs.Honesty.StatisticsBinders.{statistics_honest}
 use Rattle.vortex_prune.proofs.Scanning.RangeLemmas.{filter_same}

@@ -2,7 +2,7 @@
 use Rattle.std.proofs.Common.{◌≡◌, ℕ, Bool, true, false, List, [], Option, IfErr, Ok, Err, Result, arith, get_or, inl, inr, refl, sym, ap, subst, ◌∙◌}
 use Rattle.std.specs.Prelude.{◌⊎◌, Contains}
 use Rattle.vortex_base.specs.Data.Scalars.{Constant}
-use Rattle.vortex_base.specs.Trees.Tree.{Tree, Place}
+use Rattle.vortex_expr.specs.Trees.Tree.{Tree, Place}
 use Rattle.vortex_base.specs.declared.dtype.DType.{DType}
 use Rattle.vortex_rewrite.proofs.Rewriting.CauseLemmas.{either-left, either-refused, either-right, some-const}
 use Rattle.vortex_prune.proofs.Binding.BoundValues.{met-const}

@@ -4,7 +4,7 @@ use Rattle.std.specs.Prelude.{Contains, IsTrue, filter, slice_get}
 use Rattle.std.specs.List.{enumerate_from}
 use Rattle.std.proofs.lemmas.Map.Made.{Contains-tail}
 use Rattle.std.proofs.lemmas.Option.{same_Some, slice_get-map}
-use Rattle.vortex_base.specs.Trees.Tree.{Tree, Place}
+use Rattle.vortex_expr.specs.Trees.Tree.{Tree, Place}
 use Rattle.vortex_prune.proofs.Honesty.ZoneLemmas.{part_is_zone}
 use Rattle.vortex_prune.proofs.Scanning.Boxes.{skipping_is_complete}
 use Rattle.vortex_prune.specs.Part.{zone_of}

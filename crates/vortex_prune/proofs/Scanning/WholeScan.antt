@@ -6,10 +6,10 @@ use Rattle.std.proofs.lemmas.List.{length-map}
 use Rattle.std.proofs.lemmas.List.Elements.{recursion_from_All}
 use Rattle.std.proofs.lemmas.Option.{same_Some, slice_get-map, slice_get_within}
 use Rattle.vortex_base.specs.Data.Columns.{row_count as rows_of}
-use Rattle.vortex_base.specs.Meanings.Fitting.{fits_scope}
+use Rattle.vortex_expr.specs.Meanings.Fitting.{fits_scope}
 use Rattle.vortex_base.specs.Data.Scalars.{Constant}
-use Rattle.vortex_base.specs.Trees.Tree.{Place, Tree, is_plain}
-use Rattle.vortex_base.specs.Meanings.Typing.{is_bool, type_of}
+use Rattle.vortex_expr.specs.Trees.Tree.{Place, Tree, is_plain}
+use Rattle.vortex_expr.specs.Meanings.Typing.{is_bool, type_of}
 use Rattle.vortex_base.specs.declared.dtype.DType.{DType}
 use Rattle.vortex_base.specs.declared.error.BaseError.{BaseError}
 use Rattle.vortex_prune.proofs.Binding.BoundValues.{has_a_type}

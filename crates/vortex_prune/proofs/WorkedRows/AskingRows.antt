@@ -5,14 +5,14 @@ use Rattle.vortex_base.specs.declared.aggregate.AggregateFnRef.TheVariants.{Max}
 use Rattle.vortex_base.specs.declared.dtype.DType.{DType}
 use Rattle.vortex_base.specs.declared.dtype.DType.TheVariants as dtype
 use Rattle.vortex_base.specs.declared.types.Nullability.TheVariants.{Nullable}
-use Rattle.vortex_base.specs.declared.types.Operator.TheVariants.{And, Eq, Lte}
+use Rattle.vortex_expr.specs.declared.scalar_fn.Operator.TheVariants.{And, Eq, Lte}
 use Rattle.vortex_base.specs.declared.types.PType.TheVariants as ptype
-use Rattle.vortex_base.specs.declared.types.ScalarFnId.TheVariants as functions
+use Rattle.vortex_expr.specs.declared.scalar_fn.ScalarFnId.TheVariants as functions
 use Rattle.vortex_base.specs.declared.pvalue.PValue.TheVariants as number
 use Rattle.vortex_base.specs.declared.scalar_value.ScalarValue.{ScalarValue}
 use Rattle.vortex_base.specs.declared.scalar_value.ScalarValue.TheVariants as value
 use Rattle.vortex_base.specs.Data.Scalars.{Constant}
-use Rattle.vortex_base.specs.Trees.Tree.{Tree, Place, column, literal, binary, not, row_count, stat}
+use Rattle.vortex_expr.specs.Trees.Tree.{Tree, Place, column, literal, binary, not, row_count, stat}
 use Rattle.vortex_rewrite.specs.Causes.{Causes}
 use Rattle.vortex_rewrite.specs.Rewriting.Falsifiers.{bool_literal, node, reduce_balanced}
 use Rattle.vortex_rewrite.specs.Rewriting.Lawful.{IsLawful, OwnRule}

@@ -11,8 +11,8 @@ use Rattle.vortex_base.specs.declared.scalar_value.ScalarValue.{ScalarValue}
 use Rattle.vortex_base.specs.declared.scalar_value.ScalarValue.TheVariants as value
 use Rattle.vortex_base.specs.Data.Columns.{ChunkData, ColumnData}
 use Rattle.vortex_base.specs.Data.Scalars.{Constant}
-use Rattle.vortex_base.specs.Meanings.Typing.{type_of}
-use Rattle.vortex_base.specs.Trees.Tree.{Tree, Place, column}
+use Rattle.vortex_expr.specs.Meanings.Typing.{type_of}
+use Rattle.vortex_expr.specs.Trees.Tree.{Tree, Place, column}
 use Rattle.vortex_rewrite.proofs.NullErasure.{typed_null}
 use Rattle.vortex_rewrite.specs.Facts.{IsHonest, is_over}
 use Rattle.vortex_rewrite.specs.Rewriting.Proof.{Assignment}

@@ -1,13 +1,13 @@
 -- Worked rows of marks, found by computation alone.
 use Rattle.std.specs.Prelude.{◌≡◌, ℕ, Bool, true, false, List, [], ◌∷◌, Option, Some, None, nat_le, pos, refl}
 use Rattle.vortex_base.specs.Data.Columns.{ColumnData}
-use Rattle.vortex_base.specs.Trees.Tree.{Tree, Place, binary, column, literal, row_count}
+use Rattle.vortex_expr.specs.Trees.Tree.{Tree, Place, binary, column, literal, row_count}
 use Rattle.vortex_base.specs.declared.dtype.DType.TheVariants as dtype
 use Rattle.vortex_base.specs.declared.pvalue.PValue.TheVariants as number
 use Rattle.vortex_base.specs.declared.scalar_value.ScalarValue.{ScalarValue}
 use Rattle.vortex_base.specs.declared.scalar_value.ScalarValue.TheVariants as value
 use Rattle.vortex_base.specs.declared.types.Nullability.TheVariants as nullability
-use Rattle.vortex_base.specs.declared.types.Operator.TheVariants.{Eq, Gt}
+use Rattle.vortex_expr.specs.declared.scalar_fn.Operator.TheVariants.{Eq, Gt}
 use Rattle.vortex_base.specs.declared.types.PType.TheVariants as width
 use Rattle.vortex_prune.specs.Scanning.Marks.{count_at, either_marked, is_true_at, left_marked, marked, marked_rows, marked_verdicts}
 use Rattle.vortex_prune.specs.declared.scan.marks.Counts.TheVariants.{Same}

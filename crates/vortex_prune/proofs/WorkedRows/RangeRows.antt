@@ -1,14 +1,14 @@
 -- Worked rows of scans by ranges of a chunk, found by computation alone.
 use Rattle.std.specs.Prelude.{◌≡◌, ℕ, true, false, List, [], ◌∷◌, ◌++◌, Option, Some, None, codes, pos, refl}
 use Rattle.vortex_base.specs.Data.Columns.{ChunkData, ColumnData}
-use Rattle.vortex_base.specs.Trees.Tree.{Tree, Place, binary, column, is_null, literal}
+use Rattle.vortex_expr.specs.Trees.Tree.{Tree, Place, binary, column, is_null, literal}
 use Rattle.vortex_base.specs.declared.dtype.DType.{DType}
 use Rattle.vortex_base.specs.declared.dtype.DType.TheVariants as dtype
 use Rattle.vortex_base.specs.declared.pvalue.PValue.TheVariants as number
 use Rattle.vortex_base.specs.declared.scalar_value.ScalarValue.{ScalarValue}
 use Rattle.vortex_base.specs.declared.scalar_value.ScalarValue.TheVariants as value
 use Rattle.vortex_base.specs.declared.types.Nullability.TheVariants.{Nullable, NonNullable}
-use Rattle.vortex_base.specs.declared.types.Operator.TheVariants.{Gt}
+use Rattle.vortex_expr.specs.declared.scalar_fn.Operator.TheVariants.{Gt}
 use Rattle.vortex_base.specs.declared.types.PType.TheVariants as ptype
 use Rattle.vortex_prune.specs.Part.{Entries, PartData, ZoneData}
 use Rattle.vortex_prune.specs.Scanning.RangeScans.{has_ranges, has_ranges_from, is_true_in, range_parts, range_rows, ranges_by, row_in_chunk, rows_in_chunk, selected_from, selected_ranges, tested_by, tested_ranges}

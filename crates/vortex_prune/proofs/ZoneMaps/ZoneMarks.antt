@@ -5,13 +5,13 @@ use Rattle.std.proofs.lemmas.List.{length-drop, length-take, take_at}
 use Rattle.std.specs.List.{list_any}
 use Rattle.std.specs.Prelude.{◌&&◌, ◌||◌, not, option_map, replicate, slice_get}
 use Rattle.vortex_base.specs.Data.Columns.{ColumnData, row_of}
-use Rattle.vortex_base.specs.Meanings.Meaning.{both, compared, either, is_true, meaning, truth, truth_value}
-use Rattle.vortex_base.specs.Trees.Between.{to_operator}
-use Rattle.vortex_base.specs.Trees.Tree.{Tree, Place, between, binary}
-use Rattle.vortex_base.specs.declared.types.BetweenOptions.{BetweenOptions}
+use Rattle.vortex_expr.specs.Meanings.Meaning.{both, compared, either, is_true, meaning, truth, truth_value}
+use Rattle.vortex_expr.specs.Trees.Between.{to_operator}
+use Rattle.vortex_expr.specs.Trees.Tree.{Tree, Place, between, binary}
+use Rattle.vortex_expr.specs.declared.scalar_fn.BetweenOptions.{BetweenOptions}
 use Rattle.vortex_base.specs.declared.scalar_value.ScalarValue.{ScalarValue}
 use Rattle.vortex_base.specs.declared.scalar_value.ScalarValue.TheVariants as value
-use Rattle.vortex_base.specs.declared.types.Operator.TheVariants as operator
+use Rattle.vortex_expr.specs.declared.scalar_fn.Operator.TheVariants as operator
 use Rattle.vortex_prune.specs.Scanning.Leaves.{IsComparison, IsLeaf, compares, passes_at}
 use Rattle.vortex_prune.specs.Scanning.Marks.{HasCounts, count_at, either_marked, is_told, is_true_at, left_marked, marked, paired}
 use Rattle.vortex_prune.specs.Zones.{MapData}

@@ -4,9 +4,9 @@ use Rattle.std.specs.Prelude.{Contains, Err, IfOk, IsOk, IsTrue, Ok, Result, ifâ
 use Rattle.std.specs.List.{enumerate_from}
 use Rattle.vortex_base.specs.Data.Columns.{row_count as rows_of}
 use Rattle.vortex_base.specs.Data.Scopes.{Named}
-use Rattle.vortex_base.specs.Meanings.Fitting.{fits_scope}
-use Rattle.vortex_base.specs.Meanings.Typing.{type_of}
-use Rattle.vortex_base.specs.Trees.Tree.{Place, Tree, is_plain}
+use Rattle.vortex_expr.specs.Meanings.Fitting.{fits_scope}
+use Rattle.vortex_expr.specs.Meanings.Typing.{type_of}
+use Rattle.vortex_expr.specs.Trees.Tree.{Place, Tree, is_plain}
 use Rattle.vortex_prune.proofs.Scanning.BinderScan.{element_there}
 use Rattle.vortex_prune.proofs.Scanning.Boxes.{skipping_is_complete}
 use Rattle.vortex_prune.proofs.Scanning.Lossless.{is_over_chunk}

@@ -3,7 +3,7 @@ use Rattle.std.proofs.Common.{◌≡◌, ◌<◌, ℕ, zero, suc, Bool, true, fa
 use Rattle.std.specs.Prelude.{if◌then◌else◌, slice_get}
 use Rattle.std.proofs.lemmas.List.{length-map}
 use Rattle.std.proofs.lemmas.Option.{same_Some}
-use Rattle.vortex_base.specs.Trees.Tree.{Tree, Place, has_bare_column}
+use Rattle.vortex_expr.specs.Trees.Tree.{Tree, Place, has_bare_column}
 use Rattle.vortex_base.specs.declared.dtype.DType.{DType}
 use Rattle.vortex_rewrite.proofs.Rewriting.CauseLemmas.{either-left, either-right}
 use Rattle.vortex_prune.proofs.Binding.BoundValues.{met-const}

@@ -7,7 +7,7 @@ use Rattle.vortex_base.specs.Data.Columns.{ChunkData, ColumnData, IsChunk, cell_
 use Rattle.vortex_base.specs.Data.Exact.{both_hold, both_true}
 use Rattle.vortex_base.specs.Data.Scalars.{Constant}
 use Rattle.vortex_base.specs.Data.Scopes.{Named}
-use Rattle.vortex_base.specs.Trees.Tree.{Place, Tree, column}
+use Rattle.vortex_expr.specs.Trees.Tree.{Place, Tree, column}
 use Rattle.vortex_base.specs.Data.Types.{dtype_eq, eq_ignore_nullability}
 use Rattle.vortex_base.specs.declared.aggregate.AggregateFnRef.{AggregateFnRef}
 use Rattle.vortex_base.specs.declared.aggregate.AggregateFnRef.TheVariants as aggregate

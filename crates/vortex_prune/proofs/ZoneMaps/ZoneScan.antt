@@ -4,11 +4,11 @@ use Rattle.std.specs.Prelude.{Err, IfOk, Ok, Result, if◌then◌else◌, option
 use Rattle.std.proofs.lemmas.List.{length-map}
 use Rattle.std.proofs.lemmas.Option.{same_Some, slice_get_within, slice_get-map}
 use Rattle.std.proofs.lemmas.List.Elements.{recursion_from_All}
-use Rattle.vortex_base.specs.Meanings.Fitting.{fits_scope}
+use Rattle.vortex_expr.specs.Meanings.Fitting.{fits_scope}
 use Rattle.vortex_base.specs.Data.Columns.{row_of}
-use Rattle.vortex_base.specs.Meanings.Meaning.{is_true, meaning}
+use Rattle.vortex_expr.specs.Meanings.Meaning.{is_true, meaning}
 use Rattle.vortex_base.specs.Data.Scopes.{Named}
-use Rattle.vortex_base.specs.Trees.Tree.{Place, Tree, has_bare_column}
+use Rattle.vortex_expr.specs.Trees.Tree.{Place, Tree, has_bare_column}
 use Rattle.vortex_prune.proofs.Scanning.BinderScan.{answered_there, element_there, skipped_or}
 use Rattle.vortex_prune.proofs.Scanning.ScanLemmas.{answered_long}
 use Rattle.vortex_prune.proofs.Scanning.WholeScan.{all_at}

@@ -5,7 +5,7 @@ use Rattle.std.specs.Prelude.{◌&&◌, Contains, not, option_map, replicate, sl
 use Rattle.std.specs.List.{list_all}
 use Rattle.std.proofs.lemmas.List.{length-map, take_all}
 use Rattle.std.proofs.lemmas.Option.{get_or_from_slice_get, same_Some, slice_get-get_or, slice_get-map, slice_get_within}
-use Rattle.vortex_base.specs.Trees.Tree.{Place, Tree}
+use Rattle.vortex_expr.specs.Trees.Tree.{Place, Tree}
 use Rattle.vortex_prune.proofs.ZoneMaps.ZoneMarks.{length-marked, marked_at}
 use Rattle.vortex_prune.proofs.ZoneMaps.ZoneScan.{IsTruth, is_skipped_zone, is_tested_zone, is_whole_zone, refuses_there}
 use Rattle.vortex_prune.specs.Scanning.Marks.{is_told, marked, marked_verdict, marked_verdicts}

@@ -4,9 +4,9 @@ use Rattle.vortex_base.specs.declared.aggregate.AggregateFnRef.{AggregateFnRef}
 use Rattle.vortex_base.specs.declared.dtype.DType.{DType}
 use Rattle.vortex_base.specs.declared.error.BaseError.{BaseError}
 use Rattle.vortex_base.specs.Data.Scalars.{Constant}
-use Rattle.vortex_base.specs.Trees.Tree.{Tree, Place, column, literal, binary, between, is_null, is_not_null, not, like, stat, row_count, has_bare_column, is_closed}
+use Rattle.vortex_expr.specs.Trees.Tree.{Tree, Place, column, literal, binary, between, is_null, is_not_null, not, like, stat, row_count, has_bare_column, is_closed}
 use Rattle.vortex_base.specs.Data.Types.{as_nullable, eq_ignore_nullability}
-use Rattle.vortex_base.specs.Meanings.Typing.{type_of, with_type}
+use Rattle.vortex_expr.specs.Meanings.Typing.{type_of, with_type}
 use Rattle.vortex_stats.specs.declared.error.BinderFault.TheVariants.{Own}
 use Rattle.vortex_stats.specs.declared.error.StatsError.{StatsError}
 use Rattle.vortex_stats.specs.declared.error.StatsError.TheVariants.{Memory, Binder}

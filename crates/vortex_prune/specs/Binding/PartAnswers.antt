@@ -4,7 +4,7 @@ use Rattle.vortex_base.specs.declared.aggregate.AggregateFnRef.{AggregateFnRef}
 use Rattle.vortex_base.specs.declared.dtype.DType.{DType}
 use Rattle.vortex_base.specs.declared.scalar_value.ScalarValue.{ScalarValue}
 use Rattle.vortex_base.specs.Data.Scopes.{Named}
-use Rattle.vortex_base.specs.Trees.Tree.{column}
+use Rattle.vortex_expr.specs.Trees.Tree.{column}
 use Rattle.vortex_base.specs.Data.Types.{eq_ignore_nullability}
 use Rattle.vortex_prune.specs.Part.{Entries, PartData, ZoneData, zone_of}
 use Rattle.vortex_rewrite.specs.Rewriting.Proof.{Assignment}

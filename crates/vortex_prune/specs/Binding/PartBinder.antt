@@ -6,9 +6,9 @@ use Rattle.vortex_base.specs.declared.error.BaseError.{BaseError}
 use Rattle.vortex_base.specs.declared.scalar_value.ScalarValue.{ScalarValue}
 use Rattle.vortex_base.specs.Data.Scopes.{Named}
 use Rattle.vortex_base.specs.Data.Scalars.{null_of}
-use Rattle.vortex_base.specs.Trees.Tree.{Tree, Place, column, literal}
+use Rattle.vortex_expr.specs.Trees.Tree.{Tree, Place, column, literal}
 use Rattle.vortex_base.specs.Data.Types.{as_nullable}
-use Rattle.vortex_base.specs.Meanings.Typing.{stat_type}
+use Rattle.vortex_expr.specs.Meanings.Typing.{stat_type}
 use Rattle.vortex_prune.specs.Binding.Binders.{BinderAnswer}
 use Rattle.vortex_prune.specs.Part.{Entries, PartData, ZoneData, zone_of}
 use Rattle.vortex_prune.specs.Binding.PartAnswers.{declares}

@@ -7,12 +7,12 @@ use Rattle.vortex_base.specs.declared.error.BaseError.{BaseError}
 use Rattle.vortex_base.specs.declared.error.BaseError.TheVariants.{Mismatch}
 use Rattle.vortex_base.specs.declared.scalar_value.ScalarValue.{ScalarValue}
 use Rattle.vortex_base.specs.Data.Scopes.{Named}
-use Rattle.vortex_base.specs.Meanings.Fitting.{fits_row}
-use Rattle.vortex_base.specs.Meanings.Meaning.{meaning}
+use Rattle.vortex_expr.specs.Meanings.Fitting.{fits_row}
+use Rattle.vortex_expr.specs.Meanings.Meaning.{meaning}
 use Rattle.vortex_base.specs.Data.Scalars.{Constant, is_optional_value, null_of}
-use Rattle.vortex_base.specs.Trees.Tree.{Tree, Place, column, literal, stat, has_placeholder}
+use Rattle.vortex_expr.specs.Trees.Tree.{Tree, Place, column, literal, stat, has_placeholder}
 use Rattle.vortex_base.specs.Data.Types.{as_nullable, dtype_eq_is_exact, eq_ignore_nullability}
-use Rattle.vortex_base.specs.Meanings.Typing.{stat_type, type_of}
+use Rattle.vortex_expr.specs.Meanings.Typing.{stat_type, type_of}
 use Rattle.vortex_prune.specs.Binding.Binders.{IsAnswerOf, IsFaithful}
 use Rattle.vortex_prune.specs.Part.{Entries, PartData, ZoneData, zone_of}
 use Rattle.vortex_prune.specs.Binding.PartAnswers.{column_value, declares, part_values, told_values}

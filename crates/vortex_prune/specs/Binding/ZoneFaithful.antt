@@ -7,14 +7,14 @@ use Rattle.std.proofs.lemmas.List.Quantifiers.{position-Some}
 use Rattle.std.proofs.lemmas.Option.{same_Some, slice_get-get_or, slice_get-map}
 use lib.Pointwise.{pointwise}
 use Rattle.vortex_base.specs.Data.Exact.{IsExact, both_true}
-use Rattle.vortex_base.specs.Meanings.Fitting.{fits_row, is_cell_of}
-use Rattle.vortex_base.specs.Meanings.Meaning.{meaning}
+use Rattle.vortex_expr.specs.Meanings.Fitting.{fits_row, is_cell_of}
+use Rattle.vortex_expr.specs.Meanings.Meaning.{meaning}
 use Rattle.vortex_base.specs.Data.Scalars.{Constant, null_of}
 use Rattle.vortex_base.specs.Data.Scopes.{Named}
-use Rattle.vortex_base.specs.Trees.Tree.{Place, Tree, column, has_placeholder, stat}
-use Rattle.vortex_base.specs.Trees.TreeEq.{aggregate_eq}
+use Rattle.vortex_expr.specs.Trees.Tree.{Place, Tree, column, has_placeholder, stat}
+use Rattle.vortex_expr.specs.Trees.TreeEq.{aggregate_eq}
 use Rattle.vortex_base.specs.Data.Types.{as_nullable, dtype_eq, dtype_eq_is_exact, eq_ignore_nullability}
-use Rattle.vortex_base.specs.Meanings.Typing.{stat_type, type_of}
+use Rattle.vortex_expr.specs.Meanings.Typing.{stat_type, type_of}
 use Rattle.vortex_base.specs.declared.aggregate.AggregateFnRef.{AggregateFnRef}
 use Rattle.vortex_base.specs.declared.dtype.DType.{DType}
 use Rattle.vortex_prune.specs.Binding.Binders.{IsAnswerOf, IsFaithful}

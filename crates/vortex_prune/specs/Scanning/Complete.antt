@@ -4,9 +4,9 @@ use Rattle.std.specs.List.{AllByRecursion}
 use Rattle.vortex_base.specs.declared.dtype.DType.{DType}
 use Rattle.vortex_base.specs.Data.Columns.{row_count as rows_of}
 use Rattle.vortex_base.specs.Data.Scopes.{Named}
-use Rattle.vortex_base.specs.Meanings.Fitting.{fits_scope}
-use Rattle.vortex_base.specs.Trees.Tree.{Tree, Place}
-use Rattle.vortex_base.specs.Meanings.Typing.{is_bool, type_of}
+use Rattle.vortex_expr.specs.Meanings.Fitting.{fits_scope}
+use Rattle.vortex_expr.specs.Trees.Tree.{Tree, Place}
+use Rattle.vortex_expr.specs.Meanings.Typing.{is_bool, type_of}
 use Rattle.vortex_stats.specs.Sets.Entries.{entry_value}
 use Rattle.vortex_stats.specs.Precision.{present_value}
 use Rattle.vortex_stats.specs.declared.stat.Stat.TheVariants.{Max, Min}

@@ -1,13 +1,13 @@
 -- Leaves of a predicate, which ask something of the values of one column.
 use Rattle.std.specs.Prelude.{◌≡◌, ℕ, Bool, true, false, not as not_b, List, Option, Some, is_none, slice_get}
 use Rattle.vortex_base.specs.declared.scalar_value.ScalarValue.{ScalarValue}
-use Rattle.vortex_base.specs.declared.types.Operator.{Operator}
-use Rattle.vortex_base.specs.declared.types.Operator.TheVariants as operator
+use Rattle.vortex_expr.specs.declared.scalar_fn.Operator.{Operator}
+use Rattle.vortex_expr.specs.declared.scalar_fn.Operator.TheVariants as operator
 use Rattle.vortex_base.specs.Data.Cells.{value_of}
 use Rattle.vortex_base.specs.Data.Columns.{ColumnData, row_of, value_at}
 use Rattle.vortex_base.specs.Data.Scalars.{Constant}
-use Rattle.vortex_base.specs.Meanings.Meaning.{compared, is_true, meaning, satisfies, truth_value}
-use Rattle.vortex_base.specs.Trees.Tree.{Tree, Place}
+use Rattle.vortex_expr.specs.Meanings.Meaning.{compared, is_true, meaning, satisfies, truth_value}
+use Rattle.vortex_expr.specs.Trees.Tree.{Tree, Place}
 use Rattle.vortex_prune.specs.declared.scan.leaf.Test.{Test}
 use Rattle.vortex_prune.specs.declared.scan.leaf.Test.TheVariants.{Is, Null, NotNull}
 

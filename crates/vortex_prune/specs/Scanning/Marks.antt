@@ -1,8 +1,8 @@
 -- Marks, a truth each: of which rows of a table, or of which zones, something is true.
 use Rattle.std.specs.Prelude.{◌≡◌, ℕ, ◌+◌, Bool, not, ◌&&◌, ◌||◌, List, [], ◌∷◌, ◌++◌, Option, if◌then◌else◌, slice_index}
 use Rattle.vortex_base.specs.Data.Columns.{ColumnData, row_of}
-use Rattle.vortex_base.specs.Meanings.Meaning.{satisfies}
-use Rattle.vortex_base.specs.Trees.Tree.{Tree, Place}
+use Rattle.vortex_expr.specs.Meanings.Meaning.{satisfies}
+use Rattle.vortex_expr.specs.Trees.Tree.{Tree, Place}
 use Rattle.vortex_prune.specs.Scanning.Selection.{row_if}
 use Rattle.vortex_prune.specs.Scanning.ZoneScans.{zone_truth}
 use Rattle.vortex_prune.specs.declared.scan.marks.Counts.{Counts}

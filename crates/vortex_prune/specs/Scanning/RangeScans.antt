@@ -3,8 +3,8 @@ use Rattle.std.specs.Prelude.{◌≡◌, ◌==◌, ◌&&◌, ◌+◌, ◌<◌, �
 use Rattle.std.specs.List.{range_with_len}
 use Rattle.vortex_base.specs.Data.Columns.{ChunkData, ColumnData, IsChunk, row_of, row_count as rows_of}
 use Rattle.vortex_base.specs.Data.Scopes.{Named, scope_eq}
-use Rattle.vortex_base.specs.Meanings.Meaning.{satisfies}
-use Rattle.vortex_base.specs.Trees.Tree.{Tree, Place}
+use Rattle.vortex_expr.specs.Meanings.Meaning.{satisfies}
+use Rattle.vortex_expr.specs.Trees.Tree.{Tree, Place}
 use Rattle.vortex_prune.specs.Part.{AreParts, PartData, ZoneData}
 use Rattle.vortex_prune.specs.Scanning.ZoneScans.{zone_verdicts}
 use Rattle.vortex_prune.specs.Zones.{HaveScope, IsMapOf, MapData, zones_of}

@@ -2,7 +2,7 @@
 use Rattle.std.specs.Prelude.{◌≡◌, ◌⊎◌, ℕ, Bool, true, false, All, Any, Contains, List, [], ◌∷◌, Option, Some, IfSome, IsSomeAnd, IsTrue, if◌then◌else◌, slice_get}
 use Rattle.vortex_base.specs.declared.dtype.DType.{DType}
 use Rattle.vortex_base.specs.Data.Scalars.{Constant}
-use Rattle.vortex_base.specs.Trees.Tree.{Tree, Place}
+use Rattle.vortex_expr.specs.Trees.Tree.{Tree, Place}
 use Rattle.vortex_prune.specs.Binding.Binders.{BinderAnswer}
 use Rattle.vortex_prune.specs.Binding.BoundTo.{IsBoundTo, IsWrong, SomeMet}
 use Rattle.vortex_rewrite.specs.Causes.{Causes, either_causes, no_causes}

@@ -2,9 +2,9 @@
 use Rattle.std.specs.Prelude.{◌≡◌, ◌+◌, ℕ, Bool, true, false, ◌||◌, List, [], ◌∷◌, Option, None, Some, IsTrue, map, filter, if◌then◌else◌, ⊤}
 use Rattle.std.specs.List.{enumerate_from, flat_map, range_with_len}
 use Rattle.vortex_base.specs.Data.Columns.{ChunkData, row_of, row_count as rows_of}
-use Rattle.vortex_base.specs.Meanings.Meaning.{satisfies}
+use Rattle.vortex_expr.specs.Meanings.Meaning.{satisfies}
 use Rattle.vortex_base.specs.Data.Scalars.{Constant}
-use Rattle.vortex_base.specs.Trees.Tree.{Tree, Place}
+use Rattle.vortex_expr.specs.Trees.Tree.{Tree, Place}
 use Rattle.vortex_rewrite.specs.Facts.{IsHonest}
 use Rattle.vortex_prune.specs.Part.{PartData}
 use Rattle.vortex_prune.specs.Binding.PartAnswers.{part_values}

@@ -2,7 +2,7 @@
 ghost use Rattle.std.specs.Prelude.{◌≡◌, ℕ, Bool, List, Option, IsTrue, MatchResult};
 ghost use Rattle.vortex_base.specs.declared.dtype.DType.{DType};
 ghost use Rattle.vortex_base.specs.Data.Scalars.{Constant, null_of};
-ghost use Rattle.vortex_base.specs.Trees.Tree.{Tree, Place, literal};
+ghost use Rattle.vortex_expr.specs.Trees.Tree.{Tree, Place, literal};
 ghost use Rattle.vortex_base.specs.Data.Types.{as_nullable};
 ghost use Rattle.vortex_prune.specs.Binding.Binders.{BinderAnswer, IsFaithful};
 ghost use Rattle.vortex_rewrite.specs.HookFaults.{IsHookFault};
@@ -10,10 +10,10 @@ ghost use Rattle.vortex_rewrite.specs.Rewriting.Proof.{Assignment};
 
 use std::alloc::Global;
 use vortex_base::aggregate::AggregateFnRef;
-use vortex_base::bound;
-use vortex_base::bound_expression::BoundExpression;
 use vortex_base::dtype::DType;
 use vortex_base::scalar::Scalar;
+use vortex_expr::bound;
+use vortex_expr::bound_expression::BoundExpression;
 use vortex_rewrite::hook_fault::HookFault;
 
 /// Binds placeholders to what a store of statistics has for them: columns of a table of statistics,

@@ -19,11 +19,11 @@ use crate::zone::{Zone, sets_fit};
 use std::alloc::{AllocError, Global};
 use std::marker::Model;
 use vortex_base::aggregate::AggregateFnRef;
-use vortex_base::bound;
-use vortex_base::bound_expression::BoundExpression;
-use vortex_base::bound_expression::parts::Parts;
 use vortex_base::dtype::DType;
 use vortex_base::scope::Scope;
+use vortex_expr::bound;
+use vortex_expr::bound_expression::BoundExpression;
+use vortex_expr::bound_expression::parts::Parts;
 use vortex_rewrite::hook_fault::HookFault;
 use vortex_stats::error::StatsError;
 

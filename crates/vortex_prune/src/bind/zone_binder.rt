@@ -11,10 +11,10 @@ use crate::zone_map::ZoneMap;
 use std::alloc::Global;
 use std::marker::Model;
 use vortex_base::aggregate::AggregateFnRef;
-use vortex_base::bound;
-use vortex_base::bound_expression::BoundExpression;
-use vortex_base::bound_expression::parts::Parts;
 use vortex_base::dtype::DType;
+use vortex_expr::bound;
+use vortex_expr::bound_expression::BoundExpression;
+use vortex_expr::bound_expression::parts::Parts;
 use vortex_rewrite::hook_fault::HookFault;
 
 /// Binds the placeholders of a proof to the columns of the table of a map of zones, so that one

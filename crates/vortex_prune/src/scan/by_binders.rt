@@ -1,9 +1,9 @@
 //! What becomes of a part by its binder: the proofs are bound to what that answers, and evaluated.
 ghost use Rattle.std.specs.Prelude.{◌≡◌, false, true, IfOk, IfErr, IsTrue, Some, alloc_error, option_copied};
 ghost use Rattle.vortex_base.specs.Data.Columns.{row_count};
-ghost use Rattle.vortex_base.specs.Meanings.Fitting.{fits_row};
-ghost use Rattle.vortex_base.specs.Meanings.Meaning.{is_true as value_is_true, meaning};
-ghost use Rattle.vortex_base.specs.Trees.Tree.{has_placeholder};
+ghost use Rattle.vortex_expr.specs.Meanings.Fitting.{fits_row};
+ghost use Rattle.vortex_expr.specs.Meanings.Meaning.{is_true as value_is_true, meaning};
+ghost use Rattle.vortex_expr.specs.Trees.Tree.{has_placeholder};
 ghost use Rattle.vortex_rewrite.specs.Rewriting.Proof.{proves};
 ghost use Rattle.vortex_prune.specs.Scanning.PartScans.{UnlessSkipped};
 ghost use Rattle.vortex_prune.specs.Scanning.Selection.{IsFaithfulFor, answers_for};
@@ -19,10 +19,10 @@ use crate::bind::stat_binder::StatBinder;
 use crate::part::Part;
 use crate::scan::verdict::Verdict;
 use std::alloc::Global;
-use vortex_base::bound_expression::BoundExpression;
-use vortex_base::evaluate::evaluate;
 use vortex_base::row::Row;
 use vortex_base::scalar_value::ScalarValue;
+use vortex_expr::bound_expression::BoundExpression;
+use vortex_expr::evaluate::evaluate;
 use vortex_rewrite::built::built;
 use vortex_stats::error::StatsError;
 

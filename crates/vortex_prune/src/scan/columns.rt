@@ -12,7 +12,7 @@ use vortex_base::column::Column;
 use vortex_base::match_each_native;
 use vortex_base::native::Native;
 use vortex_base::natives::Natives;
-use vortex_base::types::Operator;
+use vortex_expr::scalar_fn::Operator;
 
 // Whether a value that may be there compares so with another.
 #[inline]

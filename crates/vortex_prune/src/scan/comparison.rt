@@ -23,8 +23,8 @@ pub(crate) use match_each_comparison;
 
 /// A comparison of two values in order.
 pub(crate) trait Comparison {
-    ghost use Rattle.vortex_base.specs.Meanings.Meaning as spec;
-    ghost use Rattle.vortex_base.specs.declared.types.Operator.{Operator};
+    ghost use Rattle.vortex_expr.specs.Meanings.Meaning as spec;
+    ghost use Rattle.vortex_expr.specs.declared.scalar_fn.Operator.{Operator};
 
     ghost operator: { Operator };
 
@@ -46,7 +46,7 @@ pub(crate) struct Below;
 pub(crate) struct AtMost;
 
 impl Comparison for Equal {
-    ghost use Rattle.vortex_base.specs.declared.types.Operator.TheVariants as operator;
+    ghost use Rattle.vortex_expr.specs.declared.scalar_fn.Operator.TheVariants as operator;
 
     ghost operator = { operator.Eq };
 
@@ -57,7 +57,7 @@ impl Comparison for Equal {
 }
 
 impl Comparison for Unequal {
-    ghost use Rattle.vortex_base.specs.declared.types.Operator.TheVariants as operator;
+    ghost use Rattle.vortex_expr.specs.declared.scalar_fn.Operator.TheVariants as operator;
 
     ghost operator = { operator.NotEq };
 
@@ -68,7 +68,7 @@ impl Comparison for Unequal {
 }
 
 impl Comparison for Above {
-    ghost use Rattle.vortex_base.specs.declared.types.Operator.TheVariants as operator;
+    ghost use Rattle.vortex_expr.specs.declared.scalar_fn.Operator.TheVariants as operator;
 
     ghost operator = { operator.Gt };
 
@@ -79,7 +79,7 @@ impl Comparison for Above {
 }
 
 impl Comparison for AtLeast {
-    ghost use Rattle.vortex_base.specs.declared.types.Operator.TheVariants as operator;
+    ghost use Rattle.vortex_expr.specs.declared.scalar_fn.Operator.TheVariants as operator;
 
     ghost operator = { operator.Gte };
 
@@ -90,7 +90,7 @@ impl Comparison for AtLeast {
 }
 
 impl Comparison for Below {
-    ghost use Rattle.vortex_base.specs.declared.types.Operator.TheVariants as operator;
+    ghost use Rattle.vortex_expr.specs.declared.scalar_fn.Operator.TheVariants as operator;
 
     ghost operator = { operator.Lt };
 
@@ -101,7 +101,7 @@ impl Comparison for Below {
 }
 
 impl Comparison for AtMost {
-    ghost use Rattle.vortex_base.specs.declared.types.Operator.TheVariants as operator;
+    ghost use Rattle.vortex_expr.specs.declared.scalar_fn.Operator.TheVariants as operator;
 
     ghost operator = { operator.Lte };
 

@@ -2,17 +2,17 @@
 //! literal on either side, IS NULL and IS NOT NULL.
 ghost use Rattle.std.specs.Prelude.{◌≡◌, IfSome, option_map};
 ghost use Rattle.vortex_base.specs.Data.Cells.{value_of};
-ghost use Rattle.vortex_base.specs.Meanings.Meaning as spec;
+ghost use Rattle.vortex_expr.specs.Meanings.Meaning as spec;
 ghost use Rattle.vortex_prune.specs.Scanning.Leaves.{IsColumnOf, IsComparison, IsLeaf, IsValue};
 ghost use Rattle.vortex_prune.specs.Scanning.Leaves.{is_comparison, passes, swapped};
 
 use std::cmp::Ordering;
-use vortex_base::bound_expression::BoundExpression;
-use vortex_base::bound_expression::parts::Parts;
 use vortex_base::chunk::Chunk;
 use vortex_base::column::Column;
-use vortex_base::types::Operator;
 use vortex_base::value_ref::ValueRef;
+use vortex_expr::bound_expression::BoundExpression;
+use vortex_expr::bound_expression::parts::Parts;
+use vortex_expr::scalar_fn::Operator;
 
 /// What is asked of a value.
 #[derive(Clone, Copy)]

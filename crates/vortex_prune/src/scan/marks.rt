@@ -5,7 +5,7 @@ ghost use Rattle.std.specs.Prelude.{◌≡◌, ◌+◌, ◌<◌, ◌≤◌, ◌&
 ghost use Rattle.std.specs.Prelude.{option_copied, vec_len};
 ghost use Rattle.std.specs.List.{list_any};
 ghost use Rattle.vortex_base.specs.Data.Columns.{row_count};
-ghost use Rattle.vortex_base.specs.Trees.Tree.{between};
+ghost use Rattle.vortex_expr.specs.Trees.Tree.{between};
 ghost use Rattle.vortex_prune.specs.Scanning.Marks.{HasCounts, count_at, either_marked, is_told};
 ghost use Rattle.vortex_prune.specs.Scanning.Marks.{is_true_at, left_marked, marked};
 
@@ -13,10 +13,10 @@ use crate::scan::columns::keep_passing;
 use crate::scan::leaf::{compared, leaf_of};
 use crate::zone_map::ZoneMap;
 use std::alloc::{AllocError, Global};
-use vortex_base::bound_expression::BoundExpression;
-use vortex_base::bound_expression::parts::Parts;
 use vortex_base::chunk::Chunk;
-use vortex_base::types::{BetweenOptions, Operator};
+use vortex_expr::bound_expression::BoundExpression;
+use vortex_expr::bound_expression::parts::Parts;
+use vortex_expr::scalar_fn::{BetweenOptions, Operator};
 
 /// How many rows are looked at together: their cells of a column fill some 16 KB.
 pub(crate) const BLOCK: usize = 1024;

@@ -2,8 +2,8 @@
 ghost use Rattle.std.specs.Prelude.{◌≡◌, ◌+◌, ◌-◌, ◌^◌, ◌≤◌, ◌++◌, IfErr, IsTrue, OnOk};
 ghost use Rattle.std.specs.Prelude.{alloc_error, min};
 ghost use Rattle.vortex_base.specs.Data.Columns.{row_count};
-ghost use Rattle.vortex_base.specs.Meanings.Fitting.{fits_scope};
-ghost use Rattle.vortex_base.specs.Trees.Tree.{is_plain};
+ghost use Rattle.vortex_expr.specs.Meanings.Fitting.{fits_scope};
+ghost use Rattle.vortex_expr.specs.Trees.Tree.{is_plain};
 ghost use Rattle.vortex_prune.specs.Part.{IsPart};
 ghost use Rattle.vortex_prune.specs.Scanning.RangeScans.{range_rows, range_tested};
 ghost use Rattle.vortex_prune.specs.Scanning.Selection.{is_skipped, is_whole, place_if};
@@ -13,7 +13,7 @@ ghost use Rattle.vortex_stats.specs.declared.error.StatsError.TheVariants.{Memor
 use crate::part::Part;
 use crate::scan::select::{RowRange, select, select_all};
 use crate::scan::verdict::Verdict;
-use vortex_base::bound_expression::BoundExpression;
+use vortex_expr::bound_expression::BoundExpression;
 use vortex_stats::error::StatsError;
 
 /// What a scan found: of parts, or of the zones of a map. They and their rows count from 0.

@@ -1,8 +1,8 @@
 //! Scans part by part: the interface that decides for each part, and the loop over the parts.
 ghost use Rattle.std.specs.Prelude.{◌≡◌, ◌-◌, ◌^◌, ◌<◌, ℕ, All, List, Option, IfErr, IfOk, IsTrue};
 ghost use Rattle.std.specs.Prelude.{MatchResult, length, min};
-ghost use Rattle.vortex_base.specs.Meanings.Fitting.{fits_scope};
-ghost use Rattle.vortex_base.specs.Trees.Tree.{Place, Tree, is_plain};
+ghost use Rattle.vortex_expr.specs.Meanings.Fitting.{fits_scope};
+ghost use Rattle.vortex_expr.specs.Trees.Tree.{Place, Tree, is_plain};
 ghost use Rattle.vortex_prune.specs.Part.{AreParts, PartData};
 ghost use Rattle.vortex_prune.specs.Scanning.PartScans.{AreTold, IsRefusedAt, IsSameTest, TellsOf};
 ghost use Rattle.vortex_prune.specs.Scanning.Selection.{Answered, selected_rows, skipped_parts};
@@ -14,7 +14,7 @@ use crate::part::Part;
 use crate::scan::outcome::Scan;
 use crate::scan::verdict::Verdict;
 use std::alloc::Global;
-use vortex_base::bound_expression::BoundExpression;
+use vortex_expr::bound_expression::BoundExpression;
 use vortex_stats::error::StatsError;
 
 /// Decides for each part: skip, take whole or test; by a binder for each part, or by their table.

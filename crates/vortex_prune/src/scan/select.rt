@@ -9,8 +9,8 @@ ghost use Rattle.vortex_prune.specs.Scanning.Selection.{row_if};
 ghost use Rattle.vortex_rewrite.specs.Answers.{IsMemory};
 
 use crate::scan::marks::{BLOCK, Counts, Table, block_end, keep_true};
-use vortex_base::bound_expression::BoundExpression;
 use vortex_base::chunk::Chunk;
+use vortex_expr::bound_expression::BoundExpression;
 use vortex_stats::error::StatsError;
 
 /// Rows of a chunk that stand one behind the other: so many, from the first on.

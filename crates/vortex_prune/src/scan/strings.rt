@@ -7,8 +7,8 @@ use crate::scan::comparison::{Comparison, match_each_comparison};
 use std::cmp::Ordering;
 use vortex_base::blobs::Blobs;
 use vortex_base::texts::Texts;
-use vortex_base::types::Operator;
 use vortex_base::value_ref::ValueRef;
+use vortex_expr::scalar_fn::Operator;
 
 /// Optional texts or byte strings in order.
 pub(crate) trait Strings {

@@ -2,7 +2,8 @@
 //! each row says by itself.
 use super::*;
 use std::alloc::AllocError;
-use vortex_base::{BoundExpression, Cells, Column, DType, Nullability, ScalarValue};
+use vortex_base::{Cells, Column, DType, Nullability, ScalarValue};
+use vortex_expr::BoundExpression;
 use vortex_prune::{Rules, Scan};
 
 const UTF8_OR_NULL: DType = DType::Utf8(Nullability::Nullable);

@@ -1,15 +1,15 @@
 //! A caller that makes the binders of its parts, and has by the contracts what it scans for.
 ghost use Rattle.std.specs.Prelude.{◌≡◌, All, IfErr, IfOk, IsTrue};
 ghost use Rattle.std.specs.List.{AllByRecursion};
-ghost use Rattle.vortex_base.specs.Meanings.Fitting.{fits_scope};
-ghost use Rattle.vortex_base.specs.Trees.Tree.{is_plain};
+ghost use Rattle.vortex_expr.specs.Meanings.Fitting.{fits_scope};
+ghost use Rattle.vortex_expr.specs.Trees.Tree.{is_plain};
 ghost use Rattle.vortex_prune.specs.Part.{IsTruePart};
 ghost use Rattle.vortex_rewrite.specs.Rewriting.Predicates.{is_predicate};
 ghost use Rattle.vortex_rewrite.specs.Answers.{IsMemory};
 ghost use Rattle.vortex_prune.specs.Scanning.Selection.{full};
 
 use super::*;
-use vortex_base::BoundExpression;
+use vortex_expr::BoundExpression;
 use vortex_prune::laws::statistics_binders_are_honest;
 use vortex_prune::scan::scan;
 use vortex_prune::{Rules, Scan};

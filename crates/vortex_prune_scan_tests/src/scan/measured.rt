@@ -2,10 +2,11 @@
 //! that stand in `vortex_uses`.
 ghost use Rattle.std.specs.Prelude.{All, IsTrue};
 ghost use Rattle.std.specs.Bool.{OnTrue};
-ghost use Rattle.vortex_base.specs.Meanings.Fitting.{fits_scope};
+ghost use Rattle.vortex_expr.specs.Meanings.Fitting.{fits_scope};
 
 use super::*;
-use vortex_base::{BoundExpression, Chunk};
+use vortex_base::Chunk;
+use vortex_expr::BoundExpression;
 use vortex_prune::Scan;
 use vortex_uses::measured::{scan_checked, scan_measured};
 

@@ -2,7 +2,8 @@
 use super::*;
 use std::process::Abort;
 use std::slice;
-use vortex_base::{BoundExpression, Chunk, ScalarValue, Scope};
+use vortex_base::{Chunk, ScalarValue, Scope};
+use vortex_expr::BoundExpression;
 use vortex_prune::{Zone, ZoneMap, scan_ranges_from};
 use vortex_stats::RuleFault;
 

@@ -4,7 +4,7 @@ ghost use Rattle.vortex_rewrite.specs.Rewriting.Falsifiers.{bool_literal};
 ghost use Rattle.vortex_prune_scan_tests.specs.RuleExamples.{at_null_test};
 
 use super::*;
-use vortex_base::{BoundExpression, Parts};
+use vortex_expr::{BoundExpression, Parts};
 use vortex_prune::{HookFault, StatsRewriteRule};
 use vortex_rewrite_testing::hooks::{ValueTests, truth_answer};
 use vortex_stats::RuleFault;
@@ -28,7 +28,7 @@ struct Declared;
 
 impl StatsRewriteRule for Declared {
     ghost use Rattle.std.specs.Prelude.{false};
-    ghost use Rattle.vortex_base.specs.declared.types.ScalarFnId.TheVariants as function;
+    ghost use Rattle.vortex_expr.specs.declared.scalar_fn.ScalarFnId.TheVariants as function;
     ghost use Rattle.vortex_prune_scan_tests.specs.RuleExamples.{at_null_test, no_proof};
     ghost use Rattle.vortex_prune_scan_tests.specs.RuleExamples.{null_test_is_lawful};
 

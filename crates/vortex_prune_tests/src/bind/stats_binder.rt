@@ -1,8 +1,9 @@
 //! What the statistics of a part of one column answer.
 use std::alloc::{AllocError, Global};
 use std::process::Abort;
-use vortex_base::evaluate::evaluate;
-use vortex_base::{BaseError, BoundExpression, DType, Nullability, Row, ScalarValue};
+use vortex_base::{BaseError, DType, Nullability, Row, ScalarValue};
+use vortex_expr::BoundExpression;
+use vortex_expr::evaluate::evaluate;
 use vortex_prune::bind::bind_stats;
 use vortex_prune::{Part, StatsBinder, Zone, ZoneStatsBinder};
 use vortex_prune_testing::parts::*;

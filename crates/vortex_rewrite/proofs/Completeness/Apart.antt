@@ -7,13 +7,13 @@ use Rattle.std.proofs.lemmas.Bool.Decides.{nat_tests}
 use Rattle.vortex_base.specs.Data.Exact.{both_hold}
 use Rattle.vortex_base.specs.Data.Types.{ptype_index}
 use Rattle.vortex_base.specs.Data.Values.{in_range, is_value, ptype_of}
-use Rattle.vortex_base.specs.Meanings.Meaning.{both, either, meaning, satisfies, truth, truth_value}
-use Rattle.vortex_base.specs.Trees.Tree.{Tree, Place, column, literal, binary, between, is_null, is_not_null, not, like, stat, row_count}
+use Rattle.vortex_expr.specs.Meanings.Meaning.{both, either, meaning, satisfies, truth, truth_value}
+use Rattle.vortex_expr.specs.Trees.Tree.{Tree, Place, column, literal, binary, between, is_null, is_not_null, not, like, stat, row_count}
 use Rattle.vortex_base.specs.declared.dtype.DType.{DType}
 use Rattle.vortex_base.specs.declared.dtype.DType.TheVariants as dtype
 use Rattle.vortex_base.specs.declared.scalar_value.ScalarValue.{ScalarValue}
 use Rattle.vortex_base.specs.declared.scalar_value.ScalarValue.TheVariants as value
-use Rattle.vortex_base.specs.declared.types.Operator.TheVariants.{Eq, NotEq, Gt, Gte, Lt, Lte, And, Or}
+use Rattle.vortex_expr.specs.declared.scalar_fn.Operator.TheVariants.{Eq, NotEq, Gt, Gte, Lt, Lte, And, Or}
 use Rattle.vortex_rewrite.proofs.Completeness.Choices.{Agree, AreInside, Choice, IsBetween, all_back, all_front, all_map, between_agreed, combined, combined_back, distinct_back, distinct_front, row_with, satisfies_agreed}
 use Rattle.vortex_rewrite.proofs.Completeness.Decided.{Decided, both_known, either_known, one_proof}
 use Rattle.vortex_rewrite.proofs.Completeness.Operands.{IsInterval}

@@ -3,13 +3,13 @@ use Rattle.std.proofs.Common.{◌≡◌, ◌<◌, ℕ, Bool, true, false, not as
 use Rattle.std.specs.List.{AllByRecursion}
 use Rattle.std.proofs.lemmas.Bool.{not-true, not-false}
 use Rattle.vortex_base.specs.declared.dtype.DType.{DType}
-use Rattle.vortex_base.specs.declared.types.Operator.{Operator}
-use Rattle.vortex_base.specs.declared.types.Operator.TheVariants.{Eq, NotEq, Gt, Gte, Lt, Lte, And, Or}
+use Rattle.vortex_expr.specs.declared.scalar_fn.Operator.{Operator}
+use Rattle.vortex_expr.specs.declared.scalar_fn.Operator.TheVariants.{Eq, NotEq, Gt, Gte, Lt, Lte, And, Or}
 use Rattle.vortex_base.specs.declared.scalar_value.ScalarValue.{ScalarValue}
 use Rattle.vortex_base.specs.declared.scalar_value.ScalarValue.TheVariants as value
-use Rattle.vortex_base.specs.Meanings.Meaning.{applied, both, compared, either, is_true, meaning, satisfies, truth, truth_value}
+use Rattle.vortex_expr.specs.Meanings.Meaning.{applied, both, compared, either, is_true, meaning, satisfies, truth, truth_value}
 use Rattle.vortex_base.specs.Data.Scalars.{Constant}
-use Rattle.vortex_base.specs.Trees.Tree.{Tree, Place, literal, binary, has_bare_column}
+use Rattle.vortex_expr.specs.Trees.Tree.{Tree, Place, literal, binary, has_bare_column}
 use Rattle.vortex_base.specs.Data.Types.{eq_ignore_nullability}
 use Rattle.vortex_base.specs.Data.Values.{is_value}
 use Rattle.vortex_rewrite.proofs.Completeness.Choices.{Agree, AreInside, Choice, IsBetween, all_back, all_front, between_agreed, chosen_agreed, combined, combined_back, combined_front, row_with}

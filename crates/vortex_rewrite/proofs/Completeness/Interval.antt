@@ -1,10 +1,10 @@
 -- Two intervals of values, and the six comparisons between values of them.
 use Rattle.std.proofs.Common.{◌≡◌, Bool, true, false, not, ◌&&◌, ◌||◌, refl, sym, ap, ◌∙◌, ⊎_elim}
 use Rattle.std.proofs.lemmas.Bool.{not-false, and_parts, or_cases, and_left, and_right, and_cases, or_parts}
-use Rattle.vortex_base.specs.Meanings.Meaning.{holds}
+use Rattle.vortex_expr.specs.Meanings.Meaning.{holds}
 use Rattle.vortex_base.specs.Data.Values.{value_cmp}
-use Rattle.vortex_base.specs.declared.types.Operator.{Operator}
-use Rattle.vortex_base.specs.declared.types.Operator.TheVariants.{Eq, NotEq, Gt, Gte, Lt, Lte, And, Or}
+use Rattle.vortex_expr.specs.declared.scalar_fn.Operator.{Operator}
+use Rattle.vortex_expr.specs.declared.scalar_fn.Operator.TheVariants.{Eq, NotEq, Gt, Gte, Lt, Lte, And, Or}
 use Rattle.vortex_base.specs.declared.scalar_value.ScalarValue.{ScalarValue}
 use Rattle.vortex_rewrite.proofs.Soundness.TruthLogic.{clash, refuted}
 use Rattle.vortex_rewrite.proofs.Soundness.ValueTests.{value_le, le_refl, le_trans, le_total, holds_by_le, by_order, gt_le, gte_le, lt_le, eq_le}

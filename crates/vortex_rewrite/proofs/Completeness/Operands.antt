@@ -10,18 +10,18 @@ use Rattle.vortex_base.specs.declared.dtype.DType.TheVariants as dtype
 use Rattle.vortex_base.specs.declared.error.BaseError.{BaseError}
 use Rattle.vortex_base.specs.declared.scalar_value.ScalarValue.{ScalarValue}
 use Rattle.vortex_base.specs.declared.scalar_value.ScalarValue.TheVariants as value
-use Rattle.vortex_base.specs.Meanings.Meaning.{meaning}
+use Rattle.vortex_expr.specs.Meanings.Meaning.{meaning}
 use Rattle.vortex_base.specs.Data.Scalars.{Constant, is_optional_value}
-use Rattle.vortex_base.specs.Trees.Tree.{Tree, Place, column, literal, binary, between, is_null, is_not_null, not, like, stat, row_count, has_bare_column}
+use Rattle.vortex_expr.specs.Trees.Tree.{Tree, Place, column, literal, binary, between, is_null, is_not_null, not, like, stat, row_count, has_bare_column}
 use Rattle.vortex_base.specs.Data.Types.{as_nullable, dtype_eq_is_exact, eq_ignore_nullability}
-use Rattle.vortex_base.specs.Meanings.Typing.{comparison_type, stat_type, type_of, with_types}
+use Rattle.vortex_expr.specs.Meanings.Typing.{comparison_type, stat_type, type_of, with_types}
 use Rattle.vortex_base.specs.Data.Values.{is_value}
 use Rattle.vortex_rewrite.proofs.Completeness.Choices.{IsBetween, row_with, cell_with}
 use Rattle.vortex_rewrite.proofs.Soundness.ValueTests.{value_le, le_refl, le_antisym}
 use Rattle.vortex_rewrite.specs.Rewriting.ReadOnce.{Box, IsWithin, columns_of, is_operand}
 use Rattle.vortex_rewrite.specs.Rewriting.Proof.{Assignment, value_under}
 use Rattle.vortex_rewrite.specs.Rewriting.Falsifiers.{max_of, min_of}
-use Rattle.vortex_base.proofs.Meanings.MeaningFits.{is_value-as_nullable}
+use Rattle.vortex_expr.proofs.Meanings.MeaningFits.{is_value-as_nullable}
 
 -- ---- types that are equal but for null have the same values
 

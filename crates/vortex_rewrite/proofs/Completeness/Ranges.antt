@@ -3,16 +3,16 @@ use Rattle.std.proofs.Common.{◌≡◌, ℕ, Bool, true, false, ◌&&◌, ◌||
 use Rattle.std.specs.Prelude.{slice_get}
 use Rattle.std.specs.List.{AllByRecursion}
 use Rattle.std.proofs.lemmas.Bool.{and_left, and_right, not-false, or_cases, or_parts}
-use Rattle.vortex_base.specs.Trees.Between.{to_operator}
+use Rattle.vortex_expr.specs.Trees.Between.{to_operator}
 use Rattle.vortex_base.specs.Data.Columns.{cell_value}
-use Rattle.vortex_base.specs.Meanings.Meaning.{compared, either, holds, is_true, meaning, satisfies, truth, truth_value}
+use Rattle.vortex_expr.specs.Meanings.Meaning.{compared, either, holds, is_true, meaning, satisfies, truth, truth_value}
 use Rattle.vortex_base.specs.Data.Scalars.{Constant}
-use Rattle.vortex_base.specs.Trees.Tree.{Tree, Place, column, literal, binary, between, has_bare_column}
+use Rattle.vortex_expr.specs.Trees.Tree.{Tree, Place, column, literal, binary, between, has_bare_column}
 use Rattle.vortex_base.specs.Data.Values.{is_value, value_cmp}
-use Rattle.vortex_base.specs.declared.types.BetweenOptions.{BetweenOptions}
-use Rattle.vortex_base.specs.declared.types.StrictComparison.{StrictComparison}
-use Rattle.vortex_base.specs.declared.types.StrictComparison.TheVariants.{Strict, NonStrict}
-use Rattle.vortex_base.specs.declared.types.Operator.TheVariants.{Lt, And, Or}
+use Rattle.vortex_expr.specs.declared.scalar_fn.BetweenOptions.{BetweenOptions}
+use Rattle.vortex_expr.specs.declared.scalar_fn.StrictComparison.{StrictComparison}
+use Rattle.vortex_expr.specs.declared.scalar_fn.StrictComparison.TheVariants.{Strict, NonStrict}
+use Rattle.vortex_expr.specs.declared.scalar_fn.Operator.TheVariants.{Lt, And, Or}
 use Rattle.vortex_base.specs.declared.scalar_value.ScalarValue.{ScalarValue}
 use Rattle.vortex_base.specs.declared.scalar_value.ScalarValue.TheVariants as value
 use Rattle.vortex_rewrite.proofs.Completeness.Choices.{Choice, IsBetween, cell_with, row_with}

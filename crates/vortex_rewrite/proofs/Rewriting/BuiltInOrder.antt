@@ -1,8 +1,8 @@
 -- The proofs at a node are those of the built-in rules in their order.
 use Rattle.std.proofs.Common.{◌≡◌, false, List, [], Option, Some, None, option_to_list, refl, ap}
 use Rattle.std.specs.List.{cons_option, filter_map}
-use Rattle.vortex_base.specs.declared.types.ScalarFnId.{ScalarFnId}
-use Rattle.vortex_base.specs.Trees.Tree.{Tree, Place, column, literal, binary, between, is_null, is_not_null, not, like, stat, row_count, scalar_fn_of}
+use Rattle.vortex_expr.specs.declared.scalar_fn.ScalarFnId.{ScalarFnId}
+use Rattle.vortex_expr.specs.Trees.Tree.{Tree, Place, column, literal, binary, between, is_null, is_not_null, not, like, stat, row_count, scalar_fn_of}
 use Rattle.vortex_rewrite.specs.Rewriting.BuiltIn.{function_of}
 use Rattle.vortex_rewrite.specs.Rewriting.BuiltInRules.{built_in_rules, falsifier_by, satisfier_by}
 use Rattle.vortex_rewrite.specs.Rewriting.Lawful.{OwnRule}

@@ -1,7 +1,7 @@
 -- Joining neighbours, round after round.
 use Rattle.std.proofs.Common.{◌≡◌, ℕ, zero, suc, ◌-◌, ◌<◌, ◌≤◌, List, [], ◌∷◌, ◌++◌, length, take, Option, Some, None, option_to_list, refl, arith, sym, ap, ◌∙◌}
-use Rattle.vortex_base.specs.Trees.Tree.{Tree, Place, binary}
-use Rattle.vortex_base.specs.declared.types.Operator.TheVariants.{Or}
+use Rattle.vortex_expr.specs.Trees.Tree.{Tree, Place, binary}
+use Rattle.vortex_expr.specs.declared.scalar_fn.Operator.TheVariants.{Or}
 use Rattle.vortex_rewrite.specs.Rewriting.Falsifiers.{round, rounds, reduce_balanced}
 
 length_round : (xs : List (Tree Place)) → length (round xs) ≤ length xs

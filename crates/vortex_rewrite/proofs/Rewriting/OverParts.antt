@@ -2,28 +2,28 @@
 use Rattle.std.proofs.Common.{◌≡◌, ℕ, Bool, true, false, not, ◌&&◌, ◌||◌, Option, Some, None, refl, sym, ap, ◌∙◌, arith}
 use Rattle.std.specs.Prelude.{◌<◌, Result, Ok, Err, IsOk, if◌then◌else◌}
 use Rattle.std.proofs.lemmas.Bool.{and_parts}
-use Rattle.vortex_base.proofs.Meanings.MeaningFits.{meaning-fits}
-use Rattle.vortex_base.proofs.Meanings.PlacedTypes.{with_types-ok}
+use Rattle.vortex_expr.proofs.Meanings.MeaningFits.{meaning-fits}
+use Rattle.vortex_expr.proofs.Meanings.PlacedTypes.{with_types-ok}
 use Rattle.vortex_base.proofs.Data.RowLemmas.{row_of-IsRow}
-use Rattle.vortex_base.proofs.Data.RowsFit.{rows-fit}
-use Rattle.vortex_base.specs.Trees.Between.{to_operator}
+use Rattle.vortex_expr.proofs.Meanings.RowsFit.{rows-fit}
+use Rattle.vortex_expr.specs.Trees.Between.{to_operator}
 use Rattle.vortex_base.specs.Data.Columns.{ChunkData, IsChunk, row_count as rows_of, row_of}
 use Rattle.vortex_base.specs.Data.Exact.{both_hold}
-use Rattle.vortex_base.specs.Meanings.Fitting.{fits_scope}
-use Rattle.vortex_base.specs.Meanings.Meaning.{meaning, truth_value}
+use Rattle.vortex_expr.specs.Meanings.Fitting.{fits_scope}
+use Rattle.vortex_expr.specs.Meanings.Meaning.{meaning, truth_value}
 use Rattle.vortex_base.specs.Data.Scalars.{is_optional_value}
-use Rattle.vortex_base.specs.Trees.Tree.{Tree, Place, column, literal, binary, between, is_null, is_not_null, not as not_tree, like, stat, row_count, has_placeholder}
+use Rattle.vortex_expr.specs.Trees.Tree.{Tree, Place, column, literal, binary, between, is_null, is_not_null, not as not_tree, like, stat, row_count, has_placeholder}
 use Rattle.vortex_base.specs.Data.Types.{as_nullable, dtype_eq_is_exact, eq_ignore_nullability, is_nullable}
-use Rattle.vortex_base.specs.Meanings.Typing.{are_comparable, between_type, binary_type, connective_type, is_state, like_type, truth_type, type_of, with_type, with_types}
-use Rattle.vortex_base.specs.declared.types.BetweenOptions.{BetweenOptions}
-use Rattle.vortex_base.specs.declared.types.StrictComparison.{StrictComparison}
-use Rattle.vortex_base.specs.declared.types.StrictComparison.TheVariants.{Strict, NonStrict}
+use Rattle.vortex_expr.specs.Meanings.Typing.{are_comparable, between_type, binary_type, connective_type, is_state, like_type, truth_type, type_of, with_type, with_types}
+use Rattle.vortex_expr.specs.declared.scalar_fn.BetweenOptions.{BetweenOptions}
+use Rattle.vortex_expr.specs.declared.scalar_fn.StrictComparison.{StrictComparison}
+use Rattle.vortex_expr.specs.declared.scalar_fn.StrictComparison.TheVariants.{Strict, NonStrict}
 use Rattle.vortex_base.specs.declared.dtype.DType.{DType}
 use Rattle.vortex_base.specs.declared.dtype.DType.TheVariants as dtype
 use Rattle.vortex_base.specs.declared.error.BaseError.{BaseError}
 use Rattle.vortex_base.specs.declared.error.BaseError.TheVariants.{Mismatch}
-use Rattle.vortex_base.specs.declared.like.LikeOptions.{LikeOptions}
-use Rattle.vortex_base.specs.declared.types.Operator.{Operator}
+use Rattle.vortex_expr.specs.declared.like.LikeOptions.{LikeOptions}
+use Rattle.vortex_expr.specs.declared.scalar_fn.Operator.{Operator}
 use Rattle.vortex_base.specs.declared.scalar_value.ScalarValue.{ScalarValue}
 use Rattle.vortex_base.specs.declared.scalar_value.ScalarValue.TheVariants as value
 use Rattle.vortex_rewrite.proofs.Soundness.LikeRows.{IsText}

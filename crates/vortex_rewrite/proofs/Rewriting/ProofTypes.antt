@@ -2,27 +2,29 @@
 use Rattle.std.proofs.Common.{◌≡◌, Bool, true, false, not, ◌&&◌, Option, Some, None, Result, Ok, Err, IsOk, IsTrue, IfErr, refl, sym, ap, subst, ◌∙◌}
 use Rattle.std.specs.Prelude.{alloc_error, is_none, if◌then◌else◌}
 use Rattle.std.specs.Result.{is_ok}
-use Rattle.vortex_base.specs.Answer.{Answers, Builds}
-use Rattle.vortex_base.specs.Trees.Between.{to_operator}
+use Rattle.vortex_base.specs.Answer.{Answers}
+use Rattle.vortex_expr.specs.Answer.{Builds}
+use Rattle.vortex_expr.specs.Trees.Between.{to_operator}
 use Rattle.vortex_base.specs.Data.Exact.{both_true, both_hold}
-use Rattle.vortex_base.specs.Trees.Tree.{Tree, Place, column, literal, binary, between, is_null, is_not_null, not as negation, like, stat, row_count}
+use Rattle.vortex_expr.specs.Trees.Tree.{Tree, Place, column, literal, binary, between, is_null, is_not_null, not as negation, like, stat, row_count}
 use Rattle.vortex_base.specs.Data.Types.{as_nullable, dtype_eq_is_exact}
-use Rattle.vortex_base.specs.Meanings.Typing.{element_of, of_element, state_dtype, placeholder_type, stat_type, is_bool, is_utf8, is_state, truth_type, type_if, are_comparable, comparison_type, binary_type, between_type, like_type, with_type, with_types, type_of}
+use Rattle.vortex_base.specs.Data.States.{element_of, of_element, state_dtype}
+use Rattle.vortex_expr.specs.Meanings.Typing.{placeholder_type, stat_type, is_bool, is_utf8, is_state, truth_type, type_if, are_comparable, comparison_type, binary_type, between_type, like_type, with_type, with_types, type_of}
 use Rattle.vortex_base.specs.declared.aggregate.AggregateFnRef.{AggregateFnRef}
 use Rattle.vortex_base.specs.declared.aggregate.AggregateFnRef.TheVariants as aggregate
-use Rattle.vortex_base.specs.declared.types.BetweenOptions.{BetweenOptions}
-use Rattle.vortex_base.specs.declared.types.StrictComparison.{StrictComparison}
-use Rattle.vortex_base.specs.declared.types.StrictComparison.TheVariants.{Strict, NonStrict}
+use Rattle.vortex_expr.specs.declared.scalar_fn.BetweenOptions.{BetweenOptions}
+use Rattle.vortex_expr.specs.declared.scalar_fn.StrictComparison.{StrictComparison}
+use Rattle.vortex_expr.specs.declared.scalar_fn.StrictComparison.TheVariants.{Strict, NonStrict}
 use Rattle.vortex_base.specs.declared.dtype.DType.{DType}
 use Rattle.vortex_base.specs.declared.dtype.DType.TheVariants as dtype
 use Rattle.vortex_base.specs.declared.types.Element.{Element}
 use Rattle.vortex_base.specs.declared.error.BaseError.{BaseError}
 use Rattle.vortex_base.specs.declared.error.BaseError.TheVariants.{Memory}
-use Rattle.vortex_base.specs.declared.like.LikeOptions.{LikeOptions}
+use Rattle.vortex_expr.specs.declared.like.LikeOptions.{LikeOptions}
 use Rattle.vortex_base.specs.declared.types.Nullability.{Nullability}
 use Rattle.vortex_base.specs.declared.types.Nullability.TheVariants.{Nullable, NonNullable}
-use Rattle.vortex_base.specs.declared.types.Operator.{Operator}
-use Rattle.vortex_base.specs.declared.types.Operator.TheVariants.{Eq, NotEq, Gt, Gte, Lt, Lte, And, Or}
+use Rattle.vortex_expr.specs.declared.scalar_fn.Operator.{Operator}
+use Rattle.vortex_expr.specs.declared.scalar_fn.Operator.TheVariants.{Eq, NotEq, Gt, Gte, Lt, Lte, And, Or}
 use Rattle.vortex_base.specs.declared.types.PType.TheVariants.{U64}
 use Rattle.vortex_rewrite.specs.Rewriting.Predicates.{has_type, is_predicate, is_text, is_connective, is_extreme}
 use Rattle.vortex_rewrite.specs.Rewriting.Falsifiers.{placeholder, extreme, null_count_of, count_literal}

@@ -7,7 +7,7 @@ use Rattle.std.proofs.lemmas.List.Elements.{filter_map-append}
 use Rattle.std.specs.Prelude.{Contains}
 use Rattle.std.specs.declared.alloc.Global.{Global}
 use Rattle.std.specs.declared.dyn_box.DynBox.{DynBox}
-use Rattle.vortex_base.specs.Trees.Tree.{Tree, Place, scalar_fn_of}
+use Rattle.vortex_expr.specs.Trees.Tree.{Tree, Place, scalar_fn_of}
 use Rattle.vortex_stats.specs.declared.error.StatsError.{StatsError}
 use Rattle.vortex_rewrite.proofs.Rewriting.AskedNodes.{rules-more}
 use Rattle.vortex_rewrite.proofs.Rewriting.CauseLemmas.{refusal-more}

@@ -4,17 +4,17 @@ use Rattle.std.specs.List.{AllByRecursion}
 use Rattle.std.specs.Prelude.{option_map, option_to_list}
 use Rattle.std.specs.Result.{is_ok}
 use Rattle.std.specs.Str.{chars}
-use Rattle.vortex_base.specs.Trees.Between.{to_operator}
-use Rattle.vortex_base.specs.Patterns.Like.{items}
-use Rattle.vortex_base.specs.Patterns.Prefix.{is_exact, literal_prefix, successor}
-use Rattle.vortex_base.specs.Trees.Tree.{Tree, Place, column, literal, binary, between, is_null, is_not_null, not, like, stat, row_count, has_bare_column}
-use Rattle.vortex_base.specs.Meanings.Typing.{type_of}
+use Rattle.vortex_expr.specs.Trees.Between.{to_operator}
+use Rattle.vortex_expr.specs.Patterns.Like.{items}
+use Rattle.vortex_expr.specs.Patterns.Prefix.{is_exact, literal_prefix, successor}
+use Rattle.vortex_expr.specs.Trees.Tree.{Tree, Place, column, literal, binary, between, is_null, is_not_null, not, like, stat, row_count, has_bare_column}
+use Rattle.vortex_expr.specs.Meanings.Typing.{type_of}
 use Rattle.vortex_base.specs.declared.aggregate.AggregateFnRef.{AggregateFnRef}
 use Rattle.vortex_base.specs.declared.aggregate.AggregateFnRef.TheVariants.{Max, Min}
-use Rattle.vortex_base.specs.declared.types.BetweenOptions.{BetweenOptions}
-use Rattle.vortex_base.specs.declared.like.LikeOptions.{LikeOptions}
-use Rattle.vortex_base.specs.declared.types.Operator.{Operator}
-use Rattle.vortex_base.specs.declared.types.Operator.TheVariants.{Eq, NotEq, Gt, Gte, Lt, Lte, And, Or}
+use Rattle.vortex_expr.specs.declared.scalar_fn.BetweenOptions.{BetweenOptions}
+use Rattle.vortex_expr.specs.declared.like.LikeOptions.{LikeOptions}
+use Rattle.vortex_expr.specs.declared.scalar_fn.Operator.{Operator}
+use Rattle.vortex_expr.specs.declared.scalar_fn.Operator.TheVariants.{Eq, NotEq, Gt, Gte, Lt, Lte, And, Or}
 use Rattle.vortex_base.specs.declared.scalar_value.ScalarValue.{ScalarValue}
 use Rattle.vortex_base.specs.declared.scalar_value.ScalarValue.TheVariants as value
 use Rattle.vortex_rewrite.specs.Rewriting.Falsifiers.{Ends, and_proof, binary_node, both_of, comparison_falsifier, comparison_proof, either_of, ends, ends_node, every_null, extreme, falsifier, halves_node, items_falsifier, like_falsifier, literal_falsifier, literal_satisfier, max_of, min_of, node, none_null, null_count_of, of_sides, or_proof, other_than, outside, pattern_falsifier, placeholder, proved, reduce_balanced, rewriting, round, rounds, satisfier, table_falsifiers, table_proofs, table_satisfiers, text_literal, value_condition, without_nulls}

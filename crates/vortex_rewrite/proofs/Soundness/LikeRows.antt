@@ -7,19 +7,19 @@ use Rattle.std.proofs.lemmas.Bool.{and_parts, or_cases, eqb-true}
 use Rattle.std.proofs.lemmas.Option.{same_Some, none-some}
 use Rattle.std.proofs.lemmas.Str.{encodes-append, encodes-chars, IsUtf8-from_is_utf8}
 use Rattle.vortex_base.proofs.Data.OrderLemmas.{value_cmp-total}
-use Rattle.vortex_base.specs.Patterns.Like.{items, like, like_text}
-use Rattle.vortex_base.specs.Meanings.Meaning.{is_like, is_true, meaning, satisfies, truth_value, unless_null}
-use Rattle.vortex_base.specs.Patterns.Prefix.{is_exact, literal_prefix, successor}
+use Rattle.vortex_expr.specs.Patterns.Like.{items, like, like_text}
+use Rattle.vortex_expr.specs.Meanings.Meaning.{is_like, is_true, meaning, satisfies, truth_value, unless_null}
+use Rattle.vortex_expr.specs.Patterns.Prefix.{is_exact, literal_prefix, successor}
 use Rattle.vortex_base.specs.Data.Scalars.{Constant}
-use Rattle.vortex_base.specs.Trees.Tree.{Tree, Place, binary, literal, like as like_tree}
-use Rattle.vortex_base.specs.declared.like.Item.{Item}
-use Rattle.vortex_base.specs.declared.like.Item.TheVariants.{Char, AnyChar, AnyRun}
-use Rattle.vortex_base.specs.declared.like.LikeOptions.{LikeOptions}
-use Rattle.vortex_base.specs.declared.types.Operator.TheVariants.{Gt, Gte, Lt, Or}
+use Rattle.vortex_expr.specs.Trees.Tree.{Tree, Place, binary, literal, like as like_tree}
+use Rattle.vortex_expr.specs.declared.like.Item.{Item}
+use Rattle.vortex_expr.specs.declared.like.Item.TheVariants.{Char, AnyChar, AnyRun}
+use Rattle.vortex_expr.specs.declared.like.LikeOptions.{LikeOptions}
+use Rattle.vortex_expr.specs.declared.scalar_fn.Operator.TheVariants.{Gt, Gte, Lt, Or}
 use Rattle.vortex_base.specs.declared.scalar_value.ScalarValue.{ScalarValue}
 use Rattle.vortex_base.specs.declared.scalar_value.ScalarValue.TheVariants as value
 use Rattle.vortex_rewrite.proofs.Soundness.RowRules.{Bounds, IsNotAbove, IsNotBelow, IsRight, is, lower, upper}
-use Rattle.vortex_base.proofs.Patterns.Successors.{below_successor}
+use Rattle.vortex_expr.proofs.Patterns.Successors.{below_successor}
 use Rattle.vortex_base.proofs.Data.TextOrder.{bytes_cmp, same_front}
 use Rattle.vortex_rewrite.proofs.Soundness.TruthLogic.{both_some, clash, refuted, true_or}
 use Rattle.vortex_rewrite.proofs.Soundness.ValueTests.{value_le, le_refl, le_trans, gt_le, gte_le, lt_le}

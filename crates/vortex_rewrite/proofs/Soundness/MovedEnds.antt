@@ -6,17 +6,17 @@ use Rattle.std.specs.Ordering.{is_gt}
 use Rattle.std.specs.declared.cmp.Ordering.{Ordering}
 use Rattle.std.specs.declared.cmp.Ordering.TheVariants.{Less, Equal, Greater}
 use Rattle.vortex_base.proofs.Data.OrderLemmas.{value_cmp-ties}
-use Rattle.vortex_base.proofs.Meanings.PlacedTypes.{with_three-ok}
-use Rattle.vortex_base.specs.Trees.Between.{to_operator}
-use Rattle.vortex_base.specs.Meanings.Meaning.{applied, both, compared, holds, is_true, meaning, satisfies, truth_value, within}
+use Rattle.vortex_expr.proofs.Meanings.PlacedTypes.{with_three-ok}
+use Rattle.vortex_expr.specs.Trees.Between.{to_operator}
+use Rattle.vortex_expr.specs.Meanings.Meaning.{applied, both, compared, holds, is_true, meaning, satisfies, truth_value, within}
 use Rattle.vortex_base.specs.Data.Scalars.{Constant, is_optional_value}
-use Rattle.vortex_base.specs.Trees.Tree.{Tree, Place, literal, between}
+use Rattle.vortex_expr.specs.Trees.Tree.{Tree, Place, literal, between}
 use Rattle.vortex_base.specs.Data.Types.{as_nullable, dtype_eq_is_exact, eq_ignore_nullability, ptype_index}
-use Rattle.vortex_base.specs.Meanings.Typing.{between_type, type_of, with_type, with_types}
+use Rattle.vortex_expr.specs.Meanings.Typing.{between_type, type_of, with_type, with_types}
 use Rattle.vortex_base.specs.Data.Values.{in_range, is_value, ptype_of, value_cmp}
-use Rattle.vortex_base.specs.declared.types.BetweenOptions.{BetweenOptions}
-use Rattle.vortex_base.specs.declared.types.StrictComparison.{StrictComparison}
-use Rattle.vortex_base.specs.declared.types.StrictComparison.TheVariants.{Strict, NonStrict}
+use Rattle.vortex_expr.specs.declared.scalar_fn.BetweenOptions.{BetweenOptions}
+use Rattle.vortex_expr.specs.declared.scalar_fn.StrictComparison.{StrictComparison}
+use Rattle.vortex_expr.specs.declared.scalar_fn.StrictComparison.TheVariants.{Strict, NonStrict}
 use Rattle.vortex_base.specs.declared.dtype.DType.{DType}
 use Rattle.vortex_base.specs.declared.dtype.DType.TheVariants as dtype
 use Rattle.vortex_base.specs.declared.error.BaseError.{BaseError}

@@ -2,17 +2,17 @@
 use Rattle.std.proofs.Common.{◌≡◌, ◌||◌, ℕ, ◌+◌, min, arith, Some, option_map, option_to_list, if◌then◌else◌, Bool, true, false, List, [], ◌∷◌, ◌++◌, Option, None, Result, Ok, Err, IfOk, refl, sym, ap, ◌∙◌, append-nil}
 use denote.Bor.{Bor}
 use Rattle.std.specs.List.{cons_option}
-use Rattle.vortex_base.specs.Trees.Parts.{whole}
-use Rattle.vortex_base.specs.Trees.Tree.{Tree, Place, column, literal, binary, between, is_null, is_not_null, not, like, stat, row_count, scalar_fn_of}
+use Rattle.vortex_expr.specs.Trees.Parts.{whole}
+use Rattle.vortex_expr.specs.Trees.Tree.{Tree, Place, column, literal, binary, between, is_null, is_not_null, not, like, stat, row_count, scalar_fn_of}
 use Rattle.std.proofs.lemmas.Option.{same_Some}
-use Rattle.vortex_base.specs.Trees.Between.{to_operator}
-use Rattle.vortex_base.specs.declared.types.BetweenOptions.{BetweenOptions}
-use Rattle.vortex_base.specs.declared.types.StrictComparison.{StrictComparison}
-use Rattle.vortex_base.specs.declared.types.StrictComparison.TheVariants.{Strict, NonStrict}
-use Rattle.vortex_base.specs.declared.types.Operator.{Operator}
-use Rattle.vortex_base.specs.declared.types.Operator.TheVariants.{And, Or}
-use Rattle.vortex_base.specs.declared.bound_expression.parts.Parts.{Parts}
-use Rattle.vortex_base.specs.declared.bound_expression.parts.Parts.TheVariants as parts
+use Rattle.vortex_expr.specs.Trees.Between.{to_operator}
+use Rattle.vortex_expr.specs.declared.scalar_fn.BetweenOptions.{BetweenOptions}
+use Rattle.vortex_expr.specs.declared.scalar_fn.StrictComparison.{StrictComparison}
+use Rattle.vortex_expr.specs.declared.scalar_fn.StrictComparison.TheVariants.{Strict, NonStrict}
+use Rattle.vortex_expr.specs.declared.scalar_fn.Operator.{Operator}
+use Rattle.vortex_expr.specs.declared.scalar_fn.Operator.TheVariants.{And, Or}
+use Rattle.vortex_expr.specs.declared.bound_expression.parts.Parts.{Parts}
+use Rattle.vortex_expr.specs.declared.bound_expression.parts.Parts.TheVariants as parts
 use Rattle.vortex_rewrite.specs.Rewriting.Lawful.{OwnRule}
 use Rattle.vortex_rewrite.specs.Rewriting.Falsifiers.{Ends, asked, binary_node, binary_visits, either_of, empty_proof, ends, ends_node, ends_visits, halves, halves_node, is_asked, is_function, node, own_proofs, proved, reduce_balanced, rewriting, table_proofs, visits}
 use Rattle.vortex_rewrite.specs.Rewriting.BuiltIn.{listed}

@@ -3,12 +3,12 @@ use Rattle.std.proofs.Common.{◌≡◌, ℕ, Bool, true, false, List, Option, S
 use Rattle.std.specs.Prelude.{encode_utf8_all, if◌then◌else◌}
 use Rattle.std.specs.Str.{chars, IsUtf8}
 use Rattle.std.proofs.lemmas.Str.{encodes-chars, encodes_same}
-use Rattle.vortex_base.specs.Patterns.Prefix.{PatternData, pattern_of, exact_text, literal_prefix, is_exact, successor}
-use Rattle.vortex_base.specs.Trees.Tree.{Tree, Place, binary}
+use Rattle.vortex_expr.specs.Patterns.Prefix.{PatternData, pattern_of, exact_text, literal_prefix, is_exact, successor}
+use Rattle.vortex_expr.specs.Trees.Tree.{Tree, Place, binary}
 use Rattle.vortex_base.specs.declared.aggregate.AggregateFnRef.TheVariants.{Max, Min}
-use Rattle.vortex_base.specs.declared.like.Item.{Item}
-use Rattle.vortex_base.specs.declared.types.Operator.{Operator}
-use Rattle.vortex_base.specs.declared.types.Operator.TheVariants.{Gte, Lt, Or}
+use Rattle.vortex_expr.specs.declared.like.Item.{Item}
+use Rattle.vortex_expr.specs.declared.scalar_fn.Operator.{Operator}
+use Rattle.vortex_expr.specs.declared.scalar_fn.Operator.TheVariants.{Gte, Lt, Or}
 use Rattle.vortex_rewrite.specs.Rewriting.Falsifiers.{beyond, both_of, bytes_literal, extreme, items_falsifier, other_than, outside}
 use Rattle.vortex_rewrite.proofs.Logic.{made-weaker}
 use Rattle.vortex_rewrite.specs.Answers.{Makes}

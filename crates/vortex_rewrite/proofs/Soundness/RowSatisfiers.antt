@@ -6,12 +6,12 @@ use Rattle.std.proofs.lemmas.Bool.{not-false, and_parts, or_cases}
 use Rattle.std.proofs.lemmas.Option.{same_Some, none-some}
 use Rattle.vortex_base.specs.Data.Scalars.{Constant}
 use Rattle.vortex_base.specs.Data.Values.{value_cmp}
-use Rattle.vortex_base.specs.Meanings.Meaning.{holds, is_true, meaning, satisfies}
-use Rattle.vortex_base.specs.Trees.Tree.{Tree, Place, literal, binary}
+use Rattle.vortex_expr.specs.Meanings.Meaning.{holds, is_true, meaning, satisfies}
+use Rattle.vortex_expr.specs.Trees.Tree.{Tree, Place, literal, binary}
 use Rattle.vortex_base.specs.declared.aggregate.AggregateFnRef.{AggregateFnRef}
 use Rattle.vortex_base.specs.declared.aggregate.AggregateFnRef.TheVariants.{Max, Min, AllNonNull}
-use Rattle.vortex_base.specs.declared.types.Operator.{Operator}
-use Rattle.vortex_base.specs.declared.types.Operator.TheVariants.{Eq, NotEq, Gt, Gte, Lt, Lte, And, Or}
+use Rattle.vortex_expr.specs.declared.scalar_fn.Operator.{Operator}
+use Rattle.vortex_expr.specs.declared.scalar_fn.Operator.TheVariants.{Eq, NotEq, Gt, Gte, Lt, Lte, And, Or}
 use Rattle.vortex_base.specs.declared.scalar_value.ScalarValue.{ScalarValue}
 use Rattle.vortex_rewrite.proofs.Soundness.RowRules.{IsRight, comparison_right, is, true_value}
 use Rattle.vortex_rewrite.proofs.Soundness.TruthLogic.{both_some, true_and, true_or}

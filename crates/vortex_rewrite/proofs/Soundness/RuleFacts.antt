@@ -2,9 +2,9 @@
 use Rattle.std.proofs.Common.{◌≡◌, Bool, true, false, not, ◌&&◌, ◌||◌, Option, Some, refl, subst}
 use Rattle.vortex_base.specs.Data.Columns.{row_of, row_count as rows_of}
 use Rattle.vortex_base.specs.Data.Values.{value_cmp}
-use Rattle.vortex_base.specs.Meanings.Fitting.{fits_scope}
-use Rattle.vortex_base.specs.Meanings.Meaning.{meaning}
-use Rattle.vortex_base.specs.Trees.Tree.{has_placeholder}
+use Rattle.vortex_expr.specs.Meanings.Fitting.{fits_scope}
+use Rattle.vortex_expr.specs.Meanings.Meaning.{meaning}
+use Rattle.vortex_expr.specs.Trees.Tree.{has_placeholder}
 use Rattle.vortex_base.specs.declared.aggregate.AggregateFnRef.TheVariants.{Max, Min}
 use Rattle.vortex_base.specs.declared.scalar_value.ScalarValue.{ScalarValue}
 use Rattle.vortex_stats.specs.Bounds.Order.{AtMost}

@@ -3,15 +3,15 @@ use Rattle.std.proofs.Common.{◌∷◌, ◌≡◌, ℕ, ◌<◌, Bool, true, fa
 use Rattle.std.specs.List.{AllByRecursion}
 use Rattle.std.proofs.lemmas.Bool.{and_left, and_right, or_left, or_right}
 use Rattle.std.proofs.lemmas.Option.{same_Some, none-some}
-use Rattle.vortex_base.specs.Trees.Between.{to_operator}
+use Rattle.vortex_expr.specs.Trees.Between.{to_operator}
 use Rattle.vortex_base.specs.Data.Columns.{ChunkData, IsChunk, row_count as rows_of, row_of}
-use Rattle.vortex_base.specs.Meanings.Meaning.{meaning, satisfies}
+use Rattle.vortex_expr.specs.Meanings.Meaning.{meaning, satisfies}
 use Rattle.vortex_base.specs.Data.Scalars.{Constant}
-use Rattle.vortex_base.specs.Trees.Tree.{Tree, Place, column, literal, binary, between, is_null, is_not_null, not as not_tree, like, stat, row_count}
-use Rattle.vortex_base.specs.declared.types.BetweenOptions.{BetweenOptions}
-use Rattle.vortex_base.specs.declared.like.LikeOptions.{LikeOptions}
-use Rattle.vortex_base.specs.declared.types.Operator.{Operator}
-use Rattle.vortex_base.specs.declared.types.Operator.TheVariants.{Eq, NotEq, Gt, Gte, Lt, Lte, And, Or}
+use Rattle.vortex_expr.specs.Trees.Tree.{Tree, Place, column, literal, binary, between, is_null, is_not_null, not as not_tree, like, stat, row_count}
+use Rattle.vortex_expr.specs.declared.scalar_fn.BetweenOptions.{BetweenOptions}
+use Rattle.vortex_expr.specs.declared.like.LikeOptions.{LikeOptions}
+use Rattle.vortex_expr.specs.declared.scalar_fn.Operator.{Operator}
+use Rattle.vortex_expr.specs.declared.scalar_fn.Operator.TheVariants.{Eq, NotEq, Gt, Gte, Lt, Lte, And, Or}
 use Rattle.vortex_rewrite.proofs.Soundness.LikeRows.{like_right}
 use Rattle.vortex_rewrite.proofs.Soundness.MovedEnds.{Rewritten, between_is, rewritten}
 use Rattle.vortex_rewrite.proofs.Rewriting.OverParts.{binary_parts, halves_over, like_text_over, means_text}

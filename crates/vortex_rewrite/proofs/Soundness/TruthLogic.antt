@@ -3,9 +3,9 @@ use Rattle.std.proofs.Common.{◌≡◌, ℕ, zero, suc, Bool, true, false, ◌&
 use Rattle.std.specs.List.{AllByRecursion, cons_option}
 use Rattle.std.proofs.lemmas.Bool.{and_parts, or_cases}
 use Rattle.std.proofs.lemmas.Option.{same_Some, none-some}
-use Rattle.vortex_base.specs.Meanings.Meaning.{both, either, is_true, truth, truth_value}
-use Rattle.vortex_base.specs.Trees.Tree.{Tree, Place, binary, has_bare_column, scalar_fn_of}
-use Rattle.vortex_base.specs.declared.types.Operator.TheVariants.{And, Or}
+use Rattle.vortex_expr.specs.Meanings.Meaning.{both, either, is_true, truth, truth_value}
+use Rattle.vortex_expr.specs.Trees.Tree.{Tree, Place, binary, has_bare_column, scalar_fn_of}
+use Rattle.vortex_expr.specs.declared.scalar_fn.Operator.TheVariants.{And, Or}
 use Rattle.vortex_base.specs.declared.scalar_value.ScalarValue.{ScalarValue}
 use Rattle.vortex_base.specs.declared.scalar_value.ScalarValue.TheVariants as value
 use Rattle.vortex_rewrite.specs.Rewriting.Lawful.{OwnRule}

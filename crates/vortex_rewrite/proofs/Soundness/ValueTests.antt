@@ -6,10 +6,10 @@ use Rattle.std.specs.Ordering.{is_gt, ordering_reverse}
 use Rattle.std.specs.Cmp.{tied_itself, upto}
 use Rattle.std.proofs.lemmas.Bool.{not-true, and_parts}
 use Rattle.vortex_base.proofs.Data.OrderLemmas.{value_cmp-total, value_cmp-ties}
-use Rattle.vortex_base.specs.Meanings.Meaning.{holds}
+use Rattle.vortex_expr.specs.Meanings.Meaning.{holds}
 use Rattle.vortex_base.specs.Data.Values.{value_cmp}
-use Rattle.vortex_base.specs.declared.types.Operator.{Operator}
-use Rattle.vortex_base.specs.declared.types.Operator.TheVariants.{Eq, NotEq, Gt, Gte, Lt, Lte, And, Or}
+use Rattle.vortex_expr.specs.declared.scalar_fn.Operator.{Operator}
+use Rattle.vortex_expr.specs.declared.scalar_fn.Operator.TheVariants.{Eq, NotEq, Gt, Gte, Lt, Lte, And, Or}
 use Rattle.vortex_base.specs.declared.scalar_value.ScalarValue.{ScalarValue}
 
 -- x is at most y

@@ -4,9 +4,9 @@ use Rattle.std.specs.Prelude.{◌==◌, Contains, IsSomeAnd}
 use Rattle.vortex_base.specs.declared.dtype.DType.TheVariants as dtype
 use Rattle.vortex_base.specs.declared.types.Nullability.TheVariants.{Nullable}
 use Rattle.vortex_base.specs.declared.types.PType.TheVariants.{I32}
-use Rattle.vortex_base.specs.declared.types.ScalarFnId.{ScalarFnId}
-use Rattle.vortex_base.specs.declared.types.ScalarFnId.TheVariants as functions
-use Rattle.vortex_base.specs.Trees.Tree.{Tree, Place, column, is_null, not, scalar_fn_of}
+use Rattle.vortex_expr.specs.declared.scalar_fn.ScalarFnId.{ScalarFnId}
+use Rattle.vortex_expr.specs.declared.scalar_fn.ScalarFnId.TheVariants as functions
+use Rattle.vortex_expr.specs.Trees.Tree.{Tree, Place, column, is_null, not, scalar_fn_of}
 use Rattle.vortex_rewrite.proofs.Logic.{only_one}
 use Rattle.vortex_rewrite.specs.Rewriting.Falsifiers.{count_literal, is_function}
 use Rattle.vortex_rewrite.specs.Rewriting.Lawful.{IsLawful, OwnRule}

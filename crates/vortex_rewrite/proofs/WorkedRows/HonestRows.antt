@@ -12,8 +12,8 @@ use Rattle.vortex_base.specs.declared.types.PType.TheVariants as ptype
 use Rattle.vortex_base.specs.declared.scalar_value.ScalarValue.{ScalarValue}
 use Rattle.vortex_base.specs.Data.Columns.{ColumnData, row_count as rows_of}
 use Rattle.vortex_base.specs.Data.Scalars.{is_optional_value}
-use Rattle.vortex_base.specs.Trees.Tree.{Tree, Place, literal, stat}
-use Rattle.vortex_base.specs.Meanings.Typing.{stat_type, type_of, with_type}
+use Rattle.vortex_expr.specs.Trees.Tree.{Tree, Place, literal, stat}
+use Rattle.vortex_expr.specs.Meanings.Typing.{stat_type, type_of, with_type}
 use Rattle.vortex_stats.specs.Sets.Claims.{count_value, null_count}
 use Rattle.vortex_rewrite.specs.Facts.{IsFact, IsHonest, is_over, meanings, size_of}
 use Rattle.vortex_rewrite.specs.Rewriting.Proof.{Assignment}

@@ -1,17 +1,17 @@
 -- The built-in proofs of one node, and the functions that the built-in rules are for.
 use Rattle.std.specs.Prelude.{List, [], ◌∷◌, Option, Some, None, option_to_list, if◌then◌else◌}
 use Rattle.std.specs.Ordering.{is_gt}
-use Rattle.vortex_base.specs.declared.types.BetweenOptions.{BetweenOptions}
-use Rattle.vortex_base.specs.declared.types.StrictComparison.{StrictComparison}
-use Rattle.vortex_base.specs.declared.types.StrictComparison.TheVariants.{Strict, NonStrict}
-use Rattle.vortex_base.specs.declared.types.Operator.{Operator}
-use Rattle.vortex_base.specs.declared.types.Operator.TheVariants.{Eq, NotEq, Gt, Gte, Lt, Lte, And, Or}
+use Rattle.vortex_expr.specs.declared.scalar_fn.BetweenOptions.{BetweenOptions}
+use Rattle.vortex_expr.specs.declared.scalar_fn.StrictComparison.{StrictComparison}
+use Rattle.vortex_expr.specs.declared.scalar_fn.StrictComparison.TheVariants.{Strict, NonStrict}
+use Rattle.vortex_expr.specs.declared.scalar_fn.Operator.{Operator}
+use Rattle.vortex_expr.specs.declared.scalar_fn.Operator.TheVariants.{Eq, NotEq, Gt, Gte, Lt, Lte, And, Or}
 use Rattle.vortex_base.specs.declared.pvalue.PValue.{PValue}
-use Rattle.vortex_base.specs.declared.types.ScalarFnId.{ScalarFnId}
-use Rattle.vortex_base.specs.declared.types.ScalarFnId.TheVariants as function
+use Rattle.vortex_expr.specs.declared.scalar_fn.ScalarFnId.{ScalarFnId}
+use Rattle.vortex_expr.specs.declared.scalar_fn.ScalarFnId.TheVariants as function
 use Rattle.vortex_base.specs.Data.Neighbours.{next_number, prev_number}
 use Rattle.vortex_base.specs.Data.Orders.{pvalue_cmp}
-use Rattle.vortex_base.specs.Trees.Tree.{Tree, Place}
+use Rattle.vortex_expr.specs.Trees.Tree.{Tree, Place}
 use Rattle.vortex_rewrite.specs.Rewriting.Falsifiers.{Ends}
 use Rattle.vortex_rewrite.specs.declared.rewrite.rules.BuiltinRule.{BuiltinRule}
 use Rattle.vortex_rewrite.specs.declared.rewrite.rules.BuiltinRule.TheVariants as rule

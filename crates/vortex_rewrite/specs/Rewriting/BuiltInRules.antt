@@ -2,9 +2,9 @@
 use Rattle.std.specs.Prelude.{◌≡◌, false, List, [], ◌∷◌, Option, Some, None}
 use Rattle.std.specs.List.{filter_map}
 use Rattle.vortex_base.specs.declared.aggregate.AggregateFnRef.TheVariants.{AllNull, AllNonNull}
-use Rattle.vortex_base.specs.declared.types.Operator.TheVariants.{Eq}
-use Rattle.vortex_base.specs.declared.types.ScalarFnId.{ScalarFnId}
-use Rattle.vortex_base.specs.Trees.Tree.{Tree, Place, literal, binary, between, is_null, is_not_null, like, stat, row_count, scalar_fn_of}
+use Rattle.vortex_expr.specs.declared.scalar_fn.Operator.TheVariants.{Eq}
+use Rattle.vortex_expr.specs.declared.scalar_fn.ScalarFnId.{ScalarFnId}
+use Rattle.vortex_expr.specs.Trees.Tree.{Tree, Place, literal, binary, between, is_null, is_not_null, like, stat, row_count, scalar_fn_of}
 use Rattle.vortex_rewrite.specs.Rewriting.BuiltIn.{function_of}
 use Rattle.vortex_rewrite.specs.Rewriting.Lawful.{OwnRule}
 use Rattle.vortex_rewrite.specs.Rewriting.Falsifiers.{count_literal, ends, ends_node, falsifier, is_function, like_falsifier, literal_falsifier, literal_satisfier, node, null_count_of, of_sides, satisfier}

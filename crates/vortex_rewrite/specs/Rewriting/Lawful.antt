@@ -1,12 +1,12 @@
 -- What the rules of a user have to keep, and such a rule as plain data.
 use Rattle.std.specs.Prelude.{◌≡◌, ◌<◌, ℕ, Bool, true, false, not as not_b, ◌&&◌, List, Option, Some, IsOk, IsTrue}
-use Rattle.vortex_base.specs.declared.types.ScalarFnId.{ScalarFnId}
+use Rattle.vortex_expr.specs.declared.scalar_fn.ScalarFnId.{ScalarFnId}
 use Rattle.vortex_base.specs.Data.Columns.{ChunkData, IsChunk, row_of, row_count as rows_of}
-use Rattle.vortex_base.specs.Meanings.Fitting.{fits_scope}
-use Rattle.vortex_base.specs.Meanings.Meaning.{satisfies}
+use Rattle.vortex_expr.specs.Meanings.Fitting.{fits_scope}
+use Rattle.vortex_expr.specs.Meanings.Meaning.{satisfies}
 use Rattle.vortex_base.specs.Data.Scopes.{Named}
-use Rattle.vortex_base.specs.Trees.Tree.{Tree, Place, has_placeholder}
-use Rattle.vortex_base.specs.Meanings.Typing.{type_of}
+use Rattle.vortex_expr.specs.Trees.Tree.{Tree, Place, has_placeholder}
+use Rattle.vortex_expr.specs.Meanings.Typing.{type_of}
 use Rattle.vortex_rewrite.specs.Facts.{IsHonest}
 use Rattle.vortex_rewrite.specs.Rewriting.Proof.{Assignment, proves}
 

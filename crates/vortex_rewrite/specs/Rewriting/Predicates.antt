@@ -4,10 +4,10 @@ use Rattle.vortex_base.specs.declared.aggregate.AggregateFnRef.{AggregateFnRef}
 use Rattle.vortex_base.specs.declared.aggregate.AggregateFnRef.TheVariants.{Max, Min, Sum, NullCount, NanCount, UncompressedSizeInBytes, AllNull, AllNonNull, MinMax}
 use Rattle.vortex_base.specs.declared.dtype.DType.{DType}
 use Rattle.vortex_base.specs.declared.error.BaseError.{BaseError}
-use Rattle.vortex_base.specs.declared.types.Operator.{Operator}
-use Rattle.vortex_base.specs.declared.types.Operator.TheVariants.{Eq, NotEq, Gt, Gte, Lt, Lte, And, Or}
-use Rattle.vortex_base.specs.Trees.Tree.{Tree, Place}
-use Rattle.vortex_base.specs.Meanings.Typing.{is_bool, is_utf8, type_of}
+use Rattle.vortex_expr.specs.declared.scalar_fn.Operator.{Operator}
+use Rattle.vortex_expr.specs.declared.scalar_fn.Operator.TheVariants.{Eq, NotEq, Gt, Gte, Lt, Lte, And, Or}
+use Rattle.vortex_expr.specs.Trees.Tree.{Tree, Place}
+use Rattle.vortex_expr.specs.Meanings.Typing.{is_bool, is_utf8, type_of}
 
 abbrev pub has_type : (DType → Bool) → Result DType BaseError → Bool
 has_type test (Ok t) = test t

@@ -1,6 +1,6 @@
 -- What the rules of a user may cause, at the nodes where they are asked.
 use Rattle.std.specs.Prelude.{◌≡◌, false, List, Option, Contains, IsSomeAnd, IsTrue}
-use Rattle.vortex_base.specs.Trees.Tree.{Tree, Place, scalar_fn_of}
+use Rattle.vortex_expr.specs.Trees.Tree.{Tree, Place, scalar_fn_of}
 use Rattle.vortex_rewrite.specs.Causes.{Causes, no_causes}
 use Rattle.vortex_rewrite.specs.Rewriting.Lawful.{OwnRule}
 use Rattle.vortex_rewrite.specs.Rewriting.Predicates.{is_predicate}

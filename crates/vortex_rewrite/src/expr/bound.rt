@@ -2,15 +2,15 @@
 //!
 //! Each has the type of the aggregate's state, with null. Where the aggregate does not support the
 //! input's type, it is refused as `Unsupported`. The input is dropped where a call is refused.
-ghost use Rattle.vortex_base.specs.Trees.Tree as tree;
-ghost use Rattle.vortex_base.specs.Meanings.Typing.{type_of};
+ghost use Rattle.vortex_expr.specs.Trees.Tree as tree;
+ghost use Rattle.vortex_expr.specs.Meanings.Typing.{type_of};
 ghost use Rattle.vortex_rewrite.specs.Answers.{IfSupported, Makes};
 
 use std::alloc::Global;
 use vortex_base::aggregate::AggregateFnRef;
-use vortex_base::bound::new_stat;
-use vortex_base::bound_expression::BoundExpression;
 use vortex_base::error::BaseError;
+use vortex_expr::bound::new_stat;
+use vortex_expr::bound_expression::BoundExpression;
 use vortex_stats::error::StatsError;
 
 /// The placeholder for an aggregate of an input.

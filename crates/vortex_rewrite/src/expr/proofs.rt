@@ -2,19 +2,20 @@
 //!
 //! Memory alone is refused, and is told as a rule tells it.
 ghost use Rattle.std.specs.Prelude.{◌≡◌, false, IfSome, IsTrue, MatchResult};
-ghost use Rattle.vortex_base.specs.Trees.Tree as tree;
+ghost use Rattle.vortex_expr.specs.Trees.Tree as tree;
 ghost use Rattle.vortex_rewrite.specs.HookFaults.{IsHookFault};
 ghost use Rattle.vortex_rewrite.specs.Rewriting.Falsifiers.{bool_literal, both_of, either_of};
 ghost use Rattle.vortex_rewrite.specs.Rewriting.Predicates.{is_predicate};
 
 use crate::hook_fault::HookFault;
 use std::alloc::Global;
-use vortex_base::bound;
-use vortex_base::bound_expression::BoundExpression;
 use vortex_base::dtype::DType;
 use vortex_base::scalar::Scalar;
 use vortex_base::scalar_value::ScalarValue;
-use vortex_base::types::{Nullability, Operator};
+use vortex_base::types::Nullability;
+use vortex_expr::bound;
+use vortex_expr::bound_expression::BoundExpression;
+use vortex_expr::scalar_fn::Operator;
 
 /// A literal truth.
 pub fn truth(alloc: Global, truth: bool) -> Result<BoundExpression, HookFault>

@@ -1,7 +1,7 @@
 //! The engine: it rewrites a predicate into a proof, node by node.
 ghost use Rattle.std.specs.Prelude.{◌≡◌, ◌+◌, ◌-◌, ◌^◌, ◌∷◌, [], min, IfErr, IfOk, IsOk, option_map};
-ghost use Rattle.vortex_base.specs.Trees.Tree as tree;
-ghost use Rattle.vortex_base.specs.Meanings.Typing.{type_of};
+ghost use Rattle.vortex_expr.specs.Trees.Tree as tree;
+ghost use Rattle.vortex_expr.specs.Meanings.Typing.{type_of};
 ghost use Rattle.vortex_rewrite.specs.Causes.{IsRefusal};
 ghost use Rattle.vortex_rewrite.specs.Rewriting.Own.{own_rules};
 ghost use Rattle.vortex_rewrite.specs.Rewriting.BuiltIn.{listed};
@@ -22,9 +22,9 @@ use crate::rewrite::rules::Rules;
 use crate::rewrite::side::Side;
 use crate::rewrite::user_rules::{ask_own, is_asked};
 use std::alloc::Global;
-use vortex_base::bound_expression::BoundExpression;
-use vortex_base::bound_expression::parts::Parts;
-use vortex_base::types::{BetweenOptions, Operator};
+use vortex_expr::bound_expression::BoundExpression;
+use vortex_expr::bound_expression::parts::Parts;
+use vortex_expr::scalar_fn::{BetweenOptions, Operator};
 use vortex_stats::error::StatsError;
 
 // The proof at one node: the built-in ones and then those of the user's rules, joined. Where no

@@ -1,8 +1,8 @@
 //! The nodes that proofs are made of, over operands that are known to fit.
 ghost use Rattle.std.specs.Prelude.{◌≡◌, IfErr, IfOk, IsOk, IsTrue, Some};
 ghost use Rattle.vortex_base.specs.Data.Scalars.{is_optional_value};
-ghost use Rattle.vortex_base.specs.Trees.Tree as tree;
-ghost use Rattle.vortex_base.specs.Meanings.Typing.{type_of};
+ghost use Rattle.vortex_expr.specs.Trees.Tree as tree;
+ghost use Rattle.vortex_expr.specs.Meanings.Typing.{type_of};
 ghost use Rattle.vortex_rewrite.specs.Rewriting.Predicates.{is_text};
 ghost use Rattle.vortex_rewrite.specs.Rewriting.Falsifiers.{bytes_literal, count_literal as count_literal_of, null_count_of};
 ghost use Rattle.vortex_rewrite.specs.Answers.{IsMemory, Makes};
@@ -10,13 +10,13 @@ ghost use Rattle.vortex_rewrite.specs.Answers.{IsMemory, Makes};
 use crate::built::{built, cloned};
 use std::alloc::Global;
 use vortex_base::aggregate::AggregateFnRef;
-use vortex_base::bound;
-use vortex_base::bound_expression::BoundExpression;
 use vortex_base::dtype::DType;
 use vortex_base::scalar::Scalar;
 use vortex_base::scalar_value::ScalarValue;
 use vortex_base::text::Text;
 use vortex_base::types::{Nullability, PType};
+use vortex_expr::bound;
+use vortex_expr::bound_expression::BoundExpression;
 use vortex_stats::error::StatsError;
 
 // The literal of a type and a value that fits it.

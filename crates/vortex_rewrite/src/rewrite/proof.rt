@@ -1,7 +1,7 @@
 //! Proofs: expressions of type Bool.
 ghost use Rattle.std.specs.Prelude.{◌≡◌, ◌++◌, false, IsOk, IsTrue, MatchOption, option_to_list};
-ghost use Rattle.vortex_base.specs.Trees.Tree as tree;
-ghost use Rattle.vortex_base.specs.Meanings.Typing.{type_of};
+ghost use Rattle.vortex_expr.specs.Trees.Tree as tree;
+ghost use Rattle.vortex_expr.specs.Meanings.Typing.{type_of};
 ghost use Rattle.vortex_rewrite.specs.Answers.{Makes, OkOrMemory};
 ghost use Rattle.vortex_rewrite.specs.Rewriting.Predicates.{is_connective, is_predicate, is_truth_aggregate};
 ghost use Rattle.vortex_rewrite.specs.Rewriting.Falsifiers.{bool_literal};
@@ -11,11 +11,12 @@ use crate::rewrite::nodes::{literal, stat};
 use std::alloc::Global;
 use std::marker::Model;
 use vortex_base::aggregate::AggregateFnRef;
-use vortex_base::bound;
-use vortex_base::bound_expression::BoundExpression;
 use vortex_base::dtype::DType;
 use vortex_base::scalar_value::ScalarValue;
-use vortex_base::types::{Nullability, Operator};
+use vortex_base::types::Nullability;
+use vortex_expr::bound;
+use vortex_expr::bound_expression::BoundExpression;
+use vortex_expr::scalar_fn::Operator;
 use vortex_stats::error::StatsError;
 
 // An expression of type Bool.
@@ -26,8 +27,8 @@ pub(crate) struct Proof {
 
 impl Model for Proof {
     ghost use Rattle.std.specs.Prelude.{IsTrue};
-    ghost use Rattle.vortex_base.specs.Trees.Tree.{Tree, Place};
-    ghost use Rattle.vortex_base.specs.Trees.TreeCode.{tree_code, place_code};
+    ghost use Rattle.vortex_expr.specs.Trees.Tree.{Tree, Place};
+    ghost use Rattle.vortex_expr.specs.Trees.TreeCode.{tree_code, place_code};
 
     ghost Value = { Tree Place };
 

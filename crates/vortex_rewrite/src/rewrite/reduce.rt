@@ -5,7 +5,7 @@ ghost use Rattle.vortex_rewrite.specs.Answers.{Makes, OkOrMemory};
 
 use crate::rewrite::proof::Proof;
 use std::alloc::Global;
-use vortex_base::types::Operator;
+use vortex_expr::scalar_fn::Operator;
 use vortex_stats::error::StatsError;
 
 // Joins neighbours by OR, the first with the second, the third with the fourth; an odd last one

@@ -1,13 +1,13 @@
 //! The interface of a user's rules.
 ghost use Rattle.std.specs.Prelude.{◌≡◌, ℕ, Bool, Option, MatchResult};
-ghost use Rattle.vortex_base.specs.declared.types.ScalarFnId.{ScalarFnId};
-ghost use Rattle.vortex_base.specs.Trees.Tree.{Tree, Place};
+ghost use Rattle.vortex_expr.specs.declared.scalar_fn.ScalarFnId.{ScalarFnId};
+ghost use Rattle.vortex_expr.specs.Trees.Tree.{Tree, Place};
 ghost use Rattle.vortex_rewrite.specs.Rewriting.Lawful.{IsLawful};
 
 use crate::hook_fault::HookFault;
 use std::alloc::Global;
-use vortex_base::bound_expression::BoundExpression;
-use vortex_base::types::ScalarFnId;
+use vortex_expr::bound_expression::BoundExpression;
+use vortex_expr::scalar_fn::ScalarFnId;
 
 /// A rule of a user for the predicates whose top node applies one function. It is asked at each
 /// such node, whatever its operands.

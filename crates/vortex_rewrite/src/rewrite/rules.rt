@@ -3,7 +3,7 @@ ghost use Rattle.std.specs.Prelude.{◌≡◌, ◌++◌, ◌∷◌, [], OnErr, O
 
 use crate::rewrite::rule::StatsRewriteRuleRef;
 use std::alloc::{AllocError, Global};
-use vortex_base::types::ScalarFnId;
+use vortex_expr::scalar_fn::ScalarFnId;
 
 /// A rule of the library's own. The engine runs them, at a node of their function, in this order.
 #[derive(Clone, Copy, Debug, PartialEq, Eq)]

@@ -1,6 +1,6 @@
 //! The rules of a user at one node.
 ghost use Rattle.std.specs.Prelude.{◌≡◌, ◌∷◌, ◌++◌, [], IfErr, IfOk, MatchResult};
-ghost use Rattle.vortex_base.specs.Trees.Tree.{scalar_fn_of};
+ghost use Rattle.vortex_expr.specs.Trees.Tree.{scalar_fn_of};
 ghost use Rattle.vortex_rewrite.specs.HookFaults.{IsHookFault};
 ghost use Rattle.vortex_rewrite.specs.Rewriting.Own.{own_rule, own_rules};
 ghost use Rattle.vortex_rewrite.specs.Rewriting.Falsifiers.{asked, is_asked as is_some_asked, is_function, own_proofs};
@@ -14,8 +14,8 @@ use crate::rewrite::rule::StatsRewriteRule;
 use crate::rewrite::rules::Rules;
 use crate::rewrite::side::Side;
 use std::alloc::Global;
-use vortex_base::bound_expression::BoundExpression;
-use vortex_base::types::ScalarFnId;
+use vortex_expr::bound_expression::BoundExpression;
+use vortex_expr::scalar_fn::ScalarFnId;
 use vortex_stats::error::{RuleFault, StatsError};
 
 fn id_of(rule: &Box<dyn StatsRewriteRule>) -> ScalarFnId

@@ -4,7 +4,7 @@ ghost use Rattle.vortex_rewrite.specs.Rewriting.Predicates.{is_predicate};
 
 use std::alloc::Global;
 use std::process::Abort;
-use vortex_base::BoundExpression;
+use vortex_expr::BoundExpression;
 use vortex_rewrite::expr::proofs;
 use vortex_rewrite::hook_fault::HookFault;
 use vortex_rewrite_testing::nodes::*;

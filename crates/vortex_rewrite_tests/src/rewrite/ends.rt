@@ -1,6 +1,7 @@
 //! BETWEEN with strict and crossed ends: the falsifier at the ends of each type.
 use super::*;
-use vortex_base::{BetweenOptions, Bytes, Nullability, PValue};
+use vortex_base::{Bytes, Nullability, PValue};
+use vortex_expr::BetweenOptions;
 
 fn number_type(number: PValue) -> DType {
     DType::Primitive(number.ptype(), Nullability::NonNullable)

@@ -7,7 +7,7 @@ use super::*;
 use crate::rules::{new_claiming, rules_of, two_rules};
 use std::alloc::AllocError;
 use std::process::Abort;
-use vortex_base::{Parts, ScalarFnId};
+use vortex_expr::{Parts, ScalarFnId};
 use vortex_rewrite::{HookFault, StatsRewriteRule, StatsRewriteRuleRef};
 use vortex_rewrite_testing::hooks::{Claim, ValueTests, truth_answer};
 use vortex_stats::RuleFault;
@@ -36,7 +36,7 @@ struct Opposite {
 
 impl StatsRewriteRule for Opposite {
     ghost use Rattle.std.specs.Prelude.{true, false};
-    ghost use Rattle.vortex_base.specs.declared.types.ScalarFnId.TheVariants as function;
+    ghost use Rattle.vortex_expr.specs.declared.scalar_fn.ScalarFnId.TheVariants as function;
     ghost use Rattle.vortex_rewrite_testing.specs.RuleExamples.{at_opposite, opposite_is_lawful};
 
     ghost id = { λ s. function.Not };

@@ -19,7 +19,7 @@ use Rattle.vortex_base.specs.declared.scalar_value.ScalarValue.{ScalarValue}
 use Rattle.vortex_base.specs.declared.scalar_value.ScalarValue.TheVariants as value
 use Rattle.vortex_base.specs.Data.Columns.{ColumnData, IsColumn}
 use Rattle.vortex_base.specs.Data.Values.{in_range, is_value, value_cmp, whole}
-use Rattle.vortex_base.specs.Meanings.Meaning.{is_long}
+use Rattle.vortex_base.specs.Data.Scalars.{is_long}
 use Rattle.vortex_stats.specs.declared.stat.Stat.{Stat}
 use Rattle.vortex_stats.specs.declared.stat.Stat.TheVariants.{IsConstant, IsSorted, IsStrictSorted, Max, Min, Sum, NullCount, UncompressedSizeInBytes, NaNCount}
 use Rattle.vortex_stats.specs.declared.precision.Precision.{Precision}

@@ -1,7 +1,7 @@
 //! What a pass over the values of a column finds, and the values of statistics that follow of it.
 ghost use Rattle.std.specs.Prelude.{◌≡◌, IfOk, IsTrue, OnErr, OnOk, option_map};
 ghost use Rattle.vortex_base.specs.Data.Cells.{value_of};
-ghost use Rattle.vortex_base.specs.Meanings.Meaning.{is_long};
+ghost use Rattle.vortex_base.specs.Data.Scalars.{is_long};
 ghost use Rattle.vortex_stats.specs.Measuring.Measured.{measured_value};
 ghost use Rattle.vortex_stats.specs.Measuring.Measures.{AreMeasuresOf, IsWithin, found};
 ghost use Rattle.vortex_stats.specs.Measuring.Told.{with_told};

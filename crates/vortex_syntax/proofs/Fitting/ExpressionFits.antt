@@ -1,17 +1,17 @@
 -- An expression that is read fits its scope, and holds no placeholder and no row count.
 use Rattle.std.proofs.Common.{◌≡◌, ◌||◌, ℕ, zero, suc, Bool, true, false, List, Option, None, Some, option_and_then, is_ok, length, slice_get, refl, ap, subst, inl, inr}
 use Rattle.std.proofs.lemmas.Bool.{and_from, cases_Bool}
-use Rattle.vortex_base.specs.Meanings.Binding.{find_column, found, place_at}
-use Rattle.vortex_base.specs.Meanings.Fitting.{fits_scope, is_of_type}
+use Rattle.vortex_expr.specs.Meanings.Binding.{find_column, found, place_at}
+use Rattle.vortex_expr.specs.Meanings.Fitting.{fits_scope, is_of_type}
 use Rattle.vortex_base.specs.Data.Scopes.{Named, place_of}
-use Rattle.vortex_base.specs.Trees.Tree.{Tree, Place, column, literal, binary, between, is_null, is_not_null, not as negated, like, has_placeholder, has_row_count, is_plain}
+use Rattle.vortex_expr.specs.Trees.Tree.{Tree, Place, column, literal, binary, between, is_null, is_not_null, not as negated, like, has_placeholder, has_row_count, is_plain}
 use Rattle.vortex_base.specs.Data.Types.{dtype_eq_is_exact}
-use Rattle.vortex_base.specs.Meanings.Typing.{type_of}
-use Rattle.vortex_base.specs.declared.types.BetweenOptions.{BetweenOptions}
+use Rattle.vortex_expr.specs.Meanings.Typing.{type_of}
+use Rattle.vortex_expr.specs.declared.scalar_fn.BetweenOptions.{BetweenOptions}
 use Rattle.vortex_base.specs.declared.dtype.DType.{DType}
 use Rattle.vortex_base.specs.declared.scalar_value.ScalarValue.{ScalarValue}
-use Rattle.vortex_base.specs.declared.like.LikeOptions.{LikeOptions}
-use Rattle.vortex_base.specs.declared.types.Operator.{Operator}
+use Rattle.vortex_expr.specs.declared.like.LikeOptions.{LikeOptions}
+use Rattle.vortex_expr.specs.declared.scalar_fn.Operator.{Operator}
 use Rattle.vortex_syntax.specs.Expressions.{Read, expression_by, expression_of, expression_within, followed, form_of, read_between, read_column, read_literal, read_one, read_options, read_two, typed}
 use Rattle.vortex_syntax.specs.Names.{type_of as type_of_word}
 use Rattle.vortex_syntax.specs.Values.{optional_value_of}

@@ -4,7 +4,7 @@ use Rattle.std.proofs.lemmas.Bool.{cases_Bool}
 use Rattle.std.specs.Str.{bytes_eq, is_utf8}
 use Rattle.vortex_base.specs.Data.Scalars.{is_optional_value}
 use Rattle.vortex_base.specs.Data.Types.{is_nullable, ptype_index}
-use Rattle.vortex_base.specs.Meanings.Typing.{is_signed}
+use Rattle.vortex_base.specs.Data.States.{is_signed}
 use Rattle.vortex_base.specs.Data.Values.{greatest, in_range, is_value, least, ptype_of}
 use Rattle.vortex_base.specs.declared.dtype.DType.{DType}
 use Rattle.vortex_base.specs.declared.dtype.DType.TheVariants as dtype

@@ -5,9 +5,9 @@ use Rattle.vortex_base.specs.declared.dtype.DType.TheVariants as dtype
 use Rattle.vortex_base.specs.declared.pvalue.PValue.TheVariants as pvalue
 use Rattle.vortex_base.specs.declared.scalar_value.ScalarValue.TheVariants as value
 use Rattle.vortex_base.specs.declared.types.Nullability.TheVariants.{Nullable, NonNullable}
-use Rattle.vortex_base.specs.declared.types.Operator.TheVariants as operator
+use Rattle.vortex_expr.specs.declared.scalar_fn.Operator.TheVariants as operator
 use Rattle.vortex_base.specs.declared.types.PType.TheVariants as ptype
-use Rattle.vortex_base.specs.declared.types.StrictComparison.TheVariants.{Strict, NonStrict}
+use Rattle.vortex_expr.specs.declared.scalar_fn.StrictComparison.TheVariants.{Strict, NonStrict}
 use Rattle.vortex_stats.specs.declared.precision.Precision.TheVariants.{Exact, Inexact}
 use Rattle.vortex_stats.specs.declared.stat.Stat.TheVariants as stat
 use Rattle.vortex_syntax.specs.Copies.{claim_takes, first_is_copied, is_copied, makes_bytes}

@@ -3,11 +3,11 @@ use Rattle.std.proofs.Common.{◌≡◌, ℕ, Bool, true, false, List, [], ◌�
 use Rattle.std.proofs.lemmas.Bool.{cases_Bool}
 use Rattle.std.proofs.lemmas.List.Elements.{All-append, All-cons, All-nil}
 use Rattle.std.specs.Str.{bytes_eq, is_utf8}
-use Rattle.vortex_base.specs.Meanings.Binding.{find_column}
+use Rattle.vortex_expr.specs.Meanings.Binding.{find_column}
 use Rattle.vortex_base.specs.Data.Columns.{ColumnData}
-use Rattle.vortex_base.specs.Meanings.Fitting.{is_of_type}
+use Rattle.vortex_expr.specs.Meanings.Fitting.{is_of_type}
 use Rattle.vortex_base.specs.Data.Scopes.{Named, is_empty, is_state_column, place_of}
-use Rattle.vortex_base.specs.Trees.Tree.{Tree, Place}
+use Rattle.vortex_expr.specs.Trees.Tree.{Tree, Place}
 use Rattle.vortex_base.specs.Data.Types.{dtype_eq_is_exact}
 use Rattle.vortex_base.specs.Data.Values.{is_value}
 use Rattle.vortex_base.specs.declared.dtype.DType.{DType}

@@ -2,7 +2,7 @@
 use Rattle.std.proofs.Common.{◌≡◌, ℕ, List, [], ◌∷◌, Option, None, Some, IfSome, Ok, refl, subst}
 use Rattle.std.proofs.lemmas.List.Elements.{All-nil}
 use Rattle.std.specs.Str.Lines.{lines}
-use Rattle.vortex_base.specs.Trees.Tree.{Tree, Place}
+use Rattle.vortex_expr.specs.Trees.Tree.{Tree, Place}
 use Rattle.vortex_prune.specs.Part.{PartData}
 use Rattle.vortex_text.proofs.Fitting.LineFits.{line_fits, parts_fit}
 use Rattle.vortex_text.proofs.NamedLines.{query_named}

@@ -3,7 +3,7 @@ use Rattle.std.proofs.Common.{◌≡◌, true, false, [], ◌∷◌, Some, codes
 use Rattle.std.specs.Str.{chars, is_utf8}
 use Rattle.vortex_base.specs.declared.dtype.DType.TheVariants as dtype
 use Rattle.vortex_base.specs.declared.scalar_value.ScalarValue.TheVariants as value
-use Rattle.vortex_base.specs.Trees.Tree.{literal}
+use Rattle.vortex_expr.specs.Trees.Tree.{literal}
 use Rattle.vortex_base.specs.declared.types.Nullability.TheVariants.{NonNullable}
 use Rattle.vortex_base.specs.declared.types.PType.TheVariants as ptype
 use Rattle.vortex_text.specs.Lines.{Reading, nothing_read}

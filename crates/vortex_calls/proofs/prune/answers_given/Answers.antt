@@ -1,6 +1,6 @@
 use Rattle.std.proofs.Common.{ap, ◌∙◌}
 use Rattle.vortex_base.specs.Data.Scopes.{is_scope, named_columns}
-use Rattle.vortex_base.specs.Meanings.Fitting.{fits_scope}
+use Rattle.vortex_expr.specs.Meanings.Fitting.{fits_scope}
 use Rattle.vortex_calls.proofs.ScopeLemmas.{given_is_predicate, given_is_scope}
 use Rattle.vortex_calls.proofs.prune.answers_given.Goals as goal
 

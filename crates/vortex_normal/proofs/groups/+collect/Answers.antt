@@ -1,6 +1,6 @@
 use Rattle.std.proofs.Common.{◌≡◌, false, true, ap, map, refl, ◌∙◌}
-use Rattle.vortex_base.specs.Trees.Tree.{binary}
-use Rattle.vortex_base.specs.declared.types.Operator.TheVariants.{And, Or}
+use Rattle.vortex_expr.specs.Trees.Tree.{binary}
+use Rattle.vortex_expr.specs.declared.scalar_fn.Operator.TheVariants.{And, Or}
 use Rattle.vortex_normal.specs.Groups.{collected, item_of, items_fit}
 use Rattle.vortex_normal.specs.Separate.{are_of_separate}
 use Rattle.vortex_normal.proofs.Fits.{both_fit}

@@ -1,6 +1,6 @@
 use Rattle.std.proofs.Common.{IsOk, subst₂, sym}
-use Rattle.vortex_base.specs.Meanings.Typing.{type_of}
-use Rattle.vortex_base.specs.Trees.Tree.{Place, Tree, binary}
+use Rattle.vortex_expr.specs.Meanings.Typing.{type_of}
+use Rattle.vortex_expr.specs.Trees.Tree.{Place, Tree, binary}
 use Rattle.vortex_normal.proofs.Folded.{folded_fits}
 use Rattle.vortex_normal.proofs.leaves.comparison.Goals as goal
 

@@ -1,8 +1,8 @@
 use Rattle.std.proofs.Common.{◌≡◌, [], List, subst}
 use Rattle.vortex_base.specs.Answer.{Answers}
 use Rattle.vortex_base.specs.Data.Scalars.{Constant}
-use Rattle.vortex_base.specs.Meanings.Meaning.{can_evaluate, meaning}
-use Rattle.vortex_base.specs.Trees.Tree.{literal}
+use Rattle.vortex_expr.specs.Meanings.Meaning.{can_evaluate, meaning}
+use Rattle.vortex_expr.specs.Trees.Tree.{literal}
 use Rattle.vortex_base.specs.declared.dtype.DType.TheVariants as dtype
 use Rattle.vortex_base.specs.declared.scalar_value.ScalarValue.{ScalarValue}
 use Rattle.vortex_base.specs.declared.types.Nullability.TheVariants.{Nullable}

@@ -1,7 +1,7 @@
 use Rattle.std.proofs.Common.{Some, ap, sym, ◌∙◌, option_map}
 use Rattle.std.specs.Prelude.{string_bytes}
 use Rattle.std.specs.Str.{chars}
-use Rattle.vortex_base.specs.Patterns.Like.{items}
+use Rattle.vortex_expr.specs.Patterns.Like.{items}
 use Rattle.vortex_normal.proofs.Readings.{no_end, not_raised, read_some, up_to}
 use Rattle.vortex_normal.proofs.likes.begins.Goals as goal
 

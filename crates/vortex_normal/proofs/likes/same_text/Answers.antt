@@ -1,5 +1,5 @@
 use Rattle.std.proofs.Common.{refl}
-use Rattle.vortex_base.specs.declared.types.Operator.TheVariants.{Eq}
+use Rattle.vortex_expr.specs.declared.scalar_fn.Operator.TheVariants.{Eq}
 use Rattle.vortex_normal.proofs.Steps.{text_compares}
 use Rattle.vortex_normal.proofs.likes.same_text.Goals as goal
 

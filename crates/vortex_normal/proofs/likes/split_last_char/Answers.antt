@@ -1,6 +1,6 @@
 -- What is left before the last character is what its bytes follow.
 use Rattle.std.proofs.Common.{arith}
-use Rattle.vortex_base.proofs.Patterns.PatternLemmas.{chars_last, no_chars}
+use Rattle.vortex_expr.proofs.Patterns.PatternLemmas.{chars_last, no_chars}
 use Rattle.vortex_normal.proofs.likes.split_last_char.Goals as goal
 
 pub returns-in-Some-clause-split : goal.returns-in-Some-clause-split

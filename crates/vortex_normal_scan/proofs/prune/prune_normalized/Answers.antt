@@ -1,7 +1,7 @@
 use Rattle.std.proofs.Common.{◌≡◌, [], IfErr, IfOk, List, IsTrue, subst, sym, true}
 use Rattle.std.proofs.lemmas.Bool.{true_from_ne_false}
 use Rattle.std.proofs.lemmas.Result.{IfOk-weaker}
-use Rattle.vortex_base.specs.Trees.Tree.{Place, Tree}
+use Rattle.vortex_expr.specs.Trees.Tree.{Place, Tree}
 use Rattle.vortex_prune.specs.Part.{ZoneData}
 use Rattle.vortex_prune.specs.Scanning.Complete.{ZonesSkipExactly}
 use Rattle.vortex_prune.specs.Scanning.ZoneScans.{pruning_causes}

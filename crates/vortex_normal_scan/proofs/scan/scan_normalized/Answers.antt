@@ -1,7 +1,7 @@
 use Rattle.std.proofs.Common.{◌≡◌, ◌∙◌, [], IfErr, IfOk, IsTrue, subst, sym, true}
 use Rattle.std.proofs.lemmas.Bool.{true_from_ne_false}
 use Rattle.std.proofs.lemmas.Result.{IfOk-weaker}
-use Rattle.vortex_base.specs.Trees.Tree.{Place, Tree}
+use Rattle.vortex_expr.specs.Trees.Tree.{Place, Tree}
 use Rattle.vortex_normal.proofs.Joined.{joinings_are_apart, one_column_is_apart}
 use Rattle.vortex_prune.specs.Scanning.Complete.{SkipsExactly}
 use Rattle.vortex_prune.specs.Scanning.ScanRefusals.{scan_causes}

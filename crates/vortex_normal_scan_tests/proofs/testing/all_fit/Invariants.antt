@@ -1,5 +1,5 @@
 use Rattle.std.proofs.Common.{All, IsTrue, take}
-use Rattle.vortex_base.specs.Meanings.Fitting.{fits_scope}
+use Rattle.vortex_expr.specs.Meanings.Fitting.{fits_scope}
 use Rattle.vortex_normal_scan_tests.proofs.testing.all_fit.Given as goal
 
 abbrev pub invariant-loop-part : goal.invariant-loop-part

@@ -1,6 +1,6 @@
 use Rattle.std.proofs.Common.{◌≡◌, ap, sym, subst, ◌∙◌}
 use Rattle.std.specs.Prelude.{IfOk}
-use Rattle.vortex_base.specs.Trees.Tree as tree
+use Rattle.vortex_expr.specs.Trees.Tree as tree
 use Rattle.vortex_prune.specs.Binding.BoundTo.{IsBinding, Replaces, base_type}
 use Rattle.vortex_prune.proofs.Binding.BoundTypes.{memory_alone, is_node, has_type, between_bound, binary-base_type, between-base_type, not-base_type, like-base_type}
 use Rattle.vortex_prune.proofs.bind.+bound_stats.Goals as goal

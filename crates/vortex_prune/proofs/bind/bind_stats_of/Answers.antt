@@ -1,9 +1,9 @@
 use Rattle.std.proofs.Common.{◌≡◌}
 use Rattle.std.specs.Prelude.{false, IsTrue}
-use Rattle.vortex_base.specs.Meanings.Fitting.{fits_row}
-use Rattle.vortex_base.specs.Meanings.Meaning.{meaning}
-use Rattle.vortex_base.specs.Trees.Tree.{has_bare_column, has_placeholder}
-use Rattle.vortex_base.specs.Meanings.Typing.{type_of}
+use Rattle.vortex_expr.specs.Meanings.Fitting.{fits_row}
+use Rattle.vortex_expr.specs.Meanings.Meaning.{meaning}
+use Rattle.vortex_expr.specs.Trees.Tree.{has_bare_column, has_placeholder}
+use Rattle.vortex_expr.specs.Meanings.Typing.{type_of}
 use Rattle.vortex_prune.specs.Binding.BoundTo.{HasNoColumnOn, IsBinding, Replaces, WhereFaithful}
 use Rattle.vortex_rewrite.specs.Rewriting.Proof.{value_under}
 use Rattle.vortex_prune.proofs.Binding.BoundValues.{bound-fits, bound-free, bound-value, has_a_type, not_wrong_type}

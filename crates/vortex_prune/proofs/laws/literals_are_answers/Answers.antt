@@ -1,7 +1,7 @@
 use Rattle.std.proofs.Common.{refl}
 use Rattle.vortex_base.specs.Data.Scalars.{null_of}
 use Rattle.vortex_base.specs.Data.Types.{as_nullable}
-use Rattle.vortex_base.specs.Trees.Tree.{literal}
+use Rattle.vortex_expr.specs.Trees.Tree.{literal}
 use Rattle.vortex_prune.specs.Binding.PartFaithful.{literal_is_answer}
 use Rattle.vortex_rewrite.specs.StateTypes.{as_nullable-again}
 use Rattle.vortex_prune.proofs.laws.literals_are_answers.Goals as goal

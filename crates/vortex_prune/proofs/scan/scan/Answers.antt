@@ -2,7 +2,7 @@ use Rattle.std.proofs.Common.{◌≡◌, ◌-◌, ◌^◌, IfOk, Option, ap, map
 use Rattle.std.proofs.lemmas.Bool.{true_from_ne_false}
 use Rattle.std.proofs.lemmas.Result.{IfOk-weaker}
 use Rattle.std.specs.Prelude.{min, option_copied}
-use Rattle.vortex_base.specs.Trees.Tree.{Place, Tree}
+use Rattle.vortex_expr.specs.Trees.Tree.{Place, Tree}
 use Rattle.vortex_prune.proofs.Scanning.ScanRefused.{by_binders, by_faithful, refused_for_memory}
 use Rattle.vortex_prune.proofs.Scanning.WholeScan.{kept_is_full, of_two, skips_exactly}
 use Rattle.vortex_rewrite.specs.Rewriting.Own.{own_rules, own_rule}

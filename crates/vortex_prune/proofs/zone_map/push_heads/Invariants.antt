@@ -2,7 +2,7 @@ use Rattle.std.proofs.Common.{◌≡◌, ◌++◌, Some, drop, map}
 use Rattle.std.specs.List.{filter}
 use Rattle.std.specs.Prelude.{slice_get}
 use Rattle.vortex_base.specs.Data.Scopes.{Named}
-use Rattle.vortex_base.specs.Meanings.Typing.{stat_type}
+use Rattle.vortex_expr.specs.Meanings.Typing.{stat_type}
 use Rattle.vortex_prune.specs.Zones.{aggregates, head, is_typed, supporting}
 use Rattle.vortex_prune.proofs.zone_map.push_heads.Given as goal
 

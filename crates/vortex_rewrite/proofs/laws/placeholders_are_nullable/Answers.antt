@@ -1,4 +1,4 @@
-use Rattle.vortex_base.specs.Meanings.Typing.{type_of}
+use Rattle.vortex_expr.specs.Meanings.Typing.{type_of}
 use Rattle.vortex_rewrite.specs.StateTypes.{stat_again}
 use Rattle.vortex_rewrite.proofs.laws.placeholders_are_nullable.Goals as goal
 

@@ -1,8 +1,8 @@
 //! The ends by which a BETWEEN is rewritten.
 ghost use Rattle.std.specs.Prelude.{◌≡◌, IsOk, Some, option_map, true};
-ghost use Rattle.vortex_base.specs.Trees.Tree as tree;
+ghost use Rattle.vortex_expr.specs.Trees.Tree as tree;
 ghost use Rattle.vortex_base.specs.Data.Types.{eq_ignore_nullability};
-ghost use Rattle.vortex_base.specs.Meanings.Typing.{type_of};
+ghost use Rattle.vortex_expr.specs.Meanings.Typing.{type_of};
 ghost use Rattle.vortex_base.specs.Data.Values.{value_cmp};
 ghost use Rattle.vortex_base.specs.declared.scalar_value.ScalarValue.TheVariants as value;
 ghost use Rattle.vortex_rewrite.specs.Rewriting.BuiltIn.{ends_from, ordered_ends, raised_end, lowered_end};
@@ -13,11 +13,11 @@ use crate::built::cloned;
 use crate::rewrite::nodes::literal;
 use std::alloc::Global;
 use std::cmp::Ordering;
-use vortex_base::bound_expression::BoundExpression;
 use vortex_base::pvalue::PValue;
 use vortex_base::scalar::Scalar;
 use vortex_base::scalar_value::ScalarValue;
-use vortex_base::types::{BetweenOptions, Operator, StrictComparison};
+use vortex_expr::bound_expression::BoundExpression;
+use vortex_expr::scalar_fn::{BetweenOptions, Operator, StrictComparison};
 use vortex_stats::error::StatsError;
 
 fn is_closed(end: StrictComparison) -> bool

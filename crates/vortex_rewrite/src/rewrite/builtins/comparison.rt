@@ -1,7 +1,7 @@
 //! The least and the greatest values of operands, how they compare, and what that proves.
 ghost use Rattle.std.specs.Prelude.{◌≡◌, IsOk, IsTrue, false};
-ghost use Rattle.vortex_base.specs.Trees.Tree as tree;
-ghost use Rattle.vortex_base.specs.Meanings.Typing.{type_of};
+ghost use Rattle.vortex_expr.specs.Trees.Tree as tree;
+ghost use Rattle.vortex_expr.specs.Meanings.Typing.{type_of};
 ghost use Rattle.vortex_rewrite.specs.Rewriting.Predicates.{is_connective, is_extreme};
 ghost use Rattle.vortex_rewrite.specs.Rewriting.BuiltIn.{opposite as opposite_of};
 ghost use Rattle.vortex_rewrite.specs.Rewriting.Falsifiers.{both_of, comparison_falsifier, comparison_proof as comparison_proof_of, comparison_satisfier, either_of, extreme as extreme_of, placeholder as placeholder_of, without_nulls as without_nulls_of};
@@ -13,8 +13,8 @@ use crate::rewrite::proof::Proof;
 use crate::rewrite::side::Side;
 use std::alloc::Global;
 use vortex_base::aggregate::AggregateFnRef;
-use vortex_base::bound_expression::BoundExpression;
-use vortex_base::types::Operator;
+use vortex_expr::bound_expression::BoundExpression;
+use vortex_expr::scalar_fn::Operator;
 use vortex_stats::error::StatsError;
 
 fn placeholder(

@@ -1,7 +1,7 @@
 //! The built-in proofs of LIKE.
 ghost use Rattle.std.specs.Prelude.{◌≡◌, IsOk, IsTrue, Some, false, option_copied};
-ghost use Rattle.vortex_base.specs.Trees.Tree as tree;
-ghost use Rattle.vortex_base.specs.Meanings.Typing.{type_of};
+ghost use Rattle.vortex_expr.specs.Trees.Tree as tree;
+ghost use Rattle.vortex_expr.specs.Meanings.Typing.{type_of};
 ghost use Rattle.vortex_rewrite.specs.Rewriting.Predicates.{is_connective, is_text};
 ghost use Rattle.vortex_rewrite.specs.Rewriting.Falsifiers.{beyond as beyond_of, like_falsifier, text_falsifier, text_in};
 ghost use Rattle.vortex_rewrite.specs.Answers.{Makes};
@@ -12,11 +12,11 @@ use crate::rewrite::nodes::text_literal;
 use crate::rewrite::proof::Proof;
 use std::alloc::Global;
 use vortex_base::aggregate::AggregateFnRef;
-use vortex_base::bound_expression::BoundExpression;
-use vortex_base::like::LikeOptions;
-use vortex_base::like_pattern::{LikePattern, successor};
 use vortex_base::scalar_value::ScalarValue;
-use vortex_base::types::Operator;
+use vortex_expr::bound_expression::BoundExpression;
+use vortex_expr::like::LikeOptions;
+use vortex_expr::like_pattern::{LikePattern, successor};
+use vortex_expr::scalar_fn::Operator;
 use vortex_stats::error::StatsError;
 
 // The text that a literal is.

@@ -1,4 +1,4 @@
-use Rattle.vortex_base.specs.Trees.Tree.{binary}
+use Rattle.vortex_expr.specs.Trees.Tree.{binary}
 use Rattle.vortex_syntax.proofs.Typed.{built_fault}
 use Rattle.vortex_syntax.proofs.expression.binary.Goals as goal
 

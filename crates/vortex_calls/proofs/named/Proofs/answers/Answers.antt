@@ -1,7 +1,7 @@
 use Rattle.std.proofs.Common.{Option, ap, ap₂, map, subst, ◌∙◌}
 use Rattle.std.proofs.lemmas.Result.{err_from_is_err_and}
 use Rattle.std.specs.Prelude.{option_copied}
-use Rattle.vortex_base.specs.Trees.Tree.{Place, Tree}
+use Rattle.vortex_expr.specs.Trees.Tree.{Place, Tree}
 use Rattle.vortex_prune.specs.Scanning.ZoneScans.{AreRowVerdicts}
 use Rattle.vortex_calls.specs.Prunes.{answer_by, answer_of}
 use Rattle.vortex_calls.proofs.AnswerLemmas.{pruned_for_memory, verdicts_answered}

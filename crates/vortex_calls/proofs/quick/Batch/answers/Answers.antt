@@ -1,7 +1,7 @@
 use Rattle.std.proofs.Common.{Option, ap, ap₂, length, map, subst, sym, ◌∙◌}
 use Rattle.std.proofs.lemmas.List.{length-map}
 use Rattle.std.specs.Prelude.{IsTrue}
-use Rattle.vortex_base.specs.Trees.Tree.{Place, Tree}
+use Rattle.vortex_expr.specs.Trees.Tree.{Place, Tree}
 use Rattle.vortex_prune.specs.Part.{zones_fit}
 use Rattle.vortex_prune.specs.Zones.{heads}
 use Rattle.vortex_calls.specs.NamedStats.{names_head}

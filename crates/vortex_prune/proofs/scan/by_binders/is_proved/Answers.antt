@@ -1,7 +1,7 @@
 use Rattle.std.proofs.Common.{[], ap, inr, refl, sym, ◌∙◌}
 use Rattle.std.proofs.lemmas.Result.{IfOk-weaker}
 use Rattle.vortex_base.specs.Data.Columns.{row_count}
-use Rattle.vortex_base.specs.Meanings.Meaning.{is_true, meaning}
+use Rattle.vortex_expr.specs.Meanings.Meaning.{is_true, meaning}
 use Rattle.vortex_prune.proofs.Binding.ProofLemmas.{closed_fits, closed_free, closed_proves, open_is_bare}
 use Rattle.vortex_prune.specs.Binding.BoundTo.{Replaces}
 use Rattle.vortex_prune.proofs.scan.by_binders.is_proved.Goals as goal

@@ -1,5 +1,5 @@
 use Rattle.std.proofs.Common.{ap, ◌∙◌}
-use Rattle.vortex_base.specs.Meanings.Meaning.{is_true, meaning}
+use Rattle.vortex_expr.specs.Meanings.Meaning.{is_true, meaning}
 use Rattle.vortex_prune.proofs.Binding.ProofLemmas.{row_value}
 use Rattle.vortex_rewrite.proofs.Logic.{made_value, memory_alone}
 use Rattle.vortex_prune.proofs.scan.by_binders.is_true_on.Goals as goal

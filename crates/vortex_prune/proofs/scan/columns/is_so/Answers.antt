@@ -1,7 +1,7 @@
 use Rattle.std.proofs.Common.{ap, false, sym, ◌∙◌}
 use Rattle.std.specs.Prelude.{◌&&◌, slice_index_or}
 use Rattle.vortex_base.specs.Data.Values.{value_cmp}
-use Rattle.vortex_base.specs.Meanings.Meaning.{holds}
+use Rattle.vortex_expr.specs.Meanings.Meaning.{holds}
 use Rattle.vortex_prune.proofs.Scanning.ColumnLemmas.{so_there}
 use Rattle.vortex_prune.proofs.scan.columns.is_so.Goals as goal
 

@@ -1,7 +1,7 @@
 use Rattle.std.proofs.Common.{◌≡◌, ◌++◌, ap, drop, length, sym, take, ◌∙◌}
 use Rattle.std.proofs.lemmas.List.{take_at}
-use Rattle.vortex_base.specs.Trees.Tree.{binary}
-use Rattle.vortex_base.specs.declared.types.Operator.TheVariants.{And, Or}
+use Rattle.vortex_expr.specs.Trees.Tree.{binary}
+use Rattle.vortex_expr.specs.declared.scalar_fn.Operator.TheVariants.{And, Or}
 use Rattle.vortex_prune.proofs.ZoneMaps.ZoneMarks.{length-left_marked, length-marked, marked-and, marked-or}
 use Rattle.vortex_prune.specs.Scanning.Marks.{either_marked, is_true_at, left_marked, marked}
 use Rattle.vortex_prune.proofs.scan.marks.+keep_true.Goals as goal

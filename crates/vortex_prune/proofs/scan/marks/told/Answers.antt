@@ -1,6 +1,6 @@
 use Rattle.std.proofs.Common.{Option, ap, sym, ◌∙◌}
 use Rattle.std.specs.Prelude.{option_copied}
-use Rattle.vortex_base.specs.Trees.Tree.{Place, Tree}
+use Rattle.vortex_expr.specs.Trees.Tree.{Place, Tree}
 use Rattle.vortex_prune.proofs.ZoneMaps.ZoneMarks.{marked_none}
 use Rattle.vortex_prune.specs.Scanning.Marks.{is_told, marked}
 use Rattle.vortex_prune.proofs.scan.marks.told.Goals as goal

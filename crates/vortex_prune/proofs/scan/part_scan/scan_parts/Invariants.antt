@@ -1,6 +1,6 @@
 use Rattle.std.proofs.Common.{◌≡◌, ◌-◌, ◌^◌, List, Option, take}
 use Rattle.std.specs.Prelude.{min}
-use Rattle.vortex_base.specs.Trees.Tree.{Place, Tree}
+use Rattle.vortex_expr.specs.Trees.Tree.{Place, Tree}
 use Rattle.vortex_prune.proofs.Scanning.PartScanLemmas.{AreToldBelow}
 use Rattle.vortex_prune.proofs.Scanning.ScanLemmas.{AreBelow}
 use Rattle.vortex_prune.specs.Scanning.PartScans.{IsSameTest, TellsOf}

@@ -1,7 +1,7 @@
 use Rattle.std.proofs.Common.{Option, ap, refl, subst, sym, ◌∙◌}
 use Rattle.std.specs.Prelude.{option_copied}
 use Rattle.std.proofs.lemmas.Result.{IfErr-weaker, IfOk-weaker, err_from_is_err_and}
-use Rattle.vortex_base.specs.Trees.Tree.{Place, Tree}
+use Rattle.vortex_expr.specs.Trees.Tree.{Place, Tree}
 use Rattle.vortex_prune.proofs.ZoneMaps.ZonePruned.{pruning_is_complete, pruning_is_sound, skipped_listed, whole_listed}
 use Rattle.vortex_prune.proofs.ZoneMaps.ZoneScan.{refused_kept, rows_found, verdicts_found}
 use Rattle.vortex_prune.specs.Scanning.Selection.{is_skipped, is_whole, places_where}

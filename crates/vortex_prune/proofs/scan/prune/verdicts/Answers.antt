@@ -3,7 +3,7 @@ use Rattle.std.proofs.lemmas.Result.{IfErr-weaker}
 use Rattle.std.specs.Prelude.{option_copied}
 use Rattle.vortex_prune.proofs.ZoneMaps.ZoneScan.{refused_kept, rows_found, verdicts_found}
 use Rattle.vortex_prune.proofs.ZoneMaps.ZoneRefusals.{open_satisfier_refuses}
-use Rattle.vortex_base.specs.Trees.Tree.{Place, Tree}
+use Rattle.vortex_expr.specs.Trees.Tree.{Place, Tree}
 use Rattle.vortex_prune.specs.Scanning.ZoneScans.{TellsAs, is_proved_zone}
 use Rattle.vortex_rewrite.specs.Rewriting.Falsifiers.{falsifier, satisfier}
 use Rattle.vortex_rewrite.specs.Rewriting.Own.{own_rules}

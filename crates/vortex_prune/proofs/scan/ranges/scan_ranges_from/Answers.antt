@@ -1,7 +1,7 @@
 use Rattle.std.proofs.Common.{Err, ap, length, map, sym, ◌∙◌}
 use Rattle.std.specs.Prelude.{⊤}
 use Rattle.std.proofs.lemmas.Result.{IfOk-weaker, err_from_is_err_and}
-use Rattle.vortex_base.specs.Meanings.Fitting.{fits_scope}
+use Rattle.vortex_expr.specs.Meanings.Fitting.{fits_scope}
 use Rattle.vortex_prune.proofs.Scanning.RangeParts.{kept_by, ranges_are_full, ranges_are_parts, same_scope_from}
 use Rattle.vortex_prune.proofs.ZoneMaps.ZonePruned.{pruned_is_shut, pruning_is_complete, skipped_listed, whole_listed}
 use Rattle.vortex_prune.proofs.ZoneMaps.ZoneRefusals.{most_refused_for_memory}

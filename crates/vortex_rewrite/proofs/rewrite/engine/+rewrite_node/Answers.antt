@@ -1,8 +1,8 @@
 use Rattle.std.proofs.Common.{◌≡◌, false, rules, ap, sym, ◌∙◌}
-use Rattle.vortex_base.specs.Trees.Parts.{whole}
+use Rattle.vortex_expr.specs.Trees.Parts.{whole}
 use Rattle.std.proofs.lemmas.Result.{err_from_is_err_and}
-use Rattle.vortex_base.specs.Trees.Tree.{between, binary}
-use Rattle.vortex_base.specs.declared.types.Operator.TheVariants.{And, Or}
+use Rattle.vortex_expr.specs.Trees.Tree.{between, binary}
+use Rattle.vortex_expr.specs.declared.scalar_fn.Operator.TheVariants.{And, Or}
 use Rattle.vortex_rewrite.proofs.Rewriting.AskedNodes.{at_and_left, at_and_right, at_halves, at_node, at_or_left, at_or_right}
 use Rattle.vortex_rewrite.proofs.Rewriting.CauseLemmas.{answer-more, refusal-more}
 use Rattle.vortex_rewrite.specs.Rewriting.Own.{own_rules}

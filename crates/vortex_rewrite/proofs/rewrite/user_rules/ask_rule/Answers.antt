@@ -1,6 +1,6 @@
 use Rattle.std.proofs.Common.{◌≡◌, false, Option, Some, sym, subst, ◌∙◌}
 use Rattle.std.specs.Prelude.{IsSomeAnd}
-use Rattle.vortex_base.specs.Trees.Tree.{Place, Tree}
+use Rattle.vortex_expr.specs.Trees.Tree.{Place, Tree}
 use Rattle.vortex_rewrite.proofs.Rewriting.AskedNodes.{the_one}
 use Rattle.vortex_rewrite.specs.Rewriting.Own.{own_rule}
 use Rattle.vortex_rewrite.specs.Rewriting.Predicates.{is_predicate}

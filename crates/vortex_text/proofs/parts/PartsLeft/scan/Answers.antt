@@ -1,6 +1,6 @@
 use Rattle.std.proofs.Common.{◌≡◌, List, IsTrue, drop, subst, sym, take, ◌∙◌, arith}
 use Rattle.vortex_base.specs.Data.Scopes.{Named}
-use Rattle.vortex_base.specs.Meanings.Fitting.{fits_scope}
+use Rattle.vortex_expr.specs.Meanings.Fitting.{fits_scope}
 use Rattle.vortex_prune.specs.Part.{AreZonesOf, PartData}
 use Rattle.vortex_text.proofs.LeftLemmas.{found_by, left_first, left_long, left_scope, left_within, left_zones, ranges_of_map, ranges_there}
 use Rattle.vortex_text.proofs.QueryLemmas.{not_memory}

@@ -1,5 +1,5 @@
 use Rattle.std.proofs.Common.{◌≡◌, None, Some, sym, ap, ◌∙◌, subst, true}
-use Rattle.vortex_base.specs.Trees.Tree as tree
+use Rattle.vortex_expr.specs.Trees.Tree as tree
 use Rattle.vortex_base.specs.Data.Values.{is_value}
 use Rattle.vortex_base.specs.declared.scalar_value.ScalarValue.TheVariants as value
 use Rattle.vortex_rewrite.proofs.Soundness.EndsCode.{coded_from}

@@ -1,5 +1,5 @@
 use Rattle.std.proofs.Common.{refl}
-use Rattle.vortex_base.specs.declared.types.Operator.TheVariants.{Eq, NotEq}
+use Rattle.vortex_expr.specs.declared.scalar_fn.Operator.TheVariants.{Eq, NotEq}
 use Rattle.vortex_rewrite.proofs.Rewriting.ProofTypes.{compare_turned, operands_compare}
 use Rattle.vortex_rewrite.proofs.rewrite.builtins.comparison.comparison_falsifier.Goals as goal
 

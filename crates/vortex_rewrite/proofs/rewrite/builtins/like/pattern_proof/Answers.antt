@@ -1,8 +1,8 @@
 use Rattle.std.proofs.Common.{◌≡◌, Some, None, ap, sym, ◌∙◌, option_map}
 use Rattle.std.specs.Prelude.{encode_utf8_all, option_copied, string_bytes}
 use Rattle.std.specs.Str.{chars}
-use Rattle.vortex_base.specs.Patterns.Like.{items}
-use Rattle.vortex_base.specs.Patterns.Prefix.{exact_text, successor}
+use Rattle.vortex_expr.specs.Patterns.Like.{items}
+use Rattle.vortex_expr.specs.Patterns.Prefix.{exact_text, successor}
 use Rattle.vortex_rewrite.proofs.Soundness.PatternProofs.{pattern_outside, pattern_open}
 use Rattle.vortex_rewrite.proofs.rewrite.builtins.like.pattern_proof.Goals as goal
 use Rattle.vortex_rewrite.proofs.Logic.{made_value}

@@ -1,6 +1,6 @@
 use Rattle.std.proofs.Common.{subst, sym}
 use Rattle.std.specs.Prelude.{IsTrue}
-use Rattle.vortex_base.specs.Trees.Tree.{binary}
+use Rattle.vortex_expr.specs.Trees.Tree.{binary}
 use Rattle.vortex_rewrite.proofs.Rewriting.ProofTypes.{fits_or_memory, binary_is_predicate, made_is}
 use Rattle.vortex_rewrite.specs.Rewriting.Predicates.{is_predicate}
 use Rattle.vortex_rewrite.proofs.rewrite.proof.Proof.binary.Goals as goal

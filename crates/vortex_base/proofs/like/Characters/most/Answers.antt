@@ -1,6 +1,0 @@
-use Rattle.std.proofs.Common.{arith}
-use Rattle.vortex_base.proofs.Patterns.PieceLemmas.{length-characters}
-use Rattle.vortex_base.proofs.like.Characters.most.Goals as goal
-
-pub returns : goal.returns
-returns c = let h = length-characters c.args.self in omega arith

@@ -1,7 +1,0 @@
-use Rattle.std.proofs.Common.{ℕ, ◌<◌}
-use Rattle.memchr.specs.Find.{Passes}
-use Rattle.vortex_base.specs.Patterns.Chance.{is_sign_or_letter}
-use Rattle.vortex_base.proofs.like.chance.first_sign_or_letter.Given as goal
-
-abbrev pub invariant-loop-place : goal.invariant-loop-place
-invariant-loop-place l = (k : ℕ) → k < l.place → ¬ Passes is_sign_or_letter l.bytes k

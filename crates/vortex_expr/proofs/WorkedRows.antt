@@ -1,0 +1,5 @@
+-- Worked rows, found by computation alone.
+pub mod MeaningRows
+pub mod PrefixRows
+pub mod TreeRows
+pub mod TypingRows

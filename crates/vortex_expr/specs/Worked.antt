@@ -1,0 +1,2 @@
+-- Worked rows as data.
+pub mod ExpressionExamples
