@@ -28,6 +28,8 @@ BESIDE = os.path.join(TOP, "out", "beside")
 MINUTES = 60
 BYTES_A_CRATE = 3_000_000_000
 BYTES_A_JOB = 700_000_000
+# A crate with fewer lines isn't parted among processes by its functions, and several would each do over what one does.
+LINES_OF_PARTS = 300
 NOT_BUILT = 70
 # How often a line is written where standard error is no terminal.
 SECONDS_A_LINE = 30
@@ -79,6 +81,12 @@ def free_bytes():
     return 1024 * int(re.search(r"MemAvailable:\s+(\d+)", text_of("/proc/meminfo"))[1])
 
 
+def jobs_of(name, jobs):
+    """With how many processes a crate is proved, of as many as it may have."""
+    files = [f"{at}/{it}" for at, _, names in os.walk(f"{TOP}/crates/{name}/src") for it in names]
+    return jobs if sum(text_of(it).count("\n") for it in files) >= LINES_OF_PARTS else 1
+
+
 def link(file, to):
     """Gives a file a second name, or copies it where it can't have one."""
     try:
@@ -122,7 +130,7 @@ class Run:
     def __init__(self, name, top, jobs):
         self.name, self.top, self.far, self.said = name, top, name, []
         self.is_program = os.path.isfile(f"{top}/crates/{name}/src/main.rt")
-        words = ["rt", "run" if self.is_program else "lib", "--jobs", str(jobs)]
+        words = ["rt", "run" if self.is_program else "lib", "--jobs", str(jobs_of(name, jobs))]
         # `rt run` tells of its work on standard error, and then runs the program.
         streams = {"stdout": subprocess.DEVNULL, "stderr": subprocess.PIPE} if self.is_program else {"stdout": subprocess.PIPE, "stderr": subprocess.STDOUT}
         how = {"cwd": f"{top}/crates/{name}", "stdin": subprocess.DEVNULL, "text": True, "errors": "replace"}
