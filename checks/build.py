@@ -25,7 +25,7 @@ SOURCES = ("src", "specs", "proofs")
 BESIDE = os.path.join(TOP, "out", "beside")
 # What the proofs of vortex_scan take on one processor, of which several do up to twice the minutes since crates wait for those
 # below them; and the memory that a crate takes, and with each more of the processes that prove its functions.
-MINUTES = 60
+MINUTES = 70
 BYTES_A_CRATE = 3_000_000_000
 BYTES_A_JOB = 700_000_000
 # A crate with fewer lines isn't parted among processes by its functions, and several would each do over what one does.
