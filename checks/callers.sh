@@ -9,13 +9,16 @@ mkdir -p "$out/parts"
 
 (cd crates/vortex_ffi && rt lib)
 
-# The toolchain's own C, which calls malloc, realloc and free, goes into the same archive.
+# The toolchain's own C, which calls malloc, realloc and free, goes into the same archive. Only the calls of the header are seen.
 kit="$(dirname "$(rt doc | head -n 1)")"
 rm -rf "$out/parts" "$out/libvortex_ffi.a"
 mkdir -p "$out/parts"
-(cd "$out/parts" && ar x ../../../crates/vortex_ffi/out/libvortex_ffi.a && ar x "$kit/c/liblibc_c.a")
-ar rcs "$out/libvortex_ffi.a" "$out"/parts/*
+(cd "$out/parts" && ar x ../../../crates/vortex_ffi/out/libvortex_ffi.a && ar x "$kit/c/liblibc_c.a" && ld -r -o ../vortex_ffi.o ./*)
+objcopy --wildcard --keep-global-symbol='vortex_*' "$out/vortex_ffi.o"
+ar rcs "$out/libvortex_ffi.a" "$out/vortex_ffi.o"
 cc -shared -o "$out/libvortex_ffi.so" -Wl,--whole-archive "$out/libvortex_ffi.a" -Wl,--no-whole-archive
+exported="$(nm -D --defined-only "$out/libvortex_ffi.so" | awk '{ print $3 }' | grep -v '^vortex_' || true)"
+[ -z "$exported" ] || { echo "callers: the shared object exports more than the header: $exported"; exit 1; }
 [ "${1:-}" = --build ] && exit 0
 
 # C: with warnings as errors, and once as C++ reads the header.

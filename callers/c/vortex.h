@@ -5,8 +5,18 @@
  * and free of the C library and nothing else.
  *
  * Who owns what. Every array is the caller's. A call reads the arrays that it is handed, writes the ones that are not
- * const, and keeps nothing: no handle, no state, nothing to free. An array is a pointer and a number of elements; of no
- * elements the pointer may be null. No array that is written may overlap another one of the same call.
+ * const, and keeps nothing: no handle, no state, nothing to free. No array that is written may overlap another one of the
+ * same call.
+ *
+ * Pointers. An array is a pointer and a number of elements, and the pointer of an array without elements may be null.
+ * Every other pointer is never null: a vortex_values, `len` and `fault`, which each call writes, and the elements of an
+ * array. A pointer to a number or a struct is aligned as its type asks.
+ *
+ * Lengths. An array has exactly as many elements as are said of it, one for each row or zone, and is refused with
+ * VORTEX_BAD_LENGTH where it has more or fewer. The heap of texts and bytes alone may go on behind the last end.
+ *
+ * Stack. Every call but vortex_run takes at most 256 KiB of stack. vortex_run takes up to 4 MiB for the deepest predicate
+ * of the program's language, which has 4,096 words.
  *
  * Statuses. A call returns one of the codes of vortex_status. VORTEX_OK is an answer. After every other one the arrays
  * of the caller are as they were, and where a vortex_fault was handed in it says which row or zone, which column and
@@ -61,8 +71,18 @@ enum vortex_status {
     VORTEX_BAD_COLUMN = 13,     /* vortex_prune: a statistic of a column that isn't there: which statistic */
     VORTEX_BAD_NAME = 14,       /* vortex_prune: a name that is none, or a name twice: which column */
     VORTEX_NOT_A_PREDICATE = 15, /* vortex_prune: the expression isn't of type bool */
-    VORTEX_BAD_FLAG = 16        /* vortex_prune: a flag that isn't known */
+    VORTEX_BAD_FLAG = 16,       /* vortex_prune: a flag that isn't known */
+    VORTEX_TOO_DEEP = 17        /* vortex_prune: the predicate has more than VORTEX_MAX_DEPTH levels */
 };
+
+/* The version of this header: the major number times 65,536, the minor one times 256, and the patch. */
+#define VORTEX_VERSION 0x000200u
+
+/*
+ * How many levels a predicate of vortex_prune may have. A column and a literal have none, each other node one more than
+ * its deepest operand. A chain of AND, or of OR, is joined in halves whatever its shape, so 100,000 items take 17 levels.
+ */
+#define VORTEX_MAX_DEPTH 128
 
 /* The kinds of values. */
 enum vortex_kind {
@@ -149,6 +169,9 @@ typedef struct vortex_field {
     uint8_t nullable; /* 0 or 1 */
 } vortex_field;
 
+/* The version of the library, as VORTEX_VERSION of its header. */
+uint32_t vortex_version(void);
+
 /*
  * Answers a text as the program does (docs/LANGUAGE.md): the answer stands at the front of `output`, and *len is its
  * length. VORTEX_OK, VORTEX_NO_ANSWER and VORTEX_BAD_LINE each come with an answer; with VORTEX_TOO_SHORT `output` is as
@@ -185,11 +208,22 @@ uint8_t vortex_merge(uint8_t kind, uint8_t nullable, size_t zones, const vortex_
                      size_t ends_len, uint8_t *values, size_t values_len, size_t *len, vortex_fault *fault);
 
 /*
- * Whether what a table says of a zone is true of a column's values: VORTEX_OK if each of the statistics is, and
- * VORTEX_UNTRUE if one isn't, with the place of the first such in fault->entry.
+ * The statistics of all zones of a table, one behind the other, as those of one chunk: what vortex_merge answers where
+ * each zone in turn is merged to those before it. Statistic i is at place i of `known` and `ends`, as in vortex_measure;
+ * both have as many elements as `stats`. Of no zones each statistic is VORTEX_ABSENT. A refusal tells what vortex_merge
+ * tells of its left table. *len as in vortex_measure: never more than 64 and two of the table's longest values.
  */
-uint8_t vortex_check(const vortex_values *column, const vortex_statistic *stats, size_t stats_len, size_t zone,
-                     vortex_fault *fault);
+uint8_t vortex_merge_zones(uint8_t kind, uint8_t nullable, size_t zones, const vortex_statistic *stats, size_t stats_len,
+                           uint8_t *known, size_t known_len, uint64_t *ends, size_t ends_len, uint8_t *values,
+                           size_t values_len, size_t *len, vortex_fault *fault);
+
+/*
+ * Whether what a table says of a zone is true of a column's values: VORTEX_OK if the zone has as many `rows` as the
+ * column and each of the statistics is true, and else VORTEX_UNTRUE, with the place of the first statistic that isn't
+ * true in fault->entry, or `stats_len` where the rows differ. The arrays of a statistic have as many elements as one another.
+ */
+uint8_t vortex_check(const vortex_values *column, uint64_t rows, const vortex_statistic *stats, size_t stats_len,
+                     size_t zone, vortex_fault *fault);
 
 /*
  * What to do with each zone under a predicate: a vortex_answer for each of them in `answers`. The zones have so many
@@ -198,7 +232,8 @@ uint8_t vortex_check(const vortex_values *column, const vortex_statistic *stats,
  * row of a zone that is skipped satisfies the predicate, and each row of a zone that is whole does. A table may be cut
  * into pieces that are pruned apart, in threads of their own, with the same answers. `answers` has an element for each of
  * the `rows`, or VORTEX_BAD_LENGTH is returned. Of several faults the first is told, in this order: the flags, the length
- * of `answers`, the scope, the predicate, the columns and numbers of the statistics, and their values zone by zone. While
+ * of `answers`, the scope, the predicate, the columns, numbers and lengths of the statistics, and their values zone by
+ * zone. While
  * it runs a call takes a byte a zone, and some 500 bytes for each column of a batch of zones.
  */
 uint8_t vortex_prune(const vortex_field *scope, size_t scope_len, const uint64_t *rows, size_t rows_len,

@@ -24,6 +24,8 @@ use Rattle.vortex_calls.specs.declared.table.Source.{Source}
 use Rattle.vortex_calls.specs.MapCells.{AllRead, AreRead, AreZonesFrom, IsRead, last_of, next_last, told_cell, told_cells, told_of, value_by, zones_from}
 use Rattle.vortex_calls.specs.Refusals.{followed, found_more, one_more, placed, stepped}
 use Rattle.vortex_calls.specs.Statuses.{at_entry, in_column}
+use Rattle.vortex_base.specs.declared.dtype.DType.TheVariants as dtype
+use Rattle.vortex_calls.specs.Values.{cells}
 use Rattle.vortex_calls.specs.Tables.{IsTypedBy, next_source, no_entries, set_at, value_of_source, with_source, zone_at, zone_sets}
 use Rattle.vortex_calls.proofs.ReadLemmas.{followed_from}
 use Rattle.vortex_calls.proofs.TableLemmas.{both_fit, empty_fits, next_set_fits}
@@ -201,6 +203,11 @@ module _ (scope : List Named) (sources : List Source) (rows : List ℕ) (from : 
 pub nulls_are : (f : AggregateFnRef) (rows : List ℕ) (from n : ℕ) → told_cells f None rows from n ≡ Ok (replicate n None)
 nulls_are f rows from zero = refl
 nulls_are f rows from (suc n) = rw (nulls_are f rows from n, told_value-absent f (slice_index rows (from + n))) (ap Ok (replicate_more n None ∙ ap (λ k. replicate k None) (add-one n)))
+
+-- the rows of a column of nulls
+pub all_null : (values : List ℕ) (start : ℕ) (ends nulls : List ℕ) (rows : ℕ) → cells dtype.Null values start ends nulls rows ≡ Ok (replicate rows None)
+all_null values start ends nulls zero = refl
+all_null values start ends nulls (suc n) = rw (all_null values start ends nulls n) (ap Ok (replicate_more n None ∙ ap (λ k. replicate k None) (add-one n)))
 
 -- one more zone, and one more statistic, is read
 pub one_more_read : (x : Source) (n : ℕ) → AreRead x n → IsRead x n → AreRead x (n + 1)

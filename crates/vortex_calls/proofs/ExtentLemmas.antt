@@ -43,7 +43,7 @@ use Rattle.vortex_calls.specs.Measures.{slots_in, slots_of}
 use Rattle.vortex_calls.specs.Slots.{slot_of}
 use Rattle.vortex_calls.specs.Statuses.{at_row}
 use Rattle.vortex_calls.specs.Types.{number_width}
-use Rattle.vortex_calls.specs.Values.{cell, cell_by, cells, column, column_of, is_null}
+use Rattle.vortex_calls.specs.Values.{cell, cell_by, cells, column_of, is_null, read_column}
 use Rattle.vortex_calls.proofs.ReadLemmas.{followed_from, followed_read, reads_on}
 
 -- behind nulls alone there is no other value
@@ -190,7 +190,7 @@ module _ {N : Type 0} (number : N → PValue) where
   pub column_read : (p : PType) (m : Nullability) (v : Values) (count : ℕ) (range : Option (Range N)) (e : Extent)
       → (so_far : HasRead number (types.Primitive p m) (cell (types.Primitive p m) v.values.now v.start v.ends.now v.nulls.now) v.rows count range)
       → ((c : ColumnData) → count ≡ null_count c.values → IsOptionalRangeOf number range c.values → IsExtentOf e c)
-      → (c : ColumnData) × (column (types.Primitive p m) v ≡ Ok c) × IsExtentOf e c
+      → (c : ColumnData) × (read_column (types.Primitive p m) v ≡ Ok c) × IsExtentOf e c
   column_read p m v count range e so_far is =
       let t = types.Primitive p m in
       let c : ColumnData = record { dtype = t; values = so_far.values; size = v.size } in
@@ -209,7 +209,7 @@ module _ {N : Type 0} (number : N → PValue) where
 -- ---- the statistics that are told of a column
 
 -- a column that was made has the type and the size that were handed in
-pub column_made : (t : DType) (v : Values) (c : ColumnData) → column t v ≡ Ok c → (c.dtype ≡ t) × (c.size ≡ v.size)
+pub column_made : (t : DType) (v : Values) (c : ColumnData) → read_column t v ≡ Ok c → (c.dtype ≡ t) × (c.size ≡ v.size)
 column_made t v c h =
     let q = followed_from (cells t v.values.now v.start v.ends.now v.nulls.now v.rows) (column_of t v.size) c h in
     made (all_fit t q.at) q.at q.then

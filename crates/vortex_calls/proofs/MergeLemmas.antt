@@ -1,5 +1,5 @@
 -- What two tables have at a place, and what no statistics give.
-use Rattle.std.proofs.Common.{◌≡◌, ◌<◌, ◌+◌, ◌++◌, IsTrue, ℕ, zero, suc, List, [], ◌∷◌, Result, Ok, Err, add-one, eq-eqb, length, refl, slice_get, slice_index, slice_index_or, sym, ap, ◌∙◌, ◌==◌, Bool, true, false, if◌then◌else◌, min, arith}
+use Rattle.std.proofs.Common.{◌≡◌, ◌<◌, ◌≤◌, ◌+◌, ◌++◌, IsTrue, ℕ, zero, suc, List, [], ◌∷◌, Result, Ok, Err, add-one, eq-eqb, length, refl, slice_get, slice_index, slice_index_or, sym, ap, ◌∙◌, ◌==◌, Bool, true, false, if◌then◌else◌, min, arith}
 use Rattle.std.proofs.lemmas.List.{length-map, nil_from_length}
 use borrow.Author.Tests.{eqb-true}
 use Rattle.vortex_base.specs.declared.dtype.DType.{DType}
@@ -9,11 +9,14 @@ use Rattle.vortex_stats.specs.declared.stat.Stat.{Stat}
 use Rattle.vortex_calls.specs.declared.statistic.Statistic.{Statistic}
 use Rattle.vortex_calls.specs.declared.status.Status.{Status}
 use Rattle.vortex_calls.specs.declared.status.Status.TheVariants.{BadLength}
-use Rattle.vortex_calls.specs.Merges.{Entries, common, common_of, common_stat, entry_or, merged_as, merged_sets, numbers_of, set_given, with_next}
+use Rattle.vortex_calls.specs.Merges.{Entries, common, common_of, common_stat, entry_or, merged_as, merged_sets, next_zone, numbers_of, set_given, together_as, with_next, zones_set}
+use Rattle.vortex_calls.specs.Measures.{stat_of, wanted_of}
 use Rattle.vortex_calls.specs.Refusals.{all_read, stepped}
+use Rattle.vortex_calls.specs.declared.fault.Refusal.{Refusal}
+use Rattle.vortex_stats.specs.Merging.Merges.{merged_ordered}
 use Rattle.vortex_calls.specs.Statistics.{Entry}
 use Rattle.vortex_calls.specs.Statuses.{at_entry, in_column}
-use Rattle.vortex_calls.proofs.ReadLemmas.{steps_stop, stops}
+use Rattle.vortex_calls.proofs.ReadLemmas.{followed_from, followed_read, steps_stop, stops}
 
 -- the number at a place
 pub number_there : (xs : List Statistic) (i n : ℕ) → i < length xs → ((d : Statistic) → n ≡ (slice_index_or xs i d).stat) → n ≡ slice_index (numbers_of xs) i
@@ -77,3 +80,46 @@ common_stops t xs ys i m n s ss long h left right read before =
     let here = common_there t xs ys i m n (Err s) h (omega (arith, h, long)) left right read in
     let all = stops at_entry (λ k. common_stat t (slice_index (numbers_of xs) k) (slice_index (numbers_of ys) k)) i (length (numbers_of xs)) ss s before here (omega (arith, h, length-map xs (λ (x : Statistic). x.stat))) in
     ap (λ b. if b then common_of t (numbers_of xs) (numbers_of ys) else Err (at_entry BadLength (min (length xs) (length ys)))) (eq-eqb (length xs) (length ys) long) ∙ all
+
+-- ---- the zones of one table
+
+abbrev AreWantedUpTo : DType → List Statistic → ℕ → List Stat → Type 0
+AreWantedUpTo t xs i ss = all_read at_entry (λ k. stat_of t (slice_index (numbers_of xs) k)) i ≡ Ok ss
+
+pub wanted_next : (t : DType) (xs : List Statistic) (i m : ℕ) (s : Stat) (ss new : List Stat) → i < length xs → ((d : Statistic) → m ≡ (slice_index_or xs i d).stat) → Ok s ≡ stat_of t m → AreWantedUpTo t xs i ss → new ≡ ss ++ s ∷ [] → AreWantedUpTo t xs (i + 1) new
+wanted_next t xs i m s ss new h there read before pushed =
+    let here : stat_of t (slice_index (numbers_of xs) i) ≡ Ok s = ap (stat_of t) (sym (number_there xs i m h there)) ∙ sym read in
+    rw (add-one, before, here) (ap Ok (sym pushed))
+
+pub wanted_stops : (t : DType) (xs : List Statistic) (i m : ℕ) (s : Status) (ss : List Stat) → i < length xs → ((d : Statistic) → m ≡ (slice_index_or xs i d).stat) → Err s ≡ stat_of t m → AreWantedUpTo t xs i ss → wanted_of t (numbers_of xs) ≡ Err (at_entry s i)
+wanted_stops t xs i m s ss h there read before =
+    let here : stat_of t (slice_index (numbers_of xs) i) ≡ Err s = ap (stat_of t) (sym (number_there xs i m h there)) ∙ sym read in
+    stops at_entry (λ k. stat_of t (slice_index (numbers_of xs) k)) i (length (numbers_of xs)) ss s before here (omega (arith, h, length-map xs (λ (x : Statistic). x.stat)))
+
+pub wanted_all : (t : DType) (xs : List Statistic) (i : ℕ) (ss : List Stat) → i ≤ length xs → length xs ≤ i → AreWantedUpTo t xs i ss → wanted_of t (numbers_of xs) ≡ Ok ss
+wanted_all t xs i ss h k before =
+    let same : length (numbers_of xs) ≡ i = omega (arith, h, k, length-map xs (λ (x : Statistic). x.stat)) in
+    ap (all_read at_entry (λ n. stat_of t (slice_index (numbers_of xs) n))) same ∙ before
+
+-- the first zone that is refused decides of all
+pub zones_stop : (t : DType) (xs : List Statistic) (zone zones : ℕ) (set : Entries) (r : Refusal) → 1 ≤ zone → zone < zones → zones_set t xs zone ≡ Ok set → next_zone t xs zone set ≡ Err r → zones_set t xs zones ≡ Err r
+zones_stop t xs zero zones set r h k before stopped = absurd (omega (arith, h))
+zones_stop t xs (suc n) zero set r h k before stopped = absurd (omega (arith, k))
+zones_stop t xs (suc n) (suc m) set r h k before stopped =
+    let step = λ (i : ℕ). next_zone t xs (suc i) in
+    let p = followed_from (set_given 0 t 0 xs) (λ first. stepped step first n) set before in
+    followed_read (set_given 0 t 0 xs) (λ first. stepped step first m) p.at p.made ∙ steps_stop step p.at n m set r p.then stopped (omega (arith, k))
+
+-- without statistics the zones have a set
+no_steps : (t : DType) (n : ℕ) → (set : Entries) × (stepped (λ k. next_zone t [] (suc k)) [] n ≡ Ok set)
+no_steps t zero = ([], refl)
+no_steps t (suc n) =
+    let before = no_steps t n in
+    (merged_ordered before.0 [], rw before.1 refl)
+
+none_together : (t : DType) (zones : ℕ) → together_as [] zones t ≡ Ok []
+none_together t zero = refl
+none_together t (suc n) = rw (no_steps t n).1 refl
+
+pub nothing_together : (t : DType) (xs : List Statistic) (zones : ℕ) → xs ≡ [] → together_as xs zones t ≡ Ok []
+nothing_together t xs zones none = ap (λ l. together_as l zones t) none ∙ none_together t zones

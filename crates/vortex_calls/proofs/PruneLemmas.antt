@@ -19,7 +19,7 @@ use Rattle.vortex_calls.specs.declared.fault.Refusal.{Refusal}
 use Rattle.vortex_calls.specs.declared.field.Field.{Field}
 use Rattle.vortex_calls.specs.declared.statistic.Statistic.{Statistic}
 use Rattle.vortex_calls.specs.declared.status.Status.{Status}
-use Rattle.vortex_calls.specs.declared.status.Status.TheVariants.{BadLine, TooShort, NoMemory, BadKind, BadStat, BadKnown, BadLength, BadEnds, BadValue, BadNull, Untrue, BadColumn, BadName, NotAPredicate, BadFlag}
+use Rattle.vortex_calls.specs.declared.status.Status.TheVariants.{BadLine, TooShort, NoMemory, BadKind, BadStat, BadKnown, BadLength, BadEnds, BadValue, BadNull, Untrue, BadColumn, BadName, NotAPredicate, BadFlag, TooDeep}
 use Rattle.vortex_calls.specs.declared.table.Known.{Known}
 use Rattle.vortex_calls.specs.declared.table.Source.{Source}
 use Rattle.vortex_calls.specs.Prunes.{Asked, IsComplete, IsPruned, IsReached, IsRefused, IsSound, IsWellAsked, answer_by, answered, answers_of, asked, asked_of, normalizes, table_answers, with_places, zone_answer, zone_answers}
@@ -181,6 +181,7 @@ not_zero BadColumn h = omega (arith, h)
 not_zero BadName h = omega (arith, h)
 not_zero NotAPredicate h = omega (arith, h)
 not_zero BadFlag h = omega (arith, h)
+not_zero TooDeep h = omega (arith, h)
 
 pub refused_pruning : (asked : Result Asked Refusal) (old : List ℕ) (r : Refusal) (n : ℕ) → n ≡ status_number r.status → (r.status ≢ NoMemory → followed asked (λ a. Ok (answers_of a)) ≡ Err r) → IsPruned asked old n old r.fault
 refused_pruning asked old r n is h = record {

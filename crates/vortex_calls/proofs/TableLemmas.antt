@@ -67,10 +67,10 @@ one_more_fits scope (b ∷ batch) k h one =
 
 -- ---- the statistics of a table
 
-pub sources_next : (scope : List Named) (table : List Statistic) (i : ℕ) (x : Source) (sources new : List Source) → Ok x ≡ source_or scope (slice_get table i) → IsTypedBy scope x → new ≡ sources ++ x ∷ []
-    → (all_read at_entry (λ k. source_or scope (slice_get table k)) i ≡ Ok sources) × All (IsTypedBy scope) sources → (all_read at_entry (λ k. source_or scope (slice_get table k)) (i + 1) ≡ Ok new) × All (IsTypedBy scope) new
-sources_next scope table i x sources new read typed pushed before = (
-  (let here : source_or scope (slice_get table i) ≡ Ok x = sym read in rw (add-one, before.0, here) (ap Ok (sym pushed))),
+pub sources_next : (scope : List Named) (zones : ℕ) (table : List Statistic) (i : ℕ) (x : Source) (sources new : List Source) → Ok x ≡ source_or scope zones (slice_get table i) → IsTypedBy scope x → new ≡ sources ++ x ∷ []
+    → (all_read at_entry (λ k. source_or scope zones (slice_get table k)) i ≡ Ok sources) × All (IsTypedBy scope) sources → (all_read at_entry (λ k. source_or scope zones (slice_get table k)) (i + 1) ≡ Ok new) × All (IsTypedBy scope) new
+sources_next scope zones table i x sources new read typed pushed before = (
+  (let here : source_or scope zones (slice_get table i) ≡ Ok x = sym read in rw (add-one, before.0, here) (ap Ok (sym pushed))),
   All-same (IsTypedBy scope) new (sources ++ x ∷ []) pushed (All-push (IsTypedBy scope) sources x before.1 typed),
 )
 

@@ -3,3 +3,5 @@ pub mod CallRows
 pub mod TableRows
 pub mod CellRows
 pub mod NamedRows
+pub mod LengthRows
+pub mod TogetherRows

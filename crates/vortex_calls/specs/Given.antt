@@ -1,5 +1,5 @@
 -- Values that stand one behind the other in an array of bytes.
-use Rattle.std.specs.Prelude.{ℕ, zero, suc, ◌+◌, ◌*◌, ◌&&◌, List, Option, None, Some, Result, Ok, Err, if◌then◌else◌, length, nat_le, slice_get, slice_index, slice_range}
+use Rattle.std.specs.Prelude.{ℕ, zero, suc, ◌+◌, ◌*◌, ◌==◌, ◌&&◌, Bool, List, Option, None, Some, Result, Ok, Err, if◌then◌else◌, length, nat_le, slice_get, slice_index, slice_range}
 use Rattle.vortex_base.specs.declared.dtype.DType.{DType}
 use Rattle.vortex_calls.specs.declared.status.Status.{Status}
 use Rattle.vortex_calls.specs.declared.status.Status.TheVariants.{BadLength, BadEnds}
@@ -39,3 +39,12 @@ by_width values start ends i (Some w) = or_refused BadLength (fixed values w i)
 -- the bytes of value i of a type
 abbrev pub bytes_at : DType → List ℕ → ℕ → List ℕ → ℕ → Result (List ℕ) Status
 bytes_at t values start ends i = by_width values start ends i (width t)
+
+-- arrays hold a value for each of n places and no more, by the room that each takes: so many bytes each and no ends, or an end for each
+abbrev pub fill_by : (n : ℕ) → (values ends : List ℕ) → Option ℕ → Bool
+fill_by n values ends (Some w) = length values == n * w && length ends == 0
+fill_by n values ends None = length ends == n
+
+-- so for values of a type
+abbrev pub fill : DType → (n : ℕ) → (values ends : List ℕ) → Bool
+fill t n values ends = fill_by n values ends (width t)

@@ -99,7 +99,7 @@ with_places n rows = if n == length rows then Ok tt else Err (nowhere BadLength)
 
 abbrev pub asked_of : List Named → List ℕ → List Statistic → Bool → Tree Place → Result Asked Refusal
 asked_of scope rows stats normalized p =
-    followed (sources_given scope stats) (λ sources. followed (zones_given scope sources rows) (λ zones.
+    followed (sources_given scope (length rows) stats) (λ sources. followed (zones_given scope sources rows) (λ zones.
     Ok (record { scope = scope; zones = zones; given = p; pruned_by = pruning_form normalized p })))
 
 -- what the arguments ask for, or the first of them that is refused: the flags, the room for the answers, the scope, the predicate, the statistics, and their values zone by zone

@@ -1,5 +1,5 @@
 -- Statistics of zones as a caller hands them in.
-use Rattle.std.specs.Prelude.{◌≡◌, ℕ, ◌==◌, List, Option, None, Some, Result, Ok, Err, IsTrue, if◌then◌else◌, slice_get}
+use Rattle.std.specs.Prelude.{◌≡◌, ℕ, ◌==◌, ◌&&◌, Bool, false, List, Option, None, Some, Result, Ok, Err, IsTrue, if◌then◌else◌, length, slice_get}
 use Rattle.vortex_base.specs.declared.dtype.DType.{DType}
 use Rattle.vortex_base.specs.declared.scalar_value.ScalarValue.{ScalarValue}
 use Rattle.vortex_stats.specs.declared.precision.Precision.{Precision}
@@ -10,6 +10,7 @@ use Rattle.vortex_stats.specs.Stat.{stat_dtype}
 use Rattle.vortex_calls.specs.declared.statistic.Statistic.{Statistic}
 use Rattle.vortex_calls.specs.declared.status.Status.{Status}
 use Rattle.vortex_calls.specs.declared.status.Status.TheVariants.{BadKnown, BadLength, BadStat}
+use Rattle.vortex_calls.specs.Given.{fill}
 use Rattle.vortex_calls.specs.Measures.{stat_of}
 use Rattle.vortex_calls.specs.Values.{value_at}
 
@@ -58,3 +59,21 @@ entry_of t zone x (Ok s) = paired s (value_in t s x.known.now x.values.now x.sta
 -- the statistic and its value in a zone
 abbrev pub entry : DType → ℕ → Statistic → Result Entry Status
 entry t zone x = entry_of t zone x (stat_of t x.stat)
+
+-- ---- the lengths of the arrays
+
+abbrev pub values_fill : (zones : ℕ) → (values ends : List ℕ) → Option DType → Bool
+values_fill zones values ends None = false
+values_fill zones values ends (Some t) = fill t zones values ends
+
+-- the arrays of a statistic of a column of a type have an element for each zone, and no more
+abbrev pub fills_zones : DType → Stat → (zones : ℕ) → Statistic → Bool
+fills_zones t s zones x = length x.known.now == zones && values_fill zones x.values.now x.ends.now (stat_dtype s t)
+
+abbrev pub fills_as : DType → (zones : ℕ) → Statistic → Result Stat Status → Bool
+fills_as t zones x (Err e) = false
+fills_as t zones x (Ok s) = fills_zones t s zones x
+
+-- so for the statistic of its number
+abbrev pub fills : DType → (zones : ℕ) → Statistic → Bool
+fills t zones x = fills_as t zones x (stat_of t x.stat)

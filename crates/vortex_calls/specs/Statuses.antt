@@ -4,7 +4,7 @@ use Rattle.vortex_syntax.specs.declared.line_error.LineError.{LineError}
 use Rattle.vortex_syntax.specs.declared.line_error.LineError.TheVariants as errors
 use Rattle.vortex_calls.specs.declared.fault.Refusal.{Refusal}
 use Rattle.vortex_calls.specs.declared.status.Status.{Status}
-use Rattle.vortex_calls.specs.declared.status.Status.TheVariants.{BadLine, TooShort, NoMemory, BadKind, BadStat, BadKnown, BadLength, BadEnds, BadValue, BadNull, Untrue, BadColumn, BadName, NotAPredicate, BadFlag}
+use Rattle.vortex_calls.specs.declared.status.Status.TheVariants.{BadLine, TooShort, NoMemory, BadKind, BadStat, BadKnown, BadLength, BadEnds, BadValue, BadNull, Untrue, BadColumn, BadName, NotAPredicate, BadFlag, TooDeep}
 
 abbrev pub status_number : Status → ℕ
 status_number BadLine = 2
@@ -22,6 +22,7 @@ status_number BadColumn = 13
 status_number BadName = 14
 status_number NotAPredicate = 15
 status_number BadFlag = 16
+status_number TooDeep = 17
 
 -- a line that isn't read
 abbrev pub status_of_line : LineError → Status

@@ -1,5 +1,5 @@
 -- Zones as a table of columns.
-use Rattle.std.specs.Prelude.{◌≡◌, ℕ, List, [], Option, None, Some, Result, Ok, Err, length, map, slice_get, slice_index, slice_set}
+use Rattle.std.specs.Prelude.{◌≡◌, ℕ, List, [], Option, None, Some, Result, Ok, Err, if◌then◌else◌, length, map, slice_get, slice_index, slice_set}
 use Rattle.vortex_base.specs.declared.dtype.DType.{DType}
 use Rattle.vortex_base.specs.declared.scalar_value.ScalarValue.{ScalarValue}
 use Rattle.vortex_base.specs.Data.Scopes.{Named}
@@ -15,7 +15,7 @@ use Rattle.vortex_calls.specs.declared.table.Known.{Known}
 use Rattle.vortex_calls.specs.declared.table.Source.{Source}
 use Rattle.vortex_calls.specs.Measures.{stat_of}
 use Rattle.vortex_calls.specs.Refusals.{all_found, all_read, followed, placed, stepped}
-use Rattle.vortex_calls.specs.Statistics.{value_in}
+use Rattle.vortex_calls.specs.Statistics.{fills_zones, value_in}
 use Rattle.vortex_calls.specs.Statuses.{at_entry, in_column}
 
 -- ---- the statistics of a table
@@ -28,13 +28,18 @@ abbrev pub source_of : Statistic → Option Named → Result Source Status
 source_of x None = Err BadColumn
 source_of x (Some c) = source_with x c.1 (stat_of c.1 x.stat)
 
-abbrev pub source_or : List Named → Option Statistic → Result Source Status
-source_or scope None = Err BadLength
-source_or scope (Some x) = source_of x (slice_get scope x.column)
+-- a statistic whose arrays aren't of so many zones is refused
+abbrev pub source_filled : (zones : ℕ) → Result Source Status → Result Source Status
+source_filled zones (Err e) = Err e
+source_filled zones (Ok x) = if fills_zones x.dtype x.stat zones x.statistic then Ok x else Err BadLength
 
--- each statistic beside its column's type, or the first of no column, or that its column hasn't
-abbrev pub sources_given : List Named → List Statistic → Result (List Source) Refusal
-sources_given scope xs = all_read at_entry (λ i. source_or scope (slice_get xs i)) (length xs)
+abbrev pub source_or : List Named → (zones : ℕ) → Option Statistic → Result Source Status
+source_or scope zones None = Err BadLength
+source_or scope zones (Some x) = source_filled zones (source_of x (slice_get scope x.column))
+
+-- each statistic of so many zones beside its column's type, or the first of no column, or that its column hasn't, or whose arrays are of more zones or fewer
+abbrev pub sources_given : List Named → (zones : ℕ) → List Statistic → Result (List Source) Refusal
+sources_given scope zones xs = all_read at_entry (λ i. source_or scope zones (slice_get xs i)) (length xs)
 
 -- the type beside a statistic is that of its column
 pub record IsTypedBy (scope : List Named) (x : Source) : Type 0 where

@@ -1,5 +1,5 @@
 -- A column of values as a caller hands it in.
-use Rattle.std.specs.Prelude.{ℕ, ◌==◌, Bool, true, false, not, List, [], ◌∷◌, Option, None, Some, Result, Ok, Err, if◌then◌else◌, slice_get}
+use Rattle.std.specs.Prelude.{ℕ, ◌==◌, ◌||◌, ◌&&◌, Bool, true, false, not, List, [], ◌∷◌, Option, None, Some, Result, Ok, Err, if◌then◌else◌, length, slice_get}
 use Rattle.vortex_base.specs.declared.dtype.DType.{DType}
 use Rattle.vortex_base.specs.declared.dtype.DType.TheVariants as dtype
 use Rattle.vortex_base.specs.declared.scalar_value.ScalarValue.{ScalarValue}
@@ -10,9 +10,9 @@ use Rattle.vortex_calls.specs.declared.status.Status.{Status}
 use Rattle.vortex_calls.specs.declared.status.Status.TheVariants.{BadLength, BadNull, BadValue}
 use Rattle.vortex_calls.specs.declared.values.Values.{Values}
 use Rattle.vortex_calls.specs.Encoding.{value_of}
-use Rattle.vortex_calls.specs.Given.{bytes_at}
+use Rattle.vortex_calls.specs.Given.{bytes_at, fill}
 use Rattle.vortex_calls.specs.Refusals.{all_read, followed, placed}
-use Rattle.vortex_calls.specs.Statuses.{at_entry, at_row}
+use Rattle.vortex_calls.specs.Statuses.{at_entry, at_row, nowhere}
 use Rattle.vortex_calls.specs.Types.{dtype_of}
 
 abbrev pub null_byte : Option ℕ → Result Bool Status
@@ -58,8 +58,25 @@ cells t values start ends nulls rows = all_read at_row (cell t values start ends
 abbrev pub column_of : DType → ℕ → List (Option ScalarValue) → Result ColumnData Refusal
 column_of t size vs = if all_fit t vs then Ok (record { dtype = t; values = vs; size = size }) else Err (at_row BadValue 0)
 
+-- the column of a type that is read from the arrays
+abbrev pub read_column : DType → Values → Result ColumnData Refusal
+read_column t v = followed (cells t v.values.now v.start v.ends.now v.nulls.now v.rows) (column_of t v.size)
+
+-- a byte tells of each row whether it is null, or there are none
+abbrev pub marks_fill : ℕ → List ℕ → Bool
+marks_fill rows nulls = length nulls == 0 || length nulls == rows
+
+-- the arrays have an element for each row, and no more
+abbrev pub are_filled : DType → Values → Bool
+are_filled t v = fill t v.rows v.values.now v.ends.now && marks_fill v.rows v.nulls.now
+
+-- arrays of other lengths are refused
+abbrev pub filled : DType → Values → Result (Unit {0}) Refusal
+filled t v = if are_filled t v then Ok tt else Err (nowhere BadLength)
+
+-- the column of a type, of arrays that have an element for each row
 abbrev pub column : DType → Values → Result ColumnData Refusal
-column t v = followed (cells t v.values.now v.start v.ends.now v.nulls.now v.rows) (column_of t v.size)
+column t v = followed (filled t v) (λ u. read_column t v)
 
 -- the type that is handed in with values
 abbrev pub type_given : Values → Result DType Refusal

@@ -8,7 +8,7 @@ ghost use Rattle.vortex_base.specs.Data.Columns.{ColumnData};
 ghost use Rattle.vortex_calls.specs.Extents as spec;
 ghost use Rattle.vortex_calls.specs.Extents.{HasRead, IsExtentOf, IsOptionalRangeOf, IsRangeOf, scalar_of};
 ghost use Rattle.vortex_calls.specs.Types.{number_width};
-ghost use Rattle.vortex_calls.specs.Values.{cell, column};
+ghost use Rattle.vortex_calls.specs.Values.{cell, read_column};
 ghost use Rattle.vortex_stats.specs.Measuring.Measured.{measured_value};
 ghost use Rattle.vortex_stats.specs.Sets.Claims.{null_count, present};
 
@@ -198,7 +198,7 @@ impl Values<'_> {
     // The extent of numbers of a type, unless a row is refused.
     fn extent_of<N: Number>(&self, nullability: Nullability) -> Option<Extent>
         ensures { IfSome result (λ e. (c : ColumnData)
-            × (column (types.Primitive N.PTYPE nullability) self.now ≡ Ok c) × IsExtentOf e c) }
+            × (read_column (types.Primitive N.PTYPE nullability) self.now ≡ Ok c) × IsExtentOf e c) }
     {
         if self.nulls.is_empty() && has_numbers::<N>(self.values, self.rows) {
             return Some(Extent::new(0, self.range::<N>()));
@@ -211,7 +211,7 @@ impl Values<'_> {
     /// a row is refused.
     pub(crate) fn extent(&self, dtype: DType) -> Option<Extent>
         ensures { IfSome result (λ e. (c : ColumnData)
-            × (column dtype self.now ≡ Ok c) × IsExtentOf e c) }
+            × (read_column dtype self.now ≡ Ok c) × IsExtentOf e c) }
     {
         match dtype {
             DType::Primitive(PType::U8, nullability) => self.extent_of::<u8>(nullability),

@@ -1,5 +1,5 @@
 //! Values as a caller hands them in.
-ghost use Rattle.std.specs.Prelude.{◌≡◌, MatchResult, Ok, Err, option_map};
+ghost use Rattle.std.specs.Prelude.{◌≡◌, ◌*◌, ◌==◌, MatchResult, Ok, Err, option_map};
 ghost use Rattle.vortex_calls.specs.Given as spec;
 
 use crate::status::Status;
@@ -32,7 +32,28 @@ pub(crate) fn fixed(values: &[u8], width: usize, i: usize) -> Option<&[u8]>
     part_of(values, from, from.checked_add(width)?)
 }
 
+// Whether a number is the product of two others.
+fn is_product(number: usize, left: usize, right: usize) -> bool
+    ensures { result ≡ (number == left * right) }
+{
+    match left.checked_mul(right) {
+        Some(product) => number == product,
+        None => false,
+    }
+}
+
 impl<'a> Given<'a> {
+    /// Returns whether the arrays hold a value of the type for each of so many places and no more.
+    /// The heap of texts and bytes may go on behind the last end.
+    pub(crate) fn fill(&self, dtype: DType, count: usize) -> bool
+        ensures { result ≡ spec.fill dtype count self.now.values.now self.now.ends.now }
+    {
+        match width(dtype) {
+            Some(width) => is_product(self.values.len(), count, width) && self.ends.is_empty(),
+            None => self.ends.len() == count,
+        }
+    }
+
     // Where text i begins.
     fn begin(&self, i: usize) -> u64
         ensures { result ≡ spec.begin self.now.start self.now.ends.now i }

@@ -15,6 +15,7 @@ mod given;
 pub mod laws;
 pub mod measure;
 pub mod merge;
+pub mod merge_zones;
 mod named;
 mod number;
 mod numbers;

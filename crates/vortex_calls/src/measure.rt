@@ -48,8 +48,13 @@ fn wanted_of(alloc: Global, dtype: DType, numbers: &[u8]) -> Result<Vec<Stat>, R
     Ok(wanted)
 }
 
-// The wanted statistics of a set of a column of this type.
-fn slots_in(alloc: Global, dtype: DType, set: &StatsSet, wanted: &[Stat]) -> Result<Slots, Refusal>
+/// The wanted statistics of a set of a column of this type.
+pub(crate) fn slots_in(
+    alloc: Global,
+    dtype: DType,
+    set: &StatsSet,
+    wanted: &[Stat],
+) -> Result<Slots, Refusal>
     ensures { Makes result (Ok (spec.slots_in dtype set.now wanted.now)) }
 {
     let mut slots = Slots::new(alloc);
@@ -105,12 +110,13 @@ fn measured(alloc: Global, values: &Values<'_>, numbers: &[u8]) -> Result<Slots,
 {
     let dtype = values.dtype()?;
     let wanted = wanted_of(alloc, dtype, numbers)?;
+    values.filled(dtype)?;
     if all_follow(&wanted) {
         if let Some(extent) = values.extent(dtype) {
             return slots_of_extent(alloc, dtype, &extent, values.size, &wanted);
         }
     }
-    let column = values.column(alloc, dtype)?;
+    let column = values.read_column(alloc, dtype)?;
     slots_of(alloc, &column, &wanted)
 }
 

@@ -28,8 +28,8 @@ fn common_stat(dtype: DType, left: u8, right: u8) -> Result<Stat, Status>
     }
 }
 
-// The number of the statistic at a place of a table.
-fn number_at(table: &[Statistic<'_>], entry: usize) -> u8
+/// The number of the statistic at a place of a table.
+pub(crate) fn number_at(table: &[Statistic<'_>], entry: usize) -> u8
     requires { entry < length table.now }
     ensures { (d : StatisticData) → result ≡ (slice_index_or table.now entry d).stat }
 {
@@ -59,6 +59,36 @@ fn common(
     Ok(stats)
 }
 
+// Whether the arrays of the statistic at a place have an element for each zone and no more.
+fn fills_at(table: &[Statistic<'_>], dtype: DType, zones: usize, entry: usize) -> bool
+    ensures { result ≡ spec.fills_or dtype zones (slice_get table.now entry) }
+{
+    let Some(statistic) = table.get(entry) else {
+        return false;
+    };
+    match stat_of(dtype, statistic.stat) {
+        Ok(stat) => statistic.fills(dtype, stat, zones),
+        Err(_) => false,
+    }
+}
+
+/// Refuses a table whose arrays are of more zones or fewer; which of two tables it is, is told.
+pub(crate) fn filled(
+    table: &[Statistic<'_>],
+    dtype: DType,
+    zones: usize,
+    side: usize,
+) -> Result<(), Refusal>
+    ensures { result ≡ spec.filled side dtype zones table.now }
+{
+    for entry in 0..table.len() {
+        if !fills_at(table, dtype, zones, entry) {
+            return Err(Refusal::in_column(Status::BadLength, 0, side, entry));
+        }
+    }
+    Ok(())
+}
+
 // The statistic at a place of a table with its value in a zone.
 fn entry_at(
     alloc: Global,
@@ -76,8 +106,9 @@ fn entry_at(
     }
 }
 
-// The set that a table gives for a zone of a column of this type; which of the two it is, is told.
-fn set_given(
+/// The set that a table gives for a zone of a column of this type; which of two tables it is, is
+/// told.
+pub(crate) fn set_given(
     alloc: Global,
     dtype: DType,
     table: &[Statistic<'_>],
@@ -181,6 +212,8 @@ fn merged_as(
     ensures { Makes result (spec.merged_as left.now right.now zones dtype) }
 {
     let stats = common(alloc, dtype, left, right)?;
+    filled(left, dtype, zones, 0)?;
+    filled(right, dtype, zones, 1)?;
     if left.is_empty() {
         return Ok(Slots::new(alloc));
     }

@@ -214,7 +214,7 @@ fn scope_answers(
         spec.IsWellAsked) }
     ensures long { IfOk result (λ v. length v.items ≡ length rows.now) }
 {
-    let sources = sources_given(alloc, scope, stats)?;
+    let sources = sources_given(alloc, scope, rows.len(), stats)?;
     let form = pruning_form(alloc, scope, predicate, normalized)?;
     table_answers(alloc, scope, &form, &sources, rows)
 }

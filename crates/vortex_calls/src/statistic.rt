@@ -51,6 +51,16 @@ impl Statistic<'_> {
         }
     }
 
+    /// Returns whether the arrays have an element for each zone and no more.
+    pub(crate) fn fills(&self, dtype: DType, stat: Stat, zones: usize) -> bool
+        ensures { result ≡ spec.fills_zones dtype stat zones self.now }
+    {
+        match stat.dtype(&dtype) {
+            Some(dtype) => self.known.len() == zones && self.given().fill(dtype, zones),
+            None => false,
+        }
+    }
+
     // The value that stands for a zone, of the statistic's type in a column of this one.
     fn present_value(
         &self,

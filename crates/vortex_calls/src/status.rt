@@ -39,6 +39,8 @@ pub enum Status {
     NotAPredicate,
     /// 16: a flag that isn't known.
     BadFlag,
+    /// 17: a predicate that nests deeper than a call's stack bears.
+    TooDeep,
 }
 
 impl Status {
@@ -62,6 +64,7 @@ impl Status {
             Status::BadName => 14,
             Status::NotAPredicate => 15,
             Status::BadFlag => 16,
+            Status::TooDeep => 17,
         }
     }
 }

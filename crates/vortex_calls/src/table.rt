@@ -1,5 +1,5 @@
 //! Zones as a table of columns.
-ghost use Rattle.std.specs.Prelude.{◌≡◌, ◌<◌, All, IfOk, IsTrue, Some, length, map, slice_get};
+ghost use Rattle.std.specs.Prelude.{◌≡◌, ◌<◌, All, IfOk, IsTrue, Ok, Some, length, map, slice_get};
 ghost use Rattle.std.specs.Bool.{OnTrue};
 ghost use Rattle.vortex_prune.specs.Part.{fits_zone};
 ghost use Rattle.vortex_stats.specs.Sets.Entries.{value_fits};
@@ -47,29 +47,49 @@ fn source_of<'a>(scope: &Scope, statistic: &Statistic<'a>) -> Result<Source<'a>,
     }
 }
 
-// That at a place of a table.
-fn source_at<'a>(scope: &Scope, table: &[Statistic<'a>], entry: usize) -> Result<Source<'a>, Status>
-    ensures read { result ≡ spec.source_or scope.now (slice_get table.now entry) }
-    ensures typed { IfOk result (spec.IsTypedBy scope.now) }
+// Refuses a statistic whose arrays are of more zones or fewer.
+fn filled(source: Source<'_>, zones: usize) -> Result<Source<'_>, Status>
+    ensures { result ≡ spec.source_filled zones (Ok source.entry) }
 {
-    match table.get(entry) {
-        Some(statistic) => source_of(scope, statistic),
-        None => Err(Status::BadLength),
+    if source.statistic.fills(source.dtype, source.stat, zones) {
+        Ok(source)
+    } else {
+        Err(Status::BadLength)
     }
 }
 
-/// The statistics of a table, each beside its column's type.
+// The statistic at a place of a table.
+fn source_at<'a>(
+    scope: &Scope,
+    zones: usize,
+    table: &[Statistic<'a>],
+    entry: usize,
+) -> Result<Source<'a>, Status>
+    ensures read { result ≡ spec.source_or scope.now zones (slice_get table.now entry) }
+    ensures typed { IfOk result (spec.IsTypedBy scope.now) }
+{
+    let Some(statistic) = table.get(entry) else {
+        return Err(Status::BadLength);
+    };
+    match source_of(scope, statistic) {
+        Ok(source) => filled(source, zones),
+        Err(status) => Err(status),
+    }
+}
+
+/// The statistics of a table of so many zones, each beside its column's type.
 pub(crate) fn sources_given<'a>(
     alloc: Global,
     scope: &Scope,
+    zones: usize,
     table: &[Statistic<'a>],
 ) -> Result<Vec<Source<'a>>, Refusal>
-    ensures read { Answers (λ v. v.items) result (spec.sources_given scope.now table.now) }
+    ensures read { Answers (λ v. v.items) result (spec.sources_given scope.now zones table.now) }
     ensures typed { IfOk result (λ v. All (spec.IsTypedBy scope.now) v.items) }
 {
     let mut sources = Vec::with_capacity(alloc, table.len())?;
     for entry in 0..table.len() {
-        match source_at(scope, table, entry) {
+        match source_at(scope, zones, table, entry) {
             Ok(source) => sources.push(source)?,
             Err(status) => return Err(Refusal::at_entry(status, entry)),
         }

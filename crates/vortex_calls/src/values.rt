@@ -19,6 +19,7 @@ use vortex_base::cells::Cells;
 use vortex_base::column::Column;
 use vortex_base::dtype::DType;
 use vortex_base::natives::Natives;
+use vortex_base::nulls::Nulls;
 use vortex_base::scalar_value::ScalarValue;
 use vortex_base::types::{Nullability, PType};
 
@@ -98,6 +99,38 @@ pub(crate) fn has_value(given: &Given<'_>, dtype: DType, place: usize) -> bool
 }
 
 impl Values<'_> {
+    // The values with where each of them ends.
+    fn given(&self) -> Given<'_>
+        ensures values { result.values.now ≡ self.now.values.now }
+        ensures start { result.start ≡ self.now.start }
+        ensures ends { result.ends.now ≡ self.now.ends.now }
+    {
+        Given {
+            values: self.values,
+            start: self.start,
+            ends: self.ends,
+        }
+    }
+
+    // Whether the arrays have an element for each row and no more; bytes for null may be left out.
+    fn are_filled(&self, dtype: DType) -> bool
+        ensures { result ≡ spec.are_filled dtype self.now }
+    {
+        let marked = self.nulls.is_empty() || self.nulls.len() == self.rows;
+        self.given().fill(dtype, self.rows) && marked
+    }
+
+    /// Refuses arrays that have more elements than there are rows, or fewer.
+    pub(crate) fn filled(&self, dtype: DType) -> Result<(), Refusal>
+        ensures { result ≡ spec.filled dtype self.now }
+    {
+        if self.are_filled(dtype) {
+            Ok(())
+        } else {
+            Err(Refusal::at_entry(Status::BadLength, 0))
+        }
+    }
+
     // The value of a row, or `None` for null. In a column of nulls each row is one.
     fn cell(&self, alloc: Global, dtype: DType, row: usize) -> Result<Option<ScalarValue>, Status>
         ensures { Gives result (spec.cell dtype self.now.values.now self.now.start
@@ -106,12 +139,7 @@ impl Values<'_> {
         if dtype == DType::Null || is_null(self.nulls, row)? {
             return null_of(dtype);
         }
-        let given = Given {
-            values: self.values,
-            start: self.start,
-            ends: self.ends,
-        };
-        match value_at(alloc, &given, dtype, row) {
+        match value_at(alloc, &self.given(), dtype, row) {
             Ok(value) => Ok(Some(value)),
             Err(status) => Err(status),
         }
@@ -177,13 +205,17 @@ impl Values<'_> {
         }
     }
 
-    // The values of all rows.
+    // The values of all rows. Those of a column of nulls take no time for each row.
     fn cells(&self, alloc: Global, dtype: DType) -> Result<Cells, Refusal>
         ensures { Answers cell_values result (spec.cells dtype self.now.values.now self.now.start
             self.now.ends.now self.now.nulls.now self.now.rows) }
     {
-        if let DType::Primitive(ptype, nullability) = dtype {
-            return self.numbers_of(alloc, ptype, nullability);
+        match dtype {
+            DType::Null => return Ok(Cells::Nulls(Nulls::new(alloc, self.rows))),
+            DType::Primitive(ptype, nullability) => {
+                return self.numbers_of(alloc, ptype, nullability);
+            }
+            _ => {}
         }
         let mut cells = Cells::with_capacity(alloc, dtype, self.rows)?;
         for row in 0..self.rows {
@@ -218,6 +250,16 @@ impl Values<'_> {
     /// The column of a type.
     pub(crate) fn column(&self, alloc: Global, dtype: DType) -> Result<Column, Refusal>
         ensures { Answers (λ c. c) result (spec.column dtype self.now) }
+    {
+        match self.filled(dtype) {
+            Ok(()) => self.read_column(alloc, dtype),
+            Err(refusal) => Err(refusal),
+        }
+    }
+
+    /// The column of a type, of arrays whose lengths were looked at before.
+    pub(crate) fn read_column(&self, alloc: Global, dtype: DType) -> Result<Column, Refusal>
+        ensures { Answers (λ c. c) result (spec.read_column dtype self.now) }
     {
         let cells = self.cells(alloc, dtype)?;
         if !cells.fits(&dtype) {

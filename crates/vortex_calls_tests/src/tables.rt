@@ -125,10 +125,6 @@ fn refusals_tell_their_zone(rt: HostRuntime) {
     let predicate = b"gt col a lit u8 2";
     let unknown = statistic(3, &[1, 1, 3, 1], &[1, 1, 1, 1], &[]);
     assert!(rt; pruned(alloc, 2, &[unknown], predicate) == ([9; 4], 7, 2));
-    let short = statistic(3, &[1, 1, 1], &[1, 1, 1, 1], &[]);
-    assert!(rt; pruned(alloc, 2, &[short], predicate) == ([9; 4], 8, 3));
-    let few = statistic(3, &[1, 1, 1, 1], &[1], &[]);
-    assert!(rt; pruned(alloc, 2, &[few], predicate) == ([9; 4], 8, 1));
     let truth = statistic(0, &[1, 1, 1, 2], &[1, 1, 1, 2], &[]);
     assert!(rt; pruned(alloc, 2, &[truth], predicate) == ([9; 4], 10, 3));
     let text = statistic(3, &[1, 1, 1, 1], &[97, 255], &[1, 2, 2, 2]);
@@ -137,10 +133,30 @@ fn refusals_tell_their_zone(rt: HostRuntime) {
     assert!(rt; pruned(alloc, 10, &[back], b"isnull col a") == ([9; 4], 9, 2));
 }
 
-// An absent value need not be there.
+// Whether a table of one statistic is refused for its lengths, whatever its zones.
+fn is_of_other_length(alloc: Global, kind: u8, statistic: Statistic<'_>) -> bool {
+    pruned(alloc, kind, &[statistic], b"isnull col a") == ([9; 4], 8, 0)
+}
+
 #[test]
-fn the_values_may_end_before_absent_ones(rt: HostRuntime) {
-    let greatest = statistic(3, &[1, 0, 0, 0], &[1], &[]);
-    let found = pruned(rt.alloc(), 2, &[greatest], b"gt col a lit u8 2");
+fn arrays_of_another_length_are_refused(rt: HostRuntime) {
+    let alloc = rt.alloc();
+    let known = &[0; 4];
+    assert!(rt; is_of_other_length(alloc, 2, statistic(3, &[0; 3], &[0; 4], &[])));
+    assert!(rt; is_of_other_length(alloc, 2, statistic(3, &[0; 5], &[0; 4], &[])));
+    assert!(rt; is_of_other_length(alloc, 2, statistic(3, known, &[0; 3], &[])));
+    assert!(rt; is_of_other_length(alloc, 2, statistic(3, known, &[0; 5], &[])));
+    assert!(rt; is_of_other_length(alloc, 2, statistic(3, known, &[0; 4], &[0; 4])));
+    assert!(rt; is_of_other_length(alloc, 3, statistic(3, known, &[0; 4], &[])));
+    assert!(rt; is_of_other_length(alloc, 10, statistic(3, known, &[], &[0; 3])));
+    assert!(rt; is_of_other_length(alloc, 10, statistic(3, known, &[], &[0; 5])));
+}
+
+#[test]
+fn heap_behind_the_last_end_is_left_alone(rt: HostRuntime) {
+    let greatest = statistic(3, &[1, 0, 0, 0], b"ab more", &[2, 2, 2, 2]);
+    let found = pruned(rt.alloc(), 10, &[greatest], b"gt col a lit utf8 b");
+    assert!(rt; found == ([9; 4], 2, 0));
+    let found = pruned(rt.alloc(), 10, &[greatest], b"gt col a lit utf8 \"b\"");
     assert!(rt; found == ([1, 0, 0, 0], 0, 9));
 }

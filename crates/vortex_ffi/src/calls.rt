@@ -2,7 +2,7 @@
 ghost use Rattle.std.specs.Prelude.{◌≡◌, IfOk, length};
 ghost use Rattle.vortex_calls.specs.Checks as checks;
 ghost use Rattle.vortex_calls.specs.Measures.{measured};
-ghost use Rattle.vortex_calls.specs.Merges.{merged};
+ghost use Rattle.vortex_calls.specs.Merges.{merged, together};
 ghost use Rattle.vortex_calls.specs.Prunes as prunes;
 ghost use Rattle.vortex_calls.specs.Slots.{IsTold};
 ghost use Rattle.vortex_calls.specs.Values.{given_column};
@@ -13,23 +13,26 @@ use vortex_calls::fault::Fault;
 use vortex_calls::field::Field;
 use vortex_calls::measure::measure;
 use vortex_calls::merge::merge;
+use vortex_calls::merge_zones::merge_zones;
 use vortex_calls::prune::prune;
 use vortex_calls::statistic::Statistic;
 use vortex_calls::values::Values;
 
-/// Whether each statistic is true of a column's values in a zone, `vortex_check` of the header.
+/// Whether a zone has as many rows as a column and each of its statistics is true of the column's
+/// values, `vortex_check` of the header.
 #[unsafe(no_mangle)]
 pub extern "C" fn vortex_check(
     alloc: Global,
     column: &Values<'_>,
+    rows: u64,
     stats: &[Statistic<'_>],
     zone: usize,
     fault: &mut Fault,
 ) -> u8
     // Each is true, or the first that isn't or that is refused is told.
-    ensures { checks.IsTold (given_column column.now) zone stats.now result fault.new }
+    ensures { checks.IsTold (given_column column.now) rows zone stats.now result fault.new }
 {
-    check(alloc, column, stats, zone, fault)
+    check(alloc, column, rows, stats, zone, fault)
 }
 
 /// The statistics of a column of values, `vortex_measure` of the header: for each wanted number how
@@ -76,6 +79,31 @@ pub extern "C" fn vortex_merge(
 {
     merge(
         alloc, kind, nullable, zones, left, right, known, ends, values, len, fault,
+    )
+}
+
+/// The statistics of a table's zones, one behind the other, as those of one chunk,
+/// `vortex_merge_zones` of the header.
+#[unsafe(no_mangle)]
+pub extern "C" fn vortex_merge_zones(
+    alloc: Global,
+    kind: u8,
+    nullable: u8,
+    zones: usize,
+    stats: &[Statistic<'_>],
+    known: &mut [u8],
+    ends: &mut [u64],
+    values: &mut [u8],
+    len: &mut usize,
+    fault: &mut Fault,
+) -> u8
+    // The statistics of all zones stand in the arrays, or the arrays are as they were.
+    ensures { IsTold (together kind nullable zones stats.now)
+        (record { known = known.old; ends = ends.old; values = values.old }) result
+        (record { known = known.new; ends = ends.new; values = values.new }) len.new fault.new }
+{
+    merge_zones(
+        alloc, kind, nullable, zones, stats, known, ends, values, len, fault,
     )
 }
 

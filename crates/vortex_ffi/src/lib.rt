@@ -10,3 +10,4 @@ pub mod calls;
 pub mod run;
 #[cfg(test)]
 mod tests;
+pub mod version;

@@ -15,21 +15,21 @@ use Rattle.vortex_stats.specs.declared.stat.Stat.TheVariants as stat
 use Rattle.vortex_calls.specs.declared.field.Field.{Field}
 use Rattle.vortex_calls.specs.declared.statistic.Statistic.{Statistic}
 use Rattle.vortex_calls.specs.declared.table.Source.{Source}
-use Rattle.vortex_calls.specs.declared.status.Status.TheVariants.{BadColumn, BadFlag, BadKind, BadKnown, BadLength, BadLine, BadName, BadStat, NotAPredicate}
+use Rattle.vortex_calls.specs.declared.status.Status.TheVariants.{BadColumn, BadFlag, BadKind, BadKnown, BadLength, BadLine, BadName, BadStat, NotAPredicate, TooDeep}
 use Rattle.vortex_calls.specs.Merges.{merged, set_given}
 use Rattle.vortex_calls.specs.Prunes.{answer_by, answer_of, answered, asked, normalizes}
 use Rattle.vortex_calls.specs.Scopes.{predicate_given, scope_given}
 use Rattle.vortex_calls.specs.Statuses.{at_column, at_entry, in_column, nowhere, status_number}
 use Rattle.vortex_calls.specs.Tables.{source_of, zones_given}
 
-abbrev lent : List ℕ → Bor (List ℕ)
+abbrev pub lent : List ℕ → Bor (List ℕ)
 lent xs = record { ref_ptr = (0, 0); now = xs }
 
 -- a statistic of a column: its number, how it is known in each zone, and the values
-abbrev told : (column number : ℕ) → (known values : List ℕ) → Statistic
+abbrev pub told : (column number : ℕ) → (known values : List ℕ) → Statistic
 told c n known values = record { column = c; stat = n; start = 0; known = lent known; values = lent values; ends = lent [] }
 
-abbrev byte : ℕ → Bool → Named
+abbrev pub byte : ℕ → Bool → Named
 byte n b = (n ∷ [], dtype.Primitive ptype.U8 (if b then Nullable else NonNullable))
 
 -- ---- merges: zone by zone, the left table in front
@@ -74,7 +74,7 @@ no_sum_of_nulls = refl
 left_refused : merged 2 0 2 (told 0 3 (1 ∷ 3 ∷ []) (5 ∷ 7 ∷ []) ∷ []) (told 0 3 (1 ∷ 3 ∷ []) (6 ∷ 4 ∷ []) ∷ []) ≡ Err (in_column 1 0 BadKnown 0)
 left_refused = refl
 
-right_refused : merged 2 0 2 (told 0 3 (1 ∷ 1 ∷ []) (5 ∷ 7 ∷ []) ∷ []) (told 0 3 (1 ∷ 1 ∷ []) (6 ∷ []) ∷ []) ≡ Err (in_column 1 1 BadLength 0)
+right_refused : merged 2 0 2 (told 0 3 (1 ∷ 1 ∷ []) (5 ∷ 7 ∷ []) ∷ []) (told 0 3 (1 ∷ 3 ∷ []) (6 ∷ 4 ∷ []) ∷ []) ≡ Err (in_column 1 1 BadKnown 0)
 right_refused = refl
 
 -- ---- scopes and predicates
@@ -195,16 +195,20 @@ then_predicate : asked (field (97 ∷ []) 2 0 ∷ []) (3 ∷ []) (told 1 3 [] []
 unfolding is_utf8 chars lib.Utf8.encode
 then_predicate = refl
 
-then_columns : asked (field (97 ∷ []) 2 0 ∷ []) (3 ∷ []) (told 0 3 [] [] ∷ told 1 3 [] [] ∷ []) (codes "isnull col a") 0 1 ≡ Err (at_entry BadColumn 1)
+then_columns : asked (field (97 ∷ []) 2 0 ∷ []) (3 ∷ []) (told 0 3 (0 ∷ []) (0 ∷ []) ∷ told 1 3 [] [] ∷ []) (codes "isnull col a") 0 1 ≡ Err (at_entry BadColumn 1)
 unfolding is_utf8 chars lib.Utf8.encode
 then_columns = refl
 
-then_values : asked (field (97 ∷ []) 2 0 ∷ []) (3 ∷ []) (told 0 3 [] [] ∷ []) (codes "isnull col a") 0 1 ≡ Err (in_column 0 0 BadLength 0)
+then_lengths : asked (field (97 ∷ []) 2 0 ∷ []) (3 ∷ []) (told 0 3 (3 ∷ []) (0 ∷ []) ∷ told 0 3 (0 ∷ 0 ∷ []) (0 ∷ []) ∷ []) (codes "isnull col a") 0 1 ≡ Err (at_entry BadLength 1)
+unfolding is_utf8 chars lib.Utf8.encode
+then_lengths = refl
+
+then_values : asked (field (97 ∷ []) 2 0 ∷ []) (3 ∷ []) (told 0 3 (0 ∷ []) (0 ∷ []) ∷ told 0 3 (3 ∷ []) (0 ∷ []) ∷ []) (codes "isnull col a") 0 1 ≡ Err (in_column 0 0 BadKnown 1)
 unfolding is_utf8 chars lib.Utf8.encode
 then_values = refl
 
 -- the numbers of the header
-last_number : status_number BadFlag ≡ 16
+last_number : status_number TooDeep ≡ 17
 last_number = refl
 
 first_number : status_number BadLine ≡ 2
