@@ -42,3 +42,12 @@ pairs_fewer w es h = omega (arith, h, half w es)
 pub no_more : (w : Bool) (es : List (Tree Place)) → length (paired w es) ≤ length es
 no_more w [] = omega arith
 no_more w (a ∷ es) = omega (arith, half w (a ∷ es))
+
+pub one_left : (w : Bool) (n : ℕ) (es : List (Tree Place)) → length es ≤ suc n → length (in_turns n w es) ≤ 1
+one_left w zero es h = h
+one_left w (suc n) es h = one_left w n (paired w es) (fewer w n es h)
+
+pub some_paired : (w : Bool) (es : List (Tree Place)) → 0 < length es → 0 < length (paired w es)
+some_paired w [] h = h
+some_paired w (a ∷ []) h = h
+some_paired w (a ∷ b ∷ es) h = omega arith

@@ -1,5 +1,7 @@
 -- What joining in halves keeps.
-use Rattle.std.specs.Prelude.{◌≡◌, ℕ, Bool, true, false, List, Option, Some, None, Result, Ok, Err}
+use Rattle.std.specs.Prelude.{◌≡◌, ◌≤◌, ◌+◌, ◌^◌, ℕ, Bool, true, false, List, Option, Some, None, Result, Ok, Err, length}
+use Rattle.std.specs.List.{AllByRecursion}
+use Rattle.vortex_nested.specs.Depth.{depth}
 use Rattle.vortex_base.specs.Data.Scalars.{Constant}
 use Rattle.vortex_base.specs.Data.Scopes.{Named}
 use Rattle.vortex_base.specs.declared.dtype.DType.{DType}
@@ -9,7 +11,7 @@ use Rattle.vortex_expr.specs.Meanings.Meaning.{can_evaluate, meaning}
 use Rattle.vortex_expr.specs.Meanings.Typing.{type_of}
 use Rattle.vortex_expr.specs.Trees.Tree.{Tree, Place, all_columns, is_plain}
 use Rattle.vortex_rewrite.specs.Rewriting.Predicates.{is_predicate}
-use Rattle.vortex_nested.specs.Halves.{halved}
+use Rattle.vortex_nested.specs.Halves.{halved, joined}
 
 -- the same value or null on every row
 abbrev pub MeansTheSame : Type 0
@@ -43,3 +45,10 @@ FitsTheSameScopes = (e : Tree Place) (scope : List Named) → fits_scope (halved
 
 abbrev pub IsAsPlain : Type 0
 IsAsPlain = (e : Tree Place) → is_plain (halved e) ≡ is_plain e
+
+abbrev pub IsShallow : ℕ → Tree Place → Type 0
+IsShallow d e = depth e ≤ d
+
+-- a chain is deeper than its items by no more than the logarithm of their number, rounded up
+abbrev pub ChainsAreShallow : Type 0
+ChainsAreShallow = (w : Bool) (es : List (Tree Place)) (d k : ℕ) → length es ≤ 2 ^ k → AllByRecursion (IsShallow d) es → IsShallow (d + k) (joined w es)

@@ -1,3 +1,5 @@
 pub mod Depth
+pub mod Errors
 pub mod Halves
 pub mod Laws
+pub mod Nodes
