@@ -4,7 +4,7 @@ use Rattle.std.proofs.Math.Nat.{pow-suc}
 use Rattle.std.specs.List.{AllByRecursion}
 use Rattle.vortex_expr.specs.Trees.Tree.{Tree, Place, binary}
 use Rattle.vortex_rewrite.specs.Rewriting.Falsifiers.{bool_literal}
-use Rattle.vortex_nested.specs.Depth.{depth}
+use Rattle.vortex_normal.specs.Balanced.{depth}
 use Rattle.vortex_nested.specs.Halves.{connective, first_or, in_turns, joined, paired}
 use Rattle.vortex_nested.specs.Laws.{ChainsAreShallow, IsShallow}
 use Rattle.vortex_nested.specs.Nodes.{deepest}

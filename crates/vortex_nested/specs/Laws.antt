@@ -1,7 +1,7 @@
 -- What joining in halves keeps.
 use Rattle.std.specs.Prelude.{◌≡◌, ◌≤◌, ◌+◌, ◌^◌, ℕ, Bool, true, false, List, Option, Some, None, Result, Ok, Err, length}
 use Rattle.std.specs.List.{AllByRecursion}
-use Rattle.vortex_nested.specs.Depth.{depth}
+use Rattle.vortex_normal.specs.Balanced.{depth}
 use Rattle.vortex_base.specs.Data.Scalars.{Constant}
 use Rattle.vortex_base.specs.Data.Scopes.{Named}
 use Rattle.vortex_base.specs.declared.dtype.DType.{DType}

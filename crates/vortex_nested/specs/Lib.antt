@@ -1,5 +1,5 @@
-pub mod Depth
 pub mod Errors
 pub mod Halves
 pub mod Laws
 pub mod Nodes
+pub mod Reads

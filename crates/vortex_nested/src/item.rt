@@ -2,7 +2,7 @@
 ghost use Rattle.std.specs.Prelude.{◌≡◌, ◌≤◌, ◌⊎◌, IsTrue};
 ghost use Rattle.vortex_expr.specs.Trees.Tree as tree;
 ghost use Rattle.vortex_rewrite.specs.Rewriting.Predicates.{is_predicate};
-ghost use Rattle.vortex_nested.specs.Depth.{depth};
+ghost use Rattle.vortex_normal.specs.Balanced.{depth};
 ghost use Rattle.vortex_nested.specs.Halves.{connective};
 ghost use Rattle.vortex_nested.specs.Nodes.{Joins};
 

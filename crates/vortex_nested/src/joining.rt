@@ -1,6 +1,6 @@
 //! Chains joined two by two.
 ghost use Rattle.std.specs.Prelude.{◌≡◌, ◌≤◌, ◌<◌, length};
-ghost use Rattle.vortex_nested.specs.Depth.{depth};
+ghost use Rattle.vortex_normal.specs.Balanced.{depth};
 ghost use Rattle.vortex_nested.specs.Halves as spec;
 ghost use Rattle.vortex_nested.specs.Nodes.{Joins, deepest};
 

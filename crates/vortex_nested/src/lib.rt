@@ -6,3 +6,5 @@ mod item;
 mod joining;
 pub mod laws;
 mod nested;
+mod reader;
+mod shape;

@@ -4,7 +4,7 @@ ghost use Rattle.vortex_expr.specs.Trees.Tree as tree;
 ghost use Rattle.vortex_rewrite.specs.Rewriting.Predicates.{is_predicate};
 ghost use Rattle.vortex_syntax.specs.Expressions.{typed};
 ghost use Rattle.vortex_syntax.specs.Fails.{Gives};
-ghost use Rattle.vortex_nested.specs.Depth.{depth};
+ghost use Rattle.vortex_normal.specs.Balanced.{depth};
 ghost use Rattle.vortex_nested.specs.Nodes.{Builds, pair_of, unary_of};
 
 use crate::error::NestedError;
@@ -48,7 +48,7 @@ impl Model for Nested {
 
     ghost coded = { tree_code place_code };
 
-    ghost use Rattle.vortex_nested.specs.Depth.{depth as depth_of};
+    ghost use Rattle.vortex_normal.specs.Balanced.{depth as depth_of};
 
     ghost view = { λ n. n.expression };
 

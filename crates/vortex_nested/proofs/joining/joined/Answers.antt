@@ -1,5 +1,5 @@
 use Rattle.std.proofs.Common.{◌≡◌, ◌≤◌, ◌<◌, ap, ◌∙◌, arith, length, subst, sym}
-use Rattle.vortex_nested.specs.Depth.{depth}
+use Rattle.vortex_normal.specs.Balanced.{depth}
 use Rattle.vortex_nested.specs.Halves as spec
 use Rattle.vortex_nested.specs.Nodes.{deepest}
 use Rattle.vortex_nested.proofs.Depths.{deepest_joined}
