@@ -25,7 +25,7 @@ use Rattle.vortex_nested.specs.declared.error.NestedError.TheVariants as errors
 use Rattle.vortex_nested.proofs.Chains.{Items, after, before, before_false, opened}
 use Rattle.vortex_nested.proofs.Depths.{deepest_append, items_deeper}
 use Rattle.vortex_nested.proofs.Shapes.{literal_of, step_is}
-use Rattle.vortex_nested.proofs.Steps.{Step, followed_is, step_of}
+use Rattle.vortex_nested.proofs.Steps.{followed_is, read_back, read_none, step_of}
 use Rattle.vortex_nested.proofs.Types.{same_predicate}
 
 -- ---- every expression has an item
@@ -202,14 +202,6 @@ left_done scope w whole es count ws left none = done left.mosts (left.counted �
 still_enough : (vs ws : List Token) → length vs ≤ length ws → (ms : List ℕ) → AllByRecursion (λ m. length ws ≤ m) ms → AllByRecursion (λ m. length vs ≤ m) ms
 still_enough vs ws h [] k = tt
 still_enough vs ws h (m ∷ ms) k = (omega (arith, h, k.0), still_enough vs ws h ms k.1)
-
-read_back : (o : Read) (y : Tree Place × List Token) → halved_read o ≡ Some y → (x : Tree Place × List Token) × (o ≡ Some x) × (halved_pair x ≡ y)
-read_back None y h = cc
-read_back (Some x) y h = (x, refl, cc)
-
-read_none : (o : Read) → halved_read o ≡ None → o ≡ None
-read_none None h = refl
-read_none (Some x) h = cc
 
 joined_back : (w : Bool) (o : Items) (y : Tree Place × List Token) → joined_read w o ≡ Some y → (z : List (Tree Place) × List Token) × (o ≡ Some z) × ((joined w z.0, z.1) ≡ y)
 joined_back w None y h = cc

@@ -8,5 +8,6 @@ pub mod Operands
 pub mod Pairs
 pub mod Shapes
 pub mod Steps
+pub mod Texts
 pub mod Types
 pub mod Values

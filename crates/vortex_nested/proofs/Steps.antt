@@ -78,3 +78,13 @@ pub build_fails : (e : Tree Place) (ws : List Token) (below : ℕ) (fault : Nest
 build_fails e ws below errors.Memory h = tt
 build_fails e ws below errors.Bad h = rw h refl
 build_fails e ws below errors.TooDeep h = absurd h
+
+-- ---- what was read, and what it is joined of
+
+pub read_back : (o : Read) (y : Tree Place × List Token) → halved_read o ≡ Some y → (x : Tree Place × List Token) × (o ≡ Some x) × (halved_pair x ≡ y)
+read_back None y h = cc
+read_back (Some x) y h = (x, refl, cc)
+
+pub read_none : (o : Read) → halved_read o ≡ None → o ≡ None
+read_none None h = refl
+read_none (Some x) h = cc

@@ -3,3 +3,4 @@ pub mod Halves
 pub mod Laws
 pub mod Nodes
 pub mod Reads
+pub mod Texts

@@ -8,3 +8,4 @@ pub mod laws;
 mod nested;
 mod reader;
 mod shape;
+pub mod text;

@@ -182,26 +182,29 @@ fn read_items<'a>(
     let mut rest = line;
     let mut count = 2usize;
     'items: while count > 0 {
-        if let Some(after) = behind(is_and, rest) {
-            // More items than memory can hold.
-            let Some(more) = count.checked_add(1) else {
-                return Err(NestedError::Memory);
-            };
-            count = more;
-            rest = after;
-        } else {
-            let (item, after) = match read_nested(alloc, columns, under, rest) {
-                Ok(found) => found,
-                Err(e) => return Err(e),
-            };
-            if !item.is_truth() {
-                return Err(NestedError::Bad);
+        match behind(is_and, rest) {
+            Some(after) => {
+                // More items than memory can hold.
+                let Some(more) = count.checked_add(1) else {
+                    return Err(NestedError::Memory);
+                };
+                count = more;
+                rest = after;
             }
-            let Ok(()) = items.push(Item::new(item)) else {
-                return Err(NestedError::Memory);
-            };
-            count -= 1;
-            rest = after;
+            None => {
+                let (item, after) = match read_nested(alloc, columns, under, rest) {
+                    Ok(found) => found,
+                    Err(e) => return Err(e),
+                };
+                if !item.is_truth() {
+                    return Err(NestedError::Bad);
+                }
+                let Ok(()) = items.push(Item::new(item)) else {
+                    return Err(NestedError::Memory);
+                };
+                count -= 1;
+                rest = after;
+            }
         }
     }
     Ok((items, rest))

@@ -1,8 +1,10 @@
-use Rattle.std.proofs.Common.{◌≡◌, ◌+◌, ◌-◌, ◌<◌, ◌≤◌, ◌∷◌, [], ℕ, Some, sym, ap, ◌∙◌, arith, length}
+use Rattle.std.proofs.Common.{◌≡◌, ◌+◌, ◌-◌, ◌<◌, ◌≤◌, ◌∷◌, ◌++◌, [], ℕ, Bool, true, false, List, Some, sym, ap, ◌∙◌, subst, arith, length}
+use Rattle.vortex_expr.specs.Trees.Tree.{Tree, Place}
+use Rattle.vortex_rewrite.specs.Rewriting.Predicates.{is_predicate}
 use Rattle.vortex_base.specs.Data.Scopes.{named_columns}
 use Rattle.vortex_normal.specs.Balanced.{depth}
 use Rattle.vortex_syntax.specs.Words.{words}
-use Rattle.vortex_nested.specs.Reads.{chain_within, nested_within}
+use Rattle.vortex_nested.specs.Reads.{chain_within, joined_read, nested_within}
 use Rattle.vortex_nested.specs.declared.shape.Shape.TheVariants as shape
 use Rattle.vortex_nested.proofs.Left.{Left, chain_long, joined_fails, joined_ok, left_done, left_fails, left_item, left_opened, left_start, left_untrue}
 use Rattle.vortex_nested.proofs.Operands.{one_fails, left_operand_fails, right_operand_fails, two_ok, first_end_fails, second_end_fails, third_end_fails, between_fails, ends_ok}
@@ -127,3 +129,83 @@ read_chain-joined-requires t c =
     let most = length (words c.args.line.now) in
     let long = chain_long (named_columns c.args.columns.now) c.args.is_and (most ∷ most ∷ []) (words c.args.line.now) (c.in-Ok.found.0.items, words c.in-Ok.found.1.now) (c.in-Ok.ensures.read most (omega arith)) in
     omega (arith, long)
+
+pub read_items-items-init : goal.read_items-items-init
+read_items-items-init t c =
+    let scope = named_columns c.args.columns.now in
+    let ws = words c.args.line.now in
+    record {
+      left = λ most fits.
+          let P : List (Tree Place) → Type 0 = λ es. Left scope c.args.is_and (chain_within scope c.args.is_and (most ∷ most ∷ []) ws) es 2 ws in
+          subst P (sym c.new-items.ensures.items) (left_start scope c.args.is_and most ws fits);
+      within = omega arith;
+      fewer = omega arith;
+    }
+
+pub read_items-items-preserved-in-Some : goal.read_items-items-preserved-in-Some
+read_items-items-preserved-in-Some t c =
+    let scope = named_columns c.args.columns.now in
+    let w = c.args.is_and in
+    let ws = words c.args.line.now in
+    let rest = words c.items.rest.now in
+    let after = words c.in-Some.after.now in
+    let es = c.items.items.items in
+    let count = c.items.count in
+    let more = c.in-Some-checked_add.ensures.1 in
+    record {
+      left = λ most fits.
+          let whole = chain_within scope w (most ∷ most ∷ []) ws in
+          let P : ℕ → Type 0 = λ n. Left scope w whole es n after in
+          subst P (sym more) (left_opened scope w whole es count rest (c.items.invariant.left most fits) c.items-test.true after (sym c.in-Some.ensures.behind) c.in-Some.ensures.fewer);
+      within = omega (arith, c.items.invariant.within, c.in-Some.ensures.fewer);
+      fewer = omega (arith, c.items.invariant.fewer, c.in-Some.ensures.fewer, more);
+    }
+
+pub read_items-items-preserved : goal.read_items-items-preserved
+read_items-items-preserved t c =
+    let scope = named_columns c.args.columns.now in
+    let w = c.args.is_and in
+    let ws = words c.args.line.now in
+    let rest = words c.items.rest.now in
+    let after = words c.in-Ok.found.1.now in
+    let e = c.in-Ok.found.0 in
+    let es = c.items.items.items in
+    let count = c.items.count in
+    let truth : is_predicate e ≡ true = sym c.is_truth.ensures ∙ c.if-not-is_truth.false in
+    let pushed : es ++ e ∷ [] ≡ c.push.new.self.items = ap (λ (d : Tree Place). es ++ d ∷ []) (sym c.new.ensures) ∙ sym c.in-Ok-push.ensures.items in
+    record {
+      left = λ most fits.
+          let whole = chain_within scope w (most ∷ most ∷ []) ws in
+          let P : List (Tree Place) → Type 0 = λ ds. Left scope w whole ds (count - 1) after in
+          subst P pushed
+          (left_item scope w whole es count rest (c.items.invariant.left most fits) c.items-test.true (sym c.in-None.ensures.behind) e after (λ m h. (c.in-Ok.ensures.read m h).0) truth c.in-Ok.ensures.fewer);
+      within = omega (arith, c.items.invariant.within, c.in-Ok.ensures.fewer);
+      fewer = omega (arith, c.items.invariant.fewer, c.in-Ok.ensures.fewer, c.items-test.true);
+    }
+
+pub read_items-returns-in-Err-clause-read : goal.read_items-returns-in-Err-clause-read
+read_items-returns-in-Err-clause-read t c = λ most fits.
+    let scope = named_columns c.args.columns.now in
+    let w = c.args.is_and in
+    let ws = words c.args.line.now in
+    let whole = chain_within scope w (most ∷ most ∷ []) ws in
+    left_fails scope w whole c.items.items.items c.items.count (words c.items.rest.now) (c.items.invariant.left most fits) c.items-test.true (sym c.in-None.ensures.behind)
+    (chain_long scope w (most ∷ most ∷ []) ws) c.args.under c.in-Err.e c.in-Err.ensures.read
+
+pub read_items-returns-then-not-is_truth-clause-read : goal.read_items-returns-then-not-is_truth-clause-read
+read_items-returns-then-not-is_truth-clause-read t c = λ most fits.
+    let scope = named_columns c.args.columns.now in
+    let w = c.args.is_and in
+    let ws = words c.args.line.now in
+    let whole = chain_within scope w (most ∷ most ∷ []) ws in
+    let truth : is_predicate c.in-Ok.found.0 ≡ false = sym c.is_truth.ensures ∙ c.if-not-is_truth.true in
+    ap (joined_read w) (left_untrue scope w whole c.items.items.items c.items.count (words c.items.rest.now) (c.items.invariant.left most fits) c.items-test.true (sym c.in-None.ensures.behind)
+    c.in-Ok.found.0 (words c.in-Ok.found.1.now) (λ m h. (c.in-Ok.ensures.read m h).0) truth)
+
+pub read_items-returns-clause-read : goal.read_items-returns-clause-read
+read_items-returns-clause-read t c = λ most fits.
+    let scope = named_columns c.args.columns.now in
+    let w = c.args.is_and in
+    let ws = words c.args.line.now in
+    let whole = chain_within scope w (most ∷ most ∷ []) ws in
+    left_done scope w whole c.items.items.items c.items.count (words c.items.rest.now) (c.items.invariant.left most fits) (omega arith)
