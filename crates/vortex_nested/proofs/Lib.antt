@@ -11,3 +11,4 @@ pub mod Steps
 pub mod Texts
 pub mod Types
 pub mod Values
+pub mod WorkedRows
