@@ -34,6 +34,7 @@ fn paired(
 }
 
 /// The expression that items make up, joined by AND or by OR in halves, in time that is linear.
+#[inline(never)]
 pub(crate) fn joined(
     alloc: Global,
     is_and: bool,
