@@ -1,5 +1,5 @@
 -- Joining in halves keeps what is told of columns and of nodes.
-use Rattle.std.proofs.Common.{◌≡◌, Bool, true, false, ◌&&◌, ◌||◌, not as not_b, List, Result, Ok, Err, refl, ap, ap₂, slice_get, if◌then◌else◌}
+use Rattle.std.proofs.Common.{◌≡◌, Bool, true, false, ◌&&◌, ◌||◌, not as not_b, List, Result, Ok, Err, refl, ap₂, slice_get, if◌then◌else◌}
 use Rattle.vortex_base.specs.Data.Scopes.{Named}
 use Rattle.vortex_base.specs.declared.error.BaseError.{BaseError}
 use Rattle.vortex_base.specs.declared.error.BaseError.TheVariants.{Placeholder, RowShape}

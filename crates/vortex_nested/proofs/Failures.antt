@@ -1,8 +1,8 @@
 -- What a refusal tells of what is made next.
-use Rattle.std.proofs.Common.{◌≡◌, ◌≤◌, ◌⊎◌, ℕ, Bool, List, [], ◌∷◌, ◌++◌, Result, Ok, Err, max, inl, inr, ⊎_elim, sym, subst, ap, arith}
+use Rattle.std.proofs.Common.{◌≡◌, ◌≤◌, ◌⊎◌, ℕ, Bool, List, ◌∷◌, ◌++◌, ⊎_elim, subst, arith}
 use Rattle.vortex_expr.specs.Trees.Tree.{Tree, Place, binary}
 use Rattle.vortex_normal.specs.Balanced.{depth}
-use Rattle.vortex_nested.specs.Halves.{connective, paired}
+use Rattle.vortex_nested.specs.Halves.{connective}
 use Rattle.vortex_nested.specs.Nodes.{IsDeep, deepest}
 use Rattle.vortex_nested.specs.declared.error.NestedError.{NestedError}
 use Rattle.vortex_nested.specs.declared.error.NestedError.TheVariants as errors

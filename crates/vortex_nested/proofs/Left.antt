@@ -1,14 +1,11 @@
 -- The items of a chain that are read, and those that are still to come.
-use Rattle.std.proofs.Common.{◌≡◌, ◌<◌, ◌≤◌, ◌+◌, ◌-◌, ℕ, zero, suc, Bool, true, false, List, [], ◌∷◌, ◌++◌, Option, Some, None, length, option_and_then, refl, ap, ap₂, sym, subst, ◌∙◌, inl, inr, arith, append_assoc, append-nil, length-append}
-use Rattle.std.proofs.lemmas.Bool.{cases_Bool}
+use Rattle.std.proofs.Common.{◌≡◌, ◌<◌, ◌≤◌, ◌+◌, ◌-◌, ℕ, zero, suc, Bool, true, false, List, [], ◌∷◌, ◌++◌, Option, Some, None, length, option_and_then, refl, ap, ap₂, sym, subst, ◌∙◌, arith, append_assoc, append-nil, length-append}
 use Rattle.std.specs.List.{AllByRecursion}
 use Rattle.vortex_base.specs.Data.Scalars.{Constant}
 use Rattle.vortex_base.specs.Data.Scopes.{Named}
 use Rattle.vortex_expr.specs.Meanings.Binding.{find_column}
 use Rattle.vortex_expr.specs.Trees.Tree.{Tree, Place, column, literal, binary, between, is_null, is_not_null, not, like, stat, row_count}
-use Rattle.vortex_expr.specs.declared.like.LikeOptions.{LikeOptions}
 use Rattle.vortex_expr.specs.declared.scalar_fn.BetweenOptions.{BetweenOptions}
-use Rattle.vortex_expr.specs.declared.scalar_fn.Operator.{Operator}
 use Rattle.vortex_expr.specs.declared.scalar_fn.Operator.TheVariants.{And, Or}
 use Rattle.vortex_normal.specs.Balanced.{depth}
 use Rattle.vortex_rewrite.specs.Rewriting.Predicates.{is_predicate}
@@ -146,7 +143,7 @@ module _ (scope : List Named) (w : Bool) where
       let a = step_of (plain_word ws) (λ (word : List ℕ × List Token). option_and_then (λ (f : Form). expression_by scope (expression_within scope m) f word.1) (form_of word.0)) x h in
       let b = step_of (form_of a.at.0) (λ (f : Form). expression_by scope (expression_within scope m) f a.at.1) x a.then in
       let shut : when (opens w b.at) a.at.1 ≡ None =
-          sym (ap (option_and_then (form_behind w)) a.made ∙ ap (option_and_then (λ (f : Form). when (opens w f) a.at.1)) b.made) ∙ none in
+      sym (ap (option_and_then (form_behind w)) a.made ∙ ap (option_and_then (λ (f : Form). when (opens w f) a.at.1)) b.made) ∙ none in
       own scope (expression_within scope m) w b.at a.at.1 x (when_none (opens w b.at) a.at.1 shut) b.then
 
   -- an expression that begins with one is read as two items
@@ -311,9 +308,9 @@ module _ (scope : List Named) (w : Bool) (whole : Items) (es : List (Tree Place)
             let inside : (items w (halves c.at) ++ d.at.0, d.at.1) ≡ a.at = cc in
             let outside : (es ++ a.at.0, a.at.1) ≡ z = cc in
             let all : es ++ (halved b.at.0 ∷ d.at.0) ≡ z.0 =
-                ap (λ ds. es ++ (ds ++ d.at.0)) (sym own ∙ ap (λ t. items w (halves t)) e)
-                ∙ ap (λ (p : List (Tree Place) × List Token). es ++ p.0) inside
-                ∙ ap (λ (p : List (Tree Place) × List Token). p.0) outside in
+            ap (λ ds. es ++ (ds ++ d.at.0)) (sym own ∙ ap (λ t. items w (halves t)) e)
+            ∙ ap (λ (p : List (Tree Place) × List Token). es ++ p.0) inside
+            ∙ ap (λ (p : List (Tree Place) × List Token). p.0) outside in
             let appended = deepest_append es (halved b.at.0 ∷ d.at.0) in
             let P : List (Tree Place) → Type 0 = λ ds. under ≤ deepest ds in
             subst P all (omega (arith, appended, deep))

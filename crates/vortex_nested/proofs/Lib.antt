@@ -1,3 +1,4 @@
+pub mod Apart
 pub mod Chains
 pub mod Columns
 pub mod Depths

@@ -1,5 +1,5 @@
 -- Nodes of operands that are read one after the other.
-use Rattle.std.proofs.Common.{◌≡◌, ◌<◌, ◌≤◌, ◌+◌, ℕ, List, Option, Some, None, Result, Ok, Err, max, option_and_then, refl, ap, sym, subst, ◌∙◌, arith}
+use Rattle.std.proofs.Common.{◌≡◌, ◌<◌, ◌+◌, ℕ, List, Option, Some, Err, max, option_and_then, refl, ap, ◌∙◌, arith}
 use Rattle.vortex_expr.specs.Trees.Tree.{Tree, Place, between}
 use Rattle.vortex_expr.specs.declared.scalar_fn.BetweenOptions.{BetweenOptions}
 use Rattle.vortex_normal.specs.Balanced.{depth}
@@ -42,9 +42,9 @@ module _ (operand : List Token → Read) (ws : List Token) (under : ℕ) (fault 
         let last = λ (l : Tree Place) (r : Tree Place × List Token). followed (typed (pair_of p l r.0)) r.1 in
         first_fails (operand ws) (λ (l : Tree Place × List Token). option_and_then (last l.0) (operand l.1)) under fault h
         (λ l y k.
-            let a = step_of (operand l.1) (last l.0) y k in
-            let same = ap depth (followed_is (pair_of p l.0 a.at.0) a.at.1 y a.then) in
-            omega (arith, same, pair_depth p l.0 a.at.0))
+        let a = step_of (operand l.1) (last l.0) y k in
+        let same = ap depth (followed_is (pair_of p l.0 a.at.0) a.at.1 y a.then) in
+        omega (arith, same, pair_depth p l.0 a.at.0))
 
     pub right_operand_fails : (l : Tree Place) (vs : List Token) → operand ws ≡ Some (l, vs) → Fails under fault (operand vs) → Fails (under + 1) fault (read_two operand (pair_of p) ws)
     right_operand_fails l vs is h =
@@ -52,8 +52,8 @@ module _ (operand : List Token → Read) (ws : List Token) (under : ℕ) (fault 
         next_fails (operand ws) (l, vs) (λ (d : Tree Place × List Token). option_and_then (last d.0) (operand d.1)) (under + 1) fault is
         (first_fails (operand vs) (last l) under fault h
         (λ r y k.
-            let same = ap depth (followed_is (pair_of p l r.0) r.1 y k) in
-            omega (arith, same, pair_depth p l r.0)))
+        let same = ap depth (followed_is (pair_of p l r.0) r.1 y k) in
+        omega (arith, same, pair_depth p l r.0)))
 
   -- ---- three
 
@@ -66,10 +66,10 @@ module _ (operand : List Token → Read) (ws : List Token) (under : ℕ) (fault 
         next_fails (read_options ws) (o, vs) (λ (q : BetweenOptions × List Token). option_and_then (second q.0) (operand q.1)) (under + 1) fault options
         (first_fails (operand vs) (second o) under fault h
         (λ x y k.
-            let b = step_of (operand x.1) (third o x.0) y k in
-            let c = step_of (operand b.at.1) (last o x.0 b.at.0) y b.then in
-            let same = ap depth (followed_is (between o x.0 b.at.0 c.at.0) c.at.1 y c.then) in
-            omega (arith, same)))
+        let b = step_of (operand x.1) (third o x.0) y k in
+        let c = step_of (operand b.at.1) (last o x.0 b.at.0) y b.then in
+        let same = ap depth (followed_is (between o x.0 b.at.0 c.at.0) c.at.1 y c.then) in
+        omega (arith, same)))
 
     module _ (x : Tree Place) (us : List Token) (first : operand vs ≡ Some (x, us)) where
       pub second_end_fails : Fails under fault (operand us) → Fails (under + 1) fault (read_between operand ws)
@@ -81,9 +81,9 @@ module _ (operand : List Token → Read) (ws : List Token) (under : ℕ) (fault 
           (next_fails (operand vs) (x, us) (second o) (under + 1) fault first
           (first_fails (operand us) (third o x) under fault h
           (λ l y k.
-              let c = step_of (operand l.1) (last o x l.0) y k in
-              let same = ap depth (followed_is (between o x l.0 c.at.0) c.at.1 y c.then) in
-              omega (arith, same))))
+          let c = step_of (operand l.1) (last o x l.0) y k in
+          let same = ap depth (followed_is (between o x l.0 c.at.0) c.at.1 y c.then) in
+          omega (arith, same))))
 
       module _ (l : Tree Place) (ts : List Token) (next : operand us ≡ Some (l, ts)) where
         third_step : Fails (under + 1) fault (option_and_then (λ (u : Tree Place × List Token). followed (typed (between o x l u.0)) u.1) (operand ts)) → Fails (under + 1) fault (read_between operand ws)
@@ -110,11 +110,12 @@ module _ (operand : List Token → Read) (ws : List Token) (under : ℕ) where
       → (read_two operand (pair_of p) ws ≡ Some (e, us)) × (depth e < under + 1)
   two_ok p l r e vs us is_l below_l is_r below_r made =
       let last = λ (d : Tree Place) (x : Tree Place × List Token). followed (typed (pair_of p d x.0)) x.1 in
-      let same = ap depth (typed_is (pair_of p l r) e made) in
-      (ap (option_and_then (λ (d : Tree Place × List Token). option_and_then (last d.0) (operand d.1))) is_l
-      ∙ ap (option_and_then (last l)) is_r
-      ∙ followed_ok (pair_of p l r) e us made,
-      omega (arith, same, pair_depth p l r, below_l, below_r))
+      let same = ap depth (typed_is (pair_of p l r) e made) in (
+        ap (option_and_then (λ (d : Tree Place × List Token). option_and_then (last d.0) (operand d.1))) is_l
+            ∙ ap (option_and_then (last l)) is_r
+            ∙ followed_ok (pair_of p l r) e us made,
+        omega (arith, same, pair_depth p l r, below_l, below_r),
+      )
 
   pub ends_ok : (o : BetweenOptions) (x l u e : Tree Place) (vs us ts rs : List Token) → read_options ws ≡ Some (o, vs) → operand vs ≡ Some (x, us) → depth x < under
       → operand us ≡ Some (l, ts) → depth l < under → operand ts ≡ Some (u, rs) → depth u < under → typed (between o x l u) ≡ Some e
@@ -123,10 +124,11 @@ module _ (operand : List Token → Read) (ws : List Token) (under : ℕ) where
       let last = λ (q : BetweenOptions) (y l : Tree Place) (u : Tree Place × List Token). followed (typed (between q y l u.0)) u.1 in
       let third = λ (q : BetweenOptions) (y : Tree Place) (l : Tree Place × List Token). option_and_then (last q y l.0) (operand l.1) in
       let second = λ (q : BetweenOptions) (y : Tree Place × List Token). option_and_then (third q y.0) (operand y.1) in
-      let same = ap depth (typed_is (between o x l u) e made) in
-      (ap (option_and_then (λ (q : BetweenOptions × List Token). option_and_then (second q.0) (operand q.1))) options
-      ∙ ap (option_and_then (second o)) is_x
-      ∙ ap (option_and_then (third o x)) is_l
-      ∙ ap (option_and_then (last o x l)) is_u
-      ∙ followed_ok (between o x l u) e rs made,
-      omega (arith, same, below_x, below_l, below_u))
+      let same = ap depth (typed_is (between o x l u) e made) in (
+        ap (option_and_then (λ (q : BetweenOptions × List Token). option_and_then (second q.0) (operand q.1))) options
+            ∙ ap (option_and_then (second o)) is_x
+            ∙ ap (option_and_then (third o x)) is_l
+            ∙ ap (option_and_then (last o x l)) is_u
+            ∙ followed_ok (between o x l u) e rs made,
+        omega (arith, same, below_x, below_l, below_u),
+      )

@@ -1,11 +1,9 @@
 -- What is read by its first word.
-use Rattle.std.proofs.Common.{◌≡◌, ◌<◌, ◌≤◌, ◌+◌, ℕ, zero, suc, Bool, true, false, List, Option, Some, None, Result, length, option_and_then, refl, ap, sym, subst, ◌∙◌, arith}
+use Rattle.std.proofs.Common.{◌≡◌, ◌<◌, ◌≤◌, ◌+◌, ℕ, zero, suc, true, false, List, Option, Some, Result, length, option_and_then, refl, ap, sym, subst, ◌∙◌, arith}
 use Rattle.vortex_base.specs.Data.Scopes.{Named}
 use Rattle.vortex_base.specs.Data.Scalars.{Constant}
 use Rattle.vortex_base.specs.declared.dtype.DType.{DType}
 use Rattle.vortex_expr.specs.Trees.Tree.{Tree, Place, column, literal, between, binary}
-use Rattle.vortex_expr.specs.declared.like.LikeOptions.{LikeOptions}
-use Rattle.vortex_expr.specs.declared.scalar_fn.BetweenOptions.{BetweenOptions}
 use Rattle.vortex_expr.specs.declared.scalar_fn.Operator.{Operator}
 use Rattle.vortex_expr.specs.declared.scalar_fn.Operator.TheVariants.{And, Or}
 use Rattle.vortex_normal.specs.Balanced.{depth}
@@ -19,7 +17,7 @@ use Rattle.vortex_syntax.specs.declared.form.Form.{Form}
 use Rattle.vortex_syntax.specs.declared.form.Form.TheVariants as form
 use Rattle.vortex_nested.specs.Halves.{halved}
 use Rattle.vortex_nested.specs.Nodes.{pair_of, unary_of}
-use Rattle.vortex_nested.specs.Reads.{Reads, halved_pair, halved_read, nested_within, shape_of, shape_within}
+use Rattle.vortex_nested.specs.Reads.{Reads, halved_read, nested_within, shape_of, shape_within}
 use Rattle.vortex_nested.specs.declared.error.NestedError.{NestedError}
 use Rattle.vortex_nested.specs.declared.nested.Pair.TheVariants as pair
 use Rattle.vortex_nested.specs.declared.nested.Unary.TheVariants as unary

@@ -1,5 +1,5 @@
 -- Steps of a reader, one after the other.
-use Rattle.std.proofs.Common.{◌≡◌, ◌<◌, ◌≤◌, ◌+◌, ℕ, Bool, true, false, List, Option, Some, None, is_ok, option_and_then, Result, Ok, Err, refl, ap, sym, subst, ◌∙◌, inl, inr, arith}
+use Rattle.std.proofs.Common.{◌≡◌, ◌<◌, ◌+◌, ℕ, List, Option, Some, None, is_ok, option_and_then, Err, refl, ap, sym, subst, ◌∙◌, inl, inr, arith}
 use Rattle.std.proofs.lemmas.Bool.{cases_Bool}
 use Rattle.vortex_expr.specs.Trees.Tree.{Tree, Place}
 use Rattle.vortex_expr.specs.Meanings.Typing.{type_of}
@@ -72,7 +72,6 @@ first_fails o f under errors.TooDeep h deeper = λ y k.
 
 pub next_fails : {A : Type 0} (o : Option A) (a : A) (f : A → Read) (below : ℕ) (e : NestedError) → o ≡ Some a → Fails below e (f a) → Fails below e (option_and_then f o)
 next_fails o a f below e is h = let P : Read → Type 0 = Fails below e in subst P (sym (ap (option_and_then f) is)) h
-
 
 pub build_fails : (e : Tree Place) (ws : List Token) (below : ℕ) (fault : NestedError) → Builds (typed e) (Err fault) → Fails below fault (followed (typed e) ws)
 build_fails e ws below errors.Memory h = tt

@@ -1,9 +1,9 @@
 -- The expression that a text is.
-use Rattle.std.proofs.Common.{◌≡◌, ◌<◌, ◌≤◌, ◌+◌, ℕ, List, Option, Some, None, length, option_and_then, ap, sym, subst, ◌∙◌, arith}
+use Rattle.std.proofs.Common.{◌≡◌, ◌<◌, ◌+◌, ℕ, List, Option, Some, None, length, option_and_then, ap, sym, subst, ◌∙◌, arith}
 use Rattle.vortex_base.specs.Data.Scopes.{Named}
 use Rattle.vortex_expr.specs.Trees.Tree.{Tree, Place}
 use Rattle.vortex_normal.specs.Balanced.{depth}
-use Rattle.vortex_syntax.specs.Expressions.{Read, expression_of, expression_within}
+use Rattle.vortex_syntax.specs.Expressions.{expression_of, expression_within}
 use Rattle.vortex_syntax.specs.Words.{Token, no_word}
 use Rattle.vortex_nested.specs.Halves.{halved}
 use Rattle.vortex_nested.specs.Reads.{Fails, halved_pair, halved_read, nested_within}
@@ -18,10 +18,11 @@ module _ (scope : List Named) (ws : List Token) where
   pub text_read : (e : Tree Place) (rest : List Token) → nested_within scope (length ws) ws ≡ Some (e, rest) → no_word rest ≡ Some tt → IsHalvedOf (expression_of scope ws) e
   text_read e rest read last =
       let x = read_back (expression_within scope (length ws) ws) (e, rest) read in
-      let more = ap (λ (p : Tree Place × List Token). p.1) x.2 in
-      (x.0.0,
-      ap (option_and_then ending) x.1 ∙ ap (λ vs. option_and_then (λ (none : Unit {0}). Some x.0.0) (no_word vs)) more ∙ ap (option_and_then (λ (none : Unit {0}). Some x.0.0)) last,
-      sym (ap (λ (p : Tree Place × List Token). p.0) x.2))
+      let more = ap (λ (p : Tree Place × List Token). p.1) x.2 in (
+        x.0.0,
+        ap (option_and_then ending) x.1 ∙ ap (λ vs. option_and_then (λ (none : Unit {0}). Some x.0.0) (no_word vs)) more ∙ ap (option_and_then (λ (none : Unit {0}). Some x.0.0)) last,
+        sym (ap (λ (p : Tree Place × List Token). p.0) x.2),
+      )
 
   pub text_none : nested_within scope (length ws) ws ≡ None → expression_of scope ws ≡ None
   text_none read = ap (option_and_then ending) (read_none (expression_within scope (length ws) ws) read)

@@ -1,5 +1,5 @@
 -- What joining in halves keeps of a value that an expression has: its meaning, its type, what is told of its columns.
-use Rattle.std.proofs.Common.{◌≡◌, ℕ, zero, suc, ◌+◌, ◌≤◌, ◌<◌, Bool, true, false, List, [], ◌∷◌, ◌++◌, length, refl, sym, ap, ap₂, ◌∙◌, arith, length-append}
+use Rattle.std.proofs.Common.{◌≡◌, ℕ, zero, suc, ◌≤◌, ◌<◌, Bool, true, false, List, [], ◌∷◌, ◌++◌, length, refl, sym, ap, ap₂, ◌∙◌, arith, length-append}
 use Rattle.vortex_expr.specs.Trees.Tree.{Tree, Place, column, literal, binary, between, is_null, is_not_null, not, like, stat, row_count}
 use Rattle.vortex_expr.specs.declared.scalar_fn.Operator.{Operator}
 use Rattle.vortex_expr.specs.declared.scalar_fn.Operator.TheVariants.{And, Or}
@@ -17,7 +17,6 @@ module _ {A B : Type 0} (value : Tree Place → B) (view : B → A) (back : A �
     (unit_right : (w : Bool) (a : A) → op w a (none w) ≡ a)
     (seen : (a : A) → view (back a) ≡ a)
     (joins : (w : Bool) (a b : Tree Place) → value (binary (connective w) a b) ≡ back (op w (view (value a)) (view (value b)))) where
-
   -- what op makes of some expressions, from the last on
   abbrev pub over : Bool → List (Tree Place) → A
   over w [] = none w
@@ -121,7 +120,6 @@ module _ {A B : Type 0} (value : Tree Place → B) (view : B → A) (back : A �
       (at_not : (x y : Tree Place) → value y ≡ value x → value (not y) ≡ value (not x))
       (at_like : (o : LikeOptions) (x p y q : Tree Place) → value y ≡ value x → value q ≡ value p → value (like o y q) ≡ value (like o x p))
       (at_stat : (f : AggregateFnRef) (x y : Tree Place) → value y ≡ value x → value (stat f y) ≡ value (stat f x)) where
-
     at_operands : (o : Operator) (l r : Tree Place) (h k : Halves) → Same h l → Same k r → value (binary o h.whole k.whole) ≡ value (binary o l r)
     at_operands o l r h k x y = at_binary o l r h.whole k.whole x.whole y.whole
 

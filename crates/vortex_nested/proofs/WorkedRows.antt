@@ -1,5 +1,5 @@
 -- Worked rows: chains joined in halves, computed.
-use Rattle.std.proofs.Common.{◌≡◌, ℕ, false, true, Some, refl}
+use Rattle.std.proofs.Common.{◌≡◌, ℕ, true, Some, refl}
 use Rattle.vortex_base.specs.declared.aggregate.AggregateFnRef.TheVariants.{Max}
 use Rattle.vortex_base.specs.declared.dtype.DType.TheVariants as dtype
 use Rattle.vortex_base.specs.declared.scalar_value.ScalarValue.TheVariants as value

@@ -1,5 +1,5 @@
 -- What joining in halves keeps.
-use Rattle.std.specs.Prelude.{◌≡◌, ◌≤◌, ◌+◌, ◌^◌, ℕ, Bool, true, false, List, Option, Some, None, Result, Ok, Err, length}
+use Rattle.std.specs.Prelude.{◌≡◌, ◌≤◌, ◌+◌, ◌^◌, ℕ, Bool, List, Option, Some, None, Result, Ok, Err, length}
 use Rattle.std.specs.List.{AllByRecursion}
 use Rattle.vortex_normal.specs.Balanced.{depth}
 use Rattle.vortex_base.specs.Data.Scalars.{Constant}
@@ -11,6 +11,7 @@ use Rattle.vortex_expr.specs.Meanings.Meaning.{can_evaluate, meaning}
 use Rattle.vortex_expr.specs.Meanings.Typing.{type_of}
 use Rattle.vortex_expr.specs.Trees.Tree.{Tree, Place, all_columns, is_plain}
 use Rattle.vortex_rewrite.specs.Rewriting.Predicates.{is_predicate}
+use Rattle.vortex_rewrite.specs.Rewriting.ReadOnce.{columns_of, is_apart}
 use Rattle.vortex_nested.specs.Halves.{halved, joined}
 
 -- the same value or null on every row
@@ -45,6 +46,14 @@ FitsTheSameScopes = (e : Tree Place) (scope : List Named) → fits_scope (halved
 
 abbrev pub IsAsPlain : Type 0
 IsAsPlain = (e : Tree Place) → is_plain (halved e) ≡ is_plain e
+
+-- the same columns in the same order
+abbrev pub HasTheSameColumnsInOrder : Type 0
+HasTheSameColumnsInOrder = (e : Tree Place) → columns_of (halved e) ≡ columns_of e
+
+-- bounds decide it exactly where they decide the expression
+abbrev pub IsAsDecided : Type 0
+IsAsDecided = (e : Tree Place) → is_apart (halved e) ≡ is_apart e
 
 abbrev pub IsShallow : ℕ → Tree Place → Type 0
 IsShallow d e = depth e ≤ d

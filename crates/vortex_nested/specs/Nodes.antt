@@ -1,9 +1,7 @@
 -- What makes a node, and how deep it is.
-use Rattle.std.specs.Prelude.{◌≡◌, ℕ, ◌≤◌, Bool, List, [], ◌∷◌, Option, Some, None, Result, Ok, Err, max, ⊤}
+use Rattle.std.specs.Prelude.{◌≡◌, ℕ, List, [], ◌∷◌, Option, Some, None, Result, Ok, Err, max, ⊤}
 use Rattle.vortex_expr.specs.Trees.Tree.{Tree, Place, binary, is_null, is_not_null, not, like}
-use Rattle.vortex_syntax.specs.Expressions.{typed}
 use Rattle.vortex_normal.specs.Balanced.{depth}
-use Rattle.vortex_nested.specs.Halves.{joined}
 use Rattle.vortex_nested.specs.declared.error.NestedError.{NestedError}
 use Rattle.vortex_nested.specs.declared.error.NestedError.TheVariants as errors
 use Rattle.vortex_nested.specs.declared.nested.Unary.{Unary}

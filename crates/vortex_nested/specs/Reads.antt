@@ -1,11 +1,11 @@
 -- What a reader of expressions whose chains are joined in halves answers.
-use Rattle.std.specs.Prelude.{◌≡◌, ◌+◌, ◌<◌, ◌≤◌, ℕ, Bool, true, false, List, [], ◌∷◌, ◌++◌, Option, Some, None, Result, Ok, Err, option_and_then, ⊤}
+use Rattle.std.specs.Prelude.{◌≡◌, ◌<◌, ◌≤◌, ℕ, Bool, true, false, List, [], ◌∷◌, ◌++◌, Option, Some, None, Result, Ok, Err, ⊤}
 use Rattle.vortex_base.specs.Data.Scopes.{Named}
-use Rattle.vortex_expr.specs.Trees.Tree.{Tree, Place, between}
+use Rattle.vortex_expr.specs.Trees.Tree.{Tree, Place}
 use Rattle.vortex_expr.specs.declared.scalar_fn.Operator.{Operator}
 use Rattle.vortex_expr.specs.declared.scalar_fn.Operator.TheVariants as operator
 use Rattle.vortex_rewrite.specs.Rewriting.Predicates.{is_predicate}
-use Rattle.vortex_syntax.specs.Expressions.{Read, expression_of, expression_within, form_of, read_between, read_column, read_literal, read_one, read_two}
+use Rattle.vortex_syntax.specs.Expressions.{Read, expression_within, form_of, read_between, read_column, read_literal, read_one, read_two}
 use Rattle.vortex_syntax.specs.Fails.{when, ◌>>=◌}
 use Rattle.vortex_syntax.specs.Words.{Token, plain_word}
 use Rattle.vortex_syntax.specs.declared.form.Form.{Form}

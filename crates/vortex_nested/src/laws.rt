@@ -1,5 +1,5 @@
 //! Laws of joining in halves.
-ghost use Rattle.vortex_nested.specs.Laws.{ChainsAreShallow, EvaluatesTheSame, FitsTheSameScopes, HasTheSameColumns, HasTheSameType, IsAsPlain, IsTheSamePredicate, KeepsItsType, MeansTheSame};
+ghost use Rattle.vortex_nested.specs.Laws.{ChainsAreShallow, EvaluatesTheSame, FitsTheSameScopes, HasTheSameColumns, HasTheSameColumnsInOrder, HasTheSameType, IsAsDecided, IsAsPlain, IsTheSamePredicate, KeepsItsType, MeansTheSame};
 
 /// Joining the chains of an expression in halves keeps its value on every row, null included.
 pub fn means_the_same()
@@ -39,6 +39,16 @@ pub fn fits_the_same_scopes()
 /// It has a placeholder or a row count exactly where the expression has one.
 pub fn is_as_plain()
     ensures { IsAsPlain }
+{}
+
+/// It has the same columns in the same order.
+pub fn has_the_same_columns_in_order()
+    ensures { HasTheSameColumnsInOrder }
+{}
+
+/// Bounds decide it exactly where they decide the expression.
+pub fn is_as_decided()
+    ensures { IsAsDecided }
 {}
 
 /// A chain is deeper than its items by no more than the logarithm of their number, rounded up.

@@ -91,7 +91,10 @@ impl Nested {
         requires { depth expression ≡ 0 }
         ensures { result ≡ expression }
     {
-        Nested { expression, depth: 0 }
+        Nested {
+            expression,
+            depth: 0,
+        }
     }
 
     pub(crate) fn depth(&self) -> usize

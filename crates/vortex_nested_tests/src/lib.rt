@@ -1,4 +1,5 @@
-//! Tests of `vortex_nested`: time and stack, which no contract bounds, and a growth that is refused.
+//! Tests of `vortex_nested`: time and stack, which no contract bounds, and a growth that is
+//! refused.
 #![tactic(auto)]
 
 #[cfg(test)]

@@ -87,7 +87,11 @@ pub fn not(alloc: Global, x: BoundExpression, behind: usize) -> Result<BoundExpr
 
 /// Makes an IS NULL.
 #[inline(never)]
-pub fn is_null(alloc: Global, x: BoundExpression, behind: usize) -> Result<BoundExpression, LineError>
+pub fn is_null(
+    alloc: Global,
+    x: BoundExpression,
+    behind: usize,
+) -> Result<BoundExpression, LineError>
     ensures { Gives (λ e. e) result (spec.typed (tree.is_null x)) }
 {
     match bound::is_null(alloc, x) {

@@ -1,4 +1,4 @@
-use Rattle.std.proofs.Common.{◌≡◌, ◌≤◌, ◌<◌, ap, ◌∙◌, arith, length, subst, sym}
+use Rattle.std.proofs.Common.{◌≤◌, ◌<◌, ap, ◌∙◌, arith, length}
 use Rattle.vortex_normal.specs.Balanced.{depth}
 use Rattle.vortex_nested.specs.Halves as spec
 use Rattle.vortex_nested.specs.Nodes.{deepest}
@@ -11,11 +11,11 @@ pub returns-in-Err : goal.returns-in-Err
 returns-in-Err c =
     still_deep _ _ c.in-Err.e c.in-Err.ensures
     (λ deep.
-        let left = c.turns.left.items in
-        let w = c.args.is_and in
-        let same = ap depth (paired_joined w left ∙ c.turns.invariant.whole) in
-        let below : c.args.below ≤ deepest (spec.paired w left) = deep in
-        omega (arith, below, same, deepest_joined w (spec.paired w left)))
+    let left = c.turns.left.items in
+    let w = c.args.is_and in
+    let same = ap depth (paired_joined w left ∙ c.turns.invariant.whole) in
+    let below : c.args.below ≤ deepest (spec.paired w left) = deep in
+    omega (arith, below, same, deepest_joined w (spec.paired w left)))
 
 pub turns-smaller : goal.turns-smaller
 turns-smaller c =

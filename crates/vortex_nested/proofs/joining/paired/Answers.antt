@@ -1,7 +1,5 @@
-use Rattle.std.proofs.Common.{◌≡◌, ◌≤◌, ◌⊎◌, ◌∷◌, ◌++◌, sym, ap, ◌∙◌, length}
-use Rattle.std.specs.Vec.Iter.{into_iter_items, into_iter_len}
-use Rattle.vortex_normal.specs.Balanced.{depth}
-use Rattle.vortex_nested.specs.Nodes.{deepest}
+use Rattle.std.proofs.Common.{◌≡◌, ◌∷◌, ◌++◌, sym, ap, ◌∙◌}
+use Rattle.std.specs.Vec.Iter.{into_iter_items}
 use Rattle.vortex_nested.specs.Halves as spec
 use Rattle.vortex_nested.proofs.Failures.{still_deep, pair_deep}
 use Rattle.vortex_nested.proofs.joining.paired.Goals as goal

@@ -1,12 +1,11 @@
-use Rattle.std.proofs.Common.{◌≡◌, ◌+◌, ◌-◌, ◌<◌, ◌≤◌, ◌∷◌, ◌++◌, [], ℕ, Bool, true, false, List, Some, sym, ap, ◌∙◌, subst, arith, length}
+use Rattle.std.proofs.Common.{◌≡◌, ◌+◌, ◌-◌, ◌∷◌, ◌++◌, [], ℕ, true, false, List, sym, ap, ◌∙◌, subst, arith, length}
 use Rattle.vortex_expr.specs.Trees.Tree.{Tree, Place}
 use Rattle.vortex_rewrite.specs.Rewriting.Predicates.{is_predicate}
 use Rattle.vortex_base.specs.Data.Scopes.{named_columns}
-use Rattle.vortex_normal.specs.Balanced.{depth}
 use Rattle.vortex_syntax.specs.Words.{words}
 use Rattle.vortex_nested.specs.Reads.{chain_within, joined_read, nested_within}
 use Rattle.vortex_nested.specs.declared.shape.Shape.TheVariants as shape
-use Rattle.vortex_nested.proofs.Left.{Left, chain_long, joined_fails, joined_ok, left_done, left_fails, left_item, left_opened, left_start, left_untrue}
+use Rattle.vortex_nested.proofs.Left.{Left, chain_long, left_done, left_fails, left_item, left_opened, left_start, left_untrue}
 use Rattle.vortex_nested.proofs.Operands.{one_fails, left_operand_fails, right_operand_fails, two_ok, first_end_fails, second_end_fails, third_end_fails, between_fails, ends_ok}
 use Rattle.vortex_nested.proofs.Shapes.{by_shape}
 use Rattle.vortex_nested.proofs.reader.+nested.Goals as goal
@@ -108,17 +107,17 @@ read_between-returns-in-Ok-between-clause-read t c = λ most fits.
     c.in-Ok.ensures.read x.0 x.1 l.0 l.1 u.0 u.1 c.in-Ok-between.ensures
 
 pub read_between-between-requires-clause-x_fits : goal.read_between-between-requires-clause-x_fits
-read_between-between-requires-clause-x_fits t c = 
+read_between-between-requires-clause-x_fits t c =
     let below = (c.in-Ok-read_nested.ensures.read (length (words c.in-Ok.found.1.now)) (omega arith)).1 in
     omega (arith, below, c.requires)
 
 pub read_between-between-requires-clause-lower_fits : goal.read_between-between-requires-clause-lower_fits
-read_between-between-requires-clause-lower_fits t c = 
+read_between-between-requires-clause-lower_fits t c =
     let below = (c.in-Ok-read_nested-2.ensures.read (length (words c.in-Ok-read_nested.found.1.now)) (omega arith)).1 in
     omega (arith, below, c.requires)
 
 pub read_between-between-requires-clause-upper_fits : goal.read_between-between-requires-clause-upper_fits
-read_between-between-requires-clause-upper_fits t c = 
+read_between-between-requires-clause-upper_fits t c =
     let below = (c.in-Ok-read_nested-3.ensures.read (length (words c.in-Ok-read_nested-2.found.1.now)) (omega arith)).1 in
     omega (arith, below, c.requires)
 

@@ -1,4 +1,4 @@
-use Rattle.std.proofs.Common.{◌≡◌, ◌∙◌, Some, ap, arith, sym}
+use Rattle.std.proofs.Common.{◌∙◌, Some, ap, arith, sym}
 use Rattle.vortex_normal.specs.Balanced.{depth}
 use Rattle.vortex_syntax.specs.Words.{words}
 use Rattle.vortex_expr.specs.Trees.Tree.{Tree, Place}
@@ -7,7 +7,6 @@ use Rattle.vortex_nested.proofs.reader.read_literal.Goals as goal
 
 pub leaf-requires : goal.leaf-requires
 leaf-requires c = literal_leaf (words c.args.line.now) (c.in-Ok.literal, words c.in-Ok.rest.now) c.in-Ok.ensures.read
-
 
 pub returns-in-Ok-clause-read : goal.returns-in-Ok-clause-read
 returns-in-Ok-clause-read c =
