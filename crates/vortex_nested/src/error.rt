@@ -6,7 +6,7 @@ ghost use Rattle.vortex_nested.specs.declared.error.NestedError.TheVariants.{Mem
 use std::alloc::{AllocError, AllocFailed};
 use vortex_syntax::line_error::LineError;
 
-/// Why an expression is not read.
+/// Says why an expression is not read.
 #[derive(Clone, Copy, Debug, PartialEq, Eq)]
 pub enum NestedError {
     /// Memory was refused.

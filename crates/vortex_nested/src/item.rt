@@ -12,7 +12,7 @@ use std::alloc::Global;
 use std::marker::Model;
 use vortex_expr::scalar_fn::Operator;
 
-/// A truth, and how deep it is.
+/// Holds an item of a chain: an expression of type Bool.
 #[derive(Drop)]
 pub(crate) struct Item {
     nested: Nested,
@@ -41,6 +41,7 @@ fn connective(is_and: bool) -> Operator
 }
 
 impl Item {
+    /// Makes an item of a truth.
     pub(crate) fn new(nested: Nested) -> Item
         requires { IsTrue (is_predicate nested) }
         ensures { result ≡ nested }
@@ -48,13 +49,14 @@ impl Item {
         Item { nested }
     }
 
+    /// Returns the expression.
     pub(crate) fn into_nested(self) -> Nested
         ensures { result ≡ self }
     {
         self.nested
     }
 
-    /// Two items joined by AND or by OR, unless one of them is no less deep than is allowed.
+    /// Joins two items by AND or by OR, or refuses one that has `below` levels or more.
     pub(crate) fn joined(
         alloc: Global,
         is_and: bool,

@@ -9,7 +9,7 @@ use crate::item::Item;
 use crate::nested::Nested;
 use std::alloc::Global;
 
-// Neighbours joined by AND or by OR; the last of an odd number stays as it is.
+// Joins neighbours by AND or by OR; the last of an odd number stays as it is.
 fn paired(
     alloc: Global,
     is_and: bool,
@@ -33,7 +33,8 @@ fn paired(
     Ok(pairs)
 }
 
-/// The expression that items make up, joined by AND or by OR in halves, in time that is linear.
+/// Joins the items of a chain by AND or by OR in halves, in time linear in their number, or refuses
+/// what has `below` levels or more.
 #[inline(never)]
 pub(crate) fn joined(
     alloc: Global,

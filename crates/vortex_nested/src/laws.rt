@@ -1,57 +1,57 @@
-//! Laws of joining in halves.
+//! Says what joining the chains of an expression in halves keeps.
 ghost use Rattle.vortex_nested.specs.Laws.{ChainsAreShallow, EvaluatesTheSame, FitsTheSameScopes, HasTheSameColumns, HasTheSameColumnsInOrder, HasTheSameType, IsAsDecided, IsAsPlain, IsTheSamePredicate, KeepsItsType, MeansTheSame};
 
-/// Joining the chains of an expression in halves keeps its value on every row, null included.
+/// Keeps the value of an expression on every row, null included.
 pub fn means_the_same()
     ensures { MeansTheSame }
 {}
 
-/// The expression evaluates on the same rows, and has the same fault on the others.
+/// Keeps the rows on which the expression evaluates, and its fault on the others.
 pub fn evaluates_the_same()
     ensures { EvaluatesTheSame }
 {}
 
-/// It has the same type, or none where the expression has none.
+/// Gives the type of the expression, or none where it has none.
 pub fn has_the_same_type()
     ensures { HasTheSameType }
 {}
 
-/// An expression that has a type keeps it.
+/// Keeps the type of an expression that has one.
 pub fn keeps_its_type()
     ensures { KeepsItsType }
 {}
 
-/// It is a predicate exactly where the expression is one.
+/// Makes a predicate of a predicate alone.
 pub fn is_the_same_predicate()
     ensures { IsTheSamePredicate }
 {}
 
-/// A test passes at each of its columns exactly where it does at each of the expression's.
+/// Keeps whether a test passes at each column.
 pub fn has_the_same_columns()
     ensures { HasTheSameColumns }
 {}
 
-/// It fits the same scopes.
+/// Keeps the scopes that the expression fits.
 pub fn fits_the_same_scopes()
     ensures { FitsTheSameScopes }
 {}
 
-/// It has a placeholder or a row count exactly where the expression has one.
+/// Keeps whether there is a placeholder or a row count.
 pub fn is_as_plain()
     ensures { IsAsPlain }
 {}
 
-/// It has the same columns in the same order.
+/// Keeps the columns and their order.
 pub fn has_the_same_columns_in_order()
     ensures { HasTheSameColumnsInOrder }
 {}
 
-/// Bounds decide it exactly where they decide the expression.
+/// Keeps whether bounds decide the expression.
 pub fn is_as_decided()
     ensures { IsAsDecided }
 {}
 
-/// A chain is deeper than its items by no more than the logarithm of their number, rounded up.
+/// Makes a chain deeper than its items by no more than the logarithm of their number, rounded up.
 pub fn chains_are_shallow()
     ensures { ChainsAreShallow }
 {}

@@ -1,4 +1,7 @@
-//! Predicates in prefix words whose chains of AND and of OR are joined in halves.
+//! Reads expressions in prefix form, and joins each chain of AND and of OR in halves.
+//!
+//! A chain of any length and shape is read by a loop, so a bound on the levels of the expression
+//! bounds how deep the calls nest.
 #![tactic(auto)]
 
 pub mod error;

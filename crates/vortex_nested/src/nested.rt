@@ -17,7 +17,7 @@ use vortex_expr::scalar_fn::{BetweenOptions, Operator};
 use vortex_syntax::expression;
 use vortex_syntax::line_error::LineError;
 
-/// What tests one operand.
+/// Names a test of one operand.
 #[derive(Clone, Copy, Debug)]
 pub(crate) enum Unary {
     Not,
@@ -25,14 +25,14 @@ pub(crate) enum Unary {
     IsNotNull,
 }
 
-/// What is made of two operands and joins no chain.
+/// Names a node of two operands that joins no chain.
 #[derive(Clone, Copy, Debug)]
 pub(crate) enum Pair {
     Binary(Operator),
     Like(LikeOptions),
 }
 
-/// An expression and the most nodes above a leaf of it.
+/// Holds an expression and its depth, the most nodes above a leaf.
 #[derive(Drop)]
 pub(crate) struct Nested {
     expression: BoundExpression,
@@ -86,7 +86,7 @@ fn pair_node(
 }
 
 impl Nested {
-    /// A leaf.
+    /// Makes a leaf.
     pub(crate) fn leaf(expression: BoundExpression) -> Nested
         requires { depth expression ≡ 0 }
         ensures { result ≡ expression }
@@ -97,25 +97,28 @@ impl Nested {
         }
     }
 
+    /// Returns the most nodes above a leaf.
     pub(crate) fn depth(&self) -> usize
         ensures { result ≡ depth self.now }
     {
         self.depth
     }
 
+    /// Returns the expression.
     pub(crate) fn into_expression(self) -> BoundExpression
         ensures { result ≡ self }
     {
         self.expression
     }
 
+    /// Tells whether the expression is of type Bool.
     pub(crate) fn is_truth(&self) -> bool
         ensures { result ≡ is_predicate self.now }
     {
         matches!(self.expression.dtype(), DType::Bool(_))
     }
 
-    /// A test of an operand, with so many bytes of the line left.
+    /// Makes a test of an operand. So many bytes of the line are left.
     #[inline(never)]
     pub(crate) fn unary(
         alloc: Global,
@@ -131,7 +134,7 @@ impl Nested {
         Ok(Nested { expression, depth })
     }
 
-    /// A node over two operands.
+    /// Makes a node of two operands.
     #[inline(never)]
     pub(crate) fn pair(
         alloc: Global,
@@ -149,7 +152,7 @@ impl Nested {
         Ok(Nested { expression, depth })
     }
 
-    /// A BETWEEN.
+    /// Makes a BETWEEN.
     #[inline(never)]
     pub(crate) fn between(
         alloc: Global,

@@ -19,7 +19,7 @@ use vortex_syntax::expression;
 use vortex_syntax::form::form_of;
 use vortex_syntax::word::plain_word;
 
-// `NAME`: a column.
+// Reads a column, `NAME`.
 #[inline(never)]
 fn read_column<'a>(
     alloc: Global,
@@ -36,7 +36,7 @@ fn read_column<'a>(
     }
 }
 
-// `TYPE VALUE`: a literal.
+// Reads a literal, `TYPE VALUE`.
 #[inline(never)]
 fn read_literal(alloc: Global, line: &[u8]) -> Result<(Nested, &[u8]), NestedError>
     ensures read { (below : ℕ) → 0 < below → Reads below (λ x. (x.0, words x.1.now)) result
@@ -49,7 +49,7 @@ fn read_literal(alloc: Global, line: &[u8]) -> Result<(Nested, &[u8]), NestedErr
     }
 }
 
-// The line behind the AND or the OR that it begins with.
+// Returns the line behind the AND or the OR that it begins with.
 fn behind(is_and: bool, line: &[u8]) -> Option<&[u8]>
     ensures behind { option_map {U = List Token} (λ rest. words rest.now) result
         ≡ spec.behind is_and (words line.now) }
@@ -62,10 +62,10 @@ fn behind(is_and: bool, line: &[u8]) -> Option<&[u8]>
     }
 }
 
-// What follows calls itself by way of `read_nested`, one call deeper for each level of the
-// expression: it matches on what its callees answer, since `?` makes the frame of each call larger.
+// What follows calls itself by way of `read_nested`, once for each level of the expression. It
+// matches on what its callees answer, since `?` makes the frame of each call larger.
 
-// The operand of a test.
+// Reads the operand of a test.
 #[cycle(nested)]
 #[inline(never)]
 fn read_unary<'a>(
@@ -92,7 +92,7 @@ fn read_unary<'a>(
     }
 }
 
-// Two operands, one after the other, of a node that joins no chain.
+// Reads the two operands of a node that joins no chain.
 #[cycle(nested)]
 #[inline(never)]
 fn read_pair<'a>(
@@ -123,7 +123,7 @@ fn read_pair<'a>(
     }
 }
 
-// How the ends of a BETWEEN are compared, its operand and its ends.
+// Reads how the ends of a BETWEEN are compared, its operand and its ends.
 #[cycle(nested)]
 #[inline(never)]
 fn read_between<'a>(
@@ -161,8 +161,8 @@ fn read_between<'a>(
     }
 }
 
-// The items of a chain of AND or of OR, behind its first word, and the line after them. Another
-// such word in the chain stands for one more item.
+// Reads the items of a chain of AND or of OR behind its first word. The same word before an item
+// stands for one more item.
 #[cycle(nested)]
 #[inline(never)]
 fn read_items<'a>(
@@ -210,7 +210,7 @@ fn read_items<'a>(
     Ok((items, rest))
 }
 
-// A chain of AND or of OR, behind its first word, joined in halves.
+// Reads a chain of AND or of OR behind its first word, and joins it in halves.
 #[cycle(nested)]
 #[inline(never)]
 fn read_chain<'a>(
@@ -237,8 +237,8 @@ fn read_chain<'a>(
     }
 }
 
-/// The expression that a line begins with, its chains joined in halves, and the line after it. It
-/// has to be less deep than `below`.
+/// Reads the expression that a line begins with, joins its chains in halves, and gives the line after
+/// it. Refuses an expression with `below` levels or more.
 #[cycle(nested)]
 pub(crate) fn read_nested<'a>(
     alloc: Global,

@@ -6,7 +6,7 @@ use crate::nested::{Pair, Unary};
 use vortex_expr::scalar_fn::Operator;
 use vortex_syntax::form::Form;
 
-/// What stands behind the first word of an expression.
+/// Tells what stands behind the first word of an expression.
 #[derive(Clone, Copy, Debug)]
 pub(crate) enum Shape {
     Column,
@@ -28,7 +28,7 @@ fn shape_of_operator(operator: Operator) -> Shape
     }
 }
 
-/// The shape of a form.
+/// Returns the shape of a form.
 pub(crate) fn shape_of(form: Form) -> Shape
     ensures { result ≡ shape_of form }
 {

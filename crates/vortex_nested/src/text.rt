@@ -1,4 +1,4 @@
-//! The expression that a text is.
+//! Reads the expression that a text is.
 ghost use Rattle.std.specs.Prelude.{◌≡◌, ◌≤◌, IfOk, IsErrOf, None};
 ghost use Rattle.vortex_base.specs.Data.Scopes.{named_columns};
 ghost use Rattle.vortex_normal.specs.Balanced.{depth};
@@ -13,16 +13,17 @@ use vortex_expr::bound_expression::BoundExpression;
 use vortex_syntax::columns::Columns;
 use vortex_syntax::word::no_word;
 
-/// Reads the expression that a text is, its chains of AND and of OR joined in halves, in time that
-/// is linear in the text but for the joining.
+/// Reads the expression that a text is, and joins its chains of AND and of OR in halves.
 ///
-/// `levels` bounds the nodes above a leaf of what comes out, and the calls that nest: however it is
-/// written, a chain of 100,000 items adds 17. A column and a literal have none.
+/// `levels` bounds the nodes above a leaf of the result, and how deep the calls nest. A column and
+/// a literal have no level. A chain of 100,000 items adds 17, however it is written. The time is
+/// linear in the text.
 ///
 /// # Errors
 ///
-/// `Bad` of a text that is no expression over the columns; `TooDeep` of one whose expression has
-/// more levels, and maybe of one that is no expression; `Memory` where memory is refused.
+/// `Bad` comes of a text that is no expression over the columns. `TooDeep` comes of an expression
+/// with more levels; it may come of a text that is no expression, too. `Memory` comes where memory
+/// is refused.
 pub fn nested_expression(
     alloc: Global,
     columns: &Columns,
