@@ -22,8 +22,9 @@ use vortex_expr::bound_expression::BoundExpression;
 use vortex_expr::like::LikeOptions;
 use vortex_expr::scalar_fn::{BetweenOptions, Operator};
 
+/// Makes an operator of two operands, or refuses operands that the typing table has no type for.
 #[inline(never)]
-fn binary(
+pub fn binary(
     alloc: Global,
     operator: Operator,
     left: BoundExpression,
@@ -38,8 +39,9 @@ fn binary(
     }
 }
 
+/// Makes a BETWEEN, or refuses operands that the typing table has no type for.
 #[inline(never)]
-fn between(
+pub fn between(
     alloc: Global,
     options: BetweenOptions,
     x: BoundExpression,
@@ -55,8 +57,9 @@ fn between(
     }
 }
 
+/// Makes a LIKE, or refuses operands that the typing table has no type for.
 #[inline(never)]
-fn like(
+pub fn like(
     alloc: Global,
     options: LikeOptions,
     text: BoundExpression,
@@ -71,8 +74,9 @@ fn like(
     }
 }
 
+/// Makes a NOT, or refuses an operand that is no truth.
 #[inline(never)]
-fn not(alloc: Global, x: BoundExpression, behind: usize) -> Result<BoundExpression, LineError>
+pub fn not(alloc: Global, x: BoundExpression, behind: usize) -> Result<BoundExpression, LineError>
     ensures { Gives (λ e. e) result (spec.typed (tree.not x)) }
 {
     match bound::not(alloc, x) {
@@ -81,8 +85,13 @@ fn not(alloc: Global, x: BoundExpression, behind: usize) -> Result<BoundExpressi
     }
 }
 
+/// Makes an IS NULL.
 #[inline(never)]
-fn is_null(alloc: Global, x: BoundExpression, behind: usize) -> Result<BoundExpression, LineError>
+pub fn is_null(
+    alloc: Global,
+    x: BoundExpression,
+    behind: usize,
+) -> Result<BoundExpression, LineError>
     ensures { Gives (λ e. e) result (spec.typed (tree.is_null x)) }
 {
     match bound::is_null(alloc, x) {
@@ -91,8 +100,9 @@ fn is_null(alloc: Global, x: BoundExpression, behind: usize) -> Result<BoundExpr
     }
 }
 
+/// Makes an IS NOT NULL.
 #[inline(never)]
-fn is_not_null(
+pub fn is_not_null(
     alloc: Global,
     x: BoundExpression,
     behind: usize,
@@ -105,8 +115,8 @@ fn is_not_null(
     }
 }
 
-// `NAME`: a column.
-fn read_column<'a>(
+/// Reads a column, `NAME`, and gives the line after it.
+pub fn read_column<'a>(
     alloc: Global,
     columns: &Columns,
     line: &'a [u8],
@@ -149,8 +159,8 @@ fn literal(
     }
 }
 
-// `TYPE VALUE`: a literal.
-fn read_literal(alloc: Global, line: &[u8]) -> Result<(BoundExpression, &[u8]), LineError>
+/// Reads a literal, `TYPE VALUE`, and gives the line after it.
+pub fn read_literal(alloc: Global, line: &[u8]) -> Result<(BoundExpression, &[u8]), LineError>
     ensures read { Gives (λ x. (x.0, words x.1.now)) result (spec.read_literal (words line.now)) }
     ensures fewer { IfOk result (λ x. length (words x.1.now) < length (words line.now)) }
 {
@@ -163,8 +173,8 @@ fn read_literal(alloc: Global, line: &[u8]) -> Result<(BoundExpression, &[u8]), 
     Ok((literal(alloc, dtype, value, line.len())?, rest))
 }
 
-// `LOP UOP`: how the ends of a BETWEEN are compared.
-fn read_options(line: &[u8]) -> Result<(BetweenOptions, &[u8]), LineError>
+/// Reads how the ends of a BETWEEN are compared, `LOP UOP`, and gives the line after it.
+pub fn read_options(line: &[u8]) -> Result<(BetweenOptions, &[u8]), LineError>
     ensures read { Gives (λ x. (x.0, words x.1.now)) result (spec.read_options (words line.now)) }
     ensures fewer { IfOk result (λ x. length (words x.1.now) < length (words line.now)) }
 {

@@ -1,0 +1,6 @@
+pub mod Errors
+pub mod Halves
+pub mod Laws
+pub mod Nodes
+pub mod Reads
+pub mod Texts
