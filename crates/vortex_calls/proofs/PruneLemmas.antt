@@ -1,5 +1,5 @@
 -- What the answers for zones list.
-use Rattle.std.proofs.Common.{◌≡◌, ◌≢◌, ◌==◌, ◌+◌, ◌++◌, ◌∙◌, ℕ, Bool, true, false, if◌then◌else◌, filter, List, [], ◌∷◌, Option, Result, Ok, Err, IfOk, IsOk, IsTrue, ap, append-nil, append_assoc, arith, eq-eqb, length, map, refl, subst, sym}
+use Rattle.std.proofs.Common.{◌≡◌, ◌≢◌, ◌==◌, ◌+◌, ◌++◌, ◌∙◌, ℕ, Bool, true, false, if◌then◌else◌, filter, List, [], ◌∷◌, Option, Result, Ok, Err, IfOk, IsOk, IsTrue, ap, append-nil, append_assoc, arith, eq-eqb, inl, inr, length, map, refl, subst, sym}
 use Rattle.std.proofs.lemmas.List.{length-map, map-append, map_push}
 use Rattle.std.specs.List.{enumerate_from}
 use Rattle.vortex_base.specs.Data.Scopes.{Named}
@@ -22,11 +22,18 @@ use Rattle.vortex_calls.specs.declared.status.Status.{Status}
 use Rattle.vortex_calls.specs.declared.status.Status.TheVariants.{BadLine, TooShort, NoMemory, BadKind, BadStat, BadKnown, BadLength, BadEnds, BadValue, BadNull, Untrue, BadColumn, BadName, NotAPredicate, BadFlag, TooDeep}
 use Rattle.vortex_calls.specs.declared.table.Known.{Known}
 use Rattle.vortex_calls.specs.declared.table.Source.{Source}
-use Rattle.vortex_calls.specs.Prunes.{Asked, IsComplete, IsPruned, IsReached, IsRefused, IsSound, IsWellAsked, answer_by, answered, answers_of, asked, asked_of, normalizes, table_answers, with_places, zone_answer, zone_answers}
+use Rattle.vortex_calls.specs.Prunes.{Asked, IsComplete, IsFormOver, IsPruned, IsReached, IsRefused, IsSound, IsWellAsked, answer_by, answered, answers_of, asked, asked_of, form_given, normalizes, table_answers, with_places, zone_answer, zone_answers}
 use Rattle.vortex_calls.specs.Refusals.{Answers, all_found, followed}
-use Rattle.vortex_calls.specs.Scopes.{predicate_given, scope_given}
+use Rattle.vortex_calls.specs.Scopes.{AnswersText, IsRefusedText, predicate_given, scope_given}
+use Rattle.vortex_base.specs.Data.Columns.{IsRow}
+use Rattle.vortex_base.specs.Data.Scalars.{Constant}
+use Rattle.vortex_expr.specs.Meanings.Fitting.{fits_row}
+use Rattle.vortex_expr.specs.Meanings.Meaning.{is_true}
+use Rattle.vortex_nested.specs.Halves.{halved}
+use Rattle.vortex_nested.proofs.Columns.{same_columns, same_fit, same_plain}
+use Rattle.vortex_nested.proofs.Meanings.{same_meaning}
 use Rattle.vortex_calls.specs.Statuses.{nowhere, status_number}
-use Rattle.vortex_calls.specs.Tables.{known_zone, zone_at, zones_given}
+use Rattle.vortex_calls.specs.Tables.{known_zone, sources_given, zone_at, zones_given}
 use Rattle.vortex_calls.proofs.NormalLemmas.{sound_of_same}
 use Rattle.vortex_calls.proofs.ReadLemmas.{followed_read, found_long}
 
@@ -148,22 +155,49 @@ not_four s h is = h (ap status_number is)
 
 refused_asked : (asked : Result Asked Refusal) (r : Refusal) → followed asked (λ a. Ok (answers_of a)) ≡ Err r → IsRefused asked (status_number r.status) r.fault
 refused_asked (Ok a) r h = absurd cc
-refused_asked (Err e) r h = let same : r ≡ e = cc in (ap (λ (x : Refusal). status_number x.status) same, ap (λ (x : Refusal). x.fault) same)
+refused_asked (Err e) r h = let same : r ≡ e = cc in inl (ap (λ (x : Refusal). status_number x.status) same, ap (λ (x : Refusal). x.fault) same)
 
-pub asked_refused : (asked : Result Asked Refusal) (r : Refusal) → (r.status ≢ NoMemory → followed asked (λ a. Ok (answers_of a)) ≡ Err r) → status_number r.status ≢ 4 → IsRefused asked (status_number r.status) r.fault
-asked_refused asked r h four = refused_asked asked r (h (not_four r.status four))
+deep_asked : (asked : Result Asked Refusal) (r : Refusal) → r ≡ nowhere TooDeep → followed asked (λ a. Ok (answers_of a)) ≡ Err (nowhere BadLine) → IsRefused asked (status_number r.status) r.fault
+deep_asked (Ok a) r told h = absurd cc
+deep_asked (Err e) r told h =
+    let same : e ≡ nowhere BadLine = cc in
+    inr (same, (ap (λ (x : Refusal). status_number x.status) told, ap (λ (x : Refusal). x.fault) told))
+
+text_asked : (asked : Result Asked Refusal) (r : Refusal) → IsRefusedText (followed asked (λ a. Ok (answers_of a))) r → IsRefused asked (status_number r.status) r.fault
+text_asked asked r h = elim h [
+  | inl same ↦ refused_asked asked r same
+  | inr deep ↦ deep_asked asked r deep.0 deep.1
+]
+
+pub asked_refused : (asked : Result Asked Refusal) (r : Refusal) → (r.status ≢ NoMemory → IsRefusedText (followed asked (λ a. Ok (answers_of a))) r) → status_number r.status ≢ 4 → IsRefused asked (status_number r.status) r.fault
+asked_refused asked r h four = text_asked asked r (h (not_four r.status four))
 
 pub asked_is : (fields : List Field) (rows : List ℕ) (stats : List Statistic) (text : List ℕ) (flags room : ℕ) (n : Bool) (scope : List Named) (p : Tree Place) → normalizes flags ≡ Ok n → room ≡ length rows → scope_given fields ≡ Ok scope
-    → predicate_given scope text ≡ Ok p → asked fields rows stats text flags room ≡ asked_of scope rows stats n p
+    → predicate_given scope text ≡ Ok p → asked fields rows stats text flags room ≡ asked_of scope rows stats n p (halved p)
 asked_is fields rows stats text flags room n scope p flag long is given =
-    let last = λ (k : Bool) (s : List Named). followed (predicate_given s text) (asked_of s rows stats k) in
+    let last = λ (k : Bool) (s : List Named). followed (predicate_given s text) (λ e. asked_of s rows stats k e (halved e)) in
     let third = λ (k : Bool) (u : Unit {0}). followed (scope_given fields) (last k) in
     let second = λ (k : Bool). followed (with_places room rows) (third k) in
     let there : with_places room rows ≡ Ok tt = ap (λ b. if b then Ok tt else Err (nowhere BadLength)) (eq-eqb room (length rows) long) in
-    followed_read (normalizes flags) second n flag ∙ followed_read (with_places room rows) (third n) tt there ∙ followed_read (scope_given fields) (last n) scope is ∙ followed_read (predicate_given scope text) (asked_of scope rows stats n) p given
+    followed_read (normalizes flags) second n flag ∙ followed_read (with_places room rows) (third n) tt there ∙ followed_read (scope_given fields) (last n) scope is ∙ followed_read (predicate_given scope text) (λ e. asked_of scope rows stats n e (halved e)) p given
 
-pub asked_as : {X : Type 0} (view : X → List ℕ) (r : Result X Refusal) (x y : Result Asked Refusal) → y ≡ x → Answers view r (followed x (λ a. Ok (answers_of a))) → Answers view r (followed y (λ a. Ok (answers_of a)))
-asked_as view r x y is h = subst (λ z. Answers view r (followed z (λ a. Ok (answers_of a)))) (sym is) h
+-- what is answered without a text is answered with one
+pub text_answers : {X Y : Type 0} (view : X → Y) (r : Result X Refusal) (read : Result Y Refusal) → Answers view r read → AnswersText view r read
+text_answers view (Ok x) read h = h
+text_answers view (Err e) read h = λ other. inl (h other)
+
+pub asked_as : {X : Type 0} (view : X → List ℕ) (r : Result X Refusal) (x y : Result Asked Refusal) → y ≡ x → Answers view r (followed x (λ a. Ok (answers_of a))) → AnswersText view r (followed y (λ a. Ok (answers_of a)))
+asked_as view r x y is h = text_answers view r (followed y (λ a. Ok (answers_of a))) (subst (λ z. Answers view r (followed z (λ a. Ok (answers_of a)))) (sym is) h)
+
+-- ---- a form of a predicate whose chains are joined in halves is one of the predicate
+
+pub form_of_halved : (scope : List Named) (given form : Tree Place) → IsFormOver scope (halved given) form → IsFormOver scope given form
+form_of_halved scope given form h = record {
+  plain = h.plain;
+  fits = h.fits;
+  truth = h.truth;
+  same = λ (row : List Constant) n is fits less. h.same row n is (same_columns given _ ∙ fits) less ∙ ap is_true (same_meaning row n given);
+}
 
 pub not_zero : (s : Status) → status_number s ≡ 0 → ⊥
 not_zero BadLine h = omega (arith, h)
@@ -183,10 +217,30 @@ not_zero NotAPredicate h = omega (arith, h)
 not_zero BadFlag h = omega (arith, h)
 not_zero TooDeep h = omega (arith, h)
 
-pub refused_pruning : (asked : Result Asked Refusal) (old : List ℕ) (r : Refusal) (n : ℕ) → n ≡ status_number r.status → (r.status ≢ NoMemory → followed asked (λ a. Ok (answers_of a)) ≡ Err r) → IsPruned asked old n old r.fault
+pub refused_pruning : (asked : Result Asked Refusal) (old : List ℕ) (r : Refusal) (n : ℕ) → n ≡ status_number r.status → (r.status ≢ NoMemory → IsRefusedText (followed asked (λ a. Ok (answers_of a))) r) → IsPruned asked old n old r.fault
 refused_pruning asked old r n is h = record {
   answered = λ zero. absurd (not_zero r.status (sym is ∙ zero));
   answers = λ zero. absurd (not_zero r.status (sym is ∙ zero));
   unchanged = λ _. refl;
   refused = λ _ four. subst (λ k. IsRefused asked k r.fault) (sym is) (asked_refused asked r h (λ e. four (is ∙ e)));
 }
+
+-- ---- the sets of the zones fit the scope, and both predicates are ones over it
+
+pub mapped : {X Y : Type 0} {P Q : Type 0} (r : Result X Y) → (P → Q) → IfOk r (λ x. P) → IfOk r (λ x. Q)
+mapped (Ok x) f h = f h
+mapped (Err e) f h = tt
+
+module _ (scope : List Named) (given form : Tree Place) (plain : IsTrue (is_plain given)) (fits : IsTrue (fits_scope given scope)) (over : IsFormOver scope given form) where
+  well_zones : (read : Result (List ZoneData) Refusal) → IfOk read (λ zones. IsTrue (zones_fit scope zones)) → IfOk (followed read (λ zones. Ok (record { scope = scope; zones = zones; given = given; pruned_by = form }))) IsWellAsked
+  well_zones (Ok zones) fit = record { zones = fit; plain = plain; fits = fits; form = over }
+  well_zones (Err r) fit = tt
+
+pub well_asked : (scope : List Named) (rows : List ℕ) (stats : List Statistic) (normalized : Bool) (given p : Tree Place) (sources : List Source) (form : Tree Place) → p ≡ halved given → IsTrue (is_plain p) → IsTrue (fits_scope p scope)
+    → sources_given scope (length rows) stats ≡ Ok sources → form_given normalized p ≡ Ok form → IsFormOver scope p form → IfOk (zones_given scope sources rows) (λ zones. IsTrue (zones_fit scope zones)) → IfOk (asked_of scope rows stats normalized given p) IsWellAsked
+well_asked scope rows stats normalized given p sources form is plain fits read made over fit =
+    let last = λ (xs : List Source) (f : Tree Place). followed (zones_given scope xs rows) (λ zones. Ok (record { scope = scope; zones = zones; given = given; pruned_by = f })) in
+    let told : asked_of scope rows stats normalized given p ≡ last sources form = followed_read (sources_given scope (length rows) stats) (λ xs. followed (form_given normalized p) (last xs)) sources read ∙ followed_read (form_given normalized p) (last sources) form made in
+    let whole = well_zones scope given form (sym (same_plain given) ∙ ap is_plain (sym is) ∙ plain) (sym (same_fit given scope) ∙ ap (λ e. fits_scope e scope) (sym is) ∙ fits)
+        (form_of_halved scope given form (subst (λ q. IsFormOver scope q form) is over)) (zones_given scope sources rows) fit in
+    subst (λ (a : Result Asked Refusal). IfOk a IsWellAsked) (sym told) whole

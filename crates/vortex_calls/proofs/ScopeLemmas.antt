@@ -1,5 +1,5 @@
 -- A scope that was given is one, and the predicate is one over it.
-use Rattle.std.proofs.Common.{◌≡◌, ◌<◌, ◌+◌, add-one, ◌==◌, ◌++◌, ◌∷◌, [], ℕ, zero, suc, Bool, true, false, if◌then◌else◌, List, Option, None, Some, Result, Ok, Err, option_and_then, length, refl, ap, subst, slice_get, nat_le}
+use Rattle.std.proofs.Common.{◌≡◌, ◌<◌, ◌+◌, add-one, ◌==◌, ◌++◌, ◌∷◌, [], ◌∙◌, ◌≤◌, ℕ, zero, suc, Bool, true, false, if◌then◌else◌, List, Option, None, Some, Result, Ok, Err, inl, inr, length, refl, ap, subst, sym, slice_get, nat_le}
 use Rattle.std.specs.List.{list_any}
 use Rattle.std.specs.Str.{is_utf8}
 use Rattle.vortex_base.specs.Data.Scopes.{IsScope, Named, has_duplicate, is_empty, is_state_column}
@@ -9,17 +9,25 @@ use Rattle.vortex_base.specs.declared.dtype.DType.{DType}
 use Rattle.vortex_base.specs.declared.types.Nullability.{Nullability}
 use Rattle.vortex_rewrite.specs.Rewriting.Predicates.{is_predicate}
 use Rattle.vortex_syntax.specs.Expressions.{expression_of}
-use Rattle.vortex_syntax.specs.Words.{Token, word_limit, words}
+use Rattle.vortex_syntax.specs.Words.{words}
+use Rattle.std.proofs.lemmas.Bool.{le-leb, lt-leb}
+use Rattle.vortex_normal.specs.Balanced.{depth}
+use Rattle.vortex_nested.specs.Halves.{halved}
+use Rattle.vortex_nested.proofs.Columns.{same_fit, same_plain}
+use Rattle.vortex_nested.proofs.Types.{same_predicate}
+use Rattle.vortex_nested.specs.declared.error.NestedError.{NestedError}
+use Rattle.vortex_nested.specs.declared.error.NestedError.TheVariants as nested
+use Rattle.vortex_calls.specs.declared.fault.Refusal.{Refusal}
 use Rattle.vortex_syntax.proofs.Fitting.ExpressionFits.{expression_fits, step_of}
 use Rattle.vortex_syntax.proofs.Fitting.ScopeFits.{distinct_more, storable_more}
 use Rattle.vortex_syntax.specs.Names.{is_new}
 use Rattle.vortex_syntax.specs.Fails.{when}
 use Rattle.vortex_calls.specs.declared.field.Field.{Field}
 use Rattle.vortex_calls.specs.declared.status.Status.{Status}
-use Rattle.vortex_calls.specs.declared.status.Status.TheVariants.{BadName, NotAPredicate}
+use Rattle.vortex_calls.specs.declared.status.Status.TheVariants.{BadName, NotAPredicate, TooDeep}
 use Rattle.vortex_calls.specs.Refusals.{placed, stepped}
-use Rattle.vortex_calls.specs.Scopes.{expression_in, if_predicate, next_field, predicate_given, scope_given, with_field, with_field_or, with_typed}
-use Rattle.vortex_calls.specs.Statuses.{at_column, nowhere}
+use Rattle.vortex_calls.specs.Scopes.{IsNested, IsPredicateGiven, IsRefusedText, expression_in, if_predicate, max_depth, next_field, predicate_given, scope_given, shallow, with_field, with_field_or, with_typed}
+use Rattle.vortex_calls.specs.Statuses.{at_column, nowhere, status_of_nested}
 use Rattle.vortex_calls.specs.Types.{dtype_of, kind_of, nullability_of, ok_or_bad_kind, typed}
 use Rattle.vortex_calls.proofs.ReadLemmas.{followed_from, steps_stop}
 
@@ -101,10 +109,8 @@ both_hold false b h = absurd cc
 
 expression_over : (scope : List Named) (text : List ℕ) (e : Tree Place) → expression_in scope text ≡ Some e → (is_empty scope ≡ false) × (is_plain e ≡ true) × (fits_scope e scope ≡ true)
 expression_over scope text e h =
-    let last = λ (short : List Token). expression_of scope short in
-    let a = step_of (when (if is_utf8 text then (if is_empty scope then false else true) else false) text) (λ (line : List ℕ). option_and_then last (when (nat_le (length (words line)) word_limit) (words line))) e h in
-    let b = step_of (when (nat_le (length (words a.at)) word_limit) (words a.at)) last e a.then in
-    let fits = expression_fits scope b.at e b.then in
+    let a = step_of (when (if is_utf8 text then (if is_empty scope then false else true) else false) text) (λ (line : List ℕ). expression_of scope (words line)) e h in
+    let fits = expression_fits scope (words a.at) e a.then in
     (both_hold (is_utf8 text) (is_empty scope) (passed _ text a.at a.made).0, fits.0, fits.1)
 
 if_truth : (e x : Tree Place) (b : Bool) → is_predicate e ≡ b → (if b then Ok e else Err (nowhere NotAPredicate)) ≡ Ok x → (e ≡ x) × (is_predicate e ≡ true)
@@ -114,12 +120,53 @@ if_truth e x false is h = absurd cc
 is_given : (scope : List Named) (o : Option (Tree Place)) (x : Tree Place) → if_predicate o ≡ Ok x → ((e : Tree Place) → o ≡ Some e → (is_empty scope ≡ false) × (is_plain e ≡ true) × (fits_scope e scope ≡ true)) → IsPredicateOver scope x
 is_given scope None x h over = absurd cc
 is_given scope (Some e) x h over =
-    let t = if_truth e x (is_predicate e) refl h in
+    let f = followed_from (shallow (halved e)) (λ p. if is_predicate e then Ok e else Err (nowhere NotAPredicate)) x h in
+    let t = if_truth e x (is_predicate e) refl f.then in
     let is = over e refl in
     subst (IsPredicateOver scope) t.0 (record { some = is.0; plain = is.1; fits = is.2; truth = t.1 })
 
 pub given_is_predicate : (scope : List Named) (text : List ℕ) (e : Tree Place) → predicate_given scope text ≡ Ok e → IsPredicateOver scope e
 given_is_predicate scope text e h = is_given scope (expression_in scope text) e h (expression_over scope text)
+
+-- so is the predicate with its chains joined in halves
+pub halved_is_over : (scope : List Named) (e b : Tree Place) → b ≡ halved e → IsPredicateOver scope e → IsPredicateOver scope b
+halved_is_over scope e b is over = subst (IsPredicateOver scope) (sym is) (record {
+  some = over.some;
+  plain = same_plain e ∙ over.plain;
+  fits = same_fit e scope ∙ over.fits;
+  truth = same_predicate e ∙ over.truth;
+})
+
+-- ---- what is answered to a text
+
+decided : (e : Tree Place) (truth : Bool) → depth (halved e) ≤ max_depth → is_predicate (halved e) ≡ truth → if_predicate (Some e) ≡ (if truth then Ok e else Err (nowhere NotAPredicate))
+decided e truth within is =
+    let fits : nat_le (depth (halved e)) max_depth ≡ true = le-leb (depth (halved e)) max_depth within in
+    let same : is_predicate e ≡ truth = sym (same_predicate e) ∙ is in
+    rw (fits, same) refl
+
+by_decision : (wanted : Option (Tree Place)) (b : Tree Place) (truth : Bool) → IsNested wanted (Ok b) → is_predicate b ≡ truth → (e : Tree Place) × (if_predicate wanted ≡ (if truth then Ok e else Err (nowhere NotAPredicate))) × (b ≡ halved e)
+by_decision wanted b truth h is =
+    let e = h.0.0 in
+    let same : b ≡ halved e = h.0.2 in
+    (e, ap if_predicate h.0.1 ∙ decided e truth (subst (λ x. depth x ≤ max_depth) same h.1) (ap is_predicate (sym same) ∙ is), same)
+
+pub text_is_predicate : (wanted : Option (Tree Place)) (b : Tree Place) → IsNested wanted (Ok b) → is_predicate b ≡ true → IsPredicateGiven (if_predicate wanted) (Ok b)
+text_is_predicate wanted b h is = by_decision wanted b true h is
+
+pub text_is_none : (wanted : Option (Tree Place)) (b : Tree Place) (r : Refusal) → r ≡ nowhere NotAPredicate → IsNested wanted (Ok b) → is_predicate b ≡ false → IsPredicateGiven (if_predicate wanted) (Err r)
+text_is_none wanted b r told h is = λ _. inl ((by_decision wanted b false h is).1 ∙ ap Err (sym told))
+
+deep_text : (wanted : Option (Tree Place)) (r : Refusal) → r ≡ nowhere TooDeep → IsNested wanted (Err nested.TooDeep) → IsRefusedText (if_predicate wanted) r
+deep_text None r told h = inr (told, refl)
+deep_text (Some e) r told h =
+    let over : nat_le (depth (halved e)) max_depth ≡ false = lt-leb (depth (halved e)) max_depth (h e refl) in
+    inl (rw over (ap Err (sym told)))
+
+pub text_is_refused : (wanted : Option (Tree Place)) (n : NestedError) (r : Refusal) → r ≡ nowhere (status_of_nested n) → IsNested wanted (Err n) → IsPredicateGiven (if_predicate wanted) (Err r)
+text_is_refused wanted nested.Memory r told h = λ other. absurd (other (ap (λ (x : Refusal). x.status) told))
+text_is_refused wanted nested.Bad r told h = λ _. inl (ap if_predicate h ∙ ap Err (sym told))
+text_is_refused wanted nested.TooDeep r told h = λ _. deep_text wanted r told h
 
 -- ---- reading a scope
 

@@ -1,8 +1,9 @@
 -- What a caller asks to be pruned, and what is answered.
-use Rattle.std.specs.Prelude.{◌≡◌, ◌≢◌, ℕ, ◌==◌, Bool, true, false, List, [], ◌++◌, Option, Result, Ok, Err, IfOk, IsOk, IsTrue, if◌then◌else◌, length, map}
+use Rattle.std.specs.Prelude.{◌≡◌, ◌≢◌, ℕ, ◌==◌, ◌⊎◌, Bool, true, false, List, [], ◌++◌, Option, Result, Ok, Err, IfOk, IsOk, IsTrue, if◌then◌else◌, length, map}
 use Rattle.vortex_base.specs.Data.Scopes.{Named}
 use Rattle.vortex_expr.specs.Meanings.Fitting.{fits_scope}
 use Rattle.vortex_expr.specs.Trees.Tree.{Place, Tree, is_plain}
+use Rattle.vortex_nested.specs.Halves.{halved}
 use Rattle.vortex_normal.specs.Groups.{normal}
 use Rattle.vortex_normal.specs.Same.{Same}
 use Rattle.vortex_prune.specs.Binding.PartAnswers.{told_values}
@@ -20,10 +21,10 @@ use Rattle.vortex_calls.specs.declared.fault.Fault.{Fault}
 use Rattle.vortex_calls.specs.declared.fault.Refusal.{Refusal}
 use Rattle.vortex_calls.specs.declared.field.Field.{Field}
 use Rattle.vortex_calls.specs.declared.statistic.Statistic.{Statistic}
-use Rattle.vortex_calls.specs.declared.status.Status.TheVariants.{BadFlag, BadLength}
+use Rattle.vortex_calls.specs.declared.status.Status.TheVariants.{BadFlag, BadLength, BadLine, TooDeep}
 use Rattle.vortex_calls.specs.declared.table.Known.{Known}
 use Rattle.vortex_calls.specs.Refusals.{followed}
-use Rattle.vortex_calls.specs.Scopes.{predicate_given, scope_given}
+use Rattle.vortex_calls.specs.Scopes.{predicate_given, scope_given, shallow}
 use Rattle.vortex_calls.specs.Statuses.{nowhere, status_number}
 use Rattle.vortex_calls.specs.Tables.{known_zone, sources_given, zones_given}
 
@@ -82,9 +83,10 @@ pub record Asked : Type 0 where
 abbrev pub normalizes : ℕ → Result Bool Refusal
 normalizes flags = if flags == 0 then Ok false else (if flags == 1 then Ok true else Err (nowhere BadFlag))
 
--- the predicate that zones are pruned by
-abbrev pub pruning_form : Bool → Tree Place → Tree Place
-pruning_form normalized p = if normalized then normal p else p
+-- the predicate that zones are pruned by: p or its normal form, unless that is too deep
+abbrev pub form_given : (normalized : Bool) → Tree Place → Result (Tree Place) Refusal
+form_given false p = Ok p
+form_given true p = shallow (normal p)
 
 -- a predicate over a scope that is satisfied by the same rows as p
 pub record IsFormOver (scope : List Named) (p e : Tree Place) : Type 0 where
@@ -97,16 +99,17 @@ pub record IsFormOver (scope : List Named) (p e : Tree Place) : Type 0 where
 abbrev pub with_places : ℕ → List ℕ → Result (Unit {0}) Refusal
 with_places n rows = if n == length rows then Ok tt else Err (nowhere BadLength)
 
-abbrev pub asked_of : List Named → List ℕ → List Statistic → Bool → Tree Place → Result Asked Refusal
-asked_of scope rows stats normalized p =
-    followed (sources_given scope (length rows) stats) (λ sources. followed (zones_given scope sources rows) (λ zones.
-    Ok (record { scope = scope; zones = zones; given = p; pruned_by = pruning_form normalized p })))
+-- of a predicate as it was given, and with its chains joined in halves
+abbrev pub asked_of : List Named → List ℕ → List Statistic → (normalized : Bool) → (given p : Tree Place) → Result Asked Refusal
+asked_of scope rows stats normalized given p =
+    followed (sources_given scope (length rows) stats) (λ sources. followed (form_given normalized p) (λ form. followed (zones_given scope sources rows) (λ zones.
+    Ok (record { scope = scope; zones = zones; given = given; pruned_by = form }))))
 
--- what the arguments ask for, or the first of them that is refused: the flags, the room for the answers, the scope, the predicate, the statistics, and their values zone by zone
+-- what the arguments ask for, or the first of them that is refused: the flags, the room for the answers, the scope, the predicate, the statistics, the normal form, and the statistics' values zone by zone
 abbrev pub asked : List Field → List ℕ → List Statistic → List ℕ → (flags room : ℕ) → Result Asked Refusal
 asked fields rows stats text flags room =
     followed (normalizes flags) (λ normalized. followed (with_places room rows) (λ there. followed (scope_given fields) (λ scope.
-    followed (predicate_given scope text) (asked_of scope rows stats normalized))))
+    followed (predicate_given scope text) (λ e. asked_of scope rows stats normalized e (halved e)))))
 
 -- the sets of the zones fit the scope, and both predicates are ones over it, satisfied by the same rows
 pub record IsWellAsked (a : Asked) : Type 0 where
@@ -121,10 +124,14 @@ pub record IsWellAsked (a : Asked) : Type 0 where
 abbrev pub answers_of : Asked → List ℕ
 answers_of a = zone_answers a.pruned_by a.scope a.zones
 
--- why a call was refused but for memory
+-- a refusal with its status and its place
+abbrev pub IsToldAs : Refusal → ℕ → Fault → Type 0
+IsToldAs r result fault = (result ≡ status_number r.status) × (fault ≡ r.fault)
+
+-- why a call was refused but for memory; a predicate that is no expression may be refused as one that is too deep
 abbrev pub IsRefused : Result Asked Refusal → ℕ → Fault → Type 0
 IsRefused (Ok a) result fault = ⊥
-IsRefused (Err r) result fault = (result ≡ status_number r.status) × (fault ≡ r.fault)
+IsRefused (Err r) result fault = IsToldAs r result fault ⊎ ((r ≡ nowhere BadLine) × IsToldAs (nowhere TooDeep) result fault)
 
 -- what a call makes of the answers
 pub record IsPruned (asked : Result Asked Refusal) (old : List ℕ) (result : ℕ) (new : List ℕ) (fault : Fault) : Type 0 where

@@ -1,19 +1,24 @@
 -- The columns that a caller names, and the predicate over them.
-use Rattle.std.specs.Prelude.{ℕ, true, false, nat_le, List, [], ◌∷◌, ◌++◌, Option, None, Some, Result, Ok, Err, if◌then◌else◌, length, slice_get}
+use Rattle.std.specs.Prelude.{◌≡◌, ◌≢◌, ◌≤◌, ◌⊎◌, ⊤, ℕ, true, false, nat_le, List, [], ◌∷◌, ◌++◌, Option, None, Some, Result, Ok, Err, if◌then◌else◌, length, slice_get}
 use Rattle.std.specs.Str.{is_utf8}
 use Rattle.vortex_base.specs.declared.dtype.DType.{DType}
 use Rattle.vortex_base.specs.Data.Scopes.{Named, is_empty}
 use Rattle.vortex_expr.specs.Trees.Tree.{Place, Tree}
 use Rattle.vortex_rewrite.specs.Rewriting.Predicates.{is_predicate}
+use Rattle.vortex_normal.specs.Balanced.{depth}
+use Rattle.vortex_nested.specs.Halves.{halved}
+use Rattle.vortex_nested.specs.Texts.{IsDeeper, IsHalvedOf}
+use Rattle.vortex_nested.specs.declared.error.NestedError.{NestedError}
+use Rattle.vortex_nested.specs.declared.error.NestedError.TheVariants as nested
 use Rattle.vortex_syntax.specs.Expressions.{expression_of}
 use Rattle.vortex_syntax.specs.Fails.{when, ◌>>=◌}
-use Rattle.vortex_syntax.specs.Words.{word_limit, words}
+use Rattle.vortex_syntax.specs.Words.{words}
 use Rattle.vortex_syntax.specs.Names.{is_new}
 use Rattle.vortex_calls.specs.declared.fault.Refusal.{Refusal}
 use Rattle.vortex_calls.specs.declared.field.Field.{Field}
 use Rattle.vortex_calls.specs.declared.status.Status.{Status}
-use Rattle.vortex_calls.specs.declared.status.Status.TheVariants.{BadLength, BadLine, BadName, NotAPredicate}
-use Rattle.vortex_calls.specs.Refusals.{placed, stepped}
+use Rattle.vortex_calls.specs.declared.status.Status.TheVariants.{BadLength, BadLine, BadName, NoMemory, NotAPredicate, TooDeep}
+use Rattle.vortex_calls.specs.Refusals.{followed, placed, stepped}
 use Rattle.vortex_calls.specs.Statuses.{at_column, nowhere}
 use Rattle.vortex_calls.specs.Types.{dtype_of}
 
@@ -40,16 +45,47 @@ scope_given fields = stepped (next_field fields) [] (length fields)
 
 -- ---- the predicate
 
--- what a `where` line with this text behind its first word asks for
+-- what a `where` line with this text behind its first word asks for, of whatever number of words
 abbrev pub expression_in : List Named → List ℕ → Option (Tree Place)
 expression_in scope text = do
   line ← when (if is_utf8 text then (if is_empty scope then false else true) else false) text
-  short ← when (nat_le (length (words line)) word_limit) (words line)
-  expression_of scope short
+  expression_of scope (words line)
+
+-- the most levels that a predicate may have
+abbrev pub max_depth : ℕ
+max_depth = 128
+
+-- a predicate that has no more levels
+abbrev pub shallow : Tree Place → Result (Tree Place) Refusal
+shallow p = if nat_le (depth p) max_depth then Ok p else Err (nowhere TooDeep)
 
 abbrev pub if_predicate : Option (Tree Place) → Result (Tree Place) Refusal
 if_predicate None = Err (nowhere BadLine)
-if_predicate (Some e) = if is_predicate e then Ok e else Err (nowhere NotAPredicate)
+if_predicate (Some e) = followed (shallow (halved e)) (λ p. if is_predicate e then Ok e else Err (nowhere NotAPredicate))
 
+-- the predicate as it is written; the levels are those that it has once its chains of AND and of OR are joined in halves
 abbrev pub predicate_given : List Named → List ℕ → Result (Tree Place) Refusal
 predicate_given scope text = if_predicate (expression_in scope text)
+
+-- ---- what is answered
+
+-- what was read is the expression that was wanted, its chains joined in halves and with no more levels; or there is none, or it has more
+abbrev pub IsNested : Option (Tree Place) → Result (Tree Place) NestedError → Type 0
+IsNested wanted (Ok b) = IsHalvedOf wanted b × (depth b ≤ max_depth)
+IsNested wanted (Err nested.Memory) = ⊤
+IsNested wanted (Err nested.Bad) = wanted ≡ None
+IsNested wanted (Err nested.TooDeep) = IsDeeper max_depth wanted
+
+-- a refusal is the one that is to be told; a text that is no expression may be refused as one that is too deep
+abbrev pub IsRefusedText : {X : Type 0} → Result X Refusal → Refusal → Type 0
+IsRefusedText read r = (read ≡ Err r) ⊎ ((r ≡ nowhere TooDeep) × (read ≡ Err (nowhere BadLine)))
+
+-- a call of a text returned what is to be read, seen by view; memory may be refused
+abbrev pub AnswersText : {X Y : Type 0} → (X → Y) → Result X Refusal → Result Y Refusal → Type 0
+AnswersText view (Ok x) read = read ≡ Ok (view x)
+AnswersText view (Err r) read = r.status ≢ NoMemory → IsRefusedText read r
+
+-- a call returned the predicate that is to be read, its chains joined in halves
+abbrev pub IsPredicateGiven : Result (Tree Place) Refusal → Result (Tree Place) Refusal → Type 0
+IsPredicateGiven read (Ok b) = (e : Tree Place) × (read ≡ Ok e) × (b ≡ halved e)
+IsPredicateGiven read (Err r) = r.status ≢ NoMemory → IsRefusedText read r

@@ -1,7 +1,7 @@
 -- The statuses by their numbers, and where a call is refused.
 use Rattle.std.specs.Prelude.{ℕ}
-use Rattle.vortex_syntax.specs.declared.line_error.LineError.{LineError}
-use Rattle.vortex_syntax.specs.declared.line_error.LineError.TheVariants as errors
+use Rattle.vortex_nested.specs.declared.error.NestedError.{NestedError}
+use Rattle.vortex_nested.specs.declared.error.NestedError.TheVariants as nested
 use Rattle.vortex_calls.specs.declared.fault.Refusal.{Refusal}
 use Rattle.vortex_calls.specs.declared.status.Status.{Status}
 use Rattle.vortex_calls.specs.declared.status.Status.TheVariants.{BadLine, TooShort, NoMemory, BadKind, BadStat, BadKnown, BadLength, BadEnds, BadValue, BadNull, Untrue, BadColumn, BadName, NotAPredicate, BadFlag, TooDeep}
@@ -24,10 +24,11 @@ status_number NotAPredicate = 15
 status_number BadFlag = 16
 status_number TooDeep = 17
 
--- a line that isn't read
-abbrev pub status_of_line : LineError → Status
-status_of_line errors.Memory = NoMemory
-status_of_line (errors.Bad fault) = BadLine
+-- a predicate that isn't read
+abbrev pub status_of_nested : NestedError → Status
+status_of_nested nested.Memory = NoMemory
+status_of_nested nested.Bad = BadLine
+status_of_nested nested.TooDeep = TooDeep
 
 -- refused in a row of a column, or a zone
 abbrev pub at_row : Status → ℕ → Refusal

@@ -2,8 +2,6 @@
 ghost use Rattle.std.specs.Prelude.{◌≡◌};
 ghost use Rattle.vortex_base.specs.Data.Scopes.{named_columns};
 ghost use Rattle.vortex_rewrite.specs.Rewriting.Predicates.{is_predicate};
-ghost use Rattle.vortex_syntax.specs.Fails.{Gives};
-ghost use Rattle.vortex_calls.specs.Refusals.{Answers};
 ghost use Rattle.vortex_calls.specs.Scopes as spec;
 
 use crate::fault::Refusal;
@@ -11,33 +9,31 @@ use crate::status::Status;
 use std::alloc::Global;
 use vortex_base::dtype::DType;
 use vortex_expr::bound_expression::BoundExpression;
+use vortex_nested::error::NestedError;
+use vortex_nested::text::nested_expression;
 use vortex_syntax::columns::Columns;
-use vortex_syntax::expected::Expected;
-use vortex_syntax::expression::read_expression;
-use vortex_syntax::line_error::LineError;
 use vortex_syntax::lines::is_utf8;
-use vortex_syntax::word::{is_short, no_word};
 
-// The expression that a text is, as a `where` line has it behind its first word.
+/// The most levels that a predicate may have, `VORTEX_MAX_DEPTH` of the header: a call over one of
+/// as many fits into 256 KiB of stack.
+pub(crate) const MAX_DEPTH: u32 = 128;
+
+// The expression that a text is, as a `where` line has it behind its first word, with its chains of
+// AND and of OR joined in halves.
 fn expression_in(
     alloc: Global,
     columns: &Columns,
     text: &[u8],
-) -> Result<BoundExpression, LineError>
-    ensures { Gives (λ e. e) result (spec.expression_in (named_columns columns.now) text.now) }
+) -> Result<BoundExpression, NestedError>
+    ensures { spec.IsNested (spec.expression_in (named_columns columns.now) text.now) result }
 {
     if !is_utf8(text) {
-        return Err(LineError::at(text.len(), Expected::Utf8));
+        return Err(NestedError::Bad);
     }
     if columns.as_slice().is_empty() {
-        return Err(LineError::at(text.len(), Expected::SomeColumn));
+        return Err(NestedError::Bad);
     }
-    if !is_short(alloc, text)? {
-        return Err(LineError::at(text.len(), Expected::FewerWords));
-    }
-    let (expression, rest) = read_expression(alloc, columns, text)?;
-    no_word(rest)?;
-    Ok(expression)
+    nested_expression(alloc, columns, text, MAX_DEPTH)
 }
 
 fn is_truth(expression: &BoundExpression) -> bool
@@ -46,13 +42,14 @@ fn is_truth(expression: &BoundExpression) -> bool
     matches!(expression.dtype(), DType::Bool(_))
 }
 
-/// The predicate that a text is.
+/// The predicate that a text is, with its chains of AND and of OR joined in halves.
 pub(crate) fn predicate_given(
     alloc: Global,
     columns: &Columns,
     text: &[u8],
 ) -> Result<BoundExpression, Refusal>
-    ensures { Answers (λ e. e) result (spec.predicate_given (named_columns columns.now) text.now) }
+    ensures { spec.IsPredicateGiven (spec.predicate_given (named_columns columns.now) text.now)
+        result }
 {
     match expression_in(alloc, columns, text) {
         Ok(expression) => {

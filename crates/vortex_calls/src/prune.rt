@@ -1,20 +1,23 @@
 //! What to do with each zone of a table under a predicate.
-ghost use Rattle.std.specs.Prelude.{◌≡◌, ◌≤◌, [], All, IfErr, IfOk, List, IsTrue, Ok, OnOk, length, map};
+ghost use Rattle.std.specs.Prelude.{◌≡◌, ◌≤◌, [], All, IfOk, List, IsTrue, Ok, OnOk, length, map};
 ghost use Rattle.vortex_expr.specs.Meanings.Fitting.{fits_scope};
-ghost use Rattle.vortex_expr.specs.Trees.Tree.{is_plain};
+ghost use Rattle.vortex_expr.specs.Trees.Tree.{Place, Tree, is_plain};
+ghost use Rattle.vortex_nested.specs.Halves.{halved};
+ghost use Rattle.vortex_normal.specs.Groups.{normal};
 ghost use Rattle.vortex_rewrite.specs.Rewriting.Predicates.{is_predicate};
 ghost use Rattle.vortex_calls.specs.NamedStats.{AreProofs};
 ghost use Rattle.vortex_calls.specs.Prunes as spec;
 ghost use Rattle.vortex_calls.specs.Refusals.{Answers, followed};
+ghost use Rattle.vortex_calls.specs.Scopes.{AnswersText};
 ghost use Rattle.vortex_calls.specs.Tables.{IsTypedBy, known_zone, zones_given};
-ghost use Rattle.vortex_calls.specs.declared.status.Status.TheVariants.{NoMemory};
 ghost use Rattle.vortex_prune.specs.Part.{ZoneData, zones_fit};
 ghost use Rattle.vortex_prune.specs.Zones.{IsMapOf};
 
+use crate::depth::is_within;
 use crate::fault::{Fault, Refusal};
 use crate::field::{Field, columns_given};
 use crate::named::Proofs;
-use crate::predicate::predicate_given;
+use crate::predicate::{MAX_DEPTH, predicate_given};
 use crate::quick::quick_answers;
 use crate::statistic::Statistic;
 use crate::status::Status;
@@ -168,8 +171,29 @@ fn table_answers(
     }
 }
 
-// The predicate that zones are pruned by.
-fn pruning_form(
+// The normal form of a predicate.
+fn normal_form(
+    alloc: Global,
+    scope: &Scope,
+    predicate: &BoundExpression,
+) -> Result<BoundExpression, AllocError>
+    requires plain { IsTrue (is_plain predicate.now) }
+    requires fits { IsTrue (fits_scope predicate.now scope.now) }
+    requires predicate { IsTrue (is_predicate predicate.now) }
+    ensures form { IfOk result (λ e. e ≡ normal predicate.now) }
+    ensures over { IfOk result (spec.IsFormOver scope.now predicate.now) }
+{
+    match normalize(alloc, predicate) {
+        Ok(normal) => Ok(normal),
+        Err(fault) => match fault {
+            StatsError::Memory(refused) => Err(refused),
+            _ => unreachable!(),
+        },
+    }
+}
+
+// The predicate that zones are pruned by: the given one, or its normal form unless that is too deep.
+fn form_given(
     alloc: Global,
     scope: &Scope,
     predicate: BoundExpression,
@@ -178,23 +202,21 @@ fn pruning_form(
     requires plain { IsTrue (is_plain predicate) }
     requires fits { IsTrue (fits_scope predicate scope.now) }
     requires predicate { IsTrue (is_predicate predicate) }
-    ensures form { IfOk result (λ e. e ≡ spec.pruning_form normalized predicate) }
+    ensures form { Answers (λ e. e) result (spec.form_given normalized predicate) }
     ensures over { IfOk result (spec.IsFormOver scope.now predicate) }
-    ensures memory { IfErr result (λ refusal. refusal.status ≡ NoMemory) }
 {
     if !normalized {
         return Ok(predicate);
     }
-    match normalize(alloc, &predicate) {
-        Ok(normal) => Ok(normal),
-        Err(fault) => match fault {
-            StatsError::Memory(refused) => Err(Refusal::from(refused)),
-            _ => unreachable!(),
-        },
+    let normal = normal_form(alloc, scope, &predicate)?;
+    if is_within(&normal, MAX_DEPTH) {
+        Ok(normal)
+    } else {
+        Err(Refusal::at_entry(Status::TooDeep, 0))
     }
 }
 
-// The answers for the zones of a scope under a predicate.
+// The answers for the zones of a scope under a predicate, whose chains are joined in halves.
 fn scope_answers(
     alloc: Global,
     scope: &Scope,
@@ -206,16 +228,16 @@ fn scope_answers(
     requires plain { IsTrue (is_plain predicate) }
     requires fits { IsTrue (fits_scope predicate scope.now) }
     requires predicate { IsTrue (is_predicate predicate) }
-    ensures read { Answers (λ v. v.items) result (followed
-        (spec.asked_of scope.now rows.now stats.now normalized predicate)
+    ensures read { (given : Tree Place) → Answers (λ v. v.items) result (followed
+        (spec.asked_of scope.now rows.now stats.now normalized given predicate)
         (λ a. Ok (spec.answers_of a))) }
-    ensures well { IfOk result (λ v.
-        IfOk (spec.asked_of scope.now rows.now stats.now normalized predicate)
+    ensures well { (given : Tree Place) → predicate ≡ halved given → IfOk result (λ v.
+        IfOk (spec.asked_of scope.now rows.now stats.now normalized given predicate)
         spec.IsWellAsked) }
     ensures long { IfOk result (λ v. length v.items ≡ length rows.now) }
 {
     let sources = sources_given(alloc, scope, rows.len(), stats)?;
-    let form = pruning_form(alloc, scope, predicate, normalized)?;
+    let form = form_given(alloc, scope, predicate, normalized)?;
     table_answers(alloc, scope, &form, &sources, rows)
 }
 
@@ -229,7 +251,7 @@ fn answers_given(
     flags: u8,
     room: usize,
 ) -> Result<Vec<u8>, Refusal>
-    ensures read { Answers (λ v. v.items) result (followed
+    ensures read { AnswersText (λ v. v.items) result (followed
         (spec.asked fields.now rows.now stats.now text.now flags room)
         (λ a. Ok (spec.answers_of a))) }
     ensures well { IfOk result (λ v.

@@ -4,7 +4,7 @@ ghost use Rattle.vortex_calls.specs.Statuses.{status_number};
 ghost use Rattle.vortex_calls.specs.declared.status.Status.TheVariants.{NoMemory};
 
 use std::alloc::{AllocError, AllocFailed};
-use vortex_syntax::line_error::LineError;
+use vortex_nested::error::NestedError;
 
 /// Why a call was refused. The header's `vortex_status` has the numbers.
 #[derive(Clone, Copy, Debug, PartialEq, Eq)]
@@ -85,15 +85,16 @@ impl<T: Drop> From<AllocFailed<T>> for Status {
     }
 }
 
-impl From<LineError> for Status {
-    ghost use Rattle.vortex_calls.specs.Statuses.{status_of_line};
+impl From<NestedError> for Status {
+    ghost use Rattle.vortex_calls.specs.Statuses.{status_of_nested};
 
-    ghost from_gives = { λ e s. s ≡ status_of_line e };
+    ghost from_gives = { λ e s. s ≡ status_of_nested e };
 
-    fn from(e: LineError) -> Status {
+    fn from(e: NestedError) -> Status {
         match e {
-            LineError::Memory => Status::NoMemory,
-            LineError::Bad(_) => Status::BadLine,
+            NestedError::Memory => Status::NoMemory,
+            NestedError::Bad => Status::BadLine,
+            NestedError::TooDeep => Status::TooDeep,
         }
     }
 }

@@ -1,8 +1,9 @@
 -- Worked rows: tables of statistics, merged and pruned, each case by computation.
-use Rattle.std.proofs.Common.{◌≡◌, ℕ, List, [], ◌∷◌, codes, None, Some, Ok, Err, true, false, Bool, Bor, if◌then◌else◌, map, refl}
+use Rattle.std.proofs.Common.{◌≡◌, ℕ, zero, suc, inl, inr, List, [], ◌∷◌, codes, None, Some, Ok, Err, true, false, Bool, Bor, if◌then◌else◌, map, refl}
 use Rattle.std.specs.Str.{chars, is_utf8}
 use Rattle.vortex_base.specs.Data.Scopes.{Named}
-use Rattle.vortex_expr.specs.Trees.Tree.{Place, Tree, column, is_null, literal}
+use Rattle.vortex_expr.specs.Trees.Tree.{Place, Tree, binary, column, is_null, literal, not}
+use Rattle.vortex_expr.specs.declared.scalar_fn.Operator.TheVariants.{And}
 use Rattle.vortex_base.specs.declared.dtype.DType.TheVariants as dtype
 use Rattle.vortex_base.specs.declared.types.Nullability.TheVariants.{Nullable, NonNullable}
 use Rattle.vortex_base.specs.declared.types.PType.TheVariants as ptype
@@ -17,8 +18,8 @@ use Rattle.vortex_calls.specs.declared.statistic.Statistic.{Statistic}
 use Rattle.vortex_calls.specs.declared.table.Source.{Source}
 use Rattle.vortex_calls.specs.declared.status.Status.TheVariants.{BadColumn, BadFlag, BadKind, BadKnown, BadLength, BadLine, BadName, BadStat, NotAPredicate, TooDeep}
 use Rattle.vortex_calls.specs.Merges.{merged, set_given}
-use Rattle.vortex_calls.specs.Prunes.{answer_by, answer_of, answered, asked, normalizes}
-use Rattle.vortex_calls.specs.Scopes.{predicate_given, scope_given}
+use Rattle.vortex_calls.specs.Prunes.{IsRefused, answer_by, answer_of, answered, asked, form_given, normalizes}
+use Rattle.vortex_calls.specs.Scopes.{if_predicate, predicate_given, scope_given}
 use Rattle.vortex_calls.specs.Statuses.{at_column, at_entry, in_column, nowhere, status_number}
 use Rattle.vortex_calls.specs.Tables.{source_of, zones_given}
 
@@ -118,6 +119,44 @@ no_text = refl
 no_scope : predicate_given [] (codes "lit bool true") ≡ Err (nowhere BadLine)
 unfolding is_utf8 chars lib.Utf8.encode
 no_scope = refl
+
+-- ---- levels: as many as are allowed, one more, and a chain of five, which has three
+
+abbrev nots : ℕ → Tree Place → Tree Place
+nots zero e = e
+nots (suc n) e = not (nots n e)
+
+abbrev is_true_column : Tree Place
+is_true_column = column (record { index = 0; dtype = dtype.Bool Nullable })
+
+most_levels : if_predicate (Some (nots 128 is_true_column)) ≡ Ok (nots 128 is_true_column)
+most_levels = refl
+
+a_level_more : if_predicate (Some (nots 129 is_true_column)) ≡ Err (nowhere TooDeep)
+a_level_more = refl
+
+abbrev chain_of_five : Tree Place
+chain_of_five = binary And is_true_column (binary And (binary And is_true_column is_true_column) (binary And is_true_column is_true_column))
+
+chain_on_top : if_predicate (Some (nots 125 chain_of_five)) ≡ Ok (nots 125 chain_of_five)
+chain_on_top = refl
+
+chain_too_deep : if_predicate (Some (nots 126 chain_of_five)) ≡ Err (nowhere TooDeep)
+chain_too_deep = refl
+
+-- too deep comes before a type that is none of a predicate's
+levels_first : if_predicate (Some (is_null (nots 128 is_true_column))) ≡ Err (nowhere TooDeep)
+levels_first = refl
+
+given_form : form_given false is_true_column ≡ Ok is_true_column
+given_form = refl
+
+-- a text that is no expression may be told as too deep, and as nothing else
+told_as_deep : IsRefused (Err (nowhere BadLine)) 17 (record { row = 0; column = 0; entry = 0 })
+told_as_deep = inr (refl, (refl, refl))
+
+told_as_bad : IsRefused (Err (nowhere BadLine)) 2 (record { row = 0; column = 0; entry = 0 })
+told_as_bad = inl (refl, refl)
 
 -- ---- zones
 
