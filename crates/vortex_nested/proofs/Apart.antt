@@ -1,6 +1,6 @@
 -- Joining in halves keeps whether bounds decide a predicate.
 use Rattle.std.proofs.Common.{◌≡◌, ◌==◌, ℕ, Bool, true, false, ◌&&◌, ◌||◌, not as not_b, List, [], ◌∷◌, ◌++◌, Option, Some, None, is_some, refl, ap, ap₂, sym, ◌∙◌, append_assoc, append-nil}
-use Rattle.vortex_expr.specs.Trees.Tree.{Tree, Place, column, literal, binary, between, is_null, is_not_null, not, like, stat, row_count}
+use Rattle.vortex_expr.specs.Trees.Tree.{Tree, Place, column, literal, binary, between}
 use Rattle.vortex_expr.specs.declared.scalar_fn.BetweenOptions.{BetweenOptions}
 use Rattle.vortex_expr.specs.declared.scalar_fn.Operator.{Operator}
 use Rattle.vortex_rewrite.specs.Rewriting.ReadOnce.{are_apart, are_distinct, are_sides_apart, columns_of, has_index, is_apart, is_binary_apart, is_operand, is_range, is_simple, is_simple_binary}

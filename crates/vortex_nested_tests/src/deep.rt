@@ -68,7 +68,7 @@ fn a_chain_in_a_chain_is_a_level(rt: HostRuntime) -> Result<(), Fail> {
 }
 
 #[test]
-fn a_text_that_nests_without_end_is_refused(rt: HostRuntime) -> Result<(), Fail> {
+fn a_text_that_nests_without_end_is_too_deep(rt: HostRuntime) -> Result<(), Fail> {
     let alloc = rt.alloc();
     for words in [
         "not ",
