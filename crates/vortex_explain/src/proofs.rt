@@ -2,18 +2,23 @@
 use crate::leaves::push_placeholders;
 use crate::shown::Shown;
 use std::alloc::{AllocError, Global};
+use vortex_base::aggregate::AggregateFnRef;
 use vortex_base::error::BaseError;
 use vortex_base::scalar_value::ScalarValue;
 use vortex_base::scope::Scope;
 use vortex_expr::bound_expression::BoundExpression;
+use vortex_expr::bound_expression::parts::Parts;
 use vortex_expr::evaluate::evaluate;
 use vortex_prune::bind::bind_stats;
 use vortex_prune::bind::zone_binder::ZoneBinder;
+use vortex_prune::stat_fn::StatFn;
 use vortex_prune::zone_map::ZoneMap;
 use vortex_rewrite::built::built;
+use vortex_rewrite::expr::bound::{all_null, null_count};
 use vortex_rewrite::rewrite::rules::Rules;
 use vortex_rewrite::rewrite::{falsify, satisfy};
 use vortex_stats::error::StatsError;
+use vortex_stats::stat::Stat;
 
 /// What the built-in rules prove a predicate by, if they do.
 #[derive(Debug, Drop)]
@@ -94,7 +99,58 @@ fn separator(is_first: bool) -> &'static str {
     if is_first { " for want of " } else { ", " }
 }
 
-// Adds the placeholders of a proof of which a part's statistics say nothing.
+// What stands around a statistic that only a count of nulls answers: the words before it and behind
+// it. An inexact count is told apart from none.
+fn count_words(aggregate: AggregateFnRef, is_inexact: bool) -> (&'static str, &'static str) {
+    match (StatFn::reads(aggregate), aggregate, is_inexact) {
+        (Some(Stat::NullCount), AggregateFnRef::NullCount, false) => ("an exact ", ""),
+        (Some(Stat::NullCount), AggregateFnRef::NullCount, true) => {
+            ("an exact ", " (an inexact one is given)")
+        }
+        (Some(Stat::NullCount), _, false) => ("", " (an exact null_count answers it)"),
+        (Some(Stat::NullCount), _, true) => (
+            "",
+            " (an exact null_count answers it, an inexact one is given)",
+        ),
+        _ => ("", ""),
+    }
+}
+
+// Whether the statistics of a part have an inexact count of an input's nulls: they tell that not
+// every value is null, and not how many are.
+fn has_inexact_count(
+    alloc: Global,
+    input: &BoundExpression,
+    part: PartAt<'_>,
+) -> Result<bool, StatsError> {
+    let all_null = all_null(alloc, built(input.try_clone())?)?;
+    let count = null_count(alloc, built(input.try_clone())?)?;
+    Ok(told(alloc, &all_null, part)? == Some(false) && value_of(alloc, &count, part)?.is_none())
+}
+
+// A placeholder of which a part's statistics say nothing, and what would answer it.
+fn wanted(
+    alloc: Global,
+    scope: &Scope,
+    placeholder: &BoundExpression,
+    part: PartAt<'_>,
+) -> Result<String, StatsError> {
+    let shown = Shown::new(placeholder, scope);
+    let (before, behind) = match placeholder.parts() {
+        Parts::Stat(aggregate, input) => {
+            count_words(aggregate, has_inexact_count(alloc, input, part)?)
+        }
+        _ => ("", ""),
+    };
+    Ok(format!(in alloc; "{before}{shown}{behind}")?)
+}
+
+// Whether a text is among some.
+fn contains(texts: &[String], text: &str) -> bool {
+    texts.iter().any(|other| other.as_str() == text)
+}
+
+// Adds the placeholders of a proof of which a part's statistics say nothing, each once.
 fn push_missing(
     alloc: Global,
     text: &mut String,
@@ -104,12 +160,16 @@ fn push_missing(
 ) -> Result<(), StatsError> {
     let mut placeholders = Vec::new(alloc);
     push_placeholders(&mut placeholders, proof)?;
-    let mut is_first = true;
+    let mut missing = Vec::new(alloc);
     for placeholder in placeholders {
-        if value_of(alloc, placeholder, part)?.is_none() {
-            text.push_str(separator(is_first))?;
-            push_shown(alloc, text, scope, placeholder)?;
-            is_first = false;
+        if value_of(alloc, placeholder, part)?.is_some() {
+            continue;
+        }
+        let wanted = wanted(alloc, scope, placeholder, part)?;
+        if !contains(&missing, &wanted) {
+            text.push_str(separator(missing.is_empty()))?;
+            text.push_str(&wanted)?;
+            missing.push(wanted)?;
         }
     }
     Ok(())

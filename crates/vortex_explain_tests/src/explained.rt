@@ -1,7 +1,6 @@
 //! Explanations of the scans that small texts name, and expressions as they are printed.
 use std::alloc::Global;
 use std::process::Abort;
-use vortex_explain::program::run_explained;
 use vortex_explain::text::explain_text;
 
 // The lines of the predicate `gt col a lit i64 5` over a column `a` of type `i64?`.
@@ -23,7 +22,7 @@ fn expect_parts(rt: &impl Abort, alloc: Global, parts: &str, want: &str) {
 #[test]
 fn a_skipped_part(rt: HostRuntime) {
     let want = "part 0: skipped, 1 rows\n  ($.a > 5i64): falsifier true, satisfier null \
-        for want of stat($.a, min), stat($.a, all_non_null)\n";
+        for want of stat($.a, min), stat($.a, all_non_null) (an exact null_count answers it)\n";
     expect_parts(&rt, rt.alloc(), "part\nstat a max exact 5\nrow 5\n", want);
 }
 
@@ -39,9 +38,57 @@ fn a_whole_part(rt: HostRuntime) {
 fn tested_parts(rt: HostRuntime) {
     let parts = "part\npart\nstat a min exact 5\nstat a max exact 6\nrow 5\nrow 6\n";
     let want = "part 0: tested, 0 rows\n  ($.a > 5i64): falsifier null for want of \
-        stat($.a, max), satisfier null for want of stat($.a, min), stat($.a, all_non_null)\n\
+        stat($.a, max), satisfier null for want of stat($.a, min), stat($.a, all_non_null) \
+        (an exact null_count answers it)\n\
         part 1: tested, 2 rows\n  ($.a > 5i64): falsifier false, satisfier false\n";
     expect_parts(&rt, rt.alloc(), parts, want);
+}
+
+// The line of the one leaf of a predicate, of a part with these statistics.
+fn expect_leaf(rt: &impl Abort, alloc: Global, stats: &str, predicate: &str, want: &str) {
+    let text = format!(in alloc;
+        "column a i64?\ncolumn s utf8\npart\n{stats}row 1 \"x\"\n\
+        row null \"y\"\nrow 2 \"z\"\nwhere {predicate}\n"
+    )
+    .expect(rt, "text");
+    let told = explain_text(alloc, text.as_bytes()).expect(rt, "an explanation");
+    let told = told.expect(rt, "no bad line");
+    assert_eq!(rt; told.lines().last(), Some(want));
+}
+
+// An inexact count that is given doesn't answer, and is told apart from none.
+#[test]
+fn inexact_counts_of_nulls(rt: HostRuntime) {
+    let alloc = rt.alloc();
+    let inexact = "stat a null_count inexact 2\n";
+    let want = "  is_null($.a): falsifier null for want of an exact stat($.a, null_count) \
+        (an inexact one is given), stat($.a, all_non_null) (an exact null_count answers it, an \
+        inexact one is given), satisfier null for want of an exact stat($.a, null_count) (an \
+        inexact one is given)";
+    expect_leaf(&rt, alloc, inexact, "isnull col a", want);
+    let want = "  is_null($.a): falsifier null for want of an exact stat($.a, null_count), \
+        stat($.a, all_non_null) (an exact null_count answers it), satisfier null for want of an \
+        exact stat($.a, null_count), stat($.a, all_null) (an exact null_count answers it)";
+    expect_leaf(&rt, alloc, "", "isnull col a", want);
+    let want = "  is_null($.a): falsifier false, satisfier false";
+    expect_leaf(
+        &rt,
+        alloc,
+        "stat a null_count exact 1\n",
+        "isnull col a",
+        want,
+    );
+}
+
+// A placeholder that a proof has twice is told once.
+#[test]
+fn repeated_placeholders(rt: HostRuntime) {
+    let alloc = rt.alloc();
+    let want = "  (1i64 <= $.a <= 2i64): falsifier null for want of stat($.a, max), \
+        stat($.a, min), satisfier null for want of stat($.a, min), stat($.a, all_non_null) (an \
+        exact null_count answers it), stat($.a, max)";
+    let predicate = "between <= <= col a lit i64 1 lit i64 2";
+    expect_leaf(&rt, alloc, "", predicate, want);
 }
 
 // Of 51 parts a strip is told, and the ten tested ones with the most rows, those first.
@@ -226,17 +273,4 @@ fn no_explanation_of_a_bad_line(rt: HostRuntime) {
         explain_text(rt.alloc(), b"column\n").expect(&rt, "explain text"),
         None
     );
-}
-
-// The answer is the program's, and the reasons have the explanation behind nothing else.
-#[test]
-fn a_run_beside_its_answer(rt: HostRuntime) {
-    let alloc = rt.alloc();
-    let text = "column a i64?\npart\nstat a max exact 5\nrow 5\nwhere gt col a lit i64 5\n";
-    let mut answer = Vec::new(alloc);
-    let mut reasons = Vec::new(alloc);
-    let status = run_explained(alloc, text.as_bytes(), &mut answer, &mut reasons);
-    assert_eq!(&rt; status, 0);
-    assert_eq!(&rt; answer.as_slice(), b"skipped 0\nrows\n".as_slice());
-    assert!(&rt; reasons.starts_with(ABOVE_5.as_bytes()));
 }

@@ -3,3 +3,5 @@
 
 #[cfg(test)]
 mod explained;
+#[cfg(test)]
+mod running;

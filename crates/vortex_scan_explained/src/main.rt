@@ -8,6 +8,6 @@ use vortex_explain::program::run_explained;
 fn main(rt: HostRuntime) -> ExitCode {
     let mut writer = io::writer(&rt);
     let mut reasons = rt.stderr();
-    let status = run_explained(rt.alloc(), rt.reader(), &mut writer, &mut reasons);
+    let (status, _) = run_explained(rt.alloc(), rt.reader(), &mut writer, &mut reasons);
     ExitCode::from(status)
 }

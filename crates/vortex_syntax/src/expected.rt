@@ -17,7 +17,9 @@ pub enum Expected {
     ColumnBeforeParts,
     /// A column before a `part` or a `where`.
     SomeColumn,
-    /// A part that takes rows and statistics, before a `row` or a `stat`.
+    /// A `part` before the first `row` or `stat`.
+    SomePart,
+    /// A part that no `join` has ended, before a `row` or a `stat`.
     OpenPart,
     /// A word that may name a column.
     Name,
@@ -49,8 +51,10 @@ pub enum Expected {
     Expression,
     /// How an end of a BETWEEN is compared.
     Strictness,
-    /// Operands of the types that the operator takes, which is the last word before the place.
-    Operands,
+    /// An operand of another type than this one. The operator is the last word before the place.
+    Operand(DType),
+    /// Operands of other types than these two. The operator is the last word before the place.
+    Operands(DType, DType),
     /// No more words than a predicate may have.
     FewerWords,
     /// The end of the line.
@@ -85,6 +89,40 @@ fn values_of(dtype: DType) -> &'static str {
     }
 }
 
+// The word of a type, without the question mark that lets null in.
+fn type_word(dtype: DType) -> &'static str {
+    match dtype {
+        DType::Null => "null",
+        DType::Bool(_) => "bool",
+        DType::Primitive(PType::U8, _) => "u8",
+        DType::Primitive(PType::U16, _) => "u16",
+        DType::Primitive(PType::U32, _) => "u32",
+        DType::Primitive(PType::U64, _) => "u64",
+        DType::Primitive(PType::I8, _) => "i8",
+        DType::Primitive(PType::I16, _) => "i16",
+        DType::Primitive(PType::I32, _) => "i32",
+        DType::Primitive(PType::I64, _) => "i64",
+        DType::Utf8(_) => "utf8",
+        DType::Binary(_) => "binary",
+        DType::MinMaxState(_, _) => "min_max",
+    }
+}
+
+// A type as a line writes it.
+#[derive(Clone, Copy)]
+struct TypeWord(DType);
+
+impl fmt::Display for TypeWord {
+    fn fmt<W: fmt::Write>(&self, f: &mut fmt::Formatter<W>) -> fmt::Result {
+        let word = type_word(self.0);
+        if self.0.is_nullable() && self.0 != DType::Null {
+            write!(f, "{word}?")
+        } else {
+            write!(f, "{word}")
+        }
+    }
+}
+
 impl Expected {
     /// Whether a line is at fault as a whole, and no word of it.
     pub fn is_about_line(self) -> bool {
@@ -94,10 +132,16 @@ impl Expected {
                 | Expected::NothingBehindPredicate
                 | Expected::ColumnBeforeParts
                 | Expected::SomeColumn
+                | Expected::SomePart
                 | Expected::OpenPart
                 | Expected::FewerWords
                 | Expected::Predicate
         )
+    }
+
+    /// Whether the operands of the last word before the place are at fault.
+    pub fn is_about_operands(self) -> bool {
+        matches!(self, Expected::Operand(_) | Expected::Operands(_, _))
     }
 
     // The sentence of what is expected of the order of lines.
@@ -106,6 +150,7 @@ impl Expected {
             Expected::NothingBehindPredicate => "the predicate is the last line with words",
             Expected::ColumnBeforeParts => "columns stand before the first part",
             Expected::SomeColumn => "a line column has to stand before it",
+            Expected::SomePart => "a line part has to stand before it",
             Expected::OpenPart => "a row or a statistic belongs to a part that no join has ended",
             Expected::LineKind => "a line begins with column, part, stat, row, join or where",
             Expected::Predicate => "a text ends with a line where and the predicate",
@@ -142,7 +187,6 @@ impl Expected {
                  between, isnull, notnull, like, notlike, ilike or notilike"
             }
             Expected::Strictness => "an end is compared by < or <=",
-            Expected::Operands => "the types of its operands don't fit",
             Expected::FewerWords => "a predicate has 4096 words at most",
             Expected::End => "the line ends before this word",
             _ => self.order(),
@@ -160,6 +204,14 @@ impl fmt::Display for Expected {
                 write!(f, "{}, or null", values_of(dtype))
             }
             Expected::ValueOrNull(dtype) => write!(f, "{}", values_of(dtype)),
+            Expected::Operand(dtype) => {
+                let dtype = TypeWord(dtype);
+                write!(f, "the type of its operand doesn't fit: {dtype}")
+            }
+            Expected::Operands(left, right) => {
+                let (left, right) = (TypeWord(left), TypeWord(right));
+                write!(f, "the types of its operands don't fit: {left} and {right}")
+            }
             Expected::Neighbours(count) if count < 2 => {
                 write!(f, "two parts are joined, and there are fewer")
             }

@@ -22,6 +22,25 @@ use vortex_expr::bound_expression::BoundExpression;
 use vortex_expr::like::LikeOptions;
 use vortex_expr::scalar_fn::{BetweenOptions, Operator};
 
+// What is said of an operand that is refused.
+fn operand(x: &BoundExpression) -> Expected {
+    Expected::Operand(x.dtype())
+}
+
+// What is said of two operands that are refused.
+fn operands(left: &BoundExpression, right: &BoundExpression) -> Expected {
+    Expected::Operands(left.dtype(), right.dtype())
+}
+
+// What is said of the operand of a BETWEEN and its ends: the first end that doesn't fit is named.
+fn ends(x: &BoundExpression, lower: &BoundExpression, upper: &BoundExpression) -> Expected {
+    if x.dtype().eq_ignore_nullability(&lower.dtype()) {
+        operands(x, upper)
+    } else {
+        operands(x, lower)
+    }
+}
+
 /// Makes an operator of two operands, or refuses operands that the typing table has no type for.
 #[inline(never)]
 pub fn binary(
@@ -33,9 +52,10 @@ pub fn binary(
 ) -> Result<BoundExpression, LineError>
     ensures { Gives (λ e. e) result (spec.typed (tree.binary operator left right)) }
 {
+    let operands = operands(&left, &right);
     match bound::binary(alloc, operator, left, right) {
         Ok(e) => Ok(e),
-        Err(refusal) => Err(LineError::of_operands(behind, refusal)),
+        Err(refusal) => Err(LineError::of_refusal(behind, operands, refusal)),
     }
 }
 
@@ -51,9 +71,10 @@ pub fn between(
 ) -> Result<BoundExpression, LineError>
     ensures { Gives (λ e. e) result (spec.typed (tree.between options x lower upper)) }
 {
+    let operands = ends(&x, &lower, &upper);
     match bound::between(alloc, x, lower, upper, options) {
         Ok(e) => Ok(e),
-        Err(refusal) => Err(LineError::of_operands(behind, refusal)),
+        Err(refusal) => Err(LineError::of_refusal(behind, operands, refusal)),
     }
 }
 
@@ -68,9 +89,10 @@ pub fn like(
 ) -> Result<BoundExpression, LineError>
     ensures { Gives (λ e. e) result (spec.typed (tree.like options text pattern)) }
 {
+    let operands = operands(&text, &pattern);
     match bound::like_with(alloc, text, pattern, options) {
         Ok(e) => Ok(e),
-        Err(refusal) => Err(LineError::of_operands(behind, refusal)),
+        Err(refusal) => Err(LineError::of_refusal(behind, operands, refusal)),
     }
 }
 
@@ -79,9 +101,10 @@ pub fn like(
 pub fn not(alloc: Global, x: BoundExpression, behind: usize) -> Result<BoundExpression, LineError>
     ensures { Gives (λ e. e) result (spec.typed (tree.not x)) }
 {
+    let operand = operand(&x);
     match bound::not(alloc, x) {
         Ok(e) => Ok(e),
-        Err(refusal) => Err(LineError::of_operands(behind, refusal)),
+        Err(refusal) => Err(LineError::of_refusal(behind, operand, refusal)),
     }
 }
 
@@ -94,9 +117,10 @@ pub fn is_null(
 ) -> Result<BoundExpression, LineError>
     ensures { Gives (λ e. e) result (spec.typed (tree.is_null x)) }
 {
+    let operand = operand(&x);
     match bound::is_null(alloc, x) {
         Ok(e) => Ok(e),
-        Err(refusal) => Err(LineError::of_operands(behind, refusal)),
+        Err(refusal) => Err(LineError::of_refusal(behind, operand, refusal)),
     }
 }
 
@@ -109,9 +133,10 @@ pub fn is_not_null(
 ) -> Result<BoundExpression, LineError>
     ensures { Gives (λ e. e) result (spec.typed (tree.is_not_null x)) }
 {
+    let operand = operand(&x);
     match bound::is_not_null(alloc, x) {
         Ok(e) => Ok(e),
-        Err(refusal) => Err(LineError::of_operands(behind, refusal)),
+        Err(refusal) => Err(LineError::of_refusal(behind, operand, refusal)),
     }
 }
 
@@ -131,7 +156,7 @@ pub fn read_column<'a>(
     };
     match bound::col(alloc, place, dtype) {
         Ok(column) => Ok((column, rest)),
-        Err(refusal) => Err(LineError::of_operands(line.len(), refusal)),
+        Err(refusal) => Err(LineError::of_refusal(line.len(), Expected::Column, refusal)),
     }
 }
 
@@ -140,7 +165,7 @@ fn constant(alloc: Global, scalar: Scalar, behind: usize) -> Result<BoundExpress
 {
     match bound::lit(alloc, scalar) {
         Ok(e) => Ok(e),
-        Err(refusal) => Err(LineError::of_operands(behind, refusal)),
+        Err(refusal) => Err(LineError::of_refusal(behind, Expected::Type, refusal)),
     }
 }
 
@@ -155,7 +180,7 @@ fn literal(
 {
     match Scalar::try_new(dtype, value) {
         Ok(scalar) => constant(alloc, scalar, behind),
-        Err(refusal) => Err(LineError::of_operands(behind, refusal)),
+        Err(refusal) => Err(LineError::of_refusal(behind, Expected::Type, refusal)),
     }
 }
 

@@ -44,14 +44,14 @@ impl LineError {
         LineError::Bad(Fault::at(left, expected))
     }
 
-    /// The same of an operator whose operands were refused, with the bytes that are left behind the
-    /// operator.
-    pub fn of_operands(left: usize, refusal: BaseError) -> LineError
+    /// A refusal of the layer below: memory was refused, or the line is bad where so many bytes of
+    /// it are left.
+    pub fn of_refusal(left: usize, expected: Expected, refusal: BaseError) -> LineError
         ensures { IsRefusedAs refusal result }
     {
         match refusal {
             BaseError::Memory(_) => LineError::Memory,
-            _ => LineError::at(left, Expected::Operands),
+            _ => LineError::at(left, expected),
         }
     }
 }

@@ -3,11 +3,11 @@
 ghost use Rattle.std.specs.Prelude.{◌≡◌, ◌<◌, IfSome, Some, length};
 ghost use Rattle.vortex_base.specs.Data.Scopes.{named_columns};
 ghost use Rattle.vortex_stats.specs.Stat.{stat_dtype};
-ghost use Rattle.vortex_syntax.specs.PlainStatistics.{BeginsClaim, BeginsPlainValue, BeginsSpaced, BeginsSpacedStat, BeginsSpacedValue, BeginsStat, precise, precision_name};
+ghost use Rattle.vortex_syntax.specs.PlainStatistics.{BeginsClaim, BeginsPlainValue, BeginsSpaced, BeginsSpacedStat, BeginsSpacedValue, BeginsStat, precision_name};
 
 use crate::columns::Columns;
 use crate::plain::{plain_number, truth, word};
-use crate::statistic::{Claim, stat_of};
+use crate::statistic::{Claim, precise, stat_of};
 use vortex_base::dtype::DType;
 use vortex_base::scalar_value::ScalarValue;
 use vortex_stats::precision::Precision;
@@ -124,18 +124,6 @@ fn spaced_value(dtype: DType, text: &[u8]) -> Option<(ScalarValue, &[u8])>
     match text {
         [b' ', behind @ ..] => plain_scalar(dtype, behind),
         _ => None,
-    }
-}
-
-// The value, exact or not.
-#[inline(always)]
-fn precise(is_exact: bool, value: ScalarValue) -> Precision<ScalarValue>
-    ensures { result ≡ precise is_exact value }
-{
-    if is_exact {
-        Precision::Exact(value)
-    } else {
-        Precision::Inexact(value)
     }
 }
 

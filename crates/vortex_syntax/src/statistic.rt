@@ -1,8 +1,10 @@
 //! The words of a `stat` line.
-ghost use Rattle.std.specs.Prelude.{◌≡◌, IfErr, IsErrOf, IsTrue};
+ghost use Rattle.std.specs.Prelude.{◌≡◌, IfErr, IsErrOf, IsTrue, option_map};
 ghost use Rattle.vortex_base.specs.Data.Scopes.{named_columns};
+ghost use Rattle.vortex_base.specs.declared.scalar_value.ScalarValue.{ScalarValue};
 ghost use Rattle.vortex_syntax.specs.Copies.{claim_takes};
 ghost use Rattle.vortex_syntax.specs.Fails.{Gives, IsBad};
+ghost use Rattle.vortex_syntax.specs.PlainStatistics.{precise};
 ghost use Rattle.vortex_syntax.specs.Statistics.{claimed, claimed_value, precision_of, stat_of, truth_stat_of};
 ghost use Rattle.vortex_syntax.specs.Words.{words};
 
@@ -59,15 +61,27 @@ pub fn stat_of(word: &[u8]) -> Option<Stat>
     truth_stat_of(word)
 }
 
-/// A value with the precision that a word names, `exact` or `inexact`.
-pub fn precision_of(word: &[u8], value: ScalarValue) -> Option<Precision<ScalarValue>>
-    ensures { result ≡ precision_of word.now value }
+/// The value, exact or not.
+#[inline(always)]
+pub(crate) fn precise(is_exact: bool, value: ScalarValue) -> Precision<ScalarValue>
+    ensures { result ≡ precise is_exact value }
+{
+    if is_exact {
+        Precision::Exact(value)
+    } else {
+        Precision::Inexact(value)
+    }
+}
+
+// Whether a word is `exact`, where it is that or `inexact`.
+fn exactness_of(word: &[u8]) -> Option<bool>
+    ensures { (v : ScalarValue) → precision_of word.now v ≡ option_map (λ e. precise e v) result }
 {
     if is(word, b"exact") {
-        return Some(Precision::Exact(value));
+        return Some(true);
     }
     if is(word, b"inexact") {
-        return Some(Precision::Inexact(value));
+        return Some(false);
     }
     None
 }
@@ -113,11 +127,11 @@ pub fn read_claimed(
         → IsTrue (claim_takes dtype (words line.now)) }
 {
     let (precision, behind) = plain_word(line, Expected::Precision)?;
-    let (word, rest) = first_word(alloc, behind, Expected::Value(dtype))?;
-    let value = value_of(alloc, dtype, word, behind.len())?;
-    let Some(claimed) = precision_of(precision, value) else {
+    let Some(is_exact) = exactness_of(precision) else {
         return Err(LineError::at(line.len(), Expected::Precision));
     };
+    let (word, rest) = first_word(alloc, behind, Expected::Value(dtype))?;
+    let value = value_of(alloc, dtype, word, behind.len())?;
     no_word(rest)?;
-    Ok(claimed)
+    Ok(precise(is_exact, value))
 }

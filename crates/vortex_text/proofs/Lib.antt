@@ -21,4 +21,5 @@ pub mod Refusals
 pub mod StartLemmas
 pub mod StoreLemmas
 pub mod StoreSteps
+pub mod StreamLemmas
 pub mod WorkedRows

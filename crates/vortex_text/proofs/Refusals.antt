@@ -2,8 +2,8 @@
 use Rattle.std.proofs.Common.{◌≡◌, ◌<◌, ◌+◌, ℕ, zero, suc, Bool, true, false, List, [], ◌∷◌, Option, None, Some, IfSome, length, ◌⊎◌, inl, inr, ap, sym, subst, refl, append-nil, arith}
 use Rattle.std.specs.Io.KnownBytes.{Appends}
 use Rattle.vortex_text.specs.declared.streams.TheConstants.{INPUT_LIMIT}
-use Rattle.vortex_text.specs.Program.{Answers, IsFullScan, IsReason, Stops, WritesFullScan, reply_to}
-use Rattle.vortex_text.specs.Streams.{AppendsProperFront, AppendsUnlessFailed, MayHaveFailed, TellsFailure}
+use Rattle.vortex_text.specs.Program.{Answers, IsFullScan, IsReason, Stops, WritesFullScan, WritesOnce, reply_to}
+use Rattle.vortex_text.specs.Streams.{AppendsProperFront, AppendsUnlessFailed, CutsWhereFailed, MayHaveFailed, TellsFailure}
 
 -- a call that failed leaves a stream that may have failed
 pub may_have_failed : (old new : Option Bool) → TellsFailure old new true → MayHaveFailed new
@@ -42,6 +42,38 @@ pub stops_cut : (known old new : Option (List ℕ)) (read_failed write_failed : 
 stops_cut None old new read_failed write_failed read bytes all same failed cut = tt
 stops_cut (Some input) old new read_failed write_failed read bytes all same failed cut =
     inr (inr (failed, subst (λ t. AppendsProperFront old new (reply_to t).1) all (subst (AppendsProperFront old new) same cut)))
+
+-- a word was written, or a write that failed cut it off
+pub word_once : (input : List ℕ) (read_failed before after : Option Bool) (status : ℕ) (old new : Option (List ℕ)) (word : List ℕ) → status ≡ 1 → IsReason input read_failed word
+    → CutsWhereFailed before after old new word → WritesOnce input read_failed before after status old new
+word_once input read_failed before after status old new word one is (inl same) = inl same
+word_once input read_failed before after status old new word one is (inr cut) = inr (one, (word, inl is, cut))
+
+-- so was the word that says why, whatever the input
+pub stops_once : (known old new : Option (List ℕ)) (read_failed before after : Option Bool) (status : ℕ) (word : List ℕ) → status ≡ 1 → ((input : List ℕ) → IsReason input read_failed word)
+    → CutsWhereFailed before after old new word → IfSome known (λ input. WritesOnce input read_failed before after status old new)
+stops_once None old new read_failed before after status word one is written = tt
+stops_once (Some input) old new read_failed before after status word one is written = word_once input read_failed before after status old new word one (is input) written
+
+-- and the word that says so of an input that is too long
+pub too_long_once : (known old new : Option (List ℕ)) (read_failed before after : Option Bool) (status : ℕ) (word : List ℕ) → status ≡ 1
+    → ((input : List ℕ) → INPUT_LIMIT < length input → IsReason input read_failed word) → IfSome known (λ input. INPUT_LIMIT < length input) → CutsWhereFailed before after old new word
+    → IfSome known (λ input. WritesOnce input read_failed before after status old new)
+too_long_once None old new read_failed before after status word one is long written = tt
+too_long_once (Some input) old new read_failed before after status word one is long written =
+    word_once input read_failed before after status old new word one (is input long) written
+
+-- the reply to what was read was cut off
+pub cut_once : (read bytes : List ℕ) (read_failed before after : Option Bool) (old new : Option (List ℕ)) → bytes ≡ (reply_to read).1 → AppendsProperFront old new bytes
+    → WritesOnce read read_failed before after 1 old new
+cut_once read bytes read_failed before after old new same cut = inr (refl, (bytes, inr same, cut))
+
+-- and that was all bytes of the input
+pub reply_cut_once : (known old new : Option (List ℕ)) (read_failed before after : Option Bool) (read bytes : List ℕ) → IfSome known (λ input. read ≡ input) → bytes ≡ (reply_to read).1
+    → AppendsProperFront old new bytes → IfSome known (λ input. WritesOnce input read_failed before after 1 old new)
+reply_cut_once None old new read_failed before after read bytes all same cut = tt
+reply_cut_once (Some input) old new read_failed before after read bytes all same cut =
+    subst (λ i. WritesOnce i read_failed before after 1 old new) all (cut_once read bytes read_failed before after old new same cut)
 
 -- an input of any length
 zeros : ℕ → List ℕ

@@ -4,4 +4,5 @@ pub mod BlockRows
 pub mod FirstRows
 pub mod MemoryRows
 pub mod StoreRows
+pub mod StreamRows
 pub mod TextRows

@@ -11,7 +11,7 @@ use Rattle.vortex_prune.specs.Scanning.Selection.{Answered, full, selected_rows,
 use Rattle.vortex_text.specs.declared.streams.TheConstants.{INPUT_LIMIT}
 use Rattle.vortex_text.specs.Naming.{Query, named}
 use Rattle.vortex_text.specs.Printing.{bad_text, scan_text}
-use Rattle.vortex_text.specs.Streams.{AppendsProperFront, AppendsUnlessFailed, MayHaveFailed}
+use Rattle.vortex_text.specs.Streams.{AppendsProperFront, AppendsUnlessFailed, HasNotFailed, MayHaveFailed}
 
 -- a part with what its own statistics answer
 abbrev pub by_statistics : PartData → Answered
@@ -53,6 +53,19 @@ IsReason input read_failed word =
 abbrev pub Stops : List ℕ → (read_failed : Option Bool) → (write_failed : Option Bool) → Option (List ℕ) → Option (List ℕ) → Type 0
 Stops input read_failed write_failed old new =
     ((word : List ℕ) × IsReason input read_failed word × AppendsUnlessFailed write_failed old new word) ⊎ (MayHaveFailed write_failed × AppendsProperFront old new (reply_to input).1)
+
+-- No read has failed since, or the status is 1 and the word is `read`: no later read makes up for one that failed.
+abbrev pub ReadsOnce : (before after : Option Bool) → (status : ℕ) → (write_failed : Option Bool) → Option (List ℕ) → Option (List ℕ) → Type 0
+ReadsOnce before after status write_failed old new = HasNotFailed before after ⊎ ((status ≡ 1) × AppendsUnlessFailed write_failed old new (codes "read" ++ 10 ∷ []))
+
+-- what is to be written of an input: a word that says why there is no answer, or the reply
+abbrev pub IsSaid : List ℕ → (read_failed : Option Bool) → List ℕ → Type 0
+IsSaid input read_failed bytes = IsReason input read_failed bytes ⊎ (bytes ≡ (reply_to input).1)
+
+-- No write has failed since, or the status is 1 and what is to be written is cut off: no later write makes up for one that failed.
+abbrev pub WritesOnce : List ℕ → (read_failed : Option Bool) → (before after : Option Bool) → (status : ℕ) → Option (List ℕ) → Option (List ℕ) → Type 0
+WritesOnce input read_failed before after status old new =
+    HasNotFailed before after ⊎ ((status ≡ 1) × ((bytes : List ℕ) × IsSaid input read_failed bytes × AppendsProperFront old new bytes))
 
 -- where all statistics of the parts that a text names are true, these bytes tell the rows of the full scan
 abbrev pub IsFullScan : List ℕ → List ℕ → Type 0

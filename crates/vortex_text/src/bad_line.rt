@@ -100,7 +100,7 @@ fn faulty_word<'a>(alloc: Global, line: &'a [u8], fault: Fault) -> Result<Found<
         before = Found { number, word };
         rest = after;
     }
-    if fault.expected == Expected::Operands {
+    if fault.expected.is_about_operands() {
         return Ok(before);
     }
     let (word, _) = written_word(alloc, rest)?;

@@ -12,7 +12,7 @@ ghost use Rattle.vortex_text.specs.Fitting.{AreNeighbours, FitsTogether, IsQuery
 ghost use Rattle.vortex_text.specs.Lines.{has_part, nothing_read, parts_of};
 ghost use Rattle.vortex_syntax.specs.Names.{is_new};
 ghost use Rattle.vortex_text.specs.Lines.{read_column, read_join, read_kind, read_line, read_part};
-ghost use Rattle.vortex_text.specs.Lines.{read_row, read_stat, read_where, read_words, with_claim, with_column};
+ghost use Rattle.vortex_text.specs.Lines.{read_row, read_stat, read_where, read_words, with_claim};
 ghost use Rattle.vortex_text.specs.MemoryTaken.{kind_takes, line_takes, words_take};
 ghost use Rattle.vortex_text.specs.Rows.{empty_part};
 ghost use Rattle.vortex_text.specs.Stores.{StoreData, all_parts, ended_of};
@@ -137,33 +137,6 @@ impl Draft {
         }
     }
 
-    // Adds a column. So many bytes of the line are left at its name.
-    fn add_column(
-        &mut self,
-        alloc: Global,
-        name: &[u8],
-        dtype: DType,
-        left: usize,
-    ) -> Result<(), LineError>
-        ensures read { let old = reading_of self.old in
-            Changes result (with_column old name.now dtype) (reading_of self.new) }
-        ensures memory { IsErrOf result LineError.Memory
-            → IsTrue (is_some (with_column (reading_of self.old) name.now dtype)) }
-    {
-        if self.has_part() {
-            return Err(LineError::at(left, Expected::ColumnBeforeParts));
-        }
-        if !self.is_new(name) {
-            return Err(self.misnamed(name, left));
-        }
-        let Ok(name) = str::from_utf8(name) else {
-            unreachable!()
-        };
-        let name = String::from_str(alloc, name)?;
-        self.columns.push(alloc, name, dtype)?;
-        Ok(())
-    }
-
     // `column NAME TYPE`
     fn read_column(&mut self, alloc: Global, line: &[u8]) -> Result<(), LineError>
         ensures read { let old = reading_of self.old in
@@ -172,12 +145,23 @@ impl Draft {
             → IsTrue (kind_takes LineKind.Column (reading_of self.old) (words line.now)) }
     {
         let (name, named) = plain_word(line, Expected::Name)?;
+        if self.has_part() {
+            return Err(LineError::at(line.len(), Expected::ColumnBeforeParts));
+        }
+        if !self.is_new(name) {
+            return Err(self.misnamed(name, line.len()));
+        }
         let (kind, rest) = plain_word(named, Expected::Type)?;
-        no_word(rest)?;
         let Some(dtype) = type_of(kind) else {
             return Err(LineError::at(named.len(), Expected::Type));
         };
-        self.add_column(alloc, name, dtype, line.len())
+        no_word(rest)?;
+        let Ok(text) = str::from_utf8(name) else {
+            unreachable!()
+        };
+        let column = String::from_str(alloc, text)?;
+        self.columns.push(alloc, column, dtype)?;
+        Ok(())
     }
 
     // `part`
@@ -212,7 +196,7 @@ impl Draft {
         self.told = told.place;
         match &mut self.store {
             Some(store) => store.tell(told.place, told.stat, told.value, left),
-            None => Err(LineError::at(left, Expected::OpenPart)),
+            None => Err(LineError::at(left, Expected::SomePart)),
         }
     }
 
@@ -242,7 +226,7 @@ impl Draft {
     {
         match &mut self.store {
             Some(store) => store.push_row(alloc, line),
-            None => Err(LineError::at(line.len(), Expected::OpenPart)),
+            None => Err(LineError::at(line.len(), Expected::SomePart)),
         }
     }
 
@@ -255,10 +239,10 @@ impl Draft {
             → IsTrue (kind_takes LineKind.Join (reading_of self.old) (words line.now)) }
     {
         let (place, rest) = plain_word(line, Expected::PartPlace)?;
-        no_word(rest)?;
         let Some(place) = natural_of(place) else {
             return Err(LineError::at(line.len(), Expected::PartPlace));
         };
+        no_word(rest)?;
         self.end_part()?;
         match &mut self.store {
             Some(store) => {
@@ -361,7 +345,7 @@ impl Draft {
         match &mut self.store {
             Some(store) => store.push_first_row(alloc, values, refused),
             None => {
-                *refused = LineError::at(values.len(), Expected::OpenPart);
+                *refused = LineError::at(values.len(), Expected::SomePart);
                 None
             }
         }

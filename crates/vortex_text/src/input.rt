@@ -1,8 +1,8 @@
 //! The whole input, which is taken piece by piece as it comes in.
 ghost use Rattle.std.specs.Prelude.{◌<◌, IfOk, IfSome, IsErrOf, OnOk, length};
 ghost use Rattle.std.specs.Io.KnownBytes.{IsAtEnd};
-ghost use Rattle.vortex_text.specs.Inputs.{HoldsInput};
-ghost use Rattle.vortex_text.specs.Streams.{MayHaveFailed};
+ghost use Rattle.vortex_text.specs.Inputs.{HoldsInput, read_failed};
+ghost use Rattle.vortex_text.specs.Streams.{MayHaveFailed, TellsFailure};
 ghost use Rattle.vortex_text.specs.declared.streams.TheConstants.{INPUT_LIMIT};
 
 use crate::open_text::{OpenText, PushError};
@@ -32,12 +32,16 @@ pub fn read_all<R: Source>(alloc: Global, reader: &mut R) -> Result<OpenText, Re
     ensures too_long { IsErrOf result ReadError.TooLong
         → IfSome (R.remaining reader.old) (λ bytes. INPUT_LIMIT < length bytes) }
     ensures failed { IsErrOf result ReadError.Failed → MayHaveFailed (R.has_failed reader.new) }
+    // A read has failed exactly where that is the error: none makes up for one before it.
+    ensures told { TellsFailure (R.has_failed reader.old) (R.has_failed reader.new)
+        (read_failed result) }
 {
     let mut text = OpenText::new(alloc);
     let mut chunk = [0u8; CHUNK];
-    loop {
-        let Some(count) = reader.read_some(&mut chunk) else {
-            return Err(ReadError::Failed);
+    'reads: loop {
+        let count = match reader.read_once(&mut chunk) {
+            Ok(count) => count,
+            Err(_) => return Err(ReadError::Failed),
         };
         if count == 0 {
             return Ok(text);

@@ -2,7 +2,7 @@
 ghost use Rattle.std.specs.Prelude.{◌≡◌, ◌<◌, ◌≤◌, ◌+◌, ◌++◌, ◌∷◌, [], OnErr, OnOk, decimal, length};
 ghost use Rattle.std.specs.Io.KnownBytes.{Appends};
 ghost use Rattle.vortex_text.specs.Printing.{row_begin};
-ghost use Rattle.vortex_text.specs.Streams.{IsCutOff, Passes};
+ghost use Rattle.vortex_text.specs.Streams.{HasNotFailed, IsCutOff, Passes};
 ghost use Rattle.vortex_text.specs.declared.page.TheConstants.{FRONT, ROOM, SIZE};
 
 use crate::streams::{Sink, write_out};
@@ -27,6 +27,8 @@ pub struct CutOff;
 fn pass<W: Sink>(writer: &mut W, bytes: &[u8]) -> Result<(), CutOff>
     ensures written { OnOk result
         (Appends (W.contents writer.old) (W.contents writer.new) bytes.now) }
+    ensures unfailed { OnOk result (HasNotFailed (W.has_failed writer.old)
+        (W.has_failed writer.new)) }
     ensures cut { OnErr result (IsCutOff (W.has_failed writer.new) (W.contents writer.old)
         (W.contents writer.new) bytes.now) }
 {
@@ -145,6 +147,8 @@ impl Page {
         ensures written { OnOk result
             (Appends (W.contents writer.old) (W.contents writer.new) self.old) }
         ensures empty { OnOk result (self.new ≡ []) }
+        ensures unfailed { OnOk result (HasNotFailed (W.has_failed writer.old)
+            (W.has_failed writer.new)) }
         ensures cut { OnErr result (IsCutOff (W.has_failed writer.new) (W.contents writer.old)
             (W.contents writer.new) self.old) }
     {
@@ -168,6 +172,8 @@ impl Page {
     fn turn<W: Sink>(&mut self, writer: &mut W, bytes: &[u8]) -> Result<(), CutOff>
         ensures put { OnOk result
             (Passes (W.contents writer.old) (W.contents writer.new) self.old self.new bytes.now) }
+        ensures unfailed { OnOk result (HasNotFailed (W.has_failed writer.old)
+            (W.has_failed writer.new)) }
         ensures cut { OnErr result (IsCutOff (W.has_failed writer.new) (W.contents writer.old)
             (W.contents writer.new) (self.old ++ bytes.now)) }
     {
@@ -183,6 +189,8 @@ impl Page {
     pub fn put<W: Sink>(&mut self, writer: &mut W, bytes: &[u8]) -> Result<(), CutOff>
         ensures put { OnOk result
             (Passes (W.contents writer.old) (W.contents writer.new) self.old self.new bytes.now) }
+        ensures unfailed { OnOk result (HasNotFailed (W.has_failed writer.old)
+            (W.has_failed writer.new)) }
         ensures cut { OnErr result (IsCutOff (W.has_failed writer.new) (W.contents writer.old)
             (W.contents writer.new) (self.old ++ bytes.now)) }
     {
@@ -199,6 +207,8 @@ impl Page {
         ensures put { OnOk result
             (Passes (W.contents writer.old) (W.contents writer.new) self.old self.new []) }
         ensures room { OnOk result (length self.new + ROOM ≤ SIZE) }
+        ensures unfailed { OnOk result (HasNotFailed (W.has_failed writer.old)
+            (W.has_failed writer.new)) }
         ensures cut { OnErr result (IsCutOff (W.has_failed writer.new) (W.contents writer.old)
             (W.contents writer.new) self.old) }
     {
@@ -241,6 +251,8 @@ impl Page {
     ) -> Result<(), CutOff>
         ensures put { OnOk result (Passes (W.contents writer.old) (W.contents writer.new)
             self.old self.new (front.now ++ decimal number)) }
+        ensures unfailed { OnOk result (HasNotFailed (W.has_failed writer.old)
+            (W.has_failed writer.new)) }
         ensures cut { OnErr result (IsCutOff (W.has_failed writer.new) (W.contents writer.old)
             (W.contents writer.new) (self.old ++ (front.now ++ decimal number))) }
     {

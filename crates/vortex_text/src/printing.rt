@@ -4,7 +4,7 @@ ghost use Rattle.std.specs.Io.KnownBytes.{Appends};
 ghost use Rattle.std.specs.List.{flat_map};
 ghost use Rattle.vortex_text.specs.Printing.{bad_text, line_of, part_text, row_begin, row_text};
 ghost use Rattle.vortex_text.specs.Printing.{scan_text, whole_text};
-ghost use Rattle.vortex_text.specs.Streams.{IsCutOff, Passes};
+ghost use Rattle.vortex_text.specs.Streams.{HasNotFailed, IsCutOff, Passes};
 
 use crate::page::{CutOff, Front, Page};
 use crate::streams::Sink;
@@ -14,6 +14,8 @@ use vortex_prune::scan::outcome::Scan;
 fn print_parts<W: Sink>(writer: &mut W, page: &mut Page, parts: &[usize]) -> Result<(), CutOff>
     ensures printed { OnOk result (Passes (W.contents writer.old) (W.contents writer.new)
         page.old page.new (flat_map part_text parts.now)) }
+    ensures unfailed { OnOk result (HasNotFailed (W.has_failed writer.old)
+        (W.has_failed writer.new)) }
     ensures cut { OnErr result (IsCutOff (W.has_failed writer.new) (W.contents writer.old)
         (W.contents writer.new) (page.old ++ flat_map part_text parts.now)) }
 {
@@ -45,6 +47,8 @@ fn print_rows<W: Sink>(
 ) -> Result<(), CutOff>
     ensures printed { OnOk result (Passes (W.contents writer.old) (W.contents writer.new)
         page.old page.new (flat_map row_text rows.now)) }
+    ensures unfailed { OnOk result (HasNotFailed (W.has_failed writer.old)
+        (W.has_failed writer.new)) }
     ensures cut { OnErr result (IsCutOff (W.has_failed writer.new) (W.contents writer.old)
         (W.contents writer.new) (page.old ++ flat_map row_text rows.now)) }
 {
@@ -66,6 +70,8 @@ fn print_part_line<W: Sink>(
 ) -> Result<(), CutOff>
     ensures printed { OnOk result (Passes (W.contents writer.old) (W.contents writer.new)
         page.old page.new (line_of word.now (flat_map part_text parts.now))) }
+    ensures unfailed { OnOk result (HasNotFailed (W.has_failed writer.old)
+        (W.has_failed writer.new)) }
     ensures cut { OnErr result (IsCutOff (W.has_failed writer.new) (W.contents writer.old)
         (W.contents writer.new) (page.old ++ line_of word.now (flat_map part_text parts.now))) }
 {
@@ -82,6 +88,8 @@ fn print_row_line<W: Sink>(
 ) -> Result<(), CutOff>
     ensures printed { OnOk result (Passes (W.contents writer.old) (W.contents writer.new)
         page.old page.new (line_of (codes "rows") (flat_map row_text rows.now))) }
+    ensures unfailed { OnOk result (HasNotFailed (W.has_failed writer.old)
+        (W.has_failed writer.new)) }
     ensures cut { OnErr result (IsCutOff (W.has_failed writer.new) (W.contents writer.old)
         (W.contents writer.new)
         (page.old ++ line_of (codes "rows") (flat_map row_text rows.now))) }
@@ -95,6 +103,8 @@ fn print_row_line<W: Sink>(
 fn print_whole<W: Sink>(writer: &mut W, page: &mut Page, parts: &[usize]) -> Result<(), CutOff>
     ensures printed { OnOk result (Passes (W.contents writer.old) (W.contents writer.new)
         page.old page.new (whole_text parts.now)) }
+    ensures unfailed { OnOk result (HasNotFailed (W.has_failed writer.old)
+        (W.has_failed writer.new)) }
     ensures cut { OnErr result (IsCutOff (W.has_failed writer.new) (W.contents writer.old)
         (W.contents writer.new) (page.old ++ whole_text parts.now)) }
 {
@@ -110,6 +120,8 @@ fn print_whole<W: Sink>(writer: &mut W, page: &mut Page, parts: &[usize]) -> Res
 pub fn print_scan<W: Sink>(writer: &mut W, scan: &Scan) -> Result<(), CutOff>
     ensures printed { OnOk result (Appends (W.contents writer.old) (W.contents writer.new)
         (scan_text scan.now.skipped.items scan.now.selected.items scan.now.whole.items)) }
+    ensures unfailed { OnOk result (HasNotFailed (W.has_failed writer.old)
+        (W.has_failed writer.new)) }
     ensures cut { OnErr result (IsCutOff (W.has_failed writer.new) (W.contents writer.old)
         (W.contents writer.new)
         (scan_text scan.now.skipped.items scan.now.selected.items scan.now.whole.items)) }

@@ -1,11 +1,12 @@
 //! From the bytes that come in to those that go out.
-ghost use Rattle.std.specs.Prelude.{◌≡◌, ◌≢◌, ◌⊎◌, ◌∷◌, ◌++◌, [], ℕ, List, IfOk, IfSome, IfNone, OnSome, codes, string_bytes};
+ghost use Rattle.std.specs.Prelude.{◌≡◌, ◌≢◌, ◌⊎◌, ◌∷◌, ◌++◌, [], ℕ, List, IfOk, IfSome, IfNone, IsTrue, OnSome, codes, string_bytes};
+ghost use Rattle.std.specs.Bool.{OnFalse};
 ghost use Rattle.std.specs.Io.KnownBytes.{Appends};
 ghost use Rattle.vortex_text.specs.OpenTexts.{IsOpenText};
 ghost use Rattle.vortex_text.specs.Printing.{bad_text};
-ghost use Rattle.vortex_text.specs.Program.{Answers, IsFullScan, Stops, WritesFullScan, reply_to};
+ghost use Rattle.vortex_text.specs.Program.{Answers, IsFullScan, ReadsOnce, Stops, WritesFullScan, WritesOnce, reply_to};
 ghost use Rattle.vortex_text.specs.Replies.{said};
-ghost use Rattle.vortex_text.specs.Streams.{AppendsUnlessFailed, IsCutOff};
+ghost use Rattle.vortex_text.specs.Streams.{AppendsUnlessFailed, CutsWhereFailed, HasNotFailed, IsCutOff};
 
 use crate::bad_line::{BadInput, TextError};
 use crate::input::{ReadError, read_all};
@@ -24,6 +25,9 @@ const NO_MEMORY: &str = "memory: a request for memory was refused\n";
 const NOT_READ: &str = "read: the input could not be read to its end\n";
 
 const TOO_LONG: &str = "input: the input is longer than 16777216 bytes\n";
+
+// Why an answer is cut off.
+const NOT_WRITTEN: &str = "write: the answer could not be written to its end\n";
 
 // What a text without a scan is answered: the status, what is printed, and why there is no scan.
 #[derive(Drop)]
@@ -99,37 +103,75 @@ fn refuse<W: Sink, E: Sink>(writer: &mut W, reasons: &mut E, word: &[u8], senten
     // All of the word, unless a write failed.
     ensures written { AppendsUnlessFailed (W.has_failed writer.new) (W.contents writer.old)
         (W.contents writer.new) word.now }
+    // After a write that failed nothing more of it.
+    ensures cut { CutsWhereFailed (W.has_failed writer.old) (W.has_failed writer.new)
+        (W.contents writer.old) (W.contents writer.new) word.now }
 {
-    let _ = write_out(writer, word);
+    let is_written = write_out(writer, word);
     tell(reasons, sentence);
+    if !is_written {
+        tell(reasons, NOT_WRITTEN);
+    }
     1
 }
 
-// Writes a reply, and tells its status. None where a write failed.
+// Writes a reply. False where a write failed.
+fn write_reply<W: Sink>(writer: &mut W, reply: &Reply) -> bool
+    ensures written { IsTrue result
+        → Appends (W.contents writer.old) (W.contents writer.new) (said reply.now).1 }
+    ensures unfailed { IsTrue result
+        → HasNotFailed (W.has_failed writer.old) (W.has_failed writer.new) }
+    ensures cut { OnFalse result (IsCutOff (W.has_failed writer.new) (W.contents writer.old)
+        (W.contents writer.new) (said reply.now).1) }
+{
+    match reply {
+        Ok(scan) => print_scan(writer, scan).is_ok(),
+        Err(refusal) => write_out(writer, refusal.answer.as_bytes()),
+    }
+}
+
+// The status of a reply.
+fn status_of(reply: &Reply) -> u8
+    ensures { result ≡ (said reply.now).0 }
+{
+    match reply {
+        Ok(_) => 0,
+        Err(refusal) => refusal.status,
+    }
+}
+
+// Tells why there is no scan, where there is none.
+fn tell_refusal<E: Sink>(reasons: &mut E, reply: &Reply) {
+    if let Err(refusal) = reply {
+        tell(reasons, &refusal.reason);
+    }
+}
+
+// Writes a reply, and returns its status. The reason of a refusal is told. None where a write
+// failed, which is told too.
 fn send<W: Sink, E: Sink>(writer: &mut W, reasons: &mut E, reply: Reply) -> Option<u8>
     ensures status { IfSome result (λ status. status ≡ (said reply).0) }
     ensures written { OnSome result
         (Appends (W.contents writer.old) (W.contents writer.new) (said reply).1) }
+    ensures unfailed { OnSome result
+        (HasNotFailed (W.has_failed writer.old) (W.has_failed writer.new)) }
     ensures cut { IfNone result (IsCutOff (W.has_failed writer.new) (W.contents writer.old)
         (W.contents writer.new) (said reply).1) }
 {
-    let refusal = match reply {
-        Ok(scan) => return print_scan(writer, &scan).is_ok().then_some(0),
-        Err(refusal) => refusal,
-    };
-    tell(reasons, &refusal.reason);
-    if write_out(writer, refusal.answer.as_bytes()) {
-        Some(refusal.status)
-    } else {
-        None
+    tell_refusal(reasons, &reply);
+    if write_reply(writer, &reply) {
+        return Some(status_of(&reply));
     }
+    tell(reasons, NOT_WRITTEN);
+    None
 }
 
 /// Reads the whole input, and writes the answer to it and nothing else. The status is 0 for a scan,
 /// 2 for a bad line, and 1 where the predicate isn't of type Bool, or memory, a read or a write was
 /// refused, or the input goes past its limit. Where there is no scan, `reasons` gets a line that
-/// says why: of a bad line the word that is at fault and what was expected there. What becomes of
-/// that line has no part in the status.
+/// says why: of a bad line the word that is at fault and what was expected there. It gets another
+/// one where the answer could not be written. What becomes of these lines has no part in the
+/// status.
 pub fn run<R: Source, W: Sink, E: Sink>(
     alloc: Global,
     reader: &mut R,
@@ -153,6 +195,17 @@ pub fn run<R: Source, W: Sink, E: Sink>(
         × (Answers input 1 (W.contents writer.old) (W.contents writer.new)
         ⊎ Stops input (R.has_failed reader.new) (W.has_failed writer.new)
         (W.contents writer.old) (W.contents writer.new)) }
+    // A read that failed is not made up for by a later one: it ends the run.
+    ensures reads { ReadsOnce (R.has_failed reader.old) (R.has_failed reader.new) result
+        (W.has_failed writer.new) (W.contents writer.old) (W.contents writer.new) }
+    // Nor is a write that failed or took nothing.
+    ensures writes { IfSome (R.remaining reader.old) (λ input. WritesOnce input
+        (R.has_failed reader.new) (W.has_failed writer.old) (W.has_failed writer.new) result
+        (W.contents writer.old) (W.contents writer.new)) }
+    // So it is also where the reader doesn't tell its bytes.
+    ensures some_writes { (input : List ℕ) × WritesOnce input (R.has_failed reader.new)
+        (W.has_failed writer.old) (W.has_failed writer.new) result
+        (W.contents writer.old) (W.contents writer.new) }
     // Where all statistics that the input names are true, the answer has the full scan's rows.
     ensures lossless { result ≡ 0 → IfSome (R.remaining reader.old)
         (λ input. WritesFullScan input (W.contents writer.old) (W.contents writer.new)) }

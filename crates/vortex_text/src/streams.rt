@@ -1,9 +1,11 @@
 //! The bytes that come in, and the bytes that go out.
-ghost use Rattle.std.specs.Prelude.{◌≡◌, ◌<◌, ◌≤◌, ℕ, Bool, List, Option, None, length, take, IfSome, MatchOption, IsTrue, is_none};
+ghost use Rattle.std.specs.Prelude.{ℕ, Bool, List, Option, None, IsTrue, is_err};
 ghost use Rattle.std.specs.Bool.{OnFalse};
-ghost use Rattle.std.specs.Io.KnownBytes.{Appends, Consumes, IsAtEnd, Keeps};
-ghost use Rattle.vortex_text.specs.Streams.{AppendsProperFront, MayHaveFailed, TellsFailure};
+ghost use Rattle.std.specs.Io.{ReadsAtMost, WritesAtMost};
+ghost use Rattle.std.specs.Io.KnownBytes.{Appends, ReadConsumes, WriteAppends};
+ghost use Rattle.vortex_text.specs.Streams.{AppendsProperFront, HasNotFailed, MayHaveFailed, TellsFailure, takes_none};
 
+use std::io;
 use std::io::{Read, Write};
 
 /// How many bytes of input are read at the most.
@@ -17,15 +19,12 @@ pub trait Source {
     // Whether a read has failed, where that is told.
     ghost has_failed: { Self → Option Bool };
 
-    /// Reads some bytes to the front of `buf`, and tells how many: none only at the end or without
-    /// room. `None` is a read that failed.
-    fn read_some(&mut self, buf: &mut [u8]) -> Option<usize>
-        ensures bound { IfSome result (λ n. n ≤ length buf.new) }
-        ensures bytes { MatchOption result (Keeps (remaining self.old) (remaining self.new))
-            (λ n. Consumes (remaining self.old) (remaining self.new) (take n buf.new)) }
-        ensures end { IfSome result (λ n. n ≡ 0 → 0 < length buf.new
-            → IsAtEnd (remaining self.new)) }
-        ensures told { TellsFailure (has_failed self.old) (has_failed self.new) (is_none result) };
+    /// Reads once: some bytes to the front of `buf`. Returns how many: none only at the end or
+    /// without room.
+    fn read_once(&mut self, buf: &mut [u8]) -> io::Result<usize>
+        ensures bound { ReadsAtMost result buf.new }
+        ensures bytes { ReadConsumes (remaining self.old) (remaining self.new) result buf.new }
+        ensures told { TellsFailure (has_failed self.old) (has_failed self.new) (is_err result) };
 }
 
 impl<R: Read> Source for R {
@@ -33,11 +32,8 @@ impl<R: Read> Source for R {
 
     ghost has_failed = { λ _. None };
 
-    fn read_some(&mut self, buf: &mut [u8]) -> Option<usize> {
-        match self.read(buf) {
-            Ok(count) => Some(count),
-            Err(_) => None,
-        }
+    fn read_once(&mut self, buf: &mut [u8]) -> io::Result<usize> {
+        self.read(buf)
     }
 }
 
@@ -49,14 +45,13 @@ pub trait Sink {
     // Whether a write has failed or taken nothing, where that is told.
     ghost has_failed: { Self → Option Bool };
 
-    /// Writes some of the bytes, from their front, and tells how many. `None` is a write that
-    /// failed or took nothing.
-    fn write_some(&mut self, bytes: &[u8]) -> Option<usize>
-        ensures bound { IfSome result (λ n. n ≤ length bytes.now) }
-        ensures some { IfSome result (λ n. 0 < n) }
-        ensures bytes { MatchOption result (Keeps (contents self.old) (contents self.new))
-            (λ n. Appends (contents self.old) (contents self.new) (take n bytes.now)) }
-        ensures told { TellsFailure (has_failed self.old) (has_failed self.new) (is_none result) };
+    /// Writes once: some of the bytes, from their front. Returns how many. A write that takes none
+    /// has failed too.
+    fn write_once(&mut self, bytes: &[u8]) -> io::Result<usize>
+        ensures bound { WritesAtMost result bytes.now }
+        ensures bytes { WriteAppends (contents self.old) (contents self.new) result bytes.now }
+        ensures told { TellsFailure (has_failed self.old) (has_failed self.new)
+            (takes_none result) };
 }
 
 impl<W: Write> Sink for W {
@@ -64,11 +59,8 @@ impl<W: Write> Sink for W {
 
     ghost has_failed = { λ _. None };
 
-    fn write_some(&mut self, bytes: &[u8]) -> Option<usize> {
-        match self.write(bytes) {
-            Ok(count) if count > 0 => Some(count),
-            _ => None,
-        }
+    fn write_once(&mut self, bytes: &[u8]) -> io::Result<usize> {
+        self.write(bytes)
     }
 }
 
@@ -77,15 +69,17 @@ impl<W: Write> Sink for W {
 pub fn write_out<W: Sink>(writer: &mut W, bytes: &[u8]) -> bool
     ensures whole { IsTrue result
         → Appends (W.contents writer.old) (W.contents writer.new) bytes.now }
+    ensures unfailed { IsTrue result
+        → HasNotFailed (W.has_failed writer.old) (W.has_failed writer.new) }
     ensures cut { OnFalse result
         (AppendsProperFront (W.contents writer.old) (W.contents writer.new) bytes.now) }
     ensures failed { OnFalse result (MayHaveFailed (W.has_failed writer.new)) }
 {
     let mut rest = bytes;
     while !rest.is_empty() {
-        match writer.write_some(rest) {
-            Some(count) => rest = &rest[count..],
-            None => return false,
+        match writer.write_once(rest) {
+            Ok(count) if count > 0 => rest = &rest[count..],
+            Ok(_) | Err(_) => return false,
         }
     }
     true

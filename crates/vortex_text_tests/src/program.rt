@@ -18,6 +18,7 @@ mod plain_statistics;
 mod ranges;
 mod reasons;
 mod skipping;
+mod stumbling;
 mod telling;
 mod text_lines;
 mod typed_values;

@@ -41,11 +41,15 @@ fn lines_out_of_order(rt: HostRuntime) {
     let cases = "
         part => line 1: a line column has to stand before it
         where lit bool true => line 1: a line column has to stand before it
-        column a i64 / row 1 => line 2: a row or a statistic belongs to a part that no join has \
-            ended
-        column a i64 / stat a min exact 1 => line 2: a row or a statistic belongs to a part that \
-            no join has ended
+        column a i64 / row 1 => line 2: a line part has to stand before it
+        column a i64 / row x => line 2: a line part has to stand before it
+        column a i64 / stat a min exact 1 => line 2: a line part has to stand before it
+        column a i64 / part / part / join 0 / row 1 => line 5: a row or a statistic belongs to a \
+            part that no join has ended
+        column a i64 / part / part / join 0 / stat a min exact 1 => line 5: a row or a statistic \
+            belongs to a part that no join has ended
         column a i64 / part / column b i64 => line 3: columns stand before the first part
+        column a i64 / part / column b u7 => line 3: columns stand before the first part
         column a i64 / where lit bool true / part => line 3: the predicate is the last line with \
             words
         column a i64 => line 2: a text ends with a line where and the predicate
@@ -68,6 +72,32 @@ fn names_and_types(rt: HostRuntime) {
         column b u8 null => line 2: word 4 \"null\": the line ends before this word
     ";
     expect_reasons(&rt, rt.alloc(), "column a i64?\n", cases);
+}
+
+// Of two words that are at fault the first one is told.
+#[test]
+fn the_first_of_two_wrong_words(rt: HostRuntime) {
+    let cases = "
+        column 1a u7 => line 3: word 2 \"1a\": a name is an ASCII letter or _, then letters, \
+            digits or _, 64 bytes at most
+        column 1a => line 3: word 2 \"1a\": a name is an ASCII letter or _, then letters, \
+            digits or _, 64 bytes at most
+        column a u7 => line 3: word 2 \"a\": an earlier column has this name
+        column b u7 x => line 3: word 3 \"u7\": a type is bool, u8, u16, u32, u64, i8, i16, i32, \
+            i64, utf8 or binary, or one of these with a ? behind it, or null
+        part / join x y => line 4: word 2 \"x\": the place of a part is written in digits, \
+            18446744073709551615 at most
+        part / stat b least about x => line 4: word 2 \"b\": the name of a column is expected
+        part / stat a least about x => line 4: word 3 \"least\": a statistic is min, max, \
+            null_count, sum, uncompressed_size_in_bytes, is_constant, is_sorted or is_strict_sorted
+        part / stat a min about x => line 4: word 4 \"about\": a statistic is exact or inexact
+        part / stat a min about => line 4: word 4 \"about\": a statistic is exact or inexact
+        part / stat t min about \"x => line 4: word 4 \"about\": a statistic is exact or inexact
+        part / stat a min exact 256 1 => line 4: word 5 \"256\": u8 is 0 to 255
+        part / row 256 1 => line 4: word 2 \"256\": u8 is 0 to 255
+        where eq col b col c => line 3: word 4 \"b\": the name of a column is expected
+    ";
+    expect_reasons(&rt, rt.alloc(), "column a u8\ncolumn t utf8\n", cases);
 }
 
 const PART: &str = "column a u8\ncolumn t utf8?\ncolumn n null\npart\n";
@@ -146,13 +176,40 @@ fn expressions(rt: HostRuntime) {
         where isnull col b => line 2: word 4 \"b\": the name of a column is expected
         where between <> < => line 2: word 3 \"<>\": an end is compared by < or <=
         where between < => line 2: word 4 is missing: an end is compared by < or <=
-        where not eq col a lit u16 1 => line 2: word 3 \"eq\": the types of its operands don't fit
-        where not col a => line 2: word 2 \"not\": the types of its operands don't fit
-        where like col a lit utf8 \"a b\" => line 2: word 2 \"like\": the types of its operands \
-            don't fit
         where col a col a => line 2: word 4 \"col\": the line ends before this word
     ";
     expect_reasons(&rt, rt.alloc(), "column a u8\n", cases);
+}
+
+#[test]
+fn operands_are_named_by_their_types(rt: HostRuntime) {
+    let cases = "
+        where not eq col a lit u16 1 => line 4: word 3 \"eq\": the types of its operands don't \
+            fit: u8 and u16
+        where ge lit i64? 1 col a => line 4: word 2 \"ge\": the types of its operands don't fit: \
+            i64? and u8
+        where and lit bool true lit null null => line 4: word 2 \"and\": the types of its \
+            operands don't fit: bool and null
+        where or col a lit bool? null => line 4: word 2 \"or\": the types of its operands don't \
+            fit: u8 and bool?
+        where not col a => line 4: word 2 \"not\": the type of its operand doesn't fit: u8
+        where like col a lit utf8 \"a b\" => line 4: word 2 \"like\": the types of its operands \
+            don't fit: u8 and utf8
+        where notilike col t lit binary x00 => line 4: word 2 \"notilike\": the types of its \
+            operands don't fit: utf8? and binary
+        where between < < col a lit i8 1 lit u8 2 => line 4: word 2 \"between\": the types of \
+            its operands don't fit: u8 and i8
+        where between < < col a lit u8? 1 lit i32 2 => line 4: word 2 \"between\": the types of \
+            its operands don't fit: u8 and i32
+        where eq lit u32 1 lit i16 1 => line 4: word 2 \"eq\": the types of its operands don't \
+            fit: u32 and i16
+        where eq lit u64 1 col t => line 4: word 2 \"eq\": the types of its operands don't fit: \
+            u64 and utf8?
+        where eq col n col a => line 4: word 2 \"eq\": the types of its operands don't fit: null \
+            and u8
+    ";
+    let front = "column a u8\ncolumn t utf8?\ncolumn n null\n";
+    expect_reasons(&rt, rt.alloc(), front, cases);
 }
 
 #[test]

@@ -10,7 +10,7 @@ returns-in_err-put_number-clause-cut g c =
     let i = c.loop-part.part-index in
     let part = part_parted (get_or parts i 0) c.space-space.result c.space-space.ensures in
     let split = flat_map_parted part_text parts i 0 c.loop-part-test.true ∙ ap (λ l. flat_map part_text (take i parts) ++ (l ++ flat_map part_text (drop (i + 1) parts))) part in
-    on_err _ (cut_after _ _ _ _ _ _ _ _ _ _ c.loop-part.invariant c.in_err-put_number.ensures.cut split)
+    on_err _ (cut_after _ _ _ _ _ _ _ _ _ _ c.loop-part.invariant.printed c.in_err-put_number.ensures.cut split)
 
 pub loop-part-preserved : goal.loop-part-preserved
 loop-part-preserved g c =
@@ -18,4 +18,7 @@ loop-part-preserved g c =
     let i = c.loop-part.part-index in
     let part = part_parted (get_or parts i 0) c.space-space.result c.space-space.ensures in
     let next = flat_map_next part_text parts i 0 c.loop-part-test.true ∙ ap (λ l. flat_map part_text (take i parts) ++ l) part in
-    passes_more _ _ _ _ _ _ _ _ _ c.loop-part.invariant c.in_ok-put_number.ensures.put next
+    record {
+      printed = passes_more _ _ _ _ _ _ _ _ _ c.loop-part.invariant.printed c.in_ok-put_number.ensures.put next;
+      unfailed = c.in_ok-put_number.ensures.unfailed ∙ c.loop-part.invariant.unfailed;
+    }

@@ -20,5 +20,6 @@ loop-part-preserved g c =
     let next = flat_map_next row_text rows i (0, 0) c.loop-part-test.true ∙ ap (λ l. flat_map row_text (take i rows) ++ l) row in
     record {
       printed = passes_more _ _ _ _ _ _ _ _ _ c.loop-part.invariant.printed c.in_ok-put_number.ensures.put next;
+      unfailed = c.in_ok-put_number.ensures.unfailed ∙ c.loop-part.invariant.unfailed;
       begun = rw c.turn_to.ensures.begun c.turn_to.ensures.begin;
     }

@@ -1,5 +1,5 @@
 use Rattle.std.proofs.Common.{[], refl, inl, inr, ap}
-use Rattle.vortex_text.proofs.Refusals.{stops_at_word, stops_cut, stops_too_long, too_long}
+use Rattle.vortex_text.proofs.Refusals.{cut_once, reply_cut_once, stops_at_word, stops_cut, stops_once, stops_too_long, too_long, too_long_once, word_once}
 use Rattle.vortex_text.specs.Replies.{said}
 use Rattle.vortex_text.proofs.program.run.Goals as goal
 
@@ -36,3 +36,42 @@ returns-in-None-clause-refused g c =
     let (text, is) = c.in-Ok.ensures.whole in
     let (may, cut) = c.in-None.ensures.cut in
     λ _. stops_cut _ _ _ _ _ text (said c.in-Ok-reply_to.reply).1 is.whole (ap (λ r. r.1) (c.in-Ok-reply_to.ensures.said text is.pushed)) may cut
+
+pub returns-in-Err-Memory-clause-writes : goal.returns-in-Err-Memory-clause-writes
+returns-in-Err-Memory-clause-writes g c = stops_once _ _ _ _ _ _ _ _ c.refuse.ensures.status (λ input. inl refl) c.refuse.ensures.cut
+
+pub returns-in-Err-Memory-clause-some_writes : goal.returns-in-Err-Memory-clause-some_writes
+returns-in-Err-Memory-clause-some_writes g c = ([], word_once [] _ _ _ _ _ _ _ c.refuse.ensures.status (inl refl) c.refuse.ensures.cut)
+
+pub returns-in-Err-Failed-clause-writes : goal.returns-in-Err-Failed-clause-writes
+returns-in-Err-Failed-clause-writes g c =
+    stops_once _ _ _ _ _ _ _ _ c.refuse-in-Err-Failed.ensures.status (λ input. inr (inl (c.read_all.ensures.failed (rw (c.in-Err-Failed.is, c.in-Err-Failed.field-0-is) refl), refl))) c.refuse-in-Err-Failed.ensures.cut
+
+pub returns-in-Err-Failed-clause-some_writes : goal.returns-in-Err-Failed-clause-some_writes
+returns-in-Err-Failed-clause-some_writes g c =
+    ([], word_once [] _ _ _ _ _ _ _ c.refuse-in-Err-Failed.ensures.status (inr (inl (c.read_all.ensures.failed (rw (c.in-Err-Failed.is, c.in-Err-Failed.field-0-is) refl), refl))) c.refuse-in-Err-Failed.ensures.cut)
+
+pub returns-in-Err-TooLong-clause-writes : goal.returns-in-Err-TooLong-clause-writes
+returns-in-Err-TooLong-clause-writes g c =
+    too_long_once _ _ _ _ _ _ _ _ c.refuse-in-Err-TooLong.ensures.status (λ input long. inr (inr (long, refl))) (c.read_all.ensures.too_long (rw (c.in-Err-TooLong.is, c.in-Err-TooLong.field-0-is) refl)) c.refuse-in-Err-TooLong.ensures.cut
+
+pub returns-in-Err-TooLong-clause-some_writes : goal.returns-in-Err-TooLong-clause-some_writes
+returns-in-Err-TooLong-clause-some_writes g c = (too_long.0, word_once _ _ _ _ _ _ _ _ c.refuse-in-Err-TooLong.ensures.status (inr (inr (too_long.1, refl))) c.refuse-in-Err-TooLong.ensures.cut)
+
+pub returns-in_default-clause-writes : goal.returns-in_default-clause-writes
+returns-in_default-clause-writes g c = stops_once _ _ _ _ _ _ _ _ c.refuse-in_default.ensures.status (λ input. inl refl) c.refuse-in_default.ensures.cut
+
+pub returns-in_default-clause-some_writes : goal.returns-in_default-clause-some_writes
+returns-in_default-clause-some_writes g c = ([], word_once [] _ _ _ _ _ _ _ c.refuse-in_default.ensures.status (inl refl) c.refuse-in_default.ensures.cut)
+
+pub returns-in-None-clause-writes : goal.returns-in-None-clause-writes
+returns-in-None-clause-writes g c =
+    let (text, is) = c.in-Ok.ensures.whole in
+    let (may, cut) = c.in-None.ensures.cut in
+    reply_cut_once _ _ _ _ _ _ text (said c.in-Ok-reply_to.reply).1 is.whole (ap (λ r. r.1) (c.in-Ok-reply_to.ensures.said text is.pushed)) cut
+
+pub returns-in-None-clause-some_writes : goal.returns-in-None-clause-some_writes
+returns-in-None-clause-some_writes g c =
+    let (text, is) = c.in-Ok.ensures.whole in
+    let (may, cut) = c.in-None.ensures.cut in
+    (text, cut_once text (said c.in-Ok-reply_to.reply).1 _ _ _ _ _ (ap (λ r. r.1) (c.in-Ok-reply_to.ensures.said text is.pushed)) cut)

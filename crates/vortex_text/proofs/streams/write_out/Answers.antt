@@ -1,6 +1,7 @@
 use Rattle.std.proofs.Common.{◌≡◌, ℕ, ◌-◌, List, ◌++◌, length, take, drop, sym, ap, ◌∙◌, append_assoc, take-append-drop}
 use Rattle.std.proofs.lemmas.List.{take_rest}
 use Rattle.std.proofs.KnownBytes.{Appends-trans}
+use Rattle.vortex_text.proofs.StreamLemmas.{unfailed_taken}
 use Rattle.vortex_text.proofs.streams.write_out.Goals as goal
 
 -- what was written moves from the front of the rest to the end of what is done
@@ -10,7 +11,7 @@ moves_front all done rest n e =
 
 pub loop-rest-preserved : goal.loop-rest-preserved
 loop-rest-preserved g c =
-    let (done, split, appended) = c.loop-rest.invariant in
+    let (done, split, appended, same) = c.loop-rest.invariant in
     let rest = c.loop-rest.rest.now in
-    let n = c.in-Some.count in
-    (done ++ take n rest, moves_front _ done rest n split, Appends-trans _ _ _ _ _ appended c.in-Some.ensures.bytes)
+    let n = c.in-Ok.count in
+    (done ++ take n rest, moves_front _ done rest n split, Appends-trans _ _ _ _ _ appended c.in-Ok.ensures.bytes, unfailed_taken _ _ _ n c.if-count-gt0.true same c.in-Ok.ensures.told)
