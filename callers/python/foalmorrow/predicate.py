@@ -492,8 +492,10 @@ def joined_by_or(pair: Sequence[Predicate]) -> Predicate:
 
 
 def col(name: str) -> ColumnOf:
-    """Returns the column of a name."""
-    return ColumnOf(name)
+    """Returns the column of a name. PredicateError where the name is no str."""
+    if not isinstance(name, str):
+        raise PredicateError(f"{shown(name)} is no name of a column; expected a str")
+    return ColumnOf(plain(name))
 
 
 def is_name(name: object) -> bool:

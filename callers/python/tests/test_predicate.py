@@ -24,7 +24,10 @@ def load_tests(_: object, tests: unittest.TestSuite, __: object) -> unittest.Tes
 
 class PredicateTexts(unittest.TestCase):
     def test_each_comparison(self) -> None:
-        for made, word in [(col("n") == 3, "eq"), (col("n") != 3, "ne"), (col("n") > 3, "gt"), (col("n") >= 3, "ge"), (col("n") < 3, "lt"), (col("n") <= 3, "le")]:
+        for made, word in [
+            (col("n") == 3, "eq"), (col("n") != 3, "ne"), (col("n") > 3, "gt"), (col("n") >= 3, "ge"), (col("n") < 3, "lt"),
+            (col("n") <= 3, "le"),
+        ]:
             self.assertEqual(made.text(COLUMNS), f"{word} col n lit u8? 3")
 
     def test_joined(self) -> None:
@@ -73,7 +76,9 @@ class PredicateTexts(unittest.TestCase):
         self.assertEqual(made.text(COLUMNS).count("or"), 199)
 
     def test_refused(self) -> None:
-        for made in [col("m") > 3, col("n") > 256, col("n") > -1, col("n") > "3", col("s") > 3, col("b") == 1, col("n").like("a"), col("n") < col("m")]:
+        for made in [
+            col("m") > 3, col("n") > 256, col("n") > -1, col("n") > "3", col("s") > 3, col("b") == 1, col("n").like("a"), col("n") < col("m"),
+        ]:
             with self.assertRaises(PredicateError):
                 made.text(COLUMNS)
         with self.assertRaises(PredicateError):
@@ -130,7 +135,10 @@ class Misuse(unittest.TestCase):
 
     def test_column_as_a_predicate(self) -> None:
         p, b = col("n") > 3, col("b")
-        self.refused(r"write \(col\('b'\) == True\)", lambda: p & b, lambda: b & p, lambda: p | b, lambda: b | p, lambda: ~b, lambda: not b, lambda: b and p)
+        self.refused(
+            r"write \(col\('b'\) == True\)", lambda: p & b, lambda: b & p, lambda: p | b, lambda: b | p, lambda: ~b, lambda: not b,
+            lambda: b and p,
+        )
         self.refused("in parentheses", lambda: col("n") > 3 & col("b"))
 
 
@@ -221,7 +229,8 @@ class Trees(unittest.TestCase):
     def test_same_trees_alone_are_equal(self) -> None:
         n, s = col("n"), col("s")
         different = [
-            n == 1, n == True, n == "1", n == None, n != 1, s == 1, n == s, n == n, s == n, n.between(1, 2), n.between(1, 2, low_strict=True),  # noqa: E711, E712
+            n == 1, n == True, n == "1", n == None, n != 1, s == 1, n == s, n == n, s == n,  # noqa: E711, E712
+            n.between(1, 2), n.between(1, 2, low_strict=True),
             n.is_null(), n.is_not_null(), s.like("a"), s.like("a", negated=True), s.like("a", ignore_case=True), ~(n == 1),
             (n == 1) & (n == 2), (n == 2) & (n == 1), (n == 1) | (n == 2), (n == 1) & (n == 2) & (n == 3), (n == 1) & ((n == 2) & (n == 3)),
         ]
@@ -234,7 +243,10 @@ class Trees(unittest.TestCase):
 
     def test_shown_as_it_is_written(self) -> None:
         n, s = col("n"), col("s")
-        for made in [(n > 3) & ~(s.like("a%", negated=True) | n.is_null()), n.between(1, 2, high_strict=True) | (n == s), (n == None) & (s != "x") & n.is_not_null()]:  # noqa: E711
+        for made in [
+            (n > 3) & ~(s.like("a%", negated=True) | n.is_null()), n.between(1, 2, high_strict=True) | (n == s),
+            (n == None) & (s != "x") & n.is_not_null(),  # noqa: E711
+        ]:
             self.assertEqual(eval(repr(made), {"col": col}), made)
 
 
