@@ -176,7 +176,9 @@ def prune(client: Client, footers: Footers, predicate: Predicate, normalize: boo
     """
     if len(footers) <= shard:
         return footers.prune(predicate, normalize)
-    text, names = predicate.text(footers.columns), set(predicate.names())
+    # What doesn't fit the columns is refused here, and not by a worker.
+    footers.slice(0, 0).prune(predicate, normalize)
+    names = set(predicate.names())
     columns = [column for column in footers.columns if column.name in names]
     known = {key: it for key, it in footers.statistics.items() if key[0] in names and key[1] in PRUNING}
     pieces = Footers(columns, footers.rows, known).shards(shard)
@@ -187,13 +189,13 @@ def prune(client: Client, footers: Footers, predicate: Predicate, normalize: boo
         for piece in pieces:
             if len(pending) == room:
                 codes.append(pending.popleft().result())
-            pending.append(_sent(client, _pruned, piece.to_bytes(), text, normalize))
+            pending.append(_sent(client, _pruned, piece.to_bytes(), predicate, normalize))
         codes += [future.result() for future in pending]
     return Answers(b"".join(codes))
 
 
-def _pruned(data: bytes, text: str, normalize: bool) -> bytes:
-    return bytes(Footers.from_bytes(data)[0].prune(text, normalize).codes)
+def _pruned(data: bytes, predicate: Predicate, normalize: bool) -> bytes:
+    return bytes(Footers.from_bytes(data)[0].prune(predicate, normalize).codes)
 
 
 @dataclass(frozen=True)
