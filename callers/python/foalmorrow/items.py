@@ -24,6 +24,16 @@ def is_null(item: object) -> bool:
     return floating and bool(item != item)
 
 
+def may_be_null(kind: type) -> bool:
+    """Tells whether an item of a type may be null."""
+    pandas = sys.modules.get("pandas")
+    if kind is type(None) or issubclass(kind, float):
+        return True
+    if pandas is not None and kind in (type(getattr(pandas, "NA", 0)), type(getattr(pandas, "NaT", 0))):
+        return True
+    return numpy is not None and issubclass(kind, (numpy.floating, numpy.datetime64, numpy.timedelta64, numpy.ma.MaskedArray))
+
+
 def is_missing(item: object) -> bool:
     """Tells whether an item is a null of pandas or numpy by its kind. A floating NaN isn't."""
     pandas = sys.modules.get("pandas")

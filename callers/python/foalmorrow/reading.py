@@ -8,6 +8,7 @@ never truths. Whole numbers of another width are taken where each fits. Floating
 """
 from __future__ import annotations
 
+import operator
 import struct
 import sys
 from array import array
@@ -16,7 +17,7 @@ from dataclasses import dataclass, replace
 from typing import Any
 
 from .arrays import ValueFault, Values, of_numbers, of_texts, spaced
-from .items import expected, is_null, plain, shown, value_of
+from .items import expected, is_null, may_be_null, plain, shown, value_of
 from .kinds import Column, DType
 
 try:
@@ -161,43 +162,51 @@ _TYPES = {DType.BOOL: bool, DType.UTF8: str, DType.BINARY: bytes}
 
 
 def _of_items(dtype: DType, items: list[Any], marks: bytes | None, where: Where) -> Read:
-    kinds = set(map(type, items))
-    if marks is None and kinds <= {_TYPES.get(dtype, int), type(None)} and dtype != DType.NULL:
-        found = _of_plain(dtype, items, type(None) in kinds)
-        if found is not None:
-            return found
-    present: list[Any] = []
-    nulls = bytearray(len(items))
-    for row, item in enumerate(items):
-        if (marks is not None and marks[row]) or is_null(item):
-            nulls[row] = 1
-            continue
-        value = value_of(dtype, item)
-        if value is None:
-            raise where.misfit(dtype, item, row)
-        present.append(value)
-    return _with_room(dtype, present, bytes(nulls))
+    nulls = _nulls(items, marks)
+    if dtype == DType.NULL:
+        row = (nulls if nulls is not None else bytes(len(items))).find(0)
+        if row >= 0:
+            raise where.misfit(dtype, items[row], row)
+        return Read(Values(dtype, memoryview(b""), memoryview(b""), len(items)), None)
+    present = items if nulls is None else [item for item, null in zip(items, nulls) if not null]
+    found = _of_plain(dtype, present)
+    if found is None:
+        rows = range(len(items)) if nulls is None else [row for row, null in enumerate(nulls) if not null]
+        found = _one_by_one(dtype, present, replace(where, rows=rows))
+    values = of_texts(dtype, found) if dtype.has_ends else of_numbers(dtype, found)
+    return Read(values if nulls is None else spaced(values, nulls), nulls)
 
 
-def _of_plain(dtype: DType, items: list[Any], has_nulls: bool) -> Read | None:
-    """Reads items of the type's own Python type, and None, at once. None where one leaves the type."""
-    present = [item for item in items if item is not None] if has_nulls else items
+def _nulls(items: list[Any], marks: bytes | None) -> bytes | None:
+    """Returns 1 for each item that is marked or null, and else 0; None where there is none."""
+    odd = {kind for kind in set(map(type, items)) if may_be_null(kind)}
+    if not odd:
+        return marks
+    found = bytes(type(item) in odd and is_null(item) for item in items)
+    if marks is not None:
+        found = bytes(map(operator.or_, found, marks))
+    return found if any(found) else None
+
+
+def _of_plain(dtype: DType, items: list[Any]) -> list[Any] | None:
+    """Returns items of the type's own Python type at once, texts as UTF-8; None where one is of another type or leaves the range."""
+    if not {_TYPES.get(dtype, int)} >= set(map(type, items)):
+        return None
     if dtype == DType.UTF8:
         try:
-            present = [item.encode() for item in present]
+            return [item.encode() for item in items]
         except UnicodeEncodeError:
             return None
-    elif dtype.range is not None and present and not (dtype.range[0] <= min(present) and max(present) <= dtype.range[1]):
-        return None
-    return _with_room(dtype, present, bytes(item is None for item in items) if has_nulls else None)
+    is_out = dtype.range is not None and items and not (dtype.range[0] <= min(items) and max(items) <= dtype.range[1])
+    return None if is_out else items
 
 
-def _with_room(dtype: DType, present: list[Any], nulls: bytes | None) -> Read:
-    if dtype == DType.NULL:
-        assert nulls is not None
-        return Read(Values(dtype, memoryview(b""), memoryview(b""), len(nulls)), nulls)
-    values = of_texts(dtype, present) if dtype.has_ends else of_numbers(dtype, present)
-    return Read(values if nulls is None else spaced(values, nulls), nulls)
+def _one_by_one(dtype: DType, items: list[Any], where: Where) -> list[Any]:
+    found = [value_of(dtype, item) for item in items]
+    for row, value in enumerate(found):
+        if value is None:
+            raise where.misfit(dtype, items[row], row)
+    return found
 
 
 # -- buffers
