@@ -10,7 +10,7 @@ import sys
 from array import array
 from collections.abc import Sequence
 from dataclasses import dataclass
-from itertools import accumulate, compress
+from itertools import accumulate, chain, compress
 
 from .kinds import DType
 
@@ -21,7 +21,8 @@ except ImportError:
 
 Value = bool | int | str | bytes | None
 
-_CODES = {DType.BOOL: "?", DType.U8: "B", DType.U16: "H", DType.U32: "I", DType.U64: "Q", DType.I8: "b", DType.I16: "h", DType.I32: "i", DType.I64: "q"}
+_CODES = {DType.BOOL: "?", DType.U8: "B", DType.U16: "H", DType.U32: "I", DType.U64: "Q"}
+_CODES |= {DType.I8: "b", DType.I16: "h", DType.I32: "i", DType.I64: "q"}
 _NONE = memoryview(b"")
 if struct.calcsize("Q") != 8 or sys.byteorder != "little":
     raise ImportError("foalmorrow needs a little-endian machine")
@@ -109,24 +110,43 @@ class Values:
             raise ValueFault(f"row {place}: a text isn't UTF-8: {fault.reason}", row=place) from fault
 
     def slice(self, start: int, stop: int) -> Values:
-        """Returns the values from one place up to another, without a copy but of the ends of texts."""
+        """Returns the values from one place up to another, without a copy but of the ends of texts.
+
+        ValueFault where the first text begins, or the last one ends, behind the heap.
+        """
         if self.dtype.has_ends:
             ends = self.ends.cast("Q")
             first = ends[start - 1] if start else 0
             last = ends[stop - 1] if stop > start else first
+            if not first <= last <= self.data.nbytes:
+                raise ValueFault(f"row {start}: a text begins behind its end, or ends behind the heap", row=start)
             return Values(self.dtype, self.data[first:last], moved(ends[start:stop], -first), stop - start)
         width = self.dtype.width
         return Values(self.dtype, self.data[start * width : stop * width], self.ends, stop - start)
 
     def take(self, places: range) -> Values:
-        """Returns the values at places that ascend by one step, as a copy."""
+        """Returns the values at places that ascend by one step, as a copy. ValueFault where texts are no pieces of their heap."""
         if self.dtype.has_ends:
-            ends = self.ends.cast("Q")
+            ends = self.heap_ends()
             return of_texts(self.dtype, [bytes(self.data[ends[place - 1] if place else 0 : ends[place]]) for place in places])
         width, code = self.dtype.width, _CODES.get(self.dtype, "B")
         view = self.data.cast(code) if width else self.data
         picked = view[places.start : places.stop : places.step].tobytes() if width else b""
         return Values(self.dtype, memoryview(picked), _NONE, len(places))
+
+    def heap_ends(self) -> memoryview:
+        """Returns where each text ends. ValueFault where one ends before it begins, or behind the heap."""
+        ends = self.ends.cast("Q")
+        if numpy is not None and len(ends):
+            found = numpy.frombuffer(self.ends, dtype="<u8")
+            falls = numpy.flatnonzero((found[1:] < found[:-1]) | (found[1:] > self.data.nbytes)) + 1
+            place = 0 if found[0] > self.data.nbytes else int(falls[0]) if len(falls) else -1
+        else:
+            pairs = enumerate(zip(chain([0], ends), ends))
+            place = next((at for at, (start, end) in pairs if not start <= end <= self.data.nbytes), -1)
+        if place >= 0:
+            raise ValueFault(f"row {place}: a text begins behind its end, or ends behind the heap", row=place)
+        return ends
 
 
 def of_numbers(dtype: DType, numbers: Sequence[int]) -> Values:
@@ -163,12 +183,18 @@ def spaced(present: Values, nulls: bytes) -> Values:
 
 
 def joined(pieces: Sequence[Values]) -> Values:
-    """Returns the values of some pieces of one type, one piece behind the other."""
-    dtype = pieces[0].dtype
-    data = b"".join(piece.data for piece in pieces)
-    starts = accumulate((piece.data.nbytes for piece in pieces), initial=0)
-    ends = b"".join(moved(piece.ends.cast("Q"), start) for piece, start in zip(pieces, starts)) if dtype.has_ends else b""
-    return Values(dtype, memoryview(data), memoryview(ends), sum(len(piece) for piece in pieces))
+    """Returns the values of some pieces of one type, one piece behind the other. ValueFault where texts are no pieces of their heap."""
+    dtype, count = pieces[0].dtype, sum(len(piece) for piece in pieces)
+    if not dtype.has_ends:
+        return Values(dtype, memoryview(b"".join(piece.data for piece in pieces)), _NONE, count)
+    heaps, places, start = [], [], 0
+    for piece in pieces:
+        ends = piece.heap_ends()
+        # Bytes behind the last end belong to no text, and would be taken for the beginning of the next one.
+        heaps.append(piece.data[: ends[-1] if len(ends) else 0])
+        places.append(moved(ends, start))
+        start += heaps[-1].nbytes
+    return Values(dtype, memoryview(b"".join(heaps)), memoryview(b"".join(places)), count)
 
 
 def moved(ends: memoryview | array[int], by: int) -> memoryview:
@@ -177,7 +203,7 @@ def moved(ends: memoryview | array[int], by: int) -> memoryview:
         return _NONE
     if numpy is not None:
         return memoryview(numpy.frombuffer(ends, dtype="<i8") + by).cast("B")  # type: ignore[arg-type]
-    return memoryview(array("Q", (end + by for end in ends))).cast("B")
+    return memoryview(array("Q", ((end + by) % 2**64 for end in ends))).cast("B")
 
 
 def _buffer(given: object, word: str) -> memoryview:

@@ -13,14 +13,9 @@ from array import array
 from collections.abc import Mapping, Sequence
 from typing import Any
 
-from .arrays import Values
+from .arrays import Values, ValueFault
 from .kinds import Column, DType, Precision, Stat, stat_dtype
 from .statistic import FooterError, Statistic
-
-try:
-    import numpy
-except ImportError:
-    numpy = None  # type: ignore[assignment]
 
 MAGIC = b"foalmorrow footers 1\n"
 
@@ -209,20 +204,12 @@ def _check_arrays(place: str, it: Statistic, zones: int) -> None:
     if not is_plain and any(code and truth > 1 for code, truth in zip(known, data)):
         raise FooterError(f"{place}: a truth is above 1")
     if dtype.has_ends:
-        _check_ends(place, it, zones)
+        try:
+            it.values.heap_ends()
+        except ValueFault as fault:
+            raise FooterError(f"{place}, {str(fault).replace('row', 'zone')}") from fault
         if dtype == DType.UTF8 and not _all_text(it):
             _check_each_text(place, it, zones)
-
-
-def _check_ends(place: str, it: Statistic, zones: int) -> None:
-    ends: Any = it.values.ends.cast("Q")
-    if numpy is not None and zones:
-        found = numpy.frombuffer(it.values.ends, dtype="<u8")
-        falls, last = bool((found[1:] < found[:-1]).any()), int(found[-1])
-    else:
-        falls, last = any(ends[at] > ends[at + 1] for at in range(zones - 1)), ends[-1] if zones else 0
-    if falls or last > it.values.data.nbytes:
-        raise FooterError(f"{place}: a text begins behind its end, or ends behind the heap")
 
 
 def _all_text(it: Statistic) -> bool:

@@ -8,7 +8,8 @@ import unittest
 from array import array
 from collections.abc import Callable
 
-from foalmorrow import PRUNING, Answer, Answers, Column, DType, FooterError, Footers, Precision, Predicate, PredicateError, Refused, Stat, Statistic, Values, col
+from foalmorrow import PRUNING, Answer, Answers, Column, DType, FooterError, Footers, Precision, Predicate, PredicateError, Refused, Stat
+from foalmorrow import Statistic, ValueFault, Values, col
 
 try:
     import numpy
@@ -391,6 +392,36 @@ class Refusals(unittest.TestCase):
         with self.assertRaisesRegex(FooterError, "64 bits"):
             most = Footers([Column("c", DType.I64)], [2**64 - 1])
             most.merge(one)
+
+
+class Mutations(unittest.TestCase):
+    """Each byte of the arrays changed in turn: every call answers, or refuses by an error of its own."""
+
+    COLUMNS = [Column("a", DType.I16, True), Column("s", DType.UTF8, True), Column("b", DType.BOOL)]
+    ROWS = [{"a": [1, None], "s": ["é", "b"], "b": [True, False]}, {"a": [7], "s": [None], "b": [True]}]
+    WANTED = (col("a") > 3) & (col("s") >= "b") | (col("b") == True)  # noqa: E712
+
+    def answered(self, footers: Footers) -> None:
+        for call in (
+            lambda: footers.prune(self.WANTED), lambda: footers.merge(footers), footers.merged, lambda: footers.check(0, self.ROWS[0]),
+            lambda: footers.overlap("s"), lambda: footers.at(0), lambda: Footers.from_bytes(footers.to_bytes()),
+        ):
+            try:
+                call()
+            except (Refused, FooterError, ValueFault):
+                pass
+
+    def test_changed_bytes_are_answered_or_refused(self) -> None:
+        footers = Footers.measure(self.COLUMNS, self.ROWS)
+        for key, it in footers.statistics.items():
+            arrays = [bytes(it.known), bytes(it.values.data), bytes(it.values.ends)]
+            for which, array_ in enumerate(arrays):
+                for at in range(len(array_)):
+                    for value in {0, 1, 2, 3, 127, 128, 195, 255, array_[at] ^ 1}:
+                        changed = [memoryview(data) for data in arrays]
+                        changed[which] = memoryview(array_[:at] + bytes([value]) + array_[at + 1 :])
+                        values = Values(it.values.dtype, changed[1], changed[2], 2)
+                        self.answered(Footers(footers.columns, footers.rows, {**footers.statistics, key: Statistic(changed[0], values)}))
 
 
 class Explained(unittest.TestCase):

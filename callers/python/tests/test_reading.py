@@ -7,6 +7,7 @@ from collections import deque
 from typing import Any
 
 from foalmorrow import Column, DType, Nullable, ValueFault, Values
+from foalmorrow.arrays import joined
 from foalmorrow.reading import Where, read, read_column
 
 try:
@@ -161,6 +162,21 @@ class Buffers(Refusing):
         self.refused(A, Values.of(DType.I32, [1]), "values of i32 are no i64")
         with self.assertRaisesRegex(ValueFault, "row 1: null is no value"):
             Values.of(DType.I64, [1, None])
+
+    def test_heap_longer_than_its_last_end(self) -> None:
+        long = Values.of_heap(DType.UTF8, b"abMORE", array("Q", [1, 2]))
+        for found in (joined([long, long]), joined([long.slice(0, 1), long.slice(1, 2), long]), joined([long.take(range(2)), long])):
+            self.assertEqual([found[row] for row in range(4)], ["a", "b", "a", "b"])
+        self.assertEqual(items(S, Nullable(long, [0, 1])), ["a", None])
+        self.assertEqual([long.take(range(1, 2))[0], long.slice(1, 2)[0]], ["b", "b"])
+
+    def test_torn_heap_is_not_joined(self) -> None:
+        whole = Values.of(DType.BINARY, [b"cdefg"])
+        for ends in ([3, 2], [1, 5], [2**64 - 1, 1], [1, 2**63]):
+            torn = Values.of_heap(DType.BINARY, b"ab", array("Q", ends))
+            for make in (lambda it: joined([it, whole]), lambda it: joined([whole, it]), lambda it: it.take(range(2)), lambda it: it.slice(1, 2)):
+                with self.assertRaisesRegex(ValueFault, "row .: a text begins behind its end, or ends behind the heap"):
+                    make(torn)
 
     def test_heaps(self) -> None:
         self.assertEqual(items(S, Values.of_heap(DType.UTF8, b"abc", array("Q", [1, 1, 3]))), ["a", "", "bc"])
