@@ -232,7 +232,7 @@ class Footers:
     def check(self, zone: int, chunk: Mapping[str, object]) -> Untrue | None:
         """Returns the first thing told of a zone that isn't true of a chunk's values, or None where all is.
 
-        The number of rows is among what is told: ``Untrue(column, "rows")`` where the chunk has more or fewer. FooterError and ValueFault as of
+        The number of rows is told too, and compared first: ``Untrue(column, "rows")`` where the chunk has others. FooterError and ValueFault as of
         ``measure``; IndexError where there is no such zone.
         """
         if not 0 <= zone < len(self):

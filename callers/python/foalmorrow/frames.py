@@ -92,8 +92,9 @@ def _compared(leaf: Compared, named: Sequence[Column], series: pandas.Series, fr
     compare = _OPERATORS[leaf.operator]
     if others is None or named[0].dtype == DType.NULL:
         return pandas.Series(pandas.NA, index=frame.index, dtype="boolean")
-    if named[0].dtype != DType.BINARY:
+    if not named[0].dtype.has_ends:
         return compare(series, others).astype("boolean")
+    # One by one: numpy drops zeros at the end of a text, and takes "a\0" for "a".
     pairs = zip(series, others if isinstance(others, pandas.Series) else [others] * len(series))
     told = [None if pandas.isna(a) or pandas.isna(b) else compare(a, b) for a, b in pairs]
     return pandas.Series(told, index=frame.index, dtype="boolean")

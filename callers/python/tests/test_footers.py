@@ -183,7 +183,7 @@ class Measuring(unittest.TestCase):
         self.assertEqual(Footers([A], [2]).check(0, {"a": [1, 2, 3]}), Untrue("a", "rows"))
         self.assertIsNone(Footers([A], [3]).check(0, {"a": [1, 2, 3]}))
         nulls = Footers.measure([Column("z", DType.NULL)], [{"z": [None] * 2}])
-        self.assertEqual(nulls.check(0, {"z": [None] * 3}).what, Stat.NULL_COUNT)
+        self.assertEqual(nulls.check(0, {"z": [None] * 3}), Untrue("z", "rows"))
         self.assertEqual(Footers([Column("z", DType.NULL)], [2]).check(0, {"z": [None] * 3}), Untrue("z", "rows"))
 
     def test_check_of_a_zone_that_is_not_there(self) -> None:

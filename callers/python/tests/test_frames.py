@@ -117,6 +117,14 @@ class Tester(unittest.TestCase):
                     found = list(frames.rows(predicate, columns, frame).index)
                     self.assertEqual(found, scanned(columns, chunk, len(TEXTS) + 1, predicate), predicate)
 
+    def test_zero_at_the_end_of_a_text_is_told_apart(self) -> None:
+        columns, chunk = [Column("s", DType.UTF8), Column("x", DType.BINARY)], {"s": ["", "\0", "a", "a\0"], "x": [b"", b"\0", b"a", b"a\0"]}
+        frame = frames.frame_of(columns, chunk)
+        for name in "sx":
+            for value in chunk[name]:
+                for predicate in (col(name) == value, col(name) != value, col(name) > value, col(name) <= value):
+                    self.assertEqual(list(frames.rows(predicate, columns, frame).index), scanned(columns, chunk, 4, predicate), predicate)
+
     def test_frame_holds_what_is_measured(self) -> None:
         columns = [Column("a", DType.U64, True), Column("s", DType.UTF8, True), Column("x", DType.BINARY, True), Column("b", DType.BOOL)]
         chunk = {"a": Nullable([2**64 - 1, 5], [0, 1]), "s": pandas.Series(["x", pandas.NA], dtype=object), "x": [None, b"\xff"], "b": [True, False]}
