@@ -100,8 +100,8 @@ class Footers:
     def measure(cls, columns: Sequence[Column], chunks: Iterable[Mapping[str, object]], wanted: Sequence[Stat] = ALL) -> Footers:
         """Returns the footers of chunks, a zone each: true of them by proof.
 
-        A chunk maps each column's name to its values, in a list, an array of numpy, a Series or another container that ``foalmorrow.reading``
-        names. FooterError where a column is missing, or one of a chunk is longer than another; ValueFault, with the column and the row, where
+        A chunk is a dict or a frame of columns by their names, each a list, an array of numpy, a Series or another container that
+        ``foalmorrow.reading`` names. FooterError where a column is missing, or one of a chunk is longer than another; ValueFault, with the column and the row, where
         a value isn't of its column's type; Refused where a heap of texts isn't UTF-8.
         """
         building = _Building(columns, wanted)
@@ -339,8 +339,10 @@ def _known(given: object, count: int, where: Where) -> bytes:
 def _chunk_columns(columns: Sequence[Column], chunk: Mapping[str, object]) -> Iterator[tuple[Column, Any, bytes | None]]:
     """Yields each column with its values in a chunk and which of them are null. FooterError where one is missing or longer than another."""
     first: tuple[str, int] | None = None
+    if not hasattr(chunk, "keys"):
+        raise FooterError(f"a chunk of type {type(chunk).__name__} names no columns; expected a dict of columns or a frame")
     for column in columns:
-        if column.name not in chunk:
+        if column.name not in chunk.keys():
             raise FooterError(f"the chunk has no column {column.name}")
         found = read_column(column, chunk[column.name])
         first = first or (column.name, len(found.values))

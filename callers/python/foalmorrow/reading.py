@@ -5,6 +5,8 @@ of one dimension, strided, byte-swapped and masked ones too; in a pandas Series,
 
 Nulls are found in the pass that reads the values: None, pandas' NA and NaT, and NaN among objects. Truths are never numbers, and numbers
 never truths. Whole numbers of another width are taken where each fits. Floating numbers, times and categories are refused by name.
+
+numpy itself drops zeros at the end of its own texts and bytes (``U`` and ``S``). Where these count, an array of objects keeps them.
 """
 from __future__ import annotations
 

@@ -275,6 +275,18 @@ class Containers(unittest.TestCase):
                         told = {stat: value for (_, stat), (_, value) in found.at(0).items()}
                         self.assertEqual((told, list(found.rows)), (facts(dtype, items), [len(items)]))
 
+    def test_frame_is_a_chunk(self) -> None:
+        table = [Column("a b", DType.I64, True), Column("s", DType.UTF8, True)]
+        frame = pandas.DataFrame({"a b": pandas.array([3, None, 5], dtype="Int64"), "s": ["x", None, "y"], 7: [0.5] * 3}, index=[9, 9, 9])
+        footers = Footers.measure(table, [frame, frame[:0]], PRUNING)
+        self.assertEqual(list(footers.rows), [3, 0])
+        found = {(name, stat): value for name, items in [("a b", [3, None, 5]), ("s", ["x", None, "y"])] for stat, value in facts(DType.BINARY, items).items()}
+        self.assertEqual(footers.at(0), {key: (Precision.EXACT, value) for key, value in found.items()})
+        self.assertIsNone(footers.check(0, frame))
+        twice = pandas.concat([frame, frame], axis=1)
+        with self.assertRaisesRegex(ValueFault, "column a b: a frame has 2 dimensions"):
+            Footers.measure(table, [twice])
+
     @seed(SEED)
     @EXAMPLES
     @given(st.data())

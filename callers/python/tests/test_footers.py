@@ -195,12 +195,20 @@ class Measuring(unittest.TestCase):
         with self.assertRaisesRegex(FooterError, "column s has 2 rows, and column a has 1"):
             Footers.measure([A, S], [{"a": [1], "s": ["x", "y"]}])
 
+    def test_chunk_that_names_no_columns_refused(self) -> None:
+        for chunk in ([1], "a", b"a", None, 5, [("a", [1])]):
+            with self.assertRaisesRegex(FooterError, "names no columns"):
+                Footers.measure([A], [chunk])  # type: ignore[list-item]
+        with self.assertRaisesRegex(FooterError, "names no columns"):
+            Footers.measure([A], {"a": [1]})  # type: ignore[arg-type]
+
     def test_heap_that_is_no_text_refused(self) -> None:
         with self.assertRaisesRegex(Refused, "column s, row 1"):
             Footers.measure([S], [{"s": Values.of_heap(DType.UTF8, b"a\xff", array("Q", [1, 2]))}])
 
     def test_array_longer_or_shorter_than_its_rows_refused(self) -> None:
-        for dtype, data, ends in [(DType.I64, 24, 0), (DType.I64, 8, 0), (DType.I64, 16, 16), (DType.UTF8, 5, 8), (DType.UTF8, 5, 24), (DType.NULL, 2, 0)]:
+        lengths = [(DType.I64, 24, 0), (DType.I64, 8, 0), (DType.I64, 16, 16), (DType.UTF8, 5, 8), (DType.UTF8, 5, 24), (DType.NULL, 2, 0)]
+        for dtype, data, ends in lengths:
             with self.assertRaisesRegex(ValueFault, "bytes .*for 2 values of .*; expected"):
                 Values(dtype, memoryview(bytes(data)), memoryview(bytes(ends)), 2)
 
