@@ -11,6 +11,7 @@ from . import files, library
 from .answers import Answers
 from .arrays import ValueFault
 from .explain import Explanation
+from .items import shown
 from .kinds import Column, DType, Precision, Stat, stat_dtype
 from .overlap import Overlap, overlap
 from .predicate import Predicate, PredicateError, is_name
@@ -101,8 +102,10 @@ class Footers:
         """Returns the footers of chunks, a zone each: true of them by proof.
 
         A chunk is a dict or a frame of columns by their names, each a list, an array of numpy, a Series or another container that
-        ``foalmorrow.reading`` names. FooterError where a column is missing, or one of a chunk is longer than another; ValueFault, with the column and the row, where
-        a value isn't of its column's type; Refused where a heap of texts isn't UTF-8.
+        ``foalmorrow.reading`` names.
+
+        FooterError where a column is missing, or one of a chunk is longer than another; ValueFault, with the column and the row, where a value
+        isn't of its column's type; Refused where a heap of texts isn't UTF-8.
         """
         building = _Building(columns, wanted)
         for chunk in chunks:
@@ -316,7 +319,7 @@ def _rows(rows: object) -> array[int]:
         return rows
     found = read(DType.U64, rows, Where("rows", unit="zone"))
     if found.nulls is not None:
-        raise ValueFault(f"rows, zone {found.nulls.index(1)}: null is no number of rows", row=found.nulls.index(1))
+        raise ValueFault(f"rows, zone {found.nulls.index(1)}: null is no number of rows; expected a whole number", row=found.nulls.index(1))
     return array("Q", bytes(found.values.data))
 
 
@@ -324,7 +327,7 @@ def _known(given: object, count: int, where: Where) -> bytes:
     """Reads how the values of a statistic are known: one code for all zones, or one for each."""
     if isinstance(given, int) and not isinstance(given, bool):
         if given not in tuple(Precision):
-            raise where.fault(f"{given} doesn't say how a value is known; expected a Precision")
+            raise where.fault(f"{shown(given)} doesn't say how a value is known; expected a Precision")
         return bytes([given]) * count
     found = read(DType.U8, given, Where(f"{where.words}, how it is known", where.column, "zone"))
     marks = bytes(found.values.data)

@@ -364,7 +364,12 @@ def merge_zones(column: Column, zones: int, statistics: Mapping[Stat, Statistic]
 
 
 def prune(
-    columns: Sequence[Column], names: Sequence[str], rows: array[int], statistics: Mapping[tuple[str, Stat], Statistic], predicate: str, normalize: bool
+    columns: Sequence[Column],
+    names: Sequence[str],
+    rows: array[int],
+    statistics: Mapping[tuple[str, Stat], Statistic],
+    predicate: str,
+    normalize: bool,
 ) -> bytearray:
     """Returns what to do with each zone under a predicate, a byte each. The predicate calls the columns by ``names``."""
     lent, fault, keys = _Lent(), Fault(), list(statistics)

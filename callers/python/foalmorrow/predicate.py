@@ -464,8 +464,8 @@ class ColumnOf:
             raise PredicateError(f"column {self.name}: is_in takes a list of values, and {shown(values)} is one value")
         try:
             found: list[Predicate] = [self == value for value in values]
-        except TypeError:
-            raise PredicateError(f"column {self.name}: is_in takes a list of values, and {shown(values)} is none") from None
+        except (TypeError, NotImplementedError) as fault:
+            raise PredicateError(f"column {self.name}: is_in takes a list of values, and {shown(values)} is none") from fault
         if not found:
             raise PredicateError(f"column {self.name}: is_in needs a value")
         while len(found) > 1:

@@ -110,7 +110,7 @@ def _length(container: Any) -> int:
 def _read(dtype: DType, given: Any, marks: bytes | None, where: Where) -> Read:
     if isinstance(given, Values):
         if given.dtype != dtype:
-            raise where.fault(f"values of {given.dtype.word} are no {dtype.word}")
+            raise where.fault(f"values of {given.dtype.word} are no {dtype.word}; expected {expected(dtype)}")
         return Read(given, marks)
     if isinstance(given, list):
         return _of_items(dtype, given, marks, where)
@@ -133,7 +133,9 @@ def _marks(nulls: Any, where: Where) -> bytes:
             raise of_nulls.fault("a frame has 2 dimensions; expected one")
         nulls = nulls.to_numpy() if isinstance(nulls.dtype, numpy.dtype) else list(nulls)
     if _is_numpy(nulls):
-        if nulls.ndim == 1 and nulls.dtype.kind in "biu" and not isinstance(nulls, numpy.ma.MaskedArray):
+        if nulls.ndim != 1 or nulls.dtype.kind not in "biuO":
+            raise of_nulls.fault(f"an array of {nulls.dtype} in {nulls.ndim} dimensions; expected truths or bytes in one")
+        if nulls.dtype.kind != "O" and not isinstance(nulls, numpy.ma.MaskedArray):
             return bytes((nulls != 0).tobytes())
         nulls = nulls.tolist()
     view = _view(nulls)

@@ -1,5 +1,8 @@
 """Every kind of container measured, checked, pruned and merged beside a model in plain Python, by hypothesis (Debian: python3-hypothesis)."""
 import atexit
+import ctypes
+import io
+import itertools
 import math
 import os
 import tempfile
@@ -7,6 +10,8 @@ import unittest
 from array import array
 from collections import deque
 from collections.abc import Callable
+from datetime import datetime
+from decimal import Decimal
 from itertools import accumulate
 from typing import Any
 
@@ -15,7 +20,8 @@ import pandas
 from hypothesis import HealthCheck, configuration, event, given, seed, settings
 from hypothesis import strategies as st
 
-from foalmorrow import PRUNING, Answer, Column, DType, Footers, Nullable, Precision, Predicate, Stat, ValueFault, Values, col
+from foalmorrow import PRUNING, Answer, Column, DType, FooterError, Footers, Nullable, Precision, Predicate, PredicateError, Refused, Stat
+from foalmorrow import ValueFault, Values, col
 
 SEED = int(os.environ.get("FOALMORROW_SEED", "1"))
 _HOME = tempfile.TemporaryDirectory()
@@ -251,6 +257,84 @@ def some_predicate(draw: Any, dtype: DType, depth: int = 2) -> tuple[Predicate, 
     return getattr(col("c"), word)(scalar), lambda item: None if item is None or value is None else TESTS[word](order(item), order(value))
 
 
+class Unshown:
+    """An item that can't be shown or compared."""
+
+    def __repr__(self) -> str:
+        raise RuntimeError
+
+    __hash__ = None  # type: ignore[assignment]
+
+    def __eq__(self, other: object) -> bool:
+        raise RuntimeError
+
+
+def odd_items() -> Items:
+    """Items that are values of few types or of none."""
+    nested: list = []
+    for _ in range(20_000):
+        nested = [nested]
+    found = [None, True, 0, -1, 2**63, 2**64, 10**5000, 1.0, math.nan, math.inf, 1j, "x", "\ud800", b"x", bytearray(b"x"), memoryview(b"x")]
+    found += [[1], {}, {1}, nested, object(), Unshown(), Precision.EXACT, int, ..., Decimal(1), Decimal("NaN"), datetime(2026, 1, 1)]
+    found += [numpy.uint64(2**64 - 1), numpy.bool_(True), numpy.float32(1), numpy.longdouble(1), numpy.str_("x"), numpy.bytes_(b"x")]
+    found += [numpy.void(b"x"), numpy.datetime64("NaT"), numpy.datetime64(1, "s"), numpy.timedelta64(1, "s"), numpy.ma.masked, numpy.array(1)]
+    found += [numpy.array([1, 2]), pandas.NA, pandas.NaT, pandas.Timestamp(0), pandas.Timedelta(1), pandas.Period("2026")]
+    return found + [pandas.Interval(0, 1), pandas.Series([1]), col("c"), col("c") > 1]
+
+
+def odd_containers() -> Items:
+    """What columns may stand in, or may be taken for one."""
+    found = [array("d", [1]), bytes(2), "ab", 5, None, {}, {1}, {1: 2}, {1: 2}.keys(), {1: 2}.items(), io.BytesIO(b"ab"), io.StringIO("a")]
+    found += [ctypes.c_int(5), (ctypes.c_int * 2)(1, 2), (ctypes.c_char * 2)(b"a"), range(2), object(), Unshown()]
+    found += [memoryview(bytes(16)).cast("d"), memoryview(bytes(16)).cast("B", (4, 4)), memoryview(bytes(16)).cast("c")]
+    found += [numpy.zeros(2, kind) for kind in ("V3", "i4,f4", "M8[ns]", "m8[s]", "f2", "g", "G", ">i2", "S2", "U2", "?")]
+    found += [numpy.zeros(0), numpy.zeros((2, 2)), numpy.array(5), numpy.ma.masked_all(2, "i8"), numpy.ma.masked_all(2, "i4,i4")]
+    found += [pandas.Series([1, 2], dtype="category"), pandas.Series([], dtype=float), pandas.MultiIndex.from_tuples([(1, 2)])]
+    found += [pandas.interval_range(0, 2), pandas.date_range("2026", periods=2), pandas.array([1, None]), pandas.array([1.0])]
+    found += [pandas.arrays.SparseArray([0, 1]), pandas.DataFrame({0: [1, 2]})]
+    return found + [Values.of(DType.I64, [1, 2]), Nullable([1], [0]), Nullable(5, 5)]
+
+
+class Odd(unittest.TestCase):
+    """Whatever is handed in, the errors are those that are promised."""
+
+    def answered(self, call: Callable[[], object]) -> None:
+        try:
+            call()
+        except ValueFault as fault:
+            self.assertIn(fault.column, (None, "c"))
+            self.assertIn("expected", str(fault))
+        except (FooterError, PredicateError, Refused):
+            pass
+
+    def test_items_are_read_or_refused(self) -> None:
+        for dtype, nullable in itertools.product(DType, (False, True)):
+            column = Column("c", dtype, nullable)
+            footers = Footers([column], [1])
+            for item in odd_items():
+                held_in = [[item], [item, None], deque([item]), Nullable([item, item], [0, 1]), objects([item]), pandas.Series(objects([item]))]
+                for container in held_in:
+                    self.answered(lambda: Footers.measure([column], [{"c": container}]))
+                c = col("c")
+                for make in (lambda: c == item, lambda: c.is_in([item]), lambda: c.between(item, item), lambda: c.like(item)):
+                    self.answered(lambda: footers.prune(make()))
+                    self.answered(lambda: make().sql([column]))
+                    self.answered(lambda: (repr(make()), hash(make()), make() == make()))
+
+    def test_containers_are_read_or_refused(self) -> None:
+        for dtype, nullable in itertools.product(DType, (False, True)):
+            column = Column("c", dtype, nullable)
+            for container in odd_containers():
+                self.answered(lambda: Footers.measure([column], [{"c": container}]))
+                self.answered(lambda: Footers.measure([column], [{"c": Nullable(container, [0, 1])}]))
+                self.answered(lambda: Footers.measure([column], [{"c": Nullable([None, None], container)}]))
+                self.answered(lambda: Footers([column], [2]).check(0, {"c": container}))
+                self.answered(lambda: Footers([column], container))
+                self.answered(lambda: Footers.of_values([column], [1, 1], {("c", Stat.MIN): (container, 1)}))
+                self.answered(lambda: Footers.of_values([column], [1, 1], {("c", Stat.MIN): ([None, None], container)}))
+                self.answered(lambda: Footers([column], [1]).prune(col("c").is_in(container)))
+
+
 class Containers(unittest.TestCase):
     @seed(SEED)
     @EXAMPLES
@@ -280,8 +364,9 @@ class Containers(unittest.TestCase):
         frame = pandas.DataFrame({"a b": pandas.array([3, None, 5], dtype="Int64"), "s": ["x", None, "y"], 7: [0.5] * 3}, index=[9, 9, 9])
         footers = Footers.measure(table, [frame, frame[:0]], PRUNING)
         self.assertEqual(list(footers.rows), [3, 0])
-        found = {(name, stat): value for name, items in [("a b", [3, None, 5]), ("s", ["x", None, "y"])] for stat, value in facts(DType.BINARY, items).items()}
-        self.assertEqual(footers.at(0), {key: (Precision.EXACT, value) for key, value in found.items()})
+        for name, items in [("a b", [3, None, 5]), ("s", ["x", None, "y"])]:
+            told = {stat: value for (of, stat), (_, value) in footers.at(0).items() if of == name}
+            self.assertEqual(told, facts(DType.BINARY, items))
         self.assertIsNone(footers.check(0, frame))
         twice = pandas.concat([frame, frame], axis=1)
         with self.assertRaisesRegex(ValueFault, "column a b: a frame has 2 dimensions"):

@@ -53,8 +53,8 @@ class OfValues(unittest.TestCase):
     def test_how_a_value_is_known(self) -> None:
         for known in (Precision.INEXACT, 2, [Precision.INEXACT], [2], b"\2", bytearray(b"\2"), array("B", [2]), iter([2])):
             self.assertEqual(Footers.of_values([A], [1], {("a", Stat.MIN): ([5], known)}).at(0), {("a", Stat.MIN): (2, 5)})
-        for known in (3, -1, True, 1.0, "1", None, [3], [None], [True], b"\3", [1.5]):
-            with self.assertRaisesRegex(ValueFault, "column a, min", msg=repr(known)):
+        for known in (3, -1, 10**5000, True, 1.0, "1", None, [3], [None], [True], b"\3", [1.5]):
+            with self.assertRaisesRegex(ValueFault, "column a, min", msg=type(known)):
                 Footers.of_values([A], [1], {("a", Stat.MIN): ([5], known)})
         with self.assertRaisesRegex(FooterError, "column a, min: 1 values, of which 2"):
             Footers.of_values([A], [1], {("a", Stat.MIN): ([5], [1, 1])})

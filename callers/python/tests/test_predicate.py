@@ -96,7 +96,7 @@ class PredicateTexts(unittest.TestCase):
                 made.text(COLUMNS)
 
     def test_lists_that_are_none_refused(self) -> None:
-        for values in ("abc", b"abc", 5, None):
+        for values in ("abc", b"abc", 5, None, memoryview(bytes(4)).cast("B", (2, 2))):
             with self.assertRaisesRegex(PredicateError, "is_in takes a list"):
                 col("s").is_in(values)
         for values in ([], (), iter([]), range(0)):

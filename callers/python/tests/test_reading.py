@@ -246,9 +246,8 @@ class Numpy(Refusing):
             numpy.array([False, True], dtype=object),
         ):
             self.assertEqual(items(A, Nullable([4, 5], nulls)), [4, None])
-        for nulls in (
-            numpy.array([0.0, 1.0]), numpy.zeros((1, 2), bool), numpy.array(["", "x"]), numpy.ma.array([0, 1], mask=[1, 0]), numpy.array(True),
-        ):
+        others = [numpy.array([0.0, 1.0]), numpy.array([0, 1], "M8[ns]"), numpy.zeros((1, 2), bool), numpy.array(["", "x"])]
+        for nulls in (*others, numpy.ma.array([0, 1], mask=[1, 0]), numpy.array(True)):
             with self.assertRaisesRegex(ValueFault, "column a, nulls"):
                 read_column(A, Nullable([4, 5], nulls))
 
