@@ -39,12 +39,21 @@ fi
  cargo test --offline --quiet && cargo run --offline --quiet --example footers)
 
 # Python: the tests with warnings as errors, and the example; once more with numpy, which Debian's own python3 may see alone.
-python_tests() {
-    (cd callers/python && export FOALMORROW_LIBRARY="$PWD/../out/libvortex_ffi.so" PYTHONDONTWRITEBYTECODE=1 PYTHONPATH=.
-     "$1" -W error -m unittest -q tests.test_predicate tests.test_footers tests.test_random tests.test_prune
-     "$1" examples/footers.py)
+python_run() {
+    (cd callers/python && export FOALMORROW_LIBRARY="$PWD/../out/libvortex_ffi.so" PYTHONDONTWRITEBYTECODE=1 PYTHONPATH=. && "$@")
 }
+python_tests() {
+    python_run "$1" -W error -m unittest -q tests.test_predicate tests.test_reading tests.test_files tests.test_footers tests.test_random \
+        tests.test_prune tests.test_frames
+    python_run "$1" examples/footers.py
+}
+python_has() { "$1" -c "import $2" 2> /dev/null; }
 python_tests python3
-has_numpy() { "$1" -c "import numpy" 2> /dev/null; }
-if ! has_numpy python3 && has_numpy /usr/bin/python3; then python_tests /usr/bin/python3; fi
+if ! python_has python3 numpy && python_has /usr/bin/python3 numpy; then python_tests /usr/bin/python3; fi
+# Each kind of container beside a model.
+if python_has /usr/bin/python3 "hypothesis, numpy, pandas"; then
+    python_run /usr/bin/python3 -W error -m unittest -q tests.test_containers
+else
+    echo "callers: containers of Python left out: apt-get install python3-hypothesis python3-numpy python3-pandas"
+fi
 echo "callers: C, Rust and Python agree with the library"

@@ -2,8 +2,8 @@
 from .answers import Answers
 from .arrays import ValueFault, Values
 from .explain import Explanation
-from .footers import ALL, PRUNING, FooterError, Footers, Nullable, Statistic
-from .library import LibraryError, Refused, run
+from .footers import ALL, PRUNING, FooterError, Footers, Nullable, Statistic, Untrue
+from .library import LibraryError, Refused, run, version
 from .overlap import Overlap
 from .predicate import Predicate, PredicateError, col
 from .kinds import Answer, Column, DType, Precision, Stat
@@ -27,8 +27,10 @@ __all__ = [
     "Refused",
     "Stat",
     "Statistic",
+    "Untrue",
     "ValueFault",
     "Values",
     "col",
     "run",
+    "version",
 ]

@@ -2,7 +2,7 @@
 from __future__ import annotations
 
 from array import array
-from collections.abc import Iterable, Sequence
+from collections.abc import Iterable, Iterator, Sequence
 from itertools import compress, count
 from typing import Any, overload
 
@@ -19,6 +19,8 @@ def _test(*wanted: Answer) -> bytes:
     return bytes(code in wanted for code in range(256))
 
 
+_ANSWERS = tuple(Answer)
+_CODES = bytes(list(_ANSWERS))
 _IS_SKIP, _IS_KEPT, _IS_WHOLE = _test(Answer.SKIP), _test(Answer.READ, Answer.WHOLE), _test(Answer.WHOLE)
 
 
@@ -28,8 +30,11 @@ class Answers(Sequence[Answer]):
     __slots__ = ("codes",)
 
     def __init__(self, codes: bytes | bytearray | memoryview | Iterable[int]):
+        """Takes a code for each zone. ValueError where one is no ``Answer``."""
         #: A byte a zone, an ``Answer`` each.
         self.codes = memoryview(codes if isinstance(codes, (bytes, bytearray, memoryview)) else bytes(codes))
+        if bytes(self.codes).translate(None, _CODES):
+            raise ValueError("a code above 2 is no answer")
 
     def __len__(self) -> int:
         return len(self.codes)
@@ -40,6 +45,9 @@ class Answers(Sequence[Answer]):
     def __getitem__(self, place: slice) -> Answers: ...
     def __getitem__(self, place: int | slice) -> Answer | Answers:
         return Answers(self.codes[place]) if isinstance(place, slice) else Answer(self.codes[place])
+
+    def __iter__(self) -> Iterator[Answer]:
+        return map(_ANSWERS.__getitem__, self.codes)
 
     def __array__(self, dtype: Any = None, copy: bool | None = None) -> Any:
         found = numpy.frombuffer(self.codes, dtype=numpy.uint8)

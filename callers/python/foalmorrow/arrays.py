@@ -1,4 +1,4 @@
-"""Values as the library takes them: one buffer in the column's own type, with which of them are there.
+"""Values as the library takes them: one buffer in the column's own type, without nulls.
 
 Numbers are little-endian of their type's width and truths a byte each; texts and bytes are one heap, with the place where each
 value ends. Buffers of ``array`` and of numpy are taken as they are, without a copy, where their items have the type's width.
@@ -8,9 +8,9 @@ from __future__ import annotations
 import struct
 import sys
 from array import array
-from collections.abc import Iterable, Sequence
+from collections.abc import Sequence
 from dataclasses import dataclass
-from itertools import accumulate
+from itertools import accumulate, chain, compress
 
 from .kinds import DType
 
@@ -21,162 +21,200 @@ except ImportError:
 
 Value = bool | int | str | bytes | None
 
-_CODES = {DType.BOOL: "?", DType.U8: "B", DType.U16: "H", DType.U32: "I", DType.U64: "Q", DType.I8: "b", DType.I16: "h", DType.I32: "i", DType.I64: "q"}
-_ENDS = struct.calcsize("Q") == 8 and sys.byteorder == "little"
-if not _ENDS:
+_CODES = {DType.BOOL: "?", DType.U8: "B", DType.U16: "H", DType.U32: "I", DType.U64: "Q"}
+_CODES |= {DType.I8: "b", DType.I16: "h", DType.I32: "i", DType.I64: "q"}
+_NONE = memoryview(b"")
+if struct.calcsize("Q") != 8 or sys.byteorder != "little":
     raise ImportError("foalmorrow needs a little-endian machine")
 
 
 class ValueFault(ValueError):
-    """A value, or a buffer of values, that isn't of the type that it is handed in for."""
+    """A value, or a container of values, that isn't what it is handed in for.
 
+    ``column`` is the name of the column and ``row`` the row, or the zone of a statistic; each is None where the fault has none.
+    """
 
-def _bytes_view(buffer: object) -> memoryview:
-    view = memoryview(buffer)  # type: ignore[arg-type]
-    if not view.c_contiguous:
-        raise ValueFault("the values don't stand one behind the other: copy them first")
-    return view.cast("B") if view.nbytes else memoryview(b"")
+    def __init__(self, sentence: str, *, column: str | None = None, row: int | None = None):
+        super().__init__(sentence)
+        self.column, self.row = column, row
 
 
 @dataclass(frozen=True)
 class Values:
-    """Values of one type, one behind the other."""
+    """Values of one type, one behind the other. None of them is null, but of the type null.
+
+    ``data`` has the type's width for each value, or is the heap; ``ends`` has 8 bytes for each text or bytes, and none else. ValueFault where
+    one is longer or shorter.
+    """
 
     dtype: DType
     data: memoryview
     ends: memoryview
     count: int
 
+    def __post_init__(self) -> None:
+        ends = 8 * self.count if self.dtype.has_ends else 0
+        if not self.dtype.has_ends and self.data.nbytes != self.dtype.width * self.count:
+            raise ValueFault(f"{self.data.nbytes} bytes for {self.count} values of {self.dtype.word}; expected {self.dtype.width * self.count}")
+        if self.ends.nbytes != ends:
+            raise ValueFault(f"{self.ends.nbytes} bytes of ends for {self.count} values of {self.dtype.word}; expected {ends}")
+
     @classmethod
     def of(cls, dtype: DType, values: object) -> Values:
-        """The values of a list, an ``array``, a numpy array or ``Values`` as they are. A None of a list takes a place as any value would.
+        """Returns the values of a container, as ``foalmorrow.reading`` lists them; a buffer of the type itself isn't copied.
 
-        ValueFault where a value is none of the type, or a buffer's items haven't the type's width.
+        ValueFault where an item is no value of the type, or is null.
         """
-        if isinstance(values, Values):
-            if values.dtype != dtype:
-                raise ValueFault(f"values of {values.dtype.word} are no {dtype.word}")
-            return values
-        if dtype == DType.NULL:
-            return cls(dtype, memoryview(b""), memoryview(b""), len(values))  # type: ignore[arg-type]
-        if dtype.has_ends:
-            return cls._of_texts(dtype, values)  # type: ignore[arg-type]
-        if isinstance(values, (list, tuple, range)):
-            return cls._of_list(dtype, values)
-        return cls._of_buffer(dtype, values)
+        from .reading import Where, read
+
+        found = read(dtype, values, Where())
+        if found.nulls is not None:
+            raise ValueFault(f"row {found.nulls.index(1)}: null is no value; expected a Nullable in a chunk", row=found.nulls.index(1))
+        return found.values
 
     @classmethod
     def of_heap(cls, dtype: DType, heap: object, ends: object) -> Values:
-        """Texts or bytes as one heap, with where each value ends as 64-bit numbers."""
-        places = memoryview(ends)  # type: ignore[arg-type]
-        if places.nbytes and places.itemsize != 8:
-            raise ValueFault("the ends of texts are 64-bit numbers")
-        return cls(dtype, _bytes_view(heap), _bytes_view(ends), len(places))
+        """Returns texts or bytes that stand in one heap of bytes, with where each value ends as 64-bit numbers.
 
-    @classmethod
-    def _of_buffer(cls, dtype: DType, values: object) -> Values:
-        view = memoryview(values)  # type: ignore[arg-type]
-        signed = view.format[-1:].islower() if view.format else False
-        kind = (view.format or "B")[-1:]
-        fits = kind == "?" or kind in "Bb" if dtype == DType.BOOL else kind in "BHILQ" + "bhilq" and signed == (dtype >= DType.I8)
-        if view.itemsize != dtype.width or not fits or (view.format or "")[:1] in (">", "!"):
-            raise ValueFault(f"items of form {view.format!r} are no {dtype.word}")
-        return cls(dtype, _bytes_view(values), memoryview(b""), len(view))
-
-    @classmethod
-    def _of_list(cls, dtype: DType, values: Sequence[Value]) -> Values:
-        try:
-            packed = struct.pack(f"<{len(values)}{_CODES[dtype]}", *[_plain(dtype, value) for value in values])
-        except struct.error as fault:
-            raise ValueFault(f"a value is no {dtype.word}: {fault}") from fault
-        return cls(dtype, memoryview(packed), memoryview(b""), len(values))
-
-    @classmethod
-    def _of_texts(cls, dtype: DType, values: Iterable[Value]) -> Values:
-        heap, ends = bytearray(), array("Q")
-        for value in values:
-            heap += _text(dtype, value)
-            ends.append(len(heap))
-        return cls(dtype, memoryview(heap), memoryview(ends).cast("B"), len(ends))
+        ValueFault where these are no such buffers. The offsets of Arrow are 32-bit numbers, with one more in front: they aren't taken.
+        """
+        if not dtype.has_ends:
+            raise ValueFault(f"values of {dtype.word} stand in no heap; expected utf8 or binary")
+        pieces, places = _buffer(heap, "the heap"), _buffer(ends, "the ends")
+        if pieces.itemsize != 1:
+            raise ValueFault(f"the heap has items of form {pieces.format!r}; expected bytes")
+        if len(places) and (places.itemsize != 8 or places.format.lstrip("@=<") not in tuple("qQlLnN")):
+            raise ValueFault(f"the ends have the form {places.format!r}; expected 64-bit numbers")
+        return cls(dtype, _flat(pieces), _flat(places), len(places))
 
     def __len__(self) -> int:
         return self.count
 
     def __getitem__(self, place: int) -> bool | int | str | bytes | None:
-        """The value at a place; texts as ``str`` and bytes as ``bytes``."""
+        """Returns the value at a place; texts as ``str`` and bytes as ``bytes``. ValueFault where a text isn't one, or has no place."""
         if not 0 <= place < self.count:
             raise IndexError(place)
         if self.dtype == DType.NULL:
             return None
-        if self.dtype.has_ends:
-            ends = self.ends.cast("Q")
-            piece = bytes(self.data[ends[place - 1] if place else 0 : ends[place]])
+        if not self.dtype.has_ends:
+            found: bool | int = struct.unpack_from("<" + _CODES[self.dtype], self.data, place * self.dtype.width)[0]
+            return found
+        ends = self.ends.cast("Q")
+        start, end = ends[place - 1] if place else 0, ends[place]
+        if not start <= end <= len(self.data):
+            raise ValueFault(f"row {place}: a text begins behind its end, or ends behind the heap", row=place)
+        piece = bytes(self.data[start:end])
+        try:
             return piece.decode() if self.dtype == DType.UTF8 else piece
-        found: bool | int = struct.unpack_from("<" + _CODES[self.dtype], self.data, place * self.dtype.width)[0]
-        return found
+        except UnicodeDecodeError as fault:
+            raise ValueFault(f"row {place}: a text isn't UTF-8: {fault.reason}", row=place) from fault
 
     def slice(self, start: int, stop: int) -> Values:
-        """The values from one place up to another, without a copy but of the ends of texts."""
+        """Returns the values from one place up to another, without a copy but of the ends of texts.
+
+        ValueFault where the first text begins, or the last one ends, behind the heap.
+        """
         if self.dtype.has_ends:
             ends = self.ends.cast("Q")
             first = ends[start - 1] if start else 0
             last = ends[stop - 1] if stop > start else first
+            if not first <= last <= self.data.nbytes:
+                raise ValueFault(f"row {start}: a text begins behind its end, or ends behind the heap", row=start)
             return Values(self.dtype, self.data[first:last], moved(ends[start:stop], -first), stop - start)
         width = self.dtype.width
         return Values(self.dtype, self.data[start * width : stop * width], self.ends, stop - start)
 
-
     def take(self, places: range) -> Values:
-        """The values at places that ascend by one step, as a copy."""
+        """Returns the values at places that ascend by one step, as a copy. ValueFault where texts are no pieces of their heap."""
         if self.dtype.has_ends:
-            ends, heap, at = self.ends.cast("Q"), bytearray(), array("Q")
-            for place in places:
-                heap += self.data[ends[place - 1] if place else 0 : ends[place]]
-                at.append(len(heap))
-            return Values(self.dtype, memoryview(heap), memoryview(at).cast("B"), len(places))
+            ends = self.heap_ends()
+            return of_texts(self.dtype, [bytes(self.data[ends[place - 1] if place else 0 : ends[place]]) for place in places])
         width, code = self.dtype.width, _CODES.get(self.dtype, "B")
         view = self.data.cast(code) if width else self.data
         picked = view[places.start : places.stop : places.step].tobytes() if width else b""
-        return Values(self.dtype, memoryview(picked), memoryview(b""), len(places))
+        return Values(self.dtype, memoryview(picked), _NONE, len(places))
+
+    def heap_ends(self) -> memoryview:
+        """Returns where each text ends. ValueFault where one ends before it begins, or behind the heap."""
+        ends = self.ends.cast("Q")
+        if numpy is not None and len(ends):
+            found = numpy.frombuffer(self.ends, dtype="<u8")
+            falls = numpy.flatnonzero((found[1:] < found[:-1]) | (found[1:] > self.data.nbytes)) + 1
+            place = 0 if found[0] > self.data.nbytes else int(falls[0]) if len(falls) else -1
+        else:
+            pairs = enumerate(zip(chain([0], ends), ends))
+            place = next((at for at, (start, end) in pairs if not start <= end <= self.data.nbytes), -1)
+        if place >= 0:
+            raise ValueFault(f"row {place}: a text begins behind its end, or ends behind the heap", row=place)
+        return ends
+
+
+def of_numbers(dtype: DType, numbers: Sequence[int]) -> Values:
+    """Returns numbers or truths, each of which the type has."""
+    packed: bytes | array[int] = bytes(numbers) if dtype == DType.BOOL else array(_CODES[dtype], numbers)
+    return Values(dtype, memoryview(packed).cast("B"), _NONE, len(numbers))
+
+
+def of_texts(dtype: DType, pieces: Sequence[bytes]) -> Values:
+    """Returns texts, by their UTF-8, or bytes."""
+    ends = array("Q", accumulate(map(len, pieces)))
+    return Values(dtype, memoryview(b"".join(pieces)), memoryview(ends).cast("B"), len(ends))
+
+
+def spaced(present: Values, nulls: bytes) -> Values:
+    """Returns the values with room at each null, where the library reads nothing: zeros for numbers and truths, no bytes for texts."""
+    count, width = len(nulls), present.dtype.width
+    if not any(nulls):
+        return present
+    if present.dtype.has_ends:
+        ends = present.ends.cast("Q")
+        counts = accumulate(not null for null in nulls)
+        return Values(present.dtype, present.data, memoryview(array("Q", (ends[at - 1] if at else 0 for at in counts))).cast("B"), count)
+    room = bytearray(width * count)
+    if numpy is not None and len(present):
+        there = numpy.frombuffer(nulls, dtype=numpy.uint8) == 0
+        own = numpy.dtype(f"V{width}")
+        numpy.frombuffer(room, dtype=own)[there] = numpy.frombuffer(present.data, dtype=own)
+    else:
+        rows = compress(range(count), (not null for null in nulls))
+        for place, row in enumerate(rows):
+            room[row * width : (row + 1) * width] = present.data[place * width : (place + 1) * width]
+    return Values(present.dtype, memoryview(room), _NONE, count)
 
 
 def joined(pieces: Sequence[Values]) -> Values:
-    """The values of some pieces of one type, one piece behind the other."""
-    dtype = pieces[0].dtype
-    data = b"".join(piece.data for piece in pieces)
-    starts = accumulate((piece.data.nbytes for piece in pieces), initial=0)
-    ends = b"".join(moved(piece.ends.cast("Q"), start) for piece, start in zip(pieces, starts)) if dtype.has_ends else b""
-    return Values(dtype, memoryview(data), memoryview(ends), sum(len(piece) for piece in pieces))
+    """Returns the values of some pieces of one type, one piece behind the other. ValueFault where texts are no pieces of their heap."""
+    dtype, count = pieces[0].dtype, sum(len(piece) for piece in pieces)
+    if not dtype.has_ends:
+        return Values(dtype, memoryview(b"".join(piece.data for piece in pieces)), _NONE, count)
+    heaps, places, start = [], [], 0
+    for piece in pieces:
+        ends = piece.heap_ends()
+        # Bytes behind the last end belong to no text, and would be taken for the beginning of the next one.
+        heaps.append(piece.data[: ends[-1] if len(ends) else 0])
+        places.append(moved(ends, start))
+        start += heaps[-1].nbytes
+    return Values(dtype, memoryview(b"".join(heaps)), memoryview(b"".join(places)), count)
 
 
 def moved(ends: memoryview | array[int], by: int) -> memoryview:
-    """The ends of texts in a heap that begins so much later."""
+    """Returns the ends of texts in a heap that begins so much later."""
     if not len(ends):
-        return memoryview(b"")
+        return _NONE
     if numpy is not None:
         return memoryview(numpy.frombuffer(ends, dtype="<i8") + by).cast("B")  # type: ignore[arg-type]
-    return memoryview(array("Q", (end + by for end in ends))).cast("B")
+    return memoryview(array("Q", ((end + by) % 2**64 for end in ends))).cast("B")
 
 
-def _plain(dtype: DType, value: Value) -> bool | int:
-    if value is None:
-        return 0
-    if dtype == DType.BOOL:
-        if isinstance(value, bool):
-            return value
-    elif isinstance(value, int) and not isinstance(value, bool):
-        return value
-    raise ValueFault(f"{value!r} is no {dtype.word}")
+def _buffer(given: object, word: str) -> memoryview:
+    try:
+        view = memoryview(given)  # type: ignore[arg-type]
+    except TypeError:
+        raise ValueFault(f"{word} of type {type(given).__name__} is no buffer; expected bytes or an array") from None
+    if view.ndim != 1 or not view.c_contiguous:
+        raise ValueFault(f"{word} doesn't stand one item behind the other; expected one dimension, without gaps")
+    return view
 
 
-def _text(dtype: DType, value: Value) -> bytes:
-    if value is None:
-        return b""
-    if dtype == DType.UTF8 and isinstance(value, str):
-        try:
-            return value.encode()
-        except UnicodeEncodeError as fault:
-            raise ValueFault(f"{value!r} is no utf8: {fault.reason}") from fault
-    if dtype == DType.BINARY and isinstance(value, (bytes, bytearray)):
-        return bytes(value)
-    raise ValueFault(f"{value!r} is no {dtype.word}")
+def _flat(view: memoryview) -> memoryview:
+    return view.cast("B") if view.nbytes else _NONE

@@ -372,9 +372,12 @@ class PartFooters:
         if (told.get("database"), told.get("table")) != (database, table):
             raise FooterError(f"{path} has the footers of {told.get('database')}.{told.get('table')}, not of {database}.{table}")
         try:
-            parts, stamps = [str(name) for name in told["parts"]], [(int(rows), int(size), int(time)) for rows, size, time in told["stamps"]]
+            parts, stamps = told["parts"], [(rows, size, time) for rows, size, time in told["stamps"]]
         except (KeyError, TypeError, ValueError) as fault:
             raise FooterError(f"{path} doesn't say which parts it is of") from fault
+        numbers = [number for stamp in stamps for number in stamp]
+        if not (isinstance(parts, list) and {str} >= set(map(type, parts)) and {int} >= set(map(type, numbers))):
+            raise FooterError(f"{path} doesn't say which parts it is of")
         if not len(parts) == len(stamps) == len(footers):
             raise FooterError(f"{path} has {len(footers)} footers for {len(parts)} parts")
         return cls(database, table, footers.columns, parts, footers, stamps)
@@ -387,6 +390,6 @@ class _Merged(Exception):
 def _told(note: str) -> dict[str, Any]:
     try:
         told = json.loads(note or "{}")
-    except json.JSONDecodeError:
+    except (ValueError, RecursionError):
         told = {}
     return told if isinstance(told, dict) else {}

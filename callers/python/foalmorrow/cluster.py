@@ -10,6 +10,7 @@ import contextlib
 import json
 import os
 import pathlib
+import re
 import warnings
 from collections import deque
 from collections.abc import Callable, Iterator, Mapping, Sequence
@@ -22,6 +23,7 @@ from distributed import Client, KilledWorker
 
 from .answers import Answers
 from .footers import ALL, PRUNING, FooterError, Footers, Nullable
+from .items import expected, value_of
 from .kinds import Answer, Column, DType, Stat
 from .predicate import Predicate
 
@@ -78,9 +80,12 @@ class Kept:
         footers, note = Footers.load_with_note(path)
         try:
             told = json.loads(note)
-            files, stamps = [str(file) for file in told["files"]], [(int(size), int(time)) for size, time in told["stamps"]]
-        except (ValueError, KeyError, TypeError) as fault:
+            files, stamps = told["files"], [(size, time) for size, time in told["stamps"]]
+        except (ValueError, KeyError, TypeError, RecursionError) as fault:
             raise FooterError(f"{path} has the footers of no table of files") from fault
+        numbers = [number for stamp in stamps for number in stamp]
+        if not (isinstance(files, list) and {str} >= set(map(type, files)) and {int} >= set(map(type, numbers))):
+            raise FooterError(f"{path} has the footers of no table of files")
         if not len(files) == len(stamps) == len(footers):
             raise FooterError(f"{path} has {len(footers)} footers for {len(files)} files")
         return cls(files, stamps, footers)
@@ -176,7 +181,9 @@ def prune(client: Client, footers: Footers, predicate: Predicate, normalize: boo
     """
     if len(footers) <= shard:
         return footers.prune(predicate, normalize)
-    text, names = predicate.text(footers.columns), set(predicate.names())
+    # What doesn't fit the columns is refused here, and not by a worker.
+    footers.slice(0, 0).prune(predicate, normalize)
+    names = set(predicate.names())
     columns = [column for column in footers.columns if column.name in names]
     known = {key: it for key, it in footers.statistics.items() if key[0] in names and key[1] in PRUNING}
     pieces = Footers(columns, footers.rows, known).shards(shard)
@@ -187,13 +194,13 @@ def prune(client: Client, footers: Footers, predicate: Predicate, normalize: boo
         for piece in pieces:
             if len(pending) == room:
                 codes.append(pending.popleft().result())
-            pending.append(_sent(client, _pruned, piece.to_bytes(), text, normalize))
+            pending.append(_sent(client, _pruned, piece.to_bytes(), predicate, normalize))
         codes += [future.result() for future in pending]
     return Answers(b"".join(codes))
 
 
-def _pruned(data: bytes, text: str, normalize: bool) -> bytes:
-    return bytes(Footers.from_bytes(data)[0].prune(text, normalize).codes)
+def _pruned(data: bytes, predicate: Predicate, normalize: bool) -> bytes:
+    return bytes(Footers.from_bytes(data)[0].prune(predicate, normalize).codes)
 
 
 @dataclass(frozen=True)
@@ -264,32 +271,46 @@ def _files(folder: str | os.PathLike[str], ending: str) -> tuple[str, ...]:
 
 
 def read_csv(file: str, columns: tuple[Column, ...]) -> Chunk:
-    """The columns of a CSV file. TableError where one is missing or a cell isn't of its column's type."""
+    """Reads the columns of a CSV file with a header line.
+
+    TableError, with the row, where a column is missing or stands twice, a row has more or fewer cells than the header, a blank line included,
+    or a cell isn't of its column's type.
+    """
     import csv
 
-    with open(file, newline="", encoding="utf-8") as lines:
-        reader = csv.DictReader(lines)
-        missing = [column.name for column in columns if column.name not in (reader.fieldnames or [])]
-        if missing:
-            raise TableError(f"{file} has no column {missing[0]}")
-        rows = list(reader)
-    return {column.name: [_cell(file, i, column, row[column.name]) for i, row in enumerate(rows)] for column in columns}
-
-
-def _cell(file: str, row: int, column: Column, text: str | None) -> object:
-    if text is None or (text == "" and column.nullable):
-        return None
     try:
-        if column.dtype.range is not None:
-            number, (least, greatest) = int(text), column.dtype.range
-            if not least <= number <= greatest:
-                raise ValueError(text)
-            return number
-        if column.dtype.word == "bool":
-            return {"true": True, "false": False}[text.lower()]
-        return text if column.dtype.word == "utf8" else bytes.fromhex(text)
-    except (ValueError, KeyError) as fault:
-        raise TableError(f"{file}, row {row}, column {column.name}: {text!r} is no {column.word}") from fault
+        with open(file, newline="", encoding="utf-8") as lines:
+            header, *rows = csv.reader(lines, strict=True)
+    except csv.Error as fault:
+        raise TableError(f"{file} is no CSV file: {fault}") from fault
+    except ValueError as fault:
+        raise TableError(f"{file} has no header line, or isn't UTF-8") from fault
+    places = {}
+    for column in columns:
+        if header.count(column.name) != 1:
+            raise TableError(f"{file} has {header.count(column.name) or 'no'} columns {column.name}; expected one")
+        places[column.name] = header.index(column.name)
+    for i, row in enumerate(rows):
+        if len(row) != len(header):
+            raise TableError(f"{file}, row {i}: {len(row)} cells; expected {len(header)}")
+    return {column.name: [_cell(file, i, column, row[places[column.name]]) for i, row in enumerate(rows)] for column in columns}
+
+
+def _cell(file: str, row: int, column: Column, text: str) -> object:
+    if text == "" and (column.nullable or column.dtype == DType.NULL):
+        return None
+    value: object = None
+    if column.dtype.range is not None:
+        value = int(text) if re.fullmatch("-?[0-9]{1,20}", text) else None
+    elif column.dtype == DType.BOOL:
+        value = {"true": True, "false": False}.get(text.lower())
+    elif column.dtype == DType.BINARY:
+        value = bytes.fromhex(text) if re.fullmatch("([0-9a-fA-F]{2})*", text) else None
+    elif column.dtype == DType.UTF8:
+        value = text
+    if value is None or value_of(column.dtype, value) is None:
+        raise TableError(f"{file}, row {row}, column {column.name}: {text!r} is no {column.word}; expected {expected(column.dtype)}")
+    return value
 
 
 def read_npy(folder: str, columns: tuple[Column, ...]) -> Chunk:

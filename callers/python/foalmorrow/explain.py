@@ -1,31 +1,46 @@
 """Why a zone is read: what each comparison of a predicate tells of each zone, as data."""
 from __future__ import annotations
 
+import heapq
 from collections.abc import Iterator, Sequence
 from dataclasses import dataclass
+from functools import cached_property
+from itertools import compress
 from typing import TYPE_CHECKING
 
 from .answers import Answers
-from .kinds import Answer, Stat
+from .kinds import Answer, Precision, Stat
 from .predicate import Predicate
+from .statistic import Statistic
 
 if TYPE_CHECKING:
     from .footers import Footers
 
 _READ = (Stat.MIN, Stat.MAX, Stat.NULL_COUNT)
-_LETTERS = {Answer.READ: "r", Answer.SKIP: ".", Answer.WHOLE: "W"}
+_LETTERS = bytes.maketrans(bytes(list(Answer)), b"r.W")
 #: Of more zones a strip of letters is shown, and the zones with the most rows to be tested.
 _LISTED = 50
 _MOST = 10
 
 
-@dataclass(frozen=True)
 class Leaf:
-    """One comparison, range, null test or pattern of a predicate, pruned by itself."""
+    """One comparison, range, null test or pattern of a predicate, pruned by itself when its answers are first asked for."""
 
-    text: str
-    columns: tuple[str, ...]
-    answers: Answers
+    def __init__(self, footers: Footers, predicate: Predicate, normalize: bool):
+        self._footers, self._predicate, self._normalize = footers, predicate, normalize
+        #: The columns that it names, each once.
+        self.columns = tuple(dict.fromkeys(predicate.names()))
+
+    @cached_property
+    def text(self) -> str:
+        """The leaf as a condition of SQL."""
+        known = {column.name: column for column in self._footers.columns}
+        return self._predicate.sql([known[name] for name in self.columns])
+
+    @cached_property
+    def answers(self) -> Answers:
+        """What the leaf by itself tells of each zone."""
+        return self._footers.prune(self._predicate, self._normalize)
 
 
 @dataclass(frozen=True)
@@ -47,6 +62,11 @@ class Zone:
     leaves: tuple[LeafOfZone, ...]
 
 
+def _marks(answers: Answers, wanted: Answer) -> bytes:
+    """Returns a byte a zone: 1 where it has an answer, and else 0."""
+    return bytes(answers.codes).translate(bytes(code == wanted for code in range(256)))
+
+
 class Explanation(Sequence[Zone]):
     """What a predicate does with each zone, and what each of its leaves says of it; printed, it is a page for a reader."""
 
@@ -56,9 +76,8 @@ class Explanation(Sequence[Zone]):
         #: The answers of the predicate.
         self.answers = footers.prune(predicate, normalize)
         #: Those of each leaf by itself, which NOT doesn't turn round here.
-        self.leaves = [
-            Leaf(leaf.sql(footers.columns), tuple(dict.fromkeys(leaf.names())), footers.prune(leaf, normalize)) for leaf in predicate.leaves()
-        ]
+        self.leaves = [Leaf(footers, leaf, normalize) for leaf in predicate.leaves()]
+        self._known: dict[str, dict[tuple[str, Stat], Statistic]] = {}
 
     def __len__(self) -> int:
         return len(self.footers)
@@ -69,21 +88,26 @@ class Explanation(Sequence[Zone]):
 
     def _missing(self, leaf: Leaf, zone: int) -> tuple[tuple[str, Stat], ...]:
         wanted = [(name, stat) for name in leaf.columns for stat in _READ]
-        known = self.footers.statistics
-        return tuple(key for key in wanted if key not in known or not known[key].known[zone])
+        return tuple(key for key in wanted if not self._is_known(key, zone))
+
+    def _is_known(self, key: tuple[str, Stat], zone: int) -> bool:
+        if key[0] not in self._known:
+            self._known[key[0]] = self.footers._handed([self.footers._column(key[0])])
+        found = self._known[key[0]].get(key)
+        return found is not None and found.known[zone] != Precision.ABSENT
 
     def rows(self, answer: Answer) -> int:
-        """How many rows stand in the zones with an answer."""
-        return sum(rows for rows, found in zip(self.footers.rows, self.answers) if found == answer)
+        """Returns how many rows stand in the zones with an answer."""
+        return sum(compress(self.footers.rows, _marks(self.answers, answer)))
 
     def most_tested(self, count: int = _MOST) -> list[Zone]:
-        """The zones with the most rows to be tested, the largest first."""
-        read = [zone for zone, answer in enumerate(self.answers) if answer == Answer.READ]
-        return [self[zone] for zone in sorted(read, key=lambda zone: -self.footers.rows[zone])[:count]]
+        """Returns the zones with the most rows to be tested, the largest first, and of equal ones the first."""
+        read = compress(range(len(self)), _marks(self.answers, Answer.READ))
+        return [self[zone] for zone in heapq.nlargest(count, read, key=self.footers.rows.__getitem__)]
 
     def strip(self) -> str:
-        """A letter a zone: ``.`` is skipped, ``W`` whole, ``r`` to be read."""
-        return "".join(_LETTERS[answer] for answer in self.answers)
+        """Returns a letter a zone: ``.`` is skipped, ``W`` whole, ``r`` to be read."""
+        return bytes(self.answers.codes).translate(_LETTERS).decode()
 
     def __str__(self) -> str:
         return "\n".join(self._lines())

@@ -12,9 +12,10 @@ from typing import Any
 import numpy
 import pandas
 
-from .footers import FooterError, Nullable
+from .footers import FooterError
 from .kinds import Column, DType
-from .predicate import Between, ColumnOf, Compared, Joined, Like, Not, NullTest, Predicate, PredicateError, literal
+from .predicate import Between, ColumnOf, Compared, Like, NullTest, Predicate, PredicateError, literal
+from .reading import read_column
 
 _OPERATORS: dict[str, Callable[[Any, Any], Any]] = {
     word: getattr(operator, word) for word in ("eq", "ne", "gt", "ge", "lt", "le")
@@ -22,7 +23,7 @@ _OPERATORS: dict[str, Callable[[Any, Any], Any]] = {
 
 
 def frame_of(columns: Sequence[Column], chunk: Mapping[str, object]) -> pandas.DataFrame:
-    """The columns of a chunk as a frame. FooterError where one is missing."""
+    """Returns the columns of a chunk as a frame, read as they are measured. FooterError where one is missing; ValueFault as of ``measure``."""
     missing = [column.name for column in columns if column.name not in chunk]
     if missing:
         raise FooterError(f"the chunk has no column {missing[0]}")
@@ -30,45 +31,54 @@ def frame_of(columns: Sequence[Column], chunk: Mapping[str, object]) -> pandas.D
 
 
 def _series(column: Column, given: Any) -> pandas.Series:
-    values, nulls = (given.values, given.nulls) if isinstance(given, Nullable) else (given, None)
-    if column.dtype.range is None and column.dtype != DType.BOOL:
-        found = pandas.Series(values, dtype="string" if column.dtype == DType.UTF8 else "object")
-        return found if nulls is None else found.mask(pandas.Series(nulls, dtype=bool))
-    if isinstance(values, (list, tuple)):
-        nulls = [value is None for value in values] if nulls is None else nulls
-        values = [0 if value is None else value for value in values]
+    found = read_column(column, given)
+    values, count = found.values, len(found.values)
+    mask = numpy.zeros(count, bool) if found.nulls is None else numpy.frombuffer(found.nulls, dtype=bool).copy()
+    if column.dtype == DType.NULL:
+        return pandas.Series([None] * count, dtype="object")
+    if column.dtype.has_ends:
+        items = [None if mask[row] else values[row] for row in range(count)]
+        return pandas.Series(items, dtype="string" if column.dtype == DType.UTF8 else "object")
     # By numpy's own arrays: pandas takes a list with great numbers for floating ones.
-    mask = numpy.zeros(len(values), bool) if nulls is None else numpy.array(nulls, dtype=bool)
-    if column.dtype == DType.BOOL:
-        return pandas.Series(pandas.arrays.BooleanArray(numpy.array(values, dtype=bool), mask))
-    width = f"{'u' if column.dtype <= DType.U64 else ''}int{8 * column.dtype.width}"
-    return pandas.Series(pandas.arrays.IntegerArray(numpy.array(values, dtype=width), mask))
+    width = "?" if column.dtype == DType.BOOL else f"<{'u' if column.dtype <= DType.U64 else 'i'}{column.dtype.width}"
+    numbers = numpy.frombuffer(values.data, dtype=width).copy() if count else numpy.zeros(0, width)
+    kind = pandas.arrays.BooleanArray if column.dtype == DType.BOOL else pandas.arrays.IntegerArray
+    return pandas.Series(kind(numbers, mask))
 
 
 def rows(predicate: Predicate, columns: Sequence[Column], frame: pandas.DataFrame) -> pandas.DataFrame:
-    """The rows of a frame that satisfy a predicate. PredicateError where it names what isn't there or compares what can't be compared."""
+    """Returns the rows of a frame that satisfy a predicate, which are those that the library's own scan selects.
+
+    PredicateError where the predicate names what isn't there or compares what can't be compared.
+    """
     return frame[truths(predicate, {column.name: column for column in columns}, frame).fillna(False).astype(bool)]
 
 
 def truths(predicate: Predicate, columns: Mapping[str, Column], frame: pandas.DataFrame) -> pandas.Series:
-    """What a predicate is of each row: true, false or null."""
-    if isinstance(predicate, Not):
-        return ~truths(predicate.of, columns, frame)
-    if isinstance(predicate, Joined):
-        left, right = truths(predicate.left, columns, frame), truths(predicate.right, columns, frame)
-        return left & right if predicate.word == "and" else left | right
-    if isinstance(predicate, Between):
-        return truths(predicate.ends(), columns, frame)
-    named = [columns.get(name) for name in predicate.names()]
+    """Returns what a predicate is of each row: true, false or null."""
+
+    def leaf(it: Predicate) -> Any:
+        return _leaf(it, columns, frame)
+
+    def joined(word: str, left: Any, right: Any) -> Any:
+        return left & right if word == "and" else left | right
+
+    return predicate.folded(leaf, joined, operator.invert)
+
+
+def _leaf(leaf: Predicate, columns: Mapping[str, Column], frame: pandas.DataFrame) -> pandas.Series:
+    if isinstance(leaf, Between):
+        return truths(leaf.ends(), columns, frame)
+    named = [columns.get(name) for name in leaf.names()]
     if None in named:
-        raise PredicateError(f"the table has no column {predicate.names()[named.index(None)]}")
+        raise PredicateError(f"the table has no column {leaf.names()[named.index(None)]}")
     series = frame[named[0].name]  # type: ignore[union-attr]
-    if isinstance(predicate, NullTest):
-        return (series.isna() if predicate.wanted else series.notna()).astype("boolean")
-    if isinstance(predicate, Compared):
-        return _compared(predicate, named, series, frame)  # type: ignore[arg-type]
-    assert isinstance(predicate, Like)
-    return _like(predicate, named[0], series)  # type: ignore[arg-type]
+    if isinstance(leaf, NullTest):
+        return (series.isna() if leaf.wanted else series.notna()).astype("boolean")
+    if isinstance(leaf, Compared):
+        return _compared(leaf, named, series, frame)  # type: ignore[arg-type]
+    assert isinstance(leaf, Like)
+    return _like(leaf, named[0], series)  # type: ignore[arg-type]
 
 
 def _compared(leaf: Compared, named: Sequence[Column], series: pandas.Series, frame: pandas.DataFrame) -> pandas.Series:
@@ -82,8 +92,9 @@ def _compared(leaf: Compared, named: Sequence[Column], series: pandas.Series, fr
     compare = _OPERATORS[leaf.operator]
     if others is None or named[0].dtype == DType.NULL:
         return pandas.Series(pandas.NA, index=frame.index, dtype="boolean")
-    if named[0].dtype != DType.BINARY:
+    if not named[0].dtype.has_ends:
         return compare(series, others).astype("boolean")
+    # One by one: numpy drops zeros at the end of a text, and takes "a\0" for "a".
     pairs = zip(series, others if isinstance(others, pandas.Series) else [others] * len(series))
     told = [None if pandas.isna(a) or pandas.isna(b) else compare(a, b) for a, b in pairs]
     return pandas.Series(told, index=frame.index, dtype="boolean")

@@ -1,4 +1,7 @@
-"""The proved library's calls, by ctypes. Its page is callers/c/vortex.h; what users call stands in the other modules."""
+"""The proved library's calls, by ctypes. Its page is callers/c/vortex.h; what users call stands in the other modules.
+
+Each call takes 256 KiB of a thread's stack at the most, but ``run``.
+"""
 from __future__ import annotations
 
 import ctypes
@@ -7,15 +10,13 @@ import os
 import pathlib
 from array import array
 from collections.abc import Mapping, Sequence
-from ctypes import POINTER, Structure, c_size_t, c_uint8, c_uint64
-from typing import TYPE_CHECKING
+from ctypes import POINTER, Structure, c_size_t, c_uint8, c_uint32, c_uint64
+from typing import Literal
 
 from .arrays import Values, moved
-from .kinds import Column, Precision, Stat, stat_dtype
+from .kinds import Column, Stat, stat_dtype
 from .predicate import PredicateError
-
-if TYPE_CHECKING:
-    from .footers import Statistic
+from .statistic import Statistic
 
 try:
     import numpy
@@ -43,10 +44,17 @@ class Status(enum.IntEnum):
     BAD_NAME = 14
     NOT_A_PREDICATE = 15
     BAD_FLAG = 16
+    TOO_DEEP = 17
 
+
+#: How deep a predicate may nest, as VORTEX_MAX_DEPTH says.
+MAX_DEPTH = 128
+#: The versions of the library whose calls these are: 0.2.x.
+_MAJOR_MINOR = (0, 2)
 
 _SENTENCES = {
     Status.BAD_LINE: "the predicate is no expression over these columns",
+    Status.TOO_DEEP: f"the predicate nests deeper than {MAX_DEPTH} levels, of which a chain of AND or of OR is one",
     Status.BAD_KIND: "there is no such type",
     Status.BAD_STAT: "the column has no such statistic",
     Status.BAD_KNOWN: "a byte above 2 says how a value is known",
@@ -167,9 +175,10 @@ def _load() -> ctypes.CDLL:
     byte, size, place = ctypes.c_void_p, c_size_t, POINTER(Fault)
     calls = {
         "vortex_run": [byte, size, byte, size, POINTER(size)],
-        "vortex_check": [POINTER(CValues), byte, size, size, place],
+        "vortex_check": [POINTER(CValues), c_uint64, byte, size, size, place],
         "vortex_measure": [POINTER(CValues), byte, size, byte, size, byte, size, byte, size, POINTER(size), place],
         "vortex_merge": [c_uint8, c_uint8, size, byte, size, byte, size, byte, size, byte, size, byte, size, POINTER(size), place],
+        "vortex_merge_zones": [c_uint8, c_uint8, size, byte, size, byte, size, byte, size, byte, size, POINTER(size), place],
         "vortex_prune": [byte, size, byte, size, byte, size, byte, size, c_uint8, byte, size, place],
     }
     for name, types in calls.items():
@@ -177,7 +186,24 @@ def _load() -> ctypes.CDLL:
         if call is None:
             raise LibraryError(f"{path} has no call {name}")
         call.argtypes, call.restype = types, c_uint8
+    told = _version(loaded, path)
+    if told[:2] != _MAJOR_MINOR:
+        raise LibraryError(f"{path} is version {'.'.join(map(str, told))}; expected {_MAJOR_MINOR[0]}.{_MAJOR_MINOR[1]}")
     return loaded
+
+
+def _version(loaded: ctypes.CDLL, path: str) -> tuple[int, int, int]:
+    call = getattr(loaded, "vortex_version", None)
+    if call is None:
+        raise LibraryError(f"{path} has no call vortex_version")
+    call.argtypes, call.restype = [], c_uint32
+    number = int(call())
+    return number >> 16, number >> 8 & 255, number & 255
+
+
+def version() -> str:
+    """Returns the version of the library, as ``0.2.0``. LibraryError where it isn't there, or is another one than these calls need."""
+    return ".".join(map(str, _version(_library(), "the library")))
 
 
 _loaded: ctypes.CDLL | None = None
@@ -204,14 +230,13 @@ def _answered(status: int, fault: Fault, column: str | None = None, stats: Seque
         raise Refused(found, column=column, stat=stat, row=fault.row if found in _PLACED else None)
 
 
-def _answered_merge(status: int, fault: Fault, column: Column, stats: Sequence[Stat]) -> None:
+def _answered_merge(status: int, fault: Fault, column: Column, stats: Sequence[Stat], side: str | None) -> None:
     """Nothing where a merge has answered, and else what was refused."""
     if status == Status.NO_MEMORY:
         raise MemoryError
     if status != Status.OK:
         found = Status(status)
         stat = stats[fault.entry] if fault.entry < len(stats) else None
-        side = "left" if fault.column == 0 else "right"
         raise Refused(found, column=column.name, stat=stat, zone=fault.row if found in _PLACED else None, side=side)
 
 
@@ -222,7 +247,7 @@ def _answered_zones(status: int, fault: Fault, columns: Sequence[Column], keys: 
     if status == Status.OK:
         return
     found = Status(status)
-    if found in (Status.BAD_LINE, Status.NOT_A_PREDICATE):
+    if found in (Status.BAD_LINE, Status.NOT_A_PREDICATE, Status.TOO_DEEP):
         raise PredicateError(_SENTENCES[found])
     zone = fault.row if found in _PLACED else None
     if found in (Status.BAD_KIND, Status.BAD_NAME):
@@ -232,7 +257,7 @@ def _answered_zones(status: int, fault: Fault, columns: Sequence[Column], keys: 
 
 
 def run(text: bytes) -> tuple[int, bytes]:
-    """Answers a text as the program does: its status and its answer."""
+    """Answers a text as the program does: its status and its answer. A predicate of 4,096 words may take 8 MiB of stack."""
     lent, length, room = _Lent(), c_size_t(), 4096
     at = lent.at(text)
     while True:
@@ -243,15 +268,15 @@ def run(text: bytes) -> tuple[int, bytes]:
         room = length.value
 
 
-def _values(lent: _Lent, column: Column, values: Values, nulls: memoryview | None, size: int) -> CValues:
-    none = nulls if nulls is not None else memoryview(b"")
+def _values(lent: _Lent, column: Column, values: Values, nulls: bytes | None, size: int) -> CValues:
+    none = nulls if nulls is not None else b""
     data, ends = values.data, values.ends
-    counts = (data.nbytes, lent.numbers_at(ends), len(values) if column.dtype.has_ends else 0, lent.at(none), none.nbytes)
+    counts = (data.nbytes, lent.numbers_at(ends), ends.nbytes // 8, lent.at(none), len(none))
     return CValues(column.dtype, column.nullable, len(values), size, 0, lent.at(data), *counts)
 
 
-def measure(column: Column, values: Values, nulls: memoryview | None, wanted: Sequence[Stat]) -> dict[Stat, tuple[Precision, object]]:
-    """The statistics of a column's values, of those that are wanted. What isn't there is absent."""
+def measure(column: Column, values: Values, nulls: bytes | None, wanted: Sequence[Stat]) -> dict[Stat, Statistic]:
+    """Returns the statistics of a column's values, as a table of one zone has them. What isn't known is left out."""
     lent, length, fault = _Lent(), c_size_t(), Fault()
     given = _values(lent, column, values, nulls, values.data.nbytes + values.ends.nbytes)
     known, ends, room = bytearray(len(wanted)), array("Q", bytes(8 * len(wanted))), _ROOM
@@ -264,14 +289,18 @@ def measure(column: Column, values: Values, nulls: memoryview | None, wanted: Se
             break
         room = length.value
     _answered(status, fault, column.name, wanted)
-    found: dict[Stat, tuple[Precision, object]] = {}
-    start = 0
-    for stat, precision, end in zip(wanted, known, ends):
-        dtype = stat_dtype(stat, column.dtype)
-        if precision and dtype is not None:
-            piece = memoryview(output)[start:end]
-            places = memoryview(array("Q", [end - start])).cast("B") if dtype.has_ends else memoryview(b"")
-            found[stat] = (Precision(precision), Values(dtype, piece, places, 1)[0])
+    return {stat: it for stat, it in _of_output(column, wanted, 1, known, ends, output).items() if it.known[0]}
+
+
+def _of_output(column: Column, stats: Sequence[Stat], zones: int, known: bytearray, ends: array[int], output: bytearray) -> dict[Stat, Statistic]:
+    """Returns the statistics that a call has written one behind the other."""
+    found, start, heap = {}, 0, memoryview(output)
+    for place, stat in enumerate(stats):
+        dtype, here = stat_dtype(stat, column.dtype), slice(place * zones, (place + 1) * zones)
+        end = ends[here.stop - 1] if zones else start
+        if dtype is not None:
+            values = Values(dtype, heap[start:end], moved(ends[here], -start) if dtype.has_ends else memoryview(b""), zones)
+            found[stat] = Statistic(memoryview(known)[here], values)
         start = end
     return found
 
@@ -279,42 +308,30 @@ def measure(column: Column, values: Values, nulls: memoryview | None, wanted: Se
 def _statistic(lent: _Lent, place: int, stat: Stat, statistic: Statistic) -> CStatistic:
     it = statistic.values
     known = (lent.at(statistic.known), statistic.known.nbytes)
-    return CStatistic(place, stat, 0, *known, lent.at(it.data), it.data.nbytes, lent.numbers_at(it.ends), len(it) if it.dtype.has_ends else 0)
+    return CStatistic(place, stat, 0, *known, lent.at(it.data), it.data.nbytes, lent.numbers_at(it.ends), it.ends.nbytes // 8)
 
 
 def _table(statistics: Sequence[CStatistic]) -> ctypes.Array[CStatistic]:
     return (CStatistic * len(statistics))(*statistics)
 
 
-def check(column: Column, values: Values, nulls: memoryview | None, known: Mapping[Stat, tuple[Precision, object]]) -> Stat | None:
-    """The first statistic that isn't true of a column's values, or None where each is."""
-    from .footers import Statistic
-
-    lent, fault = _Lent(), Fault()
-    stats = list(known)
-    entries = []
-    for stat in stats:
-        precision, value = known[stat]
-        dtype = stat_dtype(stat, column.dtype)
-        assert dtype is not None
-        entries.append(_statistic(lent, 0, stat, Statistic(memoryview(bytes([precision])), Values.of(dtype, [value]))))
-    table = _table(entries)
+def check(column: Column, values: Values, nulls: bytes | None, rows: int, known: Mapping[Stat, Statistic]) -> Stat | Literal["rows"] | None:
+    """Returns the first statistic of one zone that isn't true of a column's values, or ``rows`` where they are more or fewer; None where all is."""
+    lent, fault, stats = _Lent(), Fault(), list(known)
+    table = _table([_statistic(lent, 0, stat, known[stat]) for stat in stats])
     given = _values(lent, column, values, nulls, values.data.nbytes + values.ends.nbytes)
-    status = _library().vortex_check(ctypes.byref(given), table, len(entries), 0, ctypes.byref(fault))
+    status = _library().vortex_check(ctypes.byref(given), rows, table, len(stats), 0, ctypes.byref(fault))
     if status == Status.UNTRUE:
-        untrue: Stat = stats[fault.entry]
-        return untrue
+        return stats[fault.entry] if fault.entry < len(stats) else "rows"
     _answered(status, fault, column.name, stats)
     return None
 
 
 def merge(column: Column, zones: int, left: Mapping[Stat, Statistic], right: Mapping[Stat, Statistic]) -> dict[Stat, Statistic]:
-    """The statistics of zones of a column, each a zone of ``left`` followed by the one of ``right`` at the same place.
+    """Returns the statistics of zones of a column, each a zone of ``left`` followed by the one of ``right`` at the same place.
 
     Both have the same statistics.
     """
-    from .footers import Statistic
-
     lent, length, fault, stats = _Lent(), c_size_t(), Fault(), list(left)
     sides = [_table([_statistic(lent, 0, stat, side[stat]) for stat in stats]) for side in (left, right)]
     known, ends = bytearray(len(stats) * zones), array("Q", bytes(8 * len(stats) * zones))
@@ -326,26 +343,39 @@ def merge(column: Column, zones: int, left: Mapping[Stat, Statistic], right: Map
         if status != Status.TOO_SHORT:
             break
         room = length.value
-    _answered_merge(status, fault, column, stats)
-    found, start, heap = {}, 0, memoryview(output)
-    for place, stat in enumerate(stats):
-        dtype, here = stat_dtype(stat, column.dtype), slice(place * zones, (place + 1) * zones)
-        assert dtype is not None
-        end = ends[here.stop - 1] if zones else start
-        values = Values(dtype, heap[start:end], moved(ends[here], -start) if dtype.has_ends else memoryview(b""), zones)
-        found[stat] = Statistic(memoryview(known)[here], values)
-        start = end
-    return found
+    _answered_merge(status, fault, column, stats, "left" if fault.column == 0 else "right")
+    return _of_output(column, stats, zones, known, ends, output)
+
+
+def merge_zones(column: Column, zones: int, statistics: Mapping[Stat, Statistic]) -> dict[Stat, Statistic]:
+    """Returns the statistics of all zones of a column as those of one, each zone merged to those before it."""
+    lent, length, fault, stats = _Lent(), c_size_t(), Fault(), list(statistics)
+    table = _table([_statistic(lent, 0, stat, statistics[stat]) for stat in stats])
+    known, ends, room = bytearray(len(stats)), array("Q", bytes(8 * len(stats))), _ROOM
+    while True:
+        output = bytearray(room)
+        outs = (lent.at(known), len(known), lent.at(ends), len(ends), lent.at(output), room, ctypes.byref(length), ctypes.byref(fault))
+        status = _library().vortex_merge_zones(column.dtype, column.nullable, zones, table, len(stats), *outs)
+        if status != Status.TOO_SHORT:
+            break
+        room = length.value
+    _answered_merge(status, fault, column, stats, None)
+    return _of_output(column, stats, 1, known, ends, output)
 
 
 def prune(
-    columns: Sequence[Column], rows: array[int], statistics: Mapping[tuple[str, Stat], Statistic], predicate: str, normalize: bool
+    columns: Sequence[Column],
+    names: Sequence[str],
+    rows: array[int],
+    statistics: Mapping[tuple[str, Stat], Statistic],
+    predicate: str,
+    normalize: bool,
 ) -> bytearray:
-    """What to do with each zone under a predicate, a byte each."""
+    """Returns what to do with each zone under a predicate, a byte each. The predicate calls the columns by ``names``."""
     lent, fault, keys = _Lent(), Fault(), list(statistics)
     places = {column.name: place for place, column in enumerate(columns)}
-    names = [column.name.encode(errors="replace") for column in columns]
-    scope = (CField * len(columns))(*[CField(lent.at(name), len(name), it.dtype, it.nullable) for name, it in zip(names, columns)])
+    spelled = [name.encode() for name in names]
+    scope = (CField * len(columns))(*[CField(lent.at(name), len(name), it.dtype, it.nullable) for name, it in zip(spelled, columns)])
     table = _table([_statistic(lent, places[name], stat, statistics[name, stat]) for name, stat in keys])
     try:
         text = predicate.encode()

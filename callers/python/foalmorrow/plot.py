@@ -4,7 +4,7 @@ from __future__ import annotations
 from typing import TYPE_CHECKING, Any
 
 from .kinds import Answer
-from .predicate import Between, ColumnOf, Compared, Joined, Like, NullTest, Predicate, PredicateError
+from .predicate import Between, ColumnOf, Compared, Like, NullTest, Predicate, PredicateError
 
 if TYPE_CHECKING:
     from .footers import Footers
@@ -107,18 +107,22 @@ def ranges(predicate: Predicate, column: str) -> list[Range]:
 
 
 def _ranges(predicate: Predicate, column: str) -> list[Range]:
-    if isinstance(predicate, Joined):
-        sides = [_ranges(side, column) for side in (predicate.left, predicate.right)]
-        return _met(*sides) if predicate.word == "and" else _united(*sides)
-    if isinstance(predicate, Between):
-        return _ranges(predicate.ends(), column)
-    if column not in predicate.names():
+    """Returns the ranges of a predicate without NOT."""
+    return predicate.folded(
+        lambda leaf: _of_leaf(leaf, column), lambda word, left, right: _met(left, right) if word == "and" else _united(left, right), lambda _: _ALL
+    )
+
+
+def _of_leaf(leaf: Predicate, column: str) -> list[Range]:
+    if isinstance(leaf, Between):
+        return _ranges(leaf.ends(), column)
+    if column not in leaf.names():
         return _ALL
-    if isinstance(predicate, Compared):
-        return _of_comparison(predicate)
-    if isinstance(predicate, NullTest):
-        return [] if predicate.wanted else _ALL
-    return _of_pattern(predicate) if isinstance(predicate, Like) else _ALL
+    if isinstance(leaf, Compared):
+        return _of_comparison(leaf)
+    if isinstance(leaf, NullTest):
+        return [] if leaf.wanted else _ALL
+    return _of_pattern(leaf) if isinstance(leaf, Like) else _ALL
 
 
 def _of_comparison(leaf: Compared) -> list[Range]:

@@ -9,23 +9,34 @@
 
 A literal has the type of the column that it is compared with. ``None`` is null. Python's ``and``, ``or`` and ``not`` can't be
 given another meaning: ``&``, ``|`` and ``~`` stand for them, with parentheses round comparisons.
+
+Predicates may nest as deep as memory allows: no method takes stack by their depth. Pruning refuses more than 128 levels, where a chain of
+``&`` or of ``|`` counts as one.
 """
 from __future__ import annotations
 
-from collections.abc import Sequence
+import re
+from collections.abc import Callable, Iterable, Mapping, Sequence
 from dataclasses import dataclass
+from typing import Any, NoReturn, TypeVar
 
+from .items import expected, is_missing, plain, shown, value_of
 from .kinds import Column, DType
 
 Value = bool | int | str | bytes | None
 Columns = dict[str, Column]
+Folded = TypeVar("Folded")
 
 _OPERATORS = {"eq": "=", "ne": "<>", "gt": ">", "ge": ">=", "lt": "<", "le": "<="}
+_PYTHON = {**_OPERATORS, "eq": "==", "ne": "!="}
 _TURNED = {"eq": "ne", "ne": "eq", "gt": "le", "le": "gt", "ge": "lt", "lt": "ge"}
+_OTHER = {"and": "or", "or": "and"}
+#: A name of a column in the language of predicates.
+_NAME = re.compile(r"[A-Za-z_][A-Za-z0-9_]{0,63}")
 
 
 class PredicateError(ValueError):
-    """A predicate that names what the table hasn't, or compares a column with a value that isn't of its type."""
+    """A predicate that names what the table hasn't, compares a column with a value that isn't of its type, or nests too deep."""
 
 
 class Dialect:
@@ -35,15 +46,15 @@ class Dialect:
     has_null = True
 
     def name(self, column: Column) -> str:
-        """The column's name."""
+        """Returns the column's name as the database spells it."""
         return '"' + column.name.replace('"', '""') + '"'
 
     def literal(self, column: Column, value: Value) -> str:
-        """A value as a literal. PredicateError where it is none of the column's values."""
+        """Returns a value as a literal. PredicateError where it is none of the column's values."""
         return sql_literal(column, value)
 
     def like(self, column: Column, pattern: str, negated: bool, ignore_case: bool) -> str:
-        """Whether a text matches a pattern, in which a backslash makes the next character plain."""
+        """Returns the test whether a text matches a pattern, in which a backslash makes the next character plain."""
         return f"({self.name(column)} {'NOT ' * negated}{'ILIKE' if ignore_case else 'LIKE'} {self.literal(column, pattern)})"
 
 
@@ -53,51 +64,190 @@ SQL = Dialect()
 class Predicate:
     """A condition on a row, that is true, false or null of it. A row is wanted where it is true."""
 
-    def text(self, columns: Sequence[Column]) -> str:
-        """The words of the ``where`` line over these columns. PredicateError where the predicate doesn't fit them."""
-        return self._text({column.name: column for column in columns})
+    #: Leaves comparisons with numpy's scalars to the predicate.
+    __array_ufunc__ = None
+
+    def text(self, columns: Sequence[Column], names: Mapping[str, str] | None = None) -> str:
+        """Returns the words of the ``where`` line over these columns, each under its own name or the one that ``names`` gives it.
+
+        PredicateError where the predicate doesn't fit the columns, or one has a name that the language hasn't. A text with a line feed in it
+        serves pruning alone: in a file of the program it would end the line.
+        """
+        known = {column.name: column for column in columns}
+        spelled: Callable[[str], str] = names.__getitem__ if names is not None else _own_name
+        return " ".join(item if isinstance(item, str) else item._text(known, spelled) for item in self.prefix())
 
     def sql(self, columns: Sequence[Column], dialect: Dialect = SQL) -> str:
-        """The same as a condition of SQL. PredicateError as of ``text``."""
-        spelled = self if dialect.has_null else self.without_not()
-        return spelled._sql({column.name: column for column in columns}, dialect)
+        """Returns the same as a condition of SQL, in which a chain of AND or of OR stands in one pair of parentheses.
+
+        PredicateError where the predicate doesn't fit the columns.
+        """
+        known = {column.name: column for column in columns}
+
+        def leaf(it: Predicate) -> str:
+            return it._sql(known, dialect)
+
+        return _infix(self if dialect.has_null else self.without_not(), leaf, {"and": " AND ", "or": " OR ", "not": "(NOT "})
 
     def without_not(self) -> Predicate:
-        """The same predicate without NOT: each comparison under one is turned round, and null stays null."""
-        return self
+        """Returns the same predicate without NOT: each comparison under one is turned round, and null stays null."""
+        found: list[str | Predicate] = []
+        pending: list[tuple[Predicate, bool]] = [(self, False)]
+        while pending:
+            node, turned = pending.pop()
+            if isinstance(node, Joined):
+                found.append(_OTHER[node.word] if turned else node.word)
+                pending += [(node.right, turned), (node.left, turned)]
+            elif isinstance(node, Not):
+                pending.append((node.of, not turned))
+            else:
+                found += node._turned().prefix() if turned else [node]
+        return of_prefix(found)
 
     def _turned(self) -> Predicate:
-        """This predicate turned round, without NOT."""
+        """Returns this leaf turned round, without NOT."""
         raise NotImplementedError
 
+    def prefix(self) -> list[str | Predicate]:
+        """Lists the words ``and``, ``or`` and ``not`` and the leaves, each word before its operands."""
+        found: list[str | Predicate] = []
+        pending: list[Predicate] = [self]
+        while pending:
+            node = pending.pop()
+            if isinstance(node, Joined):
+                found.append(node.word)
+                pending += [node.right, node.left]
+            elif isinstance(node, Not):
+                found.append("not")
+                pending.append(node.of)
+            else:
+                found.append(node)
+        return found
+
+    def folded(self, leaf: Callable[[Any], Folded], joined: Callable[[str, Folded, Folded], Folded], turned: Callable[[Folded], Folded]) -> Folded:
+        """Returns what the tree comes to by ``leaf`` of each leaf, and by ``joined`` and ``turned`` of what their operands come to."""
+        found: list[Folded] = []
+        for item in reversed(self.prefix()):
+            if isinstance(item, Predicate):
+                found.append(leaf(item))
+            elif item == "not":
+                found.append(turned(found.pop()))
+            else:
+                found.append(joined(item, found.pop(), found.pop()))
+        return found[0]
+
     def leaves(self) -> list[Predicate]:
-        """The conditions that are joined and turned round, from left to right."""
-        return [self]
+        """Lists the conditions that are joined and turned round, from left to right."""
+        return [item for item in self.prefix() if isinstance(item, Predicate)]
 
     def names(self) -> list[str]:
-        """The columns that are named, from left to right; a column that is named twice stands twice."""
+        """Lists the columns that are named, from left to right; a column that is named twice stands twice."""
         return [name for leaf in self.leaves() for name in leaf.names()]
 
-    def _text(self, columns: Columns) -> str:
+    def _text(self, columns: Columns, spelled: Callable[[str], str]) -> str:
         raise NotImplementedError
 
     def _sql(self, columns: Columns, dialect: Dialect) -> str:
         raise NotImplementedError
 
+    def _key(self) -> tuple[Any, ...]:
+        """Returns what a leaf is told from other leaves by."""
+        raise NotImplementedError
+
+    def _keys(self) -> list[Any]:
+        return [item if isinstance(item, str) else item._key() for item in self.prefix()]
+
+    def __eq__(self, other: object) -> bool:
+        """Tells whether both are the same tree; whether they mean the same isn't asked."""
+        if not isinstance(other, Predicate):
+            return NotImplemented
+        return self._keys() == other._keys()
+
+    def __hash__(self) -> int:
+        return hash(tuple(self._keys()))
+
+    def __repr__(self) -> str:
+        def leaf(it: Predicate) -> str:
+            return it._shown()
+
+        return _infix(self, leaf, {"and": " & ", "or": " | ", "not": "(~"})
+
+    def _shown(self) -> str:
+        raise NotImplementedError
+
+    def __copy__(self) -> Predicate:
+        return self
+
+    def __deepcopy__(self, memo: object) -> Predicate:
+        return self
+
     def __and__(self, other: Predicate) -> Predicate:
-        return Joined("and", self, other)
+        return Joined("and", self, _operand("&", other))
 
     def __or__(self, other: Predicate) -> Predicate:
-        return Joined("or", self, other)
+        return Joined("or", self, _operand("|", other))
+
+    def __rand__(self, other: object) -> NoReturn:
+        _operand("&", other)
+        raise AssertionError
+
+    def __ror__(self, other: object) -> NoReturn:
+        _operand("|", other)
+        raise AssertionError
 
     def __invert__(self) -> Predicate:
         return Not(self)
 
     def __bool__(self) -> bool:
-        raise TypeError("a predicate is no truth by itself: join predicates by &, | and ~")
+        raise TypeError(
+            "a predicate is no truth by itself: write p & q for p and q, p | q for p or q, ~p for not p, and col(..).between(low, high) for "
+            "low <= col(..) <= high"
+        )
 
 
-@dataclass(frozen=True)
+def _operand(sign: str, other: object) -> Predicate:
+    if isinstance(other, Predicate):
+        return other
+    if isinstance(other, ColumnOf):
+        raise TypeError(f"{other!r} is a column and no predicate: write ({other!r} == True), and put comparisons beside {sign} in parentheses")
+    what = f"leave out {other}, or write the predicate alone" if isinstance(plain(other), bool) else "put comparisons beside it in parentheses"
+    raise TypeError(f"{sign} joins two predicates, and {shown(other)} is none: {what}")
+
+
+def of_prefix(items: Sequence[str | Predicate]) -> Predicate:
+    """Returns the predicate whose ``prefix`` these items are."""
+    found: list[Predicate] = []
+    for item in reversed(items):
+        if isinstance(item, Predicate):
+            found.append(item)
+        elif item == "not":
+            found.append(Not(found.pop()))
+        else:
+            found.append(Joined(item, found.pop(), found.pop()))
+    return found[0]
+
+
+def _infix(predicate: Predicate, leaf: Callable[[Any], str], words: Mapping[str, str]) -> str:
+    """Returns the tree with its words between their operands. An operand with its own operator's word needs no parentheses."""
+    pieces: list[str] = []
+    pending: list[str | tuple[Predicate, str]] = [(predicate, "")]
+    while pending:
+        item = pending.pop()
+        if isinstance(item, str):
+            pieces.append(item)
+            continue
+        node, outer = item
+        if isinstance(node, Joined):
+            inner: list[str | tuple[Predicate, str]] = [(node.left, node.word), words[node.word], (node.right, node.word)]
+            pending += reversed(inner if node.word == outer else ["(", *inner, ")"])
+        elif isinstance(node, Not):
+            pending += [")", (node.of, "not"), words["not"]]
+        else:
+            pieces.append(leaf(node))
+    return "".join(pieces)
+
+
+@dataclass(frozen=True, eq=False, repr=False)
 class Joined(Predicate):
     """Two predicates joined by AND or OR."""
 
@@ -105,45 +255,21 @@ class Joined(Predicate):
     left: Predicate
     right: Predicate
 
-    def _text(self, columns: Columns) -> str:
-        return f"{self.word} {self.left._text(columns)} {self.right._text(columns)}"
-
-    def _sql(self, columns: Columns, dialect: Dialect) -> str:
-        return f"({self.left._sql(columns, dialect)} {self.word.upper()} {self.right._sql(columns, dialect)})"
-
-    def leaves(self) -> list[Predicate]:
-        return self.left.leaves() + self.right.leaves()
-
-    def without_not(self) -> Predicate:
-        return Joined(self.word, self.left.without_not(), self.right.without_not())
-
-    def _turned(self) -> Predicate:
-        return Joined("or" if self.word == "and" else "and", self.left._turned(), self.right._turned())
+    def __reduce__(self) -> tuple[Any, ...]:
+        return of_prefix, (self.prefix(),)
 
 
-@dataclass(frozen=True)
+@dataclass(frozen=True, eq=False, repr=False)
 class Not(Predicate):
     """A predicate turned round; null stays null."""
 
     of: Predicate
 
-    def _text(self, columns: Columns) -> str:
-        return f"not {self.of._text(columns)}"
-
-    def _sql(self, columns: Columns, dialect: Dialect) -> str:
-        return f"(NOT {self.of._sql(columns, dialect)})"
-
-    def leaves(self) -> list[Predicate]:
-        return self.of.leaves()
-
-    def without_not(self) -> Predicate:
-        return self.of._turned()
-
-    def _turned(self) -> Predicate:
-        return self.of.without_not()
+    def __reduce__(self) -> tuple[Any, ...]:
+        return of_prefix, (self.prefix(),)
 
 
-@dataclass(frozen=True)
+@dataclass(frozen=True, eq=False, repr=False)
 class Compared(Predicate):
     """A column compared with a value or with another column."""
 
@@ -151,21 +277,21 @@ class Compared(Predicate):
     name: str
     other: Value | ColumnOf
 
-    def _text(self, columns: Columns) -> str:
+    def _text(self, columns: Columns, spelled: Callable[[str], str]) -> str:
         column = _column(columns, self.name)
         if isinstance(self.other, ColumnOf):
             other = _column(columns, self.other.name)
             if other.dtype != column.dtype:
                 raise PredicateError(f"column {column.name} is {column.word}, and column {other.name} is {other.word}")
-            return f"{self.operator} col {self.name} col {other.name}"
-        return f"{self.operator} col {self.name} {literal(column, self.other)}"
+            return f"{self.operator} col {spelled(self.name)} col {spelled(other.name)}"
+        return f"{self.operator} col {spelled(self.name)} {literal(column, self.other)}"
 
     def _sql(self, columns: Columns, dialect: Dialect) -> str:
         column = _column(columns, self.name)
         if isinstance(self.other, ColumnOf):
             right = dialect.name(_column(columns, self.other.name))
         else:
-            right = dialect.literal(column, self.other)
+            right = dialect.literal(column, plain(self.other))
         return f"({dialect.name(column)} {_OPERATORS[self.operator]} {right})"
 
     def names(self) -> list[str]:
@@ -174,8 +300,15 @@ class Compared(Predicate):
     def _turned(self) -> Predicate:
         return Compared(_TURNED[self.operator], self.name, self.other)
 
+    def _key(self) -> tuple[Any, ...]:
+        other = ("column", self.other.name) if isinstance(self.other, ColumnOf) else _told(self.other)
+        return "compared", self.operator, self.name, other
 
-@dataclass(frozen=True)
+    def _shown(self) -> str:
+        return f"({ColumnOf(self.name)!r} {_PYTHON[self.operator]} {shown(self.other)})"
+
+
+@dataclass(frozen=True, eq=False, repr=False)
 class Between(Predicate):
     """A column lies between two values, each included unless its end is strict."""
 
@@ -185,16 +318,17 @@ class Between(Predicate):
     low_strict: bool
     high_strict: bool
 
-    def _text(self, columns: Columns) -> str:
+    def _text(self, columns: Columns, spelled: Callable[[str], str]) -> str:
         column = _column(columns, self.name)
         ends = f"{'<' if self.low_strict else '<='} {'<' if self.high_strict else '<='}"
-        return f"between {ends} col {self.name} {literal(column, self.low)} {literal(column, self.high)}"
+        return f"between {ends} col {spelled(self.name)} {literal(column, self.low)} {literal(column, self.high)}"
 
     def _sql(self, columns: Columns, dialect: Dialect) -> str:
-        return self.ends()._sql(columns, dialect)
+        low, high = self.ends().leaves()
+        return f"({low._sql(columns, dialect)} AND {high._sql(columns, dialect)})"
 
     def ends(self) -> Predicate:
-        """The two comparisons that it stands for."""
+        """Returns the two comparisons that it stands for."""
         low = Compared("gt" if self.low_strict else "ge", self.name, self.low)
         return low & Compared("lt" if self.high_strict else "le", self.name, self.high)
 
@@ -202,18 +336,25 @@ class Between(Predicate):
         return [self.name]
 
     def _turned(self) -> Predicate:
-        return self.ends()._turned()
+        return (~self.ends()).without_not()
+
+    def _key(self) -> tuple[Any, ...]:
+        return "between", self.name, _told(self.low), _told(self.high), self.low_strict, self.high_strict
+
+    def _shown(self) -> str:
+        strict = ", low_strict=True" * self.low_strict + ", high_strict=True" * self.high_strict
+        return f"{ColumnOf(self.name)!r}.between({shown(self.low)}, {shown(self.high)}{strict})"
 
 
-@dataclass(frozen=True)
+@dataclass(frozen=True, eq=False, repr=False)
 class NullTest(Predicate):
     """A column is null, or isn't."""
 
     name: str
     wanted: bool
 
-    def _text(self, columns: Columns) -> str:
-        return f"{'isnull' if self.wanted else 'notnull'} col {_column(columns, self.name).name}"
+    def _text(self, columns: Columns, spelled: Callable[[str], str]) -> str:
+        return f"{'isnull' if self.wanted else 'notnull'} col {spelled(_column(columns, self.name).name)}"
 
     def _sql(self, columns: Columns, dialect: Dialect) -> str:
         return f"({dialect.name(_column(columns, self.name))} IS {'' if self.wanted else 'NOT '}NULL)"
@@ -224,8 +365,14 @@ class NullTest(Predicate):
     def _turned(self) -> Predicate:
         return NullTest(self.name, not self.wanted)
 
+    def _key(self) -> tuple[Any, ...]:
+        return "null", self.name, self.wanted
 
-@dataclass(frozen=True)
+    def _shown(self) -> str:
+        return f"{ColumnOf(self.name)!r}.is_{'' if self.wanted else 'not_'}null()"
+
+
+@dataclass(frozen=True, eq=False, repr=False)
 class Like(Predicate):
     """A text matches a pattern."""
 
@@ -238,11 +385,13 @@ class Like(Predicate):
         column = _column(columns, self.name)
         if column.dtype != DType.UTF8:
             raise PredicateError(f"column {column.name}: {column.word} is no text")
+        if not isinstance(self.pattern, str):
+            raise PredicateError(f"column {column.name}: {shown(self.pattern)} is no pattern; expected a str")
         return column
 
-    def _text(self, columns: Columns) -> str:
+    def _text(self, columns: Columns, spelled: Callable[[str], str]) -> str:
         word = ("not" if self.negated else "") + ("ilike" if self.ignore_case else "like")
-        return f"{word} col {self.name} {literal(self._column(columns), self.pattern)}"
+        return f"{word} col {spelled(self.name)} {literal(self._column(columns), self.pattern)}"
 
     def _sql(self, columns: Columns, dialect: Dialect) -> str:
         return dialect.like(self._column(columns), self.pattern, self.negated, self.ignore_case)
@@ -253,68 +402,111 @@ class Like(Predicate):
     def _turned(self) -> Predicate:
         return Like(self.name, self.pattern, not self.negated, self.ignore_case)
 
+    def _key(self) -> tuple[Any, ...]:
+        return "like", self.name, _told(self.pattern), self.negated, self.ignore_case
 
-@dataclass(frozen=True, eq=False)
+    def _shown(self) -> str:
+        flags = ", negated=True" * self.negated + ", ignore_case=True" * self.ignore_case
+        return f"{ColumnOf(self.name)!r}.like({shown(self.pattern)}{flags})"
+
+
+def _told(value: object) -> tuple[Any, ...]:
+    """Returns what a literal is told from others by: a number is no truth, and what is no literal is itself alone."""
+    return (type(value), value) if value is None or type(value) in (bool, int, str, bytes) else ("other", id(value))
+
+
+@dataclass(frozen=True, eq=False, repr=False)
 class ColumnOf:
     """A column in a predicate, by its name."""
 
     name: str
 
+    __array_ufunc__ = None
+
     def __eq__(self, other: Value | ColumnOf) -> Predicate:  # type: ignore[override]
-        return Compared("eq", self.name, other)
+        return Compared("eq", self.name, _literal(other))
 
     def __ne__(self, other: Value | ColumnOf) -> Predicate:  # type: ignore[override]
-        return Compared("ne", self.name, other)
+        return Compared("ne", self.name, _literal(other))
 
     def __gt__(self, other: Value | ColumnOf) -> Predicate:
-        return Compared("gt", self.name, other)
+        return Compared("gt", self.name, _literal(other))
 
     def __ge__(self, other: Value | ColumnOf) -> Predicate:
-        return Compared("ge", self.name, other)
+        return Compared("ge", self.name, _literal(other))
 
     def __lt__(self, other: Value | ColumnOf) -> Predicate:
-        return Compared("lt", self.name, other)
+        return Compared("lt", self.name, _literal(other))
 
     def __le__(self, other: Value | ColumnOf) -> Predicate:
-        return Compared("le", self.name, other)
+        return Compared("le", self.name, _literal(other))
 
     __hash__ = None  # type: ignore[assignment]
 
-    def between(self, low: Value, high: Value, *, low_strict: bool = False, high_strict: bool = False) -> Predicate:
-        """The column lies from ``low`` to ``high``, both included unless an end is strict."""
-        return Between(self.name, low, high, low_strict, high_strict)
+    def __repr__(self) -> str:
+        return f"col({self.name!r})"
 
-    def is_in(self, values: Sequence[Value]) -> Predicate:
-        """The column is one of the values, of which there has to be one."""
-        if not values:
+    def __bool__(self) -> bool:
+        raise TypeError(f"{self!r} is a column and no truth: write ({self!r} == True) & .. in a predicate")
+
+    def _is_no_predicate(self, *_: object) -> NoReturn:
+        raise TypeError(f"{self!r} is a column and no predicate: write ({self!r} == True), and put comparisons beside & and | in parentheses")
+
+    __and__ = __or__ = __rand__ = __ror__ = __invert__ = _is_no_predicate
+
+    def between(self, low: Value, high: Value, *, low_strict: bool = False, high_strict: bool = False) -> Predicate:
+        """Returns the test that the column lies from ``low`` to ``high``, both included unless an end is strict."""
+        return Between(self.name, _literal(low), _literal(high), low_strict, high_strict)
+
+    def is_in(self, values: Iterable[Value]) -> Predicate:
+        """Returns the test that the column is one of the values. PredicateError where there is none, or they are one text or bytes."""
+        if isinstance(values, (str, bytes, bytearray)):
+            raise PredicateError(f"column {self.name}: is_in takes a list of values, and {shown(values)} is one value")
+        try:
+            found: list[Predicate] = [self == value for value in values]
+        except (TypeError, NotImplementedError) as fault:
+            raise PredicateError(f"column {self.name}: is_in takes a list of values, and {shown(values)} is none") from fault
+        if not found:
             raise PredicateError(f"column {self.name}: is_in needs a value")
-        found: list[Predicate] = [self == value for value in values]
         while len(found) > 1:
             # Joined pair by pair, so that a long list doesn't nest deep.
             found = [joined_by_or(found[place : place + 2]) for place in range(0, len(found), 2)]
         return found[0]
 
     def is_null(self) -> Predicate:
-        """The column is null."""
+        """Returns the test that the column is null."""
         return NullTest(self.name, True)
 
     def is_not_null(self) -> Predicate:
-        """The column isn't null."""
+        """Returns the test that the column isn't null."""
         return NullTest(self.name, False)
 
     def like(self, pattern: str, *, negated: bool = False, ignore_case: bool = False) -> Predicate:
-        """The text matches a pattern: ``%`` is any run of characters, ``_`` any one, ``\\`` makes the next one plain."""
-        return Like(self.name, pattern, negated, ignore_case)
+        """Returns the test of a text by a pattern: ``%`` is any run of characters, ``_`` any one, ``\\`` makes the next one plain."""
+        return Like(self.name, plain(pattern), negated, ignore_case)
 
 
 def joined_by_or(pair: Sequence[Predicate]) -> Predicate:
-    """The one predicate, or the OR of two."""
+    """Returns the one predicate, or the OR of two."""
     return pair[0] if len(pair) == 1 else pair[0] | pair[1]
 
 
 def col(name: str) -> ColumnOf:
-    """The column of a name."""
-    return ColumnOf(name)
+    """Returns the column of a name. PredicateError where the name is no str."""
+    if not isinstance(name, str):
+        raise PredicateError(f"{shown(name)} is no name of a column; expected a str")
+    return ColumnOf(plain(name))
+
+
+def is_name(name: object) -> bool:
+    """Tells whether the language of predicates takes the name of a column."""
+    return isinstance(name, str) and _NAME.fullmatch(name) is not None
+
+
+def _own_name(name: str) -> str:
+    if not is_name(name):
+        raise PredicateError(f"column {name}: a name in a text is an ASCII letter or _, then letters, digits or _, 64 at most")
+    return name
 
 
 def _column(columns: Columns, name: str) -> Column:
@@ -323,8 +515,13 @@ def _column(columns: Columns, name: str) -> Column:
     return columns[name]
 
 
+def _literal(value: Any) -> Any:
+    """Returns a literal as Python's own value; nulls of pandas and numpy are None."""
+    return None if is_missing(value) else plain(value)
+
+
 def literal(column: Column, value: Value) -> str:
-    """A value as a literal of a column's type. PredicateError where it is none of the type's values."""
+    """Returns a value as a literal of a column's type. PredicateError where it is none of the type's values."""
     if value is None:
         word = column.word if column.dtype == DType.NULL or column.nullable else column.word + "?"
         return f"lit {word} null"
@@ -332,27 +529,21 @@ def literal(column: Column, value: Value) -> str:
 
 
 def sql_literal(column: Column, value: Value) -> str:
-    """A value as a literal of SQL. PredicateError where it is none of the column's values."""
+    """Returns a value as a literal of SQL. PredicateError where it is none of the column's values."""
     if value is None:
         return "NULL"
     spelled = _spelled(column, value)
-    if isinstance(value, str):
-        return "'" + value.replace("'", "''") + "'"
+    if column.dtype == DType.UTF8:
+        return "'" + str(plain(value)).replace("'", "''") + "'"
     return f"'\\{spelled}'" if column.dtype == DType.BINARY else spelled
 
 
 def _spelled(column: Column, value: Value) -> str:
-    kind, numbers = column.dtype, column.dtype.range
-    if numbers is not None and isinstance(value, int) and not isinstance(value, bool):
-        if numbers[0] <= value <= numbers[1]:
-            return str(value)
-        raise PredicateError(f"column {column.name}: {value} is not in {kind.word}, which is {numbers[0]} to {numbers[1]}")
-    if kind == DType.BOOL and isinstance(value, bool):
-        return "true" if value else "false"
-    if kind == DType.UTF8 and isinstance(value, str):
-        if "\n" in value:
-            raise PredicateError(f"column {column.name}: a text in a predicate has no line feed")
-        return '"' + value.replace("\\", "\\\\").replace('"', '\\"') + '"'
-    if kind == DType.BINARY and isinstance(value, (bytes, bytearray)):
-        return "x" + bytes(value).hex()
-    raise PredicateError(f"column {column.name}: {value!r} is no {kind.word}")
+    kind, given = column.dtype, plain(value)
+    if value_of(kind, given) is None:
+        raise PredicateError(f"column {column.name}: {shown(value)} is no {kind.word}; expected {expected(kind)}")
+    if kind == DType.BOOL:
+        return "true" if given else "false"
+    if kind == DType.UTF8:
+        return '"' + str(given).replace("\\", "\\\\").replace('"', '\\"') + '"'
+    return f"x{given.hex()}" if kind == DType.BINARY else str(given)

@@ -3,11 +3,13 @@ import io
 import os
 import random
 import re
+import threading
 import unittest
 from array import array
 from collections.abc import Callable
 
-from foalmorrow import PRUNING, Answer, Answers, Column, DType, FooterError, Footers, Precision, Predicate, PredicateError, Refused, Stat, Statistic, Values, col
+from foalmorrow import PRUNING, Answer, Answers, Column, DType, FooterError, Footers, Precision, Predicate, PredicateError, Refused, Stat
+from foalmorrow import Statistic, ValueFault, Values, col
 
 try:
     import numpy
@@ -129,8 +131,8 @@ class RandomTables(unittest.TestCase):
         rng = random.Random(SEED)
         for table in range(500):
             zones = [some_rows(rng) for _ in range(rng.randrange(1, 9))]
-            wanted = (*PRUNING, Stat.UNCOMPRESSED_SIZE_IN_BYTES)
-            footers = Footers.measure(COLUMNS, [chunk_of(COLUMNS, rows) for rows in zones], wanted)
+            footers = Footers.measure(COLUMNS, [chunk_of(COLUMNS, rows) for rows in zones], list(Stat))
+            footers = weakened(rng, footers) if table % 3 == 0 else footers
             one_by_one = footers.slice(0, 1)
             for zone in range(1, len(footers)):
                 one_by_one = one_by_one.merge(footers.slice(zone, zone + 1))
@@ -216,6 +218,102 @@ class EachType(unittest.TestCase):
         self.assertEqual(list(footers.prune(col("c").is_null())), [Answer.WHOLE])
 
 
+class Named(unittest.TestCase):
+    """Columns of any name are pruned by, and only those that the predicate names are handed over."""
+
+    def footers(self, *names: str) -> Footers:
+        given = {(name, stat): ([place, place + 5], 1) for place, name in enumerate(names) for stat in (Stat.MIN, Stat.MAX)}
+        return Footers.of_values([Column(name, DType.I64) for name in names], [1, 1], given)
+
+    def test_names_that_the_language_lacks(self) -> None:
+        names = ["a b", "a.b", "é", "a" * 65, "", "1", "col", "c1", "c0", 'q"', "a\nb", "\x00", "\U0010ffff"]
+        footers = self.footers(*names)
+        for place, name in enumerate(names):
+            self.assertEqual(list(footers.prune(col(name) == place)), [Answer.WHOLE, Answer.SKIP], name)
+            self.assertEqual(footers.explain(col(name) > place)[0].leaves[0].answer, Answer.SKIP)
+        every = col(names[0]) == 0
+        for place, name in enumerate(names):
+            every = every & (col(name) == place)
+        self.assertEqual(list(footers.prune(every)), [Answer.WHOLE, Answer.SKIP])
+        self.assertEqual(list(footers.prune(col("c0") < col("c1"))), [Answer.SKIP, Answer.SKIP])
+
+    def test_text_knows_the_names_of_the_language(self) -> None:
+        footers = self.footers("a b", "a", "é")
+        self.assertEqual(list(footers.prune("gt col a lit i64 3")), [Answer.SKIP, Answer.WHOLE])
+        with self.assertRaises(PredicateError):
+            footers.prune("gt col é lit i64 3")
+
+    def test_other_columns_are_not_read(self) -> None:
+        torn = Statistic(memoryview(b"\7\7"), Values(DType.UTF8, memoryview(b"\xff"), memoryview(bytes(16)), 2))
+        footers = self.footers("a")
+        both = Footers([*footers.columns, Column("s", DType.UTF8)], [1, 1], {**footers.statistics, ("s", Stat.MIN): torn})
+        self.assertEqual(list(both.prune(col("a") > 3)), [Answer.SKIP, Answer.WHOLE])
+        with self.assertRaisesRegex(Refused, "column s, zone 0, min"):
+            both.prune(col("s") > "")
+        with self.assertRaisesRegex(Refused, "column s, zone 0, min"):
+            both.prune((col("a") > 3) & (col("s") > ""))
+
+    def test_what_is_no_predicate_refused(self) -> None:
+        for wanted in (col("a"), True, None, 5, b"isnull col a"):
+            with self.assertRaisesRegex(TypeError, "is no predicate"):
+                self.footers("a").prune(wanted)  # type: ignore[arg-type]
+
+    def test_literal_with_a_line_feed(self) -> None:
+        column = Column("s", DType.UTF8)
+        footers = Footers.measure([column], [{"s": ["a\nb"]}, {"s": ["a\nc"]}])
+        self.assertEqual(list(footers.prune(col("s") == "a\nb")), [Answer.WHOLE, Answer.SKIP])
+
+
+class Deep(unittest.TestCase):
+    """Chains of any length are answered; what nests deeper than the limit is refused in words."""
+
+    def setUp(self) -> None:
+        self.footers = Footers.measure([Column("a", DType.I64)], [{"a": [1, 5]}, {"a": [200_000]}])
+
+    def test_chain_of_ten_thousand(self) -> None:
+        left = right = col("a") >= 0
+        for place in range(10_000):
+            left, right = left & (col("a") > -place), (col("a") > -place) & right
+        for made in (left, right):
+            self.assertEqual(list(self.footers.prune(made)), [Answer.WHOLE, Answer.WHOLE])
+
+    def test_list_of_a_hundred_thousand(self) -> None:
+        self.assertEqual(list(self.footers.prune(col("a").is_in(range(10, 100_010)))), [Answer.SKIP, Answer.SKIP])
+        self.assertEqual(list(self.footers.prune(col("a").is_in(range(100_000)))), [Answer.READ, Answer.SKIP])
+
+    def test_chain_of_two_hundred_thousand(self) -> None:
+        made = col("a") == 0
+        for place in range(-200_000, 0):
+            made = made | (col("a") == place)
+        self.assertEqual(list(self.footers.prune(made)), [Answer.SKIP, Answer.SKIP])
+
+    def test_deeper_than_the_limit_refused(self) -> None:
+        for count in (129, 5_000, 100_000):
+            made = col("a") > 0
+            for _ in range(count):
+                made = ~made
+            with self.assertRaisesRegex(PredicateError, "nests deeper than 128 levels"):
+                self.footers.prune(made)
+            self.assertEqual(len(self.footers.prune(made.without_not())), 2)
+        mixed = col("a") > 0
+        for place in range(5000):
+            mixed = (mixed & (col("a") > place)) | (col("a") < -place)
+        with self.assertRaisesRegex(PredicateError, "nests deeper than 128 levels"):
+            self.footers.prune(mixed)
+
+    def test_within_the_limit_answered_on_a_small_stack(self) -> None:
+        made = col("a") > 0
+        for _ in range(120):
+            made = ~made
+        told: list[object] = []
+        old = threading.stack_size(256 * 1024)
+        thread = threading.Thread(target=lambda: told.append(list(self.footers.prune(made, normalize=True))))
+        thread.start()
+        thread.join()
+        threading.stack_size(old)
+        self.assertEqual(told, [[Answer.WHOLE, Answer.WHOLE]])
+
+
 class ManyZones(unittest.TestCase):
     def footers(self, count: int) -> Footers:
         numbers = array("q", range(count))
@@ -227,12 +325,15 @@ class ManyZones(unittest.TestCase):
         self.assertEqual(len(answers.skipped), 988)
         self.assertEqual(answers.runs(), [(0, 10), (998, 1000)])
         self.assertEqual(answers[-1], answers[999])
-        self.assertEqual(list(answers[9:11]), [Answer.READ, Answer.SKIP])
+        self.assertEqual(list(answers[9:11]), [Answer.WHOLE, Answer.SKIP])
         self.assertEqual(list(Answers(b"\0\1\2\2").whole), [2, 3])
         self.assertIn("988 skipped", repr(answers))
         self.assertEqual(Answers(b"\0\0\1\2\2") | Answers(b"\0\1\0\0\2"), Answers(b"\0\1\1\2\2"))
+        self.assertEqual((list(answers), answers.index(Answer.SKIP)), ([answers[place] for place in range(1000)], 10))
         with self.assertRaises(ValueError):
             Answers(b"\0") | Answers(b"")
+        with self.assertRaises(ValueError):
+            Answers(b"\0\3")
 
     @unittest.skipIf(numpy is None, "numpy isn't installed")
     def test_numpy(self) -> None:
@@ -241,7 +342,7 @@ class ManyZones(unittest.TestCase):
         # The arrays are the caller's own, and so are the answers' codes.
         self.assertTrue(numpy.shares_memory(numpy.frombuffer(footers.statistics["a", Stat.MIN].values.data, "<i8"), low))
         answers = footers.prune(col("a") > 3)
-        self.assertEqual(numpy.asarray(answers).tolist(), [1, 1, 1, 0, 0])
+        self.assertEqual(numpy.asarray(answers).tolist(), [1, 1, 1, 0, 2])
         self.assertTrue(numpy.shares_memory(numpy.asarray(answers), numpy.frombuffer(answers.codes, "u1")))
         low[4] = 9
         self.assertEqual(footers.at(4)["a", Stat.MIN], (1, 9))
@@ -280,8 +381,6 @@ class Refusals(unittest.TestCase):
             wrong.merge(right)
         with self.assertRaisesRegex(Refused, "column c, zone 2, max, of the right footers: a text isn't UTF-8"):
             right.merge(wrong)
-        with self.assertRaisesRegex(Refused, "column a b: a name is none"):
-            Footers([Column("a b", DType.I64)], [1]).prune("isnull col a")
         with self.assertRaisesRegex(Refused, "column c, row 1: a text isn't UTF-8"):
             Footers.measure([Column("c", DType.UTF8)], [{"c": Values.of_heap(DType.UTF8, b"a\xff", array("Q", [1, 2]))}])
 
@@ -295,10 +394,40 @@ class Refusals(unittest.TestCase):
             most.merge(one)
 
 
+class Mutations(unittest.TestCase):
+    """Each byte of the arrays changed in turn: every call answers, or refuses by an error of its own."""
+
+    COLUMNS = [Column("a", DType.I16, True), Column("s", DType.UTF8, True), Column("b", DType.BOOL)]
+    ROWS = [{"a": [1, None], "s": ["é", "b"], "b": [True, False]}, {"a": [7], "s": [None], "b": [True]}]
+    WANTED = (col("a") > 3) & (col("s") >= "b") | (col("b") == True)  # noqa: E712
+
+    def answered(self, footers: Footers) -> None:
+        for call in (
+            lambda: footers.prune(self.WANTED), lambda: footers.merge(footers), footers.merged, lambda: footers.check(0, self.ROWS[0]),
+            lambda: footers.overlap("s"), lambda: footers.at(0), lambda: Footers.from_bytes(footers.to_bytes()),
+        ):
+            try:
+                call()
+            except (Refused, FooterError, ValueFault):
+                pass
+
+    def test_changed_bytes_are_answered_or_refused(self) -> None:
+        footers = Footers.measure(self.COLUMNS, self.ROWS)
+        for key, it in footers.statistics.items():
+            arrays = [bytes(it.known), bytes(it.values.data), bytes(it.values.ends)]
+            for which, array_ in enumerate(arrays):
+                for at in range(len(array_)):
+                    for value in {0, 1, 2, 3, 127, 128, 195, 255, array_[at] ^ 1}:
+                        changed = [memoryview(data) for data in arrays]
+                        changed[which] = memoryview(array_[:at] + bytes([value]) + array_[at + 1 :])
+                        values = Values(it.values.dtype, changed[1], changed[2], 2)
+                        self.answered(Footers(footers.columns, footers.rows, {**footers.statistics, key: Statistic(changed[0], values)}))
+
+
 class Explained(unittest.TestCase):
     def footers(self, count: int = 3) -> Footers:
         given = {("a", Stat.MIN): (list(range(0, 10 * count, 10)), 1), ("a", Stat.MAX): (list(range(9, 10 * count, 10)), bytes([1] * (count - 1) + [0]))}
-        return Footers.of_values([Column("a", DType.I64), Column("s", DType.UTF8, True)], range(1, count + 1), given)
+        return Footers.of_values([Column("a", DType.I64, True), Column("s", DType.UTF8, True)], range(1, count + 1), given)
 
     def test_as_data(self) -> None:
         told = self.footers().explain((col("a") < 5) & col("s").is_null())

@@ -206,7 +206,8 @@ class Clusters(unittest.TestCase):
             found = cluster.select(self.client, table, kept, (col("n") > 12) & (col("b") == True) & (col("s") < "19"))  # noqa: E712
             self.assertEqual(list(found.frame().compute()["k"]), [17])
             self.assertEqual(found.files, [table.files[1]])
-            for values, cause in [(numpy.arange(3, dtype="i4"), "no i64"), (numpy.arange(3.0), "no i64"), (numpy.arange(9), "rows")]:
+            others = [(numpy.arange(3, dtype="i4"), "no i64"), (numpy.arange(3.0), "no i64"), (numpy.arange(9), "rows")]
+            for values, cause in [*others, (numpy.zeros((10, 2), "i8"), "2 dimensions")]:
                 numpy.save(f"{folder}/1/k.npy", values)
                 with self.assertRaisesRegex(cluster.TableError, cause):
                     cluster.measure(self.client, table)
@@ -236,6 +237,36 @@ class Clusters(unittest.TestCase):
         os.unlink(self.table.files[0])
         with self.assertRaisesRegex(cluster.TableError, "part-000.csv is gone"):
             cluster.select(self.client, self.table, kept, col("k") > 3)
+
+    def test_csv_read_exactly_or_refused_by_row(self) -> None:
+        columns = (Column("n", DType.I32, True), Column("s", DType.UTF8), Column("x", DType.BINARY))
+        path = f"{self.table_folder.name}/one.csv"
+
+        def read(text: str) -> object:
+            pathlib.Path(path).write_text(text, encoding="utf-8", newline="")
+            return cluster.read_csv(path, columns)
+
+        self.assertEqual(read('x,n,s\n00ff,-5,"a,\nb"\n,,\n'), {"n": [-5, None], "s": ["a,\nb", ""], "x": [b"\0\xff", b""]})
+        for text, cause in [
+            ("x,n,s\n,1\n", "row 0: 2 cells; expected 3"), ("x,n,s\n,1,a\n,1,a,b\n", "row 1: 4 cells"), ("x,n,s\n\n", "row 0: 0 cells"),
+            ("x,n,s\n,1_0,a\n", "column n: '1_0' is no i32"), ("x,n,s\n, 1,a\n", "' 1' is no i32"), ("x,n,s\n,+1,a\n", "is no i32"),
+            ("x,n,s\n,\u0661,a\n", "is no i32"), ("x,n,s\n0 0,1,a\n", "column x: '0 0' is no binary"), ("x,n,n,s\n,1,1,a\n", "2 columns n"),
+            ("", "no header line"), ('x,n,s\n"a"b,1,a\n', "is no CSV file"), ("x,n,s\n,2147483648,a\n", "expected a whole number from -2147483648"),
+        ]:
+            with self.assertRaisesRegex(cluster.TableError, cause):
+                read(text)
+        pathlib.Path(path).write_bytes(b"x,n,s\n,1,\xff\n")
+        with self.assertRaisesRegex(cluster.TableError, "isn't UTF-8"):
+            cluster.read_csv(path, columns)
+
+    def test_notes_that_are_none_refused(self) -> None:
+        path = f"{self.table_folder.name}/.footers"
+        notes = ["[" * 100_000, '{"files": "a", "stamps": [[1, 2]]}', '{"files": ["a"], "stamps": [[1, 2.5]]}', '{"files": ["a"], "stamps": [[1, true]]}']
+        notes += ['{"files": [1], "stamps": [[1, 2]]}', '{"files": ["a"], "stamps": [[1]]}', '{"files": {"a": 1}, "stamps": [[1, 2]]}', "5"]
+        for note in notes:
+            Footers(COLUMNS, [1]).save(path, note)
+            with self.assertRaisesRegex(FooterError, "no table of files"):
+                cluster.Kept.load(path)
 
     def test_files_that_are_no_footers(self) -> None:
         kept, _ = cluster.measure(self.client, self.table)
