@@ -69,16 +69,45 @@ static void every_field(void) {
     assert(ends[0] == 0 && ends[1] == 3 && ends[2] == 11 && ends[3] == 19);
     assert(memcmp(bytes, "bee", 3) == 0 && bytes[3] == 1 && bytes[11] == 77);
     column.kind = VORTEX_BINARY;
-    column.rows = 1;
+    column.rows = column.ends_len = column.nulls_len = 1;
     assert(measure(&column, stats, 2) == VORTEX_OK && len == 6 && memcmp(bytes, "beebee", 6) == 0);
-    column.rows = 0;
+    column.rows = column.ends_len = column.nulls_len = 0;
     assert(measure(&column, stats, 2) == VORTEX_OK && len == 0 && known[0] == VORTEX_ABSENT);
     vortex_values nothing = {.kind = VORTEX_NULL, .rows = 3};
     assert(measure(&nothing, stats + 2, 1) == VORTEX_OK && len == 8 && bytes[0] == 3);
+    /* No time is taken for each row where no array has it. */
+    nothing.rows = SIZE_MAX;
+    assert(measure(&nothing, stats + 2, 1) == VORTEX_OK && len == 8 && bytes[0] == 255 && bytes[7] == 255);
 }
 
 static void refused(uint8_t status, uint8_t wanted, size_t row, size_t entry) {
     assert(status == wanted && fault.row == row && fault.column == 0 && fault.entry == entry);
+}
+
+/* An array that has an element more than there are rows is refused, and so is one that has one less. */
+static void every_length(vortex_values good) {
+    static const uint64_t some_ends[3] = {1, 2, 3};
+    const uint8_t stats[1] = {VORTEX_NULL_COUNT};
+    good.ends = some_ends, good.nulls = (const uint8_t *)"\0\0", good.nulls_len = 2;
+    assert(measure(&good, stats, 1) == VORTEX_OK);
+    for (int step = -1; step <= 1; step += 2) {
+        vortex_values bad = good;
+        bad.values_len = (size_t)(4 + step);
+        refused(measure(&bad, stats, 1), VORTEX_BAD_LENGTH, 0, 0);
+        bad = good, bad.nulls_len = (size_t)(2 + step);
+        refused(measure(&bad, stats, 1), VORTEX_BAD_LENGTH, 0, 0);
+        bad = good, bad.rows = (size_t)(2 + step);
+        refused(measure(&bad, stats, 1), VORTEX_BAD_LENGTH, 0, 0);
+        bad = good, bad.kind = VORTEX_UTF8, bad.ends_len = (size_t)(2 + step);
+        refused(measure(&bad, stats, 1), VORTEX_BAD_LENGTH, 0, 0);
+    }
+    good.ends_len = 1;
+    refused(measure(&good, stats, 1), VORTEX_BAD_LENGTH, 0, 0);
+    /* The heap may go on behind its last end. */
+    good.kind = VORTEX_UTF8, good.ends_len = 2, good.values_len = 3;
+    assert(measure(&good, stats, 1) == VORTEX_OK);
+    vortex_values nulls = {.kind = VORTEX_NULL, .rows = 2, .values = good.values, .values_len = 1};
+    refused(measure(&nulls, stats, 1), VORTEX_BAD_LENGTH, 0, 0);
 }
 
 static void every_refusal(void) {
@@ -88,13 +117,9 @@ static void every_refusal(void) {
     refused(measure(&bad, every_stat, 8), VORTEX_BAD_KIND, 0, 0);
     bad.kind = VORTEX_I16, bad.nullable = 2;
     refused(measure(&bad, every_stat, 8), VORTEX_BAD_KIND, 0, 0);
-    bad.nullable = 0, bad.rows = 3;
-    refused(measure(&bad, every_stat, 8), VORTEX_BAD_LENGTH, 2, 0);
-    bad.rows = 2, bad.nulls = (const uint8_t *)"\0\1", bad.nulls_len = 2;
+    bad.nullable = 0, bad.nulls = (const uint8_t *)"\0\1", bad.nulls_len = 2;
     refused(measure(&bad, every_stat, 8), VORTEX_BAD_NULL, 1, 0);
-    bad.nullable = 1, bad.nulls_len = 1;
-    refused(measure(&bad, every_stat, 8), VORTEX_BAD_LENGTH, 1, 0);
-    bad = good, bad.kind = VORTEX_BOOL;
+    bad = good, bad.kind = VORTEX_BOOL, bad.values_len = 2;
     refused(measure(&bad, every_stat, 8), VORTEX_BAD_VALUE, 0, 0);
     bad.kind = VORTEX_UTF8;
     refused(measure(&bad, (const uint8_t[]){VORTEX_MIN, VORTEX_SUM}, 2), VORTEX_BAD_STAT, 0, 1);
@@ -105,6 +130,7 @@ static void every_refusal(void) {
     refused(measure(&bad, every_stat, 1), VORTEX_BAD_ENDS, 1, 0);
     bad.values = (const uint8_t *)"ab\xffz!", bad.values_len = 5;
     refused(measure(&bad, every_stat, 1), VORTEX_BAD_VALUE, 1, 0);
+    every_length(good);
     known[0] = 99, ends[0] = 99, bytes[0] = 99;
     assert(vortex_measure(&good, every_stat, 8, known, 8, ends, 8, bytes, 30, &len, &fault) == VORTEX_TOO_SHORT && len == 31);
     assert(known[0] == 99 && ends[0] == 99 && bytes[0] == 99);
@@ -114,33 +140,44 @@ static void every_refusal(void) {
 
 /* Every field of a statistic counts, and a call about a zone looks at that zone alone. */
 static void every_statistic(void) {
-    const uint64_t column_ends[2] = {3, 6}, least_ends[2] = {4, 5}, nulls_ends[1] = {0};
+    const uint64_t column_ends[2] = {3, 6}, least_ends[3] = {4, 5, 5};
     vortex_values column = {.kind = VORTEX_UTF8, .rows = 2, .values = (const uint8_t *)"abcabd", .values_len = 6,
                             .ends = column_ends, .ends_len = 2};
     const uint8_t known[2] = {VORTEX_EXACT, VORTEX_INEXACT};
-    const uint64_t null_counts[2] = {0, 5};
+    const uint64_t null_counts[3] = {0, 5, 5};
     vortex_statistic stats[2] = {
         {.stat = VORTEX_MIN, .start = 1, .known = known, .known_len = 2, .values = (const uint8_t *)"?abca", .values_len = 5,
          .ends = least_ends, .ends_len = 2},
-        {.stat = VORTEX_NULL_COUNT, .known = known, .known_len = 2, .values = (const uint8_t *)null_counts, .values_len = 16,
-         .ends = nulls_ends, .ends_len = 0},
+        {.stat = VORTEX_NULL_COUNT, .known = known, .known_len = 2, .values = (const uint8_t *)null_counts, .values_len = 16},
     };
-    assert(vortex_check(&column, stats, 2, 0, &fault) == VORTEX_OK);
-    assert(vortex_check(&column, stats, 2, 1, &fault) == VORTEX_OK);
+#define CHECK(rows, zone) vortex_check(&column, rows, stats, 2, zone, &fault)
+    assert(CHECK(2, 0) == VORTEX_OK);
+    assert(CHECK(2, 1) == VORTEX_OK);
+    refused(CHECK(1, 0), VORTEX_UNTRUE, 0, 2);
+    refused(CHECK(3, 1), VORTEX_UNTRUE, 0, 2);
+    refused(CHECK(UINT64_MAX, 1), VORTEX_UNTRUE, 0, 2);
     stats[0].stat = VORTEX_MAX;
-    refused(vortex_check(&column, stats, 2, 0, &fault), VORTEX_UNTRUE, 0, 0);
+    refused(CHECK(2, 0), VORTEX_UNTRUE, 0, 0);
     stats[0].stat = VORTEX_MIN, stats[0].start = 0;
-    refused(vortex_check(&column, stats, 2, 0, &fault), VORTEX_UNTRUE, 0, 0);
+    refused(CHECK(2, 0), VORTEX_UNTRUE, 0, 0);
     stats[0].start = 5;
-    refused(vortex_check(&column, stats, 2, 0, &fault), VORTEX_BAD_ENDS, 0, 0);
+    refused(CHECK(2, 0), VORTEX_BAD_ENDS, 0, 0);
     stats[0].start = 1, stats[1].known = (const uint8_t *)"\1\3";
-    refused(vortex_check(&column, stats, 2, 1, &fault), VORTEX_BAD_KNOWN, 1, 1);
-    stats[1].known = known, stats[1].values_len = 15;
-    refused(vortex_check(&column, stats, 2, 1, &fault), VORTEX_BAD_LENGTH, 1, 1);
-    refused(vortex_check(&column, stats, 2, 2, &fault), VORTEX_BAD_LENGTH, 2, 0);
+    refused(CHECK(2, 1), VORTEX_BAD_KNOWN, 1, 1);
+    stats[1].known = known;
+    for (int step = -1; step <= 1; step += 2) {
+        stats[1].values_len = (size_t)(16 + step);
+        refused(CHECK(2, 1), VORTEX_BAD_LENGTH, 1, 1);
+        stats[1].values_len = 16, stats[0].ends_len = (size_t)(2 + step);
+        refused(CHECK(2, 1), VORTEX_BAD_LENGTH, 1, 0);
+        stats[0].ends_len = 2;
+    }
+    refused(CHECK(2, 2), VORTEX_BAD_LENGTH, 2, 0);
     stats[1].stat = VORTEX_SUM;
-    refused(vortex_check(&column, stats, 2, 0, &fault), VORTEX_BAD_STAT, 0, 1);
-    assert(vortex_check(&column, NULL, 0, 7, &fault) == VORTEX_OK);
+    refused(CHECK(2, 0), VORTEX_BAD_STAT, 0, 1);
+    assert(vortex_check(&column, 2, NULL, 0, 7, &fault) == VORTEX_OK);
+    refused(vortex_check(&column, 0, NULL, 0, 7, &fault), VORTEX_UNTRUE, 0, 0);
+#undef CHECK
 }
 
 /* Two tables of texts and counts of two zones each, merged zone by zone; every field of a statistic counts. */
@@ -190,6 +227,33 @@ static void every_merge(void) {
 #undef MERGE
 }
 
+/* A table of three zones merged to one; each statistic is what merging the zones in turn leaves. */
+static void every_zone_merged(void) {
+    const uint64_t text_ends[3] = {4, 6, 7}, nulls[3] = {1, 5, 7};
+    vortex_statistic stats[2] = {
+        {.stat = VORTEX_MAX, .start = 1, .known = (const uint8_t *)"\1\2\1", .known_len = 3, .values = (const uint8_t *)"?beezza",
+         .values_len = 7, .ends = text_ends, .ends_len = 3},
+        {.stat = VORTEX_NULL_COUNT, .known = (const uint8_t *)"\1\1\1", .known_len = 3, .values = (const uint8_t *)nulls, .values_len = 24},
+    };
+#define MERGE(zones, room) vortex_merge_zones(VORTEX_UTF8, 1, zones, stats, 2, known, 2, ends, 2, bytes, room, &len, &fault)
+    assert(MERGE(3, sizeof bytes) == VORTEX_OK && len == 10);
+    assert(known[0] == VORTEX_INEXACT && known[1] == VORTEX_EXACT && ends[0] == 2 && ends[1] == 10);
+    assert(memcmp(bytes, "zz\15\0\0\0\0\0\0\0", 10) == 0);
+    known[0] = 99, ends[0] = 99, bytes[0] = 99;
+    assert(MERGE(3, 9) == VORTEX_TOO_SHORT && len == 10);
+    refused(MERGE(2, 10), VORTEX_BAD_LENGTH, 0, 0);
+    refused(MERGE(4, 10), VORTEX_BAD_LENGTH, 0, 0);
+    stats[1].known = (const uint8_t *)"\1\1\3";
+    refused(MERGE(3, 10), VORTEX_BAD_KNOWN, 2, 1);
+    stats[1].stat = VORTEX_SUM;
+    refused(MERGE(3, 10), VORTEX_BAD_STAT, 0, 1);
+    assert(known[0] == 99 && ends[0] == 99 && bytes[0] == 99);
+    vortex_statistic none[2] = {{.stat = VORTEX_MAX}, {.stat = VORTEX_NULL_COUNT}};
+    assert(vortex_merge_zones(VORTEX_UTF8, 1, 0, none, 2, known, 2, ends, 2, bytes, 8, &len, &fault) == VORTEX_OK && len == 8);
+    assert(known[0] == VORTEX_ABSENT && known[1] == VORTEX_ABSENT && ends[0] == 0 && ends[1] == 8);
+#undef MERGE
+}
+
 static uint8_t answers[4];
 
 static uint8_t prune(const vortex_field *scope, size_t columns, const uint64_t *rows, size_t zones, const vortex_statistic *stats,
@@ -203,8 +267,8 @@ static void every_pruning(void) {
     vortex_field scope[2] = {{.name = (const uint8_t *)"ab", .name_len = 1, .kind = VORTEX_I32, .nullable = 0},
                              {.name = (const uint8_t *)"b", .name_len = 1, .kind = VORTEX_UTF8, .nullable = 1}};
     const uint64_t rows[3] = {4, 4, 7};
-    const int32_t least[3] = {-5, 10, 20}, greatest[3] = {5, 15, 30};
-    const uint64_t nulls[3] = {0, 4, 4}, none[3] = {0, 0, 0}, text_ends[3] = {2, 3, 6};
+    const int32_t least[3] = {-5, 10, 20}, greatest[4] = {5, 15, 30, 30};
+    const uint64_t nulls[3] = {0, 4, 4}, none[3] = {0, 0, 0}, text_ends[4] = {2, 3, 6, 6};
     vortex_statistic stats[5] = {
         {.column = 0, .stat = VORTEX_MIN, .known = (const uint8_t *)"\1\1\2", .known_len = 3, .values = (const uint8_t *)least,
          .values_len = 12},
@@ -214,7 +278,7 @@ static void every_pruning(void) {
          .values = (const uint8_t *)nulls, .values_len = 24},
         {.column = 1, .stat = VORTEX_MAX, .start = 1, .known = (const uint8_t *)"\1\0\1", .known_len = 3,
          .values = (const uint8_t *)"?cxbee", .values_len = 6, .ends = text_ends, .ends_len = 3},
-        {.column = 0, .stat = VORTEX_NULL_COUNT, .known = (const uint8_t *)"\1\1\1", .known_len = 3,
+        {.column = 0, .stat = VORTEX_NULL_COUNT, .known = (const uint8_t *)"\1\1\1\1", .known_len = 3,
          .values = (const uint8_t *)none, .values_len = 24},
     };
 #define PRUNE(predicate, flags) prune(scope, 2, rows, 3, stats, 5, predicate, flags)
@@ -280,12 +344,17 @@ static void every_pruning(void) {
     refused(PRUNE("isnull col b", 0), VORTEX_BAD_STAT, 0, 3);
     stats[3].stat = VORTEX_MAX, stats[3].known = (const uint8_t *)"\1\0\3";
     assert(PRUNE("isnull col b", 0) == VORTEX_BAD_KNOWN && fault.row == 2 && fault.column == 1 && fault.entry == 3);
-    stats[3].known = (const uint8_t *)"\1\0\1", stats[1].values_len = 8;
-    assert(PRUNE("isnull col b", 0) == VORTEX_OK);
-    stats[1].values_len = 4;
-    memset(answers, 9, sizeof answers);
-    assert(PRUNE("isnull col b", 0) == VORTEX_BAD_LENGTH && fault.row == 1 && fault.column == 0 && fault.entry == 1);
-    stats[1].values_len = 12, stats[3].start = 3;
+    stats[3].known = (const uint8_t *)"\1\0\1";
+    for (int step = -1; step <= 1; step += 2) {
+        stats[1].values_len = (size_t)(12 + step);
+        assert(PRUNE("isnull col b", 0) == VORTEX_BAD_LENGTH && fault.row == 0 && fault.column == 0 && fault.entry == 1);
+        stats[1].values_len = 12, stats[3].ends_len = (size_t)(3 + step);
+        assert(PRUNE("isnull col b", 0) == VORTEX_BAD_LENGTH && fault.row == 0 && fault.column == 1 && fault.entry == 3);
+        stats[3].ends_len = 3, stats[4].known_len = (size_t)(3 + step);
+        assert(PRUNE("isnull col b", 0) == VORTEX_BAD_LENGTH && fault.row == 0 && fault.column == 0 && fault.entry == 4);
+        stats[4].known_len = 3;
+    }
+    stats[3].start = 3;
     assert(PRUNE("isnull col b", 0) == VORTEX_BAD_ENDS && fault.row == 0 && fault.column == 1 && fault.entry == 3);
     stats[3].start = 1, stats[3].values = (const uint8_t *)"?\xffxbee";
     assert(PRUNE("isnull col b", 0) == VORTEX_BAD_VALUE && fault.row == 0 && fault.column == 1 && fault.entry == 3);
@@ -307,11 +376,13 @@ static void program(void) {
 
 int main(void) {
     layout();
+    assert(vortex_version() == VORTEX_VERSION && VORTEX_VERSION == 0x000200);
     every_number();
     every_field();
     every_refusal();
     every_statistic();
     every_merge();
+    every_zone_merged();
     every_pruning();
     program();
     puts("round trip: each field, type and status is as the header says");
