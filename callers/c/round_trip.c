@@ -81,6 +81,9 @@ static void every_field(void) {
 }
 
 static void refused(uint8_t status, uint8_t wanted, size_t row, size_t entry) {
+    if (status != wanted || fault.row != row || fault.column != 0 || fault.entry != entry)
+        fprintf(stderr, "status %d instead of %d, row %zu, column %zu, entry %zu\n", status, wanted, fault.row, fault.column,
+                fault.entry);
     assert(status == wanted && fault.row == row && fault.column == 0 && fault.entry == entry);
 }
 
@@ -204,7 +207,8 @@ static void every_merge(void) {
     assert(memcmp(bytes, "beeaa\3\0\0\0\0\0\0\0", 13) == 0);
     assert(MERGE(0, 0) == VORTEX_OK && len == 0);
     known[0] = 99, ends[0] = 99, bytes[0] = 99;
-    refused(MERGE(3, 2), VORTEX_BAD_LENGTH, 2, 0);
+    refused(MERGE(3, 2), VORTEX_BAD_LENGTH, 0, 0);
+    refused(MERGE(1, 2), VORTEX_BAD_LENGTH, 0, 0);
     right[1].stat = VORTEX_SUM;
     refused(MERGE(2, 2), VORTEX_BAD_STAT, 0, 1);
     left[1].stat = VORTEX_SUM;
@@ -212,7 +216,9 @@ static void every_merge(void) {
     left[1].stat = right[1].stat = VORTEX_NULL_COUNT, right[1].known = (const uint8_t *)"\1\3";
     assert(MERGE(2, 2) == VORTEX_BAD_KNOWN && fault.row == 1 && fault.column == 1 && fault.entry == 1);
     right[1].known_len = 1;
-    assert(MERGE(2, 2) == VORTEX_BAD_LENGTH && fault.row == 1 && fault.column == 1 && fault.entry == 1);
+    assert(MERGE(2, 2) == VORTEX_BAD_LENGTH && fault.row == 0 && fault.column == 1 && fault.entry == 1);
+    right[1].known_len = 3;
+    assert(MERGE(2, 2) == VORTEX_BAD_LENGTH && fault.row == 0 && fault.column == 1 && fault.entry == 1);
     right[1].known_len = 2, right[1].known = (const uint8_t *)"\1\0", left[0].start = 5;
     refused(MERGE(2, 2), VORTEX_BAD_ENDS, 0, 0);
     left[0].start = 1, left[0].values = (const uint8_t *)"?\xff..ab";
@@ -347,11 +353,11 @@ static void every_pruning(void) {
     stats[3].known = (const uint8_t *)"\1\0\1";
     for (int step = -1; step <= 1; step += 2) {
         stats[1].values_len = (size_t)(12 + step);
-        assert(PRUNE("isnull col b", 0) == VORTEX_BAD_LENGTH && fault.row == 0 && fault.column == 0 && fault.entry == 1);
+        refused(PRUNE("isnull col b", 0), VORTEX_BAD_LENGTH, 0, 1);
         stats[1].values_len = 12, stats[3].ends_len = (size_t)(3 + step);
-        assert(PRUNE("isnull col b", 0) == VORTEX_BAD_LENGTH && fault.row == 0 && fault.column == 1 && fault.entry == 3);
+        refused(PRUNE("isnull col b", 0), VORTEX_BAD_LENGTH, 0, 3);
         stats[3].ends_len = 3, stats[4].known_len = (size_t)(3 + step);
-        assert(PRUNE("isnull col b", 0) == VORTEX_BAD_LENGTH && fault.row == 0 && fault.column == 0 && fault.entry == 4);
+        refused(PRUNE("isnull col b", 0), VORTEX_BAD_LENGTH, 0, 4);
         stats[4].known_len = 3;
     }
     stats[3].start = 3;

@@ -106,6 +106,18 @@ impl From<Vec<u8>> for Literal {
     }
 }
 
+impl<const N: usize> From<[u8; N]> for Literal {
+    fn from(bytes: [u8; N]) -> Self {
+        Literal::Binary(bytes.to_vec())
+    }
+}
+
+impl<T: Clone + Into<Literal>> From<&T> for Literal {
+    fn from(value: &T) -> Self {
+        value.clone().into()
+    }
+}
+
 impl<T: Into<Literal>> From<T> for Operand {
     fn from(value: T) -> Self {
         Operand::Literal(value.into())

@@ -75,11 +75,10 @@ impl<'a> Asked<'a> {
                 &mut fault,
             )
         };
-        if found != status::OK {
-            let stat = entries.get(fault.entry).map(|(_, entry)| entry.stat);
-            return Err(Error::of(found, self.place(&fault, stat)));
+        match found {
+            status::OK => codes.into_iter().map(answer).collect(),
+            refused => Err(Error::of(refused, self.place(entries.get(fault.entry), fault.row))),
         }
-        codes.into_iter().map(answer).collect()
     }
 
     // The columns by the names that are given to them. A predicate that names no column gets one that it doesn't name,
@@ -106,9 +105,11 @@ impl<'a> Asked<'a> {
         })
     }
 
-    fn place(&self, fault: &Fault, stat: Option<Stat>) -> Place {
-        let column = self.places.get(fault.column).map(|place| self.map.names()[*place].clone());
-        Place { column, stat, zone: Some(fault.row), ..Place::default() }
+    // The place of a statistic in a zone.
+    fn place(&self, entry: Option<&(usize, &Entry)>, zone: usize) -> Place {
+        let name = |slot: usize| self.places.get(slot).map(|place| self.map.names()[*place].clone());
+        let column = entry.and_then(|(slot, _)| name(*slot));
+        Place { column, stat: entry.map(|(_, entry)| entry.stat), zone: Some(zone), ..Place::default() }
     }
 }
 

@@ -149,7 +149,7 @@ impl ZoneMap {
         self.is_of_columns(values.len())?;
         let rows = self.rows.get(zone).copied();
         let rows =
-            rows.ok_or_else(|| Error::Misfit(format!("there are {} zones, and none is {zone}", self.zones())))?;
+            rows.ok_or_else(|| Error::Misfit(format!("there are {} zones, and none is zone {zone}", self.zones())))?;
         let mut columns = self.columns.iter().zip(&self.names).zip(values);
         columns.try_for_each(|((column, name), values)| {
             column.check(zone, rows, values).map_err(|error| error.of_column(name))

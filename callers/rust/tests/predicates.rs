@@ -65,6 +65,11 @@ fn is_in_takes_a_hundred_thousand_values() {
     let one_by_one = (1..100_000).fold(leaf(0), |all, place| all.or(leaf(place)));
     assert_eq!(predicate, one_by_one);
     assert_eq!(col("a").is_in([7_u8]), col("a").eq(7_u8));
+    let values = [3_i64, 5];
+    assert_eq!(col("a").is_in(values.iter()), col("a").is_in(values));
+    let (texts, words) = (["x".to_owned(), "y".to_owned()], ["x", "y"]);
+    assert_eq!(col("a").is_in(&texts), col("a").is_in(words));
+    assert_eq!(col("a").is_in(words.iter()), col("a").is_in(words));
 }
 
 #[test]
@@ -89,6 +94,8 @@ fn text_of_each_condition() {
         (col("a").eq(true), "eq col a lit bool true"),
         (col("a").eq([0_u8, 255].as_slice()), "eq col a lit binary x00ff"),
         (col("a").eq(vec![1_u8]), "eq col a lit binary x01"),
+        (col("a").eq(b"\x01a"), "eq col a lit binary x0161"),
+        (col("a").eq(Literal::from(1_u8)), "eq col a lit u8 1"),
         (col("a").eq(String::from("é")), "eq col a lit utf8 \"é\""),
         (col("a").eq(Literal::Null(Kind::I8)), "eq col a lit i8? null"),
         (col("a").eq(Literal::Null(Kind::Null)), "eq col a lit null null"),

@@ -14,7 +14,7 @@ fn map() -> ZoneMap {
         ("s", DType { kind: Kind::Utf8, nullable: true }),
     ];
     let mut map = ZoneMap::new(&scope, &[Stat::Min, Stat::Max, Stat::NullCount]).unwrap();
-    for zone in 0..3 {
+    for zone in 0..3_i64 {
         let (numbers, truths) = ([zone, zone + 1], [zone == 0, zone == 0]);
         let columns = [
             Column::numbers(&numbers).with_nulls(&[]),
