@@ -7,6 +7,17 @@
 //! [`ColumnStats`]. Python's package calls it [`Footers`], as the alias here does. A file of footers is the same in
 //! both languages.
 //!
+//! ```
+//! use foalmorrow::{col, Answer, Column, DType, Error, Kind, Stat, ZoneMap};
+//!
+//! let scope = [("temperature", DType { kind: Kind::I64, nullable: false })];
+//! let mut map = ZoneMap::new(&scope, &[Stat::Min, Stat::Max, Stat::NullCount])?;
+//! map.push(&[Column::numbers(&[12_i64, 15, 11])])?;
+//! map.push(&[Column::numbers(&[18_i64, 25, 22])])?;
+//! assert_eq!(map.prune(&col("temperature").gt(20_i64))?, [Answer::Skip, Answer::Read]);
+//! # Ok::<(), Error>(())
+//! ```
+//!
 //! # Stack
 //!
 //! Every call fits into 256 KiB of stack, whatever it is handed, but [`run`], which takes up to 4 MiB. So all others may
