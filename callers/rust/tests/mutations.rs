@@ -150,6 +150,8 @@ fn stays_where_refused(kind: Kind, arrays: &Arrays, found: &Measured) {
         assert_eq!(map.check(1, &[arrays.column(kind).unwrap()]), Ok(()));
     } else {
         assert_eq!(map, before);
+        let checked = map.check(0, &[arrays.column(kind).unwrap()]).map(|()| vec![]);
+        assert_eq!(name_of(&checked), name_of(found));
     }
 }
 
