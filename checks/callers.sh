@@ -22,21 +22,38 @@ exported="$(nm -D --defined-only "$out/libvortex_ffi.so" | awk '{ print $3 }' | 
 [ "${1:-}" = --build ] && exit 0
 
 # C: with warnings as errors, and once as C++ reads the header.
-for program in round_trip example; do
-    cc -std=c11 -O1 -Wall -Wextra -Wpedantic -Werror -o "$out/$program" "callers/c/$program.c" "$out/libvortex_ffi.a"
+compiled() { cc -std=c11 -O1 -Wall -Wextra -Wpedantic -Werror -pthread "${@:3}" -o "$out/$1" "callers/c/$2.c" "$out/libvortex_ffi.a"; }
+for program in round_trip mutations stack example; do
+    compiled "$program" "$program"
+    "$out/$program"
 done
 c++ -fsyntax-only -Wall -Wextra -Werror -x c++ callers/c/vortex.h
-"$out/round_trip"
-"$out/example"
+if compiled sanitized mutations -fsanitize=address,undefined -fno-sanitize-recover=all 2> /dev/null; then
+    "$out/sanitized"
+    echo "callers: no fault under the address sanitizer"
+fi
 if command -v valgrind > /dev/null; then
-    valgrind -q --error-exitcode=9 --leak-check=full "$out/round_trip" > /dev/null
-    valgrind -q --error-exitcode=9 --leak-check=full "$out/example" > /dev/null
+    for program in round_trip mutations example; do
+        valgrind -q --error-exitcode=9 --leak-check=full "$out/$program" > /dev/null
+    done
     echo "callers: no fault under valgrind"
 fi
 
-# Rust, without a network.
-(cd callers/rust && export CARGO_TARGET_DIR=../out/rust RUSTFLAGS=-Dwarnings
- cargo test --offline --quiet && cargo run --offline --quiet --example footers)
+# Rust, without a network; its form, its lints and its pages where the tools are there.
+(cd callers/rust && export CARGO_TARGET_DIR=../out/rust RUSTFLAGS=-Dwarnings RUSTDOCFLAGS=-Dwarnings
+ cargo test --offline --quiet && cargo run --offline --quiet --example footers -- ../out/six_days.footers
+ if cargo fmt --version > /dev/null 2>&1; then cargo fmt --check; fi
+ if cargo clippy --version > /dev/null 2>&1; then cargo clippy --offline --quiet --all-targets; fi
+ cargo doc --offline --quiet)
+
+# A file of footers that Rust has written is read by Python, and written by it alike.
+(cd callers/python && PYTHONDONTWRITEBYTECODE=1 python3 -c '
+import pathlib, sys
+from foalmorrow import Footers
+data = pathlib.Path(sys.argv[1]).read_bytes()
+footers, note = Footers.from_bytes(data)
+if (footers.to_bytes(note), note, len(footers)) != (data, "six days", 6):
+    sys.exit("callers: Python reads or writes the footers of Rust in another way")' ../out/six_days.footers)
 
 # Python: the tests with warnings as errors, and the example; once more with numpy, which Debian's own python3 may see alone.
 python_run() {

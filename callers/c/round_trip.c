@@ -69,16 +69,48 @@ static void every_field(void) {
     assert(ends[0] == 0 && ends[1] == 3 && ends[2] == 11 && ends[3] == 19);
     assert(memcmp(bytes, "bee", 3) == 0 && bytes[3] == 1 && bytes[11] == 77);
     column.kind = VORTEX_BINARY;
-    column.rows = 1;
+    column.rows = column.ends_len = column.nulls_len = 1;
     assert(measure(&column, stats, 2) == VORTEX_OK && len == 6 && memcmp(bytes, "beebee", 6) == 0);
-    column.rows = 0;
+    column.rows = column.ends_len = column.nulls_len = 0;
     assert(measure(&column, stats, 2) == VORTEX_OK && len == 0 && known[0] == VORTEX_ABSENT);
     vortex_values nothing = {.kind = VORTEX_NULL, .rows = 3};
     assert(measure(&nothing, stats + 2, 1) == VORTEX_OK && len == 8 && bytes[0] == 3);
+    /* No time is taken for each row where no array has it. */
+    nothing.rows = SIZE_MAX;
+    assert(measure(&nothing, stats + 2, 1) == VORTEX_OK && len == 8 && bytes[0] == 255 && bytes[7] == 255);
 }
 
 static void refused(uint8_t status, uint8_t wanted, size_t row, size_t entry) {
+    if (status != wanted || fault.row != row || fault.column != 0 || fault.entry != entry)
+        fprintf(stderr, "status %d instead of %d, row %zu, column %zu, entry %zu\n", status, wanted, fault.row, fault.column,
+                fault.entry);
     assert(status == wanted && fault.row == row && fault.column == 0 && fault.entry == entry);
+}
+
+/* An array that has an element more than there are rows is refused, and so is one that has one less. */
+static void every_length(vortex_values good) {
+    static const uint64_t some_ends[3] = {1, 2, 3};
+    const uint8_t stats[1] = {VORTEX_NULL_COUNT};
+    good.ends = some_ends, good.nulls = (const uint8_t *)"\0\0", good.nulls_len = 2;
+    assert(measure(&good, stats, 1) == VORTEX_OK);
+    for (int step = -1; step <= 1; step += 2) {
+        vortex_values bad = good;
+        bad.values_len = (size_t)(4 + step);
+        refused(measure(&bad, stats, 1), VORTEX_BAD_LENGTH, 0, 0);
+        bad = good, bad.nulls_len = (size_t)(2 + step);
+        refused(measure(&bad, stats, 1), VORTEX_BAD_LENGTH, 0, 0);
+        bad = good, bad.rows = (size_t)(2 + step);
+        refused(measure(&bad, stats, 1), VORTEX_BAD_LENGTH, 0, 0);
+        bad = good, bad.kind = VORTEX_UTF8, bad.ends_len = (size_t)(2 + step);
+        refused(measure(&bad, stats, 1), VORTEX_BAD_LENGTH, 0, 0);
+    }
+    good.ends_len = 1;
+    refused(measure(&good, stats, 1), VORTEX_BAD_LENGTH, 0, 0);
+    /* The heap may go on behind its last end. */
+    good.kind = VORTEX_UTF8, good.ends_len = 2, good.values_len = 3;
+    assert(measure(&good, stats, 1) == VORTEX_OK);
+    vortex_values nulls = {.kind = VORTEX_NULL, .rows = 2, .values = good.values, .values_len = 1};
+    refused(measure(&nulls, stats, 1), VORTEX_BAD_LENGTH, 0, 0);
 }
 
 static void every_refusal(void) {
@@ -88,13 +120,9 @@ static void every_refusal(void) {
     refused(measure(&bad, every_stat, 8), VORTEX_BAD_KIND, 0, 0);
     bad.kind = VORTEX_I16, bad.nullable = 2;
     refused(measure(&bad, every_stat, 8), VORTEX_BAD_KIND, 0, 0);
-    bad.nullable = 0, bad.rows = 3;
-    refused(measure(&bad, every_stat, 8), VORTEX_BAD_LENGTH, 2, 0);
-    bad.rows = 2, bad.nulls = (const uint8_t *)"\0\1", bad.nulls_len = 2;
+    bad.nullable = 0, bad.nulls = (const uint8_t *)"\0\1", bad.nulls_len = 2;
     refused(measure(&bad, every_stat, 8), VORTEX_BAD_NULL, 1, 0);
-    bad.nullable = 1, bad.nulls_len = 1;
-    refused(measure(&bad, every_stat, 8), VORTEX_BAD_LENGTH, 1, 0);
-    bad = good, bad.kind = VORTEX_BOOL;
+    bad = good, bad.kind = VORTEX_BOOL, bad.values_len = 2;
     refused(measure(&bad, every_stat, 8), VORTEX_BAD_VALUE, 0, 0);
     bad.kind = VORTEX_UTF8;
     refused(measure(&bad, (const uint8_t[]){VORTEX_MIN, VORTEX_SUM}, 2), VORTEX_BAD_STAT, 0, 1);
@@ -105,6 +133,7 @@ static void every_refusal(void) {
     refused(measure(&bad, every_stat, 1), VORTEX_BAD_ENDS, 1, 0);
     bad.values = (const uint8_t *)"ab\xffz!", bad.values_len = 5;
     refused(measure(&bad, every_stat, 1), VORTEX_BAD_VALUE, 1, 0);
+    every_length(good);
     known[0] = 99, ends[0] = 99, bytes[0] = 99;
     assert(vortex_measure(&good, every_stat, 8, known, 8, ends, 8, bytes, 30, &len, &fault) == VORTEX_TOO_SHORT && len == 31);
     assert(known[0] == 99 && ends[0] == 99 && bytes[0] == 99);
@@ -114,80 +143,135 @@ static void every_refusal(void) {
 
 /* Every field of a statistic counts, and a call about a zone looks at that zone alone. */
 static void every_statistic(void) {
-    const uint64_t column_ends[2] = {3, 6}, least_ends[2] = {4, 5}, nulls_ends[1] = {0};
+    const uint64_t column_ends[2] = {3, 6}, least_ends[3] = {4, 5, 5};
     vortex_values column = {.kind = VORTEX_UTF8, .rows = 2, .values = (const uint8_t *)"abcabd", .values_len = 6,
                             .ends = column_ends, .ends_len = 2};
     const uint8_t known[2] = {VORTEX_EXACT, VORTEX_INEXACT};
-    const uint64_t null_counts[2] = {0, 5};
+    const uint64_t null_counts[3] = {0, 5, 5};
     vortex_statistic stats[2] = {
         {.stat = VORTEX_MIN, .start = 1, .known = known, .known_len = 2, .values = (const uint8_t *)"?abca", .values_len = 5,
          .ends = least_ends, .ends_len = 2},
-        {.stat = VORTEX_NULL_COUNT, .known = known, .known_len = 2, .values = (const uint8_t *)null_counts, .values_len = 16,
-         .ends = nulls_ends, .ends_len = 0},
+        {.stat = VORTEX_NULL_COUNT, .known = known, .known_len = 2, .values = (const uint8_t *)null_counts, .values_len = 16},
     };
-    assert(vortex_check(&column, stats, 2, 0, &fault) == VORTEX_OK);
-    assert(vortex_check(&column, stats, 2, 1, &fault) == VORTEX_OK);
+#define CHECK(rows, zone) vortex_check(&column, rows, stats, 2, zone, &fault)
+    assert(CHECK(2, 0) == VORTEX_OK);
+    assert(CHECK(2, 1) == VORTEX_OK);
+    refused(CHECK(1, 0), VORTEX_UNTRUE, 0, 2);
+    refused(CHECK(3, 1), VORTEX_UNTRUE, 0, 2);
+    refused(CHECK(UINT64_MAX, 1), VORTEX_UNTRUE, 0, 2);
     stats[0].stat = VORTEX_MAX;
-    refused(vortex_check(&column, stats, 2, 0, &fault), VORTEX_UNTRUE, 0, 0);
+    refused(CHECK(2, 0), VORTEX_UNTRUE, 0, 0);
     stats[0].stat = VORTEX_MIN, stats[0].start = 0;
-    refused(vortex_check(&column, stats, 2, 0, &fault), VORTEX_UNTRUE, 0, 0);
+    refused(CHECK(2, 0), VORTEX_UNTRUE, 0, 0);
     stats[0].start = 5;
-    refused(vortex_check(&column, stats, 2, 0, &fault), VORTEX_BAD_ENDS, 0, 0);
+    refused(CHECK(2, 0), VORTEX_BAD_ENDS, 0, 0);
     stats[0].start = 1, stats[1].known = (const uint8_t *)"\1\3";
-    refused(vortex_check(&column, stats, 2, 1, &fault), VORTEX_BAD_KNOWN, 1, 1);
-    stats[1].known = known, stats[1].values_len = 15;
-    refused(vortex_check(&column, stats, 2, 1, &fault), VORTEX_BAD_LENGTH, 1, 1);
-    refused(vortex_check(&column, stats, 2, 2, &fault), VORTEX_BAD_LENGTH, 2, 0);
+    refused(CHECK(2, 1), VORTEX_BAD_KNOWN, 1, 1);
+    stats[1].known = known;
+    for (int step = -1; step <= 1; step += 2) {
+        stats[1].values_len = (size_t)(16 + step);
+        refused(CHECK(2, 1), VORTEX_BAD_LENGTH, 1, 1);
+        stats[1].values_len = 16, stats[0].ends_len = (size_t)(2 + step);
+        refused(CHECK(2, 1), VORTEX_BAD_LENGTH, 1, 0);
+        stats[0].ends_len = 2;
+    }
+    refused(CHECK(2, 2), VORTEX_BAD_LENGTH, 2, 0);
     stats[1].stat = VORTEX_SUM;
-    refused(vortex_check(&column, stats, 2, 0, &fault), VORTEX_BAD_STAT, 0, 1);
-    assert(vortex_check(&column, NULL, 0, 7, &fault) == VORTEX_OK);
+    refused(CHECK(2, 0), VORTEX_BAD_STAT, 0, 1);
+    assert(vortex_check(&column, 2, NULL, 0, 7, &fault) == VORTEX_OK);
+    refused(vortex_check(&column, 0, NULL, 0, 7, &fault), VORTEX_UNTRUE, 0, 0);
+#undef CHECK
 }
 
-/* Two tables of texts and counts of two zones each, merged zone by zone; every field of a statistic counts. */
-static void every_merge(void) {
-    const uint64_t left_ends[2] = {4, 6}, right_ends[2] = {1, 3};
-    const uint64_t left_nulls[2] = {1, 5}, right_nulls[2] = {2, 7};
-    vortex_statistic left[2] = {
-        {.stat = VORTEX_MIN, .start = 1, .known = (const uint8_t *)"\1\1", .known_len = 2, .values = (const uint8_t *)"?beeab",
-         .values_len = 6, .ends = left_ends, .ends_len = 2},
-        {.stat = VORTEX_NULL_COUNT, .known = (const uint8_t *)"\1\2", .known_len = 2, .values = (const uint8_t *)left_nulls,
-         .values_len = 16},
+/* Two tables of texts and counts, of two zones each. */
+typedef struct sides {
+    vortex_statistic left[2], right[2];
+} sides;
+
+static sides two_tables(void) {
+    static const uint64_t left_ends[2] = {4, 6}, right_ends[2] = {1, 3}, left_nulls[2] = {1, 5}, right_nulls[2] = {2, 7};
+    return (sides){
+        {{.stat = VORTEX_MIN, .start = 1, .known = (const uint8_t *)"\1\1", .known_len = 2, .values = (const uint8_t *)"?beeab",
+          .values_len = 6, .ends = left_ends, .ends_len = 2},
+         {.stat = VORTEX_NULL_COUNT, .known = (const uint8_t *)"\1\2", .known_len = 2, .values = (const uint8_t *)left_nulls,
+          .values_len = 16}},
+        {{.stat = VORTEX_MIN, .known = (const uint8_t *)"\1\2", .known_len = 2, .values = (const uint8_t *)"caa", .values_len = 3,
+          .ends = right_ends, .ends_len = 2},
+         {.stat = VORTEX_NULL_COUNT, .known = (const uint8_t *)"\1\0", .known_len = 2, .values = (const uint8_t *)right_nulls,
+          .values_len = 16}},
     };
-    vortex_statistic right[2] = {
-        {.stat = VORTEX_MIN, .known = (const uint8_t *)"\1\2", .known_len = 2, .values = (const uint8_t *)"caa", .values_len = 3,
-         .ends = right_ends, .ends_len = 2},
-        {.stat = VORTEX_NULL_COUNT, .known = (const uint8_t *)"\1\0", .known_len = 2, .values = (const uint8_t *)right_nulls,
-         .values_len = 16},
-    };
+}
+
 #define MERGE(zones, stats) \
-    vortex_merge(VORTEX_UTF8, 1, zones, left, stats, right, stats, known, 2 * (stats), ends, 2 * (stats), bytes, sizeof bytes, &len, \
-                 &fault)
+    vortex_merge(VORTEX_UTF8, 1, zones, it.left, stats, it.right, stats, known, 2 * (stats), ends, 2 * (stats), bytes, sizeof bytes, \
+                 &len, &fault)
+
+/* The tables are merged zone by zone, and the arrays that are written are as long as is said. */
+static void every_merge(void) {
+    sides it = two_tables();
     assert(MERGE(2, 2) == VORTEX_OK && len == 21);
     assert(memcmp(known, "\1\2\1\0", 4) == 0 && ends[0] == 3 && ends[1] == 5 && ends[2] == 13 && ends[3] == 21);
     assert(memcmp(bytes, "beeaa\3\0\0\0\0\0\0\0", 13) == 0);
     assert(MERGE(0, 0) == VORTEX_OK && len == 0);
     known[0] = 99, ends[0] = 99, bytes[0] = 99;
-    refused(MERGE(3, 2), VORTEX_BAD_LENGTH, 2, 0);
-    right[1].stat = VORTEX_SUM;
-    refused(MERGE(2, 2), VORTEX_BAD_STAT, 0, 1);
-    left[1].stat = VORTEX_SUM;
-    refused(MERGE(2, 2), VORTEX_BAD_STAT, 0, 1);
-    left[1].stat = right[1].stat = VORTEX_NULL_COUNT, right[1].known = (const uint8_t *)"\1\3";
-    assert(MERGE(2, 2) == VORTEX_BAD_KNOWN && fault.row == 1 && fault.column == 1 && fault.entry == 1);
-    right[1].known_len = 1;
-    assert(MERGE(2, 2) == VORTEX_BAD_LENGTH && fault.row == 1 && fault.column == 1 && fault.entry == 1);
-    right[1].known_len = 2, right[1].known = (const uint8_t *)"\1\0", left[0].start = 5;
-    refused(MERGE(2, 2), VORTEX_BAD_ENDS, 0, 0);
-    left[0].start = 1, left[0].values = (const uint8_t *)"?\xff..ab";
-    refused(MERGE(2, 2), VORTEX_BAD_VALUE, 0, 0);
-    left[0].values = (const uint8_t *)"?beeab";
-    assert(vortex_merge(12, 1, 2, left, 2, right, 2, known, 4, ends, 4, bytes, sizeof bytes, &len, &fault) == VORTEX_BAD_KIND);
-    refused(vortex_merge(VORTEX_UTF8, 1, 2, left, 2, right, 1, known, 4, ends, 4, bytes, sizeof bytes, &len, &fault),
+    assert(vortex_merge(12, 1, 2, it.left, 2, it.right, 2, known, 4, ends, 4, bytes, sizeof bytes, &len, &fault) == VORTEX_BAD_KIND);
+    refused(vortex_merge(VORTEX_UTF8, 1, 2, it.left, 2, it.right, 1, known, 4, ends, 4, bytes, sizeof bytes, &len, &fault),
             VORTEX_BAD_LENGTH, 0, 1);
-    assert(vortex_merge(VORTEX_UTF8, 1, 2, left, 2, right, 2, known, 3, ends, 4, bytes, sizeof bytes, &len, &fault) == VORTEX_BAD_LENGTH);
-    assert(vortex_merge(VORTEX_UTF8, 1, 2, left, 2, right, 2, known, 4, ends, 4, bytes, 20, &len, &fault) == VORTEX_TOO_SHORT && len == 21);
+    assert(vortex_merge(VORTEX_UTF8, 1, 2, it.left, 2, it.right, 2, known, 3, ends, 4, bytes, sizeof bytes, &len, &fault) ==
+           VORTEX_BAD_LENGTH);
+    assert(vortex_merge(VORTEX_UTF8, 1, 2, it.left, 2, it.right, 2, known, 4, ends, 4, bytes, 20, &len, &fault) == VORTEX_TOO_SHORT &&
+           len == 21);
     assert(known[0] == 99 && ends[0] == 99 && bytes[0] == 99);
-#undef MERGE
+}
+
+/* Every field of a statistic counts. */
+static void every_refused_merge(void) {
+    sides it = two_tables();
+    known[0] = 99, ends[0] = 99, bytes[0] = 99;
+    refused(MERGE(3, 2), VORTEX_BAD_LENGTH, 0, 0);
+    refused(MERGE(1, 2), VORTEX_BAD_LENGTH, 0, 0);
+    it.right[1].stat = VORTEX_SUM;
+    refused(MERGE(2, 2), VORTEX_BAD_STAT, 0, 1);
+    it.left[1].stat = VORTEX_SUM;
+    refused(MERGE(2, 2), VORTEX_BAD_STAT, 0, 1);
+    it.left[1].stat = it.right[1].stat = VORTEX_NULL_COUNT, it.right[1].known = (const uint8_t *)"\1\3";
+    assert(MERGE(2, 2) == VORTEX_BAD_KNOWN && fault.row == 1 && fault.column == 1 && fault.entry == 1);
+    for (int step = -1; step <= 1; step += 2) {
+        it.right[1].known_len = (size_t)(2 + step);
+        assert(MERGE(2, 2) == VORTEX_BAD_LENGTH && fault.row == 0 && fault.column == 1 && fault.entry == 1);
+    }
+    it.right[1].known_len = 2, it.right[1].known = (const uint8_t *)"\1\0", it.left[0].start = 5;
+    refused(MERGE(2, 2), VORTEX_BAD_ENDS, 0, 0);
+    it.left[0].start = 1, it.left[0].values = (const uint8_t *)"?\xff..ab";
+    refused(MERGE(2, 2), VORTEX_BAD_VALUE, 0, 0);
+    assert(known[0] == 99 && ends[0] == 99 && bytes[0] == 99);
+}
+
+/* A table of three zones merged to one; each statistic is what merging the zones in turn leaves. */
+static void every_zone_merged(void) {
+    const uint64_t text_ends[3] = {4, 6, 7}, nulls[3] = {1, 5, 7};
+    vortex_statistic stats[2] = {
+        {.stat = VORTEX_MAX, .start = 1, .known = (const uint8_t *)"\1\2\1", .known_len = 3, .values = (const uint8_t *)"?beezza",
+         .values_len = 7, .ends = text_ends, .ends_len = 3},
+        {.stat = VORTEX_NULL_COUNT, .known = (const uint8_t *)"\1\1\1", .known_len = 3, .values = (const uint8_t *)nulls, .values_len = 24},
+    };
+#define MERGE_ZONES(zones, room) vortex_merge_zones(VORTEX_UTF8, 1, zones, stats, 2, known, 2, ends, 2, bytes, room, &len, &fault)
+    assert(MERGE_ZONES(3, sizeof bytes) == VORTEX_OK && len == 10);
+    assert(known[0] == VORTEX_INEXACT && known[1] == VORTEX_EXACT && ends[0] == 2 && ends[1] == 10);
+    assert(memcmp(bytes, "zz\15\0\0\0\0\0\0\0", 10) == 0);
+    known[0] = 99, ends[0] = 99, bytes[0] = 99;
+    assert(MERGE_ZONES(3, 9) == VORTEX_TOO_SHORT && len == 10);
+    refused(MERGE_ZONES(2, 10), VORTEX_BAD_LENGTH, 0, 0);
+    refused(MERGE_ZONES(4, 10), VORTEX_BAD_LENGTH, 0, 0);
+    stats[1].known = (const uint8_t *)"\1\1\3";
+    refused(MERGE_ZONES(3, 10), VORTEX_BAD_KNOWN, 2, 1);
+    stats[1].stat = VORTEX_SUM;
+    refused(MERGE_ZONES(3, 10), VORTEX_BAD_STAT, 0, 1);
+    assert(known[0] == 99 && ends[0] == 99 && bytes[0] == 99);
+    vortex_statistic none[2] = {{.stat = VORTEX_MAX}, {.stat = VORTEX_NULL_COUNT}};
+    assert(vortex_merge_zones(VORTEX_UTF8, 1, 0, none, 2, known, 2, ends, 2, bytes, 8, &len, &fault) == VORTEX_OK && len == 8);
+    assert(known[0] == VORTEX_ABSENT && known[1] == VORTEX_ABSENT && ends[0] == 0 && ends[1] == 8);
+#undef MERGE_ZONES
 }
 
 static uint8_t answers[4];
@@ -198,27 +282,38 @@ static uint8_t prune(const vortex_field *scope, size_t columns, const uint64_t *
                         zones, &fault);
 }
 
+/* A table of three zones and two columns. */
+typedef struct table {
+    vortex_field scope[2];
+    vortex_statistic stats[5];
+} table;
+
+static const uint64_t zone_rows[3] = {4, 4, 7}, zone_nulls[3] = {0, 4, 4}, no_nulls[3] = {0, 0, 0}, zone_ends[4] = {2, 3, 6, 6};
+static const int32_t zone_least[3] = {-5, 10, 20}, zone_greatest[4] = {5, 15, 30, 30};
+
+static table zones_told(void) {
+    return (table){
+        {{.name = (const uint8_t *)"ab", .name_len = 1, .kind = VORTEX_I32, .nullable = 0},
+         {.name = (const uint8_t *)"b", .name_len = 1, .kind = VORTEX_UTF8, .nullable = 1}},
+        {{.column = 0, .stat = VORTEX_MIN, .known = (const uint8_t *)"\1\1\2", .known_len = 3, .values = (const uint8_t *)zone_least,
+          .values_len = 12},
+         {.column = 0, .stat = VORTEX_MAX, .known = (const uint8_t *)"\1\2\0", .known_len = 3, .values = (const uint8_t *)zone_greatest,
+          .values_len = 12},
+         {.column = 1, .stat = VORTEX_NULL_COUNT, .known = (const uint8_t *)"\1\1\1", .known_len = 3,
+          .values = (const uint8_t *)zone_nulls, .values_len = 24},
+         {.column = 1, .stat = VORTEX_MAX, .start = 1, .known = (const uint8_t *)"\1\0\1", .known_len = 3,
+          .values = (const uint8_t *)"?cxbee", .values_len = 6, .ends = zone_ends, .ends_len = 3},
+         {.column = 0, .stat = VORTEX_NULL_COUNT, .known = (const uint8_t *)"\1\1\1\1", .known_len = 3,
+          .values = (const uint8_t *)no_nulls, .values_len = 24}},
+    };
+}
+
+#define PRUNE(predicate, flags) prune(it.scope, 2, zone_rows, 3, it.stats, 5, predicate, flags)
+#define ANSWERS(a, b, c) assert(answers[0] == (a) && answers[1] == (b) && answers[2] == (c))
+
 /* Every field of a column of a scope, of a zone and of a statistic counts, and each answer is given. */
 static void every_pruning(void) {
-    vortex_field scope[2] = {{.name = (const uint8_t *)"ab", .name_len = 1, .kind = VORTEX_I32, .nullable = 0},
-                             {.name = (const uint8_t *)"b", .name_len = 1, .kind = VORTEX_UTF8, .nullable = 1}};
-    const uint64_t rows[3] = {4, 4, 7};
-    const int32_t least[3] = {-5, 10, 20}, greatest[3] = {5, 15, 30};
-    const uint64_t nulls[3] = {0, 4, 4}, none[3] = {0, 0, 0}, text_ends[3] = {2, 3, 6};
-    vortex_statistic stats[5] = {
-        {.column = 0, .stat = VORTEX_MIN, .known = (const uint8_t *)"\1\1\2", .known_len = 3, .values = (const uint8_t *)least,
-         .values_len = 12},
-        {.column = 0, .stat = VORTEX_MAX, .known = (const uint8_t *)"\1\2\0", .known_len = 3, .values = (const uint8_t *)greatest,
-         .values_len = 12},
-        {.column = 1, .stat = VORTEX_NULL_COUNT, .known = (const uint8_t *)"\1\1\1", .known_len = 3,
-         .values = (const uint8_t *)nulls, .values_len = 24},
-        {.column = 1, .stat = VORTEX_MAX, .start = 1, .known = (const uint8_t *)"\1\0\1", .known_len = 3,
-         .values = (const uint8_t *)"?cxbee", .values_len = 6, .ends = text_ends, .ends_len = 3},
-        {.column = 0, .stat = VORTEX_NULL_COUNT, .known = (const uint8_t *)"\1\1\1", .known_len = 3,
-         .values = (const uint8_t *)none, .values_len = 24},
-    };
-#define PRUNE(predicate, flags) prune(scope, 2, rows, 3, stats, 5, predicate, flags)
-#define ANSWERS(a, b, c) assert(answers[0] == (a) && answers[1] == (b) && answers[2] == (c))
+    table it = zones_told();
     assert(PRUNE("gt col a lit i32 9", 0) == VORTEX_OK);
     ANSWERS(VORTEX_SKIP, VORTEX_WHOLE, VORTEX_WHOLE);
     assert(PRUNE("gt col a lit i32 10", 0) == VORTEX_OK);
@@ -229,69 +324,90 @@ static void every_pruning(void) {
     ANSWERS(VORTEX_SKIP, VORTEX_WHOLE, VORTEX_READ);
     assert(PRUNE("gt col b lit utf8 \"bz\"", 0) == VORTEX_OK);
     ANSWERS(VORTEX_READ, VORTEX_READ, VORTEX_SKIP);
+    assert(PRUNE("gt col b lit utf8 \"c\n\"", 0) == VORTEX_OK);
+    ANSWERS(VORTEX_SKIP, VORTEX_READ, VORTEX_SKIP);
+    assert(PRUNE("gt col b lit utf8 \"b\n\"", 0) == VORTEX_OK);
+    ANSWERS(VORTEX_READ, VORTEX_READ, VORTEX_READ);
     assert(PRUNE("and gt col a lit i32 12 lt col a lit i32 12", 0) == VORTEX_OK);
     ANSWERS(VORTEX_SKIP, VORTEX_READ, VORTEX_SKIP);
     assert(PRUNE("and gt col a lit i32 12 lt col a lit i32 12", VORTEX_NORMALIZE) == VORTEX_OK);
     ANSWERS(VORTEX_SKIP, VORTEX_SKIP, VORTEX_SKIP);
-    /* Shards. */
+    assert(prune(it.scope, 2, NULL, 0, NULL, 0, "isnull col b", 0) == VORTEX_OK);
+}
+
+/* A table that is cut into zones is pruned as it is whole. */
+static void every_shard(void) {
+    table it = zones_told();
+    const char *predicate = "or gt col a lit i32 12 gt col b lit utf8 \"bz\"";
+    assert(PRUNE(predicate, 0) == VORTEX_OK);
     for (size_t zone = 0; zone < 3; zone++) {
-        vortex_statistic shard[5];
+        table shard = it;
         uint8_t alone;
         for (size_t i = 0; i < 5; i++) {
             size_t width = i < 2 ? 4 : 8;
-            shard[i] = stats[i];
-            shard[i].known += zone, shard[i].known_len = 1;
+            shard.stats[i].known += zone, shard.stats[i].known_len = 1;
             if (i != 3)
-                shard[i].values += zone * width, shard[i].values_len = width;
+                shard.stats[i].values += zone * width, shard.stats[i].values_len = width;
             else
-                shard[i].start = zone ? text_ends[zone - 1] : 1, shard[i].ends += zone, shard[i].ends_len = 1;
+                shard.stats[i].start = zone ? zone_ends[zone - 1] : 1, shard.stats[i].ends += zone, shard.stats[i].ends_len = 1;
         }
-        const char *predicate = "or gt col a lit i32 12 gt col b lit utf8 \"bz\"";
-        assert(PRUNE(predicate, 0) == VORTEX_OK);
-        assert(vortex_prune(scope, 2, rows + zone, 1, shard, 5, (const uint8_t *)predicate, strlen(predicate), 0, &alone, 1,
-                            &fault) == VORTEX_OK);
+        assert(vortex_prune(shard.scope, 2, zone_rows + zone, 1, shard.stats, 5, (const uint8_t *)predicate, strlen(predicate), 0,
+                            &alone, 1, &fault) == VORTEX_OK);
         assert(alone == answers[zone]);
     }
-    assert(prune(scope, 2, NULL, 0, NULL, 0, "isnull col b", 0) == VORTEX_OK);
+}
 
+/* Flags, lengths, scopes and predicates that are none; the answers stay as they were. */
+static void every_bad_question(void) {
+    table it = zones_told();
     memset(answers, 9, sizeof answers);
     refused(PRUNE("isnull col b", 2), VORTEX_BAD_FLAG, 0, 0);
-    refused(vortex_prune(scope, 2, rows, 3, stats, 4, (const uint8_t *)"isnull col b", 12, 0, answers, 4, &fault),
+    refused(vortex_prune(it.scope, 2, zone_rows, 3, it.stats, 4, (const uint8_t *)"isnull col b", 12, 0, answers, 4, &fault),
             VORTEX_BAD_LENGTH, 0, 0);
     refused(PRUNE("isnull col c", 0), VORTEX_BAD_LINE, 0, 0);
     refused(PRUNE("", 0), VORTEX_BAD_LINE, 0, 0);
     refused(PRUNE("isnull col b \xff", 0), VORTEX_BAD_LINE, 0, 0);
-    refused(prune(scope, 0, rows, 3, stats, 4, "lit bool true", 0), VORTEX_BAD_LINE, 0, 0);
+    refused(prune(it.scope, 0, zone_rows, 3, it.stats, 4, "lit bool true", 0), VORTEX_BAD_LINE, 0, 0);
     refused(PRUNE("col a", 0), VORTEX_NOT_A_PREDICATE, 0, 0);
     refused(PRUNE("col a", VORTEX_NORMALIZE), VORTEX_NOT_A_PREDICATE, 0, 0);
-    scope[1].name = (const uint8_t *)"a";
+    it.scope[1].name = (const uint8_t *)"a";
     assert(PRUNE("isnull col a", 0) == VORTEX_BAD_NAME && fault.row == 0 && fault.column == 1 && fault.entry == 0);
-    scope[1].name = (const uint8_t *)"1";
+    it.scope[1].name = (const uint8_t *)"1";
     assert(PRUNE("isnull col a", 0) == VORTEX_BAD_NAME && fault.column == 1);
-    scope[1].name_len = 0;
+    it.scope[1].name_len = 0;
     assert(PRUNE("isnull col a", 0) == VORTEX_BAD_NAME && fault.column == 1);
-    scope[1].name = (const uint8_t *)"b", scope[1].name_len = 1, scope[1].kind = 12;
+    it.scope[1].name = (const uint8_t *)"b", it.scope[1].name_len = 1, it.scope[1].kind = 12;
     assert(PRUNE("isnull col a", 0) == VORTEX_BAD_KIND && fault.column == 1);
-    scope[1].kind = VORTEX_UTF8, scope[1].nullable = 2;
+    it.scope[1].kind = VORTEX_UTF8, it.scope[1].nullable = 2;
     assert(PRUNE("isnull col a", 0) == VORTEX_BAD_KIND && fault.column == 1);
-    scope[1].nullable = 1, stats[3].column = 2;
-    refused(PRUNE("isnull col b", 0), VORTEX_BAD_COLUMN, 0, 3);
-    stats[3].column = 1, stats[3].stat = VORTEX_SUM;
-    refused(PRUNE("isnull col b", 0), VORTEX_BAD_STAT, 0, 3);
-    stats[3].stat = VORTEX_MAX, stats[3].known = (const uint8_t *)"\1\0\3";
-    assert(PRUNE("isnull col b", 0) == VORTEX_BAD_KNOWN && fault.row == 2 && fault.column == 1 && fault.entry == 3);
-    stats[3].known = (const uint8_t *)"\1\0\1", stats[1].values_len = 8;
-    assert(PRUNE("isnull col b", 0) == VORTEX_OK);
-    stats[1].values_len = 4;
+    ANSWERS(9, 9, 9);
+}
+
+/* Statistics that are none; the answers stay as they were. */
+static void every_bad_statistic(void) {
+    table it = zones_told();
     memset(answers, 9, sizeof answers);
-    assert(PRUNE("isnull col b", 0) == VORTEX_BAD_LENGTH && fault.row == 1 && fault.column == 0 && fault.entry == 1);
-    stats[1].values_len = 12, stats[3].start = 3;
+    it.stats[3].column = 2;
+    refused(PRUNE("isnull col b", 0), VORTEX_BAD_COLUMN, 0, 3);
+    it.stats[3].column = 1, it.stats[3].stat = VORTEX_SUM;
+    refused(PRUNE("isnull col b", 0), VORTEX_BAD_STAT, 0, 3);
+    it.stats[3].stat = VORTEX_MAX, it.stats[3].known = (const uint8_t *)"\1\0\3";
+    assert(PRUNE("isnull col b", 0) == VORTEX_BAD_KNOWN && fault.row == 2 && fault.column == 1 && fault.entry == 3);
+    it.stats[3].known = (const uint8_t *)"\1\0\1";
+    for (int step = -1; step <= 1; step += 2) {
+        it.stats[1].values_len = (size_t)(12 + step);
+        refused(PRUNE("isnull col b", 0), VORTEX_BAD_LENGTH, 0, 1);
+        it.stats[1].values_len = 12, it.stats[3].ends_len = (size_t)(3 + step);
+        refused(PRUNE("isnull col b", 0), VORTEX_BAD_LENGTH, 0, 3);
+        it.stats[3].ends_len = 3, it.stats[4].known_len = (size_t)(3 + step);
+        refused(PRUNE("isnull col b", 0), VORTEX_BAD_LENGTH, 0, 4);
+        it.stats[4].known_len = 3;
+    }
+    it.stats[3].start = 3;
     assert(PRUNE("isnull col b", 0) == VORTEX_BAD_ENDS && fault.row == 0 && fault.column == 1 && fault.entry == 3);
-    stats[3].start = 1, stats[3].values = (const uint8_t *)"?\xffxbee";
+    it.stats[3].start = 1, it.stats[3].values = (const uint8_t *)"?\xffxbee";
     assert(PRUNE("isnull col b", 0) == VORTEX_BAD_VALUE && fault.row == 0 && fault.column == 1 && fault.entry == 3);
     ANSWERS(9, 9, 9);
-#undef PRUNE
-#undef ANSWERS
 }
 
 static void program(void) {
@@ -307,12 +423,18 @@ static void program(void) {
 
 int main(void) {
     layout();
+    assert(vortex_version() == VORTEX_VERSION && VORTEX_VERSION == 0x000200);
     every_number();
     every_field();
     every_refusal();
     every_statistic();
     every_merge();
+    every_refused_merge();
+    every_zone_merged();
     every_pruning();
+    every_shard();
+    every_bad_question();
+    every_bad_statistic();
     program();
     puts("round trip: each field, type and status is as the header says");
     return 0;

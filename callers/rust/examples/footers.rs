@@ -1,6 +1,10 @@
-//! Measures the chunks of a table, keeps their statistics, and later reads the chunks alone that a predicate doesn't
-//! rule out.
-use foalmorrow::{col, Answer, Column, DType, Error, Kind, Predicate, Stat, ZoneMap};
+//! Measures the chunks of a table, keeps their statistics in a file, and later reads the chunks alone that a predicate
+//! doesn't rule out.
+//!
+//! usage: footers [FILE]    keeps the file where it is named, and else removes it
+use foalmorrow::{col, Answer, Column, DType, Kind, Predicate, Stat, ZoneMap};
+use std::error::Error;
+use std::path::{Path, PathBuf};
 
 const SCOPE: [(&str, DType); 2] = [
     ("temperature", DType { kind: Kind::I64, nullable: false }),
@@ -19,15 +23,19 @@ fn chunk(day: i64) -> (Vec<i64>, String, Vec<u64>) {
     (temperatures, (0..6).map(|row| cities[row % 3].as_str()).collect(), ends.collect())
 }
 
-fn main() -> Result<(), Error> {
-    // A writer: the statistics of each chunk, true of it by proof.
-    let mut map = ZoneMap::new(&SCOPE, &[Stat::Min, Stat::Max, Stat::NullCount]);
+/// A writer: keeps the statistics of each chunk, true of it by proof.
+fn write(path: &Path) -> Result<(), Box<dyn Error>> {
+    let mut map = ZoneMap::new(&SCOPE, &[Stat::Min, Stat::Max, Stat::NullCount])?;
     for day in 0..6 {
         let (temperatures, cities, ends) = chunk(day);
         map.push(&[Column::numbers(&temperatures), Column::texts(&cities, &ends)])?;
     }
+    Ok(map.save(path, "six days")?)
+}
 
-    // A reader, later: which chunks it has to fetch for a predicate.
+/// A reader, later: fetches the chunks that the predicate doesn't rule out.
+fn read(path: &Path) -> Result<(), Box<dyn Error>> {
+    let map = ZoneMap::load(path)?;
     let wanted: Predicate = col("temperature").gt(20_i64).and(col("city").like("B%"));
     for (day, answer) in (0..).zip(map.prune(&wanted)?) {
         match answer {
@@ -37,4 +45,15 @@ fn main() -> Result<(), Error> {
         }
     }
     Ok(())
+}
+
+fn main() -> Result<(), Box<dyn Error>> {
+    let named = std::env::args_os().nth(1).map(PathBuf::from);
+    let path = named.clone().unwrap_or_else(|| std::env::temp_dir().join(format!("footers-{}", std::process::id())));
+    write(&path)?;
+    let done = read(&path);
+    if named.is_none() {
+        std::fs::remove_file(&path)?;
+    }
+    done
 }

@@ -1,4 +1,5 @@
 //! Types, and columns of values that are lent.
+use crate::error::{Error, Place};
 use crate::raw;
 use std::marker::PhantomData;
 
@@ -21,7 +22,23 @@ pub enum Kind {
 }
 
 impl Kind {
-    /// How many bytes each value takes; `None` of texts and bytes.
+    /// Every kind, by the header's numbers.
+    pub const EVERY: [Kind; 12] = [
+        Kind::Null,
+        Kind::Bool,
+        Kind::U8,
+        Kind::U16,
+        Kind::U32,
+        Kind::U64,
+        Kind::I8,
+        Kind::I16,
+        Kind::I32,
+        Kind::I64,
+        Kind::Utf8,
+        Kind::Binary,
+    ];
+
+    /// Returns how many bytes each value takes; `None` of texts and bytes.
     #[must_use]
     pub fn width(self) -> Option<usize> {
         match self {
@@ -36,7 +53,7 @@ impl Kind {
 }
 
 impl std::fmt::Display for Kind {
-    /// The kind's word in the language of predicates.
+    /// Writes the kind's word in the language of predicates.
     fn fmt(&self, f: &mut std::fmt::Formatter<'_>) -> std::fmt::Result {
         f.write_str(match self {
             Kind::Null => "null",
@@ -59,7 +76,20 @@ impl std::fmt::Display for Kind {
 #[derive(Clone, Copy, Debug, PartialEq, Eq, Hash)]
 pub struct DType {
     pub kind: Kind,
+    /// Whether null is a value; of [`Kind::Null`] it is in any case.
     pub nullable: bool,
+}
+
+impl DType {
+    // Whether both types have the same values.
+    pub(crate) fn is_same(self, other: DType) -> bool {
+        self.kind == other.kind && (self.kind == Kind::Null || self.nullable == other.nullable)
+    }
+
+    // Whether no value of the type is null.
+    pub(crate) fn is_without_null(self) -> bool {
+        self.kind != Kind::Null && !self.nullable
+    }
 }
 
 /// Numbers that stand in memory as the library reads them.
@@ -100,7 +130,7 @@ impl<'a> Column<'a> {
         Column { dtype, rows, size: values.len() as u64, start: 0, values, ends, nulls: &[] }
     }
 
-    /// A column of numbers, without a copy.
+    /// Lends a column of numbers.
     #[must_use]
     pub fn numbers<T: Number>(numbers: &'a [T]) -> Self {
         // SAFETY: a `Number` is an integer, whose bytes may be read as such. On machines that keep the lowest byte
@@ -110,7 +140,7 @@ impl<'a> Column<'a> {
         Column::new(T::KIND, numbers.len(), bytes, &[])
     }
 
-    /// A column of truths.
+    /// Lends a column of truths.
     #[must_use]
     pub fn truths(truths: &'a [bool]) -> Self {
         // SAFETY: a `bool` is one byte, 0 or 1.
@@ -118,46 +148,59 @@ impl<'a> Column<'a> {
         Column::new(Kind::Bool, truths.len(), bytes, &[])
     }
 
-    /// A column of texts, which stand in one heap: text i runs from the end before it to `ends[i]`.
+    /// Lends a column of texts, which stand in one heap: text i runs from the end before it to `ends[i]`.
     #[must_use]
     pub fn texts(heap: &'a str, ends: &'a [u64]) -> Self {
         Column::new(Kind::Utf8, ends.len(), heap.as_bytes(), ends)
     }
 
-    /// A column of strings of bytes.
+    /// Lends a column of byte strings, which stand in one heap as texts do.
     #[must_use]
     pub fn binary(heap: &'a [u8], ends: &'a [u64]) -> Self {
         Column::new(Kind::Binary, ends.len(), heap, ends)
     }
 
-    /// So many nulls, of the type that has no other value.
+    /// Makes a column of so many nulls, of the type that has no other value.
     #[must_use]
     pub fn nulls(rows: usize) -> Self {
         let column = Column::new(Kind::Null, rows, &[], &[]);
         Column { dtype: DType { kind: Kind::Null, nullable: true }, ..column }
     }
 
-    /// The same column, nullable; a byte a row says which are null: 0 for a value. Of no bytes no row is null.
+    /// Makes the column nullable. A byte for each row says which are null: 0 for a value. Of no bytes no row is null.
+    ///
+    /// Any other number of bytes is refused by the calls that take the column, with `BadLength`.
     #[must_use]
     pub fn with_nulls(self, nulls: &'a [u8]) -> Self {
         let dtype = DType { nullable: true, ..self.dtype };
         Column { dtype, nulls, ..self }
     }
 
-    /// The same column with another declared size in bytes.
+    /// Declares another size in bytes, which `UncompressedSizeInBytes` tells.
     #[must_use]
     pub fn with_size(self, size: u64) -> Self {
         Column { size, ..self }
     }
 
+    /// Returns the type of the values.
     #[must_use]
     pub fn dtype(&self) -> DType {
         self.dtype
     }
 
+    /// Returns the number of values.
     #[must_use]
     pub fn rows(&self) -> usize {
         self.rows
+    }
+
+    // Refuses an array of nulls that isn't of the rows.
+    pub(crate) fn checked(&self) -> Result<(), Error> {
+        match self.nulls.len() {
+            0 => Ok(()),
+            len if len == self.rows => Ok(()),
+            len => Err(Error::BadLength(Place { row: Some(len.min(self.rows)), ..Place::default() })),
+        }
     }
 
     pub(crate) fn raw(&self) -> raw::Values<'a> {

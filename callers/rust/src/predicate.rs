@@ -5,12 +5,31 @@
 //! let wanted = col("qty").gt(9000_i64).and(col("name").like("pre%"));
 //! assert_eq!(wanted.to_string(), "and gt col qty lit i64 9000 like col name lit utf8 \"pre%\"");
 //! ```
-use crate::column::Kind;
+use crate::literal::{quoted, Literal, Operand, Operator};
+use std::collections::VecDeque;
 use std::fmt;
 
 /// A condition on a row that is true, false or null of it. A row is wanted where it is true.
+///
+/// A predicate is flat: its [`Node`]s stand one behind the other in prefix order. So building, printing, cloning,
+/// comparing and dropping it take no stack, however long or deep it is. Pruning by it has a limit of depth, which
+/// [`Error::TooDeep`](crate::Error::TooDeep) tells.
 #[derive(Clone, Debug, PartialEq, Eq)]
-pub enum Predicate {
+pub struct Predicate {
+    nodes: VecDeque<Node>,
+}
+
+/// One condition or connective of a predicate. The operands of a connective stand right behind it.
+#[derive(Clone, Debug, PartialEq, Eq)]
+pub enum Node {
+    /// Both of the next two operands.
+    And,
+    /// One of the next two operands, or both.
+    Or,
+    /// The next operand turned round; null stays null.
+    Not,
+    /// A constant, whatever the row.
+    Constant(bool),
     Compare(Operator, String, Operand),
     /// A column lies from a value to another one; `true` says that the end is excluded.
     Between {
@@ -29,78 +48,75 @@ pub enum Predicate {
         negated: bool,
         ignore_case: bool,
     },
-    And(Box<Predicate>, Box<Predicate>),
-    Or(Box<Predicate>, Box<Predicate>),
-    Not(Box<Predicate>),
 }
 
-/// A comparison.
-#[derive(Clone, Copy, Debug, PartialEq, Eq, Hash)]
-pub enum Operator {
-    Eq,
-    Ne,
-    Gt,
-    Ge,
-    Lt,
-    Le,
-}
+impl Node {
+    /// Returns the columns that the node names, from left to right.
+    pub fn columns(&self) -> impl Iterator<Item = &str> {
+        let (first, second) = match self {
+            Node::And | Node::Or | Node::Not | Node::Constant(_) => (None, None),
+            Node::Compare(_, column, Operand::Column(other)) => (Some(column), Some(other)),
+            Node::Compare(_, column, Operand::Literal(_))
+            | Node::Between { column, .. }
+            | Node::IsNull(column)
+            | Node::IsNotNull(column)
+            | Node::Like { column, .. } => (Some(column), None),
+        };
+        first.into_iter().chain(second).map(String::as_str)
+    }
 
-/// What a column is compared with.
-#[derive(Clone, Debug, PartialEq, Eq)]
-pub enum Operand {
-    Column(String),
-    Literal(Literal),
-}
-
-/// A constant, which has to be of the kind of the column that it is compared with.
-#[derive(Clone, Debug, PartialEq, Eq)]
-pub enum Literal {
-    Bool(bool),
-    /// A number of a kind without a sign, and its kind.
-    Unsigned(Kind, u64),
-    /// A number of a kind with one, and its kind.
-    Signed(Kind, i64),
-    Utf8(String),
-    Binary(Vec<u8>),
-    /// Null as a value of a kind.
-    Null(Kind),
-}
-
-macro_rules! literals {
-    ($($number:ty => $case:ident $kind:ident),*) => {
-        $(impl From<$number> for Literal {
-            fn from(number: $number) -> Self {
-                Literal::$case(Kind::$kind, number.into())
+    // Writes the node's words, with each column's name written by `name`.
+    pub(crate) fn write(&self, out: &mut dyn fmt::Write, name: &ColumnWriter<'_>) -> fmt::Result {
+        match self {
+            Node::And => out.write_str("and"),
+            Node::Or => out.write_str("or"),
+            Node::Not => out.write_str("not"),
+            Node::Constant(truth) => write!(out, "{}", Literal::Bool(*truth)),
+            Node::Compare(operator, column, other) => {
+                write!(out, "{operator} ")?;
+                name(column, out)?;
+                out.write_char(' ')?;
+                match other {
+                    Operand::Column(other) => name(other, out),
+                    Operand::Literal(literal) => write!(out, "{literal}"),
+                }
             }
-        })*
-    };
-}
-
-literals!(u8 => Unsigned U8, u16 => Unsigned U16, u32 => Unsigned U32, u64 => Unsigned U64);
-literals!(i8 => Signed I8, i16 => Signed I16, i32 => Signed I32, i64 => Signed I64);
-
-impl From<bool> for Literal {
-    fn from(truth: bool) -> Self {
-        Literal::Bool(truth)
+            Node::Between { column, low, low_strict, high, high_strict } => {
+                let end = |strict: &bool| if *strict { "<" } else { "<=" };
+                write!(out, "between {} {} ", end(low_strict), end(high_strict))?;
+                name(column, out)?;
+                write!(out, " {low} {high}")
+            }
+            Node::IsNull(column) => {
+                out.write_str("isnull ")?;
+                name(column, out)
+            }
+            Node::IsNotNull(column) => {
+                out.write_str("notnull ")?;
+                name(column, out)
+            }
+            Node::Like { column, pattern, negated, ignore_case } => {
+                let (not, case) = (if *negated { "not" } else { "" }, if *ignore_case { "i" } else { "" });
+                write!(out, "{not}{case}like ")?;
+                name(column, out)?;
+                out.write_str(" lit utf8 ")?;
+                quoted(pattern, out)
+            }
+        }
     }
 }
 
-impl From<&str> for Literal {
-    fn from(text: &str) -> Self {
-        Literal::Utf8(text.to_owned())
-    }
-}
+/// Writes the words of a column by its name.
+pub(crate) type ColumnWriter<'a> = dyn Fn(&str, &mut dyn fmt::Write) -> fmt::Result + 'a;
 
-impl From<&[u8]> for Literal {
-    fn from(bytes: &[u8]) -> Self {
-        Literal::Binary(bytes.to_vec())
-    }
-}
+/// A column by its name, from which a predicate is built.
+#[derive(Clone, Debug, PartialEq, Eq)]
+pub struct ColumnName(String);
 
-impl<T: Into<Literal>> From<T> for Operand {
-    fn from(value: T) -> Self {
-        Operand::Literal(value.into())
-    }
+/// Returns the column of a name. Any text is a name.
+#[must_use]
+pub fn col(name: &str) -> ColumnName {
+    ColumnName(name.to_owned())
 }
 
 impl From<ColumnName> for Operand {
@@ -109,147 +125,208 @@ impl From<ColumnName> for Operand {
     }
 }
 
-/// A column by its name, from which a predicate is built.
-#[derive(Clone, Debug, PartialEq, Eq)]
-pub struct ColumnName(String);
-
-/// The column of a name.
-#[must_use]
-pub fn col(name: &str) -> ColumnName {
-    ColumnName(name.to_owned())
-}
-
 impl ColumnName {
+    /// Compares the column with a constant or with another column.
+    #[must_use]
+    pub fn compare(self, operator: Operator, other: impl Into<Operand>) -> Predicate {
+        Predicate::leaf(Node::Compare(operator, self.0, other.into()))
+    }
+
+    /// Tests that the column is equal to a constant or another column.
     #[must_use]
     pub fn eq(self, other: impl Into<Operand>) -> Predicate {
-        Predicate::Compare(Operator::Eq, self.0, other.into())
+        self.compare(Operator::Eq, other)
     }
 
+    /// Tests that the column is another value than a constant or another column.
     #[must_use]
     pub fn ne(self, other: impl Into<Operand>) -> Predicate {
-        Predicate::Compare(Operator::Ne, self.0, other.into())
+        self.compare(Operator::Ne, other)
     }
 
+    /// Tests that the column is above a constant or another column.
     #[must_use]
     pub fn gt(self, other: impl Into<Operand>) -> Predicate {
-        Predicate::Compare(Operator::Gt, self.0, other.into())
+        self.compare(Operator::Gt, other)
     }
 
+    /// Tests that the column is at least a constant or another column.
     #[must_use]
     pub fn ge(self, other: impl Into<Operand>) -> Predicate {
-        Predicate::Compare(Operator::Ge, self.0, other.into())
+        self.compare(Operator::Ge, other)
     }
 
+    /// Tests that the column is below a constant or another column.
     #[must_use]
     pub fn lt(self, other: impl Into<Operand>) -> Predicate {
-        Predicate::Compare(Operator::Lt, self.0, other.into())
+        self.compare(Operator::Lt, other)
     }
 
+    /// Tests that the column is at most a constant or another column.
     #[must_use]
     pub fn le(self, other: impl Into<Operand>) -> Predicate {
-        Predicate::Compare(Operator::Le, self.0, other.into())
+        self.compare(Operator::Le, other)
     }
 
-    /// The column lies from `low` to `high`, both included.
+    /// Tests that the column lies from `low` to `high`, both included.
     #[must_use]
     pub fn between(self, low: impl Into<Literal>, high: impl Into<Literal>) -> Predicate {
-        let (low, high) = (low.into(), high.into());
-        Predicate::Between { column: self.0, low, low_strict: false, high, high_strict: false }
+        self.between_ends(low, false, high, false)
     }
 
+    /// Tests that the column lies from `low` to `high`. An end is excluded where the truth behind it says that it is
+    /// strict.
+    #[must_use]
+    pub fn between_ends(
+        self,
+        low: impl Into<Literal>,
+        low_strict: bool,
+        high: impl Into<Literal>,
+        high_strict: bool,
+    ) -> Predicate {
+        Predicate::leaf(Node::Between { column: self.0, low: low.into(), low_strict, high: high.into(), high_strict })
+    }
+
+    /// Tests that the column is one of the values. Of no values it is never true, and its negation always is.
+    #[must_use]
+    pub fn is_in<T: Into<Literal>>(self, values: impl IntoIterator<Item = T>) -> Predicate {
+        let equal = |value: T| Node::Compare(Operator::Eq, self.0.clone(), Operand::Literal(value.into()));
+        let mut nodes: VecDeque<Node> = values.into_iter().map(equal).collect();
+        if nodes.is_empty() {
+            return Predicate::constant(false);
+        }
+        for _ in 1..nodes.len() {
+            nodes.push_front(Node::Or);
+        }
+        Predicate { nodes }
+    }
+
+    /// Tests that the column is null.
     #[must_use]
     pub fn is_null(self) -> Predicate {
-        Predicate::IsNull(self.0)
+        Predicate::leaf(Node::IsNull(self.0))
     }
 
+    /// Tests that the column isn't null.
     #[must_use]
     pub fn is_not_null(self) -> Predicate {
-        Predicate::IsNotNull(self.0)
+        Predicate::leaf(Node::IsNotNull(self.0))
     }
 
-    /// The text matches a pattern: `%` is any run of characters, `_` any one, `\` makes the next one plain.
+    /// Tests that the text matches a pattern: `%` is any run of characters, `_` any one, `\` makes the next one plain.
     #[must_use]
     pub fn like(self, pattern: &str) -> Predicate {
-        Predicate::Like { column: self.0, pattern: pattern.to_owned(), negated: false, ignore_case: false }
+        self.matching(pattern, false, false)
+    }
+
+    /// Tests that the text is there and doesn't match a pattern.
+    #[must_use]
+    pub fn not_like(self, pattern: &str) -> Predicate {
+        self.matching(pattern, true, false)
+    }
+
+    /// Tests that the text matches a pattern, with ASCII letters of either case taken for one.
+    #[must_use]
+    pub fn ilike(self, pattern: &str) -> Predicate {
+        self.matching(pattern, false, true)
+    }
+
+    /// Tests that the text is there and doesn't match a pattern, with ASCII letters of either case taken for one.
+    #[must_use]
+    pub fn not_ilike(self, pattern: &str) -> Predicate {
+        self.matching(pattern, true, true)
+    }
+
+    fn matching(self, pattern: &str, negated: bool, ignore_case: bool) -> Predicate {
+        Predicate::leaf(Node::Like { column: self.0, pattern: pattern.to_owned(), negated, ignore_case })
     }
 }
 
 impl Predicate {
-    #[must_use]
-    pub fn and(self, other: Predicate) -> Predicate {
-        Predicate::And(Box::new(self), Box::new(other))
+    // Makes the predicate of one condition.
+    fn leaf(node: Node) -> Predicate {
+        Predicate { nodes: VecDeque::from([node]) }
     }
 
+    /// Returns the predicate that is true of every row, or of none.
+    #[must_use]
+    pub fn constant(truth: bool) -> Predicate {
+        Predicate::leaf(Node::Constant(truth))
+    }
+
+    /// Joins two predicates by AND.
+    #[must_use]
+    pub fn and(self, other: Predicate) -> Predicate {
+        self.joined(Node::And, other)
+    }
+
+    /// Joins two predicates by OR.
     #[must_use]
     pub fn or(self, other: Predicate) -> Predicate {
-        Predicate::Or(Box::new(self), Box::new(other))
+        self.joined(Node::Or, other)
+    }
+
+    /// Returns the conditions and connectives in prefix order: each connective stands before its operands.
+    pub fn nodes(&self) -> impl DoubleEndedIterator<Item = &Node> + ExactSizeIterator {
+        self.nodes.iter()
+    }
+
+    // The shorter side is moved to the longer one, so that a chain grows in time of its length from either end.
+    fn joined(self, connective: Node, other: Predicate) -> Predicate {
+        let (mut left, mut right) = (self.nodes, other.nodes);
+        let mut nodes = if left.len() < right.len() {
+            while let Some(node) = left.pop_back() {
+                right.push_front(node);
+            }
+            right
+        } else {
+            left.append(&mut right);
+            left
+        };
+        nodes.push_front(connective);
+        Predicate { nodes }
+    }
+
+    // Writes the text in the language of a `where` line, with each column's name written by `name`.
+    pub(crate) fn write(&self, out: &mut dyn fmt::Write, name: &ColumnWriter<'_>) -> fmt::Result {
+        for (place, node) in self.nodes.iter().enumerate() {
+            if place > 0 {
+                out.write_char(' ')?;
+            }
+            node.write(out, name)?;
+        }
+        Ok(())
     }
 }
 
 impl std::ops::Not for Predicate {
     type Output = Predicate;
 
-    fn not(self) -> Predicate {
-        Predicate::Not(Box::new(self))
+    /// Turns the predicate round; null stays null.
+    fn not(mut self) -> Predicate {
+        self.nodes.push_front(Node::Not);
+        self
     }
+}
+
+// Whether the language takes a text as a name.
+fn is_name(text: &str) -> bool {
+    let is_letter = |byte: u8| byte.is_ascii_alphabetic() || byte == b'_';
+    text.len() <= 64
+        && text.bytes().next().is_some_and(is_letter)
+        && text.bytes().all(|byte| is_letter(byte) || byte.is_ascii_digit())
 }
 
 impl fmt::Display for Predicate {
+    /// Writes the text of a `where` line. A name that the language doesn't take stands between quotes.
     fn fmt(&self, f: &mut fmt::Formatter<'_>) -> fmt::Result {
-        match self {
-            Predicate::Compare(operator, column, other) => write!(f, "{operator} col {column} {other}"),
-            Predicate::Between { column, low, low_strict, high, high_strict } => {
-                let end = |strict: &bool| if *strict { "<" } else { "<=" };
-                write!(f, "between {} {} col {column} {low} {high}", end(low_strict), end(high_strict))
+        self.write(f, &|name, out| {
+            out.write_str("col ")?;
+            if is_name(name) {
+                out.write_str(name)
+            } else {
+                quoted(name, out)
             }
-            Predicate::IsNull(column) => write!(f, "isnull col {column}"),
-            Predicate::IsNotNull(column) => write!(f, "notnull col {column}"),
-            Predicate::Like { column, pattern, negated, ignore_case } => {
-                let (not, case) = (if *negated { "not" } else { "" }, if *ignore_case { "i" } else { "" });
-                write!(f, "{not}{case}like col {column} {}", Literal::Utf8(pattern.clone()))
-            }
-            Predicate::And(left, right) => write!(f, "and {left} {right}"),
-            Predicate::Or(left, right) => write!(f, "or {left} {right}"),
-            Predicate::Not(of) => write!(f, "not {of}"),
-        }
-    }
-}
-
-impl fmt::Display for Operator {
-    fn fmt(&self, f: &mut fmt::Formatter<'_>) -> fmt::Result {
-        f.write_str(match self {
-            Operator::Eq => "eq",
-            Operator::Ne => "ne",
-            Operator::Gt => "gt",
-            Operator::Ge => "ge",
-            Operator::Lt => "lt",
-            Operator::Le => "le",
         })
-    }
-}
-
-impl fmt::Display for Operand {
-    fn fmt(&self, f: &mut fmt::Formatter<'_>) -> fmt::Result {
-        match self {
-            Operand::Column(name) => write!(f, "col {name}"),
-            Operand::Literal(literal) => literal.fmt(f),
-        }
-    }
-}
-
-impl fmt::Display for Literal {
-    fn fmt(&self, f: &mut fmt::Formatter<'_>) -> fmt::Result {
-        match self {
-            Literal::Bool(truth) => write!(f, "lit bool {truth}"),
-            Literal::Unsigned(kind, number) => write!(f, "lit {kind} {number}"),
-            Literal::Signed(kind, number) => write!(f, "lit {kind} {number}"),
-            Literal::Utf8(text) => write!(f, "lit utf8 \"{}\"", text.replace('\\', "\\\\").replace('"', "\\\"")),
-            Literal::Binary(bytes) => {
-                f.write_str("lit binary x")?;
-                bytes.iter().try_for_each(|byte| write!(f, "{byte:02x}"))
-            }
-            Literal::Null(Kind::Null) => f.write_str("lit null null"),
-            Literal::Null(kind) => write!(f, "lit {kind}? null"),
-        }
     }
 }

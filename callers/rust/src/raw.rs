@@ -1,6 +1,30 @@
 //! What crosses to the library, as callers/c/vortex.h declares it.
 use std::marker::PhantomData;
 
+#[cfg(not(all(target_endian = "little", target_pointer_width = "64")))]
+compile_error!("the library's arrays are little-endian, and its lengths have 64 bits");
+
+/// `vortex_status`.
+pub mod status {
+    pub const OK: u8 = 0;
+    pub const BAD_LINE: u8 = 2;
+    pub const TOO_SHORT: u8 = 3;
+    pub const NO_MEMORY: u8 = 4;
+    pub const BAD_KIND: u8 = 5;
+    pub const BAD_STAT: u8 = 6;
+    pub const BAD_KNOWN: u8 = 7;
+    pub const BAD_LENGTH: u8 = 8;
+    pub const BAD_ENDS: u8 = 9;
+    pub const BAD_VALUE: u8 = 10;
+    pub const BAD_NULL: u8 = 11;
+    pub const UNTRUE: u8 = 12;
+    pub const NOT_A_PREDICATE: u8 = 15;
+    pub const TOO_DEEP: u8 = 17;
+}
+
+/// `VORTEX_NORMALIZE` of `vortex_flag`.
+pub const NORMALIZE: u8 = 1;
+
 /// `vortex_fault`.
 #[repr(C)]
 #[derive(Clone, Copy, Debug, Default)]
@@ -56,6 +80,8 @@ pub struct Field<'a> {
 }
 
 unsafe extern "C" {
+    pub fn vortex_version() -> u32;
+
     pub fn vortex_run(input: *const u8, input_len: usize, output: *mut u8, output_len: usize, len: *mut usize) -> u8;
 
     pub fn vortex_measure(
@@ -74,6 +100,7 @@ unsafe extern "C" {
 
     pub fn vortex_check(
         column: *const Values<'_>,
+        rows: u64,
         stats: *const Statistic<'_>,
         stats_len: usize,
         zone: usize,
@@ -88,6 +115,22 @@ unsafe extern "C" {
         left_len: usize,
         right: *const Statistic<'_>,
         right_len: usize,
+        known: *mut u8,
+        known_len: usize,
+        ends: *mut u64,
+        ends_len: usize,
+        values: *mut u8,
+        values_len: usize,
+        len: *mut usize,
+        fault: *mut Fault,
+    ) -> u8;
+
+    pub fn vortex_merge_zones(
+        kind: u8,
+        nullable: u8,
+        zones: usize,
+        stats: *const Statistic<'_>,
+        stats_len: usize,
         known: *mut u8,
         known_len: usize,
         ends: *mut u64,

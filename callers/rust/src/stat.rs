@@ -1,5 +1,6 @@
 //! Statistics and their values.
 use crate::column::{DType, Kind};
+use std::fmt;
 
 /// A kind of statistic. The numbers are the header's.
 #[derive(Clone, Copy, Debug, PartialEq, Eq, Hash)]
@@ -16,7 +17,19 @@ pub enum Stat {
 }
 
 impl Stat {
-    /// The kind of the statistic's value in a column of this type; `None` where the type has no such statistic.
+    /// Every statistic, by the header's numbers.
+    pub const EVERY: [Stat; 8] = [
+        Stat::IsConstant,
+        Stat::IsSorted,
+        Stat::IsStrictSorted,
+        Stat::Max,
+        Stat::Min,
+        Stat::Sum,
+        Stat::NullCount,
+        Stat::UncompressedSizeInBytes,
+    ];
+
+    /// Returns the kind of the statistic's value in a column of this type; `None` where the type has no such statistic.
     #[must_use]
     pub fn kind(self, dtype: DType) -> Option<Kind> {
         match self {
@@ -29,6 +42,22 @@ impl Stat {
             },
             Stat::NullCount | Stat::UncompressedSizeInBytes => Some(Kind::U64),
         }
+    }
+}
+
+impl fmt::Display for Stat {
+    /// Writes the statistic's word in the language of the program.
+    fn fmt(&self, f: &mut fmt::Formatter<'_>) -> fmt::Result {
+        f.write_str(match self {
+            Stat::IsConstant => "is_constant",
+            Stat::IsSorted => "is_sorted",
+            Stat::IsStrictSorted => "is_strict_sorted",
+            Stat::Max => "max",
+            Stat::Min => "min",
+            Stat::Sum => "sum",
+            Stat::NullCount => "null_count",
+            Stat::UncompressedSizeInBytes => "uncompressed_size_in_bytes",
+        })
     }
 }
 

@@ -1,6 +1,7 @@
 //! Pruning and merging beside a direct filter of the rows.
 use foalmorrow::{
-    col, Answer, Column, DType, Error, Kind, Literal, Operand, Operator, Precision, Predicate, Stat, Value, ZoneMap,
+    col, Answer, Column, DType, Error, Kind, Literal, Node, Operand, Operator, Place, Precision, Predicate, Stat,
+    Value, ZoneMap,
 };
 
 const WANTED: [Stat; 3] = [Stat::Min, Stat::Max, Stat::NullCount];
@@ -46,19 +47,26 @@ impl Dice {
         let i = || Literal::from(number as i64 - 11);
         let operator =
             [Operator::Eq, Operator::Ne, Operator::Gt, Operator::Ge, Operator::Lt, Operator::Le][self.roll(6) as usize];
-        let compare =
-            |name: &str, literal: Literal| Predicate::Compare(operator, name.to_owned(), Operand::Literal(literal));
-        match self.roll(10) {
+        let compare = |name: &str, literal: Literal| col(name).compare(operator, literal);
+        match self.roll(13) {
             0..=2 => compare("i", i()),
             3 => compare("u", Literal::from(number as u8)),
             4 => compare("s", Literal::from(self.text(number).as_str())),
-            5 => compare("b", Literal::from(number % 2 == 0)),
+            5 => compare("b", Literal::from(number.is_multiple_of(2))),
             6 => col("i").between(number as i64 - 12, number as i64 - 9),
             7 => col(["i", "s", "b"][number as usize % 3]).is_null(),
             8 => col(["i", "s", "u"][number as usize % 3]).is_not_null(),
-            _ => {
+            9 => col("i").between_ends(number as i64 - 12, self.roll(2) == 0, number as i64 - 9, self.roll(2) == 0),
+            10 => col("i").is_in((0..self.roll(4)).map(|step| number as i64 - 11 + 3 * step as i64)),
+            kind => {
                 let pattern = format!("{}%{}", self.text(number), ["", "b", "_"][number as usize % 3]);
-                Predicate::Like { column: "s".to_owned(), pattern, negated: number % 4 == 0, ignore_case: false }
+                let pattern = if kind == 11 { pattern } else { pattern.to_uppercase() };
+                match (kind, number % 4) {
+                    (11, 0) => col("s").not_like(&pattern),
+                    (11, _) => col("s").like(&pattern),
+                    (_, 0) => col("s").not_ilike(&pattern),
+                    (_, _) => col("s").ilike(&pattern),
+                }
             }
         }
     }
@@ -120,33 +128,52 @@ fn cell<'a>(row: &'a Row, name: &str) -> &'a Option<Value> {
     &row[SCOPE.iter().position(|(it, _)| *it == name).unwrap()]
 }
 
-fn truth(predicate: &Predicate, row: &Row) -> Option<bool> {
-    match predicate {
-        Predicate::Compare(operator, name, Operand::Literal(limit)) => {
+fn condition(node: &Node, row: &Row) -> Option<bool> {
+    match node {
+        Node::And | Node::Or | Node::Not => panic!("{node:?} is no condition"),
+        Node::Constant(truth) => Some(*truth),
+        Node::Compare(operator, name, Operand::Literal(limit)) => {
             cell(row, name).as_ref().map(|value| compared(*operator, value, &of_literal(limit)))
         }
-        Predicate::Compare(_, _, Operand::Column(_)) => panic!("no such predicate is made here"),
-        Predicate::Between { column, low, high, .. } => cell(row, column).as_ref().map(|value| {
-            compared(Operator::Ge, value, &of_literal(low)) && compared(Operator::Le, value, &of_literal(high))
+        Node::Compare(_, _, Operand::Column(_)) => panic!("no such predicate is made here"),
+        Node::Between { column, low, low_strict, high, high_strict } => cell(row, column).as_ref().map(|value| {
+            let above = if *low_strict { Operator::Gt } else { Operator::Ge };
+            let below = if *high_strict { Operator::Lt } else { Operator::Le };
+            compared(above, value, &of_literal(low)) && compared(below, value, &of_literal(high))
         }),
-        Predicate::IsNull(name) => Some(cell(row, name).is_none()),
-        Predicate::IsNotNull(name) => Some(cell(row, name).is_some()),
-        Predicate::Like { column, pattern, negated, .. } => cell(row, column).as_ref().map(|value| {
+        Node::IsNull(name) => Some(cell(row, name).is_none()),
+        Node::IsNotNull(name) => Some(cell(row, name).is_some()),
+        Node::Like { column, pattern, negated, ignore_case } => cell(row, column).as_ref().map(|value| {
             let Value::Utf8(text) = value else { panic!("{value:?}") };
-            matches(&text.chars().collect::<Vec<_>>(), &pattern.chars().collect::<Vec<_>>()) != *negated
+            let letters = |it: &str| {
+                let lower = |letter: char| if *ignore_case { letter.to_ascii_lowercase() } else { letter };
+                it.chars().map(lower).collect::<Vec<_>>()
+            };
+            matches(&letters(text), &letters(pattern)) != *negated
         }),
-        Predicate::And(left, right) => match (truth(left, row), truth(right, row)) {
-            (Some(false), _) | (_, Some(false)) => Some(false),
-            (Some(true), Some(true)) => Some(true),
-            _ => None,
-        },
-        Predicate::Or(left, right) => match (truth(left, row), truth(right, row)) {
-            (Some(true), _) | (_, Some(true)) => Some(true),
-            (Some(false), Some(false)) => Some(false),
-            _ => None,
-        },
-        Predicate::Not(of) => truth(of, row).map(|it| !it),
     }
+}
+
+// The nodes from the last one on, with the truths of the operands that are still to be joined on a stack.
+fn truth(predicate: &Predicate, row: &Row) -> Option<bool> {
+    let mut truths: Vec<Option<bool>> = Vec::new();
+    for node in predicate.nodes().rev() {
+        let joined = match node {
+            Node::Not => truths.pop().unwrap().map(|it| !it),
+            Node::And | Node::Or => {
+                let (left, right, decided) = (truths.pop().unwrap(), truths.pop().unwrap(), *node == Node::Or);
+                if left == Some(decided) || right == Some(decided) {
+                    Some(decided)
+                } else {
+                    left.and(right)
+                }
+            }
+            _ => condition(node, row),
+        };
+        truths.push(joined);
+    }
+    assert_eq!(truths.len(), 1);
+    truths[0]
 }
 
 // ---- zones of rows
@@ -176,7 +203,7 @@ fn pushed(map: &mut ZoneMap, rows: &[Row]) {
 }
 
 fn map_of(zones: &[Vec<Row>]) -> ZoneMap {
-    let mut map = ZoneMap::new(&SCOPE, &WANTED);
+    let mut map = ZoneMap::new(&SCOPE, &WANTED).unwrap();
     zones.iter().for_each(|rows| pushed(&mut map, rows));
     map
 }
@@ -237,10 +264,32 @@ fn merged_zones_are_those_of_the_joined_rows() {
     }
 }
 
+#[test]
+fn all_zones_merged_are_those_merged_in_turn() {
+    let mut dice = Dice(2_862_933_555_777_941_757);
+    for _ in 0..2_000 {
+        let zones: Vec<_> = (0..1 + dice.roll(6)).map(|_| dice.rows()).collect();
+        let map = map_of(&zones);
+        let in_turn = zones[1..].iter().fold(map_of(&zones[..1]), |all, rows| {
+            let one = map_of(std::slice::from_ref(rows));
+            all.merge(&one).unwrap()
+        });
+        let merged = map.merged().unwrap();
+        assert_eq!(merged.rows(), in_turn.rows());
+        for (place, stat) in (0..SCOPE.len()).flat_map(|place| WANTED.map(|stat| (place, stat))) {
+            let get = |map: &ZoneMap| map.column(place).unwrap().get(0, stat).unwrap();
+            assert_eq!(get(&merged), get(&in_turn), "{stat} of {zones:?}");
+        }
+        let predicate = dice.predicate(2);
+        check(&predicate, &[zones.concat()], &merged.prune(&predicate).unwrap());
+    }
+    assert_eq!(map_of(&[]).merged(), Ok(map_of(&[])));
+}
+
 // Of each type a zone that a comparison skips, one that it has to read and one that is whole; told from outside, and
 // merged.
 fn of_each_type(dtype: DType, low: Value, high: Value, limit: impl Into<Operand>) {
-    let mut map = ZoneMap::new(&[("c", dtype)], &WANTED);
+    let mut map = ZoneMap::new(&[("c", dtype)], &WANTED).unwrap();
     let told = |least: &Value, greatest: &Value| {
         vec![vec![
             Precision::Exact(least.clone()),
@@ -277,42 +326,65 @@ fn each_type_is_pruned_and_merged() {
         of_each_type(of(Kind::Utf8), Value::Utf8("a \"b\" \\".into()), Value::Utf8("é".into()), "a \"b\" \\\u{1}");
         of_each_type(of(Kind::Binary), Value::Binary(vec![]), Value::Binary(vec![255, 0]), [255_u8].as_slice());
     }
-    let mut nulls = ZoneMap::new(&[("z", DType { kind: Kind::Null, nullable: true })], &WANTED);
+    let mut nulls = ZoneMap::new(&[("z", DType { kind: Kind::Null, nullable: true })], &WANTED).unwrap();
     nulls.push(&[Column::nulls(3)]).unwrap();
     assert_eq!(nulls.prune(&col("z").is_null()), Ok(vec![Answer::Whole]));
     assert_eq!(nulls.prune(&col("z").is_not_null()), Ok(vec![Answer::Skip]));
     assert_eq!(nulls.prune(&col("z").eq(Literal::Null(Kind::Null))), Ok(vec![Answer::Read]));
 }
 
+fn misfit(words: &str) -> Error {
+    Error::Misfit(words.to_owned())
+}
+
 #[test]
 fn refusals_leave_all_as_it_was() {
-    let mut map = ZoneMap::new(&SCOPE[..2], &WANTED);
-    assert_eq!(map.push(&[Column::numbers(&[1_i64])]), Err(Error::Misfit));
-    assert_eq!(map.push(&[Column::numbers(&[1_i64]).with_nulls(&[]), Column::numbers(&[1_u8, 2])]), Err(Error::Misfit));
+    let mut map = ZoneMap::new(&SCOPE[..2], &WANTED).unwrap();
+    let numbers = |numbers: &'static [i64]| Column::numbers(numbers).with_nulls(&[]);
+    let place = |column: &str| Place { column: Some(column.into()), ..Place::default() };
+    let columns = misfit("1 columns are handed in for a zone, and the map has 2");
+    assert_eq!(map.push(&[Column::numbers(&[1_i64])]), Err(columns.clone()));
+    assert_eq!(map.push_known(1, &[vec![]]), Err(columns));
+    let rows = misfit("column u: it has 2 rows, and column i has 1");
+    assert_eq!(map.push(&[numbers(&[1]), Column::numbers(&[1_u8, 2])]), Err(rows));
     // The first column is measured before the second one is refused.
-    assert_eq!(map.push(&[Column::numbers(&[1_i64]).with_nulls(&[]), Column::numbers(&[1_u16])]), Err(Error::BadKind));
-    assert_eq!(map, ZoneMap::new(&SCOPE[..2], &WANTED));
+    assert_eq!(map.push(&[numbers(&[1]), Column::numbers(&[1_u16])]), Err(Error::BadKind(place("u"))));
+    let short = Column::numbers(&[1_i64, 2]).with_nulls(&[0]);
+    let row = Place { row: Some(1), ..place("i") };
+    assert_eq!(map.push(&[short, Column::numbers(&[1_u8, 2])]), Err(Error::BadLength(row)));
+    assert_eq!(map, ZoneMap::new(&SCOPE[..2], &WANTED).unwrap());
     let wrong = vec![Precision::Exact(Value::Unsigned(1)), Precision::Absent, Precision::Absent];
-    assert_eq!(map.push_known(1, &[wrong.clone(), wrong]), Err(Error::BadValue { row: 0, entry: 0 }));
-    assert_eq!(map.push_known(1, &[vec![], vec![]]), Err(Error::BadStat { entry: 0 }));
-    assert_eq!(map.zones(), 0);
+    let value = Place { stat: Some(Stat::Min), zone: Some(0), ..place("i") };
+    assert_eq!(map.push_known(1, &[wrong.clone(), wrong]), Err(Error::BadValue(value)));
+    let told = misfit("column i: 0 statistics are told, and 3 are kept");
+    assert_eq!(map.push_known(1, &[vec![], vec![]]), Err(told));
+    assert_eq!(map, ZoneMap::new(&SCOPE[..2], &WANTED).unwrap());
+}
+
+#[test]
+fn maps_that_do_not_fit_are_not_merged() {
+    let mut map = ZoneMap::new(&SCOPE[..2], &WANTED).unwrap();
     map.push(&[Column::numbers(&[1_i64]).with_nulls(&[]), Column::numbers(&[1_u8])]).unwrap();
-    for predicate in [col("x").is_null(), col("i").gt(3_i32), col("i").gt("3"), col("u").like("a")] {
-        assert_eq!(map.prune(&predicate), Err(Error::BadPredicate), "{predicate}");
-    }
-    assert_eq!(
-        ZoneMap::new(&[("a b", SCOPE[0].1)], &WANTED).prune(&col("a").is_null()),
-        Err(Error::BadName { column: 0 })
-    );
-    let twice = ZoneMap::new(&[SCOPE[0], SCOPE[0]], &WANTED);
-    assert_eq!(twice.prune(&col("i").is_null()), Err(Error::BadName { column: 1 }));
-    assert_eq!(map.merge(&ZoneMap::new(&SCOPE[..2], &WANTED)), Err(Error::Misfit));
-    assert_eq!(map.merge(&ZoneMap::new(&SCOPE[..1], &WANTED)), Err(Error::Misfit));
+    let other = |scope: &[(&str, DType)], stats: &[Stat]| ZoneMap::new(scope, stats).unwrap();
+    assert_eq!(map.merge(&other(&SCOPE[..2], &WANTED)), Err(misfit("1 zones stand beside 0")));
+    let columns = misfit("the maps are of tables with different columns");
+    assert_eq!(map.merge(&other(&SCOPE[..1], &WANTED)), Err(columns));
+    let (empty, sides) = (other(&SCOPE[..2], &WANTED), "the two sides have other types or other statistics");
+    let stats = misfit(&format!("column i: {sides}"));
+    assert_eq!(empty.merge(&other(&SCOPE[..2], &WANTED[..2])), Err(stats));
+    let types = misfit(&format!("column u: {sides}"));
+    assert_eq!(empty.merge(&other(&[SCOPE[0], ("u", SCOPE[0].1)], &WANTED)), Err(types));
+    let mut full = other(&[], &[]);
+    full.push_known(u64::MAX, &[]).unwrap();
+    full.push_known(1, &[]).unwrap();
+    let rows = misfit("the rows of a merged zone leave 64 bits");
+    assert_eq!(full.merge(&full), Err(rows.clone()));
+    assert_eq!(full.merged(), Err(rows));
 }
 
 #[test]
 fn the_normal_form_skips_more() {
-    let mut map = ZoneMap::new(&[("a", DType { kind: Kind::I64, nullable: false })], &WANTED);
+    let mut map = ZoneMap::new(&[("a", DType { kind: Kind::I64, nullable: false })], &WANTED).unwrap();
     map.push(&[Column::numbers(&[1_i64, 20])]).unwrap();
     let empty = col("a").gt(9_i64).and(col("a").lt(3_i64));
     assert_eq!(map.prune(&empty), Ok(vec![Answer::Read]));

@@ -1,16 +1,7 @@
 //! Every field and type of what crosses.
-use foalmorrow::{measure, run, Column, Error, Footers, Precision, Reply, Stat, Value};
+use foalmorrow::{measure, run, version, Column, ColumnStats, Error, Place, Precision, Reply, Stat, Value};
 
-const EVERY: [Stat; 8] = [
-    Stat::IsConstant,
-    Stat::IsSorted,
-    Stat::IsStrictSorted,
-    Stat::Max,
-    Stat::Min,
-    Stat::Sum,
-    Stat::NullCount,
-    Stat::UncompressedSizeInBytes,
-];
+const EVERY: [Stat; 8] = Stat::EVERY;
 
 fn exact(values: impl IntoIterator<Item = Value>) -> Vec<Precision<Value>> {
     values.into_iter().map(Precision::Exact).collect()
@@ -56,6 +47,11 @@ fn truths_texts_bytes_and_nulls() {
 }
 
 #[test]
+fn any_number_of_nulls_is_measured_at_once() {
+    assert_eq!(measure(&Column::nulls(usize::MAX), &[Stat::NullCount]), Ok(exact([Value::Unsigned(u64::MAX)])));
+}
+
+#[test]
 fn long_texts_are_told_whole() {
     let long = "x".repeat(10_000);
     let column = Column::texts(&long, &[10_000]);
@@ -64,13 +60,22 @@ fn long_texts_are_told_whole() {
 
 #[test]
 fn refusals_tell_their_place() {
+    let row = |row| Place { row: Some(row), ..Place::default() };
     let words = Column::texts("abc", &[1, 4]);
-    assert_eq!(measure(&words, &[Stat::Max]), Err(Error::BadEnds { row: 1, entry: 0 }));
-    assert_eq!(measure(&words, &[Stat::Max, Stat::Sum]), Err(Error::BadStat { entry: 1 }));
+    assert_eq!(measure(&words, &[Stat::Max]), Err(Error::BadEnds(row(1))));
+    let stat = Place { stat: Some(Stat::Sum), ..Place::default() };
+    assert_eq!(measure(&words, &[Stat::Max, Stat::Sum]), Err(Error::BadStat(stat)));
     let split = Column::texts("ä", &[1, 2]);
-    assert_eq!(measure(&split, &[Stat::Max]), Err(Error::BadValue { row: 0, entry: 0 }));
-    let short = Column::numbers(&[1u8, 2]).with_nulls(&[0]);
-    assert_eq!(measure(&short, &[Stat::Max]), Err(Error::BadLength { row: 1, entry: 0 }));
+    assert_eq!(measure(&split, &[Stat::Max]), Err(Error::BadValue(row(0))));
+    let number = Column::numbers(&[1u8, 2]);
+    assert_eq!(measure(&number.with_nulls(&[0]), &[Stat::Max]), Err(Error::BadLength(row(1))));
+    assert_eq!(measure(&number.with_nulls(&[0, 0, 1]), &[Stat::Max]), Err(Error::BadLength(row(2))));
+    assert_eq!(measure(&Column::numbers::<u8>(&[]).with_nulls(&[0]), &[Stat::Max]), Err(Error::BadLength(row(0))));
+}
+
+#[test]
+fn version_is_that_of_the_crate() {
+    assert_eq!(version(), env!("CARGO_PKG_VERSION"));
 }
 
 #[test]
@@ -102,26 +107,25 @@ fn calls_run_side_by_side() {
 #[test]
 fn what_is_measured_is_true_and_is_kept() {
     let numbers = [Column::numbers(&[3i16, -4]), Column::numbers(&[7i16]), Column::numbers::<i16>(&[])];
-    let mut footers = Footers::new(numbers[0].dtype(), &EVERY);
+    let mut kept = ColumnStats::new(numbers[0].dtype(), &EVERY);
     let words = [Column::texts("oneseven", &[3, 8]), Column::texts("", &[]), Column::texts("zz", &[2])];
     let bounds = [Stat::Min, Stat::Max, Stat::NullCount];
-    let mut texts = Footers::new(words[0].dtype(), &bounds);
+    let mut texts = ColumnStats::new(words[0].dtype(), &bounds);
     for (number, word) in numbers.iter().zip(&words) {
-        footers.push(number).unwrap();
+        kept.push(number).unwrap();
         texts.push(word).unwrap();
     }
     for zone in 0..3 {
-        assert_eq!(footers.check(zone, &numbers[zone]), Ok(()));
-        assert_eq!(texts.check(zone, &words[zone]), Ok(()));
+        assert_eq!(kept.check(zone, numbers[zone].rows() as u64, &numbers[zone]), Ok(()));
+        assert_eq!(texts.check(zone, words[zone].rows() as u64, &words[zone]), Ok(()));
     }
-    assert_eq!(footers.check(0, &numbers[1]), Err(Error::Untrue { entry: 0 }));
-    assert_eq!(texts.check(2, &words[0]), Err(Error::Untrue { entry: 0 }));
-    assert_eq!(texts.check(3, &words[0]), Err(Error::BadLength { row: 3, entry: 0 }));
-    assert_eq!(footers.get(0, Stat::Min), Some(Precision::Exact(Value::Signed(-4))));
-    assert_eq!(footers.get(2, Stat::Min), Some(Precision::Absent));
+    assert_eq!(kept.get(0, Stat::Min), Some(Precision::Exact(Value::Signed(-4))));
+    assert_eq!(kept.get(2, Stat::Min), Some(Precision::Absent));
+    assert_eq!(kept.get(3, Stat::Min), None);
     assert_eq!(texts.get(0, Stat::Max), Some(Precision::Exact(Value::Utf8("seven".to_owned()))));
     assert_eq!(texts.get(2, Stat::Max), Some(Precision::Exact(Value::Utf8("zz".to_owned()))));
-    assert_eq!(texts.push(&numbers[0]), Err(Error::BadKind));
+    assert_eq!(texts.get(2, Stat::Sum), None);
+    assert_eq!(texts.push(&numbers[0]), Err(Error::BadKind(Place::default())));
 }
 
 struct Dice(u64);
@@ -156,11 +160,11 @@ fn random_columns_beside_a_direct_filter() {
         ];
         let wanted = [Stat::Max, Stat::Min, Stat::Sum, Stat::NullCount];
         assert_eq!(measure(&column, &wanted), Ok(expected));
-        let mut footers = Footers::new(column.dtype(), &wanted);
-        footers.push(&column).unwrap();
-        assert_eq!(footers.check(0, &column), Ok(()));
+        let mut kept = ColumnStats::new(column.dtype(), &wanted);
+        kept.push(&column).unwrap();
+        assert_eq!(kept.check(0, rows as u64, &column), Ok(()));
         let limit = dice.roll(21) as i64 - 10;
-        if let Some(Precision::Exact(Value::Signed(greatest))) = footers.get(0, Stat::Max) {
+        if let Some(Precision::Exact(Value::Signed(greatest))) = kept.get(0, Stat::Max) {
             if greatest <= limit {
                 unread += 1;
                 assert!(!there.iter().any(|value| *value > limit));

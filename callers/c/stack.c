@@ -1,0 +1,214 @@
+/* Every call but vortex_run on a thread of 256 KiB: predicates of each form as deep as they may be, deeper, and chains. */
+#define _POSIX_C_SOURCE 200809L
+#include "vortex.h"
+#include <assert.h>
+#include <pthread.h>
+#include <stdio.h>
+#include <stdlib.h>
+#include <string.h>
+
+/* What a call may take, and what the thread itself takes: its own storage and the frames up to the call. */
+enum { STACK = 256 * 1024 + 16 * 1024, MANY = 100000 };
+
+/* A text that grows. */
+typedef struct text {
+    char *bytes;
+    size_t len, room;
+} text;
+
+static void add(text *to, const char *words) {
+    size_t len = strlen(words);
+    if (to->len + len + 1 > to->room) {
+        to->room = 2 * (to->len + len + 1);
+        to->bytes = realloc(to->bytes, to->room);
+        assert(to->bytes);
+    }
+    memcpy(to->bytes + to->len, words, len + 1);
+    to->len += len;
+}
+
+/* Two ways in turn in which a predicate grows by a level: what stands before and what stands behind the operand. */
+typedef struct form {
+    const char *name, *before[2], *after[2];
+} form;
+
+#define LEAF "gt col n lit i64 1 "
+#define LIKE "like col s lit utf8 \"%a_b%\" "
+static const form forms[] = {
+    {"not", {"not ", "not "}, {"", ""}},
+    {"isnull", {"isnull ", "isnull "}, {"", ""}},
+    {"notnull and isnull", {"notnull ", "isnull "}, {"", ""}},
+    {"a comparison's left side", {"eq ", "ne "}, {"lit bool true ", "lit bool? null "}},
+    {"a comparison's right side", {"lt lit bool true ", "ge lit bool false "}, {"", ""}},
+    {"isnull of a comparison", {"isnull ", "eq "}, {"", "notnull col t "}},
+    {"between's first operand", {"between < <= ", "between <= < "}, {"lit bool false lit bool true ", "col t col t "}},
+    {"between's second operand", {"between <= <= col t ", "between < < col t "}, {"lit bool true ", "col t "}},
+    {"between's third operand", {"between <= < lit bool true col t ", "between < <= col t lit bool true "}, {"", ""}},
+    {"and, or to the right", {"and " LEAF, "or " LIKE}, {"", ""}},
+    {"and, or to the left", {"and ", "or "}, {LEAF, LIKE}},
+    {"and, or to both sides", {"and " LIKE, "or "}, {"", LEAF}},
+    {"not of or", {"not ", "or " LEAF}, {"", ""}},
+    {"not of and", {"and ", "not "}, {LIKE, ""}},
+    {"isnull of and", {"isnull ", "and " LEAF}, {"", ""}},
+};
+enum { FORMS = sizeof forms / sizeof *forms };
+
+/* The predicate of a form that has so many levels, of which the innermost condition is one. */
+static text nested(const form *of, size_t levels) {
+    text found = {0};
+    for (size_t i = 1; i < levels; i++) add(&found, of->before[i % 2]);
+    add(&found, "notnull col t ");
+    for (size_t i = levels - 1; i > 0; i--) add(&found, of->after[i % 2]);
+    return found;
+}
+
+/* Two zones of three columns: numbers from 0 to 9 and from 5 to 14, truths of which nothing is known, and texts. */
+static const vortex_field scope[3] = {{.name = (const uint8_t *)"n", .name_len = 1, .kind = VORTEX_I64, .nullable = 1},
+                                      {.name = (const uint8_t *)"t", .name_len = 1, .kind = VORTEX_BOOL, .nullable = 1},
+                                      {.name = (const uint8_t *)"s", .name_len = 1, .kind = VORTEX_UTF8, .nullable = 1}};
+static const uint64_t rows[2] = {10, 10}, text_ends[2] = {1, 2};
+static const int64_t least[2] = {0, 5}, greatest[2] = {9, 14}, nulls[2] = {0, 0};
+static const vortex_statistic stats[5] = {
+    {.column = 0, .stat = VORTEX_MIN, .known = (const uint8_t *)"\1\1", .known_len = 2, .values = (const uint8_t *)least, .values_len = 16},
+    {.column = 0, .stat = VORTEX_MAX, .known = (const uint8_t *)"\1\1", .known_len = 2, .values = (const uint8_t *)greatest, .values_len = 16},
+    {.column = 0, .stat = VORTEX_NULL_COUNT, .known = (const uint8_t *)"\1\1", .known_len = 2, .values = (const uint8_t *)nulls, .values_len = 16},
+    {.column = 2, .stat = VORTEX_MIN, .known = (const uint8_t *)"\1\1", .known_len = 2, .values = (const uint8_t *)"ab", .values_len = 2,
+     .ends = text_ends, .ends_len = 2},
+    {.column = 2, .stat = VORTEX_MAX, .known = (const uint8_t *)"\1\1", .known_len = 2, .values = (const uint8_t *)"ab", .values_len = 2,
+     .ends = text_ends, .ends_len = 2},
+};
+
+/* A call of vortex_prune and what it has answered. */
+typedef struct question {
+    const text *predicate;
+    uint8_t flags, status, answers[2];
+} question;
+
+static void *prune(void *given) {
+    question *asked = given;
+    vortex_fault fault;
+    asked->status = vortex_prune(scope, 3, rows, 2, stats, 5, (const uint8_t *)asked->predicate->bytes, asked->predicate->len,
+                                 asked->flags, asked->answers, 2, &fault);
+    return NULL;
+}
+
+static void on_a_small_stack(void *(*call)(void *), void *given) {
+    pthread_attr_t attributes;
+    pthread_t thread;
+    assert(pthread_attr_init(&attributes) == 0 && pthread_attr_setstacksize(&attributes, STACK) == 0);
+    assert(pthread_create(&thread, &attributes, call, given) == 0 && pthread_join(thread, NULL) == 0);
+    assert(pthread_attr_destroy(&attributes) == 0);
+}
+
+static question asked(const text *predicate, uint8_t flags) {
+    question question = {.predicate = predicate, .flags = flags, .status = 99, .answers = {9, 9}};
+    on_a_small_stack(prune, &question);
+    if (question.status == VORTEX_OK)
+        assert(question.answers[0] <= VORTEX_WHOLE && question.answers[1] <= VORTEX_WHOLE);
+    else
+        assert(question.answers[0] == 9 && question.answers[1] == 9);
+    return question;
+}
+
+/* Each form is answered up to the greatest depth and refused behind it. */
+static void every_form(void) {
+    const size_t depths[] = {1, 2, 3, 64, VORTEX_MAX_DEPTH - 1, VORTEX_MAX_DEPTH, VORTEX_MAX_DEPTH + 1, 1400, 4094, MANY};
+    for (size_t i = 0; i < FORMS; i++)
+        for (size_t d = 0; d < sizeof depths / sizeof *depths; d++)
+            for (uint8_t flags = 0; flags <= VORTEX_NORMALIZE; flags++) {
+                text predicate = nested(&forms[i], depths[d]);
+                uint8_t wanted = depths[d] <= VORTEX_MAX_DEPTH ? VORTEX_OK : VORTEX_TOO_DEEP;
+                uint8_t status = asked(&predicate, flags).status;
+                if (status != wanted) printf("%s, %zu levels: status %d\n", forms[i].name, depths[d], status);
+                assert(status == wanted);
+                free(predicate.bytes);
+            }
+}
+
+/* Forms in a random turn, as deep as they may be. */
+static void forms_in_turn(void) {
+    uint64_t dice = 88172645463325252u;
+    for (size_t trial = 0; trial < 500; trial++) {
+        uint8_t turns[VORTEX_MAX_DEPTH];
+        text predicate = {0};
+        for (size_t i = 1; i < VORTEX_MAX_DEPTH; i++) {
+            dice ^= dice << 13, dice ^= dice >> 7, dice ^= dice << 17;
+            turns[i] = (uint8_t)(dice % (2 * FORMS));
+            add(&predicate, forms[turns[i] / 2].before[turns[i] % 2]);
+        }
+        add(&predicate, "notnull col t ");
+        for (size_t i = VORTEX_MAX_DEPTH - 1; i > 0; i--) add(&predicate, forms[turns[i] / 2].after[turns[i] % 2]);
+        assert(asked(&predicate, 0).status == VORTEX_OK);
+        assert(asked(&predicate, VORTEX_NORMALIZE).status == VORTEX_OK);
+        free(predicate.bytes);
+    }
+}
+
+/* A chain of one connective isn't deep, whatever its shape. Of each 1,000 items one rules out zone 0. */
+static void every_chain(void) {
+    const char *const items[2] = {"ge col n lit i64 0 ", "gt col n lit i64 9 "};
+    for (size_t shape = 0; shape < 6; shape++) {
+        const char *word = shape < 3 ? "and " : "or ";
+        text chain = {0};
+        for (size_t i = 0; i + 1 < MANY; i++) {
+            add(&chain, word);
+            if (shape % 3 == 1 || (shape % 3 == 2 && i % 2)) add(&chain, items[i % 1000 == 7]);
+        }
+        size_t behind = shape % 3 == 0 ? MANY : shape % 3 == 1 ? 1 : MANY - (MANY - 1) / 2;
+        for (size_t i = 0; i < behind; i++) add(&chain, items[i % 1000 == 8]);
+        for (uint8_t flags = 0; flags <= VORTEX_NORMALIZE; flags++) {
+            question found = asked(&chain, flags);
+            assert(found.status == VORTEX_OK);
+            assert(found.answers[0] == (shape < 3 ? VORTEX_SKIP : VORTEX_WHOLE));
+            assert(found.answers[1] == (shape < 3 ? VORTEX_READ : VORTEX_WHOLE));
+        }
+        free(chain.bytes);
+    }
+}
+
+/* Deep texts that are no expression are refused too. */
+static void every_torso(void) {
+    const char *const words[] = {"not ", "and ", "isnull ", "eq ", "between < < ", "like ", "and col t ", "or not "};
+    for (size_t i = 0; i < sizeof words / sizeof *words; i++) {
+        text torso = {0};
+        for (size_t j = 0; j < MANY; j++) add(&torso, words[i]);
+        uint8_t status = asked(&torso, 0).status;
+        assert(status == VORTEX_BAD_LINE || status == VORTEX_TOO_DEEP);
+        add(&torso, "lit u8 300");
+        status = asked(&torso, 0).status;
+        assert(status == VORTEX_BAD_LINE || status == VORTEX_TOO_DEEP);
+        free(torso.bytes);
+    }
+}
+
+/* The calls about columns and tables, with many rows and many zones. */
+static void *other_calls(void *given) {
+    (void)given;
+    static uint64_t ends[MANY], merged_ends[MANY];
+    static uint8_t heap[MANY], known[MANY], merged_known[MANY], values[2 * MANY];
+    const uint8_t wanted[4] = {VORTEX_MIN, VORTEX_MAX, VORTEX_NULL_COUNT, VORTEX_IS_SORTED};
+    for (size_t i = 0; i < MANY; i++) ends[i] = i + 1, heap[i] = (uint8_t)('a' + i % 26), known[i] = VORTEX_EXACT;
+    vortex_values column = {.kind = VORTEX_UTF8, .rows = MANY, .values = heap, .values_len = MANY, .ends = ends, .ends_len = MANY};
+    const vortex_statistic table = {.stat = VORTEX_MAX, .known = known, .known_len = MANY, .values = heap, .values_len = MANY,
+                                    .ends = ends, .ends_len = MANY};
+    size_t len;
+    vortex_fault fault;
+    assert(vortex_version() == VORTEX_VERSION);
+    assert(vortex_measure(&column, wanted, 4, merged_known, 4, merged_ends, 4, values, sizeof values, &len, &fault) == VORTEX_OK);
+    assert(vortex_check(&column, MANY, &table, 1, 25, &fault) == VORTEX_OK);
+    assert(vortex_merge(VORTEX_UTF8, 0, MANY, &table, 1, &table, 1, merged_known, MANY, merged_ends, MANY, values, sizeof values, &len,
+                        &fault) == VORTEX_OK && len == MANY);
+    assert(vortex_merge_zones(VORTEX_UTF8, 0, MANY, &table, 1, merged_known, 1, merged_ends, 1, values, sizeof values, &len,
+                              &fault) == VORTEX_OK && len == 1 && values[0] == 'z');
+    return NULL;
+}
+
+int main(void) {
+    every_form();
+    forms_in_turn();
+    every_chain();
+    every_torso();
+    on_a_small_stack(other_calls, NULL);
+    puts("stack: each call fits into 256 KiB, and a deeper predicate is refused");
+    return 0;
+}

@@ -1,0 +1,173 @@
+//! A predicate and the columns that it names, as they cross to the library.
+use crate::column::Kind;
+use crate::column_stats::{ColumnStats, Entry};
+use crate::error::{Error, Place};
+use crate::literal::{Literal, Operand};
+use crate::predicate::{Node, Predicate};
+use crate::raw::{self, status, Fault};
+use crate::stat::Stat;
+use crate::zone_map::{Answer, ZoneMap};
+use std::collections::HashMap;
+use std::marker::PhantomData;
+
+/// The statistics that pruning reads.
+const READ: [Stat; 3] = [Stat::Min, Stat::Max, Stat::NullCount];
+
+/// A predicate over a map's columns, of which those alone are handed over that it names: as `c0`, `c1`, and so on.
+pub(crate) struct Asked<'a> {
+    map: &'a ZoneMap,
+    text: String,
+    /// The places in the map of the columns that are handed over.
+    places: Vec<usize>,
+}
+
+impl<'a> Asked<'a> {
+    // Refuses a column that the map hasn't, and a column that is taken for one of another type.
+    pub(crate) fn of(map: &'a ZoneMap, predicate: &Predicate) -> Result<Self, Error> {
+        let mut slots: HashMap<&str, usize> = HashMap::new();
+        let mut places = Vec::new();
+        for node in predicate.nodes() {
+            for name in node.columns() {
+                if slots.contains_key(name) {
+                    continue;
+                }
+                let place = map.names().iter().position(|it| it == name);
+                slots.insert(name, places.len());
+                places.push(place.ok_or_else(|| Error::UnknownColumn(name.to_owned()))?);
+            }
+            fits(node, |name| map.columns()[places[slots[name]]].dtype().kind)?;
+        }
+        let mut text = String::new();
+        let written = predicate.write(&mut text, &|name, out| write!(out, "col c{}", slots[name]));
+        written.expect("a String takes all that is written to it");
+        Ok(Asked { map, text, places })
+    }
+
+    fn columns(&self) -> impl Iterator<Item = &'a ColumnStats> + '_ {
+        self.places.iter().map(|place| &self.map.columns()[*place])
+    }
+
+    // What to do with each zone.
+    pub(crate) fn answers(&self, flags: u8) -> Result<Vec<Answer>, Error> {
+        let names: Vec<String> = (0..self.places.len().max(1)).map(|slot| format!("c{slot}")).collect();
+        let scope = self.scope(&names);
+        let counts: Vec<Option<Entry>> = self.columns().map(null_counts).collect();
+        let entries: Vec<(usize, &Entry)> = self.entries(&counts).collect();
+        let stats: Vec<raw::Statistic<'_>> = entries.iter().map(|(slot, entry)| entry.raw(*slot)).collect();
+        let rows = self.map.rows();
+        let mut codes = vec![0; rows.len()];
+        let mut fault = Fault::default();
+        // SAFETY: the arrays are as long as is said, the answers are lent to this call alone, and the others for as
+        // long as it takes.
+        let found = unsafe {
+            raw::vortex_prune(
+                scope.as_ptr(),
+                scope.len(),
+                rows.as_ptr(),
+                rows.len(),
+                stats.as_ptr(),
+                stats.len(),
+                self.text.as_ptr(),
+                self.text.len(),
+                flags,
+                codes.as_mut_ptr(),
+                codes.len(),
+                &mut fault,
+            )
+        };
+        match found {
+            status::OK => codes.into_iter().map(answer).collect(),
+            refused => Err(Error::of(refused, self.place(entries.get(fault.entry), fault.row))),
+        }
+    }
+
+    // The columns by the names that are given to them. A predicate that names no column gets one that it doesn't name,
+    // as the library takes no table without columns.
+    fn scope<'n>(&self, names: &'n [String]) -> Vec<raw::Field<'n>> {
+        let types = self.columns().map(|column| (column.dtype().kind, column.dtype().nullable));
+        let unnamed = self.places.is_empty().then_some((Kind::Null, true));
+        let field = |(name, (kind, nullable)): (&'n String, (Kind, bool))| raw::Field {
+            name: name.as_ptr(),
+            name_len: name.len(),
+            kind: kind as u8,
+            nullable: u8::from(nullable),
+            lent: PhantomData,
+        };
+        names.iter().zip(types.chain(unnamed)).map(field).collect()
+    }
+
+    // What pruning reads of the columns that are handed over, with the counts of nulls that stand in for those that lack.
+    fn entries<'e>(&'e self, counts: &'e [Option<Entry>]) -> impl Iterator<Item = (usize, &'e Entry)> {
+        self.columns().zip(counts).enumerate().flat_map(|(slot, (column, count))| {
+            let read = column.entries().iter().filter(|entry| READ.contains(&entry.stat));
+            let kept = read.filter(|entry| count.is_none() || entry.stat != Stat::NullCount);
+            kept.chain(count).map(move |entry| (slot, entry))
+        })
+    }
+
+    // The place of a statistic in a zone.
+    fn place(&self, entry: Option<&(usize, &Entry)>, zone: usize) -> Place {
+        let name = |slot: usize| self.places.get(slot).map(|place| self.map.names()[*place].clone());
+        let column = entry.and_then(|(slot, _)| name(*slot));
+        Place { column, stat: entry.map(|(_, entry)| entry.stat), zone: Some(zone), ..Place::default() }
+    }
+}
+
+fn answer(code: u8) -> Result<Answer, Error> {
+    match code {
+        0 => Ok(Answer::Read),
+        1 => Ok(Answer::Skip),
+        2 => Ok(Answer::Whole),
+        other => Err(Error::Other(other)),
+    }
+}
+
+// The counts of nulls of a column without null: an exact 0 wherever no count is known. `None` where none lacks.
+fn null_counts(column: &ColumnStats) -> Option<Entry> {
+    if !column.dtype().is_without_null() {
+        return None;
+    }
+    let zones = column.zones();
+    match column.entries().iter().find(|entry| entry.stat == Stat::NullCount) {
+        None => {
+            Some(Entry { stat: Stat::NullCount, known: vec![1; zones], values: vec![0; 8 * zones], ends: Vec::new() })
+        }
+        Some(kept) if kept.known.contains(&0) => {
+            let mut filled = kept.clone();
+            for (known, value) in filled.known.iter_mut().zip(filled.values.chunks_exact_mut(8)) {
+                if *known == 0 {
+                    *known = 1;
+                    value.fill(0);
+                }
+            }
+            Some(filled)
+        }
+        Some(_) => None,
+    }
+}
+
+// Whether a condition takes each column for what it is, and each constant is of its kind.
+fn fits<'n>(node: &'n Node, kind_of: impl Fn(&'n str) -> Kind) -> Result<(), Error> {
+    let taken_for = |column: &'n String, expected: Kind| {
+        let kind = kind_of(column);
+        if kind == expected {
+            return Ok(());
+        }
+        Err(Error::BadType { column: column.clone(), kind, expected })
+    };
+    let compared_with = |column: &'n String, literal: &Literal| {
+        if !literal.is_of_its_kind() {
+            return Err(Error::BadLiteral { column: column.clone(), literal: literal.clone() });
+        }
+        taken_for(column, literal.kind())
+    };
+    match node {
+        Node::And | Node::Or | Node::Not | Node::Constant(_) | Node::IsNull(_) | Node::IsNotNull(_) => Ok(()),
+        Node::Compare(_, column, Operand::Column(other)) => taken_for(column, kind_of(other)),
+        Node::Compare(_, column, Operand::Literal(literal)) => compared_with(column, literal),
+        Node::Between { column, low, high, .. } => {
+            compared_with(column, low).and_then(|()| compared_with(column, high))
+        }
+        Node::Like { column, .. } => taken_for(column, Kind::Utf8),
+    }
+}
