@@ -79,8 +79,9 @@ enum vortex_status {
 #define VORTEX_VERSION 0x000200u
 
 /*
- * How many levels a predicate of vortex_prune may have. A column and a literal have none, each other node one more than
- * its deepest operand. A chain of AND, or of OR, is joined in halves whatever its shape, so 100,000 items take 17 levels.
+ * How many levels a predicate of vortex_prune may have, and with VORTEX_NORMALIZE its normal form, too. A column and a
+ * literal have none, each other node one more than its deepest operand. A chain of AND, or of OR, is joined in halves
+ * whatever its shape, so 100,000 items take 17 levels. A text that is no expression may be refused as too deep, too.
  */
 #define VORTEX_MAX_DEPTH 128
 
@@ -232,9 +233,9 @@ uint8_t vortex_check(const vortex_values *column, uint64_t rows, const vortex_st
  * row of a zone that is skipped satisfies the predicate, and each row of a zone that is whole does. A table may be cut
  * into pieces that are pruned apart, in threads of their own, with the same answers. `answers` has an element for each of
  * the `rows`, or VORTEX_BAD_LENGTH is returned. Of several faults the first is told, in this order: the flags, the length
- * of `answers`, the scope, the predicate, the columns, numbers and lengths of the statistics, and their values zone by
- * zone. While
- * it runs a call takes a byte a zone, and some 500 bytes for each column of a batch of zones.
+ * of `answers`, the scope, the predicate, the columns, numbers and lengths of the statistics, the levels of the normal
+ * form, and the statistics' values zone by zone. While it runs a call takes a byte a zone, and some 500 bytes for each
+ * column of a batch of zones.
  */
 uint8_t vortex_prune(const vortex_field *scope, size_t scope_len, const uint64_t *rows, size_t rows_len,
                      const vortex_statistic *stats, size_t stats_len, const uint8_t *predicate, size_t predicate_len,

@@ -25,9 +25,7 @@ use Rattle.vortex_calls.specs.declared.table.Source.{Source}
 use Rattle.vortex_calls.specs.Prunes.{Asked, IsComplete, IsFormOver, IsPruned, IsReached, IsRefused, IsSound, IsWellAsked, answer_by, answered, answers_of, asked, asked_of, form_given, normalizes, table_answers, with_places, zone_answer, zone_answers}
 use Rattle.vortex_calls.specs.Refusals.{Answers, all_found, followed}
 use Rattle.vortex_calls.specs.Scopes.{AnswersText, IsRefusedText, predicate_given, scope_given}
-use Rattle.vortex_base.specs.Data.Columns.{IsRow}
 use Rattle.vortex_base.specs.Data.Scalars.{Constant}
-use Rattle.vortex_expr.specs.Meanings.Fitting.{fits_row}
 use Rattle.vortex_expr.specs.Meanings.Meaning.{is_true}
 use Rattle.vortex_nested.specs.Halves.{halved}
 use Rattle.vortex_nested.proofs.Columns.{same_columns, same_fit, same_plain}
@@ -242,5 +240,5 @@ well_asked scope rows stats normalized given p sources form is plain fits read m
     let last = λ (xs : List Source) (f : Tree Place). followed (zones_given scope xs rows) (λ zones. Ok (record { scope = scope; zones = zones; given = given; pruned_by = f })) in
     let told : asked_of scope rows stats normalized given p ≡ last sources form = followed_read (sources_given scope (length rows) stats) (λ xs. followed (form_given normalized p) (last xs)) sources read ∙ followed_read (form_given normalized p) (last sources) form made in
     let whole = well_zones scope given form (sym (same_plain given) ∙ ap is_plain (sym is) ∙ plain) (sym (same_fit given scope) ∙ ap (λ e. fits_scope e scope) (sym is) ∙ fits)
-        (form_of_halved scope given form (subst (λ q. IsFormOver scope q form) is over)) (zones_given scope sources rows) fit in
+    (form_of_halved scope given form (subst (λ q. IsFormOver scope q form) is over)) (zones_given scope sources rows) fit in
     subst (λ (a : Result Asked Refusal). IfOk a IsWellAsked) (sym told) whole

@@ -197,8 +197,8 @@ impl Values<'_> {
 
     // The extent of numbers of a type, unless a row is refused.
     fn extent_of<N: Number>(&self, nullability: Nullability) -> Option<Extent>
-        ensures { IfSome result (λ e. (c : ColumnData)
-            × (read_column (types.Primitive N.PTYPE nullability) self.now ≡ Ok c) × IsExtentOf e c) }
+        ensures { let t = types.Primitive N.PTYPE nullability in IfSome result (λ e.
+            (c : ColumnData) × (read_column t self.now ≡ Ok c) × IsExtentOf e c) }
     {
         if self.nulls.is_empty() && has_numbers::<N>(self.values, self.rows) {
             return Some(Extent::new(0, self.range::<N>()));

@@ -1,5 +1,5 @@
 //! The statistics of a table's zones, merged into those of one chunk.
-ghost use Rattle.std.specs.Prelude.{◌≡◌, IfOk, IsTrue};
+ghost use Rattle.std.specs.Prelude.{IfOk, IsTrue};
 ghost use Rattle.vortex_stats.specs.Sets.Entries.{entries_fit};
 ghost use Rattle.vortex_calls.specs.Measures.{wanted_of};
 ghost use Rattle.vortex_calls.specs.Merges as spec;

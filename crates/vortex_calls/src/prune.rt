@@ -192,7 +192,8 @@ fn normal_form(
     }
 }
 
-// The predicate that zones are pruned by: the given one, or its normal form unless that is too deep.
+// The predicate that zones are pruned by: the given one, or its normal form unless that is too
+// deep.
 fn form_given(
     alloc: Global,
     scope: &Scope,
