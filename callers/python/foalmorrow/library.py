@@ -11,6 +11,7 @@ import pathlib
 from array import array
 from collections.abc import Mapping, Sequence
 from ctypes import POINTER, Structure, c_size_t, c_uint8, c_uint32, c_uint64
+from functools import partial
 from typing import Literal
 
 from .arrays import Values, moved
@@ -98,6 +99,11 @@ class Refused(ValueError):
         places += [f"of the {side} footers"] if side is not None else []
         sentence = _SENTENCES.get(status, status.name.lower())
         super().__init__(f"{', '.join(places)}: {sentence}" if places else sentence)
+
+    def __reduce__(self) -> tuple[object, ...]:
+        # A worker of a cluster sends it home.
+        keywords = {"column": self.column, "stat": self.stat, "zone": self.zone, "row": self.row, "side": self.side}
+        return partial(Refused, self.status, **keywords), ()  # type: ignore[arg-type]
 
 
 class Fault(Structure):

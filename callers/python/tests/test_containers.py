@@ -295,6 +295,60 @@ def odd_containers() -> Items:
     return found + [Values.of(DType.I64, [1, 2]), Nullable([1], [0]), Nullable(5, 5)]
 
 
+class WantedRows(unittest.TestCase):
+    """From the container to the answer: no zone with a wanted row is skipped."""
+
+    S, A = Column("c", DType.UTF8, True), Column("c", DType.I64, True)
+
+    def answer(self, column: Column, container: object, predicate: Predicate) -> Answer:
+        return Footers.measure([column], [{"c": container}]).prune(predicate)[0]
+
+    def test_null_among_objects_is_not_skipped(self) -> None:
+        items: Items = ["x", None]
+        for null in (None, pandas.NA, pandas.NaT, math.nan):
+            items = ["x", null]
+            for container in (objects(items), pandas.Series(objects(items)), deque(items), (item for item in items), pandas.Index(objects(items))):
+                footers = Footers.measure([self.S], [{"c": container}])
+                self.assertEqual(footers.at(0)["c", Stat.NULL_COUNT], (Precision.EXACT, 1))
+                self.assertEqual(footers.at(0)["c", Stat.MIN], (Precision.EXACT, "x"))
+                self.assertEqual(footers.prune(col("c").is_null())[0], Answer.READ)
+
+    def test_second_column_of_a_matrix_is_not_skipped(self) -> None:
+        with self.assertRaisesRegex(ValueFault, "column c: an array of values in 2 dimensions; expected one dimension"):
+            self.answer(self.A, numpy.array([[1, 9], [2, 9]]), col("c") == 9)
+
+    def test_masked_row_is_null(self) -> None:
+        masked_ = numpy.ma.array([1, 99], mask=[0, 1])
+        self.assertEqual(self.answer(self.A, masked_, col("c").is_null()), Answer.READ)
+        self.assertEqual(self.answer(self.A, masked_, col("c") == 99), Answer.SKIP)
+        self.assertEqual(self.answer(self.A, masked_, col("c").is_not_null()), Answer.READ)
+
+    def test_arrays_of_any_layout_with_scalars(self) -> None:
+        whole = numpy.arange(0, 60, 10)
+        for container in (
+            whole[::2], whole[::-2], whole.astype(">i8")[::2], frozen(whole[::2].copy()), pandas.Series(whole[::2]), pandas.Index(whole[::2]),
+            range(0, 60, 20),
+        ):
+            footers = Footers.measure([self.A], [{"c": container}])
+            for value in (numpy.int64(container[1]), numpy.uint8(container[1]), int(container[1])):
+                self.assertEqual(footers.prune(col("c") == value)[0], Answer.READ)
+                self.assertEqual(footers.prune(col("c").is_in([value, 1000]))[0], Answer.READ)
+            self.assertEqual(footers.prune(col("c") > numpy.int64(51))[0], Answer.SKIP)
+
+    def test_times_and_floats_refused_with_what_to_do(self) -> None:
+        for container, words in [
+            (numpy.zeros(2, "M8[ns]"), "hand in .view\\('i8'\\) as i64"), (numpy.array([1.0, math.nan]), "cast them, with nulls apart"),
+            (pandas.Series([1, None]), "cast them"),
+        ]:
+            with self.assertRaisesRegex(ValueFault, f"column c: an array of (datetime64|float64).*{words}"):
+                self.answer(self.A, container, col("c") == 1)
+
+    def test_row_count_of_a_zone_is_checked(self) -> None:
+        footers = Footers([self.A], [2])
+        self.assertEqual(footers.check(0, {"c": numpy.arange(3)}), ("c", "rows"))
+        self.assertIsNone(footers.check(0, {"c": numpy.arange(2)}))
+
+
 class Odd(unittest.TestCase):
     """Whatever is handed in, the errors are those that are promised."""
 

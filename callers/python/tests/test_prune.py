@@ -1,6 +1,7 @@
 """Pruning, merging, explaining: beside a direct filter of the rows, and of every field and type."""
 import io
 import os
+import pickle
 import random
 import re
 import threading
@@ -383,6 +384,13 @@ class Refusals(unittest.TestCase):
             right.merge(wrong)
         with self.assertRaisesRegex(Refused, "column c, row 1: a text isn't UTF-8"):
             Footers.measure([Column("c", DType.UTF8)], [{"c": Values.of_heap(DType.UTF8, b"a\xff", array("Q", [1, 2]))}])
+
+    def test_errors_travel(self) -> None:
+        for make in (lambda: self.known(DType.I64, Values.of(DType.I64, [1, 2]), 3).prune(col("c") > 1), lambda: Values.of(DType.I64, [1, "x"])):
+            with self.assertRaises((Refused, ValueFault)) as told:
+                make()
+            same = pickle.loads(pickle.dumps(told.exception))
+            self.assertEqual((type(same), str(same), vars(same)), (type(told.exception), str(told.exception), vars(told.exception)))
 
     def test_misfits(self) -> None:
         one, two = Footers([Column("c", DType.I64)], [1]), Footers([Column("c", DType.I64)], [1, 1])
