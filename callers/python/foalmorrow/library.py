@@ -103,7 +103,7 @@ class Refused(ValueError):
     def __reduce__(self) -> tuple[object, ...]:
         # A worker of a cluster sends it home.
         keywords = {"column": self.column, "stat": self.stat, "zone": self.zone, "row": self.row, "side": self.side}
-        return partial(Refused, self.status, **keywords), ()  # type: ignore[arg-type]
+        return partial(Refused, self.status, **keywords), ()
 
 
 class Fault(Structure):
