@@ -55,7 +55,7 @@ _MAJOR_MINOR = (0, 2)
 
 _SENTENCES = {
     Status.BAD_LINE: "the predicate is no expression over these columns",
-    Status.TOO_DEEP: f"the predicate nests deeper than {MAX_DEPTH} levels, of which a chain of AND or of OR is one",
+    Status.TOO_DEEP: f"the predicate has more than {MAX_DEPTH} levels, where a chain of n conditions takes the logarithm of n",
     Status.BAD_KIND: "there is no such type",
     Status.BAD_STAT: "the column has no such statistic",
     Status.BAD_KNOWN: "a byte above 2 says how a value is known",

@@ -11,7 +11,7 @@ A literal has the type of the column that it is compared with. ``None`` is null.
 given another meaning: ``&``, ``|`` and ``~`` stand for them, with parentheses round comparisons.
 
 Predicates may nest as deep as memory allows: no method takes stack by their depth. Pruning refuses more than 128 levels, where a chain of
-``&`` or of ``|`` counts as one.
+n conditions joined by ``&``, or by ``|``, takes the logarithm of n.
 """
 from __future__ import annotations
 
