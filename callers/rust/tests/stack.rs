@@ -1,10 +1,10 @@
 //! Pruning by deep and by long predicates on a small stack.
 //!
-//! A call fits into 256 KiB. The thread itself needs some more: its guard, its own storage, and the frames from its start
-//! to the call, for which 32 KiB are set aside here.
+//! A call fits into 256 KiB. That is the whole stack of the threads here, with the thread's own storage and the frames
+//! from its start to the call.
 use foalmorrow::{col, Answer, Column, DType, Error, Kind, Predicate, Stat, ZoneMap, MAX_DEPTH};
 
-const STACK: usize = (256 << 10) + (32 << 10);
+const STACK: usize = 256 << 10;
 const MANY: usize = 100_000;
 
 fn map() -> ZoneMap {
@@ -28,7 +28,7 @@ fn map() -> ZoneMap {
 
 type Answers = Result<Vec<Answer>, Error>;
 
-// Both answers by a predicate, on a thread of 256 KiB and what a thread needs.
+// Both answers by a predicate, on a thread of 256 KiB.
 fn on_a_small_stack(predicate: &Predicate) -> [Answers; 2] {
     let map = map();
     std::thread::scope(|scope| {
@@ -88,7 +88,7 @@ fn predicate_of_any_depth_is_answered_or_too_deep() {
             }
         }
     }
-    assert_eq!(Error::TooDeep.to_string(), "the predicate has more than 128 levels");
+    assert_eq!(Error::TooDeep.to_string(), "the predicate or its normal form has more than 128 levels");
 }
 
 #[test]
