@@ -1,5 +1,4 @@
-//! Runs with an explanation: each status, and streams that fail or give nothing once and then go
-//! on.
+//! Runs with an explanation: each status, and streams that fail or end once and then go on.
 use std::alloc::Global;
 use std::io;
 use std::io::{ErrorKind, Read, Write};

@@ -1,8 +1,7 @@
 -- A reader's bytes, pushed piece by piece to its end.
-use Rattle.std.proofs.Common.{◌≡◌, ◌<◌, ◌+◌, ℕ, Bool, true, false, List, [], ◌++◌, Option, None, Some, IfSome, length, take, append-nil, length-append, sym, subst, arith}
+use Rattle.std.proofs.Common.{◌≡◌, ◌<◌, ◌+◌, ℕ, List, [], ◌++◌, Option, None, Some, IfSome, length, take, append-nil, length-append, sym, subst, arith}
 use Rattle.std.proofs.KnownBytes.{Consumes-all, Consumes-trans}
 use Rattle.std.specs.Io.KnownBytes.{Consumes, IsAtEnd}
-use Rattle.vortex_text.specs.Streams.{TellsFailure}
 use Rattle.vortex_text.specs.declared.streams.TheConstants.{INPUT_LIMIT}
 
 -- what a reader lost until its end, where a read gave nothing more, is all that it had
@@ -22,8 +21,3 @@ pub piece_past : (known mid left : Option (List ℕ)) (text piece : List ℕ) �
     → IfSome known (λ bytes. INPUT_LIMIT < length bytes)
 piece_past known mid left text piece lost last long =
     goes_past known left (text ++ piece) (Consumes-trans known mid left text piece lost last) (omega (arith, long, length-append text piece))
-
--- a stream of which a call failed tells no other thing
-pub failed_told : (before after : Option Bool) → TellsFailure before after true → after ≡ Some false → ⊥
-failed_told None after told none = cc
-failed_told (Some b) after told none = cc

@@ -3,12 +3,7 @@ use Rattle.std.proofs.Common.{◌≡◌, ◌<◌, ◌+◌, ℕ, zero, suc, Bool,
 use Rattle.std.specs.Io.KnownBytes.{Appends}
 use Rattle.vortex_text.specs.declared.streams.TheConstants.{INPUT_LIMIT}
 use Rattle.vortex_text.specs.Program.{Answers, IsFullScan, IsReason, Stops, WritesFullScan, WritesOnce, reply_to}
-use Rattle.vortex_text.specs.Streams.{AppendsProperFront, AppendsUnlessFailed, CutsWhereFailed, MayHaveFailed, TellsFailure}
-
--- a call that failed leaves a stream that may have failed
-pub may_have_failed : (old new : Option Bool) → TellsFailure old new true → MayHaveFailed new
-may_have_failed None new told = λ fine. absurd (cc)
-may_have_failed (Some before) new told = λ fine. absurd (cc)
+use Rattle.vortex_text.specs.Streams.{AppendsProperFront, AppendsUnlessFailed, CutsWhereFailed, MayHaveFailed}
 
 -- all bytes were written
 pub whole_appended : (failed : Option Bool) (old new : Option (List ℕ)) (bytes : List ℕ) → Appends old new bytes → AppendsUnlessFailed failed old new bytes

@@ -1,7 +1,7 @@
 -- What streams tell of their failures, call by call.
-use Rattle.std.proofs.Common.{◌≡◌, ◌==◌, ◌<◌, ℕ, Bool, false, Option, None, Some, subst, ◌∙◌, arith}
+use Rattle.std.proofs.Common.{◌≡◌, ◌==◌, ◌<◌, ℕ, Bool, true, false, Option, None, Some, subst, ◌∙◌, arith}
 use Rattle.std.proofs.lemmas.Bool.Decides.{nat_tests}
-use Rattle.vortex_text.specs.Streams.{HasNotFailed, TellsFailure}
+use Rattle.vortex_text.specs.Streams.{HasNotFailed, MayHaveFailed, TellsFailure}
 
 -- a call that didn't fail leaves what was told
 unfailed_told : (before after : Option Bool) → TellsFailure before after false → HasNotFailed before after
@@ -18,6 +18,7 @@ unfailed_taken before mid after n some same told =
     let some_taken : (n == 0) ≡ false = grind (arith, nat_tests, some) in
     unfailed_more before mid after same (subst (TellsFailure mid after) some_taken told)
 
--- a call behind others that didn't fail
-pub told_behind : (before mid after : Option Bool) (failed : Bool) → HasNotFailed before mid → TellsFailure mid after failed → TellsFailure before after failed
-told_behind before mid after failed same told = subst (λ o. TellsFailure o after failed) same told
+-- a call that failed leaves a stream that may have failed
+pub may_have_failed : (before after : Option Bool) → TellsFailure before after true → MayHaveFailed after
+may_have_failed None after told = λ fine. cc
+may_have_failed (Some b) after told = λ fine. cc

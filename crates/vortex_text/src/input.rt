@@ -25,6 +25,7 @@ pub enum ReadError {
 
 /// Reads the whole input. No read is tried again. Lines are read as they end, and what is held is
 /// what they say and the last line; behind a bad line the rest is read all the same.
+#[tactic(auto, using(crate::proofs::StreamLemmas::may_have_failed))]
 pub fn read_all<R: Source>(alloc: Global, reader: &mut R) -> Result<OpenText, ReadError>
     // All that the reader had, within the limit.
     ensures whole { IfOk result (HoldsInput (R.remaining reader.old)) }

@@ -1,6 +1,6 @@
 use Rattle.std.proofs.Common.{◌<◌, ◌++◌, refl, ap, length, take, arith}
 use Rattle.std.proofs.KnownBytes.{Consumes-trans}
-use Rattle.vortex_text.proofs.InputLemmas.{all_read, failed_told, piece_past}
+use Rattle.vortex_text.proofs.InputLemmas.{all_read, piece_past}
 use Rattle.vortex_text.proofs.StreamLemmas.{unfailed_more}
 use Rattle.vortex_text.specs.Progress.{Progress}
 use Rattle.vortex_text.proofs.input.read_all.Goals as goal
@@ -17,9 +17,6 @@ returns-then-count-eq0-clause-whole g c =
         whole = all_read _ _ _ text c.read_once.new.buf c.in-Ok.count c.if-count-eq0.true lost c.in-Ok.ensures.bytes.0 (c.in-Ok.ensures.bytes.1 c.if-count-eq0.true room);
       },
     )
-
-pub returns-in-Err-clause-failed : goal.returns-in-Err-clause-failed
-returns-in-Err-clause-failed g c = λ _ told. failed_told (g.R.Source.has_failed c.reads.reader) (g.R.Source.has_failed c.read_once.new.self) c.in-Err.ensures.told told
 
 pub reads-preserved : goal.reads-preserved
 reads-preserved g c =
