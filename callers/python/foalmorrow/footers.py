@@ -126,7 +126,8 @@ class Footers:
         0 where nothing else is known of it.
 
         PredicateError where the predicate names a column that isn't there, compares a column with a value that isn't of its type, isn't of
-        type bool, or nests deeper than 128 levels; Refused, with the column, the statistic and the zone, where an array says what can't be.
+        type bool, or nests deeper than 128 levels, or its normal form does; Refused, with the column, the statistic and the zone, where an array
+        says what can't be.
         """
         if isinstance(predicate, Predicate):
             columns = [self._column(name) for name in dict.fromkeys(predicate.names())]

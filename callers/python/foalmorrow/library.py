@@ -48,14 +48,14 @@ class Status(enum.IntEnum):
     TOO_DEEP = 17
 
 
-#: How deep a predicate may nest, as VORTEX_MAX_DEPTH says.
+#: How deep a predicate and its normal form may nest, as VORTEX_MAX_DEPTH says.
 MAX_DEPTH = 128
 #: The versions of the library whose calls these are: 0.2.x.
 _MAJOR_MINOR = (0, 2)
 
 _SENTENCES = {
     Status.BAD_LINE: "the predicate is no expression over these columns",
-    Status.TOO_DEEP: f"the predicate has more than {MAX_DEPTH} levels, where a chain of n conditions takes the logarithm of n",
+    Status.TOO_DEEP: f"the predicate, or its normal form, nests deeper than {MAX_DEPTH} levels, where a chain of n takes the logarithm of n",
     Status.BAD_KIND: "there is no such type",
     Status.BAD_STAT: "the column has no such statistic",
     Status.BAD_KNOWN: "a byte above 2 says how a value is known",

@@ -10,8 +10,9 @@
 A literal has the type of the column that it is compared with. ``None`` is null. Python's ``and``, ``or`` and ``not`` can't be
 given another meaning: ``&``, ``|`` and ``~`` stand for them, with parentheses round comparisons.
 
-Predicates may nest as deep as memory allows: no method takes stack by their depth. Pruning refuses more than 128 levels, where a chain of
-n conditions joined by ``&``, or by ``|``, takes the logarithm of n.
+Predicates may nest as deep as memory allows: no method takes stack by their depth. Pruning refuses more than 128 levels. A column and a
+literal have none, and each other node has one more than its deepest operand. A chain of n conditions joined by ``&``, or by ``|``, takes the
+logarithm of n whatever its shape.
 """
 from __future__ import annotations
 

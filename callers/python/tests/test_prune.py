@@ -302,17 +302,19 @@ class Deep(unittest.TestCase):
         with self.assertRaisesRegex(PredicateError, "more than 128 levels"):
             self.footers.prune(mixed)
 
-    def test_within_the_limit_answered_on_a_small_stack(self) -> None:
+    def test_last_level_answered_on_a_small_stack(self) -> None:
         made = col("a") > 0
-        for _ in range(120):
+        for _ in range(127):
             made = ~made
+        with self.assertRaisesRegex(PredicateError, "nests deeper than 128 levels"):
+            self.footers.prune(~made)
         told: list[object] = []
         old = threading.stack_size(256 * 1024)
         thread = threading.Thread(target=lambda: told.append(list(self.footers.prune(made, normalize=True))))
         thread.start()
         thread.join()
         threading.stack_size(old)
-        self.assertEqual(told, [[Answer.WHOLE, Answer.WHOLE]])
+        self.assertEqual(told, [[Answer.SKIP, Answer.SKIP]])
 
 
 class ManyZones(unittest.TestCase):
