@@ -1,4 +1,6 @@
 //! Runs with an explanation: each status, and streams that fail or end once and then go on.
+ghost use Rattle.std.specs.Prelude.{◌≡◌, IfOk};
+
 use std::alloc::Global;
 use std::io;
 use std::io::{ErrorKind, Read, Write};
@@ -21,7 +23,9 @@ enum Stumble {
     IsEmpty,
 }
 
-fn outcome(how: Stumble) -> io::Result<usize> {
+fn outcome(how: Stumble) -> io::Result<usize>
+    ensures { IfOk result (λ n. n ≡ 0) }
+{
     match how {
         Stumble::Fails => Err(io::Error::from(ErrorKind::Interrupted)),
         Stumble::IsEmpty => Ok(0),

@@ -1,4 +1,6 @@
 //! Readers and writers that fail once, or give or take nothing once, and then go on.
+ghost use Rattle.std.specs.Prelude.{◌≡◌, IfOk};
+
 use super::*;
 
 // What becomes of one call.
@@ -11,7 +13,9 @@ enum Stumble {
 
 const STUMBLES: [Stumble; 2] = [Stumble::Fails, Stumble::IsEmpty];
 
-fn outcome(how: Stumble) -> io::Result<usize> {
+fn outcome(how: Stumble) -> io::Result<usize>
+    ensures { IfOk result (λ n. n ≡ 0) }
+{
     match how {
         Stumble::Fails => Err(io::Error::from(ErrorKind::Interrupted)),
         Stumble::IsEmpty => Ok(0),
