@@ -293,13 +293,13 @@ class Deep(unittest.TestCase):
             made = col("a") > 0
             for _ in range(count):
                 made = ~made
-            with self.assertRaisesRegex(PredicateError, "more than 128 levels"):
+            with self.assertRaisesRegex(PredicateError, "nests deeper than 128 levels"):
                 self.footers.prune(made)
             self.assertEqual(len(self.footers.prune(made.without_not())), 2)
         mixed = col("a") > 0
         for place in range(5000):
             mixed = (mixed & (col("a") > place)) | (col("a") < -place)
-        with self.assertRaisesRegex(PredicateError, "more than 128 levels"):
+        with self.assertRaisesRegex(PredicateError, "nests deeper than 128 levels"):
             self.footers.prune(mixed)
 
     def test_last_level_answered_on_a_small_stack(self) -> None:
