@@ -253,8 +253,8 @@ fn neighbours_are_merged(rt: HostRuntime) {
     assert!(rt; values == [6, 0, 7, 0, 9]);
 }
 
-// What is merged of zones of a column of numbers of 16 bits: the status, how it is known, and its
-// value.
+// Returns what merging zones of a column of numbers of 16 bits gives: the status, how it is known,
+// and its value.
 fn together(alloc: Global, zones: usize, stats: &[Statistic<'_>]) -> (u8, [u8; 1], [u8; 2]) {
     let (mut known, mut ends, mut values) = ([9u8; 1], [9u64; 1], [9u8; 2]);
     let (mut len, mut fault) = (0, NOWHERE);

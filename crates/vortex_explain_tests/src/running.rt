@@ -15,7 +15,7 @@ const BAD_LINE: &str = "column a i64?\npart\nrow x\n";
 
 const NO_PREDICATE: &str = "column a i64?\nwhere col a\n";
 
-// What becomes of one call.
+// Says how one call ends.
 #[derive(Clone, Copy, Debug)]
 enum Stumble {
     Fails,

@@ -22,17 +22,17 @@ use vortex_expr::bound_expression::BoundExpression;
 use vortex_expr::like::LikeOptions;
 use vortex_expr::scalar_fn::{BetweenOptions, Operator};
 
-// What is said of an operand that is refused.
+// Names the type of an operand that is refused.
 fn operand(x: &BoundExpression) -> Expected {
     Expected::Operand(x.dtype())
 }
 
-// What is said of two operands that are refused.
+// Names the types of two operands that are refused.
 fn operands(left: &BoundExpression, right: &BoundExpression) -> Expected {
     Expected::Operands(left.dtype(), right.dtype())
 }
 
-// What is said of the operand of a BETWEEN and its ends: the first end that doesn't fit is named.
+// Names the types of a BETWEEN's operand and of its first end that doesn't fit.
 fn ends(x: &BoundExpression, lower: &BoundExpression, upper: &BoundExpression) -> Expected {
     if x.dtype().eq_ignore_nullability(&lower.dtype()) {
         operands(x, upper)

@@ -3,7 +3,7 @@ ghost use Rattle.std.specs.Prelude.{◌≡◌, IfOk};
 
 use super::*;
 
-// What becomes of one call.
+// Says how one call ends.
 #[derive(Clone, Copy, Debug, PartialEq, Eq)]
 enum Stumble {
     Fails,
