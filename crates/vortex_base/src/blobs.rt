@@ -1,5 +1,5 @@
 //! Optional byte strings, one behind another in one heap.
-ghost use Rattle.std.specs.Prelude.{◌≡◌, ◌≤◌, ◌++◌, ◌∷◌, [], IfOk, OnErr, OnOk, length, option_copied, slice_get, take};
+ghost use Rattle.std.specs.Prelude.{◌≡◌, ◌<◌, ◌≤◌, ◌++◌, ◌∷◌, [], IfOk, OnErr, OnOk, length, option_copied, slice_get, take};
 ghost use Rattle.vortex_base.specs.Data.Blobs.{blob_at, start_at};
 
 pub(crate) mod pair;
@@ -51,7 +51,8 @@ impl Blobs {
 
     /// No byte strings yet, with room for some that are empty or null.
     pub fn with_capacity(alloc: Global, count: usize) -> Result<Blobs, AllocError>
-        ensures { IfOk result (λ blobs. blobs ≡ []) }
+        ensures empty { IfOk result (λ blobs. blobs ≡ []) }
+        ensures memory { OnErr result (0 < count) }
     {
         let ends = Vec::with_capacity(alloc, count)?;
         let heap = Vec::new(alloc);

@@ -1,7 +1,8 @@
 //! The values of a column as they are kept: nulls, truths, numbers and texts in forms of their own.
-ghost use Rattle.std.specs.Prelude.{◌≡◌, ◌<◌, ◌≤◌, ◌+◌, ◌++◌, ◌∷◌, [], IfOk, IfSome, None, OnErr, OnOk, Some, length, map, option_copied, option_map, replicate, slice_get, slice_set, take, vec_capacity, vec_len};
-ghost use Rattle.vortex_base.specs.Data.Cells.{bytes_value, cell_values, short_value, text_value, value_of};
+ghost use Rattle.std.specs.Prelude.{◌≡◌, ◌≢◌, ◌<◌, ◌≤◌, ◌+◌, ◌++◌, ◌∷◌, [], IfOk, IfSome, MatchOption, None, OnErr, OnOk, Option, Some, length, map, option_copied, option_map, false, replicate, slice_get, slice_set, take, vec_capacity, vec_len};
+ghost use Rattle.vortex_base.specs.Data.Cells.{bytes_value, cell_values, short_value, text_value, value_of, IsOfOtherForm};
 ghost use Rattle.vortex_base.specs.Data.Columns.{all_fit, value_at};
+ghost use Rattle.vortex_base.specs.Data.Types.{has_null_alone};
 ghost use Rattle.vortex_base.specs.declared.scalar_value.ScalarValue.TheVariants as value;
 
 pub(crate) mod pair;
@@ -117,10 +118,11 @@ fn native_value<T: Native>(native: Option<T>) -> Option<ScalarValue>
     }
 }
 
-// What an optional value is, if it may be of a type.
+// What an optional value is, and `None` only where it is a value of another type.
 #[inline]
 fn native_of<T: Native>(value: &Option<ScalarValue>) -> Option<Option<T>>
-    ensures { IfSome result (λ native. option_map T.scalar native ≡ value.now) }
+    ensures { MatchOption result ((native : Option T) → option_map T.scalar native ≢ value.now)
+        (λ native. option_map T.scalar native ≡ value.now) }
 {
     match value {
         None => Some(None),
@@ -174,7 +176,8 @@ fn null_natives<T: Native>(alloc: Global, count: usize) -> Result<Cells, AllocEr
 
 // No values of a type yet, with room for some.
 fn room_for<T: Native>(alloc: Global, count: usize) -> Result<Cells, AllocError>
-    ensures { IfOk result (λ cells. cell_values cells ≡ []) }
+    ensures empty { IfOk result (λ cells. cell_values cells ≡ []) }
+    ensures memory { OnErr result (0 < count) }
 {
     Ok(T::into_cells(Natives::with_capacity(alloc, count)?))
 }
@@ -352,9 +355,12 @@ impl Cells {
         }
     }
 
-    /// No cells yet of a type, with room for some values.
+    /// No cells yet of a type, with room for some values. Memory is taken only for room, and none
+    /// for nulls alone.
     pub fn with_capacity(alloc: Global, dtype: DType, count: usize) -> Result<Cells, AllocError>
-        ensures { IfOk result (λ cells. cell_values cells ≡ []) }
+        ensures empty { IfOk result (λ cells. cell_values cells ≡ []) }
+        ensures memory { OnErr result (has_null_alone dtype ≡ false) }
+        ensures room { OnErr result (0 < count) }
     {
         match dtype {
             DType::Null | DType::MinMaxState(_, _) => Ok(Cells::Nulls(Nulls::new(alloc, 0))),
@@ -566,6 +572,7 @@ impl Cells {
         ensures set { OnOk result
             (cell_values self.new ≡ slice_set (cell_values self.old) place value) }
         ensures refused { OnErr result (cell_values self.new ≡ cell_values self.old) }
+        ensures memory { OnErr result (IsOfOtherForm self.old value) }
     {
         match_each_native!(self,
             natives => if let Some(native) = native_of(&value) {
@@ -581,13 +588,14 @@ impl Cells {
     }
 
     /// Puts a truth, a number or null in the place of a value. If memory is refused, the values are
-    /// as they were.
+    /// as they were; none is taken for a value of the kind that the cells are kept as.
     #[inline]
     pub fn set_cell(&mut self, place: usize, cell: ShortCell) -> Result<(), AllocError>
         requires { place < length (cell_values self.old) }
         ensures set { OnOk result
             (cell_values self.new ≡ slice_set (cell_values self.old) place (short_value cell)) }
         ensures refused { OnErr result (cell_values self.new ≡ cell_values self.old) }
+        ensures memory { OnErr result (IsOfOtherForm self.old (short_value cell)) }
     {
         match_each_native!(self,
             natives => if let Some(native) = Native::of_cell(cell) {

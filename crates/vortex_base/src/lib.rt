@@ -45,5 +45,5 @@ pub use scalar_value::ScalarValue;
 pub use scope::Scope;
 pub use text::Text;
 pub use texts::{TextRef, Texts};
-pub use types::{Nullability, PType};
+pub use types::{Element, Nullability, PType};
 pub use value_ref::ValueRef;

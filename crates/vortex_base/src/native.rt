@@ -31,12 +31,16 @@ macro_rules! match_each_native {
 /// A truth or a number, of the type in which a column keeps it (upstream's `NativePType`, and
 /// `bool`).
 pub trait Native: Copy + Default {
-    ghost use Rattle.std.specs.Prelude.{◌≡◌, IfSome, map, option_map};
+    ghost use Rattle.std.specs.Prelude.{◌≡◌, ◌≢◌, IfSome, List, MatchOption, Option, map, option_map};
     ghost use Rattle.vortex_base.specs.Data.Cells.{cell_values, short_value, value_of};
     ghost use Rattle.vortex_base.specs.Data.Values.{value_cmp};
+    ghost use Rattle.vortex_base.specs.declared.cells.Cells.{Cells};
     ghost use Rattle.vortex_base.specs.declared.scalar_value.ScalarValue.{ScalarValue};
 
     ghost scalar: { Self → ScalarValue };
+
+    // Cells that are kept as this type.
+    ghost kept: { List (Option Self) → Cells };
 
     /// The value, lent.
     fn lend<'a>(self) -> ValueRef<'a>
@@ -50,34 +54,45 @@ pub trait Native: Copy + Default {
     fn order(self, other: Self) -> Ordering
         ensures { result ≡ value_cmp (scalar self) (scalar other) };
 
-    /// What a value that is lent is, if it is of this type.
+    /// What a value that is lent is, and `None` only where it isn't of this type.
     fn of_lent(value: ValueRef<'_>) -> Option<Self>
-        ensures { IfSome result (λ native. scalar native ≡ value_of value.entry) };
+        ensures { MatchOption result ((native : Self) → scalar native ≢ value_of value.entry)
+            (λ native. scalar native ≡ value_of value.entry) };
 
-    /// What a value is, if it is of this type.
+    /// What a value is, and `None` only where it isn't of this type.
     fn of_value(value: &ScalarValue) -> Option<Self>
-        ensures { IfSome result (λ native. scalar native ≡ value.now) };
+        ensures { MatchOption result ((native : Self) → scalar native ≢ value.now)
+            (λ native. scalar native ≡ value.now) };
 
-    /// What a cell is, null or a value, if it may be of this type.
+    /// What a cell is, null or a value, and `None` only where it is a value of another type.
     fn of_cell(cell: ShortCell) -> Option<Option<Self>>
-        ensures { IfSome result (λ native. option_map scalar native ≡ short_value cell) };
+        ensures { MatchOption result
+            ((native : Option Self) → option_map scalar native ≢ short_value cell)
+            (λ native. option_map scalar native ≡ short_value cell) };
 
-    /// Values of this type as those of a column.
+    /// Values of this type as those of a column, kept as this type.
     fn into_cells(natives: Natives<Self>) -> Cells
-        ensures { cell_values result ≡ map (option_map scalar) natives };
+        ensures values { cell_values result ≡ map (option_map scalar) natives }
+        ensures form { result ≡ kept natives };
 
-    /// The values of a column, if they are kept as this type.
+    /// The values of a column, and `None` only where they aren't kept as this type.
     fn of_cells(cells: &Cells) -> Option<&Natives<Self>>
-        ensures { IfSome result (λ natives.
-            cell_values cells.entry.now ≡ map (option_map scalar) natives.now) };
+        ensures values { IfSome result (λ natives.
+            cell_values cells.entry.now ≡ map (option_map scalar) natives.now) }
+        ensures form { MatchOption result
+            ((natives : List (Option Self)) → cells.entry.now ≢ kept natives)
+            (λ natives. cells.entry.now ≡ kept natives.now) };
 }
 
 impl Native for bool {
     ghost use Rattle.std.specs.Prelude.{◌≡◌, map, option_map};
     ghost use Rattle.vortex_base.specs.Data.Cells.{cell_values};
+    ghost use Rattle.vortex_base.specs.declared.cells.Cells.TheVariants as kept_cells;
     ghost use Rattle.vortex_base.specs.declared.scalar_value.ScalarValue.TheVariants as value;
 
     ghost scalar = { value.Bool };
+
+    ghost kept = { kept_cells.Bool };
 
     #[inline]
     fn lend<'a>(self) -> ValueRef<'a> {
@@ -120,7 +135,8 @@ impl Native for bool {
     }
 
     fn into_cells(natives: Natives<bool>) -> Cells
-        ensures { cell_values result ≡ map (option_map value.Bool) natives }
+        ensures values { cell_values result ≡ map (option_map value.Bool) natives }
+        ensures form { result ≡ kept_cells.Bool natives }
     {
         Cells::Bool(natives)
     }
@@ -138,9 +154,12 @@ impl Native for u8 {
     ghost use Rattle.vortex_base.specs.declared.pvalue.PValue.TheVariants as number;
     ghost use Rattle.std.specs.Prelude.{◌≡◌, map, option_map};
     ghost use Rattle.vortex_base.specs.Data.Cells.{cell_values};
+    ghost use Rattle.vortex_base.specs.declared.cells.Cells.TheVariants as kept_cells;
     ghost use Rattle.vortex_base.specs.declared.scalar_value.ScalarValue.TheVariants as value;
 
     ghost scalar = { λ n. value.Primitive (number.U8 n) };
+
+    ghost kept = { kept_cells.U8 };
 
     #[inline]
     fn lend<'a>(self) -> ValueRef<'a> {
@@ -183,8 +202,9 @@ impl Native for u8 {
     }
 
     fn into_cells(natives: Natives<u8>) -> Cells
-        ensures { cell_values result
+        ensures values { cell_values result
             ≡ map (option_map (λ n. value.Primitive (number.U8 n))) natives }
+        ensures form { result ≡ kept_cells.U8 natives }
     {
         Cells::U8(natives)
     }
@@ -202,9 +222,12 @@ impl Native for u16 {
     ghost use Rattle.vortex_base.specs.declared.pvalue.PValue.TheVariants as number;
     ghost use Rattle.std.specs.Prelude.{◌≡◌, map, option_map};
     ghost use Rattle.vortex_base.specs.Data.Cells.{cell_values};
+    ghost use Rattle.vortex_base.specs.declared.cells.Cells.TheVariants as kept_cells;
     ghost use Rattle.vortex_base.specs.declared.scalar_value.ScalarValue.TheVariants as value;
 
     ghost scalar = { λ n. value.Primitive (number.U16 n) };
+
+    ghost kept = { kept_cells.U16 };
 
     #[inline]
     fn lend<'a>(self) -> ValueRef<'a> {
@@ -247,8 +270,9 @@ impl Native for u16 {
     }
 
     fn into_cells(natives: Natives<u16>) -> Cells
-        ensures { cell_values result
+        ensures values { cell_values result
             ≡ map (option_map (λ n. value.Primitive (number.U16 n))) natives }
+        ensures form { result ≡ kept_cells.U16 natives }
     {
         Cells::U16(natives)
     }
@@ -266,9 +290,12 @@ impl Native for u32 {
     ghost use Rattle.vortex_base.specs.declared.pvalue.PValue.TheVariants as number;
     ghost use Rattle.std.specs.Prelude.{◌≡◌, map, option_map};
     ghost use Rattle.vortex_base.specs.Data.Cells.{cell_values};
+    ghost use Rattle.vortex_base.specs.declared.cells.Cells.TheVariants as kept_cells;
     ghost use Rattle.vortex_base.specs.declared.scalar_value.ScalarValue.TheVariants as value;
 
     ghost scalar = { λ n. value.Primitive (number.U32 n) };
+
+    ghost kept = { kept_cells.U32 };
 
     #[inline]
     fn lend<'a>(self) -> ValueRef<'a> {
@@ -311,8 +338,9 @@ impl Native for u32 {
     }
 
     fn into_cells(natives: Natives<u32>) -> Cells
-        ensures { cell_values result
+        ensures values { cell_values result
             ≡ map (option_map (λ n. value.Primitive (number.U32 n))) natives }
+        ensures form { result ≡ kept_cells.U32 natives }
     {
         Cells::U32(natives)
     }
@@ -330,9 +358,12 @@ impl Native for u64 {
     ghost use Rattle.vortex_base.specs.declared.pvalue.PValue.TheVariants as number;
     ghost use Rattle.std.specs.Prelude.{◌≡◌, map, option_map};
     ghost use Rattle.vortex_base.specs.Data.Cells.{cell_values};
+    ghost use Rattle.vortex_base.specs.declared.cells.Cells.TheVariants as kept_cells;
     ghost use Rattle.vortex_base.specs.declared.scalar_value.ScalarValue.TheVariants as value;
 
     ghost scalar = { λ n. value.Primitive (number.U64 n) };
+
+    ghost kept = { kept_cells.U64 };
 
     #[inline]
     fn lend<'a>(self) -> ValueRef<'a> {
@@ -375,8 +406,9 @@ impl Native for u64 {
     }
 
     fn into_cells(natives: Natives<u64>) -> Cells
-        ensures { cell_values result
+        ensures values { cell_values result
             ≡ map (option_map (λ n. value.Primitive (number.U64 n))) natives }
+        ensures form { result ≡ kept_cells.U64 natives }
     {
         Cells::U64(natives)
     }
@@ -394,9 +426,12 @@ impl Native for i8 {
     ghost use Rattle.vortex_base.specs.declared.pvalue.PValue.TheVariants as number;
     ghost use Rattle.std.specs.Prelude.{◌≡◌, map, option_map};
     ghost use Rattle.vortex_base.specs.Data.Cells.{cell_values};
+    ghost use Rattle.vortex_base.specs.declared.cells.Cells.TheVariants as kept_cells;
     ghost use Rattle.vortex_base.specs.declared.scalar_value.ScalarValue.TheVariants as value;
 
     ghost scalar = { λ n. value.Primitive (number.I8 n) };
+
+    ghost kept = { kept_cells.I8 };
 
     #[inline]
     fn lend<'a>(self) -> ValueRef<'a> {
@@ -439,8 +474,9 @@ impl Native for i8 {
     }
 
     fn into_cells(natives: Natives<i8>) -> Cells
-        ensures { cell_values result
+        ensures values { cell_values result
             ≡ map (option_map (λ n. value.Primitive (number.I8 n))) natives }
+        ensures form { result ≡ kept_cells.I8 natives }
     {
         Cells::I8(natives)
     }
@@ -458,9 +494,12 @@ impl Native for i16 {
     ghost use Rattle.vortex_base.specs.declared.pvalue.PValue.TheVariants as number;
     ghost use Rattle.std.specs.Prelude.{◌≡◌, map, option_map};
     ghost use Rattle.vortex_base.specs.Data.Cells.{cell_values};
+    ghost use Rattle.vortex_base.specs.declared.cells.Cells.TheVariants as kept_cells;
     ghost use Rattle.vortex_base.specs.declared.scalar_value.ScalarValue.TheVariants as value;
 
     ghost scalar = { λ n. value.Primitive (number.I16 n) };
+
+    ghost kept = { kept_cells.I16 };
 
     #[inline]
     fn lend<'a>(self) -> ValueRef<'a> {
@@ -503,8 +542,9 @@ impl Native for i16 {
     }
 
     fn into_cells(natives: Natives<i16>) -> Cells
-        ensures { cell_values result
+        ensures values { cell_values result
             ≡ map (option_map (λ n. value.Primitive (number.I16 n))) natives }
+        ensures form { result ≡ kept_cells.I16 natives }
     {
         Cells::I16(natives)
     }
@@ -522,9 +562,12 @@ impl Native for i32 {
     ghost use Rattle.vortex_base.specs.declared.pvalue.PValue.TheVariants as number;
     ghost use Rattle.std.specs.Prelude.{◌≡◌, map, option_map};
     ghost use Rattle.vortex_base.specs.Data.Cells.{cell_values};
+    ghost use Rattle.vortex_base.specs.declared.cells.Cells.TheVariants as kept_cells;
     ghost use Rattle.vortex_base.specs.declared.scalar_value.ScalarValue.TheVariants as value;
 
     ghost scalar = { λ n. value.Primitive (number.I32 n) };
+
+    ghost kept = { kept_cells.I32 };
 
     #[inline]
     fn lend<'a>(self) -> ValueRef<'a> {
@@ -567,8 +610,9 @@ impl Native for i32 {
     }
 
     fn into_cells(natives: Natives<i32>) -> Cells
-        ensures { cell_values result
+        ensures values { cell_values result
             ≡ map (option_map (λ n. value.Primitive (number.I32 n))) natives }
+        ensures form { result ≡ kept_cells.I32 natives }
     {
         Cells::I32(natives)
     }
@@ -586,9 +630,12 @@ impl Native for i64 {
     ghost use Rattle.vortex_base.specs.declared.pvalue.PValue.TheVariants as number;
     ghost use Rattle.std.specs.Prelude.{◌≡◌, map, option_map};
     ghost use Rattle.vortex_base.specs.Data.Cells.{cell_values};
+    ghost use Rattle.vortex_base.specs.declared.cells.Cells.TheVariants as kept_cells;
     ghost use Rattle.vortex_base.specs.declared.scalar_value.ScalarValue.TheVariants as value;
 
     ghost scalar = { λ n. value.Primitive (number.I64 n) };
+
+    ghost kept = { kept_cells.I64 };
 
     #[inline]
     fn lend<'a>(self) -> ValueRef<'a> {
@@ -631,8 +678,9 @@ impl Native for i64 {
     }
 
     fn into_cells(natives: Natives<i64>) -> Cells
-        ensures { cell_values result
+        ensures values { cell_values result
             ≡ map (option_map (λ n. value.Primitive (number.I64 n))) natives }
+        ensures form { result ≡ kept_cells.I64 natives }
     {
         Cells::I64(natives)
     }

@@ -67,7 +67,8 @@ impl<T: Copy + Default> Natives<T> {
 
     /// No values yet, with room for some.
     pub fn with_capacity(alloc: Global, count: usize) -> Result<Natives<T>, AllocError>
-        ensures { IfOk result (λ natives. natives ≡ []) }
+        ensures empty { IfOk result (λ natives. natives ≡ []) }
+        ensures memory { OnErr result (0 < count) }
     {
         let values = Vec::with_capacity(alloc, count)?;
         let there = Vec::with_capacity(alloc, count)?;

@@ -1,5 +1,5 @@
 //! Nulls, of which only the number is kept.
-ghost use Rattle.std.specs.Prelude.{◌≡◌, ◌+◌, min, OnErr, OnOk};
+ghost use Rattle.std.specs.Prelude.{◌≡◌, ◌+◌, ◌^◌, min, OnErr, OnOk};
 
 mod pair;
 
@@ -46,6 +46,7 @@ impl Nulls {
     pub(crate) fn push(&mut self) -> Result<(), AllocError>
         ensures pushed { OnOk result (self.new ≡ self.old + 1) }
         ensures refused { OnErr result (self.new ≡ self.old) }
+        ensures full { OnErr result (self.old + 1 ≡ 2 ^ 64) }
     {
         self.count = self.count.checked_add(1).ok_or(AllocError)?;
         Ok(())

@@ -1,5 +1,5 @@
 //! Optional texts, one behind another in one heap.
-ghost use Rattle.std.specs.Prelude.{◌≡◌, ◌++◌, ◌∷◌, [], IfOk, IsTrue, OnErr, OnOk, length, option_copied, slice_get, string_bytes, take};
+ghost use Rattle.std.specs.Prelude.{◌≡◌, ◌<◌, ◌++◌, ◌∷◌, [], IfOk, IsTrue, OnErr, OnOk, length, option_copied, slice_get, string_bytes, take};
 ghost use Rattle.vortex_base.specs.Data.Blobs.{blob_at};
 
 pub(crate) mod pair;
@@ -37,7 +37,8 @@ impl Texts {
 
     /// No texts yet, with room for some that are empty or null.
     pub fn with_capacity(alloc: Global, count: usize) -> Result<Texts, AllocError>
-        ensures { IfOk result (λ texts. texts ≡ []) }
+        ensures empty { IfOk result (λ texts. texts ≡ []) }
+        ensures memory { OnErr result (0 < count) }
     {
         let blobs = Blobs::with_capacity(alloc, count)?;
         Ok(Texts { blobs })

@@ -6,8 +6,8 @@ use std::process::Abort;
 use vortex_base::cells::ShortCell;
 use vortex_base::laws::kept_examples_hold;
 use vortex_base::{
-    BaseError, Cells, Column, DType, Native, Natives, Nullability, Nulls, PType, ScalarValue,
-    ValueRef,
+    BaseError, Cells, Column, DType, Element, Native, Natives, Nullability, Nulls, PType,
+    ScalarValue, ValueRef,
 };
 
 const I64_OR_NULL: DType = DType::Primitive(PType::I64, Nullability::Nullable);
@@ -334,4 +334,61 @@ fn other_values_are_set_in_the_place_of_nulls(rt: HostRuntime) {
     cells.set_cell(1, ShortCell::I64(6)).expect(&rt, "a number");
     let is_six = is_second(cells, I64_OR_NULL, &ScalarValue::from(6i64));
     assert!(rt; is_six.expect(&rt, "a column"));
+}
+
+// A column of a value and null, pushed into cells of their type.
+fn value_and_null<T: Native>(alloc: Global, dtype: DType, value: T) -> Result<Column, BaseError> {
+    let mut cells = Cells::with_capacity(alloc, dtype, 2)?;
+    cells.push(Some(value.to_value()))?;
+    cells.push(None)?;
+    Column::of_cells(dtype, cells, 0)
+}
+
+// The same column, made of slices.
+fn of_slices<T: Native>(alloc: Global, dtype: DType, value: T) -> Result<Column, BaseError> {
+    let natives = Natives::from_slices(alloc, &[value, value], &[true, false])?;
+    Column::of_cells(dtype, T::into_cells(natives), 0)
+}
+
+// Whether a column lends a value and null as slices of their type.
+fn lends_again<T: Native + PartialEq>(column: &Column, value: T) -> bool {
+    let Some(natives) = column.natives::<T>() else {
+        return false;
+    };
+    let (values, there) = natives.as_slices();
+    values.first() == Some(&value) && there == [true, false].as_slice()
+}
+
+fn expect_lent<T: Native + PartialEq>(rt: &impl Abort, alloc: Global, dtype: DType, value: T) {
+    let pushed = value_and_null(alloc, dtype, value).expect(rt, "a column of pushed values");
+    assert!(rt; lends_again(&pushed, value));
+    let sliced = of_slices(alloc, dtype, value).expect(rt, "a column of slices");
+    assert!(rt; lends_again(&sliced, value));
+}
+
+#[test]
+fn values_of_each_type_are_lent_again(rt: HostRuntime) {
+    let alloc = rt.alloc();
+    expect_lent(&rt, alloc, BOOL_OR_NULL, true);
+    expect_lent(&rt, alloc, number(PType::U8), 255u8);
+    expect_lent(&rt, alloc, number(PType::U16), 256u16);
+    expect_lent(&rt, alloc, number(PType::U32), 65536u32);
+    expect_lent(&rt, alloc, number(PType::U64), u64::MAX);
+    expect_lent(&rt, alloc, number(PType::I8), -128i8);
+    expect_lent(&rt, alloc, number(PType::I16), -129i16);
+    expect_lent(&rt, alloc, number(PType::I32), -32769i32);
+    expect_lent(&rt, alloc, number(PType::I64), i64::MIN);
+}
+
+fn has_room(alloc: Global, dtype: DType) -> bool {
+    matches!(Cells::with_capacity(alloc, dtype, 3), Ok(cells) if cells.len() == 0)
+}
+
+#[test]
+fn cells_of_each_form_have_room(rt: HostRuntime) {
+    let alloc = rt.alloc();
+    let state = DType::MinMaxState(Element::Bool, Nullability::NonNullable);
+    assert!(rt; has_room(alloc, DType::Null) && has_room(alloc, state));
+    assert!(rt; has_room(alloc, BOOL) && has_room(alloc, number(PType::U8)));
+    assert!(rt; has_room(alloc, UTF8) && has_room(alloc, BINARY_OR_NULL));
 }

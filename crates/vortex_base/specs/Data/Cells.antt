@@ -1,5 +1,5 @@
 -- The values of a column as they are kept, and a value as it is lent.
-use Rattle.std.specs.Prelude.{ℕ, List, Option, Some, None, map, option_map, replicate}
+use Rattle.std.specs.Prelude.{◌≢◌, ℕ, List, Option, Some, None, map, option_map, replicate}
 use Rattle.vortex_base.specs.declared.cells.Cells.{Cells}
 use Rattle.vortex_base.specs.declared.cells.Cells.TheVariants.{Any, Nulls, Bool, U8, U16, U32, U64, I8, I16, I32, I64, Texts, Binary}
 use Rattle.vortex_base.specs.declared.cells.ShortCell.{ShortCell}
@@ -53,3 +53,23 @@ cell_values (I32 v) = map (option_map (λ n. value.Primitive (number.I32 n))) v
 cell_values (I64 v) = map (option_map (λ n. value.Primitive (number.I64 n))) v
 cell_values (Texts v) = map text_value v
 cell_values (Binary v) = map bytes_value v
+
+-- an optional value is none of those that values of a form stand for, null included
+abbrev pub IsNoneOf : {X : Type 0} → (X → ScalarValue) → Option ScalarValue → Type 0
+IsNoneOf {X = X} f v = (x : Option X) → option_map f x ≢ v
+
+-- a value takes memory among the cells: it is of another kind than they are kept as, or they are nulls, texts or byte strings
+abbrev pub IsOfOtherForm : Cells → Option ScalarValue → Type 0
+IsOfOtherForm (Any c) v = ⊥
+IsOfOtherForm (Nulls c) v = Unit {0}
+IsOfOtherForm (Bool c) v = IsNoneOf value.Bool v
+IsOfOtherForm (U8 c) v = IsNoneOf (λ n. value.Primitive (number.U8 n)) v
+IsOfOtherForm (U16 c) v = IsNoneOf (λ n. value.Primitive (number.U16 n)) v
+IsOfOtherForm (U32 c) v = IsNoneOf (λ n. value.Primitive (number.U32 n)) v
+IsOfOtherForm (U64 c) v = IsNoneOf (λ n. value.Primitive (number.U64 n)) v
+IsOfOtherForm (I8 c) v = IsNoneOf (λ n. value.Primitive (number.I8 n)) v
+IsOfOtherForm (I16 c) v = IsNoneOf (λ n. value.Primitive (number.I16 n)) v
+IsOfOtherForm (I32 c) v = IsNoneOf (λ n. value.Primitive (number.I32 n)) v
+IsOfOtherForm (I64 c) v = IsNoneOf (λ n. value.Primitive (number.I64 n)) v
+IsOfOtherForm (Texts c) v = Unit {0}
+IsOfOtherForm (Binary c) v = Unit {0}

@@ -34,6 +34,15 @@ is_nullable (dtype.Utf8 n) = allows_null n
 is_nullable (dtype.Binary n) = allows_null n
 is_nullable (dtype.MinMaxState e n) = allows_null n
 
+-- the type has no value but null
+abbrev pub has_null_alone : DType → Bool
+has_null_alone dtype.Null = true
+has_null_alone (dtype.Bool n) = false
+has_null_alone (dtype.Primitive p n) = false
+has_null_alone (dtype.Utf8 n) = false
+has_null_alone (dtype.Binary n) = false
+has_null_alone (dtype.MinMaxState e n) = true
+
 -- the type, with null
 abbrev pub as_nullable : DType → DType
 as_nullable dtype.Null = dtype.Null
