@@ -1,0 +1,7 @@
+-- Witnesses: for each public clause with premises something that meets them all at once, and a turned answer of which the conclusion is false.
+pub mod Binders
+pub mod Maps
+pub mod Parts
+pub mod Pruning
+pub mod Ranges
+pub mod Scans
