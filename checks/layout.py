@@ -28,6 +28,8 @@ TEXTS = {f: read(f) for f in SOURCES}
 CODE = {f: text for f, text in TEXTS.items() if f.endswith(".rt")}
 # A trait may be imported for its methods alone.
 TRAITS = {"BufRead", "Read", "Write"} | {name for text in CODE.values() for name in re.findall(r"^pub trait (\w+)", text, re.M)}
+# The crates whose public clauses have a witness wherever they have a premise.
+WITNESSED = ("vortex_prune", "vortex_zone_log")
 KNOWN = {
     "docs/MAP.md": "this map",
     "README.md": "what the product is for, how to run and test it, what is proved",
@@ -143,6 +145,81 @@ def promise_faults():
                     yield f"docs/PROMISES.md:{number}: there is no {name}, of {cited}"
 
 
+def public_files(crate):
+    """The files of a crate that callers reach: each module on the way is declared as public."""
+    left, found = [(f"crates/{crate}/src/lib.rt", f"crates/{crate}/src")], []
+    while left:
+        f, folder = left.pop()
+        found.append(f)
+        for name in re.findall(r"^pub mod (\w+);", CODE.get(f, ""), re.M):
+            if f"{folder}/{name}.rt" in CODE:
+                left.append((f"{folder}/{name}.rt", f"{folder}/{name}"))
+    return found
+
+
+def contracts(f):
+    """The public functions of a file, each by its type and name with the lines of its contract."""
+    owner, lines = "", CODE[f].split("\n")
+    for number, line in enumerate(lines):
+        of_type = re.match(r"impl(?:<[^>]*>)? (\w+)(?:<[^>]*>)? \{", line)
+        owner = f"{of_type.group(1)}::" if of_type else "" if line.startswith("}") else owner
+        found = re.match(r"( *)pub fn (\w+)", line)
+        if found:
+            rest = lines[number + 1 :]
+            ends = (at for at, it in enumerate(rest) if it in (f"{found.group(1)}{{", f"{found.group(1)}{{}}") or it.endswith(") {"))
+            contract = [] if line.endswith("{") else rest[: next(ends, 0)]
+            yield owner + found.group(2), [it for it in contract if not it.lstrip().startswith("//")]
+
+
+def offered(crate):
+    """The functions that a crate offers, with the lines of their contracts: those of public files, and the methods of the types there."""
+    files = public_files(crate)
+    types = {it for f in files for it in re.findall(r"^pub (?:struct|enum) (\w+)", CODE[f], re.M)}
+    for f in (it for it in CODE if it.startswith(f"crates/{crate}/")):
+        yield from (it for it in contracts(f) if (it[0].split("::")[0] in types if "::" in it[0] else f in files))
+
+
+def public_clauses():
+    """The clauses of what the witnessed crates offer: their names and texts."""
+    form = r"^\s*ensures(?: (\w+))? \{(.*?)(?=^\s*(?:ensures|requires)\b|\Z)"
+    for crate in WITNESSED:
+        for function, contract in offered(crate):
+            for name, text in re.findall(form, "\n".join(contract), re.M | re.S):
+                yield f"{crate}::{function}" + (f".{name}" if name else ""), text
+
+
+def relations(text):
+    """The relations that a clause or a statement names."""
+    return set(re.findall(r"\b(?:Is|Are|Has)[A-Z]\w*", text)) - {"IsTrue", "IsOk"}
+
+
+def witness_fault(clause, text, cited):
+    """Why a witness, which is cited by its module and name, is none of the clause, or None."""
+    module, _, name = cited.partition(".")
+    files = [f for f in TEXTS if f.startswith(f"crates/{clause.split('::')[0]}/proofs/") and f.endswith(f"/{module}.antt")]
+    stated = [it for f in files for it in re.findall(rf"^(?:pub )?{re.escape(name)} : IsWitness\b(.*?)^(?:unfolding|{re.escape(name)}) ", TEXTS[f], re.M | re.S)]
+    if len(stated) != 1:
+        return f"there is no witness {cited}"
+    missing = relations(text) - relations(stated[0])
+    return f"{cited} says nothing of {', '.join(sorted(missing))}, as {clause} does" if missing else None
+
+
+def witness_faults():
+    """Public clauses with a premise, which an arrow tells, for which no witness is named, and lines that name a clause or a witness that isn't there."""
+    page, clauses, named = "docs/WITNESSES.md", dict(public_clauses()), set()
+    for number, cells in rows_of(page):
+        if not cells[0].startswith("`"):
+            continue
+        clause, witness = cells[0].strip("`"), cells[-1].strip("`")
+        named.add(clause)
+        fault = None if witness.startswith("none: ") else witness_fault(clause, clauses.get(clause, ""), witness)
+        if clause not in clauses:
+            fault = f"there is no clause {clause}"
+        if fault:
+            yield f"{page}:{number}: {fault}"
+    yield from (f"{page}: no witness is named for {it}" for it in sorted(clauses) if "→" in clauses[it] and it not in named)
+
+
 def link_faults():
     """Links of the documents that lead nowhere, and paths that they name and that don't exist."""
     for f in (it for it in TRACKED if it.endswith(".md")):
@@ -240,7 +317,7 @@ def main():
     if sys.argv[1:] == ["--map"]:
         print(the_map(), end="")
         return 0
-    faults = [*source_faults(), *definition_faults(), *promise_faults(), *link_faults(), *quote_faults(), *edit_faults(), *goal_faults(), *format_faults()]
+    faults = [*source_faults(), *definition_faults(), *promise_faults(), *witness_faults(), *link_faults(), *quote_faults(), *edit_faults(), *goal_faults(), *format_faults()]
     if read("docs/MAP.md") != the_map():
         faults.append("docs/MAP.md: out of step; write it anew by checks/layout.py --map > docs/MAP.md")
     print("\n".join(faults) or "layout: every file is in order")
