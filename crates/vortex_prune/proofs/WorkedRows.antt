@@ -8,6 +8,7 @@ pub mod LeafRows
 pub mod MarkRows
 pub mod MeasuredRows
 pub mod PartRows
+pub mod PremiseRows
 pub mod RangeRows
 pub mod ShutRows
 pub mod StatRows

@@ -42,10 +42,10 @@ bind_stats_value = record { met = (refl, inl refl); refuted = four_is_not_three 
 
 -- ---- binders: by the sets of another part 5 would be the least value, and 3 is there
 
-abbrev Fact : Option ScalarValue → Type 0
+abbrev pub Fact : Option ScalarValue → Type 0
 Fact v = IsFact aggregate.Min v (meanings a low.chunk.columns) (size_of a low.chunk.columns)
 
-five_is_above : Fact (Some (num 5)) → ⊥
+pub five_is_above : Fact (Some (num 5)) → ⊥
 five_is_above h = true≢false (h (num 3) (0, omega arith, refl))
 
 pub least_is_untrue : (A : Assignment) → A aggregate.Min a ≡ Some (num 5) → IsHonestOver (λ row n. true) (λ row n. A) [] low.chunk → ⊥

@@ -61,11 +61,14 @@ chunk_of vs = record { scope = scope; columns = values_of vs ∷ [] }
 abbrev tell : Stat → Bool → Stat × Precision ScalarValue
 tell s b = (s, Exact (value.Bool b))
 
--- all statistics of two values that ascend
-abbrev pub known : (least greatest sum nulls : ℕ) → Entries
-known least greatest sum nulls =
+-- all statistics of two values that ascend, of a column of a declared size
+abbrev pub known_in : (size least greatest sum nulls : ℕ) → Entries
+known_in size least greatest sum nulls =
     tell IsConstant false ∷ tell IsSorted true ∷ tell IsStrictSorted true ∷ (Max, Exact (num greatest)) ∷ (Min, Exact (num least)) ∷ (Sum, Exact (num sum))
-    ∷ (NullCount, Exact (count_value nulls)) ∷ (UncompressedSizeInBytes, Exact (count_value 16)) ∷ []
+    ∷ (NullCount, Exact (count_value nulls)) ∷ (UncompressedSizeInBytes, Exact (count_value size)) ∷ []
+
+abbrev pub known : (least greatest sum nulls : ℕ) → Entries
+known least greatest sum nulls = known_in 16 least greatest sum nulls
 
 abbrev pub part : List (Option ScalarValue) → Entries → PartData
 part vs set = record { chunk = chunk_of vs; stats = set ∷ [] }
