@@ -1,6 +1,7 @@
 pub mod BlockLemmas
 pub mod FillLemmas
 pub mod JoinLemmas
+pub mod JoinRows
 pub mod KeptLemmas
 pub mod LinkLemmas
 pub mod LogLemmas

@@ -15,13 +15,13 @@ use Rattle.vortex_zone_log.specs.declared.kept.Form.TheVariants as form
 use Rattle.vortex_zone_log.specs.declared.stretch.Stretch.{Stretch}
 use Rattle.vortex_zone_log.specs.declared.told.Told.{Told}
 
-abbrev num : ℕ → ScalarValue
+abbrev pub num : ℕ → ScalarValue
 num n = value.Primitive (number.I64 (pos n))
 
-abbrev count : ℕ → ScalarValue
+abbrev pub count : ℕ → ScalarValue
 count n = value.Primitive (number.U64 n)
 
-abbrev zone : ℕ → Entries → Entries → ZoneData
+abbrev pub zone : ℕ → Entries → Entries → ZoneData
 zone rows a b = record { rows = rows; stats = a ∷ b ∷ [] }
 
 -- ---- what is told
@@ -40,10 +40,10 @@ second = ended 4 (with_told 2 Max (Exact (num 1)) (with_told 1 NullCount (Exact 
 abbrev third : LogData
 third = ended 5 (with_told 1 NullCount (Inexact (count 4)) (with_told 0 Max (Exact (num 9)) second))
 
-abbrev zone_1 : ZoneData
+abbrev pub zone_1 : ZoneData
 zone_1 = zone 3 ((Max, Exact (num 7)) ∷ (Min, Exact (num 2)) ∷ []) ((NullCount, Exact (count 1)) ∷ [])
 
-abbrev zone_2 : ZoneData
+abbrev pub zone_2 : ZoneData
 zone_2 = zone 4 ((Max, Absent) ∷ []) ((NullCount, Exact (count 2)) ∷ [])
 
 abbrev zone_3 : ZoneData
