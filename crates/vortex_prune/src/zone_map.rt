@@ -628,6 +628,9 @@ impl ZoneMap {
     /// Adds zones behind those that there are. `Mismatch` unless each has one set a column that
     /// fits its column's type, and else `Memory` alone. From a refusal the map is as it was.
     pub fn extend(&mut self, alloc: Global, zones: &[Zone<'_>]) -> Result<(), StatsError>
+        ensures appended { let more = zone_map self.old.scope zones.now in
+            OnOk result (self.new ≡ appended_map self.old more) }
+        ensures fits { OnOk result (IsTrue (zones_fit self.old.scope zones.now)) }
         ensures is_map { OnOk result ((known : List ZoneData) → IsMapOf known self.old
             → IsMapOf (known ++ zones.now) self.new) }
         ensures refused { OnErr result (self.new ≡ self.old) }
@@ -647,6 +650,9 @@ impl ZoneMap {
     /// Adds one zone behind those that there are. `Mismatch` unless it has one set a column that
     /// fits its column's type, and else `Memory` alone. From a refusal the map is as it was.
     pub fn push(&mut self, alloc: Global, zone: &Zone<'_>) -> Result<(), StatsError>
+        ensures appended { let more = zone_map self.old.scope (zone.now ∷ []) in
+            OnOk result (self.new ≡ appended_map self.old more) }
+        ensures fits { OnOk result (IsTrue (fits_zone self.old.scope zone.now.stats)) }
         ensures is_map { OnOk result ((known : List ZoneData) → IsMapOf known self.old
             → IsMapOf (known ++ zone.now ∷ []) self.new) }
         ensures refused { OnErr result (self.new ≡ self.old) }

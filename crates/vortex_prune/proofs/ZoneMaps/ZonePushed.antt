@@ -91,12 +91,14 @@ module _ (zone : ZoneData) where
           started = map_is.started;
         }
 
-  -- it is the map of the zones and this one
-  pub pushed_is_of : (m n : MapData) (known : List ZoneData) → IsZone m.scope zone → n ≡ pushed_map m → IsMapOf known m → IsMapOf (known ++ zone ∷ []) n
-  pushed_is_of m n known fits is h =
-      let whole : pushed_map m ≡ appended_map m (zone_map m.scope (zone ∷ [])) =
-      ap (λ (cs : List ColumnData). record { scope = m.scope; rows = m.rows ++ zone.rows ∷ []; table = record { scope = m.table.scope; columns = cs } }) (row_is_table (heads m.scope) m.table.columns) in
-      appended_is_of m (zone_map m.scope (zone ∷ [])) n known (zone ∷ []) refl (is ∙ whole) h (record { are_zones = alone m.scope zone fits; same = refl })
+  -- so it is the map with that of this zone behind it
+  pub pushed_is_appended : (m : MapData) → pushed_map m ≡ appended_map m (zone_map m.scope (zone ∷ []))
+  pushed_is_appended m =
+      ap (λ (cs : List ColumnData). record { scope = m.scope; rows = m.rows ++ zone.rows ∷ []; table = record { scope = m.table.scope; columns = cs } }) (row_is_table (heads m.scope) m.table.columns)
+
+  -- and so the map of the zones and this one
+  pub pushed_is_of : (m n : MapData) (known : List ZoneData) → IsZone m.scope zone → n ≡ appended_map m (zone_map m.scope (zone ∷ [])) → IsMapOf known m → IsMapOf (known ++ zone ∷ []) n
+  pushed_is_of m n known fits is h = appended_is_of m (zone_map m.scope (zone ∷ [])) n known (zone ∷ []) refl is h (record { are_zones = alone m.scope zone fits; same = refl })
 
 abbrev ok_chunk : ChunkData → Result ChunkData BaseError
 ok_chunk k = Ok k
