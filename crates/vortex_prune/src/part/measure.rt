@@ -1,5 +1,6 @@
 //! Parts whose statistics are made from their rows, and a check of those that weren't.
-ghost use Rattle.std.specs.Prelude.{◌≡◌, ◌↔◌, IfErr, IfOk, IfSome, IsTrue};
+ghost use Rattle.std.specs.Prelude.{◌≡◌, ◌↔◌, ◌≤◌, ◌++◌, [], IfErr, IfOk, IfSome, IsTrue, OnOk};
+ghost use Rattle.std.specs.Prelude.{drop, length, vec_capacity};
 ghost use Rattle.vortex_base.specs.Data.Columns.{IsChunk};
 ghost use Rattle.vortex_prune.specs.Part.{HoldsLongAt, IsTruePart, measured_part, measured_sets};
 
@@ -8,6 +9,27 @@ use std::alloc::{AllocError, Global};
 use vortex_base::chunk::Chunk;
 use vortex_stats::stat::ALL_STATS;
 use vortex_stats::stats_set::StatsSet;
+
+// Adds the sets of a chunk's columns, in order, to a list with room for them. Refused with the place
+// of the first column of which the greatest or the least value isn't copied.
+fn push_sets(alloc: Global, chunk: &Chunk, sets: &mut Vec<StatsSet>) -> Result<(), usize>
+    requires empty { sets.old.items ≡ [] }
+    requires room { length chunk.now.scope ≤ vec_capacity sets.old }
+    ensures measured { OnOk result (sets.new.items ≡ measured_sets chunk.now.columns) }
+    ensures first { IfErr result (λ column. column ≡ length sets.new.items) }
+    ensures before { sets.new.items ++ measured_sets (drop (length sets.new.items) chunk.now.columns)
+        ≡ measured_sets chunk.now.columns }
+    ensures copied { IfErr result (HoldsLongAt chunk.now) }
+    ensures is_chunk { IsChunk chunk.now }
+{
+    for i in 0..chunk.scope().len() {
+        let Ok(set) = StatsSet::of_column(alloc, chunk.column(i), ALL_STATS) else {
+            return Err(i);
+        };
+        sets.push_reserved(set);
+    }
+    Ok(())
+}
 
 // All statistics of each column of a chunk. Refused at a column whose greatest or least value isn't
 // copied, or at none where the list isn't made.
@@ -20,15 +42,10 @@ fn measured_sets(alloc: Global, chunk: &Chunk) -> Result<Vec<StatsSet>, Option<u
     let Ok(mut sets) = Vec::with_capacity(alloc, columns) else {
         return Err(None);
     };
-    for i in 0..columns {
-        let Ok(set) = StatsSet::of_column(alloc, chunk.column(i), ALL_STATS) else {
-            return Err(Some(i));
-        };
-        let Ok(()) = sets.push(set) else {
-            return Err(None);
-        };
+    match push_sets(alloc, chunk, &mut sets) {
+        Ok(()) => Ok(sets),
+        Err(column) => Err(Some(column)),
     }
-    Ok(sets)
 }
 
 impl Part {
