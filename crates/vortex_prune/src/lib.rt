@@ -10,6 +10,7 @@ pub mod zone;
 pub mod zone_map;
 pub mod zones;
 
+pub use bind::bind_stats;
 pub use bind::stat_binder::StatBinder;
 pub use bind::stats_binder::{StatsBinder, ZoneStatsBinder};
 pub use bind::zone_binder::ZoneBinder;
@@ -20,6 +21,8 @@ pub use scan::ranges::{scan_ranges, scan_ranges_from};
 pub use scan::verdict::Verdict;
 pub use scan::zones::scan_zones;
 pub use stat_fn::{StatFn, StatOptions};
+pub use vortex_rewrite::expr::{all_non_null, all_null, min_max, null_count, stat, sum};
+pub use vortex_rewrite::rewrite::{falsify, falsify_counted, satisfy};
 pub use vortex_rewrite::{BuiltinRule, HookFault, Rules, StatsRewriteRule, StatsRewriteRuleRef};
 pub use zone::Zone;
 pub use zone_map::{Head, TableRefused, ZoneMap, ZoneMapRefused};
