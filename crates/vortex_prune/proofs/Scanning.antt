@@ -13,4 +13,5 @@ pub mod ScanLemmas
 pub mod ScanRefused
 pub mod SelectLemmas
 pub mod SkippedParts
+pub mod TrueRanges
 pub mod WholeScan

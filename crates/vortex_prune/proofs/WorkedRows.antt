@@ -12,6 +12,7 @@ pub mod PremiseRows
 pub mod RangeRows
 pub mod ShutRows
 pub mod StatRows
+pub mod TrueRows
 pub mod WholeRows
 pub mod Witnesses
 pub mod ZoneTableRows

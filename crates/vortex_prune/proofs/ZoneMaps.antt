@@ -1,4 +1,5 @@
 -- On tables of zones.
+pub mod TrueRows
 pub mod ZoneAppended
 pub mod ZoneKept
 pub mod ZoneMarks

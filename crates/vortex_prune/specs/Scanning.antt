@@ -6,4 +6,5 @@ pub mod PartScans
 pub mod RangeScans
 pub mod ScanRefusals
 pub mod Selection
+pub mod TrueRows
 pub mod ZoneScans

@@ -8,7 +8,7 @@ use Rattle.vortex_base.specs.declared.dtype.DType.{DType}
 use Rattle.vortex_base.specs.declared.dtype.DType.TheVariants as dtype
 use Rattle.vortex_base.specs.declared.error.BaseError.{BaseError}
 use Rattle.vortex_base.specs.declared.scalar_value.ScalarValue.{ScalarValue}
-use Rattle.vortex_base.specs.Data.Columns.{ChunkData, ColumnData, appended_chunk, cell_value, emptied_chunk, row_count as rows_of}
+use Rattle.vortex_base.specs.Data.Columns.{ChunkData, ColumnData, IsChunk, appended_chunk, cell_value, emptied_chunk, row_count as rows_of}
 use Rattle.vortex_base.specs.Data.Scalars.{Constant}
 use Rattle.vortex_base.specs.Data.Scopes.{Named}
 use Rattle.vortex_expr.specs.Trees.Tree.{column}
@@ -191,6 +191,12 @@ pub record IsMap (m : MapData) (starts : List ℕ) : Type 0 where
   pub counted : length m.rows ≡ rows_of m.table.columns
   pub sizeless : IsTrue (list_all (λ c. c.size == 0) m.table.columns)
   pub started : starts ≡ starts_from 0 m.scope
+
+-- so its table is a chunk below the heads of the scope, with a row for each zone
+pub record HasTable (m : MapData) : Type 0 where
+  pub is_chunk : IsChunk m.table
+  pub named : m.table.scope ≡ map named_head (heads m.scope)
+  pub counted : length m.rows ≡ rows_of m.table.columns
 
 -- the parts have this scope
 abbrev pub HaveScope : List Named → List PartData → Type 0

@@ -7,6 +7,7 @@ ghost use Rattle.vortex_prune.specs.Laws.{LiteralsAreAnswers, NullsAreAnswers, S
 ghost use Rattle.vortex_prune.specs.Part.{AreParts, IsTruePart, PartData};
 ghost use Rattle.vortex_prune.specs.Scanning.RangeScans.{RangesAreThere, RangesBehindAreThere};
 ghost use Rattle.vortex_prune.specs.Scanning.Selection.{AreByStatistics, AreFaithful, AreHonest, any_binder};
+ghost use Rattle.vortex_prune.specs.Scanning.TrueRows.{ZonesHaveTrueRows};
 
 use crate::bind::stat_binder::StatBinder;
 use crate::bind::stats_binder::StatsBinder;
@@ -56,4 +57,10 @@ pub fn chosen_sets_stay_true()
 pub fn ranges_are_there()
     ensures from_the_first { RangesAreThere }
     ensures from_a_row_on { RangesBehindAreThere }
+{}
+
+/// In a map of zones the row of each is true of whatever rows stand in the zone, where its
+/// statistics are: so the clauses of `prune` on rows hold of zones too.
+pub fn zones_have_true_rows()
+    ensures { ZonesHaveTrueRows }
 {}

@@ -10,7 +10,7 @@ use Rattle.vortex_prune.specs.Part.{IsPart, IsTruePart, PartData}
 use Rattle.vortex_prune.specs.Binding.PartAnswers.{part_values}
 use Rattle.vortex_rewrite.specs.Rewriting.Proof.{Assignment}
 
-columns_long : (k : ChunkData) → IsChunk k → all_long (rows_of k.columns) k.columns ≡ true
+pub columns_long : (k : ChunkData) → IsChunk k → all_long (rows_of k.columns) k.columns ≡ true
 columns_long k h = (both_true _ _ (both_true _ _ (both_true _ _ h).1).0).1
 
 own_is_honest : (p : PartData) → IsPart p → IsTruePart p → IsHonest (own_values p) p.chunk.columns

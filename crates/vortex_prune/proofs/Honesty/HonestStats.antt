@@ -97,7 +97,7 @@ size_fact xs size (Inexact v) h = tt
 size_fact xs size Absent h = tt
 
 -- what a true set answers is a fact of its column
-stat_fact : (f : AggregateFnRef) (es : Entries) (d : ColumnData) (n : ℕ) → IsTrueOf es d → n ≡ length d.values → IsFact f (stat_value f es n) d.values (Some d.size)
+pub stat_fact : (f : AggregateFnRef) (es : Entries) (d : ColumnData) (n : ℕ) → IsTrueOf es d → n ≡ length d.values → IsFact f (stat_value f es n) d.values (Some d.size)
 stat_fact aggregate.Max es d n h long = max_fact d.values (Some d.size) (entry_value Max es) (h.claims Max)
 stat_fact aggregate.Min es d n h long = min_fact d.values (Some d.size) (entry_value Min es) (h.claims Min)
 stat_fact aggregate.Sum es d n h long = sum_fact d.values (Some d.size) d.dtype (entry_value Sum es) (entry_value-fits Sum d.dtype es h.fits) (h.claims Sum)
@@ -110,13 +110,13 @@ stat_fact aggregate.NanCount es d n h long = tt
 
 -- ---- of a column of a chunk
 
-column_long : (n : ℕ) (cs : List ColumnData) (j : ℕ) (d : ColumnData) → all_long n cs ≡ true → slice_get cs j ≡ Some d → length d.values ≡ n
+pub column_long : (n : ℕ) (cs : List ColumnData) (j : ℕ) (d : ColumnData) → all_long n cs ≡ true → slice_get cs j ≡ Some d → length d.values ≡ n
 column_long n [] j d h there = cc
 column_long n (c ∷ cs) zero d h there = let same : c ≡ d = cc in ap (λ (x : ColumnData). length x.values) (sym same) ∙ equal_numbers (length c.values) n (both_true _ _ h).0
 column_long n (c ∷ cs) (suc j) d h there = column_long n cs j d (both_true _ _ h).1 there
 
 -- what a column means on the rows is its values
-values_meant : (c : Place) (cs : List ColumnData) (d : ColumnData) → all_long (rows_of cs) cs ≡ true → slice_get cs c.index ≡ Some d → d.values ≡ meanings (column c) cs
+pub values_meant : (c : Place) (cs : List ColumnData) (d : ColumnData) → all_long (rows_of cs) cs ≡ true → slice_get cs c.index ≡ Some d → d.values ≡ meanings (column c) cs
 values_meant c cs d long there =
     fill_by_all (λ i. meaning (column c) (row_of i cs) (rows_of cs)) d.values (rows_of cs) None (column_long (rows_of cs) cs c.index d long there)
     (λ i here. sym (
@@ -125,7 +125,7 @@ values_meant c cs d long there =
     ∙ ap value_at (slice_get-get_or d.values i None (subst (λ m. i < m) (sym (column_long (rows_of cs) cs c.index d long there)) here))
     ))
 
-true_set : (cs : List ColumnData) (ss : List Entries) (j : ℕ) (d : ColumnData) (es : Entries) → AreTrueSets cs ss → slice_get cs j ≡ Some d → slice_get ss j ≡ Some es → IsTrueOf es d
+pub true_set : (cs : List ColumnData) (ss : List Entries) (j : ℕ) (d : ColumnData) (es : Entries) → AreTrueSets cs ss → slice_get cs j ≡ Some d → slice_get ss j ≡ Some es → IsTrueOf es d
 true_set [] ss j d es h there set = cc
 true_set (c ∷ cs) [] j d es h there set = absurd h
 true_set (c ∷ cs) (s ∷ ss) zero d es h there set =
@@ -138,7 +138,7 @@ true_set (c ∷ cs) (s ∷ ss) (suc j) d es h there set = true_set cs ss j d es 
 abbrev null : Option ScalarValue
 null = None
 
-no_fact : (b : Bool) (f : AggregateFnRef) (xs : List (Option ScalarValue)) (size : Option ℕ) → MatchBool b (IsFact f null xs size) (null ≡ None)
+pub no_fact : (b : Bool) (f : AggregateFnRef) (xs : List (Option ScalarValue)) (size : Option ℕ) → MatchBool b (IsFact f null xs size) (null ≡ None)
 no_fact true f xs size = tt
 no_fact false f xs size = refl
 

@@ -23,7 +23,7 @@ is_over_chunk p k typed plain fits = record { typed = typed; over = both_hold _ 
 
 -- ---- a skipped part has no row to select
 
-none_pass : (test : ℕ → Bool) (a n : ℕ) → ((i : ℕ) → i < a + n → test i ≡ false) → filter test (range_with_len a n) ≡ []
+pub none_pass : (test : ℕ → Bool) (a n : ℕ) → ((i : ℕ) → i < a + n → test i ≡ false) → filter test (range_with_len a n) ≡ []
 none_pass test a zero fails = refl
 none_pass test a (suc n) fails = rw (fails a (omega arith)) (none_pass test (a + 1) n (λ i h. fails i (omega arith)))
 
@@ -35,7 +35,7 @@ none_selected rules p e part A chunk over honest is skipped =
 
 -- ---- of a whole part each row is selected
 
-all_pass : (test : ℕ → Bool) (a n : ℕ) → ((i : ℕ) → i < a + n → test i ≡ true) → filter test (range_with_len a n) ≡ range_with_len a n
+pub all_pass : (test : ℕ → Bool) (a n : ℕ) → ((i : ℕ) → i < a + n → test i ≡ true) → filter test (range_with_len a n) ≡ range_with_len a n
 all_pass test a zero passes = refl
 all_pass test a (suc n) passes = rw (passes a (omega arith)) (ap (λ l. a ∷ l) (all_pass test (a + 1) n (λ i h. passes i (omega arith))))
 

@@ -21,7 +21,7 @@ use Rattle.vortex_prune.proofs.Scanning.WholeScan.{kept_is_full, parts_by_recurs
 use Rattle.vortex_prune.proofs.ZoneMaps.ZoneScan.{fits_each}
 use Rattle.vortex_prune.specs.Binding.PartAnswers.{part_values}
 use Rattle.vortex_prune.specs.Part.{IsTruePart, PartData, ZoneData, zone_of}
-use Rattle.vortex_prune.specs.Scanning.RangeScans.{AreRanges, AreRangesBehind, AreRangesFrom, IsRange, counts_of, has_ranges, has_ranges_from, is_true_in, range_rows, ranges_by, row_in_chunk, rows_in_chunk, selected_from}
+use Rattle.vortex_prune.specs.Scanning.RangeScans.{AreRanges, AreRangesBehind, AreRangesFrom, IsRange, counts_of, has_ranges, has_ranges_from, is_true_in, range_rows, range_satisfying, ranges_by, row_in_chunk, rows_in_chunk, satisfying_ranges, selected_from}
 use Rattle.vortex_prune.specs.Scanning.Selection.{full, rows_by, satisfying, satisfying_rows, selected_rows, verdict}
 use Rattle.vortex_prune.specs.Scanning.ZoneScans.{statistics_answers, zone_verdict, zone_verdicts}
 use Rattle.vortex_prune.specs.Zones.{IsMapOf, MapData, zones_of}
@@ -165,40 +165,41 @@ module _ (p : Tree Place) (plain : IsTrue (is_plain p)) (k : ChunkData) (most : 
   abbrev holds_at : ℕ → Bool
   holds_at i = satisfies p (row_of i k.columns) most
 
-  part_moved : (place from : ℕ) (q : ChunkData) → IsRange k from q → ((i : ℕ) → g (place, i) ≡ from + i)
-      → map g (satisfying_rows p place q) ≡ filter holds_at (range_with_len from (rows_of q.columns))
-  part_moved place from q is h =
-      let n = rows_of q.columns in
+  range_moved : (place from n : ℕ) → ((i : ℕ) → g (place, i) ≡ from + i) → map g (range_satisfying p place k from n) ≡ filter holds_at (range_with_len from n)
+  range_moved place from n h =
       let here : from + 0 ≡ from = omega arith in
-      pairs_moved g place from (satisfying p q) h
-      ∙ ap (map (λ i. from + i))
-      (filter_same (λ i. satisfies p (row_of i q.columns) n) (λ i. holds_at (from + i)) 0 n
-      (λ i less. ap (λ (row : List Constant). satisfies p row n) (is i (omega (arith, less))) ∙ satisfied_by_row p plain (row_of (from + i) k.columns) n most))
+      pairs_moved g place from (filter (is_true_in p k.columns from n) (range_with_len 0 n)) h
+      ∙ ap (map (λ i. from + i)) (filter_same (is_true_in p k.columns from n) (λ i. holds_at (from + i)) 0 n (λ i less. satisfied_by_row p plain (row_of (from + i) k.columns) n most))
       ∙ moved holds_at from 0 n ∙ ap (λ j. filter holds_at (range_with_len j n)) here
 
-  parts_moved : (place from : ℕ) (parts : List PartData) → AreRangesFrom k from parts → ((j r : ℕ) → g (place + j, r) ≡ from + (sum (take j (counts_of (zones_of parts))) + r))
-      → map g (flat_map (λ e. satisfying_rows p e.0 e.1.chunk) (enumerate_from place parts)) ≡ filter holds_at (range_with_len from (sum (counts_of (zones_of parts))))
-  parts_moved place from [] are h = refl
-  parts_moved place from (part ∷ parts) are h =
-      let n = rows_of part.chunk.columns in
-      let ns = counts_of (zones_of parts) in
+  -- the satisfying rows of all ranges are those of the chunk from where the first begins
+  pub ranges_moved : (place from : ℕ) (ns : List ℕ) → ((j r : ℕ) → g (place + j, r) ≡ from + (sum (take j ns) + r)) → map g (satisfying_ranges p k place from ns) ≡ filter holds_at (range_with_len from (sum ns))
+  ranges_moved place from [] h = refl
+  ranges_moved place from (n ∷ ns) h =
       let here : place ≡ place + 0 = omega arith in
       let first : (i : ℕ) → g (place, i) ≡ from + i = λ i. ap (λ j. g (j, i)) here ∙ h 0 i ∙ omega arith in
       let later : (j r : ℕ) → g ((place + 1) + j, r) ≡ (from + n) + (sum (take j ns) + r) =
       λ j r. let there : (place + 1) + j ≡ place + suc j = omega arith in ap (λ i. g (i, r)) there ∙ h (suc j) r ∙ omega (arith, sum_by-cons (λ x. x) n (take j ns)) in
-      map-append g (satisfying_rows p place part.chunk) (flat_map (λ e. satisfying_rows p e.0 e.1.chunk) (enumerate_from (place + 1) parts))
-      ∙ ap (λ l. l ++ map g (flat_map (λ e. satisfying_rows p e.0 e.1.chunk) (enumerate_from (place + 1) parts))) (part_moved place from part.chunk are.0 first)
-      ∙ ap (λ l. filter holds_at (range_with_len from n) ++ l) (parts_moved (place + 1) (from + n) parts are.1 later)
+      map-append g (range_satisfying p place k from n) (satisfying_ranges p k (place + 1) (from + n) ns)
+      ∙ ap (λ l. l ++ map g (satisfying_ranges p k (place + 1) (from + n) ns)) (range_moved place from n first)
+      ∙ ap (λ l. filter holds_at (range_with_len from n) ++ l) (ranges_moved (place + 1) (from + n) ns later)
       ∙ sym (filter-append holds_at (range_with_len from n) (range_with_len (from + n) (sum ns)))
       ∙ ap (filter holds_at) (sym (range_parted from n (sum ns)))
       ∙ ap (λ c. filter holds_at (range_with_len from c)) (sym (sum_by-cons (λ x. x) n ns))
+
+-- those of parts that are ranges are what a full scan of the parts selects
+full_by_ranges : (p : Tree Place) (k : ChunkData) (place from : ℕ) (parts : List PartData) → AreRangesFrom k from parts
+    → satisfying_ranges p k place from (counts_of (zones_of parts)) ≡ flat_map (λ e. satisfying_rows p e.0 e.1.chunk) (enumerate_from place parts)
+full_by_ranges p k place from [] are = refl
+full_by_ranges p k place from (part ∷ parts) are =
+    ap₂ (λ a b. a ++ b) (part_rows Tested p place from k part.chunk are.0) (full_by_ranges p k (place + 1) (from + rows_of part.chunk.columns) parts are.1)
 
 -- the rows that the full scan of the parts selects are those that the full scan of the chunk does
 full_of_chunk : (p : Tree Place) (k : ChunkData) (parts : List PartData) → IsTrue (is_plain p) → AreRangesFrom k 0 parts → sum (counts_of (zones_of parts)) ≡ rows_of k.columns
     → map (row_in_chunk (counts_of (zones_of parts))) (full p parts) ≡ satisfying p k
 full_of_chunk p k parts plain are count =
     let ns = counts_of (zones_of parts) in
-    parts_moved p plain k (rows_of k.columns) (row_in_chunk ns) 0 0 parts are
+    sym (ap (map (row_in_chunk ns)) (full_by_ranges p k 0 0 parts are)) ∙ ranges_moved p plain k (rows_of k.columns) (row_in_chunk ns) 0 0 ns
     (λ j r. let here : 0 + j ≡ j = omega arith in ap (λ i. sum (take i ns) + r) here ∙ omega arith)
     ∙ ap (λ n. filter (λ i. satisfies p (row_of i k.columns) (rows_of k.columns)) (range_with_len 0 n)) count
 

@@ -2,7 +2,7 @@
 use Rattle.std.proofs.Common.{◌≡◌, ◌<◌, ◌+◌, ◌++◌, ℕ, Bool, true, false, List, [], ◌∷◌, Option, Some, None, get_or, inl, inr, length, map, refl, subst, sym, ap, take, ◌∙◌, arith}
 use Rattle.std.specs.Prelude.{Contains, Err, IfOk, IsOk, IsTrue, Ok, Result, if◌then◌else◌, filter, ◌⊎◌}
 use Rattle.std.specs.List.{enumerate_from}
-use Rattle.vortex_base.specs.Data.Columns.{row_count as rows_of}
+use Rattle.vortex_base.specs.Data.Columns.{ChunkData, IsChunk, row_count as rows_of}
 use Rattle.vortex_base.specs.Data.Scopes.{Named}
 use Rattle.vortex_expr.specs.Meanings.Fitting.{fits_scope}
 use Rattle.vortex_expr.specs.Meanings.Typing.{type_of}
@@ -24,10 +24,11 @@ use Rattle.vortex_prune.specs.Scanning.ZoneScans.{EachSatisfies, IsShutIfKept, I
 use Rattle.vortex_prune.specs.declared.scan.verdict.Verdict.{Verdict}
 use Rattle.vortex_prune.specs.declared.scan.verdict.Verdict.TheVariants.{Skipped, Whole, Tested}
 use Rattle.vortex_rewrite.proofs.Soundness.SoundRules.{falsifiers_sound, satisfiers_sound}
+use Rattle.vortex_rewrite.specs.Facts.{IsHonest}
 use Rattle.vortex_rewrite.specs.Rewriting.Falsifiers.{falsifier, satisfier}
 use Rattle.vortex_rewrite.specs.Rewriting.Lawful.{OwnRule}
 use Rattle.vortex_rewrite.specs.Rewriting.Predicates.{is_predicate}
-use Rattle.vortex_rewrite.specs.Rewriting.Proof.{is_open}
+use Rattle.vortex_rewrite.specs.Rewriting.Proof.{Assignment, is_open}
 use Rattle.vortex_rewrite.specs.Rewriting.ReadOnce.{is_apart}
 
 -- one more element was looked at
@@ -68,35 +69,47 @@ module _ (f s : Option (Tree Place)) (scope : List Named) (zones : List ZoneData
   whole_listed = places_from (zone_verdict f s scope) is_whole (λ zone. is_whole (zone_verdict f s scope zone)) (λ zone. refl) 0 zones
 
 -- of a whole zone the satisfier is true
-whole_proved : (a b : Bool) → is_whole (if a then Skipped else if b then Whole else Tested) ≡ true → b ≡ true
+pub whole_proved : (a b : Bool) → is_whole (if a then Skipped else if b then Whole else Tested) ≡ true → b ≡ true
 whole_proved true b h = cc
 whole_proved false true h = refl
 whole_proved false false h = cc
 
 -- ---- soundness
 
+-- by answers that are facts of some rows
+module _ (rules : List OwnRule) (p : Tree Place) (typed : IsOk (type_of p)) (plain : IsTrue (is_plain p)) (k : ChunkData) (A : Assignment) (chunk : IsChunk k) (fits : IsTrue (fits_scope p k.scope)) (honest : IsHonest A k.columns) where
+  pub none_by : (o : Option (Tree Place)) → falsifier rules p ≡ o → proves_of o (rows_of k.columns) A ≡ true → EachSatisfies false p k
+  none_by None is h = cc
+  none_by (Some e) is h = λ r less. falsifiers_sound rules p e is k A chunk (is_over_chunk p k typed plain fits) honest h r less
+
+  pub each_by : (o : Option (Tree Place)) → satisfier rules p ≡ o → proves_of o (rows_of k.columns) A ≡ true → EachSatisfies true p k
+  each_by None is h = cc
+  each_by (Some e) is h = λ r less. satisfiers_sound rules p e is k A chunk (is_over_chunk p k typed plain fits) honest h r less
+
+-- by the true statistics of a zone
 module _ (rules : List OwnRule) (p : Tree Place) (scope : List Named) (typed : IsOk (type_of p)) (plain : IsTrue (is_plain p)) (fits : IsTrue (fits_scope p scope)) (zone : ZoneData) (part : PartData) (of : IsPartOf scope zone part) (is_true : IsTruePart part) where
+  abbrev proved_of : Option (Tree Place) → ℕ → Bool
+  proved_of o n = proves_of o n (told_values scope zone)
+
   rows_same : rows_of part.chunk.columns ≡ zone.rows
   rows_same = ap (λ (z : ZoneData). z.rows) of.known
 
-  none_satisfy : (o : Option (Tree Place)) → falsifier rules p ≡ o → proves_of o zone.rows (told_values scope zone) ≡ true → EachSatisfies false p part.chunk
-  none_satisfy None is h = cc
-  none_satisfy (Some e) is h = λ r less.
-      falsifiers_sound rules p e is part.chunk (told_values scope zone) of.is_part.0 (is_over_chunk p part.chunk typed plain (ap (fits_scope p) of.scoped ∙ fits)) (told_is_honest scope zone part of is_true)
-      (ap (λ n. proves_of (Some e) n (told_values scope zone)) rows_same ∙ h) r less
+  none_satisfy : proved_of (falsifier rules p) zone.rows ≡ true → EachSatisfies false p part.chunk
+  none_satisfy h =
+      none_by rules p typed plain part.chunk (told_values scope zone) of.is_part.0 (ap (fits_scope p) of.scoped ∙ fits) (told_is_honest scope zone part of is_true) (falsifier rules p) refl
+      (ap (proved_of (falsifier rules p)) rows_same ∙ h)
 
-  each_satisfies : (o : Option (Tree Place)) → satisfier rules p ≡ o → proves_of o zone.rows (told_values scope zone) ≡ true → EachSatisfies true p part.chunk
-  each_satisfies None is h = cc
-  each_satisfies (Some e) is h = λ r less.
-      satisfiers_sound rules p e is part.chunk (told_values scope zone) of.is_part.0 (is_over_chunk p part.chunk typed plain (ap (fits_scope p) of.scoped ∙ fits)) (told_is_honest scope zone part of is_true)
-      (ap (λ n. proves_of (Some e) n (told_values scope zone)) rows_same ∙ h) r less
+  each_satisfies : proved_of (satisfier rules p) zone.rows ≡ true → EachSatisfies true p part.chunk
+  each_satisfies h =
+      each_by rules p typed plain part.chunk (told_values scope zone) of.is_part.0 (ap (fits_scope p) of.scoped ∙ fits) (told_is_honest scope zone part of is_true) (satisfier rules p) refl
+      (ap (proved_of (satisfier rules p)) rows_same ∙ h)
 
 pub pruning_is_sound : (rules : List OwnRule) (p : Tree Place) (scope : List Named) (zones : List ZoneData) (skipped whole : List ℕ) → IsTrue (is_predicate p) → IsTrue (is_plain p) → IsTrue (fits_scope p scope)
     → skipped ≡ skipped_zones (falsifier rules p) scope zones → whole ≡ whole_zones (falsifier rules p) (satisfier rules p) scope zones → IsSoundPruning p scope zones skipped whole
 pruning_is_sound rules p scope zones skipped whole predicate plain fits is also i zone part there of is_true = (
-  (λ h. none_satisfy rules p scope (predicate_typed (type_of p) predicate) plain fits zone part of is_true (falsifier rules p) refl
+  (λ h. none_satisfy rules p scope (predicate_typed (type_of p) predicate) plain fits zone part of is_true
       ((place_listed (λ z. proves_of (falsifier rules p) z.rows (told_values scope z)) zones i zone there).0 (subst (λ l. Contains l i) is h))),
-  (λ h. each_satisfies rules p scope (predicate_typed (type_of p) predicate) plain fits zone part of is_true (satisfier rules p) refl
+  (λ h. each_satisfies rules p scope (predicate_typed (type_of p) predicate) plain fits zone part of is_true
       (whole_proved (proves_of (falsifier rules p) zone.rows (told_values scope zone)) (proves_of (satisfier rules p) zone.rows (told_values scope zone))
       ((place_listed (λ z. is_whole (zone_verdict (falsifier rules p) (satisfier rules p) scope z)) zones i zone there).0 (subst (λ l. Contains l i) also h)))),
 )

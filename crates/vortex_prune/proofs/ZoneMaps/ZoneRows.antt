@@ -59,7 +59,7 @@ cell_told cs zones r k h z c there is zone =
     let one : slice_get (row_of r cs) k ≡ Some (cell_of r (zone_column zones h)) = slice_get-map (cell_of r) cs k ∙ ap (option_map (cell_of r)) (there ∙ ap Some is) in
     ap cell_value one ∙ ap value_at (slice_get-map (zone_value h.aggregate h.source) zones r ∙ ap (option_map (zone_value h.aggregate h.source)) zone)
 
-cell_is : (hs : List Head) (zones : List ZoneData) (r k : ℕ) (h : Head) (z : ZoneData) → slice_get hs k ≡ Some h → slice_get zones r ≡ Some z
+pub cell_is : (hs : List Head) (zones : List ZoneData) (r k : ℕ) (h : Head) (z : ZoneData) → slice_get hs k ≡ Some h → slice_get zones r ≡ Some z
     → cell_value (slice_get (row_of r (map (zone_column zones) hs)) k) ≡ zone_value h.aggregate h.source z
 cell_is hs zones r k h z there zone =
     cell_told (map (zone_column zones) hs) zones r k h z (zone_column zones h) (slice_get-map (zone_column zones) hs k ∙ ap (option_map (zone_column zones)) there) refl zone

@@ -56,7 +56,7 @@ tells_nothing m bound proof h r n at = absurd (omega (arith, h, slice_get_within
 -- ---- the verdict on a zone
 
 -- the row count of a zone is kept
-row_count_at : (m : MapData) (zones : List ZoneData) (i : ℕ) (zone : ZoneData) → IsMapOf zones m → slice_get zones i ≡ Some zone → slice_get m.rows i ≡ Some zone.rows
+pub row_count_at : (m : MapData) (zones : List ZoneData) (i : ℕ) (zone : ZoneData) → IsMapOf zones m → slice_get zones i ≡ Some zone → slice_get m.rows i ≡ Some zone.rows
 row_count_at m zones i zone is at = ap (λ (x : MapData). slice_get x.rows i) is.same ∙ slice_get-map (λ (z : ZoneData). z.rows) zones i ∙ ap (option_map (λ (z : ZoneData). z.rows)) at
 
 -- what was found true on the row

@@ -52,6 +52,11 @@ abbrev pub ranges_by : Tree Place → ChunkData → (place from : ℕ) → List 
 ranges_by p k place from (v ∷ vs) (n ∷ ns) = range_rows v p place k from n ++ ranges_by p k (place + 1) (from + n) vs ns
 ranges_by p k place from vs ns = []
 
+-- the rows of all ranges that satisfy the predicate
+abbrev pub satisfying_ranges : Tree Place → ChunkData → (place from : ℕ) → List ℕ → List (ℕ × ℕ)
+satisfying_ranges p k place from [] = []
+satisfying_ranges p k place from (n ∷ ns) = range_satisfying p place k from n ++ satisfying_ranges p k (place + 1) (from + n) ns
+
 -- how many rows are tested
 abbrev pub tested_by : List Verdict → List ℕ → ℕ
 tested_by (v ∷ vs) (n ∷ ns) = range_tested v n + tested_by vs ns

@@ -1,5 +1,6 @@
 -- Pruning by a map of zones: what is evaluated, what has to be found, and what it may be refused for.
 use Rattle.std.specs.Prelude.{◌≡◌, ◌<◌, ◌⊎◌, ℕ, Bool, true, false, not as not_b, Contains, List, [], ◌∷◌, Option, Some, None, if◌then◌else◌, alloc_error, filter, length, map, slice_get}
+use Rattle.std.specs.List.{enumerate_from}
 use Rattle.vortex_base.specs.Data.Columns.{ChunkData, ColumnData, row_count as rows_of, row_of}
 use Rattle.vortex_base.specs.Data.Scopes.{Named}
 use Rattle.vortex_expr.specs.Meanings.Meaning.{is_true, meaning, satisfies}
@@ -72,6 +73,10 @@ row_verdict falsifier satisfier m r n = verdict_of falsifier satisfier n (row_va
 -- these are the verdicts on the rows of the table, in their order
 abbrev pub AreRowVerdicts : (falsifier satisfier : Option (Tree Place)) → MapData → List Verdict → Type 0
 AreRowVerdicts falsifier satisfier m vs = (r n : ℕ) (v : Verdict) → slice_get m.rows r ≡ Some n → slice_get vs r ≡ Some v → v ≡ row_verdict falsifier satisfier m r n
+
+-- all of them
+abbrev pub row_verdicts : (falsifier satisfier : Option (Tree Place)) → MapData → List Verdict
+row_verdicts falsifier satisfier m = map (λ e. row_verdict falsifier satisfier m e.0 e.1) (enumerate_from 0 m.rows)
 
 -- the verdict on a row by a falsifier that was bound, and by a satisfier
 abbrev pub table_verdict : (bound satisfier : Option (Tree Place)) → MapData → (r n : ℕ) → Verdict

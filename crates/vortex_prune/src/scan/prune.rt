@@ -2,6 +2,7 @@
 ghost use Rattle.std.specs.Prelude.{◌≡◌, ◌<◌, ◌++◌, Contains, List, [], Err, IfErr, IfOk, IsTrue, OnOk};
 ghost use Rattle.std.specs.List.{list_all};
 ghost use Rattle.std.specs.Prelude.{Some, alloc_error, false, length, map, not, option_copied};
+ghost use Rattle.std.specs.Prelude.{true};
 ghost use Rattle.vortex_expr.specs.Meanings.Fitting.{fits_scope};
 ghost use Rattle.vortex_expr.specs.Trees.Tree.{Place, Tree, has_bare_column, is_plain};
 ghost use Rattle.vortex_rewrite.specs.Answers.{IsMemory};
@@ -17,7 +18,8 @@ ghost use Rattle.vortex_prune.specs.Part.{ZoneData};
 ghost use Rattle.vortex_prune.specs.Scanning.Complete.{ZonesSkipExactly};
 ghost use Rattle.vortex_prune.specs.Scanning.Selection.{is_skipped, is_whole, place_if};
 ghost use Rattle.vortex_prune.specs.Scanning.Selection.{places_where};
-ghost use Rattle.vortex_prune.specs.Scanning.ZoneScans.{AllTold, AreRowVerdicts};
+ghost use Rattle.vortex_prune.specs.Scanning.TrueRows.{EachRowOf};
+ghost use Rattle.vortex_prune.specs.Scanning.ZoneScans.{AllTold, AreRowVerdicts, row_verdicts};
 ghost use Rattle.vortex_prune.specs.Scanning.ZoneScans.{IsShutIfKept, IsShutIfVerdict};
 ghost use Rattle.vortex_prune.specs.Scanning.ZoneScans.{IsSoundPruning, TellsAs, is_left_open};
 ghost use Rattle.vortex_prune.specs.Scanning.ZoneScans.{IsTableRefused, most_causes, open_causes};
@@ -25,7 +27,7 @@ ghost use Rattle.vortex_prune.specs.Scanning.ZoneScans.{kept_zones, pruning_caus
 ghost use Rattle.vortex_prune.specs.Scanning.ZoneScans.{whole_zones};
 ghost use Rattle.vortex_prune.specs.Scanning.Marks.{marked_verdict, marked_verdicts};
 ghost use Rattle.vortex_prune.specs.Scanning.ZoneScans.{zone_verdicts};
-ghost use Rattle.vortex_prune.specs.Zones.{IsMapOf};
+ghost use Rattle.vortex_prune.specs.Zones.{HasTable, IsMapOf};
 ghost use Rattle.vortex_stats.specs.declared.error.StatsError.TheVariants.{Memory, NotPredicate};
 
 use crate::bind::bind_stats_of;
@@ -39,6 +41,13 @@ use vortex_rewrite::rewrite::rule::StatsRewriteRule;
 use vortex_rewrite::rewrite::rules::Rules;
 use vortex_rewrite::rewrite::{falsify, satisfy};
 use vortex_stats::error::StatsError;
+
+// Tells that the table of a map is a chunk, with a row for each zone.
+pub(crate) fn has_table(map: &ZoneMap)
+    ensures { HasTable map.now }
+{
+    let _rows = map.table().rows();
+}
 
 // A proof bound to the table. `OpenProof` if it has a column outside its placeholders, which would
 // be read in the table.
@@ -192,6 +201,10 @@ pub(crate) fn verdicts(
     predicate: &BoundExpression,
     rules: &Rules,
 ) -> Result<Vec<Verdict>, StatsError>
+    ensures rows { let M = ⟦<dyn StatsRewriteRule as StatsRewriteRule>⟧ in
+        let f = falsifier_of (own_rules M rules.now.own.items) predicate.now in
+        let s = satisfier_of (own_rules M rules.now.own.items) predicate.now in
+        IfOk result (λ vs. AreRowVerdicts f s map.now vs.items) }
     ensures verdicts { let M = ⟦<dyn StatsRewriteRule as StatsRewriteRule>⟧ in
         let f = falsifier_of (own_rules M rules.now.own.items) predicate.now in
         let s = satisfier_of (own_rules M rules.now.own.items) predicate.now in
@@ -255,6 +268,19 @@ pub fn prune_by(
         → IsTrue (fits_scope p map.now.scope) → f ≡ falsifier_of own p → s ≡ satisfier_of own p
         → IsSoundPruning p map.now.scope zones (places_where is_skipped vs.items)
         (places_where is_whole vs.items)) }
+    // The satisfier and what the table was made of are no matter here. Where the falsifier is that
+    // of a predicate by lawful rules, no row in a skipped zone satisfies the predicate, if the
+    // zone's row of the table is true of the rows in it.
+    ensures skipped_sound { let f = option_copied falsifier.entry in
+        IfOk result (λ vs. (own : List OwnRule) (p : Tree Place) → IsTrue (is_predicate p)
+        → IsTrue (is_plain p) → IsTrue (fits_scope p map.now.scope) → f ≡ falsifier_of own p
+        → EachRowOf false p map.now (places_where is_skipped vs.items)) }
+    // The falsifier is no matter here. Where the satisfier is that of the predicate, each row in a
+    // whole zone satisfies it.
+    ensures whole_sound { let s = option_copied satisfier.entry in
+        IfOk result (λ vs. (own : List OwnRule) (p : Tree Place) → IsTrue (is_predicate p)
+        → IsTrue (is_plain p) → IsTrue (fits_scope p map.now.scope) → s ≡ satisfier_of own p
+        → EachRowOf true p map.now (places_where is_whole vs.items)) }
     // Where the falsifier is that of a predicate by built-in rules, whose ANDs are apart, a zone is
     // skipped exactly if no values within its bounds satisfy the predicate.
     ensures complete { let f = option_copied falsifier.entry in
@@ -274,7 +300,12 @@ pub fn prune_by(
         IfErr result (λ e. (zones : List ZoneData) → IsMapOf zones map.now
         → IsRefusal (either_causes (open_causes f map.now.rows)
         (open_causes s (kept_zones f map.now.scope zones))) e) }
+    // Whatever the table was made of, it has such a falsifier or such a satisfier, and a zone.
+    ensures at_most { let f = open_causes (option_copied falsifier.entry) map.now.rows in
+        let s = open_causes (option_copied satisfier.entry) map.now.rows in
+        IfErr result (IsRefusal (either_causes f s)) }
 {
+    has_table(map);
     let bound = bound_once(alloc, map, falsifier)?;
     verdicts_by(alloc, map, bound.as_ref(), satisfier)
 }
@@ -331,6 +362,16 @@ fn prune_rules(
     predicate: &BoundExpression,
     rules: &Rules,
 ) -> Result<Pruned, StatsError>
+    ensures rows_skipped { let M = ⟦<dyn StatsRewriteRule as StatsRewriteRule>⟧ in
+        let f = falsifier_of (own_rules M rules.now.own.items) predicate.now in
+        let s = satisfier_of (own_rules M rules.now.own.items) predicate.now in
+        let places = places_where is_skipped (row_verdicts f s map.now) in
+        IfOk result (λ pruned. pruned.skipped.items ≡ places) }
+    ensures rows_whole { let M = ⟦<dyn StatsRewriteRule as StatsRewriteRule>⟧ in
+        let f = falsifier_of (own_rules M rules.now.own.items) predicate.now in
+        let s = satisfier_of (own_rules M rules.now.own.items) predicate.now in
+        let places = places_where is_whole (row_verdicts f s map.now) in
+        IfOk result (λ pruned. pruned.whole.items ≡ places) }
     ensures skipped { let M = ⟦<dyn StatsRewriteRule as StatsRewriteRule>⟧ in
         let proof = falsifier_of (own_rules M rules.now.own.items) predicate.now in
         IfOk result (λ pruned. (zones : List ZoneData) → IsMapOf zones map.now
@@ -387,7 +428,28 @@ pub fn prune(
     ensures sound { IfOk result (λ pruned. (zones : List ZoneData) → IsMapOf zones map.now
         → IsSoundPruning predicate.now map.now.scope zones pruned.skipped.items
         pruned.whole.items) }
-    // A zone is skipped exactly if the falsifier is true by its statistics.
+    // On each row of the table, whatever it was made of: its zone is skipped exactly if the
+    // falsifier is true by what the row holds.
+    ensures rows_skipped { let M = ⟦<dyn StatsRewriteRule as StatsRewriteRule>⟧ in
+        let f = falsifier_of (own_rules M rules.now.own.items) predicate.now in
+        let s = satisfier_of (own_rules M rules.now.own.items) predicate.now in
+        let places = places_where is_skipped (row_verdicts f s map.now) in
+        IfOk result (λ pruned. pruned.skipped.items ≡ places) }
+    // And whole exactly if it isn't skipped and the satisfier is.
+    ensures rows_whole { let M = ⟦<dyn StatsRewriteRule as StatsRewriteRule>⟧ in
+        let f = falsifier_of (own_rules M rules.now.own.items) predicate.now in
+        let s = satisfier_of (own_rules M rules.now.own.items) predicate.now in
+        let places = places_where is_whole (row_verdicts f s map.now) in
+        IfOk result (λ pruned. pruned.whole.items ≡ places) }
+    // Whatever rows stand in a skipped zone, if its row of the table is true of them: none
+    // satisfies the predicate.
+    ensures skipped_sound { IfOk result (λ pruned.
+        EachRowOf false predicate.now map.now pruned.skipped.items) }
+    // And of a whole one each does.
+    ensures whole_sound { IfOk result (λ pruned.
+        EachRowOf true predicate.now map.now pruned.whole.items) }
+    // So where the map is that of zones: one is skipped exactly if the falsifier is true by its
+    // statistics.
     ensures skipped { let M = ⟦<dyn StatsRewriteRule as StatsRewriteRule>⟧ in
         let proof = falsifier_of (own_rules M rules.now.own.items) predicate.now in
         IfOk result (λ pruned. (zones : List ZoneData) → IsMapOf zones map.now
@@ -422,6 +484,12 @@ pub fn prune(
         IsTrue (is_predicate predicate.now) → IfErr result (λ e. (zones : List ZoneData)
         → IsMapOf zones map.now
         → IsRefusal (pruning_causes own predicate.now map.now.scope zones) e) }
+    // Whatever the table was made of, it has such a rule, or such a falsifier or satisfier and a
+    // zone.
+    ensures at_most { let M = ⟦<dyn StatsRewriteRule as StatsRewriteRule>⟧ in
+        let causes = most_causes (own_rules M rules.now.own.items) predicate.now map.now.rows in
+        IsTrue (is_predicate predicate.now) → IfErr result (IsRefusal causes) }
 {
+    has_table(map);
     prune_rules(alloc, map, predicate, rules)
 }

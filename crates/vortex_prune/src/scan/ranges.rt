@@ -1,6 +1,6 @@
 //! Scans of one chunk by a map of zones, each of which is a range of its rows.
 ghost use Rattle.std.specs.Prelude.{◌≡◌, ◌+◌, ◌<◌, ◌≤◌, ◌↔◌, List, [], Err, IfErr, IfOk, IsTrue, MatchOption};
-ghost use Rattle.std.specs.Prelude.{alloc_error, false, length, sum};
+ghost use Rattle.std.specs.Prelude.{alloc_error, false, length, sum, true};
 ghost use Rattle.std.specs.List.{AllByRecursion};
 ghost use Rattle.vortex_base.specs.Data.Columns.{row_count};
 ghost use Rattle.vortex_expr.specs.Meanings.Fitting.{fits_scope};
@@ -16,12 +16,14 @@ ghost use Rattle.vortex_prune.specs.Part.{IsTruePart, PartData, ZoneData};
 ghost use Rattle.vortex_prune.specs.Scanning.Complete.{ZonesSkipExactly};
 ghost use Rattle.vortex_prune.specs.Scanning.RangeScans.{AreRanges, AreRangesBehind, has_ranges};
 ghost use Rattle.vortex_prune.specs.Scanning.RangeScans.{has_ranges_from, ranges_by, selected_from};
-ghost use Rattle.vortex_prune.specs.Scanning.RangeScans.{rows_in_chunk, selected_ranges};
+ghost use Rattle.vortex_prune.specs.Scanning.RangeScans.{rows_in_chunk, satisfying_ranges};
+ghost use Rattle.vortex_prune.specs.Scanning.RangeScans.{selected_ranges};
 ghost use Rattle.vortex_prune.specs.Scanning.RangeScans.{tested_by, tested_ranges};
 ghost use Rattle.vortex_prune.specs.Scanning.Selection.{full, is_skipped, is_whole, places_where};
 ghost use Rattle.vortex_prune.specs.Scanning.Selection.{satisfying, selected_rows};
-ghost use Rattle.vortex_prune.specs.Scanning.ZoneScans.{IsShutIfKept};
-ghost use Rattle.vortex_prune.specs.Scanning.ZoneScans.{is_left_open, pruning_causes};
+ghost use Rattle.vortex_prune.specs.Scanning.TrueRows.{AreTrueRanges, EachRowOf};
+ghost use Rattle.vortex_prune.specs.Scanning.ZoneScans.{IsShutIfKept, is_left_open, most_causes};
+ghost use Rattle.vortex_prune.specs.Scanning.ZoneScans.{pruning_causes, row_verdicts};
 ghost use Rattle.vortex_prune.specs.Scanning.ZoneScans.{skipped_zones, statistics_answers};
 ghost use Rattle.vortex_prune.specs.Scanning.ZoneScans.{whole_zones};
 ghost use Rattle.vortex_prune.specs.Zones.{IsMapOf};
@@ -29,7 +31,7 @@ ghost use Rattle.vortex_stats.specs.declared.error.StatsError.TheVariants.{Memor
 ghost use Rattle.vortex_stats.specs.declared.error.StatsError.TheVariants.{NotPredicate};
 
 use crate::scan::outcome::Scan;
-use crate::scan::prune::verdicts;
+use crate::scan::prune::{has_table, verdicts};
 use crate::scan::select::RowRange;
 use crate::scan::verdict::Verdict;
 use crate::zone_map::ZoneMap;
@@ -135,6 +137,42 @@ pub fn scan_ranges_from(
     ensures full { IfOk result (λ scan. (parts : List PartData)
         → AreRangesBehind chunk.now first map.now parts → AllByRecursion IsTruePart parts
         → scan.selected.items ≡ full predicate.now parts) }
+    // Whatever the table was made of, the verdicts on its rows tell which zones are skipped.
+    ensures rows_skipped { let M = ⟦<dyn StatsRewriteRule as StatsRewriteRule>⟧ in
+        let f = falsifier_of (own_rules M rules.now.own.items) predicate.now in
+        let s = satisfier_of (own_rules M rules.now.own.items) predicate.now in
+        let places = places_where is_skipped (row_verdicts f s map.now) in
+        IfOk result (λ scan. scan.skipped.items ≡ places) }
+    // They tell which zones are whole.
+    ensures rows_whole { let M = ⟦<dyn StatsRewriteRule as StatsRewriteRule>⟧ in
+        let f = falsifier_of (own_rules M rules.now.own.items) predicate.now in
+        let s = satisfier_of (own_rules M rules.now.own.items) predicate.now in
+        let places = places_where is_whole (row_verdicts f s map.now) in
+        IfOk result (λ scan. scan.whole.items ≡ places) }
+    // They select all rows of the whole zones, and the satisfying rows of those that are neither.
+    ensures rows_kept { let M = ⟦<dyn StatsRewriteRule as StatsRewriteRule>⟧ in
+        let f = falsifier_of (own_rules M rules.now.own.items) predicate.now in
+        let s = satisfier_of (own_rules M rules.now.own.items) predicate.now in
+        let verdicts = row_verdicts f s map.now in IfOk result (λ scan. scan.selected.items
+        ≡ ranges_by predicate.now chunk.now 0 first verdicts map.now.rows) }
+    // The rows of the zones that are neither were tested.
+    ensures rows_evaluated { let M = ⟦<dyn StatsRewriteRule as StatsRewriteRule>⟧ in
+        let f = falsifier_of (own_rules M rules.now.own.items) predicate.now in
+        let s = satisfier_of (own_rules M rules.now.own.items) predicate.now in
+        let tested = tested_by (row_verdicts f s map.now) map.now.rows in
+        IfOk result (λ scan. scan.evaluated ≡ tested) }
+    // Whatever rows stand in a skipped zone, if its row of the table is true of them: none
+    // satisfies the predicate.
+    ensures skipped_sound { IfOk result (λ scan.
+        EachRowOf false predicate.now map.now scan.skipped.items) }
+    // And of a whole one each does.
+    ensures whole_sound { IfOk result (λ scan.
+        EachRowOf true predicate.now map.now scan.whole.items) }
+    // So where each row of the table is true of its range no wanted row is lost and no other is
+    // told.
+    ensures rows_full { IfOk result (λ scan. AreTrueRanges chunk.now first map.now
+        → scan.selected.items
+        ≡ satisfying_ranges predicate.now chunk.now 0 first map.now.rows) }
     // A zone is skipped exactly if the falsifier is true by its statistics.
     ensures skipped { let M = ⟦<dyn StatsRewriteRule as StatsRewriteRule>⟧ in
         let proof = falsifier_of (own_rules M rules.now.own.items) predicate.now in
@@ -194,10 +232,17 @@ pub fn scan_ranges_from(
         IsTrue (has_ranges_from chunk.now first map.now) → IsTrue (is_predicate predicate.now)
         → IfErr result (λ e. (zones : List ZoneData) → IsMapOf zones map.now
         → IsRefusal (pruning_causes own predicate.now map.now.scope zones) e) }
+    // Whatever the table was made of, it has such a rule, or such a falsifier or satisfier and a
+    // zone.
+    ensures at_most { let M = ⟦<dyn StatsRewriteRule as StatsRewriteRule>⟧ in
+        let causes = most_causes (own_rules M rules.now.own.items) predicate.now map.now.rows in
+        IsTrue (has_ranges_from chunk.now first map.now) → IsTrue (is_predicate predicate.now)
+        → IfErr result (IsRefusal causes) }
 {
     if !has_ranges_from(chunk, first, map) {
         return Err(StatsError::Mismatch);
     }
+    has_table(map);
     let verdicts = verdicts(alloc, map, predicate, rules)?;
     scan_counts(alloc, chunk, first, map.counts(), &verdicts, predicate)
 }
@@ -237,6 +282,46 @@ pub fn scan_ranges(
     ensures full { IfOk result (λ scan. (parts : List PartData)
         → AreRanges chunk.now map.now parts → AllByRecursion IsTruePart parts
         → scan.selected.items ≡ full predicate.now parts) }
+    // Whatever the table was made of, the verdicts on its rows tell which zones are skipped.
+    ensures rows_skipped { let M = ⟦<dyn StatsRewriteRule as StatsRewriteRule>⟧ in
+        let f = falsifier_of (own_rules M rules.now.own.items) predicate.now in
+        let s = satisfier_of (own_rules M rules.now.own.items) predicate.now in
+        let places = places_where is_skipped (row_verdicts f s map.now) in
+        IfOk result (λ scan. scan.skipped.items ≡ places) }
+    // They tell which zones are whole.
+    ensures rows_whole { let M = ⟦<dyn StatsRewriteRule as StatsRewriteRule>⟧ in
+        let f = falsifier_of (own_rules M rules.now.own.items) predicate.now in
+        let s = satisfier_of (own_rules M rules.now.own.items) predicate.now in
+        let places = places_where is_whole (row_verdicts f s map.now) in
+        IfOk result (λ scan. scan.whole.items ≡ places) }
+    // They select all rows of the whole zones, and the satisfying rows of those that are neither.
+    ensures rows_kept { let M = ⟦<dyn StatsRewriteRule as StatsRewriteRule>⟧ in
+        let f = falsifier_of (own_rules M rules.now.own.items) predicate.now in
+        let s = satisfier_of (own_rules M rules.now.own.items) predicate.now in
+        let verdicts = row_verdicts f s map.now in IfOk result (λ scan. scan.selected.items
+        ≡ ranges_by predicate.now chunk.now 0 0 verdicts map.now.rows) }
+    // The rows of the zones that are neither were tested.
+    ensures rows_evaluated { let M = ⟦<dyn StatsRewriteRule as StatsRewriteRule>⟧ in
+        let f = falsifier_of (own_rules M rules.now.own.items) predicate.now in
+        let s = satisfier_of (own_rules M rules.now.own.items) predicate.now in
+        let tested = tested_by (row_verdicts f s map.now) map.now.rows in
+        IfOk result (λ scan. scan.evaluated ≡ tested) }
+    // Whatever rows stand in a skipped zone, if its row of the table is true of them: none
+    // satisfies the predicate.
+    ensures skipped_sound { IfOk result (λ scan.
+        EachRowOf false predicate.now map.now scan.skipped.items) }
+    // And of a whole one each does.
+    ensures whole_sound { IfOk result (λ scan.
+        EachRowOf true predicate.now map.now scan.whole.items) }
+    // So where each row of the table is true of its range no wanted row is lost and no other is
+    // told.
+    ensures rows_full { IfOk result (λ scan. AreTrueRanges chunk.now 0 map.now
+        → scan.selected.items
+        ≡ satisfying_ranges predicate.now chunk.now 0 0 map.now.rows) }
+    // These are the chunk's rows that satisfy the predicate.
+    ensures rows_selected { IfOk result (λ scan. AreTrueRanges chunk.now 0 map.now
+        → rows_in_chunk map.now.rows scan.selected.items
+        ≡ satisfying predicate.now chunk.now) }
     // A zone is skipped exactly if the falsifier is true by its statistics.
     ensures skipped { let M = ⟦<dyn StatsRewriteRule as StatsRewriteRule>⟧ in
         let proof = falsifier_of (own_rules M rules.now.own.items) predicate.now in
@@ -295,6 +380,12 @@ pub fn scan_ranges(
         IsTrue (has_ranges chunk.now map.now) → IsTrue (is_predicate predicate.now)
         → IfErr result (λ e. (zones : List ZoneData) → IsMapOf zones map.now
         → IsRefusal (pruning_causes own predicate.now map.now.scope zones) e) }
+    // Whatever the table was made of, it has such a rule, or such a falsifier or satisfier and a
+    // zone.
+    ensures at_most { let M = ⟦<dyn StatsRewriteRule as StatsRewriteRule>⟧ in
+        let causes = most_causes (own_rules M rules.now.own.items) predicate.now map.now.rows in
+        IsTrue (has_ranges chunk.now map.now) → IsTrue (is_predicate predicate.now)
+        → IfErr result (IsRefusal causes) }
 {
     if !has_ranges(chunk, map) {
         return Err(StatsError::Mismatch);

@@ -3,11 +3,13 @@ use Rattle.std.specs.Prelude.{option_copied}
 use Rattle.std.proofs.lemmas.Result.{IfErr-weaker, IfOk-weaker, err_from_is_err_and}
 use Rattle.vortex_expr.specs.Trees.Tree.{Place, Tree}
 use Rattle.vortex_prune.proofs.ZoneMaps.ZonePruned.{pruning_is_complete, pruning_is_sound, skipped_listed, whole_listed}
-use Rattle.vortex_prune.proofs.ZoneMaps.ZoneScan.{refused_kept, rows_found, verdicts_found}
+use Rattle.vortex_prune.proofs.Scanning.WholeScan.{of_two}
+use Rattle.vortex_prune.proofs.ZoneMaps.TrueRows.{are_row_verdicts, skipped_rows_sound, whole_rows_sound}
+use Rattle.vortex_prune.proofs.ZoneMaps.ZoneScan.{refused_kept, refused_somewhere, rows_found, verdicts_found}
 use Rattle.vortex_prune.specs.Scanning.Selection.{is_skipped, is_whole, places_where}
 use Rattle.vortex_prune.specs.Scanning.ZoneScans.{TellsAs, kept_zones, open_causes, skipped_zones, whole_zones}
 use Rattle.vortex_rewrite.proofs.Rewriting.CauseLemmas.{either-left, either-right}
-use Rattle.vortex_rewrite.specs.Rewriting.Falsifiers.{falsifier, satisfier}
+use Rattle.vortex_rewrite.specs.Rewriting.Falsifiers.{falsifier}
 use Rattle.vortex_prune.proofs.scan.prune.prune_by.Goals as goal
 
 pub returns-in_err-bound-clause-refusal : goal.returns-in_err-bound-clause-refusal
@@ -60,4 +62,39 @@ returns-clause-refusal c =
     IfErr-weaker c.verdicts_by.result _ _
     (λ e refused zones of.
     either-right (open_causes f m.rows) (open_causes s (kept_zones f m.scope zones)) e (refused_kept (option_copied c.as_ref.result) s f m zones e tells of refused))
+    c.verdicts_by.ensures.refusal
+
+pub returns-clause-skipped_sound : goal.returns-clause-skipped_sound
+returns-clause-skipped_sound c =
+    let f = option_copied c.args.falsifier in
+    let s = option_copied c.args.satisfier in
+    let m = c.args.map.now in
+    of_two c.verdicts_by.result _ _ _
+    (λ vs told long own p predicate plain fits same.
+    skipped_rows_sound own p m c.has_table.ensures predicate plain fits f s (places_where is_skipped vs.items) (ap (places_where is_skipped) (are_row_verdicts f s m vs.items told long)) same)
+    (returns-clause-rows c) c.verdicts_by.ensures.long
+
+pub returns-clause-whole_sound : goal.returns-clause-whole_sound
+returns-clause-whole_sound c =
+    let f = option_copied c.args.falsifier in
+    let s = option_copied c.args.satisfier in
+    let m = c.args.map.now in
+    of_two c.verdicts_by.result _ _ _
+    (λ vs told long own p predicate plain fits same.
+    whole_rows_sound own p m c.has_table.ensures predicate plain fits f s (places_where is_whole vs.items) (ap (places_where is_whole) (are_row_verdicts f s m vs.items told long)) same)
+    (returns-clause-rows c) c.verdicts_by.ensures.long
+
+pub returns-in_err-bound-clause-at_most : goal.returns-in_err-bound-clause-at_most
+returns-in_err-bound-clause-at_most c =
+    let q = err_from_is_err_and c.from_residual.result c.from_residual.ensures.1 in
+    let rows = c.args.map.now.rows in
+    rw (q.1, q.2) (either-left (open_causes (option_copied c.args.falsifier) rows) (open_causes (option_copied c.args.satisfier) rows) _ c.in_err-bound.ensures.refusal)
+
+pub returns-clause-at_most : goal.returns-clause-at_most
+returns-clause-at_most c =
+    let f = option_copied c.args.falsifier in
+    let s = option_copied c.args.satisfier in
+    let m = c.args.map.now in
+    IfErr-weaker c.verdicts_by.result _ _
+    (λ e refused. either-right (open_causes f m.rows) (open_causes s m.rows) e (refused_somewhere (option_copied c.as_ref.result) s m e refused))
     c.verdicts_by.ensures.refusal
