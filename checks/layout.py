@@ -29,7 +29,7 @@ CODE = {f: text for f, text in TEXTS.items() if f.endswith(".rt")}
 # A trait may be imported for its methods alone.
 TRAITS = {"BufRead", "Read", "Write"} | {name for text in CODE.values() for name in re.findall(r"^pub trait (\w+)", text, re.M)}
 # The crates whose public clauses have a witness wherever they have a premise.
-WITNESSED = ("vortex_prune", "vortex_zone_log")
+WITNESSED = ("vortex_prune", "vortex_zone_log", "vortex_normal_scan")
 KNOWN = {
     "docs/MAP.md": "this map",
     "README.md": "what the product is for, how to run and test it, what is proved",
@@ -197,8 +197,8 @@ def witness_fault(clause, text, cited):
     """Why a witness, which is cited by its module and name, is none of the clause, or None."""
     module, _, name = cited.partition(".")
     files = [f for f in TEXTS if f.startswith(f"crates/{clause.split('::')[0]}/proofs/") and f.endswith(f"/{module}.antt")]
-    stated = [it for f in files for it in re.findall(rf"^(?:pub )?{re.escape(name)} : IsWitness\b(.*?)^(?:unfolding|{re.escape(name)}) ", TEXTS[f], re.M | re.S)]
-    if len(stated) != 1:
+    stated = [it for f in files for it in re.findall(rf"^(?:pub )?{re.escape(name)} : (.*?)^(?:unfolding|{re.escape(name)}) ", TEXTS[f], re.M | re.S)]
+    if len(stated) != 1 or "IsWitness" not in stated[0]:
         return f"there is no witness {cited}"
     missing = relations(text) - relations(stated[0])
     return f"{cited} says nothing of {', '.join(sorted(missing))}, as {clause} does" if missing else None

@@ -1,3 +1,4 @@
 mod Carried
 mod Full
 mod Given
+pub mod Witnesses
