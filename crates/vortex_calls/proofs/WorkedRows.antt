@@ -5,3 +5,4 @@ pub mod CellRows
 pub mod NamedRows
 pub mod LengthRows
 pub mod TogetherRows
+pub mod Witnesses

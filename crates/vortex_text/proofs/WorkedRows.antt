@@ -6,3 +6,4 @@ pub mod MemoryRows
 pub mod StoreRows
 pub mod StreamRows
 pub mod TextRows
+pub mod Witnesses

@@ -80,7 +80,7 @@ right_refused = refl
 
 -- ---- scopes and predicates
 
-abbrev field : List ℕ → (kind nullable : ℕ) → Field
+abbrev pub field : List ℕ → (kind nullable : ℕ) → Field
 field name k n = record { name = lent name; kind = k; nullable = n }
 
 two_columns : scope_given (field (97 ∷ []) 7 0 ∷ field (98 ∷ []) 10 1 ∷ []) ≡ Ok ((97 ∷ [], dtype.Primitive ptype.I16 NonNullable) ∷ (98 ∷ [], dtype.Utf8 Nullable) ∷ [])
