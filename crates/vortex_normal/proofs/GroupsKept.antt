@@ -1,10 +1,12 @@
 -- A predicate's groups have no column and no placeholder that it had not.
-use Rattle.std.proofs.Common.{◌≡◌, Bool, true, false, not as not_b, ◌&&◌, List, [], ◌∷◌, ◌++◌, Option, Some, None, IsTrue, ap, map, if◌then◌else◌}
+use Rattle.std.proofs.Common.{◌≡◌, Bool, true, false, not as not_b, ◌&&◌, ◌||◌, List, [], ◌∷◌, ◌++◌, Option, Some, None, IsTrue, ap, map, if◌then◌else◌}
 use Rattle.std.specs.List.{AllByRecursion}
 use Rattle.std.proofs.lemmas.Bool.{and_parts, or_parts, not-true}
 use Rattle.vortex_base.specs.Data.Exact.{both_hold}
-use Rattle.vortex_expr.specs.Trees.Tree.{Tree, Place, all_columns, column, literal, binary, is_null, is_not_null, some_node, has_placeholder, has_row_count, is_placeholder, is_plain, is_row_count}
+use Rattle.vortex_expr.specs.Trees.Tree.{Tree, Place, all_columns, column, literal, binary, between, is_null, is_not_null, like, not, some_node, has_placeholder, has_row_count, is_placeholder, is_plain, is_row_count}
 use Rattle.vortex_base.specs.declared.scalar_value.ScalarValue.{ScalarValue}
+use Rattle.vortex_expr.specs.declared.like.LikeOptions.{LikeOptions}
+use Rattle.vortex_expr.specs.declared.scalar_fn.BetweenOptions.{BetweenOptions}
 use Rattle.vortex_expr.specs.declared.scalar_fn.Operator.{Operator}
 use Rattle.vortex_expr.specs.declared.scalar_fn.Operator.TheVariants.{Eq, NotEq, Gt, Gte, Lt, Lte, And, Or}
 use Rattle.vortex_expr.specs.declared.scalar_fn.StrictComparison.TheVariants.{Strict, NonStrict}
@@ -22,6 +24,9 @@ pub record IsPassedDown (P : Tree Place → Type 0) : Type 0 where
   pub of_sides : (o : Operator) (l r : Tree Place) → P (binary o l r) → P l × P r
   pub of_null_operand : (x : Tree Place) → P (is_null x) → P x
   pub of_operand : (x : Tree Place) → P (is_not_null x) → P x
+  pub of_negated : (x : Tree Place) → P (not x) → P x
+  pub of_ranged : (o : BetweenOptions) (x l u : Tree Place) → P (between o x l u) → P x × P l × P u
+  pub of_text : (o : LikeOptions) (x p : Tree Place) → P (like o x p) → P x × P p
 
 module _ (P : Tree Place → Type 0) (i : IsInherited P) (d : IsPassedDown P) where
   abbrev pub Has : Item → Type 0
@@ -191,10 +196,10 @@ module _ (P : Tree Place → Type 0) (i : IsInherited P) (d : IsPassedDown P) wh
   grouped_has e h = items_have true (collected true e []) (collected_have true e [] h tt)
 
 pub columns_down : (test : Place → Bool) → IsPassedDown (Holds test)
-columns_down test = record { of_sides = λ o l r h. and_parts (all_columns test l) (all_columns test r) h; of_null_operand = λ x h. h; of_operand = λ x h. h }
+columns_down test = record { of_sides = λ o l r h. and_parts (all_columns test l) (all_columns test r) h; of_null_operand = λ x h. h; of_operand = λ x h. h; of_negated = λ x h. h; of_ranged = λ o x l u h. let k = and_parts (all_columns test x) (all_columns test l && all_columns test u) h in let j = and_parts (all_columns test l) (all_columns test u) k.1 in (k.0, j.0, j.1); of_text = λ o x p h. and_parts (all_columns test x) (all_columns test p) h }
 
-nodes_down : (test : Tree Place → Bool) (t : IsOfLeaves test) → IsPassedDown (Lacks test t)
-nodes_down test t = record { of_sides = λ o l r h. operands_lack test t o l r h; of_null_operand = λ x h. (or_parts (test (is_null x)) (some_node test x) h).1; of_operand = λ x h. (or_parts (test (is_not_null x)) (some_node test x) h).1 }
+pub nodes_down : (test : Tree Place → Bool) (t : IsOfLeaves test) → IsPassedDown (Lacks test t)
+nodes_down test t = record { of_sides = λ o l r h. operands_lack test t o l r h; of_null_operand = λ x h. (or_parts (test (is_null x)) (some_node test x) h).1; of_operand = λ x h. (or_parts (test (is_not_null x)) (some_node test x) h).1; of_negated = λ x h. (or_parts (test (not x)) (some_node test x) h).1; of_ranged = λ o x l u h. let k = or_parts (some_node test x) (some_node test l || some_node test u) (or_parts (test (between o x l u)) (some_node test x || (some_node test l || some_node test u)) h).1 in let j = or_parts (some_node test l) (some_node test u) k.1 in (k.0, j.0, j.1); of_text = λ o x p h. or_parts (some_node test x) (some_node test p) (or_parts (test (like o x p)) (some_node test x || some_node test p) h).1 }
 
 pub grouped_columns : (test : Place → Bool) (e : Tree Place) → all_columns test e ≡ true → all_columns test (grouped e) ≡ true
 grouped_columns test e h = grouped_has (Holds test) (columns_inherited test) (columns_down test) e h

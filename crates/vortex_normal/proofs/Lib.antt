@@ -26,6 +26,9 @@ mod Sets
 mod Sorting
 mod Spliced
 mod Steps
+mod StrictTold
+mod TestedTold
+mod TestedKept
 mod TestsApart
 mod Texts
 mod Told
@@ -33,3 +36,4 @@ mod Truths
 mod TurnRows
 mod WholeDepth
 mod Worked
+mod WorkedTests

@@ -9,7 +9,7 @@ use Rattle.vortex_normal.specs.Separate.{are_beyond, hull, hull_of_all, is_beyon
 use Rattle.vortex_normal.proofs.Sets.{IsPlace, at_higher, at_lower, cut_trans, in_append, in_complement, in_unless, lies_in, lies_in_sets, lies_within, or_assoc, total}
 use Rattle.vortex_normal.proofs.Sorting.{cut_self}
 use Rattle.vortex_normal.proofs.Told.{joined}
-use Rattle.vortex_normal.proofs.Separate.{above_it, at, below_it, beyond_more, cut_place, higher_left, lower_left, same_combined, share_separate, still_beyond, unless_beyond}
+use Rattle.vortex_normal.proofs.Separate.{above_it, at, beyond_more, cut_place, higher_left, lower_left, same_combined, share_separate, still_beyond, unless_beyond}
 
 abbrev pub EndsBelow : Interval → Interval → Type 0
 EndsBelow r i = cut_le r.low i.high ≡ false

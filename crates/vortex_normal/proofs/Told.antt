@@ -45,23 +45,23 @@ use Rattle.vortex_normal.proofs.Steps.{operand, sides}
 
 -- ---- wanted truths
 
-not_not : (b : Bool) → b ≡ not_b (not_b b)
+pub not_not : (b : Bool) → b ≡ not_b (not_b b)
 not_not true = refl
 not_not false = refl
 
-and_true : (b : Bool) → (b && true) ≡ b
+pub and_true : (b : Bool) → (b && true) ≡ b
 and_true true = refl
 and_true false = refl
 
-and_false : (b : Bool) → (b && false) ≡ false
+pub and_false : (b : Bool) → (b && false) ≡ false
 and_false true = refl
 and_false false = refl
 
-or_true : (b : Bool) → (b || true) ≡ true
+pub or_true : (b : Bool) → (b || true) ≡ true
 or_true true = refl
 or_true false = refl
 
-or_false : (b : Bool) → (b || false) ≡ b
+pub or_false : (b : Bool) → (b || false) ≡ b
 or_false true = refl
 or_false false = refl
 
@@ -93,13 +93,13 @@ wanted_either false None (Some true) = refl
 wanted_either false None (Some false) = refl
 wanted_either false None None = refl
 
-wanted_opposite : (w : Bool) (a : Option Bool) → is_wanted (not_b w) a ≡ is_wanted w (opposite a)
+pub wanted_opposite : (w : Bool) (a : Option Bool) → is_wanted (not_b w) a ≡ is_wanted w (opposite a)
 wanted_opposite true None = refl
 wanted_opposite true (Some b) = refl
 wanted_opposite false None = refl
 wanted_opposite false (Some b) = not_not b
 
-yes : (a : Option Bool) → is_true (truth_value a) ≡ is_wanted true a
+pub yes : (a : Option Bool) → is_true (truth_value a) ≡ is_wanted true a
 yes None = refl
 yes (Some b) = refl
 
@@ -502,7 +502,7 @@ module _ (row : List Constant) (n : ℕ) where
     pushed_told true row_count p f = refl
     pushed_told false row_count p f = refl
 
-wanted_true : (v : Option ScalarValue) → is_wanted true (truth v) ≡ is_true v
+pub wanted_true : (v : Option ScalarValue) → is_wanted true (truth v) ≡ is_true v
 wanted_true None = refl
 wanted_true (Some (value.Bool b)) = refl
 wanted_true (Some (value.Primitive p)) = refl

@@ -2,6 +2,7 @@
 ghost use Rattle.vortex_normal.specs.Laws.{ChainsAreShallow, GroupsAreSame, NormalIsShallow, SetsAreShallow};
 ghost use Rattle.vortex_normal.specs.OneColumn.{JoiningsAreApart, OneColumnIsApart};
 ghost use Rattle.vortex_normal.specs.Worked.{BalancedExamples, FormExamples};
+ghost use Rattle.vortex_normal.specs.WorkedTests.{StrictExamples, TestExamples};
 
 /// What is said of one column in one place is satisfied by the same rows.
 pub fn groups_are_same()
@@ -46,4 +47,14 @@ pub fn examples_hold()
 /// Worked joinings two by two, and depths.
 pub fn balanced_examples_hold()
     ensures { BalancedExamples }
+{}
+
+/// Worked tests of truths.
+pub fn test_examples_hold()
+    ensures { TestExamples }
+{}
+
+/// Worked strict predicates, and strict normal forms.
+pub fn strict_examples_hold()
+    ensures { StrictExamples }
 {}

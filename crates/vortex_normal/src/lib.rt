@@ -11,4 +11,6 @@ pub mod normalize;
 mod predicate;
 mod pushed;
 mod ranges;
+mod strict;
+mod tested;
 mod tests_of;

@@ -5,19 +5,17 @@ ghost use Rattle.vortex_rewrite.specs.Answers.{IsMemory};
 ghost use Rattle.vortex_rewrite.specs.Rewriting.Predicates.{is_predicate};
 ghost use Rattle.vortex_normal.specs.Groups.{normal};
 ghost use Rattle.vortex_normal.specs.Same.{HasNoOther, Same, StaysPlain};
+ghost use Rattle.vortex_normal.specs.Strict.{strict_test as strict_of};
+ghost use Rattle.vortex_normal.specs.Tested.{IsTestOf};
 
 use crate::groups::grouped;
+use crate::predicate::is_truth;
 use crate::pushed::pushed;
+use crate::strict::strict;
+use crate::tested::tested;
 use std::alloc::Global;
-use vortex_base::dtype::DType;
 use vortex_expr::bound_expression::BoundExpression;
 use vortex_stats::error::StatsError;
-
-fn is_truth(expression: &BoundExpression) -> bool
-    ensures { result ≡ is_predicate expression.now }
-{
-    matches!(expression.dtype(), DType::Bool(_))
-}
 
 fn normal_form(alloc: Global, predicate: &BoundExpression) -> Result<BoundExpression, StatsError>
     requires { IsTrue (is_predicate predicate.now) }
@@ -49,4 +47,52 @@ pub fn normalize(alloc: Global, predicate: &BoundExpression) -> Result<BoundExpr
         return Err(StatsError::NotPredicate);
     }
     normal_form(alloc, predicate)
+}
+
+// How many null tests of predicates are pushed down within one another. Each doubles what is below.
+const NULL_TESTS: u8 = 3;
+
+fn strict_form(
+    alloc: Global,
+    wanted: bool,
+    with_null: bool,
+    predicate: &BoundExpression,
+) -> Result<BoundExpression, StatsError>
+    requires { IsTrue (is_predicate predicate.now) }
+    ensures test { IfOk result (λ e. IsTestOf wanted with_null predicate.now e) }
+    ensures form { IfOk result (λ e. e ≡ strict_of wanted with_null predicate.now) }
+    ensures truth { IfOk result (λ e. IsTrue (is_predicate e)) }
+    ensures columns { IfOk result (λ e. HasNoOther predicate.now e) }
+    ensures plain { IfOk result (λ e. StaysPlain predicate.now e) }
+    ensures memory { IfErr result IsMemory }
+{
+    let tested = tested(alloc, NULL_TESTS, wanted, with_null, predicate)?;
+    let normal = normal_form(alloc, tested.expression())?;
+    Ok(strict(alloc, &normal)?.into_expression())
+}
+
+/// A predicate that is satisfied where the truth of the given one is the wanted one, or null if that
+/// counts: that it is true, by `true` and `false`; that it isn't, by `false` and `true`. It is a
+/// normal form, in which truths that are compared with literals or null-tested are pushed down to
+/// their columns, and which tests that each column has a value where it compares one: so that rules
+/// see through it where all values are null. `NotPredicate` if the expression isn't of type Bool,
+/// which is found before anything is taken.
+pub fn strict_test(
+    alloc: Global,
+    wanted: bool,
+    with_null: bool,
+    predicate: &BoundExpression,
+) -> Result<BoundExpression, StatsError>
+    ensures not_predicate { is_predicate predicate.now ≡ false → result ≡ Err NotPredicate }
+    ensures test { IfOk result (λ e. IsTestOf wanted with_null predicate.now e) }
+    ensures form { IfOk result (λ e. e ≡ strict_of wanted with_null predicate.now) }
+    ensures truth { IfOk result (λ e. IsTrue (is_predicate e)) }
+    ensures columns { IfOk result (λ e. HasNoOther predicate.now e) }
+    ensures plain { IfOk result (λ e. StaysPlain predicate.now e) }
+    ensures memory { IsTrue (is_predicate predicate.now) → IfErr result IsMemory }
+{
+    if !is_truth(predicate) {
+        return Err(StatsError::NotPredicate);
+    }
+    strict_form(alloc, wanted, with_null, predicate)
 }

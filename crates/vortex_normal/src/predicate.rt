@@ -41,6 +41,13 @@ impl Model for Predicate {
     ghost invariant = { λ p. IsTrue (is_predicate p.expression) };
 }
 
+/// Whether an expression is of type Bool.
+pub(crate) fn is_truth(e: &BoundExpression) -> bool
+    ensures { result ≡ is_predicate e.now }
+{
+    matches!(e.dtype(), DType::Bool(_))
+}
+
 /// The literal of a truth.
 pub(crate) fn truth_literal(alloc: Global, truth: bool) -> Result<BoundExpression, StatsError>
     ensures { Makes (bool_literal truth) result }
