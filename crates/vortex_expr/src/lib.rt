@@ -17,5 +17,5 @@ pub use bound_expression::BoundExpression;
 pub use bound_expression::parts::Parts;
 pub use expression::Expression;
 pub use like::LikeOptions;
-pub use like_pattern::LikePattern;
-pub use scalar_fn::{BetweenOptions, Operator, ScalarFnId, StrictComparison};
+pub use like_pattern::{LikePattern, successor};
+pub use scalar_fn::{BetweenOptions, ExprKind, Operator, ScalarFnId, StrictComparison};

@@ -1,10 +1,10 @@
 //! What a pattern of LIKE says of the texts that it matches, and a text above all with a beginning.
-ghost use Rattle.std.specs.Prelude.{◌≡◌, ◌++◌, ◌∷◌, ◌+◌, ◌<◌, [], length, IfOk, IfSome, IsSome, MatchOption, OnErr, true, false};
+ghost use Rattle.std.specs.Prelude.{◌≡◌, ◌≢◌, ◌++◌, ◌∷◌, ◌+◌, ◌<◌, [], length, IfOk, IfSome, IsSome, MatchOption, OnErr, true, false};
 ghost use Rattle.std.specs.Prelude.{encode_utf8_all, option_copied, option_map, string_bytes};
 ghost use Rattle.std.specs.Str.{chars, IsUtf8};
 ghost use Rattle.vortex_base.specs.Answer.{Makes};
 ghost use Rattle.vortex_expr.specs.Patterns.Like.{items};
-ghost use Rattle.vortex_expr.specs.Patterns.Prefix.{exact_text, has_next, pattern_of, successor as successor_of};
+ghost use Rattle.vortex_expr.specs.Patterns.Prefix.{exact_text, has_next, literal_prefix, pattern_of, successor as successor_of};
 
 use crate::like::{Characters, Item, next_item};
 use std::alloc::{AllocError, Global};
@@ -28,9 +28,10 @@ impl Model for LikePattern {
 }
 
 impl LikePattern {
-    /// Reads a pattern.
+    /// Reads a pattern. Memory is taken only for literal characters before the first wildcard.
     pub fn try_read(alloc: Global, pattern: &str) -> Result<LikePattern, BaseError>
-        ensures { Makes (pattern_of (items (chars pattern.now))) result }
+        ensures value { Makes (pattern_of (items (chars pattern.now))) result }
+        ensures memory { OnErr result (literal_prefix (items (chars pattern.now)) ≢ []) }
     {
         let mut prefix = String::new(alloc);
         let mut rest = Characters::as_written(pattern);
