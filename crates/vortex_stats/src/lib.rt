@@ -21,9 +21,15 @@ pub mod stat_bound;
 pub mod stats_set;
 pub mod typed;
 
+pub use bitset::{as_stat_bitset_bytes, stats_from_bitset_bytes};
 pub use bound::{IntersectionResult, LowerBound, UpperBound};
 pub use error::{BinderFault, RuleFault, StatsError};
 pub use precision::Precision;
 pub use provider::StatsProvider;
-pub use stat::Stat;
-pub use stats_set::StatsSet;
+pub use stat::{
+    ALL_STATS, IsConstant, IsSorted, IsStrictSorted, Max, Min, NaNCount, NullCount, PRUNING_STATS,
+    Stat, StatAll, Sum, UncompressedSizeInBytes,
+};
+pub use stat_bound::{StatBound, StatType};
+pub use stats_set::{MergeRefused, StatsArray, StatsSet, StatsSetIntoIter, StatsSetIter};
+pub use typed::{MutTypedStatsSetRef, TypedStatsSetRef};
