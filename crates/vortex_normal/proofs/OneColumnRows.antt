@@ -1,5 +1,6 @@
 -- Worked rows: predicates over one column, what satisfies them, and joinings of them, found by computation alone.
-use Rattle.std.specs.Prelude.{◌≡◌, ℕ, Bool, true, false, [], ◌∷◌, Some, refl}
+use Rattle.std.specs.Prelude.{◌≡◌, ℕ, Bool, true, false, List, [], ◌∷◌, None, Some, codes, map, refl}
+use Rattle.std.specs.Str.{chars}
 use Rattle.std.proofs.Common.{inl, inr}
 use Rattle.vortex_base.specs.declared.aggregate.AggregateFnRef.TheVariants.{Max}
 use Rattle.vortex_base.specs.declared.dtype.DType.TheVariants as dtype
@@ -10,13 +11,15 @@ use Rattle.vortex_expr.specs.declared.scalar_fn.Operator.{Operator}
 use Rattle.vortex_expr.specs.declared.scalar_fn.Operator.TheVariants.{Eq, Gt, Gte, Lt, Lte, And, Or}
 use Rattle.vortex_base.specs.declared.types.PType.TheVariants.{U16}
 use Rattle.vortex_expr.specs.declared.scalar_fn.StrictComparison.TheVariants.{NonStrict}
+use Rattle.vortex_expr.specs.declared.like.LikeOptions.{LikeOptions}
+use Rattle.vortex_expr.specs.Patterns.Like.{plain}
 use Rattle.vortex_base.specs.Data.Scalars.{Constant}
 use Rattle.vortex_expr.specs.Trees.Tree.{Tree, Place, column, literal, binary, between, is_null, is_not_null, not, like, stat, row_count}
 use Rattle.vortex_rewrite.specs.Rewriting.Falsifiers.{bool_literal}
 use Rattle.vortex_rewrite.specs.Rewriting.ReadOnce.{is_apart}
 use Rattle.vortex_normal.specs.Groups.{normal}
 use Rattle.vortex_normal.specs.OneColumn.{IsJoining, IsSelective, are_ends_seen, is_over}
-use Rattle.vortex_normal.specs.Pushed.{all_of, any_of, comparison, comparison_of, folded, settled}
+use Rattle.vortex_normal.specs.Pushed.{all_of, any_of, comparison, comparison_of, folded, liked, settled}
 use Rattle.vortex_normal.specs.Worked.{a, b, byte, byte_literal, compare, null_number, range}
 
 abbrev place_a : Place
@@ -222,3 +225,78 @@ open_by_not = refl
 -- of numbers each range is
 open_numbers : are_ends_seen place_a (either_way 5 9) ≡ true
 open_numbers = refl
+
+-- ---- LIKE: of the column, under a pattern that comparisons say
+
+abbrev pattern : List ℕ → Tree Place
+pattern cs = literal (record { dtype = dtype.Utf8 Nullable; value = Some (value.Utf8 cs) })
+
+abbrev null_text : Tree Place
+null_text = literal (record { dtype = dtype.Utf8 Nullable; value = None })
+
+abbrev over_texts : Tree Place → Bool
+over_texts p = is_over place_s p
+
+abbrev negated_like : LikeOptions
+negated_like = record { negated = true; case_insensitive = false }
+
+abbrev caseless : LikeOptions
+caseless = record { negated = false; case_insensitive = true }
+
+-- one text and a beginning, but neither a run alone or elsewhere nor any one character
+like_patterns : map (λ cs. over_texts (like plain texts (pattern cs))) (codes "ab" ∷ [] ∷ codes "ab%" ∷ codes "%" ∷ codes "%b" ∷ codes "a%b" ∷ codes "a_" ∷ codes "_" ∷ [])
+    ≡ true ∷ true ∷ true ∷ false ∷ false ∷ false ∷ false ∷ false ∷ []
+unfolding chars lib.Utf8.encode
+like_patterns = refl
+
+-- turned round too, but not where case is ignored
+like_options : map (λ o. over_texts (like o texts (pattern (codes "ab%")))) (plain ∷ negated_like ∷ caseless ∷ []) ≡ true ∷ true ∷ false ∷ []
+unfolding chars lib.Utf8.encode
+like_options = refl
+
+-- of another column, of a constant, of what has the column within it
+like_texts : map (λ x. over_texts (like plain x (pattern (codes "ab")))) (texts ∷ b ∷ pattern (codes "ab") ∷ not texts ∷ stat Max texts ∷ []) ≡ true ∷ false ∷ true ∷ false ∷ false ∷ []
+unfolding chars lib.Utf8.encode
+like_texts = refl
+
+-- a pattern that is no literal, and one that is null
+like_no_literal : map (λ q. over_texts (like plain texts q)) (texts ∷ null_text ∷ not (pattern (codes "ab")) ∷ []) ≡ false ∷ false ∷ false ∷ []
+like_no_literal = refl
+
+-- a null pattern, and a null text, match nothing in either way
+null_pattern : map (λ o. normal (like o texts null_text)) (plain ∷ negated_like ∷ caseless ∷ []) ≡ bool_literal false ∷ bool_literal false ∷ bool_literal false ∷ []
+unfolding all_of liked
+null_pattern = refl
+
+text_is_null : map (λ o. normal (like o null_text (pattern (codes "ab")))) (plain ∷ negated_like ∷ caseless ∷ []) ≡ bool_literal false ∷ bool_literal false ∷ bool_literal false ∷ []
+unfolding all_of liked
+text_is_null = refl
+
+not_null_pattern : normal (not (like plain texts null_text)) ≡ bool_literal false
+unfolding all_of liked
+not_null_pattern = refl
+
+-- ---- a NOT over a joining: its sides are as they are under NOT, and twice turned as they were
+
+outside_negated : IsSelective place_a (not (binary Or (compare Lte a 5) (compare Gte a 9)))
+outside_negated = record { row = number_at 3 ∷ []; value = value.Primitive (number.U8 3); cell = refl; of_type = refl; refused = refl; null_refused = refl }
+
+not_of_joining : IsJoining true (not (binary Or (binary Or (compare Lte a 5) (compare Gte a 9)) (compare Lt b 1)))
+unfolding all_of comparison comparison_of folded settled
+not_of_joining = inr ((inl (place_a, refl, refl, outside_negated), (place_b, refl, refl, of_b_negated)), refl)
+
+not_of_not : IsJoining true (not (not (binary And (either_way 5 9) (compare Lt b 1))))
+not_of_not = inr ((inl (place_a, refl, refl, selective), (place_b, refl, refl, of_b)), refl)
+
+wanted_false : IsJoining false (not (binary And (either_way 5 9) (compare Lt b 1)))
+wanted_false = inr ((inl (place_a, refl, refl, selective), (place_b, refl, refl, of_b)), refl)
+
+-- a NOT asks the other truth of what stands under it
+side_of_not : (x : Tree Place) → IsJoining true (not x) ≡ IsJoining false x
+side_of_not x = refl
+
+side_of_not_false : (x : Tree Place) → IsJoining false (not x) ≡ IsJoining true x
+side_of_not_false x = refl
+
+three_times_turned : (x : Tree Place) → IsJoining true (not (not (not x))) ≡ IsJoining false x
+three_times_turned x = refl

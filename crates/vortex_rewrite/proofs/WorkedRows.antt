@@ -3,6 +3,7 @@ pub mod CauseRows
 pub mod EndsRows
 pub mod FactRows
 pub mod HonestRows
+pub mod OverRows
 pub mod ReadOnceRows
 pub mod RewritingRows
 pub mod SatisfierRows
