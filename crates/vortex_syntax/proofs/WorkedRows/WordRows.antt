@@ -1,8 +1,9 @@
 -- Worked rows: the words of lines, computed.
-use Rattle.std.proofs.Common.{◌≡◌, [], ◌∷◌, Some, None, codes, refl}
+use Rattle.std.proofs.Common.{◌≡◌, true, false, [], ◌∷◌, Some, None, codes, map, refl}
+use Rattle.std.specs.Prelude.{nat_le}
 use Rattle.vortex_syntax.specs.LineKinds.{kind_of}
 use Rattle.vortex_syntax.specs.Spelling.{IsLineOf, spelled}
-use Rattle.vortex_syntax.specs.Words.{Plain, Quoted, Broken, first_word, no_word, plain_word, words}
+use Rattle.vortex_syntax.specs.Words.{Plain, Quoted, Broken, first_word, no_word, plain_word, word_limit, words}
 use Rattle.vortex_syntax.specs.declared.line_kind.LineKind.TheVariants as kind
 
 words_of_line : words (codes "  row  -5 ") ≡ Plain (codes "row") ∷ Plain (codes "-5") ∷ []
@@ -79,6 +80,14 @@ broken_is_a_word = refl
 
 none_is_none : no_word [] ≡ Some tt
 none_is_none = refl
+
+-- ---- a predicate has 4,096 words at the most
+
+most_words : word_limit ≡ 4096
+most_words = refl
+
+few_words : map (λ n. nat_le n word_limit) (0 ∷ 4095 ∷ 4096 ∷ 4097 ∷ []) ≡ true ∷ true ∷ true ∷ false ∷ []
+few_words = refl
 
 -- ---- how words are written
 
