@@ -1,12 +1,14 @@
 #!/usr/bin/env python3
 """Tries wrong bodies that the gate doesn't try: the prover has to refuse each by the open goal that is named for it.
 
-usage: checks/edits.py [--gate] [--jobs N] [CRATE..]
+usage: checks/edits.py [--gate] [--goals] [--jobs N] [CRATE..]
     --gate tries those of the gate, in crates/CRATE/must-fail, in place of those in checks/edits/CRATE
+    --goals tries none, and asks alone whether each edit's goal is one of the function that it turns
     --jobs tries those of N crates side by side, in place of as many as processors and memory allow
 
 checks/edits/goals.txt names for each edit the goal of the turned function that it leaves open, as `rt` names it by the clause
-and the branch. The crates are built first. Then `rt must-fail` tries the edits of each crate in a copy of it, over what the build
+and the branch. That has to be a goal of the function as the crate stands, where it is proved: one of a branch that the edit made is
+open whatever the function promises. The crates are built first. Then `rt must-fail` tries the edits of each crate in a copy of it, over what the build
 kept. An edit that was refused at its goal is not tried again while it, the goal, the sources that its crate stands on and the
 toolchain stay as they are, so an interrupted run goes on with the crates that it left. Prints a line for each crate and for each
 edit that isn't refused so, and last how many are.
@@ -24,6 +26,7 @@ import time
 
 sys.dont_write_bytecode = True
 import build
+import unplanted
 
 TOP = build.TOP
 # How many edits of a crate are tried side by side, by kits that do so, and the memory that they take at most.
@@ -77,7 +80,7 @@ class Crate:
         self.name, self.edits, self.goals = name, edits, {it: goals.get(f"{name}/{it}") for it in edits}
         self.below = build.crates_below(name)
         self.kept, sources = f"{TOP}/out/refused-edits/{name}", build.sum_of(self.below)
-        sum_of = lambda it: hashlib.sha256(f"{sources}\n{self.goals[it]}\n{build.text_of(edits[it])}".encode()).hexdigest()
+        sum_of = lambda it: hashlib.sha256(f"{sources}\n{self.goals[it]} unplanted\n{build.text_of(edits[it])}".encode()).hexdigest()
         self.sums = {it: sum_of(it) for it in edits}
         before = set((build.text_of(self.kept) or "").split())
         self.left = [it for it in edits if self.sums[it] not in before]
@@ -87,16 +90,39 @@ class Crate:
         files = [f"{at}/{it}" for part in build.SOURCES for at, _, names in os.walk(f"{TOP}/crates/{self.name}/{part}") for it in names]
         return sum(map(os.path.getsize, files)) * len(self.left)
 
+    def faults_of_goals(self, room):
+        """Of the edits that are left, why the goal of one isn't that of the function that it turns, as the crate stands in a copy."""
+        turned = {it: unplanted.functions_of(self.name, build.text_of(self.edits[it])) for it in self.left}
+        folders, told = unplanted.listed(self.name, sorted({name for names in turned.values() for name in names}), room, f"{room}/goals")
+        if folders is None:
+            return {it: f"the goals of the crate as it stands can't be listed: {told}" for it in self.left}
+        missing = [it for it in self.left if self.goals[it] not in unplanted.goals_of(turned[it], folders)]
+        return {it: f"{', '.join(turned[it]) or 'no function'} has no goal {self.goals[it]} as the crate stands" for it in missing}
+
+    def look_at_goals(self):
+        """Asks of the edits that are left whether their goals are those of the functions that they turn."""
+        began = time.monotonic()
+        with tempfile.TemporaryDirectory() as room:
+            self.copy_to(room)
+            faults = self.faults_of_goals(room)
+        minutes = (time.monotonic() - began) / 60
+        return len(faults), [*(f"{self.name}/{it}: {fault}" for it, fault in faults.items()), f"{self.name}: {len(self.left)} goals asked in {minutes:.0f} minutes"]
+
+    def copy_to(self, room):
+        """Copies the crate, and what its build kept, to a folder in which its edits are tried."""
+        build.copy_beside(self.below, self.name, room)
+        shutil.copytree(f"{TOP}/crates/{self.name}/out/incremental", f"{room}/crates/{self.name}/out/incremental")
+
     def try_left(self):
         """Tries the edits that are left, and returns how many aren't refused at their goal, and what is told of these and of the run."""
         began = time.monotonic()
         with tempfile.TemporaryDirectory() as room:
-            build.copy_beside(self.below, self.name, room)
+            self.copy_to(room)
+            unknown = self.faults_of_goals(room)
             os.mkdir(f"{room}/crates/{self.name}/must-fail")
             for it in self.left:
                 shutil.copy2(self.edits[it], f"{room}/crates/{self.name}/must-fail/{it}")
             kept = f"{room}/crates/{self.name}/out/incremental"
-            shutil.copytree(f"{TOP}/crates/{self.name}/out/incremental", kept)
             os.mkdir(f"{room}/tmp")
             own = {"TMPDIR": f"{room}/tmp", "RT_JOBS": str(JOBS_A_CRATE)}
             how = {"stdin": subprocess.DEVNULL, "stdout": subprocess.PIPE, "stderr": subprocess.STDOUT, "env": {**os.environ, **own}}
@@ -104,7 +130,7 @@ class Crate:
                 hand_over(kept, f"{room}/tmp", run)
                 said = run.communicate()[0]
         told = dict(re.findall(rf"^(?:rt: )?must-fail {self.name}/(\S+\.edit): (.*)$", said, re.M))
-        faults = {it: fault_of(self.goals[it], told.get(it)) for it in self.left}
+        faults = {it: fault_of(self.goals[it], told.get(it)) or unknown.get(it) for it in self.left}
         os.makedirs(os.path.dirname(self.kept), exist_ok=True)
         with open(self.kept, "a", encoding="utf-8") as kept:
             kept.writelines(f"{self.sums[it]}\n" for it, fault in faults.items() if not fault)
@@ -121,6 +147,7 @@ def processes_that_fit():
 def main():
     words = argparse.ArgumentParser(usage=__doc__.partition("usage: ")[2].partition("\n\n")[0])
     words.add_argument("--gate", action="store_true")
+    words.add_argument("--goals", action="store_true")
     words.add_argument("--jobs", type=int)
     words.add_argument("crates", nargs="*")
     asked = words.parse_args()
@@ -139,11 +166,14 @@ def main():
             return 1
     faults = 0
     with concurrent.futures.ThreadPoolExecutor(asked.jobs or processes_that_fit()) as pool:
-        for done in concurrent.futures.as_completed([pool.submit(it.try_left) for it in left]):
+        for done in concurrent.futures.as_completed([pool.submit(it.look_at_goals if asked.goals else it.try_left) for it in left]):
             found, lines = done.result()
             faults += found
             print(*lines, sep="\n", flush=True)
     tried = sum(len(it.left) for it in left)
+    if asked.goals:
+        print(f"{tried - faults} of {tried} goals are those of the functions that the edits turn")
+        return 1 if faults else 0
     print(f"{count - faults} of {count} edits refused at their goal, {count - tried} of them before, on the same sources")
     return 1 if faults else 0
 
