@@ -1,5 +1,5 @@
 //! What is told of two neighbouring zones as one.
-ghost use Rattle.std.specs.Prelude.{◌≡◌, ◌++◌, IfOk, IsTrue, OnOk, length};
+ghost use Rattle.std.specs.Prelude.{◌≡◌, ◌<◌, ◌^◌, ◌++◌, IfOk, IsTrue, OnOk, length};
 ghost use Rattle.vortex_base.specs.Data.Scopes.{named_columns};
 ghost use Rattle.vortex_prune.specs.Part.{fits_zone, merged_sets};
 ghost use Rattle.vortex_stats.specs.Sets.Entries.{AreDistinct};
@@ -37,7 +37,7 @@ pub fn merged_sets(
 fn tell_set(
     told: &mut Vec<Told>,
     longs: &mut Vec<ScalarValue>,
-    column: usize,
+    column: u32,
     set: StatsSet,
 ) -> Result<(), AllocError>
     requires { AreKept (length longs.old.items) told.old.items }
@@ -60,13 +60,14 @@ pub fn told_of(
     longs: &mut Vec<ScalarValue>,
     sets: Vec<StatsSet>,
 ) -> Result<Vec<Told>, AllocError>
+    requires { length sets.items < 2 ^ 32 }
     ensures told { IfOk result (λ told.
         sets_of (length sets.items) (said longs.new.items told.items) ≡ sets.items) }
     ensures kept { IfOk result (λ told. AreKept (length longs.new.items) told.items) }
     ensures longer { IsLonger longs.old.items longs.new.items }
 {
     let mut told = Vec::new(alloc);
-    let mut column = 0;
+    let mut column = 0u32;
     for set in sets {
         tell_set(&mut told, longs, column, set)?;
         column += 1;

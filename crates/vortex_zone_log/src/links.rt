@@ -69,19 +69,16 @@ impl Links {
 }
 
 /// The links of the heads, of so many columns.
-pub fn links_of(alloc: Global, columns: usize, heads: &[Head]) -> Result<Links, AllocError>
+pub fn links_of(alloc: Global, columns: u32, heads: &[Head]) -> Result<Links, AllocError>
     ensures linked { IfOk result (AreLinked heads.now 0) }
     ensures wide { IfOk result (λ links. length links.firsts.items ≡ columns * 9) }
 {
-    if columns > u32::MAX as usize {
-        return Err(AllocError);
-    }
     let mut links = Links {
-        firsts: vec![in alloc; heads.len(); columns * 9]?,
+        firsts: vec![in alloc; heads.len(); columns as usize * 9]?,
         nexts: vec![in alloc; heads.len(); heads.len()]?,
     };
     for place in (0..heads.len()).rev() {
-        links.link(columns, &heads[place], place);
+        links.link(columns as usize, &heads[place], place);
     }
     Ok(links)
 }

@@ -130,13 +130,12 @@ fn number_cell(number: PValue) -> ShortCell
     other_cell(number)
 }
 
-/// Tells a statistic behind others. Where memory is refused, or a column is past 32 bits, the
-/// others stay.
+/// Tells a statistic behind others. Where memory is refused, the others stay.
 #[inline(always)]
 pub fn tell(
     told: &mut Vec<Told>,
     longs: &mut Vec<ScalarValue>,
-    column: usize,
+    column: u32,
     stat: Stat,
     value: Precision<ScalarValue>,
 ) -> Result<(), AllocError>
@@ -148,21 +147,18 @@ pub fn tell(
     ensures kept { AreKept (length longs.new.items) told.new.items }
     ensures longer { IsLonger longs.old.items longs.new.items }
 {
-    if column > u32::MAX as usize {
-        return Err(AllocError);
-    }
     match number_in(&value) {
         Some((form, number)) => {
             told.reserve(1)?;
             told.push_reserved(Told {
-                column: column as u32,
+                column,
                 stat,
                 form,
                 cell: number_cell(number),
             });
             Ok(())
         }
-        None => tell_other(told, longs, column as u32, stat, value),
+        None => tell_other(told, longs, column, stat, value),
     }
 }
 

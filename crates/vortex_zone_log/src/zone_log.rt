@@ -1,5 +1,5 @@
 //! The statistics of zones in one log, in the order in which they are told.
-ghost use Rattle.std.specs.Prelude.{◌≡◌, ◌<◌, ◌≤◌, ◌+◌, [], IfOk, OnErr, OnOk, Some, length, map, option_map, slice_get};
+ghost use Rattle.std.specs.Prelude.{◌≡◌, ◌<◌, ◌≤◌, ◌+◌, ◌^◌, [], IfOk, OnErr, OnOk, Some, length, map, option_map, slice_get};
 ghost use Rattle.vortex_base.specs.Data.Scopes.{named_columns};
 ghost use Rattle.vortex_prune.specs.Part.{AreZonesOf};
 ghost use Rattle.vortex_prune.specs.Zones.{IsMapOf};
@@ -28,7 +28,8 @@ use vortex_stats::stat::Stat;
 /// The statistics of zones one after another, and those of a zone that hasn't ended.
 #[derive(Debug, Drop)]
 pub struct ZoneLog {
-    columns: usize,
+    // So each column is told in 32 bits.
+    columns: u32,
     // The texts and bytes that are told.
     longs: Vec<ScalarValue>,
     // What is told of the zones that have ended.
@@ -55,8 +56,9 @@ impl Model for ZoneLog {
 }
 
 impl ZoneLog {
-    /// No zones, of so many columns, and nothing told of the next one.
-    pub fn new(alloc: Global, columns: usize) -> ZoneLog
+    /// Makes a log without zones, of so many columns, with nothing told of the next one. A log has
+    /// fewer than 2^32 columns, so each of its calls is refused for memory alone.
+    pub fn new(alloc: Global, columns: u32) -> ZoneLog
         ensures { result ≡ record { zones = []; current = empty_sets columns } }
     {
         ZoneLog {
@@ -81,8 +83,14 @@ impl ZoneLog {
         ensures told { OnOk result (self.new ≡ with_told column stat value self.old) }
         ensures refused { OnErr result (self.new ≡ self.old) }
     {
-        if column < self.columns {
-            tell(&mut self.current, &mut self.longs, column, stat, value)?;
+        if column < self.columns as usize {
+            tell(
+                &mut self.current,
+                &mut self.longs,
+                column as u32,
+                stat,
+                value,
+            )?;
         }
         Ok(())
     }
@@ -116,11 +124,13 @@ impl ZoneLog {
     // What is known of the zone at a place.
     fn known(&self, alloc: Global, place: usize) -> Result<Known, AllocError>
         requires { place < length self.now.zones }
-        ensures { IfOk result (λ known. slice_get self.now.zones place ≡ Some (known_zone known)) }
+        ensures known { IfOk result (λ known.
+            slice_get self.now.zones place ≡ Some (known_zone known)) }
+        ensures few { IfOk result (λ known. length known.sets.items < 2 ^ 32) }
     {
         let stretch = self.stretches.at(place);
         let told = &self.told[stretch.from..stretch.to];
-        let sets = sets_of(alloc, self.columns, &self.longs, told)?;
+        let sets = sets_of(alloc, self.columns as usize, &self.longs, told)?;
         Ok(Known {
             rows: stretch.rows,
             sets,

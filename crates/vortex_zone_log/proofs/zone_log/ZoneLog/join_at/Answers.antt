@@ -1,6 +1,7 @@
 use Rattle.std.proofs.Common.{◌≡◌, ◌+◌, ◌++◌, List, ap, arith, length, refl, sym, ◌∙◌}
 use Rattle.std.specs.Prelude.{slice_get}
 use Rattle.vortex_prune.specs.Part.{merged_sets}
+use Rattle.vortex_zone_log.proofs.JoinLemmas.{as_long, length-merged}
 use Rattle.vortex_zone_log.proofs.StepLemmas.{joined_is_log, joined_log, on_err, refused_is_log, refused_log, same_log, stays_log}
 use Rattle.vortex_zone_log.specs.Blocks.{all_of}
 use Rattle.vortex_zone_log.specs.Known.{known_zone}
@@ -10,17 +11,26 @@ use Rattle.vortex_zone_log.proofs.zone_log.ZoneLog.join_at.Goals as goal
 
 pub overflow_add-rows : goal.overflow_add-rows
 overflow_add-rows c =
-    let may = c.requires.joinable (known_zone c.in_ok-left.left) (known_zone c.in_ok-right.right) c.in_ok-left.ensures c.in_ok-right.ensures in
+    let may = c.requires.joinable (known_zone c.in_ok-left.left) (known_zone c.in_ok-right.right) c.in_ok-left.ensures.known c.in_ok-right.ensures.known in
     let rows = may.rows in
     omega (arith, rows)
 
 pub merged_sets-requires-clause-left_fits : goal.merged_sets-requires-clause-left_fits
 merged_sets-requires-clause-left_fits c =
-    (c.requires.joinable (known_zone c.in_ok-left.left) (known_zone c.in_ok-right.right) c.in_ok-left.ensures c.in_ok-right.ensures).left_fits
+    (c.requires.joinable (known_zone c.in_ok-left.left) (known_zone c.in_ok-right.right) c.in_ok-left.ensures.known c.in_ok-right.ensures.known).left_fits
 
 pub merged_sets-requires-clause-right_fits : goal.merged_sets-requires-clause-right_fits
 merged_sets-requires-clause-right_fits c =
-    rw c.deref.ensures.value ((c.requires.joinable (known_zone c.in_ok-left.left) (known_zone c.in_ok-right.right) c.in_ok-left.ensures c.in_ok-right.ensures).right_fits)
+    rw c.deref.ensures.value ((c.requires.joinable (known_zone c.in_ok-left.left) (known_zone c.in_ok-right.right) c.in_ok-left.ensures.known c.in_ok-right.ensures.known).right_fits)
+
+-- the merged sets are as many as the log has columns
+pub told_of-requires : goal.told_of-requires
+told_of-requires c =
+    let left = c.in_ok-left.left.sets.items in
+    let right = c.in_ok-right.right.sets.items in
+    let may = c.requires.joinable (known_zone c.in_ok-left.left) (known_zone c.in_ok-right.right) c.in_ok-left.ensures.known c.in_ok-right.ensures.known in
+    let all : length c.in_ok-sets.sets.items ≡ length left = ap length (c.in_ok-sets.ensures ∙ ap (merged_sets left) c.deref.ensures.value) ∙ length-merged left right (as_long c.args.columns.now left right may.left_fits may.right_fits) in
+    omega (arith, all, c.in_ok-left.ensures.few)
 
 pub invariant_of-self : goal.invariant_of-self
 invariant_of-self c =
@@ -73,7 +83,7 @@ returns-clause-joined c =
     ap (λ (d : LogData). joined_at c.args.place d.zones) (sym before)
     ∙ joined_log l.columns longs l.told.items more l.current.items runs stays c.in_ok-told.ensures.kept c.in_ok-joined.joined is.from to c.args.place c.move_behind.new.told.items (all_of c.join_at.new.self)
     (known_zone c.in_ok-left.left) (known_zone c.in_ok-right.right) c.in_ok-sets.sets.items (c.move_behind.ensures.told ∙ ap (λ (ts : List Told). ts ++ more) is.same) c.join_at.ensures.joined
-    (ap (λ (d : LogData). slice_get d.zones c.args.place) before ∙ c.in_ok-left.ensures) (ap (λ (d : LogData). slice_get d.zones (c.args.place + 1)) before ∙ c.in_ok-right.ensures) is.rows
+    (ap (λ (d : LogData). slice_get d.zones c.args.place) before ∙ c.in_ok-left.ensures.known) (ap (λ (d : LogData). slice_get d.zones (c.args.place + 1)) before ∙ c.in_ok-right.ensures.known) is.rows
     (c.in_ok-sets.ensures ∙ ap (merged_sets c.in_ok-left.left.sets.items) c.deref.ensures.value) c.in_ok-told.ensures.told
 
 pub returns-clause-current : goal.returns-clause-current

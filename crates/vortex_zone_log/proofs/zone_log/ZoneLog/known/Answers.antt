@@ -1,16 +1,17 @@
-use Rattle.std.proofs.Common.{◌≡◌, ◌-◌, List, Some, ap, ap₂, drop, sym, take, ◌∙◌}
+use Rattle.std.proofs.Common.{◌≡◌, ◌-◌, List, Some, ap, ap₂, arith, drop, length, sym, take, ◌∙◌}
 use Rattle.std.proofs.lemmas.Option.{slice_get-map}
 use Rattle.std.specs.Prelude.{option_map, slice_get}
 use Rattle.vortex_prune.specs.Part.{Entries, ZoneData}
 use Rattle.vortex_zone_log.proofs.JoinLemmas.{stretch_said}
+use Rattle.vortex_zone_log.proofs.LogLemmas.{length-sets_of}
 use Rattle.vortex_zone_log.specs.Blocks.{all_of}
 use Rattle.vortex_zone_log.specs.Kept.{said, sets_of, zone_of}
 use Rattle.vortex_zone_log.specs.Logs.{LogData}
 use Rattle.vortex_zone_log.specs.declared.told.Told.{Told}
 use Rattle.vortex_zone_log.proofs.zone_log.ZoneLog.known.Goals as goal
 
-pub returns : goal.returns
-returns c =
+pub returns-clause-known : goal.returns-clause-known
+returns-clause-known c =
     let l = c.self.inside in
     let runs = all_of l.stretches in
     let s = c.at-stretch.result in
@@ -22,3 +23,9 @@ returns c =
     ∙ slice_get-map (zone_of l.columns (said l.longs.items l.told.items)) runs c.args.place
     ∙ ap (option_map (zone_of l.columns (said l.longs.items l.told.items))) there
     ∙ ap (λ (sets : List Entries). Some (zone sets)) (sym (c.in_ok-sets.ensures ∙ says))
+
+pub returns-clause-few : goal.returns-clause-few
+returns-clause-few c =
+    let s = c.at-stretch.result in
+    let long = ap length c.in_ok-sets.ensures ∙ length-sets_of c.self.inside.columns (said c.deref-2.result.now (take (s.to - s.from) (drop s.from c.deref.result.now))) in
+    omega (arith, long)
