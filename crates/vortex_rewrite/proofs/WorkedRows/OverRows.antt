@@ -1,6 +1,6 @@
 -- Worked rows of expressions over columns: which can be read on each row, with one operand at each place of each node.
 use Rattle.std.proofs.Common.{refl}
-use Rattle.std.specs.Prelude.{◌≡◌, Bool, true, false, List, [], ◌∷◌, None, Some, map}
+use Rattle.std.specs.Prelude.{◌≡◌, Bool, true, false, List, [], ◌∷◌, map}
 use Rattle.vortex_base.specs.declared.aggregate.AggregateFnRef.TheVariants.{Max}
 use Rattle.vortex_base.specs.declared.dtype.DType.{DType}
 use Rattle.vortex_base.specs.declared.dtype.DType.TheVariants as dtype
@@ -8,7 +8,7 @@ use Rattle.vortex_base.specs.declared.types.Nullability.TheVariants.{NonNullable
 use Rattle.vortex_base.specs.Data.Columns.{ColumnData}
 use Rattle.vortex_base.specs.Worked.Examples.{i32_or_null, i32_type}
 use Rattle.vortex_expr.specs.Patterns.Like.{plain}
-use Rattle.vortex_expr.specs.Trees.Tree.{Tree, Place, column, literal, binary, between, is_null, is_not_null, not, like, stat, row_count}
+use Rattle.vortex_expr.specs.Trees.Tree.{Tree, Place, column, binary, between, is_null, is_not_null, not, like, stat, row_count}
 use Rattle.vortex_expr.specs.Worked.ExpressionExamples.{closed_ends, int}
 use Rattle.vortex_expr.specs.declared.scalar_fn.Operator.TheVariants.{And, Eq, Or}
 use Rattle.vortex_rewrite.specs.Facts.{is_over, suits}
