@@ -206,7 +206,7 @@ def witness_fault(clause, text, cited):
 
 def witness_faults():
     """Public clauses with a premise, which an arrow tells, for which no witness is named, and lines that name a clause or a witness that isn't there."""
-    page, clauses, named = "docs/WITNESSES.md", dict(public_clauses()), set()
+    page, clauses, named, cited = "docs/WITNESSES.md", dict(public_clauses()), set(), set()
     for number, cells in rows_of(page):
         if not cells[0].startswith("`"):
             continue
@@ -215,8 +215,12 @@ def witness_faults():
         fault = None if witness.startswith("none: ") else witness_fault(clause, clauses.get(clause, ""), witness)
         if clause not in clauses:
             fault = f"there is no clause {clause}"
+        elif (clause.split("::")[0], witness) in cited:
+            fault = f"{witness} is named twice"
         if fault:
             yield f"{page}:{number}: {fault}"
+        if not witness.startswith("none: "):
+            cited.add((clause.split("::")[0], witness))
     yield from (f"{page}: no witness is named for {it}" for it in sorted(clauses) if "→" in clauses[it] and it not in named)
 
 

@@ -58,16 +58,16 @@ of_no_columns h = shut (h 0 (zone_of low) refl)
 
 -- ---- true sets: one for each column, and each is true of its own
 
-abbrev of_low : Entries
+abbrev pub of_low : Entries
 of_low = known 3 3 3 1
 
-abbrev of_high : Entries
+abbrev pub of_high : Entries
 of_high = known 20 30 50 0
 
-abbrev low_values : ColumnData
+abbrev pub low_values : ColumnData
 low_values = values_of (Some (num 3) ∷ None ∷ [])
 
-abbrev high_values : ColumnData
+abbrev pub high_values : ColumnData
 high_values = values_of (Some (num 20) ∷ Some (num 30) ∷ [])
 
 one_null_more : count_value 0 ≡ count_value 1 → ⊥
@@ -86,7 +86,7 @@ turned_sets h = one_null_more (h.0.claims NullCount)
 first_untrue : AreTrueSets (low_values ∷ high_values ∷ []) (of_high ∷ of_high ∷ []) → ⊥
 first_untrue h = one_null_more (h.0.claims NullCount)
 
-last_untrue : AreTrueSets (low_values ∷ high_values ∷ []) (of_low ∷ of_low ∷ []) → ⊥
+pub last_untrue : AreTrueSets (low_values ∷ high_values ∷ []) (of_low ∷ of_low ∷ []) → ⊥
 last_untrue h = one_null_less (h.1.0.claims NullCount)
 
 a_set_missing : AreTrueSets (low_values ∷ high_values ∷ []) (of_low ∷ []) → ⊥
