@@ -73,7 +73,11 @@ impl Store {
     {
         let scope = scope_of(alloc, columns)?;
         let empty = empty_columns(alloc, columns)?;
-        let log = ZoneLog::new(alloc, columns.len());
+        // A text of at most `INPUT_LIMIT` bytes names fewer columns than that.
+        if columns.len() > u32::MAX as usize {
+            return Err(AllocError);
+        }
+        let log = ZoneLog::new(alloc, columns.len() as u32);
         Ok(Store {
             scope,
             columns: empty,
