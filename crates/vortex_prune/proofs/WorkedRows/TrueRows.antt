@@ -48,14 +48,14 @@ footer n greatest least nulls all_null =
     column (dtype.Bool Nullable) all_null ∷ column (dtype.Bool Nullable) None ∷ [])
 
 -- as files keep it: whether all are null is left open
-abbrev kept : MapData
+abbrev pub kept : MapData
 kept = footer 3 (num 10) (num 1) (Some (count_value 1)) None
 
 kept_is_table : is_table 1 scope kept.table.columns ≡ true
 kept_is_table = refl
 
 -- the rows 1, null, 10
-abbrev rows : ChunkData
+abbrev pub rows : ChunkData
 rows = record { scope = scope; columns = record { dtype = i64_type; values = num 1 ∷ None ∷ num 10 ∷ []; size = 0 } ∷ [] }
 
 abbrev values : List (Option ScalarValue)
@@ -92,7 +92,7 @@ kept_facts (suc (suc (suc (suc (suc (suc zero)))))) h c at there = below kept 6 
 kept_facts (suc (suc (suc (suc (suc (suc (suc i))))))) h c at there = absurd cc
 
 -- its row is true of these rows
-kept_is_true : IsTrueRow kept 0 rows
+pub kept_is_true : IsTrueRow kept 0 rows
 kept_is_true = record { is_chunk = refl; scoped = refl; counted = refl; facts = kept_facts }
 
 -- ---- no zones have this table: a set that tells how many are null tells whether all are

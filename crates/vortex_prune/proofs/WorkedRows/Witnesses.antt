@@ -1,4 +1,5 @@
 -- Witnesses: for each public clause with premises something that meets them all at once, and a turned answer of which the conclusion is false.
+pub mod AnyTable
 pub mod Binders
 pub mod Laws
 pub mod Maps

@@ -37,7 +37,7 @@ six_rows = chunk (some 3 ∷ None ∷ some 5 ∷ some 30 ∷ some 20 ∷ some 30
 abbrev pub eight_rows : ChunkData
 eight_rows = chunk (some 40 ∷ some 3 ∷ None ∷ some 5 ∷ some 30 ∷ some 20 ∷ some 30 ∷ some 50 ∷ [])
 
-abbrev RowsStandFrom : ChunkData → (from : ℕ) → PartData → ℕ → Type 0
+abbrev pub RowsStandFrom : ChunkData → (from : ℕ) → PartData → ℕ → Type 0
 RowsStandFrom k from part i = row_of i part.chunk.columns ≡ row_of (from + i) k.columns
 
 of_six : AreRangesFrom six_rows 0 parts
@@ -67,7 +67,7 @@ abbrev pub lossy : Rows
 lossy = (2, 0) ∷ (2, 1) ∷ []
 
 -- two aren't three
-one_is_lost : {X : Type 0} (x y u v w : X) → x ∷ y ∷ [] ≡ u ∷ v ∷ w ∷ [] → ⊥
+pub one_is_lost : {X : Type 0} (x y u v w : X) → x ∷ y ∷ [] ≡ u ∷ v ∷ w ∷ [] → ⊥
 one_is_lost x y u v w h = cc
 
 pub lossy_is_not_all : lossy ≡ (1, 1) ∷ (2, 0) ∷ (2, 1) ∷ [] → ⊥
