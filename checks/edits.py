@@ -7,8 +7,9 @@ usage: checks/edits.py [--gate] [--goals] [--jobs N] [CRATE..]
     --jobs tries those of N crates side by side, in place of as many as processors and memory allow
 
 checks/edits/goals.txt names for each edit the goal of the turned function that it leaves open, as `rt` names it by the clause
-and the branch. That has to be a goal of the function as the crate stands, where it is proved: one of a branch that the edit made is
-open whatever the function promises. The crates are built first. Then `rt must-fail` tries the edits of each crate in a copy of it, over what the build
+and the branch. That has to be a goal of the function as the crate stands, where it is proved: one of a branch that an edit renamed is
+open whatever the function promises. A third word, `made`, says of a goal that its branch is the edit's own and holds the wrong code, as a
+reader has judged. The crates are built first. Then `rt must-fail` tries the edits of each crate in a copy of it, over what the build
 kept. An edit that was refused at its goal is not tried again while it, the goal, the sources that its crate stands on and the
 toolchain stay as they are, so an interrupted run goes on with the crates that it left. Prints a line for each crate and for each
 edit that isn't refused so, and last how many are.
@@ -35,8 +36,10 @@ BYTES_A_CRATE = 5_000_000_000
 
 
 def named_goals():
+    """The goal of each edit, and whether its branch is the edit's own."""
     with open(f"{TOP}/checks/edits/goals.txt", encoding="utf-8") as listed:
-        return dict(it.split() for it in listed)
+        rows = [it.split() for it in listed]
+    return {it[0]: it[1] for it in rows}, {it[0] for it in rows if it[2:] == ["made"]}
 
 
 def edits_of(crate, of_gate):
@@ -76,11 +79,12 @@ def hand_over(kept, to, run):
 class Crate:
     """A crate whose edits are tried, with those that were refused before on the same sources."""
 
-    def __init__(self, name, edits, goals):
+    def __init__(self, name, edits, goals, made):
         self.name, self.edits, self.goals = name, edits, {it: goals.get(f"{name}/{it}") for it in edits}
+        self.made = {it for it in edits if f"{name}/{it}" in made}
         self.below = build.crates_below(name)
         self.kept, sources = f"{TOP}/out/refused-edits/{name}", build.sum_of(self.below)
-        sum_of = lambda it: hashlib.sha256(f"{sources}\n{self.goals[it]} unplanted\n{build.text_of(edits[it])}".encode()).hexdigest()
+        sum_of = lambda it: hashlib.sha256(f"{sources}\n{self.goals[it]} {'made' if it in self.made else 'proved'}\n{build.text_of(edits[it])}".encode()).hexdigest()
         self.sums = {it: sum_of(it) for it in edits}
         before = set((build.text_of(self.kept) or "").split())
         self.left = [it for it in edits if self.sums[it] not in before]
@@ -96,8 +100,9 @@ class Crate:
         folders, told = unplanted.listed(self.name, sorted({name for names in turned.values() for name in names}), room, f"{room}/goals")
         if folders is None:
             return {it: f"the goals of the crate as it stands can't be listed: {told}" for it in self.left}
-        missing = [it for it in self.left if self.goals[it] not in unplanted.goals_of(turned[it], folders)]
-        return {it: f"{', '.join(turned[it]) or 'no function'} has no goal {self.goals[it]} as the crate stands" for it in missing}
+        stands = {it: self.goals[it] in unplanted.goals_of(turned[it], folders) for it in self.left}
+        told = lambda it: f"{', '.join(turned[it]) or 'no function'} has {'a' if stands[it] else 'no'} goal {self.goals[it]} as the crate stands"
+        return {it: told(it) for it in self.left if stands[it] == (it in self.made)}
 
     def look_at_goals(self):
         """Asks of the edits that are left whether their goals are those of the functions that they turn."""
@@ -155,8 +160,8 @@ def main():
     unknown = [it for it in asked.crates if it not in listed]
     if unknown:
         sys.exit(f"edits: there is no crate {unknown[0]}")
-    goals = named_goals()
-    crates = [Crate(it, edits_of(it, asked.gate), goals) for it in asked.crates or listed]
+    goals, made = named_goals()
+    crates = [Crate(it, edits_of(it, asked.gate), goals, made) for it in asked.crates or listed]
     count = sum(len(it.edits) for it in crates)
     if not count:
         sys.exit("edits: there is no edit to try")
