@@ -100,7 +100,9 @@ class Crate:
         folders, told = unplanted.listed(self.name, sorted({name for names in turned.values() for name in names}), room, f"{room}/goals")
         if folders is None:
             return {it: f"the goals of the crate as it stands can't be listed: {told}" for it in self.left}
-        stands = {it: self.goals[it] in unplanted.goals_of(turned[it], folders) for it in self.left}
+        # A goal of several clauses may be listed whole, and one of them be left open.
+        names = {it: {self.goals[it], (self.goals[it] or "").partition("-clause-")[0]} for it in self.left}
+        stands = {it: bool(names[it] & unplanted.goals_of(turned[it], folders)) for it in self.left}
         told = lambda it: f"{', '.join(turned[it]) or 'no function'} has {'a' if stands[it] else 'no'} goal {self.goals[it]} as the crate stands"
         return {it: told(it) for it in self.left if stands[it] == (it in self.made)}
 
