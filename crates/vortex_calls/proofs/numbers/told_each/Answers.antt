@@ -32,6 +32,6 @@ returns g c = λ rows.
     let l = c.loop-place in
     let cells = cell_values c.into_cells.result in
     let all : map (option_map g.N.Native.scalar) (optionals l.numbers.items l.there.items) ≡ cells =
-    sym (c.into_cells.ensures ∙ ap (map (option_map g.N.Native.scalar)) c.from_vecs.ensures) in
+    sym (c.into_cells.ensures.values ∙ ap (map (option_map g.N.Native.scalar)) c.from_vecs.ensures) in
     let end : l.place ≡ c.args.count = omega arith in
     subst (λ n. told_cells c.args.aggregate (Some c.args.source.now) rows c.args.from n ≡ Ok cells) end (l.invariant.told rows ∙ ap Ok all)
