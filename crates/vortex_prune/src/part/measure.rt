@@ -10,15 +10,15 @@ use vortex_base::chunk::Chunk;
 use vortex_stats::stat::ALL_STATS;
 use vortex_stats::stats_set::StatsSet;
 
-// Adds the sets of a chunk's columns, in order, to a list with room for them. Refused with the place
-// of the first column of which the greatest or the least value isn't copied.
+// Adds the sets of a chunk's columns, in order, to a list with room for them. Refused with the
+// place of the first column of which the greatest or the least value isn't copied.
 fn push_sets(alloc: Global, chunk: &Chunk, sets: &mut Vec<StatsSet>) -> Result<(), usize>
     requires empty { sets.old.items ≡ [] }
     requires room { length chunk.now.scope ≤ vec_capacity sets.old }
     ensures measured { OnOk result (sets.new.items ≡ measured_sets chunk.now.columns) }
     ensures first { IfErr result (λ column. column ≡ length sets.new.items) }
-    ensures before { sets.new.items ++ measured_sets (drop (length sets.new.items) chunk.now.columns)
-        ≡ measured_sets chunk.now.columns }
+    ensures before { let others = drop (length sets.new.items) chunk.now.columns in
+        sets.new.items ++ measured_sets others ≡ measured_sets chunk.now.columns }
     ensures copied { IfErr result (HoldsLongAt chunk.now) }
     ensures is_chunk { IsChunk chunk.now }
 {
