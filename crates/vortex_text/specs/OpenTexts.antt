@@ -57,3 +57,7 @@ StateTakes old bytes (Err refused) = ⊤
 pub record IsOpenText (text : List ℕ) (progress : Progress) : Type 0 where
   pub taken : progress.taken ≡ length text
   pub read : HasRead text progress.state
+
+-- memory was refused to it, so it can't go on
+abbrev pub IsRefused : Progress → Type 0
+IsRefused progress = progress.state ≡ state.Refused

@@ -1,10 +1,13 @@
 //! A text that comes in piece by piece and isn't held.
-ghost use Rattle.std.specs.Prelude.{◌≡◌, ◌≤◌, ◌<◌, ◌+◌, ◌++◌, [], ℕ, List, IfOk, OnOk, IsErrOf, length};
+ghost use Rattle.std.specs.Prelude.{◌≡◌, ◌≤◌, ◌<◌, ◌+◌, ◌++◌, ◌↔◌, [], ℕ, List, Err, IfOk, OnOk};
+ghost use Rattle.std.specs.Prelude.{IsErr, IsErrOf, length};
 ghost use Rattle.vortex_text.specs.Fitting.{IsQueryOver};
 ghost use Rattle.vortex_text.specs.Naming.{named};
-ghost use Rattle.vortex_text.specs.OpenTexts.{IsOpenText, StateTakes, Tells};
+ghost use Rattle.vortex_text.specs.OpenTexts.{IsOpenText, IsRefused, StateTakes, Tells};
 ghost use Rattle.vortex_text.specs.Progress.{StateFits};
+ghost use Rattle.vortex_text.specs.declared.bad_line.TextError.TheVariants as text_error;
 ghost use Rattle.vortex_text.specs.declared.open_text.PushError.TheVariants.{Memory};
+ghost use Rattle.vortex_text.specs.declared.open_text.State.TheVariants as state;
 ghost use Rattle.vortex_text.specs.declared.streams.TheConstants.{INPUT_LIMIT};
 
 use crate::bad_line::{BadInput, TextError};
@@ -18,7 +21,7 @@ use std::mem;
 /// Why bytes of a text were not taken.
 #[derive(Debug, Drop)]
 pub enum PushError {
-    /// A growth was refused. The text can't go on: from then on all is refused.
+    /// A growth was refused. The text can't go on: each later push and its end are refused.
     Memory,
     /// The text would go past `INPUT_LIMIT`. It stays as it was.
     TooLong,
@@ -49,6 +52,7 @@ impl State {
         requires few { length bytes.now ≤ INPUT_LIMIT }
         requires fits { StateFits INPUT_LIMIT self }
         ensures takes { StateTakes self bytes.now result }
+        ensures refused { self ≡ state.Refused → IsErr result }
         ensures fits { IfOk result (λ state. (taken : ℕ) → StateFits taken self
             → StateFits (taken + length bytes.now) state) }
     {
@@ -97,14 +101,18 @@ impl OpenText {
         }
     }
 
-    /// Takes more bytes of the text, which may end anywhere, in a line or in a character.
+    /// Takes more bytes of the text, which may end anywhere, in a line or in a character. Once a
+    /// growth is refused, each later push and the end of the text are refused too.
     pub fn push(&mut self, alloc: Global, bytes: &[u8]) -> Result<(), PushError>
         ensures read { (text : List ℕ) → IsOpenText text self.old
             → OnOk result (IsOpenText (text ++ bytes.now) self.new) }
         ensures taken { OnOk result (self.new.taken ≡ self.old.taken + length bytes.now) }
         ensures too_long { IsErrOf result PushError.TooLong
-            → INPUT_LIMIT < self.old.taken + length bytes.now }
+            ↔ (INPUT_LIMIT < self.old.taken + length bytes.now) }
         ensures same { IsErrOf result PushError.TooLong → self.new ≡ self.old }
+        ensures memory { IsErrOf result PushError.Memory → IsRefused self.new }
+        ensures refused { IsRefused self.old → IsErr result }
+        ensures stays_refused { IsRefused self.old → IsRefused self.new }
     {
         if bytes.len() > INPUT_LIMIT - self.taken {
             return Err(PushError::TooLong);
@@ -121,6 +129,8 @@ impl OpenText {
         ensures named { (text : List ℕ) → IsOpenText text self
             → Tells (λ q. (q.parts, q.predicate)) result (named text) }
         ensures fits { IfOk result (λ q. IsQueryOver q.scope q.parts q.predicate) }
+        // Where a growth was refused, the text has no answer.
+        ensures refused { IsRefused self → result ≡ Err text_error.Memory }
     {
         let OpenText { state, .. } = self;
         match state {
