@@ -248,6 +248,39 @@ fn refused_measures_of_numbers_hand_back(rt: HostRuntime) -> Result<(), Fail> {
     Ok(())
 }
 
+// The numbers 1, null, 3 beside a text, a null and another text.
+fn numbers_and_texts(alloc: Global) -> Result<Chunk, StatsError> {
+    let values = around_null(
+        alloc,
+        value_of(alloc, TEXT_OR_NULL, false),
+        value_of(alloc, TEXT_OR_NULL, true),
+    );
+    let scope = scope_of_two(alloc, ("a", I32_OR_NULL), ("b", TEXT_OR_NULL));
+    let texts = column(TEXT_OR_NULL, values, 24);
+    chunk_of_two(alloc, scope, one_to_three(alloc), texts)
+}
+
+// Whether all was measured, or the column of texts was told. A refusal of the list of sets, which
+// tells no column, ends the test.
+fn is_measured_or_told(answer: Result<Part, MeasureRefused>) -> Result<bool, AllocError> {
+    match answer {
+        Ok(part) => Ok(part.is_true()),
+        Err(refused) => match refused.column {
+            Some(column) => Ok(column == 1),
+            None => Err(refused.error),
+        },
+    }
+}
+
+// Where a copy of the least or the greatest text is refused, its column is told.
+#[test]
+fn refused_copies_tell_their_column(rt: HostRuntime) -> Result<(), Fail> {
+    let alloc = rt.alloc();
+    let answer = measured_chunk(alloc, numbers_and_texts(alloc))?;
+    assert!(rt; is_measured_or_told(answer)?);
+    Ok(())
+}
+
 fn chunk_with(scope: Scope, columns: Vec<Column>) -> Result<Chunk, StatsError> {
     told(Chunk::try_new(scope, columns))
 }
