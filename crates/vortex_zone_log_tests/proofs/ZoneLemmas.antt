@@ -4,7 +4,7 @@ use Rattle.std.proofs.lemmas.Option.{same_Some}
 use Rattle.vortex_base.specs.Data.Scopes.{Named}
 use Rattle.vortex_prune.proofs.ZoneMaps.ZoneKept.{zones_are}
 use Rattle.vortex_prune.specs.Part.{AreZonesOf, ZoneData}
-use Rattle.vortex_zone_log.specs.Logs.{MayJoinAt}
+use Rattle.vortex_zone_log.specs.Logs.{MayJoinAt, zones_from}
 use Rattle.vortex_zone_log_tests.specs.Zones.{columns, three, two}
 
 three_fit : AreZonesOf columns three
@@ -18,6 +18,9 @@ three_are zones are = subst (AreZonesOf columns) (sym are) three_fit
 
 pub two_are : (zones : List ZoneData) → zones ≡ two → AreZonesOf columns zones
 two_are zones are = subst (AreZonesOf columns) (sym are) two_fit
+
+pub last_two_are : (zones : List ZoneData) → zones ≡ three → AreZonesOf columns (zones_from 1 2 zones)
+last_two_are zones are = subst (λ (zs : List ZoneData). AreZonesOf columns (zones_from 1 2 zs)) (sym are) (zones_are columns (zones_from 1 2 three) refl)
 
 pub may_join : (scope : List Named) (zones : List ZoneData) → scope ≡ columns → zones ≡ three → MayJoinAt scope 0 zones
 may_join scope zones same are =

@@ -95,6 +95,14 @@ pub fn map_of(alloc: Global, log: &ZoneLog) -> Result<ZoneMap, AllocError>
     log.map(alloc, scope, 0, log.len())
 }
 
+/// The map of the last two of the three zones.
+pub fn map_of_last_two(alloc: Global, log: &ZoneLog) -> Result<ZoneMap, AllocError>
+    requires { log.now.zones ≡ spec.three }
+{
+    let scope = Scope::new_unchecked(columns(alloc)?);
+    log.map(alloc, scope, 1, 2)
+}
+
 /// What a map tells of a zone in a column of its table.
 pub fn told(map: &ZoneMap, head: usize, zone: usize) -> Option<ValueRef<'_>> {
     let table = map.table();

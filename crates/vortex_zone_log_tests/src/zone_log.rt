@@ -1,5 +1,5 @@
 //! Zones that are told and read back, and neighbours that are joined.
-use crate::fixtures::{join_first, map_of, three_zones, told};
+use crate::fixtures::{join_first, map_of, map_of_last_two, three_zones, told};
 use std::process::Abort;
 use vortex_base::{PValue, ValueRef};
 use vortex_prune::ZoneMap;
@@ -61,6 +61,18 @@ fn neighbours_are_joined(rt: HostRuntime) {
     assert!(rt; log.rows(0) == 7 && log.rows(1) == 5);
     let map = map_of(alloc, &log).expect(&rt, "map");
     expect_numbers(&rt, &map, 0, 2, 9);
+    expect_bytes(&rt, &map, 0, 1, b"quince");
+    expect_numbers(&rt, &map, 1, -5, 1);
+    expect_bytes(&rt, &map, 1, 5, b"fig");
+}
+
+#[test]
+fn map_of_a_stretch_has_its_zones_alone(rt: HostRuntime) {
+    let alloc = rt.alloc();
+    let log = three_zones(alloc).expect(&rt, "log");
+    let map = map_of_last_two(alloc, &log).expect(&rt, "map");
+    assert!(rt; map.len() == 2);
+    expect_numbers(&rt, &map, 0, 8, 9);
     expect_bytes(&rt, &map, 0, 1, b"quince");
     expect_numbers(&rt, &map, 1, -5, 1);
     expect_bytes(&rt, &map, 1, 5, b"fig");
