@@ -16,6 +16,7 @@ mod one_chunk;
 mod own;
 mod table;
 mod typed;
+mod users;
 mod whole;
 mod zones;
 

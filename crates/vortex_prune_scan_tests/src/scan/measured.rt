@@ -10,9 +10,9 @@ use vortex_expr::BoundExpression;
 use vortex_prune::Scan;
 use vortex_uses::measured::{scan_checked, scan_measured};
 
-type Chunks = Result<Vec<Chunk>, StatsError>;
+pub(super) type Chunks = Result<Vec<Chunk>, StatsError>;
 
-fn chunk(alloc: Global, rows: &[Option<i32>]) -> Result<Chunk, StatsError> {
+pub(super) fn chunk(alloc: Global, rows: &[Option<i32>]) -> Result<Chunk, StatsError> {
     let column = column(I32_OR_NULL, numbers(alloc, rows), 0);
     chunk_of(alloc, scope_of(alloc, I32_OR_NULL), column)
 }
@@ -29,7 +29,7 @@ fn push_chunk(chunks: &mut Vec<Chunk>, chunk: Result<Chunk, StatsError>) -> Resu
 }
 
 // The numbers 1, 5, 10, then two nulls, no rows, and 8, null, 20.
-fn four_chunks(alloc: Global) -> Chunks {
+pub(super) fn four_chunks(alloc: Global) -> Chunks {
     let chunks = and_chunk(
         Ok(Vec::new(alloc)),
         chunk(alloc, &[Some(1), Some(5), Some(10)]),
