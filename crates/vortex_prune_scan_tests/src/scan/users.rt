@@ -24,7 +24,7 @@ fn have_scope(scope: &Scope, chunks: &[Chunk]) -> bool
     true
 }
 
-fn written(alloc: Global, scope: Result<Scope, AllocError>, chunks: Chunks) -> Table {
+fn written(alloc: Global, scope: Result<Scope, StatsError>, chunks: Chunks) -> Table {
     let (scope, chunks) = (scope?, chunks?);
     if !have_scope(&scope, &chunks) {
         return Err(StatsError::Mismatch);
