@@ -2,6 +2,7 @@
 pub mod BadRows
 pub mod BlockRows
 pub mod FirstRows
+pub mod LimitRows
 pub mod MemoryRows
 pub mod StoreRows
 pub mod StreamRows

@@ -1,5 +1,5 @@
 -- Witnesses of the clauses of the program, of texts that come in piece by piece and of streams.
-use Rattle.std.specs.Prelude.{◌≡◌, ◌≢◌, ◌<◌, ◌+◌, ◌++◌, ◌⊎◌, ℕ, Bool, false, true, IfSome, IsTrue, List, [], ◌∷◌, Option, Some, None, Result, Ok, Err, IsErrOf, codes, if◌then◌else◌, length, refl}
+use Rattle.std.specs.Prelude.{◌≡◌, ◌≢◌, ◌<◌, ◌+◌, ◌++◌, ◌⊎◌, ℕ, Bool, false, true, IfSome, IsTrue, List, [], ◌∷◌, Option, Some, None, Result, Ok, Err, IsErrOf, codes, if◌then◌else◌, length, refl, IsErr}
 use Rattle.std.specs.Fmt.{digits}
 use Rattle.std.specs.Io.KnownBytes.{Appends}
 use Rattle.std.specs.List.{AllByRecursion}
@@ -19,18 +19,21 @@ use Rattle.vortex_stats.specs.Stat.{all_stats}
 use Rattle.vortex_text.specs.Fitting.{IsQuery}
 use Rattle.vortex_text.specs.MemoryTaken.{TakesMemory}
 use Rattle.vortex_text.specs.Naming.{Query, named}
-use Rattle.vortex_text.specs.OpenTexts.{IsOpenText, Tells}
+use Rattle.vortex_text.specs.OpenTexts.{IsOpenText, IsRefused, Tells}
 use Rattle.vortex_text.specs.Printing.{scan_text}
 use Rattle.vortex_text.specs.Program.{Answers, IsReason, Stops, WritesFullScan, reply, reply_to, selected, skipped, whole}
 use Rattle.vortex_text.specs.Progress.{Progress}
 use Rattle.vortex_text.specs.Streams.{HasNotFailed, MayHaveFailed}
 use Rattle.vortex_text.specs.declared.bad_line.TextError.{TextError}
+use Rattle.vortex_text.specs.declared.bad_line.TextError.TheVariants as errors
 use Rattle.vortex_text.specs.declared.input.ReadError.{ReadError}
 use Rattle.vortex_text.specs.declared.input.ReadError.TheVariants as read
 use Rattle.vortex_text.specs.declared.naming.InputError.{InputError}
 use Rattle.vortex_text.specs.declared.naming.InputError.TheVariants as input
+use Rattle.vortex_text.specs.declared.open_line.OpenLine.{OpenLine}
 use Rattle.vortex_text.specs.declared.open_text.PushError.{PushError}
 use Rattle.vortex_text.specs.declared.open_text.PushError.TheVariants as push
+use Rattle.vortex_text.specs.declared.open_text.State.TheVariants as state
 use Rattle.vortex_text.specs.declared.streams.TheConstants.{INPUT_LIMIT}
 
 -- ---- a text that names two parts with true statistics, of which the first is skipped
@@ -184,6 +187,36 @@ nothing_named h = cc
 
 pub close_named : (start : Progress) → IsOpenText [] start → IsWitness (IsOpenText [] start) (λ (answer : Result Query TextError). Tells as_told answer (named [])) (Ok (named_parts, above_ten))
 close_named start is = record { met = is; refuted = nothing_named }
+
+-- ---- a text to which memory was refused
+
+abbrev refused : Progress
+refused = record { taken = 0; state = state.Refused }
+
+-- one that goes on, whatever line is open
+abbrev goes_on : OpenLine → Progress
+goes_on line = record { taken = 0; state = state.Open line }
+
+open_is_not_refused : (line : OpenLine) → IsRefused (goes_on line) → ⊥
+open_is_not_refused line h = cc
+
+pub push_memory : (line : OpenLine) → IsWitness (IsErrOf (Err {A = ℕ} push.Memory) push.Memory) (λ (new : Progress). IsRefused new) (goes_on line)
+push_memory line = record { met = refl; refuted = open_is_not_refused line }
+
+answered : IsErr (Ok {E = PushError} 0) → ⊥
+answered h = absurd cc
+
+pub push_refused : IsWitness (IsRefused refused) (λ (answer : Result ℕ PushError). IsErr answer) (Ok 0)
+push_refused = record { met = refl; refuted = answered }
+
+pub push_stays_refused : (line : OpenLine) → IsWitness (IsRefused refused) (λ (new : Progress). IsRefused new) (goes_on line)
+push_stays_refused line = record { met = refl; refuted = open_is_not_refused line }
+
+query_is_no_error : (q : Query) (e : TextError) → Ok q ≡ Err e → ⊥
+query_is_no_error q e h = cc
+
+pub close_refused : IsWitness (IsRefused refused) (λ (answer : Result Query TextError). answer ≡ Err errors.Memory) (Ok (named_parts, above_ten))
+close_refused = record { met = refl; refuted = query_is_no_error (named_parts, above_ten) errors.Memory }
 
 -- ---- what texts name: a column of a part has no declared size
 
