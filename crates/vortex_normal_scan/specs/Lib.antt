@@ -1,2 +1,6 @@
 pub mod Carried
 pub mod Full
+pub mod Joint
+pub mod Pruning
+pub mod PruningCode
+pub mod Worked

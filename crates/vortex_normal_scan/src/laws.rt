@@ -1,6 +1,7 @@
 //! Laws of scans by normal forms, in the words of the definitions.
 ghost use Rattle.vortex_normal_scan.specs.Carried.{SatisfiabilityIsCarried};
 ghost use Rattle.vortex_normal_scan.specs.Full.{SameSelectsTheSame};
+ghost use Rattle.vortex_normal_scan.specs.Worked.{JointExamples, ProofExamples};
 
 /// Two predicates that are satisfied by the same rows select the same rows of parts.
 pub fn same_selects_the_same()
@@ -11,4 +12,14 @@ pub fn same_selects_the_same()
 /// also where that has fewer columns.
 pub fn satisfiability_is_carried()
     ensures { SatisfiabilityIsCarried }
+{}
+
+/// Worked joint proofs.
+pub fn joint_examples_hold()
+    ensures { JointExamples }
+{}
+
+/// The proofs of worked predicates.
+pub fn proof_examples_hold()
+    ensures { ProofExamples }
 {}

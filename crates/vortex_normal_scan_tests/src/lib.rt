@@ -8,6 +8,8 @@ mod likes;
 #[cfg(test)]
 mod prune;
 #[cfg(test)]
+mod pruning_predicate;
+#[cfg(test)]
 mod refused;
 #[cfg(test)]
 mod scan;

@@ -3,8 +3,9 @@ use std::alloc::{AllocError, Global};
 use std::process::Abort;
 use vortex_base::{ScalarValue, Scope};
 use vortex_expr::{BoundExpression, LikeOptions};
+use vortex_normal_scan::PruningPredicate;
 use vortex_normal_scan::prune::prune_normalized;
-use vortex_prune::{Pruned, Rules, Zone, ZoneMap, prune};
+use vortex_prune::{Pruned, Rules, Verdict, Zone, ZoneMap, prune};
 use vortex_rewrite_testing::nodes::*;
 use vortex_stats::{Precision, Stat, StatsError, StatsSet};
 
@@ -119,4 +120,43 @@ fn a_beginning_and_a_range(rt: HostRuntime) {
         and(alloc, s_like(alloc, "ab"), s_like(alloc, "ac")),
         (false, true),
     );
+}
+
+// One zone of two nulls, by their count alone.
+fn nulls(alloc: Global) -> Result<ZoneMap, StatsError> {
+    let count = Precision::Exact(ScalarValue::from(2u64));
+    let sets = [StatsSet::of(alloc, Stat::NullCount, count)];
+    match ZoneMap::try_new(alloc, scope(alloc)?, &[Zone::new(2, &sets)]) {
+        Ok(map) => Ok(map),
+        Err(refused) => Err(refused.error),
+    }
+}
+
+// Whether all proofs of the predicate skip the zone.
+fn skips_by_all(
+    alloc: Global,
+    map: &ZoneMap,
+    predicate: &BoundExpression,
+) -> Result<bool, StatsError> {
+    if !predicate.is_plain() || !predicate.fits_scope(map.scope()) {
+        return Err(StatsError::Mismatch);
+    }
+    let pruning = PruningPredicate::try_new(alloc, predicate, &Rules::builtin(alloc))?;
+    let verdicts = pruning.prune(alloc, map)?;
+    Ok(verdicts.as_slice() == [Verdict::Skipped].as_slice())
+}
+
+fn expect_skipped_by_all(rt: &impl Abort, alloc: Global, map: &ZoneMap, predicate: Built) {
+    let predicate = predicate.expect(rt, "a predicate");
+    assert!(rt; skips_by_all(alloc, map, &predicate).expect(rt, "answers"));
+}
+
+#[test]
+fn nulls_alone_are_skipped_under_like(rt: HostRuntime) {
+    let alloc = rt.alloc();
+    let map = nulls(alloc).expect(&rt, "map");
+    expect_skips(&rt, alloc, &map, s_like(alloc, "ab_"), (false, false));
+    expect_skipped_by_all(&rt, alloc, &map, s_like(alloc, "ab_"));
+    expect_skipped_by_all(&rt, alloc, &map, s_like(alloc, "%"));
+    expect_skipped_by_all(&rt, alloc, &map, s_not_like(alloc, "a%b"));
 }

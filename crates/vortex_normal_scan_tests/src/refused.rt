@@ -2,7 +2,7 @@
 use crate::testing::*;
 use std::alloc::Global;
 use std::test::Fail;
-use vortex_prune::{Pruned, Rules};
+use vortex_prune::{Pruned, Rules, Verdict};
 use vortex_stats::StatsError;
 
 fn one(alloc: Global) -> Parts {
@@ -27,6 +27,13 @@ fn is_pruned(found: Result<Pruned, StatsError>) -> bool {
     }
 }
 
+fn is_skipped(found: Result<Vec<Verdict>, StatsError>) -> bool {
+    match found {
+        Ok(found) => found.as_slice() == [Verdict::Skipped].as_slice(),
+        Err(refused) => is_memory(&refused),
+    }
+}
+
 // With a growth refused, as `rt try --test --fail-alloc` refuses one, a scan and pruning answer
 // what they do with ample memory or are refused for memory and nothing else.
 #[test]
@@ -35,5 +42,6 @@ fn refused_memory(rt: HostRuntime) -> Result<(), Fail> {
     let (parts, neither) = (one(alloc)?, a_inside(alloc, 5, 3)?);
     assert!(rt; is_found(scanned(alloc, &parts, &neither, &Rules::builtin(alloc))));
     assert!(rt; is_pruned(pruned(alloc, &parts, &neither)));
+    assert!(rt; is_skipped(verdicts(alloc, &parts, &neither, &Rules::builtin(alloc))));
     Ok(())
 }

@@ -8,10 +8,11 @@ use std::alloc::{AllocError, Global};
 use std::process::Abort;
 use vortex_base::{Chunk, Column, ScalarValue, Scope};
 use vortex_expr::BoundExpression;
+use vortex_normal_scan::PruningPredicate;
 use vortex_normal_scan::prune::prune_normalized;
 use vortex_normal_scan::scan::scan_normalized;
 use vortex_prune::scan::scan;
-use vortex_prune::{Part, Pruned, Rules, Scan, StatsBinder, Zone, ZoneMap, prune};
+use vortex_prune::{Part, Pruned, Rules, Scan, StatsBinder, Verdict, Zone, ZoneMap, prune};
 use vortex_rewrite_testing::nodes::*;
 use vortex_stats::{Precision, Stat, StatsError, StatsSet};
 
@@ -282,6 +283,21 @@ pub fn pruned(
         return Err(StatsError::Mismatch);
     }
     prune_normalized(alloc, &map, predicate, &Rules::builtin(alloc))
+}
+
+/// The verdicts by all proofs of the predicate, made by these rules.
+pub fn verdicts(
+    alloc: Global,
+    parts: &[Part],
+    predicate: &BoundExpression,
+    rules: &Rules,
+) -> Result<Vec<Verdict>, StatsError> {
+    let map = map_of(alloc, &known_of(alloc, parts)?)?;
+    if !predicate.is_plain() || !predicate.fits_scope(map.scope()) {
+        return Err(StatsError::Mismatch);
+    }
+    let pruning = PruningPredicate::try_new(alloc, predicate, rules)?;
+    pruning.prune(alloc, &map)
 }
 
 fn skipped_as_given(

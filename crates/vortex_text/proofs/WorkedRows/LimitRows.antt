@@ -1,5 +1,5 @@
 -- Worked rows: a text has 16,777,216 bytes at the most, and a predicate 4,096 words, at the limit and one past it.
-use Rattle.std.proofs.Common.{◌≡◌, ◌≤◌, ◌<◌, ◌++◌, ℕ, true, false, List, [], ◌∷◌, None, Some, codes, inl, inr, length, map, refl, arith, lit≤}
+use Rattle.std.proofs.Common.{◌≡◌, ◌≤◌, ◌++◌, ℕ, false, List, [], ◌∷◌, Some, codes, inl, inr, length, refl, arith, lit≤}
 use Rattle.vortex_text.specs.Program.{IsReason}
 use Rattle.vortex_text.specs.Progress.{Progress, ProgressFits}
 use Rattle.vortex_text.specs.declared.open_text.State.TheVariants.{Refused}

@@ -1,0 +1,132 @@
+-- The proofs of a predicate are right that are those of its other forms.
+use Rattle.std.proofs.Common.{◌≡◌, ◌<◌, ℕ, Bool, true, false, ⊎_elim, List, Option, Some, None, IsTrue, Result, Ok, Err, IfOk, refl, sym, ap, subst, ◌∙◌, arith}
+use Rattle.std.specs.Prelude.{slice_get}
+use Rattle.vortex_base.proofs.Data.RowLemmas.{row_of-IsRow}
+use Rattle.vortex_base.specs.Data.Columns.{ChunkData, IsChunk, row_of, row_count as rows_of}
+use Rattle.vortex_base.specs.Data.Exact.{both_true}
+use Rattle.vortex_base.specs.declared.scalar_value.ScalarValue.{ScalarValue}
+use Rattle.vortex_base.specs.declared.scalar_value.ScalarValue.TheVariants as value
+use Rattle.vortex_expr.proofs.Meanings.RowsFit.{rows-fit}
+use Rattle.vortex_expr.specs.Meanings.Fitting.{fits_scope, is_of_type}
+use Rattle.vortex_expr.specs.Meanings.Meaning.{is_true, meaning, satisfies, truth}
+use Rattle.vortex_expr.specs.Meanings.Typing.{type_of}
+use Rattle.vortex_expr.specs.Trees.Tree.{Tree, Place, is_plain}
+use Rattle.vortex_normal.specs.Groups.{normal}
+use Rattle.vortex_normal.specs.Same.{HasNoOther, Same}
+use Rattle.vortex_normal.specs.Strict.{strict_test}
+use Rattle.vortex_normal.specs.Tested.{IsTestOf, passes}
+use Rattle.vortex_normal_scan.proofs.Full.{any_count, at_row, no_count}
+use Rattle.vortex_normal_scan.proofs.JointTrue.{joint_back}
+use Rattle.vortex_normal_scan.specs.Joint.{joint}
+use Rattle.vortex_normal_scan.specs.Pruning.{Falsifies, HasRowsOf, IsTestForm, Satisfies, skip_proof, whole_proof}
+use Rattle.vortex_prune.proofs.Scanning.Lossless.{is_over_chunk}
+use Rattle.vortex_prune.proofs.Scanning.WholeScan.{predicate_typed}
+use Rattle.vortex_rewrite.proofs.Soundness.SoundRules.{falsifiers_sound, satisfiers_sound}
+use Rattle.vortex_rewrite.specs.Rewriting.Falsifiers.{falsifier, satisfier}
+use Rattle.vortex_rewrite.specs.Rewriting.Lawful.{IsOver, OwnRule}
+use Rattle.vortex_rewrite.specs.Rewriting.Predicates.{is_predicate}
+
+-- ---- the proofs of a predicate itself
+
+some_falsifies : (own : List OwnRule) (p : Tree Place) (o : Option (Tree Place)) → falsifier own p ≡ o → Falsifies o p
+some_falsifies own p None is k A chunk over honest t = cc
+some_falsifies own p (Some e) is k A chunk over honest t = falsifiers_sound own p e is k A chunk over honest t
+
+pub own_falsifies : (own : List OwnRule) (p : Tree Place) → Falsifies (falsifier own p) p
+own_falsifies own p = some_falsifies own p (falsifier own p) refl
+
+some_satisfies : (own : List OwnRule) (p : Tree Place) (o : Option (Tree Place)) → satisfier own p ≡ o → Satisfies o p
+some_satisfies own p None is k A chunk over honest t = cc
+some_satisfies own p (Some e) is k A chunk over honest t = satisfiers_sound own p e is k A chunk over honest t
+
+pub own_satisfies : (own : List OwnRule) (p : Tree Place) → Satisfies (satisfier own p) p
+own_satisfies own p = some_satisfies own p (satisfier own p) refl
+
+-- ---- two proofs as one
+
+pub joint_falsifies : (f g : Option (Tree Place)) (p : Tree Place) → Falsifies f p → Falsifies g p → Falsifies (joint f g) p
+joint_falsifies f g p left right k A chunk over honest t =
+    ⊎_elim (λ h. left k A chunk over honest h) (λ h. right k A chunk over honest h) (joint_back A (rows_of k.columns) f g t)
+
+pub joint_satisfies : (f g : Option (Tree Place)) (p : Tree Place) → Satisfies f p → Satisfies g p → Satisfies (joint f g) p
+joint_satisfies f g p left right k A chunk over honest t =
+    ⊎_elim (λ h. left k A chunk over honest h) (λ h. right k A chunk over honest h) (joint_back A (rows_of k.columns) f g t)
+
+-- ---- proofs of other forms
+
+passing_true : (v : Option ScalarValue) → passes true false (truth v) ≡ is_true v
+passing_true None = refl
+passing_true (Some (value.Bool b)) = refl
+passing_true (Some (value.Primitive p)) = refl
+passing_true (Some (value.Utf8 bs)) = refl
+passing_true (Some (value.Binary bs)) = refl
+
+-- a test that a predicate is true is satisfied by the same rows
+pub test_is_same : (p q : Tree Place) → IsTestOf true false p q → Same p q
+test_is_same p q test row n r f small = test row n r f small ∙ passing_true (meaning p row n)
+
+not_untrue : (v : Option ScalarValue) → passes false true (truth v) ≡ false → is_true v ≡ true
+not_untrue None h = cc
+not_untrue (Some (value.Bool true)) h = refl
+not_untrue (Some (value.Bool false)) h = cc
+not_untrue (Some (value.Primitive p)) h = cc
+not_untrue (Some (value.Utf8 bs)) h = cc
+not_untrue (Some (value.Binary bs)) h = cc
+
+module _ (p q : Tree Place) (plain_p : IsTrue (is_plain p)) (plain_q : IsTrue (is_plain q)) (predicate : IsTrue (is_predicate q)) (other : HasNoOther p q) where
+  over_carried : (k : ChunkData) → IsOver p k → IsOver q k
+  over_carried k over =
+      is_over_chunk q k (predicate_typed (type_of q) predicate) plain_q
+      (other (λ c. is_of_type c.dtype (slice_get k.scope c.index)) (both_true _ _ over.over).1)
+
+  abbrev fits_of : (k : ChunkData) → IsOver p k → IsTrue (fits_scope p k.scope)
+  fits_of k over = (both_true _ _ over.over).1
+
+  pub same_falsifies : (proof : Option (Tree Place)) → Same p q → Falsifies proof q → Falsifies proof p
+  same_falsifies proof same h k A chunk over honest t i less =
+      sym (at_row p q plain_p plain_q same k i chunk (fits_of k over) less) ∙ h k A chunk (over_carried k over) honest t i less
+
+  pub same_satisfies : (proof : Option (Tree Place)) → Same p q → Satisfies proof q → Satisfies proof p
+  same_satisfies proof same h k A chunk over honest t i less =
+      sym (at_row p q plain_p plain_q same k i chunk (fits_of k over) less) ∙ h k A chunk (over_carried k over) honest t i less
+
+  -- the truth of the first on a row of a chunk passes where the second is satisfied, whatever the row count is
+  test_at : (w m : Bool) → IsTestOf w m p q → (k : ChunkData) (i : ℕ) → IsChunk k → IsTrue (fits_scope p k.scope) → i < rows_of k.columns
+      → satisfies q (row_of i k.columns) (rows_of k.columns) ≡ passes w m (truth (meaning p (row_of i k.columns) (rows_of k.columns)))
+  test_at w m test k i chunk fits here =
+      let row = row_of i k.columns in
+      ap is_true (any_count row (rows_of k.columns) 0 q (no_count q plain_q))
+      ∙ test row 0 (row_of-IsRow k i chunk here) (rows-fit p k i chunk fits) (omega arith)
+      ∙ ap (λ v. passes w m (truth v)) (any_count row 0 (rows_of k.columns) p (no_count p plain_p))
+
+  -- where no row satisfies that a predicate isn't true, each satisfies it
+  pub untrue_satisfies : (proof : Option (Tree Place)) → IsTestOf false true p q → Falsifies proof q → Satisfies proof p
+  untrue_satisfies proof test h k A chunk over honest t i less =
+      not_untrue (meaning p (row_of i k.columns) (rows_of k.columns))
+      (sym (test_at false true test k i chunk (fits_of k over) less) ∙ h k A chunk (over_carried k over) honest t i less)
+
+-- ---- the whole
+
+if_always : {X E : Type 0} (P : Type 0) (r : Result X E) → P → IfOk r (λ _. P)
+if_always P (Ok x) h = h
+if_always P (Err e) h = tt
+
+-- what is so of a form is so of what it is known to be
+pub form_if_ok : {X E : Type 0} (w m : Bool) (p q r : Tree Place) (a : Result X E) → q ≡ r → IsTestForm w m p q → IfOk a (λ _. IsTestForm w m p r)
+form_if_ok w m p q r a is form = if_always (IsTestForm w m p r) a (subst (λ e. IsTestForm w m p e) is form)
+
+pub skip_right : (own : List OwnRule) (p : Tree Place) → IsTrue (is_plain p) → HasRowsOf p (normal p) → IsTestForm true false p (strict_test true false p) → Falsifies (skip_proof own p) p
+skip_right own p plain n t =
+    let q = strict_test true false p in
+    joint_falsifies (falsifier own p) (joint (falsifier own (normal p)) (falsifier own q)) p (own_falsifies own p)
+    (joint_falsifies (falsifier own (normal p)) (falsifier own q) p
+    (same_falsifies p (normal p) plain (n.plain plain) n.predicate n.columns (falsifier own (normal p)) n.same (own_falsifies own (normal p)))
+    (same_falsifies p q plain (t.plain plain) t.predicate t.columns (falsifier own q) (test_is_same p q t.test) (own_falsifies own q)))
+
+pub whole_right : (own : List OwnRule) (p : Tree Place) → IsTrue (is_plain p) → HasRowsOf p (normal p) → IsTestForm false true p (strict_test false true p) → Satisfies (whole_proof own p) p
+whole_right own p plain n t =
+    let q = strict_test false true p in
+    joint_satisfies (satisfier own p) (joint (satisfier own (normal p)) (falsifier own q)) p (own_satisfies own p)
+    (joint_satisfies (satisfier own (normal p)) (falsifier own q) p
+    (same_satisfies p (normal p) plain (n.plain plain) n.predicate n.columns (satisfier own (normal p)) n.same (own_satisfies own (normal p)))
+    (untrue_satisfies p q plain (t.plain plain) t.predicate t.columns (falsifier own q) t.test (own_falsifies own q)))
