@@ -200,13 +200,19 @@ goes_on line = record { taken = 0; state = state.Open line }
 open_is_not_refused : (line : OpenLine) → IsRefused (goes_on line) → ⊥
 open_is_not_refused line h = cc
 
-pub push_memory : (line : OpenLine) → IsWitness (IsErrOf (Err {A = ℕ} push.Memory) push.Memory) (λ (new : Progress). IsRefused new) (goes_on line)
+abbrev memory_refused : Result ℕ PushError
+memory_refused = Err push.Memory
+
+pub push_memory : (line : OpenLine) → IsWitness (IsErrOf memory_refused push.Memory) (λ (new : Progress). IsRefused new) (goes_on line)
 push_memory line = record { met = refl; refuted = open_is_not_refused line }
 
-answered : IsErr (Ok {E = PushError} 0) → ⊥
-answered h = absurd cc
+abbrev byte_taken : Result ℕ PushError
+byte_taken = Ok 0
 
-pub push_refused : IsWitness (IsRefused refused) (λ (answer : Result ℕ PushError). IsErr answer) (Ok 0)
+answered : IsErr byte_taken → ⊥
+answered h = shut h
+
+pub push_refused : IsWitness (IsRefused refused) (λ (answer : Result ℕ PushError). IsErr answer) byte_taken
 push_refused = record { met = refl; refuted = answered }
 
 pub push_stays_refused : (line : OpenLine) → IsWitness (IsRefused refused) (λ (new : Progress). IsRefused new) (goes_on line)

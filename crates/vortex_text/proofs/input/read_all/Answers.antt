@@ -26,5 +26,5 @@ reads-preserved g c =
 pub returns-in-Err-TooLong-clause-too_long : goal.returns-in-Err-TooLong-clause-too_long
 returns-in-Err-TooLong-clause-too_long g c = λ _.
     let (text, pushed, lost, same) = c.reads.invariant in
-    let long = c.push.ensures.too_long (rw (c.in-Err-TooLong.is, c.in-Err-TooLong.field-0-is) refl) in
+    let long = c.push.ensures.too_long.0 (rw (c.in-Err-TooLong.is, c.in-Err-TooLong.field-0-is) refl) in
     piece_past _ _ _ text (take c.in-Ok.count c.read_once.new.buf) lost c.in-Ok.ensures.bytes.0 (omega (arith, pushed.taken, long))

@@ -1,5 +1,5 @@
-use Rattle.std.proofs.Common.{List, ap, inr, subst, sym, ◌≡◌}
-use Rattle.std.proofs.lemmas.Result.{IfErr-weaker, IfOk-weaker}
+use Rattle.std.proofs.Common.{List, ap, subst, sym}
+use Rattle.std.proofs.lemmas.Result.{IfOk-weaker}
 use Rattle.vortex_base.specs.Data.Scopes.{Named}
 use Rattle.vortex_prune.specs.Part.{IsPartOf}
 use Rattle.vortex_prune.specs.Zones.{MapData}
@@ -7,7 +7,7 @@ use Rattle.vortex_uses.proofs.reader.zones_left_out_of_all.Goals as goal
 
 pub returns-in-Ok-clause-lossless : goal.returns-in-Ok-clause-lossless
 returns-in-Ok-clause-lossless c =
-    let same : c.extend.new.footer.scope ≡ c.args.footer.now.scope = ap (λ (m : MapData). m.scope) c.in-Ok.ensures.appended in
+    let same = ap (λ (m : MapData). m.scope) c.in-Ok.ensures.appended in
     IfOk-weaker c.zones_left_out.result _ _
     (λ found lossless zones of i zone part there is is_true listed.
     lossless _ (c.in-Ok.ensures.is_map zones of) i zone part there (subst (λ (s : List Named). IsPartOf s zone part) (sym same) is) is_true listed)
