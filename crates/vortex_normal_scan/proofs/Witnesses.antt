@@ -36,7 +36,7 @@ use mathlib.Core.Bool.{true≢false}
 abbrev inside : Tree Place
 inside = binary And (binary Gt a (lit 10)) (binary Lt a (lit 40))
 
-abbrev place_a : Place
+abbrev pub place_a : Place
 place_a = record { index = 0; dtype = i64_type }
 
 asked : IsAskedOf inside scope
