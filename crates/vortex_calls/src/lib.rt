@@ -7,7 +7,6 @@
 mod answers;
 mod cells;
 pub mod check;
-mod depth;
 mod encoding;
 mod extent;
 pub mod fault;

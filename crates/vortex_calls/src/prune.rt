@@ -13,7 +13,6 @@ ghost use Rattle.vortex_calls.specs.Tables.{IsTypedBy, known_zone, zones_given};
 ghost use Rattle.vortex_prune.specs.Part.{ZoneData, zones_fit};
 ghost use Rattle.vortex_prune.specs.Zones.{IsMapOf};
 
-use crate::depth::is_within;
 use crate::fault::{Fault, Refusal};
 use crate::field::{Field, columns_given};
 use crate::named::Proofs;
@@ -25,6 +24,7 @@ use crate::table::{Known, Source, sources_given, zone_at};
 use std::alloc::{AllocError, Global};
 use vortex_base::scope::Scope;
 use vortex_expr::bound_expression::BoundExpression;
+use vortex_normal::levels::is_within;
 use vortex_normal::normalize::normalize;
 use vortex_prune::{Zone, ZoneMap};
 use vortex_stats::StatsError;

@@ -70,6 +70,10 @@ strict e = valued (rests_on e) (body e)
 
 -- ---- the whole
 
--- the strict normal form of a test of a predicate's truth; null tests of predicates are pushed down within two others at most
+-- the normal form of a test of a predicate's truth; null tests of predicates are pushed down within two others at most
+abbrev pub normal_test : (wanted with_null : Bool) → Tree Place → Tree Place
+normal_test w m p = normal (tested 3 w m p)
+
+-- and the strict one
 abbrev pub strict_test : (wanted with_null : Bool) → Tree Place → Tree Place
-strict_test w m p = strict (normal (tested 3 w m p))
+strict_test w m p = strict (normal_test w m p)

@@ -6,6 +6,7 @@ mod groups;
 mod interval;
 pub mod laws;
 mod leaves;
+pub mod levels;
 mod likes;
 pub mod normalize;
 mod predicate;

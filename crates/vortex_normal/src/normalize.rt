@@ -5,13 +5,13 @@ ghost use Rattle.vortex_rewrite.specs.Answers.{IsMemory};
 ghost use Rattle.vortex_rewrite.specs.Rewriting.Predicates.{is_predicate};
 ghost use Rattle.vortex_normal.specs.Groups.{normal};
 ghost use Rattle.vortex_normal.specs.Same.{HasNoOther, Same, StaysPlain};
-ghost use Rattle.vortex_normal.specs.Strict.{strict_test as strict_of};
+ghost use Rattle.vortex_normal.specs.Strict.{normal_test as test_of, strict as strict_of};
 ghost use Rattle.vortex_normal.specs.Tested.{IsTestOf};
 
 use crate::groups::grouped;
 use crate::predicate::is_truth;
 use crate::pushed::pushed;
-use crate::strict::strict;
+use crate::strict::with_values;
 use crate::tested::tested;
 use std::alloc::Global;
 use vortex_expr::bound_expression::BoundExpression;
@@ -52,7 +52,7 @@ pub fn normalize(alloc: Global, predicate: &BoundExpression) -> Result<BoundExpr
 // How many null tests of predicates are pushed down within one another. Each doubles what is below.
 const NULL_TESTS: u8 = 3;
 
-fn strict_form(
+fn test_form(
     alloc: Global,
     wanted: bool,
     with_null: bool,
@@ -60,24 +60,21 @@ fn strict_form(
 ) -> Result<BoundExpression, StatsError>
     requires { IsTrue (is_predicate predicate.now) }
     ensures test { IfOk result (λ e. IsTestOf wanted with_null predicate.now e) }
-    ensures form { IfOk result (λ e. e ≡ strict_of wanted with_null predicate.now) }
+    ensures form { IfOk result (λ e. e ≡ test_of wanted with_null predicate.now) }
     ensures truth { IfOk result (λ e. IsTrue (is_predicate e)) }
     ensures columns { IfOk result (λ e. HasNoOther predicate.now e) }
     ensures plain { IfOk result (λ e. StaysPlain predicate.now e) }
     ensures memory { IfErr result IsMemory }
 {
     let tested = tested(alloc, NULL_TESTS, wanted, with_null, predicate)?;
-    let normal = normal_form(alloc, tested.expression())?;
-    Ok(strict(alloc, &normal)?.into_expression())
+    normal_form(alloc, tested.expression())
 }
 
-/// A predicate that is satisfied where the truth of the given one is the wanted one, or null if that
-/// counts: that it is true, by `true` and `false`; that it isn't, by `false` and `true`. It is a
-/// normal form, in which truths that are compared with literals or null-tested are pushed down to
-/// their columns, and which tests that each column has a value where it compares one: so that rules
-/// see through it where all values are null. `NotPredicate` if the expression isn't of type Bool,
-/// which is found before anything is taken.
-pub fn strict_test(
+/// A predicate in normal form that is satisfied where the truth of the given one is the wanted one,
+/// or null if that counts: that it is true, by `true` and `false`; that it isn't, by `false` and
+/// `true`. Truths that are compared with literals or null-tested are pushed down to their columns.
+/// `NotPredicate` if the expression isn't of type Bool, which is found before anything is taken.
+pub fn normal_test(
     alloc: Global,
     wanted: bool,
     with_null: bool,
@@ -85,7 +82,7 @@ pub fn strict_test(
 ) -> Result<BoundExpression, StatsError>
     ensures not_predicate { is_predicate predicate.now ≡ false → result ≡ Err NotPredicate }
     ensures test { IfOk result (λ e. IsTestOf wanted with_null predicate.now e) }
-    ensures form { IfOk result (λ e. e ≡ strict_of wanted with_null predicate.now) }
+    ensures form { IfOk result (λ e. e ≡ test_of wanted with_null predicate.now) }
     ensures truth { IfOk result (λ e. IsTrue (is_predicate e)) }
     ensures columns { IfOk result (λ e. HasNoOther predicate.now e) }
     ensures plain { IfOk result (λ e. StaysPlain predicate.now e) }
@@ -94,5 +91,36 @@ pub fn strict_test(
     if !is_truth(predicate) {
         return Err(StatsError::NotPredicate);
     }
-    strict_form(alloc, wanted, with_null, predicate)
+    test_form(alloc, wanted, with_null, predicate)
+}
+
+fn strict_form(alloc: Global, predicate: &BoundExpression) -> Result<BoundExpression, StatsError>
+    requires { IsTrue (is_predicate predicate.now) }
+    ensures same { IfOk result (λ e. Same predicate.now e) }
+    ensures form { IfOk result (λ e. e ≡ strict_of predicate.now) }
+    ensures truth { IfOk result (λ e. IsTrue (is_predicate e)) }
+    ensures columns { IfOk result (λ e. HasNoOther predicate.now e) }
+    ensures plain { IfOk result (λ e. StaysPlain predicate.now e) }
+    ensures memory { IfErr result IsMemory }
+{
+    Ok(with_values(alloc, predicate)?.into_expression())
+}
+
+/// A predicate that is satisfied by the same rows, with a test that each column has a value which it
+/// compares with a literal or another column, or matches with a pattern: so that rules see through
+/// it where all values are null. `NotPredicate` if the expression isn't of type Bool, which is found
+/// before anything is taken.
+pub fn strict(alloc: Global, predicate: &BoundExpression) -> Result<BoundExpression, StatsError>
+    ensures not_predicate { is_predicate predicate.now ≡ false → result ≡ Err NotPredicate }
+    ensures same { IfOk result (λ e. Same predicate.now e) }
+    ensures form { IfOk result (λ e. e ≡ strict_of predicate.now) }
+    ensures truth { IfOk result (λ e. IsTrue (is_predicate e)) }
+    ensures columns { IfOk result (λ e. HasNoOther predicate.now e) }
+    ensures plain { IfOk result (λ e. StaysPlain predicate.now e) }
+    ensures memory { IsTrue (is_predicate predicate.now) → IfErr result IsMemory }
+{
+    if !is_truth(predicate) {
+        return Err(StatsError::NotPredicate);
+    }
+    strict_form(alloc, predicate)
 }

@@ -150,7 +150,7 @@ fn body<'a>(
 
 /// A predicate that is satisfied by the same rows, with a test that each column of its comparisons,
 /// ranges and LIKEs has a value: so that a column of nulls alone falsifies it.
-pub(crate) fn strict(alloc: Global, e: &BoundExpression) -> Result<Predicate, StatsError>
+pub(crate) fn with_values(alloc: Global, e: &BoundExpression) -> Result<Predicate, StatsError>
     requires { IsTrue (is_predicate e.now) }
     ensures { Makes (forms.strict e.now) result }
 {

@@ -1,5 +1,5 @@
 -- What the joint proofs of a predicate find, in the words of the predicate.
-use Rattle.std.proofs.Common.{◌≡◌, ℕ, Bool, true, false, ◌⊎◌, inl, inr, ⊎_elim, List, [], ◌∷◌, Option, Some, IsTrue, refl, sym, ap, subst, ◌∙◌, if◌then◌else◌}
+use Rattle.std.proofs.Common.{◌≡◌, ℕ, Bool, true, false, ◌⊎◌, inl, inr, ⊎_elim, List, [], ◌∷◌, None, Option, Some, IsTrue, refl, sym, ap, subst, ◌∙◌, if◌then◌else◌}
 use Rattle.std.specs.Prelude.{Contains, MatchOption, option_map, slice_get}
 use Rattle.std.proofs.lemmas.Option.{none-some, slice_get-map}
 use Rattle.vortex_base.specs.Data.Columns.{row_count as rows_of}
@@ -10,11 +10,11 @@ use Rattle.vortex_expr.specs.Meanings.Typing.{type_of}
 use Rattle.vortex_expr.specs.Trees.Tree.{Tree, Place, is_plain}
 use Rattle.vortex_normal.proofs.Columns.{carried_columns}
 use Rattle.vortex_normal.specs.Groups.{normal}
-use Rattle.vortex_normal.specs.Strict.{strict_test}
+use Rattle.vortex_normal.specs.Strict.{normal_test, strict_test}
 use Rattle.vortex_normal_scan.proofs.Carried.{satisfiability_is_carried}
 use Rattle.vortex_normal_scan.proofs.JointTrue.{joint_closed, joint_first, joint_rest, joint_second}
 use Rattle.vortex_normal_scan.specs.Joint.{joint}
-use Rattle.vortex_normal_scan.specs.Pruning.{Falsifies, FindsNoFewerWhole, HasRowsOf, Satisfies, SkipsNoFewer, SkipsUnsatisfiable, skip_proof, skipped_places, whole_places, whole_proof}
+use Rattle.vortex_normal_scan.specs.Pruning.{Falsifies, FindsNoFewerWhole, HasRowsOf, Satisfies, SkipsNoFewer, SkipsUnsatisfiable, is_within, skip_proof, skipped_places, test_proof, unless_deep, whole_places, whole_proof}
 use Rattle.vortex_prune.proofs.Scanning.Boxes.{skipping_is_complete}
 use Rattle.vortex_prune.proofs.Scanning.Lossless.{is_over_chunk}
 use Rattle.vortex_prune.proofs.Scanning.SkippedParts.{place_listed}
@@ -48,15 +48,25 @@ use Rattle.vortex_stats.specs.declared.error.StatsError.TheVariants as fault
 
 -- ---- by built-in rules the joint proofs are closed
 
-pub skip_closed : (p : Tree Place) → is_open (skip_proof [] p) ≡ false
-skip_closed p =
-    joint_closed (falsifier [] p) (joint (falsifier [] (normal p)) (falsifier [] (strict_test true false p))) (built_in_is_shut p)
-    (joint_closed (falsifier [] (normal p)) (falsifier [] (strict_test true false p)) (built_in_is_shut (normal p)) (built_in_is_shut (strict_test true false p)))
+closed_if : (b : Bool) (o : Option (Tree Place)) → is_open o ≡ false → is_open (if b then o else None) ≡ false
+closed_if true o h = h
+closed_if false o h = refl
 
-pub whole_closed : (p : Tree Place) → is_open (whole_proof [] p) ≡ false
-whole_closed p =
-    joint_closed (satisfier [] p) (joint (satisfier [] (normal p)) (falsifier [] (strict_test false true p))) (built_in_satisfier_is_shut p)
-    (joint_closed (satisfier [] (normal p)) (falsifier [] (strict_test false true p)) (built_in_satisfier_is_shut (normal p)) (built_in_is_shut (strict_test false true p)))
+deep_closed : (levels : Option ℕ) (form : Tree Place) (o : Option (Tree Place)) → is_open o ≡ false → is_open (unless_deep levels form o) ≡ false
+deep_closed levels form o h = closed_if (is_within levels form) o h
+
+test_closed : (levels : Option ℕ) (w m : Bool) (p : Tree Place) → is_open (test_proof [] levels w m p) ≡ false
+test_closed levels w m p = deep_closed levels (normal_test w m p) (falsifier [] (strict_test w m p)) (built_in_is_shut (strict_test w m p))
+
+pub skip_closed : (levels : Option ℕ) (p : Tree Place) → is_open (skip_proof [] levels p) ≡ false
+skip_closed levels p =
+    joint_closed (falsifier [] p) (joint (unless_deep levels (normal p) (falsifier [] (normal p))) (test_proof [] levels true false p)) (built_in_is_shut p)
+    (joint_closed (unless_deep levels (normal p) (falsifier [] (normal p))) (test_proof [] levels true false p) (deep_closed levels (normal p) (falsifier [] (normal p)) (built_in_is_shut (normal p))) (test_closed levels true false p))
+
+pub whole_closed : (levels : Option ℕ) (p : Tree Place) → is_open (whole_proof [] levels p) ≡ false
+whole_closed levels p =
+    joint_closed (satisfier [] p) (joint (unless_deep levels (normal p) (satisfier [] (normal p))) (test_proof [] levels false true p)) (built_in_satisfier_is_shut p)
+    (joint_closed (unless_deep levels (normal p) (satisfier [] (normal p))) (test_proof [] levels false true p) (deep_closed levels (normal p) (satisfier [] (normal p)) (built_in_satisfier_is_shut (normal p))) (test_closed levels false true p))
 
 left_shut : {X : Type 0} (o : Option (Tree Place)) (xs : List X) → is_open o ≡ false → is_left_open o xs ≡ true → ⊥
 left_shut o [] h k = cc
@@ -155,25 +165,26 @@ module _ (f s : Option (Tree Place)) (scope : List Named) (zones : List ZoneData
         (ap (λ (m : MapData). slice_get m.rows i) map_of.same ∙ slice_get-map (λ (z : ZoneData). z.rows) zones i ∙ ap (option_map (λ (z : ZoneData). z.rows)) there)
         shut
 
-    module _ (own : List OwnRule) (p : Tree Place) (made : f ≡ skip_proof own p) where
-      made_closed : (i : ℕ) (zone : ZoneData) → slice_get zones i ≡ Some zone → is_open (skip_proof own p) ≡ false
+    module _ (own : List OwnRule) (levels : Option ℕ) (p : Tree Place) (made : f ≡ skip_proof own levels p) where
+      made_closed : (i : ℕ) (zone : ZoneData) → slice_get zones i ≡ Some zone → is_open (skip_proof own levels p) ≡ false
       made_closed i zone there = ap is_open (sym made) ∙ falsifier_closed i zone there
 
       own_true : (i : ℕ) (zone : ZoneData) → slice_get zones i ≡ Some zone → told_true (falsifier own p) zone ≡ true → told_true f zone ≡ true
       own_true i zone there h =
-          ap (λ (o : Option (Tree Place)). told_true o zone) made ∙ joint_first (told_values scope zone) zone.rows (falsifier own p) (joint (falsifier own (normal p)) (falsifier own (strict_test true false p))) (made_closed i zone there) h
+          ap (λ (o : Option (Tree Place)). told_true o zone) made ∙ joint_first (told_values scope zone) zone.rows (falsifier own p) (joint (unless_deep levels (normal p) (falsifier own (normal p))) (test_proof own levels true false p)) (made_closed i zone there) h
 
-      normal_true : (i : ℕ) (zone : ZoneData) → slice_get zones i ≡ Some zone → told_true (falsifier own (normal p)) zone ≡ true → told_true f zone ≡ true
-      normal_true i zone there h =
+      normal_true : IsTrue (is_within levels (normal p)) → (i : ℕ) (zone : ZoneData) → slice_get zones i ≡ Some zone → told_true (falsifier own (normal p)) zone ≡ true → told_true f zone ≡ true
+      normal_true within i zone there h =
           let closed = made_closed i zone there in
           ap (λ (o : Option (Tree Place)). told_true o zone) made
-          ∙ joint_second (told_values scope zone) zone.rows (falsifier own p) (joint (falsifier own (normal p)) (falsifier own (strict_test true false p))) closed
-          (joint_first (told_values scope zone) zone.rows (falsifier own (normal p)) (falsifier own (strict_test true false p)) (joint_rest (falsifier own p) (joint (falsifier own (normal p)) (falsifier own (strict_test true false p))) closed) h)
+          ∙ joint_second (told_values scope zone) zone.rows (falsifier own p) (joint (unless_deep levels (normal p) (falsifier own (normal p))) (test_proof own levels true false p)) closed
+          (joint_first (told_values scope zone) zone.rows (unless_deep levels (normal p) (falsifier own (normal p))) (test_proof own levels true false p) (joint_rest (falsifier own p) (joint (unless_deep levels (normal p) (falsifier own (normal p))) (test_proof own levels true false p)) closed)
+          (ap (λ (b : Bool). told_true (if b then falsifier own (normal p) else None) zone) within ∙ h))
 
       pub no_fewer_skipped : SkipsNoFewer own p scope zones (skipped_places vs)
       no_fewer_skipped i zone there h = true_skipped i zone there (own_true i zone there ((place_listed (told_true (falsifier own p)) zones i zone there).0 h))
 
-      pub no_fewer_whole : s ≡ whole_proof own p → IsShutIfVerdict s vs → FindsNoFewerWhole own p scope zones (skipped_places vs) (whole_places vs)
+      pub no_fewer_whole : s ≡ whole_proof own levels p → IsShutIfVerdict s vs → FindsNoFewerWhole own p scope zones (skipped_places vs) (whole_places vs)
       no_fewer_whole also closed i zone there h =
           by_skipped (told_true f zone) refl
         where
@@ -188,17 +199,17 @@ module _ (f s : Option (Tree Place)) (scope : List Named) (zones : List ZoneData
               inr
               (true_whole i zone there e
               (ap (λ (o : Option (Tree Place)). told_true o zone) also
-              ∙ joint_first (told_values scope zone) zone.rows (satisfier own p) (joint (satisfier own (normal p)) (falsifier own (strict_test false true p)))
+              ∙ joint_first (told_values scope zone) zone.rows (satisfier own p) (joint (unless_deep levels (normal p) (satisfier own (normal p))) (test_proof own levels false true p))
               (ap is_open (sym also) ∙ satisfier_closed i zone there closed e) by_satisfier))
 
     -- ---- completeness
 
-    module _ (p : Tree Place) (made : f ≡ skip_proof [] p) (fits : IsTrue (fits_scope p scope)) (plain : IsTrue (is_plain p)) (same : HasRowsOf p (normal p)) (are : AreZonesOf scope zones) (apart : IsTrue (is_apart (normal p))) where
+    module _ (levels : Option ℕ) (p : Tree Place) (made : f ≡ skip_proof [] levels p) (within : IsTrue (is_within levels (normal p))) (fits : IsTrue (fits_scope p scope)) (plain : IsTrue (is_plain p)) (same : HasRowsOf p (normal p)) (are : AreZonesOf scope zones) (apart : IsTrue (is_apart (normal p))) where
       pub normal_complete : SkipsUnsatisfiable (normal p) zones (skipped_places vs)
       normal_complete i zone box there is_box order none =
           let t = typed_bool (normal p) (type_of (normal p)) refl same.predicate in
           let found = skipping_is_complete (normal p) t.0 scope zone box t.1 t.2 (are i zone there) (same.columns (λ c. is_of_type c.dtype (slice_get scope c.index)) fits) apart is_box order in
-          true_skipped i zone there (normal_true [] p made i zone there (found.1 none))
+          true_skipped i zone there (normal_true [] levels p made within i zone there (found.1 none))
 
       pub given_complete : SkipsUnsatisfiable p zones (skipped_places vs)
       given_complete i zone box there is_box order none =

@@ -1,5 +1,5 @@
 -- The proofs of a predicate are right that are those of its other forms.
-use Rattle.std.proofs.Common.{◌≡◌, ◌<◌, ℕ, Bool, true, false, ⊎_elim, List, Option, Some, None, IsTrue, Result, Ok, Err, IfOk, refl, sym, ap, subst, ◌∙◌, arith}
+use Rattle.std.proofs.Common.{◌≡◌, ◌<◌, ℕ, Bool, true, false, ⊎_elim, List, Option, Some, None, IsTrue, refl, sym, ap, ◌∙◌, arith, if◌then◌else◌}
 use Rattle.std.specs.Prelude.{slice_get}
 use Rattle.vortex_base.proofs.Data.RowLemmas.{row_of-IsRow}
 use Rattle.vortex_base.specs.Data.Columns.{ChunkData, IsChunk, row_of, row_count as rows_of}
@@ -13,12 +13,12 @@ use Rattle.vortex_expr.specs.Meanings.Typing.{type_of}
 use Rattle.vortex_expr.specs.Trees.Tree.{Tree, Place, is_plain}
 use Rattle.vortex_normal.specs.Groups.{normal}
 use Rattle.vortex_normal.specs.Same.{HasNoOther, Same}
-use Rattle.vortex_normal.specs.Strict.{strict_test}
+use Rattle.vortex_normal.specs.Strict.{normal_test, strict_test}
 use Rattle.vortex_normal.specs.Tested.{IsTestOf, passes}
 use Rattle.vortex_normal_scan.proofs.Full.{any_count, at_row, no_count}
 use Rattle.vortex_normal_scan.proofs.JointTrue.{joint_back}
 use Rattle.vortex_normal_scan.specs.Joint.{joint}
-use Rattle.vortex_normal_scan.specs.Pruning.{Falsifies, HasRowsOf, IsTestForm, Satisfies, skip_proof, whole_proof}
+use Rattle.vortex_normal_scan.specs.Pruning.{Falsifies, HasRowsOf, IsTestForm, Satisfies, is_within, skip_proof, test_proof, unless_deep, whole_proof}
 use Rattle.vortex_prune.proofs.Scanning.Lossless.{is_over_chunk}
 use Rattle.vortex_prune.proofs.Scanning.WholeScan.{predicate_typed}
 use Rattle.vortex_rewrite.proofs.Soundness.SoundRules.{falsifiers_sound, satisfiers_sound}
@@ -107,26 +107,36 @@ module _ (p q : Tree Place) (plain_p : IsTrue (is_plain p)) (plain_q : IsTrue (i
 
 -- ---- the whole
 
-if_always : {X E : Type 0} (P : Type 0) (r : Result X E) → P → IfOk r (λ _. P)
-if_always P (Ok x) h = h
-if_always P (Err e) h = tt
+deep_if : (b : Bool) (o : Option (Tree Place)) (p : Tree Place) → (b ≡ true → Falsifies o p) → Falsifies (if b then o else None) p
+deep_if true o p f = f refl
+deep_if false o p f = λ k A chunk over honest t. cc
 
--- what is so of a form is so of what it is known to be
-pub form_if_ok : {X E : Type 0} (w m : Bool) (p q r : Tree Place) (a : Result X E) → q ≡ r → IsTestForm w m p q → IfOk a (λ _. IsTestForm w m p r)
-form_if_ok w m p q r a is form = if_always (IsTestForm w m p r) a (subst (λ e. IsTestForm w m p e) is form)
+deep_falsifies : (levels : Option ℕ) (form : Tree Place) (o : Option (Tree Place)) (p : Tree Place) → (IsTrue (is_within levels form) → Falsifies o p) → Falsifies (unless_deep levels form o) p
+deep_falsifies levels form o p f = deep_if (is_within levels form) o p f
 
-pub skip_right : (own : List OwnRule) (p : Tree Place) → IsTrue (is_plain p) → HasRowsOf p (normal p) → IsTestForm true false p (strict_test true false p) → Falsifies (skip_proof own p) p
-skip_right own p plain n t =
+whole_if : (b : Bool) (o : Option (Tree Place)) (p : Tree Place) → (b ≡ true → Satisfies o p) → Satisfies (if b then o else None) p
+whole_if true o p f = f refl
+whole_if false o p f = λ k A chunk over honest t. cc
+
+deep_satisfies : (levels : Option ℕ) (form : Tree Place) (o : Option (Tree Place)) (p : Tree Place) → (IsTrue (is_within levels form) → Satisfies o p) → Satisfies (unless_deep levels form o) p
+deep_satisfies levels form o p f = whole_if (is_within levels form) o p f
+
+pub skip_right : (own : List OwnRule) (levels : Option ℕ) (p : Tree Place) → IsTrue (is_plain p) → HasRowsOf p (normal p) → (IsTrue (is_within levels (normal_test true false p)) → IsTestForm true false p (strict_test true false p))
+    → Falsifies (skip_proof own levels p) p
+skip_right own levels p plain n form =
     let q = strict_test true false p in
-    joint_falsifies (falsifier own p) (joint (falsifier own (normal p)) (falsifier own q)) p (own_falsifies own p)
-    (joint_falsifies (falsifier own (normal p)) (falsifier own q) p
-    (same_falsifies p (normal p) plain (n.plain plain) n.predicate n.columns (falsifier own (normal p)) n.same (own_falsifies own (normal p)))
-    (same_falsifies p q plain (t.plain plain) t.predicate t.columns (falsifier own q) (test_is_same p q t.test) (own_falsifies own q)))
+    joint_falsifies (falsifier own p) (joint (unless_deep levels (normal p) (falsifier own (normal p))) (test_proof own levels true false p)) p (own_falsifies own p)
+    (joint_falsifies (unless_deep levels (normal p) (falsifier own (normal p))) (test_proof own levels true false p) p
+    (deep_falsifies levels (normal p) (falsifier own (normal p)) p (λ _. same_falsifies p (normal p) plain (n.plain plain) n.predicate n.columns (falsifier own (normal p)) n.same (own_falsifies own (normal p))))
+    (deep_falsifies levels (normal_test true false p) (falsifier own q) p
+    (λ within. let t = form within in same_falsifies p q plain (t.plain plain) t.predicate t.columns (falsifier own q) (test_is_same p q t.test) (own_falsifies own q))))
 
-pub whole_right : (own : List OwnRule) (p : Tree Place) → IsTrue (is_plain p) → HasRowsOf p (normal p) → IsTestForm false true p (strict_test false true p) → Satisfies (whole_proof own p) p
-whole_right own p plain n t =
+pub whole_right : (own : List OwnRule) (levels : Option ℕ) (p : Tree Place) → IsTrue (is_plain p) → HasRowsOf p (normal p) → (IsTrue (is_within levels (normal_test false true p)) → IsTestForm false true p (strict_test false true p))
+    → Satisfies (whole_proof own levels p) p
+whole_right own levels p plain n form =
     let q = strict_test false true p in
-    joint_satisfies (satisfier own p) (joint (satisfier own (normal p)) (falsifier own q)) p (own_satisfies own p)
-    (joint_satisfies (satisfier own (normal p)) (falsifier own q) p
-    (same_satisfies p (normal p) plain (n.plain plain) n.predicate n.columns (satisfier own (normal p)) n.same (own_satisfies own (normal p)))
-    (untrue_satisfies p q plain (t.plain plain) t.predicate t.columns (falsifier own q) t.test (own_falsifies own q)))
+    joint_satisfies (satisfier own p) (joint (unless_deep levels (normal p) (satisfier own (normal p))) (test_proof own levels false true p)) p (own_satisfies own p)
+    (joint_satisfies (unless_deep levels (normal p) (satisfier own (normal p))) (test_proof own levels false true p) p
+    (deep_satisfies levels (normal p) (satisfier own (normal p)) p (λ _. same_satisfies p (normal p) plain (n.plain plain) n.predicate n.columns (satisfier own (normal p)) n.same (own_satisfies own (normal p))))
+    (deep_satisfies levels (normal_test false true p) (falsifier own q) p
+    (λ within. let t = form within in untrue_satisfies p q plain (t.plain plain) t.predicate t.columns (falsifier own q) t.test (own_falsifies own q))))

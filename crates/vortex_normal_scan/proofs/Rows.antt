@@ -36,4 +36,9 @@ proof_examples = record {
   skipped = refl;
   whole = refl;
   skipped_by_nulls = refl;
+  skipped_within_none = refl;
+  whole_within_none = refl;
+  skipped_within_one = refl;
+  whole_within_one = refl;
+  whole_within_two = refl;
 }

@@ -1,11 +1,12 @@
 -- The proofs by which a predicate prunes zones, and what they find.
-use Rattle.std.specs.Prelude.{◌≡◌, ◌⊎◌, ℕ, Bool, true, false, List, Option, Some, IsTrue, Contains, slice_get}
+use Rattle.std.specs.Prelude.{◌≡◌, ◌⊎◌, ℕ, Bool, true, false, List, Option, None, Some, IsTrue, Contains, if◌then◌else◌, nat_le, slice_get}
 use Rattle.vortex_base.specs.Data.Columns.{ChunkData, IsChunk, row_count as rows_of}
 use Rattle.vortex_base.specs.Data.Scopes.{Named}
 use Rattle.vortex_expr.specs.Trees.Tree.{Tree, Place, is_plain}
+use Rattle.vortex_normal.specs.Balanced.{depth}
 use Rattle.vortex_normal.specs.Groups.{normal}
 use Rattle.vortex_normal.specs.Same.{HasNoOther, Same, StaysPlain}
-use Rattle.vortex_normal.specs.Strict.{strict_test}
+use Rattle.vortex_normal.specs.Strict.{normal_test, strict_test}
 use Rattle.vortex_normal.specs.Tested.{IsTestOf}
 use Rattle.vortex_normal_scan.specs.Joint.{joint}
 use Rattle.vortex_prune.specs.Part.{ZoneData}
@@ -25,13 +26,26 @@ use Rattle.vortex_rewrite.specs.Rewriting.Visited.{visited}
 
 -- ---- the proofs
 
+-- a form has no more than so many levels, if they are limited
+abbrev pub is_within : (levels : Option ℕ) → Tree Place → Bool
+is_within None e = true
+is_within (Some n) e = nat_le (depth e) n
+
+-- what a form proves, unless it is deeper
+abbrev pub unless_deep : (levels : Option ℕ) → (form : Tree Place) → Option (Tree Place) → Option (Tree Place)
+unless_deep levels form proof = if is_within levels form then proof else None
+
+-- that no row satisfies a test of the predicate's truth, by its strict normal form
+abbrev pub test_proof : List OwnRule → (levels : Option ℕ) → (wanted with_null : Bool) → Tree Place → Option (Tree Place)
+test_proof own levels w m p = unless_deep levels (normal_test w m p) (falsifier own (strict_test w m p))
+
 -- that no row satisfies a predicate: by the predicate as it is, by its normal form and by the strict one
-abbrev pub skip_proof : List OwnRule → Tree Place → Option (Tree Place)
-skip_proof own p = joint (falsifier own p) (joint (falsifier own (normal p)) (falsifier own (strict_test true false p)))
+abbrev pub skip_proof : List OwnRule → (levels : Option ℕ) → Tree Place → Option (Tree Place)
+skip_proof own levels p = joint (falsifier own p) (joint (unless_deep levels (normal p) (falsifier own (normal p))) (test_proof own levels true false p))
 
 -- that every row does: by the predicate as it is and by its normal form, or since no row satisfies that it isn't true
-abbrev pub whole_proof : List OwnRule → Tree Place → Option (Tree Place)
-whole_proof own p = joint (satisfier own p) (joint (satisfier own (normal p)) (falsifier own (strict_test false true p)))
+abbrev pub whole_proof : List OwnRule → (levels : Option ℕ) → Tree Place → Option (Tree Place)
+whole_proof own levels p = joint (satisfier own p) (joint (unless_deep levels (normal p) (satisfier own (normal p))) (test_proof own levels false true p))
 
 -- a predicate beside a proof that no row satisfies it and one that every row does, where there are such
 pub record Pruning : Type 0 where
@@ -71,10 +85,10 @@ pub record IsRight (x : Pruning) : Type 0 where
   pub falsifies : Falsifies x.falsifier x.predicate
   pub satisfies : Satisfies x.satisfier x.predicate
 
--- they are those that the built-in rules and these have
-pub record IsMadeBy (own : List OwnRule) (x : Pruning) : Type 0 where
-  pub falsifier : x.falsifier ≡ skip_proof own x.predicate
-  pub satisfier : x.satisfier ≡ whole_proof own x.predicate
+-- they are those that the built-in rules and these have, by forms of so many levels
+pub record IsMadeBy (own : List OwnRule) (levels : Option ℕ) (x : Pruning) : Type 0 where
+  pub falsifier : x.falsifier ≡ skip_proof own levels x.predicate
+  pub satisfier : x.satisfier ≡ whole_proof own levels x.predicate
 
 -- ---- what they find
 

@@ -50,8 +50,14 @@ all_above_five = binary Gt (stat Min a) (byte_literal 5)
 
 pub record ProofExamples : Type 0 where
   -- where the bounds leave no value above, and where no value is known to be there
-  pub skipped : skip_proof [] above_five ≡ Some (any (compare Lte (stat Max a) 5) all_null_a)
+  pub skipped : skip_proof [] None above_five ≡ Some (any (compare Lte (stat Max a) 5) all_null_a)
   -- by the predicate itself, or since there is no null, and no value up to five
-  pub whole : whole_proof [] above_five ≡ Some (any (all all_above_five (stat AllNonNull a)) (all no_null_a (any all_above_five all_null_a)))
+  pub whole : whole_proof [] None above_five ≡ Some (any (all all_above_five (stat AllNonNull a)) (all no_null_a (any all_above_five all_null_a)))
   -- a null test of the comparison, by what the placeholders of that tell, or by the nulls of its column
-  pub skipped_by_nulls : skip_proof [] (is_null above_five) ≡ Some (any (any (binary Eq (stat NullCount above_five) (count_literal 0)) (stat AllNonNull above_five)) no_null_a)
+  pub skipped_by_nulls : skip_proof [] None (is_null above_five) ≡ Some (any (any (binary Eq (stat NullCount above_five) (count_literal 0)) (stat AllNonNull above_five)) no_null_a)
+  -- forms of no level are left out, and those of one are used
+  pub skipped_within_none : skip_proof [] (Some 0) above_five ≡ Some (compare Lte (stat Max a) 5)
+  pub whole_within_none : whole_proof [] (Some 0) above_five ≡ Some (all all_above_five (stat AllNonNull a))
+  pub skipped_within_one : skip_proof [] (Some 1) above_five ≡ skip_proof [] None above_five
+  pub whole_within_one : whole_proof [] (Some 1) above_five ≡ Some (all all_above_five (stat AllNonNull a))
+  pub whole_within_two : whole_proof [] (Some 2) above_five ≡ whole_proof [] None above_five

@@ -1,11 +1,13 @@
 //! A predicate with all proofs that are worth trying, made once and good for any map of zones.
-ghost use Rattle.std.specs.Prelude.{◌≡◌, List, [], Err, IfErr, IfOk, IfSome, IsTrue, false};
-ghost use Rattle.std.specs.Prelude.{length, true};
+ghost use Rattle.std.specs.Prelude.{◌≡◌, ℕ, List, [], Err, IfErr, IfOk, IfSome, IsTrue, false};
+ghost use Rattle.std.specs.Prelude.{None, Option, Some, length, true};
 ghost use Rattle.vortex_expr.specs.Meanings.Fitting.{fits_scope};
 ghost use Rattle.vortex_expr.specs.Trees.Tree.{Place, is_plain};
 ghost use Rattle.vortex_stats.specs.declared.error.StatsError.TheVariants.{NotPredicate};
 ghost use Rattle.vortex_rewrite.specs.Answers.{IsMemory};
 ghost use Rattle.vortex_rewrite.specs.Causes.{IsRefusal, either_causes};
+ghost use Rattle.vortex_rewrite.specs.Rewriting.Falsifiers.{falsifier as falsifier_of};
+ghost use Rattle.vortex_rewrite.specs.Rewriting.Falsifiers.{satisfier as satisfier_of};
 ghost use Rattle.vortex_rewrite.specs.Rewriting.Lawful.{OwnRule};
 ghost use Rattle.vortex_rewrite.specs.Rewriting.Own.{own_rules};
 ghost use Rattle.vortex_rewrite.specs.Rewriting.Predicates.{is_predicate};
@@ -16,19 +18,23 @@ ghost use Rattle.vortex_prune.specs.Scanning.ZoneScans.{kept_zones, open_causes,
 ghost use Rattle.vortex_prune.specs.Zones.{IsMapOf};
 ghost use Rattle.vortex_normal.specs.Groups.{normal as normal_of};
 ghost use Rattle.vortex_normal.specs.OneColumn.{IsJoining, IsSelective, are_ends_seen, is_over};
-ghost use Rattle.vortex_normal.specs.Strict.{strict_test as strict_of};
+ghost use Rattle.vortex_normal.specs.Strict.{normal_test as test_of, strict_test as strict_of};
 ghost use Rattle.vortex_normal_scan.specs.Pruning.{FindsNoFewerWhole, IsMadeBy, IsTestForm};
-ghost use Rattle.vortex_normal_scan.specs.Pruning.{SkipsNoFewer};
-ghost use Rattle.vortex_normal_scan.specs.Pruning.{SkipsUnsatisfiable, making_causes, skip_causes};
+ghost use Rattle.vortex_normal_scan.specs.Pruning.{SkipsNoFewer, SkipsUnsatisfiable};
+ghost use Rattle.vortex_normal_scan.specs.Pruning.{falsifying_causes, is_within, making_causes};
+ghost use Rattle.vortex_normal_scan.specs.Pruning.{satisfying_causes, skip_causes};
 ghost use Rattle.vortex_normal_scan.specs.Pruning.{skip_proof as skip_proof_of};
+ghost use Rattle.vortex_normal_scan.specs.Pruning.{test_proof as test_proof_of};
 ghost use Rattle.vortex_normal_scan.specs.Pruning.{whole_proof as whole_proof_of};
-ghost use Rattle.vortex_normal_scan.specs.Pruning.{skipped_places, whole_causes, whole_places};
+ghost use Rattle.vortex_normal_scan.specs.Pruning.{skipped_places, unless_deep};
+ghost use Rattle.vortex_normal_scan.specs.Pruning.{whole_causes, whole_places};
 
 use crate::joint::joint;
 use std::alloc::Global;
 use std::marker::Model;
 use vortex_expr::bound_expression::BoundExpression;
-use vortex_normal::normalize::{normalize, strict_test};
+use vortex_normal::levels::is_within as levels_within;
+use vortex_normal::normalize::{normal_test, normalize, strict};
 use vortex_prune::scan::prune::prune_by;
 use vortex_prune::scan::verdict::Verdict;
 use vortex_prune::zone_map::ZoneMap;
@@ -67,9 +73,100 @@ impl Model for PruningPredicate {
         IsRight seen };
 }
 
+// Whether a form has no more than so many levels, if they are limited.
+fn is_shallow(form: &BoundExpression, levels: Option<u32>) -> bool
+    ensures { result ≡ is_within levels form.now }
+{
+    match levels {
+        Some(levels) => levels_within(form, levels),
+        None => true,
+    }
+}
+
+// The proof that no row satisfies a test of a predicate's truth, unless its normal form is deeper.
+fn test_proof(
+    alloc: Global,
+    levels: Option<u32>,
+    wanted: bool,
+    with_null: bool,
+    predicate: &BoundExpression,
+    rules: &Rules,
+) -> Result<Option<BoundExpression>, StatsError>
+    requires { IsTrue (is_predicate predicate.now) }
+    ensures value { let M = ⟦<dyn StatsRewriteRule as StatsRewriteRule>⟧ in
+        let own = own_rules M rules.now.own.items in
+        IfOk result (λ proof. proof ≡ test_proof_of own levels wanted with_null predicate.now) }
+    ensures truth { IfOk result (λ proof. IfSome proof (λ e. IsTrue (is_predicate e))) }
+    ensures form { let p = predicate.now in
+        IfOk result (λ _. IsTrue (is_within levels (test_of wanted with_null p))
+        → IsTestForm wanted with_null p (strict_of wanted with_null p)) }
+    ensures refusal { let M = ⟦<dyn StatsRewriteRule as StatsRewriteRule>⟧ in
+        let own = own_rules M rules.now.own.items in
+        IfErr result (IsRefusal
+        (falsifying_causes own (strict_of wanted with_null predicate.now))) }
+{
+    let test = normal_test(alloc, wanted, with_null, predicate)?;
+    if is_shallow(&test, levels) {
+        let form = strict(alloc, &test)?;
+        let proof = falsify(alloc, &form, rules)?;
+        Ok(proof)
+    } else {
+        Ok(None)
+    }
+}
+
+// The falsifier of a normal form, unless that is deeper.
+fn normal_falsifier(
+    alloc: Global,
+    levels: Option<u32>,
+    normal: &BoundExpression,
+    rules: &Rules,
+) -> Result<Option<BoundExpression>, StatsError>
+    requires { IsTrue (is_predicate normal.now) }
+    ensures value { let M = ⟦<dyn StatsRewriteRule as StatsRewriteRule>⟧ in
+        let own = own_rules M rules.now.own.items in
+        IfOk result (λ proof.
+        proof ≡ unless_deep levels normal.now (falsifier_of own normal.now)) }
+    ensures truth { IfOk result (λ proof. IfSome proof (λ e. IsTrue (is_predicate e))) }
+    ensures refusal { let M = ⟦<dyn StatsRewriteRule as StatsRewriteRule>⟧ in
+        let own = own_rules M rules.now.own.items in
+        IfErr result (IsRefusal (falsifying_causes own normal.now)) }
+{
+    if is_shallow(normal, levels) {
+        falsify(alloc, normal, rules)
+    } else {
+        Ok(None)
+    }
+}
+
+// The satisfier of a normal form, unless that is deeper.
+fn normal_satisfier(
+    alloc: Global,
+    levels: Option<u32>,
+    normal: &BoundExpression,
+    rules: &Rules,
+) -> Result<Option<BoundExpression>, StatsError>
+    requires { IsTrue (is_predicate normal.now) }
+    ensures value { let M = ⟦<dyn StatsRewriteRule as StatsRewriteRule>⟧ in
+        let own = own_rules M rules.now.own.items in
+        IfOk result (λ proof.
+        proof ≡ unless_deep levels normal.now (satisfier_of own normal.now)) }
+    ensures truth { IfOk result (λ proof. IfSome proof (λ e. IsTrue (is_predicate e))) }
+    ensures refusal { let M = ⟦<dyn StatsRewriteRule as StatsRewriteRule>⟧ in
+        let own = own_rules M rules.now.own.items in
+        IfErr result (IsRefusal (satisfying_causes own normal.now)) }
+{
+    if is_shallow(normal, levels) {
+        satisfy(alloc, normal, rules)
+    } else {
+        Ok(None)
+    }
+}
+
 // The proof that no row satisfies a predicate, whose normal form is given too.
 fn skip_proof(
     alloc: Global,
+    levels: Option<u32>,
     predicate: &BoundExpression,
     normal: &BoundExpression,
     rules: &Rules,
@@ -79,25 +176,26 @@ fn skip_proof(
     requires truth { IsTrue (is_predicate normal.now) }
     ensures value { let M = ⟦<dyn StatsRewriteRule as StatsRewriteRule>⟧ in
         let own = own_rules M rules.now.own.items in
-        IfOk result (λ proof. proof ≡ skip_proof_of own predicate.now) }
-    ensures form { IfOk result (λ _.
-        IsTestForm true false predicate.now (strict_of true false predicate.now)) }
+        IfOk result (λ proof. proof ≡ skip_proof_of own levels predicate.now) }
+    ensures form { let p = predicate.now in
+        IfOk result (λ _. IsTrue (is_within levels (test_of true false p))
+        → IsTestForm true false p (strict_of true false p)) }
     ensures truth { IfOk result (λ proof. IfSome proof (λ e. IsTrue (is_predicate e))) }
     ensures refusal { let M = ⟦<dyn StatsRewriteRule as StatsRewriteRule>⟧ in
         let own = own_rules M rules.now.own.items in
         IfErr result (IsRefusal (skip_causes own predicate.now)) }
 {
-    let strict = strict_test(alloc, true, false, predicate)?;
-    let by_strict = falsify(alloc, &strict, rules)?;
-    let by_normal = falsify(alloc, normal, rules)?;
+    let by_test = test_proof(alloc, levels, true, false, predicate, rules)?;
+    let by_normal = normal_falsifier(alloc, levels, normal, rules)?;
     let as_given = falsify(alloc, predicate, rules)?;
-    let by_forms = joint(alloc, by_normal, by_strict)?;
+    let by_forms = joint(alloc, by_normal, by_test)?;
     joint(alloc, as_given, by_forms)
 }
 
 // The proof that every row does.
 fn whole_proof(
     alloc: Global,
+    levels: Option<u32>,
     predicate: &BoundExpression,
     normal: &BoundExpression,
     rules: &Rules,
@@ -107,20 +205,49 @@ fn whole_proof(
     requires truth { IsTrue (is_predicate normal.now) }
     ensures value { let M = ⟦<dyn StatsRewriteRule as StatsRewriteRule>⟧ in
         let own = own_rules M rules.now.own.items in
-        IfOk result (λ proof. proof ≡ whole_proof_of own predicate.now) }
-    ensures form { IfOk result (λ _.
-        IsTestForm false true predicate.now (strict_of false true predicate.now)) }
+        IfOk result (λ proof. proof ≡ whole_proof_of own levels predicate.now) }
+    ensures form { let p = predicate.now in
+        IfOk result (λ _. IsTrue (is_within levels (test_of false true p))
+        → IsTestForm false true p (strict_of false true p)) }
     ensures truth { IfOk result (λ proof. IfSome proof (λ e. IsTrue (is_predicate e))) }
     ensures refusal { let M = ⟦<dyn StatsRewriteRule as StatsRewriteRule>⟧ in
         let own = own_rules M rules.now.own.items in
         IfErr result (IsRefusal (whole_causes own predicate.now)) }
 {
-    let untrue = strict_test(alloc, false, true, predicate)?;
-    let by_untrue = falsify(alloc, &untrue, rules)?;
-    let by_normal = satisfy(alloc, normal, rules)?;
+    let by_test = test_proof(alloc, levels, false, true, predicate, rules)?;
+    let by_normal = normal_satisfier(alloc, levels, normal, rules)?;
     let as_given = satisfy(alloc, predicate, rules)?;
-    let by_forms = joint(alloc, by_normal, by_untrue)?;
+    let by_forms = joint(alloc, by_normal, by_test)?;
     joint(alloc, as_given, by_forms)
+}
+
+// A predicate with the proofs of its forms that have no more than so many levels.
+fn made(
+    alloc: Global,
+    levels: Option<u32>,
+    predicate: &BoundExpression,
+    rules: &Rules,
+) -> Result<PruningPredicate, StatsError>
+    requires { IsTrue (is_plain predicate.now) }
+    ensures predicate { IfOk result (λ made. made.predicate ≡ predicate.now) }
+    ensures made { let M = ⟦<dyn StatsRewriteRule as StatsRewriteRule>⟧ in
+        IfOk result (IsMadeBy (own_rules M rules.now.own.items) levels) }
+    ensures not_predicate { is_predicate predicate.now ≡ false → result ≡ Err NotPredicate }
+    ensures memory { IsTrue (is_predicate predicate.now) → rules.now.own.items ≡ []
+        → IfErr result IsMemory }
+    ensures refusal { let M = ⟦<dyn StatsRewriteRule as StatsRewriteRule>⟧ in
+        let causes = making_causes (own_rules M rules.now.own.items) predicate.now in
+        IsTrue (is_predicate predicate.now) → IfErr result (IsRefusal causes) }
+{
+    let normal = normalize(alloc, predicate)?;
+    let falsifier = skip_proof(alloc, levels, predicate, &normal, rules)?;
+    let satisfier = whole_proof(alloc, levels, predicate, &normal, rules)?;
+    let predicate = cloned(predicate)?;
+    Ok(PruningPredicate {
+        predicate,
+        falsifier,
+        satisfier,
+    })
 }
 
 impl PruningPredicate {
@@ -140,7 +267,7 @@ impl PruningPredicate {
         ensures predicate { IfOk result (λ made. made.predicate ≡ predicate.now) }
         // Its proofs are those of the definitions, by these rules.
         ensures made { let M = ⟦<dyn StatsRewriteRule as StatsRewriteRule>⟧ in
-            IfOk result (IsMadeBy (own_rules M rules.now.own.items)) }
+            IfOk result (IsMadeBy (own_rules M rules.now.own.items) None) }
         ensures not_predicate { is_predicate predicate.now ≡ false → result ≡ Err NotPredicate }
         // By built-in rules a predicate is refused for memory alone.
         ensures memory { IsTrue (is_predicate predicate.now) → rules.now.own.items ≡ []
@@ -151,15 +278,30 @@ impl PruningPredicate {
             let causes = making_causes (own_rules M rules.now.own.items) predicate.now in
             IsTrue (is_predicate predicate.now) → IfErr result (IsRefusal causes) }
     {
-        let normal = normalize(alloc, predicate)?;
-        let falsifier = skip_proof(alloc, predicate, &normal, rules)?;
-        let satisfier = whole_proof(alloc, predicate, &normal, rules)?;
-        let predicate = cloned(predicate)?;
-        Ok(PruningPredicate {
-            predicate,
-            falsifier,
-            satisfier,
-        })
+        made(alloc, None, predicate, rules)
+    }
+
+    /// Makes them as `try_new` does, but for the normal forms that have more than so many levels:
+    /// for a caller whose stack is bounded. The predicate as it is takes part whatever its depth.
+    /// Refuses what `try_new` refuses.
+    pub fn try_new_within(
+        alloc: Global,
+        predicate: &BoundExpression,
+        rules: &Rules,
+        levels: u32,
+    ) -> Result<PruningPredicate, StatsError>
+        requires { IsTrue (is_plain predicate.now) }
+        ensures predicate { IfOk result (λ made. made.predicate ≡ predicate.now) }
+        ensures made { let M = ⟦<dyn StatsRewriteRule as StatsRewriteRule>⟧ in
+            IfOk result (IsMadeBy (own_rules M rules.now.own.items) (Some levels)) }
+        ensures not_predicate { is_predicate predicate.now ≡ false → result ≡ Err NotPredicate }
+        ensures memory { IsTrue (is_predicate predicate.now) → rules.now.own.items ≡ []
+            → IfErr result IsMemory }
+        ensures refusal { let M = ⟦<dyn StatsRewriteRule as StatsRewriteRule>⟧ in
+            let causes = making_causes (own_rules M rules.now.own.items) predicate.now in
+            IsTrue (is_predicate predicate.now) → IfErr result (IsRefusal causes) }
+    {
+        made(alloc, Some(levels), predicate, rules)
     }
 
     /// The predicate as it was given.
@@ -193,35 +335,43 @@ impl PruningPredicate {
             (whole_places vs.items)) }
         // Each zone is skipped that `prune` skips by the same rules.
         ensures no_fewer_skipped { IfOk result (λ vs. (zones : List ZoneData) (own : List OwnRule)
-            → IsMapOf zones map.now → IsMadeBy own self.now
+            (levels : Option ℕ) → IsMapOf zones map.now → IsMadeBy own levels self.now
             → SkipsNoFewer own self.now.predicate map.now.scope zones (skipped_places vs.items)) }
         // And each is whole or skipped that `prune` finds whole.
         ensures no_fewer_whole { IfOk result (λ vs. (zones : List ZoneData) (own : List OwnRule)
-            → IsMapOf zones map.now → IsMadeBy own self.now
+            (levels : Option ℕ) → IsMapOf zones map.now → IsMadeBy own levels self.now
             → FindsNoFewerWhole own self.now.predicate map.now.scope zones
             (skipped_places vs.items) (whole_places vs.items)) }
-        // By built-in rules, where the ANDs of the normal form are apart, a zone is skipped if no
-        // values within its bounds satisfy the normal form.
+        // By built-in rules, where the ANDs of the normal form are apart and it isn't left out for
+        // its depth, a zone is skipped if no values within its bounds satisfy the normal form.
         ensures complete { IfOk result (λ vs. (zones : List ZoneData) → IsMapOf zones map.now
-            → IsMadeBy [] self.now → IsTrue (is_apart (normal_of self.now.predicate))
+            → (levels : Option ℕ) → IsMadeBy [] levels self.now
+            → IsTrue (is_within levels (normal_of self.now.predicate))
+            → IsTrue (is_apart (normal_of self.now.predicate))
             → SkipsUnsatisfiable (normal_of self.now.predicate) zones (skipped_places vs.items)) }
         // And if none satisfy the predicate as it was given.
         ensures as_given { IfOk result (λ vs. (zones : List ZoneData) → IsMapOf zones map.now
-            → IsMadeBy [] self.now → IsTrue (is_apart (normal_of self.now.predicate))
+            → (levels : Option ℕ) → IsMadeBy [] levels self.now
+            → IsTrue (is_within levels (normal_of self.now.predicate))
+            → IsTrue (is_apart (normal_of self.now.predicate))
             → SkipsUnsatisfiable self.now.predicate zones (skipped_places vs.items)) }
         // That is so of every predicate over one column that neither null satisfies nor every
         // value; of texts, bytes and truths where it comes to no range that is open at both ends.
         ensures one_column { IfOk result (λ vs. (zones : List ZoneData) → IsMapOf zones map.now
-            → IsMadeBy [] self.now → (c : Place) → IsTrue (is_over c self.now.predicate)
+            → (levels : Option ℕ) → IsMadeBy [] levels self.now
+            → IsTrue (is_within levels (normal_of self.now.predicate))
+            → (c : Place) → IsTrue (is_over c self.now.predicate)
             → IsTrue (are_ends_seen c self.now.predicate) → IsSelective c self.now.predicate
             → SkipsUnsatisfiable self.now.predicate zones (skipped_places vs.items)) }
         // And of every joining of such predicates over different columns.
         ensures joining { IfOk result (λ vs. (zones : List ZoneData) → IsMapOf zones map.now
-            → IsMadeBy [] self.now → IsJoining true self.now.predicate
+            → (levels : Option ℕ) → IsMadeBy [] levels self.now
+            → IsTrue (is_within levels (normal_of self.now.predicate))
+            → IsJoining true self.now.predicate
             → SkipsUnsatisfiable self.now.predicate zones (skipped_places vs.items)) }
         // By built-in rules memory alone is refused.
         ensures memory { IfErr result (λ e. (zones : List ZoneData) → IsMapOf zones map.now
-            → IsMadeBy [] self.now → IsMemory e) }
+            → (levels : Option ℕ) → IsMadeBy [] levels self.now → IsMemory e) }
         // A refusal other than for memory has its cause: a proof that a user's rule left open.
         ensures refusal { IfErr result (λ e. (zones : List ZoneData) → IsMapOf zones map.now
             → IsRefusal (either_causes (open_causes self.now.falsifier map.now.rows)

@@ -53,7 +53,7 @@ pub returns-clause-no_fewer_skipped : goal.returns-clause-no_fewer_skipped
 returns-clause-no_fewer_skipped c =
     let x = c.args.self.now in
     let m = c.args.map.now in
-    of_two c.prune_by.result _ _ _ (λ vs told shut zones own of made. no_fewer_skipped x.falsifier x.satisfier m.scope zones vs.items (told zones of) m of shut own x.predicate made.falsifier)
+    of_two c.prune_by.result _ _ _ (λ vs told shut zones own levels of made. no_fewer_skipped x.falsifier x.satisfier m.scope zones vs.items (told zones of) m of shut own levels x.predicate made.falsifier)
     (returns-clause-verdicts c) (closed c)
 
 pub returns-clause-no_fewer_whole : goal.returns-clause-no_fewer_whole
@@ -61,7 +61,7 @@ returns-clause-no_fewer_whole c =
     let x = c.args.self.now in
     let m = c.args.map.now in
     of_three c.prune_by.result _ _ _ _
-    (λ vs told shut also zones own of made. no_fewer_whole x.falsifier x.satisfier m.scope zones vs.items (told zones of) m of shut own x.predicate made.falsifier made.satisfier also)
+    (λ vs told shut also zones own levels of made. no_fewer_whole x.falsifier x.satisfier m.scope zones vs.items (told zones of) m of shut own levels x.predicate made.falsifier made.satisfier also)
     (returns-clause-verdicts c) (closed c) (kept_closed c)
 
 pub returns-clause-complete : goal.returns-clause-complete
@@ -70,8 +70,8 @@ returns-clause-complete c =
     let m = c.args.map.now in
     let r = right c in
     of_two c.prune_by.result _ _ _
-    (λ vs told shut zones of made apart.
-    normal_complete x.falsifier x.satisfier m.scope zones vs.items (told zones of) m of shut x.predicate made.falsifier c.requires r.plain r.form of.are_zones apart)
+    (λ vs told shut zones of levels made within apart.
+    normal_complete x.falsifier x.satisfier m.scope zones vs.items (told zones of) m of shut levels x.predicate made.falsifier within c.requires r.plain r.form of.are_zones apart)
     (returns-clause-verdicts c) (closed c)
 
 pub returns-clause-as_given : goal.returns-clause-as_given
@@ -80,26 +80,26 @@ returns-clause-as_given c =
     let m = c.args.map.now in
     let r = right c in
     of_two c.prune_by.result _ _ _
-    (λ vs told shut zones of made apart.
-    given_complete x.falsifier x.satisfier m.scope zones vs.items (told zones of) m of shut x.predicate made.falsifier c.requires r.plain r.form of.are_zones apart)
+    (λ vs told shut zones of levels made within apart.
+    given_complete x.falsifier x.satisfier m.scope zones vs.items (told zones of) m of shut levels x.predicate made.falsifier within c.requires r.plain r.form of.are_zones apart)
     (returns-clause-verdicts c) (closed c)
 
 pub returns-clause-one_column : goal.returns-clause-one_column
 returns-clause-one_column c =
     let r = right c in
     IfOk-weaker c.prune_by.result _ _
-    (λ vs found zones of made place over seen selective. found zones of made (one_column_is_apart place c.args.self.now.predicate r.predicate over seen selective)) (returns-clause-as_given c)
+    (λ vs found zones of levels made within place over seen selective. found zones of levels made within (one_column_is_apart place c.args.self.now.predicate r.predicate over seen selective)) (returns-clause-as_given c)
 
 pub returns-clause-joining : goal.returns-clause-joining
 returns-clause-joining c =
     let r = right c in
-    IfOk-weaker c.prune_by.result _ _ (λ vs found zones of made joining. found zones of made (joinings_are_apart c.args.self.now.predicate r.predicate r.plain joining)) (returns-clause-as_given c)
+    IfOk-weaker c.prune_by.result _ _ (λ vs found zones of levels made within joining. found zones of levels made within (joinings_are_apart c.args.self.now.predicate r.predicate r.plain joining)) (returns-clause-as_given c)
 
 pub returns-clause-memory : goal.returns-clause-memory
 returns-clause-memory c =
     let x = c.args.self.now in
     let m = c.args.map.now in
     IfErr-weaker c.prune_by.result _ _
-    (λ e refused zones of made.
-    memory_left x.falsifier x.satisfier m.rows (kept_zones x.falsifier m.scope zones) e (ap is_open made.falsifier ∙ skip_closed x.predicate) (ap is_open made.satisfier ∙ whole_closed x.predicate) (refused zones of))
+    (λ e refused zones of levels made.
+    memory_left x.falsifier x.satisfier m.rows (kept_zones x.falsifier m.scope zones) e (ap is_open made.falsifier ∙ skip_closed levels x.predicate) (ap is_open made.satisfier ∙ whole_closed levels x.predicate) (refused zones of))
     (returns-clause-refusal c)

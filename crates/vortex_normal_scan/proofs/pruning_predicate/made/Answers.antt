@@ -9,7 +9,7 @@ use Rattle.vortex_normal_scan.specs.Pruning.{Falsifies, HasRowsOf, IsRight, Sati
 use Rattle.vortex_rewrite.proofs.Rewriting.CauseLemmas.{either-right}
 use Rattle.vortex_rewrite.specs.Rewriting.Own.{own_rules}
 use Rattle.vortex_rewrite.specs.Rewriting.Predicates.{is_predicate}
-use Rattle.vortex_normal_scan.proofs.pruning_predicate.PruningPredicate.try_new.Goals as goal
+use Rattle.vortex_normal_scan.proofs.pruning_predicate.made.Goals as goal
 
 pub invariant_of-result : goal.invariant_of-result
 invariant_of-result g c =
@@ -22,8 +22,8 @@ invariant_of-result g c =
       predicate = true_from_ne_false (is_predicate p) (λ no. let k = h.not_predicate no in cc);
       plain = c.requires;
       form = form;
-      falsifies = subst (λ (o : Option (Tree Place)). Falsifies o p) (sym c.in_ok-falsifier.ensures.value) (skip_right own p c.requires form c.in_ok-falsifier.ensures.form);
-      satisfies = subst (λ (o : Option (Tree Place)). Satisfies o p) (sym c.in_ok-satisfier.ensures.value) (whole_right own p c.requires form c.in_ok-satisfier.ensures.form);
+      falsifies = subst (λ (o : Option (Tree Place)). Falsifies o p) (sym c.in_ok-falsifier.ensures.value) (skip_right own c.args.levels p c.requires form c.in_ok-falsifier.ensures.form);
+      satisfies = subst (λ (o : Option (Tree Place)). Satisfies o p) (sym c.in_ok-satisfier.ensures.value) (whole_right own c.args.levels p c.requires form c.in_ok-satisfier.ensures.form);
     })
 
 pub returns-in_err-satisfier-clause-refusal : goal.returns-in_err-satisfier-clause-refusal

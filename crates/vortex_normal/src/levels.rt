@@ -7,7 +7,7 @@ use vortex_expr::bound_expression::parts::Parts;
 
 /// Returns whether an expression has no more than so many levels, which bounds how deep the calls
 /// nest.
-pub(crate) fn is_within(e: &BoundExpression, levels: u32) -> bool
+pub fn is_within(e: &BoundExpression, levels: u32) -> bool
     ensures { result ≡ nat_le (depth e.now) levels }
 {
     match e.parts() {
