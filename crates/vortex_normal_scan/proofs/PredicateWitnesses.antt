@@ -18,7 +18,7 @@ use Rattle.vortex_normal.specs.Strict.{strict_test}
 use Rattle.vortex_normal.specs.Tested.{IsTestOf, passes}
 use Rattle.vortex_normal_scan.proofs.RightProofs.{skip_right, whole_right}
 use Rattle.vortex_normal_scan.proofs.Witnesses.{place_a}
-use Rattle.vortex_normal_scan.specs.Pruning.{FindsNoFewerWhole, HasRowsOf, IsMadeBy, IsRight, IsTestForm, Pruning, SkipsNoFewer, SkipsUnsatisfiable, making_causes, skip_proof, skipped_places, whole_places, whole_proof}
+use Rattle.vortex_normal_scan.specs.Pruning.{FindsNoFewerWhole, HasRowsOf, IsMadeBy, IsRight, IsTestForm, Pruning, SkipsNoFewer, SkipsUnsatisfiable, is_within, making_causes, skip_proof, skipped_places, whole_places, whole_proof}
 use Rattle.vortex_prune.proofs.Scanning.Boxes.{skipping_is_complete}
 use Rattle.vortex_prune.proofs.WorkedRows.ShutRows.{neither}
 use Rattle.vortex_prune.proofs.WorkedRows.Witnesses.Parts.{IsWitness, a, above_ten, high, high_is_in_its_zone, high_is_true, i64_type, is_map, low, num, scope, their_map, zones}
@@ -45,9 +45,9 @@ use mathlib.Core.Bool.{true≢false}
 -- ---- a predicate with its proofs by the built-in rules
 
 abbrev made : Pruning
-made = record { predicate = above_ten; falsifier = skip_proof [] above_ten; satisfier = whole_proof [] above_ten }
+made = record { predicate = above_ten; falsifier = skip_proof [] None above_ten; satisfier = whole_proof [] None above_ten }
 
-is_made : IsMadeBy [] made
+is_made : IsMadeBy [] None made
 is_made = record { falsifier = refl; satisfier = refl }
 
 -- ---- its proofs are right: its other forms are satisfied by the same rows
@@ -108,8 +108,8 @@ is_right = record {
   predicate = refl;
   plain = refl;
   form = same_form;
-  falsifies = skip_right [] above_ten refl same_form true_form;
-  satisfies = whole_right [] above_ten refl same_form untrue_form;
+  falsifies = skip_right [] None above_ten refl same_form (λ _. true_form);
+  satisfies = whole_right [] None above_ten refl same_form (λ _. untrue_form);
 }
 
 selective : IsSelective place_a above_ten
@@ -190,7 +190,7 @@ low_is_not_there : SkipsNoFewer [] above_ten scope zones (skipped_places left_ou
 unfolding node reduce_balanced
 low_is_not_there h = none_there 0 (h 0 (zone_of low) refl (0, omega arith, refl))
 
-prune_no_fewer_skipped : IsWitness (IsCall made their_map × IsMapOf zones their_map × IsMadeBy [] made)
+prune_no_fewer_skipped : IsWitness (IsCall made their_map × IsMapOf zones their_map × IsMadeBy [] None made)
     (λ (vs : List Verdict). SkipsNoFewer [] made.predicate their_map.scope zones (skipped_places vs)) left_out
 prune_no_fewer_skipped = record { met = (called, is_map, is_made); refuted = low_is_not_there }
 
@@ -206,30 +206,30 @@ high_is_not_there : FindsNoFewerWhole [] above_ten scope zones first_place [] �
 unfolding node reduce_balanced
 high_is_not_there h = neither not_the_third (none_there 2) (h 2 (zone_of high) refl (0, omega arith, refl))
 
-prune_no_fewer_whole : IsWitness (IsCall made their_map × IsMapOf zones their_map × IsMadeBy [] made)
+prune_no_fewer_whole : IsWitness (IsCall made their_map × IsMapOf zones their_map × IsMadeBy [] None made)
     (λ (vs : List Verdict). FindsNoFewerWhole [] made.predicate their_map.scope zones (skipped_places vs) (whole_places vs)) (Skipped ∷ Tested ∷ Tested ∷ [])
 prune_no_fewer_whole = record { met = (called, is_map, is_made); refuted = high_is_not_there }
 
-prune_complete : IsWitness (IsCall made their_map × IsMapOf zones their_map × IsMadeBy [] made × IsTrue (is_apart (normal made.predicate)))
+prune_complete : IsWitness (IsCall made their_map × IsMapOf zones their_map × IsMadeBy [] None made × IsTrue (is_within None (normal made.predicate)) × IsTrue (is_apart (normal made.predicate)))
     (λ (vs : List Verdict). SkipsUnsatisfiable (normal made.predicate) zones (skipped_places vs)) left_out
 unfolding all_of comparison comparison_of folded settled
-prune_complete = record { met = (called, is_map, is_made, refl); refuted = low_is_left_out_by_normal }
+prune_complete = record { met = (called, is_map, is_made, refl, refl); refuted = low_is_left_out_by_normal }
 
-prune_as_given : IsWitness (IsCall made their_map × IsMapOf zones their_map × IsMadeBy [] made × IsTrue (is_apart (normal made.predicate)))
+prune_as_given : IsWitness (IsCall made their_map × IsMapOf zones their_map × IsMadeBy [] None made × IsTrue (is_within None (normal made.predicate)) × IsTrue (is_apart (normal made.predicate)))
     (λ (vs : List Verdict). SkipsUnsatisfiable made.predicate zones (skipped_places vs)) left_out
 unfolding all_of comparison comparison_of folded settled
-prune_as_given = record { met = (called, is_map, is_made, refl); refuted = low_is_left_out }
+prune_as_given = record { met = (called, is_map, is_made, refl, refl); refuted = low_is_left_out }
 
 prune_one_column : IsWitness
-    (IsCall made their_map × IsMapOf zones their_map × IsMadeBy [] made × IsTrue (is_over place_a made.predicate) × IsTrue (are_ends_seen place_a made.predicate) × IsSelective place_a made.predicate)
+    (IsCall made their_map × IsMapOf zones their_map × IsMadeBy [] None made × IsTrue (is_within None (normal made.predicate)) × IsTrue (is_over place_a made.predicate) × IsTrue (are_ends_seen place_a made.predicate) × IsSelective place_a made.predicate)
     (λ (vs : List Verdict). SkipsUnsatisfiable made.predicate zones (skipped_places vs)) left_out
-prune_one_column = record { met = (called, is_map, is_made, refl, refl, selective); refuted = low_is_left_out }
+prune_one_column = record { met = (called, is_map, is_made, refl, refl, refl, selective); refuted = low_is_left_out }
 
-prune_joining : IsWitness (IsCall made their_map × IsMapOf zones their_map × IsMadeBy [] made × IsJoining true made.predicate)
+prune_joining : IsWitness (IsCall made their_map × IsMapOf zones their_map × IsMadeBy [] None made × IsTrue (is_within None (normal made.predicate)) × IsJoining true made.predicate)
     (λ (vs : List Verdict). SkipsUnsatisfiable made.predicate zones (skipped_places vs)) left_out
-prune_joining = record { met = (called, is_map, is_made, joining); refuted = low_is_left_out }
+prune_joining = record { met = (called, is_map, is_made, refl, joining); refuted = low_is_left_out }
 
-prune_memory : IsWitness (IsCall made their_map × IsMapOf zones their_map × IsMadeBy [] made) (λ (e : StatsError). IsMemory e) OpenProof
+prune_memory : IsWitness (IsCall made their_map × IsMapOf zones their_map × IsMadeBy [] None made) (λ (e : StatsError). IsMemory e) OpenProof
 prune_memory = record { met = (called, is_map, is_made); refuted = open_is_not_memory }
 
 prune_refusal : IsWitness (IsCall made their_map × IsMapOf zones their_map)
@@ -263,3 +263,14 @@ try_new_refusal = record {
       (λ f. neither (none_names (visited not_above)) (λ g. neither (none_names (visited (normal not_above))) (none_names (visited (strict_test true false not_above))) g) f)
       (λ s. neither (none_names (visited not_above)) (λ t. neither (none_names (visited (normal not_above))) (none_names (visited (strict_test false true not_above))) t) s) h;
 }
+
+-- ---- making it of forms that have no more than so many levels: its premises are the same
+
+try_new_within_not_predicate : IsWitness (IsTrue (is_plain a) × (is_predicate a ≡ false)) (λ (answer : Result Pruning StatsError). answer ≡ Err NotPredicate) (Ok made)
+try_new_within_not_predicate = try_new_not_predicate
+
+try_new_within_memory : IsWitness (IsTrue (is_plain above_ten) × IsTrue (is_predicate above_ten) × (built_in ≡ [])) (λ (e : StatsError). IsMemory e) OpenProof
+try_new_within_memory = try_new_memory
+
+try_new_within_refusal : IsWitness (IsTrue (is_plain not_above) × IsTrue (is_predicate not_above)) (λ (e : StatsError). IsRefusal (making_causes own_rules not_above) e) (Rule (Own 3))
+try_new_within_refusal = try_new_refusal
