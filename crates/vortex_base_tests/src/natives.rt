@@ -346,7 +346,10 @@ fn value_and_null<T: Native>(alloc: Global, dtype: DType, value: T) -> Result<Co
 
 // The same column, made of slices.
 fn of_slices<T: Native>(alloc: Global, dtype: DType, value: T) -> Result<Column, BaseError> {
-    let natives = Natives::from_slices(alloc, &[value, value], &[true, false])?;
+    let mut values = Vec::new(alloc);
+    values.push(value)?;
+    values.push(value)?;
+    let natives = Natives::from_slices(alloc, &values, &[true, false])?;
     Column::of_cells(dtype, T::into_cells(natives), 0)
 }
 
