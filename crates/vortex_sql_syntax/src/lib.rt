@@ -1,0 +1,19 @@
+//! Reads the text of a condition in SQL as a tree.
+//!
+//! The precedence is PostgreSQL's. An expression that is neither a column nor a literal is kept as
+//! a leaf by its place in the text, and what would end elsewhere in SQL is refused.
+#![tactic(auto)]
+
+mod chain;
+mod cursor;
+pub mod error;
+mod frame;
+mod keyword;
+mod literal;
+mod operand;
+pub mod parse;
+mod part;
+mod predicate;
+mod spans;
+mod token;
+pub mod tree;
