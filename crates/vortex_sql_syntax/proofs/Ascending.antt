@@ -1,5 +1,5 @@
 -- Leaves that ascend, put together.
-use Rattle.std.proofs.Common.{ℕ, ◌≤◌, ◌<◌, List, [], ◌∷◌, ◌++◌, arith}
+use Rattle.std.proofs.Common.{ℕ, ◌≤◌, List, [], ◌∷◌, ◌++◌, arith}
 use Rattle.vortex_sql_syntax.specs.declared.tree.Leaf.{Leaf}
 use Rattle.vortex_sql_syntax.specs.Places.{Ascends}
 

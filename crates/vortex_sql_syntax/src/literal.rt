@@ -64,54 +64,51 @@ pub(crate) fn blob_of(alloc: Global, digits: &[u8], at: usize) -> Result<Bytes, 
     Ok(Bytes::new(bytes))
 }
 
-// Returns the number of the digits with the point left out, and how many stand behind the point.
-fn scaled(digits: &[u8]) -> Option<(i128, u32)> {
+// Returns the whole number of decimal digits, if 127 bits hold it.
+fn whole(digits: &[u8]) -> Option<i128> {
     let mut number: i128 = 0;
-    let mut scale: u32 = 0;
-    let mut is_behind = false;
     for digit in digits {
-        if *digit == b'.' {
-            is_behind = true;
-        } else if digit.is_ascii_digit() {
-            number = number
-                .checked_mul(10)?
-                .checked_add(i128::from(digit - b'0'))?;
-            if is_behind {
-                scale = scale.checked_add(1)?;
-            }
-        } else {
+        if !digit.is_ascii_digit() {
             return None;
         }
+        number = number
+            .checked_mul(10)?
+            .checked_add(i128::from(digit - b'0'))?;
     }
-    Some((number, scale))
+    Some(number)
 }
 
-/// Returns the whole number of decimal digits, if 127 bits hold it.
+/// Returns the whole number of decimal digits. One of more than 127 bits isn't read.
 pub(crate) fn integer_of(digits: &[u8]) -> Operand {
-    match scaled(digits) {
-        Some((number, _)) => Operand::Integer(number),
+    match whole(digits) {
+        Some(number) => Operand::Integer(number),
         None => Operand::Other,
     }
 }
 
 /// Returns the number of decimal digits with a point. One with an exponent isn't read.
 pub(crate) fn decimal_of(digits: &[u8]) -> Operand {
-    match scaled(digits) {
-        Some((number, scale)) => Operand::Decimal(number, scale),
+    let point = digits.iter().position(|byte| *byte == b'.').unwrap_or(0);
+    let behind = between(digits, point.saturating_add(1), digits.len());
+    if !behind.iter().all(|byte| byte.is_ascii_digit()) {
+        return Operand::Other;
+    }
+    match whole(between(digits, 0, point)) {
+        Some(number) if behind.iter().all(|byte| *byte == b'0') => Operand::Integer(number),
+        Some(number) => Operand::Fraction(number),
         None => Operand::Other,
     }
 }
 
 /// Returns an operand with a minus in front of it, of which only a literal number is read.
 pub(crate) fn negative(operand: Operand) -> Operand {
-    let read = match operand {
-        Operand::Integer(number) => (number.checked_neg(), None),
-        Operand::Decimal(number, scale) => (number.checked_neg(), Some(scale)),
-        _ => (None, None),
-    };
-    match read {
-        (Some(number), None) => Operand::Integer(number),
-        (Some(number), Some(scale)) => Operand::Decimal(number, scale),
+    match operand {
+        Operand::Integer(number) => match number.checked_neg() {
+            Some(number) => Operand::Integer(number),
+            None => Operand::Other,
+        },
+        // The whole number below -(n + f) is -n - 1, which takes no more bits than n.
+        Operand::Fraction(number) => Operand::Fraction(!number),
         _ => Operand::Other,
     }
 }

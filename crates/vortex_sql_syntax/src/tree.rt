@@ -32,8 +32,8 @@ pub enum Operand {
     Null,
     Truth(bool),
     Integer(i128),
-    /// A number with a decimal point: its digits as one number, and how many stand behind the point.
-    Decimal(i128, u32),
+    /// A number that isn't whole, by the greatest whole number below it.
+    Fraction(i128),
     Text(Text),
     Binary(Bytes),
     /// Any other expression.
