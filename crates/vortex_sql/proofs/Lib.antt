@@ -1,0 +1,10 @@
+pub mod Cells
+pub mod Compared
+pub mod Made
+pub mod Members
+pub mod Pairs
+pub mod Refusing
+pub mod Refuting
+pub mod Saying
+pub mod Widened
+pub mod WorkedRows

@@ -1,0 +1,11 @@
+use Rattle.vortex_sql.proofs.WorkedRows.{orders, other_readings, patterns, readings, truths}
+use Rattle.vortex_sql.proofs.laws.examples_hold.Goals as goal
+
+pub returns : goal.returns
+returns c = record {
+  readings = readings;
+  others = other_readings;
+  orders = orders;
+  patterns = patterns;
+  truths = truths;
+}

@@ -1,0 +1,134 @@
+-- How a condition of SQL is said by an expression over a scope, and what it means if each leaf that isn't read has a truth of its own.
+use Rattle.std.specs.Prelude.{◌≡◌, ℕ, ◌+◌, ◌++◌, Bool, true, false, ◌||◌, not as not_b, Option, Some, None, List, [], ◌∷◌, Result, Ok, Err, if◌then◌else◌, IsTrue, is_none, length, map}
+use lib.Pointwise.{pointwise}
+use Rattle.vortex_base.specs.declared.dtype.DType.{DType}
+use Rattle.vortex_base.specs.declared.error.BaseError.{BaseError}
+use Rattle.vortex_base.specs.Data.Scalars.{Constant, is_optional_value}
+use Rattle.vortex_base.specs.Data.Scopes.{Named}
+use Rattle.vortex_expr.specs.declared.scalar_fn.Operator.TheVariants as operator
+use Rattle.vortex_expr.specs.Meanings.Meaning.{both, either, opposite, truth_value, meaning}
+use Rattle.vortex_expr.specs.Meanings.Typing.{is_bool, type_of}
+use Rattle.vortex_expr.specs.Trees.Tree.{Tree, Place, column, binary, is_null, is_not_null, not}
+use Rattle.vortex_sql_syntax.specs.declared.tree.Leaf.{Leaf}
+use Rattle.vortex_sql_syntax.specs.declared.tree.Condition.{Condition}
+use Rattle.vortex_sql_syntax.specs.declared.tree.Condition.TheVariants.{Leaf as Leaf', Not', And', Or', IsNull', IsTrue', IsFalse'}
+use Rattle.vortex_sql.specs.Sql.{test_truth}
+use Rattle.vortex_sql.specs.Readings.{Reading, reading, bool_or_null, truth_literal}
+
+abbrev pub span_of : Leaf → ℕ × ℕ
+span_of l = (l.start, l.end)
+
+-- ---- the leaves
+
+-- the leaves of a condition that aren't read, in their order
+abbrev pub opaque_if : Reading → Leaf → List Leaf
+opaque_if (Ok (Some t)) l = []
+opaque_if (Ok None) l = l ∷ []
+opaque_if (Err e) l = l ∷ []
+
+abbrev pub opaques : List Named → Condition → List Leaf
+opaques scope (Leaf' l) = opaque_if (reading scope l.test) l
+opaques scope (Not' p x) = opaques scope x
+opaques scope (And' p x q y) = opaques scope x ++ opaques scope y
+opaques scope (Or' p x q y) = opaques scope x ++ opaques scope y
+opaques scope (IsNull' p x) = opaques scope x
+opaques scope (IsTrue' p x) = opaques scope x
+opaques scope (IsFalse' p x) = opaques scope x
+
+-- ---- the expression
+
+-- a leaf that isn't read is a column of its own
+abbrev pub opaque_tree : ℕ → Tree Place
+opaque_tree k = column (record { index = k; dtype = bool_or_null })
+
+abbrev pub leaf_tree : ℕ → Reading → Tree Place
+leaf_tree k (Ok (Some t)) = t
+leaf_tree k (Ok None) = opaque_tree k
+leaf_tree k (Err f) = opaque_tree k
+
+abbrev pub and_tree : Tree Place → Tree Place → Tree Place
+and_tree s t = binary operator.And s t
+
+abbrev pub or_tree : Tree Place → Tree Place → Tree Place
+or_tree s t = binary operator.Or s t
+
+-- the condition has IS TRUE or IS FALSE in it
+abbrev pub has_truth_test : Condition → Bool
+has_truth_test (Leaf' l) = false
+has_truth_test (Not' p x) = has_truth_test x
+has_truth_test (And' p x q y) = has_truth_test x || has_truth_test y
+has_truth_test (Or' p x q y) = has_truth_test x || has_truth_test y
+has_truth_test (IsNull' p x) = has_truth_test x
+has_truth_test (IsTrue' p x) = true
+has_truth_test (IsFalse' p x) = true
+
+-- a truth and that it is known: a part that is skipped by the truth is skipped by this. The form with the truth once keeps nested ones from growing
+abbrev pub is_true_tree : (once : Bool) → Tree Place → Tree Place
+is_true_tree true e = is_not_null (or_tree e (truth_literal None))
+is_true_tree false e = and_tree e (is_not_null e)
+
+abbrev pub is_false_tree : (once : Bool) → Tree Place → Tree Place
+is_false_tree true e = is_not_null (and_tree e (truth_literal None))
+is_false_tree false e = and_tree (not e) (is_not_null e)
+
+-- the expression of a condition whose first leaf that isn't read is the column k
+abbrev pub lowered : List Named → ℕ → Condition → Tree Place
+lowered scope k (Leaf' l) = leaf_tree k (reading scope l.test)
+lowered scope k (Not' p x) = not (lowered scope k x)
+lowered scope k (And' p x q y) = and_tree (lowered scope k x) (lowered scope (k + length (opaques scope x)) y)
+lowered scope k (Or' p x q y) = or_tree (lowered scope k x) (lowered scope (k + length (opaques scope x)) y)
+lowered scope k (IsNull' p x) = is_null (lowered scope k x)
+lowered scope k (IsTrue' p x) = is_true_tree (has_truth_test x) (lowered scope k x)
+lowered scope k (IsFalse' p x) = is_false_tree (has_truth_test x) (lowered scope k x)
+
+-- ---- the meaning of a condition, where a leaf that isn't read has the truth that f tells
+
+abbrev pub leaf_truth : Reading → Option Bool → Option Bool → Option Bool
+leaf_truth (Ok (Some t)) read told = read
+leaf_truth (Ok None) read told = told
+leaf_truth (Err f) read told = told
+
+abbrev pub is_known_as : Bool → Option Bool → Bool
+is_known_as b None = false
+is_known_as true (Some a) = a
+is_known_as false (Some a) = not_b a
+
+abbrev pub truth_on : List Named → List Constant → (Leaf → Option Bool) → Condition → Option Bool
+truth_on scope row f (Leaf' l) = leaf_truth (reading scope l.test) (test_truth scope row l.test) (f l)
+truth_on scope row f (Not' p x) = opposite (truth_on scope row f x)
+truth_on scope row f (And' p x q y) = both (truth_on scope row f x) (truth_on scope row f y)
+truth_on scope row f (Or' p x q y) = either (truth_on scope row f x) (truth_on scope row f y)
+truth_on scope row f (IsNull' p x) = Some (is_none (truth_on scope row f x))
+truth_on scope row f (IsTrue' p x) = Some (is_known_as true (truth_on scope row f x))
+truth_on scope row f (IsFalse' p x) = Some (is_known_as false (truth_on scope row f x))
+
+-- ---- types
+
+abbrev pub types_of : List Named → List DType
+types_of cs = map (λ c. c.1) cs
+
+abbrev pub is_bool_type : Result DType BaseError → Bool
+is_bool_type (Ok t) = is_bool t
+is_bool_type (Err f) = false
+
+abbrev pub is_of_bool : Tree Place → Bool
+is_of_bool e = is_bool_type (type_of e)
+
+-- ---- the theorem
+
+-- each value of the row may stand under the type of its column
+abbrev pub IsRowOf : List Named → List Constant → Type 0
+IsRowOf scope row = IsTrue (pointwise (λ s c. is_optional_value c.value s.1) scope row)
+
+abbrev pub told_cell : Option Bool → Constant
+told_cell b = record { dtype = bool_or_null; value = truth_value b }
+
+-- the row with what is told of the leaves that aren't read
+abbrev pub with_told : List Constant → (Leaf → Option Bool) → List Leaf → List Constant
+with_told row f leaves = row ++ map (λ l. told_cell (f l)) leaves
+
+-- on each row of the scope, whatever is told of the leaves that aren't read, the expression means on the row with that what the condition means
+abbrev pub Says : List Named → Condition → Tree Place → Type 0
+Says scope c e =
+    (row : List Constant) (f : Leaf → Option Bool) (n : ℕ) → IsRowOf scope row
+    → meaning e (with_told row f (opaques scope c)) n ≡ truth_value (truth_on scope row f c)

@@ -1,0 +1,158 @@
+//! The text of a condition as a predicate over a scope that has a column for each leaf that isn't
+//! read.
+ghost use Rattle.std.specs.Prelude.{◌≡◌, ◌++◌, [], List, IfOk, IsTrue, length, map};
+ghost use Rattle.vortex_base.specs.Data.Scopes.{Named, named_columns};
+ghost use Rattle.vortex_expr.specs.Meanings.Fitting.{fits_scope};
+ghost use Rattle.vortex_expr.specs.Trees.Tree.{is_plain};
+ghost use Rattle.vortex_sql.specs.Lowering as spec;
+ghost use Rattle.vortex_sql.specs.Readings.{bool_or_null};
+ghost use Rattle.vortex_sql.specs.Refusals.{misfits};
+ghost use Rattle.vortex_sql_syntax.specs.Places.{Ascends, leaves};
+
+use crate::error::SqlError;
+use crate::lower::{Said, lower};
+use std::alloc::Global;
+use vortex_base::dtype::DType;
+use vortex_base::error::BaseError;
+use vortex_base::scope::Scope;
+use vortex_base::types::Nullability;
+use vortex_expr::bound_expression::BoundExpression;
+use vortex_sql_syntax::parse::{Names, parse};
+use vortex_sql_syntax::tree::Condition;
+
+/// A condition of SQL over the columns of a scope.
+#[derive(Drop)]
+pub struct Predicate {
+    /// What the text says.
+    pub condition: Condition,
+    /// The same as an expression over `scope`.
+    pub predicate: BoundExpression,
+    /// The scope with a nullable column of type Bool behind it for each leaf that isn't read, which
+    /// has the place and the text of the leaf for a name. Nothing has to be known of these columns.
+    pub scope: Scope,
+    /// The bytes of the text at which each of these leaves begins and ends.
+    pub opaque: Vec<(usize, usize)>,
+}
+
+impl From<BaseError> for SqlError {
+    fn from(e: BaseError) -> SqlError {
+        match e {
+            BaseError::Memory(_) => SqlError::Memory,
+            _ => SqlError::Name,
+        }
+    }
+}
+
+fn columns_of(alloc: Global, scope: &Scope) -> Result<Vec<(String, DType)>, SqlError>
+    ensures { IfOk result (λ columns. named_columns columns.items ≡ scope.now) }
+{
+    let mut columns = Vec::new(alloc);
+    for place in 0..scope.len() {
+        let name = String::from_str(alloc, scope.name(place))?;
+        columns.push((name, scope.dtype(place)))?;
+    }
+    Ok(columns)
+}
+
+// Returns the name of a leaf's column: where the leaf begins, and its text. So no two have one name.
+fn name_of(alloc: Global, text: &str, span: (usize, usize)) -> Result<String, SqlError> {
+    let (start, end) = span;
+    let leaf = match text.as_bytes().get(start..end) {
+        Some(bytes) => bytes,
+        None => &[],
+    };
+    match str::from_utf8(leaf) {
+        Ok(leaf) => Ok(format!(in alloc; "{start}: {leaf}")?),
+        Err(_) => Err(SqlError::Name),
+    }
+}
+
+fn opaque_columns(
+    alloc: Global,
+    text: &str,
+    opaque: &[(usize, usize)],
+) -> Result<Vec<(String, DType)>, SqlError>
+    ensures { IfOk result (λ columns.
+        spec.types_of (named_columns columns.items) ≡ map (λ span. bool_or_null) opaque.now) }
+{
+    let mut columns = Vec::new(alloc);
+    for span in opaque {
+        let name = name_of(alloc, text, *span)?;
+        columns.push((name, DType::Bool(Nullability::Nullable)))?;
+    }
+    Ok(columns)
+}
+
+fn widened(
+    alloc: Global,
+    text: &str,
+    scope: &Scope,
+    opaque: &[(usize, usize)],
+) -> Result<Scope, SqlError>
+    ensures { IfOk result (λ wide. (more : List Named) × (wide ≡ scope.now ++ more)
+        × (spec.types_of more ≡ map (λ span. bool_or_null) opaque.now)) }
+{
+    let mut columns = columns_of(alloc, scope)?;
+    let mut more = opaque_columns(alloc, text, opaque)?;
+    columns.append(&mut more)?;
+    Ok(Scope::try_new(columns)?)
+}
+
+// Tells whether an expression is a plain predicate over a scope.
+fn is_fit(predicate: &BoundExpression, scope: &Scope) -> bool
+    ensures { IsTrue result → IsTrue (fits_scope predicate.now scope.now)
+        × IsTrue (is_plain predicate.now) × IsTrue (spec.is_of_bool predicate.now) }
+{
+    let is_bool = matches!(predicate.dtype(), DType::Bool(_));
+    is_bool && predicate.is_plain() && predicate.fits_scope(scope)
+}
+
+/// Returns the predicate that the text of a condition is over the columns of a scope, with names of
+/// one or of several parts as `names` says.
+pub fn condition_by(
+    alloc: Global,
+    text: &str,
+    scope: &Scope,
+    names: Names,
+) -> Result<Predicate, SqlError>
+    ensures says { IfOk result (λ p. spec.Says scope.now p.condition p.predicate) }
+    ensures places { IfOk result (λ p. Ascends 0 (leaves p.condition) (length text.now)) }
+    ensures opaque { IfOk result (λ p.
+        p.opaque.items ≡ map spec.span_of (spec.opaques scope.now p.condition)) }
+    ensures typed { IfOk result (λ p. misfits scope.now p.condition ≡ []) }
+    ensures scope { IfOk result (λ p. (more : List Named) × (p.scope ≡ scope.now ++ more)
+        × (spec.types_of more ≡ map (λ span. bool_or_null) p.opaque.items)) }
+    ensures fits { IfOk result (λ p. IsTrue (fits_scope p.predicate p.scope)) }
+    ensures plain { IfOk result (λ p. IsTrue (is_plain p.predicate)) }
+    ensures bool { IfOk result (λ p. IsTrue (spec.is_of_bool p.predicate)) }
+{
+    let condition = parse(alloc, text, names)?;
+    let Said { predicate, opaque } = lower(alloc, scope, &condition)?;
+    let scope = widened(alloc, text, scope, &opaque)?;
+    if !is_fit(&predicate, &scope) {
+        return Err(SqlError::Name);
+    }
+    Ok(Predicate {
+        condition,
+        predicate,
+        scope,
+        opaque,
+    })
+}
+
+/// Returns the predicate that the text of a condition is over the columns of a scope. A name with a
+/// dot in it isn't read.
+pub fn condition(alloc: Global, text: &str, scope: &Scope) -> Result<Predicate, SqlError>
+    ensures says { IfOk result (λ p. spec.Says scope.now p.condition p.predicate) }
+    ensures places { IfOk result (λ p. Ascends 0 (leaves p.condition) (length text.now)) }
+    ensures opaque { IfOk result (λ p.
+        p.opaque.items ≡ map spec.span_of (spec.opaques scope.now p.condition)) }
+    ensures typed { IfOk result (λ p. misfits scope.now p.condition ≡ []) }
+    ensures scope { IfOk result (λ p. (more : List Named) × (p.scope ≡ scope.now ++ more)
+        × (spec.types_of more ≡ map (λ span. bool_or_null) p.opaque.items)) }
+    ensures fits { IfOk result (λ p. IsTrue (fits_scope p.predicate p.scope)) }
+    ensures plain { IfOk result (λ p. IsTrue (is_plain p.predicate)) }
+    ensures bool { IfOk result (λ p. IsTrue (spec.is_of_bool p.predicate)) }
+{
+    condition_by(alloc, text, scope, Names::Plain)
+}

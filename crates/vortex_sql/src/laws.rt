@@ -1,0 +1,20 @@
+//! Laws of this layer, in the words of its definitions. The functions carry them by their
+//! contracts.
+ghost use Rattle.vortex_sql.specs.Pruning.{RefutesCondition};
+ghost use Rattle.vortex_sql.specs.Worked.{OrderExamples, OtherReadings, PatternExamples};
+ghost use Rattle.vortex_sql.specs.Worked.{ReadingExamples, TruthExamples};
+
+/// Where no row of a zone satisfies the predicate of a condition, whatever stands in the columns of
+/// the leaves that aren't read, none satisfies the condition.
+pub fn predicate_refutes_condition()
+    ensures { RefutesCondition }
+{}
+
+/// Worked rows of what is said of tests, and of what they mean.
+pub fn examples_hold()
+    ensures readings { ReadingExamples }
+    ensures others { OtherReadings }
+    ensures orders { OrderExamples }
+    ensures patterns { PatternExamples }
+    ensures truths { TruthExamples }
+{}

@@ -1,0 +1,19 @@
+//! Lowers conditions of SQL to predicates over a scope.
+//!
+//! A part of a condition that the pruner has no words for becomes a column of its own, of which
+//! nothing has to be known.
+#![tactic(auto)]
+
+mod column;
+mod compare;
+mod comparison;
+pub mod condition;
+pub mod error;
+pub mod fault;
+pub mod found;
+mod halves;
+pub mod laws;
+mod literal;
+pub mod lower;
+mod number;
+mod reading;

@@ -1,0 +1,274 @@
+//! What is said of a test.
+ghost use Rattle.std.specs.Prelude.{◌≡◌, [], MatchResult, option_map};
+ghost use Rattle.vortex_sql.specs.declared.fault.Fault.TheVariants.{Memory, Misfit};
+ghost use Rattle.vortex_sql.specs.Readings as spec;
+
+use crate::column::{column, find};
+use crate::compare::{compare, with_literal};
+use crate::fault::Fault;
+use crate::found::Found;
+use crate::halves::joined;
+use crate::literal::{constant, distinct_literals, has_value, said};
+use std::alloc::Global;
+use vortex_base::dtype::DType;
+use vortex_base::scalar_value::ScalarValue;
+use vortex_base::scope::Scope;
+use vortex_base::text::Text;
+use vortex_base::types::Nullability;
+use vortex_expr::bound;
+use vortex_expr::bound_expression::BoundExpression;
+use vortex_expr::scalar_fn::Operator;
+use vortex_sql_syntax::tree::{Comparison, Escape, Operand, Test};
+
+// Joins two parts, if both are said.
+fn joined_by(
+    alloc: Global,
+    operator: Operator,
+    left: Option<BoundExpression>,
+    right: Option<BoundExpression>,
+) -> Result<Option<BoundExpression>, Fault>
+    ensures { spec.Reads (spec.joined_by operator (Ok left) (Ok right)) result }
+{
+    match (left, right) {
+        (Some(left), Some(right)) => Ok(Some(bound::binary(alloc, operator, left, right)?)),
+        _ => Ok(None),
+    }
+}
+
+fn as_truth(alloc: Global, found: Option<Found>) -> Result<Option<BoundExpression>, Fault>
+    ensures { spec.Reads (spec.as_truth (option_map spec.place_of_found found)) result }
+{
+    match found {
+        None => Ok(None),
+        Some(found) => match found.dtype {
+            DType::Bool(_) => Ok(Some(column(alloc, found)?)),
+            _ => Err(Fault::Misfit),
+        },
+    }
+}
+
+fn truth(alloc: Global, scope: &Scope, operand: &Operand) -> Result<Option<BoundExpression>, Fault>
+    ensures { spec.Reads (spec.truth scope.now operand.now) result }
+{
+    match operand {
+        Operand::Column(name) => as_truth(alloc, find(scope, name)),
+        Operand::Null => said(alloc, None),
+        Operand::Truth(truth) => said(alloc, Some(*truth)),
+        Operand::Other => Ok(None),
+        _ => Err(Fault::Misfit),
+    }
+}
+
+fn as_null_test(alloc: Global, found: Option<Found>) -> Result<Option<BoundExpression>, Fault>
+    ensures { spec.Reads (spec.as_null_test (option_map spec.place_of_found found)) result }
+{
+    match found {
+        None => Ok(None),
+        Some(found) => Ok(Some(bound::is_null(alloc, column(alloc, found)?)?)),
+    }
+}
+
+fn null_test(
+    alloc: Global,
+    scope: &Scope,
+    operand: &Operand,
+) -> Result<Option<BoundExpression>, Fault>
+    ensures { spec.Reads (spec.null_test scope.now operand.now) result }
+{
+    if let Operand::Column(name) = operand {
+        return as_null_test(alloc, find(scope, name));
+    }
+    match has_value(operand) {
+        None => Ok(None),
+        Some(has_value) => said(alloc, Some(!has_value)),
+    }
+}
+
+fn distinct_from(
+    alloc: Global,
+    found: Found,
+    operand: &Operand,
+) -> Result<Option<BoundExpression>, Fault>
+    ensures { spec.Reads (spec.distinct_from (spec.place_of_found found) operand.now) result }
+{
+    match operand {
+        Operand::Column(_) => Ok(None),
+        Operand::Null => Ok(Some(bound::is_not_null(alloc, column(alloc, found)?)?)),
+        _ => {
+            let differs = with_literal(alloc, Comparison::NotEq, found, operand)?;
+            let null = bound::is_null(alloc, column(alloc, found)?)?;
+            joined_by(alloc, Operator::Or, differs, Some(null))
+        }
+    }
+}
+
+fn distinct_at(
+    alloc: Global,
+    found: Option<Found>,
+    operand: &Operand,
+) -> Result<Option<BoundExpression>, Fault>
+    ensures { spec.Reads
+        (spec.distinct_at (option_map spec.place_of_found found) operand.now) result }
+{
+    match found {
+        Some(found) => distinct_from(alloc, found, operand),
+        None => Ok(None),
+    }
+}
+
+fn distinct(
+    alloc: Global,
+    scope: &Scope,
+    left: &Operand,
+    right: &Operand,
+) -> Result<Option<BoundExpression>, Fault>
+    ensures { spec.Reads (spec.distinct_test scope.now left.now right.now) result }
+{
+    match (left, right) {
+        (Operand::Column(name), _) => distinct_at(alloc, find(scope, name), right),
+        (_, Operand::Column(name)) => distinct_at(alloc, find(scope, name), left),
+        _ => distinct_literals(alloc, left, right),
+    }
+}
+
+fn between(
+    alloc: Global,
+    scope: &Scope,
+    x: &Operand,
+    lower: &Operand,
+    upper: &Operand,
+) -> Result<Option<BoundExpression>, Fault>
+    ensures { spec.Reads (spec.between_test scope.now x.now lower.now upper.now) result }
+{
+    let left = compare(alloc, scope, Comparison::Gte, x, lower)?;
+    let right = compare(alloc, scope, Comparison::Lte, x, upper)?;
+    joined_by(alloc, Operator::And, left, right)
+}
+
+fn between_symmetric(
+    alloc: Global,
+    scope: &Scope,
+    x: &Operand,
+    lower: &Operand,
+    upper: &Operand,
+) -> Result<Option<BoundExpression>, Fault>
+    ensures { spec.Reads (spec.symmetric_test scope.now x.now lower.now upper.now) result }
+{
+    let left = between(alloc, scope, x, lower, upper)?;
+    let right = between(alloc, scope, x, upper, lower)?;
+    joined_by(alloc, Operator::Or, left, right)
+}
+
+// What is said of the members of a list, if all of them are said.
+type Members = Option<Vec<BoundExpression>>;
+
+fn with_member(before: Members, next: Option<BoundExpression>) -> Result<Members, Fault>
+    ensures { MatchResult result
+        (λ w. Ok (option_map (λ v. v.items) w)
+        ≡ spec.with_member (Ok (option_map (λ v. v.items) before)) (Ok next))
+        (λ f. f ≡ Memory) }
+{
+    match (before, next) {
+        (Some(mut items), Some(next)) => {
+            items.push(next)?;
+            Ok(Some(items))
+        }
+        _ => Ok(None),
+    }
+}
+
+fn members(alloc: Global, scope: &Scope, x: &Operand, among: &[Operand]) -> Result<Members, Fault>
+    ensures { MatchResult result
+        (λ w. Ok (option_map (λ v. v.items) w)
+        ≡ spec.members_from scope.now x.now (Ok (Some [])) among.now)
+        (λ f. f ≡ Misfit → Err f ≡ spec.members_from scope.now x.now (Ok (Some [])) among.now) }
+{
+    let mut members = Some(Vec::new(alloc));
+    for y in among {
+        match compare(alloc, scope, Comparison::Eq, x, y) {
+            Ok(next) => members = with_member(members, next)?,
+            Err(e) => return Err(e),
+        }
+    }
+    Ok(members)
+}
+
+fn any_of(alloc: Global, members: Members) -> Result<Option<BoundExpression>, Fault>
+    ensures { spec.Reads (spec.any_of (Ok (option_map (λ v. v.items) members))) result }
+{
+    match members {
+        Some(items) => Ok(joined(alloc, items)?),
+        None => Ok(None),
+    }
+}
+
+fn member(
+    alloc: Global,
+    scope: &Scope,
+    x: &Operand,
+    among: &[Operand],
+) -> Result<Option<BoundExpression>, Fault>
+    ensures { spec.Reads (spec.member scope.now x.now among.now) result }
+{
+    any_of(alloc, members(alloc, scope, x, among)?)
+}
+
+fn like_place(
+    alloc: Global,
+    found: Option<Found>,
+    pattern: &Text,
+) -> Result<Option<BoundExpression>, Fault>
+    ensures { spec.Reads
+        (spec.like_place (option_map spec.place_of_found found) pattern.now) result }
+{
+    let Some(found) = found else {
+        return Ok(None);
+    };
+    let DType::Utf8(_) = found.dtype else {
+        return Err(Fault::Misfit);
+    };
+    let pattern = ScalarValue::Utf8(pattern.try_clone()?);
+    let pattern = constant(alloc, DType::Utf8(Nullability::NonNullable), pattern)?;
+    let text = column(alloc, found)?;
+    Ok(Some(bound::like(alloc, text, pattern)?))
+}
+
+fn pattern_test(
+    alloc: Global,
+    scope: &Scope,
+    text: &Operand,
+    pattern: &Operand,
+) -> Result<Option<BoundExpression>, Fault>
+    ensures { spec.Reads (spec.pattern_test scope.now text.now pattern.now) result }
+{
+    match (text, pattern) {
+        (Operand::Column(name), Operand::Text(pattern)) => {
+            like_place(alloc, find(scope, name), pattern)
+        }
+        (_, Operand::Null) => said(alloc, None),
+        _ => Ok(None),
+    }
+}
+
+/// Returns what is said of a test: an expression, or nothing where the pruner has no words for it.
+pub(crate) fn reading(
+    alloc: Global,
+    scope: &Scope,
+    test: &Test,
+) -> Result<Option<BoundExpression>, Fault>
+    ensures { spec.Reads (spec.reading scope.now test.now) result }
+{
+    match test {
+        Test::Truth(x) => truth(alloc, scope, x),
+        Test::Compare(comparison, left, right) => compare(alloc, scope, *comparison, left, right),
+        Test::Distinct(left, right) => distinct(alloc, scope, left, right),
+        Test::IsNull(x) => null_test(alloc, scope, x),
+        Test::Between(x, lower, upper) => between(alloc, scope, x, lower, upper),
+        Test::BetweenSymmetric(x, lower, upper) => {
+            between_symmetric(alloc, scope, x, lower, upper)
+        }
+        Test::In(x, among) => member(alloc, scope, x, among.as_slice()),
+        Test::Like(text, pattern, Escape::Backslash) => pattern_test(alloc, scope, text, pattern),
+        Test::Like(_, _, _) | Test::Other => Ok(None),
+    }
+}
