@@ -1,5 +1,5 @@
 -- Values of one type compare as SQL's values do, and a number that a type lacks as the type's bound.
-use Rattle.std.proofs.Common.{◌≡◌, ◌≢◌, ℕ, zero, suc, ◌<◌, ◌≤◌, ◌^◌, Bool, true, false, ◌⊎◌, inl, inr, List, [], ◌∷◌, refl, sym, ◌∙◌, ap, subst, arith, cond}
+use Rattle.std.proofs.Common.{◌≡◌, ℕ, zero, suc, ◌<◌, ◌≤◌, Bool, true, false, List, [], refl, sym, ◌∙◌, ap, subst, arith}
 use Rattle.std.proofs.lemmas.Bool.Decides.{nat_tests}
 use Rattle.std.proofs.lemmas.Int.{ints}
 use Rattle.std.proofs.lemmas.Cmp.{int_ranked, nat_cmp_total, int_cmp_total, nat_list_cmp_total, tied_itself}
@@ -22,13 +22,12 @@ use Rattle.vortex_base.specs.declared.scalar_value.ScalarValue.TheVariants as va
 use Rattle.vortex_base.specs.Data.Types.{as_nullable, is_nullable, ptype_index}
 use Rattle.vortex_base.specs.Data.Values.{kind_index, value_cmp, is_value, number_of, ptype_of, least, greatest, in_range}
 use Rattle.vortex_base.specs.Data.Scalars.{is_optional_value}
-use Rattle.vortex_expr.specs.declared.scalar_fn.Operator.{Operator}
-use Rattle.vortex_expr.specs.Meanings.Meaning.{applied, holds, unless_null}
+use Rattle.vortex_expr.specs.Meanings.Meaning.{applied, holds}
 use Rattle.vortex_expr.specs.Meanings.Meaning as meanings
 use Rattle.vortex_sql_syntax.specs.declared.tree.Comparison.{Comparison}
 use Rattle.vortex_sql_syntax.specs.declared.tree.Comparison.TheVariants as comparison
 use Rattle.vortex_sql.specs.Sql.{Item, truth, number as whole, fraction, text, binary, item_of, item_cmp, against_fraction, compared, operator_of, flipped, rank}
-use Rattle.vortex_sql.specs.Numbers.{to_nat, sized, with_least, with_greatest, in_type, least_of, greatest_of, clamped_by, clamped, fractional}
+use Rattle.vortex_sql.specs.Numbers.{sized, with_least, with_greatest, least_of, greatest_of, clamped_by, clamped, fractional}
 
 then-equal : (o : Ordering) → ordering_then o Equal ≡ o
 then-equal Less = refl

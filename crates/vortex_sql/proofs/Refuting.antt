@@ -1,7 +1,7 @@
 -- A predicate that is refuted whatever is told of the leaves that aren't read refutes its condition.
-use Rattle.std.proofs.Common.{◌≡◌, ◌≢◌, ◌<◌, ℕ, zero, suc, Bool, true, false, List, [], ◌∷◌, ◌++◌, length, refl, sym, ◌∙◌, ap, subst, arith, cond}
+use Rattle.std.proofs.Common.{◌≡◌, ◌≢◌, ◌<◌, ℕ, zero, suc, Bool, true, false, List, [], ◌∷◌, length, refl, ◌∙◌, ap, arith}
 use Rattle.std.proofs.lemmas.Bool.Decides.{nat_tests}
-use Rattle.std.specs.Prelude.{Option, Some, None, IsTrue, map, replicate, slice_get, ◌&&◌, ◌==◌}
+use Rattle.std.specs.Prelude.{Option, Some, map, replicate, slice_get, ◌&&◌, ◌==◌}
 use Rattle.std.specs.List.{list_all}
 use lib.Pointwise.{pointwise}
 use Rattle.vortex_base.specs.declared.dtype.DType.{DType}
@@ -10,13 +10,11 @@ use Rattle.vortex_base.specs.Data.Exact.{both_true}
 use Rattle.vortex_base.specs.Data.Types.{dtype_eq, dtype_eq_is_exact}
 use Rattle.vortex_base.specs.Data.Scalars.{Constant, is_optional_value}
 use Rattle.vortex_base.specs.Data.Scopes.{Named}
-use Rattle.vortex_base.specs.Data.Columns.{ColumnData, ChunkData, IsChunk, row_of, row_count, value_at, all_fit, all_long, has_types, is_column}
-use Rattle.vortex_expr.specs.Meanings.Meaning.{truth_value, satisfies, meaning, is_true}
-use Rattle.vortex_expr.specs.Trees.Tree.{Tree, Place}
+use Rattle.vortex_base.specs.Data.Columns.{ColumnData, row_of, row_count, value_at, all_fit, all_long, has_types, is_column}
+use Rattle.vortex_expr.specs.Meanings.Meaning.{truth_value, meaning, is_true}
 use Rattle.vortex_sql_syntax.specs.declared.tree.Leaf.{Leaf}
-use Rattle.vortex_sql_syntax.specs.declared.tree.Condition.{Condition}
-use Rattle.vortex_sql.specs.Lowering.{Says, IsRowOf, opaques, truth_on, told_cell, with_told}
-use Rattle.vortex_sql.specs.Pruning.{told_column, with_columns, Refuted, RefutesCondition}
+use Rattle.vortex_sql.specs.Lowering.{IsRowOf, opaques, truth_on, told_cell, with_told}
+use Rattle.vortex_sql.specs.Pruning.{told_column, with_columns, RefutesCondition}
 
 abbrev cell : ℕ → ColumnData → Constant
 cell r c = record { dtype = c.dtype; value = value_at (slice_get c.values r) }

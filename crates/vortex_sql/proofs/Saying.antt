@@ -1,14 +1,14 @@
 -- The expression that is said of a condition means what the condition does.
 use Rattle.std.proofs.Common.{◌≡◌, ℕ, zero, suc, ◌+◌, Bool, true, false, List, [], ◌∷◌, ◌++◌, length, refl, sym, ◌∙◌, ap, subst, arith}
-use Rattle.std.specs.Prelude.{ℤ, ◌≤◌, Option, Some, None, Result, Ok, Err, is_none, not as not_b, option_map, slice_get, IsTrue, if◌then◌else◌}
+use Rattle.std.specs.Prelude.{◌≤◌, Option, Some, None, Ok, Err, is_none, not as not_b, option_map, slice_get, IsTrue, if◌then◌else◌}
 use Rattle.std.specs.declared.cmp.Ordering.{Ordering}
-use Rattle.vortex_base.specs.declared.types.Nullability.TheVariants.{Nullable, NonNullable}
+use Rattle.vortex_base.specs.declared.types.Nullability.TheVariants.{NonNullable}
 use Rattle.vortex_base.specs.declared.dtype.DType.{DType}
 use Rattle.vortex_base.specs.declared.dtype.DType.TheVariants as dtype
 use Rattle.vortex_base.specs.declared.scalar_value.ScalarValue.{ScalarValue}
 use Rattle.vortex_base.specs.declared.scalar_value.ScalarValue.TheVariants as value
 use Rattle.vortex_base.specs.Data.Types.{as_nullable, dtype_eq_is_exact, eq_ignore_nullability}
-use Rattle.vortex_base.specs.Data.Scalars.{Constant, is_optional_value, null_of}
+use Rattle.vortex_base.specs.Data.Scalars.{Constant, is_optional_value}
 use Rattle.vortex_base.specs.Data.Scopes.{Named}
 use Rattle.vortex_base.specs.Data.Columns.{cell_value}
 use Rattle.vortex_expr.specs.declared.scalar_fn.Operator.TheVariants as operator

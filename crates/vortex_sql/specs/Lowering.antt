@@ -1,5 +1,5 @@
 -- How a condition of SQL is said by an expression over a scope, and what it means if each leaf that isn't read has a truth of its own.
-use Rattle.std.specs.Prelude.{◌≡◌, ℕ, ◌+◌, ◌++◌, Bool, true, false, ◌||◌, not as not_b, Option, Some, None, List, [], ◌∷◌, Result, Ok, Err, if◌then◌else◌, IsTrue, is_none, length, map}
+use Rattle.std.specs.Prelude.{◌≡◌, ℕ, ◌+◌, ◌++◌, Bool, true, false, ◌||◌, not as not_b, Option, Some, None, List, [], ◌∷◌, Result, Ok, Err, IsTrue, is_none, length, map}
 use lib.Pointwise.{pointwise}
 use Rattle.vortex_base.specs.declared.dtype.DType.{DType}
 use Rattle.vortex_base.specs.declared.error.BaseError.{BaseError}

@@ -1,6 +1,6 @@
 -- Worked rows of conditions of SQL.
-use Rattle.std.specs.Prelude.{◌≡◌, ℕ, ℤ, pos, negsuc, Bool, true, false, Option, Some, None, List, [], ◌∷◌, Result, Ok, Err, codes}
-use Rattle.std.specs.declared.cmp.Ordering.TheVariants.{Less, Equal, Greater}
+use Rattle.std.specs.Prelude.{◌≡◌, ℕ, ℤ, pos, negsuc, Bool, true, false, Option, Some, None, List, [], ◌∷◌, Err, codes}
+use Rattle.std.specs.declared.cmp.Ordering.TheVariants.{Less, Greater}
 use Rattle.vortex_base.specs.declared.types.Nullability.TheVariants.{Nullable}
 use Rattle.vortex_base.specs.declared.types.PType.TheVariants as ptype
 use Rattle.vortex_base.specs.declared.dtype.DType.{DType}
@@ -22,8 +22,7 @@ use Rattle.vortex_sql_syntax.specs.declared.tree.Operand.TheVariants.{Column, Nu
 use Rattle.vortex_sql_syntax.specs.declared.tree.Test.{Test}
 use Rattle.vortex_sql_syntax.specs.declared.tree.Test.TheVariants as test
 use Rattle.vortex_sql.specs.Sql as sql
-use Rattle.vortex_sql.specs.Sql.{Item, item_cmp, compared, distinct, flipped, test_truth, pattern_in, pattern_of}
-use Rattle.vortex_sql.specs.Halves.{joined}
+use Rattle.vortex_sql.specs.Sql.{item_cmp, distinct, flipped, test_truth, pattern_in}
 use Rattle.vortex_sql.specs.Readings.{Reading, said, unread, reading, truth_literal}
 use Rattle.vortex_sql.specs.Lowering.{is_known_as}
 

@@ -53,8 +53,8 @@ fn with_fraction(
     ptype: PType,
     below: i128,
 ) -> Result<Option<BoundExpression>, Fault>
-    ensures { spec.Reads (spec.said
-        (spec.with_fraction comparison (spec.place_of_found found) ptype found.dtype below)) result }
+    ensures { spec.Reads (spec.said (spec.with_fraction comparison (spec.place_of_found found)
+        ptype found.dtype below)) result }
 {
     let (comparison, value) = fractional(comparison, ptype, below);
     let literal = constant(alloc, found.dtype, ScalarValue::Primitive(value))?;

@@ -54,7 +54,8 @@ fn columns_of(alloc: Global, scope: &Scope) -> Result<Vec<(String, DType)>, SqlE
     Ok(columns)
 }
 
-// Returns the name of a leaf's column: where the leaf begins, and its text. So no two have one name.
+// Returns the name of a leaf's column: where the leaf begins, and its text. So no two have one
+// name.
 fn name_of(alloc: Global, text: &str, span: (usize, usize)) -> Result<String, SqlError> {
     let (start, end) = span;
     let leaf = match text.as_bytes().get(start..end) {

@@ -1,4 +1,4 @@
-use Rattle.std.proofs.Common.{◌≡◌, ◌++◌, ◌∷◌, [], take, suc, add-one, ap, sym, ◌∙◌}
+use Rattle.std.proofs.Common.{◌++◌, ◌∷◌, [], take, add-one, ap, sym, ◌∙◌}
 use Rattle.std.specs.Prelude.{map}
 use Rattle.vortex_base.specs.Data.Scopes.{named_columns}
 use Rattle.vortex_base.specs.declared.dtype.DType.TheVariants.{Bool}

@@ -1,4 +1,4 @@
-use Rattle.std.proofs.Common.{◌≡◌, ◌<◌, ap, ◌∙◌, arith, length}
+use Rattle.std.proofs.Common.{◌<◌, ap, ◌∙◌, arith, length}
 use Rattle.vortex_sql.specs.Halves as spec
 use Rattle.vortex_sql.proofs.Pairs.{paired_joined, pairs_fewer}
 use Rattle.vortex_sql.proofs.halves.joined.Goals as goal

@@ -1,5 +1,5 @@
-use Rattle.std.proofs.Common.{◌≡◌, ◌∷◌, [], suc, drop, sym, ap, ◌∙◌}
-use Rattle.std.specs.Prelude.{Ok, Some, option_map}
+use Rattle.std.proofs.Common.{[], suc, drop, sym, ap, ◌∙◌}
+use Rattle.std.specs.Prelude.{Ok, option_map}
 use Rattle.vortex_sql.specs.Readings as spec
 use Rattle.vortex_sql.proofs.Members.{member_fails, next_member}
 use Rattle.vortex_sql.proofs.reading.members.Goals as goal
