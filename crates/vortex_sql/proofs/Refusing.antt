@@ -15,3 +15,5 @@ of_right ls ms f none h = let P : List Leaf → Type 0 = λ xs. IsRefusal (xs ++
 
 pub none_of_either : (ls ms : List Leaf) → ls ≡ [] → ms ≡ [] → ls ++ ms ≡ []
 none_of_either ls ms h k = ap (λ xs. xs ++ ms) h ∙ k
+
+pub ruleset parts = (of_left, of_right, none_of_either)

@@ -1,6 +1,6 @@
 -- The expression that is said of a condition means what the condition does.
 use Rattle.std.proofs.Common.{◌≡◌, ℕ, zero, suc, ◌+◌, Bool, true, false, List, [], ◌∷◌, ◌++◌, length, refl, sym, ◌∙◌, ap, subst, arith}
-use Rattle.std.specs.Prelude.{◌≤◌, Option, Some, None, Ok, Err, is_none, not as not_b, option_map, slice_get, IsTrue, if◌then◌else◌}
+use Rattle.std.specs.Prelude.{◌≤◌, Option, Some, None, Ok, Err, is_none, not as not_b, option_map, slice_get, if◌then◌else◌}
 use Rattle.std.specs.declared.cmp.Ordering.{Ordering}
 use Rattle.vortex_base.specs.declared.types.Nullability.TheVariants.{NonNullable}
 use Rattle.vortex_base.specs.declared.dtype.DType.{DType}

@@ -21,7 +21,6 @@ use Rattle.vortex_sql.specs.declared.fault.Fault.TheVariants.{Memory, Misfit}
 use Rattle.vortex_sql.specs.declared.found.Found.{Found}
 use Rattle.vortex_sql_syntax.specs.declared.tree.Comparison.{Comparison}
 use Rattle.vortex_sql_syntax.specs.declared.tree.Comparison.TheVariants as comparison
-use Rattle.vortex_sql_syntax.specs.declared.tree.Escape.{Escape}
 use Rattle.vortex_sql_syntax.specs.declared.tree.Escape.TheVariants as escape
 use Rattle.vortex_sql_syntax.specs.declared.tree.Operand.{Operand}
 use Rattle.vortex_sql_syntax.specs.declared.tree.Operand.TheVariants as operand

@@ -156,7 +156,7 @@ fn is_false(alloc: Global, once: bool, x: BoundExpression) -> Result<BoundExpres
 
 // Returns the expression of a condition. The leaves that aren't read are columns behind those of
 // the scope, and their places in the text go to the end of `opaque`.
-#[tactic(auto, using(crate::proofs::Refusing::of_left, crate::proofs::Refusing::of_right, crate::proofs::Refusing::none_of_either))]
+#[tactic(auto, using(crate::proofs::Refusing::parts))]
 fn lowered(
     alloc: Global,
     scope: &Scope,

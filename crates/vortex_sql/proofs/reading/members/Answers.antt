@@ -1,4 +1,4 @@
-use Rattle.std.proofs.Common.{[], suc, drop, sym, ap, ◌∙◌}
+use Rattle.std.proofs.Common.{suc, drop, sym, ap, ◌∙◌}
 use Rattle.std.specs.Prelude.{Ok, option_map}
 use Rattle.vortex_sql.specs.Readings as spec
 use Rattle.vortex_sql.proofs.Members.{member_fails, next_member}
