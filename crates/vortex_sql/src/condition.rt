@@ -23,9 +23,9 @@ use vortex_sql_syntax::tree::Condition;
 /// A condition of SQL over the columns of a scope.
 #[derive(Drop)]
 pub struct Predicate {
-    /// What the text says.
+    /// The condition as it was read.
     pub condition: Condition,
-    /// The same as an expression over `scope`.
+    /// An expression over `scope` that means the same.
     pub predicate: BoundExpression,
     /// The scope with a nullable column of type Bool behind it for each leaf that isn't read, which
     /// has the place and the text of the leaf for a name. Nothing has to be known of these columns.

@@ -9,7 +9,7 @@ use std::alloc::Global;
 pub enum Names {
     /// It isn't read.
     Plain,
-    /// Its last part is the column's name.
+    /// A name of several parts, whose last one is the column.
     Last,
 }
 

@@ -4,7 +4,7 @@ use crate::error::ParseError;
 use crate::part::{Built, Form, MAX_LEVELS, put, take_condition};
 use std::alloc::Global;
 
-/// What opened a frame.
+/// The word or sign that opened a frame.
 #[derive(Clone, Copy, PartialEq, Eq)]
 pub(crate) enum Opening {
     /// The text itself.
