@@ -1,45 +1,21 @@
 //! What the callers of `vortex_uses` and `vortex_own_rules` answer where memory is ample.
-ghost use Rattle.std.specs.Prelude.{◌≡◌, All};
+ghost use Rattle.std.specs.Prelude.{◌≡◌};
 ghost use Rattle.std.specs.Bool.{OnTrue};
 
-use super::measured::{Chunks, chunk, four_chunks};
+use super::measured::chunk;
 use super::*;
 use vortex_base::{AggregateFnRef, Chunk, ScalarValue, Scope};
 use vortex_own_rules::known::{Entry, Known, scan_by_known};
 use vortex_uses::planner::scan_by_null_operands;
 use vortex_uses::reader::{zones_left_out, zones_left_out_of_all};
-use vortex_uses::writer::{write_pair, write_zones};
+use vortex_uses::writer::write_pair;
 
 type Places = Result<Vec<usize>, StatsError>;
 
-// Whether each chunk has the scope.
-fn have_scope(scope: &Scope, chunks: &[Chunk]) -> bool
-    ensures { OnTrue result (All (λ chunk. chunk.scope ≡ scope.now) chunks.now) }
+fn has_scope(chunk: &Chunk, scope: &Scope) -> bool
+    ensures { OnTrue result (chunk.now.scope ≡ scope.now) }
 {
-    for chunk in chunks {
-        if *chunk.scope() != *scope {
-            return false;
-        }
-    }
-    true
-}
-
-fn written(alloc: Global, scope: Result<Scope, StatsError>, chunks: Chunks) -> Table {
-    let (scope, chunks) = (scope?, chunks?);
-    if !have_scope(&scope, &chunks) {
-        return Err(StatsError::Mismatch);
-    }
-    write_zones(alloc, scope, chunks)
-}
-
-#[test]
-fn written_zones_are_pruned_by_their_rows(rt: HostRuntime) {
-    let alloc = rt.alloc();
-    let table = written(alloc, scope_of(alloc, I32_OR_NULL), four_chunks(alloc));
-    let found = scanned(alloc, &table, above(alloc, 10));
-    expect_found(&rt, found, &[0], &[(3, 2)]);
-    let found = scanned(alloc, &table, is_null(alloc, a(alloc)));
-    expect_found(&rt, found, &[0, 2], &[(1, 0), (1, 1), (3, 1)]);
+    *chunk.scope() == *scope
 }
 
 fn pair(
@@ -48,7 +24,7 @@ fn pair(
     second: Result<Chunk, StatsError>,
 ) -> Result<Part, StatsError> {
     let (first, second) = (first?, second?);
-    if *first.scope() != *second.scope() {
+    if !has_scope(&first, second.scope()) {
         return Err(StatsError::Mismatch);
     }
     write_pair(alloc, first, second)
