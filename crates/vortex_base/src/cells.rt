@@ -118,7 +118,7 @@ fn native_value<T: Native>(native: Option<T>) -> Option<ScalarValue>
     }
 }
 
-// What an optional value is, and `None` only where it is a value of another type.
+// Returns an optional value, and `None` only where it is a value of another type.
 #[inline]
 fn native_of<T: Native>(value: &Option<ScalarValue>) -> Option<Option<T>>
     ensures { MatchOption result ((native : Option T) → option_map T.scalar native ≢ value.now)

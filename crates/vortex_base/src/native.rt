@@ -54,17 +54,17 @@ pub trait Native: Copy + Default {
     fn order(self, other: Self) -> Ordering
         ensures { result ≡ value_cmp (scalar self) (scalar other) };
 
-    /// What a value that is lent is, and `None` only where it isn't of this type.
+    /// Returns a lent value as one of this type, and `None` only where it isn't one.
     fn of_lent(value: ValueRef<'_>) -> Option<Self>
         ensures { MatchOption result ((native : Self) → scalar native ≢ value_of value.entry)
             (λ native. scalar native ≡ value_of value.entry) };
 
-    /// What a value is, and `None` only where it isn't of this type.
+    /// Returns a value as one of this type, and `None` only where it isn't one.
     fn of_value(value: &ScalarValue) -> Option<Self>
         ensures { MatchOption result ((native : Self) → scalar native ≢ value.now)
             (λ native. scalar native ≡ value.now) };
 
-    /// What a cell is, null or a value, and `None` only where it is a value of another type.
+    /// Returns a cell, null or a value, and `None` only where it is a value of another type.
     fn of_cell(cell: ShortCell) -> Option<Option<Self>>
         ensures { MatchOption result
             ((native : Option Self) → option_map scalar native ≢ short_value cell)

@@ -344,7 +344,7 @@ fn value_and_null<T: Native>(alloc: Global, dtype: DType, value: T) -> Result<Co
     Column::of_cells(dtype, cells, 0)
 }
 
-// The same column, made of slices.
+// A column of a value and null, made of slices.
 fn of_slices<T: Native>(alloc: Global, dtype: DType, value: T) -> Result<Column, BaseError> {
     let mut values = Vec::new(alloc);
     values.push(value)?;

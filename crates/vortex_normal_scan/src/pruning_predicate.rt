@@ -265,7 +265,7 @@ impl PruningPredicate {
     ) -> Result<PruningPredicate, StatsError>
         requires { IsTrue (is_plain predicate.now) }
         ensures predicate { IfOk result (λ made. made.predicate ≡ predicate.now) }
-        // Its proofs are those of the definitions, by these rules.
+        // By these rules it has the proofs of the definitions.
         ensures made { let M = ⟦<dyn StatsRewriteRule as StatsRewriteRule>⟧ in
             IfOk result (IsMadeBy (own_rules M rules.now.own.items) None) }
         ensures not_predicate { is_predicate predicate.now ≡ false → result ≡ Err NotPredicate }
@@ -355,7 +355,7 @@ impl PruningPredicate {
             → IsTrue (is_within levels (normal_of self.now.predicate))
             → IsTrue (is_apart (normal_of self.now.predicate))
             → SkipsUnsatisfiable self.now.predicate zones (skipped_places vs.items)) }
-        // That is so of every predicate over one column that neither null satisfies nor every
+        // So it is of every predicate over one column that neither null satisfies nor every
         // value; of texts, bytes and truths where it comes to no range that is open at both ends.
         ensures one_column { IfOk result (λ vs. (zones : List ZoneData) → IsMapOf zones map.now
             → (levels : Option ℕ) → IsMadeBy [] levels self.now

@@ -159,7 +159,7 @@ fn between_symmetric(
     joined_by(alloc, Operator::Or, left, right)
 }
 
-// What is said of the members of a list, if all of them are said.
+// Returns the readings of a list's members, if all of them are read.
 type Members = Option<Vec<BoundExpression>>;
 
 fn with_member(before: Members, next: Option<BoundExpression>) -> Result<Members, Fault>

@@ -15,12 +15,12 @@ use crate::token::Kind;
 use crate::tree::{Condition, Operand};
 use std::alloc::Global;
 
-// What comes next.
+// The part of a condition that comes next.
 #[derive(Clone, Copy)]
 enum Next {
     /// The beginning of a test.
     Test,
-    /// What joins the part that was read, or closes what it stands in.
+    /// A word that joins the part that was read, or closes the frame around it.
     Joint,
     /// Nothing: the text has ended.
     End,

@@ -13,7 +13,7 @@ pub(crate) struct Built {
     height: usize,
 }
 
-/// What was read: an operand or a condition.
+/// An operand or a condition that was read.
 #[derive(Drop)]
 pub(crate) enum Form {
     Operand(Operand),

@@ -1,6 +1,6 @@
 //! The words and signs of a text.
 
-/// What a word or a sign is.
+/// The kind of a word or a sign.
 #[derive(Clone, Copy, PartialEq, Eq)]
 pub(crate) enum Kind {
     End,

@@ -14,7 +14,7 @@ pub enum Comparison {
     Lte,
 }
 
-/// What makes the next character of a pattern plain.
+/// The escape of a pattern, which makes the next character plain.
 #[derive(Clone, Copy, Debug, PartialEq, Eq)]
 pub enum Escape {
     Backslash,
