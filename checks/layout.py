@@ -9,6 +9,9 @@ import re
 import subprocess
 import sys
 
+import statement
+import words
+
 os.chdir(os.path.dirname(os.path.dirname(os.path.abspath(__file__))))
 
 
@@ -321,7 +324,7 @@ def main():
     if sys.argv[1:] == ["--map"]:
         print(the_map(), end="")
         return 0
-    faults = [*source_faults(), *definition_faults(), *promise_faults(), *witness_faults(), *link_faults(), *quote_faults(), *edit_faults(), *goal_faults(), *format_faults()]
+    faults = [*source_faults(), *definition_faults(), *promise_faults(), *witness_faults(), *link_faults(), *quote_faults(), *edit_faults(), *goal_faults(), *statement.faults(), *words.faults(), *format_faults()]
     if read("docs/MAP.md") != the_map():
         faults.append("docs/MAP.md: out of step; write it anew by checks/layout.py --map > docs/MAP.md")
     print("\n".join(faults) or "layout: every file is in order")
