@@ -39,6 +39,7 @@ check "examples" examples/compare.sh
 check "random inputs" checks/random-inputs.py
 check "hostile inputs" checks/hostile-input.py
 check "callers in other languages" checks/callers.sh
+check "examples of the pages" checks/examples.py
 check "real systems" checks/systems.sh
 check "pruning beside an ideal and PostgreSQL" checks/power.py
 check "refused growths of the program" checks/refused-growths.py

@@ -1,15 +1,14 @@
 #!/usr/bin/env python3
-"""Looks at the layout of the repository, and keeps docs/MAP.md in step with its files.
+"""Looks at the layout of the repository: its files, imports, pages, links, edits, and the pages that scripts write.
 
-usage: checks/layout.py          says what is wrong, one line each, and fails if anything is
-       checks/layout.py --map    prints docs/MAP.md, made from the first sentence of each file
+usage: checks/layout.py    says what is wrong, one line each, and fails if anything is
 """
 import os
 import re
 import subprocess
 import sys
 
-import statement
+import pages
 import words
 
 os.chdir(os.path.dirname(os.path.dirname(os.path.abspath(__file__))))
@@ -33,40 +32,11 @@ CODE = {f: text for f, text in TEXTS.items() if f.endswith(".rt")}
 TRAITS = {"BufRead", "Read", "Write"} | {name for text in CODE.values() for name in re.findall(r"^pub trait (\w+)", text, re.M)}
 # The crates whose public clauses have a witness wherever they have a premise.
 WITNESSED = ("vortex_prune", "vortex_zone_log", "vortex_normal_scan", "vortex_calls", "vortex_text", "vortex_explain")
-KNOWN = {
-    "docs/MAP.md": "this map",
-    "README.md": "what the product is for, how to run and test it, what is proved",
-    "HANDLES": "which handles to the outside the gate allows: none",
-    "LICENSE": "the licence",
-    "NOTICE": "what was taken from the ported crate",
-    "crates.txt": "the crates and what each stands on",
-}
 
 
 def is_listed(f):
     """Whether the map has a row for a file: what a function's proof needs is in a folder of its name, and Lib.antt lists the files beside it."""
     return not re.search(r"/(Lib|Answers|Invariants|Proof)\.antt$", f)
-
-
-def first_sentence(f):
-    """The first sentence of a file's first comment, or None where there is none or it doesn't end."""
-    lines = []
-    for line in TEXTS[f].split("\n"):
-        found = re.match(r"(?://!|//|--)(?: (\S.*))?$", line)
-        if not found or not found.group(1):
-            break
-        lines.append(found.group(1))
-    found = re.match(r"(.*?[.:])(?: |$)", " ".join(lines))
-    return found.group(1).replace(":", ".") if found else None
-
-
-def heading(f):
-    """The first line of a script or a document that says what it is for."""
-    for line in read(f).split("\n")[:3]:
-        found = re.match(r'(?:# |""")(\S.*)', line)
-        if found and not line.startswith("#!"):
-            return found.group(1)
-    return None
 
 
 def imports(text):
@@ -103,7 +73,7 @@ def import_faults(f):
 
 def source_faults():
     for f, text in TEXTS.items():
-        if is_listed(f) and not first_sentence(f):
+        if is_listed(f) and not pages.first_sentence(f):
             yield f"{f}:1: no first sentence that says what lives there"
         for number, line in enumerate(text.split("\n"), 1):
             if f.endswith(".rt") and len(line) > 100 and not re.match(r"\s*(ghost use|///)", line):
@@ -120,17 +90,6 @@ def rows_of(document):
         cells = [it.strip() for it in re.split(r"(?<!\\)\|", row)[1:-1]]
         if len(cells) > 1 and not set(cells[0]) <= set("-: "):
             yield number, cells
-
-
-def definition_faults():
-    """Rows of the definitions whose names don't stand in the file that the row names."""
-    for number, cells in rows_of("docs/DEFINITIONS.md"):
-        if not cells[0].startswith("`"):
-            continue
-        text = TEXTS.get(cells[-1].strip("`"), "")
-        for name in re.findall(r"`([^`]+)`", cells[0]):
-            if len(cells) != 3 or not is_used(name, text):
-                yield f"docs/DEFINITIONS.md:{number}: {name} is not in a file that the row names"
 
 
 def promise_faults():
@@ -236,7 +195,7 @@ def link_faults():
                 if link and not os.path.exists(os.path.join(os.path.dirname(f), link)):
                     yield f"{f}:{number}: nothing is at {link}"
             for path in re.findall(r"(?<![\w/])(?:docs|checks|examples|bench|callers)/[\w./-]*\w", line):
-                if not os.path.exists(path) and not os.path.exists(os.path.join(os.path.dirname(f), path)) and "/NAME" not in path and "/CRATE" not in path:
+                if not os.path.exists(path) and not os.path.exists(os.path.join(os.path.dirname(f), path)) and "/NAME" not in path and "/CRATE" not in path and not path.startswith("callers/out"):
                     yield f"{f}:{number}: nothing is at {path}"
 
 
@@ -299,34 +258,8 @@ def format_faults():
             yield f"crates/{crate}: not formatted; rt fmt in its folder formats it"
 
 
-def table(rows):
-    return "| path | what it is |\n|---|---|\n" + "".join(f"| `{path}` | {what} |\n" for path, what in rows)
-
-
-def the_map():
-    of_top = r"(README\.md|docs/|checks/[^/]*$|bench/[^/]*$|examples/[^/]*\.sh|scan$|\.ci/run)"
-    tops = [(f, KNOWN.get(f) or heading(f)) for f in TRACKED if re.match(of_top, f)]
-    tops += [(f, KNOWN[f]) for f in ("HANDLES", "LICENSE", "NOTICE", "crates.txt")]
-    out = (
-        "# Map\n\nMade by `checks/layout.py --map` from the first sentence of each file. What a function's proof needs stands in "
-        "`proofs/MODULE/FUNCTION/`, wrong bodies that the prover has to refuse in `must-fail/`, those that the gate doesn't try in "
-        "`checks/edits/`.\n\n"
-    ) + table(tops)
-    for line in read("crates.txt").split("\n"):
-        if ":" in line.partition("#")[0]:
-            name = line.split(":")[0].split()[0]
-            front = f"crates/{name}/"
-            out += f"\n## crates/{name}\n\n" + table([(f[len(front) :], first_sentence(f) or "") for f in SOURCES if f.startswith(front) and is_listed(f)])
-    return out
-
-
 def main():
-    if sys.argv[1:] == ["--map"]:
-        print(the_map(), end="")
-        return 0
-    faults = [*source_faults(), *definition_faults(), *promise_faults(), *witness_faults(), *link_faults(), *quote_faults(), *edit_faults(), *goal_faults(), *statement.faults(), *words.faults(), *format_faults()]
-    if read("docs/MAP.md") != the_map():
-        faults.append("docs/MAP.md: out of step; write it anew by checks/layout.py --map > docs/MAP.md")
+    faults = [*source_faults(), *promise_faults(), *witness_faults(), *link_faults(), *quote_faults(), *edit_faults(), *goal_faults(), *pages.faults(), *words.faults(), *format_faults()]
     print("\n".join(faults) or "layout: every file is in order")
     return 1 if faults else 0
 

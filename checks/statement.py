@@ -335,7 +335,7 @@ def pages():
         "interfaces": interfaces(REST),
         "contracts": "\n".join(clauses_of(it, REST) for it in CALLS),
     }
-    return {MAIN: filled("checks/statement/main.md", parts), REST: filled("checks/statement/rest.md", more)}
+    return {MAIN: filled("checks/frames/statement.txt", parts), REST: filled("checks/frames/statement_rest.txt", more)}
 
 
 def filled(f, parts):
