@@ -200,9 +200,9 @@ def link_faults():
 
 
 def quote_faults():
-    """Code in a library's page for callers that doesn't stand in the file that its first line names."""
-    for f in (it for it in TRACKED if it.endswith("/CALLING.md")):
-        for place, code in re.findall(r"```rust\n// (\S+)\n(.*?)```", read(f), re.S):
+    """Code of the pages that doesn't stand in the file which its first line names."""
+    for f in (it for it in TRACKED if it.endswith(".md")):
+        for place, code in re.findall(r"```(?:rust|text)\n(?://|--) (crates/\S+)\n(.*?)```", read(f), re.S):
             if place not in TEXTS or code not in TEXTS[place]:
                 yield f"{f}: the code that is said to be of {place} doesn't stand there"
 
