@@ -1,7 +1,8 @@
 #!/usr/bin/env python3
 """Looks at the layout of the repository: its files, imports, pages, links, edits, and the pages that scripts write.
 
-usage: checks/layout.py    says what is wrong, one line each, and fails if anything is
+usage: checks/layout.py          says what is wrong, one line each, and fails if anything is
+       checks/layout.py --map    prints docs/MAP.md, which checks/pages.py writes
 """
 import os
 import re
@@ -259,6 +260,9 @@ def format_faults():
 
 
 def main():
+    if sys.argv[1:] == ["--map"]:
+        print(pages.the_map(), end="")
+        return 0
     faults = [*source_faults(), *promise_faults(), *witness_faults(), *link_faults(), *quote_faults(), *edit_faults(), *goal_faults(), *pages.faults(), *words.faults(), *format_faults()]
     print("\n".join(faults) or "layout: every file is in order")
     return 1 if faults else 0
