@@ -22,6 +22,17 @@ KNOWN = {
     "LICENSE": "the licence",
     "NOTICE": "what was taken from the ported crate",
     "crates.txt": "the crates and what each stands on",
+    "CHANGELOG.md": "what each version brings, changes and removes",
+    "CITATION.cff": "how to cite the software",
+    "CONTRIBUTING.md": "set-up, checks, and how a change lands",
+    "REUSE.toml": "the licence of the files that don't name it themselves",
+    "SECURITY.md": "what a hostile input may do, and how to report a fault",
+    "packaging/debian/copyright": "the licence, as Debian's packages name it",
+    "packaging/debian/foalmorrow.control": "the Debian package of the program and the shared object",
+    "packaging/debian/libfoalmorrow-dev.control": "the Debian package of the header and the libraries for C",
+    "packaging/foalmorrow.1": "the program's page for man",
+    "packaging/foalmorrow.pc.in": "what pkg-config says of the library",
+    "pyproject.toml": "the Python package",
 }
 HEAD = """# Map
 
@@ -58,10 +69,10 @@ def first_sentence(f):
 
 def heading(f):
     """The first line of a script or a page that says what it is for."""
-    for line in read(f).split("\n")[:3]:
+    for line in read(f).split("\n")[:4]:
         found = re.match(r'(?:# |""")(\S.*)', line)
-        if found and not line.startswith("#!"):
-            return found.group(1)
+        if found and not line.startswith("#!") and "SPDX-License-Identifier" not in line:
+            return found.group(1).removesuffix('"""')
     return ""
 
 
@@ -71,9 +82,10 @@ def table(rows):
 
 def the_map():
     files = tracked()
-    of_top = r"([A-Z]+\.md|docs/[^/]*$|checks/[^/]*\.(py|sh)$|bench/[^/]*$|examples/[^/]*\.sh|scan$|\.ci/run)"
+    of_top = r"([A-Z]+\.md|docs/[^/]*$|checks/[^/]*\.(py|sh)$|bench/[^/]*$|examples/[^/]*\.sh|scan$|\.ci/run|packaging/|setup\.py)"
     tops = [(f, KNOWN.get(f) or heading(f)) for f in files if re.match(of_top, f)]
-    tops += [(f, KNOWN[f]) for f in ("HANDLES", "LICENSE", "NOTICE", "crates.txt")]
+    listed = {f for f, _ in tops}
+    tops += [(f, what) for f, what in KNOWN.items() if f not in listed]
     out = HEAD + table(tops)
     for line in read("crates.txt").split("\n"):
         if ":" in line.partition("#")[0]:

@@ -52,6 +52,7 @@ class Status(enum.IntEnum):
 MAX_DEPTH = 128
 #: The versions of the library whose calls these are: 0.2.x.
 _MAJOR_MINOR = (0, 2)
+_SOURCES = "a wheel has it inside, checks/callers.sh builds it in a checkout, FOALMORROW_LIBRARY names another place"
 
 _SENTENCES = {
     Status.BAD_LINE: "the predicate is no expression over these columns",
@@ -171,13 +172,22 @@ class _Lent:
         return found if found is None or found % 8 == 0 else self.at(array("Q", bytes(buffer)))
 
 
+def _path() -> str:
+    """Where the library is: where FOALMORROW_LIBRARY says, in the package as a wheel has it, in a checkout, or where the system finds it."""
+    named = os.environ.get("FOALMORROW_LIBRARY")
+    if named is not None:
+        return named
+    here = pathlib.Path(__file__).resolve()
+    places = (here.with_name("libfoalmorrow.so"), here.parents[2] / "out" / "libvortex_ffi.so")
+    return next((str(it) for it in places if it.is_file()), "libfoalmorrow.so.0")
+
+
 def _load() -> ctypes.CDLL:
-    default = pathlib.Path(__file__).resolve().parents[2] / "out" / "libvortex_ffi.so"
-    path = os.environ.get("FOALMORROW_LIBRARY", str(default))
+    path = _path()
     try:
         loaded = ctypes.CDLL(path)
     except OSError as fault:
-        raise LibraryError(f"the library isn't at {path}; checks/callers.sh builds it, FOALMORROW_LIBRARY names another place: {fault}") from fault
+        raise LibraryError(f"the library isn't at {path}; {_SOURCES}: {fault}") from fault
     byte, size, place = ctypes.c_void_p, c_size_t, POINTER(Fault)
     calls = {
         "vortex_run": [byte, size, byte, size, POINTER(size)],
