@@ -24,8 +24,21 @@ one() {
     esac
 }
 export -f one
+
+# Passes the lines of crates on, and tells on a terminal how many are done, in a line that is written anew.
+progress() {
+    local line done=0
+    while IFS= read -r line; do
+        case "$line" in passed:* | failed:*) done=$((done + 1)) ;; esac
+        [ -t 2 ] && printf '\r\033[K' >&2
+        echo "$line"
+        [ -t 2 ] && printf 'tests: %s of %s crates done, %s s' "$done" "$1" "$SECONDS" >&2
+    done
+    [ -t 2 ] && printf '\r\033[K' >&2
+    return 0
+}
 # The last line counts tests; a crate whose tests didn't run counts as one that failed.
-printf '%s\n' "${found[@]}" | xargs -P "${RT_JOBS:-$(nproc)}" -I CRATE bash -c 'one CRATE "$1" "$2"' one "$logs" "$top" | tee "$logs/told"
+printf '%s\n' "${found[@]}" | xargs -P "${RT_JOBS:-$(nproc)}" -I CRATE bash -c 'one CRATE "$1" "$2"' one "$logs" "$top" | tee "$logs/told" | progress "${#found[@]}"
 passed="$(grep -hE '^test .* \.\.\. ok$' "$logs"/vortex_* 2> /dev/null | wc -l)"
 failed="$(($(grep -hE '^test .* \.\.\. FAILED$' "$logs"/vortex_* 2> /dev/null | wc -l) + $(grep -c ' no test ran$' "$logs/told")))"
 echo "$passed passed, $failed failed"

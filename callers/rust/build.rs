@@ -20,9 +20,9 @@ fn link_in(folder: &Path, name: &str, prefers_static: bool) -> bool {
     } else {
         return false;
     };
-    println!("cargo:rerun-if-changed={}", file.display());
-    println!("cargo:rustc-link-search=native={}", folder.display());
-    println!("cargo:rustc-link-lib={kind}={name}");
+    println!("cargo::rerun-if-changed={}", file.display());
+    println!("cargo::rustc-link-search=native={}", folder.display());
+    println!("cargo::rustc-link-lib={kind}={name}");
     true
 }
 
@@ -43,24 +43,30 @@ fn link_by_pkg_config(prefers_static: bool) -> bool {
     link_in(&inside, "foalmorrow", prefers_static) || link_in(Path::new(&folder), "foalmorrow", prefers_static)
 }
 
+/// Links with the first library that is found, or says why none is.
+fn link(prefers_static: bool) -> Result<(), String> {
+    if let Some(folder) = env::var_os("FOALMORROW_LIB_DIR") {
+        let folder = PathBuf::from(folder);
+        let is_found = link_in(&folder, "foalmorrow", prefers_static);
+        let fault = || format!("FOALMORROW_LIB_DIR is {}, where no libfoalmorrow is to link with", folder.display());
+        return is_found.then_some(()).ok_or_else(fault);
+    }
+    let manifest = env::var("CARGO_MANIFEST_DIR").map_err(|_| "cargo tells no folder of the crate")?;
+    let built = Path::new(&manifest).join("../out");
+    let is_found = link_in(&built, "vortex_ffi", true) || link_by_pkg_config(prefers_static);
+    is_found.then_some(()).ok_or_else(|| MISSING.to_owned())
+}
+
 fn main() {
     for name in ["FOALMORROW_LIB_DIR", "PKG_CONFIG", "PKG_CONFIG_PATH", "PKG_CONFIG_LIBDIR", "PKG_CONFIG_SYSROOT_DIR"] {
-        println!("cargo:rerun-if-env-changed={name}");
+        println!("cargo::rerun-if-env-changed={name}");
     }
-    println!("cargo:rerun-if-changed=build.rs");
+    println!("cargo::rerun-if-changed=build.rs");
     // The pages of a crate are made where no library is.
     if env::var_os("DOCS_RS").is_some() {
         return;
     }
-    let prefers_static = env::var_os("CARGO_FEATURE_STATIC").is_some();
-    if let Some(folder) = env::var_os("FOALMORROW_LIB_DIR") {
-        let folder = PathBuf::from(folder);
-        let is_found = link_in(&folder, "foalmorrow", prefers_static);
-        assert!(is_found, "FOALMORROW_LIB_DIR is {}, which has no such library: {MISSING}", folder.display());
-        return;
+    if let Err(fault) = link(env::var_os("CARGO_FEATURE_STATIC").is_some()) {
+        println!("cargo::error={fault}");
     }
-    let manifest = env::var("CARGO_MANIFEST_DIR").expect("cargo tells the folder of the crate");
-    let built = Path::new(&manifest).join("../out");
-    let is_found = link_in(&built, "vortex_ffi", true) || link_by_pkg_config(prefers_static);
-    assert!(is_found, "{MISSING}");
 }
