@@ -23,8 +23,8 @@ CALLS = {
 TRAITS = {
     "StatsRewriteRule": ("crates/vortex_rewrite/src/rewrite/rule.rt", MAIN),
     "StatBinder": ("crates/vortex_prune/src/bind/stat_binder.rt", MAIN),
-    "Source": ("crates/vortex_text/src/streams.rt", REST),
-    "Sink": ("crates/vortex_text/src/streams.rt", REST),
+    "Source": ("crates/vortex_text/src/streams.rt", MAIN),
+    "Sink": ("crates/vortex_text/src/streams.rt", MAIN),
 }
 # The first page names these and the second defines them: reading and printing the program's text, and the tables of the rules.
 LATER = {
@@ -224,9 +224,11 @@ def worked_rows():
             found = re.match(r"(?:  pub )?\w+ : ((\w+) .*≡ .*)$", line)
             key = module.names.get(found.group(2)) if found and len(line) < 130 and "{" not in line else None
             if key in DEFINITIONS:
-                plain = [it for it in words(found.group(1)) if it not in module.names]
-                rows.setdefault(key, []).append((len(plain), len(found.group(1)), found.group(1)))
-    return {key: min(some)[2] for key, some in rows.items()}
+                said = found.group(1)
+                strange = [it for it in words(said) if it not in module.names]
+                # A row that gives an empty list shows little.
+                rows.setdefault(key, []).append((said.endswith("≡ []"), len(strange), len(said), said))
+    return {key: min(some)[-1] for key, some in rows.items()}
 
 
 ROWS = worked_rows()
@@ -293,6 +295,19 @@ def std_names(outer):
     return "\n".join(f"- `{path}`: {', '.join(f'`{it}`' for it in names)}" for path, names in by_module.items()) + "\n"
 
 
+def other_names(keys):
+    """The names that files use in place of others, for definitions and for the variants of a type."""
+    found = set()
+    for name in {it[0] for it in keys}:
+        module, used = MODULES[name], set()
+        for key in keys:
+            used |= set(words("\n".join(DEFINITIONS[key].lines))) if key[0] == name else set()
+        found |= {f"`{alias}` is `{it[1]}`" for alias, it in module.names.items() if alias != it[1] and alias in used}
+        found |= {f"`{alias}.X` is the variant X of `{path.split('.')[-2]}`" for alias, path in module.aliases.items() if path.endswith(".TheVariants") and alias in used}
+        found |= {f"`{alias}.ghosts.eq` is the `==` of `{path.split('.')[-2].removesuffix('PartialEq')}`" for alias, path in module.aliases.items() if path.endswith(".TheImpl") and alias in used}
+    return "; ".join(sorted(found)) + "."
+
+
 def clauses_of(call, page):
     signature, clauses = contract(call)
     headline = CALLS[call][2]
@@ -322,6 +337,7 @@ def pages():
         "count": count(keys),
         "rest_count": count(rest),
         "declared": declared(outer),
+        "names": other_names(keys),
         "std": std_names(outer),
         "definitions": "\n".join(section(it, keys) for it in ordered(keys)),
         "interfaces": interfaces(MAIN),
@@ -330,9 +346,9 @@ def pages():
     more = {
         "rest_count": count(rest),
         "declared": declared(rest_outer - outer),
+        "names": other_names(rest),
         "std": std_names(rest_outer - outer),
         "definitions": "\n".join(section(it, rest) for it in ordered(rest)),
-        "interfaces": interfaces(REST),
         "contracts": "\n".join(clauses_of(it, REST) for it in CALLS),
     }
     return {MAIN: filled("checks/frames/statement.txt", parts), REST: filled("checks/frames/statement_rest.txt", more)}
