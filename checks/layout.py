@@ -187,13 +187,22 @@ def witness_faults():
     yield from (f"{page}: no witness is named for {it}" for it in sorted(clauses) if "→" in clauses[it] and it not in named)
 
 
+def leads_somewhere(f, link):
+    """Whether a link of a page leads to a file, and to a heading of it where it names one."""
+    path, _, anchor = link.partition("#")
+    target = os.path.join(os.path.dirname(f), path) if path else f
+    if not os.path.exists(target) or not anchor:
+        return os.path.exists(target)
+    slugs = [re.sub(r"[^\w\- ]", "", it.lower()).replace(" ", "-") for it in re.findall(r"^#+ (.*)", read(target), re.M)]
+    return anchor in slugs
+
+
 def link_faults():
     """Links of the documents that lead nowhere, and paths that they name and that don't exist."""
     for f in (it for it in TRACKED if it.endswith(".md")):
         for number, line in enumerate(read(f).split("\n"), 1):
-            links = [it.split("#")[0] for it in re.findall(r"\]\(([^)\s]+)\)", line) if not it.startswith(("http://", "https://"))]
-            for link in links:
-                if link and not os.path.exists(os.path.join(os.path.dirname(f), link)):
+            for link in (it for it in re.findall(r"\]\(([^)\s]+)\)", line) if not it.startswith(("http://", "https://"))):
+                if not leads_somewhere(f, link):
                     yield f"{f}:{number}: nothing is at {link}"
             for path in re.findall(r"(?<![\w/])(?:docs|checks|examples|bench|callers)/[\w./-]*\w", line):
                 if not os.path.exists(path) and not os.path.exists(os.path.join(os.path.dirname(f), path)) and "/NAME" not in path and "/CRATE" not in path and not path.startswith("callers/out"):
@@ -206,6 +215,9 @@ def quote_faults():
         for place, code in re.findall(r"```(?:rust|text)\n(?://|--) (crates/\S+)\n(.*?)```", read(f), re.S):
             if place not in TEXTS or code not in TEXTS[place]:
                 yield f"{f}: the code that is said to be of {place} doesn't stand there"
+        for place, text in re.findall(r"^```text (\S+)\n(.*?)^```", read(f), re.S | re.M):
+            if not os.path.exists(place) or read(place) != text:
+                yield f"{f}: the text that is said to be {place} isn't that"
 
 
 def crate_of_edit(f):
