@@ -1,4 +1,5 @@
 #!/usr/bin/env python3
+# SPDX-License-Identifier: Apache-2.0
 """Writes a large input for the program, of 14 to 16 MB.
 
 usage: generate.py KIND

@@ -1,4 +1,5 @@
 #!/usr/bin/env python3
+# SPDX-License-Identifier: Apache-2.0
 """Runs programs on an input: the least processor time of some runs of each, and the most memory that one held.
 
 usage: measure.py RUNS INPUT PROGRAM [PLAIN]      with PLAIN, both have to print the same

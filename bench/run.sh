@@ -1,4 +1,5 @@
 #!/usr/bin/env bash
+# SPDX-License-Identifier: Apache-2.0
 # Measures the built program on large inputs, beside a plain Rust program that answers the same (if rustc is there).
 # usage: bench/run.sh [RUNS]
 set -eu

@@ -1,4 +1,5 @@
 #!/usr/bin/env bash
+# SPDX-License-Identifier: Apache-2.0
 # Runs every check that the gate doesn't run, and prints one line for each.
 # usage: checks/all.sh            proves and builds the program and the tests of refusals first if they aren't built yet
 #        checks/all.sh --built    takes the tests of refusals that the gate left here just before

@@ -1,3 +1,4 @@
+# SPDX-License-Identifier: Apache-2.0
 # The built program and the plain one of bench/plain, run on the same bytes: what checks that compare them share.
 import os
 import subprocess

@@ -1,4 +1,5 @@
 #!/usr/bin/env python3
+# SPDX-License-Identifier: Apache-2.0
 """Proves and builds a program of the repository where its sources have changed, and says on standard error how far it is.
 
 usage: checks/build.py [NAME]    builds crates/NAME/out/NAME, by default vortex_scan, and prints nothing on standard output

@@ -1,4 +1,5 @@
 #!/usr/bin/env bash
+# SPDX-License-Identifier: Apache-2.0
 # Builds the archive and the shared object of crates/vortex_ffi and all callers of them, and runs their examples and tests.
 # usage: checks/callers.sh            proves and builds the library first if it isn't built yet
 #        checks/callers.sh --build    builds the archive and the shared object alone

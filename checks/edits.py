@@ -1,4 +1,5 @@
 #!/usr/bin/env python3
+# SPDX-License-Identifier: Apache-2.0
 """Tries wrong bodies that the gate doesn't try: the prover has to refuse each by the open goal that is named for it.
 
 usage: checks/edits.py [--gate] [--goals] [--jobs N] [CRATE..]

@@ -1,4 +1,5 @@
 #!/usr/bin/env python3
+# SPDX-License-Identifier: Apache-2.0
 """Runs the examples of the pages as they stand: each block of code that is marked `run`, and compares what it prints with the block behind it.
 
 usage: checks/examples.py            runs them; callers/out has to have the library, which checks/callers.sh --build makes

@@ -1,4 +1,5 @@
 #!/usr/bin/env python3
+# SPDX-License-Identifier: Apache-2.0
 """Runs the gate in a clone of the last commit, and prints what it cost: processor minutes of each crate's proof, tests and must-fail edits.
 
 usage: checks/gate-cost.py

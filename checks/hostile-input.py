@@ -1,4 +1,5 @@
 #!/usr/bin/env python3
+# SPDX-License-Identifier: Apache-2.0
 # Compares the built program with the plain one on hostile inputs: cut and spoilt ones, very long ones, very deep ones.
 # Each check prints one line. Each answer has to come within the seconds and the memory that its check allows.
 # usage: checks/hostile-input.py

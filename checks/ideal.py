@@ -1,3 +1,4 @@
+# SPDX-License-Identifier: Apache-2.0
 """An ideal pruner by brute force: which zones hold no row that may satisfy a predicate, and which hold none that may fail it.
 
 A predicate is a tree of tuples, as ``("and", ("lt", ("col", "a"), ("lit", "i32?", 3)), ("isnull", ("col", "b")))``, whose words are those of

@@ -1,4 +1,5 @@
 #!/usr/bin/env python3
+# SPDX-License-Identifier: Apache-2.0
 """Looks at the layout of the repository: its files, imports, pages, links, edits, and the pages that scripts write.
 
 usage: checks/layout.py          says what is wrong, one line each, and fails if anything is

@@ -1,4 +1,5 @@
 #!/usr/bin/env python3
+# SPDX-License-Identifier: Apache-2.0
 """Writes the pages that are made of the sources: docs/MAP.md, docs/STATEMENT.md, docs/STATEMENT_REST.md and the pictures.
 
 usage: checks/pages.py           writes them

@@ -1,4 +1,5 @@
 #!/usr/bin/env python3
+# SPDX-License-Identifier: Apache-2.0
 """Draws the pictures of the pages, docs/pictures/*.svg.
 
 usage: checks/picture.py           draws all of them

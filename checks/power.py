@@ -1,4 +1,5 @@
 #!/usr/bin/env python3
+# SPDX-License-Identifier: Apache-2.0
 """Random predicates of each kind over zones with random statistics: how many zones pruning reads that an ideal pruner leaves out, and
 how many that are whole it doesn't name; and beside PostgreSQL, which parts its constraint exclusion leaves out.
 

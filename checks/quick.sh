@@ -1,4 +1,5 @@
 #!/usr/bin/env bash
+# SPDX-License-Identifier: Apache-2.0
 # Formats one crate after an edit and looks at it: its layout, its proof, and its tests without a proof of them.
 # usage: checks/quick.sh CRATE    as checks/quick.sh vortex_prune; a minute or two where little has changed
 set -u

@@ -1,4 +1,5 @@
 #!/usr/bin/env python3
+# SPDX-License-Identifier: Apache-2.0
 # Compares the built program with the plain one on random inputs of the language, good ones and spoilt ones.
 # usage: checks/random-inputs.py [COUNT] [SEED]        the same seed gives the same inputs
 import random

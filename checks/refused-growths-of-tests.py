@@ -1,4 +1,5 @@
 #!/usr/bin/env python3
+# SPDX-License-Identifier: Apache-2.0
 # Refuses the Nth request for memory of each test of a library that is named for refusals, N = 1, 2, .. until it meets none.
 # Such a test accepts a refusal within the call that it tests, with what the call has to leave behind; one that comes
 # while the test builds its values ends it with an error, which says nothing. A failed assertion is a wrong answer.

@@ -1,4 +1,5 @@
 #!/usr/bin/env python3
+# SPDX-License-Identifier: Apache-2.0
 # Refuses the Nth request for memory of the built program on each example, N = 1, 2, .. until a run meets no refusal.
 # Each refused run has to print `memory` with status 1, and the last one the example's answer.
 # usage: checks/refused-growths.py

@@ -1,3 +1,4 @@
+# SPDX-License-Identifier: Apache-2.0
 # A library in front of the C library's: it refuses the Nth request for memory of a program, and cuts its reads and writes.
 import os
 import subprocess

@@ -1,4 +1,5 @@
 #!/usr/bin/env python3
+# SPDX-License-Identifier: Apache-2.0
 """Writes docs/STATEMENT.md and docs/STATEMENT_REST.md: the contracts of prune, scan and run and every definition they rest on.
 
 usage: checks/statement.py           writes both pages

@@ -1,4 +1,5 @@
 #!/usr/bin/env bash
+# SPDX-License-Identifier: Apache-2.0
 # Real systems pruned by their statistics: PostgreSQL, ClickHouse and a Dask cluster, each started here in a folder of its own under the
 # temporary folder and stopped at the end by its process id, also where a check fails or is interrupted.
 # usage: [FOALMORROW_SEED=N] checks/systems.sh    a system that isn't installed is left out, and the package to install is told

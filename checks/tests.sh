@@ -1,4 +1,5 @@
 #!/usr/bin/env bash
+# SPDX-License-Identifier: Apache-2.0
 # Runs every test of every crate by the toolchain's trial run, which proves nothing, several crates side by side.
 # usage: checks/tests.sh [CRATE..]    by default all crates that have tests; RT_JOBS says how many at a time, by default one a processor
 set -u

@@ -1,3 +1,4 @@
+# SPDX-License-Identifier: Apache-2.0
 """Lists the goals that the functions have which edits turn, as the crate stands, so that an edit isn't taken for refused at a goal of a branch that it made.
 
 A goal of a branch that an edit renamed or made has no answer, so it stays open whether or not the function's contract refuses the edit.

@@ -1,4 +1,5 @@
 #!/usr/bin/env python3
+# SPDX-License-Identifier: Apache-2.0
 """Looks for doc lines that can't be read without the line above: first lines of comments that begin with That, The same, Those or What.
 
 usage: checks/words.py            counts them by crate, and fails where a file has some that the list of those to be mended lacks

@@ -1,4 +1,5 @@
 #!/usr/bin/env bash
+# SPDX-License-Identifier: Apache-2.0
 # Runs the program on each example and compares what it prints with the answer beside it.
 set -u
 here="$(cd "$(dirname "$0")" && pwd)"

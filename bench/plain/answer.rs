@@ -1,3 +1,4 @@
+// SPDX-License-Identifier: Apache-2.0
 //! What a scan finds, and its text.
 use crate::bits::Bits;
 use crate::log::Stats;

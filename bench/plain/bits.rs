@@ -1,3 +1,4 @@
+// SPDX-License-Identifier: Apache-2.0
 //! Sets of rows: a bit for each, 64 in a word.
 use std::ops::Range;
 

@@ -1,3 +1,4 @@
+// SPDX-License-Identifier: Apache-2.0
 //! LIKE: patterns, what they match, and the texts between which all matches lie.
 
 #[derive(Clone, Copy, PartialEq, Eq)]

@@ -1,3 +1,4 @@
+// SPDX-License-Identifier: Apache-2.0
 //! What lines say of parts: a log of statistics, each in few bytes.
 use crate::values::{Kind, Scalar};
 use std::cmp::Ordering;

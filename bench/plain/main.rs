@@ -1,3 +1,4 @@
+// SPDX-License-Identifier: Apache-2.0
 //! Prunes and selects as the proved program does, in plain Rust: the baseline of the benchmarks, and an independent
 //! answer to compare with. Reads the text of parts and a predicate from standard input and prints what a scan finds.
 mod answer;

@@ -1,3 +1,4 @@
+// SPDX-License-Identifier: Apache-2.0
 //! The statistics of large columns in one pass, in plain Rust: the same work as `vortex_bench` does.
 //!
 //! Reads from standard input which work: numbers or texts, made alone, measured, or checked.

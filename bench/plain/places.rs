@@ -1,3 +1,4 @@
+// SPDX-License-Identifier: Apache-2.0
 //! Words that end with a number, mostly many in a row that begin alike.
 use std::io::{Result, Write};
 

@@ -1,3 +1,4 @@
+// SPDX-License-Identifier: Apache-2.0
 //! Rows and values in plain form, read from their bytes: one space before each value, and ASCII alone in texts.
 use crate::bits::Bits;
 use crate::table::{match_cells, Cells, Column, Strings};

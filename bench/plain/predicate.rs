@@ -1,3 +1,4 @@
+// SPDX-License-Identifier: Apache-2.0
 //! Typed predicates.
 use crate::like::Pattern;
 use crate::values::{Kind, Type, Value};

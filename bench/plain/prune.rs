@@ -1,3 +1,4 @@
+// SPDX-License-Identifier: Apache-2.0
 //! Whether the statistics of a part prove that no row of it satisfies a predicate, or that every row does.
 use crate::like::Range;
 use crate::predicate::{Comparison, Node, Op};

@@ -1,3 +1,4 @@
+// SPDX-License-Identifier: Apache-2.0
 //! The rows that satisfy a predicate, found for 64 rows together, a bit for each.
 use crate::bits::ones;
 use crate::like::Pattern;

@@ -1,3 +1,4 @@
+// SPDX-License-Identifier: Apache-2.0
 //! Typed columns of the rows of all parts, the parts as ranges of them, and one log of their statistics.
 use crate::bits::Bits;
 use crate::log::{Entry, Log, Stats};

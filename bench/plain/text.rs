@@ -1,3 +1,4 @@
+// SPDX-License-Identifier: Apache-2.0
 //! The language of the input: lines of words that give columns, parts and a predicate.
 use crate::log::Claim;
 use crate::plain_rows;

@@ -1,3 +1,4 @@
+// SPDX-License-Identifier: Apache-2.0
 //! Types, values and their order.
 
 #[derive(Clone, Copy, PartialEq, Eq, Debug)]

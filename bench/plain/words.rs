@@ -1,3 +1,4 @@
+// SPDX-License-Identifier: Apache-2.0
 //! Bytes of the input, looked at eight at a time: digits, the ends of texts and of lines.
 
 /// Eight bytes as a number; the first of them is the lowest.

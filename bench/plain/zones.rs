@@ -1,3 +1,4 @@
+// SPDX-License-Identifier: Apache-2.0
 //! Plain pruning of zones by arrays of bounds, for timing beside `vortex_bench`: the same zones and predicates.
 //! Standard input names the workload; prints how many zones the last of ten prunings skips, or without a predicate how many there are.
 use std::hint::black_box;

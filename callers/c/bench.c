@@ -1,3 +1,4 @@
+/* SPDX-License-Identifier: Apache-2.0 */
 /* How long vortex_measure takes for the least, the greatest and the nulls of 10 million numbers, beside a plain loop, and
    vortex_prune for a million zones of three columns under one comparison and under 16; in processor time. */
 #define _POSIX_C_SOURCE 199309L

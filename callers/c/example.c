@@ -1,3 +1,4 @@
+/* SPDX-License-Identifier: Apache-2.0 */
 /* Keeps the statistics of a table's chunks, and later reads only the chunks that they don't rule out. */
 #include "vortex.h"
 #include <stdio.h>

@@ -1,3 +1,4 @@
+/* SPDX-License-Identifier: Apache-2.0 */
 /*
  * Each call over arrays of which each byte and each length, and numbers of which each, is changed in turn: it answers by a
  * status that it may answer by, leaves the arrays as they were where it refuses, and ends.

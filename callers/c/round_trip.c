@@ -1,3 +1,4 @@
+/* SPDX-License-Identifier: Apache-2.0 */
 /* Every field of the header's structs, their sizes and offsets, and every status, as the library has them. */
 #include "vortex.h"
 #include <assert.h>

@@ -1,3 +1,4 @@
+/* SPDX-License-Identifier: Apache-2.0 */
 /* Every call but vortex_run on a thread of 256 KiB: predicates of each form as deep as they may be, deeper, and chains. */
 #define _POSIX_C_SOURCE 200809L
 #include "vortex.h"

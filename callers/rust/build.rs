@@ -1,3 +1,4 @@
+// SPDX-License-Identifier: Apache-2.0
 //! Finds the proved library and says how to link with it.
 //!
 //! It is looked for in the folder that `FOALMORROW_LIB_DIR` names, in a checkout where `checks/callers.sh` has built

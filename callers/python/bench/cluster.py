@@ -1,3 +1,4 @@
+# SPDX-License-Identifier: Apache-2.0
 """How long a cluster takes to prune the footers of many zones and to measure files, and what memory it takes.
 
 usage: bench/cluster.py [ZONES ..]    by default 1,000,000 and 10,000,000; prints a row for each number of zones, columns and workers

@@ -1,3 +1,4 @@
+# SPDX-License-Identifier: Apache-2.0
 """How long the calls over many zones take: merging, overlap, explaining, listing answers, and pruning by one of many columns.
 
 usage: bench/zones.py [ZONES]    by default 1,000,000 zones of one I64 column with min, max and null count; needs numpy

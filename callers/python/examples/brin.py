@@ -1,3 +1,4 @@
+# SPDX-License-Identifier: Apache-2.0
 """PostgreSQL: the rows of a table read by its BRIN index, and how many pages the server reads for them itself.
 
 usage: examples/brin.py FOLDER [USER]    the folder of the server's socket, and a user who may read pages (pageinspect)

@@ -1,3 +1,4 @@
+# SPDX-License-Identifier: Apache-2.0
 """ClickHouse: what the server's own index leaves of a table, and footers of columns that it keeps nothing of.
 
 usage: examples/clickhouse.py URL    the server's HTTP interface; it runs on the server's machine, whose files it reads

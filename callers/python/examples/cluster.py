@@ -1,3 +1,4 @@
+# SPDX-License-Identifier: Apache-2.0
 """Dask: a folder of CSV files and one of numpy's arrays, measured, pruned and read by a cluster's workers."""
 import csv
 import os

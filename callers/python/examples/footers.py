@@ -1,3 +1,4 @@
+# SPDX-License-Identifier: Apache-2.0
 """A table in chunks: each measured once, the footers kept in a file, and later the chunks alone read that a predicate doesn't rule out."""
 import os
 import random

@@ -1,3 +1,4 @@
+# SPDX-License-Identifier: Apache-2.0
 """Footers of a table's zones: statistics that are true of their rows by proof, as arrays and in a file; and the program's answers."""
 from .answers import Answers
 from .arrays import ValueFault, Values

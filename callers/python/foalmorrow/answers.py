@@ -1,3 +1,4 @@
+# SPDX-License-Identifier: Apache-2.0
 """What pruning answers: a byte a zone, seen as a sequence of answers, as a numpy array, or as the zones that are to be read."""
 from __future__ import annotations
 

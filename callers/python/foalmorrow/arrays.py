@@ -1,3 +1,4 @@
+# SPDX-License-Identifier: Apache-2.0
 """Values as the library takes them: one buffer in the column's own type, without nulls.
 
 Numbers are little-endian of their type's width and truths a byte each; texts and bytes are one heap, with the place where each

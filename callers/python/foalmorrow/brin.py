@@ -1,3 +1,4 @@
+# SPDX-License-Identifier: Apache-2.0
 """PostgreSQL's BRIN indexes as footers: a zone a range of pages.
 
 What a BRIN index keeps of a range are a least and a greatest value of each column and whether there are nulls. They were true when

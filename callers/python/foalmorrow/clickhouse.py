@@ -1,3 +1,4 @@
+# SPDX-License-Identifier: Apache-2.0
 """ClickHouse: its sparse primary index as footers, a zone a granule, and footers of columns that it keeps nothing of, a zone a part.
 
 The server keeps of each granule the key of its first row, and of each part the least and greatest value of the partition key's columns.

@@ -1,3 +1,4 @@
+# SPDX-License-Identifier: Apache-2.0
 """A cluster (Dask): a table of more files than a machine holds, measured, merged, pruned and read where its partitions lie.
 
 Only footers travel: each worker measures its own partitions. The footers of a table stand in one file beside it; a partition that was

@@ -1,3 +1,4 @@
+# SPDX-License-Identifier: Apache-2.0
 """Why a zone is read: what each comparison of a predicate tells of each zone, as data."""
 from __future__ import annotations
 

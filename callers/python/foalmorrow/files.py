@@ -1,3 +1,4 @@
+# SPDX-License-Identifier: Apache-2.0
 """The file of footers: a header that lists arrays, the arrays, and a checksum. docs/FOOTERS.md says what stands where.
 
 Whatever the bytes are, they are footers whose arrays can be read, or a ``FooterError``.

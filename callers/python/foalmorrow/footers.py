@@ -1,3 +1,4 @@
+# SPDX-License-Identifier: Apache-2.0
 """Footers: the statistics of a table's zones as arrays, measured, merged, checked, kept in a file, and pruned by."""
 from __future__ import annotations
 

@@ -1,3 +1,4 @@
+# SPDX-License-Identifier: Apache-2.0
 """Chunks as pandas frames, and the rows of a frame that satisfy a predicate (Debian: python3-pandas).
 
 Columns have pandas' types with null (``Int64``, ``string``, ``boolean``), whose AND, OR and NOT know three truths as the library's do.

@@ -1,3 +1,4 @@
+# SPDX-License-Identifier: Apache-2.0
 """Single items of a column and single literals: which of them are null, which are values of a type, and how a refusal shows one.
 
 numpy's and pandas' own nulls and scalars are known where those packages are loaded; neither is needed.

@@ -1,3 +1,4 @@
+# SPDX-License-Identifier: Apache-2.0
 """Types of columns, kinds of statistics, how a value of one is known, and answers, by the numbers that the library takes."""
 from __future__ import annotations
 

@@ -1,3 +1,4 @@
+# SPDX-License-Identifier: Apache-2.0
 """The proved library's calls, by ctypes. Its page is callers/c/vortex.h; what users call stands in the other modules.
 
 Each call takes 256 KiB of a thread's stack at the most, but ``run``.

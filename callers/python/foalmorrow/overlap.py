@@ -1,3 +1,4 @@
+# SPDX-License-Identifier: Apache-2.0
 """How much the zones of a column overlap: the clustering depth that warehouses show."""
 from __future__ import annotations
 

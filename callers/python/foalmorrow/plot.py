@@ -1,3 +1,4 @@
+# SPDX-License-Identifier: Apache-2.0
 """A picture of the zones' bounds under a predicate, by matplotlib (Debian: python3-matplotlib)."""
 from __future__ import annotations
 

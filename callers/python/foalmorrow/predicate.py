@@ -1,3 +1,4 @@
+# SPDX-License-Identifier: Apache-2.0
 """Predicates, built from columns by Python's operators, and their text in the language of a ``where`` line and in SQL.
 
 >>> columns = [Column("qty", DType.I64, True), Column("name", DType.UTF8)]

@@ -1,3 +1,4 @@
+# SPDX-License-Identifier: Apache-2.0
 """Reads what a user holds into values and nulls: each container exactly, or a ``ValueFault`` that names the column and the row.
 
 A column may stand in a list, tuple, deque, range, generator or another ordered iterable; in an ``array`` or a buffer; in a numpy array

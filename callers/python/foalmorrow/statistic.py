@@ -1,3 +1,4 @@
+# SPDX-License-Identifier: Apache-2.0
 """One statistic of one column over the zones of a table: how it is known of each, and its values."""
 from __future__ import annotations
 

@@ -1,3 +1,4 @@
+# SPDX-License-Identifier: Apache-2.0
 """Every kind of container measured, checked, pruned and merged beside a model in plain Python, by hypothesis (Debian: python3-hypothesis)."""
 import atexit
 import ctypes

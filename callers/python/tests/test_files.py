@@ -1,3 +1,4 @@
+# SPDX-License-Identifier: Apache-2.0
 """Files of footers: whatever the bytes are, they are footers or a FooterError."""
 import json
 import os

@@ -1,3 +1,4 @@
+# SPDX-License-Identifier: Apache-2.0
 """Footers: made, kept in a file, refused and measured."""
 import os
 import random

@@ -1,3 +1,4 @@
+# SPDX-License-Identifier: Apache-2.0
 """The tester of frames beside the library's own scan: of the same random tables and predicates both select the same rows."""
 import os
 import random

@@ -1,3 +1,4 @@
+# SPDX-License-Identifier: Apache-2.0
 """Pruning, merging, explaining: beside a direct filter of the rows, and of every field and type."""
 import io
 import os

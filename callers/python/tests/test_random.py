@@ -1,3 +1,4 @@
+# SPDX-License-Identifier: Apache-2.0
 """Random columns of each type, measured by the library and by plain Python."""
 import os
 import random

@@ -1,3 +1,4 @@
+# SPDX-License-Identifier: Apache-2.0
 """Containers read into values and nulls: each exactly, or refused by the column, the row and what was expected."""
 import ctypes
 import math

@@ -1,3 +1,4 @@
+// SPDX-License-Identifier: Apache-2.0
 //! Measures the chunks of a table, keeps their statistics in a file, and later reads the chunks alone that a predicate
 //! doesn't rule out.
 //!

@@ -1,3 +1,4 @@
+// SPDX-License-Identifier: Apache-2.0
 //! Types, and columns of values that are lent.
 use crate::error::{Error, Place};
 use crate::raw;

@@ -1,3 +1,4 @@
+// SPDX-License-Identifier: Apache-2.0
 //! The statistics of one column's zones, as arrays that are kept.
 use crate::column::{Column, DType, Kind};
 use crate::error::{Error, Place, Side};

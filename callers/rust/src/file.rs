@@ -1,3 +1,4 @@
+// SPDX-License-Identifier: Apache-2.0
 //! Files of footers: a zone map as bytes, the same that Python's package reads and writes.
 //!
 //! A file is a magic line, the length of a header, the header in JSON, the arrays that it lists, and a checksum.

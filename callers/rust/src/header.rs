@@ -1,3 +1,4 @@
+// SPDX-License-Identifier: Apache-2.0
 //! The header of a file of footers: what its arrays are.
 use crate::column::{DType, Kind};
 use crate::json::Json;

@@ -1,3 +1,4 @@
+// SPDX-License-Identifier: Apache-2.0
 //! The part of JSON that a header of footers is written in: lists and objects of texts, truths and counts.
 use std::fmt::Write;
 

@@ -1,3 +1,4 @@
+// SPDX-License-Identifier: Apache-2.0
 //! Statistics of columns and pruning by them, over the proved library of this repository.
 //!
 //! Each call goes to the archive that `checks/callers.sh` builds; this crate only lends it arrays, and gives its

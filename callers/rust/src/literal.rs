@@ -1,3 +1,4 @@
+// SPDX-License-Identifier: Apache-2.0
 //! Constants, and what a column is compared with.
 use crate::column::Kind;
 use std::fmt;

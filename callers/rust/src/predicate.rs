@@ -1,3 +1,4 @@
+// SPDX-License-Identifier: Apache-2.0
 //! Predicates, built from columns, and their text in the language of a `where` line.
 //!
 //! ```

@@ -1,3 +1,4 @@
+// SPDX-License-Identifier: Apache-2.0
 //! A predicate and the columns that it names, as they cross to the library.
 use crate::column::Kind;
 use crate::column_stats::{ColumnStats, Entry};

@@ -1,3 +1,4 @@
+// SPDX-License-Identifier: Apache-2.0
 //! What crosses to the library, as callers/c/vortex.h declares it.
 use std::marker::PhantomData;
 

@@ -1,3 +1,4 @@
+// SPDX-License-Identifier: Apache-2.0
 //! Statistics and their values.
 use crate::column::{DType, Kind};
 use std::fmt;

@@ -1,3 +1,4 @@
+// SPDX-License-Identifier: Apache-2.0
 //! The statistics of a table's zones.
 use crate::column::{Column, DType};
 use crate::column_stats::ColumnStats;

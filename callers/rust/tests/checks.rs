@@ -1,3 +1,4 @@
+// SPDX-License-Identifier: Apache-2.0
 //! Statistics that are checked against a chunk's values and its number of rows.
 use foalmorrow::{Column, DType, Error, Kind, Place, Precision, Stat, Value, ZoneMap};
 

@@ -1,3 +1,4 @@
+// SPDX-License-Identifier: Apache-2.0
 //! The columns that a predicate names: of any name and type, with or without a null count.
 use foalmorrow::{
     col, Answer, Column, ColumnName, DType, Error, Kind, Literal, Operator, Precision, Predicate, Stat, Value, ZoneMap,

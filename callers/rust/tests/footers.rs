@@ -1,3 +1,4 @@
+// SPDX-License-Identifier: Apache-2.0
 //! Files of footers: written, read, and refused whatever their bytes are.
 use foalmorrow::{DType, Error, FooterError, Kind, Place, Precision, Stat, Value, ZoneMap};
 use std::fs;

@@ -1,3 +1,4 @@
+// SPDX-License-Identifier: Apache-2.0
 //! Columns of which each byte and each length is changed in turn, beside a plain reading of them.
 use foalmorrow::{measure, Column, DType, Error, Kind, Place, Precision, Stat, Value, ZoneMap};
 use std::collections::HashSet;

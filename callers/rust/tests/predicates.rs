@@ -1,3 +1,4 @@
+// SPDX-License-Identifier: Apache-2.0
 //! Predicates of any length and depth, and their text.
 use foalmorrow::{col, Kind, Literal, Node, Operator, Predicate};
 

@@ -1,3 +1,4 @@
+// SPDX-License-Identifier: Apache-2.0
 //! Pruning and merging beside a direct filter of the rows.
 use foalmorrow::{
     col, Answer, Column, DType, Error, Kind, Literal, Node, Operand, Operator, Place, Precision, Predicate, Stat,

@@ -1,3 +1,4 @@
+// SPDX-License-Identifier: Apache-2.0
 //! Every field and type of what crosses.
 use foalmorrow::{measure, run, version, Column, ColumnStats, Error, Place, Precision, Reply, Stat, Value};
 

@@ -1,3 +1,4 @@
+// SPDX-License-Identifier: Apache-2.0
 //! Pruning by deep and by long predicates on a small stack.
 //!
 //! A call fits into 256 KiB. That is the whole stack of the threads here, with the thread's own storage and the frames

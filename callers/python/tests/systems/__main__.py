@@ -1,3 +1,4 @@
+# SPDX-License-Identifier: Apache-2.0
 """All systems, one after the other: python3 -m tests.systems. FOALMORROW_SEED chooses the random predicates.
 
 A system that isn't installed is left out, and the package that it is in is told.

@@ -1,3 +1,4 @@
+# SPDX-License-Identifier: Apache-2.0
 """Servers of their own for the tests: each in a folder of its own, stopped by its process when the tests end, however they end."""
 from __future__ import annotations
 

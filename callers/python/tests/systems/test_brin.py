@@ -1,3 +1,4 @@
+# SPDX-License-Identifier: Apache-2.0
 """A PostgreSQL server's BRIN index as footers, range by range beside the rows that stand there, and what is read by it beside the server."""
 import os
 import random

@@ -1,3 +1,4 @@
+# SPDX-License-Identifier: Apache-2.0
 """A ClickHouse server's primary index as footers, and footers of columns that it keeps nothing of; what is read by them beside the server."""
 import os
 import pathlib

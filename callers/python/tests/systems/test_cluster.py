@@ -1,3 +1,4 @@
+# SPDX-License-Identifier: Apache-2.0
 """A cluster of two workers: a table measured, merged, pruned and read where its partitions lie, also where a worker dies."""
 import csv
 import os

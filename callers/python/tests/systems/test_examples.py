@@ -1,3 +1,4 @@
+# SPDX-License-Identifier: Apache-2.0
 """The examples of each system, as a user starts them."""
 import os
 import pathlib
