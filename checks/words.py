@@ -1,6 +1,6 @@
 #!/usr/bin/env python3
 # SPDX-License-Identifier: Apache-2.0
-"""Looks for doc lines that can't be read without the line above: first lines of comments that begin with That, The same, Those or What.
+"""Looks for lines that can't be read without the one above: comments, and sentences of pages, that begin with That, The same, Those or What.
 
 usage: checks/words.py            counts them by crate, and fails where a file has some that the list of those to be mended lacks
        checks/words.py --lines    prints each of them
@@ -16,6 +16,8 @@ os.chdir(os.path.dirname(os.path.dirname(os.path.abspath(__file__))))
 
 # The files that still have such lines. It only shrinks: a new file has to do without.
 LIST = "checks/words.txt"
+MADE = ("docs/MAP.md", "docs/STATEMENT.md", "docs/STATEMENT_REST.md", "docs/WITNESSES.md")
+SENTENCE = re.compile(r"(?:^|[.!?] |^- |^\| )(?:That|The same|Those|What|Of) ")
 WORST = re.compile(r"(That|The same|Those|What)\b")
 ITEM = re.compile(r"\s*(#\[|pub\b|fn\b|struct\b|enum\b|trait\b|impl\b|const\b|mod\b|macro_rules!)")
 
@@ -47,6 +49,15 @@ def worst_of(f):
     return [(number, line) for number, line in first_lines(read(f)) if WORST.match(line)]
 
 
+def sentences_of_pages():
+    """The sentences of the pages that begin so, by their page and line; those that scripts write are left out."""
+    told = subprocess.run(["git", "ls-files", "README.md", "docs/*.md"], capture_output=True, text=True, check=True).stdout
+    for f in (it for it in told.split() if it not in MADE and os.path.exists(it)):
+        for number, line in enumerate(read(f).split("\n"), 1):
+            if SENTENCE.search(line) and not line.startswith("#"):
+                yield f, number, line
+
+
 def counts():
     return {f: len(worst_of(f)) for f in sources()}
 
@@ -60,6 +71,7 @@ def faults():
     found, named = counts(), set(listed())
     for f in sorted(f for f, number in found.items() if number and f not in named):
         yield from (f"{f}:{number}: a comment begins with a word that needs the line above: {line}" for number, line in worst_of(f))
+    yield from (f"{f}:{number}: a sentence begins with a word that needs the one before: {line[:100]}" for f, number, line in sentences_of_pages())
     yield from (f"{LIST}: {f} has no such line any more; checks/words.py --shrink takes it out" for f in sorted(named) if not found.get(f))
 
 
