@@ -205,6 +205,9 @@ def link_faults():
             for link in (it for it in re.findall(r"\]\(([^)\s]+)\)", line) if not it.startswith(("http://", "https://"))):
                 if not leads_somewhere(f, link):
                     yield f"{f}:{number}: nothing is at {link}"
+            for path in re.findall(r"`([\w./-]+\.(?:rt|antt|edit|py|sh|rs))`", line):
+                if not any(it == path or it.endswith(f"/{path}") for it in TRACKED) and not os.path.exists(path) and "MODULE" not in path:
+                    yield f"{f}:{number}: no file is {path}"
             for path in re.findall(r"(?<![\w/])(?:docs|checks|examples|bench|callers)/[\w./-]*\w", line):
                 if not os.path.exists(path) and not os.path.exists(os.path.join(os.path.dirname(f), path)) and "/NAME" not in path and "/CRATE" not in path and not path.startswith("callers/out"):
                     yield f"{f}:{number}: nothing is at {path}"
