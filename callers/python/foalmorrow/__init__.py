@@ -6,8 +6,9 @@ from .explain import Explanation
 from .footers import ALL, PRUNING, FooterError, Footers, Nullable, Statistic, Untrue
 from .library import LibraryError, Refused, run, version
 from .overlap import Overlap
-from .predicate import Predicate, PredicateError, col
-from .kinds import Answer, Column, DType, Precision, Stat
+from .predicate import Predicate, PredicateError, col, opaque
+from .kinds import Answer, Column, DType, Logical, Precision, Stat
+from .types import Date, Decimal, Enum, FixedBinary, Float32, Float64, Time, Timestamp, Unmapped, Uuid
 
 __all__ = [
     "ALL",
@@ -15,10 +16,17 @@ __all__ = [
     "Answers",
     "Column",
     "DType",
+    "Date",
+    "Decimal",
+    "Enum",
     "Explanation",
+    "FixedBinary",
+    "Float32",
+    "Float64",
     "FooterError",
     "Footers",
     "LibraryError",
+    "Logical",
     "Nullable",
     "Overlap",
     "PRUNING",
@@ -28,10 +36,15 @@ __all__ = [
     "Refused",
     "Stat",
     "Statistic",
+    "Time",
+    "Timestamp",
+    "Unmapped",
     "Untrue",
+    "Uuid",
     "ValueFault",
     "Values",
     "col",
+    "opaque",
     "run",
     "version",
 ]

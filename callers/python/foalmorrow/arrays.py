@@ -12,6 +12,7 @@ from array import array
 from collections.abc import Sequence
 from dataclasses import dataclass
 from itertools import accumulate, chain, compress
+from typing import Any
 
 from .kinds import DType
 
@@ -181,6 +182,26 @@ def spaced(present: Values, nulls: bytes) -> Values:
         for place, row in enumerate(rows):
             room[row * width : (row + 1) * width] = present.data[place * width : (place + 1) * width]
     return Values(present.dtype, memoryview(room), _NONE, count)
+
+
+def gathered(values: Values, places: Any) -> Values:
+    """Returns the values at the places of an array of numpy, as a copy; where a place is -1 room for a null.
+
+    ValueFault where texts are no pieces of their heap.
+    """
+    if values.dtype.has_ends:
+        ends = values.heap_ends()
+        pieces = [bytes(values.data[ends[place - 1] if place else 0 : ends[place]]) for place in range(len(values))]
+        pieces.append(b"")
+        listed = places.tolist()
+        lengths = numpy.fromiter(map(len, pieces), dtype="<u8", count=len(pieces))
+        ends_of = numpy.cumsum(lengths[places], dtype="<u8")
+        return Values(values.dtype, memoryview(b"".join(map(pieces.__getitem__, listed))), memoryview(ends_of.tobytes()), len(listed))
+    width = values.dtype.width
+    if not width:
+        return Values(values.dtype, _NONE, _NONE, len(places))
+    held = numpy.frombuffer(bytes(values.data) + bytes(width), dtype=f"V{width}")
+    return Values(values.dtype, memoryview(held[places].tobytes()), _NONE, len(places))
 
 
 def joined(pieces: Sequence[Values]) -> Values:

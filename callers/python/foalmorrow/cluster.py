@@ -25,8 +25,9 @@ from distributed import Client, KilledWorker
 from .answers import Answers
 from .footers import ALL, PRUNING, FooterError, Footers, Nullable
 from .items import expected, value_of
-from .kinds import Answer, Column, DType, Stat
+from .kinds import Answer, Column, DType, Logical, Stat
 from .predicate import Predicate
+from .types import FixedBinary, Float32, Float64
 
 Chunk = Mapping[str, object]
 #: Reads a partition to a chunk's columns.
@@ -301,6 +302,11 @@ def _cell(file: str, row: int, column: Column, text: str) -> object:
     if text == "" and (column.nullable or column.dtype == DType.NULL):
         return None
     value: object = None
+    if column.logical is not None:
+        value = _logical_cell(column.logical, text)
+        if value is None or column.logical.stored(value) is None:
+            raise TableError(f"{file}, row {row}, column {column.name}: {text!r} is no {column.word}; expected {column.logical.expected}")
+        return value
     if column.dtype.range is not None:
         value = int(text) if re.fullmatch("-?[0-9]{1,20}", text) else None
     elif column.dtype == DType.BOOL:
@@ -312,6 +318,18 @@ def _cell(file: str, row: int, column: Column, text: str) -> object:
     if value is None or value_of(column.dtype, value) is None:
         raise TableError(f"{file}, row {row}, column {column.name}: {text!r} is no {column.word}; expected {expected(column.dtype)}")
     return value
+
+
+def _logical_cell(kind: Logical, text: str) -> object:
+    """Returns a cell as an item of a logical type: bytes in hexadecimal digits, floating numbers as Python writes them, and others as texts."""
+    if isinstance(kind, (Float32, Float64)):
+        try:
+            return float(text) if re.fullmatch("[-+.0-9a-zA-Z]+", text) else None
+        except ValueError:
+            return None
+    if isinstance(kind, FixedBinary):
+        return bytes.fromhex(text) if re.fullmatch("([0-9a-fA-F]{2})*", text) else None
+    return text
 
 
 def read_npy(folder: str, columns: tuple[Column, ...]) -> Chunk:
@@ -327,7 +345,9 @@ def read_npy(folder: str, columns: tuple[Column, ...]) -> Chunk:
         if not file.exists():
             raise TableError(f"{folder} has no file {file.name}")
         values = numpy.load(file)
-        if values.dtype.kind not in _KINDS[column.dtype] or (column.dtype.width and values.dtype.itemsize != column.dtype.width):
+        # What an array of a logical type may hold is looked at where it is measured.
+        is_other = values.dtype.kind not in _KINDS[column.dtype] or (column.dtype.width and values.dtype.itemsize != column.dtype.width)
+        if column.logical is None and is_other:
             raise TableError(f"{file}: items of form {values.dtype} are no {column.dtype.word}")
         found[column.name] = Nullable(values, numpy.load(nulls)) if nulls.exists() else values
     return found

@@ -15,8 +15,9 @@ from collections.abc import Mapping, Sequence
 from typing import Any
 
 from .arrays import Values, ValueFault
-from .kinds import Column, DType, Precision, Stat, stat_dtype
+from .kinds import Column, DType, Logical, Precision, Stat, stat_dtype
 from .statistic import FooterError, Statistic
+from .types import of_word
 
 MAGIC = b"foalmorrow footers 1\n"
 
@@ -30,9 +31,9 @@ def encoded(columns: Sequence[Column], rows: array[int], statistics: Mapping[Key
         _check_arrays(f"column {name}: {stat.name.lower()}", it, len(rows))
         listed.append({"column": name, "stat": stat.name, "bytes": [it.known.nbytes, it.values.data.nbytes, it.values.ends.nbytes]})
         arrays += [it.known, it.values.data, it.values.ends]
-    for text in (note, *(column.name for column in columns)):
+    for text in (note, *(column.name for column in columns), *(column.type.word for column in columns)):
         _check_text(text)
-    told = [{"name": it.name, "type": it.dtype.name, "nullable": it.nullable} for it in columns]
+    told = [{"name": it.name, "type": it.dtype.name, "nullable": it.nullable} | _logical_field(it) for it in columns]
     header = json.dumps({"note": note, "zones": len(rows), "columns": told, "statistics": listed}).encode()
     body = MAGIC + len(header).to_bytes(8, "little") + header + b"".join(arrays)
     return body + zlib.crc32(body).to_bytes(4, "little")
@@ -57,6 +58,10 @@ def decoded(data: bytes) -> tuple[tuple[Column, ...], array[int], dict[Key, Stat
     if len(taken.rest):
         raise FooterError(f"{len(taken.rest)} bytes stand behind the last array")
     return columns, rows, statistics, _text(header["note"], "the note")
+
+
+def _logical_field(column: Column) -> dict[str, str]:
+    return {"logical": column.logical.word} if column.logical is not None else {}
 
 
 def written(path: str | os.PathLike[str], data: bytes) -> None:
@@ -153,7 +158,8 @@ def _check_text(text: str) -> None:
 def _columns(told: Any) -> tuple[Column, ...]:
     columns: dict[str, Column] = {}
     for it in _list(told, "the columns"):
-        found = _fields(it, "a column", ("name", "type", "nullable"))
+        names = ("name", "type", "nullable", "logical")
+        found = _fields(it, "a column", names if isinstance(it, dict) and "logical" in it else names[:3])
         name, nullable, word = _text(found["name"], "a column's name"), found["nullable"], found["type"]
         if name in columns:
             raise FooterError(f"column {name} is listed twice")
@@ -161,12 +167,20 @@ def _columns(told: Any) -> tuple[Column, ...]:
             raise FooterError(f"column {name} has no type")
         if not isinstance(nullable, bool):
             raise FooterError(f"column {name}: whether it is nullable is neither true nor false")
-        columns[name] = Column(name, DType[word], nullable)
+        columns[name] = Column(name, _logical(name, DType[word], found["logical"]) if "logical" in found else DType[word], nullable)
     return tuple(columns.values())
 
 
+def _logical(name: str, dtype: DType, word: Any) -> Logical:
+    found = of_word(word) if isinstance(word, str) else None
+    if found is None or found.dtype != dtype:
+        raise FooterError(f"column {name} has no logical type over {dtype.word}")
+    _check_text(found.word)
+    return found
+
+
 def _statistics(told: Any, columns: Sequence[Column], zones: int, taken: _Taken) -> dict[Key, Statistic]:
-    types, found = {column.name: column.dtype for column in columns}, {}
+    types, found = {column.name: column.type for column in columns}, {}
     for it in _list(told, "the statistics"):
         fields = _fields(it, "a statistic", ("column", "stat", "bytes"))
         name, word, lengths = fields["column"], fields["stat"], _list(fields["bytes"], "the lengths of a statistic")

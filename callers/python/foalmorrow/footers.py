@@ -5,19 +5,20 @@ from __future__ import annotations
 import operator
 import os
 from array import array
-from collections.abc import Iterable, Iterator, Mapping, Sequence
+from collections.abc import Collection, Iterable, Iterator, Mapping, Sequence
 from typing import Any, Literal, NamedTuple
 
 from . import files, library
 from .answers import Answers
-from .arrays import ValueFault
+from .arrays import ValueFault, Values
 from .explain import Explanation
 from .items import shown
-from .kinds import Column, DType, Precision, Stat, stat_dtype
+from .kinds import Column, DType, Logical, Precision, Stat, stat_dtype
 from .overlap import Overlap, overlap
-from .predicate import Predicate, PredicateError, is_name
-from .reading import Nullable, Where, read, read_column
+from .predicate import Opaque, Predicate, PredicateError, is_name
+from .reading import Nullable, Read, Where, read, read_column
 from .statistic import FooterError, Statistic, absent, joined_statistics, without_nulls
+from .types import Float32, Float64
 
 __all__ = ["ALL", "PRUNING", "FooterError", "Footers", "Nullable", "Statistic", "Untrue"]
 
@@ -69,17 +70,22 @@ class Footers:
             raise FooterError(f"the table has no column {name}")
         if not isinstance(stat, Stat):
             raise FooterError(f"column {name}: {stat!r} is no Stat")
-        dtype = stat_dtype(stat, self._places[name].dtype)
+        dtype = stat_dtype(stat, self._places[name].type)
         if dtype is None:
-            raise FooterError(f"column {name}: {self._places[name].dtype.word} has no {stat.name.lower()}")
+            raise FooterError(f"column {name}: {self._places[name].type.word} has no {stat.name.lower()}")
         return dtype
 
     def __len__(self) -> int:
         return len(self.rows)
 
     @classmethod
-    def of_values(cls, columns: Sequence[Column], rows: object, given: Mapping[tuple[str, Stat], tuple[object, object]]) -> Footers:
+    def of_values(
+        cls, columns: Sequence[Column], rows: object, given: Mapping[tuple[str, Stat], tuple[object, object]], nan_left_out: Collection[str] = ()
+    ) -> Footers:
         """Returns footers of arrays: of each column's statistic its values, a zone each, and how they are known.
+
+        ``nan_left_out`` names the columns of floating numbers whose writer leaves NaN out of the bounds, as Parquet's do: their greatest values
+        bound nothing above, so these are absent, and so is a least value that is NaN.
 
         The values may stand in any container that a column may stand in. How: one ``Precision`` for all zones, or one for each. A value that is
         None, or null as the container has it, is absent whatever is said of how it is known.
@@ -88,33 +94,55 @@ class Footers:
         """
         empty = cls(columns, rows)
         statistics = {}
+        for name in nan_left_out:
+            if name not in empty._places or not isinstance(empty._places[name].logical, (Float32, Float64)):
+                raise FooterError(f"column {name} holds no floating numbers, of which NaN may be left out")
         for (name, stat), (values, known) in given.items():
-            dtype = empty._dtype(name, stat)
+            empty._dtype(name, stat)
             where = Where(f"column {name}, {stat.name.lower()}", name, "zone")
-            found = read(dtype, values, where)
+            found = read(empty._value_type(name, stat), values, where)
             marks = _known(known, len(found.values), where)
             if found.nulls is not None:
                 marks = bytes(Precision.ABSENT if null else code for code, null in zip(marks, found.nulls))
+            if name in nan_left_out and stat in (Stat.MIN, Stat.MAX):
+                marks = bytes(len(marks)) if stat == Stat.MAX else _without_nan(empty._places[name].logical, found.values, marks)
             statistics[name, stat] = Statistic(memoryview(marks), found.values)
         return cls(columns, empty.rows, statistics)
 
+    def _value_type(self, name: str, stat: Stat) -> DType | Logical:
+        """Returns the type of a statistic's values: the column's logical one for its bounds, and for its sum where it has one."""
+        column = self._places[name]
+        return column.type if stat in (Stat.MIN, Stat.MAX) or (stat == Stat.SUM and column.logical is not None) else self._dtype(name, stat)
+
     @classmethod
-    def measure(cls, columns: Sequence[Column], chunks: Iterable[Mapping[str, object]], wanted: Sequence[Stat] = ALL) -> Footers:
+    def measure(cls, columns: Sequence[Column], chunks: Iterable[Any], wanted: Sequence[Stat] = ALL) -> Footers:
         """Returns the footers of chunks, a zone each: true of them by proof.
 
         A chunk is a dict or a frame of columns by their names, each a list, an array of numpy, a Series or another container that
-        ``foalmorrow.reading`` names.
+        ``foalmorrow.reading`` names; or a table of Arrow, or a frame of the dataframe interchange protocol. The chunks may be a stream of Arrow,
+        of which each record batch is one.
 
         FooterError where a column is missing, or one of a chunk is longer than another; ValueFault, with the column and the row, where a value
         isn't of its column's type; Refused where a heap of texts isn't UTF-8.
         """
+        from . import arrow
+
         building = _Building(columns, wanted)
-        for chunk in chunks:
+        for chunk in arrow.batches(chunks) if arrow.is_table(chunks) else chunks:
             building.add(chunk)
         return building.footers()
 
     def at(self, zone: int) -> dict[tuple[str, Stat], tuple[Precision, object]]:
-        """Returns what is known of a zone."""
+        """Returns what is known of a zone. The bounds of a logical type are its own values, as dates and decimals."""
+        found = self._stored_at(zone)
+        for (name, stat), (known, value) in found.items():
+            logical = self._places[name].logical
+            if logical is not None and stat in (Stat.MIN, Stat.MAX, Stat.SUM):
+                found[name, stat] = known, logical.shown(value)
+        return found
+
+    def _stored_at(self, zone: int) -> dict[tuple[str, Stat], tuple[Precision, object]]:
+        """Returns what is known of a zone, by the values that are kept."""
         return {key: statistic.at(zone) for key, statistic in self.statistics.items() if statistic.known[zone]}
 
     def prune(self, predicate: Predicate | str, normalize: bool = False) -> Answers:
@@ -126,20 +154,37 @@ class Footers:
         prepare. The arrays of the columns that it names are handed over as they are. A column that isn't nullable has an exact null count of
         0 where nothing else is known of it.
 
+        An opaque condition may be anything of each row: it is a column of its own without statistics. The words of a ``where`` line compare the
+        physical values of columns.
+
         PredicateError where the predicate names a column that isn't there, compares a column with a value that isn't of its type, isn't of
         type bool, or nests deeper than 128 levels, or its normal form does; Refused, with the column, the statistic and the zone, where an array
         says what can't be.
         """
         if isinstance(predicate, Predicate):
-            columns = [self._column(name) for name in dict.fromkeys(predicate.names())]
-            names = [f"c{place}" for place in range(len(columns))]
-            text = predicate.text(columns, dict(zip((column.name for column in columns), names)))
+            columns, names, text, unknown = self._spelled(predicate)
         elif isinstance(predicate, str):
-            columns = [column for column in self.columns if is_name(column.name)]
+            columns, unknown = [column for column in self.columns if is_name(column.name)], []
             names, text = [column.name for column in columns], predicate
         else:
             raise TypeError(f"{predicate!r} is no predicate: compare a column, as in col('a') == True")
-        return Answers(library.prune(columns, names, self.rows, self._handed(columns), text, normalize))
+        return Answers(library.prune(columns, names, self.rows, self._handed(columns), text, normalize, unknown))
+
+    def _spelled(self, predicate: Predicate) -> tuple[list[Column], list[str], str, list[str]]:
+        """Returns the columns that a predicate names, the names that it gives them, its text, and the names of its opaque conditions."""
+        columns = [self._column(name) for name in dict.fromkeys(predicate.names())]
+        names = [f"c{place}" for place in range(len(columns))]
+        spelled = dict(zip((column.name for column in columns), names))
+        items = predicate.lowered(columns).prefix()
+        places = [place for place, item in enumerate(items) if isinstance(item, Opaque)]
+        unknown = [f"o{place}" for place in places]
+        words: list[str | Predicate] = list(items)
+        for place, name in zip(places, unknown):
+            words[place] = f"col {name}"
+        known = {column.name: column.physical for column in columns}
+        text = " ".join(it if isinstance(it, str) else it._text(known, spelled.__getitem__) for it in words)
+        # The library takes no table without columns.
+        return columns, names, text, unknown if columns or unknown else ["o"]
 
     def _column(self, name: str) -> Column:
         if name not in self._places:
@@ -234,7 +279,7 @@ class Footers:
             return None
         return least.values[zone], greatest.values[zone]
 
-    def check(self, zone: int, chunk: Mapping[str, object]) -> Untrue | None:
+    def check(self, zone: int, chunk: Any) -> Untrue | None:
         """Returns the first thing told of a zone that isn't true of a chunk's values, or None where all is.
 
         The number of rows is told too, and compared first: ``Untrue(column, "rows")`` where the chunk has others. FooterError and ValueFault as of
@@ -306,7 +351,7 @@ class Footers:
             isinstance(other, Footers)
             and self.columns == other.columns
             and self.rows == other.rows
-            and all(self.at(zone) == other.at(zone) for zone in range(len(self)))
+            and all(self._stored_at(zone) == other._stored_at(zone) for zone in range(len(self)))
         )
 
     __hash__ = None  # type: ignore[assignment]
@@ -314,6 +359,12 @@ class Footers:
     def _or_absent(self, name: str, stat: Stat) -> Statistic:
         found = self.statistics.get((name, stat))
         return found if found is not None else absent(stat, self._places[name].dtype, len(self))
+
+
+def _without_nan(logical: Any, values: Values, marks: bytes) -> bytes:
+    """Returns how least values are known, without those that are NaN."""
+    numbers = values.data.cast("i" if logical.dtype == DType.I32 else "q")
+    return bytes(Precision.ABSENT if number == logical.width.nan else code for number, code in zip(numbers, marks))
 
 
 def _rows(rows: object) -> array[int]:
@@ -341,19 +392,34 @@ def _known(given: object, count: int, where: Where) -> bytes:
     return marks
 
 
-def _chunk_columns(columns: Sequence[Column], chunk: Mapping[str, object]) -> Iterator[tuple[Column, Any, bytes | None]]:
+def _chunk_columns(columns: Sequence[Column], chunk: Any) -> Iterator[tuple[Column, Any, bytes | None]]:
     """Yields each column with its values in a chunk and which of them are null. FooterError where one is missing or longer than another."""
     first: tuple[str, int] | None = None
-    if not hasattr(chunk, "keys"):
-        raise FooterError(f"a chunk of type {type(chunk).__name__} names no columns; expected a dict of columns or a frame")
+    table = None if hasattr(chunk, "keys") else _table_columns(columns, chunk)
     for column in columns:
-        if column.name not in chunk.keys():
+        if table is None and column.name not in chunk.keys():
             raise FooterError(f"the chunk has no column {column.name}")
-        found = read_column(column, chunk[column.name])
+        found = read_column(column, chunk[column.name] if table is None else table[column.name])
         first = first or (column.name, len(found.values))
         if len(found.values) != first[1]:
             raise FooterError(f"the chunk's column {column.name} has {len(found.values)} rows, and column {first[0]} has {first[1]}")
         yield column, found.values, found.nulls
+
+
+def _table_columns(columns: Sequence[Column], chunk: Any) -> Mapping[str, Read]:
+    """Reads the columns of a table of Arrow, or of a frame of the interchange protocol. FooterError where one is missing."""
+    from . import arrow, interchange
+
+    try:
+        if isinstance(chunk, arrow.Batch):
+            return chunk.columns(columns)
+        if arrow.is_table(chunk):
+            return arrow.columns_of(columns, chunk)
+        if hasattr(chunk, "__dataframe__"):
+            return interchange.columns_of(columns, chunk)
+    except KeyError as missing:
+        raise FooterError(f"the chunk has no column {missing.args[0]}") from None
+    raise FooterError(f"a chunk of type {type(chunk).__name__} names no columns; expected a dict of columns, a frame or a table")
 
 
 class _Building:
@@ -365,11 +431,11 @@ class _Building:
         self.rows = array("Q")
         self.told: dict[tuple[str, Stat], list[Statistic]] = {}
 
-    def add(self, chunk: Mapping[str, object]) -> None:
+    def add(self, chunk: Any) -> None:
         rows = 0
         for column, values, nulls in _chunk_columns(self.columns, chunk):
             rows = len(values)
-            wanted = [stat for stat in self.wanted if stat_dtype(stat, column.dtype) is not None]
+            wanted = [stat for stat in self.wanted if stat_dtype(stat, column.type) is not None]
             measured = library.measure(column, values, nulls, wanted)
             for stat in wanted:
                 self.told.setdefault((column.name, stat), []).append(measured.get(stat) or absent(stat, column.dtype, 1))

@@ -1,7 +1,8 @@
 # SPDX-License-Identifier: Apache-2.0
 """Chunks as pandas frames, and the rows of a frame that satisfy a predicate (Debian: python3-pandas).
 
-Columns have pandas' types with null (``Int64``, ``string``, ``boolean``), whose AND, OR and NOT know three truths as the library's do.
+Columns have pandas' types with null (``Int64``, ``string``, ``boolean``), whose AND, OR and NOT know three truths as the library's do. Those of a
+logical type hold its values, as dates and decimals, and are compared by the physical values that they are mapped onto.
 """
 from __future__ import annotations
 
@@ -15,7 +16,7 @@ import pandas
 
 from .footers import FooterError
 from .kinds import Column, DType
-from .predicate import Between, ColumnOf, Compared, Like, NullTest, Predicate, PredicateError, literal
+from .predicate import Between, ColumnOf, Compared, Constant, Like, NullTest, Opaque, Predicate, PredicateError, literal
 from .reading import read_column
 
 _OPERATORS: dict[str, Callable[[Any, Any], Any]] = {
@@ -28,10 +29,23 @@ def frame_of(columns: Sequence[Column], chunk: Mapping[str, object]) -> pandas.D
     missing = [column.name for column in columns if column.name not in chunk]
     if missing:
         raise FooterError(f"the chunk has no column {missing[0]}")
-    return pandas.DataFrame({column.name: _series(column, chunk[column.name]) for column in columns})
+    return pandas.DataFrame({column.name: _shown(column, chunk[column.name]) for column in columns})
+
+
+def _shown(column: Column, given: Any) -> pandas.Series:
+    """Returns a column with the values of its own type."""
+    if column.logical is None:
+        return _series(column, given)
+    found = read_column(column, given)
+    nulls = found.nulls or bytes(len(found.values))
+    items = [None if null else column.logical.shown(found.values[row]) for row, null in enumerate(nulls)]
+    held = numpy.empty(len(items), dtype=object)
+    held[:] = items
+    return pandas.Series(held, dtype=object)
 
 
 def _series(column: Column, given: Any) -> pandas.Series:
+    """Returns a column with its physical values."""
     found = read_column(column, given)
     values, count = found.values, len(found.values)
     mask = numpy.zeros(count, bool) if found.nulls is None else numpy.frombuffer(found.nulls, dtype=bool).copy()
@@ -50,13 +64,20 @@ def _series(column: Column, given: Any) -> pandas.Series:
 def rows(predicate: Predicate, columns: Sequence[Column], frame: pandas.DataFrame) -> pandas.DataFrame:
     """Returns the rows of a frame that satisfy a predicate, which are those that the library's own scan selects.
 
-    PredicateError where the predicate names what isn't there or compares what can't be compared.
+    PredicateError where the predicate names what isn't there, compares what can't be compared, or is opaque.
     """
     return frame[truths(predicate, {column.name: column for column in columns}, frame).fillna(False).astype(bool)]
 
 
 def truths(predicate: Predicate, columns: Mapping[str, Column], frame: pandas.DataFrame) -> pandas.Series:
     """Returns what a predicate is of each row: true, false or null."""
+    named = [columns[name] for name in dict.fromkeys(predicate.names()) if name in columns]
+    predicate = predicate.lowered(list(columns.values()))
+    logical = [column for column in named if column.logical is not None]
+    if logical:
+        held = {column.name: _series(column, _items(frame[column.name])).set_axis(frame.index) for column in logical}
+        frame = pandas.DataFrame({column.name: held.get(column.name, frame[column.name]) for column in named}, index=frame.index)
+    columns = {name: column.physical for name, column in columns.items()}
 
     def leaf(it: Predicate) -> Any:
         return _leaf(it, columns, frame)
@@ -67,9 +88,18 @@ def truths(predicate: Predicate, columns: Mapping[str, Column], frame: pandas.Da
     return predicate.folded(leaf, joined, operator.invert)
 
 
+def _items(series: pandas.Series) -> Any:
+    """Returns the items of a Series of objects, in which NaN is a value; another Series as it is."""
+    return series.to_numpy() if series.dtype == object else series
+
+
 def _leaf(leaf: Predicate, columns: Mapping[str, Column], frame: pandas.DataFrame) -> pandas.Series:
     if isinstance(leaf, Between):
         return truths(leaf.ends(), columns, frame)
+    if isinstance(leaf, Opaque):
+        raise PredicateError(f"{leaf!r} is opaque, and can't be tested here")
+    if isinstance(leaf, Constant):
+        return pandas.Series(pandas.NA if leaf.truth is None else leaf.truth, index=frame.index, dtype="boolean")
     named = [columns.get(name) for name in leaf.names()]
     if None in named:
         raise PredicateError(f"the table has no column {leaf.names()[named.index(None)]}")

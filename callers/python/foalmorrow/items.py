@@ -9,7 +9,7 @@ import reprlib
 import sys
 from typing import Any
 
-from .kinds import DType
+from .kinds import DType, Logical
 
 try:
     import numpy
@@ -64,8 +64,10 @@ def plain(item: Any) -> Any:
     return item
 
 
-def expected(dtype: DType) -> str:
+def expected(dtype: DType | Logical) -> str:
     """Returns the words for the values of a type."""
+    if isinstance(dtype, Logical):
+        return dtype.expected
     if dtype.range is not None:
         return f"a whole number from {dtype.range[0]} to {dtype.range[1]}"
     return {DType.NULL: "null alone", DType.BOOL: "True or False", DType.UTF8: "a str", DType.BINARY: "bytes"}[dtype]

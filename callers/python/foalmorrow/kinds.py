@@ -4,6 +4,7 @@ from __future__ import annotations
 
 import enum
 from dataclasses import dataclass
+from typing import Any
 
 
 class DType(enum.IntEnum):
@@ -94,22 +95,86 @@ class Answer(enum.IntEnum):
     WHOLE = 2
 
 
-@dataclass(frozen=True)
-class Column:
-    """A column of a table: its name, its type, and whether null is a value of it."""
+class Logical:
+    """A type of values that stand as values of a physical type, in their own order. ``foalmorrow.types`` has them all."""
 
-    name: str
+    #: The physical type onto whose values those of this one are mapped.
     dtype: DType
-    nullable: bool = False
+    #: Whether the sum of the mapped values is the sum of the values.
+    has_sum = False
+    #: Whether anything but a value's being null is known by the mapped values.
+    has_values = True
 
     @property
     def word(self) -> str:
-        """The type's word in the language of predicates, as ``i64?``."""
-        return self.dtype.word + ("?" if self.nullable and self.dtype != DType.NULL else "")
+        """Returns the type's word, as ``timestamp[us, UTC]``; ``foalmorrow.types.of_word`` reads it."""
+        raise NotImplementedError
+
+    @property
+    def expected(self) -> str:
+        """Returns the words for the values that a column takes."""
+        raise NotImplementedError
+
+    def stored(self, item: Any) -> int | bytes | None:
+        """Returns an item of a container as a value of the physical type, a text by its UTF-8; None where it is no value of the type."""
+        raise NotImplementedError
+
+    def shown(self, value: Any) -> Any:
+        """Returns a value of the physical type as what it means."""
+        raise NotImplementedError
 
 
-def stat_dtype(stat: Stat, dtype: DType) -> DType | None:
-    """The type of a statistic's values for a column of this type, or None where the column has no such statistic."""
+@dataclass(frozen=True, init=False, repr=False)
+class Column:
+    """A column of a table: its name, its type, and whether null is a value of it.
+
+    The type is a physical one, or a logical one of ``foalmorrow.types``, which brings its physical type along.
+
+    >>> Column("qty", DType.I64, True).dtype.name
+    'I64'
+    """
+
+    name: str
+    #: The physical type.
+    dtype: DType
+    nullable: bool
+    #: The logical type; None where the physical one is all that is meant.
+    logical: Logical | None
+
+    def __init__(self, name: str, dtype: DType | Logical, nullable: bool = False):
+        is_logical = isinstance(dtype, Logical)
+        fields = (name, dtype.dtype if isinstance(dtype, Logical) else dtype, nullable, dtype if is_logical else None)
+        for field, value in zip(("name", "dtype", "nullable", "logical"), fields):
+            object.__setattr__(self, field, value)
+
+    def __repr__(self) -> str:
+        return f"Column({self.name!r}, {self.logical or self.dtype!r}, {self.nullable!r})"
+
+    @property
+    def type(self) -> DType | Logical:
+        """Returns the logical type where there is one, and else the physical one."""
+        return self.logical if self.logical is not None else self.dtype
+
+    @property
+    def word(self) -> str:
+        """Returns the type's word, as ``i64?`` or ``timestamp[us, UTC]?``."""
+        return self.type.word + ("?" if self.nullable and self.type != DType.NULL else "")
+
+    @property
+    def physical(self) -> Column:
+        """Returns the same column under its physical type alone."""
+        return self if self.logical is None else Column(self.name, self.dtype, self.nullable)
+
+
+def stat_dtype(stat: Stat, dtype: DType | Logical) -> DType | None:
+    """Returns the physical type of a statistic's values for a column of this type, or None where the column has no such statistic.
+
+    >>> stat_dtype(Stat.SUM, DType.I8).name, stat_dtype(Stat.SUM, DType.UTF8)
+    ('I64', None)
+    """
+    if isinstance(dtype, Logical):
+        is_without = (stat == Stat.SUM and not dtype.has_sum) or not (dtype.has_values or stat == Stat.NULL_COUNT)
+        return None if is_without else stat_dtype(stat, dtype.dtype)
     if stat in (Stat.MAX, Stat.MIN):
         return None if dtype == DType.NULL else dtype
     if stat == Stat.SUM:

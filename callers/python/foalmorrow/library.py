@@ -16,7 +16,7 @@ from functools import partial
 from typing import Literal
 
 from .arrays import Values, moved
-from .kinds import Column, Stat, stat_dtype
+from .kinds import Column, DType, Stat, stat_dtype
 from .predicate import PredicateError
 from .statistic import Statistic
 
@@ -387,19 +387,24 @@ def prune(
     statistics: Mapping[tuple[str, Stat], Statistic],
     predicate: str,
     normalize: bool,
+    unknown: Sequence[str] = (),
 ) -> bytearray:
-    """Returns what to do with each zone under a predicate, a byte each. The predicate calls the columns by ``names``."""
+    """Returns what to do with each zone under a predicate, a byte each. The predicate calls the columns by ``names``.
+
+    ``unknown`` names the columns of truths of which nothing is known, as opaque conditions are.
+    """
     lent, fault, keys = _Lent(), Fault(), list(statistics)
     places = {column.name: place for place, column in enumerate(columns)}
-    spelled = [name.encode() for name in names]
-    scope = (CField * len(columns))(*[CField(lent.at(name), len(name), it.dtype, it.nullable) for name, it in zip(spelled, columns)])
+    spelled = [(name.encode(), it.dtype, it.nullable) for name, it in zip(names, columns)]
+    spelled += [(name.encode(), DType.BOOL, True) for name in unknown]
+    scope = (CField * len(spelled))(*[CField(lent.at(name), len(name), dtype, nullable) for name, dtype, nullable in spelled])
     table = _table([_statistic(lent, places[name], stat, statistics[name, stat]) for name, stat in keys])
     try:
         text = predicate.encode()
     except UnicodeEncodeError as wrong:
         raise PredicateError(f"the predicate is no Unicode text: {wrong}") from wrong
     answers = bytearray(len(rows))
-    given = (scope, len(columns), lent.at(rows), len(rows), table, len(keys), lent.at(text), len(text), int(normalize))
+    given = (scope, len(spelled), lent.at(rows), len(rows), table, len(keys), lent.at(text), len(text), int(normalize))
     status = _library().vortex_prune(*given, lent.at(answers), len(answers), ctypes.byref(fault))
     _answered_zones(status, fault, columns, keys)
     return answers

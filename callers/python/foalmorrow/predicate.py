@@ -7,9 +7,11 @@
 'and gt col qty lit i64? 9000 like col name lit utf8 "pre%"'
 >>> print(wanted.sql(columns))
 (("qty" > 9000) AND ("name" LIKE 'pre%'))
+>>> wanted
+qty > 9000 AND name LIKE 'pre%'
 
-A literal has the type of the column that it is compared with. ``None`` is null. Python's ``and``, ``or`` and ``not`` can't be
-given another meaning: ``&``, ``|`` and ``~`` stand for them, with parentheses round comparisons.
+A literal has the type of the column that it is compared with. Nothing compares with null: ``is_null`` and ``is_not_null`` test for it.
+Python's ``and``, ``or`` and ``not`` can't be given another meaning: ``&``, ``|`` and ``~`` stand for them, with parentheses round comparisons.
 
 Predicates may nest as deep as memory allows: no method takes stack by their depth. Pruning refuses more than 128 levels. A column and a
 literal have none, and each other node has one more than its deepest operand. A chain of n conditions joined by ``&``, or by ``|``, takes the
@@ -17,20 +19,29 @@ logarithm of n whatever its shape.
 """
 from __future__ import annotations
 
+import datetime
+import decimal
 import re
-from collections.abc import Callable, Iterable, Mapping, Sequence
-from dataclasses import dataclass
-from typing import Any, NoReturn, TypeVar
+import uuid
+from collections.abc import Callable, Collection, Iterable, Mapping, Sequence
+from dataclasses import dataclass, replace
+from typing import Any, Literal, NoReturn, TypeVar
 
 from .items import expected, is_missing, plain, shown, value_of
 from .kinds import Column, DType
+from .types import Float32, Float64
 
-Value = bool | int | str | bytes | None
+#: A literal: Python's own values, and those of numpy and pandas.
+Value = Any
+#: What a comparison with NaN means: ``greatest`` that NaN is equal to itself and above all other numbers, as in PostgreSQL, DuckDB and Spark;
+#: ``ieee`` that only ``!=`` is true of it, as in ClickHouse and numpy. None leaves both open.
+Nan = Literal["greatest", "ieee"] | None
+#: The ends of a range that belong to it.
+Closed = Literal["both", "left", "right", "neither"]
 Columns = dict[str, Column]
 Folded = TypeVar("Folded")
 
 _OPERATORS = {"eq": "=", "ne": "<>", "gt": ">", "ge": ">=", "lt": "<", "le": "<="}
-_PYTHON = {**_OPERATORS, "eq": "==", "ne": "!="}
 _TURNED = {"eq": "ne", "ne": "eq", "gt": "le", "le": "gt", "ge": "lt", "lt": "ge"}
 _OTHER = {"and": "or", "or": "and"}
 #: A name of a column in the language of predicates.
@@ -75,9 +86,33 @@ class Predicate:
         PredicateError where the predicate doesn't fit the columns, or one has a name that the language hasn't. A text with a line feed in it
         serves pruning alone: in a file of the program it would end the line.
         """
-        known = {column.name: column for column in columns}
+        known = {column.name: column.physical for column in columns}
         spelled: Callable[[str], str] = names.__getitem__ if names is not None else _own_name
-        return " ".join(item if isinstance(item, str) else item._text(known, spelled) for item in self.prefix())
+        return " ".join(item if isinstance(item, str) else item._text(known, spelled) for item in self.lowered(columns).prefix())
+
+    def lowered(self, columns: Sequence[Column]) -> Predicate:
+        """Returns the same condition over the physical values of columns: their literals as numbers, texts and bytes.
+
+        PredicateError where a literal isn't one of its column's logical type.
+
+        >>> from foalmorrow.types import Timestamp
+        >>> (col("at") > "1970-01-01 00:00:12.5").lowered([Column("at", Timestamp("s"))])
+        at > 12
+        """
+        from .lowering import lowered
+
+        return lowered(self, {column.name: column for column in columns})
+
+    def with_nan(self, nan: Nan) -> Predicate:
+        """Returns the same condition in which comparisons that don't say what NaN means take this meaning.
+
+        >>> ((col("x") > 1.5) & (col("y") < 2.5)).with_nan("ieee") == ((col("x", nan="ieee") > 1.5) & (col("y", nan="ieee") < 2.5))
+        True
+        """
+        _check_nan(nan)
+        is_open = (Compared, Between)
+        found = [replace(it, nan=nan) if isinstance(it, is_open) and it.nan is None else it for it in self.prefix()]
+        return of_prefix(found)
 
     def sql(self, columns: Sequence[Column], dialect: Dialect = SQL) -> str:
         """Returns the same as a condition of SQL, in which a chain of AND or of OR stands in one pair of parentheses.
@@ -89,10 +124,18 @@ class Predicate:
         def leaf(it: Predicate) -> str:
             return it._sql(known, dialect)
 
-        return _infix(self if dialect.has_null else self.without_not(), leaf, {"and": " AND ", "or": " OR ", "not": "(NOT "})
+        # The dialect knows what NaN means, so that NOT stays where it may make a difference.
+        floating = [column.name for column in columns if column.type in (Float32(), Float64())]
+        return _infix(self if dialect.has_null else self.without_not(floating), leaf)
 
-    def without_not(self) -> Predicate:
-        """Returns the same predicate without NOT: each comparison under one is turned round, and null stays null."""
+    def without_not(self, kept: Collection[str] = ()) -> Predicate:
+        """Returns the same predicate without NOT: each comparison under one is turned round, and null stays null.
+
+        Comparisons by order of the columns ``kept`` stay under NOT: of NaN one of them may be false, and its opposite, too.
+
+        >>> (~((col("qty") > 3) | col("name").is_null())).without_not()
+        qty <= 3 AND name IS NOT NULL
+        """
         found: list[str | Predicate] = []
         pending: list[tuple[Predicate, bool]] = [(self, False)]
         while pending:
@@ -102,6 +145,8 @@ class Predicate:
                 pending += [(node.right, turned), (node.left, turned)]
             elif isinstance(node, Not):
                 pending.append((node.of, not turned))
+            elif turned and isinstance(node, (Compared, Between)) and not {node.name}.isdisjoint(kept):
+                found += ["not", node]
             else:
                 found += node._turned().prefix() if turned else [node]
         return of_prefix(found)
@@ -172,7 +217,7 @@ class Predicate:
         def leaf(it: Predicate) -> str:
             return it._shown()
 
-        return _infix(self, leaf, {"and": " & ", "or": " | ", "not": "(~"})
+        return _infix(self, leaf, self.word if isinstance(self, Joined) else "")
 
     def _shown(self) -> str:
         raise NotImplementedError
@@ -229,10 +274,11 @@ def of_prefix(items: Sequence[str | Predicate]) -> Predicate:
     return found[0]
 
 
-def _infix(predicate: Predicate, leaf: Callable[[Any], str], words: Mapping[str, str]) -> str:
-    """Returns the tree with its words between their operands. An operand with its own operator's word needs no parentheses."""
+def _infix(predicate: Predicate, leaf: Callable[[Any], str], outermost: str = "") -> str:
+    """Returns the tree as a condition of SQL, without parentheses round a chain that stands in one of the same word."""
+    words = {"and": " AND ", "or": " OR ", "not": "(NOT "}
     pieces: list[str] = []
-    pending: list[str | tuple[Predicate, str]] = [(predicate, "")]
+    pending: list[str | tuple[Predicate, str]] = [(predicate, outermost)]
     while pending:
         item = pending.pop()
         if isinstance(item, str):
@@ -272,12 +318,76 @@ class Not(Predicate):
 
 
 @dataclass(frozen=True, eq=False, repr=False)
+class Constant(Predicate):
+    """A condition that is true, false or null of every row."""
+
+    truth: bool | None
+
+    def _text(self, columns: Columns, spelled: Callable[[str], str]) -> str:
+        return "lit bool? null" if self.truth is None else f"lit bool {str(self.truth).lower()}"
+
+    def _sql(self, columns: Columns, dialect: Dialect) -> str:
+        return self._shown()
+
+    def names(self) -> list[str]:
+        return []
+
+    def _turned(self) -> Predicate:
+        return Constant(None if self.truth is None else not self.truth)
+
+    def _key(self) -> tuple[Any, ...]:
+        return "constant", self.truth
+
+    def _shown(self) -> str:
+        return "NULL" if self.truth is None else str(self.truth).upper()
+
+
+@dataclass(frozen=True, eq=False, repr=False)
+class Opaque(Predicate):
+    """A condition of which nothing is known: of each row it may be true, false or null."""
+
+    words: str
+
+    def _text(self, columns: Columns, spelled: Callable[[str], str]) -> str:
+        raise PredicateError(f"{shown(self.words)} is opaque, and has no words in the language of predicates; prune takes it")
+
+    def _sql(self, columns: Columns, dialect: Dialect) -> str:
+        return f"({self.words})"
+
+    def names(self) -> list[str]:
+        return []
+
+    def _turned(self) -> Predicate:
+        return Opaque(f"NOT ({self.words})")
+
+    def _key(self) -> tuple[Any, ...]:
+        return "opaque", self.words
+
+    def _shown(self) -> str:
+        return f"({self.words})"
+
+
+def opaque(words: str) -> Predicate:
+    """Returns a condition that the library can't know, by its words in SQL or any others. By it alone no zone is skipped or whole.
+
+    It may name any columns and be false, true or null of each row; two of the same words needn't agree. PredicateError where the words are no str.
+
+    >>> (col("qty") > 9000) & opaque("lower(name) = 'x'")
+    qty > 9000 AND (lower(name) = 'x')
+    """
+    if not isinstance(words, str):
+        raise PredicateError(f"{shown(words)} is no condition; expected a str")
+    return Opaque(plain(words))
+
+
+@dataclass(frozen=True, eq=False, repr=False)
 class Compared(Predicate):
     """A column compared with a value or with another column."""
 
     operator: str
     name: str
     other: Value | ColumnOf
+    nan: Nan = None
 
     def _text(self, columns: Columns, spelled: Callable[[str], str]) -> str:
         column = _column(columns, self.name)
@@ -300,14 +410,15 @@ class Compared(Predicate):
         return [self.name, self.other.name] if isinstance(self.other, ColumnOf) else [self.name]
 
     def _turned(self) -> Predicate:
-        return Compared(_TURNED[self.operator], self.name, self.other)
+        return replace(self, operator=_TURNED[self.operator])
 
     def _key(self) -> tuple[Any, ...]:
         other = ("column", self.other.name) if isinstance(self.other, ColumnOf) else _told(self.other)
-        return "compared", self.operator, self.name, other
+        return "compared", self.operator, self.name, other, self.nan
 
     def _shown(self) -> str:
-        return f"({ColumnOf(self.name)!r} {_PYTHON[self.operator]} {shown(self.other)})"
+        other = _shown_name(self.other.name) if isinstance(self.other, ColumnOf) else _shown_literal(self.other)
+        return f"{_shown_name(self.name)} {_OPERATORS[self.operator]} {other}{_shown_nan(self.nan)}"
 
 
 @dataclass(frozen=True, eq=False, repr=False)
@@ -319,6 +430,7 @@ class Between(Predicate):
     high: Value
     low_strict: bool
     high_strict: bool
+    nan: Nan = None
 
     def _text(self, columns: Columns, spelled: Callable[[str], str]) -> str:
         column = _column(columns, self.name)
@@ -331,8 +443,8 @@ class Between(Predicate):
 
     def ends(self) -> Predicate:
         """Returns the two comparisons that it stands for."""
-        low = Compared("gt" if self.low_strict else "ge", self.name, self.low)
-        return low & Compared("lt" if self.high_strict else "le", self.name, self.high)
+        low = Compared("gt" if self.low_strict else "ge", self.name, self.low, self.nan)
+        return low & Compared("lt" if self.high_strict else "le", self.name, self.high, self.nan)
 
     def names(self) -> list[str]:
         return [self.name]
@@ -341,11 +453,14 @@ class Between(Predicate):
         return (~self.ends()).without_not()
 
     def _key(self) -> tuple[Any, ...]:
-        return "between", self.name, _told(self.low), _told(self.high), self.low_strict, self.high_strict
+        return "between", self.name, _told(self.low), _told(self.high), self.low_strict, self.high_strict, self.nan
 
     def _shown(self) -> str:
-        strict = ", low_strict=True" * self.low_strict + ", high_strict=True" * self.high_strict
-        return f"{ColumnOf(self.name)!r}.between({shown(self.low)}, {shown(self.high)}{strict})"
+        low, high, nan = _shown_literal(self.low), _shown_literal(self.high), _shown_nan(self.nan)
+        if not (self.low_strict or self.high_strict):
+            return f"{_shown_name(self.name)} BETWEEN {low} AND {high}{nan}"
+        name, signs = _shown_name(self.name), [">" if self.low_strict else ">=", "<" if self.high_strict else "<="]
+        return f"({name} {signs[0]} {low} AND {name} {signs[1]} {high}{nan})"
 
 
 @dataclass(frozen=True, eq=False, repr=False)
@@ -371,7 +486,7 @@ class NullTest(Predicate):
         return "null", self.name, self.wanted
 
     def _shown(self) -> str:
-        return f"{ColumnOf(self.name)!r}.is_{'' if self.wanted else 'not_'}null()"
+        return f"{_shown_name(self.name)} IS {'' if self.wanted else 'NOT '}NULL"
 
 
 @dataclass(frozen=True, eq=False, repr=False)
@@ -408,13 +523,50 @@ class Like(Predicate):
         return "like", self.name, _told(self.pattern), self.negated, self.ignore_case
 
     def _shown(self) -> str:
-        flags = ", negated=True" * self.negated + ", ignore_case=True" * self.ignore_case
-        return f"{ColumnOf(self.name)!r}.like({shown(self.pattern)}{flags})"
+        word = f"{'NOT ' * self.negated}{'ILIKE' if self.ignore_case else 'LIKE'}"
+        return f"{_shown_name(self.name)} {word} {_shown_literal(self.pattern)}"
 
 
 def _told(value: object) -> tuple[Any, ...]:
-    """Returns what a literal is told from others by: a number is no truth, and what is no literal is itself alone."""
-    return (type(value), value) if value is None or type(value) in (bool, int, str, bytes) else ("other", id(value))
+    """Returns what a literal is told from others by: a number is no truth, NaN is NaN, and what can't be hashed is itself alone."""
+    if isinstance(value, float) and value != value:
+        return ("nan",)
+    if isinstance(value, (float, decimal.Decimal)):
+        return type(value), str(value)
+    plain_types = (bool, int, str, bytes, uuid.UUID, datetime.date, datetime.datetime, datetime.time)
+    if value is None or type(value) in plain_types:
+        zone = getattr(value, "tzinfo", None)
+        return type(value), value, str(zone)
+    if type(value).__module__.partition(".")[0] in ("numpy", "pandas") and not hasattr(value, "__len__"):
+        return type(value), str(value)
+    return "other", id(value)
+
+
+def _shown_name(name: str) -> str:
+    return name if is_name(name) else '"' + name.replace('"', '""') + '"'
+
+
+def _shown_nan(nan: Nan) -> str:
+    return "" if nan is None else f" /* NaN: {nan} */"
+
+
+def _shown_literal(value: Any) -> str:
+    """Returns a literal as SQL has it, and what is none as Python shows it."""
+    if value is None or isinstance(value, bool):
+        return "NULL" if value is None else str(value).upper()
+    if isinstance(value, str) and len(value) <= 60:
+        return "'" + value.replace("'", "''") + "'"
+    if isinstance(value, bytes) and len(value) <= 60:
+        return f"X'{value.hex()}'"
+    for kind, word in ((datetime.datetime, "TIMESTAMP"), (datetime.date, "DATE"), (datetime.time, "TIME"), (uuid.UUID, "UUID")):
+        if isinstance(value, kind):
+            return f"{word} '{str(value)}'"
+    return str(value) if isinstance(value, decimal.Decimal) else shown(value)
+
+
+def _check_nan(nan: object) -> None:
+    if nan not in (None, "greatest", "ieee"):
+        raise PredicateError(f"{shown(nan)} is no meaning of NaN; expected 'greatest', 'ieee' or None")
 
 
 @dataclass(frozen=True, eq=False, repr=False)
@@ -422,31 +574,47 @@ class ColumnOf:
     """A column in a predicate, by its name."""
 
     name: str
+    nan: Nan = None
 
     __array_ufunc__ = None
 
-    def __eq__(self, other: Value | ColumnOf) -> Predicate:  # type: ignore[override]
-        return Compared("eq", self.name, _literal(other))
+    def __eq__(self, other: object) -> Predicate:  # type: ignore[override]
+        return self._compared("eq", other)
 
-    def __ne__(self, other: Value | ColumnOf) -> Predicate:  # type: ignore[override]
-        return Compared("ne", self.name, _literal(other))
+    def __ne__(self, other: object) -> Predicate:  # type: ignore[override]
+        return self._compared("ne", other)
 
-    def __gt__(self, other: Value | ColumnOf) -> Predicate:
-        return Compared("gt", self.name, _literal(other))
+    def __gt__(self, other: object) -> Predicate:
+        return self._compared("gt", other)
 
-    def __ge__(self, other: Value | ColumnOf) -> Predicate:
-        return Compared("ge", self.name, _literal(other))
+    def __ge__(self, other: object) -> Predicate:
+        return self._compared("ge", other)
 
-    def __lt__(self, other: Value | ColumnOf) -> Predicate:
-        return Compared("lt", self.name, _literal(other))
+    def __lt__(self, other: object) -> Predicate:
+        return self._compared("lt", other)
 
-    def __le__(self, other: Value | ColumnOf) -> Predicate:
-        return Compared("le", self.name, _literal(other))
+    def __le__(self, other: object) -> Predicate:
+        return self._compared("le", other)
+
+    def _compared(self, operator: str, other: object) -> Predicate:
+        nan = self.nan
+        if isinstance(other, ColumnOf) and other.nan is not None and other.nan != nan:
+            if nan is not None:
+                raise PredicateError(f"{self!r} and {other!r} give NaN two meanings")
+            nan = other.nan
+        return Compared(operator, self.name, self._literal(other), nan)
+
+    def _literal(self, value: Any) -> Any:
+        """Returns a literal as Python's own value. PredicateError where it is null."""
+        if value is None or is_missing(value):
+            hint = f"write {self!r}.is_null() or {self!r}.is_not_null()"
+            raise PredicateError(f"column {self.name}: nothing is equal to null, above it or below it; {hint}")
+        return plain(value)
 
     __hash__ = None  # type: ignore[assignment]
 
     def __repr__(self) -> str:
-        return f"col({self.name!r})"
+        return f"col({self.name!r})" if self.nan is None else f"col({self.name!r}, nan={self.nan!r})"
 
     def __bool__(self) -> bool:
         raise TypeError(f"{self!r} is a column and no truth: write ({self!r} == True) & .. in a predicate")
@@ -456,36 +624,83 @@ class ColumnOf:
 
     __and__ = __or__ = __rand__ = __ror__ = __invert__ = _is_no_predicate
 
-    def between(self, low: Value, high: Value, *, low_strict: bool = False, high_strict: bool = False) -> Predicate:
-        """Returns the test that the column lies from ``low`` to ``high``, both included unless an end is strict."""
-        return Between(self.name, _literal(low), _literal(high), low_strict, high_strict)
+    def between(self, low: Value, high: Value, closed: Closed = "both", *, low_strict: bool = False, high_strict: bool = False) -> Predicate:
+        """Returns the test that the column lies from ``low`` to ``high``; ``closed`` says which of the two ends belong to it.
+
+        ``low_strict`` and ``high_strict`` leave out an end, too. PredicateError where ``closed`` is none of its four words.
+
+        >>> col("qty").between(1, 9, closed="left")
+        (qty >= 1 AND qty < 9)
+        """
+        if closed not in ("both", "left", "right", "neither"):
+            raise PredicateError(f"column {self.name}: {shown(closed)} says nothing of ends; expected 'both', 'left', 'right' or 'neither'")
+        strict = low_strict or closed in ("right", "neither"), high_strict or closed in ("left", "neither")
+        return Between(self.name, self._literal(low), self._literal(high), *strict, self.nan)
 
     def is_in(self, values: Iterable[Value]) -> Predicate:
-        """Returns the test that the column is one of the values. PredicateError where there is none, or they are one text or bytes."""
+        """Returns the test that the column is one of the values. Of no values it is false of every row, also where the column is null.
+
+        PredicateError where the values are one text or bytes, or one of them is null.
+
+        >>> col("city").is_in(["Bern", "Basel"])
+        city = 'Bern' OR city = 'Basel'
+        """
         if isinstance(values, (str, bytes, bytearray)):
             raise PredicateError(f"column {self.name}: is_in takes a list of values, and {shown(values)} is one value")
         try:
-            found: list[Predicate] = [self == value for value in values]
+            items = list(values)
         except (TypeError, NotImplementedError) as fault:
             raise PredicateError(f"column {self.name}: is_in takes a list of values, and {shown(values)} is none") from fault
+        found: list[Predicate] = [self == value for value in items]
         if not found:
-            raise PredicateError(f"column {self.name}: is_in needs a value")
+            return Constant(False)
         while len(found) > 1:
             # Joined pair by pair, so that a long list doesn't nest deep.
             found = [joined_by_or(found[place : place + 2]) for place in range(0, len(found), 2)]
         return found[0]
 
+    def isin(self, values: Iterable[Value]) -> Predicate:
+        """Returns what ``is_in`` does, under the name that pandas has for it.
+
+        >>> col("qty").isin([3])
+        qty = 3
+        """
+        return self.is_in(values)
+
     def is_null(self) -> Predicate:
-        """Returns the test that the column is null."""
+        """Returns the test that the column is null. NaN isn't.
+
+        >>> col("qty").is_null()
+        qty IS NULL
+        """
         return NullTest(self.name, True)
 
     def is_not_null(self) -> Predicate:
-        """Returns the test that the column isn't null."""
+        """Returns the test that the column isn't null.
+
+        >>> col("qty").is_not_null()
+        qty IS NOT NULL
+        """
         return NullTest(self.name, False)
 
     def like(self, pattern: str, *, negated: bool = False, ignore_case: bool = False) -> Predicate:
-        """Returns the test of a text by a pattern: ``%`` is any run of characters, ``_`` any one, ``\\`` makes the next one plain."""
+        """Returns the test of a text by a pattern: ``%`` is any run of characters, ``_`` any one, ``\\`` makes the next one plain.
+
+        >>> col("name").like("pre%", negated=True)
+        name NOT LIKE 'pre%'
+        """
         return Like(self.name, plain(pattern), negated, ignore_case)
+
+    def startswith(self, prefix: str) -> Predicate:
+        """Returns the test that a text begins with another one. PredicateError where that is no str.
+
+        >>> col("name").startswith("10%")
+        name LIKE '10\\%%'
+        """
+        found = plain(prefix)
+        if not isinstance(found, str):
+            raise PredicateError(f"column {self.name}: {shown(prefix)} is no text; startswith takes one str")
+        return Like(self.name, re.sub(r"([%_\\])", r"\\\1", found) + "%", False, False)
 
 
 def joined_by_or(pair: Sequence[Predicate]) -> Predicate:
@@ -493,11 +708,20 @@ def joined_by_or(pair: Sequence[Predicate]) -> Predicate:
     return pair[0] if len(pair) == 1 else pair[0] | pair[1]
 
 
-def col(name: str) -> ColumnOf:
-    """Returns the column of a name. PredicateError where the name is no str."""
+def col(name: str, nan: Nan = None) -> ColumnOf:
+    """Returns the column of a name, to be compared. PredicateError where the name is no str, or ``nan`` no meaning.
+
+    Of a column of floating numbers ``nan`` says what a comparison with NaN means: ``greatest`` as in PostgreSQL, DuckDB, Spark and the total
+    order of Arrow, where NaN is equal to itself and above all other numbers, or ``ieee`` as in ClickHouse and numpy, where of NaN only ``!=``
+    is true. Where it isn't said, a zone is skipped or whole only where both meanings agree.
+
+    >>> (col("x", nan="ieee") > 1.5) & (col("day") >= "2026-01-01")
+    x > 1.5 /* NaN: ieee */ AND day >= '2026-01-01'
+    """
     if not isinstance(name, str):
         raise PredicateError(f"{shown(name)} is no name of a column; expected a str")
-    return ColumnOf(plain(name))
+    _check_nan(nan)
+    return ColumnOf(plain(name), nan)
 
 
 def is_name(name: object) -> bool:
@@ -517,11 +741,6 @@ def _column(columns: Columns, name: str) -> Column:
     return columns[name]
 
 
-def _literal(value: Any) -> Any:
-    """Returns a literal as Python's own value; nulls of pandas and numpy are None."""
-    return None if is_missing(value) else plain(value)
-
-
 def literal(column: Column, value: Value) -> str:
     """Returns a value as a literal of a column's type. PredicateError where it is none of the type's values."""
     if value is None:
@@ -534,6 +753,10 @@ def sql_literal(column: Column, value: Value) -> str:
     """Returns a value as a literal of SQL. PredicateError where it is none of the column's values."""
     if value is None:
         return "NULL"
+    if column.logical is not None:
+        from .lowering import sql_of_logical
+
+        return sql_of_logical(column, value)
     spelled = _spelled(column, value)
     if column.dtype == DType.UTF8:
         return "'" + str(plain(value)).replace("'", "''") + "'"

@@ -2,10 +2,12 @@
 """Reads what a user holds into values and nulls: each container exactly, or a ``ValueFault`` that names the column and the row.
 
 A column may stand in a list, tuple, deque, range, generator or another ordered iterable; in an ``array`` or a buffer; in a numpy array
-of one dimension, strided, byte-swapped and masked ones too; in a pandas Series, Index or array; in ``Values``; or in a ``Nullable``.
+of one dimension, strided, byte-swapped and masked ones too; in a pandas Series, Index or array, also of categories; in an array or a stream of
+Arrow's C Data Interface; in a column of the dataframe interchange protocol; in ``Values``; or in a ``Nullable``.
 
 Nulls are found in the pass that reads the values: None, pandas' NA and NaT, and NaN among objects. Truths are never numbers, and numbers
-never truths. Whole numbers of another width are taken where each fits. Floating numbers, times and categories are refused by name.
+never truths. Whole numbers of another width are taken where each fits. Floating numbers and times are those of columns of a logical type,
+which ``foalmorrow.logical_reading`` reads, and else refused by name.
 
 numpy itself drops zeros at the end of its own texts and bytes (``U`` and ``S``). Where these count, an array of objects keeps them.
 """
@@ -19,9 +21,9 @@ from collections.abc import Mapping, Sequence, Set
 from dataclasses import dataclass, replace
 from typing import Any
 
-from .arrays import ValueFault, Values, of_numbers, of_texts, spaced
-from .items import expected, is_null, may_be_null, plain, shown, value_of
-from .kinds import Column, DType
+from .arrays import ValueFault, Values, gathered, of_numbers, of_texts, spaced
+from .items import expected, is_missing, is_null, may_be_null, plain, shown, value_of
+from .kinds import Column, DType, Logical
 
 try:
     import numpy
@@ -68,39 +70,65 @@ class Where:
         places = [self.words] * bool(self.words) + ([] if row is None else [f"{self.unit} {row}"])
         return ValueFault(f"{', '.join(places)}: {sentence}" if places else sentence, column=self.column, row=row)
 
-    def misfit(self, dtype: DType, item: object, row: int) -> ValueFault:
+    def misfit(self, dtype: DType | Logical, item: object, row: int) -> ValueFault:
         """Returns the refusal of an item that is no value of a type."""
         return self.fault(f"{shown(item)} is no {dtype.word}; expected {expected(dtype)}", row)
 
 
 def read_column(column: Column, given: object) -> Read:
-    """Reads a chunk's column. ValueFault where an item is no value of the column, null in one that isn't nullable included."""
+    """Reads a chunk's column, or looks at one that is read already.
+
+    ValueFault where an item is no value of the column, null in one that isn't nullable included.
+    """
     where = Where(f"column {column.name}", column.name)
-    found = read(column.dtype, given, where)
+    found = given if isinstance(given, Read) else read(column.type, given, where)
     if found.nulls is not None and not column.nullable:
         row = found.nulls.index(1)
-        raise where.fault(f"null is no value of {column.word}; expected {expected(column.dtype)}", row)
+        raise where.fault(f"null is no value of {column.word}; expected {expected(column.type)}", row)
     return found
 
 
-def read(dtype: DType, given: Any, where: Where) -> Read:
-    """Reads a container into values of a type and nulls. ValueFault where an item is neither."""
+def read(dtype: DType | Logical, given: Any, where: Where) -> Read:
+    """Reads a container into values of a type and nulls, those of a logical type as what they are mapped onto.
+
+    ValueFault where an item is neither a value nor null.
+
+    >>> bytes(read(DType.U8, [1, None, 3], Where()).values.data)
+    b'\\x01\\x00\\x03'
+    """
     marks = None
     if isinstance(given, Nullable):
         given, marks = given.values, _marks(given.nulls, where)
         if isinstance(given, Nullable):
             raise where.fault("a Nullable stands in a Nullable; expected its values")
+    if not _is_known(given):
+        found = _of_protocols(dtype, given, marks, where)
+        if found is not None:
+            return found
     # What can be gone through once alone is gone through here, so that its length is known.
     container = given if _is_known(given) else _listed(dtype, given, where)
     if marks is not None and len(marks) != _length(container):
         raise where.fault(f"{_length(container)} values and {len(marks)} marks for null; expected one for each {where.unit}")
-    found = _read(dtype, container, marks if marks is not None and any(marks) else None, where)
+    found = read_typed(dtype, container, marks if marks is not None and any(marks) else None, where)
     has_nulls = found.nulls is not None and dtype != DType.NULL and any(found.nulls)
     return found if has_nulls else replace(found, nulls=None)
 
 
+def _of_protocols(dtype: DType | Logical, given: object, marks: bytes | None, where: Where) -> Read | None:
+    """Reads what offers its arrays by a protocol; None where the container offers none."""
+    if any(hasattr(given, name) for name in ("__arrow_c_array__", "__arrow_c_stream__", "arrow_structs")):
+        from .arrow import read as read_protocol
+    elif hasattr(given, "describe_null") and hasattr(given, "get_buffers"):
+        from .interchange import read as read_protocol
+    else:
+        return None
+    if marks is not None:
+        raise where.fault("the array has nulls of its own; expected it without a Nullable")
+    return read_protocol(dtype, given, where)
+
+
 def _is_known(given: object) -> bool:
-    return isinstance(given, (Values, array)) or _is_numpy(given) or _is_pandas(given) or _view(given) is not None
+    return isinstance(given, (list, Values, array)) or is_numpy(given) or is_pandas(given) or _view(given) is not None
 
 
 def _length(container: Any) -> int:
@@ -108,16 +136,21 @@ def _length(container: Any) -> int:
     return len(container) if shaped is None or shaped.ndim else 0
 
 
-def _read(dtype: DType, given: Any, marks: bytes | None, where: Where) -> Read:
+def read_typed(dtype: DType | Logical, given: Any, marks: bytes | None, where: Where) -> Read:
+    """Reads a container that isn't a Nullable. ValueFault where an item is neither a value nor null or marked."""
+    if isinstance(dtype, Logical):
+        from .logical_reading import read_logical
+
+        return read_logical(dtype, given, marks, where)
     if isinstance(given, Values):
         if given.dtype != dtype:
             raise where.fault(f"values of {given.dtype.word} are no {dtype.word}; expected {expected(dtype)}")
         return Read(given, marks)
     if isinstance(given, list):
         return _of_items(dtype, given, marks, where)
-    if _is_pandas(given):
+    if is_pandas(given):
         return _of_pandas(dtype, given, marks, where)
-    if _is_numpy(given):
+    if is_numpy(given):
         return _of_numpy(dtype, given, marks, where)
     if isinstance(given, array):
         return _of_array(dtype, given, marks, where)
@@ -129,11 +162,11 @@ def _marks(nulls: Any, where: Where) -> bytes:
     if isinstance(nulls, (bytes, bytearray)):
         return bytes(map(bool, nulls))
     of_nulls = replace(where, words=f"{where.words}, nulls" if where.words else "nulls")
-    if _is_pandas(nulls):
+    if is_pandas(nulls):
         if nulls.ndim != 1:
             raise of_nulls.fault("a frame has 2 dimensions; expected one")
         nulls = nulls.to_numpy() if isinstance(nulls.dtype, numpy.dtype) else list(nulls)
-    if _is_numpy(nulls):
+    if is_numpy(nulls):
         if nulls.ndim != 1 or nulls.dtype.kind not in "biuO":
             raise of_nulls.fault(f"an array of {nulls.dtype} in {nulls.ndim} dimensions; expected truths or bytes in one")
         if nulls.dtype.kind != "O" and not isinstance(nulls, numpy.ma.MaskedArray):
@@ -150,7 +183,7 @@ def _marks(nulls: Any, where: Where) -> bytes:
 # -- items one by one
 
 
-def _listed(dtype: DType, given: Any, where: Where) -> list[Any]:
+def _listed(dtype: DType | Logical, given: Any, where: Where) -> list[Any]:
     """Lists the items of an iterable that has an order."""
     if isinstance(given, (str, Mapping, Set)):
         raise where.fault(f"{shown(given)} is no column; expected a list of {dtype.word} or another container with an order")
@@ -167,7 +200,7 @@ _TYPES = {DType.BOOL: bool, DType.UTF8: str, DType.BINARY: bytes}
 
 
 def _of_items(dtype: DType, items: list[Any], marks: bytes | None, where: Where) -> Read:
-    nulls = _nulls(items, marks)
+    nulls = nulls_of(items, marks)
     if dtype == DType.NULL:
         row = (nulls if nulls is not None else bytes(len(items))).find(0)
         if row >= 0:
@@ -182,12 +215,13 @@ def _of_items(dtype: DType, items: list[Any], marks: bytes | None, where: Where)
     return Read(values if nulls is None else spaced(values, nulls), nulls)
 
 
-def _nulls(items: list[Any], marks: bytes | None) -> bytes | None:
-    """Returns 1 for each item that is marked or null, and else 0; None where there is none."""
+def nulls_of(items: list[Any], marks: bytes | None, keep_nan: bool = False) -> bytes | None:
+    """Returns 1 for each item that is marked or null, and else 0; None where there is none. A floating NaN is null unless it is kept."""
     odd = {kind for kind in set(map(type, items)) if may_be_null(kind)}
     if not odd:
         return marks
-    found = bytes(type(item) in odd and is_null(item) for item in items)
+    test = (lambda item: item is None or is_missing(item)) if keep_nan else is_null
+    found = bytes(type(item) in odd and test(item) for item in items)
     if marks is not None:
         found = bytes(map(operator.or_, found, marks))
     return found if any(found) else None
@@ -272,25 +306,30 @@ def _unpacked(view: memoryview, where: Where) -> list[Any]:
 # -- numpy
 
 
-def _is_numpy(given: object) -> bool:
+def is_numpy(given: object) -> bool:
+    """Tells whether a container is an array of numpy or one of its scalars."""
     return numpy is not None and isinstance(given, (numpy.ndarray, numpy.generic))
 
 
 def _of_numpy(dtype: DType, given: Any, marks: bytes | None, where: Where) -> Read:
-    if given.ndim != 1:
-        what = "one value" if given.ndim == 0 else f"values in {given.ndim} dimensions"
-        raise where.fault(f"an array of {what}; expected one dimension")
-    if isinstance(given, numpy.ma.MaskedArray):
-        masked = numpy.ma.getmaskarray(given)  # type: ignore[no-untyped-call]
-        if masked.dtype == bool and masked.any():
-            marks = _either(marks, masked)
-        given = given.data
+    given, marks = unmasked(given, marks, where)
     kind = given.dtype.kind
     if kind in "OUS":
         return _of_items(dtype, given.tolist(), marks, where)
     if kind in ("b" if dtype == DType.BOOL else "iu") and not dtype.has_ends and dtype != DType.NULL:
         return Read(_numbers(dtype, given, marks, where), marks)
     raise where.fault(f"an array of {given.dtype} is no {dtype.word}; {_advice(dtype, given.dtype)}")
+
+
+def unmasked(given: Any, marks: bytes | None, where: Where) -> tuple[Any, bytes | None]:
+    """Returns an array of one dimension without its mask, and which rows are marked or masked."""
+    if given.ndim != 1:
+        what = "one value" if given.ndim == 0 else f"values in {given.ndim} dimensions"
+        raise where.fault(f"an array of {what}; expected one dimension")
+    if not isinstance(given, numpy.ma.MaskedArray):
+        return given, marks
+    masked = numpy.ma.getmaskarray(given)  # type: ignore[no-untyped-call]
+    return given.data, _either(marks, masked) if masked.dtype == bool and masked.any() else marks
 
 
 def _either(marks: bytes | None, masked: Any) -> bytes:
@@ -319,16 +358,17 @@ def _numbers(dtype: DType, given: Any, marks: bytes | None, where: Where) -> Val
 def _advice(dtype: DType, kind: Any) -> str:
     letter = getattr(kind, "kind", "")
     if letter == "f":
-        return f"expected {expected(dtype)}: floating numbers aren't read; cast them, with nulls apart in a Nullable"
+        return f"expected {expected(dtype)}: declare the column Float32() or Float64(), or cast them, with nulls apart in a Nullable"
     if letter in ("M", "m"):
-        return f"expected {expected(dtype)}: times aren't read; hand in .view('i8') as i64, with NaT apart in a Nullable"
+        return f"expected {expected(dtype)}: declare the column Date() or Timestamp(..), or hand in .view('i8') as i64, with NaT apart in a Nullable"
     return f"expected {expected(dtype)}"
 
 
 # -- pandas
 
 
-def _is_pandas(given: object) -> bool:
+def is_pandas(given: object) -> bool:
+    """Tells whether a container is one of pandas'."""
     pandas = sys.modules.get("pandas")
     if pandas is None or not hasattr(pandas, "api"):
         return False
@@ -345,20 +385,35 @@ def _of_pandas(dtype: DType, given: Any, marks: bytes | None, where: Where) -> R
         return _of_numpy(dtype, given.to_numpy(), marks, where)
     held = given.array if isinstance(given, (pandas.Series, pandas.Index)) else given
     if isinstance(held, (pandas.arrays.IntegerArray, pandas.arrays.BooleanArray)):
-        return _of_masked(dtype, held, marks, where)
-    if isinstance(kind, pandas.StringDtype):
-        return _of_items(dtype, numpy.asarray(held, dtype=object).tolist(), marks, where)
+        return of_masked(dtype, held, marks, where)
     if isinstance(kind, pandas.CategoricalDtype):
-        raise where.fault(f"categories are no {dtype.word}; expected {expected(dtype)}: hand in the values, as .astype(object) makes them")
-    raise where.fault(f"values of pandas' type {kind} are no {dtype.word}; {_advice(dtype, kind)}")
+        return of_categories(dtype, held, marks, where)
+    if isinstance(held, (pandas.arrays.FloatingArray, pandas.arrays.DatetimeArray)):
+        raise where.fault(f"values of pandas' type {kind} are no {dtype.word}; {_advice(dtype, kind)}")
+    # Texts, and types that a user or another package has made: by their items.
+    return _of_items(dtype, numpy.asarray(held, dtype=object).tolist(), marks, where)
 
 
-def _of_masked(dtype: DType, held: Any, marks: bytes | None, where: Where) -> Read:
-    """Reads pandas' whole numbers or truths with nulls."""
+def of_categories(dtype: DType | Logical, held: Any, marks: bytes | None, where: Where) -> Read:
+    """Reads a column of pandas' categories as the values that they stand for."""
+    codes = numpy.asarray(held.codes).astype("<i8")
+    there = codes >= 0
+    if marks is not None:
+        there &= numpy.frombuffer(marks, dtype=numpy.uint8) == 0
+    # A category that isn't a value of the type is refused where it stands in a row.
+    rows = numpy.flatnonzero(there)
+    used, first = numpy.unique(codes[rows], return_index=True)
+    values = read(dtype, held.categories.take(used), replace(where, rows=rows[first])).values
+    places = numpy.where(there, numpy.searchsorted(used, codes), -1)
+    return Read(gathered(values, places), None if there.all() else (~there).tobytes())
+
+
+def of_masked(dtype: DType | Logical, held: Any, marks: bytes | None, where: Where) -> Read:
+    """Reads pandas' numbers or truths with nulls."""
     masked = numpy.asarray(held.isna())
     nulls = _either(marks, masked) if masked.any() else marks
     # The marks may leave out rows that hold a value.
     there = ~masked if nulls is None else numpy.frombuffer(nulls, dtype=numpy.uint8) == 0
     present = held[there].to_numpy(dtype=held.dtype.numpy_dtype)
-    values = _of_numpy(dtype, present, None, replace(where, rows=numpy.flatnonzero(there))).values
+    values = read_typed(dtype, present, None, replace(where, rows=numpy.flatnonzero(there))).values
     return Read(values if nulls is None else spaced(values, nulls), nulls)

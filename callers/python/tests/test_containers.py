@@ -23,6 +23,7 @@ from hypothesis import strategies as st
 
 from foalmorrow import PRUNING, Answer, Column, DType, FooterError, Footers, Nullable, Precision, Predicate, PredicateError, Refused, Stat
 from foalmorrow import ValueFault, Values, col
+from foalmorrow.predicate import Compared
 
 SEED = int(os.environ.get("FOALMORROW_SEED", "1"))
 _HOME = tempfile.TemporaryDirectory()
@@ -254,6 +255,8 @@ def some_predicate(draw: Any, dtype: DType, depth: int = 2) -> tuple[Predicate, 
         listed = numpy.array(wanted, dtype=own(dtype)) if not dtype.has_ends else wanted
         return col("c").is_in(listed), lambda item: None if item is None else item in wanted
     word, value = draw(st.sampled_from(sorted(TESTS))), draw(values_of(dtype))
+    if value is None:
+        return Compared(word.strip("_"), "c", None), lambda _: None
     scalar = own(dtype).type(value) if not dtype.has_ends and value is not None and draw(st.booleans()) else value
     return getattr(col("c"), word)(scalar), lambda item: None if item is None or value is None else TESTS[word](order(item), order(value))
 
@@ -338,8 +341,8 @@ class WantedRows(unittest.TestCase):
 
     def test_times_and_floats_refused_with_what_to_do(self) -> None:
         for container, words in [
-            (numpy.zeros(2, "M8[ns]"), "hand in .view\\('i8'\\) as i64"), (numpy.array([1.0, math.nan]), "cast them, with nulls apart"),
-            (pandas.Series([1, None]), "cast them"),
+            (numpy.zeros(2, "M8[ns]"), "declare the column Date\\(\\) or Timestamp\\(..\\), or hand in .view"), (numpy.array([1.0, math.nan]), "declare the column Float32\\(\\)"),
+            (pandas.Series([1, None]), "or cast them"),
         ]:
             with self.assertRaisesRegex(ValueFault, f"column c: an array of (datetime64|float64).*{words}"):
                 self.answer(self.A, container, col("c") == 1)

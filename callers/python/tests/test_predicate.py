@@ -1,13 +1,16 @@
 # SPDX-License-Identifier: Apache-2.0
 """Predicates and their texts."""
 import copy
+import datetime
+import decimal
 import doctest
 import pickle
 import threading
 import unittest
 
 import foalmorrow.predicate
-from foalmorrow import Column, DType, Predicate, PredicateError, col
+from foalmorrow import Column, DType, Predicate, PredicateError, col, opaque
+from foalmorrow.predicate import Compared
 
 try:
     import numpy
@@ -45,8 +48,8 @@ class PredicateTexts(unittest.TestCase):
         self.assertEqual(col("s").like("a%", negated=True, ignore_case=True).text(COLUMNS), 'notilike col s lit utf8 "a%"')
 
     def test_null(self) -> None:
-        self.assertEqual((col("s") == None).text(COLUMNS), "eq col s lit utf8? null")  # noqa: E711
-        self.assertEqual((col("z") == None).text(COLUMNS), "eq col z lit null null")  # noqa: E711
+        self.assertEqual(Compared("eq", "s", None).text(COLUMNS), "eq col s lit utf8? null")
+        self.assertEqual(Compared("eq", "z", None).text(COLUMNS), "eq col z lit null null")
         self.assertEqual(col("n").is_not_null().text(COLUMNS), "notnull col n")
 
     def test_two_columns(self) -> None:
@@ -82,8 +85,6 @@ class PredicateTexts(unittest.TestCase):
         ]:
             with self.assertRaises(PredicateError):
                 made.text(COLUMNS)
-        with self.assertRaises(PredicateError):
-            col("n").is_in([])
 
     def test_literals_of_any_python_value_refused_by_name(self) -> None:
         for value in [1.5, float("nan"), [1], {}, object(), 10**5000, -(10**5000), "x", b"x", True, (1,), 1j]:
@@ -91,7 +92,7 @@ class PredicateTexts(unittest.TestCase):
                 for spell in (made.text, made.sql):
                     with self.assertRaisesRegex(PredicateError, "column n: .* is no u8; expected a whole number from 0 to 255"):
                         spell(COLUMNS)
-                self.assertIn("col('n')", repr(made))
+                self.assertTrue(repr(made).startswith("n "))
         for made in [col("b") == 1, col("b") == 0, col("s") == b"x", col("x") == "x", col("z") == 0, col("s") == "\ud800", col("s").like(5)]:
             with self.assertRaises(PredicateError):
                 made.text(COLUMNS)
@@ -100,9 +101,42 @@ class PredicateTexts(unittest.TestCase):
         for values in ("abc", b"abc", 5, None, memoryview(bytes(4)).cast("B", (2, 2))):
             with self.assertRaisesRegex(PredicateError, "is_in takes a list"):
                 col("s").is_in(values)
+
+    def test_list_of_no_values_is_false(self) -> None:
         for values in ([], (), iter([]), range(0)):
-            with self.assertRaisesRegex(PredicateError, "is_in needs a value"):
-                col("s").is_in(values)
+            self.assertEqual((col("s").is_in(values).text(COLUMNS), (~col("s").isin(values)).without_not().text(COLUMNS)), ("lit bool false", "lit bool true"))
+
+    def test_null_refused_with_what_to_write(self) -> None:
+        n = col("n")
+        for make in (
+            lambda: n == None, lambda: n != None, lambda: n > None, lambda: None == n, lambda: n.is_in([1, None]), lambda: n.between(None, 1),  # noqa: E711
+            lambda: n.between(1, None),
+        ):
+            with self.assertRaisesRegex(PredicateError, r"write col\('n'\).is_null\(\) or col\('n'\).is_not_null\(\)"):
+                make()
+
+    def test_closed_ends(self) -> None:
+        for closed, signs in (("both", "<= <="), ("left", "<= <"), ("right", "< <="), ("neither", "< <")):
+            self.assertEqual(col("n").between(1, 9, closed=closed).text(COLUMNS), f"between {signs} col n lit u8? 1 lit u8? 9")
+        with self.assertRaisesRegex(PredicateError, "says nothing of ends"):
+            col("n").between(1, 9, closed="inclusive")
+
+    def test_startswith(self) -> None:
+        for prefix, pattern in (("a", "a%"), ("", "%"), ("50%_\\", "50\\%\\_\\\\%")):
+            self.assertEqual(col("s").startswith(prefix), col("s").like(pattern))
+        for prefix in (b"a", None, 5, ("a", "b")):
+            with self.assertRaisesRegex(PredicateError, "startswith takes one str"):
+                col("s").startswith(prefix)
+
+    def test_opaque(self) -> None:
+        made = (col("n") > 3) & ~opaque("lower(s) = 'x'")
+        self.assertEqual((repr(made), made.names()), ("n > 3 AND (NOT (lower(s) = 'x'))", ["n"]))
+        self.assertEqual(made.sql(COLUMNS), """(("n" > 3) AND (NOT (lower(s) = 'x')))""")
+        self.assertEqual(made.without_not().sql(COLUMNS), """(("n" > 3) AND (NOT (lower(s) = 'x')))""")
+        with self.assertRaisesRegex(PredicateError, "is opaque"):
+            made.text(COLUMNS)
+        with self.assertRaises(PredicateError):
+            opaque(5)
 
     def test_name_that_the_language_lacks_refused_in_a_text(self) -> None:
         for name in ("a b", "a.b", "é", "1a", "", "a" * 65, "a\n", "a lit i64 3"):
@@ -170,7 +204,7 @@ class Trees(unittest.TestCase):
         text = made.text(columns)
         self.assertEqual(text.count("col"), leaves)
         self.assertEqual(made.sql(columns).count("("), made.sql(columns).count(")"))
-        self.assertEqual(repr(made).count("col"), leaves)
+        self.assertEqual(repr(made).count("n "), leaves)
         self.assertNotIn("not", made.without_not().text(columns).replace("notnull", ""))
         for same in (pickle.loads(pickle.dumps(made)), copy.copy(made), copy.deepcopy(made)):
             self.assertEqual((same, hash(same)), (made, hash(made)))
@@ -230,7 +264,7 @@ class Trees(unittest.TestCase):
     def test_same_trees_alone_are_equal(self) -> None:
         n, s = col("n"), col("s")
         different = [
-            n == 1, n == True, n == "1", n == None, n != 1, s == 1, n == s, n == n, s == n,  # noqa: E711, E712
+            n == 1, n == True, n == "1", Compared("eq", "n", None), n != 1, s == 1, n == s, n == n, s == n,  # noqa: E712
             n.between(1, 2), n.between(1, 2, low_strict=True),
             n.is_null(), n.is_not_null(), s.like("a"), s.like("a", negated=True), s.like("a", ignore_case=True), ~(n == 1),
             (n == 1) & (n == 2), (n == 2) & (n == 1), (n == 1) | (n == 2), (n == 1) & (n == 2) & (n == 3), (n == 1) & ((n == 2) & (n == 3)),
@@ -242,13 +276,17 @@ class Trees(unittest.TestCase):
             self.assertNotEqual(left, 5)
         self.assertEqual(len(set(different)), len(different))
 
-    def test_shown_as_it_is_written(self) -> None:
+    def test_shown_as_sql(self) -> None:
         n, s = col("n"), col("s")
-        for made in [
-            (n > 3) & ~(s.like("a%", negated=True) | n.is_null()), n.between(1, 2, high_strict=True) | (n == s),
-            (n == None) & (s != "x") & n.is_not_null(),  # noqa: E711
+        for made, text in [
+            ((n > 3) & ~(s.like("a%", negated=True) | n.is_null()), "n > 3 AND (NOT (s NOT LIKE 'a%' OR n IS NULL))"),
+            (n.between(1, 2, closed="left") | (n == s), "(n >= 1 AND n < 2) OR n = s"), (n.between(1, 2), "n BETWEEN 1 AND 2"),
+            (~((s != "it's") & n.is_not_null()), "(NOT (s <> 'it''s' AND n IS NOT NULL))"), (col("a b") == True, '"a b" = TRUE'),  # noqa: E712
+            ((col("x") == b"a") | s.like("A", ignore_case=True), "x = X'61' OR s ILIKE 'A'"), (n.isin([]), "FALSE"),
+            (col("d") >= datetime.date(2026, 1, 2), "d >= DATE '2026-01-02'"), (col("f", "ieee") < 1.5, "f < 1.5 /* NaN: ieee */"),
+            (col("t") < datetime.datetime(2026, 1, 2, 3), "t < TIMESTAMP '2026-01-02 03:00:00'"), (n == decimal.Decimal("1.50"), "n = 1.50"),
         ]:
-            self.assertEqual(eval(repr(made), {"col": col}), made)
+            self.assertEqual(repr(made), text)
 
 
 @unittest.skipIf(numpy is None, "numpy isn't installed")
@@ -264,7 +302,6 @@ class Scalars(unittest.TestCase):
             (col("n").between(numpy.int8(1), numpy.int64(2)), "between <= <= col n lit u8? 1 lit u8? 2"),
             (col("n").is_in(numpy.array([1, 2])), "or eq col n lit u8? 1 eq col n lit u8? 2"),
             (col("n").is_in([numpy.int64(1), 2]), "or eq col n lit u8? 1 eq col n lit u8? 2"),
-            (col("n") == numpy.datetime64("NaT"), "eq col n lit u8? null"),
         ]:
             self.assertEqual(made.text(COLUMNS), plain)
         self.assertEqual(col("n") > numpy.int64(3), col("n") > 3)
@@ -275,6 +312,8 @@ class Scalars(unittest.TestCase):
                 (col("n") == value).text(COLUMNS)
         with self.assertRaises(PredicateError):
             (col("b") == numpy.int64(1)).text(COLUMNS)
+        with self.assertRaisesRegex(PredicateError, "nothing is equal to null"):
+            col("n") == numpy.datetime64("NaT")
         with self.assertRaises(TypeError):
             numpy.bool_(True) & (col("n") > 3)
 

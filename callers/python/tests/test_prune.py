@@ -12,6 +12,7 @@ from collections.abc import Callable
 
 from foalmorrow import PRUNING, Answer, Answers, Column, DType, FooterError, Footers, Precision, Predicate, PredicateError, Refused, Stat
 from foalmorrow import Statistic, ValueFault, Values, col
+from foalmorrow.predicate import Compared
 
 try:
     import numpy
@@ -48,6 +49,8 @@ def comparison(name: str, word: str, other: object) -> tuple[Predicate, Test]:
     def test(row: Row) -> bool | None:
         return None if row[name] is None or other is None else TESTS[word](row[name], other)
 
+    if other is None:
+        return Compared({"==": "eq", "!=": "ne", ">": "gt", ">=": "ge", "<": "lt", "<=": "le"}[word], name, None), test
     return TESTS[word](col(name), other), test
 
 

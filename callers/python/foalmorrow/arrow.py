@@ -1,0 +1,387 @@
+"""Arrays, tables and streams of Arrow's C Data Interface, as pyarrow, polars, DuckDB and nanoarrow hand them out; none of these is needed.
+
+A producer offers ``__arrow_c_array__`` or ``__arrow_c_stream__``; or C code hands over the addresses of its structs, as ``Structs``. What is
+read is copied, and each release callback is called once: before a read returns, and after an error too. An array's buffers have no lengths of
+their own, so that a producer is trusted for them; all else that its structs say is looked at.
+"""
+from __future__ import annotations
+
+import ctypes
+from collections.abc import Iterator, Mapping, Sequence
+from ctypes import POINTER, Structure, c_char_p, c_int, c_int64, c_void_p
+from typing import Any
+
+from .arrays import joined
+from .kinds import Column, DType, Logical
+from .reading import Read, Where
+
+try:
+    import numpy
+
+    from .layouts import NUMBERS, Laid, converted, width
+except ImportError:
+    numpy = None  # type: ignore[assignment]
+
+
+class CSchema(Structure):
+    """The struct ArrowSchema."""
+
+
+class CArray(Structure):
+    """The struct ArrowArray."""
+
+
+class CStream(Structure):
+    """The struct ArrowArrayStream."""
+
+
+CSchema._fields_ = [
+    ("format", c_char_p), ("name", c_char_p), ("metadata", c_void_p), ("flags", c_int64), ("n_children", c_int64),
+    ("children", POINTER(POINTER(CSchema))), ("dictionary", POINTER(CSchema)), ("release", c_void_p), ("private_data", c_void_p),
+]
+CArray._fields_ = [
+    ("length", c_int64), ("null_count", c_int64), ("offset", c_int64), ("n_buffers", c_int64), ("n_children", c_int64),
+    ("buffers", POINTER(c_void_p)), ("children", POINTER(POINTER(CArray))), ("dictionary", POINTER(CArray)), ("release", c_void_p),
+    ("private_data", c_void_p),
+]
+CStream._fields_ = [(name, c_void_p) for name in ("get_schema", "get_next", "get_last_error", "release", "private_data")]
+
+_RELEASE = ctypes.CFUNCTYPE(None, c_void_p)
+_FILL = ctypes.CFUNCTYPE(c_int, c_void_p, c_void_p)
+_TOLD = ctypes.CFUNCTYPE(c_char_p, c_void_p)
+#: No array has more values: more than an address space has bytes.
+_MOST = 2**47
+#: How deep dictionaries and structs may nest.
+_DEEPEST = 16
+
+
+class Structs:
+    """An array or a stream at the addresses of its C structs, which the first read takes over and releases.
+
+    ``Structs(schema=.., array=..)`` has the addresses of an ArrowSchema and an ArrowArray, ``Structs(stream=..)`` that of an ArrowArrayStream.
+    TypeError where these are others.
+    """
+
+    def __init__(self, *, schema: int | None = None, array: int | None = None, stream: int | None = None):
+        if not ((schema and array and stream is None) or (stream and schema is None and array is None)):
+            raise TypeError("Structs takes the addresses of a schema and an array, or that of a stream")
+        #: The addresses: of a schema and an array, or of a stream.
+        self.arrow_structs: tuple[int, ...] = (stream,) if stream is not None else (schema or 0, array or 0)
+
+
+class _Owned:
+    """A struct that has been moved here from its producer's, and is released once."""
+
+    def __init__(self, kind: type[Structure], address: int | None, where: Where):
+        self.struct: Any = kind()
+        if address is not None:
+            source: Any = kind.from_address(address)
+            if not source.release:
+                raise where.fault("the array of Arrow was read or released before; expected it from its producer anew")
+            ctypes.memmove(ctypes.byref(self.struct), address, ctypes.sizeof(kind))
+            source.release = None
+
+    def __enter__(self) -> Any:
+        return self.struct
+
+    def __exit__(self, *_: object) -> None:
+        callback = self.struct.release
+        if callback:
+            _RELEASE(callback)(ctypes.addressof(self.struct))
+            # A producer marks the struct as released itself; one that doesn't isn't called again.
+            self.struct.release = None
+
+
+class _Owners:
+    """Structs that are released together, the last one first, and what has to live as long as they do."""
+
+    def __init__(self) -> None:
+        self.owned: list[_Owned] = []
+        self.kept: list[object] = []
+
+    def take(self, owned: _Owned) -> Any:
+        self.owned.append(owned)
+        return owned.struct
+
+    def __enter__(self) -> _Owners:
+        return self
+
+    def __exit__(self, *_: object) -> None:
+        while self.owned:
+            self.owned.pop().__exit__()
+
+
+def _address(capsule: object, name: bytes, where: Where) -> int:
+    call = ctypes.pythonapi.PyCapsule_GetPointer
+    call.argtypes, call.restype = [ctypes.py_object, c_char_p], c_void_p
+    try:
+        return int(call(capsule, name) or 0)
+    except (ValueError, TypeError) as fault:
+        raise where.fault(f"{type(capsule).__name__} is no capsule {name.decode()!r} of Arrow; expected one") from fault
+
+
+def _structs(given: Any, owners: _Owners, where: Where, is_table: bool = False) -> tuple[Any, ...]:
+    """Takes over the structs that a container offers: a schema and an array, or a stream."""
+    if numpy is None:
+        raise where.fault("an array of Arrow is read by numpy, which isn't there; expected a list or another container")
+    addresses: Sequence[int]
+    if hasattr(given, "arrow_structs"):
+        addresses = given.arrow_structs
+    elif hasattr(given, "__arrow_c_array__") and not (is_table and hasattr(given, "__arrow_c_stream__")):
+        capsules = given.__arrow_c_array__()
+        if not isinstance(capsules, tuple) or len(capsules) != 2:
+            raise where.fault("__arrow_c_array__ hands out no pair; expected the capsules of a schema and an array")
+        addresses = [_address(it, name, where) for it, name in zip(capsules, (b"arrow_schema", b"arrow_array"))]
+        owners.kept.append(capsules)
+    else:
+        capsule = given.__arrow_c_stream__()
+        addresses = [_address(capsule, b"arrow_array_stream", where)]
+        owners.kept.append(capsule)
+    kinds = (CStream,) if len(addresses) == 1 else (CSchema, CArray)
+    return tuple(owners.take(_Owned(kind, address, where)) for kind, address in zip(kinds, addresses))
+
+
+def read(kind: DType | Logical, given: Any, where: Where) -> Read:
+    """Reads an array, or a stream of arrays as one column, into values of a type and nulls.
+
+    ValueFault where the structs aren't those of an array that Arrow allows, where it isn't of the type, or where the producer fails.
+    """
+    with _Owners() as owners:
+        structs = _structs(given, owners, where)
+        if len(structs) == 2:
+            return converted(kind, _laid(structs[0], structs[1], where), where)
+        schema = owners.take(_schema_of(structs[0], where))
+        pieces: list[Read] = []
+        for array in _arrays(structs[0], where):
+            with array as chunk:
+                pieces.append(converted(kind, _laid(schema, chunk, _moved(where, pieces)), _moved(where, pieces)))
+        return _joined(kind, pieces)
+
+
+def _moved(where: Where, pieces: Sequence[Read]) -> Where:
+    """Names the rows of a chunk that stands behind others."""
+    start = sum(len(piece.values) for piece in pieces)
+    return Where(where.words, where.column, where.unit, range(start, 2**62)) if start else where
+
+
+def _joined(kind: DType | Logical, pieces: Sequence[Read]) -> Read:
+    if not pieces:
+        from .reading import read_typed
+
+        return read_typed(kind, [], None, Where())
+    values = joined([piece.values for piece in pieces])
+    if all(piece.nulls is None for piece in pieces):
+        return Read(values, None)
+    return Read(values, b"".join(piece.nulls or bytes(len(piece.values)) for piece in pieces))
+
+
+# -- tables
+
+
+def is_table(given: object) -> bool:
+    """Tells whether a chunk is an array or a stream of Arrow."""
+    return any(hasattr(given, name) for name in ("__arrow_c_array__", "__arrow_c_stream__", "arrow_structs"))
+
+
+def columns_of(columns: Sequence[Column], given: Any) -> Mapping[str, Read]:
+    """Reads columns of a record batch, or of a table, whose batches are one chunk. ValueFault as of ``read``; KeyError names a missing column."""
+    where = Where("the table")
+    with _Owners() as owners:
+        structs = _structs(given, owners, where, is_table=True)
+        if len(structs) == 2:
+            return _batch(columns, structs[0], structs[1], {})
+        schema = owners.take(_schema_of(structs[0], where))
+        pieces: dict[str, list[Read]] = {column.name: [] for column in columns}
+        for array in _arrays(structs[0], where):
+            with array as chunk:
+                for name, found in _batch(columns, schema, chunk, pieces).items():
+                    pieces[name].append(found)
+        return {column.name: _joined(column.type, pieces[column.name]) for column in columns}
+
+
+class Batch:
+    """A record batch of a stream, for the time of one chunk."""
+
+    def __init__(self, schema: Any, array: Any):
+        self._schema, self._array = schema, array
+
+    def columns(self, columns: Sequence[Column]) -> Mapping[str, Read]:
+        """Reads columns of the batch. Errors are those of ``columns_of``."""
+        return _batch(columns, self._schema, self._array, {})
+
+
+def batches(given: Any) -> Iterator[Batch]:
+    """Yields the record batches of a stream. ValueFault where the producer fails."""
+    where = Where("the table")
+    with _Owners() as owners:
+        structs = _structs(given, owners, where, is_table=True)
+        if len(structs) == 2:
+            yield Batch(*structs)
+            return
+        schema = owners.take(_schema_of(structs[0], where))
+        for array in _arrays(structs[0], where):
+            with array as chunk:
+                yield Batch(schema, chunk)
+
+
+def _batch(columns: Sequence[Column], schema: Any, array: Any, before: Mapping[str, Sequence[Read]]) -> Mapping[str, Read]:
+    where = Where("the table")
+    if schema.format != b"+s":
+        raise where.fault(f"an array of Arrow's format {_text(schema.format)!r} is no table; expected a struct of its columns")
+    _checked(schema, array, 1, where)
+    if array.n_children != schema.n_children or (array.n_children and not (array.children and schema.children)):
+        raise where.fault(f"a table of {schema.n_children} columns has arrays of {array.n_children}; expected as many")
+    if _there(array, where) is not None:
+        raise where.fault("rows of the table are null as a whole; expected nulls in its columns alone")
+    names = [_name(schema.children[place], where) for place in range(schema.n_children)]
+    found = {}
+    for column in columns:
+        if names.count(column.name) != 1:
+            raise KeyError(column.name) if column.name not in names else where.fault(f"{names.count(column.name)} columns are named {column.name}; expected one")
+        place, of_column = names.index(column.name), _moved(Where(f"column {column.name}", column.name), before.get(column.name, ()))
+        child = array.children[place]
+        if not child or child.contents.length - array.offset < array.length:
+            raise of_column.fault(f"the array is shorter than its table; expected {array.offset + array.length} rows")
+        laid = _laid(schema.children[place].contents, child.contents, of_column, array.offset, array.length)
+        found[column.name] = converted(column.type, laid, of_column)
+    return found
+
+
+def _name(schema: Any, where: Where) -> str:
+    if not schema:
+        raise where.fault("a column of the table has no schema; expected one")
+    return _text(schema.contents.name or b"")
+
+
+# -- streams
+
+
+def _schema_of(stream: Any, where: Where) -> _Owned:
+    found = _Owned(CSchema, None, where)
+    _filled(stream, stream.get_schema, found, where)
+    if not found.struct.release:
+        raise where.fault("a stream of Arrow has a released schema; expected one")
+    return found
+
+
+def _arrays(stream: Any, where: Where) -> Iterator[_Owned]:
+    while True:
+        found = _Owned(CArray, None, where)
+        _filled(stream, stream.get_next, found, where)
+        if not found.struct.release:
+            return
+        yield found
+
+
+def _filled(stream: Any, call: int | None, into: _Owned, where: Where) -> None:
+    if not call:
+        raise where.fault("a stream of Arrow lacks a callback; expected get_schema and get_next")
+    code = _FILL(call)(ctypes.addressof(stream), ctypes.addressof(into.struct))
+    if code != 0:
+        told = _TOLD(stream.get_last_error)(ctypes.addressof(stream)) if stream.get_last_error else None
+        into.struct.release = None
+        raise where.fault(f"the producer of a stream of Arrow failed with code {code}: {_text(told or b'it says no more')}; expected an array")
+
+
+# -- arrays
+
+
+def _text(word: bytes) -> str:
+    return word.decode("utf-8", "backslashreplace")
+
+
+def _laid(schema: Any, array: Any, where: Where, start: int = 0, count: int | None = None, depth: int = 0) -> Laid:
+    """Copies an array, or so many of its values from ``start`` on, and looks at all that its structs say."""
+    if depth > _DEEPEST:
+        raise where.fault(f"dictionaries nest deeper than {_DEEPEST}; expected fewer")
+    if schema.format is None:
+        raise where.fault("a schema of Arrow has no format; expected one")
+    form = _text(schema.format)
+    size = width(form)
+    is_heap = form in ("u", "U", "z", "Z")
+    if size is None and not is_heap and form not in ("b", "n"):
+        raise where.fault(f"arrays of Arrow's format {form!r} aren't read; expected numbers, truths, texts, bytes, dates, times, decimals or dictionaries")
+    _checked(schema, array, 0 if form == "n" else 3 if is_heap else 2, where)
+    if array.n_children or schema.n_children:
+        raise where.fault(f"an array of Arrow's format {form!r} has {array.n_children} children; expected none")
+    if bool(schema.dictionary) != bool(array.dictionary):
+        raise where.fault("a schema of Arrow and its array don't agree whether there is a dictionary; expected both or none")
+    first, length = array.offset + start, array.length if count is None else count
+    there = _there(array, where, first, length) if form != "n" else None
+    dictionary = None
+    if schema.dictionary:
+        of_values = Where(f"{where.words}, dictionary", where.column, "value")
+        dictionary = _laid(schema.dictionary.contents, array.dictionary.contents, of_values, depth=depth + 1)
+    if form == "n":
+        return Laid(form, length, None)
+    if is_heap:
+        heap, ends = _heap(array, 8 if form in ("U", "Z") else 4, first, length, where)
+        return Laid(form, length, heap, ends, there, dictionary)
+    if form == "b":
+        return Laid(form, length, _bits(_buffer(array, 1, (first + length + 7) // 8, where), first, length), None, there, dictionary)
+    assert size is not None
+    held = _buffer(array, 1, (first + length) * size, where)[first * size :].copy()
+    return Laid(form, length, held.view(NUMBERS[form]) if form in NUMBERS else held, None, there, dictionary)
+
+
+def _checked(schema: Any, array: Any, buffers: int, where: Where) -> None:
+    """Refuses an array whose numbers can't be."""
+    form = _text(schema.format or b"")
+    if array.length < 0 or array.offset < 0 or array.length + array.offset > _MOST:
+        raise where.fault(f"an array of Arrow has {array.length} values from {array.offset} on; expected a length")
+    if not -1 <= array.null_count <= array.length:
+        raise where.fault(f"{array.null_count} of {array.length} values are null; expected a count of them, or -1")
+    if array.n_buffers != buffers:
+        raise where.fault(f"an array of Arrow's format {form!r} has {array.n_buffers} buffers; expected {buffers}")
+    if array.n_buffers and not array.buffers:
+        raise where.fault(f"an array of Arrow has no buffers; expected {buffers}")
+    if array.n_children < 0 or schema.n_children < 0:
+        raise where.fault(f"an array of Arrow has {array.n_children} children; expected none or more")
+
+
+def _there(array: Any, where: Where, first: int | None = None, length: int | None = None) -> Any:
+    """Returns which values aren't null, or None where none is."""
+    if not array.buffers or not array.buffers[0]:
+        if array.null_count > 0:
+            raise where.fault(f"{array.null_count} values are null, and none is marked; expected a buffer of validity")
+        return None
+    packed = _buffer(array, 0, (array.offset + array.length + 7) // 8, where)
+    whole = _bits(packed, array.offset, array.length)
+    nulls = array.length - int(numpy.count_nonzero(whole))
+    if array.null_count not in (-1, nulls):
+        raise where.fault(f"{array.null_count} values are said to be null, and {nulls} are; expected the same")
+    start = 0 if first is None else first - array.offset
+    there = whole[start : start + (array.length if length is None else length)]
+    return None if there.all() else there
+
+
+def _bits(packed: Any, first: int, length: int) -> Any:
+    """Returns truths of bits, of which the lowest one of a byte comes first."""
+    skipped = first // 8
+    return numpy.unpackbits(packed[skipped:], bitorder="little")[first - 8 * skipped :][:length].view(bool)
+
+
+def _buffer(array: Any, place: int, size: int, where: Where) -> Any:
+    """Returns so many bytes of a buffer, without a copy."""
+    if not size:
+        return numpy.zeros(0, numpy.uint8)
+    address = array.buffers[place]
+    if not address:
+        raise where.fault(f"buffer {place} of an array of Arrow isn't there; expected {size} bytes")
+    held: Any = (ctypes.c_uint8 * size).from_address(address)
+    return numpy.frombuffer(held, numpy.uint8)
+
+
+def _heap(array: Any, size: int, first: int, length: int, where: Where) -> tuple[Any, Any]:
+    """Returns the heap of texts or bytes from the first one on, and where each of them ends."""
+    if not length:
+        return numpy.zeros(0, numpy.uint8), numpy.zeros(0, "<u8")
+    offsets = _buffer(array, 1, (first + length + 1) * size, where).view(f"<i{size}")[first:]
+    falls = numpy.flatnonzero(offsets[1:] < offsets[:-1])
+    if offsets[0] < 0 or len(falls):
+        row = int(falls[0]) if len(falls) else 0
+        raise where.fault(f"a text ends at {offsets[row + 1]} and begins at {offsets[row]}; expected offsets from 0 on that don't descend", row)
+    start, end = int(offsets[0]), int(offsets[-1])
+    if end > _MOST:
+        raise where.fault(f"the last text ends at {end}; expected an end within memory")
+    return _buffer(array, 2, end, where)[start:].copy(), (offsets[1:].astype("<i8") - start).astype("<u8")
