@@ -150,7 +150,14 @@ impl ZoneMap {
             note: note.to_owned(),
             zones: self.zones(),
             statistics: statistics.collect(),
-            columns: columns.map(|(name, it)| ColumnHeader { name: name.clone(), dtype: it.dtype() }).collect(),
+            columns: columns
+                .enumerate()
+                .map(|(place, (name, it))| ColumnHeader {
+                    name: name.clone(),
+                    dtype: it.dtype(),
+                    logical: self.logical(place).cloned(),
+                })
+                .collect(),
         }
     }
 }
@@ -224,7 +231,13 @@ fn map_of(header: &Header, mut arrays: Arrays<'_>) -> Result<ZoneMap, FooterErro
     let names = header.columns.iter().map(|column| column.name.clone()).collect();
     let columns =
         header.columns.iter().zip(kept).map(|(it, kept)| ColumnStats::of_entries(it.dtype, header.zones, kept));
-    Ok(ZoneMap::of_columns(names, rows, columns.collect())?)
+    let mut map = ZoneMap::of_columns(names, rows, columns.collect())?;
+    for column in &header.columns {
+        if let Some(kind) = &column.logical {
+            map = map.with_logical(&column.name, kind.clone())?;
+        }
+    }
+    Ok(map)
 }
 
 // Reads a statistic of a column of this type in so many zones.

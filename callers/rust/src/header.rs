@@ -2,6 +2,7 @@
 //! The header of a file of footers: what its arrays are.
 use crate::column::{DType, Kind};
 use crate::json::Json;
+use crate::logical::Logical;
 use crate::stat::Stat;
 
 /// What a file's arrays are: the rows of each zone, and then three arrays for each statistic, in order.
@@ -15,6 +16,7 @@ pub(crate) struct Header {
 pub(crate) struct ColumnHeader {
     pub(crate) name: String,
     pub(crate) dtype: DType,
+    pub(crate) logical: Option<Logical>,
 }
 
 pub(crate) struct StatHeader {
@@ -54,19 +56,32 @@ impl Header {
 
 impl ColumnHeader {
     fn json(&self) -> Json {
-        Json::Object(vec![
+        let mut fields = vec![
             ("name".to_owned(), Json::Text(self.name.clone())),
             ("type".to_owned(), Json::Text(self.dtype.kind.to_string().to_uppercase())),
             ("nullable".to_owned(), Json::Bool(self.dtype.nullable)),
-        ])
+        ];
+        fields.extend(self.logical.iter().map(|it| ("logical".to_owned(), Json::Text(it.to_string()))));
+        Json::Object(fields)
     }
 
     fn of(json: Json) -> Read<ColumnHeader> {
-        let [name, kind, nullable] = members(json, ["name", "type", "nullable"])?;
+        let has_logical = matches!(&json, Json::Object(fields) if fields.iter().any(|(name, _)| name == "logical"));
+        let (name, kind, nullable, logical) = if has_logical {
+            let [name, kind, nullable, logical] = members(json, ["name", "type", "nullable", "logical"])?;
+            (name, kind, nullable, Some(logical))
+        } else {
+            let [name, kind, nullable] = members(json, ["name", "type", "nullable"])?;
+            (name, kind, nullable, None)
+        };
         let word = text_of(kind)?;
         let kind = Kind::EVERY.into_iter().find(|kind| kind.to_string().to_uppercase() == word);
         let kind = kind.ok_or_else(|| format!("there is no type {word}"))?;
-        Ok(ColumnHeader { name: text_of(name)?, dtype: DType { kind, nullable: truth_of(&nullable)? } })
+        let logical = logical.map(|it| text_of(it)?.parse::<Logical>().map_err(|none| none.to_string())).transpose()?;
+        if let Some(it) = logical.as_ref().filter(|it| it.kind() != kind) {
+            return Err(format!("{it} isn't mapped onto {word}"));
+        }
+        Ok(ColumnHeader { name: text_of(name)?, dtype: DType { kind, nullable: truth_of(&nullable)? }, logical })
     }
 }
 

@@ -28,22 +28,31 @@ mod column;
 mod column_stats;
 mod error;
 mod file;
+mod float;
 mod header;
 mod json;
 mod literal;
+mod logical;
 mod predicate;
 mod pruning;
+mod ranges;
 mod raw;
 mod stat;
+mod time;
+mod typed;
 mod zone_map;
 
 pub use column::{Column, DType, Kind, Number};
 pub use column_stats::{measure, ColumnStats};
 pub use error::{Error, Place, Side, MAX_DEPTH};
 pub use file::FooterError;
+pub use float::{Float32, Float64, Nan};
 pub use literal::{Literal, Operand, Operator};
+pub use logical::{Logical, NoLogical};
 pub use predicate::{col, ColumnName, Node, Predicate};
 pub use stat::{Precision, Stat, Value};
+pub use time::{Date, DateTime, Instant, NoTime, Time, Unit};
+pub use typed::{Decimal, Float, Literals, NoDecimal, TypedColumn};
 pub use zone_map::{Answer, Footers, ZoneMap};
 
 /// What the program answers to a text.

@@ -7,6 +7,7 @@
 //! assert_eq!(wanted.to_string(), "and gt col qty lit i64 9000 like col name lit utf8 \"pre%\"");
 //! ```
 use crate::literal::{quoted, Literal, Operand, Operator};
+use crate::logical::Logical;
 use std::collections::VecDeque;
 use std::fmt;
 
@@ -18,6 +19,8 @@ use std::fmt;
 #[derive(Clone, Debug, PartialEq, Eq)]
 pub struct Predicate {
     nodes: VecDeque<Node>,
+    /// The columns that are taken for ones of logical types, which a map's own may not contradict.
+    types: Vec<(String, Logical)>,
 }
 
 /// One condition or connective of a predicate. The operands of a connective stand right behind it.
@@ -31,6 +34,10 @@ pub enum Node {
     Not,
     /// A constant, whatever the row.
     Constant(bool),
+    /// The truth that is null, whatever the row.
+    Unknown,
+    /// A condition of which nothing is known, by its words.
+    Opaque(String),
     Compare(Operator, String, Operand),
     /// A column lies from a value to another one; `true` says that the end is excluded.
     Between {
@@ -55,7 +62,7 @@ impl Node {
     /// Returns the columns that the node names, from left to right.
     pub fn columns(&self) -> impl Iterator<Item = &str> {
         let (first, second) = match self {
-            Node::And | Node::Or | Node::Not | Node::Constant(_) => (None, None),
+            Node::And | Node::Or | Node::Not | Node::Constant(_) | Node::Unknown | Node::Opaque(_) => (None, None),
             Node::Compare(_, column, Operand::Column(other)) => (Some(column), Some(other)),
             Node::Compare(_, column, Operand::Literal(_))
             | Node::Between { column, .. }
@@ -73,6 +80,11 @@ impl Node {
             Node::Or => out.write_str("or"),
             Node::Not => out.write_str("not"),
             Node::Constant(truth) => write!(out, "{}", Literal::Bool(*truth)),
+            Node::Unknown => out.write_str("lit bool? null"),
+            Node::Opaque(words) => {
+                out.write_str("opaque ")?;
+                quoted(words, out)
+            }
             Node::Compare(operator, column, other) => {
                 write!(out, "{operator} ")?;
                 name(column, out)?;
@@ -110,6 +122,9 @@ impl Node {
 /// Writes the words of a column by its name.
 pub(crate) type ColumnWriter<'a> = dyn Fn(&str, &mut dyn fmt::Write) -> fmt::Result + 'a;
 
+/// Writes the words of an opaque condition by how many stand before it.
+pub(crate) type OpaqueWriter<'a> = dyn Fn(usize, &mut dyn fmt::Write) -> fmt::Result + 'a;
+
 /// A column by its name, from which a predicate is built.
 #[derive(Clone, Debug, PartialEq, Eq)]
 pub struct ColumnName(String);
@@ -127,6 +142,10 @@ impl From<ColumnName> for Operand {
 }
 
 impl ColumnName {
+    pub(crate) fn into_name(self) -> String {
+        self.0
+    }
+
     /// Compares the column with a constant or with another column.
     #[must_use]
     pub fn compare(self, operator: Operator, other: impl Into<Operand>) -> Predicate {
@@ -199,7 +218,7 @@ impl ColumnName {
         for _ in 1..nodes.len() {
             nodes.push_front(Node::Or);
         }
-        Predicate { nodes }
+        Predicate { nodes, types: Vec::new() }
     }
 
     /// Tests that the column is null.
@@ -245,14 +264,36 @@ impl ColumnName {
 
 impl Predicate {
     // Makes the predicate of one condition.
-    fn leaf(node: Node) -> Predicate {
-        Predicate { nodes: VecDeque::from([node]) }
+    pub(crate) fn leaf(node: Node) -> Predicate {
+        Predicate { nodes: VecDeque::from([node]), types: Vec::new() }
+    }
+
+    // Says that a column is taken for one of a logical type.
+    pub(crate) fn of_type(mut self, column: &str, kind: &Logical) -> Predicate {
+        if self.types.iter().all(|(name, it)| (name.as_str(), it) != (column, kind)) {
+            self.types.push((column.to_owned(), kind.clone()));
+        }
+        self
+    }
+
+    // The columns that are taken for ones of logical types.
+    pub(crate) fn types(&self) -> &[(String, Logical)] {
+        &self.types
     }
 
     /// Returns the predicate that is true of every row, or of none.
     #[must_use]
     pub fn constant(truth: bool) -> Predicate {
         Predicate::leaf(Node::Constant(truth))
+    }
+
+    /// Returns a condition that the library can't know, by its words in SQL or any others.
+    ///
+    /// It may be true, false or null of each row. By it alone no zone is skipped or whole, and the rest of a predicate
+    /// still prunes.
+    #[must_use]
+    pub fn opaque(words: impl Into<String>) -> Predicate {
+        Predicate::leaf(Node::Opaque(words.into()))
     }
 
     /// Joins two predicates by AND.
@@ -274,6 +315,13 @@ impl Predicate {
 
     // The shorter side is moved to the longer one, so that a chain grows in time of its length from either end.
     fn joined(self, connective: Node, other: Predicate) -> Predicate {
+        let (mut types, mut others) = (self.types, other.types);
+        if types.len() < others.len() {
+            std::mem::swap(&mut types, &mut others);
+        }
+        // A chain over one column says its type once.
+        others.retain(|it| types.last() != Some(it));
+        types.append(&mut others);
         let (mut left, mut right) = (self.nodes, other.nodes);
         let mut nodes = if left.len() < right.len() {
             while let Some(node) = left.pop_back() {
@@ -285,16 +333,29 @@ impl Predicate {
             left
         };
         nodes.push_front(connective);
-        Predicate { nodes }
+        Predicate { nodes, types }
     }
 
-    // Writes the text in the language of a `where` line, with each column's name written by `name`.
-    pub(crate) fn write(&self, out: &mut dyn fmt::Write, name: &ColumnWriter<'_>) -> fmt::Result {
+    // Writes the text in the language of a `where` line, with each column's name written by `name`, and each opaque
+    // condition by `opaque` of how many stand before it, or by its words.
+    pub(crate) fn write(
+        &self,
+        out: &mut dyn fmt::Write,
+        name: &ColumnWriter<'_>,
+        opaque: Option<&OpaqueWriter<'_>>,
+    ) -> fmt::Result {
+        let mut count = 0;
         for (place, node) in self.nodes.iter().enumerate() {
             if place > 0 {
                 out.write_char(' ')?;
             }
-            node.write(out, name)?;
+            match (node, opaque) {
+                (Node::Opaque(_), Some(write)) => {
+                    write(count, out)?;
+                    count += 1;
+                }
+                _ => node.write(out, name)?,
+            }
         }
         Ok(())
     }
@@ -319,15 +380,20 @@ fn is_name(text: &str) -> bool {
 }
 
 impl fmt::Display for Predicate {
-    /// Writes the text of a `where` line. A name that the language doesn't take stands between quotes.
+    /// Writes the text of a `where` line. A name that the language doesn't take stands between quotes, and so do the
+    /// words of an opaque condition, behind the word `opaque`.
     fn fmt(&self, f: &mut fmt::Formatter<'_>) -> fmt::Result {
-        self.write(f, &|name, out| {
-            out.write_str("col ")?;
-            if is_name(name) {
-                out.write_str(name)
-            } else {
-                quoted(name, out)
-            }
-        })
+        self.write(
+            f,
+            &|name, out| {
+                out.write_str("col ")?;
+                if is_name(name) {
+                    out.write_str(name)
+                } else {
+                    quoted(name, out)
+                }
+            },
+            None,
+        )
     }
 }

@@ -9,6 +9,7 @@ use crate::raw::{self, status, Fault};
 use crate::stat::Stat;
 use crate::zone_map::{Answer, ZoneMap};
 use std::collections::HashMap;
+use std::fmt;
 use std::marker::PhantomData;
 
 /// The statistics that pruning reads.
@@ -20,6 +21,8 @@ pub(crate) struct Asked<'a> {
     text: String,
     /// The places in the map of the columns that are handed over.
     places: Vec<usize>,
+    /// How many opaque conditions there are, each a column of its own.
+    unknown: usize,
 }
 
 impl<'a> Asked<'a> {
@@ -38,10 +41,20 @@ impl<'a> Asked<'a> {
             }
             fits(node, |name| map.columns()[places[slots[name]]].dtype().kind)?;
         }
+        for (name, kind) in predicate.types() {
+            let told = slots.get(name.as_str()).and_then(|slot| map.logical(places[*slot]));
+            if let Some(told) = told.filter(|told| !told.is_mapped_as(kind)) {
+                return Err(Error::Misfit(format!(
+                    "column {name}: it is of type {told}, and the predicate takes it for {kind}"
+                )));
+            }
+        }
+        let unknown = predicate.nodes().filter(|node| matches!(node, Node::Opaque(_))).count();
         let mut text = String::new();
-        let written = predicate.write(&mut text, &|name, out| write!(out, "col c{}", slots[name]));
-        written.expect("a String takes all that is written to it");
-        Ok(Asked { map, text, places })
+        let name = |name: &str, out: &mut dyn fmt::Write| write!(out, "col c{}", slots[name]);
+        let opaque = |place: usize, out: &mut dyn fmt::Write| write!(out, "col o{place}");
+        predicate.write(&mut text, &name, Some(&opaque)).expect("a String takes all that is written to it");
+        Ok(Asked { map, text, places, unknown })
     }
 
     fn columns(&self) -> impl Iterator<Item = &'a ColumnStats> + '_ {
@@ -50,7 +63,10 @@ impl<'a> Asked<'a> {
 
     // What to do with each zone.
     pub(crate) fn answers(&self, flags: u8) -> Result<Vec<Answer>, Error> {
-        let names: Vec<String> = (0..self.places.len().max(1)).map(|slot| format!("c{slot}")).collect();
+        let names = (0..self.places.len()).map(|slot| format!("c{slot}"));
+        // The library takes no table without columns: a predicate that names none gets one that it doesn't name.
+        let unknown = self.unknown.max(usize::from(self.places.is_empty()));
+        let names: Vec<String> = names.chain((0..unknown).map(|place| format!("o{place}"))).collect();
         let scope = self.scope(&names);
         let counts: Vec<Option<Entry>> = self.columns().map(null_counts).collect();
         let entries: Vec<(usize, &Entry)> = self.entries(&counts).collect();
@@ -82,11 +98,10 @@ impl<'a> Asked<'a> {
         }
     }
 
-    // The columns by the names that are given to them. A predicate that names no column gets one that it doesn't name,
-    // as the library takes no table without columns.
+    // The columns by the names that are given to them, and opaque conditions as truths of which nothing is known.
     fn scope<'n>(&self, names: &'n [String]) -> Vec<raw::Field<'n>> {
         let types = self.columns().map(|column| (column.dtype().kind, column.dtype().nullable));
-        let unnamed = self.places.is_empty().then_some((Kind::Null, true));
+        let unnamed = std::iter::repeat((Kind::Bool, true));
         let field = |(name, (kind, nullable)): (&'n String, (Kind, bool))| raw::Field {
             name: name.as_ptr(),
             name_len: name.len(),
@@ -163,7 +178,8 @@ fn fits<'n>(node: &'n Node, kind_of: impl Fn(&'n str) -> Kind) -> Result<(), Err
         taken_for(column, literal.kind())
     };
     match node {
-        Node::And | Node::Or | Node::Not | Node::Constant(_) | Node::IsNull(_) | Node::IsNotNull(_) => Ok(()),
+        Node::And | Node::Or | Node::Not | Node::Constant(_) | Node::Unknown | Node::Opaque(_) => Ok(()),
+        Node::IsNull(_) | Node::IsNotNull(_) => Ok(()),
         Node::Compare(_, column, Operand::Column(other)) => taken_for(column, kind_of(other)),
         Node::Compare(_, column, Operand::Literal(literal)) => compared_with(column, literal),
         Node::Between { column, low, high, .. } => {

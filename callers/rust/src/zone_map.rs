@@ -3,6 +3,7 @@
 use crate::column::{Column, DType};
 use crate::column_stats::ColumnStats;
 use crate::error::Error;
+use crate::logical::Logical;
 use crate::predicate::Predicate;
 use crate::pruning::Asked;
 use crate::raw;
@@ -30,6 +31,8 @@ pub struct ZoneMap {
     names: Vec<String>,
     rows: Vec<u64>,
     columns: Vec<ColumnStats>,
+    /// The logical type of each column that has one.
+    logical: Vec<Option<Logical>>,
 }
 
 /// The name that Python's package and files of footers have for a [`ZoneMap`].
@@ -52,7 +55,7 @@ impl ZoneMap {
         let mut seen = HashSet::new();
         match names.iter().find(|name| !seen.insert(name.as_str())) {
             Some(name) => Err(Error::BadName(name.clone())),
-            None => Ok(ZoneMap { names, rows, columns }),
+            None => Ok(ZoneMap { logical: vec![None; names.len()], names, rows, columns }),
         }
     }
 
@@ -78,6 +81,33 @@ impl ZoneMap {
     #[must_use]
     pub fn column(&self, place: usize) -> Option<&ColumnStats> {
         self.columns.get(place)
+    }
+
+    /// Says that the values of a column are those of a logical type, by what they are mapped onto.
+    ///
+    /// # Errors
+    /// `UnknownColumn`; `Misfit` where the column is of another kind than the type is mapped onto, or keeps a statistic
+    /// that the type hasn't.
+    pub fn with_logical(mut self, name: &str, kind: Logical) -> Result<Self, Error> {
+        let place = self.names.iter().position(|it| it == name);
+        let place = place.ok_or_else(|| Error::UnknownColumn(name.to_owned()))?;
+        let column = &self.columns[place];
+        if column.dtype().kind != kind.kind() {
+            let words =
+                format!("{kind} is mapped onto {}, and the column is of type {}", kind.kind(), column.dtype().kind);
+            return Err(Error::Misfit(words).of_column(name));
+        }
+        if let Some(stat) = column.stats().into_iter().find(|stat| !kind.has(*stat)) {
+            return Err(Error::Misfit(format!("{kind} has no {stat}")).of_column(name));
+        }
+        self.logical[place] = Some(kind);
+        Ok(self)
+    }
+
+    /// Returns the logical type of a column by its place, where it has one.
+    #[must_use]
+    pub fn logical(&self, place: usize) -> Option<&Logical> {
+        self.logical.get(place)?.as_ref()
     }
 
     pub(crate) fn columns(&self) -> &[ColumnStats] {
@@ -182,7 +212,7 @@ impl ZoneMap {
     /// # Errors
     /// `Misfit` where the columns or the numbers of zones differ, or a zone's rows leave 64 bits; `NoMemory`.
     pub fn merge(&self, right: &ZoneMap) -> Result<ZoneMap, Error> {
-        if self.names != right.names {
+        if self.names != right.names || self.logical != right.logical {
             return Err(Error::Misfit("the maps are of tables with different columns".to_owned()));
         }
         if self.zones() != right.zones() {
@@ -215,7 +245,7 @@ impl ZoneMap {
         let columns = self.columns.iter().zip(&self.names).enumerate();
         let made: Result<Vec<ColumnStats>, Error> =
             columns.map(|(place, (column, name))| make(place, column).map_err(|error| error.of_column(name))).collect();
-        Ok(ZoneMap { names: self.names.clone(), rows, columns: made? })
+        Ok(ZoneMap { names: self.names.clone(), rows, columns: made?, logical: self.logical.clone() })
     }
 }
 
