@@ -56,21 +56,31 @@ footers, note = Footers.from_bytes(data)
 if (footers.to_bytes(note), note, len(footers)) != (data, "six days", 6):
     sys.exit("callers: Python reads or writes the footers of Rust in another way")' ../out/six_days.footers)
 
+# A producer of Arrow's arrays for the tests of Python.
+cc -std=c11 -D_POSIX_C_SOURCE=200809L -O1 -Wall -Wextra -Wpedantic -Werror -shared -fPIC -o "$out/libarrow_producer.so" callers/c/arrow_producer.c
+
+# Python: the types, where mypy is there.
+if command -v mypy > /dev/null; then
+    (cd callers/python && mypy --cache-dir=/dev/null)
+else
+    echo "callers: types of Python left out: apt-get install mypy"
+fi
+
 # Python: the tests with warnings as errors, and the example; once more with numpy, which Debian's own python3 may see alone.
 python_run() {
     (cd callers/python && export FOALMORROW_LIBRARY="$PWD/../out/libvortex_ffi.so" PYTHONDONTWRITEBYTECODE=1 PYTHONPATH=. && "$@")
 }
 python_tests() {
     python_run "$1" -W error -m unittest -q tests.test_predicate tests.test_reading tests.test_files tests.test_footers tests.test_random \
-        tests.test_prune tests.test_frames tests.test_library
+        tests.test_prune tests.test_frames tests.test_library tests.test_docs
     python_run "$1" examples/footers.py
 }
 python_has() { "$1" -c "import $2" 2> /dev/null; }
 python_tests python3
 if ! python_has python3 numpy && python_has /usr/bin/python3 numpy; then python_tests /usr/bin/python3; fi
-# Each kind of container beside a model.
+# Each kind of container and each logical type beside a model; all pairs of float16 among them, which takes minutes.
 if python_has /usr/bin/python3 "hypothesis, numpy, pandas"; then
-    python_run /usr/bin/python3 -W error -m unittest -q tests.test_containers
+    python_run /usr/bin/python3 -W error -m unittest -q tests.test_containers tests.test_types tests.test_logical tests.test_arrow
 else
     echo "callers: containers of Python left out: apt-get install python3-hypothesis python3-numpy python3-pandas"
 fi

@@ -26,7 +26,12 @@ _IS_SKIP, _IS_KEPT, _IS_WHOLE = _test(Answer.SKIP), _test(Answer.READ, Answer.WH
 
 
 class Answers(Sequence[Answer]):
-    """What to do with each zone, in their order. ``numpy.asarray`` of it is an array of the codes, without a copy."""
+    """What to do with each zone, in their order. ``numpy.asarray`` of it is an array of the codes, without a copy.
+
+    >>> answers = Answers([1, 0, 2, 2])
+    >>> answers, list(answers.kept), answers.runs()
+    (<4 zones: 1 to be read, 1 skipped, 2 whole>, [1, 2, 3], [(1, 4)])
+    """
 
     __slots__ = ("codes",)
 
@@ -75,7 +80,11 @@ class Answers(Sequence[Answer]):
         return f"<{len(self)} zones: {self.count(Answer.READ)} to be read, {self.count(Answer.SKIP)} skipped, {self.count(Answer.WHOLE)} whole>"
 
     def count(self, value: object) -> int:
-        """How many zones have an answer."""
+        """How many zones have an answer.
+
+        >>> Answers([1, 0, 1]).count(Answer.SKIP)
+        2
+        """
         return bytes(self.codes).count(value) if isinstance(value, Answer) else 0
 
     @property
@@ -100,7 +109,11 @@ class Answers(Sequence[Answer]):
         return array("Q", compress(count(), marks))
 
     def runs(self) -> list[tuple[int, int]]:
-        """The kept zones as runs of neighbours: the first of each, and the one behind its last."""
+        """The kept zones as runs of neighbours: the first of each, and the one behind its last.
+
+        >>> Answers([0, 2, 1, 0]).runs()
+        [(0, 2), (3, 4)]
+        """
         found: list[tuple[int, int]] = []
         for zone in self.kept:
             if found and found[-1][1] == zone:

@@ -34,6 +34,11 @@ class ValueFault(ValueError):
     """A value, or a container of values, that isn't what it is handed in for.
 
     ``column`` is the name of the column and ``row`` the row, or the zone of a statistic; each is None where the fault has none.
+
+    >>> Values.of(DType.U8, [1, 300])
+    Traceback (most recent call last):
+    ...
+    foalmorrow.arrays.ValueFault: row 1: 300 is no u8; expected a whole number from 0 to 255
     """
 
     def __init__(self, sentence: str, *, column: str | None = None, row: int | None = None):
@@ -47,6 +52,10 @@ class Values:
 
     ``data`` has the type's width for each value, or is the heap; ``ends`` has 8 bytes for each text or bytes, and none else. ValueFault where
     one is longer or shorter.
+
+    >>> values = Values.of(DType.UTF8, ["a", "bc"])
+    >>> len(values), values[1], bytes(values.data)
+    (2, 'bc', b'abc')
     """
 
     dtype: DType
@@ -66,6 +75,9 @@ class Values:
         """Returns the values of a container, as ``foalmorrow.reading`` lists them; a buffer of the type itself isn't copied.
 
         ValueFault where an item is no value of the type, or is null.
+
+        >>> bytes(Values.of(DType.I16, range(3)).data)
+        b'\\x00\\x00\\x01\\x00\\x02\\x00'
         """
         from .reading import Where, read
 
@@ -79,6 +91,9 @@ class Values:
         """Returns texts or bytes that stand in one heap of bytes, with where each value ends as 64-bit numbers.
 
         ValueFault where these are no such buffers. The offsets of Arrow are 32-bit numbers, with one more in front: they aren't taken.
+
+        >>> list(Values.of_heap(DType.UTF8, b"abc", array("Q", [1, 3])))
+        ['a', 'bc']
         """
         if not dtype.has_ends:
             raise ValueFault(f"values of {dtype.word} stand in no heap; expected utf8 or binary")
@@ -115,6 +130,9 @@ class Values:
         """Returns the values from one place up to another, without a copy but of the ends of texts.
 
         ValueFault where the first text begins, or the last one ends, behind the heap.
+
+        >>> list(Values.of(DType.I64, [1, 2, 3]).slice(1, 3))
+        [2, 3]
         """
         if self.dtype.has_ends:
             ends = self.ends.cast("Q")
@@ -127,7 +145,11 @@ class Values:
         return Values(self.dtype, self.data[start * width : stop * width], self.ends, stop - start)
 
     def take(self, places: range) -> Values:
-        """Returns the values at places that ascend by one step, as a copy. ValueFault where texts are no pieces of their heap."""
+        """Returns the values at places that ascend by one step, as a copy. ValueFault where texts are no pieces of their heap.
+
+        >>> list(Values.of(DType.I64, [1, 2, 3]).take(range(0, 3, 2)))
+        [1, 3]
+        """
         if self.dtype.has_ends:
             ends = self.heap_ends()
             return of_texts(self.dtype, [bytes(self.data[ends[place - 1] if place else 0 : ends[place]]) for place in places])
@@ -137,7 +159,11 @@ class Values:
         return Values(self.dtype, memoryview(picked), _NONE, len(places))
 
     def heap_ends(self) -> memoryview:
-        """Returns where each text ends. ValueFault where one ends before it begins, or behind the heap."""
+        """Returns where each text ends. ValueFault where one ends before it begins, or behind the heap.
+
+        >>> list(Values.of(DType.UTF8, ["a", "bc"]).heap_ends())
+        [1, 3]
+        """
         ends = self.ends.cast("Q")
         if numpy is not None and len(ends):
             found = numpy.frombuffer(self.ends, dtype="<u8")

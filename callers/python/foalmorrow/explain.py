@@ -69,7 +69,13 @@ def _marks(answers: Answers, wanted: Answer) -> bytes:
 
 
 class Explanation(Sequence[Zone]):
-    """What a predicate does with each zone, and what each of its leaves says of it; printed, it is a page for a reader."""
+    """What a predicate does with each zone, and what each of its leaves says of it; printed, it is a page for a reader.
+
+    >>> from foalmorrow import Column, DType, Footers, col
+    >>> found = Footers.measure([Column("a", DType.I64)], [{"a": [1, 5]}, {"a": [4, 9]}]).explain(col("a") > 6)
+    >>> found.strip(), found[0].answer.name, found[1].leaves[0].text
+    ('.r', 'SKIP', '("a" > 6)')
+    """
 
     def __init__(self, footers: Footers, predicate: Predicate, normalize: bool):
         self.footers = footers
@@ -98,16 +104,34 @@ class Explanation(Sequence[Zone]):
         return found is not None and found.known[zone] != Precision.ABSENT
 
     def rows(self, answer: Answer) -> int:
-        """Returns how many rows stand in the zones with an answer."""
+        """Returns how many rows stand in the zones with an answer.
+
+        >>> from foalmorrow import Column, DType, Footers, col
+        >>> found = Footers.measure([Column("a", DType.I64)], [{"a": [1, 5]}, {"a": [4, 9, 9]}]).explain(col("a") > 6)
+        >>> found.rows(Answer.SKIP), found.rows(Answer.READ)
+        (2, 3)
+        """
         return sum(compress(self.footers.rows, _marks(self.answers, answer)))
 
     def most_tested(self, count: int = _MOST) -> list[Zone]:
-        """Returns the zones with the most rows to be tested, the largest first, and of equal ones the first."""
+        """Returns the zones with the most rows to be tested, the largest first, and of equal ones the first.
+
+        >>> from foalmorrow import Column, DType, Footers, col
+        >>> found = Footers.measure([Column("a", DType.I64)], [{"a": [1, 5]}, {"a": [4, 9, 9]}]).explain(col("a") > 6)
+        >>> [zone.zone for zone in found.most_tested()]
+        [1]
+        """
         read = compress(range(len(self)), _marks(self.answers, Answer.READ))
         return [self[zone] for zone in heapq.nlargest(count, read, key=self.footers.rows.__getitem__)]
 
     def strip(self) -> str:
-        """Returns a letter a zone: ``.`` is skipped, ``W`` whole, ``r`` to be read."""
+        """Returns a letter a zone: ``.`` is skipped, ``W`` whole, ``r`` to be read.
+
+        >>> from foalmorrow import Column, DType, Footers, col
+        >>> found = Footers.measure([Column("a", DType.I64)], [{"a": [1, 5]}, {"a": [4, 9, 9]}]).explain(col("a") > 6)
+        >>> found.strip()
+        '.r'
+        """
         return bytes(self.answers.codes).translate(_LETTERS).decode()
 
     def __str__(self) -> str:

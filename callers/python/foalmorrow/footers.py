@@ -31,7 +31,11 @@ PRUNING = (Stat.MIN, Stat.MAX, Stat.NULL_COUNT)
 
 
 class Untrue(NamedTuple):
-    """What isn't true of a chunk: a statistic of a column, or ``rows``, the number of rows that the footers say the zone has."""
+    """What isn't true of a chunk: a statistic of a column, or ``rows``, the number of rows that the footers say the zone has.
+
+    >>> Footers([Column("a", DType.I64)], [2]).check(0, {"a": [1]})
+    Untrue(column='a', what='rows')
+    """
 
     column: str
     what: Stat | Literal["rows"]
@@ -41,6 +45,10 @@ class Footers:
     """What is known of the zones of a table: how many rows each has, and the statistics of its columns.
 
     Zones count from 0, in the order in which they stand. What isn't there is unknown, and rules nothing out.
+
+    >>> footers = Footers.measure([Column("a", DType.I64)], [{"a": [1, 5]}, {"a": [7, 9]}])
+    >>> list(footers.prune((col("a") > 5) & (col("a") < 10)).skipped)
+    [0]
     """
 
     def __init__(self, columns: Sequence[Column], rows: object, statistics: Mapping[tuple[str, Stat], Statistic] | None = None):
@@ -91,6 +99,10 @@ class Footers:
         None, or null as the container has it, is absent whatever is said of how it is known.
 
         FooterError as of ``Footers``; ValueFault, with the column and the zone, where a value isn't of the statistic's type.
+
+        >>> bounds = {("a", Stat.MAX): ([5, None], Precision.INEXACT)}
+        >>> Footers.of_values([Column("a", DType.I64)], [10, 10], bounds).at(0)
+        {('a', <Stat.MAX: 3>): (<Precision.INEXACT: 2>, 5)}
         """
         empty = cls(columns, rows)
         statistics = {}
@@ -124,6 +136,9 @@ class Footers:
 
         FooterError where a column is missing, or one of a chunk is longer than another; ValueFault, with the column and the row, where a value
         isn't of its column's type; Refused where a heap of texts isn't UTF-8.
+
+        >>> Footers.measure([Column("a", DType.I64)], [{"a": range(5)}], [Stat.MAX]).at(0)
+        {('a', <Stat.MAX: 3>): (<Precision.EXACT: 1>, 4)}
         """
         from . import arrow
 
@@ -133,7 +148,12 @@ class Footers:
         return building.footers()
 
     def at(self, zone: int) -> dict[tuple[str, Stat], tuple[Precision, object]]:
-        """Returns what is known of a zone. The bounds of a logical type are its own values, as dates and decimals."""
+        """Returns what is known of a zone. The bounds of a logical type are its own values, as dates and decimals.
+
+        >>> from foalmorrow import Date
+        >>> Footers.measure([Column("day", Date())], [{"day": ["2026-01-02"]}], [Stat.MIN]).at(0)["day", Stat.MIN][1]
+        datetime.date(2026, 1, 2)
+        """
         found = self._stored_at(zone)
         for (name, stat), (known, value) in found.items():
             logical = self._places[name].logical
@@ -160,6 +180,10 @@ class Footers:
         PredicateError where the predicate names a column that isn't there, compares a column with a value that isn't of its type, isn't of
         type bool, or nests deeper than 128 levels, or its normal form does; Refused, with the column, the statistic and the zone, where an array
         says what can't be.
+
+        >>> footers = Footers.measure([Column("a", DType.I64)], [{"a": [1, 5]}, {"a": [7, 9]}])
+        >>> footers.prune(col("a").between(6, 9))
+        <2 zones: 0 to be read, 1 skipped, 1 whole>
         """
         if isinstance(predicate, Predicate):
             columns, names, text, unknown = self._spelled(predicate)
@@ -207,6 +231,10 @@ class Footers:
         """Returns footers of zones that each are a zone of these followed by the zone of ``right`` at the same place.
 
         FooterError where the columns differ, the numbers of zones do, or a zone's rows leave 64 bits; Refused as of ``prune``.
+
+        >>> footers = Footers.measure([Column("a", DType.I64)], [{"a": [1, 5]}, {"a": [7, 9]}])
+        >>> list(footers.slice(0, 1).merge(footers.slice(1, 2)).rows)
+        [4]
         """
         if self.columns != right.columns:
             raise FooterError("the footers are of tables with different columns")
@@ -229,6 +257,10 @@ class Footers:
 
         Each statistic is what merging each zone to those before it leaves. A sum that leaves its type on the way is absent, even if the sum of
         all would be in it. FooterError where the rows leave 64 bits; Refused as of ``prune``.
+
+        >>> footers = Footers.measure([Column("a", DType.I64)], [{"a": [1, 5]}, {"a": [7, 9]}])
+        >>> footers.merged().at(0)["a", Stat.MAX]
+        (<Precision.EXACT: 1>, 9)
         """
         if not len(self):
             return self
@@ -243,17 +275,38 @@ class Footers:
         return Footers(self.columns, array("Q", [rows]), statistics)
 
     def only(self, wanted: Sequence[Stat]) -> Footers:
-        """Returns the footers with some of the statistics alone."""
+        """Returns the footers with some of the statistics alone.
+
+        >>> footers = Footers.measure([Column("a", DType.I64)], [{"a": [1, 5]}, {"a": [7, 9]}])
+        >>> list(footers.only([Stat.MAX]).statistics)
+        [('a', <Stat.MAX: 3>)]
+        """
         return Footers(self.columns, self.rows, {key: it for key, it in self.statistics.items() if key[1] in wanted})
 
     def take(self, zones: range) -> Footers:
-        """Returns the footers of zones that ascend by one step, as a copy."""
+        """Returns the footers of zones that ascend by one step, as a copy.
+
+        >>> footers = Footers.measure([Column("a", DType.I64)], [{"a": [1, 5]}, {"a": [7, 9]}])
+        >>> footers.take(range(1, 2)).at(0)["a", Stat.MIN][1]
+        7
+        """
         return Footers(self.columns, self.rows[zones.start : zones.stop : zones.step], {key: it.take(zones) for key, it in self.statistics.items()})
 
     def explain(self, predicate: Predicate, normalize: bool = False) -> Explanation:
         """Returns why a zone is read: what each comparison of the predicate by itself tells of each zone, and what isn't known.
 
         Errors are those of ``prune``.
+
+        >>> footers = Footers.measure([Column("a", DType.I64)], [{"a": [1, 5]}, {"a": [7, 9]}])
+        >>> print(footers.explain(col("a") > 6))
+        ("a" > 6)
+        skipped: 1 zones, 2 rows
+        whole: 1 zones, 2 rows
+        to be read: 0 zones, 0 rows
+        zone 0, 2 rows: skip
+            ("a" > 6): skip
+        zone 1, 2 rows: whole
+            ("a" > 6): whole
         """
         return Explanation(self, predicate, normalize)
 
@@ -268,7 +321,12 @@ class Footers:
         return plot(self, column, predicate, axes)
 
     def overlap(self, column: str) -> Overlap:
-        """Returns in how many zones a value of a column may lie. FooterError where the table hasn't the column."""
+        """Returns in how many zones a value of a column may lie. FooterError where the table hasn't the column.
+
+        >>> footers = Footers.measure([Column("a", DType.I64)], [{"a": [1, 5]}, {"a": [7, 9]}])
+        >>> footers.overlap("a").most
+        1
+        """
         if column not in self._places:
             raise FooterError(f"the table has no column {column}")
         return overlap(self.statistics.get((column, Stat.MIN)), self.statistics.get((column, Stat.MAX)), len(self))
@@ -284,6 +342,10 @@ class Footers:
 
         The number of rows is told too, and compared first: ``Untrue(column, "rows")`` where the chunk has others. FooterError and ValueFault as of
         ``measure``; IndexError where there is no such zone.
+
+        >>> footers = Footers.measure([Column("a", DType.I64)], [{"a": [1, 5]}, {"a": [7, 9]}])
+        >>> footers.check(0, {"a": [1, 5]}), footers.only(PRUNING).check(0, {"a": [1, 6]})
+        (None, Untrue(column='a', what=<Stat.MAX: 3>))
         """
         if not 0 <= zone < len(self):
             raise IndexError(f"zone {zone} of {len(self)}")
@@ -295,16 +357,31 @@ class Footers:
         return None
 
     def slice(self, start: int, stop: int) -> Footers:
-        """Returns the footers of the zones from one up to another."""
+        """Returns the footers of the zones from one up to another.
+
+        >>> footers = Footers.measure([Column("a", DType.I64)], [{"a": [1, 5]}, {"a": [7, 9]}])
+        >>> len(footers.slice(0, 1))
+        1
+        """
         return Footers(self.columns, self.rows[start:stop], {key: it.slice(start, stop) for key, it in self.statistics.items()})
 
     def shards(self, size: int) -> Iterator[Footers]:
-        """Yields the footers in pieces of so many zones."""
+        """Yields the footers in pieces of so many zones.
+
+        >>> footers = Footers.measure([Column("a", DType.I64)], [{"a": [1, 5]}, {"a": [7, 9]}])
+        >>> [len(shard) for shard in footers.shards(1)]
+        [1, 1]
+        """
         return (self.slice(start, min(start + size, len(self))) for start in range(0, len(self), size))
 
     @classmethod
     def joined(cls, pieces: Sequence[Footers]) -> Footers:
-        """Returns the footers of pieces of one table, one piece behind the other. FooterError where their columns differ."""
+        """Returns the footers of pieces of one table, one piece behind the other. FooterError where their columns differ.
+
+        >>> footers = Footers.measure([Column("a", DType.I64)], [{"a": [1, 5]}, {"a": [7, 9]}])
+        >>> Footers.joined(list(footers.shards(1))) == footers
+        True
+        """
         if not pieces:
             raise FooterError("there is nothing to join")
         columns = pieces[0].columns
@@ -318,17 +395,37 @@ class Footers:
         """Writes the footers to one file, whole or not at all, with a note that ``load_with_note`` gives back.
 
         A file that was there keeps its mode; a new one has what the umask leaves. FooterError as of ``to_bytes``.
+
+        >>> import tempfile
+        >>> with tempfile.TemporaryDirectory() as folder:
+        ...     Footers([Column("a", DType.I64)], [3]).save(folder + "/a.footers", "a note")
+        ...     Footers.load_with_note(folder + "/a.footers")[1]
+        'a note'
         """
         files.written(path, self.to_bytes(note))
 
     @classmethod
     def load(cls, path: str | os.PathLike[str]) -> Footers:
-        """Reads footers from a file. FooterError where it isn't one, is of another version, is cut short or was changed, whatever its bytes are."""
+        """Reads footers from a file. FooterError where it isn't one, is of another version, is cut short or was changed, whatever its bytes are.
+
+        >>> import tempfile
+        >>> with tempfile.TemporaryDirectory() as folder:
+        ...     Footers([Column("a", DType.I64)], [3]).save(folder + "/a.footers")
+        ...     list(Footers.load(folder + "/a.footers").rows)
+        [3]
+        """
         return cls.load_with_note(path)[0]
 
     @classmethod
     def load_with_note(cls, path: str | os.PathLike[str]) -> tuple[Footers, str]:
-        """Reads footers and the note that was kept with them. FooterError as of ``load``."""
+        """Reads footers and the note that was kept with them. FooterError as of ``load``.
+
+        >>> import tempfile
+        >>> with tempfile.TemporaryDirectory() as folder:
+        ...     Footers([], []).save(folder + "/a.footers", "a note")
+        ...     Footers.load_with_note(folder + "/a.footers")[1]
+        'a note'
+        """
         with open(path, "rb") as file:
             return cls.from_bytes(file.read())
 
@@ -336,12 +433,19 @@ class Footers:
         """Returns the footers as the bytes of their file, which docs/FOOTERS.md describes.
 
         FooterError where an array or a text is one that no file may hold, and so couldn't be read again.
+
+        >>> Footers([], []).to_bytes()[:20]
+        b'foalmorrow footers 1'
         """
         return files.encoded(self.columns, self.rows, self.statistics, note)
 
     @classmethod
     def from_bytes(cls, data: bytes) -> tuple[Footers, str]:
-        """Returns the footers that these bytes are, and their note. FooterError as of ``load``."""
+        """Returns the footers that these bytes are, and their note. FooterError as of ``load``.
+
+        >>> Footers.from_bytes(Footers([], []).to_bytes("a note"))[1]
+        'a note'
+        """
         columns, rows, statistics, note = files.decoded(bytes(data))
         return cls(columns, rows, statistics), note
 

@@ -8,7 +8,11 @@ from typing import Any
 
 
 class DType(enum.IntEnum):
-    """The type of a column's values, nullability aside."""
+    """The type of a column's values, nullability aside.
+
+    >>> DType.I64.word, DType.I8.range, DType.UTF8.has_ends
+    ('i64', (-128, 127), True)
+    """
 
     NULL = 0
     BOOL = 1
@@ -64,7 +68,11 @@ _WIDTHS = {
 
 
 class Stat(enum.IntEnum):
-    """The kinds of statistics, by the format's numbers."""
+    """The kinds of statistics, by the format's numbers.
+
+    >>> Stat(4).name
+    'MIN'
+    """
 
     IS_CONSTANT = 0
     IS_SORTED = 1
@@ -77,7 +85,11 @@ class Stat(enum.IntEnum):
 
 
 class Precision(enum.IntEnum):
-    """How a statistic's value is known."""
+    """How a statistic's value is known.
+
+    >>> [it.name for it in Precision]
+    ['ABSENT', 'EXACT', 'INEXACT']
+    """
 
     ABSENT = 0
     EXACT = 1
@@ -85,7 +97,11 @@ class Precision(enum.IntEnum):
 
 
 class Answer(enum.IntEnum):
-    """What to do with a zone under a predicate."""
+    """What to do with a zone under a predicate.
+
+    >>> [it.name for it in Answer]
+    ['READ', 'SKIP', 'WHOLE']
+    """
 
     #: Rows of it may satisfy the predicate and others may not: read it and test them.
     READ = 0
@@ -96,7 +112,12 @@ class Answer(enum.IntEnum):
 
 
 class Logical:
-    """A type of values that stand as values of a physical type, in their own order. ``foalmorrow.types`` has them all."""
+    """A type of values that stand as values of a physical type, in their own order. ``foalmorrow.types`` has them all.
+
+    >>> from foalmorrow import Date
+    >>> Date().dtype.name, Date().word
+    ('I32', 'date')
+    """
 
     #: The physical type onto whose values those of this one are mapped.
     dtype: DType
@@ -116,11 +137,21 @@ class Logical:
         raise NotImplementedError
 
     def stored(self, item: Any) -> int | bytes | None:
-        """Returns an item of a container as a value of the physical type, a text by its UTF-8; None where it is no value of the type."""
+        """Returns an item of a container as a value of the physical type, a text by its UTF-8; None where it is no value of the type.
+
+        >>> from foalmorrow import Decimal
+        >>> Decimal(5, 2).stored("1.5"), Decimal(5, 2).stored("1.005")
+        (150, None)
+        """
         raise NotImplementedError
 
     def shown(self, value: Any) -> Any:
-        """Returns a value of the physical type as what it means."""
+        """Returns a value of the physical type as what it means.
+
+        >>> from foalmorrow import Decimal
+        >>> Decimal(5, 2).shown(150)
+        Decimal('1.50')
+        """
         raise NotImplementedError
 
 

@@ -75,7 +75,11 @@ _ROOM = 256
 
 
 class LibraryError(OSError):
-    """The library isn't where it is looked for, or it isn't this one."""
+    """The library isn't where it is looked for, or it isn't this one.
+
+    >>> issubclass(LibraryError, OSError)
+    True
+    """
 
 
 class Refused(ValueError):
@@ -83,6 +87,9 @@ class Refused(ValueError):
 
     ``row`` is a row of the values that were handed in, ``zone`` a zone of the footers, ``column`` the name of a column, ``stat`` a statistic,
     and ``side`` the footers that are merged, ``left`` or ``right``.
+
+    >>> str(Refused(Status.BAD_VALUE, column="a", zone=3))
+    "column a, zone 3: a text isn't UTF-8, or a truth is above 1"
     """
 
     def __init__(
@@ -219,7 +226,11 @@ def _version(loaded: ctypes.CDLL, path: str) -> tuple[int, int, int]:
 
 
 def version() -> str:
-    """Returns the version of the library, as ``0.2.0``. LibraryError where it isn't there, or is another one than these calls need."""
+    """Returns the version of the library, as ``0.2.0``. LibraryError where it isn't there, or is another one than these calls need.
+
+    >>> version().count(".")
+    2
+    """
     return ".".join(map(str, _version(_library(), "the library")))
 
 
@@ -274,7 +285,11 @@ def _answered_zones(status: int, fault: Fault, columns: Sequence[Column], keys: 
 
 
 def run(text: bytes) -> tuple[int, bytes]:
-    """Answers a text as the program does: its status and its answer. A predicate of 4,096 words may take 8 MiB of stack."""
+    """Answers a text as the program does: its status and its answer. A predicate of 4,096 words may take 8 MiB of stack.
+
+    >>> run(b"column a i64\\npart\\nstat a max exact 5\\nwhere gt col a lit i64 9\\n")
+    (0, b'skipped 0\\nrows\\n')
+    """
     lent, length, room = _Lent(), c_size_t(), 4096
     at = lent.at(text)
     while True:

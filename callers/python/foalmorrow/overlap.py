@@ -23,6 +23,10 @@ class Overlap:
 
     1 is a table that is sorted by the column; the number of zones is one in which no zone tells anything. Sort the table where the mean is
     large and predicates on the column are common.
+
+    >>> from foalmorrow import Column, Footers
+    >>> Footers.measure([Column("a", DType.I64)], [{"a": [1, 5]}, {"a": [3, 9]}]).overlap("a")
+    Overlap(mean=1.5, most=2)
     """
 
     mean: float

@@ -49,7 +49,13 @@ _NAME = re.compile(r"[A-Za-z_][A-Za-z0-9_]{0,63}")
 
 
 class PredicateError(ValueError):
-    """A predicate that names what the table hasn't, compares a column with a value that isn't of its type, or nests too deep."""
+    """A predicate that names what the table hasn't, compares a column with a value that isn't of its type, or nests too deep.
+
+    >>> (col("qty") > "9").text([Column("qty", DType.U8)])
+    Traceback (most recent call last):
+    ...
+    foalmorrow.predicate.PredicateError: column qty: '9' is no u8; expected a whole number from 0 to 255
+    """
 
 
 class Dialect:
@@ -75,7 +81,11 @@ SQL = Dialect()
 
 
 class Predicate:
-    """A condition on a row, that is true, false or null of it. A row is wanted where it is true."""
+    """A condition on a row, that is true, false or null of it. A row is wanted where it is true.
+
+    >>> (col("qty") > 3) & ~col("name").is_null()
+    qty > 3 AND (NOT name IS NULL)
+    """
 
     #: Leaves comparisons with numpy's scalars to the predicate.
     __array_ufunc__ = None
@@ -85,6 +95,9 @@ class Predicate:
 
         PredicateError where the predicate doesn't fit the columns, or one has a name that the language hasn't. A text with a line feed in it
         serves pruning alone: in a file of the program it would end the line.
+
+        >>> (col("qty") > 3).text([Column("qty", DType.U8)])
+        'gt col qty lit u8 3'
         """
         known = {column.name: column.physical for column in columns}
         spelled: Callable[[str], str] = names.__getitem__ if names is not None else _own_name
@@ -118,6 +131,9 @@ class Predicate:
         """Returns the same as a condition of SQL, in which a chain of AND or of OR stands in one pair of parentheses.
 
         PredicateError where the predicate doesn't fit the columns.
+
+        >>> (col("qty") > 3).sql([Column("qty", DType.U8)])
+        '("qty" > 3)'
         """
         known = {column.name: column for column in columns}
 
@@ -156,7 +172,11 @@ class Predicate:
         raise NotImplementedError
 
     def prefix(self) -> list[str | Predicate]:
-        """Lists the words ``and``, ``or`` and ``not`` and the leaves, each word before its operands."""
+        """Lists the words ``and``, ``or`` and ``not`` and the leaves, each word before its operands.
+
+        >>> ((col("a") > 3) | (col("b") < 4)).prefix()
+        ['or', a > 3, b < 4]
+        """
         found: list[str | Predicate] = []
         pending: list[Predicate] = [self]
         while pending:
@@ -172,7 +192,11 @@ class Predicate:
         return found
 
     def folded(self, leaf: Callable[[Any], Folded], joined: Callable[[str, Folded, Folded], Folded], turned: Callable[[Folded], Folded]) -> Folded:
-        """Returns what the tree comes to by ``leaf`` of each leaf, and by ``joined`` and ``turned`` of what their operands come to."""
+        """Returns what the tree comes to by ``leaf`` of each leaf, and by ``joined`` and ``turned`` of what their operands come to.
+
+        >>> ((col("a") > 3) | ~(col("b") < 4)).folded(lambda leaf: 1, lambda word, left, right: left + right, lambda of: of)
+        2
+        """
         found: list[Folded] = []
         for item in reversed(self.prefix()):
             if isinstance(item, Predicate):
@@ -184,11 +208,19 @@ class Predicate:
         return found[0]
 
     def leaves(self) -> list[Predicate]:
-        """Lists the conditions that are joined and turned round, from left to right."""
+        """Lists the conditions that are joined and turned round, from left to right.
+
+        >>> ((col("a") > 3) | ~(col("b") < 4)).leaves()
+        [a > 3, b < 4]
+        """
         return [item for item in self.prefix() if isinstance(item, Predicate)]
 
     def names(self) -> list[str]:
-        """Lists the columns that are named, from left to right; a column that is named twice stands twice."""
+        """Lists the columns that are named, from left to right; a column that is named twice stands twice.
+
+        >>> ((col("a") > 3) | (col("b") < col("a"))).names()
+        ['a', 'b', 'a']
+        """
         return [name for leaf in self.leaves() for name in leaf.names()]
 
     def _text(self, columns: Columns, spelled: Callable[[str], str]) -> str:

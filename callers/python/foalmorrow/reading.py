@@ -36,6 +36,9 @@ class Nullable:
     """Values of a chunk's column with a byte or a truth for each row that is null.
 
     What stands at a null row isn't read. A None among the values is null too.
+
+    >>> read(DType.I8, Nullable([1, 99], [0, 1]), Where()).nulls
+    b'\\x00\\x01'
     """
 
     values: object
@@ -403,7 +406,7 @@ def of_categories(dtype: DType | Logical, held: Any, marks: bytes | None, where:
     # A category that isn't a value of the type is refused where it stands in a row.
     rows = numpy.flatnonzero(there)
     used, first = numpy.unique(codes[rows], return_index=True)
-    values = read(dtype, held.categories.take(used), replace(where, rows=rows[first])).values
+    values = read(dtype, held.categories.take(used) if len(used) else [], replace(where, rows=rows[first])).values
     places = numpy.where(there, numpy.searchsorted(used, codes), -1)
     return Read(gathered(values, places), None if there.all() else (~there).tobytes())
 

@@ -19,29 +19,52 @@ _IS_ABSENT = bytes(code == Precision.ABSENT for code in range(256))
 
 
 class FooterError(ValueError):
-    """Footers that don't fit their columns, one another or their file."""
+    """Footers that don't fit their columns, one another or their file.
+
+    >>> from foalmorrow import Column, Footers
+    >>> Footers([Column("a", DType.I64), Column("a", DType.I64)], [])
+    Traceback (most recent call last):
+    ...
+    foalmorrow.statistic.FooterError: two columns have one name
+    """
 
 
 @dataclass(frozen=True)
 class Statistic:
-    """One statistic of one column: how it is known of each zone, a byte each, and its values."""
+    """One statistic of one column: how it is known of each zone, a byte each, and its values.
+
+    >>> Statistic(memoryview(b"\\x01\\x00"), Values.of(DType.I64, [5, 0])).at(1)
+    (<Precision.ABSENT: 0>, None)
+    """
 
     known: memoryview
     values: Values
 
     def at(self, zone: int) -> tuple[Precision, object]:
-        """Returns how the value is known of a zone, and the value, which is None where it is absent."""
+        """Returns how the value is known of a zone, and the value, which is None where it is absent.
+
+        >>> Statistic(memoryview(b"\\x01"), Values.of(DType.I64, [5])).at(0)
+        (<Precision.EXACT: 1>, 5)
+        """
         code = self.known[zone]
         if code > Precision.INEXACT:
             raise FooterError(f"zone {zone}: {code} doesn't say how a value is known; expected 0, 1 or 2")
         return Precision(code), None if code == Precision.ABSENT else self.values[zone]
 
     def slice(self, start: int, stop: int) -> Statistic:
-        """Returns the statistic of the zones from one up to another."""
+        """Returns the statistic of the zones from one up to another.
+
+        >>> len(Statistic(memoryview(bytes(3)), Values.of(DType.I64, [0, 0, 0])).slice(1, 3).known)
+        2
+        """
         return Statistic(self.known[start:stop], self.values.slice(start, stop))
 
     def take(self, zones: range) -> Statistic:
-        """Returns the statistic of zones that ascend by one step, as a copy."""
+        """Returns the statistic of zones that ascend by one step, as a copy.
+
+        >>> Statistic(memoryview(b"\\x01\\x01"), Values.of(DType.I64, [5, 6])).take(range(1, 2)).at(0)
+        (<Precision.EXACT: 1>, 6)
+        """
         return Statistic(memoryview(self.known[zones.start : zones.stop : zones.step].tobytes()), self.values.take(zones))
 
 

@@ -28,7 +28,13 @@ __all__ = [
 
 
 class LiteralFault(ValueError):
-    """A literal that isn't one of a type."""
+    """A literal that isn't one of a type.
+
+    >>> Date().spot("tomorrow")
+    Traceback (most recent call last):
+    ...
+    foalmorrow.types.LiteralFault: 'tomorrow' is no date; expected a date, or a datetime at midnight or an ISO text without a zone
+    """
 
 
 class Spot(NamedTuple):
@@ -49,7 +55,11 @@ class Numbered(Logical):
     """A logical type over whole numbers."""
 
     def spot(self, literal: Any) -> Spot:
-        """Returns where a literal lies among the type's numbers. LiteralFault where it is no literal of the type."""
+        """Returns where a literal lies among the type's numbers. LiteralFault where it is no literal of the type.
+
+        >>> Decimal(5, 2).spot("1.005")
+        Spot(number=100, exact=False, rounded=None)
+        """
         raise NotImplementedError
 
     def stored(self, item: Any) -> int | None:
@@ -67,7 +77,11 @@ class Numbered(Logical):
         return self.dtype.range
 
     def sql(self, literal: Any) -> str:
-        """Returns a literal as SQL has it. LiteralFault where it is no literal of the type."""
+        """Returns a literal as SQL has it. LiteralFault where it is no literal of the type.
+
+        >>> Date().sql(datetime.date(2026, 1, 2))
+        "DATE '2026-01-02'"
+        """
         raise NotImplementedError
 
     def _fault(self, literal: Any) -> LiteralFault:
@@ -345,7 +359,11 @@ class Written(Logical):
     """A logical type over texts or bytes."""
 
     def literal(self, literal: Any) -> str | bytes:
-        """Returns a literal as a text or bytes. LiteralFault where it is no literal of the type."""
+        """Returns a literal as a text or bytes. LiteralFault where it is no literal of the type.
+
+        >>> Uuid().literal("00000000-0000-0000-0000-000000000001")[-2:]
+        b'\\x00\\x01'
+        """
         raise NotImplementedError
 
 
