@@ -35,6 +35,9 @@
  * to ends[i], the first one from `start`, which is mostly 0. So the offsets of an Arrow array serve as `ends` from their
  * second element on, with the first as `start`. For other types `ends` is empty. A column of VORTEX_NULL has no values.
  *
+ * Dates, timestamps, decimals, floating numbers and UUIDs are mapped onto these kinds, each in its own order: docs/TYPES.md
+ * says how, and what bounds of other writers mean. Arrow's 32-bit offsets and its bits of validity and truths aren't taken.
+ *
  * Statistics. Each has a number, vortex_stat. Its value is of the column's own kind (VORTEX_MAX, VORTEX_MIN), a truth
  * (VORTEX_IS_CONSTANT, VORTEX_IS_SORTED, VORTEX_IS_STRICT_SORTED), a count of 64 bits without a sign (VORTEX_NULL_COUNT,
  * VORTEX_UNCOMPRESSED_SIZE_IN_BYTES) or a sum (VORTEX_SUM): 64 bits, with a sign for columns of numbers with one, and
