@@ -17,7 +17,7 @@ from .arrays import Values, gathered
 from .instants import FINE
 from .kinds import DType, Logical
 from .logical_reading import of_ticks
-from .reading import Read, Where, read_typed
+from .reading import Read, Where, read_typed, used_places
 from .types import Date, Decimal, Enum, FixedBinary, Float32, Float64, Time, Timestamp, Unmapped, Uuid
 
 #: The formats of numbers, by their types in numpy.
@@ -198,13 +198,11 @@ def _of_dictionary(kind: DType | Logical, laid: Laid, dictionary: Laid, where: W
     places = numpy.where(there, laid.items, 0).astype("<i8")
     if dictionary.there is not None and dictionary.count:
         there = there & dictionary.there[places]
-    rows = numpy.flatnonzero(there)
-    used, first = numpy.unique(places[rows], return_index=True)
+    used, first, among = used_places(places, there, dictionary.count)
     # A value of the dictionary is looked at where a row has it.
-    spots = Where(where.words, where.column, where.unit, [int(row) if where.rows is None else where.rows[row] for row in rows[first]])
+    spots = Where(where.words, where.column, where.unit, [int(row) if where.rows is None else where.rows[row] for row in first])
     values = converted(kind, _taken(dictionary, used), spots).values
-    found = gathered(values, numpy.where(there, numpy.searchsorted(used, places), -1))
-    return Read(found, None if there.all() else (~there).tobytes())
+    return Read(gathered(values, among), None if there.all() else (~there).tobytes())
 
 
 def _taken(laid: Laid, places: Any) -> Laid:

@@ -28,6 +28,7 @@ except ImportError:
     numpy = None  # type: ignore[assignment]
 
 _NONE = memoryview(b"")
+_EPOCH = datetime.datetime(1970, 1, 1)
 _FLOATS = (Float32, Float64)
 
 
@@ -113,10 +114,13 @@ def _as_array(kind: Logical, items: list[Any]) -> Any:
     if isinstance(kind, _FLOATS) and types == {float}:
         return numpy.array(items, dtype="<f8")
     if isinstance(kind, (Date, Timestamp)) and types == {datetime.date}:
-        return numpy.array(items, dtype="M8[D]") if getattr(kind, "tz", None) is None else None
+        is_naive = isinstance(kind, Date) or kind.tz is None
+        return (numpy.array([item.toordinal() for item in items], dtype="<i8") - 719_163).view("M8[D]") if is_naive else None
     is_naive = isinstance(kind, Date) or (isinstance(kind, Timestamp) and kind.tz is None)
     if is_naive and types == {datetime.datetime} and all(item.tzinfo is None for item in items):
-        return numpy.array(items, dtype="M8[us]")
+        # By whole numbers, as numpy itself takes ten times as long.
+        since = [item - _EPOCH for item in items]
+        return numpy.array([(it.days * 86_400 + it.seconds) * 1_000_000 + it.microseconds for it in since], dtype="<i8").view("M8[us]")
     return None
 
 

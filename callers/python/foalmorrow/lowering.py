@@ -1,8 +1,12 @@
-"""Predicates over logical types as predicates over their physical ones.
+"""Predicates over logical types as predicates over their physical ones, which are true of the same rows.
 
 A comparison with a literal is a set of the whole numbers of its column: a few ranges without gaps. Where NaN, or a literal that engines
 round, leaves more than one set open, each number of them all satisfies the comparison, each one of none doesn't, and of the others the
-condition is opaque. Null stays null throughout.
+condition is opaque.
+
+A comparison with null is null. Where it is false of every value it may be false of null, too, as long as no NOT stands above it, or two; and
+under one NOT it may be true of null: a predicate that is true by a null is true whatever stands there. So what no value satisfies is FALSE,
+which needs no statistics to be skipped by, and under NOT it is ``IS NULL``.
 """
 from __future__ import annotations
 
@@ -33,8 +37,19 @@ def lowered(predicate: Predicate, columns: Columns) -> Predicate:
     if all(column.logical is None for column in columns.values()):
         return predicate
     found: list[str | Predicate] = []
+    # Of each operand that is to come: whether it stands under an odd number of NOTs.
+    turned = [False]
     for item in predicate.prefix():
-        found += [item] if isinstance(item, str) else _leaf(item, columns).prefix()
+        here = turned.pop()
+        if isinstance(item, str):
+            found.append(item)
+            turned += [not here] if item == "not" else [here, here]
+            continue
+        made = _leaf(item, columns, here)
+        if found[-1:] == ["not"] and isinstance(made, (NullTest, Constant)):
+            found.pop()
+            made = made._turned()
+        found += made.prefix()
     return of_prefix(found)
 
 
@@ -50,7 +65,8 @@ def sql_of_logical(column: Column, value: Value) -> str:
     raise PredicateError(f"column {column.name}: values of {column.word} have no literals")
 
 
-def _leaf(leaf: Predicate, columns: Columns) -> Predicate:
+def _leaf(leaf: Predicate, columns: Columns, turned: bool) -> Predicate:
+    """Returns a leaf over physical values, ``turned`` where it stands under an odd number of NOTs."""
     named = [columns.get(name) for name in leaf.names()]
     known = [column for column in named if column is not None]
     if len(known) < len(named) or all(column.logical is None for column in known) or isinstance(leaf, NullTest):
@@ -62,19 +78,20 @@ def _leaf(leaf: Predicate, columns: Columns) -> Predicate:
             raise PredicateError(f"column {known[0].name}: {known[0].word} is no text")
         return leaf
     if isinstance(leaf, Compared) and isinstance(leaf.other, ColumnOf):
-        return _of_columns(leaf, known[0], known[1])
+        return _of_columns(leaf, known[0], known[1], turned)
     if isinstance(leaf, Between) and (leaf.low is None or leaf.high is None):
-        return lowered(leaf.ends(), columns)
+        low, high = leaf.ends().leaves()
+        return _leaf(low, columns, turned) & _leaf(high, columns, turned)
     if isinstance(leaf, Compared) and leaf.other is None:
         return replace(leaf, nan=None)
     assert isinstance(leaf, (Compared, Between))
     try:
-        return _of_literals(leaf, known[0])
+        return _of_literals(leaf, known[0], turned)
     except LiteralFault as fault:
         raise PredicateError(f"column {known[0].name}: {fault}") from None
 
 
-def _of_literals(leaf: Compared | Between, column: Column) -> Predicate:
+def _of_literals(leaf: Compared | Between, column: Column, turned: bool) -> Predicate:
     kind = column.logical
     if isinstance(kind, Written):
         if isinstance(kind, Enum) and (isinstance(leaf, Between) or leaf.operator in _BY_ORDER):
@@ -93,10 +110,10 @@ def _of_literals(leaf: Compared | Between, column: Column) -> Predicate:
     for found in sets[1:]:
         least, most = _both(least, found), _either(most, found)
     strict = isinstance(leaf, Compared) and leaf.operator in ("gt", "lt")
-    some = _within(column, least, _limits(kind), strict)
     if least == most:
-        return some
-    return some | (_within(column, most, _limits(kind), strict) & Opaque(repr(leaf)))
+        return _within(column, least, _limits(kind), strict, turned)
+    rest = _within(column, most, _limits(kind), strict, turned) & Opaque(repr(leaf))
+    return rest if not least and not (turned and column.nullable) else _within(column, least, _limits(kind), strict, turned) | rest
 
 
 # -- sets of numbers
@@ -176,13 +193,13 @@ def _either(left: Ranges, right: Ranges) -> Ranges:
     return tuple(found)
 
 
-def _within(column: Column, ranges: Ranges, limits: tuple[int, int], strict: bool) -> Predicate:
-    """Returns the test that a column's number is one of a set, which is null where the column is."""
+def _within(column: Column, ranges: Ranges, limits: tuple[int, int], strict: bool, turned: bool) -> Predicate:
+    """Returns the test that a column's number is one of a set."""
     name = column.name
     if not ranges:
-        return never(column)
+        return _never(column, turned)
     if ranges == (limits,):
-        return _always(column)
+        return _always(column, turned)
     if len(ranges) == 2 and (ranges[0][0], ranges[1][1]) == limits and ranges[0][1] + 2 == ranges[1][0]:
         return Compared("ne", name, ranges[0][1] + 1)
     found = [_in_range(name, range_, limits, strict) for range_ in ranges]
@@ -200,13 +217,14 @@ def _in_range(name: str, range_: tuple[int, int], limits: tuple[int, int], stric
     return Between(name, first, last, False, False)
 
 
-def never(column: Column) -> Predicate:
-    """Returns a condition that is false where a column has a value, and null where it is null."""
-    return NullTest(column.name, True) & Constant(None) if column.nullable else Constant(False)
+def _never(column: Column, turned: bool) -> Predicate:
+    """Returns a condition that is false where a column has a value, and where it is null is as good as null."""
+    return NullTest(column.name, True) if turned and column.nullable else Constant(False)
 
 
-def _always(column: Column) -> Predicate:
-    return NullTest(column.name, False) | Constant(None) if column.nullable else Constant(True)
+def _always(column: Column, turned: bool) -> Predicate:
+    """Returns a condition that is true where a column has a value, and where it is null is as good as null."""
+    return NullTest(column.name, False) if column.nullable and not turned else Constant(True)
 
 
 # -- two columns
@@ -222,7 +240,7 @@ def _order(column: Column) -> object:
     return Enum if isinstance(kind, Enum) else kind
 
 
-def _of_columns(leaf: Compared, left: Column, right: Column) -> Predicate:
+def _of_columns(leaf: Compared, left: Column, right: Column, turned: bool) -> Predicate:
     kind = left.logical
     if _order(left) != _order(right):
         raise PredicateError(f"column {left.name} is {left.word}, and column {right.name} is {right.word}")
@@ -231,7 +249,7 @@ def _of_columns(leaf: Compared, left: Column, right: Column) -> Predicate:
     greatest = replace(leaf, nan=None)
     if not isinstance(kind, _FLOATS) or leaf.nan == "greatest":
         return greatest
-    ieee = _ieee_of_columns(greatest, left, right, kind.width.infinity)
+    ieee = _ieee_of_columns(greatest, left, right, kind.width.infinity, turned)
     if leaf.nan == "ieee":
         return ieee
     # By IEEE 754 more pairs of numbers are unequal, and fewer are equal, below or above.
@@ -239,12 +257,12 @@ def _of_columns(leaf: Compared, left: Column, right: Column) -> Predicate:
     return small | (large & Opaque(repr(leaf)))
 
 
-def _ieee_of_columns(leaf: Compared, left: Column, right: Column, infinity: int) -> Predicate:
-    """Returns the comparison of two columns by IEEE 754: it is false where one of the two is NaN, and null where one is null."""
+def _ieee_of_columns(leaf: Compared, left: Column, right: Column, infinity: int, turned: bool) -> Predicate:
+    """Returns the comparison of two columns by IEEE 754: it is false where one of the two is NaN, and as good as null where one is null."""
     if leaf.operator == "ne":
         found: Predicate = leaf | Compared("gt", left.name, infinity)
-        return found & _always(right) if right.nullable else found
+        return found & _always(right, turned) if right.nullable and not turned else found
     # The greater one of the two has to be a number; where the other one is null the comparison is null all the same.
     greater, lesser = (right, left) if leaf.operator in ("lt", "le") else (left, right)
     found = leaf & Compared("le", greater.name, infinity)
-    return found | never(lesser) if lesser.nullable else found
+    return found | _never(lesser, turned) if lesser.nullable and turned else found

@@ -220,9 +220,12 @@ def _of_items(dtype: DType, items: list[Any], marks: bytes | None, where: Where)
 
 def nulls_of(items: list[Any], marks: bytes | None, keep_nan: bool = False) -> bytes | None:
     """Returns 1 for each item that is marked or null, and else 0; None where there is none. A floating NaN is null unless it is kept."""
-    odd = {kind for kind in set(map(type, items)) if may_be_null(kind)}
+    odd = {kind for kind in set(map(type, items)) if may_be_null(kind) and not (keep_nan and kind is float)}
     if not odd:
         return marks
+    if odd == {type(None)}:
+        found = bytes([item is None for item in items])
+        return found if marks is None else bytes(map(operator.or_, found, marks))
     test = (lambda item: item is None or is_missing(item)) if keep_nan else is_null
     found = bytes(type(item) in odd and test(item) for item in items)
     if marks is not None:
@@ -404,11 +407,22 @@ def of_categories(dtype: DType | Logical, held: Any, marks: bytes | None, where:
     if marks is not None:
         there &= numpy.frombuffer(marks, dtype=numpy.uint8) == 0
     # A category that isn't a value of the type is refused where it stands in a row.
-    rows = numpy.flatnonzero(there)
-    used, first = numpy.unique(codes[rows], return_index=True)
-    values = read(dtype, held.categories.take(used) if len(used) else [], replace(where, rows=rows[first])).values
-    places = numpy.where(there, numpy.searchsorted(used, codes), -1)
+    used, first, places = used_places(codes, there, len(held.categories))
+    values = read(dtype, held.categories.take(used) if len(used) else [], replace(where, rows=first)).values
     return Read(gathered(values, places), None if there.all() else (~there).tobytes())
+
+
+def used_places(codes: Any, there: Any, count: int) -> tuple[Any, Any, Any]:
+    """Returns which of ``count`` categories are used, the first row of each, and each row's place among those that are, -1 for a null."""
+    rows = numpy.flatnonzero(there)
+    first = numpy.full(count, -1, "<i8")
+    # Of two rows of one category the one that is written last stays: the first row.
+    first[codes[rows[::-1]]] = rows[::-1]
+    used = numpy.flatnonzero(first >= 0)
+    among = numpy.cumsum(first >= 0) - 1
+    places = numpy.full(len(codes), -1, "<i8")
+    places[rows] = among[codes[rows]]
+    return used, first[used], places
 
 
 def of_masked(dtype: DType | Logical, held: Any, marks: bytes | None, where: Where) -> Read:

@@ -231,6 +231,8 @@ class Timestamp(Numbered):
         return f"{words} '{self._text(found.ticks, found.parts)}'"
 
 
+#: Decimals of up to 60 digits without a rounding, within what is looked at digit by digit.
+_EXACT = decimal.Context(prec=60, Emin=-99, Emax=99, traps=[decimal.Inexact, decimal.Overflow, decimal.InvalidOperation, decimal.Subnormal])
 _DIGITS = re.compile(r"[+-]?(?:[0-9]+(?:\.[0-9]*)?|\.[0-9]+)(?:[eE][+-]?[0-9]{1,6})?")
 
 
@@ -281,6 +283,18 @@ class Decimal(Numbered):
             return Spot(whole * 10**shift)
         number, rest = divmod(whole, 10**-shift)
         return Spot(number, rest == 0)
+
+    def stored(self, item: Any) -> int | None:
+        if type(item) is decimal.Decimal:
+            # Most are looked at by their units alone: what would have to be rounded takes the longer way.
+            try:
+                scaled = item.scaleb(self.scale, _EXACT)
+                units = int(scaled)
+                if units == scaled:
+                    return units if abs(units) < 10**self.precision else None
+            except (decimal.DecimalException, ValueError, OverflowError):
+                pass
+        return super().stored(item)
 
     @property
     def _range(self) -> tuple[int, int]:

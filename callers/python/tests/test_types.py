@@ -130,11 +130,11 @@ class Halves(unittest.TestCase):
             for nullable in (True, False) if value is not None else (True,):
                 for nan, wanted in (("ieee", plain), ("greatest", raised)):
                     made = lowered(~compared(word, literal, nan), kind, nullable)
-                    self.assertIs(truth(made, {"c": number}), None if wanted is None else not wanted, (kind, value, literal, word, nan))
-                either = lowered(~compared(word, literal), kind, nullable)
-                self.assertLessEqual({None if it is None else not it for it in (plain, raised)}, may_be(either, {"c": number}))
+                    self.assertIs(truth(made, {"c": number}) is True, wanted is False, (kind, value, literal, word, nan))
+                either = {it is True for it in may_be(lowered(~compared(word, literal), kind, nullable), {"c": number})}
+                self.assertLessEqual({it is False for it in (plain, raised)}, either)
                 if plain == raised:
-                    self.assertEqual(len(may_be(either, {"c": number})), 1, (kind, value, literal, word))
+                    self.assertEqual(len(either), 1, (kind, value, literal, word))
 
     def test_two_columns(self) -> None:
         some = [-math.inf, -0.0, 0.0, 1.0, math.inf, math.nan, None]
@@ -145,12 +145,13 @@ class Halves(unittest.TestCase):
             raised = None if is_null else bool(greatest(word, numpy.array([a]), b)[0])
             for nullable in (True, False) if not is_null else (True,):
                 for made, turned in ((compared(word, col("d"), "ieee"), plain), (compared(word, col("d", "greatest")), raised)):
-                    self.assertIs(truth(lowered(made, kind, nullable), row), turned, (a, b, word))
-                    self.assertIs(truth(lowered(~made, kind, nullable), row), None if turned is None else not turned, (a, b, word))
-                either = may_be(lowered(compared(word, col("d")), kind, nullable), row)
-                self.assertLessEqual({plain, raised}, either, (a, b, word))
-                if plain == raised:
-                    self.assertEqual(either, {plain}, (a, b, word))
+                    self.assertIs(truth(lowered(made, kind, nullable), row) is True, turned is True, (a, b, word))
+                    self.assertIs(truth(lowered(~made, kind, nullable), row) is True, turned is False, (a, b, word))
+                for made, wanted in ((compared(word, col("d")), True), (~compared(word, col("d")), False)):
+                    either = {it is True for it in may_be(lowered(made, kind, nullable), row)}
+                    self.assertLessEqual({plain is wanted, raised is wanted}, either, (a, b, word))
+                    if plain == raised:
+                        self.assertEqual(len(either), 1, (a, b, word))
 
     def test_literal_that_is_rounded(self) -> None:
         # numpy rounds a literal to the array's type; PostgreSQL and Python compare it exactly. Both stay open.
@@ -281,11 +282,13 @@ class Instants(unittest.TestCase):
 
     def test_literal_outside_the_range(self) -> None:
         at = Column("c", Timestamp("ns"), True)
-        never, always = "and isnull col c lit bool? null", "or notnull col c lit bool? null"
+        never, always = "lit bool false", "notnull col c"
         for year, below in ((1500, True), (9999, False)):
             literal = datetime.datetime(year, 1, 1)
             for word, truth_ in (("eq", False), ("ne", True), ("lt", not below), ("le", not below), ("gt", below), ("ge", below)):
                 self.assertEqual(compared(word, literal).text([at]), always if truth_ else never, (year, word))
+                turned = (~compared(word, literal)).text([at])
+                self.assertEqual(turned, "lit bool false" if truth_ else "notnull col c", (year, word))
         self.assertEqual((col("c") >= datetime.datetime(1500, 1, 1)).text([Column("c", Timestamp("ns"))]), "lit bool true")
 
     def test_naive_beside_zoned_refused(self) -> None:
@@ -448,15 +451,19 @@ class Trees(unittest.TestCase):
         for a, b in ((Timestamp("s", "UTC"), Timestamp("s", "Europe/Berlin")), (Decimal(5, 2), Decimal(9, 2)), (Enum(), Enum(["a"]))):
             (col("c") == col("d")).text([Column("c", a), Column("d", b)])
 
-    def test_null_stays_null(self) -> None:
+    def test_null_satisfies_no_comparison(self) -> None:
         literals: list[tuple[Any, list[Any]]] = [
             (Date(), ["2026-01-01", "2026-01-01 12:00", "+9999999-01-01"]), (Decimal(5, 2), ["1", "1.005", 10**20]),
             (Float64(), [1.5, math.nan, math.inf, decimal.Decimal("0.1")]), (Timestamp("ns"), ["2026-01-01", "9999-01-01"]),
         ]
         for kind, some in literals:
             for literal, word, nan in itertools.product(some, WORDS, (None, "ieee", "greatest")):
-                for made in (compared(word, literal, nan), ~compared(word, literal, nan), col("c", nan).between(literal, literal)):
-                    self.assertEqual(may_be(lowered(made, kind), {"c": None}), {None}, (kind, literal, word, nan))
+                leaf, between = compared(word, literal, nan), col("c", nan).between(literal, literal)
+                for made in (leaf, ~leaf, ~~leaf, between, ~between, leaf & ~leaf, ~(leaf | ~leaf), ~(leaf & between), leaf | ~(~leaf & between)):
+                    self.assertNotIn(True, may_be(lowered(made, kind), {"c": None}), (kind, made))
+                # Beside what is true a null decides nothing.
+                self.assertEqual(may_be(lowered(leaf | col("c").is_null(), kind), {"c": None}), {True})
+                self.assertNotIn(True, may_be(lowered(~(leaf | col("c").is_null()), kind), {"c": None}))
 
     def test_words_of_types(self) -> None:
         kinds = [Date(), Time("s"), Timestamp("ns"), Timestamp("us", "Europe/Berlin"), Decimal(18, 3), Float32(), Float64(), Uuid(), FixedBinary(3), Enum(),

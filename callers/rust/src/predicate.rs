@@ -34,8 +34,10 @@ pub enum Node {
     Not,
     /// A constant, whatever the row.
     Constant(bool),
-    /// The truth that is null, whatever the row.
-    Unknown,
+    /// False where the column has a value, and null where it is null.
+    Never(String),
+    /// True where the column has a value, and null where it is null.
+    Always(String),
     /// A condition of which nothing is known, by its words.
     Opaque(String),
     Compare(Operator, String, Operand),
@@ -62,12 +64,14 @@ impl Node {
     /// Returns the columns that the node names, from left to right.
     pub fn columns(&self) -> impl Iterator<Item = &str> {
         let (first, second) = match self {
-            Node::And | Node::Or | Node::Not | Node::Constant(_) | Node::Unknown | Node::Opaque(_) => (None, None),
+            Node::And | Node::Or | Node::Not | Node::Constant(_) | Node::Opaque(_) => (None, None),
             Node::Compare(_, column, Operand::Column(other)) => (Some(column), Some(other)),
             Node::Compare(_, column, Operand::Literal(_))
             | Node::Between { column, .. }
             | Node::IsNull(column)
             | Node::IsNotNull(column)
+            | Node::Never(column)
+            | Node::Always(column)
             | Node::Like { column, .. } => (Some(column), None),
         };
         first.into_iter().chain(second).map(String::as_str)
@@ -80,7 +84,16 @@ impl Node {
             Node::Or => out.write_str("or"),
             Node::Not => out.write_str("not"),
             Node::Constant(truth) => write!(out, "{}", Literal::Bool(*truth)),
-            Node::Unknown => out.write_str("lit bool? null"),
+            Node::Never(column) => {
+                out.write_str("and isnull ")?;
+                name(column, out)?;
+                out.write_str(" lit bool? null")
+            }
+            Node::Always(column) => {
+                out.write_str("or notnull ")?;
+                name(column, out)?;
+                out.write_str(" lit bool? null")
+            }
             Node::Opaque(words) => {
                 out.write_str("opaque ")?;
                 quoted(words, out)
@@ -336,29 +349,75 @@ impl Predicate {
         Predicate { nodes, types }
     }
 
-    // Writes the text in the language of a `where` line, with each column's name written by `name`, and each opaque
-    // condition by `opaque` of how many stand before it, or by its words.
-    pub(crate) fn write(
-        &self,
-        out: &mut dyn fmt::Write,
-        name: &ColumnWriter<'_>,
-        opaque: Option<&OpaqueWriter<'_>>,
-    ) -> fmt::Result {
-        let mut count = 0;
+    // Writes the text in the language of a `where` line, with each column's name written by `name`.
+    pub(crate) fn write(&self, out: &mut dyn fmt::Write, name: &ColumnWriter<'_>) -> fmt::Result {
         for (place, node) in self.nodes.iter().enumerate() {
             if place > 0 {
                 out.write_char(' ')?;
             }
-            match (node, opaque) {
-                (Node::Opaque(_), Some(write)) => {
-                    write(count, out)?;
+            node.write(out, name)?;
+        }
+        Ok(())
+    }
+
+    // Writes a text that is true of the same rows: each opaque condition by `opaque` of how many stand before it, and
+    // what is true of no value or of every one by what needs no statistics. Under an even number of NOTs null may be
+    // taken for false, and under an odd one for true: a predicate that is true by a null is true whatever stands there.
+    pub(crate) fn write_to_prune(
+        &self,
+        out: &mut dyn fmt::Write,
+        name: &ColumnWriter<'_>,
+        opaque: &OpaqueWriter<'_>,
+    ) -> fmt::Result {
+        // Of each operand that is to come: whether it stands under an odd number of NOTs.
+        let (mut turned, mut count, mut place) = (vec![false], 0, 0);
+        while let (Some(node), Some(here)) = (self.nodes.get(place), turned.pop()) {
+            if place > 0 {
+                out.write_char(' ')?;
+            }
+            place += 1;
+            match (node, self.nodes.get(place)) {
+                (Node::Never(column), _) => write_of_values(out, name, column, here, false)?,
+                (Node::Always(column), _) => write_of_values(out, name, column, here, true)?,
+                (Node::Not, Some(Node::Never(column))) => {
+                    place += 1;
+                    write_of_values(out, name, column, here, true)?;
+                }
+                (Node::Not, Some(Node::Always(column))) => {
+                    place += 1;
+                    write_of_values(out, name, column, here, false)?;
+                }
+                (Node::Opaque(_), _) => {
+                    opaque(count, out)?;
                     count += 1;
                 }
-                _ => node.write(out, name)?,
+                (node, _) => {
+                    match node {
+                        Node::And | Node::Or => turned.extend([here, here]),
+                        Node::Not => turned.push(!here),
+                        _ => {}
+                    }
+                    node.write(out, name)?;
+                }
             }
         }
         Ok(())
     }
+}
+
+// Writes a condition that is `truth` where a column has a value, and where it is null as good as null.
+fn write_of_values(
+    out: &mut dyn fmt::Write,
+    name: &ColumnWriter<'_>,
+    column: &str,
+    turned: bool,
+    truth: bool,
+) -> fmt::Result {
+    if turned == truth {
+        return write!(out, "{}", Literal::Bool(truth));
+    }
+    out.write_str(if truth { "notnull " } else { "isnull " })?;
+    name(column, out)
 }
 
 impl std::ops::Not for Predicate {
@@ -383,17 +442,13 @@ impl fmt::Display for Predicate {
     /// Writes the text of a `where` line. A name that the language doesn't take stands between quotes, and so do the
     /// words of an opaque condition, behind the word `opaque`.
     fn fmt(&self, f: &mut fmt::Formatter<'_>) -> fmt::Result {
-        self.write(
-            f,
-            &|name, out| {
-                out.write_str("col ")?;
-                if is_name(name) {
-                    out.write_str(name)
-                } else {
-                    quoted(name, out)
-                }
-            },
-            None,
-        )
+        self.write(f, &|name, out| {
+            out.write_str("col ")?;
+            if is_name(name) {
+                out.write_str(name)
+            } else {
+                quoted(name, out)
+            }
+        })
     }
 }

@@ -53,7 +53,7 @@ impl<'a> Asked<'a> {
         let mut text = String::new();
         let name = |name: &str, out: &mut dyn fmt::Write| write!(out, "col c{}", slots[name]);
         let opaque = |place: usize, out: &mut dyn fmt::Write| write!(out, "col o{place}");
-        predicate.write(&mut text, &name, Some(&opaque)).expect("a String takes all that is written to it");
+        predicate.write_to_prune(&mut text, &name, &opaque).expect("a String takes all that is written to it");
         Ok(Asked { map, text, places, unknown })
     }
 
@@ -178,8 +178,8 @@ fn fits<'n>(node: &'n Node, kind_of: impl Fn(&'n str) -> Kind) -> Result<(), Err
         taken_for(column, literal.kind())
     };
     match node {
-        Node::And | Node::Or | Node::Not | Node::Constant(_) | Node::Unknown | Node::Opaque(_) => Ok(()),
-        Node::IsNull(_) | Node::IsNotNull(_) => Ok(()),
+        Node::And | Node::Or | Node::Not | Node::Constant(_) | Node::Opaque(_) => Ok(()),
+        Node::IsNull(_) | Node::IsNotNull(_) | Node::Never(_) | Node::Always(_) => Ok(()),
         Node::Compare(_, column, Operand::Column(other)) => taken_for(column, kind_of(other)),
         Node::Compare(_, column, Operand::Literal(literal)) => compared_with(column, literal),
         Node::Between { column, low, high, .. } => {

@@ -76,7 +76,7 @@ impl Ranges {
             return never(column);
         }
         if self.0 == [(low, high)] {
-            return Predicate::leaf(Node::IsNotNull(column.to_owned())).or(Predicate::leaf(Node::Unknown));
+            return Predicate::leaf(Node::Always(column.to_owned()));
         }
         let tests = self.0.iter().map(|(first, last)| in_range(column, kind, *first, *last, low, high));
         tests.reduce(Predicate::or).unwrap_or_else(|| never(column))
@@ -85,7 +85,7 @@ impl Ranges {
 
 /// A condition that is false where a column has a value, and null where it is null.
 pub(crate) fn never(column: &str) -> Predicate {
-    Predicate::leaf(Node::IsNull(column.to_owned())).and(Predicate::leaf(Node::Unknown))
+    Predicate::leaf(Node::Never(column.to_owned()))
 }
 
 fn in_range(column: &str, kind: Kind, first: i128, last: i128, low: i128, high: i128) -> Predicate {

@@ -133,7 +133,7 @@ fn condition(node: &Node, row: &Row) -> Option<bool> {
     match node {
         Node::And | Node::Or | Node::Not => panic!("{node:?} is no condition"),
         Node::Constant(truth) => Some(*truth),
-        Node::Unknown | Node::Opaque(_) => None,
+        Node::Never(_) | Node::Always(_) | Node::Opaque(_) => panic!("no such predicate is made here"),
         Node::Compare(operator, name, Operand::Literal(limit)) => {
             cell(row, name).as_ref().map(|value| compared(*operator, value, &of_literal(limit)))
         }

@@ -44,7 +44,8 @@ fn truth(predicate: &Predicate, row: &Row<'_>, opaque: Option<bool>) -> Option<b
             }
             Node::Not => found.pop().unwrap().map(|it| !it),
             Node::Constant(truth) => Some(*truth),
-            Node::Unknown => None,
+            Node::Never(name) => row[name.as_str()].map(|_| false),
+            Node::Always(name) => row[name.as_str()].map(|_| true),
             Node::Opaque(_) => opaque,
             Node::Compare(operator, name, other) => {
                 let other = match other {
@@ -371,7 +372,7 @@ fn prune_floats_by_each_meaning() {
     assert_eq!(of(Nan::Greatest), [Answer::Skip, Answer::Read, Answer::Whole, Answer::Whole]);
     assert_eq!(of(Nan::Ieee), [Answer::Skip, Answer::Read, Answer::Skip, Answer::Whole]);
     assert_eq!(of(Nan::Either), [Answer::Skip, Answer::Read, Answer::Read, Answer::Whole]);
-    let not = |nan: Nan| map.prune(&!col("c").float64(nan).lt(1.5)).unwrap();
+    let not = |nan: Nan| map.prune_normalized(&!col("c").float64(nan).lt(1.5)).unwrap();
     assert_eq!(not(Nan::Ieee), [Answer::Skip, Answer::Read, Answer::Whole, Answer::Whole]);
 }
 
@@ -387,6 +388,50 @@ fn file_keeps_logical_types() {
         let (again, note) = ZoneMap::from_bytes(&map.to_bytes("a note")).unwrap();
         assert_eq!((&again, note.as_str(), again.logical(0)), (&map, "a note", Some(&kind)));
     }
+}
+
+#[test]
+fn file_of_python_is_read_and_written_alike() {
+    let data = include_bytes!("logical_types.footers");
+    let (map, note) = ZoneMap::from_bytes(data).unwrap();
+    let words: Vec<String> = (0..map.names().len()).map(|place| map.logical(place).unwrap().to_string()).collect();
+    let wanted = [
+        "date",
+        "time[us]",
+        "timestamp[ns]",
+        "timestamp[s, Europe/Berlin]",
+        "decimal(9, 2)",
+        "float32",
+        "float64",
+        "uuid",
+        "fixed_binary(2)",
+        "enum",
+        "unmapped(json)",
+    ];
+    assert_eq!((words, note.as_str()), (wanted.map(str::to_owned).to_vec(), "logical types"));
+    assert_eq!(map.to_bytes(&note), data);
+    let wanted = col("day").date().gt(Date::new(2026, 1, 2).unwrap());
+    assert_eq!(map.prune(&wanted), Ok(vec![Answer::Read, Answer::Skip]));
+    let number = Precision::Exact(Value::Signed(Float64::number(-0.0)));
+    assert_eq!(map.column(6).and_then(|column| column.get(0, Stat::Min)), Some(number));
+}
+
+#[test]
+fn never_and_always_true_need_no_bounds() {
+    let scope = [("c", DType { kind: Kind::I64, nullable: true })];
+    let mut map = ZoneMap::new(&scope, &[Stat::NullCount]).unwrap();
+    map.push_known(5, &[vec![Precision::Exact(Value::Unsigned(0))]]).unwrap();
+    map.push_known(5, &[vec![Precision::Exact(Value::Unsigned(2))]]).unwrap();
+    map.push_known(5, &[vec![Precision::Absent]]).unwrap();
+    let column = col("c").decimal(2);
+    let literal: Decimal = "1.005".parse().unwrap();
+    assert_eq!(map.prune(&column.eq(literal)), Ok(vec![Answer::Skip; 3]));
+    assert_eq!(map.prune(&column.ne(literal)), Ok(vec![Answer::Whole, Answer::Read, Answer::Read]));
+    assert_eq!(map.prune(&!column.eq(literal)), Ok(vec![Answer::Whole, Answer::Read, Answer::Read]));
+    assert_eq!(map.prune(&!column.ne(literal)), Ok(vec![Answer::Skip; 3]));
+    assert_eq!(map.prune_normalized(&!!column.eq(literal)), Ok(vec![Answer::Skip; 3]));
+    let in_null = map.prune(&column.eq(literal).or(column.is_null()));
+    assert_eq!(in_null, Ok(vec![Answer::Skip, Answer::Read, Answer::Read]));
 }
 
 #[test]
