@@ -356,3 +356,16 @@ def read_npy(folder: str, columns: tuple[Column, ...]) -> Chunk:
 #: The kinds of numpy's items that are values of a type.
 _KINDS = {dtype: "i" if dtype >= DType.I8 else "u" for dtype in DType if dtype.range is not None}
 _KINDS |= {DType.BOOL: "b", DType.UTF8: "U", DType.BINARY: "S", DType.NULL: ""}
+
+
+def spread(client: Client) -> Callable[[Callable[[str], Any], Sequence[str]], list[Any]]:
+    """Returns a function that calls another one of each item on the workers, as ``foalmorrow.dataset.read`` takes it for the footers of its files.
+
+    ConnectionError where the cluster goes away.
+    """
+
+    def mapped(work: Callable[[str], Any], items: Sequence[str]) -> list[Any]:
+        with _asked():
+            return list(client.gather(client.map(work, list(items), pure=False)))
+
+    return mapped

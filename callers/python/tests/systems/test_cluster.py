@@ -1,6 +1,7 @@
 # SPDX-License-Identifier: Apache-2.0
 """A cluster of two workers: a table measured, merged, pruned and read where its partitions lie, also where a worker dies."""
 import csv
+import json
 import os
 import pathlib
 import random
@@ -17,7 +18,8 @@ try:
     import dask
     from distributed import Client, LocalCluster
 
-    from foalmorrow import cluster
+    from foalmorrow import cluster, dataset
+    from tests.systems.test_dataset import read_rows
 except ImportError:
     dask = None  # type: ignore[assignment]
 
@@ -279,6 +281,18 @@ class Clusters(unittest.TestCase):
             path.write_bytes(spoilt)
             with self.assertRaises(FooterError):
                 cluster.Kept.load(path)
+
+    def test_footers_of_a_directory(self) -> None:
+        folder = pathlib.Path(self.table_folder.name) / "rows"
+        for year in range(6):
+            (folder / f"year={year}").mkdir(parents=True)
+            told = {"columns": [["n", "long", True]], "groups": [[{"n": 10 * year}, {"n": None}], [{"n": 10 * year + 5}]]}
+            (folder / f"year={year}" / "a.rows").write_text(json.dumps(told))
+        options = {"reader": read_rows, "suffix": ".rows", "partitions": {"year": DType.I32}}
+        spread = dataset.read(folder, map=cluster.spread(self.client), **options)
+        self.assertEqual(spread.footers, dataset.read(folder, **options).footers)
+        found = [(file.path, file.row_group) for file in spread.files_for([("year", ">", 3), ("n", "<", 45)])]
+        self.assertEqual(found, [("year=4/a.rows", 0)])
 
     def test_nothing_half_written(self) -> None:
         kept, _ = cluster.measure(self.client, self.table)

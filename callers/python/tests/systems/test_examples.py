@@ -5,6 +5,7 @@ import pathlib
 import shutil
 import subprocess
 import sys
+import tempfile
 import unittest
 
 from tests.systems.servers import clickhouse_server, postgres, postgres_folder
@@ -13,6 +14,11 @@ try:
     import distributed
 except ImportError:
     distributed = None
+
+try:
+    from tests.systems.iceberg_writer import IcebergWriter
+except ImportError:
+    IcebergWriter = None
 
 HERE = pathlib.Path(__file__).parents[2]
 
@@ -34,6 +40,25 @@ class Examples(unittest.TestCase):
     def test_clickhouse(self) -> None:
         with clickhouse_server() as url:
             self.assertIn("60000 rows without footers, 35600 with them", self.run_example("clickhouse.py", url)[-1])
+
+    def test_delta(self) -> None:
+        lines = self.run_example("delta.py")
+        self.assertTrue(lines[0].endswith("['part-11.parquet', 'part-12.parquet'] of 12 files"), lines)
+        self.assertTrue(lines[1].endswith("['part-10.parquet'] of 12 files"), lines)
+
+    @unittest.skipIf(IcebergWriter is None, "Avro isn't installed: apt-get install python3-avro")
+    def test_iceberg(self) -> None:
+        with tempfile.TemporaryDirectory() as folder:
+            writer = IcebergWriter(folder, {"qty": "long"})
+            writer.snapshot(writer.manifest(*(writer.data_file(f"f{place}", [{"qty": place}]) for place in range(5))))
+            lines = self.run_example("iceberg.py", writer.save(), '[["qty", ">", 3]]')
+        self.assertEqual(lines[1:], ["f4: 1 rows", "1 of 5 files have to be read, 100 of 500 bytes"])
+
+    def test_dataset(self) -> None:
+        lines = self.run_example("dataset.py")
+        self.assertEqual(sorted(lines[:3]), [f"measured: sales-{year}.csv" for year in (2022, 2023, 2024)])
+        self.assertTrue(lines[3].endswith("['year=2023/sales-2023.csv', 'year=2024/sales-2024.csv']"), lines)
+        self.assertTrue(lines[-1].endswith(": ['year=2024/sales-2024.csv']"), lines)
 
     @unittest.skipIf(distributed is None, "Dask isn't installed: apt-get install python3-distributed python3-dask python3-pandas")
     def test_cluster(self) -> None:

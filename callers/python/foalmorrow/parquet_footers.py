@@ -1,0 +1,222 @@
+"""The footers of a Parquet file as footers of its row groups: bounds and null counts as the format's rules let them be used.
+
+They are read here in Python, for tables of many files. ``foalmorrow.parquet`` reads the footer of one file, and a condition in SQL, by proof.
+"""
+from __future__ import annotations
+
+import os
+import struct
+from collections.abc import Iterator
+from dataclasses import dataclass
+from typing import Any
+
+from . import floats
+from .footers import FooterError, Footers
+from .kinds import Column, DType, Logical
+from .parquet_values import ParquetFault
+from .tables import Bound, ToldFault, Zones
+from .thrift_compact import Thrift, ThriftFault
+from .types import Date, Decimal, FixedBinary, Float32, Float64, Time, Timestamp, Unmapped, Uuid
+
+__all__ = ["ParquetFault", "read"]
+
+_BOOLEAN, _INT32, _INT64, _INT96, _FLOAT, _DOUBLE, _BYTES, _FIXED = range(8)
+_UNITS = {1: "ms", 2: "us", 3: "ns"}
+#: The types of whole numbers by the older annotation: those without a sign, and those with one.
+_WHOLE = dict(zip(range(11, 19), (DType.U8, DType.U16, DType.U32, DType.U64, DType.I8, DType.I16, DType.I32, DType.I64)))
+MOST_BYTES, MOST_COLUMNS, MOST_LEVELS = 2**30, 8192, 64
+
+
+def read(path: str | os.PathLike[str]) -> Footers:
+    """Reads the end of a file: its row groups as zones, under the names of its columns, those of fields of structs with dots.
+
+    A column that repeats, or is of a type whose order isn't known, is unmapped. ParquetFault where the bytes are no footer, or one that is encrypted
+    or says what can't be; OSError where the file can't be read.
+    """
+    try:
+        return _File(_footer(path)).footers()
+    except (ThriftFault, ParquetFault, ToldFault, FooterError) as fault:
+        raise ParquetFault(f"{os.fspath(path)}: {fault}") from None
+    except (IndexError, KeyError, TypeError, ValueError, AttributeError, struct.error, RecursionError) as fault:
+        raise ParquetFault(f"{os.fspath(path)}: its footer can't be read: {fault!r}") from None
+
+
+def _footer(path: str | os.PathLike[str]) -> dict[int, Any]:
+    with open(path, "rb") as file:
+        size = file.seek(0, os.SEEK_END)
+        file.seek(max(size - 8, 0))
+        tail = file.read(8)
+        if tail[4:] == b"PARE":
+            raise ParquetFault("its footer is encrypted")
+        if size < 12 or tail[4:] != b"PAR1":
+            raise ParquetFault("it doesn't end as a Parquet file does")
+        (length,) = struct.unpack("<I", tail[:4])
+        if length > min(size - 12, MOST_BYTES):
+            raise ParquetFault(f"its footer of {length} bytes is longer than the file, or than {MOST_BYTES}")
+        file.seek(size - 8 - length)
+        data = file.read(length)
+    if len(data) != length:
+        raise ParquetFault("it was changed while it was read")
+    thrift = Thrift(data)
+    found = thrift.struct()
+    if thrift.at != len(data):
+        raise ParquetFault("bytes stand behind its footer's last field")
+    return found
+
+
+@dataclass(frozen=True)
+class _Leaf:
+    """A column: its place among the chunks of a row group, and how its bounds are written."""
+
+    column: Column
+    place: int
+    physical: int
+    repeats: bool
+
+
+class _File:
+    """A footer whose fields are read."""
+
+    def __init__(self, told: dict[int, Any]):
+        self.told = told
+        self.leaves = list(_leaves(told[2]))
+        orders = told.get(7)
+        #: Whether the bounds of a column are in the order of its type.
+        self.is_ordered = [orders is not None and 1 in orders[leaf.place] for leaf in self.leaves]
+        if orders is not None and len(orders) != len(self.leaves):
+            raise ParquetFault(f"it tells the orders of {len(orders)} columns, and has {len(self.leaves)}")
+
+    def footers(self) -> Footers:
+        zones = Zones(leaf.column for leaf in self.leaves)
+        for number, group in enumerate(self.told[4]):
+            rows, chunks = group[3], group[1]
+            if not isinstance(rows, int) or not 0 <= rows < 2**63 or len(chunks) != len(self.leaves):
+                raise ParquetFault(f"row group {number} has {len(chunks)} columns and {rows} rows")
+            zones.begin(rows)
+            for leaf, is_ordered in zip(self.leaves, self.is_ordered):
+                try:
+                    _tell(zones, leaf, chunks[leaf.place].get(3) or {}, is_ordered, rows)
+                except ToldFault as fault:
+                    raise ParquetFault(f"row group {number}, column {leaf.column.name}: {fault}") from None
+        return zones.footers()
+
+
+def _leaves(elements: list[dict[int, Any]]) -> Iterator[_Leaf]:
+    """Yields the leaves of a schema, whose elements stand in the order of a walk from the root."""
+    if len(elements) > MOST_COLUMNS:
+        raise ParquetFault(f"it has more than {MOST_COLUMNS} columns")
+    pending = [["", False, False, int(elements[0][5])]]
+    place = 0
+    for it in elements[1:]:
+        while pending and not pending[-1][3]:
+            pending.pop()
+        if not pending or len(pending) > MOST_LEVELS:
+            raise ParquetFault(f"its schema is no tree of at most {MOST_LEVELS} levels")
+        prefix, nullable, repeats, _ = pending[-1]
+        pending[-1][3] -= 1
+        kind, name = it.get(3, 0), prefix + it[4].decode()
+        nullable, repeats = nullable or kind > 0, repeats or kind == 2
+        if it.get(5):
+            pending.append([f"{name}.", nullable, repeats, int(it[5])])
+        else:
+            known = Unmapped("repeated") if repeats else _type(it)
+            yield _Leaf(Column(name, known, nullable), place, it[1], repeats)
+            place += 1
+    if any(left for _, _, _, left in pending):
+        raise ParquetFault("its schema ends too soon")
+
+
+def _type(it: dict[int, Any]) -> DType | Logical:
+    """Returns the type of a column by its element of the schema."""
+    physical, older, newer = it[1], it.get(6), it.get(10) or {}
+    if physical == _BOOLEAN:
+        return DType.BOOL
+    if physical in (_FLOAT, _DOUBLE):
+        return Float32() if physical == _FLOAT else Float64()
+    if physical in (_INT32, _INT64):
+        return _whole(it, physical, older, newer)
+    if physical == _BYTES and (newer.keys() & {1, 4, 12} or (not newer and older in (0, 4, 19))):
+        return DType.UTF8
+    if physical == _BYTES and not newer and older is None:
+        return DType.BINARY
+    if physical == _FIXED and 14 in newer and it.get(2) == 16:
+        return Uuid()
+    if physical == _FIXED and not newer and older is None:
+        return FixedBinary(it[2])
+    return Unmapped(f"Parquet type {physical}")
+
+
+def _whole(it: dict[int, Any], physical: int, older: int | None, newer: dict[int, Any]) -> DType | Logical:
+    own = DType.I32 if physical == _INT32 else DType.I64
+    if 10 in newer:
+        number = {(8, 0): 11, (16, 0): 12, (32, 0): 13, (64, 0): 14, (8, 1): 15, (16, 1): 16, (32, 1): 17, (64, 1): 18}
+        older = number.get((newer[10][1], int(newer[10][2])))
+    if (10 in newer or not newer) and older in _WHOLE:
+        return _WHOLE[older] if (_WHOLE[older].width == 8) == (physical == _INT64) else Unmapped("whole number")
+    if not newer and older is None:
+        return own
+    if 5 in newer or (not newer and older == 5):
+        scale, precision = (newer[5].get(1, 0), newer[5][2]) if 5 in newer else (it.get(7, 0), it[8])
+        return Decimal(precision, scale) if 1 <= precision <= (9 if physical == _INT32 else 18) and 0 <= scale <= precision else Unmapped("decimal")
+    if physical == _INT32 and (6 in newer or (not newer and older == 6)):
+        return Date()
+    if 8 in newer or (not newer and older in (9, 10)):
+        unit, zoned = (_UNITS[next(iter(newer[8][2]))], newer[8][1]) if 8 in newer else ({9: "ms", 10: "us"}[older or 9], True)
+        return Timestamp(unit, "UTC" if zoned else None) if physical == _INT64 else Unmapped("timestamp")
+    if 7 in newer or (not newer and older in (7, 8)):
+        unit = _UNITS[next(iter(newer[7][2]))] if 7 in newer else {7: "ms", 8: "us"}[older or 7]
+        return Time(unit)
+    return Unmapped("whole number")
+
+
+def _tell(zones: Zones, leaf: _Leaf, meta: dict[int, Any], is_ordered: bool, rows: int) -> None:
+    """Tells what a chunk's statistics say, as far as the format's rules let them be used."""
+    told = meta.get(12) or {}
+    nulls = told.get(3)
+    if leaf.repeats or not told:
+        return
+    if nulls is not None:
+        if not 0 <= nulls <= rows or meta.get(5) != rows:
+            raise ToldFault(f"{nulls} of {rows} rows are null, by {meta.get(5)} values")
+        zones.nulls(leaf.column.name, nulls)
+    if isinstance(leaf.column.logical, Unmapped):
+        return
+    is_signed = leaf.physical == _BOOLEAN or (leaf.physical in (_INT32, _INT64) and not DType.U8 <= leaf.column.dtype <= DType.U64)
+    low, high, exact = (told.get(6), told.get(5), (told.get(8) is True, told.get(7) is True)) if is_ordered else (None, None, (False, False))
+    if low is None and high is None and is_signed:
+        # The older bounds are those of a comparison with signs.
+        low, high = told.get(2), told.get(1)
+    zones.bounds(leaf.column.name, _bound(leaf, low, exact[0]), None if _is_float(leaf) else _bound(leaf, high, exact[1]))
+
+
+def _is_float(leaf: _Leaf) -> bool:
+    return leaf.physical in (_FLOAT, _DOUBLE)
+
+
+def _bound(leaf: _Leaf, told: bytes | None, exact: bool) -> Bound | None:
+    """Returns a bound as a value of the physical type; None where there is none, or where it is no value that a bound may be."""
+    if told is None:
+        return None
+    dtype, width = leaf.column.dtype, {_BOOLEAN: 1, _INT32: 4, _INT64: 8, _FLOAT: 4, _DOUBLE: 8}.get(leaf.physical)
+    if width is not None and len(told) != width:
+        raise ToldFault(f"a bound has {len(told)} bytes; expected {width}")
+    if leaf.physical == _BOOLEAN:
+        if told not in (b"\0", b"\1"):
+            raise ToldFault(f"{told[0]} is no truth")
+        return Bound(told == b"\1", exact)
+    if _is_float(leaf):
+        (value,) = struct.unpack("<f" if width == 4 else "<d", told)
+        kind = floats.SINGLE if width == 4 else floats.DOUBLE
+        return None if value != value else Bound(kind.number(value), exact and value != 0)
+    if dtype.range is not None:
+        number = int.from_bytes(told, "little", signed=dtype >= DType.I8)
+        if not dtype.range[0] <= number <= dtype.range[1]:
+            raise ToldFault(f"{number} is no {dtype.word}")
+        return Bound(number, exact)
+    if dtype == DType.UTF8:
+        try:
+            told.decode()
+        except UnicodeDecodeError:
+            # A text that was cut within a character is a bound of bytes and none of texts.
+            return None
+    return Bound(told, exact)
