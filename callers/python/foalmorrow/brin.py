@@ -14,27 +14,30 @@ import os
 import re
 import subprocess
 import uuid
-from array import array
 from collections.abc import Callable, Iterator, Sequence
 from dataclasses import dataclass, field
 from typing import Any
 
 from .footers import Footers
-from .kinds import Column, DType, Precision, Stat
+from .instants import days_of
+from .kinds import Column, DType, Logical, Stat
 from .predicate import Predicate
+from .tables import Zones
+from .types import Date, Decimal, Timestamp, Unmapped, Uuid
 
 #: Asks the server, and answers rows of texts, None being null.
 Query = Callable[[str], list[list[str | None]]]
 
-_TYPES = {"smallint": DType.I16, "integer": DType.I32, "bigint": DType.I64, "bytea": DType.BINARY}
-_TYPES |= {"text": DType.UTF8, "character varying": DType.UTF8}
+_TYPES: dict[str, DType | Logical] = {"smallint": DType.I16, "integer": DType.I32, "bigint": DType.I64, "bytea": DType.BINARY}
+_TYPES |= {"text": DType.UTF8, "character varying": DType.UTF8, "date": Date(), "uuid": Uuid()}
+_TYPES |= {"timestamp without time zone": Timestamp("us"), "timestamp with time zone": Timestamp("us", "UTC")}
 _GREATEST_TEXT = "\U0010ffff" * 16
 #: How many runs of pages one statement asks for.
 _RUNS = 200
 
 
 class BrinError(ValueError):
-    """What isn't read: an index of another kind, or with a column that has no counterpart; or what the server refused."""
+    """What isn't read: an index of another kind, or without a column that has bounds; or what the server refused."""
 
 
 @dataclass(frozen=True)
@@ -68,7 +71,7 @@ _ESCAPES = {b"b": b"\b", b"f": b"\f", b"n": b"\n", b"r": b"\r", b"t": b"\t", b"v
 
 def _client(folder: str, database: str, user: str | None) -> subprocess.Popen[bytes]:
     words = ["psql", "-X", "-q", "-A", "-t", "-v", "ON_ERROR_STOP=1", "-h", folder, "-d", database, *(["-U", user] if user else [])]
-    environment = {**os.environ, "PGCLIENTENCODING": "UTF8"}
+    environment = {**os.environ, "PGCLIENTENCODING": "UTF8", "PGDATESTYLE": "ISO, YMD", "PGTZ": "UTC"}
     try:
         return subprocess.Popen(words, stdin=subprocess.PIPE, stdout=subprocess.PIPE, stderr=subprocess.PIPE, env=environment)
     except FileNotFoundError as fault:
@@ -95,7 +98,7 @@ def _cell(cell: bytes) -> str | None:
 
 
 def psql(folder: str, database: str = "postgres", user: str | None = None) -> Query:
-    """Asks by PostgreSQL's own client over the socket in a folder, each time anew.
+    """Asks by PostgreSQL's own client over the socket in a folder, each time anew. Instants are written in UTC and as ISO 8601.
 
     ConnectionError where the server doesn't answer, BrinError where it refuses.
     """
@@ -149,8 +152,11 @@ def session(folder: str, database: str = "postgres", user: str | None = None) ->
 def read(query: Query, index: str) -> Brin:
     """Reads a BRIN index by pageinspect.
 
-    BrinError where the index isn't BRIN, is partial or not valid, has an expression or an operator class that keeps no least and greatest
-    value, a column of a type without a counterpart, or texts of a collation that isn't C or in another encoding than UTF-8.
+    A column has no bounds where it has an operator class that keeps no least and greatest value, a type without a counterpart, or texts of a
+    collation that isn't C or in another encoding than UTF-8. An expression is left out.
+
+    BrinError where the index isn't BRIN, is partial or not valid, or no column of it has bounds; or where the session writes dates otherwise
+    than as ISO 8601 or instants in another zone than UTC.
     """
     table, columns = _columns(query, index)
     named = index.replace("'", "''")
@@ -159,7 +165,7 @@ def read(query: Query, index: str) -> Brin:
     ((per_range, _),) = query(f"SELECT pagesperrange, lastrevmappage FROM brin_metapage_info(get_raw_page('{named}', 0))")
     sized = table.replace("'", "''")
     ((pages, moment),) = query(f"SELECT pg_relation_size('{sized}') / current_setting('block_size')::int, {_MOMENT}")
-    building = _Ranges(columns, int(per_range or 1), int(pages or 0))
+    building = _Ranges(index, columns, int(per_range or 1), int(pages or 0))
     for row in query(_items(named)):
         building.add(row)
     return Brin(index, table, building.per_range, building.pages, building.footers(), moment or "")
@@ -215,11 +221,13 @@ def _lossy_pages(plan: dict[str, Any]) -> int | None:
     return sum(found) if found else (0 if plan.get("One-Time Filter") == "false" else None)
 
 
-def _columns(query: Query, index: str) -> tuple[str, list[Column]]:
+def _columns(query: Query, index: str) -> tuple[str, list[Column | None]]:
+    """Returns the table of an index, and its columns. One that is an expression is None, and one whose bounds aren't read is unmapped."""
     named = index.replace("'", "''")
     rows = query(
         "SELECT am.amname, i.indrelid::regclass, a.attname, format_type(t.atttypid, NULL), t.attnotnull, oc.opcname, co.collname, "
-        "pg_encoding_to_char(d.encoding), d.datcollate, i.indpred IS NOT NULL, i.indisvalid AND i.indisready AND c.relkind = 'i' "
+        "pg_encoding_to_char(d.encoding), d.datcollate, i.indpred IS NOT NULL, i.indisvalid AND i.indisready AND c.relkind = 'i', "
+        "format_type(t.atttypid, t.atttypmod) "
         "FROM pg_index i JOIN pg_class c ON c.oid = i.indexrelid JOIN pg_am am ON am.oid = c.relam "
         "JOIN pg_attribute a ON a.attrelid = i.indexrelid LEFT JOIN pg_attribute t ON t.attrelid = i.indrelid AND t.attnum = i.indkey[a.attnum - 1] "
         "AND t.attnum > 0 LEFT JOIN pg_opclass oc ON oc.oid = i.indclass[a.attnum - 1] LEFT JOIN pg_collation co ON co.oid = a.attcollation "
@@ -227,85 +235,97 @@ def _columns(query: Query, index: str) -> tuple[str, list[Column]]:
     )
     if not rows:
         raise BrinError(f"{index} is no index")
-    columns = []
-    for kind, table, name, dtype, not_null, opclass, collation, encoding, default, partial, valid in rows:
-        place = f"{index}, column {name}"
-        if kind != "brin":
-            raise BrinError(f"{index} is an index of kind {kind}, not brin")
-        if partial == "t":
-            raise BrinError(f"{index} is partial: of the rows outside its condition it tells nothing")
-        if valid != "t":
-            raise BrinError(f"{index} isn't valid: its building was broken off, or it is a partitioned table's")
-        if dtype is None:
-            raise BrinError(f"{place}: an expression has no column")
-        if dtype not in _TYPES:
-            raise BrinError(f"{place}: the type {dtype} has no counterpart")
-        if not (opclass or "").endswith("_minmax_ops"):
-            raise BrinError(f"{place}: the operator class {opclass} keeps no least and greatest value")
+    kind, table, partial, valid = rows[0][0], rows[0][1], rows[0][9], rows[0][10]
+    if kind != "brin":
+        raise BrinError(f"{index} is an index of kind {kind}, not brin")
+    if partial == "t":
+        raise BrinError(f"{index} is partial: of the rows outside its condition it tells nothing")
+    if valid != "t":
+        raise BrinError(f"{index} isn't valid: its building was broken off, or it is a partitioned table's")
+    columns: list[Column | None] = []
+    reasons = []
+    for _, _, name, dtype, not_null, opclass, collation, encoding, default, _, _, whole in rows:
         is_c = collation in ("C", "POSIX") or (collation == "default" and default in ("C", "POSIX"))
-        if _TYPES[dtype] == DType.UTF8 and not is_c:
-            raise BrinError(f"{place}: the collation {collation} is not C, so its order isn't that of bytes")
-        if _TYPES[dtype] == DType.UTF8 and encoding != "UTF8":
-            raise BrinError(f"{place}: the encoding {encoding} is not UTF8")
-        columns.append(Column(name or "", _TYPES[dtype], not_null == "f"))
-    return rows[0][1] or "", columns
+        found = _type(dtype, whole)
+        reason = _reason(dtype, found, opclass, None if is_c else collation, encoding)
+        reasons += [f"{index}, column {name}: {reason}"] if reason else []
+        known: DType | Logical = Unmapped(dtype or "") if reason or found is None else found
+        columns.append(None if dtype is None else Column(name or "", known, not_null == "f"))
+    if len(reasons) == len(columns):
+        raise BrinError(reasons[0])
+    return table or "", columns
+
+
+def _type(dtype: str | None, whole: str | None) -> DType | Logical | None:
+    """Returns the type of a column by PostgreSQL's name for it, without and with its length or its digits; None where there is none."""
+    numeric = re.fullmatch(r"numeric\((\d+),(-?\d+)\)", whole or "")
+    if numeric is not None and int(numeric[1]) <= 18 and 0 <= int(numeric[2]) <= int(numeric[1]):
+        return Decimal(int(numeric[1]), int(numeric[2]))
+    return _TYPES.get(dtype or "")
+
+
+def _reason(dtype: str | None, found: DType | Logical | None, opclass: str | None, collation: str | None, encoding: str | None) -> str | None:
+    """Returns why the bounds of a column aren't read; None where they are."""
+    if dtype is None:
+        return "an expression has no column"
+    if found is None:
+        return f"the type {dtype} has no counterpart"
+    if not (opclass or "").endswith("_minmax_ops"):
+        return f"the operator class {opclass} keeps no least and greatest value"
+    if found == DType.UTF8 and collation is not None:
+        return f"the collation {collation} is not C, so its order isn't that of bytes"
+    if found == DType.UTF8 and encoding != "UTF8":
+        return f"the encoding {encoding} is not UTF8"
+    return None
 
 
 def _items(index: str) -> str:
     return (
-        "SELECT it.blknum, it.attnum, it.allnulls, it.hasnulls, it.placeholder, it.value "
+        "SELECT it.blknum, it.attnum, it.allnulls, it.hasnulls, it.placeholder, it.value, current_setting('datestyle'), current_setting('timezone') "
         f"FROM generate_series(1, pg_relation_size('{index}') / current_setting('block_size')::int - 1) page, "
         f"LATERAL (SELECT * FROM brin_page_items(get_raw_page('{index}', page::int), '{index}') "
         f"WHERE brin_page_type(get_raw_page('{index}', page::int)) = 'regular') it WHERE it.blknum IS NOT NULL ORDER BY 1, 2"
     )
 
 
-@dataclass
-class _Told:
-    """What the ranges tell of one column."""
-
-    least: list[object]
-    greatest: list[object]
-    bounded: bytearray
-    nulls: array[int]
-    counted: bytearray
+#: How the values of a range are told: the least and the greatest one, and the number of nulls of the one row that stands for all.
+_Told = tuple[tuple[Any, Any] | None, int | None]
 
 
 @dataclass
 class _Ranges:
     """The ranges of a table, as the items of its index are read."""
 
-    columns: Sequence[Column]
+    index: str
+    columns: Sequence[Column | None]
     per_range: int
     pages: int
-    told: list[_Told] = field(default_factory=list)
+    told: dict[tuple[int, int], _Told] = field(default_factory=dict)
 
     def __post_init__(self) -> None:
         self.count = -(-self.pages // self.per_range)
-        for _ in self.columns:
-            least: list[object] = [None] * self.count
-            greatest: list[object] = [None] * self.count
-            self.told.append(_Told(least, greatest, bytearray(self.count), array("Q", bytes(8 * self.count)), bytearray(self.count)))
 
     def add(self, row: Sequence[str | None]) -> None:
-        block, place, all_nulls, has_nulls, placeholder, value = row
-        zone = int(block or 0) // self.per_range
-        if placeholder == "t" or zone >= self.count:
+        block, place, all_nulls, has_nulls, placeholder, value, style, zone_name = row
+        zone, at = int(block or 0) // self.per_range, int(place or 1) - 1
+        column = self.columns[at]
+        if placeholder == "t" or zone >= self.count or column is None:
             return
-        column, told = self.columns[int(place or 1) - 1], self.told[int(place or 1) - 1]
+        if isinstance(column.logical, (Date, Timestamp)):
+            self._check_session(column, style or "", zone_name or "")
+        is_known = not isinstance(column.logical, Unmapped)
         if all_nulls == "t":
             # Whatever bounds there are, no value leaves them; and of the one row that stands for all, one is null.
-            self._bound(zone, told, *_none_between(column.dtype))
-            told.nulls[zone], told.counted[zone] = 1, Precision.EXACT
-            return
-        if has_nulls == "f":
-            told.nulls[zone], told.counted[zone] = 0, Precision.EXACT
-        ends = _bounds(column.dtype, value or "")
-        if ends is not None:
-            self._bound(zone, told, *ends)
+            self.told[zone, at] = (_none_between(column.type) if is_known else None, 1)
+        else:
+            self.told[zone, at] = (_bounds(column.type, value or "") if is_known else None, 0 if has_nulls == "f" else None)
 
-    def _bound(self, zone: int, told: _Told, least: object, greatest: object) -> None:
-        told.least[zone], told.greatest[zone], told.bounded[zone] = least, greatest, Precision.INEXACT
+    def _check_session(self, column: Column, style: str, zone: str) -> None:
+        """Refuses values that are written in another form than the one that is read."""
+        if not style.startswith("ISO"):
+            raise BrinError(f"{self.index}, column {column.name}: the setting DateStyle is {style}; expected ISO")
+        if isinstance(column.logical, Timestamp) and column.logical.tz is not None and zone not in ("UTC", "Etc/UTC"):
+            raise BrinError(f"{self.index}, column {column.name}: the setting TimeZone is {zone}; expected UTC")
 
     def footers(self) -> Footers:
         """The footers, each range as if it had one row.
@@ -313,37 +333,72 @@ class _Ranges:
         A proof reads the number of rows only to compare it with a null count, and of that only 0 and all are known: so with one row each
         test answers what it would with the true number.
         """
-        given: dict[tuple[str, Stat], tuple[object, object]] = {}
-        for column, told in zip(self.columns, self.told):
-            given[column.name, Stat.MIN] = (told.least, told.bounded)
-            given[column.name, Stat.MAX] = (told.greatest, told.bounded)
-            given[column.name, Stat.NULL_COUNT] = (told.nulls, told.counted)
-        return Footers.of_values(self.columns, array("Q", [1]) * self.count, given)
+        columns = [(at, column) for at, column in enumerate(self.columns) if column is not None]
+        zones = Zones(column for _, column in columns)
+        for zone in range(self.count):
+            zones.begin(None)
+            for at, column in columns:
+                bounds, nulls = self.told.get((zone, at), (None, None))
+                for stat, value in zip((Stat.MIN, Stat.MAX), bounds or (None, None)):
+                    if value is not None:
+                        zones.tell(column.name, stat, value.encode() if isinstance(value, str) else value, False)
+                if nulls is not None:
+                    zones.nulls(column.name, nulls)
+        return zones.footers()
 
 
-def _none_between(dtype: DType) -> tuple[object, object]:
+def _none_between(kind: DType | Logical) -> tuple[object, object]:
     """A least value above a greatest one, as far as the type has such: bounds of no value."""
-    numbers = dtype.range
-    if numbers is not None:
-        return numbers[1], numbers[0]
+    dtype = kind.dtype if isinstance(kind, Logical) else kind
+    if dtype.range is not None:
+        return dtype.range[1], dtype.range[0]
+    if isinstance(kind, Uuid):
+        return b"\xff" * 16, bytes(16)
     return (_GREATEST_TEXT, "") if dtype == DType.UTF8 else (b"\xff" * 64, b"")
 
 
-def _bounds(dtype: DType, value: str) -> tuple[object, object] | None:
-    """The least and the greatest value of ``{least .. greatest}``, or None where there are none.
+def _bounds(kind: DType | Logical, value: str) -> tuple[Any, Any] | None:
+    """The least and the greatest value of ``{least .. greatest}``, or None where there are none. One that isn't known is None.
 
     Of texts that hold `` .. `` themselves it can't be told where the least one ends. Then the shortest candidate is the least of them, and
     the greatest of all candidates is taken for the other.
     """
     inner = value.removeprefix("{").removesuffix("}")
     seams = [found.start() for found in re.finditer(r"(?= \.\. )", inner)]
-    if not seams or (len(seams) > 1 and dtype != DType.UTF8):
+    if not seams or (len(seams) > 1 and kind != DType.UTF8):
         return None
-    if dtype == DType.UTF8:
+    if kind == DType.UTF8:
         return inner[: seams[0]], max(inner[seam + 4 :] for seam in seams)
-    least, greatest = inner[: seams[0]], inner[seams[0] + 4 :]
-    if dtype != DType.BINARY:
-        return int(least), int(greatest)
-    # The setting bytea_output may have them in another form.
-    is_hex = least.startswith("\\x") and greatest.startswith("\\x")
-    return (bytes.fromhex(least[2:]), bytes.fromhex(greatest[2:])) if is_hex else None
+    least, greatest = _value(kind, inner[: seams[0]]), _value(kind, inner[seams[0] + 4 :])
+    return None if least is None and greatest is None else (least, greatest)
+
+
+_CLOCK = re.compile(r"(\d{4,7})-(\d\d)-(\d\d)(?: (\d\d):(\d\d):(\d\d)(?:\.(\d{1,6}))?(\+00)?)?( BC)?")
+
+
+def _value(kind: DType | Logical, text: str) -> Any:
+    """A value as the server writes it as one of the physical type; None where it has none, as NaN, or isn't written in a form that is read."""
+    if isinstance(kind, (Date, Timestamp)):
+        ends = kind.dtype.range
+        assert ends is not None
+        return {"-infinity": ends[0], "infinity": ends[1]}.get(text, _instant(kind, text))
+    if isinstance(kind, Decimal):
+        return None if text == "NaN" else kind.stored(text)
+    if isinstance(kind, Logical):
+        return kind.stored(text)
+    if kind == DType.BINARY:
+        # The setting bytea_output may have them in another form.
+        return bytes.fromhex(text[2:]) if text.startswith("\\x") else None
+    return int(text)
+
+
+def _instant(kind: Date | Timestamp, text: str) -> int | None:
+    found = _CLOCK.fullmatch(text)
+    if found is None:
+        return None
+    year, month, day = (int(word) for word in found.group(1, 2, 3))
+    days = days_of(1 - year if found[9] else year, month, day)
+    if isinstance(kind, Date):
+        return days
+    hour, minute, second = (int(word) for word in found.group(4, 5, 6))
+    return (((days * 24 + hour) * 60 + minute) * 60 + second) * 10**6 + int((found[7] or "0").ljust(6, "0"))

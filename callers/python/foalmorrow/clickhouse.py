@@ -1,6 +1,8 @@
 # SPDX-License-Identifier: Apache-2.0
 """ClickHouse: its sparse primary index as footers, a zone a granule, and footers of columns that it keeps nothing of, a zone a part.
 
+Tried with version 18.16.1, as Debian 12 has it.
+
 The server keeps of each granule the key of its first row, and of each part the least and greatest value of the partition key's columns.
 Of the other columns it keeps nothing: their footers are measured here part by part.
 """
@@ -23,9 +25,10 @@ from typing import Any
 from .answers import Answers
 from .arrays import Values
 from .footers import ALL, FooterError, Footers, Nullable
-from .kinds import Answer, Column, DType, Precision, Stat
+from .kinds import Answer, Column, DType, Stat
 from .library import Refused
 from .predicate import Dialect, Predicate, PredicateError, sql_literal
+from .tables import Bound, Zones
 
 #: Asks the server, and answers its bytes.
 Query = Callable[[str], bytes]
@@ -117,7 +120,7 @@ def count(query: Query, table: str, condition: str) -> Counted:
 
 @dataclass(frozen=True)
 class Granules:
-    """The granules of a table's parts as zones: the part of each, and the bounds of the key."""
+    """The granules of a table's parts as zones: the part of each, and the bounds of the key's columns."""
 
     parts: tuple[str, ...]
     footers: Footers
@@ -126,48 +129,105 @@ class Granules:
 def granules(query: Query, database: str, table: str) -> Granules:
     """Reads the primary index and the partition's bounds from the files of a table's active parts.
 
-    ClickHouseError where the table isn't of the MergeTree engine, its key has several columns, is an expression, nullable or of a type without
-    a counterpart, or a part has no plain primary.idx.
+    Rows ascend by the whole key. So a column of it has bounds in a granule where the columns before it are the same at its mark and at the next.
+
+    ClickHouseError where the table isn't of the MergeTree engine, its key has an expression, a column that may be null, or none of a type with a
+    counterpart, or a part has no plain primary.idx or granules of different sizes.
     """
     place = f"{database}.{table}"
-    column = _key_column(query, database, table)
+    key = _key(query, database, table)
     size = _granularity(query, database, table)
-    names, rows, least, greatest = [], array("Q"), [], []
+    names: list[str] = []
+    zones = Zones(it.column for it in key if it.column is not None)
     for name, path, count_of in _parts(query, database, table):
-        marks, bounds = _files_of(pathlib.Path(path), column, place)
+        marks, bounds = _files_of(pathlib.Path(path), key, place)
         if len(marks) != -(-count_of // size):
-            raise ClickHouseError(f"{place}: the part {name} has {len(marks)} marks for {count_of} rows, so its granules aren't of {size} rows each")
-        for i, mark in enumerate(marks):
+            words = f"{len(marks)} marks for {count_of} rows, so its granules aren't of {size} rows each (settings index_granularity_bytes, write_final_mark)"
+            raise ClickHouseError(f"{place}: the part {name} has {words}")
+        for at, mark in enumerate(marks):
             names.append(name)
-            rows.append(min(size, count_of - i * size))
-            least.append(mark)
-            greatest.append(marks[i + 1] if i + 1 < len(marks) else bounds[1] if bounds else None)
-    known = bytes(Precision.ABSENT if value is None else Precision.INEXACT for value in greatest)
-    given = {
-        (column.name, Stat.MIN): (least, Precision.EXACT),
-        (column.name, Stat.MAX): (greatest, known),
-        (column.name, Stat.NULL_COUNT): (array("Q", bytes(8 * len(rows))), Precision.EXACT),
-    }
-    return Granules(tuple(names), Footers.of_values([column], rows, given))
+            zones.begin(min(size, count_of - at * size))
+            _tell(zones, key, mark, marks[at + 1] if at + 1 < len(marks) else None, bounds)
+    return Granules(tuple(names), zones.footers())
 
 
-def _key_column(query: Query, database: str, table: str) -> Column:
+@dataclass(frozen=True)
+class _KeyColumn:
+    """A column of the primary key: how many bytes a value takes in a mark, None for texts, and the column where its values are read."""
+
+    name: str
+    width: int | None
+    column: Column | None
+
+    def value(self, piece: bytes) -> int | bytes:
+        """Returns a value of a mark as one of the physical type."""
+        assert self.column is not None
+        return piece if self.column.dtype.has_ends else int.from_bytes(piece, "little", signed=self.column.dtype >= DType.I8)
+
+
+#: A mark: the bytes of each of the key's columns.
+_Mark = list[bytes]
+
+
+def _tell(zones: Zones, key: Sequence[_KeyColumn], mark: _Mark, following: _Mark | None, bounds: dict[str, tuple[int, int]]) -> None:
+    """Tells the bounds of a granule from its mark and the next one."""
+    is_sorted = True
+    for at, it in enumerate(key):
+        if it.column is not None:
+            zones.nulls(it.name, 0)
+            low, high = bounds.get(it.name, (None, None))
+            least = Bound(it.value(mark[at]), True) if is_sorted else None if low is None else Bound(low, False)
+            top = it.value(following[at]) if is_sorted and following is not None else high
+            zones.bounds(it.name, least, None if top is None else Bound(top, False))
+        is_sorted = is_sorted and following is not None and mark[at] == following[at]
+
+
+_WIDTHS = {"Float32": 4, "Float64": 8, "DateTime": 4, "UUID": 16, "Enum8": 1, "Enum16": 2}
+
+
+def _width(kind: str) -> int | None:
+    """Returns how many bytes a value of a type takes in a mark; None where it isn't known."""
+    if kind in _TYPES:
+        return _TYPES[kind].width
+    inner = re.fullmatch(r"(\w+)(?:\((.*)\))?", kind, re.DOTALL)
+    if inner is None:
+        return None
+    if inner[1] == "FixedString" and (inner[2] or "").isdecimal():
+        return int(inner[2])
+    return _WIDTHS.get(inner[1])
+
+
+def _key(query: Query, database: str, table: str) -> list[_KeyColumn]:
+    place = f"{database}.{table}"
     where = f"database = {_text(database)} AND name = {_text(table)}"
     told = query(f"SELECT engine, primary_key FROM system.tables WHERE {where} FORMAT TabSeparated").decode()
     if not told.strip():
-        raise ClickHouseError(f"there is no table {database}.{table}")
+        raise ClickHouseError(f"there is no table {place}")
     engine, key = told.rstrip("\n").split("\t")
     if not engine.endswith("MergeTree"):
-        raise ClickHouseError(f"{database}.{table} is of the engine {engine}, not MergeTree")
-    if "," in key:
-        raise ClickHouseError(f"{database}.{table}: the key {key} has several columns, and only one of one column is read")
-    first = key.strip()
-    found = next((it for it in columns_of(query, database, table) if it.name == first), None)
-    if found is None:
-        raise ClickHouseError(f"{database}.{table}: the key {key} is no column that has a counterpart")
-    if found.nullable:
-        raise ClickHouseError(f"{database}.{table}: the key's column {first} may be null")
+        raise ClickHouseError(f"{place} is of the engine {engine}, not MergeTree")
+    kinds, columns = _kinds(query, database, table), {it.name: it for it in columns_of(query, database, table)}
+    found = [_key_column(name.strip(), kinds, columns, place) for name in key.split(",")]
+    if all(it.column is None for it in found):
+        raise ClickHouseError(f"{place}: no column of the key {key} has a counterpart")
     return found
+
+
+def _key_column(name: str, kinds: dict[str, str], columns: dict[str, Column], place: str) -> _KeyColumn:
+    if name not in kinds:
+        raise ClickHouseError(f"{place}: {name} in the key is no column")
+    column, width = columns.get(name), _width(kinds[name])
+    if kinds[name].startswith("Nullable("):
+        raise ClickHouseError(f"{place}: the key's column {name} may be null (setting allow_nullable_key)")
+    if width is None:
+        raise ClickHouseError(f"{place}: the key's column {name} is of the type {kinds[name]}, of which it isn't known how many bytes a value takes")
+    return _KeyColumn(name, None if kinds[name] == "String" else width, column)
+
+
+def _kinds(query: Query, database: str, table: str) -> dict[str, str]:
+    """Returns the types of a table's columns, as the server names them."""
+    told = query(f"SELECT name, type FROM system.columns WHERE database = {_text(database)} AND table = {_text(table)} FORMAT TabSeparatedRaw").decode()
+    return dict(line.split("\t") for line in told.splitlines())  # type: ignore[misc]
 
 
 def spelling(query: Query, database: str, table: str) -> Spelling:
@@ -212,58 +272,67 @@ def _part_lines(query: Query, database: str, table: str) -> list[list[str]]:
     return [line.split("\t") for line in told.splitlines()]
 
 
-def _files_of(folder: pathlib.Path, column: Column, place: str) -> tuple[list[object], tuple[int, int] | None]:
-    """The marks of a part, and the partition's bounds of the column, where it is there still."""
+def _files_of(folder: pathlib.Path, key: Sequence[_KeyColumn], place: str) -> tuple[list[_Mark], dict[str, tuple[int, int]]]:
+    """The marks of a part, and the partition's bounds of the key's columns that it has."""
     try:
-        return _marks(folder, column, place), _partition_bounds(folder, column)
+        bounds = {it.name: found for it in key if it.column is not None and (found := _partition_bounds(folder, it.column, place)) is not None}
+        return _marks(folder, key, place), bounds
     except OSError as fault:
         raise ClickHouseError(f"{place}: the part {folder.name} can't be read, or was merged meanwhile: {fault}") from fault
-    except struct.error as fault:
-        raise ClickHouseError(f"{place}: minmax_{column.name}.idx of the part {folder.name} is cut short") from fault
 
 
-def _marks(folder: pathlib.Path, column: Column, place: str) -> list[object]:
+def _marks(folder: pathlib.Path, key: Sequence[_KeyColumn], place: str) -> list[_Mark]:
     """The key at the first row of each granule."""
     index = folder / "primary.idx"
     if not index.exists():
-        raise ClickHouseError(f"{place}: the part {folder.name} has no plain primary.idx")
-    data, width = index.read_bytes(), column.dtype.width
-    if not column.dtype.has_ends:
-        if len(data) % width:
-            raise ClickHouseError(f"{place}: primary.idx of the part {folder.name} is cut short")
-        return [number for (number,) in struct.iter_unpack("<" + _CODES[column.dtype], data)]
-    return _texts(data, place, folder.name)
-
-
-def _texts(data: bytes, place: str, part: str) -> list[object]:
-    found: list[object] = []
-    at = 0
+        raise ClickHouseError(f"{place}: the part {folder.name} has no plain primary.idx (setting compress_primary_key)")
+    if any(it.suffix in (".mrk2", ".mrk3", ".cmrk2", ".cmrk3", ".mrk4", ".cmrk4") for it in folder.iterdir()):
+        raise ClickHouseError(f"{place}: the granules of the part {folder.name} may be of different sizes (setting index_granularity_bytes)")
+    data, at, found = index.read_bytes(), 0, []
+    short = f"{place}: primary.idx of the part {folder.name} is cut short"
     while at < len(data):
-        length, shift = 0, 0
-        while True:
-            if at >= len(data):
-                raise ClickHouseError(f"{place}: primary.idx of the part {part} is cut short")
-            byte = data[at]
-            at, length, shift = at + 1, length | (byte & 127) << shift, shift + 7
-            if byte < 128:
-                break
-        piece = data[at : at + length]
-        if len(piece) < length:
-            raise ClickHouseError(f"{place}: primary.idx of the part {part} is cut short")
-        try:
-            found.append(piece.decode())
-        except UnicodeDecodeError as fault:
-            raise ClickHouseError(f"{place}: a key of the part {part} isn't UTF-8") from fault
-        at += length
+        mark: _Mark = []
+        for it in key:
+            length, at = (it.width, at) if it.width is not None else _varint(data, at, short)
+            piece, at = data[at : at + length], at + length
+            if len(piece) < length:
+                raise ClickHouseError(short)
+            mark.append(piece)
+        found.append(mark)
+    _check_texts(found, key, place, folder.name)
     return found
 
 
-def _partition_bounds(folder: pathlib.Path, column: Column) -> tuple[int, int] | None:
+def _check_texts(marks: list[_Mark], key: Sequence[_KeyColumn], place: str, part: str) -> None:
+    for at, it in enumerate(key):
+        if it.column is not None and it.column.dtype.has_ends:
+            try:
+                b"\0".join(mark[at] for mark in marks).decode()
+            except UnicodeDecodeError as fault:
+                raise ClickHouseError(f"{place}: a key of the part {part} isn't UTF-8") from fault
+
+
+def _varint(data: bytes, at: int, short: str) -> tuple[int, int]:
+    """Returns a length, and the place behind it."""
+    length, shift = 0, 0
+    while True:
+        if at >= len(data) or shift > 63:
+            raise ClickHouseError(short)
+        byte = data[at]
+        at, length, shift = at + 1, length | (byte & 127) << shift, shift + 7
+        if byte < 128:
+            return length, at
+
+
+def _partition_bounds(folder: pathlib.Path, column: Column, place: str) -> tuple[int, int] | None:
     """The least and the greatest value of the column in the part, where it is one of the partition key's."""
     file = folder / f"minmax_{column.name}.idx"
     if not file.exists() or column.dtype.has_ends:
         return None
-    least, greatest = struct.unpack("<2" + _CODES[column.dtype], file.read_bytes())
+    try:
+        least, greatest = struct.unpack("<2" + _CODES[column.dtype], file.read_bytes())
+    except struct.error as fault:
+        raise ClickHouseError(f"{place}: {file.name} of the part {folder.name} is cut short") from fault
     return least, greatest
 
 

@@ -1,8 +1,11 @@
 # SPDX-License-Identifier: Apache-2.0
 """A PostgreSQL server's BRIN index as footers, range by range beside the rows that stand there, and what is read by it beside the server."""
+import datetime
+import decimal
 import os
 import random
 import unittest
+import uuid
 
 from foalmorrow import Column, DType, Footers, Precision, Predicate, PredicateError, Stat, brin, col
 from tests.systems.servers import postgres, postgres_folder
@@ -19,6 +22,13 @@ CREATE INDEX sales_lower ON sales USING brin (lower(name));
 CREATE TABLE notes (day int NOT NULL, note text, "Mixed" int);
 INSERT INTO notes SELECT i / 100, E'a\\r.. .. ' || i || E'\\t\\x01 .. b', -i FROM generate_series(1, 5000) i;
 CREATE INDEX notes_brin ON notes USING brin (day, note, "Mixed") WITH (pages_per_range = 4);
+CREATE TABLE moments (d date, at timestamp, z timestamptz, p numeric(12,3), u uuid, n int, f double precision, t text COLLATE "und-x-icu", big numeric);
+INSERT INTO moments SELECT '2024-01-01'::date + i / 100, '2024-01-01 00:00:00.123456'::timestamp + i * interval '1 hour',
+  '2024-01-01 00:00:00+00'::timestamptz + i * interval '1 minute', CASE WHEN i / 200 = 3 THEN 'NaN' ELSE i / 8.0 END,
+  ('00000000-0000-0000-0000-' || lpad(to_hex(i), 12, '0'))::uuid, NULLIF(i / 100, 7), i, 't' || i, i FROM generate_series(1, 5000) i;
+INSERT INTO moments SELECT * FROM (VALUES ('infinity'::date, '-infinity'::timestamp, 'infinity'::timestamptz, -1.5, NULL::uuid, 1),
+  ('0044-03-15 BC'::date, '12024-01-01'::timestamp, '1890-01-01 00:00:00+00'::timestamptz, NULL, NULL, 2)) v, generate_series(1, 200);
+CREATE INDEX moments_brin ON moments USING brin (d, at, z, lower(t), p, u, n, f, t, big) WITH (pages_per_range = 2);
 CREATE TABLE others (f double precision, t text COLLATE "und-x-icu", k int, j int);
 CREATE INDEX others_f ON others USING brin (f);
 CREATE INDEX others_t ON others USING brin (t);
@@ -133,6 +143,39 @@ class BrinIndexes(unittest.TestCase):
                 self.assertEqual(sorted(found.rows), sorted(query(f'SELECT note, "Mixed" FROM notes WHERE {condition}')))
                 self.assertGreater(len(found.rows), 0)
             self.assertLess(brin.select(query, index, col("Mixed") < -4900).pages, index.pages)
+
+    def test_types_and_columns_that_are_left_out(self) -> None:
+        at = datetime.datetime(2024, 2, 3, 4, 5, tzinfo=datetime.timezone.utc)
+        local = datetime.datetime(2024, 1, 20, 16, 0, 0, 123_456)
+        wanted = [col("d") == datetime.date(2024, 1, 17), col("d") < datetime.date(1, 1, 1), col("at") == local, col("at") > datetime.datetime(9999, 1, 1)]
+        wanted += [col("z") == at, col("z").between(at, at + datetime.timedelta(hours=1)), col("z") < datetime.datetime(1900, 1, 1, tzinfo=at.tzinfo)]
+        wanted += [col("p") == decimal.Decimal("12.5"), col("p") > decimal.Decimal("624.9"), col("p") < 0, col("u") == uuid.UUID(int=77), col("n") == 9]
+        with brin.session(self.folder, user="postgres") as query:
+            index = brin.read(query, "moments_brin")
+            words = ["date?", "timestamp[us]?", "timestamp[us, UTC]?", "decimal(12, 3)?", "uuid?", "i32?"]
+            words += [f"unmapped({name})?" for name in ("double precision", "text", "numeric")]
+            self.assertEqual([column.word for column in index.footers.columns], words)
+            for predicate in wanted:
+                condition = predicate.sql(index.footers.columns)
+                found = brin.select(query, index, predicate, ["ctid::text"])
+                self.assertEqual(sorted(found.rows), sorted(query(f"SELECT ctid::text FROM moments WHERE {condition}")), condition)
+                self.assertGreater(len(found.rows), 0, condition)
+                self.assertLess(found.pages, index.pages // 2, condition)
+            nan_or_more = col("p") > 10**8
+            self.assertEqual(len(index.footers.prune(nan_or_more).kept), len(index.footers.prune(col("p") > 9 * 10**8).kept))
+            zones = {zone for zone in range(len(index.footers)) if self.has_nan(query, index, zone)}
+            self.assertTrue(zones and zones <= set(index.footers.prune(nan_or_more).kept))
+            query("SET datestyle = 'German'")
+            with self.assertRaisesRegex(brin.BrinError, "column d: the setting DateStyle is German"):
+                brin.read(query, "moments_brin")
+            query("SET datestyle = 'ISO'; SET timezone = 'Asia/Tokyo'")
+            with self.assertRaisesRegex(brin.BrinError, "column z: the setting TimeZone is Asia/Tokyo"):
+                brin.read(query, "moments_brin")
+
+    def has_nan(self, query: brin.Query, index: brin.Brin, zone: int) -> bool:
+        start, end = index.pages_of(zone)
+        ((found,),) = query(f"SELECT count(*) FROM moments WHERE p = 'NaN' AND ctid >= '({start},0)'::tid AND ctid < '({end},0)'::tid")
+        return found != "0"
 
     def test_rows_that_others_write(self) -> None:
         with brin.session(self.folder, user="postgres") as query:

@@ -19,6 +19,12 @@ MAKE = [
     f"concat('s', toString(intDiv(number, 5000))) FROM system.numbers LIMIT {ROWS}",
     "CREATE TABLE logs (k Int64) ENGINE = Log",
     "CREATE TABLE pairs (a Int64, b Int64) ENGINE = MergeTree ORDER BY (a, b) SETTINGS index_granularity = 1000",
+    "INSERT INTO pairs SELECT intDiv(number, 2500), number % 2500 * 2 FROM system.numbers LIMIT 20000",
+    "CREATE TABLE triples (d Date, f Float64, s String, k Int32) ENGINE = MergeTree PARTITION BY toYYYYMM(d) ORDER BY (d, f, s, k) "
+    "SETTINGS index_granularity = 50",
+    "INSERT INTO triples SELECT toDate(17000 + intDiv(number, 1000)), intDiv(number, 500) / 2, toString(intDiv(number, 100) % 5), number % 100 "
+    "FROM system.numbers LIMIT 4000",
+    "CREATE TABLE spoken (s String, k Int64) ENGINE = MergeTree ORDER BY (lower(s), k) SETTINGS index_granularity = 1000",
     "CREATE TABLE words (s String) ENGINE = MergeTree ORDER BY s SETTINGS index_granularity = 1000",
     "INSERT INTO words SELECT toString(number) FROM system.numbers LIMIT 5000",
     "CREATE TABLE days (d Date, note String) ENGINE = MergeTree PARTITION BY toYYYYMM(d) ORDER BY d SETTINGS index_granularity = 100",
@@ -67,6 +73,30 @@ class ClickHouseTables(unittest.TestCase):
         told = self.query("SELECT s FROM words ORDER BY s FORMAT TabSeparated").decode().split()
         self.assertEqual([granules.footers.at(zone)["s", Stat.MIN][1] for zone in range(5)], told[::1000])
         self.assertNotIn(("s", Stat.MAX), granules.footers.at(4))
+
+    def test_a_key_of_several_columns(self) -> None:
+        for table, names in (("pairs", ["a", "b"]), ("triples", ["d", "s", "k"])):
+            granules = clickhouse.granules(self.query, "default", table)
+            self.assertEqual([column.name for column in granules.footers.columns], names)
+            starts: dict[str, int] = {}
+            bounded = dict.fromkeys(names, 0)
+            for zone, part in enumerate(granules.parts):
+                rows, start = granules.footers.rows[zone], starts.get(part, 0)
+                starts[part] = start + rows
+                for name in names:
+                    column = f"toInt64({name})" if name != "s" else name
+                    told = self.query(f"SELECT {column} FROM {table} WHERE _part = '{part}' LIMIT {start}, {rows} FORMAT TabSeparated").decode().split()
+                    values = told if name == "s" else [int(it) for it in told]
+                    known = granules.footers.at(zone)
+                    self.assertEqual((len(values), known[name, Stat.NULL_COUNT]), (rows, (Precision.EXACT, 0)))
+                    if (name, Stat.MIN) in known:
+                        self.assertEqual(known[name, Stat.MIN], (Precision.EXACT, min(values)), (table, zone, name))
+                    if (name, Stat.MAX) in known:
+                        bounded[name] += 1
+                        self.assertEqual(known[name, Stat.MAX][0], Precision.INEXACT)
+                        self.assertLessEqual(max(values), known[name, Stat.MAX][1], (table, zone, name))
+            # A column behind others has bounds where these don't change up to the next mark.
+            self.assertGreater(min(bounded.values()), 5, (table, bounded))
 
     def test_other_columns(self) -> None:
         kept = clickhouse.PartFooters.of(self.query, "default", "t", ["a", "n", "s"])
@@ -235,7 +265,7 @@ class ClickHouseTables(unittest.TestCase):
             kept.condition(self.query, col("nothing") > 3)
 
     def test_refused(self) -> None:
-        for table, cause in [("logs", "Log"), ("pairs", "several"), ("floats", "counterpart"), ("nothing", "no table")]:
+        for table, cause in [("logs", "Log"), ("spoken", "lower"), ("floats", "counterpart"), ("nothing", "no table")]:
             with self.assertRaisesRegex(clickhouse.ClickHouseError, cause):
                 clickhouse.granules(self.query, "default", table)
         with self.assertRaises(clickhouse.ClickHouseError):
