@@ -44,7 +44,9 @@ def order(value: object) -> object:
 
 def order_of_bound(column: Column, bound: object) -> object:
     """The same of what a footer tells of a column."""
-    is_number = column.logical is None or isinstance(column.logical, (Timestamp, Date))
+    if isinstance(column.logical, Timestamp):
+        return bound * {"ms": 1000, "us": 1}[column.logical.unit]
+    is_number = column.logical is None or isinstance(column.logical, Date)
     return order(bound if is_number else column.logical.shown(bound))
 
 
