@@ -20,6 +20,7 @@ with tempfile.TemporaryDirectory() as folder:
         file.parent.mkdir()
         file.write_text("\n".join(["qty", *map(str, range(year, year + 50))]))
 
+    # Kept footers are used again once a file hasn't changed for two seconds, which these have.
     options = {"suffix": ".csv", "reader": footers_of, "partitions": {"year": DType.I32}, "footers": folder + "/_footers"}
     for wanted in ((col("year") >= 2023) & (col("qty") < 2040), col("qty") == 2073):
         table = dataset.read(folder, **options)

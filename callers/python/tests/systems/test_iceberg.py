@@ -23,6 +23,8 @@ KINDS = {
     "n": "long", "i": "int", "t": "string", "d": "date", "at": "timestamptz", "local": "timestamp", "clock": "time", "p": "decimal(9,2)",
     "q": "decimal(18,4)", "x": "double", "y": "float", "raw": "binary", "ok": "boolean", "u": "uuid",
 }
+#: The same types by the names that the tests' values have: a timestamp has no zone here.
+VALUES = {name: {"timestamp": "timestamp_ntz"}.get(kind, kind) for name, kind in KINDS.items()}
 
 
 class Tables(TableTests):
@@ -125,7 +127,7 @@ class InexactStatistics(Tables):
 
     def test_bounds_are_never_exact(self) -> None:
         writer = self.writer(KINDS)
-        table = self.table(writer, writer.data_file("f", [{name: a_value(random.Random(2), kind) for name, kind in KINDS.items()}]))
+        table = self.table(writer, writer.data_file("f", [{name: a_value(random.Random(2), kind) for name, kind in VALUES.items()}]))
         known = {stat: code for (_, stat), (code, _) in table.footers.at(0).items()}
         self.assertEqual(known, {Stat.MIN: Precision.INEXACT, Stat.MAX: Precision.INEXACT, Stat.NULL_COUNT: Precision.EXACT})
 
@@ -143,7 +145,7 @@ class InexactStatistics(Tables):
             table = self.table(writer, file, deletes=content)
             self.assertEqual((table.files[0].rows, table.files[0].has_deletes), (None, True))
             self.assertNotIn(("n", Stat.NULL_COUNT), table.footers.at(0))
-            self.assert_kept(table, [("n", "==", 3)], "n", {Stat.NULL_COUNT: 2}, rows=2)
+            self.assert_kept(table, [("n", "is not", None)], "n", {Stat.NULL_COUNT: 2}, rows=2)
 
     def test_deletes_before_the_file(self) -> None:
         writer = self.writer({"n": "long"})
@@ -361,7 +363,7 @@ class RandomTables(Tables):
             table = iceberg.read(writer.save())
             self.assertEqual(untrue(table, writer.rows), [])
             for _ in range(10 * HAS_LIBRARY):
-                filters = some_filters(rng, KINDS, [row for rows in writer.rows.values() for row in rows])
+                filters = some_filters(rng, VALUES, [row for rows in writer.rows.values() for row in rows])
                 self.assertEqual(lost(table, writer.rows, filters), [], filters)
                 skipped.append(len(table.prune(filters).skipped))
 
@@ -369,9 +371,9 @@ class RandomTables(Tables):
         self.assertTrue(sum(skipped) > 100 or not HAS_LIBRARY, sum(skipped))
 
     def rows(self, rng: random.Random, partitions: dict[str, str]) -> list[dict]:
-        constant = {name: a_value(rng, KINDS[name]) if rng.random() < 0.8 else None for name, kind in partitions.items() if kind == "identity"}
+        constant = {name: a_value(rng, VALUES[name]) if rng.random() < 0.8 else None for name, kind in partitions.items() if kind == "identity"}
         nulls = {name: rng.choice([0, 0.3, 1]) for name in KINDS}
-        made = [{name: a_value(rng, kind) if rng.random() >= nulls[name] else None for name, kind in KINDS.items()} for _ in range(rng.randrange(5))]
+        made = [{name: a_value(rng, kind) if rng.random() >= nulls[name] else None for name, kind in VALUES.items()} for _ in range(rng.randrange(5))]
         return [{**row, **constant} for row in made]
 
 
