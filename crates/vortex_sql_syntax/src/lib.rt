@@ -14,6 +14,7 @@ mod operand;
 pub mod parse;
 mod part;
 mod predicate;
+pub mod print;
 mod spans;
 mod token;
 pub mod tree;

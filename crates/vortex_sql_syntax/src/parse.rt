@@ -1,5 +1,6 @@
 //! The condition that a text is, by a loop over its words.
-ghost use Rattle.std.specs.Prelude.{IfOk, length};
+ghost use Rattle.std.specs.Prelude.{◌∷◌, IfOk, false, length};
+ghost use Rattle.vortex_sql_syntax.specs.Joining.{Joins, ands};
 ghost use Rattle.vortex_sql_syntax.specs.Places.{Ascends, leaves};
 
 use crate::cursor::Cursor;
@@ -10,7 +11,7 @@ use crate::operand::operand;
 pub use crate::part::MAX_LEVELS;
 use crate::part::{Form, Unary, condition_in, put_operand, take_condition, wrap};
 use crate::predicate::tested;
-use crate::spans::is_ascending;
+use crate::spans::{is_ascending, is_joined};
 use crate::token::Kind;
 use crate::tree::{Condition, Operand};
 use std::alloc::Global;
@@ -210,12 +211,14 @@ fn condition(alloc: Global, text: &[u8], names: Names) -> Result<Condition, Pars
 }
 
 /// Returns the condition that a text is. Its leaves ascend, each within the text and of a byte at
-/// least.
+/// least, and AND stands between two of them exactly where AND joins them.
 pub fn parse(alloc: Global, text: &str, names: Names) -> Result<Condition, ParseError>
     ensures places { IfOk result (λ c. Ascends 0 (leaves c) (length text.now)) }
+    // No AND stands before the first leaf.
+    ensures joined { IfOk result (λ c. Joins text.now 0 (leaves c) (false ∷ ands c)) }
 {
     let condition = condition(alloc, text.as_bytes(), names)?;
-    if !is_ascending(&condition, text.len()) {
+    if !is_ascending(&condition, text.len()) || !is_joined(&condition, text.as_bytes()) {
         return Err(ParseError::Unexpected(0));
     }
     Ok(condition)

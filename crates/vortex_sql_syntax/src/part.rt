@@ -150,6 +150,17 @@ pub(crate) fn put_test(
     Ok(())
 }
 
+/// Tells whether a test was read of which each operand is a column or a literal.
+pub(crate) fn has_operands(form: &Form) -> bool {
+    let Form::Condition(built) = form else {
+        return false;
+    };
+    match &*built.condition {
+        Condition::Leaf(leaf) => leaf.test.has_operands(),
+        _ => true,
+    }
+}
+
 /// Puts a condition over what was read between two places.
 pub(crate) fn wrap(
     alloc: Global,

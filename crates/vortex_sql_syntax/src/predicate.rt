@@ -2,7 +2,7 @@
 use crate::cursor::Cursor;
 use crate::error::ParseError;
 use crate::operand::{arithmetic, goes_on, operand};
-use crate::part::{Form, Unary, put_operand, put_test, take_operand, wrap};
+use crate::part::{Form, Unary, has_operands, put_operand, put_test, take_operand, wrap};
 use crate::token::Kind;
 use crate::tree::{Comparison, Escape, Operand, Test};
 use sqlite_items::Items;
@@ -140,9 +140,10 @@ fn test_of(at: &mut Cursor, kind: Match, x: Operand) -> Result<Test, ParseError>
     }
 }
 
-// Puts NOT over what was read from a place on, if it is negated.
+// Puts NOT over a test that was read from a place on, if it is negated. One with an operand that
+// isn't read is carried along with its NOT.
 fn not_if(at: &Cursor, is_negated: bool, start: usize, form: &mut Form) -> Result<(), ParseError> {
-    if is_negated {
+    if is_negated && has_operands(form) {
         wrap(at.alloc, form, Unary::Not, start, at.end())?;
     }
     Ok(())

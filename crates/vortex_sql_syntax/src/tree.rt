@@ -59,7 +59,29 @@ pub enum Test {
     Other,
 }
 
-/// A test and the bytes of the text that it stands in.
+fn is_read(operand: &Operand) -> bool {
+    !matches!(operand, Operand::Other)
+}
+
+impl Test {
+    /// Tells whether each operand is a column or a literal.
+    pub fn has_operands(&self) -> bool {
+        match self {
+            Test::Truth(x) | Test::IsNull(x) => is_read(x),
+            Test::Compare(_, x, y) | Test::Distinct(x, y) | Test::Like(x, y, _) => {
+                is_read(x) && is_read(y)
+            }
+            Test::Between(x, lower, upper) | Test::BetweenSymmetric(x, lower, upper) => {
+                is_read(x) && is_read(lower) && is_read(upper)
+            }
+            Test::In(x, among) => is_read(x) && among.as_slice().iter().all(is_read),
+            Test::Other => false,
+        }
+    }
+}
+
+/// A test and the bytes of the text that it stands in. A NOT within it, as in NOT LIKE, is part of
+/// one with an operand that isn't read.
 #[derive(Drop)]
 pub struct Leaf {
     pub test: Test,
