@@ -1,0 +1,15 @@
+pub mod More
+pub mod Loops
+pub mod Alls
+pub mod Sound
+pub mod Complete
+pub mod ColumnLoop
+pub mod Lookup
+pub mod Texts
+pub mod True
+pub mod Structs
+pub mod Smaller
+pub mod Known
+pub mod WorkedRows
+pub mod Witness
+pub mod Groups

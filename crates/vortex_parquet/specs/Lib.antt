@@ -1,0 +1,12 @@
+pub mod Reading
+pub mod Compact
+pub mod Skip
+pub mod Fields
+pub mod Records
+pub mod Footer
+pub mod Columns
+pub mod Grammar
+pub mod Stats
+pub mod Truth
+pub mod Worked
+pub mod Witness

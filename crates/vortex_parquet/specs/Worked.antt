@@ -1,0 +1,241 @@
+-- Worked rows of footers: the grammar, the records, the table of types, the choice of bounds and the columns.
+use Rattle.std.specs.Prelude.{◌≡◌, ◌^◌, ◌-◌, pos, negsuc, true, false, [], ◌∷◌, Some, None, Ok, Err, codes}
+use Rattle.vortex_base.specs.declared.pvalue.PValue.TheVariants as number
+use Rattle.vortex_base.specs.declared.scalar_value.ScalarValue.TheVariants as value
+use Rattle.vortex_base.specs.declared.types.Nullability.TheVariants.{Nullable, NonNullable}
+use Rattle.vortex_base.specs.declared.types.PType.TheVariants as ptype
+use Rattle.vortex_stats.specs.declared.precision.Precision.TheVariants.{Exact, Inexact, Absent}
+use Rattle.vortex_stats.specs.declared.stat.Stat.TheVariants.{Max, Min, NullCount}
+use Rattle.vortex_parquet.specs.declared.columns.Content.TheVariants as content
+use Rattle.vortex_parquet.specs.declared.columns.Form.TheVariants as form
+use Rattle.vortex_parquet.specs.declared.columns.LeftOut.TheVariants as left_out
+use Rattle.vortex_parquet.specs.declared.compact.Kind.TheVariants as kind
+use Rattle.vortex_parquet.specs.declared.fault.Fault.TheVariants as fault
+use Rattle.vortex_parquet.specs.declared.records.Annotation.TheVariants as annotation
+use Rattle.vortex_parquet.specs.Compact.{binary_at, head_at, items_at, map_at, natural_at, varint_at}
+use Rattle.vortex_parquet.specs.Columns.{annotation_of, columns_of, converted, form_of, is_raw, lookup, nullability}
+use Rattle.vortex_parquet.specs.Fields.{found, struct_of}
+use Rattle.vortex_parquet.specs.Footer.{footer_of, length_of}
+use Rattle.vortex_parquet.specs.Records.{annotation_at, statistics_of}
+use Rattle.vortex_parquet.specs.Skip.{skip_at}
+use Rattle.vortex_parquet.specs.Stats.{bound_of, chosen, chunk_set, count_of, set_of, value_of}
+
+-- numbers, strings, heads, values and fields of the compact protocol, and where a footer stands
+pub record GrammarExamples : Type 0 where
+  pub one_byte : varint_at (5 ∷ 9 ∷ []) ≡ Ok (5, 9 ∷ [])
+  pub two_bytes : varint_at (172 ∷ 2 ∷ 7 ∷ []) ≡ Ok (300, 7 ∷ [])
+  pub padded : varint_at (128 ∷ 0 ∷ []) ≡ Ok (0, [])
+  pub greatest : varint_at (255 ∷ 255 ∷ 255 ∷ 255 ∷ 255 ∷ 255 ∷ 255 ∷ 255 ∷ 255 ∷ 1 ∷ []) ≡ Ok (2 ^ 64 - 1, [])
+  pub past_64_bits : varint_at (255 ∷ 255 ∷ 255 ∷ 255 ∷ 255 ∷ 255 ∷ 255 ∷ 255 ∷ 255 ∷ 2 ∷ []) ≡ Err fault.Varint
+  pub eleven_bytes : varint_at (128 ∷ 128 ∷ 128 ∷ 128 ∷ 128 ∷ 128 ∷ 128 ∷ 128 ∷ 128 ∷ 128 ∷ 0 ∷ []) ≡ Err fault.Varint
+  pub number_cut : varint_at (128 ∷ []) ≡ Err fault.Short
+  pub natural : natural_at (5 ∷ []) ≡ Err fault.Negative
+  pub natural_even : natural_at (6 ∷ 1 ∷ []) ≡ Ok (3, 1 ∷ [])
+  pub bytes : binary_at (2 ∷ 65 ∷ 66 ∷ 67 ∷ []) ≡ Ok (65 ∷ 66 ∷ [], 67 ∷ [])
+  pub no_bytes : binary_at (0 ∷ 67 ∷ []) ≡ Ok ([], 67 ∷ [])
+  pub bytes_cut : binary_at (2 ∷ 65 ∷ []) ≡ Err fault.Short
+  pub field_after : head_at 3 (40 ∷ 1 ∷ []) ≡ Ok (Some (record { id = 5; kind = kind.Binary }), 1 ∷ [])
+  pub field_far : head_at 3 (6 ∷ 40 ∷ 1 ∷ []) ≡ Ok (Some (record { id = 20; kind = kind.I64 }), 1 ∷ [])
+  pub field_end : head_at 3 (0 ∷ 1 ∷ []) ≡ Ok (None, 1 ∷ [])
+  pub field_of_no_kind : head_at 0 (30 ∷ []) ≡ Err fault.Kind
+  pub field_past_15_bits : head_at 32767 (21 ∷ []) ≡ Err fault.FieldId
+  pub field_at_15_bits : head_at 32766 (21 ∷ []) ≡ Ok (Some (record { id = 32767; kind = kind.I32 }), [])
+  pub field_below_0 : head_at 0 (5 ∷ 1 ∷ []) ≡ Err fault.Negative
+  pub field_cut : head_at 0 [] ≡ Err fault.Short
+  pub items_short : items_at (37 ∷ 1 ∷ 2 ∷ []) ≡ Ok (Some (record { count = 2; kind = kind.I32 }), 1 ∷ 2 ∷ [])
+  pub items_long : items_at (245 ∷ 15 ∷ 7 ∷ 7 ∷ 7 ∷ 7 ∷ 7 ∷ 7 ∷ 7 ∷ 7 ∷ 7 ∷ 7 ∷ 7 ∷ 7 ∷ 7 ∷ 7 ∷ 7 ∷ []) ≡ Ok (Some (record { count = 15; kind = kind.I32 }), 7 ∷ 7 ∷ 7 ∷ 7 ∷ 7 ∷ 7 ∷ 7 ∷ 7 ∷ 7 ∷ 7 ∷ 7 ∷ 7 ∷ 7 ∷ 7 ∷ 7 ∷ [])
+  pub items_none_of_no_kind : items_at (0 ∷ 7 ∷ []) ≡ Ok (None, 7 ∷ [])
+  pub items_none_of_a_kind : items_at (12 ∷ 7 ∷ []) ≡ Ok (None, 7 ∷ [])
+  pub items_of_no_kind : items_at (16 ∷ 7 ∷ []) ≡ Err fault.Kind
+  pub items_past_the_end : items_at (53 ∷ 1 ∷ 2 ∷ []) ≡ Err fault.Length
+  pub items_cut : items_at [] ≡ Err fault.Short
+  pub entries : map_at (1 ∷ 88 ∷ 4 ∷ 1 ∷ 65 ∷ []) ≡ Ok (Some (record { count = 1; key = kind.I32; value = kind.Binary }), 4 ∷ 1 ∷ 65 ∷ [])
+  pub entries_none : map_at (0 ∷ 88 ∷ []) ≡ Ok (None, 88 ∷ [])
+  pub entries_past_the_end : map_at (3 ∷ 88 ∷ []) ≡ Err fault.Length
+  pub a_truth : skip_at 1 kind.True (9 ∷ []) ≡ Ok (9 ∷ [])
+  pub a_falsehood : skip_at 1 kind.False (9 ∷ []) ≡ Ok (9 ∷ [])
+  pub a_byte : skip_at 1 kind.Byte (1 ∷ 9 ∷ []) ≡ Ok (9 ∷ [])
+  pub a_number_i16 : skip_at 1 kind.I16 (129 ∷ 1 ∷ 9 ∷ []) ≡ Ok (9 ∷ [])
+  pub a_number_i32 : skip_at 1 kind.I32 (129 ∷ 1 ∷ 9 ∷ []) ≡ Ok (9 ∷ [])
+  pub a_number_i64 : skip_at 1 kind.I64 (129 ∷ 1 ∷ 9 ∷ []) ≡ Ok (9 ∷ [])
+  pub a_double : skip_at 1 kind.Double (1 ∷ 1 ∷ 1 ∷ 1 ∷ 1 ∷ 1 ∷ 1 ∷ 1 ∷ 9 ∷ []) ≡ Ok (9 ∷ [])
+  pub a_double_cut : skip_at 1 kind.Double (1 ∷ 1 ∷ 1 ∷ 1 ∷ 1 ∷ 1 ∷ 1 ∷ []) ≡ Err fault.Short
+  pub a_string : skip_at 1 kind.Binary (1 ∷ 65 ∷ 9 ∷ []) ≡ Ok (9 ∷ [])
+  pub a_uuid : skip_at 1 kind.Uuid (1 ∷ 1 ∷ 1 ∷ 1 ∷ 1 ∷ 1 ∷ 1 ∷ 1 ∷ 1 ∷ 1 ∷ 1 ∷ 1 ∷ 1 ∷ 1 ∷ 1 ∷ 1 ∷ 9 ∷ []) ≡ Ok (9 ∷ [])
+  pub a_list_of_truths : skip_at 2 kind.List (33 ∷ 1 ∷ 2 ∷ 9 ∷ []) ≡ Ok (9 ∷ [])
+  pub a_set : skip_at 2 kind.Set (37 ∷ 1 ∷ 128 ∷ 1 ∷ 9 ∷ []) ≡ Ok (9 ∷ [])
+  pub a_map : skip_at 2 kind.Map (1 ∷ 88 ∷ 4 ∷ 1 ∷ 65 ∷ 9 ∷ []) ≡ Ok (9 ∷ [])
+  pub a_struct : skip_at 2 kind.Struct (21 ∷ 4 ∷ 0 ∷ 9 ∷ []) ≡ Ok (9 ∷ [])
+  pub a_struct_without_end : skip_at 2 kind.Struct (21 ∷ 4 ∷ []) ≡ Err fault.Short
+  pub nested_too_deep : skip_at 2 kind.Struct (28 ∷ 28 ∷ 0 ∷ 0 ∷ 0 ∷ []) ≡ Err fault.Depth
+  pub nested : skip_at 3 kind.Struct (28 ∷ 28 ∷ 0 ∷ 0 ∷ 0 ∷ 9 ∷ []) ≡ Ok (9 ∷ [])
+  pub fields : struct_of (21 ∷ 4 ∷ 38 ∷ 6 ∷ 0 ∷ 9 ∷ []) ≡ Ok (record { id = 1; kind = kind.I32; from = 4 ∷ 38 ∷ 6 ∷ 0 ∷ 9 ∷ [] } ∷ record { id = 3; kind = kind.I64; from = 6 ∷ 0 ∷ 9 ∷ [] } ∷ [], 9 ∷ [])
+  pub last_of_a_kind_counts : found (record { id = 1; kind = kind.I32; from = 1 ∷ [] } ∷ record { id = 2; kind = kind.I32; from = 2 ∷ [] } ∷ record { id = 1; kind = kind.I64; from = 3 ∷ [] } ∷ record { id = 1; kind = kind.I32; from = 4 ∷ [] } ∷ []) 1 kind.I32 ≡ Some (4 ∷ [])
+  pub other_kinds_are_passed_over : found (record { id = 1; kind = kind.I32; from = 1 ∷ [] } ∷ record { id = 2; kind = kind.I32; from = 2 ∷ [] } ∷ record { id = 1; kind = kind.I64; from = 3 ∷ [] } ∷ record { id = 1; kind = kind.I32; from = 4 ∷ [] } ∷ []) 1 kind.I64 ≡ Some (3 ∷ [])
+  pub other_fields_are_passed_over : found (record { id = 1; kind = kind.I32; from = 1 ∷ [] } ∷ record { id = 2; kind = kind.I32; from = 2 ∷ [] } ∷ record { id = 1; kind = kind.I64; from = 3 ∷ [] } ∷ record { id = 1; kind = kind.I32; from = 4 ∷ [] } ∷ []) 2 kind.I32 ≡ Some (2 ∷ [])
+  pub not_there : found (record { id = 1; kind = kind.I32; from = 1 ∷ [] } ∷ record { id = 2; kind = kind.I32; from = 2 ∷ [] } ∷ record { id = 1; kind = kind.I64; from = 3 ∷ [] } ∷ record { id = 1; kind = kind.I32; from = 4 ∷ [] } ∷ []) 3 kind.I32 ≡ None
+  pub length : length_of (1 ∷ 2 ∷ 0 ∷ 0 ∷ 80 ∷ 65 ∷ 82 ∷ 49 ∷ []) ≡ Ok 513
+  pub length_encrypted : length_of (1 ∷ 2 ∷ 0 ∷ 0 ∷ 80 ∷ 65 ∷ 82 ∷ 69 ∷ []) ≡ Err fault.Encrypted
+  pub length_of_another_file : length_of (1 ∷ 2 ∷ 0 ∷ 0 ∷ 80 ∷ 65 ∷ 82 ∷ 50 ∷ []) ≡ Err fault.NotParquet
+  pub length_of_few_bytes : length_of (2 ∷ 0 ∷ 0 ∷ 80 ∷ 65 ∷ 82 ∷ 49 ∷ []) ≡ Err fault.NotParquet
+  pub footer : footer_of (7 ∷ 8 ∷ 9 ∷ 2 ∷ 0 ∷ 0 ∷ 0 ∷ 80 ∷ 65 ∷ 82 ∷ 49 ∷ []) ≡ Ok (8 ∷ 9 ∷ [])
+  pub footer_too_long : footer_of (7 ∷ 8 ∷ 9 ∷ 4 ∷ 0 ∷ 0 ∷ 0 ∷ 80 ∷ 65 ∷ 82 ∷ 49 ∷ []) ≡ Err fault.FooterLength
+  pub footer_of_few_bytes : footer_of (0 ∷ 0 ∷ 0 ∷ 80 ∷ 65 ∷ 82 ∷ 49 ∷ []) ≡ Err fault.NotParquet
+
+-- which types are read, by the older and the newer annotation, and the record of statistics
+pub record TableExamples : Type 0 where
+  pub truths : form_of 0 annotation.None ≡ Some form.Bool
+  pub truths_annotated : form_of 0 annotation.Text ≡ None
+  pub numbers : form_of 1 annotation.None ≡ Some (form.Four ptype.I32)
+  pub decimals : form_of 1 (annotation.Decimal false) ≡ Some (form.Four ptype.I32)
+  pub times : form_of 1 annotation.Time ≡ Some (form.Four ptype.I32)
+  pub numbers_i8 : form_of 1 (annotation.Integer 8 true) ≡ Some (form.Four ptype.I8)
+  pub numbers_u8 : form_of 1 (annotation.Integer 8 false) ≡ Some (form.Four ptype.U8)
+  pub numbers_i16 : form_of 1 (annotation.Integer 16 true) ≡ Some (form.Four ptype.I16)
+  pub numbers_u16 : form_of 1 (annotation.Integer 16 false) ≡ Some (form.Four ptype.U16)
+  pub numbers_i32 : form_of 1 (annotation.Integer 32 true) ≡ Some (form.Four ptype.I32)
+  pub numbers_u32 : form_of 1 (annotation.Integer 32 false) ≡ Some (form.Four ptype.U32)
+  pub numbers_of_64_bits_in_four : form_of 1 (annotation.Integer 64 true) ≡ None
+  pub numbers_as_text : form_of 1 annotation.Text ≡ None
+  pub numbers_otherwise : form_of 1 annotation.Other ≡ None
+  pub long_numbers : form_of 2 annotation.None ≡ Some (form.Eight ptype.I64)
+  pub long_decimals : form_of 2 (annotation.Decimal false) ≡ Some (form.Eight ptype.I64)
+  pub long_times : form_of 2 annotation.Time ≡ Some (form.Eight ptype.I64)
+  pub long_signed : form_of 2 (annotation.Integer 64 true) ≡ Some (form.Eight ptype.I64)
+  pub long_unsigned : form_of 2 (annotation.Integer 64 false) ≡ Some (form.Eight ptype.U64)
+  pub numbers_of_32_bits_in_eight : form_of 2 (annotation.Integer 32 false) ≡ None
+  pub int96 : form_of 3 annotation.None ≡ None
+  pub floats : form_of 4 annotation.None ≡ None
+  pub doubles : form_of 5 annotation.None ≡ None
+  pub bytes : form_of 6 annotation.None ≡ Some form.Binary
+  pub texts : form_of 6 annotation.Text ≡ Some form.Utf8
+  pub bson : form_of 6 annotation.Bytes ≡ Some form.Binary
+  pub decimals_in_bytes : form_of 6 (annotation.Decimal false) ≡ None
+  pub fixed : form_of 7 annotation.None ≡ Some form.Binary
+  pub uuids : form_of 7 annotation.Bytes ≡ Some form.Binary
+  pub fixed_texts : form_of 7 annotation.Text ≡ None
+  pub fixed_decimals : form_of 7 (annotation.Decimal false) ≡ None
+  pub no_type : form_of 8 annotation.None ≡ None
+  pub newer_wins : annotation_of (Some annotation.Text) (Some 5) None ≡ annotation.Text
+  pub newer_unknown_wins : annotation_of (Some annotation.Other) (Some 0) None ≡ annotation.Other
+  pub newer_empty : annotation_of (Some annotation.None) (Some 0) None ≡ annotation.Text
+  pub older_alone : annotation_of None (Some 5) (Some 4) ≡ annotation.Decimal false
+  pub neither : annotation_of None None None ≡ annotation.None
+  pub older_0 : converted 0 None ≡ annotation.Text
+  pub older_1 : converted 1 None ≡ annotation.Other
+  pub older_2 : converted 2 None ≡ annotation.Other
+  pub older_3 : converted 3 None ≡ annotation.Other
+  pub older_4 : converted 4 None ≡ annotation.Text
+  pub older_5 : converted 5 None ≡ annotation.Decimal true
+  pub older_6 : converted 6 None ≡ annotation.Time
+  pub older_7 : converted 7 None ≡ annotation.Time
+  pub older_8 : converted 8 None ≡ annotation.Time
+  pub older_9 : converted 9 None ≡ annotation.Time
+  pub older_10 : converted 10 None ≡ annotation.Time
+  pub older_11 : converted 11 None ≡ annotation.Integer 8 false
+  pub older_12 : converted 12 None ≡ annotation.Integer 16 false
+  pub older_13 : converted 13 None ≡ annotation.Integer 32 false
+  pub older_14 : converted 14 None ≡ annotation.Integer 64 false
+  pub older_15 : converted 15 None ≡ annotation.Integer 8 true
+  pub older_16 : converted 16 None ≡ annotation.Integer 16 true
+  pub older_17 : converted 17 None ≡ annotation.Integer 32 true
+  pub older_18 : converted 18 None ≡ annotation.Integer 64 true
+  pub older_19 : converted 19 None ≡ annotation.Text
+  pub older_20 : converted 20 None ≡ annotation.Bytes
+  pub older_21 : converted 21 None ≡ annotation.Other
+  pub older_22 : converted 22 None ≡ annotation.Other
+  pub repetition_0 : nullability 0 ≡ Some NonNullable
+  pub repetition_1 : nullability 1 ≡ Some Nullable
+  pub repetition_2 : nullability 2 ≡ None
+  pub newer_1 : annotation_at (28 ∷ 0 ∷ 0 ∷ []) ≡ Ok annotation.Text
+  pub newer_2 : annotation_at (44 ∷ 0 ∷ 0 ∷ []) ≡ Ok annotation.Other
+  pub newer_3 : annotation_at (60 ∷ 0 ∷ 0 ∷ []) ≡ Ok annotation.Other
+  pub newer_4 : annotation_at (76 ∷ 0 ∷ 0 ∷ []) ≡ Ok annotation.Text
+  pub newer_5_whole : annotation_at (92 ∷ 21 ∷ 0 ∷ 0 ∷ 0 ∷ []) ≡ Ok (annotation.Decimal true)
+  pub newer_5_fraction : annotation_at (92 ∷ 21 ∷ 4 ∷ 0 ∷ 0 ∷ []) ≡ Ok (annotation.Decimal false)
+  pub newer_5_without_scale : annotation_at (92 ∷ 0 ∷ 0 ∷ []) ≡ Ok (annotation.Decimal false)
+  pub older_5_fraction : converted 5 (Some 4) ≡ annotation.Decimal false
+  pub older_5_scale_0 : converted 5 (Some 0) ≡ annotation.Decimal true
+  pub raw_times : is_raw annotation.Time ≡ true
+  pub raw_fractions : is_raw (annotation.Decimal false) ≡ true
+  pub plain_decimals : is_raw (annotation.Decimal true) ≡ false
+  pub plain_numbers : is_raw annotation.None ≡ false
+  pub newer_6 : annotation_at (108 ∷ 0 ∷ 0 ∷ []) ≡ Ok annotation.Time
+  pub newer_7 : annotation_at (124 ∷ 0 ∷ 0 ∷ []) ≡ Ok annotation.Time
+  pub newer_8 : annotation_at (140 ∷ 0 ∷ 0 ∷ []) ≡ Ok annotation.Time
+  pub newer_11 : annotation_at (188 ∷ 0 ∷ 0 ∷ []) ≡ Ok annotation.Other
+  pub newer_12 : annotation_at (204 ∷ 0 ∷ 0 ∷ []) ≡ Ok annotation.Text
+  pub newer_13 : annotation_at (220 ∷ 0 ∷ 0 ∷ []) ≡ Ok annotation.Bytes
+  pub newer_14 : annotation_at (236 ∷ 0 ∷ 0 ∷ []) ≡ Ok annotation.Bytes
+  pub newer_15 : annotation_at (252 ∷ 0 ∷ 0 ∷ []) ≡ Ok annotation.Other
+  pub newer_10_8 : annotation_at (172 ∷ 19 ∷ 8 ∷ 17 ∷ 0 ∷ 0 ∷ []) ≡ Ok (annotation.Integer 8 true)
+  pub newer_10_16 : annotation_at (172 ∷ 19 ∷ 16 ∷ 18 ∷ 0 ∷ 0 ∷ []) ≡ Ok (annotation.Integer 16 false)
+  pub newer_10_64 : annotation_at (172 ∷ 19 ∷ 64 ∷ 17 ∷ 0 ∷ 0 ∷ []) ≡ Ok (annotation.Integer 64 true)
+  pub newer_none : annotation_at (0 ∷ []) ≡ Ok annotation.None
+  pub statistics : statistics_of (24 ∷ 1 ∷ 65 ∷ 24 ∷ 1 ∷ 66 ∷ 22 ∷ 6 ∷ 22 ∷ 18 ∷ 24 ∷ 1 ∷ 67 ∷ 24 ∷ 1 ∷ 68 ∷ 17 ∷ 18 ∷ 0 ∷ []) ≡ Ok (record { old_max = Some (65 ∷ []); old_min = Some (66 ∷ []); null_count = Some 3; max = Some (67 ∷ []); min = Some (68 ∷ []); is_max_exact = true; is_min_exact = false })
+  pub statistics_few : statistics_of (54 ∷ 1 ∷ 81 ∷ 0 ∷ []) ≡ Ok (record { old_max = None; old_min = None; null_count = None; max = None; min = None; is_max_exact = false; is_min_exact = true })
+
+-- which bound is used as what
+pub record BoundExamples : Type 0 where
+  pub newer_exact : chosen form.Utf8 true (Some (1 ∷ [])) (Some (2 ∷ [])) true ≡ Some (1 ∷ [], true)
+  pub newer_inexact : chosen (form.Four ptype.I32) true (Some (1 ∷ [])) (Some (2 ∷ [])) false ≡ Some (1 ∷ [], false)
+  pub newer_without_order : chosen form.Utf8 false (Some (1 ∷ [])) None true ≡ None
+  pub older_of_signed : chosen (form.Four ptype.I32) false (Some (1 ∷ [])) (Some (2 ∷ [])) true ≡ Some (2 ∷ [], false)
+  pub older_of_signed_where_newer_is_missing : chosen (form.Four ptype.I32) true None (Some (2 ∷ [])) true ≡ Some (2 ∷ [], false)
+  pub older_of_unsigned : chosen (form.Four ptype.U32) true None (Some (2 ∷ [])) true ≡ None
+  pub older_of_long_unsigned : chosen (form.Eight ptype.U64) false None (Some (2 ∷ [])) true ≡ None
+  pub older_of_long_signed : chosen (form.Eight ptype.I64) false None (Some (2 ∷ [])) true ≡ Some (2 ∷ [], false)
+  pub older_of_texts : chosen form.Utf8 false None (Some (2 ∷ [])) true ≡ None
+  pub older_of_bytes : chosen form.Binary false None (Some (2 ∷ [])) true ≡ None
+  pub older_of_truths : chosen form.Bool false None (Some (2 ∷ [])) true ≡ Some (2 ∷ [], false)
+  pub neither : chosen (form.Four ptype.I32) true None None true ≡ None
+  pub truth_0 : value_of form.Bool (0 ∷ []) ≡ Some (value.Bool false)
+  pub truth_1 : value_of form.Bool (1 ∷ []) ≡ Some (value.Bool true)
+  pub truth_2 : value_of form.Bool (2 ∷ []) ≡ None
+  pub truth_long : value_of form.Bool (1 ∷ 0 ∷ []) ≡ None
+  pub truth_short : value_of form.Bool ([]) ≡ None
+  pub i32 : value_of (form.Four ptype.I32) (1 ∷ 2 ∷ 0 ∷ 0 ∷ []) ≡ Some (value.Primitive (number.I32 (pos 513)))
+  pub i32_below : value_of (form.Four ptype.I32) (254 ∷ 255 ∷ 255 ∷ 255 ∷ []) ≡ Some (value.Primitive (number.I32 (negsuc 1)))
+  pub i32_long : value_of (form.Four ptype.I32) (1 ∷ 0 ∷ 0 ∷ 0 ∷ 0 ∷ []) ≡ None
+  pub i32_short : value_of (form.Four ptype.I32) (1 ∷ 0 ∷ 0 ∷ []) ≡ None
+  pub u32 : value_of (form.Four ptype.U32) (254 ∷ 255 ∷ 255 ∷ 255 ∷ []) ≡ Some (value.Primitive (number.U32 4294967294))
+  pub i8 : value_of (form.Four ptype.I8) (127 ∷ 0 ∷ 0 ∷ 0 ∷ []) ≡ Some (value.Primitive (number.I8 (pos 127)))
+  pub i8_least : value_of (form.Four ptype.I8) (128 ∷ 255 ∷ 255 ∷ 255 ∷ []) ≡ Some (value.Primitive (number.I8 (negsuc 127)))
+  pub i8_above : value_of (form.Four ptype.I8) (128 ∷ 0 ∷ 0 ∷ 0 ∷ []) ≡ None
+  pub i8_below : value_of (form.Four ptype.I8) (127 ∷ 255 ∷ 255 ∷ 255 ∷ []) ≡ None
+  pub i16 : value_of (form.Four ptype.I16) (255 ∷ 127 ∷ 0 ∷ 0 ∷ []) ≡ Some (value.Primitive (number.I16 (pos 32767)))
+  pub i16_least : value_of (form.Four ptype.I16) (0 ∷ 128 ∷ 255 ∷ 255 ∷ []) ≡ Some (value.Primitive (number.I16 (negsuc 32767)))
+  pub i16_above : value_of (form.Four ptype.I16) (0 ∷ 128 ∷ 0 ∷ 0 ∷ []) ≡ None
+  pub i16_below : value_of (form.Four ptype.I16) (255 ∷ 127 ∷ 255 ∷ 255 ∷ []) ≡ None
+  pub u8 : value_of (form.Four ptype.U8) (255 ∷ 0 ∷ 0 ∷ 0 ∷ []) ≡ Some (value.Primitive (number.U8 255))
+  pub u8_above : value_of (form.Four ptype.U8) (0 ∷ 1 ∷ 0 ∷ 0 ∷ []) ≡ None
+  pub u16 : value_of (form.Four ptype.U16) (255 ∷ 255 ∷ 0 ∷ 0 ∷ []) ≡ Some (value.Primitive (number.U16 65535))
+  pub u16_above : value_of (form.Four ptype.U16) (0 ∷ 0 ∷ 1 ∷ 0 ∷ []) ≡ None
+  pub i64 : value_of (form.Eight ptype.I64) (1 ∷ 0 ∷ 0 ∷ 0 ∷ 0 ∷ 0 ∷ 0 ∷ 128 ∷ []) ≡ Some (value.Primitive (number.I64 (negsuc 9223372036854775806)))
+  pub u64 : value_of (form.Eight ptype.U64) (1 ∷ 0 ∷ 0 ∷ 0 ∷ 0 ∷ 0 ∷ 0 ∷ 128 ∷ []) ≡ Some (value.Primitive (number.U64 9223372036854775809))
+  pub i64_short : value_of (form.Eight ptype.I64) (1 ∷ 0 ∷ 0 ∷ 0 ∷ []) ≡ None
+  pub text : value_of form.Utf8 (195 ∷ 164 ∷ []) ≡ Some (value.Utf8 (195 ∷ 164 ∷ []))
+  pub no_text : value_of form.Utf8 (195 ∷ []) ≡ None
+  pub bytes : value_of form.Binary (195 ∷ []) ≡ Some (value.Binary (195 ∷ []))
+  pub exact_if_told : bound_of form.Binary (Some (7 ∷ [], true)) ≡ Exact (value.Binary (7 ∷ []))
+  pub inexact_else : bound_of form.Binary (Some (7 ∷ [], false)) ≡ Inexact (value.Binary (7 ∷ []))
+  pub no_value : bound_of form.Bool (Some (7 ∷ [], true)) ≡ Absent
+  pub no_bound : bound_of form.Bool None ≡ Absent
+  pub nulls : count_of (Some 4) ≡ Exact (value.Primitive (number.U64 4))
+  pub nulls_unknown : count_of None ≡ Absent
+  pub set : set_of form.Bool true (record { old_max = Some (1 ∷ []); old_min = Some (0 ∷ []); null_count = Some 2; max = Some (0 ∷ []); min = Some (1 ∷ []); is_max_exact = true; is_min_exact = false }) ≡ (Max, Exact (value.Bool false)) ∷ (Min, Inexact (value.Bool true)) ∷ (NullCount, Exact (value.Primitive (number.U64 2))) ∷ []
+  pub set_without_order : set_of form.Bool false (record { old_max = Some (1 ∷ []); old_min = Some (0 ∷ []); null_count = Some 2; max = Some (0 ∷ []); min = Some (1 ∷ []); is_max_exact = true; is_min_exact = false }) ≡ (Max, Inexact (value.Bool true)) ∷ (Min, Inexact (value.Bool false)) ∷ (NullCount, Exact (value.Primitive (number.U64 2))) ∷ []
+  pub set_of_another_type : chunk_set (record { place = 0; physical = 0; form = form.Bool; is_raw = false; nullability = NonNullable }) true (record { physical = Some 1; statistics = Some (record { old_max = Some (1 ∷ []); old_min = Some (0 ∷ []); null_count = Some 2; max = Some (0 ∷ []); min = Some (1 ∷ []); is_max_exact = true; is_min_exact = false }) }) ≡ []
+  pub set_of_no_type : chunk_set (record { place = 0; physical = 0; form = form.Bool; is_raw = false; nullability = NonNullable }) true (record { physical = None; statistics = Some (record { old_max = Some (1 ∷ []); old_min = Some (0 ∷ []); null_count = Some 2; max = Some (0 ∷ []); min = Some (1 ∷ []); is_max_exact = true; is_min_exact = false }) }) ≡ []
+  pub set_without_statistics : chunk_set (record { place = 0; physical = 0; form = form.Bool; is_raw = false; nullability = NonNullable }) true (record { physical = Some 0; statistics = None }) ≡ []
+
+-- the columns of a schema, and the one of a name
+pub record ColumnExamples : Type 0 where
+  pub columns : columns_of (record { physical = None; repetition = None; name = codes "schema"; children = Some 5; converted = None; scale = None; annotation = None } ∷ record { physical = Some 1; repetition = Some 1; name = codes "a"; children = None; converted = None; scale = None; annotation = None } ∷ record { physical = None; repetition = Some 1; name = codes "g"; children = Some 2; converted = None; scale = None; annotation = None } ∷ record { physical = Some 1; repetition = Some 0; name = codes "x"; children = None; converted = None; scale = None; annotation = None } ∷ record { physical = Some 2; repetition = Some 0; name = codes "y"; children = None; converted = None; scale = None; annotation = None } ∷ record { physical = Some 1; repetition = Some 2; name = codes "r"; children = None; converted = None; scale = None; annotation = None } ∷ record { physical = Some 6; repetition = Some 0; name = codes "s"; children = None; converted = Some 0; scale = None; annotation = None } ∷ record { physical = Some 5; repetition = Some 1; name = codes "d"; children = None; converted = None; scale = None; annotation = None } ∷ []) ≡ Ok (record { name = codes "a"; content = content.Leaf (record { place = 0; physical = 1; form = form.Four ptype.I32; is_raw = false; nullability = Nullable }) } ∷ record { name = codes "g"; content = content.LeftOut left_out.Nested } ∷ record { name = codes "r"; content = content.LeftOut left_out.Repeated } ∷ record { name = codes "s"; content = content.Leaf (record { place = 4; physical = 6; form = form.Utf8; is_raw = false; nullability = NonNullable }) } ∷ record { name = codes "d"; content = content.LeftOut left_out.Type } ∷ [], 6)
+  pub no_root : columns_of [] ≡ Err fault.Schema
+  pub group_past_the_end : columns_of (record { physical = None; repetition = None; name = codes "schema"; children = Some 1; converted = None; scale = None; annotation = None } ∷ record { physical = None; repetition = Some 1; name = codes "g"; children = Some 2; converted = None; scale = None; annotation = None } ∷ record { physical = Some 1; repetition = Some 0; name = codes "x"; children = None; converted = None; scale = None; annotation = None } ∷ []) ≡ Err fault.Schema
+  pub nested_group : columns_of (record { physical = None; repetition = None; name = codes "schema"; children = Some 2; converted = None; scale = None; annotation = None } ∷ record { physical = None; repetition = Some 1; name = codes "g"; children = Some 1; converted = None; scale = None; annotation = None } ∷ record { physical = None; repetition = Some 1; name = codes "h"; children = Some 1; converted = None; scale = None; annotation = None } ∷ record { physical = Some 1; repetition = Some 0; name = codes "x"; children = None; converted = None; scale = None; annotation = None } ∷ record { physical = Some 1; repetition = Some 0; name = codes "b"; children = None; converted = None; scale = None; annotation = None } ∷ []) ≡ Ok (record { name = codes "g"; content = content.LeftOut left_out.Nested } ∷ record { name = codes "b"; content = content.Leaf (record { place = 1; physical = 1; form = form.Four ptype.I32; is_raw = false; nullability = NonNullable }) } ∷ [], 2)
+  pub one_of_a_name : lookup (codes "b") (record { name = codes "a"; content = content.Leaf (record { place = 0; physical = 1; form = form.Four ptype.I32; is_raw = false; nullability = Nullable }) } ∷ record { name = codes "b"; content = content.Leaf (record { place = 1; physical = 6; form = form.Utf8; is_raw = false; nullability = NonNullable }) } ∷ record { name = codes "a"; content = content.Leaf (record { place = 1; physical = 6; form = form.Utf8; is_raw = false; nullability = NonNullable }) } ∷ record { name = codes "g"; content = content.LeftOut left_out.Nested } ∷ []) ≡ Some (content.Leaf (record { place = 1; physical = 6; form = form.Utf8; is_raw = false; nullability = NonNullable }))
+  pub two_of_a_name : lookup (codes "a") (record { name = codes "a"; content = content.Leaf (record { place = 0; physical = 1; form = form.Four ptype.I32; is_raw = false; nullability = Nullable }) } ∷ record { name = codes "b"; content = content.Leaf (record { place = 1; physical = 6; form = form.Utf8; is_raw = false; nullability = NonNullable }) } ∷ record { name = codes "a"; content = content.Leaf (record { place = 1; physical = 6; form = form.Utf8; is_raw = false; nullability = NonNullable }) } ∷ record { name = codes "g"; content = content.LeftOut left_out.Nested } ∷ []) ≡ Some (content.LeftOut left_out.Duplicate)
+  pub one_left_out : lookup (codes "g") (record { name = codes "a"; content = content.Leaf (record { place = 0; physical = 1; form = form.Four ptype.I32; is_raw = false; nullability = Nullable }) } ∷ record { name = codes "b"; content = content.Leaf (record { place = 1; physical = 6; form = form.Utf8; is_raw = false; nullability = NonNullable }) } ∷ record { name = codes "a"; content = content.Leaf (record { place = 1; physical = 6; form = form.Utf8; is_raw = false; nullability = NonNullable }) } ∷ record { name = codes "g"; content = content.LeftOut left_out.Nested } ∷ []) ≡ Some (content.LeftOut left_out.Nested)
+  pub none_of_a_name : lookup (codes "ab") (record { name = codes "a"; content = content.Leaf (record { place = 0; physical = 1; form = form.Four ptype.I32; is_raw = false; nullability = Nullable }) } ∷ record { name = codes "b"; content = content.Leaf (record { place = 1; physical = 6; form = form.Utf8; is_raw = false; nullability = NonNullable }) } ∷ record { name = codes "a"; content = content.Leaf (record { place = 1; physical = 6; form = form.Utf8; is_raw = false; nullability = NonNullable }) } ∷ record { name = codes "g"; content = content.LeftOut left_out.Nested } ∷ []) ≡ None

@@ -1,0 +1,63 @@
+//! Laws of this layer, in the words of its definitions. The functions carry them by their
+//! contracts.
+ghost use Rattle.std.specs.Prelude.{◌≡◌, ℕ, List, IfOk, Ok};
+ghost use Rattle.vortex_parquet.specs.Fields.{field_views, fields_before, struct_of};
+ghost use Rattle.vortex_parquet.specs.Grammar.{IsStruct, IsValue};
+ghost use Rattle.vortex_parquet.specs.Reading.{Gives};
+ghost use Rattle.vortex_parquet.specs.Skip.{FieldData, skip_at};
+ghost use Rattle.vortex_parquet.specs.Truth.{KnownGroups, TrueGroups};
+ghost use Rattle.vortex_parquet.specs.Witness.{TrueFile};
+ghost use Rattle.vortex_parquet.specs.Worked.{BoundExamples, ColumnExamples, GrammarExamples};
+ghost use Rattle.vortex_parquet.specs.Worked.{TableExamples};
+
+use crate::compact::Kind;
+use crate::fault::ReadError;
+use crate::fields::{self, Field};
+use crate::skip::{DEPTH, skip};
+use std::alloc::Global;
+
+/// Returns the bytes behind the value of a kind with which the bytes begin.
+pub fn value_end(kind: Kind, bytes: &[u8]) -> Result<&[u8], ReadError>
+    // What is skipped is a value.
+    ensures found { IfOk result (λ rest. IsValue 32 kind bytes.now rest.now) }
+    // What is a value is skipped, unless memory runs out.
+    ensures only { (rest : List ℕ) → IsValue 32 kind bytes.now rest
+        → Gives (λ rest. rest.now) result (Ok rest) }
+    ensures exact { Gives (λ rest. rest.now) result (skip_at 32 kind bytes.now) }
+{
+    skip(DEPTH, kind, bytes)
+}
+
+/// Returns the fields of the struct with which the bytes begin, and the bytes behind it.
+pub fn fields_of(alloc: Global, bytes: &[u8]) -> Result<(Vec<Field<'_>>, &[u8]), ReadError>
+    // They are those of the grammar.
+    ensures found { IfOk result (λ x.
+        IsStruct (IsValue 32) (field_views x.0.items) bytes.now x.1.now) }
+    // And those of the grammar are read, unless memory runs out.
+    ensures only { (fs : List FieldData) (rest : List ℕ) → IsStruct (IsValue 32) fs bytes.now rest
+        → Gives (λ x. (field_views x.0.items, x.1.now)) result (fields_before fs rest) }
+    ensures exact { Gives (λ x. (field_views x.0.items, x.1.now)) result (struct_of bytes.now) }
+{
+    fields::struct_of(alloc, bytes)
+}
+
+/// Where the statistics of a row group are true of its rows, so are the sets that are made of them;
+/// and what is known of the row groups of a file is what is known of each.
+pub fn groups_are_true()
+    ensures sets { TrueGroups }
+    ensures known { KnownGroups }
+{}
+
+/// Worked rows of the grammar, of the table of types, of the choice of bounds and of the columns of
+/// a schema.
+pub fn examples_hold()
+    ensures grammar { GrammarExamples }
+    ensures table { TableExamples }
+    ensures bounds { BoundExamples }
+    ensures columns { ColumnExamples }
+{}
+
+/// A file whose statistics are true of the rows of its row group: a witness of `groups_are_true`.
+pub fn a_file_is_true()
+    ensures { TrueFile }
+{}
