@@ -237,11 +237,17 @@ def are_built(crates, jobs):
     return not failed
 
 
+def file_of(name):
+    """The file to which a program or a static library is built."""
+    is_library = re.match(r"\w+ staticlib\b", listed_crates()[name])
+    return f"{TOP}/crates/{name}/out/" + (f"lib{name}.a" if is_library else name)
+
+
 def built(name):
-    """Builds a program unless the built one is of the sources as they stand, and returns its file, or None if that fails."""
-    crates, program = crates_below(name), f"{TOP}/crates/{name}/out/{name}"
+    """Builds a program or a static library unless the built one is of the sources as they stand, and returns its file, or None if that fails."""
+    crates, program = crates_below(name), file_of(name)
     with alone():
-        if os.access(program, os.X_OK) and text_of(f"{program}.sum") == sum_of(crates, program):
+        if os.path.isfile(program) and text_of(f"{program}.sum") == sum_of(crates, program):
             return program
         jobs = jobs_that_fit()
         used = min(jobs, processors())
