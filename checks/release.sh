@@ -123,9 +123,12 @@ installed() {
 
 # Tests the wheel alone, and beside Debian's packages of numpy and pandas.
 wheel() {
-    mkdir "$work/python"
+    mkdir -p "$work/python" "$work/rust/tests"
     cp -r callers/python/tests "$work/python"
     rm -rf "$work/python/tests/systems"
+    # Files of footers that Rust has written, and the Arrow arrays that C makes, are where the tests look for them.
+    cp callers/rust/tests/*.footers "$work/rust/tests"
+    export FOALMORROW_PRODUCER="$PWD/callers/out/libarrow_producer.so"
     unset FOALMORROW_LIBRARY PYTHONPATH
     installed alone python3 -m venv
     (python_tests "$work/venv/alone/bin/python" some)
