@@ -1,3 +1,4 @@
+/* SPDX-License-Identifier: Apache-2.0 */
 /*
  * A producer of arrays in every layout of Arrow's C Data Interface that the Python package reads, for its tests, which load
  * it as a shared object. Written from the specification (https://arrow.apache.org/docs/format/CDataInterface.html).

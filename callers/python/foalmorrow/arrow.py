@@ -1,3 +1,4 @@
+# SPDX-License-Identifier: Apache-2.0
 """Arrays, tables and streams of Arrow's C Data Interface, as pyarrow, polars, DuckDB and nanoarrow hand them out; none of these is needed.
 
 A producer offers ``__arrow_c_array__`` or ``__arrow_c_stream__``; or C code hands over the addresses of its structs, as ``Structs``. What is

@@ -1,3 +1,4 @@
+# SPDX-License-Identifier: Apache-2.0
 """Floating numbers in the order of their bits: a whole number of the same width for each, that ascends as they do.
 
 -0.0 is 0.0, and every NaN is one NaN above infinity. So numbers compare by their whole numbers as PostgreSQL, DuckDB, Spark and the total

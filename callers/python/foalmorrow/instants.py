@@ -1,3 +1,4 @@
+# SPDX-License-Identifier: Apache-2.0
 """Dates, times of day and instants as exact numbers of seconds: of Python's, numpy's and pandas' values and of ISO 8601 texts.
 
 A number of seconds is a pair of whole numbers, how many ticks and how many of them a second has, so that nothing is rounded.

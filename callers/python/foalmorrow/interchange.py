@@ -1,3 +1,4 @@
+# SPDX-License-Identifier: Apache-2.0
 """Columns of the dataframe interchange protocol, which a frame offers by ``__dataframe__``.
 
 Nulls may stand as NaN or NaT, as a value of their own, and in a mask of bits or bytes. Buffers have lengths here, and are read within them.

@@ -1,3 +1,4 @@
+# SPDX-License-Identifier: Apache-2.0
 """Arrays in Arrow's layouts, by the words of its formats, as values and nulls of a column's type.
 
 Numbers, truths in bits or bytes, texts and bytes with 32-bit or 64-bit offsets, bytes of one length, dates, times, timestamps, decimals and

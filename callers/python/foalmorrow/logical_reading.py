@@ -1,3 +1,4 @@
+# SPDX-License-Identifier: Apache-2.0
 """Reads containers of dates, times, decimals, floating numbers, uuids and enumerations into the physical values that they are mapped onto.
 
 A value is taken exactly, or refused with its row: a timestamp that is finer than its column's unit, a float that isn't one of 32 bits, an

@@ -1,3 +1,4 @@
+# SPDX-License-Identifier: Apache-2.0
 """Predicates over logical types as predicates over their physical ones, which are true of the same rows.
 
 A comparison with a literal is a set of the whole numbers of its column: a few ranges without gaps. Where NaN, or a literal that engines

@@ -1,3 +1,4 @@
+# SPDX-License-Identifier: Apache-2.0
 """Logical types: dates, times, decimals, floating numbers, uuids and enumerations, each mapped onto a physical type in its own order.
 
 ``docs/TYPES.md`` has the table of them. A mapping is strictly monotone: of two values the lesser one has the lesser number, or the lesser

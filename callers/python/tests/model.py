@@ -1,3 +1,4 @@
+# SPDX-License-Identifier: Apache-2.0
 """What a predicate is of a row, by the tree itself: three truths, and an opaque condition as one of them."""
 from __future__ import annotations
 

@@ -1,3 +1,4 @@
+# SPDX-License-Identifier: Apache-2.0
 """Arrays of Arrow's C Data Interface for tests, made by the producer of callers/c/arrow_producer.c, with any field changed."""
 from __future__ import annotations
 

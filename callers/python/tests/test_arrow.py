@@ -1,3 +1,4 @@
+# SPDX-License-Identifier: Apache-2.0
 """Arrays and streams of Arrow's C Data Interface in every layout that is read, each field of their structs spoiled in turn."""
 import ctypes
 import datetime

@@ -1,3 +1,4 @@
+# SPDX-License-Identifier: Apache-2.0
 """The examples of the package's pages: each public name has one, and each runs."""
 import doctest
 import importlib

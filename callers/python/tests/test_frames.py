@@ -1,10 +1,13 @@
 # SPDX-License-Identifier: Apache-2.0
 """The tester of frames beside the library's own scan: of the same random tables and predicates both select the same rows."""
+import functools
+import operator
 import os
 import random
 import unittest
 
 from foalmorrow import Column, DType, FooterError, Nullable, Predicate, PredicateError, ValueFault, col, run
+from foalmorrow.predicate import Between, Compared
 
 try:
     import pandas
@@ -48,13 +51,14 @@ def a_leaf(rng: random.Random, columns: list[Column]) -> Predicate:
         pattern = rng.choice(PATTERNS + TEXTS)
         return col(column.name).like(pattern, negated=rng.random() < 0.4, ignore_case=rng.random() < 0.4)
     if kind == 3:
-        return col(column.name).between(value(), value(), low_strict=rng.random() < 0.5, high_strict=rng.random() < 0.5)
+        return Between(column.name, value(), value(), rng.random() < 0.5, rng.random() < 0.5)
     if kind == 4:
-        return col(column.name).is_in([value() for _ in range(rng.randrange(1, 4))])
+        return functools.reduce(operator.or_, [Compared("eq", column.name, value()) for _ in range(rng.randrange(1, 4))])
     if kind == 5:
         other = rng.choice([it for it in columns if it.dtype == column.dtype])
         return getattr(col(column.name), rng.choice(OPERATORS))(col(other.name))
-    return getattr(col(column.name), rng.choice(OPERATORS))(value())
+    # A null literal is written by no operator of a column.
+    return Compared(rng.choice(OPERATORS).strip("_"), column.name, value())
 
 
 def a_predicate(rng: random.Random, columns: list[Column], depth: int = 3) -> Predicate:

@@ -1,3 +1,4 @@
+# SPDX-License-Identifier: Apache-2.0
 """Columns of logical types in every container, measured, checked, pruned, kept and framed beside a model of their own values."""
 import atexit
 import datetime

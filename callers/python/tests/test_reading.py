@@ -284,7 +284,7 @@ class Numpy(Refusing):
         self.refused(A, times, r"an array of datetime64\[s\] is no i64; .*view\('i8'\)")
         self.refused(A, times - times, r"timedelta64\[s\] is no i64")
         for kind in ("f2", "f4", "f8"):
-            self.refused(A, numpy.array([1], kind), f"an array of {numpy.dtype(kind)} is no i64; .*floating numbers aren't read")
+            self.refused(A, numpy.array([1], kind), f"an array of {numpy.dtype(kind)} is no i64; .*declare the column Float32")
         self.refused(A, numpy.array([]), "an array of float64 is no i64")
         for column, given in [
             (A, numpy.array([1j])), (A, numpy.array([True])), (B, numpy.array([1])), (B, numpy.array([1], "u1")), (S, numpy.array([1])),
@@ -339,6 +339,15 @@ class Pandas(Refusing):
         self.refused(Column("u", DType.U8, True), pandas.Series([None, 1, 256], dtype="Int64"), "row 2: 256 is no u8", 2)
         self.refused(U, pandas.Series([1, None], dtype="Int64"), "row 1: null is no value", 1)
 
+    def test_categories_and_types_of_others_by_their_items(self) -> None:
+        self.assertEqual(items(S, pandas.Series(["b", None, "a", "b"], dtype="category")), ["b", None, "a", "b"])
+        self.assertEqual(items(A, pandas.CategoricalIndex([7, 5, 7])), [7, 5, 7])
+        self.assertEqual(items(S, Nullable(pandas.Categorical(["b", "a"]), [1, 0])), [None, "a"])
+        self.assertEqual(items(A, pandas.arrays.SparseArray([0, 1, 0])), [0, 1, 0])
+        # A category that no row has may be anything.
+        self.assertEqual(items(U, pandas.Categorical([1, 1], [1, 300])), [1, 1])
+        self.refused(U, pandas.Categorical([1, 300]), "row 1: 300 is no u8", 1)
+
     def test_marks_in_series(self) -> None:
         for dtype in (bool, "boolean", object):
             self.assertEqual(items(A, Nullable([4, 5], pandas.Series([False, True], dtype=dtype))), [4, None])
@@ -349,13 +358,11 @@ class Pandas(Refusing):
         times = pandas.to_datetime(["2026-01-01", None])
         self.refused(A, pandas.Series(times), r"datetime64\[ns\] is no i64")
         self.refused(A, times.tz_localize("UTC"), r"pandas' type datetime64\[ns, UTC\] are no i64")
-        self.refused(A, pandas.Series([1, None]), "float64 is no i64; .*floating")
+        self.refused(A, pandas.Series([1, None]), "float64 is no i64; .*declare the column Float32")
         self.refused(A, pandas.Series([1.5, None], dtype="Float64"), "pandas' type Float64 are no i64")
-        self.refused(S, pandas.Series(["a", "b"], dtype="category"), "categories are no utf8")
-        self.refused(A, pandas.CategoricalIndex([1, 2]), "categories are no i64")
+        self.refused(A, pandas.Series(["a", "b"], dtype="category"), "row 0: 'a' is no i64", 0)
         self.refused(A, pandas.Series([pandas.Timestamp(0)], dtype=object), "row 0: .* is no i64", 0)
-        self.refused(A, pandas.period_range("2026", periods=2), "pandas' type period")
-        self.refused(A, pandas.arrays.SparseArray([0, 1]), "pandas' type Sparse")
+        self.refused(A, pandas.period_range("2026", periods=2), r"row 0: Period\(.* is no i64", 0)
         self.refused(A, pandas.DataFrame({"a": [1]}), "a frame has 2 dimensions; expected one")
         self.refused(A, pandas.MultiIndex.from_tuples([(1, 2)]), "row 0: .* is no i64", 0)
         self.refused(A, pandas.Series(["a"], dtype="string"), "row 0: 'a' is no i64", 0)

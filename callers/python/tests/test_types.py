@@ -1,3 +1,4 @@
+# SPDX-License-Identifier: Apache-2.0
 """Logical types: their mappings and literals beside Python's own order, numpy's, pandas' and decimal's. No library is needed."""
 import atexit
 import datetime

@@ -1,3 +1,4 @@
+// SPDX-License-Identifier: Apache-2.0
 //! Logical types: what a column's values mean, over the kinds of values that the library knows.
 use crate::column::{DType, Kind};
 use crate::stat::Stat;

@@ -1,3 +1,4 @@
+// SPDX-License-Identifier: Apache-2.0
 //! Comparisons of a column with a literal as sets of the whole numbers that its values are mapped onto.
 use crate::column::Kind;
 use crate::literal::{Literal, Operand, Operator};

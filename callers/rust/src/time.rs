@@ -1,3 +1,4 @@
+// SPDX-License-Identifier: Apache-2.0
 //! Dates, times of day and instants, as literals of columns of times.
 use std::str::FromStr;
 use std::time::{Duration, SystemTime, UNIX_EPOCH};

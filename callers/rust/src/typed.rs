@@ -1,3 +1,4 @@
+// SPDX-License-Identifier: Apache-2.0
 //! Columns of logical types in predicates, compared with literals of theirs.
 use crate::error::Error;
 use crate::float::{Float32, Float64, Nan};

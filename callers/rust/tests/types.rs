@@ -1,3 +1,4 @@
+// SPDX-License-Identifier: Apache-2.0
 //! Logical types and opaque conditions, beside models of their own order.
 use foalmorrow::{
     col, Answer, Column, DType, Date, DateTime, Decimal, Error, Float32, Float64, Instant, Kind, Literal, Logical, Nan,
