@@ -17,7 +17,7 @@ from dataclasses import replace
 from typing import Any
 
 from .kinds import Column
-from .predicate import Between, ColumnOf, Compared, Constant, Like, Nan, NullTest, Opaque, Predicate, PredicateError, Value, of_prefix, sql_literal
+from .predicate import Between, ColumnOf, Compared, Constant, Like, Nan, NullTest, Opaque, Predicate, PredicateError, Value, of_prefix, shown_literal, sql_literal
 from .types import Decimal, Enum, Float32, Float64, LiteralFault, Numbered, Spot, Timestamp, Unmapped, Written
 
 #: Ranges of whole numbers, each from its first to its last one, that ascend and don't touch.
@@ -63,7 +63,8 @@ def sql_of_logical(column: Column, value: Value) -> str:
             return sql_literal(column.physical, column.logical.literal(value))
     except LiteralFault as fault:
         raise PredicateError(f"column {column.name}: {fault}") from None
-    raise PredicateError(f"column {column.name}: values of {column.word} have no literals")
+    # An unmapped column is compared by the database alone, with what the user has written.
+    return shown_literal(value)
 
 
 def _leaf(leaf: Predicate, columns: Columns, turned: bool) -> Predicate:

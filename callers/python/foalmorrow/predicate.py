@@ -449,7 +449,7 @@ class Compared(Predicate):
         return "compared", self.operator, self.name, other, self.nan
 
     def _shown(self) -> str:
-        other = _shown_name(self.other.name) if isinstance(self.other, ColumnOf) else _shown_literal(self.other)
+        other = _shown_name(self.other.name) if isinstance(self.other, ColumnOf) else shown_literal(self.other)
         return f"{_shown_name(self.name)} {_OPERATORS[self.operator]} {other}{_shown_nan(self.nan)}"
 
 
@@ -488,7 +488,7 @@ class Between(Predicate):
         return "between", self.name, _told(self.low), _told(self.high), self.low_strict, self.high_strict, self.nan
 
     def _shown(self) -> str:
-        low, high, nan = _shown_literal(self.low), _shown_literal(self.high), _shown_nan(self.nan)
+        low, high, nan = shown_literal(self.low), shown_literal(self.high), _shown_nan(self.nan)
         if not (self.low_strict or self.high_strict):
             return f"{_shown_name(self.name)} BETWEEN {low} AND {high}{nan}"
         name, signs = _shown_name(self.name), [">" if self.low_strict else ">=", "<" if self.high_strict else "<="]
@@ -556,7 +556,7 @@ class Like(Predicate):
 
     def _shown(self) -> str:
         word = f"{'NOT ' * self.negated}{'ILIKE' if self.ignore_case else 'LIKE'}"
-        return f"{_shown_name(self.name)} {word} {_shown_literal(self.pattern)}"
+        return f"{_shown_name(self.name)} {word} {shown_literal(self.pattern)}"
 
 
 def _told(value: object) -> tuple[Any, ...]:
@@ -582,7 +582,7 @@ def _shown_nan(nan: Nan) -> str:
     return "" if nan is None else f" /* NaN: {nan} */"
 
 
-def _shown_literal(value: Any) -> str:
+def shown_literal(value: Any) -> str:
     """Returns a literal as SQL has it, and what is none as Python shows it."""
     if value is None or isinstance(value, bool):
         return "NULL" if value is None else str(value).upper()

@@ -413,6 +413,7 @@ class Statistics(unittest.TestCase):
         self.assertEqual(list(footers.prune((col("j") == {"a": 1}) & (col("n") > 3))), [Answer.SKIP, Answer.READ])
         self.assertEqual(list(footers.prune((col("j") == 5) | (col("n") > 3))), [Answer.READ, Answer.WHOLE])
         self.assertEqual(Footers.from_bytes(footers.to_bytes())[0], footers)
+        self.assertIn('("j" = 5)', str(footers.explain(col("j") == 5)))
 
     def test_opaque_conditions(self) -> None:
         footers = Footers.measure([Column("o0", DType.I64), Column("c0", DType.BOOL)], [{"o0": [1, 2], "c0": [True, True]}, {"o0": [5, 6], "c0": [True, True]}])
