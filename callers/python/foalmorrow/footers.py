@@ -15,8 +15,9 @@ from .explain import Explanation
 from .items import shown
 from .kinds import Column, DType, Logical, Precision, Stat, stat_dtype
 from .overlap import Overlap, overlap
-from .predicate import Opaque, Predicate, PredicateError, is_name
+from .predicate import Opaque, Predicate, PredicateError
 from .reading import Nullable, Read, Where, read, read_column
+from .spelling import is_name
 from .statistic import FooterError, Statistic, absent, joined_statistics, without_nulls
 from .types import Float32, Float64
 

@@ -17,7 +17,8 @@ from dataclasses import replace
 from typing import Any
 
 from .kinds import Column
-from .predicate import Between, ColumnOf, Compared, Constant, Like, Nan, NullTest, Opaque, Predicate, PredicateError, Value, of_prefix, shown_literal, sql_literal
+from .predicate import Between, ColumnOf, Compared, Constant, Like, Nan, NullTest, Opaque, Predicate, PredicateError, Value, of_prefix, sql_literal
+from .spelling import shown_literal
 from .types import Decimal, Enum, Float32, Float64, LiteralFault, Numbered, Spot, Timestamp, Unmapped, Written
 
 #: Ranges of whole numbers, each from its first to its last one, that ascend and don't touch.

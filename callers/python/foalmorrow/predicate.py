@@ -29,6 +29,7 @@ from typing import Any, Literal, NoReturn, TypeVar
 
 from .items import expected, is_missing, plain, shown, value_of
 from .kinds import Column, DType
+from .spelling import is_name, shown_literal, shown_name, shown_nan
 from .types import Float32, Float64
 
 #: A literal: Python's own values, and those of numpy and pandas.
@@ -44,8 +45,6 @@ Folded = TypeVar("Folded")
 _OPERATORS = {"eq": "=", "ne": "<>", "gt": ">", "ge": ">=", "lt": "<", "le": "<="}
 _TURNED = {"eq": "ne", "ne": "eq", "gt": "le", "le": "gt", "ge": "lt", "lt": "ge"}
 _OTHER = {"and": "or", "or": "and"}
-#: A name of a column in the language of predicates.
-_NAME = re.compile(r"[A-Za-z_][A-Za-z0-9_]{0,63}")
 
 
 class PredicateError(ValueError):
@@ -449,8 +448,8 @@ class Compared(Predicate):
         return "compared", self.operator, self.name, other, self.nan
 
     def _shown(self) -> str:
-        other = _shown_name(self.other.name) if isinstance(self.other, ColumnOf) else shown_literal(self.other)
-        return f"{_shown_name(self.name)} {_OPERATORS[self.operator]} {other}{_shown_nan(self.nan)}"
+        other = shown_name(self.other.name) if isinstance(self.other, ColumnOf) else shown_literal(self.other)
+        return f"{shown_name(self.name)} {_OPERATORS[self.operator]} {other}{shown_nan(self.nan)}"
 
 
 @dataclass(frozen=True, eq=False, repr=False)
@@ -488,10 +487,10 @@ class Between(Predicate):
         return "between", self.name, _told(self.low), _told(self.high), self.low_strict, self.high_strict, self.nan
 
     def _shown(self) -> str:
-        low, high, nan = shown_literal(self.low), shown_literal(self.high), _shown_nan(self.nan)
+        low, high, nan = shown_literal(self.low), shown_literal(self.high), shown_nan(self.nan)
         if not (self.low_strict or self.high_strict):
-            return f"{_shown_name(self.name)} BETWEEN {low} AND {high}{nan}"
-        name, signs = _shown_name(self.name), [">" if self.low_strict else ">=", "<" if self.high_strict else "<="]
+            return f"{shown_name(self.name)} BETWEEN {low} AND {high}{nan}"
+        name, signs = shown_name(self.name), [">" if self.low_strict else ">=", "<" if self.high_strict else "<="]
         return f"({name} {signs[0]} {low} AND {name} {signs[1]} {high}{nan})"
 
 
@@ -518,7 +517,7 @@ class NullTest(Predicate):
         return "null", self.name, self.wanted
 
     def _shown(self) -> str:
-        return f"{_shown_name(self.name)} IS {'' if self.wanted else 'NOT '}NULL"
+        return f"{shown_name(self.name)} IS {'' if self.wanted else 'NOT '}NULL"
 
 
 @dataclass(frozen=True, eq=False, repr=False)
@@ -556,7 +555,7 @@ class Like(Predicate):
 
     def _shown(self) -> str:
         word = f"{'NOT ' * self.negated}{'ILIKE' if self.ignore_case else 'LIKE'}"
-        return f"{_shown_name(self.name)} {word} {shown_literal(self.pattern)}"
+        return f"{shown_name(self.name)} {word} {shown_literal(self.pattern)}"
 
 
 def _told(value: object) -> tuple[Any, ...]:
@@ -572,28 +571,6 @@ def _told(value: object) -> tuple[Any, ...]:
     if type(value).__module__.partition(".")[0] in ("numpy", "pandas") and not hasattr(value, "__len__"):
         return type(value), str(value)
     return "other", id(value)
-
-
-def _shown_name(name: str) -> str:
-    return name if is_name(name) else '"' + name.replace('"', '""') + '"'
-
-
-def _shown_nan(nan: Nan) -> str:
-    return "" if nan is None else f" /* NaN: {nan} */"
-
-
-def shown_literal(value: Any) -> str:
-    """Returns a literal as SQL has it, and what is none as Python shows it."""
-    if value is None or isinstance(value, bool):
-        return "NULL" if value is None else str(value).upper()
-    if isinstance(value, str) and len(value) <= 60:
-        return "'" + value.replace("'", "''") + "'"
-    if isinstance(value, bytes) and len(value) <= 60:
-        return f"X'{value.hex()}'"
-    for kind, word in ((datetime.datetime, "TIMESTAMP"), (datetime.date, "DATE"), (datetime.time, "TIME"), (uuid.UUID, "UUID")):
-        if isinstance(value, kind):
-            return f"{word} '{str(value)}'"
-    return str(value) if isinstance(value, decimal.Decimal) else shown(value)
 
 
 def _check_nan(nan: object) -> None:
@@ -754,11 +731,6 @@ def col(name: str, nan: Nan = None) -> ColumnOf:
         raise PredicateError(f"{shown(name)} is no name of a column; expected a str")
     _check_nan(nan)
     return ColumnOf(plain(name), nan)
-
-
-def is_name(name: object) -> bool:
-    """Tells whether the language of predicates takes the name of a column."""
-    return isinstance(name, str) and _NAME.fullmatch(name) is not None
 
 
 def _own_name(name: str) -> str:

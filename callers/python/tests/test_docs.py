@@ -15,7 +15,7 @@ except ImportError:
 
 #: Modules whose examples run without a database, a cluster or pandas.
 MODULES = [
-    "answers", "arrays", "explain", "floats", "footers", "instants", "items", "kinds", "library", "lowering", "overlap", "predicate", "reading", "statistic", "types",
+    "answers", "arrays", "explain", "floats", "footers", "instants", "items", "kinds", "library", "lowering", "overlap", "predicate", "reading", "spelling", "statistic", "types",
 ]
 MODULES += ["arrow", "interchange", "layouts", "logical_reading"] if numpy is not None else []
 #: A picture needs matplotlib.
