@@ -160,7 +160,7 @@ class Predicate:
                 pending += [(node.right, turned), (node.left, turned)]
             elif isinstance(node, Not):
                 pending.append((node.of, not turned))
-            elif turned and isinstance(node, (Compared, Between)) and not {node.name}.isdisjoint(kept):
+            elif turned and _is_by_order(node) and not set(node.names()).isdisjoint(kept):
                 found += ["not", node]
             else:
                 found += node._turned().prefix() if turned else [node]
@@ -281,6 +281,10 @@ class Predicate:
             "a predicate is no truth by itself: write p & q for p and q, p | q for p or q, ~p for not p, and col(..).between(low, high) for "
             "low <= col(..) <= high"
         )
+
+
+def _is_by_order(leaf: Predicate) -> bool:
+    return isinstance(leaf, Between) or (isinstance(leaf, Compared) and leaf.operator not in ("eq", "ne"))
 
 
 def _operand(sign: str, other: object) -> Predicate:

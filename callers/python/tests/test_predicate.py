@@ -10,7 +10,8 @@ import unittest
 
 import foalmorrow.predicate
 from foalmorrow import Column, DType, Predicate, PredicateError, col, opaque
-from foalmorrow.predicate import Compared
+from foalmorrow import Float64
+from foalmorrow.predicate import Compared, Dialect
 
 try:
     import numpy
@@ -127,6 +128,15 @@ class PredicateTexts(unittest.TestCase):
         for prefix in (b"a", None, 5, ("a", "b")):
             with self.assertRaisesRegex(PredicateError, "startswith takes one str"):
                 col("s").startswith(prefix)
+
+    def test_dialect_without_null_keeps_not_before_floats(self) -> None:
+        class Plain(Dialect):
+            has_null = False
+
+        columns = [Column("x", Float64(), True), Column("n", DType.U8)]
+        # Of NaN a comparison and its opposite may both be false.
+        made = ~((col("x") > 1.5) | (col("n") > 3) | (col("x") == 2.5))
+        self.assertEqual(made.sql(columns, Plain()), '((NOT ("x" > 1.5)) AND ("n" <= 3) AND ("x" <> 2.5))')
 
     def test_opaque(self) -> None:
         made = (col("n") > 3) & ~opaque("lower(s) = 'x'")

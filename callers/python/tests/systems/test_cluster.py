@@ -1,6 +1,8 @@
 # SPDX-License-Identifier: Apache-2.0
 """A cluster of two workers: a table measured, merged, pruned and read where its partitions lie, also where a worker dies."""
 import csv
+import datetime
+import decimal
 import json
 import os
 import pathlib
@@ -12,7 +14,7 @@ import time
 import unittest
 import unittest.mock
 
-from foalmorrow import Column, DType, FooterError, Footers, Predicate, PredicateError, Stat, col
+from foalmorrow import Column, DType, Date, Decimal, FixedBinary, Float64, FooterError, Footers, Predicate, PredicateError, Stat, Timestamp, col
 
 try:
     import dask
@@ -261,6 +263,24 @@ class Clusters(unittest.TestCase):
         pathlib.Path(path).write_bytes(b"x,n,s\n,1,\xff\n")
         with self.assertRaisesRegex(cluster.TableError, "isn't UTF-8"):
             cluster.read_csv(path, columns)
+
+    def test_csv_of_logical_types(self) -> None:
+        columns = (Column("day", Date(), True), Column("at", Timestamp("us", "UTC")), Column("d", Decimal(5, 2)), Column("x", Float64()), Column("b", FixedBinary(2)))
+        path = f"{self.table_folder.name}/logical.csv"
+
+        def found(rows: list[str]) -> dict[str, object]:
+            with open(path, "w") as file:
+                file.write("day,at,d,x,b\n" + "\n".join(rows) + "\n")
+            return cluster.read_csv(path, columns)
+
+        footers = Footers.measure(columns, [found(["2026-01-02,2026-01-02T00:00Z,1.5,nan,6162", ",2026-01-03 01:00+01:00,-2,1e3,ffff"])])
+        told = {name: value for (name, stat), (_, value) in footers.at(0).items() if stat == Stat.MIN}
+        self.assertEqual((told["day"], told["d"], told["x"], told["b"]), (datetime.date(2026, 1, 2), decimal.Decimal("-2.00"), 1000.0, b"ab"))
+        good = ["2026-01-02", "2026-01-02T00:00Z", "1.5", "1", "6162"]
+        for place, text in ((0, "20260102"), (0, "12345"), (1, "2026-01-02"), (2, "1.555"), (2, "1e9"), (3, "one"), (3, ""), (4, "61"), (4, "6g")):
+            row = [*good[:place], text, *good[place + 1 :]]
+            with self.assertRaisesRegex(cluster.TableError, f"row 0, column {columns[place].name}"):
+                found([",".join(row)])
 
     def test_notes_that_are_none_refused(self) -> None:
         path = f"{self.table_folder.name}/.footers"
