@@ -15,6 +15,7 @@ from typing import Any
 from .arrays import joined
 from .kinds import Column, DType, Logical
 from .reading import Read, Where
+from .types import Unmapped
 
 try:
     import numpy
@@ -150,13 +151,21 @@ def read(kind: DType | Logical, given: Any, where: Where) -> Read:
     with _Owners() as owners:
         structs = _structs(given, owners, where)
         if len(structs) == 2:
-            return converted(kind, _laid(structs[0], structs[1], where), where)
+            return _read(kind, structs[0], structs[1], where)
         schema = owners.take(_schema_of(structs[0], where))
         pieces: list[Read] = []
         for array in _arrays(structs[0], where):
             with array as chunk:
-                pieces.append(converted(kind, _laid(schema, chunk, _moved(where, pieces)), _moved(where, pieces)))
+                pieces.append(_read(kind, schema, chunk, _moved(where, pieces)))
         return _joined(kind, pieces)
+
+
+def _read(kind: DType | Logical, schema: Any, array: Any, where: Where, start: int = 0, count: int | None = None) -> Read:
+    """Reads an array, or so many of its values from ``start`` on; of an unmapped column of any layout which of them are null."""
+    is_plain = schema.dictionary or array.dictionary or schema.format in (None, b"n")
+    if isinstance(kind, Unmapped) and not is_plain:
+        return converted(kind, _nested(schema, array, where, start, count), where)
+    return converted(kind, _laid(schema, array, where, start, count), where)
 
 
 def _moved(where: Where, pieces: Sequence[Read]) -> Where:
@@ -243,8 +252,7 @@ def _batch(columns: Sequence[Column], schema: Any, array: Any, before: Mapping[s
         child = array.children[place]
         if not child or child.contents.length - array.offset < array.length:
             raise of_column.fault(f"the array is shorter than its table; expected {array.offset + array.length} rows")
-        laid = _laid(schema.children[place].contents, child.contents, of_column, array.offset, array.length)
-        found[column.name] = converted(column.type, laid, of_column)
+        found[column.name] = _read(column.type, schema.children[place].contents, child.contents, of_column, array.offset, array.length)
     return found
 
 
@@ -323,6 +331,16 @@ def _laid(schema: Any, array: Any, where: Where, start: int = 0, count: int | No
     assert size is not None
     held = _buffer(array, 1, (first + length) * size, where)[first * size :].copy()
     return Laid(form, length, held.view(NUMBERS[form]) if form in NUMBERS else held, None, there, dictionary)
+
+
+def _nested(schema: Any, array: Any, where: Where, start: int, count: int | None) -> Laid:
+    """Looks which values of an array of any layout are null, and at nothing else of it."""
+    form = _text(schema.format)
+    # Unions and runs have no validity of their own.
+    if form.startswith(("+u", "+r")):
+        raise where.fault(f"arrays of Arrow's format {form!r} don't say which values are null; expected another layout")
+    _checked(schema, array, max(array.n_buffers, 1), where)
+    return Laid(form, array.length if count is None else count, None, None, _there(array, where, array.offset + start, count))
 
 
 def _checked(schema: Any, array: Any, buffers: int, where: Where) -> None:

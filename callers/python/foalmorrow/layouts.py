@@ -71,12 +71,12 @@ class Laid:
 
 def converted(kind: DType | Logical, laid: Laid, where: Where) -> Read:
     """Returns an array as values of a type and nulls. ValueFault where its format isn't one of the type's, or a value isn't the type's."""
-    if isinstance(kind, Unmapped):
-        return Read(Values(DType.BINARY, memoryview(b""), memoryview(bytes(8 * laid.count)), laid.count), laid.nulls)
     if laid.form == "n":
         return _all_null(kind, laid.count)
     if laid.dictionary is not None:
         return _of_dictionary(kind, laid, laid.dictionary, where)
+    if isinstance(kind, Unmapped):
+        return Read(Values(DType.BINARY, memoryview(b""), memoryview(bytes(8 * laid.count)), laid.count), laid.nulls)
     found = _converted(kind, laid, where)
     if found is None:
         what = kind.expected if isinstance(kind, Logical) else f"an array of {kind.word}"

@@ -143,7 +143,11 @@ def of_numpy(kind: Logical, given: Any, marks: bytes | None, where: Where) -> Re
         return reading.Read(found, marks)
     if letter in "SV" and isinstance(kind, (Uuid, FixedBinary)) and given.dtype.itemsize == kind.size and not given.dtype.names:
         return reading.Read(_of_bytes(kind.size, given), marks)
-    if letter in "OUS" or isinstance(kind, Unmapped):
+    if isinstance(kind, Unmapped) and letter != "O":
+        # NaN is a value here, and NaT none.
+        absent = ~_there(len(given), marks) | (numpy.isnat(given) if letter in "Mm" else False)
+        return reading.Read(of_texts(DType.BINARY, [b""] * len(given)), absent.view(numpy.uint8).tobytes())
+    if letter in "OUS":
         return of_items(kind, given.tolist(), marks, where)
     raise where.fault(f"an array of {given.dtype} is no {kind.word}; expected {kind.expected}")
 
@@ -248,7 +252,8 @@ def _of_pandas(kind: Logical, given: Any, marks: bytes | None, where: Where) -> 
     pandas = sys.modules["pandas"]
     if isinstance(given, pandas.DataFrame):
         raise where.fault("a frame has 2 dimensions; expected one")
-    if isinstance(kind, _FLOATS) and isinstance(given.dtype, numpy.dtype) and given.dtype.kind in "fO":
+    is_open = isinstance(kind, _FLOATS) or (isinstance(kind, Unmapped) and given.dtype == float)
+    if is_open and isinstance(given.dtype, numpy.dtype) and given.dtype.kind in "fO":
         _refuse_nan(kind, numpy.asarray(given), marks, where)
     if isinstance(given.dtype, numpy.dtype):
         return of_numpy(kind, given.to_numpy(), marks, where)

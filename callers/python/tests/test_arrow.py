@@ -153,6 +153,24 @@ class Arrays(unittest.TestCase):
         with self.assertRaisesRegex(ValueFault, "row 0: null is no value of i64"):
             read_column(Column("c", DType.I64), Array("n", 3, []))
 
+    def test_unmapped_column_of_any_layout(self) -> None:
+        column = Column("j", Unmapped("anything"), True)
+        items = [1, None, None, 4, 5]
+        for form, buffers in (("+l", 2), ("+L", 2), ("+s", 1), ("+w:3", 1), ("+m", 2), ("tDs", 2), ("vu", 4), ("tiM", 2), ("l", 2)):
+            for start in (0, 1):
+                made = Array(form, 5 - start, [producer.bits([it is not None for it in items]), *[b"\0" * 64] * (buffers - 1)], offset=start)
+                found = read_column(column, made)
+                self.assertEqual(list(found.nulls or b""), [int(it is None) for it in items[start:]], form)
+        nulls = read_column(column, Array("n", 3, [])).nulls
+        self.assertEqual(nulls, b"\1" * 3)
+        made = numbers("c", "b", [0, None, 1]).with_dictionary(texts("u", ["a", None]))
+        self.assertEqual(read_column(column, made).nulls, b"\0\1\1")
+        for form in ("+ud:0", "+us:0", "+r"):
+            with self.assertRaisesRegex(ValueFault, "column j: arrays of Arrow's format .* don't say which values are null"):
+                read_column(column, Array(form, 1, [b"\0"]))
+        with self.assertRaisesRegex(ValueFault, "has 0 buffers; expected 1"):
+            read_column(column, Array("+l", 1, []))
+
     def test_dictionaries(self) -> None:
         places = [2, 0, None, 1, 2, 3]
         for form, code in (("c", "b"), ("C", "B"), ("s", "h"), ("i", "i"), ("l", "q"), ("L", "Q")):

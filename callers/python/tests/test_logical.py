@@ -370,6 +370,18 @@ class Refusals(unittest.TestCase):
         marked = Nullable(pandas.Series([1.0, math.nan]), [False, True])
         self.assertEqual(read_column(Column("c", Float64(), True), marked).nulls, b"\0\1")
 
+    def test_nulls_of_an_unmapped_column(self) -> None:
+        column = Column("j", Unmapped("complex"), True)
+        for container, nulls in [
+            ([{}, None, [1]], [0, 1, 0]), (numpy.array([1.0, math.nan]), None), (numpy.array([1j, 2j]), None), (numpy.array(["NaT", 1], "m8[s]"), [1, 0]),
+            (Nullable(numpy.array([1.0, math.nan]), [1, 0]), [1, 0]), (pandas.Series([pandas.Period("2026"), None]), [0, 1]), (pandas.interval_range(0, 2), None),
+            (numpy.zeros(2, "i4,i4"), None), (objects([{}, None]), [0, 1]),
+        ]:
+            found = read_column(column, container).nulls
+            self.assertEqual(None if found is None else list(found), nulls, container)
+        with self.assertRaisesRegex(ValueFault, "NaN in a Series"):
+            read_column(column, pandas.Series([1.0, math.nan]))
+
     def test_null_where_the_column_has_none_refused(self) -> None:
         for kind, container in [(Date(), numpy.array(["NaT"], "M8[D]")), (Float64(), [None]), (Timestamp("us"), [pandas.NaT]), (Enum(), pandas.Categorical([None]))]:
             with self.assertRaisesRegex(ValueFault, "column c, row 0: null is no value"):

@@ -19,6 +19,29 @@
 //! # Ok::<(), Error>(())
 //! ```
 //!
+//! # Dates, times, decimals and floating numbers
+//!
+//! Such a column stands as numbers of a [`Kind`], onto which its [`Logical`] type maps it in its own order, and a
+//! [`TypedColumn`] compares it with literals of the type. A literal between two values of the type, or outside of it, is
+//! compared exactly. [`Nan`] says what a comparison with NaN means.
+//!
+//! ```
+//! use foalmorrow::{col, Answer, Column, DateTime, Error, Float64, Logical, Nan, Predicate, Stat, Unit, ZoneMap};
+//!
+//! let (at, x) = (Logical::Timestamp(Unit::Second, None), Logical::Float64);
+//! let scope = [("at", at.dtype(false)), ("x", x.dtype(false))];
+//! let mut map = ZoneMap::new(&scope, &[Stat::Min, Stat::Max])?.with_logical("at", at)?.with_logical("x", x)?;
+//! map.push(&[Column::numbers(&[3_i64, 12]), Column::numbers(&Float64::numbers(&[0.5, 1.5]))])?;
+//! map.push(&[Column::numbers(&[13_i64, 20]), Column::numbers(&Float64::numbers(&[-1.0, f64::NAN]))])?;
+//! let literal: DateTime = "1970-01-01 00:00:12.5".parse().expect("a text of ISO 8601");
+//! assert_eq!(map.prune(&col("at").timestamp(Unit::Second).gt(literal))?, [Answer::Skip, Answer::Whole]);
+//! assert_eq!(map.prune(&col("x").float64(Nan::Ieee).gt(2.0))?, [Answer::Skip, Answer::Read]);
+//! // A condition that the library can't know: the rest of the predicate still prunes.
+//! let wanted = col("x").float64(Nan::Ieee).gt(2.0).and(Predicate::opaque("lower(name) = 'x'"));
+//! assert_eq!(map.prune(&wanted)?, [Answer::Skip, Answer::Read]);
+//! # Ok::<(), Error>(())
+//! ```
+//!
 //! # Stack
 //!
 //! Every call fits into 256 KiB of stack, whatever it is handed, but [`run`], which takes up to 4 MiB. So all others may
