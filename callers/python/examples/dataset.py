@@ -1,3 +1,4 @@
+# SPDX-License-Identifier: Apache-2.0
 """A directory of CSV files in folders by year: the footers of each file measured once, kept, and the files named that have to be read."""
 import csv
 import pathlib

@@ -1,3 +1,4 @@
+# SPDX-License-Identifier: Apache-2.0
 """Delta Lake: the files of a table that a condition leaves to be read, by its log alone."""
 import datetime
 import json

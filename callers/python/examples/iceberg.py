@@ -1,3 +1,4 @@
+# SPDX-License-Identifier: Apache-2.0
 """Apache Iceberg: the data files of a table's current snapshot that filters leave to be read, by its manifests alone.
 
 usage: examples/iceberg.py METADATA FILTERS    a metadata file or a folder with version-hint.text; a JSON list as [["qty", ">", 3]]

@@ -1,3 +1,4 @@
+# SPDX-License-Identifier: Apache-2.0
 """Avro's container files, by python3-avro's schemas and decoder: each row exactly as it was written, or a fault.
 
 What that package takes for a value and the format doesn't have is refused here: places before the first branch of a union, truths other than 0

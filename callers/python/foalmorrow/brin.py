@@ -21,7 +21,7 @@ from typing import Any
 from .footers import Footers
 from .instants import days_of
 from .kinds import Column, DType, Logical, Stat
-from .predicate import Predicate
+from .predicate import Dialect, Predicate
 from .tables import Zones
 from .types import Date, Decimal, Timestamp, Unmapped, Uuid
 
@@ -34,6 +34,19 @@ _TYPES |= {"timestamp without time zone": Timestamp("us"), "timestamp with time 
 _GREATEST_TEXT = "\U0010ffff" * 16
 #: How many runs of pages one statement asks for.
 _RUNS = 200
+
+
+class Postgres(Dialect):
+    """How PostgreSQL spells values: a UUID as its 36 characters."""
+
+    def literal(self, column: Column, value: Any) -> str:
+        spelled = super().literal(column, value)
+        found = column.logical.stored(value) if isinstance(column.logical, Uuid) else None
+        return f"'{uuid.UUID(bytes=found)}'" if isinstance(found, bytes) else spelled
+
+
+#: For ``Predicate.sql``.
+POSTGRES = Postgres()
 
 
 class BrinError(ValueError):
@@ -190,7 +203,7 @@ def select(query: Query, index: Brin, predicate: Predicate, what: Sequence[str] 
     if not moment or moment != index.moment:
         raise BrinError(f"{index.index} was read in another transaction: read it and the rows in one session")
     columns = index.footers.columns
-    condition = predicate.sql(columns) + (f" AND ({also})" if also else "")
+    condition = predicate.sql(columns, POSTGRES) + (f" AND ({also})" if also else "")
     wanted = ", ".join(what if what is not None else ['"' + column.name.replace('"', '""') + '"' for column in columns])
     # The one form skips ranges of nulls alone that the other one doesn't, which skips more otherwise.
     answers = index.footers.prune(predicate) | index.footers.prune(predicate, normalize=True)

@@ -1,3 +1,4 @@
+# SPDX-License-Identifier: Apache-2.0
 """A directory of files, each with footers of its own: their row groups as zones, and what its folders are named for as constant columns.
 
 >>> table = read("/data/sales", partitions={"year": DType.I32}, footers="/data/sales.footers")     # doctest: +SKIP

@@ -1,3 +1,4 @@
+# SPDX-License-Identifier: Apache-2.0
 """Delta Lake: the files of one version of a table as zones, by the commits and checkpoints of its log.
 
 >>> table = read("/data/sales")                                      # doctest: +SKIP
@@ -332,25 +333,26 @@ def _add(schema: _Schema, zones: Zones, path: str, fields: dict[str, Any], place
     zones.begin(told.rows, told.is_wide)
     partition = field(fields, "partitionValues", dict, place)
     for leaf in schema.leaves:
-        where = f"{place}, column {leaf.column.name}"
         try:
             if leaf.path in schema.partitions:
-                _constant(zones, leaf, partition, where)
+                _constant(zones, leaf, partition)
             else:
-                told.column(zones, leaf, where)
+                told.column(zones, leaf)
         except ToldFault as fault:
-            raise DeltaError(f"{where}: {fault}") from None
+            raise DeltaError(f"{place}, column {leaf.column.name}: {fault}") from None
     return DataFile(path, count(fields, "size", place), told.rows, told.is_wide)
 
 
-def _constant(zones: Zones, leaf: _Leaf, partition: dict[str, Any], where: str) -> None:
+def _constant(zones: Zones, leaf: _Leaf, partition: dict[str, Any]) -> None:
     """Tells the one value that a column has in all rows of a file. An empty text is null, of any type."""
     if leaf.path[0] not in partition:
-        raise DeltaError(f"{where}: partitionValues doesn't have it")
-    text = field(partition, leaf.path[0], str, where, "")
-    if text == "":
+        raise ToldFault("partitionValues doesn't have it")
+    text = partition[leaf.path[0]]
+    if not isinstance(text, str | None):
+        raise ToldFault(f"the partition's value is {shown(text)}; expected a text")
+    if not text:
         if not leaf.column.nullable:
-            raise DeltaError(f"{where}: the partition is null, and the column isn't nullable")
+            raise ToldFault("the partition is null, and the column isn't nullable")
         zones.all_null(leaf.column.name)
         return
     zones.bounds(leaf.column.name, *leaf.form.constant(text))
@@ -387,32 +389,30 @@ class _Told:
         least, greatest, nulls = (field(stats, name, dict, where, {}) for name in ("minValues", "maxValues", "nullCount"))
         return cls(physical, None if physical is None else physical - deleted, is_wide, least, greatest, nulls)
 
-    def column(self, zones: Zones, leaf: _Leaf, where: str) -> None:
-        """Tells what is known of a column. DeltaError or ToldFault where it is told what can't be."""
-        least, greatest = leaf.form.bounds(_at(self.least, leaf.path, where), _at(self.greatest, leaf.path, where))
+    def column(self, zones: Zones, leaf: _Leaf) -> None:
+        """Tells what is known of a column. ToldFault where it is told what can't be."""
+        least, greatest = leaf.form.bounds(_at(self.least, leaf.path), _at(self.greatest, leaf.path))
         zones.bounds(leaf.column.name, least, greatest)
-        self._nulls(zones, leaf, _at(self.nulls, leaf.path, where), where)
-
-    def _nulls(self, zones: Zones, leaf: _Leaf, count: Any, where: str) -> None:
-        if count is None:
+        nulls = _at(self.nulls, leaf.path)
+        if nulls is None:
             return
         most = 2**63 - 1 if self.physical is None else self.physical
-        if not isinstance(count, int) or isinstance(count, bool) or not 0 <= count <= most:
-            raise DeltaError(f"{where}: nullCount is {shown(count)}; expected a number of rows")
-        if count == 0:
+        if not isinstance(nulls, int) or isinstance(nulls, bool) or not 0 <= nulls <= most:
+            raise ToldFault(f"nullCount is {shown(nulls)}; expected a number of rows")
+        if nulls == 0:
             zones.nulls(leaf.column.name, 0)
-        elif count == self.physical:
+        elif nulls == self.physical:
             zones.all_null(leaf.column.name)
         elif self.physical is not None and not self.is_wide:
-            zones.nulls(leaf.column.name, count)
+            zones.nulls(leaf.column.name, nulls)
 
 
-def _at(tree: Any, path: tuple[str, ...], where: str) -> Any:
+def _at(tree: Any, path: tuple[str, ...]) -> Any:
     """Returns what stands at a place of nested objects; None where nothing does."""
     for name in path:
         if tree is None:
             return None
         if not isinstance(tree, dict):
-            raise DeltaError(f"{where}: the statistics have {shown(tree)} in place of an object")
+            raise ToldFault(f"the statistics have {shown(tree)} in place of an object")
         tree = tree.get(name)
     return tree

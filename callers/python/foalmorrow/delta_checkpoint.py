@@ -1,3 +1,4 @@
+# SPDX-License-Identifier: Apache-2.0
 """Checkpoints of Delta's log in Parquet: the actions that make up a version, as the JSON files have them.
 
 Statistics are read where they stand as JSON. Of a checkpoint that has them in columns alone nothing is known of its files' columns.

@@ -1,3 +1,4 @@
+# SPDX-License-Identifier: Apache-2.0
 """How Delta Lake writes values: bounds in a file's statistics as JSON, and values of partitions as texts.
 
 Each form says which bounds are the least and the greatest value themselves, and widens the others so that no value leaves them.

@@ -1,3 +1,4 @@
+# SPDX-License-Identifier: Apache-2.0
 """Filter tuples, as pandas, pyarrow and Dask take them, read as predicates.
 
 >>> of_filters([[("qty", ">", 3), ("city", "==", "Bern")], [("qty", "==", 0)]]) == (col("qty") > 3) & (col("city") == "Bern") | (col("qty") == 0)

@@ -1,3 +1,4 @@
+# SPDX-License-Identifier: Apache-2.0
 """Apache Iceberg: the data files of one snapshot of a table as zones, by its metadata and manifests (Debian: python3-avro).
 
 >>> table = read("/data/sales/metadata/00003-7e.metadata.json")      # doctest: +SKIP

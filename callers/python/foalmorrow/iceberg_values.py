@@ -1,3 +1,4 @@
+# SPDX-License-Identifier: Apache-2.0
 """How Iceberg writes values: bounds of a file in the single-value binary form, and values of partitions as Avro has them.
 
 No bound is exact: the specification asks that no value leaves it, not that one reaches it, and writers cut texts and bytes.

@@ -1,3 +1,4 @@
+# SPDX-License-Identifier: Apache-2.0
 """The footers of a Parquet file as footers of its row groups: bounds and null counts as the format's rules let them be used.
 
 They are read here in Python, for tables of many files. ``foalmorrow.parquet`` reads the footer of one file, and a condition in SQL, by proof.

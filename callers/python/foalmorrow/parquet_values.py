@@ -1,3 +1,4 @@
+# SPDX-License-Identifier: Apache-2.0
 """The values of some columns of a Parquet file, as the checkpoints of logs have them: texts, numbers and truths, lists and maps of texts.
 
 Read are plain and dictionary encodings, in pages of both versions, without compression, with gzip, and with Snappy where its package is there.

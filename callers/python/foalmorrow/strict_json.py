@@ -1,3 +1,4 @@
+# SPDX-License-Identifier: Apache-2.0
 """JSON as logs and metadata hold it: read exactly, or refused in words, whatever the bytes are.
 
 Whole numbers are ``int`` and other numbers ``Decimal``, so that no digit is lost. A field that stands twice, ``NaN`` and ``Infinity`` as bare

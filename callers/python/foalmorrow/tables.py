@@ -1,3 +1,4 @@
+# SPDX-License-Identifier: Apache-2.0
 """A snapshot of a table that is many files: each file a zone, so that one predicate gives the files to read.
 
 ``foalmorrow.delta``, ``foalmorrow.iceberg`` and ``foalmorrow.dataset`` make such tables of what these formats keep.
@@ -11,11 +12,11 @@ from functools import cached_property
 from typing import Any, NamedTuple
 
 from .answers import Answers
-from .arrays import Values, of_numbers, of_texts, spaced
+from .arrays import of_numbers, of_texts, spaced
 from .filters import Filters, of_filters
 from .footers import Footers
 from .items import shown
-from .kinds import Column, DType, Logical, Precision, Stat, stat_dtype
+from .kinds import Column, DType, Logical, Stat, stat_dtype
 from .predicate import Predicate
 from .statistic import Statistic
 
@@ -81,15 +82,32 @@ class Form:
         return None, None
 
 
+class _Cells:
+    """One statistic of one column: the zones of which it is known, its values there, and how each is known."""
+
+    __slots__ = ("zones", "values", "known")
+
+    def __init__(self) -> None:
+        self.zones, self.values, self.known = array("Q"), list[Any](), bytearray()
+
+    def add(self, zone: int, value: Any, exact: bool) -> None:
+        self.zones.append(zone)
+        self.values.append(value)
+        self.known.append(1 if exact else 2)
+
+
+#: The statistics that tables tell, in the order of a column's cells.
+_STATS = (Stat.MIN, Stat.MAX, Stat.NULL_COUNT)
+
+
 class Zones:
     """What a table tells of its files, file by file."""
 
     def __init__(self, columns: Iterable[Column]):
         self.columns = tuple(columns)
         self.rows = array("Q")
-        self._types = {column.name: column.dtype for column in self.columns}
         self._is_wide = False
-        self._told: dict[tuple[str, Stat], tuple[array[int], list[Any], bytearray]] = {}
+        self._cells = {column.name: (_Cells(), _Cells(), _Cells()) for column in self.columns}
 
     def begin(self, rows: int | None, is_wide: bool = False) -> None:
         """Begins the next file. Bounds of a wide one are those of more rows than belong to the table, and so not exact.
@@ -104,13 +122,14 @@ class Zones:
         """Tells the bounds of a column in the file that was begun last. ToldFault where the least value is above the greatest."""
         if least is not None and greatest is not None and least.value > greatest.value:  # type: ignore[operator]
             raise ToldFault("the least value is above the greatest")
-        for stat, bound in ((Stat.MIN, least), (Stat.MAX, greatest)):
+        may_be_exact = not self._is_wide and self.rows[-1] > 0
+        for cells, bound in zip(self._cells[name], (least, greatest)):
             if bound is not None:
-                self.tell(name, stat, bound.value, bound.exact and not self._is_wide and self.rows[-1] > 0)
+                cells.add(len(self.rows) - 1, bound.value, bound.exact and may_be_exact)
 
     def nulls(self, name: str, count: int) -> None:
         """Tells the exact number of nulls of a column in the file that was begun last."""
-        self.tell(name, Stat.NULL_COUNT, count, True)
+        self._cells[name][2].add(len(self.rows) - 1, count, True)
 
     def all_null(self, name: str) -> None:
         """Tells that a column has nulls alone in the file that was begun last."""
@@ -118,32 +137,23 @@ class Zones:
 
     def tell(self, name: str, stat: Stat, value: Any, exact: bool) -> None:
         """Tells a statistic of a column in the file that was begun last, by a value of the physical type, texts as UTF-8."""
-        zones, values, known = self._told.setdefault((name, stat), (array("Q"), [], bytearray()))
-        zones.append(len(self.rows) - 1)
-        values.append(value)
-        known.append(Precision.EXACT if exact else Precision.INEXACT)
+        self._cells[name][_STATS.index(stat)].add(len(self.rows) - 1, value, exact)
 
     def footers(self, names: Iterable[str] | None = None) -> Footers:
         """Returns the footers of some columns, or of all. Names that the table hasn't are left out."""
-        wanted = {column.name for column in self.columns} if names is None else set(names)
+        wanted = self._cells.keys() if names is None else set(names)
         columns = [column for column in self.columns if column.name in wanted]
-        stats = (Stat.MIN, Stat.MAX, Stat.NULL_COUNT)
-        keys = [(column.name, stat) for column in columns for stat in stats if (column.name, stat) in self._told]
-        return Footers(columns, self.rows, {key: self._statistic(*key) for key in keys})
+        cells = {(column, stat): it for column in columns for stat, it in zip(_STATS, self._cells[column.name]) if len(it.zones)}
+        return Footers(columns, self.rows, {(column.name, stat): self._statistic(column, stat, it) for (column, stat), it in cells.items()})
 
-    def _statistic(self, name: str, stat: Stat) -> Statistic:
-        zones, values, codes = self._told[name, stat]
-        dtype = stat_dtype(stat, self._types[name])
+    def _statistic(self, column: Column, stat: Stat, cells: _Cells) -> Statistic:
+        dtype = stat_dtype(stat, column.dtype)
         assert dtype is not None
         known, absent = bytearray(len(self.rows)), bytearray(b"\1") * len(self.rows)
-        for zone, code in zip(zones, codes):
+        for zone, code in zip(cells.zones, cells.known):
             known[zone], absent[zone] = code, 0
-        present = _values(dtype, values)
+        present = of_texts(dtype, cells.values) if dtype.has_ends else of_numbers(dtype, cells.values)
         return Statistic(memoryview(known), spaced(present, bytes(absent)))
-
-
-def _values(dtype: DType, values: Sequence[Any]) -> Values:
-    return of_texts(dtype, values) if dtype.has_ends else of_numbers(dtype, values)
 
 
 class Table:

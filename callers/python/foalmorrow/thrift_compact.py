@@ -1,3 +1,4 @@
+# SPDX-License-Identifier: Apache-2.0
 """Structs in Thrift's compact protocol, as Parquet's footers and pages begin with: each field by its number, or a fault."""
 from __future__ import annotations
 

@@ -1,3 +1,4 @@
+# SPDX-License-Identifier: Apache-2.0
 """Filter tuples as predicates: the trees, what they mean beside pyarrow's rules, and what is refused."""
 import itertools
 import random

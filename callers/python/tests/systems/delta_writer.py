@@ -1,3 +1,4 @@
+# SPDX-License-Identifier: Apache-2.0
 """A small writer of Delta's log, from the protocol's text: what stands in a commit, and statistics in the forms that writers have."""
 import datetime
 import json

@@ -1,3 +1,4 @@
+# SPDX-License-Identifier: Apache-2.0
 """A small writer of Iceberg's metadata and manifests, from the specification, by python3-avro."""
 import datetime
 import json

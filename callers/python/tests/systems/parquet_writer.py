@@ -1,3 +1,4 @@
+# SPDX-License-Identifier: Apache-2.0
 """A small writer of Parquet, from the format's specification: nested rows in pages of both versions, plain or with a dictionary."""
 import random
 import struct

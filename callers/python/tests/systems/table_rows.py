@@ -1,3 +1,4 @@
+# SPDX-License-Identifier: Apache-2.0
 """What the tests of tables share: rows as plain Python has them, filter tuples over them, and what a footer may say of them."""
 import datetime
 import math

@@ -145,7 +145,7 @@ class BrinIndexes(unittest.TestCase):
             self.assertLess(brin.select(query, index, col("Mixed") < -4900).pages, index.pages)
 
     def test_types_and_columns_that_are_left_out(self) -> None:
-        at = datetime.datetime(2024, 2, 3, 4, 5, tzinfo=datetime.timezone.utc)
+        at = datetime.datetime(2024, 1, 3, 4, 5, tzinfo=datetime.timezone.utc)
         local = datetime.datetime(2024, 1, 20, 16, 0, 0, 123_456)
         wanted = [col("d") == datetime.date(2024, 1, 17), col("d") < datetime.date(1, 1, 1), col("at") == local, col("at") > datetime.datetime(9999, 1, 1)]
         wanted += [col("z") == at, col("z").between(at, at + datetime.timedelta(hours=1)), col("z") < datetime.datetime(1900, 1, 1, tzinfo=at.tzinfo)]
@@ -156,7 +156,7 @@ class BrinIndexes(unittest.TestCase):
             words += [f"unmapped({name})?" for name in ("double precision", "text", "numeric")]
             self.assertEqual([column.word for column in index.footers.columns], words)
             for predicate in wanted:
-                condition = predicate.sql(index.footers.columns)
+                condition = predicate.sql(index.footers.columns, brin.POSTGRES)
                 found = brin.select(query, index, predicate, ["ctid::text"])
                 self.assertEqual(sorted(found.rows), sorted(query(f"SELECT ctid::text FROM moments WHERE {condition}")), condition)
                 self.assertGreater(len(found.rows), 0, condition)

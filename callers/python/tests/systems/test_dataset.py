@@ -1,3 +1,4 @@
+# SPDX-License-Identifier: Apache-2.0
 """Directories of files: what their footers say beside the rows, what their folders are named for, and which files are read anew."""
 import datetime
 import json

@@ -1,3 +1,4 @@
+# SPDX-License-Identifier: Apache-2.0
 """Footers of Parquet files by a writer of its own: what is read of them beside the rows, and that no row group is skipped that has a wanted row."""
 import datetime
 import importlib.util
