@@ -1,0 +1,2 @@
+pub mod ZoneLoop
+pub mod Sound
