@@ -6,7 +6,6 @@ pub mod ExtentLemmas
 pub mod MadeLemmas
 pub mod MergeLemmas
 pub mod NamedLemmas
-pub mod NormalLemmas
 pub mod NumberLemmas
 pub mod PruneLemmas
 pub mod ReadLemmas

@@ -1,20 +1,39 @@
 -- What the answers for zones list.
-use Rattle.std.proofs.Common.{◌≡◌, ◌≢◌, ◌==◌, ◌+◌, ◌++◌, ◌∙◌, ℕ, Bool, true, false, if◌then◌else◌, filter, List, [], ◌∷◌, Option, Result, Ok, Err, IfOk, IsOk, IsTrue, ap, append-nil, append_assoc, arith, eq-eqb, inl, inr, length, map, refl, subst, sym}
+use Rattle.std.proofs.Common.{◌≡◌, ◌≢◌, ◌==◌, ◌+◌, ◌++◌, ◌∙◌, ◌⊎◌, ℕ, Bool, true, false, if◌then◌else◌, filter, List, [], ◌∷◌, Option, Some, Result, Ok, Err, IfOk, IsOk, IsTrue, ap, append-nil, append_assoc, arith, eq-eqb, inl, inr, length, map, refl, subst, subst₂, sym}
 use Rattle.std.proofs.lemmas.List.{length-map, map-append, map_push}
-use Rattle.std.specs.List.{enumerate_from}
+use Rattle.std.specs.List.{AllByRecursion, enumerate_from}
+use Rattle.std.specs.Prelude.{Contains, MatchOption, slice_get}
+use Rattle.vortex_base.specs.Data.Columns.{row_count as rows_of, row_of}
 use Rattle.vortex_base.specs.Data.Scopes.{Named}
-use Rattle.vortex_expr.specs.Meanings.Fitting.{fits_scope}
+use Rattle.vortex_base.specs.Data.Values.{value_cmp}
+use Rattle.vortex_expr.specs.Meanings.Fitting.{fits_scope, is_of_type}
+use Rattle.vortex_expr.specs.Meanings.Meaning.{is_true}
+use Rattle.vortex_expr.specs.Meanings.Typing.{type_of}
 use Rattle.vortex_expr.specs.Trees.Tree.{Place, Tree, is_plain}
+use Rattle.vortex_nested.specs.Halves.{halved}
+use Rattle.vortex_nested.proofs.Apart.{same_apart, same_columns_of}
+use Rattle.vortex_nested.proofs.Columns.{same_fit, same_plain}
+use Rattle.vortex_nested.proofs.Meanings.{same_meaning}
+use Rattle.vortex_normal.specs.Groups.{normal}
+use Rattle.vortex_normal_scan.proofs.BuiltIn.{normal_finds, normal_skips, own_finds, own_skips}
+use Rattle.vortex_normal_scan.proofs.Found.{carried_unsatisfiable, found_right, whole_if, whole_proved}
+use Rattle.vortex_normal_scan.specs.Pruning.{Falsifies, FindsNoFewerWhole, IsMadeBy, IsRight, Pruning, Satisfies, SkipsNoFewer, SkipsUnsatisfiable, is_within, skip_proof, whole_proof}
+use Rattle.vortex_prune.proofs.Scanning.Boxes.{skipping_is_complete}
+use Rattle.vortex_prune.proofs.Scanning.SkippedParts.{place_listed}
+use Rattle.vortex_prune.proofs.Scanning.WholeScan.{typed_bool}
 use Rattle.vortex_prune.proofs.ZoneMaps.ZoneKept.{zones_are}
-use Rattle.vortex_prune.proofs.ZoneMaps.ZonePruned.{pruning_is_complete, pruning_is_sound}
+use Rattle.vortex_prune.proofs.ZoneMaps.ZonePruned.{skipped_listed, whole_listed}
 use Rattle.vortex_prune.specs.Binding.PartAnswers.{told_values}
 use Rattle.vortex_prune.specs.Part.{AreZonesOf, ZoneData, zones_fit}
-use Rattle.vortex_prune.specs.Scanning.Complete.{ZonesSkipExactly}
+use Rattle.vortex_prune.specs.Scanning.Complete.{IsKnownBy}
 use Rattle.vortex_prune.specs.Scanning.Selection.{is_whole, proves_of}
-use Rattle.vortex_prune.specs.Scanning.ZoneScans.{IsSoundPruning, skipped_zones, whole_zones, zone_verdict}
+use Rattle.vortex_prune.specs.Scanning.ZoneScans.{IsSoundPruning, skipped_zones, whole_zones, zone_verdict, zone_verdicts}
 use Rattle.vortex_rewrite.specs.Rewriting.Falsifiers.{falsifier, satisfier}
+use Rattle.vortex_rewrite.specs.Rewriting.Lawful.{OwnRule}
 use Rattle.vortex_rewrite.specs.Rewriting.Predicates.{is_predicate}
-use Rattle.vortex_rewrite.specs.Rewriting.ReadOnce.{is_apart}
+use Rattle.vortex_rewrite.specs.Rewriting.Proof.{Assignment}
+use Rattle.vortex_rewrite.specs.Rewriting.ReadOnce.{Box, IsSatisfiable, IsWithin, is_apart}
+use Rattle.vortex_stats.specs.Bounds.Order.{AtMost}
 use Rattle.vortex_calls.specs.declared.fault.Refusal.{Refusal}
 use Rattle.vortex_calls.specs.declared.field.Field.{Field}
 use Rattle.vortex_calls.specs.declared.statistic.Statistic.{Statistic}
@@ -22,17 +41,11 @@ use Rattle.vortex_calls.specs.declared.status.Status.{Status}
 use Rattle.vortex_calls.specs.declared.status.Status.TheVariants.{BadLine, TooShort, NoMemory, BadKind, BadStat, BadKnown, BadLength, BadEnds, BadValue, BadNull, Untrue, BadColumn, BadName, NotAPredicate, BadFlag, TooDeep}
 use Rattle.vortex_calls.specs.declared.table.Known.{Known}
 use Rattle.vortex_calls.specs.declared.table.Source.{Source}
-use Rattle.vortex_calls.specs.Prunes.{Asked, IsComplete, IsFormOver, IsPruned, IsReached, IsRefused, IsSound, IsWellAsked, answer_by, answered, answers_of, asked, asked_of, form_given, normalizes, table_answers, with_places, zone_answer, zone_answers}
+use Rattle.vortex_calls.specs.Prunes.{Asked, FindsNoFewer, IsComplete, IsNoFewer, IsPruned, IsReached, IsRefused, IsSound, IsWellAsked, answer_by, answered, answers_of, asked, asked_of, proofs_of, table_answers, with_flags, with_places, zone_answer, zone_answers}
 use Rattle.vortex_calls.specs.Refusals.{Answers, all_found, followed}
-use Rattle.vortex_calls.specs.Scopes.{AnswersText, IsRefusedText, predicate_given, scope_given}
-use Rattle.vortex_base.specs.Data.Scalars.{Constant}
-use Rattle.vortex_expr.specs.Meanings.Meaning.{is_true}
-use Rattle.vortex_nested.specs.Halves.{halved}
-use Rattle.vortex_nested.proofs.Columns.{same_columns, same_fit, same_plain}
-use Rattle.vortex_nested.proofs.Meanings.{same_meaning}
+use Rattle.vortex_calls.specs.Scopes.{AnswersText, IsRefusedText, max_depth, predicate_given, scope_given}
 use Rattle.vortex_calls.specs.Statuses.{nowhere, status_number}
 use Rattle.vortex_calls.specs.Tables.{known_zone, sources_given, zone_at, zones_given}
-use Rattle.vortex_calls.proofs.NormalLemmas.{sound_of_same}
 use Rattle.vortex_calls.proofs.ReadLemmas.{followed_read, found_long}
 
 -- ---- the places with an answer are those that pruning lists
@@ -74,14 +87,51 @@ module _ (f s : Option (Tree Place)) (scope : List Named) where
   twos_are_whole : (zones : List ZoneData) → answered 2 (map (answer_by f s scope) zones) ≡ whole_zones f s scope zones
   twos_are_whole zones = listed_from (answer_by f s scope) 2 keeps (λ zone. two_is_whole zone (skips zone) (proves_of s zone.rows (told_values scope zone)) refl refl) 0 zones
 
-module _ (p : Tree Place) (scope : List Named) (zones : List ZoneData) where
-  pub answers_are_sound : (answers : List ℕ) → answers ≡ zone_answers p scope zones → IsTrue (is_predicate p) → IsTrue (is_plain p) → IsTrue (fits_scope p scope) → IsSoundPruning p scope zones (answered 1 answers) (answered 2 answers)
-  answers_are_sound answers is truth plain fits =
-      pruning_is_sound [] p scope zones (answered 1 answers) (answered 2 answers) truth plain fits (ap (answered 1) is ∙ ones_are_skipped (falsifier [] p) (satisfier [] p) scope zones) (ap (answered 2) is ∙ twos_are_whole (falsifier [] p) (satisfier [] p) scope zones)
+  -- ---- the answers say what their proofs prove
 
-  pub answers_are_complete : (answers : List ℕ) → answers ≡ zone_answers p scope zones → IsTrue (is_predicate p) → IsTrue (fits_scope p scope) → AreZonesOf scope zones → IsTrue (is_apart p) → ZonesSkipExactly p zones (answered 1 answers)
-  answers_are_complete answers is truth fits are apart =
-      pruning_is_complete p scope zones (answered 1 answers) truth fits are apart (ap (answered 1) is ∙ ones_are_skipped (falsifier [] p) (satisfier [] p) scope zones)
+  module _ (zones : List ZoneData) (answers : List ℕ) (is : answers ≡ map (answer_by f s scope) zones) where
+    ones : answered 1 answers ≡ skipped_zones f scope zones
+    ones = ap (answered 1) is ∙ ones_are_skipped zones
+
+    twos : answered 2 answers ≡ whole_zones f s scope zones
+    twos = ap (answered 2) is ∙ twos_are_whole zones
+
+    pub answers_are_sound : (p : Tree Place) → IsTrue (is_predicate p) → IsTrue (is_plain p) → IsTrue (fits_scope p scope) → Falsifies f p → Satisfies s p → IsSoundPruning p scope zones (answered 1 answers) (answered 2 answers)
+    answers_are_sound p truth plain fits falsifies satisfies =
+        subst₂ (IsSoundPruning p scope zones) (sym ones) (sym twos)
+        (subst₂ (IsSoundPruning p scope zones) (skipped_listed f s scope zones) (whole_listed f s scope zones)
+        (found_right f s scope zones (zone_verdicts f s scope zones) refl p truth plain fits falsifies satisfies))
+
+    module _ (i : ℕ) (zone : ZoneData) (there : slice_get zones i ≡ Some zone) where
+      -- a zone that a proof skips has the answer 1 if the joint proof is true where that is
+      one_there : skips zone ≡ true → Contains (answered 1 answers) i
+      one_there h = subst (λ l. Contains l i) (sym ones) ((place_listed skips zones i zone there).1 h)
+
+      -- and one that a proof finds whole has 1 or 2
+      one_or_two : (b : Bool) → skips zone ≡ b → proves_of s zone.rows (told_values scope zone) ≡ true → Contains (answered 1 answers) i ⊎ Contains (answered 2 answers) i
+      one_or_two true e h = inl (one_there e)
+      one_or_two false e h = inr (subst (λ l. Contains l i) (sym twos) ((place_listed keeps zones i zone there).1 (whole_if (skips zone) (proves_of s zone.rows (told_values scope zone)) e h)))
+
+    -- nothing is missed of what another falsifier and satisfier find of a zone
+    pub no_fewer : (own : List OwnRule) (p : Tree Place) → ((n : ℕ) (A : Assignment) → proves_of (falsifier own p) n A ≡ true → proves_of f n A ≡ true) → ((n : ℕ) (A : Assignment) → proves_of (satisfier own p) n A ≡ true → proves_of s n A ≡ true)
+        → SkipsNoFewer own p scope zones (answered 1 answers) × FindsNoFewerWhole own p scope zones (answered 1 answers) (answered 2 answers)
+    no_fewer own p more_skipped more_whole = (
+      (λ i zone there h.
+          one_there i zone there
+          (more_skipped zone.rows (told_values scope zone) ((place_listed (λ (z : ZoneData). proves_of (falsifier own p) z.rows (told_values scope z)) zones i zone there).0 h))),
+      (λ i zone there h.
+          one_or_two i zone there (skips zone) refl
+          (more_whole zone.rows (told_values scope zone)
+          (whole_proved (proves_of (falsifier own p) zone.rows (told_values scope zone)) (proves_of (satisfier own p) zone.rows (told_values scope zone))
+          ((place_listed (λ (z : ZoneData). is_whole (zone_verdict (falsifier own p) (satisfier own p) scope z)) zones i zone there).0 h)))),
+    )
+
+    -- where the ANDs of a form are apart whose falsifier skips no more, no zone is missed within whose bounds no values satisfy the form
+    pub answers_are_complete : (p : Tree Place) → IsTrue (is_predicate p) → IsTrue (fits_scope p scope) → AreZonesOf scope zones → IsTrue (is_apart p)
+        → ((n : ℕ) (A : Assignment) → proves_of (falsifier [] p) n A ≡ true → proves_of f n A ≡ true) → SkipsUnsatisfiable p zones (answered 1 answers)
+    answers_are_complete p truth fits are apart more i zone box there is_box order none =
+        let t = typed_bool p (type_of p) refl truth in
+        one_there i zone there (more zone.rows (told_values scope zone) ((skipping_is_complete p t.0 scope zone box t.1 t.2 (are i zone there) fits apart is_box order).1 none))
 
 -- ---- how far a table is answered
 
@@ -129,19 +179,88 @@ whole_told p scope sources rows n zones answers rest last found fit none r =
 
 -- ---- what is asked
 
-sound_asked : (a : Asked) (found : List ℕ) → found ≡ answers_of a → IsWellAsked a → IsSound found a
-sound_asked a found is well =
-    sound_of_same a.given a.pruned_by well.plain well.form.plain well.form.same a.scope well.fits a.zones (answered 1 found) (answered 2 found)
-    (answers_are_sound a.pruned_by a.scope a.zones found is well.form.truth well.form.plain well.form.fits)
+-- values within bounds satisfy a predicate where they satisfy it with its chains joined in halves
+halved_satisfiable : (p : Tree Place) (box : Box) (n : ℕ) → IsSatisfiable (halved p) box n → IsSatisfiable p box n
+halved_satisfiable p box n sat =
+    (sat.0, subst (λ (cs : List Place). AllByRecursion (IsWithin box sat.0) cs) (same_columns_of p) sat.1, ap is_true (sym (same_meaning sat.0 n p)) ∙ sat.2)
 
-pub asked_sound : (asked : Result Asked Refusal) (found : List ℕ) → followed asked (λ a. Ok (answers_of a)) ≡ Ok found → IfOk asked IsWellAsked → IfOk asked (IsSound found)
+-- so a zone that has to be skipped under the one has to be under the other
+unsatisfiable_given : (p : Tree Place) (zones : List ZoneData) (skipped : List ℕ) → SkipsUnsatisfiable (halved p) zones skipped → SkipsUnsatisfiable p zones skipped
+unsatisfiable_given p zones skipped h i zone box there is_box order none =
+    h i zone box there (subst (λ (cs : List Place). AllByRecursion (λ (c : Place). MatchOption (slice_get zone.stats c.index) ⊥ (IsKnownBy box c.index)) cs) (sym (same_columns_of p)) is_box)
+    (subst (λ (cs : List Place). AllByRecursion (λ (c : Place). AtMost value_cmp (box.low c.index) (box.high c.index)) cs) (sym (same_columns_of p)) order)
+    (λ sat. none (halved_satisfiable p box zone.rows sat))
+
+sound_given : (p : Tree Place) (scope : List Named) (zones : List ZoneData) (skipped whole : List ℕ) → IsSoundPruning (halved p) scope zones skipped whole → IsSoundPruning p scope zones skipped whole
+sound_given p scope zones skipped whole h i zone part there of is_true_of =
+    let k = h i zone part there of is_true_of in
+    let back = λ (r : ℕ). ap is_true (sym (same_meaning (row_of r part.chunk.columns) (rows_of part.chunk.columns) p)) in
+    ((λ c r less. back r ∙ k.0 c r less), (λ c r less. back r ∙ k.1 c r less))
+
+module _ (a : Asked) (found : List ℕ) (is : found ≡ answers_of a) (well : IsWellAsked a) where
+  abbrev own : Pruning
+  own = proofs_of a.pruned_by
+
+  own_fits : IsTrue (fits_scope a.pruned_by a.scope)
+  own_fits = ap (λ e. fits_scope e a.scope) well.joined ∙ same_fit a.given a.scope ∙ well.fits
+
+  sound_asked : IsSound found a
+  sound_asked =
+      sound_given a.given a.scope a.zones (answered 1 found) (answered 2 found)
+      (subst (λ e. IsSoundPruning e a.scope a.zones (answered 1 found) (answered 2 found)) well.joined
+      (answers_are_sound own.falsifier own.satisfier a.scope a.zones found is a.pruned_by well.right.predicate well.right.plain own_fits well.right.falsifies well.right.satisfies))
+
+  own_no_fewer : FindsNoFewer a.pruned_by found a
+  own_no_fewer =
+      let k = no_fewer own.falsifier own.satisfier a.scope a.zones found is [] a.pruned_by (own_skips (Some max_depth) a.pruned_by) (own_finds (Some max_depth) a.pruned_by) in
+      record { skipped = k.0; whole = k.1 }
+
+  form_no_fewer : IsTrue (is_within (Some max_depth) (normal a.pruned_by)) → FindsNoFewer (normal a.pruned_by) found a
+  form_no_fewer within =
+      let k = no_fewer own.falsifier own.satisfier a.scope a.zones found is [] (normal a.pruned_by)
+      (λ n A. normal_skips (Some max_depth) a.pruned_by n A within) (λ n A. normal_finds (Some max_depth) a.pruned_by n A within) in
+      record { skipped = k.0; whole = k.1 }
+
+  are : AreZonesOf a.scope a.zones
+  are = zones_are a.scope a.zones well.zones
+
+  own_complete : IsTrue (is_apart a.given) → SkipsUnsatisfiable a.given a.zones (answered 1 found)
+  own_complete apart =
+      unsatisfiable_given a.given a.zones (answered 1 found)
+      (subst (λ e. SkipsUnsatisfiable e a.zones (answered 1 found)) well.joined
+      (answers_are_complete own.falsifier own.satisfier a.scope a.zones found is a.pruned_by well.right.predicate own_fits are
+      (ap is_apart well.joined ∙ same_apart a.given ∙ apart) (own_skips (Some max_depth) a.pruned_by)))
+
+  form_complete : IsTrue (is_within (Some max_depth) (normal a.pruned_by)) → IsTrue (is_apart (normal a.pruned_by)) → SkipsUnsatisfiable a.given a.zones (answered 1 found)
+  form_complete within apart =
+      let p = a.pruned_by in
+      let q = normal p in
+      let form = well.right.form in
+      let of_form = answers_are_complete own.falsifier own.satisfier a.scope a.zones found is q form.predicate (form.columns (λ c. is_of_type c.dtype (slice_get a.scope c.index)) own_fits) are apart
+      (λ n A. normal_skips (Some max_depth) p n A within) in
+      unsatisfiable_given a.given a.zones (answered 1 found)
+      (subst (λ e. SkipsUnsatisfiable e a.zones (answered 1 found)) well.joined
+      (carried_unsatisfiable p q a.scope a.zones (answered 1 found) well.right.plain own_fits are form of_form))
+
+  complete_asked : IsComplete found a
+  complete_asked = record { own = own_complete; form = form_complete }
+
+  fewer_asked : IsNoFewer found a
+  fewer_asked = record { own = own_no_fewer; form = form_no_fewer }
+
+abbrev Reads : Result Asked Refusal → List ℕ → Type 0
+Reads asked found = followed asked (λ a. Ok (answers_of a)) ≡ Ok found
+
+pub asked_sound : (asked : Result Asked Refusal) (found : List ℕ) → Reads asked found → IfOk asked IsWellAsked → IfOk asked (IsSound found)
 asked_sound (Ok a) found h well = sound_asked a found (let same : answers_of a ≡ found = cc in sym same) well
 asked_sound (Err r) found h well = tt
 
-pub asked_complete : (asked : Result Asked Refusal) (found : List ℕ) → followed asked (λ a. Ok (answers_of a)) ≡ Ok found → IfOk asked IsWellAsked → IfOk asked (IsComplete found)
-asked_complete (Ok a) found h well =
-    let same : answers_of a ≡ found = cc in
-    λ apart. answers_are_complete a.pruned_by a.scope a.zones found (sym same) well.form.truth well.form.fits (zones_are a.scope a.zones well.zones) apart
+pub asked_no_fewer : (asked : Result Asked Refusal) (found : List ℕ) → Reads asked found → IfOk asked IsWellAsked → IfOk asked (IsNoFewer found)
+asked_no_fewer (Ok a) found h well = fewer_asked a found (let same : answers_of a ≡ found = cc in sym same) well
+asked_no_fewer (Err r) found h well = tt
+
+pub asked_complete : (asked : Result Asked Refusal) (found : List ℕ) → Reads asked found → IfOk asked IsWellAsked → IfOk asked (IsComplete found)
+asked_complete (Ok a) found h well = complete_asked a found (let same : answers_of a ≡ found = cc in sym same) well
 asked_complete (Err r) found h well = tt
 
 pub asked_answers : (asked : Result Asked Refusal) (found : List ℕ) → followed asked (λ a. Ok (answers_of a)) ≡ Ok found → IsOk asked × IfOk asked (λ a. found ≡ answers_of a)
@@ -170,14 +289,14 @@ text_asked asked r h = elim h [
 pub asked_refused : (asked : Result Asked Refusal) (r : Refusal) → (r.status ≢ NoMemory → IsRefusedText (followed asked (λ a. Ok (answers_of a))) r) → status_number r.status ≢ 4 → IsRefused asked (status_number r.status) r.fault
 asked_refused asked r h four = text_asked asked r (h (not_four r.status four))
 
-pub asked_is : (fields : List Field) (rows : List ℕ) (stats : List Statistic) (text : List ℕ) (flags room : ℕ) (n : Bool) (scope : List Named) (p : Tree Place) → normalizes flags ≡ Ok n → room ≡ length rows → scope_given fields ≡ Ok scope
-    → predicate_given scope text ≡ Ok p → asked fields rows stats text flags room ≡ asked_of scope rows stats n p (halved p)
-asked_is fields rows stats text flags room n scope p flag long is given =
-    let last = λ (k : Bool) (s : List Named). followed (predicate_given s text) (λ e. asked_of s rows stats k e (halved e)) in
-    let third = λ (k : Bool) (u : Unit {0}). followed (scope_given fields) (last k) in
-    let second = λ (k : Bool). followed (with_places room rows) (third k) in
+pub asked_is : (fields : List Field) (rows : List ℕ) (stats : List Statistic) (text : List ℕ) (flags room : ℕ) (scope : List Named) (p : Tree Place) → with_flags flags ≡ Ok tt → room ≡ length rows → scope_given fields ≡ Ok scope
+    → predicate_given scope text ≡ Ok p → asked fields rows stats text flags room ≡ asked_of scope rows stats p (halved p)
+asked_is fields rows stats text flags room scope p flag long is given =
+    let last = λ (s : List Named). followed (predicate_given s text) (λ e. asked_of s rows stats e (halved e)) in
+    let third = λ (u : Unit {0}). followed (scope_given fields) last in
+    let second = λ (u : Unit {0}). followed (with_places room rows) third in
     let there : with_places room rows ≡ Ok tt = ap (λ b. if b then Ok tt else Err (nowhere BadLength)) (eq-eqb room (length rows) long) in
-    followed_read (normalizes flags) second n flag ∙ followed_read (with_places room rows) (third n) tt there ∙ followed_read (scope_given fields) (last n) scope is ∙ followed_read (predicate_given scope text) (λ e. asked_of scope rows stats n e (halved e)) p given
+    followed_read (with_flags flags) second tt flag ∙ followed_read (with_places room rows) third tt there ∙ followed_read (scope_given fields) last scope is ∙ followed_read (predicate_given scope text) (λ e. asked_of scope rows stats e (halved e)) p given
 
 -- what is answered without a text is answered with one
 pub text_answers : {X Y : Type 0} (view : X → Y) (r : Result X Refusal) (read : Result Y Refusal) → Answers view r read → AnswersText view r read
@@ -186,16 +305,6 @@ text_answers view (Err e) read h = λ other. inl (h other)
 
 pub asked_as : {X : Type 0} (view : X → List ℕ) (r : Result X Refusal) (x y : Result Asked Refusal) → y ≡ x → Answers view r (followed x (λ a. Ok (answers_of a))) → AnswersText view r (followed y (λ a. Ok (answers_of a)))
 asked_as view r x y is h = text_answers view r (followed y (λ a. Ok (answers_of a))) (subst (λ z. Answers view r (followed z (λ a. Ok (answers_of a)))) (sym is) h)
-
--- ---- a form of a predicate whose chains are joined in halves is one of the predicate
-
-pub form_of_halved : (scope : List Named) (given form : Tree Place) → IsFormOver scope (halved given) form → IsFormOver scope given form
-form_of_halved scope given form h = record {
-  plain = h.plain;
-  fits = h.fits;
-  truth = h.truth;
-  same = λ (row : List Constant) n is fits less. h.same row n is (same_columns given _ ∙ fits) less ∙ ap is_true (same_meaning row n given);
-}
 
 pub not_zero : (s : Status) → status_number s ≡ 0 → ⊥
 not_zero BadLine h = omega (arith, h)
@@ -223,22 +332,39 @@ refused_pruning asked old r n is h = record {
   refused = λ _ four. subst (λ k. IsRefused asked k r.fault) (sym is) (asked_refused asked r h (λ e. four (is ∙ e)));
 }
 
--- ---- the sets of the zones fit the scope, and both predicates are ones over it
+-- ---- the sets of the zones fit the scope, the predicate is one over it, and the proofs are right
 
-pub mapped : {X Y : Type 0} {P Q : Type 0} (r : Result X Y) → (P → Q) → IfOk r (λ x. P) → IfOk r (λ x. Q)
-mapped (Ok x) f h = f h
-mapped (Err e) f h = tt
+module _ (scope : List Named) (given p : Tree Place) (joined : p ≡ halved given) (plain : IsTrue (is_plain p)) (fits : IsTrue (fits_scope p scope)) where
+  well_zones : (read : Result (List ZoneData) Refusal) → IsRight (proofs_of p) → IfOk read (λ zones. IsTrue (zones_fit scope zones)) → IfOk (followed read (λ zones. Ok (record { scope = scope; zones = zones; given = given; pruned_by = p }))) IsWellAsked
+  well_zones (Ok zones) right fit = record {
+    zones = fit;
+    plain = sym (same_plain given) ∙ ap is_plain (sym joined) ∙ plain;
+    fits = sym (same_fit given scope) ∙ ap (λ e. fits_scope e scope) (sym joined) ∙ fits;
+    joined = joined;
+    right = right;
+  }
+  well_zones (Err r) right fit = tt
 
-module _ (scope : List Named) (given form : Tree Place) (plain : IsTrue (is_plain given)) (fits : IsTrue (fits_scope given scope)) (over : IsFormOver scope given form) where
-  well_zones : (read : Result (List ZoneData) Refusal) → IfOk read (λ zones. IsTrue (zones_fit scope zones)) → IfOk (followed read (λ zones. Ok (record { scope = scope; zones = zones; given = given; pruned_by = form }))) IsWellAsked
-  well_zones (Ok zones) fit = record { zones = fit; plain = plain; fits = fits; form = over }
-  well_zones (Err r) fit = tt
+  pub well_asked : (rows : List ℕ) (stats : List Statistic) (sources : List Source) → sources_given scope (length rows) stats ≡ Ok sources → IsRight (proofs_of p) → IfOk (zones_given scope sources rows) (λ zones. IsTrue (zones_fit scope zones))
+      → IfOk (asked_of scope rows stats given p) IsWellAsked
+  well_asked rows stats sources read right fit =
+      let last = λ (xs : List Source). followed (zones_given scope xs rows) (λ zones. Ok (record { scope = scope; zones = zones; given = given; pruned_by = p })) in
+      let told : asked_of scope rows stats given p ≡ last sources = followed_read (sources_given scope (length rows) stats) last sources read in
+      subst (λ (a : Result Asked Refusal). IfOk a IsWellAsked) (sym told) (well_zones (zones_given scope sources rows) right fit)
 
-pub well_asked : (scope : List Named) (rows : List ℕ) (stats : List Statistic) (normalized : Bool) (given p : Tree Place) (sources : List Source) (form : Tree Place) → p ≡ halved given → IsTrue (is_plain p) → IsTrue (fits_scope p scope)
-    → sources_given scope (length rows) stats ≡ Ok sources → form_given normalized p ≡ Ok form → IsFormOver scope p form → IfOk (zones_given scope sources rows) (λ zones. IsTrue (zones_fit scope zones)) → IfOk (asked_of scope rows stats normalized given p) IsWellAsked
-well_asked scope rows stats normalized given p sources form is plain fits read made over fit =
-    let last = λ (xs : List Source) (f : Tree Place). followed (zones_given scope xs rows) (λ zones. Ok (record { scope = scope; zones = zones; given = given; pruned_by = f })) in
-    let told : asked_of scope rows stats normalized given p ≡ last sources form = followed_read (sources_given scope (length rows) stats) (λ xs. followed (form_given normalized p) (last xs)) sources read ∙ followed_read (form_given normalized p) (last sources) form made in
-    let whole = well_zones scope given form (sym (same_plain given) ∙ ap is_plain (sym is) ∙ plain) (sym (same_fit given scope) ∙ ap (λ e. fits_scope e scope) (sym is) ∙ fits)
-    (form_of_halved scope given form (subst (λ q. IsFormOver scope q form) is over)) (zones_given scope sources rows) fit in
-    subst (λ (a : Result Asked Refusal). IfOk a IsWellAsked) (sym told) whole
+pub both_mapped : {X Y : Type 0} (r : Result X Y) (P Q : Type 0) {S : Type 0} → (P → Q → S) → IfOk r (λ x. P) → IfOk r (λ x. Q) → IfOk r (λ x. S)
+both_mapped (Ok x) P Q f p q = f p q
+both_mapped (Err e) P Q f p q = tt
+
+pruning_is : (x : Pruning) (p : Tree Place) → x.predicate ≡ p → x.falsifier ≡ skip_proof [] (Some max_depth) p → x.satisfier ≡ whole_proof [] (Some max_depth) p → x ≡ proofs_of p
+pruning_is x p is f s = λ i. record { predicate = is i; falsifier = f i; satisfier = s i }
+
+-- a predicate with its proofs is right where it was made of them
+pub made_right : (x : Pruning) (p : Tree Place) → x.predicate ≡ p → IsMadeBy [] (Some max_depth) x → IsRight x → IsRight (proofs_of p)
+made_right x p is made right =
+    let same : x ≡ proofs_of p = pruning_is x p is (made.falsifier ∙ ap (skip_proof [] (Some max_depth)) is) (made.satisfier ∙ ap (whole_proof [] (Some max_depth)) is) in
+    subst IsRight same right
+
+pub holds_if : {X Y : Type 0} {P : Type 0} (r : Result X Y) → P → IfOk r (λ x. P)
+holds_if (Ok x) p = p
+holds_if (Err e) p = tt

@@ -1,5 +1,5 @@
 -- The aggregates that proofs name.
-use Rattle.std.specs.Prelude.{◌≡◌, ℕ, ◌==◌, ◌&&◌, ◌||◌, Bool, true, false, List, [], Option, None, Some, IsTrue, length, map, slice_get}
+use Rattle.std.specs.Prelude.{◌≡◌, ℕ, ◌==◌, ◌&&◌, ◌||◌, Bool, true, false, List, Option, None, Some, IsTrue, length, map, slice_get}
 use Rattle.vortex_base.specs.declared.aggregate.AggregateFnRef.{AggregateFnRef}
 use Rattle.vortex_base.specs.Data.Columns.{ColumnData}
 use Rattle.vortex_expr.specs.Trees.Tree.{Place, Tree, between, binary, column, is_not_null, is_null, like, literal, not, row_count, stat}
@@ -7,8 +7,6 @@ use Rattle.vortex_expr.specs.Trees.TreeEq.{aggregate_eq}
 use Rattle.vortex_prune.specs.GivenTables.{is_table}
 use Rattle.vortex_prune.specs.Part.{ZoneData}
 use Rattle.vortex_prune.specs.Zones.{Head, MapData, heads, zone_column}
-use Rattle.vortex_rewrite.specs.Rewriting.Falsifiers.{falsifier, satisfier}
-use Rattle.vortex_calls.specs.declared.named.Proofs.{Proofs}
 
 -- ---- the placeholders of a proof
 
@@ -41,11 +39,6 @@ either_names f t i g = names_if f i g || names_if t i g
 -- what stands below a head
 abbrev pub names_head : (falsifier satisfier : Option (Tree Place)) → Head → Bool
 names_head f t h = either_names f t h.source h.aggregate
-
--- the falsifier and the satisfier of their predicate by built-in rules
-pub record AreProofs (proofs : Proofs) : Type 0 where
-  pub falsified : proofs.falsifier ≡ falsifier [] proofs.predicate.now
-  pub satisfied : proofs.satisfier ≡ satisfier [] proofs.predicate.now
 
 -- ---- a table that has what they name
 

@@ -1,21 +1,18 @@
 -- What a caller asks to be pruned, and what is answered.
-use Rattle.std.specs.Prelude.{◌≡◌, ◌≢◌, ℕ, ◌==◌, ◌⊎◌, Bool, true, false, List, [], ◌++◌, Option, Result, Ok, Err, IfOk, IsOk, IsTrue, if◌then◌else◌, length, map}
+use Rattle.std.specs.Prelude.{◌≡◌, ◌≢◌, ℕ, ◌==◌, ◌⊎◌, List, [], ◌++◌, Option, Some, Result, Ok, Err, IfOk, IsOk, IsTrue, if◌then◌else◌, length, map}
 use Rattle.vortex_base.specs.Data.Scopes.{Named}
 use Rattle.vortex_expr.specs.Meanings.Fitting.{fits_scope}
 use Rattle.vortex_expr.specs.Trees.Tree.{Place, Tree, is_plain}
 use Rattle.vortex_nested.specs.Halves.{halved}
 use Rattle.vortex_normal.specs.Groups.{normal}
-use Rattle.vortex_normal.specs.Same.{Same}
+use Rattle.vortex_normal_scan.specs.Pruning.{FindsNoFewerWhole, IsRight, Pruning, SkipsNoFewer, SkipsUnsatisfiable, is_within, skip_proof, whole_proof}
 use Rattle.vortex_prune.specs.Binding.PartAnswers.{told_values}
 use Rattle.vortex_prune.specs.Part.{ZoneData, zones_fit}
-use Rattle.vortex_prune.specs.Scanning.Complete.{ZonesSkipExactly}
 use Rattle.vortex_prune.specs.Scanning.Selection.{places_where, proves_of}
 use Rattle.vortex_prune.specs.Scanning.ZoneScans.{AreRowVerdicts, IsSoundPruning}
 use Rattle.vortex_prune.specs.Zones.{MapData}
 use Rattle.vortex_prune.specs.declared.scan.verdict.Verdict.{Verdict}
 use Rattle.vortex_prune.specs.declared.scan.verdict.Verdict.TheVariants.{Skipped, Tested, Whole}
-use Rattle.vortex_rewrite.specs.Rewriting.Falsifiers.{falsifier, satisfier}
-use Rattle.vortex_rewrite.specs.Rewriting.Predicates.{is_predicate}
 use Rattle.vortex_rewrite.specs.Rewriting.ReadOnce.{is_apart}
 use Rattle.vortex_calls.specs.declared.fault.Fault.{Fault}
 use Rattle.vortex_calls.specs.declared.fault.Refusal.{Refusal}
@@ -24,7 +21,7 @@ use Rattle.vortex_calls.specs.declared.statistic.Statistic.{Statistic}
 use Rattle.vortex_calls.specs.declared.status.Status.TheVariants.{BadFlag, BadLength, BadLine, TooDeep}
 use Rattle.vortex_calls.specs.declared.table.Known.{Known}
 use Rattle.vortex_calls.specs.Refusals.{followed}
-use Rattle.vortex_calls.specs.Scopes.{predicate_given, scope_given, shallow}
+use Rattle.vortex_calls.specs.Scopes.{max_depth, predicate_given, scope_given}
 use Rattle.vortex_calls.specs.Statuses.{nowhere, status_number}
 use Rattle.vortex_calls.specs.Tables.{known_zone, sources_given, zones_given}
 
@@ -48,9 +45,13 @@ pub record AreRowAnswers (f s : Option (Tree Place)) (m : MapData) (answers : Li
   pub long : length verdicts ≡ length m.rows
   pub told : answers ≡ map answer_of verdicts
 
--- by built-in rules under a predicate
+-- a predicate with its proofs by built-in rules and by forms that a call's stack bears
+abbrev pub proofs_of : Tree Place → Pruning
+proofs_of p = record { predicate = p; falsifier = skip_proof [] (Some max_depth) p; satisfier = whole_proof [] (Some max_depth) p }
+
+-- by those
 abbrev pub zone_answer : Tree Place → List Named → ZoneData → ℕ
-zone_answer p scope zone = answer_by (falsifier [] p) (satisfier [] p) scope zone
+zone_answer p scope zone = answer_by (proofs_of p).falsifier (proofs_of p).satisfier scope zone
 
 -- that of each zone, in order
 abbrev pub zone_answers : Tree Place → List Named → List ZoneData → List ℕ
@@ -72,51 +73,40 @@ answered n answers = places_where (λ a. a == n) answers
 
 -- ---- what is asked
 
--- zones of a scope, the predicate as it was given, and the one that they are pruned by
+-- zones of a scope, the predicate as it was given, and with its chains joined in halves, as its proofs are made of it
 pub record Asked : Type 0 where
   pub scope : List Named
   pub zones : List ZoneData
   pub given : Tree Place
   pub pruned_by : Tree Place
 
--- whether the flags ask for the normal form
-abbrev pub normalizes : ℕ → Result Bool Refusal
-normalizes flags = if flags == 0 then Ok false else (if flags == 1 then Ok true else Err (nowhere BadFlag))
-
--- the predicate that zones are pruned by: p or its normal form, unless that is too deep
-abbrev pub form_given : (normalized : Bool) → Tree Place → Result (Tree Place) Refusal
-form_given false p = Ok p
-form_given true p = shallow (normal p)
-
--- a predicate over a scope that is satisfied by the same rows as p
-pub record IsFormOver (scope : List Named) (p e : Tree Place) : Type 0 where
-  pub plain : IsTrue (is_plain e)
-  pub fits : IsTrue (fits_scope e scope)
-  pub truth : IsTrue (is_predicate e)
-  pub same : Same p e
+-- the flags are none, or the one that once asked for the normal form
+abbrev pub with_flags : ℕ → Result (Unit {0}) Refusal
+with_flags flags = if flags == 0 then Ok tt else (if flags == 1 then Ok tt else Err (nowhere BadFlag))
 
 -- there is a place for each answer, and no other
 abbrev pub with_places : ℕ → List ℕ → Result (Unit {0}) Refusal
 with_places n rows = if n == length rows then Ok tt else Err (nowhere BadLength)
 
 -- of a predicate as it was given, and with its chains joined in halves
-abbrev pub asked_of : List Named → List ℕ → List Statistic → (normalized : Bool) → (given p : Tree Place) → Result Asked Refusal
-asked_of scope rows stats normalized given p =
-    followed (sources_given scope (length rows) stats) (λ sources. followed (form_given normalized p) (λ form. followed (zones_given scope sources rows) (λ zones.
-    Ok (record { scope = scope; zones = zones; given = given; pruned_by = form }))))
+abbrev pub asked_of : List Named → List ℕ → List Statistic → (given p : Tree Place) → Result Asked Refusal
+asked_of scope rows stats given p =
+    followed (sources_given scope (length rows) stats) (λ sources. followed (zones_given scope sources rows) (λ zones.
+    Ok (record { scope = scope; zones = zones; given = given; pruned_by = p })))
 
--- what the arguments ask for, or the first of them that is refused: the flags, the room for the answers, the scope, the predicate, the statistics, the normal form, and the statistics' values zone by zone
+-- what the arguments ask for, or the first of them that is refused: the flags, the room for the answers, the scope, the predicate, the statistics, and their values zone by zone
 abbrev pub asked : List Field → List ℕ → List Statistic → List ℕ → (flags room : ℕ) → Result Asked Refusal
 asked fields rows stats text flags room =
-    followed (normalizes flags) (λ normalized. followed (with_places room rows) (λ there. followed (scope_given fields) (λ scope.
-    followed (predicate_given scope text) (λ e. asked_of scope rows stats normalized e (halved e)))))
+    followed (with_flags flags) (λ taken. followed (with_places room rows) (λ there. followed (scope_given fields) (λ scope.
+    followed (predicate_given scope text) (λ e. asked_of scope rows stats e (halved e)))))
 
--- the sets of the zones fit the scope, and both predicates are ones over it, satisfied by the same rows
+-- the sets of the zones fit the scope, the predicate is one over it, and the proofs are right
 pub record IsWellAsked (a : Asked) : Type 0 where
   pub zones : IsTrue (zones_fit a.scope a.zones)
   pub plain : IsTrue (is_plain a.given)
   pub fits : IsTrue (fits_scope a.given a.scope)
-  pub form : IsFormOver a.scope a.given a.pruned_by
+  pub joined : a.pruned_by ≡ halved a.given
+  pub right : IsRight (proofs_of a.pruned_by)
 
 -- ---- what a call says
 
@@ -144,6 +134,17 @@ pub record IsPruned (asked : Result Asked Refusal) (old : List ℕ) (result : �
 abbrev pub IsSound : List ℕ → Asked → Type 0
 IsSound answers a = IsSoundPruning a.given a.scope a.zones (answered 1 answers) (answered 2 answers)
 
--- where the ANDs of the predicate that is pruned by are apart, the answer is 1 exactly if no values within a zone's bounds satisfy it, wherever they are known and in order
-abbrev pub IsComplete : List ℕ → Asked → Type 0
-IsComplete answers a = IsTrue (is_apart a.pruned_by) → ZonesSkipExactly a.pruned_by a.zones (answered 1 answers)
+-- each zone has the answer 1 that a form's own proofs skip, and each that they find whole has 1 or 2
+pub record FindsNoFewer (form : Tree Place) (answers : List ℕ) (a : Asked) : Type 0 where
+  pub skipped : SkipsNoFewer [] form a.scope a.zones (answered 1 answers)
+  pub whole : FindsNoFewerWhole [] form a.scope a.zones (answered 1 answers) (answered 2 answers)
+
+-- so of the predicate that the proofs are made of, and of its normal form unless that is too deep
+pub record IsNoFewer (answers : List ℕ) (a : Asked) : Type 0 where
+  pub own : FindsNoFewer a.pruned_by answers a
+  pub form : IsTrue (is_within (Some max_depth) (normal a.pruned_by)) → FindsNoFewer (normal a.pruned_by) answers a
+
+-- the answer is 1 if no values within a zone's bounds satisfy the predicate as it was given, wherever they are known and in order: where its ANDs are apart, or those of its normal form and that isn't too deep
+pub record IsComplete (answers : List ℕ) (a : Asked) : Type 0 where
+  pub own : IsTrue (is_apart a.given) → SkipsUnsatisfiable a.given a.zones (answered 1 answers)
+  pub form : IsTrue (is_within (Some max_depth) (normal a.pruned_by)) → IsTrue (is_apart (normal a.pruned_by)) → SkipsUnsatisfiable a.given a.zones (answered 1 answers)

@@ -1,19 +1,24 @@
 //! The proofs of a predicate, the aggregates that they name, and what they answer for zones.
-ghost use Rattle.std.specs.Prelude.{◌≡◌, IfErr, IfOk, IfSome, IsTrue, List, map};
+ghost use Rattle.std.specs.Prelude.{◌≡◌, IfErr, IfOk, IfSome, IsTrue, List, [], Some, map, option_copied};
 ghost use Rattle.vortex_calls.specs.NamedStats as spec;
 ghost use Rattle.vortex_calls.specs.Prunes.{AreRowAnswers, zone_answers};
+ghost use Rattle.vortex_calls.specs.Scopes.{max_depth};
+ghost use Rattle.vortex_expr.specs.Meanings.Fitting.{fits_scope};
+ghost use Rattle.vortex_expr.specs.Trees.Tree.{is_plain};
+ghost use Rattle.vortex_normal_scan.specs.Pruning.{IsMadeBy, IsRight};
 ghost use Rattle.vortex_prune.specs.Part.{ZoneData};
 ghost use Rattle.vortex_prune.specs.Zones.{IsMapOf};
 ghost use Rattle.vortex_rewrite.specs.Answers.{IsMemory};
 ghost use Rattle.vortex_rewrite.specs.Rewriting.Predicates.{is_predicate};
 
 use crate::answers::answers_of;
+use crate::predicate::MAX_DEPTH;
 use std::alloc::{AllocError, Global};
 use vortex_base::aggregate::AggregateFnRef;
 use vortex_expr::bound_expression::BoundExpression;
 use vortex_expr::bound_expression::parts::Parts;
-use vortex_prune::{Head, Rules, ZoneMap, prune_by};
-use vortex_rewrite::rewrite::{falsify, satisfy};
+use vortex_normal_scan::PruningPredicate;
+use vortex_prune::{Head, Rules, ZoneMap};
 use vortex_stats::StatsError;
 
 // Whether an aggregate of an input is this one of the column at a place.
@@ -55,9 +60,9 @@ fn names(e: &BoundExpression, column: usize, wanted: AggregateFnRef) -> bool
     }
 }
 
-// The same of a proof, if there is one.
-fn names_if(proof: &Option<BoundExpression>, column: usize, wanted: AggregateFnRef) -> bool
-    ensures { result ≡ spec.names_if proof.now column wanted }
+// Whether a proof, if there is one, asks for it.
+fn names_if(proof: Option<&BoundExpression>, column: usize, wanted: AggregateFnRef) -> bool
+    ensures { result ≡ spec.names_if (option_copied proof.entry) column wanted }
 {
     match proof {
         None => false,
@@ -65,14 +70,20 @@ fn names_if(proof: &Option<BoundExpression>, column: usize, wanted: AggregateFnR
     }
 }
 
-// A proof that built-in rules made, if there is one.
-fn made(
-    proof: Result<Option<BoundExpression>, StatsError>,
-) -> Result<Option<BoundExpression>, AllocError>
-    requires { IfErr proof IsMemory }
-    ensures { IfOk result (λ made. proof ≡ Ok made) }
+/// The proofs of a predicate by built-in rules, those of its forms left out that are deeper than a
+/// call's stack bears.
+pub(crate) fn pruning_of(
+    alloc: Global,
+    predicate: &BoundExpression,
+) -> Result<PruningPredicate, AllocError>
+    requires plain { IsTrue (is_plain predicate.now) }
+    requires predicate { IsTrue (is_predicate predicate.now) }
+    ensures predicate { IfOk result (λ made. made.predicate ≡ predicate.now) }
+    ensures made { IfOk result (IsMadeBy [] (Some max_depth)) }
+    ensures right { IfOk result IsRight }
 {
-    match proof {
+    let rules = Rules::builtin(alloc);
+    match PruningPredicate::try_new_within(alloc, predicate, &rules, MAX_DEPTH) {
         Ok(made) => Ok(made),
         Err(fault) => match fault {
             StatsError::Memory(refused) => Err(refused),
@@ -81,63 +92,46 @@ fn made(
     }
 }
 
-/// A predicate and what is looked at for each zone: its falsifier and its satisfier, if there are.
-#[derive(Drop)]
-pub(crate) struct Proofs<'a> {
-    predicate: &'a BoundExpression,
-    falsifier: Option<BoundExpression>,
-    satisfier: Option<BoundExpression>,
+/// The answer for each zone of a map.
+pub(crate) fn map_answers(
+    alloc: Global,
+    pruning: &PruningPredicate,
+    map: &ZoneMap,
+) -> Result<Vec<u8>, StatsError>
+    requires made { IsMadeBy [] (Some max_depth) pruning.now }
+    requires fits { IsTrue (fits_scope pruning.now.predicate map.now.scope) }
+    ensures rows { IfOk result (λ answers. AreRowAnswers pruning.now.falsifier
+        pruning.now.satisfier map.now answers.items) }
+    ensures told { IfOk result (λ answers. (zones : List ZoneData) → IsMapOf zones map.now
+        → answers.items ≡ zone_answers pruning.now.predicate map.now.scope zones) }
+    ensures memory { IfErr result (λ e. (zones : List ZoneData) → IsMapOf zones map.now
+        → IsMemory e) }
+{
+    let verdicts = pruning.prune(alloc, map)?;
+    Ok(answers_of(alloc, &verdicts)?)
 }
 
-impl<'a> Proofs<'a> {
-    /// Those of a predicate by built-in rules.
-    pub(crate) fn of_predicate(
-        alloc: Global,
-        predicate: &'a BoundExpression,
-    ) -> Result<Proofs<'a>, AllocError>
-        requires { IsTrue (is_predicate predicate.now) }
-        ensures proofs { IfOk result spec.AreProofs }
-        ensures predicate { IfOk result (λ proofs. proofs.predicate.now ≡ predicate.now) }
-    {
-        let rules = Rules::builtin(alloc);
-        Ok(Proofs {
-            predicate,
-            falsifier: made(falsify(alloc, predicate, &rules))?,
-            satisfier: made(satisfy(alloc, predicate, &rules))?,
-        })
-    }
+// Whether one of the proofs asks for what stands below a head.
+fn is_named(pruning: &PruningPredicate, head: &Head) -> bool
+    ensures { result ≡ spec.names_head pruning.now.falsifier pruning.now.satisfier head.now }
+{
+    let (column, aggregate) = (head.source(), head.aggregate());
+    names_if(pruning.falsifier(), column, aggregate)
+        || names_if(pruning.satisfier(), column, aggregate)
+}
 
-    /// The answer for each zone of a map.
-    pub(crate) fn answers(&self, alloc: Global, map: &ZoneMap) -> Result<Vec<u8>, StatsError>
-        requires { spec.AreProofs self.now }
-        ensures rows { IfOk result (λ answers. AreRowAnswers self.now.falsifier self.now.satisfier
-            map.now answers.items) }
-        ensures told { IfOk result (λ answers. (zones : List ZoneData) → IsMapOf zones map.now
-            → answers.items ≡ zone_answers self.now.predicate.now map.now.scope zones) }
-        ensures memory { IfErr result (λ e. (zones : List ZoneData) → IsMapOf zones map.now
-            → IsMemory e) }
-    {
-        let verdicts = prune_by(alloc, map, self.falsifier.as_ref(), self.satisfier.as_ref())?;
-        Ok(answers_of(alloc, &verdicts)?)
+/// Whether the proofs ask for what stands below each head.
+pub(crate) fn named_heads(
+    alloc: Global,
+    pruning: &PruningPredicate,
+    heads: &[Head],
+) -> Option<Vec<bool>>
+    ensures { IfSome result (λ named. named.items
+        ≡ map (spec.names_head pruning.now.falsifier pruning.now.satisfier) heads.now) }
+{
+    let mut named = Vec::with_capacity(alloc, heads.len()).ok()?;
+    for place in 0..heads.len() {
+        named.push(is_named(pruning, &heads[place])).ok()?;
     }
-
-    // Whether one of them asks for what stands below a head.
-    fn name(&self, head: &Head) -> bool
-        ensures { result ≡ spec.names_head self.now.falsifier self.now.satisfier head.now }
-    {
-        let (column, aggregate) = (head.source(), head.aggregate());
-        names_if(&self.falsifier, column, aggregate) || names_if(&self.satisfier, column, aggregate)
-    }
-
-    /// The same of each head.
-    pub(crate) fn named(&self, alloc: Global, heads: &[Head]) -> Option<Vec<bool>>
-        ensures { IfSome result (λ named. named.items
-            ≡ map (spec.names_head self.now.falsifier self.now.satisfier) heads.now) }
-    {
-        let mut named = Vec::with_capacity(alloc, heads.len()).ok()?;
-        for place in 0..heads.len() {
-            named.push(self.name(&heads[place])).ok()?;
-        }
-        Some(named)
-    }
+    Some(named)
 }

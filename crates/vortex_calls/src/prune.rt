@@ -1,22 +1,21 @@
 //! What to do with each zone of a table under a predicate.
-ghost use Rattle.std.specs.Prelude.{◌≡◌, ◌≤◌, [], All, IfOk, List, IsTrue, Ok, OnOk, length, map};
+ghost use Rattle.std.specs.Prelude.{◌≡◌, ◌≤◌, [], All, IfOk, List, IsTrue, Ok, OnOk, Some, length, map};
 ghost use Rattle.vortex_expr.specs.Meanings.Fitting.{fits_scope};
 ghost use Rattle.vortex_expr.specs.Trees.Tree.{Place, Tree, is_plain};
 ghost use Rattle.vortex_nested.specs.Halves.{halved};
-ghost use Rattle.vortex_normal.specs.Groups.{normal};
+ghost use Rattle.vortex_normal_scan.specs.Pruning.{IsMadeBy, IsRight};
 ghost use Rattle.vortex_rewrite.specs.Rewriting.Predicates.{is_predicate};
-ghost use Rattle.vortex_calls.specs.NamedStats.{AreProofs};
 ghost use Rattle.vortex_calls.specs.Prunes as spec;
 ghost use Rattle.vortex_calls.specs.Refusals.{Answers, followed};
-ghost use Rattle.vortex_calls.specs.Scopes.{AnswersText};
+ghost use Rattle.vortex_calls.specs.Scopes.{AnswersText, max_depth};
 ghost use Rattle.vortex_calls.specs.Tables.{IsTypedBy, known_zone, zones_given};
 ghost use Rattle.vortex_prune.specs.Part.{ZoneData, zones_fit};
 ghost use Rattle.vortex_prune.specs.Zones.{IsMapOf};
 
 use crate::fault::{Fault, Refusal};
 use crate::field::{Field, columns_given};
-use crate::named::Proofs;
-use crate::predicate::{MAX_DEPTH, predicate_given};
+use crate::named::{map_answers, pruning_of};
+use crate::predicate::predicate_given;
 use crate::quick::quick_answers;
 use crate::statistic::Statistic;
 use crate::status::Status;
@@ -24,21 +23,19 @@ use crate::table::{Known, Source, sources_given, zone_at};
 use std::alloc::{AllocError, Global};
 use vortex_base::scope::Scope;
 use vortex_expr::bound_expression::BoundExpression;
-use vortex_normal::levels::is_within;
-use vortex_normal::normalize::normalize;
+use vortex_normal_scan::PruningPredicate;
 use vortex_prune::{Zone, ZoneMap};
 use vortex_stats::StatsError;
 
 // How many sets are made at once, beside those of one zone. Each takes some 500 bytes.
 const BATCH_SETS: usize = 1024;
 
-// Whether the flags ask for the normal form.
-fn normalizes(flags: u8) -> Result<bool, Refusal>
-    ensures { result ≡ spec.normalizes flags }
+// Refuses a flag that isn't known. The one that is asks for nothing more.
+fn with_flags(flags: u8) -> Result<(), Refusal>
+    ensures { result ≡ spec.with_flags flags }
 {
     match flags {
-        0 => Ok(false),
-        1 => Ok(true),
+        0 | 1 => Ok(()),
         _ => Err(Refusal::at_entry(Status::BadFlag, 0)),
     }
 }
@@ -75,16 +72,17 @@ fn map_of(alloc: Global, scope: &Scope, batch: &[Known]) -> Result<ZoneMap, Allo
 fn batch_answers(
     alloc: Global,
     scope: &Scope,
-    proofs: &Proofs<'_>,
+    pruning: &PruningPredicate,
     batch: &[Known],
 ) -> Result<Vec<u8>, AllocError>
-    requires proofs { AreProofs proofs.now }
+    requires made { IsMadeBy [] (Some max_depth) pruning.now }
+    requires fits { IsTrue (fits_scope pruning.now.predicate scope.now) }
     requires zones { IsTrue (zones_fit scope.now (map known_zone batch.now)) }
     ensures { IfOk result (λ v. v.items
-        ≡ spec.zone_answers proofs.now.predicate.now scope.now (map known_zone batch.now)) }
+        ≡ spec.zone_answers pruning.now.predicate scope.now (map known_zone batch.now)) }
 {
     let map = map_of(alloc, scope, batch)?;
-    match proofs.answers(alloc, &map) {
+    match map_answers(alloc, pruning, &map) {
         Ok(answers) => Ok(answers),
         Err(fault) => match fault {
             StatsError::Memory(refused) => Err(refused),
@@ -97,14 +95,15 @@ fn batch_answers(
 fn flush(
     alloc: Global,
     scope: &Scope,
-    proofs: &Proofs<'_>,
+    pruning: &PruningPredicate,
     size: usize,
     batch: &mut Vec<Known>,
     answers: &mut Vec<u8>,
 ) -> Result<(), AllocError>
-    requires proofs { AreProofs proofs.now }
+    requires made { IsMadeBy [] (Some max_depth) pruning.now }
+    requires fits { IsTrue (fits_scope pruning.now.predicate scope.now) }
     requires zones { IsTrue (zones_fit scope.now (map known_zone batch.old.items)) }
-    ensures reached { let p = proofs.now.predicate.now in OnOk result ((zones : List ZoneData)
+    ensures reached { let p = pruning.now.predicate in OnOk result ((zones : List ZoneData)
         → spec.IsReached p scope.now zones answers.old.items batch.old.items
         → spec.IsReached p scope.now zones answers.new.items batch.new.items) }
     ensures zones { OnOk result (IsTrue (zones_fit scope.now (map known_zone batch.new.items))) }
@@ -113,7 +112,7 @@ fn flush(
     if batch.len() < size {
         return Ok(());
     }
-    let more = batch_answers(alloc, scope, proofs, batch)?;
+    let more = batch_answers(alloc, scope, pruning, batch)?;
     answers.extend_from_slice(&more)?;
     batch.clear();
     Ok(())
@@ -123,13 +122,14 @@ fn flush(
 fn set_answers(
     alloc: Global,
     scope: &Scope,
-    proofs: &Proofs<'_>,
+    pruning: &PruningPredicate,
     sources: &[Source<'_>],
     rows: &[u64],
 ) -> Result<Vec<u8>, Refusal>
-    requires proofs { AreProofs proofs.now }
+    requires made { IsMadeBy [] (Some max_depth) pruning.now }
+    requires fits { IsTrue (fits_scope pruning.now.predicate scope.now) }
     requires typed { All (IsTypedBy scope.now) sources.now }
-    ensures read { let p = proofs.now.predicate.now in Answers (λ v. v.items) result
+    ensures read { let p = pruning.now.predicate in Answers (λ v. v.items) result
         (spec.table_answers p scope.now (zones_given scope.now sources.now rows.now)) }
     ensures zones { IfOk result (λ v. IfOk (zones_given scope.now sources.now rows.now)
         (λ zones. IsTrue (zones_fit scope.now zones))) }
@@ -141,9 +141,9 @@ fn set_answers(
     for zone in 0..rows.len() {
         let known = zone_at(alloc, scope, sources, rows, zone)?;
         batch.push(known)?;
-        flush(alloc, scope, proofs, size, &mut batch, &mut answers)?;
+        flush(alloc, scope, pruning, size, &mut batch, &mut answers)?;
     }
-    flush(alloc, scope, proofs, 0, &mut batch, &mut answers)?;
+    flush(alloc, scope, pruning, 0, &mut batch, &mut answers)?;
     Ok(answers)
 }
 
@@ -156,64 +156,21 @@ fn table_answers(
     sources: &[Source<'_>],
     rows: &[u64],
 ) -> Result<Vec<u8>, Refusal>
+    requires plain { IsTrue (is_plain predicate.now) }
+    requires fits { IsTrue (fits_scope predicate.now scope.now) }
     requires predicate { IsTrue (is_predicate predicate.now) }
     requires typed { All (IsTypedBy scope.now) sources.now }
     ensures read { Answers (λ v. v.items) result (spec.table_answers predicate.now scope.now
         (zones_given scope.now sources.now rows.now)) }
+    ensures right { IfOk result (λ v. IsRight (spec.proofs_of predicate.now)) }
     ensures zones { IfOk result (λ v. IfOk (zones_given scope.now sources.now rows.now)
         (λ zones. IsTrue (zones_fit scope.now zones))) }
     ensures long { IfOk result (λ v. length v.items ≡ length rows.now) }
 {
-    let proofs = Proofs::of_predicate(alloc, predicate)?;
-    match quick_answers(alloc, scope, &proofs, sources, rows) {
+    let pruning = pruning_of(alloc, predicate)?;
+    match quick_answers(alloc, scope, &pruning, sources, rows) {
         Some(answers) => Ok(answers),
-        None => set_answers(alloc, scope, &proofs, sources, rows),
-    }
-}
-
-// The normal form of a predicate.
-fn normal_form(
-    alloc: Global,
-    scope: &Scope,
-    predicate: &BoundExpression,
-) -> Result<BoundExpression, AllocError>
-    requires plain { IsTrue (is_plain predicate.now) }
-    requires fits { IsTrue (fits_scope predicate.now scope.now) }
-    requires predicate { IsTrue (is_predicate predicate.now) }
-    ensures form { IfOk result (λ e. e ≡ normal predicate.now) }
-    ensures over { IfOk result (spec.IsFormOver scope.now predicate.now) }
-{
-    match normalize(alloc, predicate) {
-        Ok(normal) => Ok(normal),
-        Err(fault) => match fault {
-            StatsError::Memory(refused) => Err(refused),
-            _ => unreachable!(),
-        },
-    }
-}
-
-// The predicate that zones are pruned by: the given one, or its normal form unless that is too
-// deep.
-fn form_given(
-    alloc: Global,
-    scope: &Scope,
-    predicate: BoundExpression,
-    normalized: bool,
-) -> Result<BoundExpression, Refusal>
-    requires plain { IsTrue (is_plain predicate) }
-    requires fits { IsTrue (fits_scope predicate scope.now) }
-    requires predicate { IsTrue (is_predicate predicate) }
-    ensures form { Answers (λ e. e) result (spec.form_given normalized predicate) }
-    ensures over { IfOk result (spec.IsFormOver scope.now predicate) }
-{
-    if !normalized {
-        return Ok(predicate);
-    }
-    let normal = normal_form(alloc, scope, &predicate)?;
-    if is_within(&normal, MAX_DEPTH) {
-        Ok(normal)
-    } else {
-        Err(Refusal::at_entry(Status::TooDeep, 0))
+        None => set_answers(alloc, scope, &pruning, sources, rows),
     }
 }
 
@@ -221,25 +178,23 @@ fn form_given(
 fn scope_answers(
     alloc: Global,
     scope: &Scope,
-    predicate: BoundExpression,
+    predicate: &BoundExpression,
     rows: &[u64],
     stats: &[Statistic<'_>],
-    normalized: bool,
 ) -> Result<Vec<u8>, Refusal>
-    requires plain { IsTrue (is_plain predicate) }
-    requires fits { IsTrue (fits_scope predicate scope.now) }
-    requires predicate { IsTrue (is_predicate predicate) }
+    requires plain { IsTrue (is_plain predicate.now) }
+    requires fits { IsTrue (fits_scope predicate.now scope.now) }
+    requires predicate { IsTrue (is_predicate predicate.now) }
     ensures read { (given : Tree Place) → Answers (λ v. v.items) result (followed
-        (spec.asked_of scope.now rows.now stats.now normalized given predicate)
+        (spec.asked_of scope.now rows.now stats.now given predicate.now)
         (λ a. Ok (spec.answers_of a))) }
-    ensures well { (given : Tree Place) → predicate ≡ halved given → IfOk result (λ v.
-        IfOk (spec.asked_of scope.now rows.now stats.now normalized given predicate)
+    ensures well { (given : Tree Place) → predicate.now ≡ halved given → IfOk result (λ v.
+        IfOk (spec.asked_of scope.now rows.now stats.now given predicate.now)
         spec.IsWellAsked) }
     ensures long { IfOk result (λ v. length v.items ≡ length rows.now) }
 {
     let sources = sources_given(alloc, scope, rows.len(), stats)?;
-    let form = form_given(alloc, scope, predicate, normalized)?;
-    table_answers(alloc, scope, &form, &sources, rows)
+    table_answers(alloc, scope, predicate, &sources, rows)
 }
 
 // The answers that the arguments ask for.
@@ -259,14 +214,14 @@ fn answers_given(
         IfOk (spec.asked fields.now rows.now stats.now text.now flags room) spec.IsWellAsked) }
     ensures long { IfOk result (λ v. length v.items ≡ room) }
 {
-    let normalized = normalizes(flags)?;
+    with_flags(flags)?;
     if room != rows.len() {
         return Err(Refusal::at_entry(Status::BadLength, 0));
     }
     let columns = columns_given(alloc, fields)?;
     let predicate = predicate_given(alloc, &columns, text)?;
     let scope = Scope::new_unchecked(columns.into_vec()).try_shared(alloc)?;
-    scope_answers(alloc, &scope, predicate, rows, stats, normalized)
+    scope_answers(alloc, &scope, &predicate, rows, stats)
 }
 
 /// What to do with each zone of a table under a predicate, `vortex_prune` of the header.
@@ -291,8 +246,13 @@ pub fn prune(
     ensures sound { let asked =
         spec.asked scope.now rows.now stats.now predicate.now flags (length answers.old) in
         result ≡ 0 → IfOk asked (spec.IsSound answers.new) }
-    // Where the ANDs of the predicate that is pruned by are apart, a zone is skipped exactly if no
-    // values within its bounds satisfy it.
+    // Each zone is skipped that the predicate's own falsifier by built-in rules skips, or that of
+    // its normal form, and each that their satisfiers find whole is whole or skipped.
+    ensures no_fewer { let asked =
+        spec.asked scope.now rows.now stats.now predicate.now flags (length answers.old) in
+        result ≡ 0 → IfOk asked (spec.IsNoFewer answers.new) }
+    // A zone is skipped if no values within its bounds satisfy the predicate as it was given, where
+    // its ANDs are apart or those of its normal form.
     ensures complete { let asked =
         spec.asked scope.now rows.now stats.now predicate.now flags (length answers.old) in
         result ≡ 0 → IfOk asked (spec.IsComplete answers.new) }

@@ -1,21 +1,25 @@
 //! The answers for zones by maps whose tables are filled straight from a caller's arrays, without
 //! a set a zone. There are none where a value or memory is refused.
-ghost use Rattle.std.specs.Prelude.{◌≡◌, ◌+◌, ◌<◌, ◌≤◌, All, IfOk, IfSome, IsTrue, List, Ok, length, map, true};
+ghost use Rattle.std.specs.Prelude.{◌≡◌, ◌+◌, ◌<◌, ◌≤◌, [], All, IfOk, IfSome, IsTrue, List, Ok, Some, length, map, true};
 ghost use Rattle.vortex_base.specs.Data.Cells.{cell_values};
 ghost use Rattle.vortex_calls.specs.MapCells as spec;
-ghost use Rattle.vortex_calls.specs.NamedStats.{AreNamed, AreProofs, HasNamed, names_head};
+ghost use Rattle.vortex_calls.specs.NamedStats.{AreNamed, HasNamed, names_head};
 ghost use Rattle.vortex_calls.specs.Prunes.{table_answers, zone_answers};
+ghost use Rattle.vortex_calls.specs.Scopes.{max_depth};
 ghost use Rattle.vortex_calls.specs.Tables.{IsTypedBy, zones_given};
+ghost use Rattle.vortex_expr.specs.Meanings.Fitting.{fits_scope};
+ghost use Rattle.vortex_normal_scan.specs.Pruning.{IsMadeBy};
 ghost use Rattle.vortex_prune.specs.Part.{ZoneData, zones_fit};
 ghost use Rattle.vortex_prune.specs.Zones.{TellsOf, heads as all_heads, zone_column};
 
 use crate::cells::{all_read, last_of, null_cells, told_cells};
-use crate::named::Proofs;
+use crate::named::{map_answers, named_heads};
 use crate::table::Source;
 use std::alloc::Global;
 use vortex_base::cells::Cells;
 use vortex_base::column::Column;
 use vortex_base::scope::Scope;
+use vortex_normal_scan::PruningPredicate;
 use vortex_prune::{Head, StatFn, ZoneMap};
 
 // How many cells are made at once of statistics. Each takes up to 9 bytes, and a text its own more.
@@ -142,19 +146,20 @@ impl Batch<'_> {
         alloc: Global,
         heads: &[Head],
         named: &[bool],
-        proofs: &Proofs<'_>,
+        pruning: &PruningPredicate,
     ) -> Option<Vec<u8>>
         requires batch { spec.IsBatch self.now }
         requires heads { heads.now ≡ all_heads self.now.scope.now }
         requires named { named.now
-            ≡ map (names_head proofs.now.falsifier proofs.now.satisfier) heads.now }
-        requires proofs { AreProofs proofs.now }
+            ≡ map (names_head pruning.now.falsifier pruning.now.satisfier) heads.now }
+        requires made { IsMadeBy [] (Some max_depth) pruning.now }
+        requires fits { IsTrue (fits_scope pruning.now.predicate self.now.scope.now) }
         ensures { IfSome result (λ answers. (zones : List ZoneData)
             → spec.batch_zones self.now ≡ Ok zones
-            → answers.items ≡ zone_answers proofs.now.predicate.now self.now.scope.now zones) }
+            → answers.items ≡ zone_answers pruning.now.predicate self.now.scope.now zones) }
     {
         let map = self.map(alloc, heads, named)?;
-        match proofs.answers(alloc, &map) {
+        match map_answers(alloc, pruning, &map) {
             Ok(answers) => Some(answers),
             Err(_) => None,
         }
@@ -180,21 +185,22 @@ fn next_count(size: usize, left: usize) -> usize
 fn batches_answers<'a>(
     alloc: Global,
     scope: &'a Scope,
-    proofs: &Proofs<'_>,
+    pruning: &PruningPredicate,
     sources: &'a [Source<'a>],
     rows: &'a [u64],
 ) -> Option<Vec<u8>>
-    requires proofs { AreProofs proofs.now }
+    requires made { IsMadeBy [] (Some max_depth) pruning.now }
+    requires fits { IsTrue (fits_scope pruning.now.predicate scope.now) }
     requires typed { All (IsTypedBy scope.now) sources.now }
     requires read { spec.AllRead sources.now (length rows.now) }
     ensures { IfSome result (λ v. (zones : List ZoneData)
         → zones_given scope.now sources.now rows.now ≡ Ok zones
-        → v.items ≡ zone_answers proofs.now.predicate.now scope.now zones) }
+        → v.items ≡ zone_answers pruning.now.predicate scope.now zones) }
 {
     let Ok(heads) = ZoneMap::heads(alloc, scope) else {
         return None;
     };
-    let named = proofs.named(alloc, &heads)?;
+    let named = named_heads(alloc, pruning, &heads)?;
     let size = 1 + BATCH_CELLS / count_named(&named).max(1);
     let mut answers = Vec::with_capacity(alloc, rows.len()).ok()?;
     'batches: while answers.len() < rows.len() {
@@ -207,7 +213,7 @@ fn batches_answers<'a>(
             from,
             count,
         };
-        let mut more = batch.answers(alloc, &heads, &named, proofs)?;
+        let mut more = batch.answers(alloc, &heads, &named, pruning)?;
         match answers.append(&mut more) {
             Ok(()) => {}
             Err(_) => return None,
@@ -221,13 +227,14 @@ fn batches_answers<'a>(
 pub(crate) fn quick_answers(
     alloc: Global,
     scope: &Scope,
-    proofs: &Proofs<'_>,
+    pruning: &PruningPredicate,
     sources: &[Source<'_>],
     rows: &[u64],
 ) -> Option<Vec<u8>>
-    requires proofs { AreProofs proofs.now }
+    requires made { IsMadeBy [] (Some max_depth) pruning.now }
+    requires fits { IsTrue (fits_scope pruning.now.predicate scope.now) }
     requires typed { All (IsTypedBy scope.now) sources.now }
-    ensures read { IfSome result (λ v. table_answers proofs.now.predicate.now scope.now
+    ensures read { IfSome result (λ v. table_answers pruning.now.predicate scope.now
         (zones_given scope.now sources.now rows.now) ≡ Ok v.items) }
     ensures zones { IfSome result (λ v. IfOk (zones_given scope.now sources.now rows.now)
         (λ zones. IsTrue (zones_fit scope.now zones))) }
@@ -236,5 +243,5 @@ pub(crate) fn quick_answers(
     if !all_read(sources, rows.len()) {
         return None;
     }
-    batches_answers(alloc, scope, proofs, sources, rows)
+    batches_answers(alloc, scope, pruning, sources, rows)
 }

@@ -130,8 +130,13 @@ pub extern "C" fn vortex_prune(
     ensures sound { let asked =
         prunes.asked scope.now rows.now stats.now predicate.now flags (length answers.old) in
         result ≡ 0 → IfOk asked (prunes.IsSound answers.new) }
-    // Where the ANDs of the predicate that is pruned by are apart, a zone is skipped exactly if no
-    // values within its bounds satisfy it.
+    // Each zone is skipped that the predicate's own falsifier by built-in rules skips, or that of
+    // its normal form, and each that their satisfiers find whole is whole or skipped.
+    ensures no_fewer { let asked =
+        prunes.asked scope.now rows.now stats.now predicate.now flags (length answers.old) in
+        result ≡ 0 → IfOk asked (prunes.IsNoFewer answers.new) }
+    // A zone is skipped if no values within its bounds satisfy the predicate as it was given, where
+    // its ANDs are apart or those of its normal form.
     ensures complete { let asked =
         prunes.asked scope.now rows.now stats.now predicate.now flags (length answers.old) in
         result ≡ 0 → IfOk asked (prunes.IsComplete answers.new) }

@@ -92,13 +92,13 @@ memory_left f s xs ys e h k refused =
 
 -- ---- verdicts
 
-whole_proved : (a b : Bool) → is_whole (if a then Skipped else if b then Whole else Tested) ≡ true → b ≡ true
+pub whole_proved : (a b : Bool) → is_whole (if a then Skipped else if b then Whole else Tested) ≡ true → b ≡ true
 whole_proved true b h = cc
 whole_proved false true h = refl
 whole_proved false false h = cc
 
 -- where it isn't skipped, a true satisfier makes it whole
-whole_if : (a b : Bool) → a ≡ false → b ≡ true → is_whole (if a then Skipped else if b then Whole else Tested) ≡ true
+pub whole_if : (a b : Bool) → a ≡ false → b ≡ true → is_whole (if a then Skipped else if b then Whole else Tested) ≡ true
 whole_if true b h k = cc
 whole_if false true h k = refl
 whole_if false false h k = cc
@@ -112,6 +112,13 @@ kept_shut false false P h k = k
 closed_there : {X : Type 0} (o : Option (Tree Place)) (xs : List X) (i : ℕ) (x : X) → slice_get xs i ≡ Some x → is_left_open o xs ≡ false → is_open o ≡ false
 closed_there o [] i x there h = absurd (none-some x there)
 closed_there o (y ∷ ys) i x there h = h
+
+-- a zone that has to be skipped under a form of a predicate has to be under the predicate
+pub carried_unsatisfiable : (p q : Tree Place) (scope : List Named) (zones : List ZoneData) (skipped : List ℕ) → IsTrue (is_plain p) → IsTrue (fits_scope p scope) → AreZonesOf scope zones → HasRowsOf p q → SkipsUnsatisfiable q zones skipped → SkipsUnsatisfiable p zones skipped
+carried_unsatisfiable p q scope zones skipped plain fits are form h i zone box there is_box order none =
+    let k = satisfiability_is_carried p q scope zone box plain form.same form.columns form.plain (are i zone there) fits is_box order in
+    h i zone box there (carried_columns p q plain form.columns (λ c. MatchOption (slice_get zone.stats c.index) ⊥ (IsKnownBy box c.index)) is_box)
+    (carried_columns p q plain form.columns (λ c. AtMost value_cmp (box.low c.index) (box.high c.index)) order) (λ sat. none (k.0 sat))
 
 module _ (f s : Option (Tree Place)) (scope : List Named) (zones : List ZoneData) (vs : List Verdict) (is : vs ≡ zone_verdicts f s scope zones) where
   abbrev told_true : Option (Tree Place) → ZoneData → Bool
@@ -212,9 +219,4 @@ module _ (f s : Option (Tree Place)) (scope : List Named) (zones : List ZoneData
           true_skipped i zone there (normal_true [] levels p made within i zone there (found.1 none))
 
       pub given_complete : SkipsUnsatisfiable p zones (skipped_places vs)
-      given_complete i zone box there is_box order none =
-          let k = satisfiability_is_carried p (normal p) scope zone box plain same.same same.columns same.plain (are i zone there) fits is_box order in
-          normal_complete i zone box there
-          (carried_columns p (normal p) plain same.columns (λ c. MatchOption (slice_get zone.stats c.index) ⊥ (IsKnownBy box c.index)) is_box)
-          (carried_columns p (normal p) plain same.columns (λ c. AtMost value_cmp (box.low c.index) (box.high c.index)) order)
-          (λ sat. none (k.0 sat))
+      given_complete = carried_unsatisfiable p (normal p) scope zones (skipped_places vs) plain fits are same normal_complete

@@ -1,9 +1,8 @@
-mod Carried
-mod Found
+pub mod BuiltIn
+pub mod Carried
+pub mod Found
 mod Full
-mod Given
 mod JointTrue
 pub mod PredicateWitnesses
 mod RightProofs
 mod Rows
-pub mod Witnesses

@@ -17,7 +17,6 @@ use Rattle.vortex_normal.specs.Pushed.{all_of, any_of, comparison, comparison_of
 use Rattle.vortex_normal.specs.Strict.{strict_test}
 use Rattle.vortex_normal.specs.Tested.{IsTestOf, passes}
 use Rattle.vortex_normal_scan.proofs.RightProofs.{skip_right, whole_right}
-use Rattle.vortex_normal_scan.proofs.Witnesses.{place_a}
 use Rattle.vortex_normal_scan.specs.Pruning.{FindsNoFewerWhole, HasRowsOf, IsMadeBy, IsRight, IsTestForm, Pruning, SkipsNoFewer, SkipsUnsatisfiable, is_within, making_causes, skip_proof, skipped_places, whole_places, whole_proof}
 use Rattle.vortex_prune.proofs.Scanning.Boxes.{skipping_is_complete}
 use Rattle.vortex_prune.proofs.WorkedRows.ShutRows.{neither}
@@ -41,6 +40,9 @@ use Rattle.vortex_stats.specs.declared.error.RuleFault.TheVariants.{Own}
 use Rattle.vortex_stats.specs.declared.error.StatsError.{StatsError}
 use Rattle.vortex_stats.specs.declared.error.StatsError.TheVariants.{NotPredicate, OpenProof, Rule}
 use mathlib.Core.Bool.{true≢false}
+
+abbrev place_a : Place
+place_a = record { index = 0; dtype = i64_type }
 
 -- ---- a predicate with its proofs by the built-in rules
 
@@ -156,7 +158,7 @@ left_out = Tested ∷ Tested ∷ Whole ∷ []
 none_there : (i : ℕ) → Contains [] i → ⊥
 none_there i (k, less, is) = absurd (omega (arith, less))
 
-low_is_left_out : SkipsUnsatisfiable above_ten zones (skipped_places left_out) → ⊥
+pub low_is_left_out : SkipsUnsatisfiable above_ten zones (skipped_places left_out) → ⊥
 low_is_left_out h = none_there 0 (h 0 (zone_of low) low_box refl low_box_known low_box_ordered none_above)
 
 low_is_left_out_by_normal : SkipsUnsatisfiable (normal above_ten) zones (skipped_places left_out) → ⊥
@@ -186,7 +188,7 @@ prune_sound = record {
   refuted = λ h. true≢false ((h 2 (zone_of high) high refl high_is_in_its_zone high_is_true).0 (0, omega arith, refl) 0 (omega arith));
 }
 
-low_is_not_there : SkipsNoFewer [] above_ten scope zones (skipped_places left_out) → ⊥
+pub low_is_not_there : SkipsNoFewer [] above_ten scope zones (skipped_places left_out) → ⊥
 unfolding node reduce_balanced
 low_is_not_there h = none_there 0 (h 0 (zone_of low) refl (0, omega arith, refl))
 

@@ -1,5 +1,5 @@
 -- The proofs of a predicate are right that are those of its other forms.
-use Rattle.std.proofs.Common.{◌≡◌, ◌<◌, ℕ, Bool, true, false, ⊎_elim, List, Option, Some, None, IsTrue, refl, sym, ap, ◌∙◌, arith, if◌then◌else◌}
+use Rattle.std.proofs.Common.{◌≡◌, ◌<◌, ℕ, Bool, true, false, ⊎_elim, List, Option, Some, None, IsTrue, refl, subst, sym, ap, ◌∙◌, arith, if◌then◌else◌}
 use Rattle.std.specs.Prelude.{slice_get}
 use Rattle.vortex_base.proofs.Data.RowLemmas.{row_of-IsRow}
 use Rattle.vortex_base.specs.Data.Columns.{ChunkData, IsChunk, row_of, row_count as rows_of}
@@ -18,7 +18,7 @@ use Rattle.vortex_normal.specs.Tested.{IsTestOf, passes}
 use Rattle.vortex_normal_scan.proofs.Full.{any_count, at_row, no_count}
 use Rattle.vortex_normal_scan.proofs.JointTrue.{joint_back}
 use Rattle.vortex_normal_scan.specs.Joint.{joint}
-use Rattle.vortex_normal_scan.specs.Pruning.{Falsifies, HasRowsOf, IsTestForm, Satisfies, is_within, skip_proof, test_proof, unless_deep, whole_proof}
+use Rattle.vortex_normal_scan.specs.Pruning.{Falsifies, HasRowsOf, IsRight, IsTestForm, Satisfies, is_within, skip_proof, test_proof, unless_deep, whole_proof}
 use Rattle.vortex_prune.proofs.Scanning.Lossless.{is_over_chunk}
 use Rattle.vortex_prune.proofs.Scanning.WholeScan.{predicate_typed}
 use Rattle.vortex_rewrite.proofs.Soundness.SoundRules.{falsifiers_sound, satisfiers_sound}
@@ -140,3 +140,19 @@ whole_right own levels p plain n form =
     (deep_satisfies levels (normal p) (satisfier own (normal p)) p (λ _. same_satisfies p (normal p) plain (n.plain plain) n.predicate n.columns (satisfier own (normal p)) n.same (own_satisfies own (normal p))))
     (deep_satisfies levels (normal_test false true p) (falsifier own q) p
     (λ within. let t = form within in untrue_satisfies p q plain (t.plain plain) t.predicate t.columns (falsifier own q) t.test (own_falsifies own q))))
+
+-- a predicate with these proofs is right
+pub right_of : (own : List OwnRule) (levels : Option ℕ) (p e n : Tree Place) (f s : Option (Tree Place)) → e ≡ p → n ≡ normal p → HasRowsOf p n → IsTrue (is_predicate p) → IsTrue (is_plain p)
+    → f ≡ skip_proof own levels p → s ≡ whole_proof own levels p
+    → (IsTrue (is_within levels (normal_test true false p)) → IsTestForm true false p (strict_test true false p))
+    → (IsTrue (is_within levels (normal_test false true p)) → IsTestForm false true p (strict_test false true p)) → IsRight (record { predicate = e; falsifier = f; satisfier = s })
+right_of own levels p e n f s is normal_is rows predicate plain skip whole true_form untrue_form =
+    let form : HasRowsOf p (normal p) = subst (λ (x : Tree Place). HasRowsOf p x) normal_is rows in
+    subst (λ (x : Tree Place). IsRight (record { predicate = x; falsifier = f; satisfier = s })) (sym is)
+    (record {
+      predicate = predicate;
+      plain = plain;
+      form = form;
+      falsifies = subst (λ (o : Option (Tree Place)). Falsifies o p) (sym skip) (skip_right own levels p plain form true_form);
+      satisfies = subst (λ (o : Option (Tree Place)). Satisfies o p) (sym whole) (whole_right own levels p plain form untrue_form);
+    })

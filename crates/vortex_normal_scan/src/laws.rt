@@ -1,4 +1,4 @@
-//! Laws of scans by normal forms, in the words of the definitions.
+//! Laws of pruning by normal forms, in the words of the definitions.
 ghost use Rattle.vortex_normal_scan.specs.Carried.{SatisfiabilityIsCarried};
 ghost use Rattle.vortex_normal_scan.specs.Full.{SameSelectsTheSame};
 ghost use Rattle.vortex_normal_scan.specs.Worked.{JointExamples, ProofExamples};

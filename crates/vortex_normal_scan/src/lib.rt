@@ -1,10 +1,8 @@
-//! Scans and pruning by the normal form of a predicate.
+//! Pruning by all proofs of a predicate that are worth trying.
 #![tactic(auto)]
 
 mod joint;
 pub mod laws;
-pub mod prune;
 pub mod pruning_predicate;
-pub mod scan;
 
 pub use pruning_predicate::PruningPredicate;

@@ -1,6 +1,6 @@
 //! A predicate with all proofs that are worth trying, made once and good for any map of zones.
 ghost use Rattle.std.specs.Prelude.{◌≡◌, ℕ, List, [], Err, IfErr, IfOk, IfSome, IsTrue, false};
-ghost use Rattle.std.specs.Prelude.{None, Option, Some, length, true};
+ghost use Rattle.std.specs.Prelude.{None, Option, Some, length, option_copied, true};
 ghost use Rattle.vortex_expr.specs.Meanings.Fitting.{fits_scope};
 ghost use Rattle.vortex_expr.specs.Trees.Tree.{Place, is_plain};
 ghost use Rattle.vortex_stats.specs.declared.error.StatsError.TheVariants.{NotPredicate};
@@ -19,7 +19,7 @@ ghost use Rattle.vortex_prune.specs.Zones.{IsMapOf};
 ghost use Rattle.vortex_normal.specs.Groups.{normal as normal_of};
 ghost use Rattle.vortex_normal.specs.OneColumn.{IsJoining, IsSelective, are_ends_seen, is_over};
 ghost use Rattle.vortex_normal.specs.Strict.{normal_test as test_of, strict_test as strict_of};
-ghost use Rattle.vortex_normal_scan.specs.Pruning.{FindsNoFewerWhole, IsMadeBy, IsTestForm};
+ghost use Rattle.vortex_normal_scan.specs.Pruning.{FindsNoFewerWhole, IsMadeBy, IsRight, IsTestForm};
 ghost use Rattle.vortex_normal_scan.specs.Pruning.{SkipsNoFewer, SkipsUnsatisfiable};
 ghost use Rattle.vortex_normal_scan.specs.Pruning.{falsifying_causes, is_within, making_causes};
 ghost use Rattle.vortex_normal_scan.specs.Pruning.{satisfying_causes, skip_causes};
@@ -232,6 +232,7 @@ fn made(
     ensures predicate { IfOk result (λ made. made.predicate ≡ predicate.now) }
     ensures made { let M = ⟦<dyn StatsRewriteRule as StatsRewriteRule>⟧ in
         IfOk result (IsMadeBy (own_rules M rules.now.own.items) levels) }
+    ensures right { IfOk result IsRight }
     ensures not_predicate { is_predicate predicate.now ≡ false → result ≡ Err NotPredicate }
     ensures memory { IsTrue (is_predicate predicate.now) → rules.now.own.items ≡ []
         → IfErr result IsMemory }
@@ -268,6 +269,8 @@ impl PruningPredicate {
         // By these rules it has the proofs of the definitions.
         ensures made { let M = ⟦<dyn StatsRewriteRule as StatsRewriteRule>⟧ in
             IfOk result (IsMadeBy (own_rules M rules.now.own.items) None) }
+        // They mean what they are for, whichever lawful rules took part.
+        ensures right { IfOk result IsRight }
         ensures not_predicate { is_predicate predicate.now ≡ false → result ≡ Err NotPredicate }
         // By built-in rules a predicate is refused for memory alone.
         ensures memory { IsTrue (is_predicate predicate.now) → rules.now.own.items ≡ []
@@ -294,6 +297,7 @@ impl PruningPredicate {
         ensures predicate { IfOk result (λ made. made.predicate ≡ predicate.now) }
         ensures made { let M = ⟦<dyn StatsRewriteRule as StatsRewriteRule>⟧ in
             IfOk result (IsMadeBy (own_rules M rules.now.own.items) (Some levels)) }
+        ensures right { IfOk result IsRight }
         ensures not_predicate { is_predicate predicate.now ≡ false → result ≡ Err NotPredicate }
         ensures memory { IsTrue (is_predicate predicate.now) → rules.now.own.items ≡ []
             → IfErr result IsMemory }
@@ -309,6 +313,20 @@ impl PruningPredicate {
         ensures { result.now ≡ self.now.predicate }
     {
         &self.predicate
+    }
+
+    /// The proof that no row satisfies the predicate, if there is one.
+    pub fn falsifier(&self) -> Option<&BoundExpression>
+        ensures { option_copied result ≡ self.now.falsifier }
+    {
+        self.falsifier.as_ref()
+    }
+
+    /// The proof that every row does, if there is one.
+    pub fn satisfier(&self) -> Option<&BoundExpression>
+        ensures { option_copied result ≡ self.now.satisfier }
+    {
+        self.satisfier.as_ref()
     }
 
     /// The verdict on each zone of a map: it is skipped if no row of it satisfies the predicate, and

@@ -1,4 +1,4 @@
-//! Refusals of what isn't a predicate, and of a rule that fails.
+//! Refusals of a rule that fails.
 use crate::testing::*;
 use std::alloc::Global;
 use vortex_expr::ScalarFnId;
@@ -11,20 +11,6 @@ fn one(alloc: Global) -> Parts {
     one_part(alloc, part(alloc, &[Some(4)], bounds(alloc, 1, 9)))
 }
 
-// A number isn't a predicate, also where there are no parts.
-#[test]
-fn a_number_is_no_predicate(rt: HostRuntime) {
-    let alloc = rt.alloc();
-    let (parts, number) = (
-        no_parts(alloc).expect(&rt, "no parts"),
-        a(alloc).expect(&rt, "a"),
-    );
-    let found = scanned(alloc, &parts, &number, &Rules::builtin(alloc));
-    assert!(rt; matches!(found, Err(StatsError::NotPredicate)));
-    let found = pruned(alloc, &parts, &number);
-    assert!(rt; matches!(found, Err(StatsError::NotPredicate)));
-}
-
 // A rule whose falsifier of a comparison faults.
 const FAILING: Claiming = Claiming {
     function: ScalarFnId::Binary,
@@ -33,22 +19,18 @@ const FAILING: Claiming = Claiming {
     fault: 3,
 };
 
-// A rule is asked at the nodes of the normal form: where that is a literal at none.
+// A rule is asked at the nodes of the predicate as it is, also where its normal form is a literal.
 #[test]
-fn a_rule_is_asked_at_the_normal_form(rt: HostRuntime) {
+fn a_rule_that_fails_is_told(rt: HostRuntime) {
     let alloc = rt.alloc();
     let mut own: Vec<StatsRewriteRuleRef> = Vec::new(alloc);
     own.push(Box::new(alloc, FAILING).expect(&rt, "new"))
         .expect(&rt, "push");
     let (parts, rules) = (one(alloc).expect(&rt, "one"), Rules::with_own(own));
-    let found = scanned(alloc, &parts, &a_gt(alloc, 5).expect(&rt, "a gt"), &rules);
+    let above = a_gt(alloc, 5).expect(&rt, "a gt");
+    let found = verdicts(alloc, &parts, &above, &rules);
     assert!(rt; matches!(found, Err(StatsError::Rule(RuleFault::Own(3)))));
-    let found = scanned(
-        alloc,
-        &parts,
-        &a_inside(alloc, 5, 3).expect(&rt, "a inside"),
-        &rules,
-    )
-    .expect(&rt, "found");
-    assert!(rt; found.skipped.as_slice() == [0].as_slice());
+    let neither = a_inside(alloc, 5, 3).expect(&rt, "a inside");
+    let found = verdicts(alloc, &parts, &neither, &rules);
+    assert!(rt; matches!(found, Err(StatsError::Rule(RuleFault::Own(3)))));
 }

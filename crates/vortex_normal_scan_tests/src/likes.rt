@@ -1,11 +1,10 @@
-//! Zones of one column of texts, pruned by LIKE as it is and by its normal form.
+//! Zones of one column of texts, pruned by LIKE as it is and by a pruning predicate.
 use std::alloc::{AllocError, Global};
 use std::process::Abort;
 use vortex_base::{ScalarValue, Scope};
 use vortex_expr::{BoundExpression, LikeOptions};
 use vortex_normal_scan::PruningPredicate;
-use vortex_normal_scan::prune::prune_normalized;
-use vortex_prune::{Pruned, Rules, Verdict, Zone, ZoneMap, prune};
+use vortex_prune::{Rules, Verdict, Zone, ZoneMap, prune};
 use vortex_rewrite_testing::nodes::*;
 use vortex_stats::{Precision, Stat, StatsError, StatsSet};
 
@@ -38,7 +37,7 @@ fn map_of(alloc: Global, least: &str, greatest: &str) -> Result<ZoneMap, StatsEr
     }
 }
 
-// Whether the zone is skipped with the predicate as it is, and with its normal form.
+// Whether the zone is skipped with the predicate as it is, and by a pruning predicate.
 fn skips(
     alloc: Global,
     map: &ZoneMap,
@@ -48,16 +47,13 @@ fn skips(
         return Err(StatsError::Mismatch);
     }
     let rules = Rules::builtin(alloc);
-    let given = prune(alloc, map, predicate, &rules);
-    let normal = prune_normalized(alloc, map, predicate, &rules);
-    Ok((skips_any(given)?, skips_any(normal)?))
+    let given = prune(alloc, map, predicate, &rules)?;
+    let pruning = PruningPredicate::try_new(alloc, predicate, &rules)?;
+    let all = pruning.prune(alloc, map)?;
+    Ok((!given.skipped.is_empty(), all.first() == Some(&Verdict::Skipped)))
 }
 
-fn skips_any(pruned: Result<Pruned, StatsError>) -> Result<bool, StatsError> {
-    Ok(!pruned?.skipped.is_empty())
-}
-
-// The zone is skipped with the predicate as it is, and with its normal form, as told.
+// The zone is skipped with the predicate as it is, and by a pruning predicate, as told.
 fn expect_skips(
     rt: &impl Abort,
     alloc: Global,
@@ -132,31 +128,11 @@ fn nulls(alloc: Global) -> Result<ZoneMap, StatsError> {
     }
 }
 
-// Whether all proofs of the predicate skip the zone.
-fn skips_by_all(
-    alloc: Global,
-    map: &ZoneMap,
-    predicate: &BoundExpression,
-) -> Result<bool, StatsError> {
-    if !predicate.is_plain() || !predicate.fits_scope(map.scope()) {
-        return Err(StatsError::Mismatch);
-    }
-    let pruning = PruningPredicate::try_new(alloc, predicate, &Rules::builtin(alloc))?;
-    let verdicts = pruning.prune(alloc, map)?;
-    Ok(verdicts.as_slice() == [Verdict::Skipped].as_slice())
-}
-
-fn expect_skipped_by_all(rt: &impl Abort, alloc: Global, map: &ZoneMap, predicate: Built) {
-    let predicate = predicate.expect(rt, "a predicate");
-    assert!(rt; skips_by_all(alloc, map, &predicate).expect(rt, "answers"));
-}
-
 #[test]
 fn nulls_alone_are_skipped_under_like(rt: HostRuntime) {
     let alloc = rt.alloc();
     let map = nulls(alloc).expect(&rt, "map");
-    expect_skips(&rt, alloc, &map, s_like(alloc, "ab_"), (false, false));
-    expect_skipped_by_all(&rt, alloc, &map, s_like(alloc, "ab_"));
-    expect_skipped_by_all(&rt, alloc, &map, s_like(alloc, "%"));
-    expect_skipped_by_all(&rt, alloc, &map, s_not_like(alloc, "a%b"));
+    expect_skips(&rt, alloc, &map, s_like(alloc, "ab_"), (false, true));
+    expect_skips(&rt, alloc, &map, s_like(alloc, "%"), (false, true));
+    expect_skips(&rt, alloc, &map, s_not_like(alloc, "a%b"), (false, true));
 }

@@ -1,7 +1,7 @@
-//! Zones of which every row satisfies a predicate, as its normal form tells.
+//! Zones of which every row satisfies a predicate, as a pruning predicate tells.
 use crate::testing::*;
 use std::alloc::Global;
-use vortex_prune::Pruned;
+use vortex_prune::{Rules, Verdict};
 use vortex_rewrite_testing::nodes::*;
 use vortex_stats::StatsError;
 
@@ -11,16 +11,12 @@ fn whole(alloc: Global) -> Parts {
     one_part(alloc, part(alloc, &[Some(6), Some(7)], known))
 }
 
-// Whether pruning with the predicate as it is finds the one zone whole, and with its normal form.
+// Whether pruning with the predicate as it is finds the one zone whole, and a pruning predicate.
 fn finds_whole(alloc: Global, predicate: Built) -> Result<(bool, bool), StatsError> {
     let (parts, predicate) = (whole(alloc)?, predicate?);
-    let given = pruned_as_given(alloc, &parts, &predicate);
-    let normal = pruned(alloc, &parts, &predicate);
-    Ok((is_whole(given)?, is_whole(normal)?))
-}
-
-fn is_whole(pruned: Result<Pruned, StatsError>) -> Result<bool, StatsError> {
-    Ok(!pruned?.whole.is_empty())
+    let given = pruned_as_given(alloc, &parts, &predicate)?;
+    let all = verdicts(alloc, &parts, &predicate, &Rules::builtin(alloc))?;
+    Ok((!given.whole.is_empty(), all.first() == Some(&Verdict::Whole)))
 }
 
 #[test]

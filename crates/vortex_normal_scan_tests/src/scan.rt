@@ -1,4 +1,4 @@
-//! Parts that the rules keep with a predicate as it is, and skip with its normal form.
+//! Parts that the rules keep with a predicate as it is, and that a pruning predicate skips.
 use crate::testing::*;
 use std::alloc::Global;
 use vortex_rewrite_testing::nodes::*;

@@ -9,8 +9,6 @@ use std::process::Abort;
 use vortex_base::{Chunk, Column, ScalarValue, Scope};
 use vortex_expr::BoundExpression;
 use vortex_normal_scan::PruningPredicate;
-use vortex_normal_scan::prune::prune_normalized;
-use vortex_normal_scan::scan::scan_normalized;
 use vortex_prune::scan::scan;
 use vortex_prune::{Part, Pruned, Rules, Scan, StatsBinder, Verdict, Zone, ZoneMap, prune};
 use vortex_rewrite_testing::nodes::*;
@@ -235,15 +233,6 @@ pub fn scanned_as_given(
     scan(alloc, parts, &binders, predicate, rules)
 }
 
-/// The scan with its normal form.
-pub fn scanned(alloc: Global, parts: &[Part], predicate: &BoundExpression, rules: &Rules) -> Found {
-    let binders = binders_of(alloc, parts)?;
-    if binders.len() != parts.len() || !predicate.is_plain() || !all_fit(parts, predicate) {
-        return Err(StatsError::Mismatch);
-    }
-    scan_normalized(alloc, parts, &binders, predicate, rules)
-}
-
 fn known_of<'a>(alloc: Global, parts: &'a [Part]) -> Result<Vec<Zone<'a>>, AllocError> {
     let mut zones = Vec::new(alloc);
     for part in parts {
@@ -270,19 +259,6 @@ pub fn pruned_as_given(
         return Err(StatsError::Mismatch);
     }
     prune(alloc, &map, predicate, &Rules::builtin(alloc))
-}
-
-/// Pruning with its normal form.
-pub fn pruned(
-    alloc: Global,
-    parts: &[Part],
-    predicate: &BoundExpression,
-) -> Result<Pruned, StatsError> {
-    let map = map_of(alloc, &known_of(alloc, parts)?)?;
-    if !predicate.is_plain() || !predicate.fits_scope(map.scope()) {
-        return Err(StatsError::Mismatch);
-    }
-    prune_normalized(alloc, &map, predicate, &Rules::builtin(alloc))
 }
 
 /// The verdicts by all proofs of the predicate, made by these rules.
@@ -322,14 +298,28 @@ fn prunes(pruned: Result<Pruned, StatsError>, expected: &[usize]) -> Result<bool
     Ok(pruned?.skipped.as_slice() == expected)
 }
 
+// The places of the parts that all proofs skip.
+fn skipped_places(
+    alloc: Global,
+    found: Result<Vec<Verdict>, StatsError>,
+) -> Result<Vec<usize>, StatsError> {
+    let mut places = Vec::new(alloc);
+    for (place, verdict) in found?.iter().enumerate() {
+        if *verdict == Verdict::Skipped {
+            places.push(place)?;
+        }
+    }
+    Ok(places)
+}
+
 fn skipped(
     alloc: Global,
     parts: &[Part],
     predicate: &BoundExpression,
     expected: &[usize],
 ) -> Result<bool, StatsError> {
-    let found = scanned(alloc, parts, predicate, &Rules::builtin(alloc));
-    Ok(scan_skips(found, expected)? && prunes(pruned(alloc, parts, predicate), expected)?)
+    let found = verdicts(alloc, parts, predicate, &Rules::builtin(alloc));
+    Ok(skipped_places(alloc, found)?.as_slice() == expected)
 }
 
 fn selected(
@@ -338,13 +328,12 @@ fn selected(
     predicate: &BoundExpression,
     expected: &[(usize, usize)],
 ) -> Result<bool, StatsError> {
-    let found = scanned(alloc, parts, predicate, &Rules::builtin(alloc));
-    let given = scanned_as_given(alloc, parts, predicate, &Rules::builtin(alloc));
-    Ok(scan_selects(found, expected)? && scan_selects(given, expected)?)
+    let found = scanned_as_given(alloc, parts, predicate, &Rules::builtin(alloc));
+    scan_selects(found, expected)
 }
 
-/// A scan and pruning skip the first parts with the predicate as it is and the others with its
-/// normal form, and both scans select these rows.
+/// A scan and pruning skip the first parts with the predicate as it is, a pruning predicate skips the
+/// others, and the scan selects these rows.
 pub fn expect(
     rt: &impl Abort,
     alloc: Global,

@@ -18,7 +18,7 @@ use Rattle.vortex_calls.specs.declared.statistic.Statistic.{Statistic}
 use Rattle.vortex_calls.specs.declared.table.Source.{Source}
 use Rattle.vortex_calls.specs.declared.status.Status.TheVariants.{BadColumn, BadFlag, BadKind, BadKnown, BadLength, BadLine, BadName, BadStat, NotAPredicate, TooDeep}
 use Rattle.vortex_calls.specs.Merges.{merged, set_given}
-use Rattle.vortex_calls.specs.Prunes.{IsRefused, answer_by, answer_of, answered, asked, form_given, normalizes}
+use Rattle.vortex_calls.specs.Prunes.{IsRefused, answer_by, answer_of, answered, asked, with_flags}
 use Rattle.vortex_calls.specs.Scopes.{if_predicate, predicate_given, scope_given}
 use Rattle.vortex_calls.specs.Statuses.{at_column, at_entry, in_column, nowhere, status_number}
 use Rattle.vortex_calls.specs.Tables.{source_of, zones_given}
@@ -148,9 +148,6 @@ chain_too_deep = refl
 levels_first : if_predicate (Some (is_null (nots 128 is_true_column))) ≡ Err (nowhere TooDeep)
 levels_first = refl
 
-given_form : form_given false is_true_column ≡ Ok is_true_column
-given_form = refl
-
 -- a text that is no expression may be told as too deep, and as nothing else
 told_as_deep : IsRefused (Err (nowhere BadLine)) 17 (record { row = 0; column = 0; entry = 0 })
 told_as_deep = inr (refl, (refl, refl))
@@ -215,11 +212,11 @@ of_verdicts = refl
 
 -- ---- what is asked, in the order of the refusals
 
-plainly : normalizes 0 ≡ Ok false
-plainly = refl
+no_flag : with_flags 0 ≡ Ok tt
+no_flag = refl
 
-by_form : normalizes 1 ≡ Ok true
-by_form = refl
+known_flag : with_flags 1 ≡ Ok tt
+known_flag = refl
 
 flag_first : asked (field [] 12 0 ∷ []) (3 ∷ []) [] [] 2 9 ≡ Err (nowhere BadFlag)
 flag_first = refl

@@ -1,15 +1,19 @@
 -- Witnesses of the clauses of the call that prunes, on the zones of three parts whose statistics are true.
-use Rattle.std.proofs.Common.{◌≡◌, ◌++◌, ℕ, List, [], ◌∷◌, Ok, Result, ap, arith, codes, refl}
+use Rattle.std.proofs.Common.{◌≡◌, ◌++◌, ℕ, List, [], ◌∷◌, Ok, Result, Some, ap, arith, codes, refl}
 use Rattle.std.specs.Prelude.{IfOk, IsTrue}
 use Rattle.std.specs.Str.{chars, is_utf8}
 use Rattle.vortex_calls.proofs.WorkedRows.TableRows.{field, told}
-use Rattle.vortex_calls.specs.Prunes.{Asked, IsComplete, IsSound, asked}
+use Rattle.vortex_calls.specs.Prunes.{Asked, IsComplete, IsNoFewer, IsSound, asked}
+use Rattle.vortex_calls.specs.Scopes.{max_depth}
 use Rattle.vortex_calls.specs.declared.fault.Fault.{Fault}
 use Rattle.vortex_calls.specs.declared.fault.Refusal.{Refusal}
 use Rattle.vortex_calls.specs.declared.statistic.Statistic.{Statistic}
+use Rattle.vortex_normal.specs.Groups.{normal}
+use Rattle.vortex_normal.specs.Pushed.{all_of, comparison, comparison_of, folded, settled}
+use Rattle.vortex_normal_scan.proofs.PredicateWitnesses.{low_is_left_out, low_is_not_there}
+use Rattle.vortex_normal_scan.specs.Pruning.{is_within}
 use Rattle.vortex_prune.proofs.WorkedRows.PartRows.{turned_round}
 use Rattle.vortex_prune.proofs.WorkedRows.Witnesses.Parts.{IsWitness, above_ten, scope, zones}
-use Rattle.vortex_prune.proofs.WorkedRows.Witnesses.Pruning.{mixed_is_not_skipped}
 use Rattle.vortex_rewrite.specs.Rewriting.ReadOnce.{is_apart}
 
 -- ---- the arrays of a caller: eight statistics of one column, each exact in three zones
@@ -56,6 +60,16 @@ prune_told = record { met = refl; refuted = λ h. let same : ◌≡◌ {A = ℕ}
 pub prune_sound : IsWitness ((◌≡◌ {A = ℕ} 0 0) × (the_call ≡ answered_by the_zones)) (λ (answers : List ℕ). IfOk (answered_by the_zones) (IsSound answers)) (2 ∷ 0 ∷ 1 ∷ [])
 prune_sound = record { met = (refl, asked_there); refuted = turned_round }
 
--- the second is skipped, though 30 lies within its bounds
-pub prune_complete : IsWitness ((◌≡◌ {A = ℕ} 0 0) × (the_call ≡ answered_by the_zones) × IsTrue (is_apart above_ten)) (λ (answers : List ℕ). IfOk (answered_by the_zones) (IsComplete answers)) (1 ∷ 1 ∷ 2 ∷ [])
-prune_complete = record { met = (refl, asked_there, refl); refuted = λ h. mixed_is_not_skipped (h refl) }
+-- the first zone is read, whose only value is 3
+abbrev first_read : List ℕ
+first_read = 0 ∷ 0 ∷ 2 ∷ []
+
+pub prune_no_fewer : IsWitness ((◌≡◌ {A = ℕ} 0 0) × (the_call ≡ answered_by the_zones)) (λ (answers : List ℕ). IfOk (answered_by the_zones) (IsNoFewer answers)) first_read
+prune_no_fewer = record { met = (refl, asked_there); refuted = λ h. low_is_not_there h.own.skipped }
+
+pub prune_complete : IsWitness ((◌≡◌ {A = ℕ} 0 0) × (the_call ≡ answered_by the_zones) × IsTrue (is_apart above_ten)) (λ (answers : List ℕ). IfOk (answered_by the_zones) (IsComplete answers)) first_read
+prune_complete = record { met = (refl, asked_there, refl); refuted = λ h. low_is_left_out (h.own refl) }
+
+pub prune_complete_by_form : IsWitness ((◌≡◌ {A = ℕ} 0 0) × (the_call ≡ answered_by the_zones) × IsTrue (is_within (Some max_depth) (normal above_ten)) × IsTrue (is_apart (normal above_ten))) (λ (answers : List ℕ). IfOk (answered_by the_zones) (IsComplete answers)) first_read
+unfolding all_of comparison comparison_of folded settled
+prune_complete_by_form = record { met = (refl, asked_there, refl, refl); refuted = λ h. low_is_left_out (h.own refl) }

@@ -6,5 +6,5 @@ use Rattle.vortex_calls.proofs.prune.flush.Goals as goal
 
 pub returns-clause-reached : goal.returns-clause-reached
 returns-clause-reached c = λ zones r.
-    batch_reached c.args.proofs.now.predicate.now c.args.scope.now zones c.args.answers.now.items c.extend_from_slice.new.self.items c.deref-2.result.now c.args.batch.now.items c.clear.new.self.items c.in_ok-extend_from_slice.ensures.items
-    (c.deref-2.ensures.value ∙ c.in_ok-more.ensures ∙ ap (λ l. zone_answers c.args.proofs.now.predicate.now c.args.scope.now (map known_zone l)) c.deref.ensures.value) c.clear.ensures.items r
+    batch_reached c.args.pruning.now.predicate c.args.scope.now zones c.args.answers.now.items c.extend_from_slice.new.self.items c.deref-2.result.now c.args.batch.now.items c.clear.new.self.items c.in_ok-extend_from_slice.ensures.items
+    (c.deref-2.ensures.value ∙ c.in_ok-more.ensures ∙ ap (λ l. zone_answers c.args.pruning.now.predicate c.args.scope.now (map known_zone l)) c.deref.ensures.value) c.clear.ensures.items r

@@ -1,7 +1,7 @@
 use Rattle.std.proofs.Common.{◌≡◌, length, subst, sym, ◌∙◌}
 use Rattle.std.specs.Prelude.{IfOk}
-use Rattle.vortex_calls.specs.Prunes.{IsComplete, IsSound, asked}
-use Rattle.vortex_calls.proofs.PruneLemmas.{asked_complete, asked_sound, not_zero, refused_pruning}
+use Rattle.vortex_calls.specs.Prunes.{IsComplete, IsNoFewer, IsSound, asked}
+use Rattle.vortex_calls.proofs.PruneLemmas.{asked_complete, asked_no_fewer, asked_sound, not_zero, refused_pruning}
 use Rattle.vortex_calls.proofs.prune.prune.Goals as goal
 
 pub returns-in-Ok-clause-sound : goal.returns-in-Ok-clause-sound
@@ -9,6 +9,12 @@ returns-in-Ok-clause-sound c = λ _.
     let all = asked c.args.scope.now c.args.rows.now c.args.stats.now c.args.predicate.now c.args.flags (length c.args.answers.now) in
     let same : c.copy_from_slice.new.self ≡ c.in-Ok.found.items = c.copy_from_slice.ensures.after ∙ c.deref.ensures.value in
     subst (λ l. IfOk all (IsSound l)) (sym same) (asked_sound all c.in-Ok.found.items c.in-Ok.ensures.read c.in-Ok.ensures.well)
+
+pub returns-in-Ok-clause-no_fewer : goal.returns-in-Ok-clause-no_fewer
+returns-in-Ok-clause-no_fewer c = λ _.
+    let all = asked c.args.scope.now c.args.rows.now c.args.stats.now c.args.predicate.now c.args.flags (length c.args.answers.now) in
+    let same : c.copy_from_slice.new.self ≡ c.in-Ok.found.items = c.copy_from_slice.ensures.after ∙ c.deref.ensures.value in
+    subst (λ l. IfOk all (IsNoFewer l)) (sym same) (asked_no_fewer all c.in-Ok.found.items c.in-Ok.ensures.read c.in-Ok.ensures.well)
 
 pub returns-in-Ok-clause-complete : goal.returns-in-Ok-clause-complete
 returns-in-Ok-clause-complete c = λ _.

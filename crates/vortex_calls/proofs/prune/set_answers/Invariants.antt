@@ -7,5 +7,5 @@ use Rattle.vortex_calls.proofs.prune.set_answers.Given as goal
 
 abbrev pub invariant-loop-zone : goal.invariant-loop-zone
 invariant-loop-zone l =
-    (zones : List ZoneData) × (all_found (zone_at l.scope l.sources l.rows) l.zone ≡ Ok zones) × IsReached l.proofs.predicate.now l.scope zones l.answers.items l.batch.items × IsTrue (zones_fit l.scope zones)
+    (zones : List ZoneData) × (all_found (zone_at l.scope l.sources l.rows) l.zone ≡ Ok zones) × IsReached l.pruning.predicate l.scope zones l.answers.items l.batch.items × IsTrue (zones_fit l.scope zones)
     × IsTrue (zones_fit l.scope (map known_zone l.batch.items))

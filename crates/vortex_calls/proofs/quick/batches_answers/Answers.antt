@@ -18,7 +18,7 @@ batches-smaller c =
     let n = c.next_count-count.result in
     let within : from + n ≤ length c.args.rows.now = omega (arith, c.next_count-count.ensures.within, c.batches-test.true, c.len-from.ensures, c.batches.invariant.within) in
     let batch = zones_there c.args.scope.now c.args.sources.now c.args.rows.now c.requires.typed c.requires.read from n within in
-    let long = batch_long c.args.proofs.now.predicate.now c.args.scope.now c.args.sources.now c.args.rows.now from n c.in_ok-more.more.items batch (c.in_ok-more.ensures batch.zones batch.found) in
+    let long = batch_long c.args.pruning.now.predicate c.args.scope.now c.args.sources.now c.args.rows.now from n c.in_ok-more.more.items batch (c.in_ok-more.ensures batch.zones batch.found) in
     omega (arith, long, c.in_ok-more.more.ok.0, c.in-Ok-append.ensures.len, c.next_count-count.ensures.some, within, c.len-from.ensures)
 
 pub batches-preserved : goal.batches-preserved
@@ -26,7 +26,7 @@ batches-preserved c =
     let scope = c.args.scope.now in
     let sources = c.args.sources.now in
     let rows = c.args.rows.now in
-    let p = c.args.proofs.now.predicate.now in
+    let p = c.args.pruning.now.predicate in
     let from = c.len-from.result in
     let n = c.next_count-count.result in
     let within : from + n ≤ length rows = omega (arith, c.next_count-count.ensures.within, c.batches-test.true, c.len-from.ensures, c.batches.invariant.within) in
