@@ -306,8 +306,7 @@ class Decimal(Numbered):
 
     def sql(self, literal: Any) -> str:
         self.spot(literal)
-        value = plain(literal)
-        return f"{decimal.Decimal(value) if isinstance(value, str) else value:f}"
+        return f"{decimal.Decimal(plain(literal)):f}"
 
 
 class _Float(Numbered):
@@ -338,10 +337,14 @@ class _Float(Numbered):
         value = floats.real(literal)
         if value is None:
             raise self._fault(literal)
-        if isinstance(value, float) and (value != value or value in (float("inf"), float("-inf"))):
+        if isinstance(value, (int, decimal.Decimal)) and value == value:
+            return f"{decimal.Decimal(value):f}"
+        # No literal of SQL is a fraction: the nearest number stands for it.
+        near = value if isinstance(value, float) else floats.DOUBLE.nearest(value)
+        if near != near or near in (float("inf"), float("-inf")):
             words = {"nan": "NaN", "inf": "Infinity", "-inf": "-Infinity"}
-            return f"CAST('{words[str(value)]}' AS {'REAL' if self.width.bits == 32 else 'DOUBLE PRECISION'})"
-        return f"{value:f}" if isinstance(value, decimal.Decimal) else repr(float(value)) if not isinstance(value, int) else str(value)
+            return f"CAST('{words[str(near)]}' AS {'REAL' if self.width.bits == 32 else 'DOUBLE PRECISION'})"
+        return repr(near)
 
 
 @dataclass(frozen=True)

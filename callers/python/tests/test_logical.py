@@ -21,10 +21,11 @@ from hypothesis import HealthCheck, configuration, event, given, seed, settings
 from hypothesis import strategies as st
 
 from foalmorrow import PRUNING, Answer, Column, DType, Date, Decimal, Enum, FixedBinary, Float32, Float64, FooterError, Footers, Nullable, Precision, Predicate
-from foalmorrow import PredicateError, Stat, Time, Timestamp, Unmapped, Uuid, ValueFault, Values, col, opaque
+from foalmorrow import PredicateError, Refused, Stat, Time, Timestamp, Unmapped, Uuid, ValueFault, Values, col, opaque
 from foalmorrow import frames
 from foalmorrow.reading import read_column
 from tests import producer
+from tests.test_containers import odd_containers, odd_items
 
 SEED = int(os.environ.get("FOALMORROW_SEED", "1"))
 _HOME = tempfile.TemporaryDirectory()
@@ -386,6 +387,42 @@ class Refusals(unittest.TestCase):
         for kind, container in [(Date(), numpy.array(["NaT"], "M8[D]")), (Float64(), [None]), (Timestamp("us"), [pandas.NaT]), (Enum(), pandas.Categorical([None]))]:
             with self.assertRaisesRegex(ValueFault, "column c, row 0: null is no value"):
                 read_column(Column("c", kind), container)
+
+
+class Odd(unittest.TestCase):
+    """Whatever is handed in, the errors are those that are promised."""
+
+    KINDS = [*KINDS, Enum(["a"]), Unmapped("x"), Time("s"), Decimal(18, 18), FixedBinary(0)]
+
+    def answered(self, call: Callable[[], object]) -> None:
+        try:
+            call()
+        except ValueFault as fault:
+            self.assertIn(fault.column, (None, "c"))
+            self.assertIn("expected", str(fault))
+        except (FooterError, PredicateError, Refused):
+            pass
+
+    def test_items_and_literals(self) -> None:
+        for kind in self.KINDS:
+            column = Column("c", kind, True)
+            footers, c = Footers([column], [1]), col("c")
+            for item in odd_items():
+                for container in ([item], [item, None], deque([item]), Nullable([item, item], [0, 1]), objects([item]), pandas.Series(objects([item]))):
+                    self.answered(lambda: read_column(column, container))
+                for make in (lambda: c == item, lambda: c.is_in([item]), lambda: c.between(item, item), lambda: c < item, lambda: ~(c >= item)):
+                    self.answered(lambda: footers.prune(make()))
+                    self.answered(lambda: make().sql([column]))
+                    self.answered(lambda: (repr(make()), hash(make()), make() == make(), make().with_nan("ieee")))
+
+    def test_containers(self) -> None:
+        for kind in self.KINDS:
+            column = Column("c", kind, True)
+            for container in odd_containers():
+                self.answered(lambda: read_column(column, container))
+                self.answered(lambda: read_column(column, Nullable(container, [0, 1])))
+                self.answered(lambda: Footers.of_values([column], [1, 1], {("c", Stat.MIN): (container, 1)}))
+                self.answered(lambda: Footers([column], [1]).prune(col("c").is_in(container)))
 
 
 class Statistics(unittest.TestCase):

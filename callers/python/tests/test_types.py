@@ -490,7 +490,9 @@ class Trees(unittest.TestCase):
         for kind, literal, text in [
             (Date(), datetime.date(2026, 1, 2), "DATE '2026-01-02'"), (Timestamp("s"), "2026-01-02 03:04", "TIMESTAMP '2026-01-02 03:04:00'"),
             (Timestamp("s", "UTC"), "2026-01-02 03:04+01:00", "TIMESTAMP WITH TIME ZONE '2026-01-02 02:04:00+00:00'"), (Decimal(5, 2), "1.005", "1.005"),
-            (Float64(), 1.5, "1.5"), (Float64(), math.nan, "CAST('NaN' AS DOUBLE PRECISION)"), (Time("s"), "01:02", "TIME '01:02:00'"), (Enum(), "a'", "'a'''"),
+            (Float64(), 1.5, "1.5"), (Float64(), math.nan, "CAST('NaN' AS DOUBLE PRECISION)"),
+            (Float32(), 1e300, "1e+300"), (Float32(), -math.inf, "CAST('-Infinity' AS REAL)"), (Float64(), 10**20, "100000000000000000000"), (Decimal(5, 2), 7, "7"),
+            (Float64(), Fraction(1, 2), "0.5"), (Float64(), decimal.Decimal("0.10"), "0.10"), (Time("s"), "01:02", "TIME '01:02:00'"), (Enum(), "a'", "'a'''"),
             (FixedBinary(1), b"a", "'\\x61'"), (Date(), "2026-01-02 12:00", "TIMESTAMP '2026-01-02 12:00:00'"),
         ]:
             self.assertEqual((col("c") > literal if not isinstance(kind, Enum) else col("c") == literal).sql([Column("c", kind)])[6:-1].strip("= "), text)
