@@ -227,7 +227,7 @@ def _key_column(name: str, kinds: dict[str, str], columns: dict[str, Column], pl
 def _kinds(query: Query, database: str, table: str) -> dict[str, str]:
     """Returns the types of a table's columns, as the server names them."""
     told = query(f"SELECT name, type FROM system.columns WHERE database = {_text(database)} AND table = {_text(table)} FORMAT TabSeparatedRaw").decode()
-    return dict(line.split("\t") for line in told.splitlines())  # type: ignore[misc]
+    return dict(line.split("\t") for line in told.splitlines())
 
 
 def spelling(query: Query, database: str, table: str) -> Spelling:
