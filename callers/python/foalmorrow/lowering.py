@@ -48,6 +48,9 @@ def lowered(predicate: Predicate, columns: Columns) -> Predicate:
             turned += [not here] if item == "not" else [here, here]
             continue
         made = _leaf(item, columns, here)
+        if isinstance(made, Compared):
+            found.append(made)
+            continue
         if found[-1:] == ["not"] and isinstance(made, (NullTest, Constant)):
             found.pop()
             made = made._turned()
@@ -104,7 +107,11 @@ def _of_literals(leaf: Compared | Between, column: Column, turned: bool) -> Pred
         return replace(leaf, other=kind.literal(leaf.other), nan=None)
     assert isinstance(kind, Numbered)
     if isinstance(leaf, Compared):
-        ends = [(leaf.operator, kind.spot(leaf.other))]
+        spot = kind.spot(leaf.other)
+        low, high = _limits(kind)
+        if spot.exact and low <= spot.number <= high and not isinstance(kind, _FLOATS):
+            return Compared(leaf.operator, leaf.name, spot.number)
+        ends = [(leaf.operator, spot)]
     else:
         ends = [("gt" if leaf.low_strict else "ge", kind.spot(leaf.low)), ("lt" if leaf.high_strict else "le", kind.spot(leaf.high))]
     sets = _meanings(kind, ends, leaf.nan)
