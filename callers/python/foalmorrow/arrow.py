@@ -62,6 +62,11 @@ class Structs:
 
     ``Structs(schema=.., array=..)`` has the addresses of an ArrowSchema and an ArrowArray, ``Structs(stream=..)`` that of an ArrowArrayStream.
     TypeError where these are others.
+
+    >>> Structs(schema=64)
+    Traceback (most recent call last):
+    ...
+    TypeError: Structs takes the addresses of a schema and an array, or that of a stream
     """
 
     def __init__(self, *, schema: int | None = None, array: int | None = None, stream: int | None = None):

@@ -25,7 +25,11 @@ _OPERATORS: dict[str, Callable[[Any, Any], Any]] = {
 
 
 def frame_of(columns: Sequence[Column], chunk: Mapping[str, object]) -> pandas.DataFrame:
-    """Returns the columns of a chunk as a frame, read as they are measured. FooterError where one is missing; ValueFault as of ``measure``."""
+    """Returns the columns of a chunk as a frame, read as they are measured. FooterError where one is missing; ValueFault as of ``measure``.
+
+    >>> frame_of([Column("a", DType.I8, True)], {"a": [1, None]})["a"].tolist()
+    [1, <NA>]
+    """
     missing = [column.name for column in columns if column.name not in chunk]
     if missing:
         raise FooterError(f"the chunk has no column {missing[0]}")
@@ -65,6 +69,10 @@ def rows(predicate: Predicate, columns: Sequence[Column], frame: pandas.DataFram
     """Returns the rows of a frame that satisfy a predicate, which are those that the library's own scan selects.
 
     PredicateError where the predicate names what isn't there, compares what can't be compared, or is opaque.
+
+    >>> columns = [Column("d", Decimal(5, 2), True)]
+    >>> rows(col("d") > "1.005", columns, frame_of(columns, {"d": ["1.00", "1.01", None]})).index.tolist()
+    [1]
     """
     return frame[truths(predicate, {column.name: column for column in columns}, frame).fillna(False).astype(bool)]
 

@@ -3,6 +3,7 @@
 import doctest
 import importlib
 import importlib.resources
+import importlib.util
 import unittest
 
 import foalmorrow
@@ -18,6 +19,7 @@ MODULES = [
     "answers", "arrays", "explain", "floats", "footers", "instants", "items", "kinds", "library", "lowering", "overlap", "predicate", "reading", "spelling", "statistic", "types",
 ]
 MODULES += ["arrow", "interchange", "layouts", "logical_reading"] if numpy is not None else []
+MODULES += ["frames"] if importlib.util.find_spec("pandas") is not None else []
 #: A picture needs matplotlib.
 WITHOUT = {"Footers.plot"}
 
