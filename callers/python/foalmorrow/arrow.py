@@ -312,10 +312,10 @@ def _laid(schema: Any, array: Any, where: Where, start: int = 0, count: int | No
         raise where.fault("a schema of Arrow has no format; expected one")
     form = _text(schema.format)
     size = width(form)
-    is_heap = form in ("u", "U", "z", "Z")
-    if size is None and not is_heap and form not in ("b", "n"):
+    is_heap, is_view = form in ("u", "U", "z", "Z"), form in ("vu", "vz")
+    if size is None and not (is_heap or is_view) and form not in ("b", "n"):
         raise where.fault(f"arrays of Arrow's format {form!r} aren't read; expected numbers, truths, texts, bytes, dates, times, decimals or dictionaries")
-    _checked(schema, array, 0 if form == "n" else 3 if is_heap else 2, where)
+    _checked(schema, array, max(array.n_buffers, 3) if is_view else 0 if form == "n" else 3 if is_heap else 2, where)
     if array.n_children or schema.n_children:
         raise where.fault(f"an array of Arrow's format {form!r} has {array.n_children} children; expected none")
     if bool(schema.dictionary) != bool(array.dictionary):
@@ -331,6 +331,9 @@ def _laid(schema: Any, array: Any, where: Where, start: int = 0, count: int | No
     if is_heap:
         heap, ends = _heap(array, 8 if form in ("U", "Z") else 4, first, length, where)
         return Laid(form, length, heap, ends, there, dictionary)
+    if is_view:
+        heap, ends = _views(array, first, length, there, where)
+        return Laid(form[1:], length, heap, ends, there, dictionary)
     if form == "b":
         return Laid(form, length, _bits(_buffer(array, 1, (first + length + 7) // 8, where), first, length), None, there, dictionary)
     assert size is not None
@@ -409,3 +412,29 @@ def _heap(array: Any, size: int, first: int, length: int, where: Where) -> tuple
     if end > _MOST:
         raise where.fault(f"the last text ends at {end}; expected an end within memory")
     return _buffer(array, 2, end, where)[start:].copy(), (offsets[1:].astype("<i8") - start).astype("<u8")
+
+
+def _views(array: Any, first: int, length: int, there: Any, where: Where) -> tuple[Any, Any]:
+    """Returns the heap of texts or bytes in views of 16 bytes: a length, and up to 12 bytes or where longer ones stand."""
+    views = _buffer(array, 1, (first + length) * 16, where)[first * 16 :].copy()
+    fields = views.view("<i4").reshape(length, 4)
+    # A null has room for no bytes, whatever its view says.
+    sizes = fields[:, 0].astype("<i8") if there is None else numpy.where(there, fields[:, 0], 0).astype("<i8")
+    count = array.n_buffers - 3
+    lengths = _buffer(array, array.n_buffers - 1, 8 * count, where).view("<i8")
+    if (lengths < 0).any() or int(lengths.sum()) > _MOST:
+        raise where.fault("a buffer of views has a length that can't be; expected one within memory")
+    # All bytes one behind the other: those of the views, and of each buffer.
+    bytes_of = numpy.concatenate([views, *[_buffer(array, 2 + place, int(lengths[place]), where) for place in range(count)]])
+    bases = numpy.concatenate([numpy.cumsum(lengths) - lengths, numpy.zeros(1, "<i8")])
+    is_long = sizes > 12
+    buffer, start = numpy.where(is_long, fields[:, 2], 0), numpy.where(is_long, fields[:, 3], 0).astype("<i8")
+    wrong = (sizes < 0) | (is_long & ((buffer < 0) | (buffer >= count) | (start < 0)))
+    room = numpy.concatenate([lengths, numpy.zeros(1, "<i8")])[numpy.where(wrong, count, buffer)]
+    wrong |= is_long & (start + sizes > room)
+    if wrong.any():
+        raise where.fault("a view lies outside of its buffers; expected one within them", int(wrong.argmax()))
+    starts = numpy.where(is_long, len(views) + bases[numpy.where(is_long, buffer, count)] + start, numpy.arange(length, dtype="<i8") * 16 + 4)
+    ends = numpy.cumsum(sizes)
+    places = numpy.arange(int(ends[-1]) if length else 0, dtype="<i8") + numpy.repeat(starts - (ends - sizes), sizes)
+    return bytes_of[places], ends.astype("<u8")

@@ -1,7 +1,7 @@
 # SPDX-License-Identifier: Apache-2.0
 """Arrays in Arrow's layouts, by the words of its formats, as values and nulls of a column's type.
 
-Numbers, truths in bits or bytes, texts and bytes with 32-bit or 64-bit offsets, bytes of one length, dates, times, timestamps, decimals and
+Numbers, truths in bits or bytes, texts and bytes with 32-bit or 64-bit offsets or in views, bytes of one length, dates, times, timestamps, decimals and
 dictionaries of them are read; a layout that isn't is refused by its word. The formats are those of Arrow's C Data Interface, which the
 dataframe interchange protocol uses too.
 """

@@ -127,6 +127,20 @@ def texts(form: str, items: Sequence[Any], before: int = 0, start: int = 0, **fi
     return Array(form, len(items), [validity(items, before), offsets, b"?" * start + b"".join(pieces) + b"rest"], offset=before, **fields)
 
 
+def views(form: str, items: Sequence[Any], before: int = 0, **fields: Any) -> Array:
+    """Texts or bytes in views, the longer ones in two buffers by turns."""
+    pieces = [b"zz"] * before + [b"\xff" * 20 if it is None else it.encode() if isinstance(it, str) else it for it in items]
+    heaps, found = [bytearray(b"?"), bytearray()], b""
+    for place, piece in enumerate(pieces):
+        if len(piece) <= 12:
+            found += struct.pack("<i12s", len(piece), piece)
+            continue
+        heap = place % 2
+        found += struct.pack("<i4sii", len(piece), piece[:4], heap, len(heaps[heap]))
+        heaps[heap] += piece
+    return Array(form, len(items), [validity(items, before), found, *map(bytes, heaps), struct.pack("<2q", *map(len, heaps))], offset=before, **fields)
+
+
 def fixed(size: int, items: Sequence[Any], before: int = 0, form: str | None = None, **fields: Any) -> Array:
     listed = [b"z" * size] * before + [b"\xff" * size if it is None else it for it in items]
     return Array(form or f"w:{size}", len(items), [validity(items, before), b"".join(listed)], offset=before, **fields)

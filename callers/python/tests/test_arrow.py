@@ -65,6 +65,10 @@ def layouts() -> list[tuple[str, Any, Build, Items]]:
     for form in "zZ":
         found.append((form, DType.BINARY, lambda items, before, form=form: texts(form, items, before, start=before), [b"\xff", b"", None, b"ab"]))
         found.append((form + " uuid", Uuid(), lambda items, before, form=form: texts(form, items, before), [b"a" * 16, None]))
+    long = "\u00e9" * 30
+    found.append(("vu", DType.UTF8, lambda items, before: producer.views("vu", items, before), ["b", "", None, long, "twelve bytes", "thirteen byte", long[1:]]))
+    found.append(("vz", DType.BINARY, lambda items, before: producer.views("vz", items, before), [b"\xff", b"", None, b"ab" * 9]))
+    found.append(("vu enum", Enum(), lambda items, before: producer.views("vu", items, before), ["b", None, long]))
     found.append(("w", FixedBinary(3), lambda items, before: fixed(3, items, before), [b"abc", None, b"\0\0\0"]))
     found.append(("w binary", DType.BINARY, lambda items, before: fixed(3, items, before), [b"abc", None, b"\0\0\0"]))
     found.append(("w uuid", Uuid(), lambda items, before: fixed(16, items, before), [bytes(16), None, uuid.UUID(int=5).bytes]))
@@ -227,7 +231,7 @@ class Arrays(unittest.TestCase):
             _, build, items = builds[name]
             with self.assertRaisesRegex(ValueFault, r"column c: an array of Arrow's format .* is no .*; expected", msg=(name, kind)):
                 read_column(Column("c", kind, kind != DType.NULL), build(items, 0))
-        for form in ("+l", "+s", "+m", "+ud:0", "+r", "vu", "vz", "tDs", "tiM", "x", "", "d:9", "w:", "tsz:", "tsu"):
+        for form in ("+l", "+s", "+m", "+ud:0", "+r", "tDs", "tiM", "x", "", "d:9", "w:", "tsz:", "tsu"):
             with self.assertRaisesRegex(ValueFault, "column c: arrays of Arrow's format .* aren't read; expected numbers"):
                 read_column(Column("c", DType.I64, True), Array(form, 0, [None, b""]))
         self.assertEqual(producer.counts()[3], 0)
@@ -288,6 +292,21 @@ class Arrays(unittest.TestCase):
             setattr(getattr(made, which), "dictionary", None)
             with self.assertRaisesRegex(ValueFault, "don't agree whether there is a dictionary"):
                 read_column(Column("c", DType.I64), made)
+
+    def test_views_spoiled(self) -> None:
+        column, text = Column("c", DType.UTF8), "thirteen byte"
+        def spoiled(fields: tuple[int, bytes, int, int], lengths: tuple[int, ...] = (13,), buffers: tuple[bytes, ...] = (text.encode(),)) -> Array:
+            return Array("vu", 1, [None, struct.pack("<i4sii", *fields), *buffers, struct.pack(f"<{len(lengths)}q", *lengths)])
+
+        self.assertEqual(stored(column, read_column(column, spoiled((13, b"thir", 0, 0)))), [text.encode()])
+        for fields in ((-1, b"", 0, 0), (14, b"thir", 0, 0), (13, b"thir", 0, 1), (13, b"thir", 1, 0), (13, b"thir", -1, 0), (13, b"thir", 0, -1), (2**31 - 1, b"", 0, 0)):
+            with self.assertRaisesRegex(ValueFault, "column c, row 0: a view lies outside of its buffers", msg=fields):
+                read_column(column, spoiled(fields))
+        with self.assertRaisesRegex(ValueFault, "a buffer of views has a length that can't be"):
+            read_column(column, spoiled((13, b"thir", 0, 0), (-1,)))
+        with self.assertRaisesRegex(ValueFault, "has 2 buffers; expected 3"):
+            read_column(column, Array("vu", 0, [None, b""]))
+        self.assertEqual(stored(column, read_column(column, Array("vu", 0, [None, b"", b""]))), [])
 
     def test_offsets_spoiled(self) -> None:
         column = Column("c", DType.UTF8)
