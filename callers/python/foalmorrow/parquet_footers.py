@@ -106,6 +106,7 @@ def _leaves(elements: list[dict[int, Any]]) -> Iterator[_Leaf]:
     """Yields the leaves of a schema, whose elements stand in the order of a walk from the root."""
     if len(elements) > MOST_COLUMNS:
         raise ParquetFault(f"it has more than {MOST_COLUMNS} columns")
+    # The groups above: their names, whether they may be null, whether they repeat, and how many fields are left.
     pending: list[list[Any]] = [["", False, False, int(elements[0][5])]]
     place = 0
     for it in elements[1:]:
