@@ -7,6 +7,7 @@ import pathlib
 import random
 import shutil
 import unittest
+import unittest.mock
 from decimal import Decimal
 
 from foalmorrow import Precision, Stat, delta
@@ -194,6 +195,9 @@ class Snapshots(Tables):
         table = delta.read(self.folder)
         self.assertEqual([(it.name, it.word) for it in table.columns], [("s.c", "i64?"), ("l", "unmapped(array)?")])
         self.assertEqual(untrue(table, {"f": [{"s.c": 2}, {"s.c": 5}, {}]}), [])
+        if HAS_LIBRARY:
+            # A condition on a column without a mapping may be anything, and the rest still prunes.
+            self.assertEqual([len(table.files_for([("l", "==", b""), ("s.c", ">", low)])) for low in (4, 5)], [1, 0])
         self.assertEqual(table.footers.at(0)["l", Stat.NULL_COUNT], (Precision.EXACT, 3))
 
 
@@ -370,6 +374,10 @@ class HostileLogs(Tables):
         refused("column a: delta.columnMapping.physicalName isn't there", [one("a")], {"delta.columnMapping.mode": "name"})
         twice = {"delta.columnMapping.physicalName": "p"}
         refused("the columns a and b have one name in the files", [one("a", **twice), one("b", **twice)], {"delta.columnMapping.mode": "id"})
+
+    def test_huge(self) -> None:
+        with unittest.mock.patch.object(delta, "MOST_BYTES", 100):
+            self.refused("has more than 100 bytes", "{}")
 
     def test_gap(self) -> None:
         writer = self.writer({"n": "long"})

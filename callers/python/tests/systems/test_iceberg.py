@@ -8,6 +8,7 @@ import random
 import shutil
 import struct
 import unittest
+import unittest.mock
 import uuid
 
 from foalmorrow import Precision, Stat
@@ -306,6 +307,15 @@ class HostileTables(Tables):
             except avro_file.AvroFault:
                 pass
         self.assertEqual(len(avro_file.read(whole, "m").rows), 1)
+
+    def test_huge(self) -> None:
+        writer = self.writer({"n": "long"})
+        writer.snapshot(writer.manifest(*(writer.data_file(f"f{place}", [{"n": 1}]) for place in range(100))))
+        path = writer.save()
+        with unittest.mock.patch.object(avro_file, "MOST_BYTES", 1000):
+            self.refused("its rows have more than 1000 bytes", path)
+        with unittest.mock.patch.object(iceberg, "MOST_BYTES", 100):
+            self.refused("has more than 100 bytes", path)
 
     def test_schemas_of_avro(self) -> None:
         def refused(words: str, kind: object, payload: bytes, codec: str = "null", count: int = 1) -> None:
