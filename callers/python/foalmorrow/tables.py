@@ -184,17 +184,19 @@ class Table:
     def __repr__(self) -> str:
         return f"<{self.name}{'' if self.version is None else f', version {self.version}'}: {len(self.files)} files>"
 
-    def prune(self, wanted: Predicate | Filters, **options: Any) -> Answers:
+    def prune(self, wanted: Predicate | Filters | str, **options: Any) -> Answers:
         """Returns what to do with each file under a predicate, or under filter tuples as ``foalmorrow.filters`` reads them.
 
-        Options are those of ``Footers.prune``, as are the errors. Only the columns that the predicate names are looked at.
+        A text, the options and the errors are those of ``Footers.prune``. Of a predicate and of filters only the columns that they name are looked at.
         """
+        if isinstance(wanted, str):
+            return self.footers.prune(wanted, **options) | self.footers.prune(wanted, normalize=True, **options)
         predicate = wanted if isinstance(wanted, Predicate) else of_filters(wanted)
         footers = self._known if isinstance(self._known, Footers) else self._known.footers(predicate.names())
         # Each of the two forms skips zones that the other one doesn't.
         return footers.prune(predicate, **options) | footers.prune(predicate, normalize=True, **options)
 
-    def files_for(self, wanted: Predicate | Filters, **options: Any) -> list[DataFile]:
+    def files_for(self, wanted: Predicate | Filters | str, **options: Any) -> list[DataFile]:
         """Returns the files, or row groups, that have to be read for a predicate: no row of any other one satisfies it. Errors are those of
         ``prune``."""
         return [self.files[zone] for zone in self.prune(wanted, **options).kept]

@@ -10,7 +10,7 @@ import unittest
 import unittest.mock
 from decimal import Decimal
 
-from foalmorrow import Precision, Stat, delta
+from foalmorrow import Precision, Stat, col, delta
 from foalmorrow.delta import DeltaError
 from foalmorrow.tables import Table
 from tests.systems.delta_writer import DeltaWriter
@@ -49,6 +49,10 @@ class Snapshots(Tables):
         writer.commit(writer.add("a b", [{"n": 2}]), writer.remove("gone"))
         self.assertEqual([self.paths(0), self.paths(1), self.paths()], [["a b", "ö%"], ["ö%", "c"], ["ö%", "c", "a b"]])
         self.assertEqual(delta.read(self.folder).footers.at(2)["n", Stat.MIN], (Precision.EXACT, 2))
+        if HAS_LIBRARY:
+            table = delta.read(self.folder)
+            for wanted in (col("n") > 1, [("n", ">", 1)], "gt col n lit i64? 1"):
+                self.assertEqual([file.path for file in table.files_for(wanted)], ["a b"])
         with self.assertRaisesRegex(DeltaError, "no version 3: its log has 0 to 2"):
             delta.read(self.folder, 3)
 
