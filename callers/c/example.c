@@ -46,7 +46,7 @@ static void prune(const char *predicate, uint8_t *answers) {
                                       .values = (const uint8_t *)kept[i], .values_len = sizeof kept[i]};
     vortex_fault fault;
     uint8_t status = vortex_prune(scope, 1, rows, CHUNKS, stats, 3, (const uint8_t *)predicate, strlen(predicate),
-                                  VORTEX_NORMALIZE, answers, CHUNKS, &fault);
+                                  0, answers, CHUNKS, &fault);
     if (status != VORTEX_OK) fail("prune", status, &fault);
 }
 

@@ -323,14 +323,16 @@ static void every_pruning(void) {
     ANSWERS(VORTEX_WHOLE, VORTEX_SKIP, VORTEX_SKIP);
     assert(PRUNE("isnull col b", 0) == VORTEX_OK);
     ANSWERS(VORTEX_SKIP, VORTEX_WHOLE, VORTEX_READ);
+    /* All rows of zone 1 are null. */
     assert(PRUNE("gt col b lit utf8 \"bz\"", 0) == VORTEX_OK);
-    ANSWERS(VORTEX_READ, VORTEX_READ, VORTEX_SKIP);
+    ANSWERS(VORTEX_READ, VORTEX_SKIP, VORTEX_SKIP);
     assert(PRUNE("gt col b lit utf8 \"c\n\"", 0) == VORTEX_OK);
-    ANSWERS(VORTEX_SKIP, VORTEX_READ, VORTEX_SKIP);
+    ANSWERS(VORTEX_SKIP, VORTEX_SKIP, VORTEX_SKIP);
     assert(PRUNE("gt col b lit utf8 \"b\n\"", 0) == VORTEX_OK);
-    ANSWERS(VORTEX_READ, VORTEX_READ, VORTEX_READ);
+    ANSWERS(VORTEX_READ, VORTEX_SKIP, VORTEX_READ);
+    /* No value is both, whatever is known of a zone. */
     assert(PRUNE("and gt col a lit i32 12 lt col a lit i32 12", 0) == VORTEX_OK);
-    ANSWERS(VORTEX_SKIP, VORTEX_READ, VORTEX_SKIP);
+    ANSWERS(VORTEX_SKIP, VORTEX_SKIP, VORTEX_SKIP);
     assert(PRUNE("and gt col a lit i32 12 lt col a lit i32 12", VORTEX_NORMALIZE) == VORTEX_OK);
     ANSWERS(VORTEX_SKIP, VORTEX_SKIP, VORTEX_SKIP);
     assert(prune(it.scope, 2, NULL, 0, NULL, 0, "isnull col b", 0) == VORTEX_OK);

@@ -83,9 +83,10 @@ enum vortex_status {
 #define VORTEX_VERSION 0x000200u
 
 /*
- * How many levels a predicate of vortex_prune may have, and with VORTEX_NORMALIZE its normal form, too. A column and a
- * literal have none, each other node one more than its deepest operand. A chain of AND, or of OR, is joined in halves
- * whatever its shape, so 100,000 items take 17 levels. A text that is no expression may be refused as too deep, too.
+ * How many levels a predicate of vortex_prune may have. A column and a literal have none, each other node one more than
+ * its deepest operand. A chain of AND, or of OR, is joined in halves whatever its shape, so 100,000 items take 17 levels.
+ * A text that is no expression may be refused as too deep, too. A normal form of the predicate that has more levels takes
+ * no part in pruning.
  */
 #define VORTEX_MAX_DEPTH 128
 
@@ -129,7 +130,7 @@ enum vortex_answer {
 };
 
 /* Flags of vortex_prune. */
-enum vortex_flag { VORTEX_NORMALIZE = 1 /* normalize the predicate first, which may prune more */ };
+enum vortex_flag { VORTEX_NORMALIZE = 1 /* taken and without effect: each call prunes by the normal form, too */ };
 
 /* Where a call was refused. */
 typedef struct vortex_fault {
@@ -234,12 +235,12 @@ uint8_t vortex_check(const vortex_values *column, uint64_t rows, const vortex_st
  * What to do with each zone under a predicate: a vortex_answer for each of them in `answers`. The zones have so many
  * `rows`, and the statistics are of the columns of the scope. The predicate is an expression as a `where` line of
  * docs/LANGUAGE.md has it, without the word `where`: "gt col a lit i64 10". Of whatever rows the statistics are true, no
- * row of a zone that is skipped satisfies the predicate, and each row of a zone that is whole does. A table may be cut
+ * row of a zone that is skipped satisfies the predicate, and each row of a zone that is whole does. Pruning goes by the
+ * predicate as it is, by its normal form, and by tests of its truth that see columns of nulls alone. A table may be cut
  * into pieces that are pruned apart, in threads of their own, with the same answers. `answers` has an element for each of
  * the `rows`, or VORTEX_BAD_LENGTH is returned. Of several faults the first is told, in this order: the flags, the length
- * of `answers`, the scope, the predicate, the columns, numbers and lengths of the statistics, the levels of the normal
- * form, and the statistics' values zone by zone. While it runs a call takes a byte a zone, and some 500 bytes for each
- * column of a batch of zones.
+ * of `answers`, the scope, the predicate, the columns, numbers and lengths of the statistics, and the statistics' values
+ * zone by zone. While it runs a call takes a byte a zone, and some 500 bytes for each column of a batch of zones.
  */
 uint8_t vortex_prune(const vortex_field *scope, size_t scope_len, const uint64_t *rows, size_t rows_len,
                      const vortex_statistic *stats, size_t stats_len, const uint8_t *predicate, size_t predicate_len,

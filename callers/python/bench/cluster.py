@@ -61,7 +61,7 @@ def pruned(zones: int, count: int, workers: int) -> str:
         of_workers = client.run(peak)
     travels = len(table.slice(0, 10_000).only(PRUNING).to_bytes()) / 10_000 + 1
     start = time.perf_counter()
-    alone = table.prune(predicate, normalize=True)
+    alone = table.prune(predicate)
     by_itself = time.perf_counter() - start
     assert answers == alone
     megabytes = f"{max(peak() - before, 0) / 1e6:.0f} MB over the {before / 1e6:.0f} MB of the footers, {max(of_workers.values()) / 1e6:.0f} MB"

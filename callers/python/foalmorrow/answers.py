@@ -66,8 +66,6 @@ class Answers(Sequence[Answer]):
 
     def __or__(self, other: Answers) -> Answers:
         """What two answers about the same zones tell together: a zone is skipped or whole where one of them says so.
-
-        ``prune(wanted) | prune(wanted, normalize=True)`` skips what either form of the predicate does.
         """
         if len(self) != len(other):
             raise ValueError(f"answers about {len(self)} and about {len(other)} zones")

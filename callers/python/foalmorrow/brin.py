@@ -205,8 +205,7 @@ def select(query: Query, index: Brin, predicate: Predicate, what: Sequence[str] 
     columns = index.footers.columns
     condition = predicate.sql(columns, POSTGRES) + (f" AND ({also})" if also else "")
     wanted = ", ".join(what if what is not None else ['"' + column.name.replace('"', '""') + '"' for column in columns])
-    # The one form skips ranges of nulls alone that the other one doesn't, which skips more otherwise.
-    answers = index.footers.prune(predicate) | index.footers.prune(predicate, normalize=True)
+    answers = index.footers.prune(predicate)
     runs = [(index.pages_of(start)[0], index.pages_of(end - 1)[1]) for start, end in answers.runs()]
     rows: list[list[str | None]] = []
     for at in range(0, len(runs), _RUNS):

@@ -391,7 +391,7 @@ class PartFooters:
         """What to do with each part, in the order of ``parts``."""
         if self.footers is None:
             return Answers(b"")
-        return self.footers.prune(predicate) | self.footers.prune(predicate, normalize=True)
+        return self.footers.prune(predicate)
 
     def condition(self, query: Query, predicate: Predicate) -> str:
         """The predicate as a condition of SQL that leaves out the parts that are ruled out.

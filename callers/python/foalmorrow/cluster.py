@@ -179,12 +179,12 @@ def _merged(*pieces: bytes) -> bytes:
 def prune(client: Client, footers: Footers, predicate: Predicate, normalize: bool = True, shard: int = _SHARD) -> Answers:
     """What to do with each zone, as ``Footers.prune`` answers, by the workers where there are more zones than a shard.
 
-    Of the footers what pruning reads of the predicate's columns travels, a few shards at a time.
+    Of the footers what pruning reads of the predicate's columns travels, a few shards at a time. ``normalize`` is taken and has no effect.
     """
     if len(footers) <= shard:
-        return footers.prune(predicate, normalize)
+        return footers.prune(predicate)
     # What doesn't fit the columns is refused here, and not by a worker.
-    footers.slice(0, 0).prune(predicate, normalize)
+    footers.slice(0, 0).prune(predicate)
     names = set(predicate.names())
     columns = [column for column in footers.columns if column.name in names]
     known = {key: it for key, it in footers.statistics.items() if key[0] in names and key[1] in PRUNING}
@@ -196,13 +196,13 @@ def prune(client: Client, footers: Footers, predicate: Predicate, normalize: boo
         for piece in pieces:
             if len(pending) == room:
                 codes.append(pending.popleft().result())
-            pending.append(_sent(client, _pruned, piece.to_bytes(), predicate, normalize))
+            pending.append(_sent(client, _pruned, piece.to_bytes(), predicate))
         codes += [future.result() for future in pending]
     return Answers(b"".join(codes))
 
 
-def _pruned(data: bytes, predicate: Predicate, normalize: bool) -> bytes:
-    return bytes(Footers.from_bytes(data)[0].prune(predicate, normalize).codes)
+def _pruned(data: bytes, predicate: Predicate) -> bytes:
+    return bytes(Footers.from_bytes(data)[0].prune(predicate).codes)
 
 
 @dataclass(frozen=True)

@@ -27,8 +27,8 @@ _MOST = 10
 class Leaf:
     """One comparison, range, null test or pattern of a predicate, pruned by itself when its answers are first asked for."""
 
-    def __init__(self, footers: Footers, predicate: Predicate, normalize: bool):
-        self._footers, self._predicate, self._normalize = footers, predicate, normalize
+    def __init__(self, footers: Footers, predicate: Predicate):
+        self._footers, self._predicate = footers, predicate
         #: The columns that it names, each once.
         self.columns = tuple(dict.fromkeys(predicate.names()))
 
@@ -41,7 +41,7 @@ class Leaf:
     @cached_property
     def answers(self) -> Answers:
         """What the leaf by itself tells of each zone."""
-        return self._footers.prune(self._predicate, self._normalize)
+        return self._footers.prune(self._predicate)
 
 
 @dataclass(frozen=True)
@@ -77,13 +77,13 @@ class Explanation(Sequence[Zone]):
     ('.r', 'SKIP', '("a" > 6)')
     """
 
-    def __init__(self, footers: Footers, predicate: Predicate, normalize: bool):
+    def __init__(self, footers: Footers, predicate: Predicate):
         self.footers = footers
         self.text = predicate.sql(footers.columns)
         #: The answers of the predicate.
-        self.answers = footers.prune(predicate, normalize)
+        self.answers = footers.prune(predicate)
         #: Those of each leaf by itself, which NOT doesn't turn round here.
-        self.leaves = [Leaf(footers, leaf, normalize) for leaf in predicate.leaves()]
+        self.leaves = [Leaf(footers, leaf) for leaf in predicate.leaves()]
         self._known: dict[str, dict[tuple[str, Stat], Statistic]] = {}
 
     def __len__(self) -> int:

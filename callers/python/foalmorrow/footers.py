@@ -171,16 +171,15 @@ class Footers:
         row of a whole one does.
 
         A predicate is built from columns (``col("a") > 3``), whatever their names, or the words of a ``where`` line, which know the columns whose
-        names the language takes. With ``normalize`` it is brought into a normal form first, which mostly skips more and takes longer to
-        prepare. The arrays of the columns that it names are handed over as they are. A column that isn't nullable has an exact null count of
-        0 where nothing else is known of it.
+        names the language takes. Pruning goes by the predicate as it is, by its normal form, and by tests of its truth that see columns of
+        nulls alone; ``normalize`` is taken and has no effect. The arrays of the columns that it names are handed over as they are. A column
+        that isn't nullable has an exact null count of 0 where nothing else is known of it.
 
         An opaque condition may be anything of each row: it is a column of its own without statistics. The words of a ``where`` line compare the
         physical values of columns.
 
         PredicateError where the predicate names a column that isn't there, compares a column with a value that isn't of its type, isn't of
-        type bool, or nests deeper than 128 levels, or its normal form does; Refused, with the column, the statistic and the zone, where an array
-        says what can't be.
+        type bool, or nests deeper than 128 levels; Refused, with the column, the statistic and the zone, where an array says what can't be.
 
         >>> footers = Footers.measure([Column("a", DType.I64)], [{"a": [1, 5]}, {"a": [7, 9]}])
         >>> footers.prune(col("a").between(6, 9))
@@ -193,7 +192,7 @@ class Footers:
             names, text = [column.name for column in columns], predicate
         else:
             raise TypeError(f"{predicate!r} is no predicate: compare a column, as in col('a') == True")
-        return Answers(library.prune(columns, names, self.rows, self._handed(columns), text, normalize, unknown))
+        return Answers(library.prune(columns, names, self.rows, self._handed(columns), text, unknown))
 
     def _spelled(self, predicate: Predicate) -> tuple[list[Column], list[str], str, list[str]]:
         """Returns the columns that a predicate names, the names that it gives them, its text, and the names of its opaque conditions."""
@@ -296,7 +295,7 @@ class Footers:
     def explain(self, predicate: Predicate, normalize: bool = False) -> Explanation:
         """Returns why a zone is read: what each comparison of the predicate by itself tells of each zone, and what isn't known.
 
-        Errors are those of ``prune``.
+        ``normalize`` is taken and has no effect. Errors are those of ``prune``.
 
         >>> footers = Footers.measure([Column("a", DType.I64)], [{"a": [1, 5]}, {"a": [7, 9]}])
         >>> print(footers.explain(col("a") > 6))
@@ -309,7 +308,7 @@ class Footers:
         zone 1, 2 rows: whole
             ("a" > 6): whole
         """
-        return Explanation(self, predicate, normalize)
+        return Explanation(self, predicate)
 
     def plot(self, column: str, predicate: Predicate, axes: Any = None) -> Any:
         """Draws each zone's bounds of a column as a bar: skipped, whole and zones to be read in their colours, and the values of the column that

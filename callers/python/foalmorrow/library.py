@@ -57,7 +57,7 @@ _SOURCES = "a wheel has it inside, checks/callers.sh builds it in a checkout, FO
 
 _SENTENCES = {
     Status.BAD_LINE: "the predicate is no expression over these columns",
-    Status.TOO_DEEP: f"the predicate, or its normal form, nests deeper than {MAX_DEPTH} levels, where a chain of n takes the logarithm of n",
+    Status.TOO_DEEP: f"the predicate nests deeper than {MAX_DEPTH} levels, where a chain of n takes the logarithm of n",
     Status.BAD_KIND: "there is no such type",
     Status.BAD_STAT: "the column has no such statistic",
     Status.BAD_KNOWN: "a byte above 2 says how a value is known",
@@ -401,7 +401,6 @@ def prune(
     rows: array[int],
     statistics: Mapping[tuple[str, Stat], Statistic],
     predicate: str,
-    normalize: bool,
     unknown: Sequence[str] = (),
 ) -> bytearray:
     """Returns what to do with each zone under a predicate, a byte each. The predicate calls the columns by ``names``.
@@ -419,7 +418,7 @@ def prune(
     except UnicodeEncodeError as wrong:
         raise PredicateError(f"the predicate is no Unicode text: {wrong}") from wrong
     answers = bytearray(len(rows))
-    given = (scope, len(spelled), lent.at(rows), len(rows), table, len(keys), lent.at(text), len(text), int(normalize))
+    given = (scope, len(spelled), lent.at(rows), len(rows), table, len(keys), lent.at(text), len(text), 0)
     status = _library().vortex_prune(*given, lent.at(answers), len(answers), ctypes.byref(fault))
     _answered_zones(status, fault, columns, keys)
     return answers

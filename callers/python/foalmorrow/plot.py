@@ -35,7 +35,7 @@ def plot(footers: Footers, column: str, predicate: Predicate, axes: Any = None) 
     if column not in [it.name for it in footers.columns]:
         raise PredicateError(f"the table has no column {column}")
     axes = axes if axes is not None else pyplot.subplots(figsize=(9, 4.5), layout="constrained")[1]
-    answers, bands = footers.prune(predicate, normalize=True), ranges(predicate.lowered(footers.columns), column)
+    answers, bands = footers.prune(predicate), ranges(predicate.lowered(footers.columns), column)
     bounds = [footers._bounds(column, zone) for zone in range(len(footers))]
     place = _places(axes, bounds, bands)
     _draw_bands(axes, bands, place)

@@ -193,8 +193,7 @@ class Table:
             return self.footers.prune(wanted, **options) | self.footers.prune(wanted, normalize=True, **options)
         predicate = wanted if isinstance(wanted, Predicate) else of_filters(wanted)
         footers = self._known if isinstance(self._known, Footers) else self._known.footers(predicate.names())
-        # Each of the two forms skips zones that the other one doesn't.
-        return footers.prune(predicate, **options) | footers.prune(predicate, normalize=True, **options)
+        return footers.prune(predicate, **options)
 
     def files_for(self, wanted: Predicate | Filters | str, **options: Any) -> list[DataFile]:
         """Returns the files, or row groups, that have to be read for a predicate: no row of any other one satisfies it. Errors are those of

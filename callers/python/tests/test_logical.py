@@ -471,7 +471,7 @@ class Statistics(unittest.TestCase):
             (f, "RR"), (~f, "RR"), (f & ~f, "RR"), (f | ~f, "RR"), ((col("o0") > 3) & f, "SR"), ((col("o0") > 3) | f, "RW"), (~(f & (col("o0") > 3)), "WR"),
             ((col("c0") == True) & f, "RR"), ((col("c0") == True) | f, "WW"), (col("o0").isin([]), "SS"), (~col("o0").isin([]), "WW"),  # noqa: E712
         ]:
-            found = footers.prune(made) | footers.prune(made, normalize=True)
+            found = footers.prune(made)
             self.assertEqual("".join(it.name[0] for it in found), answers, made)
         self.assertIn("(f(x))", str(footers.explain((col("o0") > 3) & f)))
 

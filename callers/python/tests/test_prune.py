@@ -117,20 +117,18 @@ class RandomTables(unittest.TestCase):
                 self.assertEqual(wanted, len(rows), (SEED, place, rows))
 
     def test_no_wanted_row_is_lost(self) -> None:
-        rng, counts, more = random.Random(SEED), [0, 0, 0], 0
+        rng, counts = random.Random(SEED), [0, 0, 0]
         for table in range(10_000):
             zones = [some_rows(rng) for _ in range(rng.randrange(4))]
             predicate, test = a_predicate(rng)
             footers = Footers.measure(COLUMNS, [chunk_of(COLUMNS, rows) for rows in zones], PRUNING)
             footers = weakened(rng, footers) if table % 4 == 0 else footers
-            plain, normal = footers.prune(predicate), footers.prune(predicate, normalize=True)
-            for answers in (plain, normal):
-                self.compare(answers, zones, test, (table, predicate))
-            for answer in plain:
+            answers = footers.prune(predicate)
+            self.compare(answers, zones, test, (table, predicate))
+            self.assertEqual(footers.prune(predicate, normalize=True), answers)
+            for answer in answers:
                 counts[answer] += 1
-            more += max(normal.count(Answer.SKIP) - plain.count(Answer.SKIP), 0)
         self.assertGreater(min(counts), 500, counts)
-        self.assertGreater(more, 20)
 
     def test_merged_as_from_left_to_right(self) -> None:
         rng = random.Random(SEED)
@@ -145,7 +143,7 @@ class RandomTables(unittest.TestCase):
             rows = [row for zone in zones for row in zone]
             self.assertIsNone(footers.only(PRUNING).merged().check(0, chunk_of(COLUMNS, rows)), (SEED, table))
             predicate, test = a_predicate(rng)
-            self.compare(footers.merged().prune(predicate, normalize=True), [rows], test, (table, predicate))
+            self.compare(footers.merged().prune(predicate), [rows], test, (table, predicate))
 
     def test_pieces_answer_the_same(self) -> None:
         rng = random.Random(SEED)
@@ -153,9 +151,9 @@ class RandomTables(unittest.TestCase):
         footers = Footers.measure(COLUMNS, [chunk_of(COLUMNS, rows) for rows in zones])
         for _ in range(100):
             predicate, _ = a_predicate(rng)
-            whole = footers.prune(predicate, normalize=True)
+            whole = footers.prune(predicate)
             for size in (1, 7, 64):
-                codes = b"".join(piece.prune(predicate, normalize=True).codes for piece in footers.shards(size))
+                codes = b"".join(piece.prune(predicate).codes for piece in footers.shards(size))
                 self.assertEqual(Answers(codes), whole)
 
 
@@ -205,13 +203,13 @@ class EachType(unittest.TestCase):
         for key in direct:
             self.assertEqual(merged[key], direct[key], key)
 
-    def test_the_two_forms(self) -> None:
+    def test_every_form_takes_part(self) -> None:
         column = Column("c", DType.I64, True)
         footers = Footers.measure([column], [{"c": [None, None]}, {"c": [1, 20]}], PRUNING)
         no_nulls, empty = (col("c") != 3) & col("c").is_not_null(), (col("c") > 9) & (col("c") < 3)
-        self.assertEqual(list(footers.prune(no_nulls) | footers.prune(no_nulls, normalize=True)), [Answer.SKIP, Answer.READ])
-        self.assertEqual(list(footers.prune(empty)), [Answer.READ, Answer.READ])
-        self.assertEqual(footers.prune(empty, normalize=True)[1], Answer.SKIP)
+        self.assertEqual(list(footers.prune(no_nulls)), [Answer.SKIP, Answer.READ])
+        self.assertEqual(list(footers.prune(empty)), [Answer.SKIP, Answer.SKIP])
+        self.assertEqual(list(footers.prune(col("c") > 3)), [Answer.SKIP, Answer.READ])
 
     def test_bounds_that_no_value_leaves(self) -> None:
         column = Column("c", DType.I64, True)
@@ -314,7 +312,7 @@ class Deep(unittest.TestCase):
             self.footers.prune(~made)
         told: list[object] = []
         old = threading.stack_size(256 * 1024)
-        thread = threading.Thread(target=lambda: told.append(list(self.footers.prune(made, normalize=True))))
+        thread = threading.Thread(target=lambda: told.append(list(self.footers.prune(made))))
         thread.start()
         thread.join()
         threading.stack_size(old)

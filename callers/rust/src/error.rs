@@ -6,8 +6,7 @@ use crate::raw::status;
 use crate::stat::Stat;
 use std::fmt;
 
-/// How many levels a predicate may have that is pruned by, and for
-/// [`prune_normalized`](crate::ZoneMap::prune_normalized) its normal form too: `VORTEX_MAX_DEPTH` of the header.
+/// How many levels a predicate may have that is pruned by: `VORTEX_MAX_DEPTH` of the header.
 ///
 /// A condition has one level, and a connective one more than its deeper operand. A chain of AND, or of OR, is joined in
 /// halves whatever its shape, so 100,000 conditions take 18 levels.
@@ -85,7 +84,7 @@ pub enum Error {
     BadPredicate,
     /// The predicate isn't of type bool.
     NotAPredicate,
-    /// The predicate, or its normal form that was asked for, has more than [`MAX_DEPTH`] levels.
+    /// The predicate has more than [`MAX_DEPTH`] levels.
     TooDeep,
     /// What is handed in doesn't fit the map, or two maps don't fit each other: how, in words.
     Misfit(String),
@@ -154,7 +153,7 @@ impl fmt::Display for Error {
             }
             Error::BadPredicate => write!(f, "the predicate is no expression over the columns that it names"),
             Error::NotAPredicate => write!(f, "the predicate isn't of type bool"),
-            Error::TooDeep => write!(f, "the predicate or its normal form has more than {MAX_DEPTH} levels"),
+            Error::TooDeep => write!(f, "the predicate has more than {MAX_DEPTH} levels"),
             Error::Misfit(words) => f.write_str(words),
             Error::Other(status) => write!(f, "the library answered by status {status}, which is unknown here"),
         }

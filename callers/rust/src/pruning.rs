@@ -62,7 +62,7 @@ impl<'a> Asked<'a> {
     }
 
     // What to do with each zone.
-    pub(crate) fn answers(&self, flags: u8) -> Result<Vec<Answer>, Error> {
+    pub(crate) fn answers(&self) -> Result<Vec<Answer>, Error> {
         let names = (0..self.places.len()).map(|slot| format!("c{slot}"));
         // The library takes no table without columns: a predicate that names none gets one that it doesn't name.
         let unknown = self.unknown.max(usize::from(self.places.is_empty()));
@@ -86,7 +86,7 @@ impl<'a> Asked<'a> {
                 stats.len(),
                 self.text.as_ptr(),
                 self.text.len(),
-                flags,
+                0,
                 codes.as_mut_ptr(),
                 codes.len(),
                 &mut fault,

@@ -23,9 +23,6 @@ pub mod status {
     pub const TOO_DEEP: u8 = 17;
 }
 
-/// `VORTEX_NORMALIZE` of `vortex_flag`.
-pub const NORMALIZE: u8 = 1;
-
 /// `vortex_fault`.
 #[repr(C)]
 #[derive(Clone, Copy, Debug, Default)]

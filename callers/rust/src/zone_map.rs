@@ -6,7 +6,6 @@ use crate::error::Error;
 use crate::logical::Logical;
 use crate::predicate::Predicate;
 use crate::pruning::Asked;
-use crate::raw;
 use crate::stat::{Precision, Stat, Value};
 use std::collections::HashSet;
 
@@ -188,7 +187,8 @@ impl ZoneMap {
     }
 
     /// Tells what to do with each zone. Of whatever rows the statistics are true: no row of a skipped zone satisfies
-    /// the predicate, and each row of a whole zone does.
+    /// the predicate, and each row of a whole zone does. Pruning goes by the predicate as it is, by its normal form,
+    /// and by tests of its truth that see columns of nulls alone.
     ///
     /// Only the columns that the predicate names are looked at. A column without null that lacks a null count counts
     /// no nulls.
@@ -196,15 +196,15 @@ impl ZoneMap {
     /// # Errors
     /// `UnknownColumn`, `BadType` and `BadLiteral` with the column; `TooDeep` and `NoMemory`.
     pub fn prune(&self, predicate: &Predicate) -> Result<Vec<Answer>, Error> {
-        Asked::of(self, predicate)?.answers(0)
+        Asked::of(self, predicate)?.answers()
     }
 
-    /// Tells what to do with each zone under the predicate in its normal form, which may skip more.
+    /// Answers as [`ZoneMap::prune`] does, which goes by the normal form, too.
     ///
     /// # Errors
     /// As of [`ZoneMap::prune`].
     pub fn prune_normalized(&self, predicate: &Predicate) -> Result<Vec<Answer>, Error> {
-        Asked::of(self, predicate)?.answers(raw::NORMALIZE)
+        self.prune(predicate)
     }
 
     /// Merges each zone with the zone of `right` at the same place, which stands behind it.

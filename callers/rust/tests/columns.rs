@@ -27,7 +27,7 @@ fn any_name_can_be_pruned_by() {
     let map = tens(&names, 3);
     for name in names {
         assert_eq!(map.prune(&col(name).ge(10_i64)), Ok(vec![Skip, Whole, Whole]), "{name}");
-        assert_eq!(map.prune_normalized(&col(name).lt(15_i64)), Ok(vec![Whole, Read, Skip]), "{name}");
+        assert_eq!(map.prune(&col(name).lt(15_i64)), Ok(vec![Whole, Read, Skip]), "{name}");
     }
     let two = col("c1").lt(15_i64).and(col("c0").gt(12_i64));
     assert_eq!(map.prune(&two), Ok(vec![Skip, Read, Skip]));
@@ -100,12 +100,12 @@ fn constants_are_pruned_by() {
     for map in [tens(&["a"], 2), tens(&[], 2)] {
         assert_eq!(map.prune(&Predicate::constant(false)), Ok(vec![Skip; 2]));
         assert_eq!(map.prune(&Predicate::constant(true)), Ok(vec![Whole; 2]));
-        assert_eq!(map.prune_normalized(&!Predicate::constant(true)), Ok(vec![Skip; 2]));
+        assert_eq!(map.prune(&!Predicate::constant(true)), Ok(vec![Skip; 2]));
     }
     let map = tens(&["a"], 2);
     let none: [i64; 0] = [];
     assert_eq!(map.prune(&col("a").is_in(none)), Ok(vec![Skip; 2]));
-    assert_eq!(map.prune_normalized(&!col("a").is_in(none)), Ok(vec![Whole; 2]));
+    assert_eq!(map.prune(&!col("a").is_in(none)), Ok(vec![Whole; 2]));
     assert_eq!(map.prune(&col("a").lt(10_i64).or(Predicate::constant(false))), Ok(vec![Whole, Skip]));
 }
 

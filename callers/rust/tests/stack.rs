@@ -29,11 +29,11 @@ fn map() -> ZoneMap {
 
 type Answers = Result<Vec<Answer>, Error>;
 
-// Both answers by a predicate, on a thread of 256 KiB.
-fn on_a_small_stack(predicate: &Predicate) -> [Answers; 2] {
+// The answers by a predicate, on a thread of 256 KiB.
+fn on_a_small_stack(predicate: &Predicate) -> Answers {
     let map = map();
     std::thread::scope(|scope| {
-        let prune = || [map.prune(predicate), map.prune_normalized(predicate)];
+        let prune = || map.prune(predicate);
         std::thread::Builder::new().stack_size(STACK).spawn_scoped(scope, prune).unwrap().join().unwrap()
     })
 }
@@ -80,16 +80,12 @@ fn deep(grow: fn(Predicate, usize) -> Predicate, steps: usize) -> Predicate {
 fn predicate_of_any_depth_is_answered_or_too_deep() {
     for Growth(name, levels, grow) in GROWTHS {
         for steps in (0..MAX_DEPTH + 32).chain([4_096, MANY]) {
-            let [plain, normal] = on_a_small_stack(&deep(grow, steps));
-            if levels * steps < MAX_DEPTH {
-                let zones = |answers: Answers| answers.map(|it| it.len());
-                assert_eq!((zones(plain), zones(normal)), (Ok(3), Ok(3)), "{name}, {steps} steps");
-            } else {
-                assert_eq!((plain, normal), (Err(Error::TooDeep), Err(Error::TooDeep)), "{name}, {steps} steps");
-            }
+            let zones = on_a_small_stack(&deep(grow, steps)).map(|answers| answers.len());
+            let told = if levels * steps < MAX_DEPTH { Ok(3) } else { Err(Error::TooDeep) };
+            assert_eq!(zones, told, "{name}, {steps} steps");
         }
     }
-    assert_eq!(Error::TooDeep.to_string(), "the predicate or its normal form has more than 128 levels");
+    assert_eq!(Error::TooDeep.to_string(), "the predicate has more than 128 levels");
 }
 
 #[test]
@@ -97,8 +93,8 @@ fn chains_in_chains_add_up_their_levels() {
     // Of a chain of 2 to the power of 6 a level for each power, and one for the comparisons.
     let chain = |items: usize| (1..items).fold(col("n").ge(0_i64), |all, _| all.and(col("n").ge(0_i64)));
     let nested = |nots: usize| (0..nots).fold(chain(64), |all, _| !all);
-    assert_eq!(on_a_small_stack(&nested(MAX_DEPTH - 7))[0].clone().map(|it| it.len()), Ok(3));
-    assert_eq!(on_a_small_stack(&nested(MAX_DEPTH - 6))[0], Err(Error::TooDeep));
+    assert_eq!(on_a_small_stack(&nested(MAX_DEPTH - 7)).map(|answers| answers.len()), Ok(3));
+    assert_eq!(on_a_small_stack(&nested(MAX_DEPTH - 6)), Err(Error::TooDeep));
 }
 
 #[test]
@@ -107,17 +103,13 @@ fn chain_of_one_connective_is_not_deep() {
         [|all, one| all.and(one), |all, one| one.and(all), |all, one| all.or(one), |all, one| one.or(all)];
     for (place, join) in join.into_iter().enumerate() {
         let chain = (1..MANY).fold(col("n").ge(0_i64), |all, place| join(all, col("n").ge(place as i64)));
-        let [plain, normal] = on_a_small_stack(&chain);
         let found = if place < 2 { Answer::Skip } else { Answer::Whole };
-        assert_eq!(plain, Ok(vec![found; 3]), "{place}");
-        assert_eq!(normal, Ok(vec![found; 3]), "{place}");
+        assert_eq!(on_a_small_stack(&chain), Ok(vec![found; 3]), "{place}");
     }
 }
 
 #[test]
 fn is_in_of_a_hundred_thousand_values_is_answered() {
     let wanted = col("n").is_in((2..MANY as i64).map(|it| 3 * it).chain([1]));
-    let [plain, normal] = on_a_small_stack(&wanted);
-    assert_eq!(plain, Ok(vec![Answer::Read, Answer::Read, Answer::Skip]));
-    assert_eq!(normal, plain);
+    assert_eq!(on_a_small_stack(&wanted), Ok(vec![Answer::Read, Answer::Read, Answer::Skip]));
 }

@@ -339,7 +339,7 @@ fn prune_by_timestamps_and_opaque_conditions() {
     assert_eq!(map.prune(&at.gt(literal).or(opaque())), Ok(vec![Answer::Read, Answer::Read, Answer::Whole]));
     // Two conditions of the same words needn't agree.
     assert_eq!(map.prune(&opaque().and(!opaque())), Ok(vec![Answer::Read; 3]));
-    assert_eq!(map.prune_normalized(&opaque().or(!opaque())), Ok(vec![Answer::Read; 3]));
+    assert_eq!(map.prune(&opaque().or(!opaque())), Ok(vec![Answer::Read; 3]));
 }
 
 #[test]
@@ -373,7 +373,7 @@ fn prune_floats_by_each_meaning() {
     assert_eq!(of(Nan::Greatest), [Answer::Skip, Answer::Read, Answer::Whole, Answer::Whole]);
     assert_eq!(of(Nan::Ieee), [Answer::Skip, Answer::Read, Answer::Skip, Answer::Whole]);
     assert_eq!(of(Nan::Either), [Answer::Skip, Answer::Read, Answer::Read, Answer::Whole]);
-    let not = |nan: Nan| map.prune_normalized(&!col("c").float64(nan).lt(1.5)).unwrap();
+    let not = |nan: Nan| map.prune(&!col("c").float64(nan).lt(1.5)).unwrap();
     assert_eq!(not(Nan::Ieee), [Answer::Skip, Answer::Read, Answer::Whole, Answer::Whole]);
 }
 
@@ -430,7 +430,7 @@ fn never_and_always_true_need_no_bounds() {
     assert_eq!(map.prune(&column.ne(literal)), Ok(vec![Answer::Whole, Answer::Read, Answer::Read]));
     assert_eq!(map.prune(&!column.eq(literal)), Ok(vec![Answer::Whole, Answer::Read, Answer::Read]));
     assert_eq!(map.prune(&!column.ne(literal)), Ok(vec![Answer::Skip; 3]));
-    assert_eq!(map.prune_normalized(&!!column.eq(literal)), Ok(vec![Answer::Skip; 3]));
+    assert_eq!(map.prune(&!!column.eq(literal)), Ok(vec![Answer::Skip; 3]));
     let in_null = map.prune(&column.eq(literal).or(column.is_null()));
     assert_eq!(in_null, Ok(vec![Answer::Skip, Answer::Read, Answer::Read]));
 }

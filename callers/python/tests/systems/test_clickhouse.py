@@ -134,7 +134,7 @@ class ClickHouseTables(unittest.TestCase):
         for _ in range(times):
             predicate = joined(rng, leaf(rng), lambda: leaf(rng))  # type: ignore[operator]
             condition = predicate.sql(granules.footers.columns, spelling)
-            answers = granules.footers.prune(predicate, normalize=True)
+            answers = granules.footers.prune(predicate)
             kept = sum(rows for rows, answer in zip(granules.footers.rows, answers) if answer != Answer.SKIP)
             whole = sum(rows for rows, answer in zip(granules.footers.rows, answers) if answer == Answer.WHOLE)
             told = clickhouse.count(self.query, table, condition)
