@@ -50,7 +50,10 @@ fn skips(
     let given = prune(alloc, map, predicate, &rules)?;
     let pruning = PruningPredicate::try_new(alloc, predicate, &rules)?;
     let all = pruning.prune(alloc, map)?;
-    Ok((!given.skipped.is_empty(), all.first() == Some(&Verdict::Skipped)))
+    Ok((
+        !given.skipped.is_empty(),
+        all.first() == Some(&Verdict::Skipped),
+    ))
 }
 
 // The zone is skipped with the predicate as it is, and by a pruning predicate, as told.

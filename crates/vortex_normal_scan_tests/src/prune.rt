@@ -16,7 +16,10 @@ fn finds_whole(alloc: Global, predicate: Built) -> Result<(bool, bool), StatsErr
     let (parts, predicate) = (whole(alloc)?, predicate?);
     let given = pruned_as_given(alloc, &parts, &predicate)?;
     let all = verdicts(alloc, &parts, &predicate, &Rules::builtin(alloc))?;
-    Ok((!given.whole.is_empty(), all.first() == Some(&Verdict::Whole)))
+    Ok((
+        !given.whole.is_empty(),
+        all.first() == Some(&Verdict::Whole),
+    ))
 }
 
 #[test]
