@@ -1,7 +1,7 @@
--- A predicate that is refuted whatever is told of the leaves that aren't read refutes its condition.
+-- A predicate that is refuted whatever is told of the leaves that aren't read refutes its condition, and one that is satisfied so confirms it.
 use Rattle.std.proofs.Common.{◌≡◌, ◌≢◌, ◌<◌, ℕ, zero, suc, Bool, true, false, List, [], ◌∷◌, length, refl, ◌∙◌, ap, arith}
 use Rattle.std.proofs.lemmas.Bool.Decides.{nat_tests}
-use Rattle.std.specs.Prelude.{Option, Some, map, replicate, slice_get, ◌&&◌, ◌==◌}
+use Rattle.std.specs.Prelude.{Option, None, Some, map, replicate, slice_get, ◌&&◌, ◌==◌}
 use Rattle.std.specs.List.{list_all}
 use lib.Pointwise.{pointwise}
 use Rattle.vortex_base.specs.declared.dtype.DType.{DType}
@@ -10,11 +10,13 @@ use Rattle.vortex_base.specs.Data.Exact.{both_true}
 use Rattle.vortex_base.specs.Data.Types.{dtype_eq, dtype_eq_is_exact}
 use Rattle.vortex_base.specs.Data.Scalars.{Constant, is_optional_value}
 use Rattle.vortex_base.specs.Data.Scopes.{Named}
-use Rattle.vortex_base.specs.Data.Columns.{ColumnData, row_of, row_count, value_at, all_fit, all_long, has_types, is_column}
+use Rattle.vortex_base.specs.Data.Columns.{ChunkData, ColumnData, IsChunk, row_of, row_count, value_at, all_fit, all_long, has_types, is_column}
 use Rattle.vortex_expr.specs.Meanings.Meaning.{truth_value, meaning, is_true}
 use Rattle.vortex_sql_syntax.specs.declared.tree.Leaf.{Leaf}
-use Rattle.vortex_sql.specs.Lowering.{IsRowOf, opaques, truth_on, told_cell, with_told}
-use Rattle.vortex_sql.specs.Pruning.{told_column, with_columns, RefutesCondition}
+use Rattle.vortex_expr.specs.Trees.Tree.{Tree, Place}
+use Rattle.vortex_sql_syntax.specs.declared.tree.Condition.{Condition}
+use Rattle.vortex_sql.specs.Lowering.{IsRowOf, Says, opaques, truth_on, told_cell, with_told}
+use Rattle.vortex_sql.specs.Pruning.{told_column, with_columns, ConfirmsCondition, RefutesCondition}
 
 abbrev cell : ℕ → ColumnData → Constant
 cell r c = record { dtype = c.dtype; value = value_at (slice_get c.values r) }
@@ -62,20 +64,37 @@ rows_with : (n r : ℕ) (f : Leaf → Option Bool) (ls : List Leaf) (cs : List C
 rows_with n r f ls [] h = told_rows n r f ls h
 rows_with n r f ls (c ∷ cs) h = ap (λ rest. cell r c ∷ rest) (rows_with n r f ls cs h)
 
--- ---- the law
+-- ---- the laws
 
 not_true : (a : Option Bool) (v : Option ScalarValue) → v ≡ truth_value a → is_true v ≡ false → a ≢ Some true
 not_true a v e h k = let q : v ≡ truth_value (Some true) = e ∙ ap truth_value k in let p : is_true v ≡ true = ap is_true q in cc
 
+true_alone : (a : Option Bool) (v : Option ScalarValue) → v ≡ truth_value a → is_true v ≡ true → a ≡ Some true
+true_alone None v e h = let p : is_true v ≡ false = ap is_true e in cc
+true_alone (Some false) v e h = let p : is_true v ≡ false = ap is_true e in cc
+true_alone (Some true) v e h = refl
+
+module _ (k : ChunkData) (c : Condition) (e : Tree Place) (is_chunk : IsChunk k) (says : Says k.scope c e) (r : ℕ) (below : r < row_count k.columns) (f : Leaf → Option Bool) where
+  abbrev own_row : List Constant
+  own_row = row_of r k.columns
+
+  abbrev wide_row : List Constant
+  wide_row = row_of r (with_columns (row_count k.columns) f (opaques k.scope c) k.columns)
+
+  told : meaning e wide_row (row_count k.columns) ≡ truth_value (truth_on k.scope own_row f c)
+  told =
+      let shape = (both_true _ _ (both_true _ _ is_chunk).1) in
+      let types = both_true _ _ shape.1 in
+      let long = (both_true _ _ shape.0).1 in
+      let n = row_count k.columns in
+      let is_row : IsRowOf k.scope own_row = is_row_of n r k.scope k.columns types.0 types.1 long below in
+      let same = rows_with n r f (opaques k.scope c) k.columns below in
+      ap (λ w. meaning e w n) same ∙ says own_row f n is_row
+
 pub refutes : RefutesCondition
 refutes k c e is_chunk says r below none f =
-    let shape = (both_true _ _ (both_true _ _ is_chunk).1) in
-    let types = both_true _ _ shape.1 in
-    let long = (both_true _ _ shape.0).1 in
-    let n = row_count k.columns in
-    let row = row_of r k.columns in
-    let is_row : IsRowOf k.scope row = is_row_of n r k.scope k.columns types.0 types.1 long below in
-    let same = rows_with n r f (opaques k.scope c) k.columns below in
-    let told : meaning e (row_of r (with_columns n f (opaques k.scope c) k.columns)) n ≡ truth_value (truth_on k.scope row f c) =
-    ap (λ w. meaning e w n) same ∙ says row f n is_row in
-    not_true (truth_on k.scope row f c) (meaning e (row_of r (with_columns n f (opaques k.scope c) k.columns)) n) told (none f)
+    not_true (truth_on k.scope (row_of r k.columns) f c) (meaning e (wide_row k c e is_chunk says r below f) (row_count k.columns)) (told k c e is_chunk says r below f) (none f)
+
+pub confirms : ConfirmsCondition
+confirms k c e is_chunk says r below each f =
+    true_alone (truth_on k.scope (row_of r k.columns) f c) (meaning e (wide_row k c e is_chunk says r below f) (row_count k.columns)) (told k c e is_chunk says r below f) (each f)

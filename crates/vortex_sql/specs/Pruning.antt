@@ -27,3 +27,14 @@ RefutesCondition =
     (k : ChunkData) (c : Condition) (e : Tree Place) → IsChunk k → Says k.scope c e → (r : ℕ) → r < row_count k.columns
     → ((f : Leaf → Option Bool) → satisfies e (row_of r (with_columns (row_count k.columns) f (opaques k.scope c) k.columns)) (row_count k.columns) ≡ false)
     → Refuted k.scope c k.columns r
+
+-- the row satisfies it, whatever they mean
+abbrev pub Confirmed : List Named → Condition → List ColumnData → ℕ → Type 0
+Confirmed scope c cs r = (f : Leaf → Option Bool) → truth_on scope (row_of r cs) f c ≡ Some true
+
+-- if the predicate of a condition is satisfied by a row of a chunk whatever columns tell of the leaves that aren't read, then so is the condition by the row
+abbrev pub ConfirmsCondition : Type 0
+ConfirmsCondition =
+    (k : ChunkData) (c : Condition) (e : Tree Place) → IsChunk k → Says k.scope c e → (r : ℕ) → r < row_count k.columns
+    → ((f : Leaf → Option Bool) → satisfies e (row_of r (with_columns (row_count k.columns) f (opaques k.scope c) k.columns)) (row_count k.columns) ≡ true)
+    → Confirmed k.scope c k.columns r

@@ -1,12 +1,13 @@
 //! The text of a condition as a predicate over a scope that has a column for each leaf that isn't
 //! read.
-ghost use Rattle.std.specs.Prelude.{◌≡◌, ◌++◌, [], List, IfOk, IsTrue, length, map};
+ghost use Rattle.std.specs.Prelude.{◌≡◌, ◌++◌, ◌∷◌, [], List, IfOk, IsTrue, false, length, map};
 ghost use Rattle.vortex_base.specs.Data.Scopes.{Named, named_columns};
 ghost use Rattle.vortex_expr.specs.Meanings.Fitting.{fits_scope};
 ghost use Rattle.vortex_expr.specs.Trees.Tree.{is_plain};
 ghost use Rattle.vortex_sql.specs.Lowering as spec;
 ghost use Rattle.vortex_sql.specs.Readings.{bool_or_null};
 ghost use Rattle.vortex_sql.specs.Refusals.{misfits};
+ghost use Rattle.vortex_sql_syntax.specs.Joining.{Joins, ands};
 ghost use Rattle.vortex_sql_syntax.specs.Places.{Ascends, leaves};
 
 use crate::error::SqlError;
@@ -118,6 +119,8 @@ pub fn condition_by(
 ) -> Result<Predicate, SqlError>
     ensures says { IfOk result (λ p. spec.Says scope.now p.condition p.predicate) }
     ensures places { IfOk result (λ p. Ascends 0 (leaves p.condition) (length text.now)) }
+    ensures joined { IfOk result (λ p.
+        Joins text.now 0 (leaves p.condition) (false ∷ ands p.condition)) }
     ensures opaque { IfOk result (λ p.
         p.opaque.items ≡ map spec.span_of (spec.opaques scope.now p.condition)) }
     ensures typed { IfOk result (λ p. misfits scope.now p.condition ≡ []) }
@@ -146,6 +149,8 @@ pub fn condition_by(
 pub fn condition(alloc: Global, text: &str, scope: &Scope) -> Result<Predicate, SqlError>
     ensures says { IfOk result (λ p. spec.Says scope.now p.condition p.predicate) }
     ensures places { IfOk result (λ p. Ascends 0 (leaves p.condition) (length text.now)) }
+    ensures joined { IfOk result (λ p.
+        Joins text.now 0 (leaves p.condition) (false ∷ ands p.condition)) }
     ensures opaque { IfOk result (λ p.
         p.opaque.items ≡ map spec.span_of (spec.opaques scope.now p.condition)) }
     ensures typed { IfOk result (λ p. misfits scope.now p.condition ≡ []) }

@@ -1,6 +1,6 @@
 //! Laws of this layer, in the words of its definitions. The functions carry them by their
 //! contracts.
-ghost use Rattle.vortex_sql.specs.Pruning.{RefutesCondition};
+ghost use Rattle.vortex_sql.specs.Pruning.{ConfirmsCondition, RefutesCondition};
 ghost use Rattle.vortex_sql.specs.Worked.{OrderExamples, OtherReadings, PatternExamples};
 ghost use Rattle.vortex_sql.specs.Worked.{ReadingExamples, TruthExamples};
 
@@ -8,6 +8,12 @@ ghost use Rattle.vortex_sql.specs.Worked.{ReadingExamples, TruthExamples};
 /// the leaves that aren't read, none satisfies the condition.
 pub fn predicate_refutes_condition()
     ensures { RefutesCondition }
+{}
+
+/// Where each row of a zone satisfies the predicate of a condition, whatever stands in those columns,
+/// each satisfies the condition.
+pub fn predicate_confirms_condition()
+    ensures { ConfirmsCondition }
 {}
 
 /// Worked rows of what is said of tests, and of what they mean.
