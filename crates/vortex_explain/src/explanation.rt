@@ -5,7 +5,6 @@ use std::alloc::{AllocError, Global};
 use vortex_base::scope::Scope;
 use vortex_expr::bound_expression::BoundExpression;
 use vortex_normal::normalize::normalize;
-use vortex_prune::scan::verdict::Verdict;
 use vortex_prune::zone_map::ZoneMap;
 use vortex_rewrite::rewrite::rules::Rules;
 use vortex_stats::error::StatsError;
@@ -18,31 +17,41 @@ const MOST_TESTED: usize = 10;
 
 const SIGNS: usize = 100;
 
-fn word_of(verdict: Verdict) -> &'static str {
-    match verdict {
-        Verdict::Skipped => "skipped",
-        Verdict::Whole => "whole",
-        Verdict::Tested => "tested",
+// What becomes of a part.
+#[derive(Clone, Copy, Debug, PartialEq, Eq)]
+enum Fate {
+    Skipped,
+    Whole,
+    Tested,
+}
+
+impl Fate {
+    fn word(self) -> &'static str {
+        match self {
+            Fate::Skipped => "skipped",
+            Fate::Whole => "whole",
+            Fate::Tested => "tested",
+        }
+    }
+
+    fn sign(self) -> &'static str {
+        match self {
+            Fate::Skipped => ".",
+            Fate::Whole => "#",
+            Fate::Tested => "?",
+        }
     }
 }
 
-fn sign_of(verdict: Verdict) -> &'static str {
-    match verdict {
-        Verdict::Skipped => ".",
-        Verdict::Whole => "#",
-        Verdict::Tested => "?",
-    }
-}
-
-// The verdict on a part by the proofs of the predicate.
-fn verdict_on(alloc: Global, proofs: &Proofs, part: PartAt<'_>) -> Result<Verdict, StatsError> {
+// A part's fate by the proofs of the predicate.
+fn fate_of(alloc: Global, proofs: &Proofs, part: PartAt<'_>) -> Result<Fate, StatsError> {
     if holds(alloc, proofs.falsifier.as_ref(), part)? {
-        return Ok(Verdict::Skipped);
+        return Ok(Fate::Skipped);
     }
     if holds(alloc, proofs.satisfier.as_ref(), part)? {
-        return Ok(Verdict::Whole);
+        return Ok(Fate::Whole);
     }
-    Ok(Verdict::Tested)
+    Ok(Fate::Tested)
 }
 
 // A line with an expression, if there is one.
@@ -122,10 +131,10 @@ fn push_part(
     scope: &Scope,
     leaves: &[Leaf<'_>],
     part: PartAt<'_>,
-    verdict: Verdict,
+    fate: Fate,
 ) -> Result<(), StatsError> {
     let place = part.place;
-    let word = word_of(verdict);
+    let word = fate.word();
     let rows = rows_of(part.map, place);
     let line = format!(in alloc; "part {place}: {word}, {rows} rows\n")?;
     text.push_str(&line)?;
@@ -143,18 +152,18 @@ fn push_part(
 
 // The signs of many parts, each of them for as many neighbours as it takes, among which one that is
 // tested goes before a whole one and that before a skipped one.
-fn push_strip(alloc: Global, text: &mut String, verdicts: &[Verdict]) -> Result<(), AllocError> {
-    let run = 1 + verdicts.len().saturating_sub(1) / SIGNS;
+fn push_strip(alloc: Global, text: &mut String, fates: &[Fate]) -> Result<(), AllocError> {
+    let run = 1 + fates.len().saturating_sub(1) / SIGNS;
     let line = format!(in alloc; "parts, {run} a sign (. skipped, # whole, ? tested): ")?;
     text.push_str(&line)?;
-    for neighbours in verdicts.chunks(run) {
-        let mut verdict = Verdict::Skipped;
+    for neighbours in fates.chunks(run) {
+        let mut fate = Fate::Skipped;
         for each in neighbours {
-            if *each == Verdict::Tested || verdict == Verdict::Skipped {
-                verdict = *each;
+            if *each == Fate::Tested || fate == Fate::Skipped {
+                fate = *each;
             }
         }
-        text.push_str(sign_of(verdict))?;
+        text.push_str(fate.sign())?;
     }
     text.push_str("\n")
 }
@@ -163,11 +172,11 @@ fn push_strip(alloc: Global, text: &mut String, verdicts: &[Verdict]) -> Result<
 fn most_tested(
     alloc: Global,
     map: &ZoneMap,
-    verdicts: &[Verdict],
+    fates: &[Fate],
 ) -> Result<Vec<(u64, usize)>, AllocError> {
     let mut tested = Vec::new(alloc);
-    for (place, verdict) in verdicts.iter().enumerate() {
-        if *verdict == Verdict::Tested {
+    for (place, fate) in fates.iter().enumerate() {
+        if *fate == Fate::Tested {
             tested.push((u64::MAX - rows_of(map, place), place))?;
         }
     }
@@ -183,18 +192,18 @@ fn push_parts(
     scope: &Scope,
     leaves: &[Leaf<'_>],
     map: &ZoneMap,
-    verdicts: &[Verdict],
+    fates: &[Fate],
 ) -> Result<(), StatsError> {
-    if verdicts.len() <= TOLD {
-        for (place, verdict) in verdicts.iter().enumerate() {
-            push_part(alloc, text, scope, leaves, PartAt { map, place }, *verdict)?;
+    if fates.len() <= TOLD {
+        for (place, fate) in fates.iter().enumerate() {
+            push_part(alloc, text, scope, leaves, PartAt { map, place }, *fate)?;
         }
         return Ok(());
     }
-    push_strip(alloc, text, verdicts)?;
-    for (_, place) in most_tested(alloc, map, verdicts)? {
-        if let Some(verdict) = verdicts.get(place) {
-            push_part(alloc, text, scope, leaves, PartAt { map, place }, *verdict)?;
+    push_strip(alloc, text, fates)?;
+    for (_, place) in most_tested(alloc, map, fates)? {
+        if let Some(fate) = fates.get(place) {
+            push_part(alloc, text, scope, leaves, PartAt { map, place }, *fate)?;
         }
     }
     Ok(())
@@ -202,9 +211,8 @@ fn push_parts(
 
 /// What a scan of parts by the built-in rules does and why, as lines of text: the predicate with its
 /// falsifier and its satisfier, its normal form with those of it, and for each part, of which the map
-/// has the statistics, whether it is skipped, whole or tested, with what the proofs of each leaf of
-/// the predicate say by its statistics: true, false, or null for want of the statistics that are
-/// named. The verdicts are the scan's, which goes by the predicate as it is. Of more than 50 parts
+/// has the statistics, whether it is skipped, whole or tested, with what the proofs of each leaf of the predicate say by its
+/// statistics: true, false, or null for want of the statistics that are named. Of more than 50 parts
 /// a strip of signs tells what becomes of them, and the ten tested ones with the most rows are told.
 ///
 /// `NotPredicate` if the predicate isn't of type Bool, else `Memory` alone.
@@ -228,10 +236,10 @@ pub fn explain(
         &Proofs::of(alloc, &normal, &rules)?,
     )?;
     let leaves = leaves_of(alloc, predicate, &rules)?;
-    let mut verdicts = Vec::with_capacity(alloc, map.len())?;
+    let mut fates = Vec::with_capacity(alloc, map.len())?;
     for place in 0..map.len() {
-        verdicts.push(verdict_on(alloc, &proofs, PartAt { map, place })?)?;
+        fates.push(fate_of(alloc, &proofs, PartAt { map, place })?)?;
     }
-    push_parts(alloc, &mut text, scope, &leaves, map, &verdicts)?;
+    push_parts(alloc, &mut text, scope, &leaves, map, &fates)?;
     Ok(text)
 }

@@ -1,5 +1,5 @@
 -- By built-in rules, the proofs of a predicate find at least what the predicate's own proofs find and those of its normal form.
-use Rattle.std.proofs.Common.{◌≡◌, ℕ, List, [], Bool, false, true, None, Option, IsTrue, ap, ◌∙◌, if◌then◌else◌}
+use Rattle.std.proofs.Common.{◌≡◌, ℕ, [], Bool, false, true, None, Option, IsTrue, ap, ◌∙◌, if◌then◌else◌}
 use Rattle.vortex_expr.specs.Trees.Tree.{Tree, Place}
 use Rattle.vortex_normal.specs.Groups.{normal}
 use Rattle.vortex_normal_scan.proofs.Found.{skip_closed, whole_closed}

@@ -1,8 +1,8 @@
 use Rattle.std.proofs.Common.{Some, ap, map, ◌∙◌}
 use Rattle.std.proofs.lemmas.Result.{err_from_is_err_and}
-use Rattle.vortex_calls.specs.Prunes.{answer_by, answer_of}
+use Rattle.vortex_calls.specs.Prunes.{answer_of}
 use Rattle.vortex_calls.specs.Scopes.{max_depth}
-use Rattle.vortex_calls.proofs.AnswerLemmas.{pruned_answers, verdicts_answered}
+use Rattle.vortex_calls.proofs.AnswerLemmas.{pruned_answers}
 use Rattle.vortex_calls.proofs.named.map_answers.Goals as goal
 
 pub returns-in_err-verdicts-clause-memory : goal.returns-in_err-verdicts-clause-memory
