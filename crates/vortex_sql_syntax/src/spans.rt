@@ -41,8 +41,8 @@ fn has_and(bytes: &[u8]) -> bool
     bytes.iter().any(|byte| *byte == b'D' || *byte == b'd')
 }
 
-// Returns where the last leaf ends, if from a place on there is an AND before each leaf exactly where
-// AND joins it to what is before it.
+// Returns where the last leaf ends, if from a place on there is an AND before each leaf exactly
+// where AND joins it to what is before it.
 #[tactic(auto, using(crate::proofs::Joined::ends))]
 fn end_of_joined(text: &[u8], condition: &Condition, from: usize, is_and: bool) -> Option<usize>
     ensures joins { IfSome result (λ end.

@@ -183,5 +183,5 @@ class Conditions(unittest.TestCase):
         texts = [" ".join(words) for length in range(1, 5) for words in product(tokens, repeat=length)]
         counts = self.compare(texts)
         print(f"short texts: {counts}", end=" ", flush=True)
-        self.assertGreater(counts["read by both"], 200)
+        self.assertGreater(counts["read by both"], 150)
         self.assertLess(counts["refused here alone"], 100)
