@@ -1,7 +1,7 @@
 // Reads conditions in SQL, one a line, and prints each as it was read.
 //
-// Each part that is joined or tested stands in parentheses, and each leaf that isn't read in one pair
-// more. Of a text that is refused it prints why.
+// Each part that is joined or tested stands in parentheses, and each leaf that isn't read in one
+// pair more. Of a text that is refused it prints why.
 #![tactic(auto)]
 
 use std::alloc::{AllocError, Global};
