@@ -190,7 +190,7 @@ class Table:
         A text, the options and the errors are those of ``Footers.prune``. Of a predicate and of filters only the columns that they name are looked at.
         """
         if isinstance(wanted, str):
-            return self.footers.prune(wanted, **options) | self.footers.prune(wanted, normalize=True, **options)
+            return self.footers.prune(wanted, **options)
         predicate = wanted if isinstance(wanted, Predicate) else of_filters(wanted)
         footers = self._known if isinstance(self._known, Footers) else self._known.footers(predicate.names())
         return footers.prune(predicate, **options)
