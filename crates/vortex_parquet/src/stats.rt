@@ -434,5 +434,12 @@ pub fn groups_of(
         (spec.groups_of leaves.now count (file_view file.now)) }
 {
     let groups = file.groups;
-    groups_in(alloc, leaves, count, &file.orders, groups.count, groups.from)
+    groups_in(
+        alloc,
+        leaves,
+        count,
+        &file.orders,
+        groups.count,
+        groups.from,
+    )
 }
