@@ -330,7 +330,7 @@ fn each_type_is_pruned_and_merged() {
     nulls.push(&[Column::nulls(3)]).unwrap();
     assert_eq!(nulls.prune(&col("z").is_null()), Ok(vec![Answer::Whole]));
     assert_eq!(nulls.prune(&col("z").is_not_null()), Ok(vec![Answer::Skip]));
-    assert_eq!(nulls.prune(&col("z").eq(Literal::Null(Kind::Null))), Ok(vec![Answer::Read]));
+    assert_eq!(nulls.prune(&col("z").eq(Literal::Null(Kind::Null))), Ok(vec![Answer::Skip]));
 }
 
 fn misfit(words: &str) -> Error {
