@@ -1,4 +1,4 @@
-//! The parts of Thrift's compact protocol: numbers, byte strings, and the heads of fields and lists.
+//! Reads the parts of Thrift's compact protocol: numbers, byte strings, heads of fields and lists.
 ghost use Rattle.std.specs.Prelude.{◌≡◌};
 ghost use Rattle.vortex_parquet.specs.Reading.{Gives};
 ghost use Rattle.vortex_parquet.specs.Compact.{binary_at, count_at, head_at, id_at, items_at, jump, kind_at, kinds_at};

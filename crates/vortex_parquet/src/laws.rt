@@ -1,6 +1,6 @@
 //! Laws of this layer, in the words of its definitions. The functions carry them by their
 //! contracts.
-ghost use Rattle.std.specs.Prelude.{◌≡◌, ℕ, List, IfOk, Ok};
+ghost use Rattle.std.specs.Prelude.{ℕ, List, IfOk, Ok};
 ghost use Rattle.vortex_parquet.specs.Fields.{field_views, fields_before, struct_of};
 ghost use Rattle.vortex_parquet.specs.Grammar.{IsStruct, IsValue};
 ghost use Rattle.vortex_parquet.specs.Reading.{Gives};
