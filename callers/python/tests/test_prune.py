@@ -282,7 +282,7 @@ class Deep(unittest.TestCase):
 
     def test_list_of_a_hundred_thousand(self) -> None:
         self.assertEqual(list(self.footers.prune(col("a").is_in(range(10, 100_010)))), [Answer.SKIP, Answer.SKIP])
-        self.assertEqual(list(self.footers.prune(col("a").is_in(range(100_000)))), [Answer.READ, Answer.SKIP])
+        self.assertEqual(list(self.footers.prune(col("a").is_in(range(100_000)))), [Answer.WHOLE, Answer.SKIP])
 
     def test_chain_of_two_hundred_thousand(self) -> None:
         made = col("a") == 0
