@@ -1,0 +1,3 @@
+pub mod ConditionCode
+pub mod Conditions
+pub mod Refusals
