@@ -1,4 +1,6 @@
 pub mod AddedUp
 pub mod ExactEntries
+pub mod MergeRows
+pub mod UnionRows
 pub mod WritingLemmas
 pub mod WritingRows

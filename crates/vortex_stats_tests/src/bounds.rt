@@ -19,10 +19,6 @@ const INEXACT_10: Precision<i32> = Precision::Inexact(10);
 
 const INEXACT_12: Precision<i32> = Precision::Inexact(12);
 
-const INEXACT_4: Precision<i32> = Precision::Inexact(4);
-
-const INEXACT_5: Precision<i32> = Precision::Inexact(5);
-
 // Whether this is the value of the union, where there is one.
 fn unites<B: StatBound<i32>>(
     a: Precision<i32>,
@@ -36,172 +32,100 @@ fn unites<B: StatBound<i32>>(
     }
 }
 
-fn expect_union<B: StatBound<i32>>(
-    rt: &impl Abort,
-    a: Precision<i32>,
-    b: Precision<i32>,
-    expected: Option<Precision<i32>>,
-) {
-    assert!(rt; unites::<B>(a, b, expected));
-}
-
 #[test]
-fn unions_of_uppers(rt: HostRuntime) {
-    expect_union::<UpperBound<i32>>(&rt, INEXACT_10, EXACT_12, Some(EXACT_12));
-    expect_union::<UpperBound<i32>>(&rt, INEXACT_12, EXACT_10, Some(INEXACT_12));
-    expect_union::<UpperBound<i32>>(&rt, EXACT_10, INEXACT_12, Some(INEXACT_12));
-    expect_union::<UpperBound<i32>>(&rt, EXACT_10, EXACT_12, Some(EXACT_12));
-    expect_union::<UpperBound<i32>>(&rt, INEXACT_10, INEXACT_12, Some(INEXACT_12));
-    expect_union::<UpperBound<i32>>(&rt, EXACT_12, Precision::Absent, None);
+fn unions(rt: HostRuntime) {
+    for (a, b, expected) in [
+        (INEXACT_10, EXACT_12, Some(EXACT_12)),
+        (EXACT_10, INEXACT_12, Some(INEXACT_12)),
+        (EXACT_12, Precision::Absent, None),
+    ] {
+        assert!(rt; unites::<UpperBound<i32>>(a, b, expected));
+    }
+    for (a, b, expected) in [
+        (INEXACT_10, EXACT_12, Some(INEXACT_10)),
+        (EXACT_10, INEXACT_10, Some(EXACT_10)),
+        (Precision::Absent, INEXACT_12, None),
+    ] {
+        assert!(rt; unites::<LowerBound<i32>>(a, b, expected));
+    }
+    assert!(rt; unites::<Precision<i32>>(EXACT_12, INEXACT_10, Some(INEXACT_10)));
 }
 
-#[test]
-fn unions_of_lowers(rt: HostRuntime) {
-    let five = Precision::Exact(5);
-    expect_union::<LowerBound<i32>>(&rt, INEXACT_4, five, Some(INEXACT_4));
-    expect_union::<LowerBound<i32>>(&rt, INEXACT_5, five, Some(five));
-    expect_union::<LowerBound<i32>>(&rt, Precision::Absent, INEXACT_12, None);
-    expect_union::<Precision<i32>>(&rt, EXACT_12, INEXACT_10, Some(INEXACT_10));
-}
-
-// Whether this is the value of the intersection.
+// Whether the intersection is this, as the bounds compare: `None` where there is none, and
+// `Some(None)` where it is empty.
 fn meets<B: StatBound<i32>>(
     a: Precision<i32>,
     b: Precision<i32>,
-    expected: Precision<i32>,
+    expected: Option<Option<Precision<i32>>>,
 ) -> bool {
     match B::lift(a).intersection(&B::lift(b)) {
-        Ok(Some(IntersectionResult::Value(bound))) => bound.into_value() == expected,
-        _ => false,
-    }
-}
-
-fn expect_intersection<B: StatBound<i32>>(
-    rt: &impl Abort,
-    a: Precision<i32>,
-    b: Precision<i32>,
-    expected: Precision<i32>,
-) {
-    assert!(rt; meets::<B>(a, b, expected));
-}
-
-#[test]
-fn intersections(rt: HostRuntime) {
-    expect_intersection::<UpperBound<i32>>(&rt, EXACT_10, INEXACT_12, EXACT_10);
-    expect_intersection::<LowerBound<i32>>(&rt, EXACT_12, INEXACT_10, EXACT_12);
-    let three = Precision::Exact(3);
-    let five = Precision::Exact(5);
-    expect_intersection::<Precision<i32>>(&rt, three, INEXACT_5, Precision::Inexact(3));
-    expect_intersection::<Precision<i32>>(&rt, five, Precision::Inexact(3), five);
-}
-
-// Whether the intersection is this, as the bounds compare.
-fn is_met_in<B: StatBound<i32> + PartialEq>(
-    a: Precision<i32>,
-    b: Precision<i32>,
-    expected: Option<IntersectionResult<B>>,
-) -> bool {
-    match B::lift(a).intersection(&B::lift(b)) {
-        Ok(found) => found == expected,
+        Ok(Some(IntersectionResult::Value(bound))) => expected == Some(Some(bound.into_value())),
+        Ok(Some(IntersectionResult::Empty)) => expected == Some(None),
+        Ok(None) => expected == None,
         Err(_) => false,
     }
 }
 
-// Whether the bounds allow nothing in common.
-fn are_apart<B: StatBound<i32> + PartialEq>(a: Precision<i32>, b: Precision<i32>) -> bool {
-    is_met_in::<B>(a, b, Some(IntersectionResult::Empty))
-}
-
-fn expect_apart<B: StatBound<i32> + PartialEq>(
-    rt: &impl Abort,
-    a: Precision<i32>,
-    b: Precision<i32>,
-) {
-    assert!(rt; are_apart::<B>(a, b));
-}
-
 #[test]
-fn empty_intersections(rt: HostRuntime) {
+fn intersections(rt: HostRuntime) {
     let thirteen = Precision::Exact(13);
-    expect_apart::<UpperBound<i32>>(&rt, thirteen, INEXACT_12);
-    expect_apart::<LowerBound<i32>>(&rt, EXACT_12, Precision::Inexact(13));
-    assert!(rt; is_met_in::<LowerBound<i32>>(EXACT_12, Precision::Absent, None));
-    expect_apart::<Precision<i32>>(&rt, Precision::Absent, Precision::Exact(1));
+    assert!(rt; meets::<UpperBound<i32>>(EXACT_10, INEXACT_12, Some(Some(EXACT_10))));
+    assert!(rt; meets::<UpperBound<i32>>(thirteen, INEXACT_12, Some(None)));
+    assert!(rt; meets::<LowerBound<i32>>(EXACT_12, INEXACT_10, Some(Some(EXACT_12))));
+    assert!(rt; meets::<LowerBound<i32>>(EXACT_12, Precision::Inexact(13), Some(None)));
+    assert!(rt; meets::<LowerBound<i32>>(EXACT_12, Precision::Absent, None));
+    assert!(rt; meets::<Precision<i32>>(EXACT_10, INEXACT_12, Some(Some(INEXACT_10))));
+    assert!(rt; meets::<Precision<i32>>(Precision::Absent, EXACT_10, Some(None)));
 }
 
-fn upper_equals(bound: Precision<i32>, value: i32) -> bool {
-    UpperBound::lift(bound).eq_value(&value)
+// Whether the bound equals the value, and how it stands to it.
+fn upper_against(bound: Precision<i32>, value: i32) -> (bool, Option<Ordering>) {
+    let upper = UpperBound::lift(bound);
+    (upper.eq_value(&value), upper.partial_cmp_value(&value))
 }
 
-fn upper_against(bound: Precision<i32>, value: i32) -> Option<Ordering> {
-    UpperBound::lift(bound).partial_cmp_value(&value)
-}
-
-fn expect_upper_against(
-    rt: &impl Abort,
-    bound: Precision<i32>,
-    value: i32,
-    expected: Option<Ordering>,
-) {
-    assert!(rt; upper_against(bound, value) == expected);
-}
-
-fn exact_upper(bound: Precision<i32>) -> Option<i32> {
-    UpperBound::lift(bound).to_exact().copied()
+fn lower_against(bound: Precision<i32>, value: i32) -> (bool, Option<Ordering>) {
+    let lower = LowerBound::lift(bound);
+    (lower.eq_value(&value), lower.partial_cmp_value(&value))
 }
 
 #[test]
-fn uppers_against_values(rt: HostRuntime) {
-    assert!(rt; upper_equals(EXACT_10, 10));
-    assert!(rt; exact_upper(EXACT_10) == Some(10));
-    expect_upper_against(&rt, EXACT_10, 9, Some(Ordering::Greater));
-    expect_upper_against(&rt, EXACT_10, 10, Some(Ordering::Equal));
-    assert!(rt; !upper_equals(INEXACT_10, 10));
-    expect_upper_against(&rt, INEXACT_10, 9, None);
-    expect_upper_against(&rt, INEXACT_10, 10, Some(Ordering::Equal));
-    expect_upper_against(&rt, INEXACT_10, 11, Some(Ordering::Less));
+fn bounds_against_values(rt: HostRuntime) {
+    let uppers = [
+        upper_against(EXACT_10, 10),
+        upper_against(EXACT_10, 9),
+        upper_against(INEXACT_10, 10),
+        upper_against(INEXACT_10, 9),
+    ];
+    let (less, equal, greater) = (Ordering::Less, Ordering::Equal, Ordering::Greater);
+    assert!(rt;
+        uppers
+            == [
+                (true, Some(equal)),
+                (false, Some(greater)),
+                (false, Some(equal)),
+                (false, None)
+            ]
+    );
+    let lowers = [
+        lower_against(EXACT_10, 11),
+        lower_against(INEXACT_10, 9),
+        lower_against(INEXACT_10, 11),
+    ];
+    assert!(rt; lowers == [(false, Some(less)), (false, Some(greater)), (false, None)]);
+    assert!(rt; UpperBound::lift(EXACT_10).to_exact().copied() == Some(10));
+    assert!(rt; !LowerBound::lift(INEXACT_10).is_exact());
 }
 
-fn lower_equals(bound: Precision<i32>, value: i32) -> bool {
-    LowerBound::lift(bound).eq_value(&value)
-}
-
-fn lower_against(bound: Precision<i32>, value: i32) -> Option<Ordering> {
-    LowerBound::lift(bound).partial_cmp_value(&value)
-}
-
-fn is_exact_lower(bound: Precision<i32>) -> bool {
-    LowerBound::lift(bound).is_exact()
-}
-
-#[test]
-fn lowers_against_values(rt: HostRuntime) {
-    assert!(rt; !is_exact_lower(INEXACT_10) && !lower_equals(INEXACT_10, 10));
-    assert!(rt; lower_against(INEXACT_10, 9) == Some(Ordering::Greater));
-    assert!(rt; lower_against(INEXACT_10, 11) == None);
-}
-
-// What a clone of the result answers, `e` in the place of Empty.
-fn cloned_or_e(found: IntersectionResult<i32>) -> Result<Result<i32, char>, StatsError> {
+// A clone of a found text, `e` in the place of Empty.
+fn cloned_or_e(found: &IntersectionResult<Text>) -> Result<Result<Text, char>, StatsError> {
     Ok(found.try_clone()?.ok_or_else(|| 'e'))
 }
 
-fn clones_equal_uppers(bound: Precision<i32>) -> Result<bool, StatsError> {
-    Ok(UpperBound::lift(bound).try_clone()? == UpperBound::lift(bound))
-}
-
-fn clones_equal_lowers(bound: Precision<i32>) -> Result<bool, StatsError> {
-    Ok(LowerBound::lift(bound).try_clone()? == LowerBound::lift(bound))
-}
-
-#[test]
-fn results(rt: HostRuntime) {
-    let ten = cloned_or_e(IntersectionResult::Value(10)).expect(&rt, "ten");
-    assert!(rt; ten == Ok(10));
-    let empty = cloned_or_e(IntersectionResult::Empty).expect(&rt, "none");
-    assert!(rt; empty == Err('e'));
-    assert!(rt; is_yes(clones_equal_uppers(INEXACT_10)));
-    assert!(rt; is_yes(clones_equal_lowers(EXACT_10)));
+fn clones_found(alloc: Global) -> Result<bool, StatsError> {
+    let found = cloned_or_e(&IntersectionResult::Value(text_of(alloc, "banana")?))?;
+    let empty = cloned_or_e(&IntersectionResult::Empty)?;
+    Ok(found == Ok(text_of(alloc, "banana")?) && empty == Err('e'))
 }
 
 // An inexact text as a bound.
@@ -209,108 +133,32 @@ fn bound<B: StatBound<Text>>(alloc: Global, value: &str) -> Result<B, AllocError
     Ok(B::lift(Precision::Inexact(text_of(alloc, value)?)))
 }
 
-fn unites_to<B: StatBound<Text> + PartialEq>(a: &B, b: &B, union: &B) -> bool {
-    match a.union(b) {
-        Ok(Some(bound)) => bound == *union,
-        _ => false,
-    }
+// Whether the upper bounds on two texts unite to the second and meet in the first.
+fn orders_uppers(alloc: Global, low: &str, high: &str) -> Result<bool, StatsError> {
+    let a: UpperBound<Text> = bound(alloc, low)?;
+    let b: UpperBound<Text> = bound(alloc, high)?;
+    Ok(
+        a.union(&b)? == Some(b.try_clone()?)
+            && a.intersection(&b)? == Some(IntersectionResult::Value(a.try_clone()?)),
+    )
 }
 
-fn meets_in<B: StatBound<Text> + PartialEq>(a: &B, b: &B, intersection: &B) -> bool {
-    match a.intersection(b) {
-        Ok(Some(IntersectionResult::Value(bound))) => bound == *intersection,
-        _ => false,
-    }
+fn orders_lowers(alloc: Global, low: &str, high: &str) -> Result<bool, StatsError> {
+    let a: LowerBound<Text> = bound(alloc, low)?;
+    let b: LowerBound<Text> = bound(alloc, high)?;
+    Ok(
+        a.union(&b)? == Some(a.try_clone()?)
+            && a.intersection(&b)? == Some(IntersectionResult::Value(b.try_clone()?)),
+    )
 }
 
-// Whether the two bounds unite to the one and meet in the other.
-fn unite_and_meet<B: StatBound<Text> + PartialEq>(
-    a: &B,
-    b: &B,
-    union: &B,
-    intersection: &B,
-) -> bool {
-    unites_to(a, b, union) && meets_in(a, b, intersection)
-}
-
-// Whether the bounds on apple and pear unite to the one of the two and meet in the other.
-fn orders_fruits<B: StatBound<Text> + PartialEq>(
-    alloc: Global,
-    unites_to_pear: bool,
-    meets_in_pear: bool,
-) -> Result<bool, AllocError> {
-    let apple: B = bound(alloc, "apple")?;
-    let pear: B = bound(alloc, "pear")?;
-    let union = if unites_to_pear { &pear } else { &apple };
-    let intersection = if meets_in_pear { &pear } else { &apple };
-    Ok(unite_and_meet(&apple, &pear, union, intersection))
-}
-
-fn expect_order_of_fruits<B: StatBound<Text> + PartialEq>(
-    rt: &impl Abort,
-    alloc: Global,
-    unites_to_pear: bool,
-    meets_in_pear: bool,
-) {
-    assert!(rt; is_yes(orders_fruits::<B>(alloc, unites_to_pear, meets_in_pear)));
-}
-
+// With memory a text is cloned, which is what a union and an intersection take.
 #[test]
 fn texts(rt: HostRuntime) {
     let alloc = rt.alloc();
-    expect_order_of_fruits::<UpperBound<Text>>(&rt, alloc, true, false);
-    expect_order_of_fruits::<LowerBound<Text>>(&rt, alloc, false, true);
-    expect_order_of_fruits::<Precision<Text>>(&rt, alloc, false, false);
-}
-
-// Whether an inexact upper bound is never equal to a value and stands in this order to it.
-fn is_upper_against(upper: &UpperBound<Text>, value: &Text, order: Option<Ordering>) -> bool {
-    !upper.eq_value(value) && upper.to_exact().is_none() && upper.partial_cmp_value(value) == order
-}
-
-// The same of two texts.
-fn is_upper_text_against(
-    alloc: Global,
-    bound_text: &str,
-    value: &str,
-    order: Option<Ordering>,
-) -> Result<bool, AllocError> {
-    let upper: UpperBound<Text> = bound(alloc, bound_text)?;
-    Ok(is_upper_against(&upper, &text_of(alloc, value)?, order))
-}
-
-// Whether an inexact lower bound is never equal to a value and stands in this order to it.
-fn is_lower_against(lower: &LowerBound<Text>, value: &Text, order: Option<Ordering>) -> bool {
-    !lower.eq_value(value) && !lower.is_exact() && lower.partial_cmp_value(value) == order
-}
-
-// The same of two texts.
-fn is_lower_text_against(
-    alloc: Global,
-    bound_text: &str,
-    value: &str,
-    order: Option<Ordering>,
-) -> Result<bool, AllocError> {
-    let lower: LowerBound<Text> = bound(alloc, bound_text)?;
-    Ok(is_lower_against(&lower, &text_of(alloc, value)?, order))
-}
-
-// Whether a clone of a found text is the text, and none is taken for Empty.
-fn finds_clones(alloc: Global, value: &str) -> Result<bool, StatsError> {
-    let found = IntersectionResult::Value(text_of(alloc, value)?);
-    let same = found.try_clone()? == found;
-    Ok(same && found.ok_or_else(|| 'e').is_ok())
-}
-
-#[test]
-fn texts_against_values(rt: HostRuntime) {
-    let alloc = rt.alloc();
-    let (less, greater) = (Some(Ordering::Less), Some(Ordering::Greater));
-    assert!(rt; is_yes(is_upper_text_against(alloc, "apple", "banana", less)));
-    assert!(rt; is_yes(is_upper_text_against(alloc, "pear", "banana", None)));
-    assert!(rt; is_yes(is_lower_text_against(alloc, "apple", "banana", None)));
-    assert!(rt; is_yes(is_lower_text_against(alloc, "pear", "banana", greater)));
-    assert!(rt; is_yes(finds_clones(alloc, "banana")));
+    assert!(rt; is_yes(clones_found(alloc)));
+    assert!(rt; is_yes(orders_uppers(alloc, "apple", "pear")));
+    assert!(rt; is_yes(orders_lowers(alloc, "apple", "pear")));
 }
 
 // A number that counts its clones.

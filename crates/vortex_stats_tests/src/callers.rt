@@ -1,18 +1,16 @@
 //! Callers that know a set by its list alone.
-ghost use Rattle.std.specs.Prelude.{◌≡◌, ◌⊎◌, false, IfOk, IfErr, OnOk, OnErr, IsTrue, length, map, alloc_error};
+ghost use Rattle.std.specs.Prelude.{◌≡◌, false, IfOk, IfErr, OnOk, OnErr, IsTrue, length, map, alloc_error};
 ghost use Rattle.vortex_base.specs.Data.Columns.{ColumnData};
-ghost use Rattle.vortex_base.specs.Data.Values.{is_value};
 ghost use Rattle.vortex_stats.specs.declared.error.StatsError.TheVariants.{Memory};
 ghost use Rattle.vortex_stats.specs.Sets.Claims.{IsTrueOf};
 ghost use Rattle.vortex_stats.specs.Merging.Merges.{merged_ordered, merged_unordered};
 ghost use Rattle.vortex_stats.specs.Merging.Combined.{combined, Combines};
 ghost use Rattle.vortex_stats.specs.Copies.{holds_long, is_copied, set_copies};
-ghost use Rattle.vortex_stats.specs.Sets.Entries.{entries_fit, entry_value, value_fits};
-ghost use Rattle.vortex_stats.specs.Sets.Entries.{with_entry, without_entry};
+ghost use Rattle.vortex_stats.specs.Sets.Entries.{entries_fit, entry_value};
+ghost use Rattle.vortex_stats.specs.Sets.Entries.{without_entry};
 
 use std::alloc::{AllocError, Global};
 use vortex_base::dtype::DType;
-use vortex_base::scalar::Scalar;
 use vortex_base::scalar_value::ScalarValue;
 use vortex_stats::error::StatsError;
 use vortex_stats::laws::short_values_are_not_copied;
@@ -44,16 +42,6 @@ pub fn statistics_of(alloc: Global, set: &StatsSet) -> Result<Vec<Stat>, AllocEr
         stats.push(entry.0)?;
     }
     Ok(stats)
-}
-
-/// The iterator by value gives the list, and ends.
-pub fn collected(
-    alloc: Global,
-    set: StatsSet,
-) -> Result<Vec<(Stat, Precision<ScalarValue>)>, AllocError>
-    ensures { IfOk result (λ entries. entries.items ≡ set) }
-{
-    set.into_iter().collect(alloc)
 }
 
 /// The iterator by reference gives as many entries as the list has.
@@ -118,33 +106,6 @@ pub fn combined_through_view(
     view.combine_sets(&other.as_typed_ref(dtype))
 }
 
-/// What is set through a view is set in the set, whatever the call answers.
-pub fn set_through_view(
-    set: &mut StatsSet,
-    dtype: &DType,
-    stat: Stat,
-    value: Precision<ScalarValue>,
-)
-    requires left_fits { IsTrue (entries_fit set.old dtype.now) }
-    requires value_fits { IsTrue (value_fits stat dtype.now value) }
-    ensures { set.new ≡ with_entry stat value set.old }
-{
-    let mut view = set.as_mut_typed_ref(dtype);
-    let _answered = view.set(stat, value).is_ok();
-}
-
-/// A refused merge hands back the set as it was.
-pub fn merged_or_left(set: StatsSet, other: &StatsSet, dtype: &DType) -> StatsSet
-    requires left_fits { IsTrue (entries_fit set dtype.now) }
-    requires other_fits { IsTrue (entries_fit other.now dtype.now) }
-    ensures { (result ≡ merged_ordered set other.now) ⊎ (result ≡ set) }
-{
-    match set.merge_ordered(other, dtype) {
-        Ok(merged) => merged,
-        Err(refused) => refused.set,
-    }
-}
-
 /// Sets of a column without texts and bytes always merge.
 pub fn merged_numbers(set: StatsSet, other: &StatsSet, dtype: &DType) -> StatsSet
     requires short { holds_long dtype.now ≡ false }
@@ -172,31 +133,6 @@ pub fn combined_numbers(set: &mut StatsSet, other: &StatsSet, dtype: &DType) -> 
         Ok(()) => None,
         Err(StatsError::Conflict(stat)) => Some(stat),
         Err(_) => unreachable!(),
-    }
-}
-
-/// A combination that is refused for memory leaves the set as it was.
-pub fn is_out_of_memory(set: &mut StatsSet, other: &StatsSet, dtype: &DType) -> bool
-    requires left_fits { IsTrue (entries_fit set.old dtype.now) }
-    requires other_fits { IsTrue (entries_fit other.now dtype.now) }
-    ensures { IsTrue result → set.new ≡ set.old }
-{
-    match set.combine_sets(other, dtype) {
-        Err(StatsError::Memory(_)) => true,
-        _ => false,
-    }
-}
-
-/// The same through a view.
-pub fn is_out_of_memory_through_view(set: &mut StatsSet, other: &StatsSet, dtype: &DType) -> bool
-    requires left_fits { IsTrue (entries_fit set.old dtype.now) }
-    requires other_fits { IsTrue (entries_fit other.now dtype.now) }
-    ensures { IsTrue result → set.new ≡ set.old }
-{
-    let mut view = set.as_mut_typed_ref(dtype);
-    match view.combine_sets(&other.as_typed_ref(dtype)) {
-        Err(StatsError::Memory(_)) => true,
-        _ => false,
     }
 }
 
@@ -238,11 +174,4 @@ pub fn combined_of_one_column(
     true_sets_agree();
     combinations_stay_true();
     set.combine_sets(other, dtype)
-}
-
-/// A scalar is refused for memory only where the value is one of the type.
-pub fn scalar_of_value(value: &ScalarValue, dtype: DType) -> Result<Precision<Scalar>, StatsError>
-    ensures { IfErr result (λ e. e ≡ Memory alloc_error → IsTrue (is_value value.now dtype)) }
-{
-    Precision::Exact(value).into_scalar(dtype)
 }

@@ -16,8 +16,6 @@ mod combinations;
 #[cfg(test)]
 mod measures;
 #[cfg(test)]
-mod merge_rows;
-#[cfg(test)]
 mod merges;
 #[cfg(test)]
 mod precisions;
@@ -31,8 +29,6 @@ mod sets;
 mod stats;
 #[cfg(test)]
 mod testing;
-#[cfg(test)]
-mod unions;
 #[cfg(test)]
 mod views;
 #[cfg(test)]

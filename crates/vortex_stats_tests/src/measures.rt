@@ -1,15 +1,18 @@
 //! Statistics that are made from columns, row by row, and checks of sets against columns.
-use crate::testing::{Entry, Plain, Row, Sets, exact, inexact, made, name, scalar_value, sets};
+use crate::testing::Plain::{Long, Truth, Word};
+use crate::testing::{Entry, Plain, Row, Sets, is_yes, made, name, scalar_value, sets};
 use std::alloc::{AllocError, Global};
-use std::process::Abort;
 use vortex_base::cells::Cells;
 use vortex_base::column::Column;
 use vortex_base::dtype::DType;
 use vortex_base::scalar_value::ScalarValue;
 use vortex_base::types::{Nullability, PType};
 use vortex_stats::error::StatsError;
-use vortex_stats::precision::Precision;
-use vortex_stats::stat::{ALL_STATS, Stat};
+use vortex_stats::precision::Precision::{Exact, Inexact};
+use vortex_stats::stat::ALL_STATS;
+use vortex_stats::stat::Stat::{
+    self, IsConstant, IsSorted, IsStrictSorted, Max, Min, NullCount, Sum, UncompressedSizeInBytes,
+};
 use vortex_stats::stats_set::StatsSet;
 
 const LONG: DType = DType::Primitive(PType::I64, Nullability::Nullable);
@@ -74,16 +77,6 @@ fn has(alloc: Global, dtype: DType, rows: &[Option<Plain>], expected: &[Row]) ->
     sets::is(alloc, kept, expected) && sets::is(alloc, packed, expected)
 }
 
-fn expect_has(
-    rt: &impl Abort,
-    alloc: Global,
-    dtype: DType,
-    rows: &[Option<Plain>],
-    expected: &[Row],
-) {
-    assert!(rt; has(alloc, dtype, rows, expected));
-}
-
 // Whether these are true of the column.
 fn is_true(alloc: Global, rows: &[Row], column: Columns) -> bool {
     match (sets::of(alloc, rows), column) {
@@ -92,144 +85,130 @@ fn is_true(alloc: Global, rows: &[Row], column: Columns) -> bool {
     }
 }
 
-fn expect_true(rt: &impl Abort, alloc: Global, rows: &[Row], column: Columns, expected: bool) {
-    assert!(rt; is_true(alloc, rows, column) == expected);
-}
-
-fn long(n: i64) -> Option<Plain> {
-    Some(Plain::I64(n))
-}
-
-fn word(n: u64) -> Option<Plain> {
-    Some(Plain::U64(n))
-}
-
-fn truth(b: bool) -> Option<Plain> {
-    Some(Plain::Bool(b))
-}
+// Rows of a type with what is measured of them.
+type Measure<'a> = (DType, &'a [Option<Plain>], &'a [Row]);
 
 #[test]
-fn numbers_and_nulls(rt: HostRuntime) {
+fn columns(rt: HostRuntime) {
     let alloc = rt.alloc();
-    let rows = [None, long(-3), long(5), None, long(5)];
-    let expected = [
-        (Stat::IsConstant, exact(false)),
-        (Stat::IsSorted, exact(true)),
-        (Stat::IsStrictSorted, exact(false)),
-        (Stat::Max, exact(5i64)),
-        (Stat::Min, exact(-3i64)),
-        (Stat::Sum, exact(7i64)),
-        (Stat::NullCount, exact(2u64)),
-        (Stat::UncompressedSizeInBytes, exact(40u64)),
+    let size = (UncompressedSizeInBytes, Exact(Word(40)));
+    let rows: [Measure<'_>; 3] = [
+        (
+            LONG,
+            &[None, Some(Long(-3)), Some(Long(5)), None, Some(Long(5))],
+            &[
+                (IsConstant, Exact(Truth(false))),
+                (IsSorted, Exact(Truth(true))),
+                (IsStrictSorted, Exact(Truth(false))),
+                (Max, Exact(Long(5))),
+                (Min, Exact(Long(-3))),
+                (Sum, Exact(Long(7))),
+                (NullCount, Exact(Word(2))),
+                size,
+            ],
+        ),
+        (
+            TRUTH,
+            &[None],
+            &[
+                (IsConstant, Exact(Truth(true))),
+                (IsSorted, Exact(Truth(true))),
+                (IsStrictSorted, Exact(Truth(true))),
+                (Sum, Exact(Word(0))),
+                (NullCount, Exact(Word(1))),
+                size,
+            ],
+        ),
+        (
+            TRUTH,
+            &[Some(Truth(true)), Some(Truth(false))],
+            &[
+                (IsConstant, Exact(Truth(false))),
+                (IsSorted, Exact(Truth(false))),
+                (IsStrictSorted, Exact(Truth(false))),
+                (Max, Exact(Truth(true))),
+                (Min, Exact(Truth(false))),
+                (Sum, Exact(Word(1))),
+                (NullCount, Exact(Word(0))),
+                size,
+            ],
+        ),
     ];
-    expect_has(&rt, alloc, LONG, &rows, &expected);
+    for (dtype, values, expected) in rows {
+        assert!(rt; has(alloc, dtype, values, expected));
+    }
 }
 
-#[test]
-fn nulls_alone(rt: HostRuntime) {
-    let alloc = rt.alloc();
-    let expected = [
-        (Stat::IsConstant, exact(true)),
-        (Stat::IsSorted, exact(true)),
-        (Stat::IsStrictSorted, exact(true)),
-        (Stat::Sum, exact(0u64)),
-        (Stat::NullCount, exact(1u64)),
-        (Stat::UncompressedSizeInBytes, exact(40u64)),
-    ];
-    expect_has(&rt, alloc, TRUTH, &[None], &expected);
-}
-
-#[test]
-fn truths(rt: HostRuntime) {
-    let alloc = rt.alloc();
-    let expected = [
-        (Stat::IsConstant, exact(false)),
-        (Stat::IsSorted, exact(false)),
-        (Stat::IsStrictSorted, exact(false)),
-        (Stat::Max, exact(true)),
-        (Stat::Min, exact(false)),
-        (Stat::Sum, exact(1u64)),
-        (Stat::NullCount, exact(0u64)),
-        (Stat::UncompressedSizeInBytes, exact(40u64)),
-    ];
-    expect_has(&rt, alloc, TRUTH, &[truth(true), truth(false)], &expected);
-}
-
-fn sum_of(alloc: Global, dtype: DType, rows: &[Option<Plain>], expected: &[Row]) -> bool {
-    let set = measured(alloc, typed(alloc, dtype, rows), &[Stat::Sum]);
-    sets::is(alloc, set, expected)
-}
-
-fn expect_sum_of(
-    rt: &impl Abort,
-    alloc: Global,
-    dtype: DType,
-    rows: &[Option<Plain>],
-    expected: &[Row],
-) {
-    assert!(rt; sum_of(alloc, dtype, rows, expected));
+fn sum_of(alloc: Global, row: &Measure<'_>) -> bool {
+    let set = measured(alloc, typed(alloc, row.0, row.1), &[Sum]);
+    sets::is(alloc, set, row.2)
 }
 
 #[test]
 fn sums_at_the_ends(rt: HostRuntime) {
-    let alloc = rt.alloc();
-    let past = [long(i64::MAX), long(1)];
-    let back = [long(i64::MAX), long(1), long(-1)];
-    expect_sum_of(&rt, alloc, LONG, &past, &[]);
-    expect_sum_of(&rt, alloc, LONG, &back, &[(Stat::Sum, exact(i64::MAX))]);
-    expect_sum_of(&rt, alloc, LONG, &[long(i64::MIN), long(-1)], &[]);
-    expect_sum_of(&rt, alloc, WORD, &[word(u64::MAX), word(1)], &[]);
-    expect_sum_of(
-        &rt,
-        alloc,
-        WORD,
-        &[word(u64::MAX)],
-        &[(Stat::Sum, exact(u64::MAX))],
-    );
+    let (most, one) = (Some(Long(i64::MAX)), Some(Long(1)));
+    let rows: [Measure<'_>; 4] = [
+        (LONG, &[most, one], &[]),
+        (
+            LONG,
+            &[most, one, Some(Long(-1))],
+            &[(Sum, Exact(Long(i64::MAX)))],
+        ),
+        (WORD, &[Some(Word(u64::MAX)), Some(Word(1))], &[]),
+        (
+            WORD,
+            &[Some(Word(u64::MAX))],
+            &[(Sum, Exact(Word(u64::MAX)))],
+        ),
+    ];
+    for row in &rows {
+        assert!(rt; sum_of(rt.alloc(), row));
+    }
 }
 
 fn text_entries(alloc: Global) -> Result<Vec<Entry>, AllocError> {
     let mut entries = Vec::new(alloc);
-    entries.push((Stat::Max, Precision::Exact(name(alloc, "\u{1F600}")?)))?;
-    entries.push((Stat::Min, Precision::Exact(name(alloc, "\u{FF5E}")?)))?;
-    entries.push((Stat::NullCount, made(exact(1u64))))?;
+    entries.push((Max, Exact(name(alloc, "\u{1F600}")?)))?;
+    entries.push((Min, Exact(name(alloc, "\u{FF5E}")?)))?;
+    entries.push((NullCount, made(Exact(Word(1)))))?;
     Ok(entries)
 }
 
 fn texts_are_measured(alloc: Global) -> Result<bool, AllocError> {
     let column = texts(alloc, "\u{FF5E}", "\u{1F600}");
-    let wanted = [Stat::Max, Stat::Sum, Stat::Min, Stat::Max, Stat::NullCount];
     let expected = text_entries(alloc)?;
-    let set = measured(alloc, column, &wanted);
+    let set = measured(alloc, column, &[Max, Sum, Min, Max, NullCount]);
     Ok(sets::has_entries(alloc, set, expected.as_slice()))
 }
 
 // By bytes as by characters; in UTF-16 the second stands first.
 #[test]
 fn texts_in_the_order_wanted(rt: HostRuntime) {
-    assert!(rt; texts_are_measured(rt.alloc()).expect(&rt, "a set"));
+    assert!(rt; is_yes(texts_are_measured(rt.alloc())));
 }
 
 #[test]
-fn checks_of_bounds(rt: HostRuntime) {
-    let alloc = rt.alloc();
-    let rows = [long(3), None, long(7)];
-    let holds = [(Stat::Max, inexact(7i64)), (Stat::Min, exact(3i64))];
-    expect_true(&rt, alloc, &holds, column(alloc, LONG, &rows), true);
-    let below = [(Stat::Max, inexact(6i64))];
-    expect_true(&rt, alloc, &below, typed(alloc, LONG, &rows), false);
-    let none = [(Stat::Max, exact(8i64))];
-    expect_true(&rt, alloc, &none, typed(alloc, LONG, &rows), false);
-}
-
-#[test]
-fn checks_of_counts(rt: HostRuntime) {
-    let alloc = rt.alloc();
-    let rows = [long(3), None, long(7)];
-    let holds = [(Stat::NullCount, inexact(2u64)), (Stat::Sum, exact(10i64))];
-    expect_true(&rt, alloc, &holds, typed(alloc, LONG, &rows), true);
-    let few = [(Stat::Sum, exact(10i64)), (Stat::NullCount, inexact(0u64))];
-    expect_true(&rt, alloc, &few, column(alloc, LONG, &rows), false);
-    let unfit = [(Stat::Sum, exact(10u64))];
-    expect_true(&rt, alloc, &unfit, column(alloc, LONG, &rows), false);
+fn checks_of_sets(rt: HostRuntime) {
+    let rows: [(&[Row], bool); 5] = [
+        (
+            &[
+                (Max, Inexact(Long(7))),
+                (Min, Exact(Long(3))),
+                (Sum, Exact(Long(10))),
+            ],
+            true,
+        ),
+        (&[(Max, Inexact(Long(6)))], false),
+        (&[(Max, Exact(Long(8)))], false),
+        (
+            &[(Sum, Exact(Long(10))), (NullCount, Inexact(Word(0)))],
+            false,
+        ),
+        (&[(Sum, Exact(Word(10)))], false),
+    ];
+    let values = [Some(Long(3)), None, Some(Long(7))];
+    for (set, expected) in rows {
+        let column = typed(rt.alloc(), LONG, &values);
+        assert!(rt; is_true(rt.alloc(), set, column) == expected);
+    }
 }

@@ -1,7 +1,7 @@
 //! Each call that takes memory, where every growth may be refused: `rt try --test --fail-alloc N`
 //! refuses the Nth. With ample memory no call is refused, and the test asserts all of them.
 
-use crate::testing::{Entry, exact, sets, text};
+use crate::testing::{Entry, Plain, sets, text};
 use std::alloc::Global;
 use vortex_base::scalar_value::ScalarValue;
 use vortex_stats::error::StatsError;
@@ -14,7 +14,7 @@ fn sets_each(set: &mut StatsSet) -> bool {
     let mut is_each_set = true;
     for stat in Stat::all() {
         let before = set.len();
-        let is_set = sets::set(set, stat, exact(7)).is_ok();
+        let is_set = sets::set(set, stat, Precision::Exact(Plain::Int(7))).is_ok();
         is_each_set = is_each_set && is_set && set.len() == before.saturating_add(1);
     }
     is_each_set

@@ -1,22 +1,27 @@
 //! Merges and combination of sets of a text column with all its statistics, where every growth
 //! may be refused: `rt try --test --fail-alloc N` refuses the Nth. A refused call leaves its set as
 //! it was.
-use crate::merges::{merge_viewed, mix_viewed, set_of_texts};
-use crate::testing::{Entry, PlainValue, Sets, UTF8, exact, made, push_row, push_text, sets, text};
+use crate::merges::{merge_viewed, set_of_texts};
+use crate::testing::Plain::{Truth, Word};
+use crate::testing::{Entry, PlainValue, Sets, UTF8, made, push_row, push_text, sets, text};
 use std::alloc::{AllocError, Global};
 use vortex_stats::error::StatsError;
+use vortex_stats::precision::Precision::Exact;
 use vortex_stats::stat::Stat;
 use vortex_stats::stats_set::{MergeRefused, StatsSet};
+
+// Ordered or not, and whether both sides tell that they aren't constant.
+const ALL_WAYS: [(bool, bool); 4] = [(true, false), (false, false), (true, true), (false, true)];
 
 // The entries of a text column but IsConstant, which a merge with `varied` adds.
 fn text_entries(alloc: Global, min: &str, max: &str) -> Result<Vec<Entry>, AllocError> {
     let mut entries = Vec::new(alloc);
     push_text(&mut entries, alloc, Stat::Max, max)?;
-    push_row(&mut entries, Stat::IsSorted, exact(true))?;
+    push_row(&mut entries, Stat::IsSorted, Exact(Truth(true)))?;
     push_text(&mut entries, alloc, Stat::Min, min)?;
-    push_row(&mut entries, Stat::IsStrictSorted, exact(true))?;
-    push_row(&mut entries, Stat::NullCount, exact(1u64))?;
-    push_row(&mut entries, Stat::UncompressedSizeInBytes, exact(64u64))?;
+    push_row(&mut entries, Stat::IsStrictSorted, Exact(Truth(true)))?;
+    push_row(&mut entries, Stat::NullCount, Exact(Word(1)))?;
+    push_row(&mut entries, Stat::UncompressedSizeInBytes, Exact(Word(64)))?;
     Ok(entries)
 }
 
@@ -28,7 +33,7 @@ fn texts(alloc: Global, min: &str, max: &str) -> Sets {
 // The same, and not constant.
 fn varied(alloc: Global, min: &str, max: &str) -> Sets {
     let mut set = texts(alloc, min, max)?;
-    sets::set(&mut set, Stat::IsConstant, exact(false))?;
+    sets::set(&mut set, Stat::IsConstant, Exact(Truth(false)))?;
     Ok(set)
 }
 
@@ -79,8 +84,8 @@ fn has_same(set: &StatsSet, other: &StatsSet, stat: Stat) -> bool {
 
 // The merge took the other's values and IsConstant, and added the counts.
 fn is_merged(set: &StatsSet, other: &StatsSet) -> bool {
-    has_value(set, Stat::NullCount, exact(2u64))
-        && has_value(set, Stat::UncompressedSizeInBytes, exact(128u64))
+    has_value(set, Stat::NullCount, Exact(Word(2)))
+        && has_value(set, Stat::UncompressedSizeInBytes, Exact(Word(128)))
         && has_same(set, other, Stat::Max)
         && has_same(set, other, Stat::Min)
         && has_same(set, other, Stat::IsConstant)
@@ -116,26 +121,8 @@ fn merges(alloc: Global, is_ordered: bool, is_told: bool) -> Option<bool> {
 
 #[test]
 fn merges_by_value(rt: HostRuntime) {
-    assert!(rt; merges(rt.alloc(), true, false) != Some(false));
-    assert!(rt; merges(rt.alloc(), false, false) != Some(false));
-}
-
-#[test]
-fn merges_where_both_tell_of_constants(rt: HostRuntime) {
-    assert!(rt; merges(rt.alloc(), true, true) != Some(false));
-    assert!(rt; merges(rt.alloc(), false, true) != Some(false));
-}
-
-// A merge through a view.
-fn merge_by_a_view(
-    set: &mut StatsSet,
-    other: &StatsSet,
-    is_ordered: bool,
-) -> Result<(), StatsError> {
-    if is_ordered {
-        merge_viewed(set, other, &UTF8)
-    } else {
-        mix_viewed(set, other, &UTF8)
+    for (is_ordered, is_told) in ALL_WAYS {
+        assert!(rt; merges(rt.alloc(), is_ordered, is_told) != Some(false));
     }
 }
 
@@ -151,20 +138,15 @@ fn viewed_took_all(answer: Result<(), StatsError>, sides: &Sides) -> bool {
 // `None` where the sides were refused.
 fn merges_viewed(alloc: Global, is_ordered: bool, is_told: bool) -> Option<bool> {
     let mut sides = make_sides(alloc, is_told)?;
-    let answer = merge_by_a_view(&mut sides.set, &sides.other, is_ordered);
+    let answer = merge_viewed(&mut sides.set, &sides.other, &UTF8, is_ordered);
     Some(viewed_took_all(answer, &sides))
 }
 
 #[test]
 fn merges_through_a_view(rt: HostRuntime) {
-    assert!(rt; merges_viewed(rt.alloc(), true, false) != Some(false));
-    assert!(rt; merges_viewed(rt.alloc(), false, false) != Some(false));
-}
-
-#[test]
-fn merges_through_a_view_where_both_tell_of_constants(rt: HostRuntime) {
-    assert!(rt; merges_viewed(rt.alloc(), true, true) != Some(false));
-    assert!(rt; merges_viewed(rt.alloc(), false, true) != Some(false));
+    for (is_ordered, is_told) in ALL_WAYS {
+        assert!(rt; merges_viewed(rt.alloc(), is_ordered, is_told) != Some(false));
+    }
 }
 
 // The first entry, which every set has.
@@ -196,7 +178,7 @@ fn is_combined(answer: Result<(), StatsError>, sides: &Sides, agrees: bool) -> b
 // A maximum, a minimum and a count of nulls, in this order.
 fn extremes_and_nulls(alloc: Global, min: &str) -> Sets {
     let mut set = set_of_texts(alloc, (Stat::Max, "m"), (Stat::Min, min))?;
-    sets::set(&mut set, Stat::NullCount, exact(0u64))?;
+    sets::set(&mut set, Stat::NullCount, Exact(Word(0)))?;
     Ok(set)
 }
 

@@ -1,177 +1,83 @@
-//! Worked rows of sets: writes, look-ups, readings and iterators.
+//! Sets by the built code: writes, look-ups, readings and iterators.
 use crate::callers::{counted, entries_of, statistics_of};
-use crate::testing::{
-    Entry, I32, PlainValue, Row, Sets, UTF8, are, entries, exact, inexact, is_mismatch, is_yes,
-    made, name, sets,
-};
+use crate::testing::Plain::{Int, Long, Word};
+use crate::testing::{Entry, I32, PlainValue, Sets, UTF8, are, entries, is_yes, made, name, sets};
 use smallvec::SmallVec;
 use std::alloc::{AllocError, Global};
-use std::process::Abort;
 use vortex_base::dtype::DType;
 use vortex_stats::error::StatsError;
-use vortex_stats::precision::Precision;
-use vortex_stats::stat::Stat;
+use vortex_stats::precision::Precision::{self, Absent, Exact, Inexact};
+use vortex_stats::stat::Stat::{self, Max, Min, NaNCount, NullCount, Sum};
 use vortex_stats::stats_set::{StatsArray, StatsSet};
 
 // Max 100 and then Min 42, which the caller knows to be of two statistics.
 fn unchecked(alloc: Global) -> Sets {
     let mut entries: StatsArray = SmallVec::new(alloc);
-    entries.push((Stat::Max, made(exact(100))))?;
-    entries.push((Stat::Min, made(exact(42))))?;
+    entries.push((Max, made(Exact(Int(100)))))?;
+    entries.push((Min, made(Exact(Int(42)))))?;
     Ok(StatsSet::new_unchecked(alloc, entries))
 }
 
-// Whether this is an entry of the statistic with exactly the number.
-fn is_entry(entry: &Entry, stat: Stat, number: i32) -> bool {
-    *entry == (stat, made(exact(number)))
-}
-
-fn is_next(entry: Option<Entry>, stat: Stat, number: i32) -> bool {
-    match entry {
-        Some(entry) => is_entry(&entry, stat, number),
-        None => false,
-    }
-}
-
-fn is_next_lent(entry: Option<&Entry>, stat: Stat, number: i32) -> bool {
-    match entry {
-        Some(entry) => is_entry(entry, stat, number),
-        None => false,
-    }
-}
-
-// Whether the iterator by reference gives Max 100 and then Min 42, and ends.
-fn lends_both(set: &StatsSet) -> bool {
-    let mut entries = set.iter();
-    let first = is_next_lent(entries.next(), Stat::Max, 100);
-    let second = is_next_lent(entries.next(), Stat::Min, 42);
-    first && second && entries.next().is_none()
-}
-
-// Whether the iterator by value does.
-fn gives_both(set: StatsSet) -> bool {
-    let mut entries = set.into_iter();
-    let first = is_next(entries.next(), Stat::Max, 100);
-    let second = is_next(entries.next(), Stat::Min, 42);
-    first && second && entries.next().is_none()
-}
-
-fn count(set: &StatsSet) -> usize {
-    counted(set)
-}
-
-// Whether the set is of Max and then Min.
-fn is_of_both(alloc: Global, set: &StatsSet) -> bool {
-    match statistics_of(alloc, set) {
-        Ok(stats) => are(stats.as_slice(), &[Stat::Max, Stat::Min]),
-        Err(_) => false,
-    }
-}
-
 // Whether the set is of Max 100 and Min 42 by all its iterators.
-fn has_both(alloc: Global, set: StatsSet) -> bool {
-    lends_both(&set) && count(&set) == 2 && is_of_both(alloc, &set) && gives_both(set)
+fn has_both(alloc: Global, set: StatsSet) -> Result<bool, AllocError> {
+    let rows = entries(alloc, &[(Max, Exact(Int(100))), (Min, Exact(Int(42)))])?;
+    let is_of_both = are(statistics_of(alloc, &set)?.as_slice(), &[Max, Min]);
+    let lends_two = counted(&set) == 2;
+    Ok(is_of_both && lends_two && are(entries_of(alloc, set)?.as_slice(), rows.as_slice()))
 }
 
-// Whether that is so of the set whose statistics are not checked.
-fn has_both_unchecked(alloc: Global) -> bool {
-    match unchecked(alloc) {
-        Ok(set) => has_both(alloc, set),
-        Err(_) => false,
-    }
+fn iterates(alloc: Global) -> Result<bool, StatsError> {
+    Ok(has_both(alloc, unchecked(alloc)?)?)
 }
 
 #[test]
 fn iterators(rt: HostRuntime) {
-    assert!(rt; has_both_unchecked(rt.alloc()));
-}
-
-// Whether a `for` over a copy of the set gives these rows, in order.
-fn loops_over(alloc: Global, set: &StatsSet, rows: &[Row]) -> Result<bool, StatsError> {
-    let expected = entries(alloc, rows)?;
-    let entries = entries_of(alloc, set.try_clone()?)?;
-    Ok(are(entries.as_slice(), expected.as_slice()))
+    assert!(rt; is_yes(iterates(rt.alloc())));
 }
 
 // Max, then Min; Max was set twice.
 fn set_twice(alloc: Global) -> Sets {
-    let mut set = sets::of(alloc, &[(Stat::Max, exact(1)), (Stat::Min, exact(0))])?;
-    sets::set(&mut set, Stat::Max, inexact(4))?;
+    let mut set = sets::of(alloc, &[(Max, Exact(Int(1))), (Min, Exact(Int(0)))])?;
+    sets::set(&mut set, Max, Inexact(Int(4)))?;
     Ok(set)
 }
 
-// Whether the first entry has the value that was set last, and keeps its place.
-fn keeps_places(alloc: Global) -> Result<bool, StatsError> {
-    let set = set_twice(alloc)?;
-    let rows = [(Stat::Max, inexact(4)), (Stat::Min, exact(0))];
-    Ok(sets::has(&set, Stat::Max, inexact(4)) && loops_over(alloc, &set, &rows)?)
-}
-
-#[test]
-fn places(rt: HostRuntime) {
-    assert!(rt; is_yes(keeps_places(rt.alloc())));
-}
-
-// Takes all but two statistics out.
-fn retain_two(set: &mut StatsSet) -> Result<(), StatsError> {
-    sets::set(set, Stat::Sum, Precision::Absent)?;
-    sets::retain_only(set, &[Stat::Sum, Stat::Max]);
-    Ok(())
-}
-
-// A copy of which all but two statistics are taken out.
+// A copy of which all but Sum and Max are taken out, and Sum is said to be absent.
 fn retained(alloc: Global) -> Sets {
     let mut set = sets::copy(&set_twice(alloc)?)?;
-    retain_two(&mut set)?;
+    sets::set(&mut set, Sum, Absent)?;
+    set.retain_only(&[Sum, Max]);
     Ok(set)
-}
-
-#[test]
-fn retained_entries_keep_their_places(rt: HostRuntime) {
-    let alloc = rt.alloc();
-    let left = [(Stat::Max, inexact(4)), (Stat::Sum, Precision::Absent)];
-    assert!(rt; sets::is(alloc, retained(alloc), &left));
 }
 
 fn cleared(alloc: Global) -> Sets {
     let mut set = set_twice(alloc)?;
-    sets::clear(&mut set, Stat::Max);
-    sets::clear(&mut set, Stat::NullCount);
+    set.clear(Max);
+    set.clear(NullCount);
     Ok(set)
 }
 
 #[test]
-fn cleared_entries_are_gone(rt: HostRuntime) {
+fn entries_keep_their_places(rt: HostRuntime) {
     let alloc = rt.alloc();
-    assert!(rt; sets::is(alloc, cleared(alloc), &[(Stat::Min, exact(0))]));
+    let (max, min) = ((Max, Inexact(Int(4))), (Min, Exact(Int(0))));
+    assert!(rt; sets::is(alloc, set_twice(alloc), &[max, min]));
+    assert!(rt; sets::is(alloc, retained(alloc), &[max, (Sum, Absent)]));
+    assert!(rt; sets::is(alloc, cleared(alloc), &[min]));
 }
 
-// The set of a Max that is Absent.
-fn absent_max(alloc: Global) -> StatsSet {
-    sets::one(alloc, Stat::Max, Precision::Absent)
-}
-
-// Whether that set counts its entry.
-fn counts_absent(alloc: Global) -> bool {
-    let set = absent_max(alloc);
-    sets::len(&set) == 1 && !sets::is_empty(&set)
-}
-
-// Whether Absent is found in that set at the statistic.
-fn finds_absent(alloc: Global, stat: Stat) -> bool {
-    sets::has(&absent_max(alloc), stat, Precision::Absent)
-}
-
-fn is_empty_at_first(alloc: Global) -> bool {
-    sets::is_empty(&sets::empty(alloc))
+// Whether an entry that is Absent is counted, and answered as one that is missing.
+fn keeps_absent(set: &StatsSet) -> bool {
+    sets::len(set) == 1
+        && !set.is_empty()
+        && sets::has(set, Max, Absent)
+        && sets::has(set, Min, Absent)
 }
 
 #[test]
 fn absent_entries(rt: HostRuntime) {
-    assert!(rt; counts_absent(rt.alloc()));
-    assert!(rt; finds_absent(rt.alloc(), Stat::Max));
-    assert!(rt; finds_absent(rt.alloc(), Stat::Min));
-    assert!(rt; is_empty_at_first(rt.alloc()));
+    assert!(rt; keeps_absent(&sets::one(rt.alloc(), Max, Absent)));
+    assert!(rt; sets::empty(rt.alloc()).is_empty());
 }
 
 // Max 1, Min 0 and Max inexactly 4.
@@ -179,16 +85,16 @@ fn three_items(alloc: Global) -> Result<Vec<Entry>, AllocError> {
     entries(
         alloc,
         &[
-            (Stat::Max, exact(1)),
-            (Stat::Min, exact(0)),
-            (Stat::Max, inexact(4)),
+            (Max, Exact(Int(1))),
+            (Min, Exact(Int(0))),
+            (Max, Inexact(Int(4))),
         ],
     )
 }
 
 // The set of Min 7, extended by the items.
 fn extended(alloc: Global) -> Sets {
-    let mut set = sets::one(alloc, Stat::Min, exact(7));
+    let mut set = sets::one(alloc, Min, Exact(Int(7)));
     set.try_extend(three_items(alloc)?.into_iter())?;
     Ok(set)
 }
@@ -204,96 +110,46 @@ fn from_items(alloc: Global) -> Sets {
 #[test]
 fn items(rt: HostRuntime) {
     let alloc = rt.alloc();
-    let extended_rows = [(Stat::Min, exact(0)), (Stat::Max, inexact(4))];
-    assert!(rt; sets::is(alloc, extended(alloc), &extended_rows));
-    let rows = [(Stat::Max, inexact(4)), (Stat::Min, exact(0))];
-    assert!(rt; sets::is(alloc, from_items(alloc), &rows));
+    let (max, min) = ((Max, Inexact(Int(4))), (Min, Exact(Int(0))));
+    assert!(rt; sets::is(alloc, extended(alloc), &[min, max]));
+    assert!(rt; sets::is(alloc, from_items(alloc), &[max, min]));
 }
 
-// Whether a Max of the number is read as a `u8` under the type: by what, or as a Mismatch.
-fn reads(set: &StatsSet, stat: Stat, expected: Option<Precision<u8>>) -> bool {
-    match set.get_as::<u8>(stat, &I32) {
-        Ok(read) => expected == Some(read),
-        Err(StatsError::Mismatch) => expected.is_none(),
-        Err(_) => false,
+// The Max of the number, read as a `u8` under the type, or `None` where that is a Mismatch.
+fn read(alloc: Global, max: i32, stat: Stat, dtype: &DType) -> Option<Precision<u8>> {
+    sets::one(alloc, Max, Exact(Int(max)))
+        .get_as::<u8>(stat, dtype)
+        .ok()
+}
+
+// Whether an inexact Min of this text is read as it.
+fn reads_text(alloc: Global, text: &str) -> Result<bool, StatsError> {
+    let set = sets::one_value(alloc, Min, Inexact(name(alloc, text)?));
+    match set.get_as::<String>(Min, &UTF8)? {
+        Inexact(read) => Ok(read.as_str() == text),
+        _ => Ok(false),
     }
-}
-
-// Whether an exact Max of the number is read so at the statistic.
-fn reads_max(alloc: Global, max: i32, stat: Stat, expected: Option<Precision<u8>>) -> bool {
-    reads(&sets::one(alloc, Stat::Max, exact(max)), stat, expected)
-}
-
-fn expect_max(
-    rt: &impl Abort,
-    alloc: Global,
-    max: i32,
-    stat: Stat,
-    expected: Option<Precision<u8>>,
-) {
-    assert!(rt; reads_max(alloc, max, stat, expected));
-}
-
-// Whether an exact Max of 200 is refused under the type of texts.
-fn is_refused_as_text(alloc: Global) -> bool {
-    let set = sets::one(alloc, Stat::Max, exact(200));
-    is_mismatch(sets::get_as::<u8>(&set, Stat::Max, &UTF8))
 }
 
 #[test]
 fn readings(rt: HostRuntime) {
     let alloc = rt.alloc();
-    expect_max(&rt, alloc, 200, Stat::Max, Some(Precision::Exact(200)));
-    expect_max(&rt, alloc, 200, Stat::Min, Some(Precision::Absent));
-    assert!(rt; is_refused_as_text(alloc));
-    expect_max(&rt, alloc, 300, Stat::Max, None);
+    assert!(rt; read(alloc, 200, Max, &I32) == Some(Exact(200)));
+    assert!(rt; read(alloc, 200, Min, &I32) == Some(Absent));
+    assert!(rt; read(alloc, 200, Max, &UTF8) == None);
+    assert!(rt; read(alloc, 300, Max, &I32) == None);
+    assert!(rt; is_yes(reads_text(alloc, "a name")));
 }
 
-fn is_inexact_text(read: Precision<String>, text: &str) -> bool {
-    match read {
-        Precision::Inexact(read) => read.as_str() == text,
-        _ => false,
-    }
-}
-
-// Whether an inexact Min of this text is read as it.
-fn reads_text(alloc: Global, text: &str) -> Result<bool, StatsError> {
-    let set = sets::one_value(alloc, Stat::Min, Precision::Inexact(name(alloc, text)?));
-    Ok(is_inexact_text(sets::get_as::<String>(&set, Stat::Min, &UTF8)?, text))
-}
-
-#[test]
-fn readings_of_texts(rt: HostRuntime) {
-    assert!(rt; is_yes(reads_text(rt.alloc(), "a name")));
-}
-
-// Whether NaNCount may have this value in a column of I32.
-fn may_be_nan_count(value: PlainValue) -> bool {
-    StatsSet::value_fits(Stat::NaNCount, &I32, &made(value))
-}
-
-// Whether the set of the value fits the type.
 fn fits(alloc: Global, stat: Stat, value: PlainValue, dtype: &DType) -> bool {
-    sets::fits(&sets::one(alloc, stat, value), dtype)
-}
-
-fn expect_fits(
-    rt: &impl Abort,
-    alloc: Global,
-    stat: Stat,
-    value: PlainValue,
-    dtype: &DType,
-    expected: bool,
-) {
-    assert!(rt; fits(alloc, stat, value, dtype) == expected);
+    StatsSet::value_fits(stat, dtype, &made(value)) && sets::one(alloc, stat, value).fits(dtype)
 }
 
 #[test]
 fn fitting(rt: HostRuntime) {
     let alloc = rt.alloc();
-    expect_fits(&rt, alloc, Stat::Sum, exact(6i64), &I32, true);
-    expect_fits(&rt, alloc, Stat::Sum, exact(6i64), &UTF8, false);
-    assert!(rt; !may_be_nan_count(exact(0u64)));
-    expect_fits(&rt, alloc, Stat::NaNCount, exact(0u64), &I32, false);
-    expect_fits(&rt, alloc, Stat::NaNCount, Precision::Absent, &I32, true);
+    assert!(rt; fits(alloc, Sum, Exact(Long(6)), &I32) && !fits(alloc, Sum, Exact(Long(6)), &UTF8));
+    assert!(rt;
+        fits(alloc, NaNCount, Absent, &I32) && !fits(alloc, NaNCount, Exact(Word(0)), &I32)
+    );
 }

@@ -19,34 +19,10 @@ pub type Entry = (Stat, Value);
 /// A number or a truth. It is copied, so that a test's rows need no drop.
 #[derive(Clone, Copy)]
 pub enum Plain {
-    Bool(bool),
-    I32(i32),
-    I64(i64),
-    U64(u64),
-}
-
-impl From<bool> for Plain {
-    fn from(value: bool) -> Plain {
-        Plain::Bool(value)
-    }
-}
-
-impl From<i32> for Plain {
-    fn from(value: i32) -> Plain {
-        Plain::I32(value)
-    }
-}
-
-impl From<i64> for Plain {
-    fn from(value: i64) -> Plain {
-        Plain::I64(value)
-    }
-}
-
-impl From<u64> for Plain {
-    fn from(value: u64) -> Plain {
-        Plain::U64(value)
-    }
+    Truth(bool),
+    Int(i32),
+    Long(i64),
+    Word(u64),
 }
 
 pub type PlainValue = Precision<Plain>;
@@ -64,20 +40,12 @@ pub const U8: DType = DType::Primitive(PType::U8, Nullability::NonNullable);
 
 pub const UTF8: DType = DType::Utf8(Nullability::NonNullable);
 
-pub fn exact<T: Into<Plain>>(value: T) -> PlainValue {
-    Precision::Exact(value.into())
-}
-
-pub fn inexact<T: Into<Plain>>(value: T) -> PlainValue {
-    Precision::Inexact(value.into())
-}
-
 pub fn scalar_value(plain: Plain) -> ScalarValue {
     match plain {
-        Plain::Bool(value) => ScalarValue::from(value),
-        Plain::I32(value) => ScalarValue::from(value),
-        Plain::I64(value) => ScalarValue::from(value),
-        Plain::U64(value) => ScalarValue::from(value),
+        Plain::Truth(value) => ScalarValue::from(value),
+        Plain::Int(value) => ScalarValue::from(value),
+        Plain::Long(value) => ScalarValue::from(value),
+        Plain::Word(value) => ScalarValue::from(value),
     }
 }
 
@@ -199,9 +167,7 @@ pub mod sets {
     use super::{Entry, PlainValue, Row, Sets, Value, entries, is_yes, made};
     use std::alloc::Global;
     use vortex_base::dtype::DType;
-    use vortex_base::from_scalar::FromScalar;
     use vortex_stats::error::StatsError;
-    use vortex_stats::precision::Precision;
     use vortex_stats::stat::Stat;
     use vortex_stats::stats_set::{MergeRefused, StatsSet};
 
@@ -239,20 +205,8 @@ pub mod sets {
         set.set(stat, made(value))
     }
 
-    pub fn clear(set: &mut StatsSet, stat: Stat) {
-        set.clear(stat);
-    }
-
-    pub fn retain_only(set: &mut StatsSet, stats: &[Stat]) {
-        set.retain_only(stats);
-    }
-
     pub fn len(set: &StatsSet) -> usize {
         set.len()
-    }
-
-    pub fn is_empty(set: &StatsSet) -> bool {
-        set.is_empty()
     }
 
     /// Whether the set has the value at the statistic.
@@ -261,18 +215,6 @@ pub mod sets {
             Ok(found) => found == made(value),
             Err(_) => false,
         }
-    }
-
-    pub fn get_as<T: FromScalar>(
-        set: &StatsSet,
-        stat: Stat,
-        dtype: &DType,
-    ) -> Result<Precision<T>, StatsError> {
-        set.get_as::<T>(stat, dtype)
-    }
-
-    pub fn fits(set: &StatsSet, dtype: &DType) -> bool {
-        set.fits(dtype)
     }
 
     /// The ordered merge, where both sets fit the type.
@@ -332,14 +274,6 @@ pub mod sets {
     pub fn is(alloc: Global, set: Sets, rows: &[Row]) -> bool {
         match entries(alloc, rows) {
             Ok(expected) => has_entries(alloc, set, expected.as_slice()),
-            Err(_) => false,
-        }
-    }
-
-    /// Whether the set is there and has no entry.
-    pub fn is_left_empty(set: Sets) -> bool {
-        match set {
-            Ok(set) => set.is_empty(),
             Err(_) => false,
         }
     }
