@@ -112,7 +112,10 @@ strict_order_at_the_seam_no_min = refl
 
 -- Without an order of the rows nothing is known of their order.
 
-unordered_merge : let set = (stats.Min, Exact (i32 1)) ∷ (stats.Max, Exact (i32 10000)) ∷ (stats.NullCount, Exact (u64 2)) ∷ (stats.UncompressedSizeInBytes, Exact (u64 25)) ∷ (stats.IsConstant, fails) ∷ (stats.IsSorted, holds) ∷ (stats.IsStrictSorted, holds) ∷ [] in merged_unordered set set ≡ (stats.Min, Exact (i32 1)) ∷ (stats.Max, Exact (i32 10000)) ∷ (stats.NullCount, Exact (u64 4)) ∷ (stats.UncompressedSizeInBytes, Exact (u64 50)) ∷ (stats.IsConstant, fails) ∷ []
+unordered_merge : merged_unordered
+    ((stats.Min, Exact (i32 1)) ∷ (stats.Max, Exact (i32 10000)) ∷ (stats.NullCount, Exact (u64 2)) ∷ (stats.UncompressedSizeInBytes, Exact (u64 25)) ∷ (stats.IsConstant, fails) ∷ (stats.IsSorted, holds) ∷ (stats.IsStrictSorted, holds) ∷ [])
+    ((stats.Min, Exact (i32 1)) ∷ (stats.Max, Exact (i32 10000)) ∷ (stats.NullCount, Exact (u64 2)) ∷ (stats.UncompressedSizeInBytes, Exact (u64 25)) ∷ (stats.IsConstant, fails) ∷ (stats.IsSorted, holds) ∷ (stats.IsStrictSorted, holds) ∷ [])
+    ≡ (stats.Min, Exact (i32 1)) ∷ (stats.Max, Exact (i32 10000)) ∷ (stats.NullCount, Exact (u64 4)) ∷ (stats.UncompressedSizeInBytes, Exact (u64 50)) ∷ (stats.IsConstant, fails) ∷ []
 unordered_merge = refl
 
 -- A merge copies a text that is the bound of both sides and not the left side's, and no number.

@@ -60,8 +60,16 @@ fn writes_through(set: &mut StatsSet) -> Result<bool, StatsError> {
         return Ok(false);
     }
     let is_set = sets_the_sum(&mut set.as_mut_typed_ref(&I32))? && sets::len(set) == 1;
+    Ok(is_set && clears_the_sum(set))
+}
+
+// Clears the sum through a view of the set.
+fn clears_the_sum(set: &mut StatsSet) -> bool {
+    if !set.fits(&I32) {
+        return false;
+    }
     cleared_through_view(set, &I32, Stat::Sum);
-    Ok(is_set && set.is_empty())
+    set.is_empty()
 }
 
 #[test]
