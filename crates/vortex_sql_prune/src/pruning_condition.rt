@@ -100,7 +100,7 @@ impl PruningCondition {
         // By built-in rules no proof has a column outside its placeholders.
         ensures closed { rules.now.own.items ≡ [] → IfOk result (λ made.
             (is_open made.falsifier ≡ false) × (is_open made.satisfier ≡ false)) }
-        // By built-in rules a condition that is read is refused for memory alone.
+        // By built-in rules a condition is refused for its text or for memory alone.
         ensures memory { rules.now.own.items ≡ [] → IfErr result IsOfTextOrMemory }
     {
         proofs_tell_of_conditions();
