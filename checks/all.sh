@@ -37,11 +37,13 @@ first_example() {
 check "layout" checks/layout.py
 check "program" first_example
 check "examples" examples/compare.sh
+check "the command-line tool" checks/tool.sh
 check "random inputs" checks/random-inputs.py
 check "hostile inputs" checks/hostile-input.py
 check "callers in other languages" checks/callers.sh
 check "examples of the pages" checks/examples.py
 check "fuzzing for a minute" checks/fuzz.sh 1
+check "packages of what is built" checks/release.sh --built
 check "real systems" checks/systems.sh
 check "pruning beside an ideal and PostgreSQL" checks/power.py
 check "refused growths of the program" checks/refused-growths.py

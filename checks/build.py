@@ -3,7 +3,7 @@
 """Proves and builds a program of the repository where its sources have changed, and says on standard error how far it is.
 
 usage: checks/build.py [NAME]    builds crates/NAME/out/NAME, by default vortex_scan, and prints nothing on standard output
-       checks/build.py --run [NAME]    builds it, and runs it in its own place, on the same standard input
+       checks/build.py --run [NAME WORD..]    builds it, and runs it with these words in its own place, on the same standard input
 
 Crates that don't stand on each other are proved side by side where memory allows. An interrupted build goes on where
 it was: `rt` keeps in each crate's out/ what it has proved. The status is 70 where something isn't proved or built.
@@ -268,10 +268,11 @@ def main(words):
     for it in (signal.SIGTERM, signal.SIGHUP, signal.SIGINT):
         signal.signal(it, lambda number, _: sys.exit(128 + number))
     runs = words[:1] == ["--run"]
-    program = built((words[runs:] or ["vortex_scan"])[0])
+    name, *arguments = words[runs:] or ["vortex_scan"]
+    program = built(name)
     if program and runs:
         signal.signal(signal.SIGPIPE, signal.SIG_DFL)
-        os.execv(program, [program])
+        os.execv(program, [program, *arguments])
     return 0 if program else NOT_BUILT
 
 

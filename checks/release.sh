@@ -35,6 +35,7 @@ versions_agree() {
     grep -q "define VORTEX_VERSION $number\$" callers/c/vortex.h || fail "callers/c/vortex.h has another version than $version"
     grep -q "^## $version" CHANGELOG.md || fail "CHANGELOG.md tells nothing of $version"
     grep -qx "version: $version" CITATION.cff || fail "CITATION.cff has another version than $version"
+    grep -qF "const VERSION: &str = \"$version\";" crates/vortex_command/src/lib.rt || fail "the program has another version than $version"
 }
 
 # Proves and builds the library and the program where they aren't, and counts what is proved.
@@ -174,11 +175,10 @@ root_of_packages() {
     "${as_root[@]}" dpkg --root="$1" --ignore-depends=libc6 --install dist/*.deb > "$work/dpkg.log" 2>&1 || fail "$(cat "$work/dpkg.log")"
 }
 
-# The program as it is installed: its version, an answer, its page and its completion.
+# The program as it is installed: its answers and refusals, its page and its completion.
 program() {
     local share="$1/usr/share" faults
-    "$1/usr/bin/foalmorrow" --version | grep -qF "$version" || fail "the program tells another version than $version"
-    "$1/usr/bin/foalmorrow" scan examples/first-run.txt | cmp - examples/first-run.out || fail "the program answers otherwise than it should"
+    checks/tool.sh "$1/usr/bin/foalmorrow" > "$work/tool.log" || fail "$(cat "$work/tool.log")"
     faults="$(man --warnings -E UTF-8 -l "$share/man/man1/foalmorrow.1.gz" 2>&1 > /dev/null)"
     [ -z "$faults" ] || fail "the program's page: $faults"
     [ "$(bash -c 'source "$1"; COMP_WORDS=(foalmorrow sc) COMP_CWORD=1; _foalmorrow; echo "${COMPREPLY[*]}"' - \
@@ -230,7 +230,7 @@ crate() {
     fi
     export PKG_CONFIG=false
     FOALMORROW_LIB_DIR="$work/none" packed build && fail "a folder without a library is taken"
-    grep -q "which has no such library" "$work/cargo.log" || fail "$(cat "$work/cargo.log")"
+    grep -q "where no libfoalmorrow is" "$work/cargo.log" || fail "$(cat "$work/cargo.log")"
     packed build && fail "the crate is built without a library"
     grep -q "the proved library isn't here" "$work/cargo.log" || fail "$(cat "$work/cargo.log")"
     FOALMORROW_LIB_DIR="$work/1/made/lib" packed test --features static || fail "$(tail -n 40 "$work/cargo.log")"
