@@ -120,7 +120,7 @@ fn bounds_and_constants(rt: HostRuntime) {
     expect_merges(&rt, rt.alloc(), &I32, &rows);
 }
 
-// What is known of the order depends on the values at the seam.
+// The values at the seam decide which order is known.
 #[test]
 fn order_at_the_seam(rt: HostRuntime) {
     let to_1: &[Row] = &[(IsStrictSorted, Exact(Truth(true))), (Max, Exact(Int(1)))];
