@@ -204,10 +204,10 @@ debian() {
     else
         left_out "lintian: apt-get install lintian"
     fi
-    root_of_packages "$work/root"
-    program "$work/root"
-    export PKG_CONFIG_SYSROOT_DIR="$work/root" PKG_CONFIG_LIBDIR="$work/root/usr/lib/x86_64-linux-gnu/pkgconfig"
-    example "$work/root"
+    root_of_packages "$work/installed"
+    program "$work/installed"
+    export PKG_CONFIG_SYSROOT_DIR="$work/installed" PKG_CONFIG_LIBDIR="$work/installed/usr/lib/x86_64-linux-gnu/pkgconfig"
+    example "$work/installed"
     echo "release: the Debian packages are installed, and an example in C is built over them"
 }
 
@@ -221,7 +221,7 @@ crate() {
     mkdir "$work/crate"
     tar --extract --gzip --file "dist/foalmorrow-$version.crate" --directory "$work/crate"
     export CARGO_TARGET_DIR="$work/crate/target" RUSTFLAGS=-Dwarnings RUSTDOCFLAGS=-Dwarnings
-    LD_LIBRARY_PATH="$work/root/usr/lib/x86_64-linux-gnu" packed test || fail "$(tail -n 40 "$work/cargo.log")"
+    LD_LIBRARY_PATH="$work/installed/usr/lib/x86_64-linux-gnu" packed test || fail "$(tail -n 40 "$work/cargo.log")"
     packed doc --all-features --no-deps || fail "$(cat "$work/cargo.log")"
     if ! cargo clippy --version > /dev/null 2>&1; then
         left_out "clippy"

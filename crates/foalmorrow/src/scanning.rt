@@ -13,8 +13,8 @@ use vortex_text::streams::{Sink, Source, write_out};
 // The status where a file can't be opened.
 const NOT_OPENED: u8 = 66;
 
-/// Answers one text as the program does, with `run`'s clauses, and explains the scan to `reasons` where that is asked for.
-/// The status comes back, and the reader.
+/// Answers one text as the program does, with `run`'s clauses, and explains the scan to `reasons`
+/// where that is asked for. The status comes back, and the reader.
 pub fn scan_input<R: Source, W: Sink, E: Sink>(
     alloc: Global,
     is_explained: bool,
@@ -92,8 +92,8 @@ fn write_name<W: Sink>(writer: &mut W, file: &str) -> bool {
     write_out(writer, file.as_bytes()) && write_out(writer, b":\n")
 }
 
-/// Answers each file in turn and returns the greatest status. Of several files each answer stands behind a line with
-/// the name of its file and a colon.
+/// Answers each file in turn and returns the greatest status. Of several files each answer stands
+/// behind a line with the name of its file and a colon.
 pub fn scan_files<F: Files, W: Sink, E: Sink>(
     rt: &F,
     alloc: Global,

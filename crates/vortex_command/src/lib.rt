@@ -81,8 +81,8 @@ fn scan_requested<'a>(alloc: Global, matches: &ArgMatches<'a>) -> Result<Scan<'a
     })
 }
 
-/// Returns what the words of a command line ask for, the first of which is the program's name. The error is also what
-/// `--help` and `--version` print.
+/// Returns what the words of a command line ask for, the first of which is the program's name. The
+/// error is also what `--help` and `--version` print.
 pub fn requested<'a>(alloc: Global, words: &'a [String]) -> Result<Request<'a>, Error> {
     let mut command = command(alloc)?;
     let matches = command.try_get_matches_from_mut(words)?;
@@ -92,8 +92,8 @@ pub fn requested<'a>(alloc: Global, words: &'a [String]) -> Result<Request<'a>, 
     }
 }
 
-/// Returns the status of a command line that asks for nothing that is done: 0 where help or the version was asked for, 1
-/// where memory was refused, and else 64.
+/// Returns the status of a command line that asks for nothing that is done: 0 where help or the
+/// version was asked for, 1 where memory was refused, and else 64.
 pub fn status_of(error: &Error) -> u8
     ensures shown { (kind_of error.now ≡ ErrorKind.DisplayHelp)
         ⊎ (kind_of error.now ≡ ErrorKind.DisplayVersion) → result ≡ 0 }

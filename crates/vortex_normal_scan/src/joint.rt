@@ -45,8 +45,8 @@ fn either(
     built(bound::binary(alloc, Operator::Or, first, second))
 }
 
-/// A proof that is true where either of two is, if there is one: the second alone if its shape shows
-/// that it is true where the first is.
+/// A proof that is true where either of two is, if there is one: the second alone if its shape
+/// shows that it is true where the first is.
 pub(crate) fn joint(
     alloc: Global,
     first: Option<BoundExpression>,

@@ -253,12 +253,13 @@ fn made(
 
 impl PruningPredicate {
     /// Makes the proofs of a predicate by the built-in rules and those of a user: by the predicate
-    /// as it is, by its normal form, and by tests that it is true and that it isn't, in which truths
-    /// that are compared or null-tested are pushed down to their columns and a column of nulls alone
-    /// is seen. A proof that another one covers is left out.
+    /// as it is, by its normal form, and by tests that it is true and that it isn't, in which
+    /// truths that are compared or null-tested are pushed down to their columns and a column of
+    /// nulls alone is seen. A proof that another one covers is left out.
     ///
-    /// `NotPredicate` if the expression isn't of type Bool, which is found before anything is taken.
-    /// `Rule` if a rule of the user failed or proved by an expression that isn't of type Bool.
+    /// `NotPredicate` if the expression isn't of type Bool, which is found before anything is
+    /// taken. `Rule` if a rule of the user failed or proved by an expression that isn't of type
+    /// Bool.
     pub fn try_new(
         alloc: Global,
         predicate: &BoundExpression,
@@ -329,13 +330,13 @@ impl PruningPredicate {
         self.satisfier.as_ref()
     }
 
-    /// The verdict on each zone of a map: it is skipped if no row of it satisfies the predicate, and
-    /// whole if each does. Each proof is bound once, for all zones.
+    /// The verdict on each zone of a map: it is skipped if no row of it satisfies the predicate,
+    /// and whole if each does. Each proof is bound once, for all zones.
     ///
     /// The caller knows that the predicate fits the map's scope (`BoundExpression::fits_scope`).
     ///
-    /// `OpenProof` if a proof that is about to be bound has a column outside its placeholders, which
-    /// a user's rule may have named, and else `Memory` alone.
+    /// `OpenProof` if a proof that is about to be bound has a column outside its placeholders,
+    /// which a user's rule may have named, and else `Memory` alone.
     pub fn prune(&self, alloc: Global, map: &ZoneMap) -> Result<Vec<Verdict>, StatsError>
         requires { IsTrue (fits_scope self.now.predicate map.now.scope) }
         // On each row of the table, whatever it was made of, by what the row holds.

@@ -332,8 +332,8 @@ fn selected(
     scan_selects(found, expected)
 }
 
-/// A scan and pruning skip the first parts with the predicate as it is, a pruning predicate skips the
-/// others, and the scan selects these rows.
+/// A scan and pruning skip the first parts with the predicate as it is, a pruning predicate skips
+/// the others, and the scan selects these rows.
 pub fn expect(
     rt: &impl Abort,
     alloc: Global,

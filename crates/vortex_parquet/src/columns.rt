@@ -47,7 +47,7 @@ pub enum LeftOut {
     Duplicate,
 }
 
-/// What a column is: a leaf that is read, or why it is not.
+/// A column of the schema: a leaf that is read, or the reason why it is not.
 #[derive(Clone, Copy, Debug, PartialEq, Eq)]
 pub enum Content {
     Leaf(Leaf),
@@ -133,7 +133,7 @@ fn converted_or_none(code: Option<u64>, scale: Option<u64>) -> Annotation
     }
 }
 
-// What a column is annotated with: the newer annotation, if there is one.
+// Returns the annotation of a column: the newer one, if there is one.
 fn annotation_of(
     annotation: Option<Annotation>,
     code: Option<u64>,
@@ -301,7 +301,7 @@ fn below(children: Option<u64>) -> u64
     }
 }
 
-// What an element of the first level is.
+// Returns the content of an element of the first level.
 #[tactic(auto, unfolding(crate::specs::Columns::content_of))]
 fn content_of(place: usize, element: &SchemaElement<'_>) -> Content
     ensures { result ≡ spec.content_of place (element_view element.now) }
@@ -400,7 +400,7 @@ pub fn columns_of<'a>(
     }
 }
 
-// What is found of a name, with one more column behind those that were looked at.
+// Returns the column of a name among those looked at and one more.
 fn with_column(name: &[u8], before: Option<Content>, column: &Column<'_>) -> Option<Content>
     ensures { result ≡ spec.with_column name.now before (spec.column_view column.now) }
 {
@@ -413,7 +413,8 @@ fn with_column(name: &[u8], before: Option<Content>, column: &Column<'_>) -> Opt
     }
 }
 
-/// Returns what the column of a name is, `Duplicate` if several have it, and none if no column does.
+/// Returns what the column of a name is, `Duplicate` if several have it, and none if no column
+/// does.
 pub fn lookup(columns: &[Column<'_>], name: &[u8]) -> Option<Content>
     ensures { result ≡ spec.lookup name.now (spec.column_views columns.now) }
 {

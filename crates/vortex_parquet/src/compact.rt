@@ -68,7 +68,7 @@ pub fn kind_of(code: u8) -> Option<Kind>
     }
 }
 
-// The same, where a code that stands for no kind is a fault.
+// Returns the kind of a code, and a fault where the code stands for no kind.
 #[tactic(auto, unfolding(crate::specs::Compact::kind_at))]
 fn kind_at(code: u8) -> Result<Kind, ReadError>
     ensures { Gives (λ k. k) result (kind_at code) }
@@ -79,7 +79,7 @@ fn kind_at(code: u8) -> Result<Kind, ReadError>
     }
 }
 
-/// What stands behind some bytes.
+/// Returns the bytes behind the first `count` ones.
 #[tactic(auto, unfolding(crate::specs::Compact::jump))]
 pub fn jump(count: usize, bytes: &[u8]) -> Result<&[u8], ReadError>
     ensures { Gives (λ rest. rest.now) result (jump count bytes.now) }
@@ -103,7 +103,7 @@ fn varint_in(left: u8, bytes: &[u8]) -> Result<(u64, &[u8]), ReadError>
     varint_from(left - 1, bytes)
 }
 
-// The same of a byte and at most so many others.
+// Reads a number of one byte and at most so many others.
 #[cycle(varint)]
 #[tactic(auto, unfolding(crate::specs::Compact::varint_from))]
 fn varint_from(left: u8, bytes: &[u8]) -> Result<(u64, &[u8]), ReadError>

@@ -18,9 +18,9 @@ use std::alloc::Global;
 
 /// Returns the bytes behind the value of a kind with which the bytes begin.
 pub fn value_end(kind: Kind, bytes: &[u8]) -> Result<&[u8], ReadError>
-    // What is skipped is a value.
+    // Each skipped stretch of bytes is a value.
     ensures found { IfOk result (λ rest. IsValue 32 kind bytes.now rest.now) }
-    // What is a value is skipped, unless memory runs out.
+    // Each value is skipped, unless memory runs out.
     ensures only { (rest : List ℕ) → IsValue 32 kind bytes.now rest
         → Gives (λ rest. rest.now) result (Ok rest) }
     ensures exact { Gives (λ rest. rest.now) result (skip_at 32 kind bytes.now) }

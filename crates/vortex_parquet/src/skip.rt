@@ -9,7 +9,7 @@ use crate::fault::{Fault, ReadError};
 /// How deep values may be nested.
 pub const DEPTH: u8 = 32;
 
-/// What stands behind a value whose parts are nested less deep than so.
+/// Returns the bytes behind a value whose parts are nested less deep than `depth`.
 #[cycle(skip)]
 #[tactic(auto, using(crate::proofs::More::skip_more, crate::proofs::More::skip_none))]
 pub fn skip(depth: u8, kind: Kind, bytes: &[u8]) -> Result<&[u8], ReadError>
@@ -21,7 +21,7 @@ pub fn skip(depth: u8, kind: Kind, bytes: &[u8]) -> Result<&[u8], ReadError>
     skip_value(depth - 1, kind, bytes)
 }
 
-// What stands behind a value whose parts are those of a depth.
+// Returns the bytes behind a value whose parts are nested at most `depth` deep.
 #[cycle(skip)]
 #[tactic(auto, unfolding(crate::specs::Skip::skip_value))]
 fn skip_value(depth: u8, kind: Kind, bytes: &[u8]) -> Result<&[u8], ReadError>
@@ -46,7 +46,7 @@ fn skip_value(depth: u8, kind: Kind, bytes: &[u8]) -> Result<&[u8], ReadError>
     }
 }
 
-// What stands behind an item of a list, or a key or a value of a map.
+// Returns the bytes behind an item of a list, or behind a key or a value of a map.
 #[cycle(skip)]
 pub fn skip_item(depth: u8, kind: Kind, bytes: &[u8]) -> Result<&[u8], ReadError>
     ensures { Gives (λ rest. rest.now) result (skip_item (skip_at depth) kind bytes.now) }

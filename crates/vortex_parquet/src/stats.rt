@@ -78,7 +78,7 @@ fn four_of(ptype: PType, bits: u32) -> Option<PValue>
     }
 }
 
-// The same in eight bytes.
+// Returns the value of a type of 64 bits, and none for other types.
 #[tactic(auto, unfolding(crate::specs::Stats::eight_of))]
 fn eight_of(ptype: PType, bits: u64) -> Option<PValue>
     ensures { result ≡ spec.eight_of ptype bits }
@@ -366,7 +366,7 @@ fn leaf_sets(
     Ok(sets)
 }
 
-/// What is known of a row group: how many rows it has, how many bytes it takes in the file, if the
+/// The statistics of a row group: how many rows it has, how many bytes it takes in the file, if the
 /// footer tells, and the statistics of each leaf column that is read.
 #[derive(Debug, Drop)]
 pub struct GroupStats {
@@ -375,7 +375,7 @@ pub struct GroupStats {
     pub stats: Vec<StatsSet>,
 }
 
-// What is known of a row group, of a file with so many leaf columns.
+// Returns the statistics of a row group, of a file with so many leaf columns.
 #[tactic(auto, unfolding(crate::specs::Stats::group_of))]
 fn group_of(
     alloc: Global,
@@ -398,7 +398,7 @@ fn group_of(
     })
 }
 
-// What is known of so many row groups one behind the other, of a file with so many leaf columns.
+// Returns the statistics of so many row groups in a row, of a file with so many leaf columns.
 fn groups_in(
     alloc: Global,
     leaves: &[Leaf],

@@ -10,8 +10,8 @@ pub fn predicate_refutes_condition()
     ensures { RefutesCondition }
 {}
 
-/// Where each row of a zone satisfies the predicate of a condition, whatever stands in those columns,
-/// each satisfies the condition.
+/// Where each row of a zone satisfies the predicate of a condition, whatever stands in those
+/// columns, each satisfies the condition.
 pub fn predicate_confirms_condition()
     ensures { ConfirmsCondition }
 {}
