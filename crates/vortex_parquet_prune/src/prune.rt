@@ -4,7 +4,11 @@ ghost use Rattle.vortex_expr.specs.Meanings.Fitting.{fits_scope};
 ghost use Rattle.vortex_expr.specs.Trees.Tree.{is_plain};
 ghost use Rattle.vortex_parquet.specs.Records.{FileData};
 ghost use Rattle.vortex_parquet.specs.Stats.{group_view, groups_of};
-ghost use Rattle.vortex_parquet_prune.specs.Pruning.{PrunesSoundly};
+ghost use Rattle.vortex_parquet_prune.specs.Pruning.{PrunesSoundly, zone_data};
+ghost use Rattle.vortex_prune.specs.Scanning.ZoneScans.{skipped_zones, whole_zones};
+ghost use Rattle.vortex_rewrite.specs.Rewriting.Falsifiers.{falsifier as falsifier_of};
+ghost use Rattle.vortex_rewrite.specs.Rewriting.Falsifiers.{satisfier as satisfier_of};
+ghost use Rattle.vortex_rewrite.specs.Rewriting.Own.{own_rules};
 
 use crate::laws::groups_are_parts;
 use crate::zones::map_of;
@@ -14,6 +18,7 @@ use vortex_expr::bound_expression::BoundExpression;
 use vortex_parquet::columns::Leaf;
 use vortex_parquet::stats::GroupStats;
 use vortex_prune::{Pruned, prune};
+use vortex_rewrite::rewrite::rule::StatsRewriteRule;
 use vortex_rewrite::rewrite::rules::Rules;
 use vortex_stats::error::StatsError;
 
@@ -35,6 +40,17 @@ pub fn prune_groups(
         → groups_of leaves.now count file ≡ Ok (map group_view groups.now)
         → PrunesSoundly predicate.now scope leaves.now file pruned.skipped.items
         pruned.whole.items) }
+    // A row group is skipped exactly if the falsifier is true by its statistics.
+    ensures skipped { let M = ⟦<dyn StatsRewriteRule as StatsRewriteRule>⟧ in
+        let proof = falsifier_of (own_rules M rules.now.own.items) predicate.now in
+        IfOk result (λ pruned.
+        pruned.skipped.items ≡ skipped_zones proof scope (map zone_data groups.now)) }
+    // And whole exactly if it isn't skipped and the satisfier is.
+    ensures whole { let M = ⟦<dyn StatsRewriteRule as StatsRewriteRule>⟧ in
+        let f = falsifier_of (own_rules M rules.now.own.items) predicate.now in
+        let s = satisfier_of (own_rules M rules.now.own.items) predicate.now in
+        IfOk result (λ pruned.
+        pruned.whole.items ≡ whole_zones f s scope (map zone_data groups.now)) }
 {
     groups_are_parts();
     let map = map_of(alloc, scope, groups)?;
