@@ -13,8 +13,8 @@ use vortex_parquet::{Fault, ReadError};
 use vortex_stats::precision::Precision;
 use vortex_stats::stat::Stat;
 
-// The columns `a` (INT64), `s` (STRING), `u` (UINT_32) and `f` (DOUBLE), in row groups of 3 and of 2
-// rows.
+// The columns `a` (INT64), `s` (STRING), `u` (UINT_32) and `f` (DOUBLE), in row groups of 3 and of
+// 2 rows.
 const FILE: [u8; 452] = [
     21, 4, 25, 92, 72, 6, 115, 99, 104, 101, 109, 97, 21, 8, 0, 21, 4, 37, 2, 24, 1, 97, 0, 21, 12,
     37, 0, 24, 1, 115, 37, 0, 76, 28, 0, 0, 0, 21, 2, 37, 2, 24, 1, 117, 37, 26, 76, 172, 19, 32,
@@ -43,7 +43,7 @@ fn leaf(columns: &[Column<'_>], name: &[u8], leaves: &mut Vec<Leaf>) -> Result<(
     Ok(())
 }
 
-// What is known of the row groups of a file, of the columns of these names.
+// Reads the statistics of these columns in each row group of a file.
 fn read(alloc: Global, file: &[u8], names: &[&[u8]]) -> Result<Vec<GroupStats>, ReadError> {
     let footer = footer_of(file)?;
     let file = file_of(alloc, footer)?;

@@ -91,8 +91,8 @@ impl PruningCondition {
             Joins text.now 0 (leaves made.condition) (false ∷ ands made.condition)) }
         // The types of each fit.
         ensures typed { IfOk result (λ made. misfits scope.now made.condition ≡ []) }
-        // Says what the proofs tell by statistics of the scope, whatever the leaves mean that aren't
-        // read, whichever lawful rules took part.
+        // Says what the proofs tell by statistics of the scope, whatever the leaves mean that
+        // aren't read, whichever lawful rules took part.
         ensures refutes { IfOk result (λ made.
             Refutes scope.now made.condition made.falsifier) }
         ensures confirms { IfOk result (λ made.
