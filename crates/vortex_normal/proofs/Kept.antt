@@ -9,7 +9,7 @@ use Rattle.vortex_expr.specs.declared.scalar_fn.BetweenOptions.{BetweenOptions}
 use Rattle.vortex_expr.specs.declared.like.LikeOptions.{LikeOptions}
 use Rattle.vortex_expr.specs.declared.scalar_fn.Operator.{Operator}
 use Rattle.vortex_expr.specs.declared.scalar_fn.Operator.TheVariants.{Eq, NotEq, Gt, Gte, Lt, Lte, And, Or}
-use Rattle.vortex_normal.specs.Pushed.{comparison, comparison_of, connected, folded, like_as, liked, null_test, operator_as, pushed, settled}
+use Rattle.vortex_normal.specs.Pushed.{any_text, comparison, comparison_of, connected, folded, like_as, liked, null_test, operator_as, pushed, settled}
 use Rattle.vortex_rewrite.specs.Rewriting.Falsifiers.{bytes_literal}
 use Rattle.vortex_normal.proofs.Forms.{comparison_as, connected_kept, folded_as, liked_as, settled_as}
 use Rattle.vortex_normal.proofs.Matched.{matched_as}
@@ -42,10 +42,14 @@ module _ (P : Tree Place → Type 0) (i : IsInherited P) where
   two_kept : (w : Bool) (l r : Tree Place) → P l → P r → P (connected w l r)
   two_kept w l r h k = connected_kept P l r h k w (i.of_binary And l r h k) (i.of_binary Or l r h k)
 
+  any_kept : (w : Bool) (x : Tree Place) → P x → P (any_text w x)
+  any_kept true x h = settled_kept (is_not_null x) (i.of_not_null x h)
+  any_kept false x h = i.of_literal _
+
   liked_kept : (o : LikeOptions) (x p : Tree Place) → P x → P p → P (liked o x p)
   liked_kept o x p h k =
       liked_as P o x p (λ _. i.of_literal _)
-      (λ e is. matched_as P x (λ w op c bs. comparison_kept (operator_as w op) x (bytes_literal bs) h (i.of_literal _)) two_kept o p e is)
+      (λ e is. matched_as P x (λ w op c bs. comparison_kept (operator_as w op) x (bytes_literal bs) h (i.of_literal _)) two_kept (λ w. any_kept w x h) o p e is)
       (λ _. settled_kept (like o x p) (i.of_like o x p h k))
 
   null_kept : (w : Bool) (x : Tree Place) → P x → P (null_test w x)

@@ -13,7 +13,7 @@ use Rattle.vortex_expr.specs.declared.scalar_fn.Operator.{Operator}
 use Rattle.vortex_expr.specs.declared.scalar_fn.Operator.TheVariants.{Eq, Gte, Lt}
 use Rattle.vortex_rewrite.proofs.Completeness.Interval.{is_comparison}
 use Rattle.vortex_rewrite.specs.Rewriting.Falsifiers.{bytes_literal, text_in}
-use Rattle.vortex_normal.specs.Pushed.{as_comparisons, begins, comparison, connected, is_beginning, is_last_raised, is_literal, items_matched, like_as, operator_as, same_text, text_matched}
+use Rattle.vortex_normal.specs.Pushed.{any_text, are_runs, as_comparisons, begins, comparison, connected, is_beginning, is_last_raised, is_literal, items_matched, like_as, operator_as, same_text, text_matched}
 
 -- ---- a property of comparisons of the text, and of what they are connected to
 
@@ -23,7 +23,7 @@ given_if P true m n f g e h = f refl e h
 given_if P false m n f g e h = g refl e h
 
 module _ (P : Tree Place → Type 0) (x : Tree Place) (compared : (w : Bool) (o : Operator) → is_comparison o ≡ true → (bs : List ℕ) → P (comparison (operator_as w o) x (bytes_literal bs)))
-    (joined : (w : Bool) (l r : Tree Place) → P l → P r → P (connected w l r)) where
+    (joined : (w : Bool) (l r : Tree Place) → P l → P r → P (connected w l r)) (any : (w : Bool) → P (any_text w x)) where
   begins_as : (w : Bool) (cs : List ℕ) (s : Option (List ℕ)) (e : Tree Place) → begins w x cs s ≡ Some e → P e
   begins_as w cs None e h = absurd (none-some e h)
   begins_as w cs (Some ds) e h =
@@ -33,11 +33,14 @@ module _ (P : Tree Place → Type 0) (x : Tree Place) (compared : (w : Bool) (o 
 
   items_as : (w : Bool) (is : List Item) (e : Tree Place) → items_matched w x is ≡ Some e → P e
   items_as w is =
-      given_if P (is_exact is) (Some (same_text w x (encode_utf8_all (literal_prefix is)))) (if is_beginning is && is_last_raised (literal_prefix is) then begins w x (literal_prefix is) (successor (literal_prefix is)) else None)
+      let begun : Option (Tree Place) = if is_beginning is && is_last_raised (literal_prefix is) then begins w x (literal_prefix is) (successor (literal_prefix is)) else None in
+      given_if P (is_exact is) (Some (same_text w x (encode_utf8_all (literal_prefix is)))) (if are_runs is then Some (any_text w x) else begun)
       (λ _ e h. subst P (same_Some _ _ h) (compared w Eq refl (encode_utf8_all (literal_prefix is))))
+      (λ _. given_if P (are_runs is) (Some (any_text w x)) begun
+      (λ _ e h. subst P (same_Some _ _ h) (any w))
       (λ _. given_if P (is_beginning is && is_last_raised (literal_prefix is)) (begins w x (literal_prefix is) (successor (literal_prefix is))) None
       (λ _ e h. begins_as w (literal_prefix is) (successor (literal_prefix is)) e h)
-      (λ _ e h. absurd (none-some e h)))
+      (λ _ e h. absurd (none-some e h))))
 
   text_as : (w : Bool) (t : Option (List ℕ)) (e : Tree Place) → text_matched w x t ≡ Some e → P e
   text_as w None e h = absurd (none-some e h)
@@ -82,11 +85,14 @@ some_begins v w x cs (Some ds) h = refl
 
 some_items : (v w : Bool) (x : Tree Place) (is : List Item) → is_some (items_matched v x is) ≡ true → is_some (items_matched w x is) ≡ true
 some_items v w x is =
-    some_if (is_exact is) (Some (same_text v x (encode_utf8_all (literal_prefix is)))) (if is_beginning is && is_last_raised (literal_prefix is) then begins v x (literal_prefix is) (successor (literal_prefix is)) else None)
-    (Some (same_text w x (encode_utf8_all (literal_prefix is)))) (if is_beginning is && is_last_raised (literal_prefix is) then begins w x (literal_prefix is) (successor (literal_prefix is)) else None)
+    let begun : Option (Tree Place) = if is_beginning is && is_last_raised (literal_prefix is) then begins v x (literal_prefix is) (successor (literal_prefix is)) else None in
+    let again : Option (Tree Place) = if is_beginning is && is_last_raised (literal_prefix is) then begins w x (literal_prefix is) (successor (literal_prefix is)) else None in
+    some_if (is_exact is) (Some (same_text v x (encode_utf8_all (literal_prefix is)))) (if are_runs is then Some (any_text v x) else begun)
+    (Some (same_text w x (encode_utf8_all (literal_prefix is)))) (if are_runs is then Some (any_text w x) else again)
     (λ h. refl)
+    (some_if (are_runs is) (Some (any_text v x)) begun (Some (any_text w x)) again (λ h. refl)
     (some_if (is_beginning is && is_last_raised (literal_prefix is)) (begins v x (literal_prefix is) (successor (literal_prefix is))) None (begins w x (literal_prefix is) (successor (literal_prefix is))) None
-    (some_begins v w x (literal_prefix is) (successor (literal_prefix is))) (λ h. h))
+    (some_begins v w x (literal_prefix is) (successor (literal_prefix is))) (λ h. h)))
 
 some_text : (v w : Bool) (x : Tree Place) (t : Option (List ℕ)) → is_some (text_matched v x t) ≡ true → is_some (text_matched w x t) ≡ true
 some_text v w x None h = h

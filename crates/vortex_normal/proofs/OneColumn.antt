@@ -21,7 +21,7 @@ use Rattle.vortex_rewrite.specs.Rewriting.ReadOnce.{is_simple_binary}
 use Rattle.vortex_normal.specs.Groups.{Item, inside, other, add, as_one, binary_item, collected, compared_item, leaf_item, widened}
 use Rattle.vortex_normal.specs.Intervals.{Interval, combined, swapped}
 use Rattle.vortex_normal.specs.OneColumn.{is_constant, is_operand_over, is_over}
-use Rattle.vortex_normal.specs.Pushed.{as_comparisons, comparison, comparison_of, connected, decided, folded, is_literal, is_reflexive, like_as, liked, null_test, operator_as, pushed, settled}
+use Rattle.vortex_normal.specs.Pushed.{any_text, as_comparisons, comparison, comparison_of, connected, decided, folded, is_literal, is_reflexive, like_as, liked, null_test, operator_as, pushed, settled}
 use Rattle.vortex_normal.proofs.Columns.{same_place}
 use Rattle.vortex_normal.proofs.Forms.{if_as, liked_as}
 use Rattle.vortex_normal.proofs.Matched.{matched_as, still_matched}
@@ -172,11 +172,15 @@ module _ (c : Place) where
       let i = and_parts (is_operand_over c l) (is_operand_over c r) h in
       compared_pushed (operator_as w o) l r (still_compares w o k) i.0 i.1
 
+  any_pushed : (w : Bool) (x : Tree Place) → is_operand_over c x ≡ true → IsPushed (any_text w x)
+  any_pushed true x h = null_pushed false x h
+  any_pushed false x h = inl (false, refl)
+
   -- a LIKE that comparisons say
   liked_pushed : (o : LikeOptions) (x p : Tree Place) → is_some (as_comparisons o x p) ≡ true → is_operand_over c x ≡ true → IsPushed (liked o x p)
   liked_pushed o x p s h =
       liked_as IsPushed o x p (λ _. inl (false, refl))
-      (λ e is. matched_as IsPushed x (λ w op k bs. compared_pushed (operator_as w op) x (bytes_literal bs) (still_compares w op k) h refl) connected_pushed o p e is)
+      (λ e is. matched_as IsPushed x (λ w op k bs. compared_pushed (operator_as w op) x (bytes_literal bs) (still_compares w op k) h refl) connected_pushed (λ w. any_pushed w x h) o p e is)
       (λ none. clash s (ap is_some none))
 
   pub pushed_over : (w : Bool) (p : Tree Place) → is_over c p ≡ true → IsPushed (pushed w p)

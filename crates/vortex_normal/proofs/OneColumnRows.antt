@@ -243,9 +243,9 @@ negated_like = record { negated = true; case_insensitive = false }
 abbrev caseless : LikeOptions
 caseless = record { negated = false; case_insensitive = true }
 
--- one text and a beginning, but neither a run alone or elsewhere nor any one character
-like_patterns : map (λ cs. over_texts (like plain texts (pattern cs))) (codes "ab" ∷ [] ∷ codes "ab%" ∷ codes "%" ∷ codes "%b" ∷ codes "a%b" ∷ codes "a_" ∷ codes "_" ∷ [])
-    ≡ true ∷ true ∷ true ∷ false ∷ false ∷ false ∷ false ∷ false ∷ []
+-- one text, a beginning and runs alone, but neither a run elsewhere nor any one character
+like_patterns : map (λ cs. over_texts (like plain texts (pattern cs))) (codes "ab" ∷ [] ∷ codes "ab%" ∷ codes "ab%%" ∷ codes "%" ∷ codes "%b" ∷ codes "a%b" ∷ codes "a_" ∷ codes "_" ∷ [])
+    ≡ true ∷ true ∷ true ∷ true ∷ true ∷ false ∷ false ∷ false ∷ false ∷ []
 unfolding chars lib.Utf8.encode
 like_patterns = refl
 

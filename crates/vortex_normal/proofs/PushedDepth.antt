@@ -17,7 +17,7 @@ use Rattle.vortex_rewrite.specs.Rewriting.Falsifiers.{bool_literal, bytes_litera
 use Rattle.vortex_rewrite.proofs.Completeness.Interval.{is_comparison}
 use Rattle.vortex_normal.specs.Balanced.{depth}
 use Rattle.vortex_normal.specs.Laws.{NormalIsShallow, leaves, turns}
-use Rattle.vortex_normal.specs.Pushed.{all_of, any_of, begins, comparison, comparison_of, connected, decided, folded, is_beginning, is_last_raised, items_matched, like_as, liked, null_test, operator_as, pushed, same_text, settled, text_matched}
+use Rattle.vortex_normal.specs.Pushed.{all_of, any_of, any_text, are_runs, begins, comparison, comparison_of, connected, decided, folded, is_beginning, is_last_raised, items_matched, like_as, liked, null_test, operator_as, pushed, same_text, settled, text_matched}
 use Rattle.vortex_normal.proofs.Forms.{all_by_kept, any_by_kept, comparison_as, folded_as, liked_as, settled_as}
 use Rattle.vortex_normal.proofs.Matched.{given_if}
 use Rattle.vortex_normal.proofs.WholeDepth.{grouped_shallow, leaf_depth}
@@ -139,16 +139,23 @@ begins_within w x d cs (Some ds) e h k =
     (comparison_within (operator_as w Gte) x (bytes_literal (encode_utf8_all cs)) d (still_comparison w Gte refl) h (omega arith))
     (comparison_within (operator_as w Lt) x (bytes_literal (encode_utf8_all ds)) d (still_comparison w Lt refl) h (omega arith)))
 
+any_within_pair : (w : Bool) (x : Tree Place) (d : ℕ) → depth x ≤ d → IsPair (d + 1) (any_text w x)
+any_within_pair true x d h = one_is_pair (d + 1) (any_text true x) (null_within false x (d + 1) (omega (arith, h)))
+any_within_pair false x d h = truth_within false 2 (d + 1) 1 1 (omega arith)
+
 items_within : (w : Bool) (x : Tree Place) (d : ℕ) (is : List Item) (e : Tree Place) → depth x ≤ d → items_matched w x is ≡ Some e → IsPair (d + 1) e
 items_within w x d is e h =
     let cs = literal_prefix is in
     let begun = begins w x cs (successor cs) in
-    given_if (IsPair (d + 1)) (is_exact is) (Some (same_text w x (encode_utf8_all cs))) (if is_beginning is && is_last_raised cs then begun else None)
+    let first : Option (Tree Place) = if is_beginning is && is_last_raised cs then begun else None in
+    given_if (IsPair (d + 1)) (is_exact is) (Some (same_text w x (encode_utf8_all cs))) (if are_runs is then Some (any_text w x) else first)
     (λ _ q k. subst (IsPair (d + 1)) (same_Some _ _ k)
     (one_is_pair (d + 1) (same_text w x (encode_utf8_all cs)) (comparison_within (operator_as w Eq) x (bytes_literal (encode_utf8_all cs)) d (still_comparison w Eq refl) h (omega arith))))
+    (λ _. given_if (IsPair (d + 1)) (are_runs is) (Some (any_text w x)) first
+    (λ _ q k. subst (IsPair (d + 1)) (same_Some _ _ k) (any_within_pair w x d h))
     (λ _. given_if (IsPair (d + 1)) (is_beginning is && is_last_raised cs) begun None
     (λ _ q k. begins_within w x d cs (successor cs) q h k)
-    (λ _ q k. absurd (none-some q k)))
+    (λ _ q k. absurd (none-some q k))))
     e
 
 text_within : (w : Bool) (x : Tree Place) (d : ℕ) (t : Option (List ℕ)) (e : Tree Place) → depth x ≤ d → text_matched w x t ≡ Some e → IsPair (d + 1) e

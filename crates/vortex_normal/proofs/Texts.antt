@@ -1,5 +1,5 @@
 -- What patterns without wildcards, and those whose only wildcard is a run that is last, say of a text by its bytes.
-use Rattle.std.proofs.Common.{◌≡◌, ⊎_elim, ℕ, ◌+◌, ◌<◌, Bool, true, false, not as not_b, ◌&&◌, List, [], ◌∷◌, ◌++◌, Option, Some, None, refl, sym, ap, ap₂, ◌∙◌, subst, arith, length, length-append, append-nil, Ordering, Less, Equal, if◌then◌else◌}
+use Rattle.std.proofs.Common.{◌≡◌, ⊎_elim, ℕ, ◌+◌, ◌<◌, Bool, true, false, not as not_b, ◌&&◌, ◌||◌, List, [], ◌∷◌, ◌++◌, Option, Some, None, refl, sym, ap, ap₂, ◌∙◌, subst, arith, length, length-append, append-nil, Ordering, Less, Equal, if◌then◌else◌}
 use Rattle.std.specs.Prelude.{◌==◌, encode_utf8_all}
 use Rattle.std.specs.Char.{encode_utf8}
 use Rattle.std.specs.Ordering.{is_eq, is_lt, ordering_reverse}
@@ -20,7 +20,7 @@ use Rattle.vortex_expr.specs.declared.like.Item.{Item}
 use Rattle.vortex_expr.specs.declared.like.Item.TheVariants.{Char, AnyChar, AnyRun}
 use Rattle.vortex_base.specs.declared.scalar_value.ScalarValue.TheVariants as value
 use Rattle.vortex_expr.specs.declared.scalar_fn.Operator.TheVariants.{Eq, Gte, Lt}
-use Rattle.vortex_normal.specs.Pushed.{is_beginning, is_last_raised}
+use Rattle.vortex_normal.specs.Pushed.{are_runs, is_beginning, is_last_raised}
 
 same_truth : (a b : Bool) → (a ≡ true → b ≡ true) → (b ≡ true → a ≡ true) → a ≡ b
 same_truth true b f g = sym (f refl)
@@ -59,12 +59,28 @@ any_run : (cs : List ℕ) → some_end (like []) cs ≡ true
 any_run [] = refl
 any_run (c ∷ cs) = any_run cs
 
+first_end : (test : List ℕ → Bool) (cs : List ℕ) → test cs ≡ true → some_end test cs ≡ true
+first_end test [] h = h
+first_end test (c ∷ cs) h = ap (λ b. b || some_end test cs) h
+
+runs_behind : (is : List Item) (cs : List ℕ) → are_runs is ≡ true → some_end (like is) cs ≡ true
+runs_behind [] cs h = any_run cs
+runs_behind (Char c ∷ is) cs h = cc
+runs_behind (AnyChar ∷ is) cs h = cc
+runs_behind (AnyRun ∷ is) cs h = first_end (like (AnyRun ∷ is)) cs (runs_behind is cs h)
+
+-- each text matches runs
+pub runs_like : (is : List Item) (cs : List ℕ) → is_exact is ≡ false → are_runs is ≡ true → like is cs ≡ true
+runs_like [] cs e h = cc
+runs_like (Char c ∷ is) cs e h = cc
+runs_like (AnyChar ∷ is) cs e h = cc
+runs_like (AnyRun ∷ is) cs e h = runs_behind is cs h
+
 beginning_like : (is : List Item) (rest : List ℕ) → is_beginning is ≡ true → like is (literal_prefix is ++ rest) ≡ true
 beginning_like [] rest e = cc
 beginning_like (Char d ∷ is) rest e = both_hold _ _ (eq-eqb d d refl) (beginning_like is rest e)
 beginning_like (AnyChar ∷ is) rest e = cc
-beginning_like (AnyRun ∷ []) rest e = any_run rest
-beginning_like (AnyRun ∷ i ∷ is) rest e = cc
+beginning_like (AnyRun ∷ is) rest e = runs_behind is rest e
 
 -- ---- texts by their bytes
 

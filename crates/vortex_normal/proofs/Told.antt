@@ -37,10 +37,10 @@ use Rattle.vortex_rewrite.proofs.Completeness.Interval.{is_comparison}
 use Rattle.vortex_rewrite.proofs.Soundness.TruthLogic.{true_and, true_or, truth_back}
 use Rattle.vortex_rewrite.specs.Rewriting.Predicates.{has_type, is_predicate}
 use Rattle.vortex_rewrite.specs.Rewriting.Falsifiers.{bytes_literal, text_in, text_of}
-use Rattle.vortex_normal.specs.Pushed.{all_by, all_of, any_by, any_of, as_comparisons, begins, comparison, comparison_of, connected, decided, folded, is_beginning, is_last_raised, is_null_literal, is_reflexive, items_matched, like_as, liked, null_test, operator_as, pushed, same_text, settled, text_matched}
+use Rattle.vortex_normal.specs.Pushed.{all_by, all_of, any_by, any_of, any_text, are_runs, as_comparisons, begins, comparison, comparison_of, connected, decided, folded, is_beginning, is_last_raised, is_null_literal, is_reflexive, items_matched, like_as, liked, null_test, operator_as, pushed, same_text, settled, text_matched}
 use Rattle.vortex_normal.proofs.Forms.{comparison_as, folded_as, liked_as, settled_as}
 use Rattle.vortex_normal.proofs.Matched.{given_if}
-use Rattle.vortex_normal.proofs.Texts.{exact_told, range_told}
+use Rattle.vortex_normal.proofs.Texts.{exact_told, range_told, runs_like}
 use Rattle.vortex_normal.proofs.Steps.{operand, sides}
 
 -- ---- wanted truths
@@ -226,6 +226,22 @@ range_matched w is ds (Some (value.Bool b)) u e r s = absurd u
 range_matched w is ds (Some (value.Primitive p)) u e r s = absurd u
 range_matched w is ds (Some (value.Binary bs)) u e r s = absurd u
 
+-- each text matches runs alone, and none fails to
+
+some_matched : (is : List Item) (v : Option ScalarValue) → IsTextOrNull v → is_exact is ≡ false → are_runs is ≡ true → not_b (is_none v) ≡ is_matched true is v
+some_matched is None u e r = refl
+some_matched is (Some (value.Utf8 t)) u e r = sym (ap (λ b. is_wanted true (Some b)) (runs_like is (chars t) e r))
+some_matched is (Some (value.Bool b)) u e r = absurd u
+some_matched is (Some (value.Primitive p)) u e r = absurd u
+some_matched is (Some (value.Binary bs)) u e r = absurd u
+
+none_matched : (is : List Item) (v : Option ScalarValue) → IsTextOrNull v → is_exact is ≡ false → are_runs is ≡ true → false ≡ is_matched false is v
+none_matched is None u e r = refl
+none_matched is (Some (value.Utf8 t)) u e r = sym (ap (λ b. is_wanted false (Some b)) (runs_like is (chars t) e r))
+none_matched is (Some (value.Bool b)) u e r = absurd u
+none_matched is (Some (value.Primitive p)) u e r = absurd u
+none_matched is (Some (value.Binary bs)) u e r = absurd u
+
 wanted_negated : (b m : Bool) → is_wanted (not_b b) (Some m) ≡ is_wanted true (Some (if b then not_b m else m))
 wanted_negated true m = refl
 wanted_negated false m = refl
@@ -405,6 +421,10 @@ module _ (row : List Constant) (n : ℕ) where
     same_told : (w : Bool) (is : List Item) → is_exact is ≡ true → satisfies (same_text w x (encode_utf8_all (literal_prefix is))) row n ≡ is_matched w is (meaning x row n)
     same_told w is e = turned_told w Eq x (bytes_literal (encode_utf8_all (literal_prefix is))) refl ∙ same_matched w is (meaning x row n) text e
 
+    all_texts_told : (w : Bool) (is : List Item) → is_exact is ≡ false → are_runs is ≡ true → satisfies (any_text w x) row n ≡ is_matched w is (meaning x row n)
+    all_texts_told true is wild runs = settled_told (is_not_null x) ∙ some_matched is (meaning x row n) text wild runs
+    all_texts_told false is wild runs = none_matched is (meaning x row n) text wild runs
+
     begins_told : (w : Bool) (is : List Item) (s : Option (List ℕ)) (e : Tree Place) → is_beginning is ≡ true → is_last_raised (literal_prefix is) ≡ true → successor (literal_prefix is) ≡ s
         → begins w x (literal_prefix is) s ≡ Some e → satisfies e row n ≡ is_matched w is (meaning x row n)
     begins_told w is None e b r s h = absurd (none-some e h)
@@ -418,12 +438,15 @@ module _ (row : List Constant) (n : ℕ) where
 
     items_told : (w : Bool) (is : List Item) (e : Tree Place) → items_matched w x is ≡ Some e → satisfies e row n ≡ is_matched w is (meaning x row n)
     items_told w is =
+        let begun : Option (Tree Place) = if is_beginning is && is_last_raised (literal_prefix is) then begins w x (literal_prefix is) (successor (literal_prefix is)) else None in
         given_if (λ e. satisfies e row n ≡ is_matched w is (meaning x row n)) (is_exact is) (Some (same_text w x (encode_utf8_all (literal_prefix is))))
-        (if is_beginning is && is_last_raised (literal_prefix is) then begins w x (literal_prefix is) (successor (literal_prefix is)) else None)
+        (if are_runs is then Some (any_text w x) else begun)
         (λ exact e h. sym (ap (λ q. satisfies q row n) (same_Some _ _ h)) ∙ same_told w is exact)
+        (λ wild. given_if (λ e. satisfies e row n ≡ is_matched w is (meaning x row n)) (are_runs is) (Some (any_text w x)) begun
+        (λ runs e h. sym (ap (λ q. satisfies q row n) (same_Some _ _ h)) ∙ all_texts_told w is wild runs)
         (λ _. given_if (λ e. satisfies e row n ≡ is_matched w is (meaning x row n)) (is_beginning is && is_last_raised (literal_prefix is)) (begins w x (literal_prefix is) (successor (literal_prefix is))) None
         (λ b e h. let k = and_parts (is_beginning is) (is_last_raised (literal_prefix is)) b in begins_told w is (successor (literal_prefix is)) e k.0 k.1 refl h)
-        (λ _ e h. absurd (none-some e h)))
+        (λ _ e h. absurd (none-some e h))))
 
     text_told : (o : LikeOptions) (p : Tree Place) (t : Option (List ℕ)) (e : Tree Place) → o.case_insensitive ≡ false → text_in p ≡ t → text_matched (not_b o.negated) x t ≡ Some e
         → satisfies e row n ≡ is_wanted true (liked_values o (meaning x row n) (meaning p row n))

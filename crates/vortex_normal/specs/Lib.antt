@@ -7,6 +7,7 @@ pub mod OneColumn
 pub mod Pushed
 pub mod Same
 pub mod Separate
+pub mod Signs
 pub mod Strict
 pub mod Tested
 pub mod Worked

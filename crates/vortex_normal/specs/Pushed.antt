@@ -106,13 +106,19 @@ connected false l r = any_of l r
 
 -- ---- LIKE
 
--- literal characters alone, and one run behind them
+-- runs alone
+abbrev pub are_runs : List Item → Bool
+are_runs [] = true
+are_runs (Char c ∷ is) = false
+are_runs (AnyChar ∷ is) = false
+are_runs (AnyRun ∷ is) = are_runs is
+
+-- literal characters alone, and one run or more behind them
 abbrev pub is_beginning : List Item → Bool
 is_beginning [] = false
 is_beginning (Char c ∷ is) = is_beginning is
 is_beginning (AnyChar ∷ is) = false
-is_beginning (AnyRun ∷ []) = true
-is_beginning (AnyRun ∷ i ∷ is) = false
+is_beginning (AnyRun ∷ is) = are_runs is
 
 -- the last character has a next one, so that no text lies between those that begin with this one and its successor
 abbrev pub is_last_raised : List ℕ → Bool
@@ -133,11 +139,17 @@ abbrev pub begins : (wanted : Bool) → (text : Tree Place) → List ℕ → Opt
 begins w x cs None = None
 begins w x cs (Some ds) = Some (text_range w x (encode_utf8_all cs) (encode_utf8_all ds))
 
--- a text matches these items or it doesn't, as comparisons, where they say the same: the items have no wildcard, or one run alone, which is last
+-- each text matches runs alone, and none fails to: there is a text, or never
+abbrev pub any_text : (wanted : Bool) → (text : Tree Place) → Tree Place
+any_text true x = settled (is_not_null x)
+any_text false x = bool_literal false
+
+-- a text matches these items or it doesn't, as comparisons or a test of null, where they say the same: the items have no wildcard, or runs alone, or no wildcard but runs, which are last
 abbrev pub items_matched : (wanted : Bool) → (text : Tree Place) → List Item → Option (Tree Place)
 items_matched w x is =
     if is_exact is then Some (same_text w x (encode_utf8_all (literal_prefix is)))
-    else (if is_beginning is && is_last_raised (literal_prefix is) then begins w x (literal_prefix is) (successor (literal_prefix is)) else None)
+    else (if are_runs is then Some (any_text w x)
+    else (if is_beginning is && is_last_raised (literal_prefix is) then begins w x (literal_prefix is) (successor (literal_prefix is)) else None))
 
 abbrev pub text_matched : (wanted : Bool) → (text : Tree Place) → (pattern : Option (List ℕ)) → Option (Tree Place)
 text_matched w x None = None

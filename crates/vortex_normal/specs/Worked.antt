@@ -128,8 +128,18 @@ pub record FormExamples : Type 0 where
   pub text_met : normal (binary And (like_of true (codes "abc")) (like_of true (codes "ab%"))) ≡ compare_text Eq (codes "abc")
   pub one_character : normal (like_of true (codes "ab_")) ≡ like_of true (codes "ab_")
   pub inner_run : normal (like_of true (codes "a%c")) ≡ like_of true (codes "a%c")
-  pub two_runs : normal (like_of true (codes "a%%")) ≡ like_of true (codes "a%%")
-  pub run_alone : normal (like_of true (codes "%")) ≡ like_of true (codes "%")
+  pub two_runs : normal (like_of true (codes "ab%%")) ≡ from_below (codes "ab") (codes "ac")
+  pub not_two_runs : normal (like_of false (codes "ab%%%")) ≡ binary Or (compare_text Lt (codes "ab")) (compare_text Gte (codes "ac"))
+  pub runs_behind_escaped : normal (like_of true (97 ∷ 92 ∷ 37 ∷ 37 ∷ 37 ∷ [])) ≡ from_below (codes "a%") (codes "a&")
+  pub runs_behind_escape : normal (like_of true (97 ∷ 92 ∷ 92 ∷ 37 ∷ [])) ≡ from_below (97 ∷ 92 ∷ []) (97 ∷ 93 ∷ [])
+  pub run_between : normal (like_of true (codes "a%b%")) ≡ like_of true (codes "a%b%")
+  pub character_before_run : normal (like_of true (codes "a_%")) ≡ like_of true (codes "a_%")
+  pub run_alone : normal (like_of true (codes "%")) ≡ is_not_null t
+  pub runs_alone : normal (like_of true (codes "%%")) ≡ is_not_null t
+  pub no_run : normal (like_of false (codes "%")) ≡ bool_literal false
+  pub not_no_run : normal (not (like_of false (codes "%"))) ≡ is_not_null t
+  pub escaped_run : normal (like_of true (92 ∷ 37 ∷ [])) ≡ compare_text Eq (codes "%")
+  pub run_or_null : normal (binary Or (is_null t) (like_of true (codes "%"))) ≡ bool_literal true
   pub any_case : normal (ignoring_case (codes "abc")) ≡ ignoring_case (codes "abc")
   pub before_surrogates : normal (like_of true (55295 ∷ 37 ∷ [])) ≡ like_of true (55295 ∷ 37 ∷ [])
   pub last_of_all : normal (like_of true (97 ∷ 1114111 ∷ 37 ∷ [])) ≡ like_of true (97 ∷ 1114111 ∷ 37 ∷ [])

@@ -11,6 +11,7 @@ ghost use Rattle.vortex_rewrite.specs.Answers.{IsMemory, Makes, OkOrMemory};
 ghost use Rattle.vortex_rewrite.specs.Rewriting.Falsifiers.{bytes_literal, text_in as text_of};
 ghost use Rattle.vortex_rewrite.specs.Rewriting.Predicates.{is_text};
 ghost use Rattle.vortex_normal.specs.Pushed as normal;
+ghost use Rattle.vortex_normal.specs.Signs.{IsBeforeSigns, ends_in_sign};
 
 use crate::leaves::{comparison, connected, is_null_literal, operator_as, settled};
 use crate::predicate::Predicate;
@@ -117,7 +118,48 @@ fn is_last_raised(text: &str) -> bool
     }
 }
 
-// What a pattern reads as whose only wildcard is a run, which is last.
+// The text before the percent sign at the end, if one stands there.
+fn without_sign(text: &str) -> Option<&str>
+    ensures split { MatchOption result (ends_in_sign (chars text.now) ≡ false)
+        (λ front. chars text.now ≡ chars front.now ++ 37 ∷ []) }
+    ensures utf8 { IfSome result (λ front. IsUtf8 front.now) }
+{
+    match split_last_char(text) {
+        Some((last, front)) => { if last == '%' { Some(front) } else { None } }
+        None => None,
+    }
+}
+
+// Splits off the percent signs at a pattern's end: what stands before them, and with the first.
+fn split_signs(pattern: &str) -> Option<(&str, &str)>
+    ensures split { MatchOption result (ends_in_sign (chars pattern.now) ≡ false)
+        (λ p. IsBeforeSigns (chars pattern.now) (chars p.0.now) (chars p.1.now)) }
+    ensures utf8 { IfSome result (λ p. IsUtf8 p.0.now × IsUtf8 p.1.now) }
+{
+    let mut front = without_sign(pattern)?;
+    let mut first = pattern;
+    while let Some(before) = without_sign(front) {
+        first = front;
+        front = before;
+    }
+    Some((front, first))
+}
+
+// Reads a pattern, if it has no wildcard.
+fn read_exact(alloc: Global, pattern: &str) -> Result<Option<LikePattern>, StatsError>
+    ensures { let read = items (chars pattern.now) in OkOrMemory result (λ o. MatchOption o
+        (is_exact read ≡ false)
+        (λ p. (is_exact read ≡ true) × (p.prefix ≡ encode_utf8_all (literal_prefix read)))) }
+{
+    let read = built(LikePattern::try_read(alloc, pattern))?;
+    match read.exact() {
+        Some(_) => Ok(Some(read)),
+        None => Ok(None),
+    }
+}
+
+// Reads a pattern with a wildcard, if it has none but runs, which are last. The first percent
+// sign may be literal, behind a backslash.
 fn beginning(alloc: Global, pattern: &str) -> Result<Option<LikePattern>, StatsError>
     requires { is_exact (items (chars pattern.now)) ≡ false }
     ensures { let read = items (chars pattern.now) in OkOrMemory result (λ o. MatchOption o
@@ -125,22 +167,28 @@ fn beginning(alloc: Global, pattern: &str) -> Result<Option<LikePattern>, StatsE
         (λ p. (normal.is_beginning read ≡ true)
         × (p.prefix ≡ encode_utf8_all (literal_prefix read)))) }
 {
-    match split_last_char(pattern) {
-        Some((last, front)) => {
-            if last != '%' {
-                return Ok(None);
-            }
-            let read = built(LikePattern::try_read(alloc, front))?;
-            match read.exact() {
-                Some(_) => Ok(Some(read)),
-                None => Ok(None),
-            }
-        }
+    match split_signs(pattern) {
+        Some((front, first)) => match read_exact(alloc, first)? {
+            Some(escaped) => Ok(Some(escaped)),
+            None => read_exact(alloc, front),
+        },
         None => Ok(None),
     }
 }
 
-// A LIKE with a pattern with wildcards, as a range, if its only wildcard is a run, which is last.
+// Whether there is a text, or false, since each text matches.
+fn any_text(alloc: Global, wanted: bool, text: &BoundExpression) -> Result<Predicate, StatsError>
+    ensures { Makes (normal.any_text wanted text.now) result }
+{
+    if wanted {
+        settled(alloc, Predicate::is_not_null(alloc, text)?)
+    } else {
+        Predicate::truth(alloc, false)
+    }
+}
+
+// A LIKE with a pattern with wildcards, as a range or a test of null, if it has none but runs,
+// which are last.
 fn begins(
     alloc: Global,
     wanted: bool,
@@ -154,6 +202,9 @@ fn begins(
     match beginning(alloc, pattern)? {
         Some(read) => {
             let from = read.prefix();
+            if from.is_empty() {
+                return Ok(Some(any_text(alloc, wanted, text)?));
+            }
             if !is_last_raised(from) {
                 return Ok(None);
             }

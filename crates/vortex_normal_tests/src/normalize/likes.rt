@@ -117,8 +117,37 @@ fn other_wildcards(rt: HostRuntime) {
     expect_kept(&rt, alloc, "_%");
     expect_kept(&rt, alloc, "a%c");
     expect_kept(&rt, alloc, "%c");
-    expect_kept(&rt, alloc, "a%%");
-    expect_kept(&rt, alloc, "%");
+    expect_kept(&rt, alloc, "a%b%");
+    expect_kept(&rt, alloc, "a_%%");
+}
+
+#[test]
+fn more_runs(rt: HostRuntime) {
+    let alloc = rt.alloc();
+    expect(&rt, alloc, s_like(alloc, "ab%%"), s_from(alloc, "ab", "ac"));
+    expect(
+        &rt,
+        alloc,
+        s_like(alloc, "ab%%%"),
+        s_from(alloc, "ab", "ac"),
+    );
+    let escaped = s_from(alloc, "a%", "a&");
+    expect(&rt, alloc, s_like(alloc, "a\\%%%%"), escaped);
+    let escape = s_from(alloc, "a\\", "a]");
+    expect(&rt, alloc, s_like(alloc, "a\\\\%%"), escape);
+    expect(&rt, alloc, s_like(alloc, "\\%"), s_eq(alloc, "%"));
+}
+
+// Each text matches.
+#[test]
+fn runs_alone(rt: HostRuntime) {
+    let alloc = rt.alloc();
+    let there = is_not_null(alloc, s(alloc)).expect(&rt, "there");
+    let any = normal(alloc, &s_like(alloc, "%").expect(&rt, "any")).expect(&rt, "normal");
+    assert!(rt; any == there);
+    expect(&rt, alloc, s_like(alloc, "%%%"), Ok(there));
+    expect(&rt, alloc, s_not_like(alloc, "%"), never(alloc));
+    expect(&rt, alloc, s_not_like(alloc, "%%"), never(alloc));
 }
 
 // Texts lie between those that begin so and the successor, or there is none.
