@@ -10,6 +10,7 @@ use Rattle.vortex_expr.specs.declared.scalar_fn.Operator.{Operator}
 use Rattle.vortex_expr.specs.declared.scalar_fn.Operator.TheVariants.{And, Or}
 use Rattle.vortex_expr.specs.declared.like.LikeOptions.{LikeOptions}
 use Rattle.vortex_rewrite.specs.Rewriting.Falsifiers.{bool_literal}
+use Rattle.vortex_normal.specs.Ends.{ended}
 use Rattle.vortex_normal.specs.Pushed.{all_by, all_of, any_by, any_of, as_comparisons, comparison_of, connected, decided, folded, given_or, is_literal, is_null_literal, is_reflexive, liked, settled}
 
 pub if_as : (P : Tree Place → Type 0) (b : Bool) (x y : Tree Place) → (b ≡ true → P x) → (b ≡ false → P y) → P (if b then x else y)
@@ -42,13 +43,13 @@ folded_as P e h k =
     (λ f. let w = not_constant (is_literal e) (has_bare_column e) (has_placeholder e) (has_row_count e) f in k w.1.0 w.1.1.0 w.1.1.1)
 
 pub comparison_as : (P : Tree Place → Type 0) (o : Operator) (l r : Tree Place) → ((is_null_literal l ≡ true) ⊎ (is_null_literal r ≡ true) → P (bool_literal false))
-    → (l ≡ r → is_reflexive o ≡ true → P (settled (is_not_null l))) → (l ≡ r → is_reflexive o ≡ false → P (bool_literal false)) → P (settled (binary o l r)) → P (comparison_of o l r)
+    → (l ≡ r → is_reflexive o ≡ true → P (settled (is_not_null l))) → (l ≡ r → is_reflexive o ≡ false → P (bool_literal false)) → P (settled (ended o l r)) → P (comparison_of o l r)
 unfolding comparison_of
 comparison_as P o l r f g h k =
     if_as P (is_null_literal l || is_null_literal r) (bool_literal false)
-    (if tree_eq l r then (if is_reflexive o then settled (is_not_null l) else bool_literal false) else settled (binary o l r))
+    (if tree_eq l r then (if is_reflexive o then settled (is_not_null l) else bool_literal false) else settled (ended o l r))
     (λ e. f (or_cases (is_null_literal l) (is_null_literal r) e))
-    (λ _. if_as P (tree_eq l r) (if is_reflexive o then settled (is_not_null l) else bool_literal false) (settled (binary o l r))
+    (λ _. if_as P (tree_eq l r) (if is_reflexive o then settled (is_not_null l) else bool_literal false) (settled (ended o l r))
     (λ e. if_as P (is_reflexive o) (settled (is_not_null l)) (bool_literal false) (g ((tree_eq_is_exact l r).0 e)) (h ((tree_eq_is_exact l r).0 e)))
     (λ _. k))
 

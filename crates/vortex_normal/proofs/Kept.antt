@@ -1,5 +1,5 @@
 -- A predicate pushed down has no column and no placeholder that it had not.
-use Rattle.std.proofs.Common.{◌≡◌, Bool, true, false, not as not_b, ◌&&◌, ◌||◌, IsTrue, refl, ap}
+use Rattle.std.proofs.Common.{◌≡◌, ◌⊎◌, inl, inr, Bool, true, false, not as not_b, ◌&&◌, ◌||◌, IsTrue, refl, ap, subst}
 use Rattle.std.proofs.lemmas.Bool.{and_parts, or_parts, not-true}
 use Rattle.vortex_base.specs.Data.Exact.{both_hold}
 use Rattle.vortex_expr.specs.Trees.Between.{to_operator}
@@ -9,8 +9,10 @@ use Rattle.vortex_expr.specs.declared.scalar_fn.BetweenOptions.{BetweenOptions}
 use Rattle.vortex_expr.specs.declared.like.LikeOptions.{LikeOptions}
 use Rattle.vortex_expr.specs.declared.scalar_fn.Operator.{Operator}
 use Rattle.vortex_expr.specs.declared.scalar_fn.Operator.TheVariants.{Eq, NotEq, Gt, Gte, Lt, Lte, And, Or}
+use Rattle.vortex_normal.specs.Ends.{ended}
 use Rattle.vortex_normal.specs.Pushed.{any_text, comparison, comparison_of, connected, folded, like_as, liked, null_test, operator_as, pushed, settled}
 use Rattle.vortex_rewrite.specs.Rewriting.Falsifiers.{bytes_literal}
+use Rattle.vortex_normal.proofs.TypeEnds.{ended_as}
 use Rattle.vortex_normal.proofs.Forms.{comparison_as, connected_kept, folded_as, liked_as, settled_as}
 use Rattle.vortex_normal.proofs.Matched.{matched_as}
 
@@ -31,9 +33,17 @@ module _ (P : Tree Place → Type 0) (i : IsInherited P) where
   folded_kept : (e : Tree Place) → P e → P (folded e)
   folded_kept e h = folded_as P e h (λ _ _ _. i.of_literal _)
 
+  ended_kept : (o : Operator) (l r : Tree Place) → P l → P r → P (ended o l r)
+  ended_kept o l r h k =
+      ended_as P o l r (i.of_literal _) (λ c s. i.of_not_null (column c) (at_column c s)) (λ c s b. i.of_binary Eq (column c) _ (at_column c s) (i.of_literal _)) (i.of_binary o l r h k)
+    where
+      at_column : (c : Place) → (l ≡ column c) ⊎ (r ≡ column c) → P (column c)
+      at_column c (inl e) = subst P e h
+      at_column c (inr e) = subst P e k
+
   of_kept : (o : Operator) (l r : Tree Place) → P l → P r → P (comparison_of o l r)
   of_kept o l r h k =
-      comparison_as P o l r (λ _. i.of_literal _) (λ _ _. settled_kept (is_not_null l) (i.of_not_null l h)) (λ _ _. i.of_literal _) (settled_kept (binary o l r) (i.of_binary o l r h k))
+      comparison_as P o l r (λ _. i.of_literal _) (λ _ _. settled_kept (is_not_null l) (i.of_not_null l h)) (λ _ _. i.of_literal _) (settled_kept (ended o l r) (ended_kept o l r h k))
 
   comparison_kept : (o : Operator) (l r : Tree Place) → P l → P r → P (comparison o l r)
   unfolding comparison

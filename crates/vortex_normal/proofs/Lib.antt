@@ -34,6 +34,7 @@ mod Texts
 mod Told
 mod Truths
 mod TurnRows
+mod TypeEnds
 mod WholeDepth
 mod Worked
 mod WorkedTests

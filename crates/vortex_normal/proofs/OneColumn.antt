@@ -1,5 +1,5 @@
 -- The normal form of a predicate over one column is one set of the column's values, and bounds decide it.
-use Rattle.std.proofs.Common.{◌≡◌, inl, inr, Bool, true, false, not as not_b, ◌&&◌, ◌||◌, List, [], ◌∷◌, Option, Some, None, refl, sym, ap, ◌∙◌, subst₂, if◌then◌else◌}
+use Rattle.std.proofs.Common.{◌≡◌, ◌⊎◌, inl, inr, Bool, true, false, not as not_b, ◌&&◌, ◌||◌, List, [], ◌∷◌, Option, Some, None, refl, sym, ap, ◌∙◌, subst, subst₂, if◌then◌else◌}
 use Rattle.std.specs.Prelude.{is_none}
 use Rattle.std.specs.Option.{is_some}
 use Rattle.std.proofs.lemmas.Bool.{and_parts, not-true, or_parts}
@@ -7,6 +7,7 @@ use Rattle.vortex_expr.specs.Meanings.Meaning.{meaning, satisfies}
 use Rattle.vortex_base.specs.declared.dtype.DType.TheVariants as dtype
 use Rattle.vortex_base.specs.declared.types.Nullability.TheVariants.{Nullable}
 use Rattle.vortex_base.specs.Data.Exact.{both_hold}
+use Rattle.vortex_base.specs.Data.Scalars.{Constant}
 use Rattle.vortex_expr.specs.Trees.Between.{to_operator}
 use Rattle.vortex_expr.specs.Trees.Tree.{Tree, Place, column, literal, binary, between, is_null, is_not_null, not, like, stat, row_count, has_bare_column, is_plain}
 use Rattle.vortex_expr.specs.Trees.TreeEq.{place_eq, tree_eq, tree_eq_is_exact}
@@ -18,11 +19,13 @@ use Rattle.vortex_rewrite.proofs.Completeness.Interval.{is_comparison}
 use Rattle.vortex_rewrite.proofs.Soundness.TruthLogic.{clash}
 use Rattle.vortex_rewrite.specs.Rewriting.Falsifiers.{bool_literal, bytes_literal}
 use Rattle.vortex_rewrite.specs.Rewriting.ReadOnce.{is_simple_binary}
+use Rattle.vortex_normal.specs.Ends.{ended, is_the_truth}
 use Rattle.vortex_normal.specs.Groups.{Item, inside, other, add, as_one, binary_item, collected, compared_item, leaf_item, widened}
 use Rattle.vortex_normal.specs.Intervals.{Interval, combined, swapped}
 use Rattle.vortex_normal.specs.OneColumn.{is_constant, is_operand_over, is_over}
 use Rattle.vortex_normal.specs.Pushed.{any_text, as_comparisons, comparison, comparison_of, connected, decided, folded, is_literal, is_reflexive, like_as, liked, null_test, operator_as, pushed, settled}
 use Rattle.vortex_normal.proofs.Columns.{same_place}
+use Rattle.vortex_normal.proofs.TypeEnds.{ended_as}
 use Rattle.vortex_normal.proofs.Forms.{if_as, liked_as}
 use Rattle.vortex_normal.proofs.Matched.{matched_as, still_matched}
 use Rattle.vortex_normal.proofs.Truths.{IsTruthOr, connected_truth_or}
@@ -113,28 +116,65 @@ module _ (c : Place) where
   operand_folded (stat f x) h = cc
   operand_folded row_count h = cc
 
+  -- a comparison of the column with a value, by the ends of its type
+
+  column_or : (P : Type 0) (d f : Place) (v : Constant) → place_eq c d ≡ true → (place_eq c f ≡ true → P) → (column d ≡ column f) ⊎ (literal v ≡ column f) → P
+  column_or P d f v h g (inl e) = g (subst (λ x. is_the_column x ≡ true) e h)
+  column_or P d f v h g (inr e) = absurd cc
+
+  ended_first : (o : Operator) (d : Place) (v : Constant) → place_eq c d ≡ true → IsPushed (binary o (column d) (literal v)) → IsPushed (settled (ended o (column d) (literal v)))
+  unfolding settled
+  ended_first o d v h k =
+      ended_as (λ e. IsPushed (settled e)) o (column d) (literal v) (inl (false, refl))
+      (λ f s. column_or (IsPushed (is_not_null (column f))) d f v h (λ e. inr e) s)
+      (λ f s b. column_or (IsPushed (is_the_truth f b)) d f v h (λ e. inr (both_hold _ _ e refl)) s)
+      k
+
+  ended_last : (o : Operator) (d : Place) (v : Constant) → place_eq c d ≡ true → IsPushed (binary o (literal v) (column d)) → IsPushed (settled (ended o (literal v) (column d)))
+  unfolding settled
+  ended_last o d v h k =
+      ended_as (λ e. IsPushed (settled e)) o (literal v) (column d) (inl (false, refl))
+      (λ f s. column_or (IsPushed (is_not_null (column f))) d f v h (λ e. inr e) (turned s))
+      (λ f s b. column_or (IsPushed (is_the_truth f b)) d f v h (λ e. inr (both_hold _ _ e refl)) (turned s))
+      k
+    where
+      turned : {A B : Type 0} → A ⊎ B → B ⊎ A
+      turned (inl a) = inr a
+      turned (inr b) = inl b
+
+  ended_literals : (o : Operator) (u v : Constant) → is_comparison o ≡ true → IsPushed (settled (ended o (literal u) (literal v)))
+  unfolding settled
+  ended_literals Eq u v k = inl (_, refl)
+  ended_literals NotEq u v k = inl (_, refl)
+  ended_literals Gt u v k = inl (_, refl)
+  ended_literals Gte u v k = inl (_, refl)
+  ended_literals Lt u v k = inl (_, refl)
+  ended_literals Lte u v k = inl (_, refl)
+  ended_literals And u v k = cc
+  ended_literals Or u v k = cc
+
   of_pushed : (o : Operator) (l r : Tree Place) → is_comparison o ≡ true → is_folded l ≡ true → is_folded r ≡ true → IsPushed (comparison_of o l r)
   unfolding comparison_of settled
   of_pushed o (column d) (column e) k h i =
       let same : place_eq d e ≡ true = subst₂ (λ x y. place_eq x y ≡ true) (same_place c d h) (same_place c e i) (itself c) in
-      if_as IsPushed (place_eq d e) (if is_reflexive o then is_not_null (column d) else bool_literal false) (binary o (column d) (column e))
+      if_as IsPushed (place_eq d e) (if is_reflexive o then is_not_null (column d) else bool_literal false) (settled (ended o (column d) (column e)))
       (λ _. if_as IsPushed (is_reflexive o) (is_not_null (column d)) (bool_literal false) (λ _. inr h) (λ _. inl (false, refl)))
-      (λ no. clash same no)
+      (λ other. clash same other)
   of_pushed o (column d) (literal v) k h i =
-      if_as IsPushed (is_none v.value) (bool_literal false) (binary o (column d) (literal v))
+      if_as IsPushed (is_none v.value) (bool_literal false) (settled (ended o (column d) (literal v)))
       (λ _. inl (false, refl))
-      (λ some. said o (column d) (literal v) k (both_hold _ _ h (some_if v.value some)))
+      (λ some. ended_first o d v h (said o (column d) (literal v) k (both_hold _ _ h (some_if v.value some))))
   of_pushed o (literal v) (column d) k h i =
-      if_as IsPushed (is_none v.value || false) (bool_literal false) (binary o (literal v) (column d))
+      if_as IsPushed (is_none v.value || false) (bool_literal false) (settled (ended o (literal v) (column d)))
       (λ _. inl (false, refl))
-      (λ some. said o (literal v) (column d) k (both_hold _ _ i (some_if v.value (or_parts (is_none v.value) false some).0)))
+      (λ some. ended_last o d v i (said o (literal v) (column d) k (both_hold _ _ i (some_if v.value (or_parts (is_none v.value) false some).0))))
   of_pushed o (literal u) (literal v) k h i =
       if_as IsPushed (is_none u.value || is_none v.value) (bool_literal false)
-      (if tree_eq (literal u) (literal v) then (if is_reflexive o then settled (is_not_null (literal u)) else bool_literal false) else settled (binary o (literal u) (literal v)))
+      (if tree_eq (literal u) (literal v) then (if is_reflexive o then settled (is_not_null (literal u)) else bool_literal false) else settled (ended o (literal u) (literal v)))
       (λ _. inl (false, refl))
-      (λ _. if_as IsPushed (tree_eq (literal u) (literal v)) (if is_reflexive o then settled (is_not_null (literal u)) else bool_literal false) (settled (binary o (literal u) (literal v)))
+      (λ _. if_as IsPushed (tree_eq (literal u) (literal v)) (if is_reflexive o then settled (is_not_null (literal u)) else bool_literal false) (settled (ended o (literal u) (literal v)))
       (λ _. if_as IsPushed (is_reflexive o) (settled (is_not_null (literal u))) (bool_literal false) (λ _. inl (_, refl)) (λ _. inl (false, refl)))
-      (λ _. inl (_, refl)))
+      (λ _. ended_literals o u v k))
   of_pushed o l r k h i = cc
 
   compared_pushed : (o : Operator) (l r : Tree Place) → is_comparison o ≡ true → is_operand_over c l ≡ true → is_operand_over c r ≡ true → IsPushed (comparison o l r)

@@ -17,7 +17,9 @@ use Rattle.vortex_rewrite.specs.Rewriting.Falsifiers.{bool_literal, bytes_litera
 use Rattle.vortex_rewrite.proofs.Completeness.Interval.{is_comparison}
 use Rattle.vortex_normal.specs.Balanced.{depth}
 use Rattle.vortex_normal.specs.Laws.{NormalIsShallow, leaves, turns}
+use Rattle.vortex_normal.specs.Ends.{ended}
 use Rattle.vortex_normal.specs.Pushed.{all_of, any_of, any_text, are_runs, begins, comparison, comparison_of, connected, decided, folded, is_beginning, is_last_raised, items_matched, like_as, liked, null_test, operator_as, pushed, same_text, settled, text_matched}
+use Rattle.vortex_normal.proofs.TypeEnds.{ended_as}
 use Rattle.vortex_normal.proofs.Forms.{all_by_kept, any_by_kept, comparison_as, folded_as, liked_as, settled_as}
 use Rattle.vortex_normal.proofs.Matched.{given_if}
 use Rattle.vortex_normal.proofs.WholeDepth.{grouped_shallow, leaf_depth}
@@ -58,7 +60,11 @@ folded_shallow e d h = folded_as (λ x. depth x ≤ d) e h (λ _ _ _. omega arit
 of_within : (o : Operator) (l r : Tree Place) (d : ℕ) → is_comparison o ≡ true → depth l + 1 ≤ d → depth r + 1 ≤ d → Within (comparison_of o l r) 1 d 0 0
 of_within o l r d c h k =
     comparison_as (λ e. Within e 1 d 0 0) o l r (λ _. truth_within false 1 d 0 0 (omega arith)) (λ _ _. null_within false l d h) (λ _ _. truth_within false 1 d 0 0 (omega arith))
-    (settled_within (binary o l r) d (binary_within o l r d c (omega (arith, h, k))))
+    (settled_within (ended o l r) d
+    (ended_as (λ e. Within e 1 d 0 0) o l r (truth_within false 1 d 0 0 (omega arith))
+    (λ f _. record { count = omega arith; deep = omega (arith, h); in_and = omega arith; in_or = omega arith })
+    (λ f _ b. binary_within Eq (column f) _ d refl (omega (arith, h)))
+    (binary_within o l r d c (omega (arith, h, k)))))
 
 comparison_within : (o : Operator) (l r : Tree Place) (d : ℕ) → is_comparison o ≡ true → depth l ≤ d → depth r ≤ d → Within (comparison o l r) 1 (d + 1) 0 0
 unfolding comparison

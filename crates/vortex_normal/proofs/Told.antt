@@ -1,5 +1,5 @@
 -- What a predicate pushed down is satisfied by: the rows where the given one has the wanted truth.
-use Rattle.std.proofs.Common.{◌≡◌, ◌<◌, ◌^◌, ℕ, Bool, true, false, not as not_b, ◌&&◌, ◌||◌, ⊎_elim, List, [], Option, Some, None, Result, Ok, Err, IsTrue, refl, sym, ap, ap₂, ◌∙◌, if◌then◌else◌}
+use Rattle.std.proofs.Common.{◌≡◌, ◌<◌, ◌^◌, ℕ, Bool, true, false, not as not_b, ◌&&◌, ◌||◌, ⊎_elim, List, [], Option, Some, None, Result, Ok, Err, IsOk, IsTrue, refl, sym, ap, ap₂, ◌∙◌, subst₂, if◌then◌else◌}
 use Rattle.std.specs.Prelude.{encode_utf8_all, is_none}
 use Rattle.std.specs.Str.{chars, is_utf8}
 use Rattle.std.proofs.lemmas.Bool.{and_parts, or_parts}
@@ -34,14 +34,18 @@ use Rattle.vortex_expr.specs.declared.scalar_fn.StrictComparison.{StrictComparis
 use Rattle.vortex_expr.specs.declared.scalar_fn.StrictComparison.TheVariants.{Strict, NonStrict}
 use Rattle.vortex_rewrite.proofs.Completeness.Decided.{comparison_applied}
 use Rattle.vortex_rewrite.proofs.Completeness.Interval.{is_comparison}
+use Rattle.vortex_base.specs.Data.Exact.{both_hold}
+use Rattle.vortex_rewrite.proofs.Rewriting.ProofTypes.{are_alike, operands_compare}
 use Rattle.vortex_rewrite.proofs.Soundness.TruthLogic.{true_and, true_or, truth_back}
-use Rattle.vortex_rewrite.specs.Rewriting.Predicates.{has_type, is_predicate}
+use Rattle.vortex_rewrite.specs.Rewriting.Predicates.{has_type, is_connective, is_predicate}
 use Rattle.vortex_rewrite.specs.Rewriting.Falsifiers.{bytes_literal, text_in, text_of}
+use Rattle.vortex_normal.specs.Ends.{ended}
 use Rattle.vortex_normal.specs.Pushed.{all_by, all_of, any_by, any_of, any_text, are_runs, as_comparisons, begins, comparison, comparison_of, connected, decided, folded, is_beginning, is_last_raised, is_null_literal, is_reflexive, items_matched, like_as, liked, null_test, operator_as, pushed, same_text, settled, text_matched}
+use Rattle.vortex_normal.proofs.TypeEnds.{AreAlike, ended_told, operands_alike}
 use Rattle.vortex_normal.proofs.Forms.{comparison_as, folded_as, liked_as, settled_as}
 use Rattle.vortex_normal.proofs.Matched.{given_if}
 use Rattle.vortex_normal.proofs.Texts.{exact_told, range_told, runs_like}
-use Rattle.vortex_normal.proofs.Steps.{operand, sides}
+use Rattle.vortex_normal.proofs.Steps.{lower_fits, operand, sides, typed, upper_fits}
 
 -- ---- wanted truths
 
@@ -186,6 +190,17 @@ text_value v (dtype.Primitive p n) u h = cc
 text_value v (dtype.Binary n) u h = cc
 text_value v (dtype.MinMaxState e n) u h = cc
 
+text_alike : (v : Option ScalarValue) (bs : List ℕ) → IsTextOrNull v → AreAlike v (Some (value.Utf8 bs))
+text_alike None bs h = tt
+text_alike (Some (value.Utf8 as')) bs h = tt
+text_alike (Some (value.Bool b)) bs h = absurd h
+text_alike (Some (value.Primitive p)) bs h = absurd h
+text_alike (Some (value.Binary as')) bs h = absurd h
+
+end_connects : (s : StrictComparison) → is_connective (to_operator s) ≡ false
+end_connects Strict = refl
+end_connects NonStrict = refl
+
 negated_match : (b m : Bool) → (if not_b b then not_b m else m) ≡ not_b (if b then not_b m else m)
 negated_match true m = not_not m
 negated_match false m = refl
@@ -328,8 +343,8 @@ module _ (row : List Constant) (n : ℕ) where
   null_meaning (stat f x) h = cc
   null_meaning row_count h = cc
 
-  of_told : (o : Operator) (l r : Tree Place) → is_comparison o ≡ true → satisfies (comparison_of o l r) row n ≡ is_wanted true (compared o (meaning l row n) (meaning r row n))
-  of_told o l r c =
+  of_told : (o : Operator) (l r : Tree Place) → is_comparison o ≡ true → AreAlike (meaning l row n) (meaning r row n) → satisfies (comparison_of o l r) row n ≡ is_wanted true (compared o (meaning l row n) (meaning r row n))
+  of_told o l r c k =
       let a = meaning l row n in
       let b = meaning r row n in
       comparison_as (λ e. satisfies e row n ≡ is_wanted true (compared o (meaning l row n) (meaning r row n))) o l r
@@ -338,18 +353,20 @@ module _ (row : List Constant) (n : ℕ) where
       (λ h. none_right o (meaning l row n) ∙ sym (ap (λ v. is_wanted true (compared o (meaning l row n) v)) (null_meaning r h))))
       (λ same h. settled_told (is_not_null l) ∙ itself o true (meaning l row n) h ∙ ap (λ e. is_wanted true (compared o (meaning l row n) (meaning e row n))) same)
       (λ same h. itself o false (meaning l row n) h ∙ ap (λ e. is_wanted true (compared o (meaning l row n) (meaning e row n))) same)
-      (settled_told (binary o l r) ∙ ap (λ t. is_true (truth_value t)) (comparison_applied o (meaning l row n) (meaning r row n) c) ∙ yes (compared o (meaning l row n) (meaning r row n)))
+      (settled_told (ended o l r)
+      ∙ ended_told row n o l r k (ap (λ t. is_true (truth_value t)) (comparison_applied o (meaning l row n) (meaning r row n) c) ∙ yes (compared o (meaning l row n) (meaning r row n))))
 
   folded_meaning : (e : Tree Place) → meaning (folded e) row n ≡ meaning e row n
   folded_meaning e = folded_as (λ x. meaning x row n ≡ meaning e row n) e refl (λ h _ k. meaning_settled e h k)
 
-  comparison_told : (o : Operator) (l r : Tree Place) → is_comparison o ≡ true → satisfies (comparison o l r) row n ≡ is_wanted true (compared o (meaning l row n) (meaning r row n))
+  comparison_told : (o : Operator) (l r : Tree Place) → is_comparison o ≡ true → AreAlike (meaning l row n) (meaning r row n) → satisfies (comparison o l r) row n ≡ is_wanted true (compared o (meaning l row n) (meaning r row n))
   unfolding comparison
-  comparison_told o l r c = of_told o (folded l) (folded r) c ∙ ap₂ (λ a b. is_wanted true (compared o a b)) (folded_meaning l) (folded_meaning r)
+  comparison_told o l r c k =
+      of_told o (folded l) (folded r) c (subst₂ (λ a b. AreAlike a b) (sym (folded_meaning l)) (sym (folded_meaning r)) k) ∙ ap₂ (λ a b. is_wanted true (compared o a b)) (folded_meaning l) (folded_meaning r)
 
   -- the comparison with its operator as is wanted
-  turned_told : (w : Bool) (o : Operator) (l r : Tree Place) → is_comparison o ≡ true → satisfies (comparison (operator_as w o) l r) row n ≡ is_wanted w (compared o (meaning l row n) (meaning r row n))
-  turned_told w o l r c = comparison_told (operator_as w o) l r (still_compares w o c) ∙ compared_as w o (meaning l row n) (meaning r row n) c
+  turned_told : (w : Bool) (o : Operator) (l r : Tree Place) → is_comparison o ≡ true → AreAlike (meaning l row n) (meaning r row n) → satisfies (comparison (operator_as w o) l r) row n ≡ is_wanted w (compared o (meaning l row n) (meaning r row n))
+  turned_told w o l r c k = comparison_told (operator_as w o) l r (still_compares w o c) k ∙ compared_as w o (meaning l row n) (meaning r row n) c
 
   null_told : (w : Bool) (x : Tree Place) → satisfies (null_test w x) row n ≡ is_wanted w (Some (is_none (meaning x row n)))
   null_told true x = settled_told (is_null x)
@@ -419,7 +436,7 @@ module _ (row : List Constant) (n : ℕ) where
 
   module _ (x : Tree Place) (text : IsTextOrNull (meaning x row n)) where
     same_told : (w : Bool) (is : List Item) → is_exact is ≡ true → satisfies (same_text w x (encode_utf8_all (literal_prefix is))) row n ≡ is_matched w is (meaning x row n)
-    same_told w is e = turned_told w Eq x (bytes_literal (encode_utf8_all (literal_prefix is))) refl ∙ same_matched w is (meaning x row n) text e
+    same_told w is e = turned_told w Eq x (bytes_literal (encode_utf8_all (literal_prefix is))) refl (text_alike (meaning x row n) _ text) ∙ same_matched w is (meaning x row n) text e
 
     all_texts_told : (w : Bool) (is : List Item) → is_exact is ≡ false → are_runs is ≡ true → satisfies (any_text w x) row n ≡ is_matched w is (meaning x row n)
     all_texts_told true is wild runs = settled_told (is_not_null x) ∙ some_matched is (meaning x row n) text wild runs
@@ -433,7 +450,7 @@ module _ (row : List Constant) (n : ℕ) where
         let below = value.Utf8 (encode_utf8_all ds) in
         sym (ap (λ q. satisfies q row n) (same_Some _ _ h))
         ∙ two_told w w (comparison (operator_as w Gte) x (bytes_literal (encode_utf8_all (literal_prefix is)))) (comparison (operator_as w Lt) x (bytes_literal (encode_utf8_all ds))) _ _ _
-        (turned_told w Gte x (bytes_literal (encode_utf8_all (literal_prefix is))) refl) (turned_told w Lt x (bytes_literal (encode_utf8_all ds)) refl)
+        (turned_told w Gte x (bytes_literal (encode_utf8_all (literal_prefix is))) refl (text_alike (meaning x row n) _ text)) (turned_told w Lt x (bytes_literal (encode_utf8_all ds)) refl (text_alike (meaning x row n) _ text))
         (wanted_both w (compared Gte (meaning x row n) (Some from)) (compared Lt (meaning x row n) (Some below)) ∙ range_matched w is ds (meaning x row n) text b r s)
 
     items_told : (w : Bool) (is : List Item) (e : Tree Place) → items_matched w x is ≡ Some e → satisfies e row n ≡ is_matched w is (meaning x row n)
@@ -477,9 +494,14 @@ module _ (row : List Constant) (n : ℕ) where
     operand_text : (x : Tree Place) (t : DType) → type_of x ≡ Ok t → is_text_type t ≡ true → fits_row x row ≡ true → IsTextOrNull (meaning x row n)
     operand_text x t e u f = text_value (meaning x row n) t u (meaning-fits x row n t e is_row f small)
 
-    binary_told : (w : Bool) (o : Operator) (l r : Tree Place) → is_comparison o ≡ true → satisfies (comparison (operator_as w o) l r) row n ≡ is_wanted w (truth (truth_value (applied o (meaning l row n) (meaning r row n))))
-    binary_told w o l r c =
-        turned_told w o l r c
+    compares_alike : (o : Operator) (l r : Tree Place) → is_connective o ≡ false → IsOk (type_of (binary o l r)) → (fits_row l row && fits_row r row) ≡ true → AreAlike (meaning l row n) (meaning r row n)
+    compares_alike o l r c t f =
+        let g = and_parts (fits_row l row) (fits_row r row) f in
+        operands_alike row n l r (are_alike l r (operands_compare o o l r refl c t)) is_row g.0 g.1 small
+
+    binary_told : (w : Bool) (o : Operator) (l r : Tree Place) → is_comparison o ≡ true → AreAlike (meaning l row n) (meaning r row n) → satisfies (comparison (operator_as w o) l r) row n ≡ is_wanted w (truth (truth_value (applied o (meaning l row n) (meaning r row n))))
+    binary_told w o l r c k =
+        turned_told w o l r c k
         ∙ sym (ap (is_wanted w) (truth_back (applied o (meaning l row n) (meaning r row n)) ∙ comparison_applied o (meaning l row n) (meaning r row n) c))
 
     pub pushed_told : (w : Bool) (e : Tree Place) → is_predicate e ≡ true → fits_row e row ≡ true → satisfies (pushed w e) row n ≡ is_wanted w (truth (meaning e row n))
@@ -495,17 +517,22 @@ module _ (row : List Constant) (n : ℕ) where
         let g = and_parts (fits_row l row) (fits_row r row) f in
         two_told (not_b w) w (pushed w l) (pushed w r) _ _ _ (pushed_told w l q.0 g.0) (pushed_told w r q.1 g.1) (wanted_either w (truth (meaning l row n)) (truth (meaning r row n)))
         ∙ sym (ap (is_wanted w) (truth_back (either (truth (meaning l row n)) (truth (meaning r row n)))))
-    pushed_told w (binary Eq l r) p f = binary_told w Eq l r refl
-    pushed_told w (binary NotEq l r) p f = binary_told w NotEq l r refl
-    pushed_told w (binary Gt l r) p f = binary_told w Gt l r refl
-    pushed_told w (binary Gte l r) p f = binary_told w Gte l r refl
-    pushed_told w (binary Lt l r) p f = binary_told w Lt l r refl
-    pushed_told w (binary Lte l r) p f = binary_told w Lte l r refl
+    pushed_told w (binary Eq l r) p f = binary_told w Eq l r refl (compares_alike Eq l r refl (typed (binary Eq l r) p) f)
+    pushed_told w (binary NotEq l r) p f = binary_told w NotEq l r refl (compares_alike NotEq l r refl (typed (binary NotEq l r) p) f)
+    pushed_told w (binary Gt l r) p f = binary_told w Gt l r refl (compares_alike Gt l r refl (typed (binary Gt l r) p) f)
+    pushed_told w (binary Gte l r) p f = binary_told w Gte l r refl (compares_alike Gte l r refl (typed (binary Gte l r) p) f)
+    pushed_told w (binary Lt l r) p f = binary_told w Lt l r refl (compares_alike Lt l r refl (typed (binary Lt l r) p) f)
+    pushed_told w (binary Lte l r) p f = binary_told w Lte l r refl (compares_alike Lte l r refl (typed (binary Lte l r) p) f)
     pushed_told w (between o x l u) p f =
         let lower = to_operator o.lower_strict in
         let upper = to_operator o.upper_strict in
+        let ok : IsOk (type_of (between o x l u)) = typed (between o x l u) p in
+        let g = and_parts (fits_row x row) (fits_row l row && fits_row u row) f in
+        let h = and_parts (fits_row l row) (fits_row u row) g.1 in
+        let low = compares_alike lower l x (end_connects o.lower_strict) (lower_fits true o x l u lower lower refl refl ok) (both_hold _ _ h.0 g.0) in
+        let high = compares_alike upper x u (end_connects o.upper_strict) (upper_fits true o x l u upper upper refl refl ok) (both_hold _ _ g.0 h.1) in
         two_told w w (comparison (operator_as w lower) l x) (comparison (operator_as w upper) x u) _ _ _
-        (turned_told w lower l x (end_compares o.lower_strict)) (turned_told w upper x u (end_compares o.upper_strict))
+        (turned_told w lower l x (end_compares o.lower_strict) low) (turned_told w upper x u (end_compares o.upper_strict) high)
         (wanted_both w (compared lower (meaning l row n) (meaning x row n)) (compared upper (meaning x row n) (meaning u row n)))
         ∙ sym (ap (is_wanted w) (truth_back (both (compared lower (meaning l row n) (meaning x row n)) (compared upper (meaning x row n) (meaning u row n)))))
     pushed_told w (is_null x) p f = null_told w x

@@ -1,5 +1,6 @@
 pub mod Balanced
 pub mod Chains
+pub mod Ends
 pub mod Groups
 pub mod Intervals
 pub mod Laws

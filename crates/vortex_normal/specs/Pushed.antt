@@ -18,6 +18,7 @@ use Rattle.vortex_expr.specs.Trees.TreeEq.{tree_eq}
 use Rattle.vortex_expr.specs.Meanings.Meaning.{holds, is_true, meaning, satisfies, truth}
 use Rattle.vortex_expr.specs.Meanings.RowTest.{is_wanted}
 use Rattle.vortex_rewrite.specs.Rewriting.Falsifiers.{bool_literal, bytes_literal, text_in}
+use Rattle.vortex_normal.specs.Ends.{ended}
 
 -- ---- leaves
 
@@ -56,12 +57,12 @@ settled q = if has_bare_column q || not_b (is_plain q) then q else bool_literal 
 unfoldable pub folded : Tree Place → Tree Place
 folded e = if is_literal e || (has_bare_column e || not_b (is_plain e)) then e else literal (record { dtype = dtype.Bool Nullable; value = meaning e [] 0 })
 
--- a comparison: never true of null, and of an operand and itself a test of null or false
+-- a comparison: never true of null, of an operand and itself a test of null or false, and of a column by the ends of its type
 unfoldable pub comparison_of : Operator → (l r : Tree Place) → Tree Place
 comparison_of o l r =
     if is_null_literal l || is_null_literal r then bool_literal false
     else (if tree_eq l r then (if is_reflexive o then settled (is_not_null l) else bool_literal false)
-    else settled (binary o l r))
+    else settled (ended o l r))
 
 -- of folded operands
 unfoldable pub comparison : Operator → (l r : Tree Place) → Tree Place

@@ -1,9 +1,9 @@
 -- Worked normal forms.
-use Rattle.std.specs.Prelude.{◌≡◌, ℕ, Bool, false, true, not as not_b, List, [], ◌∷◌, Some, None, codes, encode_utf8_all}
+use Rattle.std.specs.Prelude.{◌≡◌, ℕ, ℤ, pos, negsuc, Bool, false, true, not as not_b, List, [], ◌∷◌, Some, None, codes, encode_utf8_all}
 use Rattle.vortex_base.specs.declared.aggregate.AggregateFnRef.TheVariants as aggregate
 use Rattle.vortex_base.specs.declared.dtype.DType.{DType}
 use Rattle.vortex_base.specs.declared.dtype.DType.TheVariants as dtype
-use Rattle.vortex_base.specs.declared.types.PType.TheVariants.{U8}
+use Rattle.vortex_base.specs.declared.types.PType.TheVariants.{I8, U8}
 use Rattle.vortex_base.specs.declared.types.Nullability.TheVariants.{Nullable, NonNullable}
 use Rattle.vortex_base.specs.declared.pvalue.PValue.TheVariants as number
 use Rattle.vortex_base.specs.declared.scalar_value.ScalarValue.TheVariants as value
@@ -28,6 +28,13 @@ b = column (record { index = 1; dtype = byte })
 -- a column of truths
 abbrev pub c : Tree Place
 c = column (record { index = 2; dtype = dtype.Bool Nullable })
+
+-- a column of signed numbers
+abbrev pub d : Tree Place
+d = column (record { index = 4; dtype = dtype.Primitive I8 Nullable })
+
+abbrev pub small_literal : ℤ → Tree Place
+small_literal n = literal (record { dtype = dtype.Primitive I8 Nullable; value = Some (value.Primitive (number.I8 n)) })
 
 abbrev pub truth_literal : Bool → Tree Place
 truth_literal t = literal (record { dtype = dtype.Bool Nullable; value = Some (value.Bool t) })
@@ -109,10 +116,56 @@ pub record FormExamples : Type 0 where
   pub null_or_not : normal (binary Or (is_null a) (is_not_null a)) ≡ bool_literal true
   pub null_or_value : normal (binary Or (compare Gt a 3) (is_null a)) ≡ binary Or (is_null a) (compare Gt a 3)
   pub inner_chain : normal (binary And (binary Or (compare Lt a 3) (compare Lt b 3)) (compare Gt a 5)) ≡ binary And (binary Or (compare Lt a 3) (compare Lt b 3)) (compare Gt a 5)
-  pub folded_operand : normal (not (binary Eq c (binary Lt (byte_literal 1) (byte_literal 2)))) ≡ binary NotEq c (truth_literal true)
-  pub folded_first : normal (binary Gt (binary Gt (byte_literal 1) (byte_literal 2)) c) ≡ binary Lt c (truth_literal false)
+  pub folded_operand : normal (not (binary Eq c (binary Lt (byte_literal 1) (byte_literal 2)))) ≡ binary Eq c (truth_literal false)
+  pub folded_first : normal (binary Lt (binary Gt (byte_literal 1) (byte_literal 2)) c) ≡ binary Eq c (truth_literal true)
   pub folded_null : normal (binary Eq c (binary Lt null_number (byte_literal 2))) ≡ bool_literal false
   pub folded_end : normal (between closed c (binary Lt (byte_literal 1) (byte_literal 2)) (is_null (byte_literal 3))) ≡ bool_literal false
+  pub above_greatest : normal (compare Gt a 255) ≡ bool_literal false
+  pub not_above_greatest : normal (not (compare Gt a 255)) ≡ is_not_null a
+  pub up_to_greatest : normal (compare Lte a 255) ≡ is_not_null a
+  pub from_greatest : normal (compare Gte a 255) ≡ compare Gte a 255
+  pub below_greatest : normal (compare Lt a 255) ≡ compare Lt a 255
+  pub other_than_greatest : normal (compare NotEq a 255) ≡ compare NotEq a 255
+  pub above_but_greatest : normal (compare Gt a 254) ≡ compare Gt a 254
+  pub below_least : normal (compare Lt a 0) ≡ bool_literal false
+  pub from_least : normal (compare Gte a 0) ≡ is_not_null a
+  pub not_from_least : normal (not (compare Gte a 0)) ≡ bool_literal false
+  pub up_to_least : normal (compare Lte a 0) ≡ compare Lte a 0
+  pub above_least : normal (compare Gt a 0) ≡ compare Gt a 0
+  pub equal_to_least : normal (compare Eq a 0) ≡ compare Eq a 0
+  pub below_but_least : normal (compare Lt a 1) ≡ compare Lt a 1
+  pub greatest_below : normal (binary Lt (byte_literal 255) a) ≡ bool_literal false
+  pub greatest_from : normal (binary Gte (byte_literal 255) a) ≡ is_not_null a
+  pub greatest_above : normal (binary Gt (byte_literal 255) a) ≡ compare Lt a 255
+  pub least_above : normal (binary Gt (byte_literal 0) a) ≡ bool_literal false
+  pub least_up_to : normal (binary Lte (byte_literal 0) a) ≡ is_not_null a
+  pub least_below : normal (binary Lt (byte_literal 0) a) ≡ compare Gt a 0
+  pub range_from_least : normal (range 0 6) ≡ compare Lte a 6
+  pub range_to_greatest : normal (range 6 255) ≡ compare Gte a 6
+  pub least_signed : normal (binary Lt d (small_literal (negsuc 127))) ≡ bool_literal false
+  pub least_but_one_signed : normal (binary Lt d (small_literal (negsuc 126))) ≡ binary Lt d (small_literal (negsuc 126))
+  pub greatest_signed : normal (binary Lte d (small_literal (pos 127))) ≡ is_not_null d
+  pub greatest_but_one_signed : normal (binary Lte d (small_literal (pos 126))) ≡ binary Lte d (small_literal (pos 126))
+  pub below_empty_text : normal (compare_text Lt []) ≡ bool_literal false
+  pub from_empty_text : normal (compare_text Gte []) ≡ is_not_null t
+  pub below_a_text : normal (compare_text Lt (codes "a")) ≡ compare_text Lt (codes "a")
+  pub truth_is_false : normal (binary Eq c (truth_literal false)) ≡ binary Eq c (truth_literal false)
+  pub truth_is_true : normal (binary Eq c (truth_literal true)) ≡ binary Eq c (truth_literal true)
+  pub truth_is_not_false : normal (binary NotEq c (truth_literal false)) ≡ binary Eq c (truth_literal true)
+  pub truth_is_not_true : normal (binary NotEq c (truth_literal true)) ≡ binary Eq c (truth_literal false)
+  pub truth_above_false : normal (binary Gt c (truth_literal false)) ≡ binary Eq c (truth_literal true)
+  pub truth_above_true : normal (binary Gt c (truth_literal true)) ≡ bool_literal false
+  pub truth_from_false : normal (binary Gte c (truth_literal false)) ≡ is_not_null c
+  pub truth_from_true : normal (binary Gte c (truth_literal true)) ≡ binary Eq c (truth_literal true)
+  pub truth_below_false : normal (binary Lt c (truth_literal false)) ≡ bool_literal false
+  pub truth_below_true : normal (binary Lt c (truth_literal true)) ≡ binary Eq c (truth_literal false)
+  pub truth_up_to_false : normal (binary Lte c (truth_literal false)) ≡ binary Eq c (truth_literal false)
+  pub truth_up_to_true : normal (binary Lte c (truth_literal true)) ≡ is_not_null c
+  pub false_below : normal (binary Lt (truth_literal false) c) ≡ binary Eq c (truth_literal true)
+  pub true_up_to : normal (binary Lte (truth_literal true) c) ≡ binary Eq c (truth_literal true)
+  pub true_below : normal (binary Lt (truth_literal true) c) ≡ bool_literal false
+  pub true_from : normal (binary Gte (truth_literal true) c) ≡ is_not_null c
+  pub neither_truth : normal (binary And (binary NotEq c (truth_literal false)) (binary Lt c (truth_literal true))) ≡ bool_literal false
   pub one_text : normal (like_of true (codes "abc")) ≡ compare_text Eq (codes "abc")
   pub other_text : normal (like_of false (codes "abc")) ≡ compare_text NotEq (codes "abc")
   pub not_other_text : normal (not (like_of false (codes "abc"))) ≡ compare_text Eq (codes "abc")

@@ -9,6 +9,7 @@ ghost use Rattle.vortex_base.specs.declared.types.Nullability.TheVariants.{Nulla
 ghost use Rattle.vortex_rewrite.specs.Answers.{Makes};
 ghost use Rattle.vortex_normal.specs.Pushed as normal;
 
+use crate::ends::ended;
 use crate::predicate::Predicate;
 use std::alloc::Global;
 use vortex_base::dtype::DType;
@@ -118,7 +119,8 @@ fn folded(alloc: Global, e: &BoundExpression) -> Result<BoundExpression, StatsEr
     }
 }
 
-// A comparison. Of null it is never true; of an operand and itself it is a test of null or false.
+// A comparison. Of null it is never true; of an operand and itself it is a test of null or false;
+// and at an end of its column's type it may be one too.
 #[tactic(auto, unfolding(crate::specs::Pushed::comparison_of))]
 fn comparison_of(
     alloc: Global,
@@ -139,7 +141,7 @@ fn comparison_of(
             Predicate::truth(alloc, false)
         }
     } else {
-        let compared = Predicate::binary(alloc, operator, left, right)?;
+        let compared = ended(alloc, operator, left, right)?;
         settled(alloc, compared)
     }
 }

@@ -2,6 +2,7 @@
 #![tactic(auto)]
 
 mod balanced;
+mod ends;
 mod groups;
 mod interval;
 pub mod laws;

@@ -36,7 +36,8 @@ fn literal_as(
     }
 }
 
-fn compared(
+// Whether a column's value compares so with a value of its type.
+pub(crate) fn compared(
     alloc: Global,
     place: usize,
     dtype: DType,

@@ -114,6 +114,56 @@ fn truths_of_a_column(rt: HostRuntime) {
     expect(&rt, alloc, both, never(alloc));
 }
 
+// No number is beyond the ends of its type.
+#[test]
+fn ends_of_a_type(rt: HostRuntime) {
+    let alloc = rt.alloc();
+    expect(&rt, alloc, a_gt(alloc, i32::MAX), never(alloc));
+    expect(&rt, alloc, a_lt(alloc, i32::MIN), never(alloc));
+    let some = is_not_null(alloc, a(alloc)).expect(&rt, "some");
+    let most = normal(alloc, &a_lt_eq(alloc, i32::MAX).expect(&rt, "most")).expect(&rt, "normal");
+    assert!(rt; most == some);
+    expect(
+        &rt,
+        alloc,
+        lt_eq(alloc, num(alloc, i32::MIN), a(alloc)),
+        Ok(some),
+    );
+    expect(
+        &rt,
+        alloc,
+        a_gt_eq(alloc, i32::MAX),
+        a_gt_eq(alloc, i32::MAX),
+    );
+    expect(
+        &rt,
+        alloc,
+        lt(alloc, num(alloc, i32::MAX), a(alloc)),
+        never(alloc),
+    );
+}
+
+#[test]
+fn truths_are_neighbours(rt: HostRuntime) {
+    let alloc = rt.alloc();
+    expect(
+        &rt,
+        alloc,
+        gt(alloc, c(alloc), never(alloc)),
+        c_eq(alloc, true),
+    );
+    expect(
+        &rt,
+        alloc,
+        not_eq(alloc, c(alloc), always(alloc)),
+        c_eq(alloc, false),
+    );
+    expect(&rt, alloc, gt(alloc, c(alloc), always(alloc)), never(alloc));
+    expect(&rt, alloc, gt(alloc, never(alloc), c(alloc)), never(alloc));
+    let some = is_not_null(alloc, c(alloc));
+    expect(&rt, alloc, lt_eq(alloc, c(alloc), always(alloc)), some);
+}
+
 #[test]
 fn numbers_are_no_predicates(rt: HostRuntime) {
     let alloc = rt.alloc();
