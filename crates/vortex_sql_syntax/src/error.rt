@@ -1,5 +1,6 @@
 //! Why a text is no condition.
 ghost use Rattle.std.specs.Prelude.{◌≡◌};
+ghost use Rattle.vortex_sql_syntax.specs.Refusals.{IsPlaced};
 ghost use Rattle.vortex_sql_syntax.specs.declared.error.ParseError.TheVariants.{Memory};
 
 use std::alloc::{AllocError, AllocFailed};
@@ -35,6 +36,26 @@ pub enum ParseError {
     /// The condition nests too deep here.
     #[error("too deep at byte {0}")]
     TooDeep(usize),
+}
+
+impl ParseError {
+    /// Returns the refusal, with its place within a text of so many bytes.
+    pub(crate) fn within(self, length: usize) -> ParseError
+        ensures placed { IsPlaced length result }
+        ensures kept { IsPlaced length self → result ≡ self }
+    {
+        match self {
+            ParseError::Memory => ParseError::Memory,
+            ParseError::Unexpected(at) => ParseError::Unexpected(at.min(length)),
+            ParseError::Unclosed(at) => ParseError::Unclosed(at.min(length)),
+            ParseError::Comment(at) => ParseError::Comment(at.min(length)),
+            ParseError::Prefixed(at) => ParseError::Prefixed(at.min(length)),
+            ParseError::Dollar(at) => ParseError::Dollar(at.min(length)),
+            ParseError::Glued(at) => ParseError::Glued(at.min(length)),
+            ParseError::Adjacent(at) => ParseError::Adjacent(at.min(length)),
+            ParseError::TooDeep(at) => ParseError::TooDeep(at.min(length)),
+        }
+    }
 }
 
 impl From<AllocError> for ParseError {

@@ -1,7 +1,8 @@
 //! The condition that a text is, by a loop over its words.
-ghost use Rattle.std.specs.Prelude.{◌∷◌, IfOk, false, length};
+ghost use Rattle.std.specs.Prelude.{◌∷◌, IfErr, IfOk, false, length};
 ghost use Rattle.vortex_sql_syntax.specs.Joining.{Joins, ands};
 ghost use Rattle.vortex_sql_syntax.specs.Places.{Ascends, leaves};
+ghost use Rattle.vortex_sql_syntax.specs.Refusals.{IsPlaced};
 
 use crate::cursor::Cursor;
 pub use crate::cursor::Names;
@@ -216,8 +217,13 @@ pub fn parse(alloc: Global, text: &str, names: Names) -> Result<Condition, Parse
     ensures places { IfOk result (λ c. Ascends 0 (leaves c) (length text.now)) }
     // No AND stands before the first leaf.
     ensures joined { IfOk result (λ c. Joins text.now 0 (leaves c) (false ∷ ands c)) }
+    // A refusal other than for memory has a place in the text.
+    ensures refused { IfErr result (IsPlaced (length text.now)) }
 {
-    let condition = condition(alloc, text.as_bytes(), names)?;
+    let condition = match condition(alloc, text.as_bytes(), names) {
+        Ok(condition) => condition,
+        Err(refused) => return Err(refused.within(text.len())),
+    };
     if !is_ascending(&condition, text.len()) || !is_joined(&condition, text.as_bytes()) {
         return Err(ParseError::Unexpected(0));
     }
