@@ -1,6 +1,9 @@
 -- When a condition is refused.
-use Rattle.std.specs.Prelude.{◌≡◌, ◌++◌, List, [], ◌∷◌, Ok, Err}
+use Rattle.std.specs.Prelude.{◌≡◌, ◌++◌, ℕ, List, [], ◌∷◌, Ok, Err, false, length}
 use Rattle.vortex_base.specs.Data.Scopes.{Named}
+use Rattle.vortex_sql_syntax.specs.Joining.{Joins, ands}
+use Rattle.vortex_sql_syntax.specs.Places.{Ascends, leaves}
+use Rattle.vortex_sql_syntax.specs.Refusals.{IsPlaced}
 use Rattle.vortex_sql_syntax.specs.declared.tree.Leaf.{Leaf}
 use Rattle.vortex_sql_syntax.specs.declared.tree.Condition.{Condition}
 use Rattle.vortex_sql_syntax.specs.declared.tree.Condition.TheVariants.{Leaf as Leaf', Not', And', Or', IsNull', IsTrue', IsFalse'}
@@ -29,6 +32,27 @@ abbrev pub IsRefusal : List Leaf → LowerError → Type 0
 IsRefusal ls Memory = Unit {0}
 IsRefusal [] (Misfit s e) = ⊥
 IsRefusal (l ∷ ls) (Misfit s e) = (s ≡ l.start) × (e ≡ l.end)
+
+-- the text is a condition by its leaves and what joins them, of which the first leaf whose types don't fit stands between these places
+pub record HasMisfit (text : List ℕ) (scope : List Named) (start end : ℕ) : Type 0 where
+  pub condition : Condition
+  pub places : Ascends 0 (leaves condition) (length text)
+  pub joined : Joins text 0 (leaves condition) (false ∷ ands condition)
+  pub first : IsRefusal (misfits scope condition) (Misfit start end)
+
+-- memory, or a column that has the name of a leaf
+abbrev pub IsOfName : SqlError → Type 0
+IsOfName sql.Memory = Unit {0}
+IsOfName (sql.Syntax e) = ⊥
+IsOfName (sql.Misfit s e) = ⊥
+IsOfName sql.Name = Unit {0}
+
+-- what a text is refused for, but for a column that has the name of a leaf: memory, a place in it, or a misfit there
+abbrev pub IsTextRefusal : List ℕ → List Named → SqlError → Type 0
+IsTextRefusal text scope sql.Memory = Unit {0}
+IsTextRefusal text scope (sql.Syntax e) = IsPlaced (length text) e
+IsTextRefusal text scope (sql.Misfit s e) = HasMisfit text scope s e
+IsTextRefusal text scope sql.Name = Unit {0}
 
 -- why a text is refused, by why its condition isn't said
 abbrev pub of_lower : LowerError → SqlError

@@ -1,12 +1,12 @@
 //! The text of a condition as a predicate over a scope that has a column for each leaf that isn't
 //! read.
-ghost use Rattle.std.specs.Prelude.{◌≡◌, ◌++◌, ◌∷◌, [], List, IfOk, IsTrue, false, length, map};
+ghost use Rattle.std.specs.Prelude.{◌≡◌, ◌++◌, ◌∷◌, [], List, IfErr, IfOk, IsTrue, false, length, map};
 ghost use Rattle.vortex_base.specs.Data.Scopes.{Named, named_columns};
 ghost use Rattle.vortex_expr.specs.Meanings.Fitting.{fits_scope};
 ghost use Rattle.vortex_expr.specs.Trees.Tree.{is_plain};
 ghost use Rattle.vortex_sql.specs.Lowering as spec;
 ghost use Rattle.vortex_sql.specs.Readings.{bool_or_null};
-ghost use Rattle.vortex_sql.specs.Refusals.{misfits};
+ghost use Rattle.vortex_sql.specs.Refusals.{IsOfName, IsTextRefusal, misfits};
 ghost use Rattle.vortex_sql_syntax.specs.Joining.{Joins, ands};
 ghost use Rattle.vortex_sql_syntax.specs.Places.{Ascends, leaves};
 
@@ -36,6 +36,10 @@ pub struct Predicate {
 }
 
 impl From<BaseError> for SqlError {
+    ghost use Rattle.vortex_sql.specs.Refusals.{IsOfName};
+
+    ghost from_gives = { λ _ s. IsOfName s };
+
     fn from(e: BaseError) -> SqlError {
         match e {
             BaseError::Memory(_) => SqlError::Memory,
@@ -45,7 +49,8 @@ impl From<BaseError> for SqlError {
 }
 
 fn columns_of(alloc: Global, scope: &Scope) -> Result<Vec<(String, DType)>, SqlError>
-    ensures { IfOk result (λ columns. named_columns columns.items ≡ scope.now) }
+    ensures read { IfOk result (λ columns. named_columns columns.items ≡ scope.now) }
+    ensures refused { IfErr result IsOfName }
 {
     let mut columns = Vec::new(alloc);
     for place in 0..scope.len() {
@@ -57,7 +62,9 @@ fn columns_of(alloc: Global, scope: &Scope) -> Result<Vec<(String, DType)>, SqlE
 
 // Returns the name of a leaf's column: where the leaf begins, and its text. So no two have one
 // name.
-fn name_of(alloc: Global, text: &str, span: (usize, usize)) -> Result<String, SqlError> {
+fn name_of(alloc: Global, text: &str, span: (usize, usize)) -> Result<String, SqlError>
+    ensures { IfErr result IsOfName }
+{
     let (start, end) = span;
     let leaf = match text.as_bytes().get(start..end) {
         Some(bytes) => bytes,
@@ -74,8 +81,9 @@ fn opaque_columns(
     text: &str,
     opaque: &[(usize, usize)],
 ) -> Result<Vec<(String, DType)>, SqlError>
-    ensures { IfOk result (λ columns.
+    ensures typed { IfOk result (λ columns.
         spec.types_of (named_columns columns.items) ≡ map (λ span. bool_or_null) opaque.now) }
+    ensures refused { IfErr result IsOfName }
 {
     let mut columns = Vec::new(alloc);
     for span in opaque {
@@ -91,8 +99,9 @@ fn widened(
     scope: &Scope,
     opaque: &[(usize, usize)],
 ) -> Result<Scope, SqlError>
-    ensures { IfOk result (λ wide. (more : List Named) × (wide ≡ scope.now ++ more)
+    ensures made { IfOk result (λ wide. (more : List Named) × (wide ≡ scope.now ++ more)
         × (spec.types_of more ≡ map (λ span. bool_or_null) opaque.now)) }
+    ensures refused { IfErr result IsOfName }
 {
     let mut columns = columns_of(alloc, scope)?;
     let mut more = opaque_columns(alloc, text, opaque)?;
@@ -129,6 +138,8 @@ pub fn condition_by(
     ensures fits { IfOk result (λ p. IsTrue (fits_scope p.predicate p.scope)) }
     ensures plain { IfOk result (λ p. IsTrue (is_plain p.predicate)) }
     ensures bool { IfOk result (λ p. IsTrue (spec.is_of_bool p.predicate)) }
+    // A refusal has a place in the text; a misfit is the first of the condition that was read.
+    ensures refused { IfErr result (IsTextRefusal text.now scope.now) }
 {
     let condition = parse(alloc, text, names)?;
     let Said { predicate, opaque } = lower(alloc, scope, &condition)?;
@@ -159,6 +170,8 @@ pub fn condition(alloc: Global, text: &str, scope: &Scope) -> Result<Predicate, 
     ensures fits { IfOk result (λ p. IsTrue (fits_scope p.predicate p.scope)) }
     ensures plain { IfOk result (λ p. IsTrue (is_plain p.predicate)) }
     ensures bool { IfOk result (λ p. IsTrue (spec.is_of_bool p.predicate)) }
+    // A refusal has a place in the text; a misfit is the first of the condition that was read.
+    ensures refused { IfErr result (IsTextRefusal text.now scope.now) }
 {
     condition_by(alloc, text, scope, Names::Plain)
 }
