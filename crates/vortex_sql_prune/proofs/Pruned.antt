@@ -59,8 +59,11 @@ module _ (law : ProofsTell) (scope wide : List Named) (c : Condition) (e : Tree 
   pub confirms_of : Confirms scope c x.satisfier
   confirms_of = told.1
 
-  pub proofs_of : AreProofsOf (record { scope = scope; condition = c; falsifier = x.falsifier; satisfier = x.satisfier })
-  proofs_of = record { refutes = told.0; confirms = told.1 }
+  pub says_of : Says scope c x.predicate
+  says_of = subst (Says scope c) (sym same) says
+
+  pub proofs_of : AreProofsOf (record { scope = scope; condition = c; predicate = x.predicate; falsifier = x.falsifier; satisfier = x.satisfier })
+  proofs_of = record { says = says_of; refutes = told.0; confirms = told.1 }
 
 -- by built-in rules they have no column outside their placeholders
 pub closed_by : (own : List OwnRule) (levels : Option ℕ) (x : Pruning) → own ≡ [] → IsMadeBy own levels x → (is_open x.falsifier ≡ false) × (is_open x.satisfier ≡ false)

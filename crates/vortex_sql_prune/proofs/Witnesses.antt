@@ -10,6 +10,8 @@ use Rattle.vortex_prune.specs.declared.scan.verdict.Verdict.{Verdict}
 use Rattle.vortex_prune.specs.declared.scan.verdict.Verdict.TheVariants.{Skipped, Tested}
 use Rattle.vortex_rewrite.specs.Answers.{IsMemory}
 use Rattle.vortex_rewrite.specs.Rewriting.Proof.{is_open}
+use Rattle.vortex_sql.proofs.Saying.{lowered_says}
+use Rattle.vortex_sql.specs.Lowering.{lowered}
 use Rattle.vortex_sql_prune.specs.Conditions.{AreProofsOf, IsSoundFor, ProvedCondition}
 use Rattle.vortex_sql_prune.specs.Refusals.{IsOfTextOrMemory}
 use Rattle.vortex_sql_prune.specs.declared.error.ConditionError.{ConditionError}
@@ -29,10 +31,11 @@ above_ten = Leaf' (record { test = test.Compare Gt (Column (codes "a")) (Integer
 
 -- without proofs, of which there may be none
 abbrev unproved : ProvedCondition
-unproved = record { scope = scope; condition = above_ten; falsifier = None; satisfier = None }
+unproved = record { scope = scope; condition = above_ten; predicate = lowered scope 1 above_ten; falsifier = None; satisfier = None }
 
 are_proofs : AreProofsOf unproved
 are_proofs = record {
+  says = lowered_says scope above_ten 1 refl;
   refutes = λ zone part of is_true h. absurd (true≢false (sym h));
   confirms = λ zone part of is_true h. absurd (true≢false (sym h));
 }
@@ -69,7 +72,7 @@ open_is_not_closed h = true≢false h
 
 -- a column stands outside placeholders
 try_new_closed : IsWitness (built_in ≡ []) (λ (x : ProvedCondition). (is_open x.falsifier ≡ false) × (is_open x.satisfier ≡ false))
-    (record { scope = scope; condition = above_ten; falsifier = Some a; satisfier = None })
+    (record { scope = scope; condition = above_ten; predicate = lowered scope 1 above_ten; falsifier = Some a; satisfier = None })
 try_new_closed = record { met = refl; refuted = λ h. open_is_not_closed h.0 }
 
 try_new_memory : IsWitness (built_in ≡ []) (λ (e : ConditionError). IsOfTextOrMemory e) (Stats OpenProof)

@@ -17,5 +17,6 @@ proof_code = coded_option (tree_code place_code)
 
 abbrev pub condition_code : Coded ProvedCondition
 condition_code =
-    code_by ((List Named × Condition) × (Option (Tree Place) × Option (Tree Place))) (coded× (coded× scope_code condition.the_row.coded) (coded× proof_code proof_code))
-    (λ x. ((x.scope, x.condition), (x.falsifier, x.satisfier))) (λ p. record { scope = p.0.0; condition = p.0.1; falsifier = p.1.0; satisfier = p.1.1 }) (λ _. refl)
+    code_by (((List Named × Condition) × Tree Place) × (Option (Tree Place) × Option (Tree Place))) (coded× (coded× (coded× scope_code condition.the_row.coded) (tree_code place_code)) (coded× proof_code proof_code))
+    (λ x. (((x.scope, x.condition), x.predicate), (x.falsifier, x.satisfier)))
+    (λ p. record { scope = p.0.0.0; condition = p.0.0.1; predicate = p.0.1; falsifier = p.1.0; satisfier = p.1.1 }) (λ _. refl)

@@ -46,13 +46,23 @@ ProofsTell =
 
 -- ---- a condition with its proofs
 
+-- the most levels of a form that takes part in the proofs
+abbrev pub max_levels : ℕ
+max_levels = 128
+
+-- the predicate is the one that its proofs were made of
 pub record ProvedCondition : Type 0 where
   pub scope : List Named
   pub condition : Condition
+  pub predicate : Tree Place
   pub falsifier : Option (Tree Place)
   pub satisfier : Option (Tree Place)
 
+abbrev pub pruning_of : ProvedCondition → Pruning
+pruning_of x = record { predicate = x.predicate; falsifier = x.falsifier; satisfier = x.satisfier }
+
 pub record AreProofsOf (x : ProvedCondition) : Type 0 where
+  pub says : Says x.scope x.condition x.predicate
   pub refutes : Refutes x.scope x.condition x.falsifier
   pub confirms : Confirms x.scope x.condition x.satisfier
 

@@ -1,15 +1,16 @@
 //! A condition in SQL with its proofs over statistics, made once and good for any map of its scope.
-ghost use Rattle.std.specs.Prelude.{◌≡◌, ◌∷◌, [], IfErr, IfOk, List, length, false, map};
+ghost use Rattle.std.specs.Prelude.{◌≡◌, ◌∷◌, [], IfErr, IfOk, List, Some, length, false, map};
 ghost use Rattle.vortex_rewrite.specs.Answers.{IsMemory};
 ghost use Rattle.vortex_rewrite.specs.Rewriting.Proof.{is_open};
 ghost use Rattle.vortex_prune.specs.Part.{ZoneData};
 ghost use Rattle.vortex_prune.specs.Scanning.ZoneScans.{AreRowVerdicts, zone_verdicts};
 ghost use Rattle.vortex_prune.specs.Zones.{IsMapOf};
-ghost use Rattle.vortex_normal_scan.specs.Pruning.{skipped_places, whole_places};
-ghost use Rattle.vortex_sql.specs.Lowering.{opaques, span_of};
+ghost use Rattle.vortex_normal_scan.specs.Pruning.{IsMadeBy, skipped_places, whole_places};
+ghost use Rattle.vortex_rewrite.specs.Rewriting.Own.{own_rules};
+ghost use Rattle.vortex_sql.specs.Lowering.{Says, opaques, span_of};
 ghost use Rattle.vortex_sql.specs.Refusals.{misfits};
-ghost use Rattle.vortex_sql_prune.specs.Conditions.{Confirms, IsSoundFor, Refutes};
-ghost use Rattle.vortex_sql_prune.specs.Refusals.{IsOfTextOrMemory};
+ghost use Rattle.vortex_sql_prune.specs.Conditions.{Confirms, IsSoundFor, Refutes, max_levels, pruning_of};
+ghost use Rattle.vortex_sql_prune.specs.Refusals.{IsConditionRefusal, IsOfTextOrMemory};
 ghost use Rattle.vortex_sql_syntax.specs.Joining.{Joins, ands};
 ghost use Rattle.vortex_sql_syntax.specs.Places.{Ascends, leaves};
 
@@ -22,6 +23,7 @@ use vortex_normal_scan::PruningPredicate;
 use vortex_prune::scan::prune::prune_by;
 use vortex_prune::scan::verdict::Verdict;
 use vortex_prune::zone_map::ZoneMap;
+use vortex_rewrite::rewrite::rule::StatsRewriteRule;
 use vortex_rewrite::rewrite::rules::Rules;
 use vortex_sql::condition::{Predicate, condition_by};
 use vortex_sql_syntax::parse::Names;
@@ -54,6 +56,7 @@ impl Model for PruningCondition {
     ghost view = { λ x. record {
       scope = x.scope;
       condition = x.sql.condition;
+      predicate = x.proofs.predicate;
       falsifier = x.proofs.falsifier;
       satisfier = x.proofs.satisfier;
     } };
@@ -62,6 +65,7 @@ impl Model for PruningCondition {
         let seen : ProvedCondition = record {
           scope = x.scope;
           condition = x.sql.condition;
+          predicate = x.proofs.predicate;
           falsifier = x.proofs.falsifier;
           satisfier = x.proofs.satisfier;
         } in
@@ -91,6 +95,13 @@ impl PruningCondition {
             Joins text.now 0 (leaves made.condition) (false ∷ ands made.condition)) }
         // The types of each fit.
         ensures typed { IfOk result (λ made. misfits scope.now made.condition ≡ []) }
+        // The proofs are those that the rules have of a predicate which means on each row what the
+        // condition means.
+        ensures says { IfOk result (λ made.
+            Says scope.now made.condition made.predicate) }
+        ensures made { let M = ⟦<dyn StatsRewriteRule as StatsRewriteRule>⟧ in
+            IfOk result (λ made.
+            IsMadeBy (own_rules M rules.now.own.items) (Some max_levels) (pruning_of made)) }
         // Says what the proofs tell by statistics of the scope, whatever the leaves mean that
         // aren't read, whichever lawful rules took part.
         ensures refutes { IfOk result (λ made.
@@ -100,6 +111,8 @@ impl PruningCondition {
         // By built-in rules no proof has a column outside its placeholders.
         ensures closed { rules.now.own.items ≡ [] → IfOk result (λ made.
             (is_open made.falsifier ≡ false) × (is_open made.satisfier ≡ false)) }
+        // A refusal for the text has a place in it; a misfit is the first of the condition.
+        ensures refused { IfErr result (IsConditionRefusal text.now scope.now) }
         // By built-in rules a condition is refused for its text or for memory alone.
         ensures memory { rules.now.own.items ≡ [] → IfErr result IsOfTextOrMemory }
     {
@@ -120,6 +133,14 @@ impl PruningCondition {
         ensures { result.now ≡ self.now.scope }
     {
         &self.scope
+    }
+
+    /// Returns the predicate that the condition is, with its proofs. Its scope has a column for each
+    /// unread part behind those of the condition's.
+    pub fn proofs(&self) -> &PruningPredicate
+        ensures { result.now ≡ pruning_of self.now }
+    {
+        &self.proofs
     }
 
     /// Returns the bytes of the text at which each unread part begins and ends, ascending.
