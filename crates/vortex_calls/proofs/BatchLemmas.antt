@@ -26,7 +26,7 @@ use Rattle.vortex_calls.specs.declared.quick.Batch.{Batch}
 use Rattle.vortex_calls.specs.declared.table.Source.{Source}
 use Rattle.vortex_calls.specs.NamedStats.{AreNamed, HasNamed}
 use Rattle.vortex_calls.specs.MapCells.{AllRead, AreCells, AreZonesFrom, IsBatch, batch_zones, told_cells, zones_from}
-use Rattle.vortex_calls.specs.Prunes.{zone_answer, zone_answers}
+use Rattle.vortex_calls.specs.Prunes.{answer_by, zone_answers}
 use Rattle.vortex_calls.specs.Refusals.{all_found}
 use Rattle.vortex_calls.specs.Tables.{IsTypedBy, zone_at, zones_given}
 use Rattle.vortex_calls.proofs.CellLemmas.{cells_are, next_zone, nulls_are, zones_there}
@@ -112,25 +112,25 @@ module _ (scope : List Named) (sources : List Source) (rows : List ℕ) where
 
 -- ---- the answers of all batches
 
-module _ (p : Tree Place) (scope : List Named) (sources : List Source) (rows : List ℕ) where
+module _ (f s : Option (Tree Place)) (scope : List Named) (sources : List Source) (rows : List ℕ) where
   -- the zones before a place are answered
   pub record IsAnswered (n : ℕ) (answers : List ℕ) : Type 0 where
     pub zones : List ZoneData
     pub found : all_found (zone_at scope sources rows) n ≡ Ok zones
     pub fit : IsTrue (zones_fit scope zones)
-    pub told : answers ≡ zone_answers p scope zones
+    pub told : answers ≡ zone_answers f s scope zones
 
   -- with those of a batch behind them
-  pub batch_answered : (from n : ℕ) (before more new : List ℕ) (batch : AreZonesFrom scope sources rows from n) → new ≡ before ++ more → more ≡ zone_answers p scope batch.zones → IsAnswered from before → IsAnswered (from + n) new
+  pub batch_answered : (from n : ℕ) (before more new : List ℕ) (batch : AreZonesFrom scope sources rows from n) → new ≡ before ++ more → more ≡ zone_answers f s scope batch.zones → IsAnswered from before → IsAnswered (from + n) new
   batch_answered from n before more new batch pushed told done = record {
     zones = done.zones ++ batch.zones;
     found = batches_joined scope sources rows from n done.zones batch.zones done.found batch.found;
     fit = both_fit scope done.zones batch.zones done.fit batch.fit;
-    told = pushed ∙ ap (λ l. l ++ more) done.told ∙ ap (λ l. zone_answers p scope done.zones ++ l) told ∙ sym (map-append (zone_answer p scope) done.zones batch.zones);
+    told = pushed ∙ ap (λ l. l ++ more) done.told ∙ ap (λ l. zone_answers f s scope done.zones ++ l) told ∙ sym (map-append (answer_by f s scope) done.zones batch.zones);
   }
 
-  pub batch_long : (from n : ℕ) (more : List ℕ) (batch : AreZonesFrom scope sources rows from n) → more ≡ zone_answers p scope batch.zones → length more ≡ n
-  batch_long from n more batch told = ap length told ∙ length-map batch.zones (zone_answer p scope) ∙ found_long (λ k. zone_at scope sources rows (from + k)) n batch.zones batch.found
+  pub batch_long : (from n : ℕ) (more : List ℕ) (batch : AreZonesFrom scope sources rows from n) → more ≡ zone_answers f s scope batch.zones → length more ≡ n
+  batch_long from n more batch told = ap length told ∙ length-map batch.zones (answer_by f s scope) ∙ found_long (λ k. zone_at scope sources rows (from + k)) n batch.zones batch.found
 
 -- ---- the answers for a table that is read
 
@@ -152,13 +152,13 @@ module _ (scope : List Named) (sources : List Source) (rows : List ℕ) (typed :
         fit = z.fit;
       }
 
-  pub given_whole : (p : Tree Place) (answers : List ℕ) → ((zones : List ZoneData) → zones_given scope sources rows ≡ Ok zones → answers ≡ zone_answers p scope zones) → IsWhole p scope sources rows answers
-  given_whole p answers told =
+  pub given_whole : (f s : Option (Tree Place)) (answers : List ℕ) → ((zones : List ZoneData) → zones_given scope sources rows ≡ Ok zones → answers ≡ zone_answers f s scope zones) → IsWhole f s scope sources rows answers
+  given_whole f s answers told =
       let z = all_given in
       let same = told z.zones z.given in
       record {
-        read = followed_read (zones_given scope sources rows) (λ zs. Ok (zone_answers p scope zs)) z.zones z.given ∙ ap Ok (sym same);
-        long = ap length same ∙ length-map z.zones (zone_answer p scope) ∙ found_long (zone_at scope sources rows) (length rows) z.zones z.given;
+        read = followed_read (zones_given scope sources rows) (λ zs. Ok (zone_answers f s scope zs)) z.zones z.given ∙ ap Ok (sym same);
+        long = ap length same ∙ length-map z.zones (answer_by f s scope) ∙ found_long (zone_at scope sources rows) (length rows) z.zones z.given;
         fit = subst (λ (x : Result (List ZoneData) Refusal). IfOk x (λ zs. IsTrue (zones_fit scope zs))) (sym z.given) z.fit;
       }
 

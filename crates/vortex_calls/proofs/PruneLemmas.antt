@@ -38,10 +38,10 @@ use Rattle.vortex_calls.specs.declared.fault.Refusal.{Refusal}
 use Rattle.vortex_calls.specs.declared.field.Field.{Field}
 use Rattle.vortex_calls.specs.declared.statistic.Statistic.{Statistic}
 use Rattle.vortex_calls.specs.declared.status.Status.{Status}
-use Rattle.vortex_calls.specs.declared.status.Status.TheVariants.{BadLine, TooShort, NoMemory, BadKind, BadStat, BadKnown, BadLength, BadEnds, BadValue, BadNull, Untrue, BadColumn, BadName, NotAPredicate, BadFlag, TooDeep}
+use Rattle.vortex_calls.specs.declared.status.Status.TheVariants.{BadLine, TooShort, NoMemory, BadKind, BadStat, BadKnown, BadLength, BadEnds, BadValue, BadNull, Untrue, BadColumn, BadName, NotAPredicate, BadFlag, TooDeep, BadSql, Misfit}
 use Rattle.vortex_calls.specs.declared.table.Known.{Known}
 use Rattle.vortex_calls.specs.declared.table.Source.{Source}
-use Rattle.vortex_calls.specs.Prunes.{Asked, FindsNoFewer, IsComplete, IsNoFewer, IsPruned, IsReached, IsRefused, IsSound, IsWellAsked, answer_by, answered, answers_of, asked, asked_of, proofs_of, table_answers, with_flags, with_places, zone_answer, zone_answers}
+use Rattle.vortex_calls.specs.Prunes.{Asked, FindsNoFewer, IsComplete, IsNoFewer, IsPruned, IsReached, IsRefused, IsSound, IsWellAsked, answer_by, answered, answers_of, asked, asked_of, proofs_of, table_answers, with_flags, with_places, zone_answers, zones_asked}
 use Rattle.vortex_calls.specs.Refusals.{Answers, all_found, followed}
 use Rattle.vortex_calls.specs.Scopes.{AnswersText, IsRefusedText, max_depth, predicate_given, scope_given}
 use Rattle.vortex_calls.specs.Statuses.{nowhere, status_number}
@@ -90,10 +90,10 @@ module _ (f s : Option (Tree Place)) (scope : List Named) where
   -- ---- the answers say what their proofs prove
 
   module _ (zones : List ZoneData) (answers : List ℕ) (is : answers ≡ map (answer_by f s scope) zones) where
-    ones : answered 1 answers ≡ skipped_zones f scope zones
+    pub ones : answered 1 answers ≡ skipped_zones f scope zones
     ones = ap (answered 1) is ∙ ones_are_skipped zones
 
-    twos : answered 2 answers ≡ whole_zones f s scope zones
+    pub twos : answered 2 answers ≡ whole_zones f s scope zones
     twos = ap (answered 2) is ∙ twos_are_whole zones
 
     pub answers_are_sound : (p : Tree Place) → IsTrue (is_predicate p) → IsTrue (is_plain p) → IsTrue (fits_scope p scope) → Falsifies f p → Satisfies s p → IsSoundPruning p scope zones (answered 1 answers) (answered 2 answers)
@@ -135,45 +135,45 @@ module _ (f s : Option (Tree Place)) (scope : List Named) where
 
 -- ---- how far a table is answered
 
-module _ (p : Tree Place) (scope : List Named) where
-  pub none_reached : IsReached p scope [] [] []
+module _ (f s : Option (Tree Place)) (scope : List Named) where
+  pub none_reached : IsReached f s scope [] [] []
   none_reached = record { done = []; same = refl; told = refl }
 
   -- one more zone stands in the batch
-  pub one_reached : (zones : List ZoneData) (answers : List ℕ) (batch new : List Known) (k : Known) → new ≡ batch ++ k ∷ [] → IsReached p scope zones answers batch → IsReached p scope (zones ++ known_zone k ∷ []) answers new
+  pub one_reached : (zones : List ZoneData) (answers : List ℕ) (batch new : List Known) (k : Known) → new ≡ batch ++ k ∷ [] → IsReached f s scope zones answers batch → IsReached f s scope (zones ++ known_zone k ∷ []) answers new
   one_reached zones answers batch new k pushed r =
-      subst (IsReached p scope (zones ++ known_zone k ∷ []) answers) (sym pushed)
+      subst (IsReached f s scope (zones ++ known_zone k ∷ []) answers) (sym pushed)
       (record { done = r.done; same = ap (λ l. l ++ known_zone k ∷ []) r.same ∙ append_assoc r.done (map known_zone batch) (known_zone k ∷ []) ∙ ap (λ l. r.done ++ l) (sym (map_push known_zone batch k)); told = r.told })
 
   -- the batch is answered
-  pub batch_reached : (zones : List ZoneData) (answers new more : List ℕ) (batch rest : List Known) → new ≡ answers ++ more → more ≡ zone_answers p scope (map known_zone batch) → rest ≡ [] → IsReached p scope zones answers batch → IsReached p scope zones new rest
+  pub batch_reached : (zones : List ZoneData) (answers new more : List ℕ) (batch rest : List Known) → new ≡ answers ++ more → more ≡ zone_answers f s scope (map known_zone batch) → rest ≡ [] → IsReached f s scope zones answers batch → IsReached f s scope zones new rest
   batch_reached zones answers new more batch rest pushed is none r =
-      subst (IsReached p scope zones new) (sym none)
+      subst (IsReached f s scope zones new) (sym none)
       (record {
         done = zones;
         same = sym (append-nil zones);
-        told = pushed ∙ ap (λ l. answers ++ l) is ∙ ap (λ l. l ++ zone_answers p scope (map known_zone batch)) r.told ∙ sym (map-append (zone_answer p scope) r.done (map known_zone batch)) ∙ ap (zone_answers p scope) (sym r.same);
+        told = pushed ∙ ap (λ l. answers ++ l) is ∙ ap (λ l. l ++ zone_answers f s scope (map known_zone batch)) r.told ∙ sym (map-append (answer_by f s scope) r.done (map known_zone batch)) ∙ ap (zone_answers f s scope) (sym r.same);
       })
 
   -- no batch is left
-  pub all_reached : (zones : List ZoneData) (answers : List ℕ) (rest : List Known) → rest ≡ [] → IsReached p scope zones answers rest → answers ≡ zone_answers p scope zones
+  pub all_reached : (zones : List ZoneData) (answers : List ℕ) (rest : List Known) → rest ≡ [] → IsReached f s scope zones answers rest → answers ≡ zone_answers f s scope zones
   all_reached zones answers rest none r =
-      r.told ∙ ap (zone_answers p scope) (sym (append-nil r.done) ∙ ap (λ l. r.done ++ map known_zone l) (sym none) ∙ sym r.same)
+      r.told ∙ ap (zone_answers f s scope) (sym (append-nil r.done) ∙ ap (λ l. r.done ++ map known_zone l) (sym none) ∙ sym r.same)
 
 -- the answers are those of all zones
-pub record IsWhole (p : Tree Place) (scope : List Named) (sources : List Source) (rows answers : List ℕ) : Type 0 where
-  pub read : table_answers p scope (zones_given scope sources rows) ≡ Ok answers
+pub record IsWhole (f s : Option (Tree Place)) (scope : List Named) (sources : List Source) (rows answers : List ℕ) : Type 0 where
+  pub read : table_answers f s scope (zones_given scope sources rows) ≡ Ok answers
   pub long : length answers ≡ length rows
   pub fit : IfOk (zones_given scope sources rows) (λ zones. IsTrue (zones_fit scope zones))
 
-pub whole_told : (p : Tree Place) (scope : List Named) (sources : List Source) (rows : List ℕ) (n : ℕ) (zones : List ZoneData) (answers : List ℕ) (rest : List Known) → n ≡ length rows → all_found (zone_at scope sources rows) n ≡ Ok zones
-    → IsTrue (zones_fit scope zones) → rest ≡ [] → IsReached p scope zones answers rest → IsWhole p scope sources rows answers
-whole_told p scope sources rows n zones answers rest last found fit none r =
+pub whole_told : (f s : Option (Tree Place)) (scope : List Named) (sources : List Source) (rows : List ℕ) (n : ℕ) (zones : List ZoneData) (answers : List ℕ) (rest : List Known) → n ≡ length rows → all_found (zone_at scope sources rows) n ≡ Ok zones
+    → IsTrue (zones_fit scope zones) → rest ≡ [] → IsReached f s scope zones answers rest → IsWhole f s scope sources rows answers
+whole_told f s scope sources rows n zones answers rest last found fit none r =
     let given : zones_given scope sources rows ≡ Ok zones = subst (λ k. all_found (zone_at scope sources rows) k ≡ Ok zones) last found in
-    let told = all_reached p scope zones answers rest none r in
+    let told = all_reached f s scope zones answers rest none r in
     record {
-      read = followed_read (zones_given scope sources rows) (λ zs. Ok (zone_answers p scope zs)) zones given ∙ ap Ok (sym told);
-      long = ap length told ∙ length-map zones (zone_answer p scope) ∙ found_long (zone_at scope sources rows) n zones found ∙ last;
+      read = followed_read (zones_given scope sources rows) (λ zs. Ok (zone_answers f s scope zs)) zones given ∙ ap Ok (sym told);
+      long = ap length told ∙ length-map zones (answer_by f s scope) ∙ found_long (zone_at scope sources rows) n zones found ∙ last;
       fit = subst (λ (x : Result (List ZoneData) Refusal). IfOk x (λ zs. IsTrue (zones_fit scope zs))) (sym given) fit;
     }
 
@@ -323,6 +323,8 @@ not_zero BadName h = omega (arith, h)
 not_zero NotAPredicate h = omega (arith, h)
 not_zero BadFlag h = omega (arith, h)
 not_zero TooDeep h = omega (arith, h)
+not_zero BadSql h = omega (arith, h)
+not_zero Misfit h = omega (arith, h)
 
 pub refused_pruning : (asked : Result Asked Refusal) (old : List ℕ) (r : Refusal) (n : ℕ) → n ≡ status_number r.status → (r.status ≢ NoMemory → IsRefusedText (followed asked (λ a. Ok (answers_of a))) r) → IsPruned asked old n old r.fault
 refused_pruning asked old r n is h = record {
@@ -332,10 +334,24 @@ refused_pruning asked old r n is h = record {
   refused = λ _ four. subst (λ k. IsRefused asked k r.fault) (sym is) (asked_refused asked r h (λ e. four (is ∙ e)));
 }
 
+-- ---- the answers that are asked for are those by the proofs of the predicate
+
+asked_over : (scope : List Named) (given p : Tree Place) (x : Result (List ZoneData) Refusal)
+    → followed (followed {Y = Asked} x (λ zones. Ok (record { scope = scope; zones = zones; given = given; pruned_by = p }))) (λ a. Ok (answers_of a)) ≡ table_answers (proofs_of p).falsifier (proofs_of p).satisfier scope x
+asked_over scope given p (Ok zones) = refl
+asked_over scope given p (Err r) = refl
+
+-- where these are the proofs
+pub by_proofs : {X : Type 0} (view : X → List ℕ) (r : Result X Refusal) (scope : List Named) (rows : List ℕ) (stats : List Statistic) (given p : Tree Place) (f s : Option (Tree Place)) → f ≡ (proofs_of p).falsifier → s ≡ (proofs_of p).satisfier
+    → Answers view r (table_answers f s scope (zones_asked scope rows stats)) → Answers view r (followed (asked_of scope rows stats given p) (λ a. Ok (answers_of a)))
+by_proofs view r scope rows stats given p f s is also h =
+    subst (Answers view r) (sym (asked_over scope given p (zones_asked scope rows stats)))
+    (subst₂ (λ (o t : Option (Tree Place)). Answers view r (table_answers o t scope (zones_asked scope rows stats))) is also h)
+
 -- ---- the sets of the zones fit the scope, the predicate is one over it, and the proofs are right
 
 module _ (scope : List Named) (given p : Tree Place) (joined : p ≡ halved given) (plain : IsTrue (is_plain p)) (fits : IsTrue (fits_scope p scope)) where
-  well_zones : (read : Result (List ZoneData) Refusal) → IsRight (proofs_of p) → IfOk read (λ zones. IsTrue (zones_fit scope zones)) → IfOk (followed read (λ zones. Ok (record { scope = scope; zones = zones; given = given; pruned_by = p }))) IsWellAsked
+  pub well_zones : (read : Result (List ZoneData) Refusal) → IsRight (proofs_of p) → IfOk read (λ zones. IsTrue (zones_fit scope zones)) → IfOk (followed read (λ zones. Ok (record { scope = scope; zones = zones; given = given; pruned_by = p }))) IsWellAsked
   well_zones (Ok zones) right fit = record {
     zones = fit;
     plain = sym (same_plain given) ∙ ap is_plain (sym joined) ∙ plain;
@@ -345,17 +361,6 @@ module _ (scope : List Named) (given p : Tree Place) (joined : p ≡ halved give
   }
   well_zones (Err r) right fit = tt
 
-  pub well_asked : (rows : List ℕ) (stats : List Statistic) (sources : List Source) → sources_given scope (length rows) stats ≡ Ok sources → IsRight (proofs_of p) → IfOk (zones_given scope sources rows) (λ zones. IsTrue (zones_fit scope zones))
-      → IfOk (asked_of scope rows stats given p) IsWellAsked
-  well_asked rows stats sources read right fit =
-      let last = λ (xs : List Source). followed (zones_given scope xs rows) (λ zones. Ok (record { scope = scope; zones = zones; given = given; pruned_by = p })) in
-      let told : asked_of scope rows stats given p ≡ last sources = followed_read (sources_given scope (length rows) stats) last sources read in
-      subst (λ (a : Result Asked Refusal). IfOk a IsWellAsked) (sym told) (well_zones (zones_given scope sources rows) right fit)
-
-pub both_mapped : {X Y : Type 0} (r : Result X Y) (P Q : Type 0) {S : Type 0} → (P → Q → S) → IfOk r (λ x. P) → IfOk r (λ x. Q) → IfOk r (λ x. S)
-both_mapped (Ok x) P Q f p q = f p q
-both_mapped (Err e) P Q f p q = tt
-
 pruning_is : (x : Pruning) (p : Tree Place) → x.predicate ≡ p → x.falsifier ≡ skip_proof [] (Some max_depth) p → x.satisfier ≡ whole_proof [] (Some max_depth) p → x ≡ proofs_of p
 pruning_is x p is f s = λ i. record { predicate = is i; falsifier = f i; satisfier = s i }
 
@@ -364,7 +369,3 @@ pub made_right : (x : Pruning) (p : Tree Place) → x.predicate ≡ p → IsMade
 made_right x p is made right =
     let same : x ≡ proofs_of p = pruning_is x p is (made.falsifier ∙ ap (skip_proof [] (Some max_depth)) is) (made.satisfier ∙ ap (whole_proof [] (Some max_depth)) is) in
     subst IsRight same right
-
-pub holds_if : {X Y : Type 0} {P : Type 0} (r : Result X Y) → P → IfOk r (λ x. P)
-holds_if (Ok x) p = p
-holds_if (Err e) p = tt

@@ -1,8 +1,10 @@
 -- A scope that was given is one, and the predicate is one over it.
 use Rattle.std.proofs.Common.{◌≡◌, ◌<◌, ◌+◌, add-one, ◌==◌, ◌++◌, ◌∷◌, [], ◌∙◌, ◌≤◌, ℕ, zero, suc, Bool, true, false, if◌then◌else◌, List, Option, None, Some, Result, Ok, Err, inl, inr, length, refl, ap, subst, sym, slice_get, nat_le}
+use Rattle.std.specs.Prelude.{String}
+use Rattle.std.specs.declared.alloc.Global.{Global}
 use Rattle.std.specs.List.{list_any}
 use Rattle.std.specs.Str.{is_utf8}
-use Rattle.vortex_base.specs.Data.Scopes.{IsScope, Named, has_duplicate, is_empty, is_state_column}
+use Rattle.vortex_base.specs.Data.Scopes.{IsScope, Named, has_duplicate, is_empty, is_state_column, named_columns}
 use Rattle.vortex_expr.specs.Meanings.Fitting.{fits_scope}
 use Rattle.vortex_expr.specs.Trees.Tree.{Place, Tree, is_plain}
 use Rattle.vortex_base.specs.declared.dtype.DType.{DType}
@@ -89,6 +91,10 @@ pub given_is_scope : (fields : List Field) (scope : List Named) → scope_given 
 given_is_scope fields scope h some =
     let so = steps_are_scope fields (length fields) scope h in
     rw (some, so.0, so.1) refl
+
+pub some_columns : (cs : List (String Global × DType)) → (length cs == 0) ≡ false → is_empty (named_columns cs) ≡ false
+some_columns [] h = cc
+some_columns (c ∷ cs) h = refl
 
 -- ---- the predicate
 

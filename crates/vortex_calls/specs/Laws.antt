@@ -1,5 +1,5 @@
 -- What pruning apart changes: nothing.
-use Rattle.std.specs.Prelude.{◌≡◌, ◌++◌, List}
+use Rattle.std.specs.Prelude.{◌≡◌, ◌++◌, List, Option}
 use Rattle.vortex_base.specs.Data.Scopes.{Named}
 use Rattle.vortex_expr.specs.Trees.Tree.{Place, Tree}
 use Rattle.vortex_prune.specs.Part.{ZoneData}
@@ -7,4 +7,4 @@ use Rattle.vortex_calls.specs.Prunes.{zone_answers}
 
 -- the answers for zones behind others are those that they have alone
 abbrev pub PiecesAnswerAlike : Type 0
-PiecesAnswerAlike = (p : Tree Place) (scope : List Named) (zones more : List ZoneData) → zone_answers p scope (zones ++ more) ≡ zone_answers p scope zones ++ zone_answers p scope more
+PiecesAnswerAlike = (f s : Option (Tree Place)) (scope : List Named) (zones more : List ZoneData) → zone_answers f s scope (zones ++ more) ≡ zone_answers f s scope zones ++ zone_answers f s scope more

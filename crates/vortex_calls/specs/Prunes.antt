@@ -1,5 +1,5 @@
 -- What a caller asks to be pruned, and what is answered.
-use Rattle.std.specs.Prelude.{◌≡◌, ◌≢◌, ℕ, ◌==◌, ◌⊎◌, List, [], ◌++◌, Option, Some, Result, Ok, Err, IfOk, IsOk, IsTrue, if◌then◌else◌, length, map}
+use Rattle.std.specs.Prelude.{◌≡◌, ◌≢◌, ℕ, ◌==◌, ◌⊎◌, false, List, [], ◌++◌, Option, Some, Result, Ok, Err, IfOk, IsOk, IsTrue, if◌then◌else◌, length, map}
 use Rattle.vortex_base.specs.Data.Scopes.{Named}
 use Rattle.vortex_expr.specs.Meanings.Fitting.{fits_scope}
 use Rattle.vortex_expr.specs.Trees.Tree.{Place, Tree, is_plain}
@@ -13,6 +13,7 @@ use Rattle.vortex_prune.specs.Scanning.ZoneScans.{AreRowVerdicts, IsSoundPruning
 use Rattle.vortex_prune.specs.Zones.{MapData}
 use Rattle.vortex_prune.specs.declared.scan.verdict.Verdict.{Verdict}
 use Rattle.vortex_prune.specs.declared.scan.verdict.Verdict.TheVariants.{Skipped, Tested, Whole}
+use Rattle.vortex_rewrite.specs.Rewriting.Proof.{is_open}
 use Rattle.vortex_rewrite.specs.Rewriting.ReadOnce.{is_apart}
 use Rattle.vortex_calls.specs.declared.fault.Fault.{Fault}
 use Rattle.vortex_calls.specs.declared.fault.Refusal.{Refusal}
@@ -49,23 +50,24 @@ pub record AreRowAnswers (f s : Option (Tree Place)) (m : MapData) (answers : Li
 abbrev pub proofs_of : Tree Place → Pruning
 proofs_of p = record { predicate = p; falsifier = skip_proof [] (Some max_depth) p; satisfier = whole_proof [] (Some max_depth) p }
 
--- by those
-abbrev pub zone_answer : Tree Place → List Named → ZoneData → ℕ
-zone_answer p scope zone = answer_by (proofs_of p).falsifier (proofs_of p).satisfier scope zone
+-- no column stands outside their placeholders, so memory alone may be refused when they are bound
+pub record AreClosed (falsifier satisfier : Option (Tree Place)) : Type 0 where
+  pub falsifies : is_open falsifier ≡ false
+  pub satisfies : is_open satisfier ≡ false
 
--- that of each zone, in order
-abbrev pub zone_answers : Tree Place → List Named → List ZoneData → List ℕ
-zone_answers p scope zones = map (zone_answer p scope) zones
+-- the answer for each zone, in order
+abbrev pub zone_answers : (falsifier satisfier : Option (Tree Place)) → List Named → List ZoneData → List ℕ
+zone_answers f s scope zones = map (answer_by f s scope) zones
 
 -- those of zones that may be refused
-abbrev pub table_answers : Tree Place → List Named → Result (List ZoneData) Refusal → Result (List ℕ) Refusal
-table_answers p scope given = followed given (λ zones. Ok (zone_answers p scope zones))
+abbrev pub table_answers : (falsifier satisfier : Option (Tree Place)) → List Named → Result (List ZoneData) Refusal → Result (List ℕ) Refusal
+table_answers f s scope given = followed given (λ zones. Ok (zone_answers f s scope zones))
 
 -- some of the zones are answered, and the others stand in a batch behind them
-pub record IsReached (p : Tree Place) (scope : List Named) (zones : List ZoneData) (answers : List ℕ) (batch : List Known) : Type 0 where
+pub record IsReached (f s : Option (Tree Place)) (scope : List Named) (zones : List ZoneData) (answers : List ℕ) (batch : List Known) : Type 0 where
   pub done : List ZoneData
   pub same : zones ≡ done ++ map known_zone batch
-  pub told : answers ≡ zone_answers p scope done
+  pub told : answers ≡ zone_answers f s scope done
 
 -- the places of the zones with an answer, ascending
 abbrev pub answered : ℕ → List ℕ → List ℕ
@@ -88,11 +90,14 @@ with_flags flags = if flags == 0 then Ok tt else (if flags == 1 then Ok tt else 
 abbrev pub with_places : ℕ → List ℕ → Result (Unit {0}) Refusal
 with_places n rows = if n == length rows then Ok tt else Err (nowhere BadLength)
 
+-- the zones of a table, or the first of its statistics that is refused, or of their values zone by zone
+abbrev pub zones_asked : List Named → List ℕ → List Statistic → Result (List ZoneData) Refusal
+zones_asked scope rows stats = followed (sources_given scope (length rows) stats) (λ sources. zones_given scope sources rows)
+
 -- of a predicate as it was given, and with its chains joined in halves
 abbrev pub asked_of : List Named → List ℕ → List Statistic → (given p : Tree Place) → Result Asked Refusal
 asked_of scope rows stats given p =
-    followed (sources_given scope (length rows) stats) (λ sources. followed (zones_given scope sources rows) (λ zones.
-    Ok (record { scope = scope; zones = zones; given = given; pruned_by = p })))
+    followed (zones_asked scope rows stats) (λ zones. Ok (record { scope = scope; zones = zones; given = given; pruned_by = p }))
 
 -- what the arguments ask for, or the first of them that is refused: the flags, the room for the answers, the scope, the predicate, the statistics, and their values zone by zone
 abbrev pub asked : List Field → List ℕ → List Statistic → List ℕ → (flags room : ℕ) → Result Asked Refusal
@@ -112,7 +117,7 @@ pub record IsWellAsked (a : Asked) : Type 0 where
 
 -- each zone has the answer that its statistics prove under the predicate that is pruned by
 abbrev pub answers_of : Asked → List ℕ
-answers_of a = zone_answers a.pruned_by a.scope a.zones
+answers_of a = zone_answers (proofs_of a.pruned_by).falsifier (proofs_of a.pruned_by).satisfier a.scope a.zones
 
 -- a refusal with its status and its place
 abbrev pub IsToldAs : Refusal → ℕ → Fault → Type 0

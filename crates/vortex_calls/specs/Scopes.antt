@@ -43,6 +43,14 @@ next_field fields i scope = placed (λ s. at_column s i) (with_field_or scope (s
 abbrev pub scope_given : List Field → Result (List Named) Refusal
 scope_given fields = stepped (next_field fields) [] (length fields)
 
+-- a scope has a column
+abbrev pub filled : List Named → Result (List Named) Refusal
+filled [] = Err (nowhere BadLength)
+filled (c ∷ cs) = Ok (c ∷ cs)
+
+abbrev pub filled_scope_given : List Field → Result (List Named) Refusal
+filled_scope_given fields = followed (scope_given fields) filled
+
 -- ---- the predicate
 
 -- what a `where` line with this text behind its first word asks for, of whatever number of words

@@ -4,7 +4,7 @@ use Rattle.vortex_nested.specs.declared.error.NestedError.{NestedError}
 use Rattle.vortex_nested.specs.declared.error.NestedError.TheVariants as nested
 use Rattle.vortex_calls.specs.declared.fault.Refusal.{Refusal}
 use Rattle.vortex_calls.specs.declared.status.Status.{Status}
-use Rattle.vortex_calls.specs.declared.status.Status.TheVariants.{BadLine, TooShort, NoMemory, BadKind, BadStat, BadKnown, BadLength, BadEnds, BadValue, BadNull, Untrue, BadColumn, BadName, NotAPredicate, BadFlag, TooDeep}
+use Rattle.vortex_calls.specs.declared.status.Status.TheVariants.{BadLine, TooShort, NoMemory, BadKind, BadStat, BadKnown, BadLength, BadEnds, BadValue, BadNull, Untrue, BadColumn, BadName, NotAPredicate, BadFlag, TooDeep, BadSql, Misfit}
 
 abbrev pub status_number : Status → ℕ
 status_number BadLine = 2
@@ -23,6 +23,8 @@ status_number BadName = 14
 status_number NotAPredicate = 15
 status_number BadFlag = 16
 status_number TooDeep = 17
+status_number BadSql = 18
+status_number Misfit = 19
 
 -- a predicate that isn't read
 abbrev pub status_of_nested : NestedError → Status

@@ -5,28 +5,31 @@ ghost use Rattle.vortex_calls.specs.Statuses.{at_column, at_entry, at_row, in_co
 use crate::status::Status;
 use std::alloc::{AllocError, AllocFailed};
 
-/// The place of what was refused: `vortex_fault` of the header.
+/// The place of what was refused: `vortex_fault` of the header. Of a text that is no condition in SQL
+/// it is a place in the text.
 #[repr(C)]
 #[derive(Clone, Copy, Debug)]
 pub struct Fault {
-    /// The row of a column of values, or the zone of a table.
+    /// The row of a column of values, or the zone of a table; or the byte behind a test whose types
+    /// don't fit.
     pub row: usize,
-    /// The column.
+    /// The column; or why a text is no condition, by its number.
     pub column: usize,
-    /// The statistic, by its place among those that were handed in.
+    /// The statistic, by its place among those that were handed in; or the byte at which what is
+    /// refused of a text begins.
     pub entry: usize,
 }
 
 /// Why a call was refused, and where.
 #[derive(Clone, Copy, Debug)]
-pub(crate) struct Refusal {
-    pub(crate) status: Status,
-    pub(crate) fault: Fault,
+pub struct Refusal {
+    pub status: Status,
+    pub fault: Fault,
 }
 
 impl Refusal {
     /// In this row, whatever statistic.
-    pub(crate) fn at_row(status: Status, row: usize) -> Refusal
+    pub fn at_row(status: Status, row: usize) -> Refusal
         ensures { result ≡ at_row status row }
     {
         let fault = Fault {
@@ -38,7 +41,7 @@ impl Refusal {
     }
 
     /// In this zone, at this statistic.
-    pub(crate) fn in_zone(status: Status, zone: usize, entry: usize) -> Refusal
+    pub fn in_zone(status: Status, zone: usize, entry: usize) -> Refusal
         ensures { result ≡ in_zone zone status entry }
     {
         let fault = Fault {
@@ -50,7 +53,7 @@ impl Refusal {
     }
 
     /// At this column of a scope.
-    pub(crate) fn at_column(status: Status, column: usize) -> Refusal
+    pub fn at_column(status: Status, column: usize) -> Refusal
         ensures { result ≡ at_column status column }
     {
         let fault = Fault {
@@ -62,7 +65,7 @@ impl Refusal {
     }
 
     /// In this zone, at this statistic of a column.
-    pub(crate) fn in_column(status: Status, zone: usize, column: usize, entry: usize) -> Refusal
+    pub fn in_column(status: Status, zone: usize, column: usize, entry: usize) -> Refusal
         ensures { result ≡ in_column zone column status entry }
     {
         let fault = Fault {
@@ -74,7 +77,7 @@ impl Refusal {
     }
 
     /// At this statistic, whatever row.
-    pub(crate) fn at_entry(status: Status, entry: usize) -> Refusal
+    pub fn at_entry(status: Status, entry: usize) -> Refusal
         ensures { result ≡ at_entry status entry }
     {
         let fault = Fault {

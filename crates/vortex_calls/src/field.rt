@@ -10,6 +10,7 @@ use crate::status::Status;
 use crate::types::dtype_of;
 use std::alloc::Global;
 use std::str;
+use vortex_base::scope::Scope;
 use vortex_syntax::columns::Columns;
 use vortex_syntax::names::is_name;
 
@@ -71,4 +72,15 @@ pub(crate) fn columns_given(alloc: Global, fields: &[Field<'_>]) -> Result<Colum
         }
     }
     Ok(columns)
+}
+
+/// The scope that a caller names. `BadLength` where it has no column.
+pub fn scope_given(alloc: Global, fields: &[Field<'_>]) -> Result<Scope, Refusal>
+    ensures { Answers (λ scope. scope) result (spec.filled_scope_given fields.now) }
+{
+    let columns = columns_given(alloc, fields)?;
+    if columns.as_slice().is_empty() {
+        return Err(Refusal::at_entry(Status::BadLength, 0));
+    }
+    Ok(Scope::new_unchecked(columns.into_vec()).try_shared(alloc)?)
 }

@@ -1,9 +1,8 @@
 //! The proofs of a predicate, the aggregates that they name, and what they answer for zones.
 ghost use Rattle.std.specs.Prelude.{◌≡◌, IfErr, IfOk, IfSome, IsTrue, List, [], Some, map, option_copied};
 ghost use Rattle.vortex_calls.specs.NamedStats as spec;
-ghost use Rattle.vortex_calls.specs.Prunes.{AreRowAnswers, zone_answers};
+ghost use Rattle.vortex_calls.specs.Prunes.{AreClosed, AreRowAnswers, zone_answers};
 ghost use Rattle.vortex_calls.specs.Scopes.{max_depth};
-ghost use Rattle.vortex_expr.specs.Meanings.Fitting.{fits_scope};
 ghost use Rattle.vortex_expr.specs.Trees.Tree.{is_plain};
 ghost use Rattle.vortex_normal_scan.specs.Pruning.{IsMadeBy, IsRight};
 ghost use Rattle.vortex_prune.specs.Part.{ZoneData};
@@ -18,6 +17,7 @@ use vortex_base::aggregate::AggregateFnRef;
 use vortex_expr::bound_expression::BoundExpression;
 use vortex_expr::bound_expression::parts::Parts;
 use vortex_normal_scan::PruningPredicate;
+use vortex_prune::scan::prune::prune_by;
 use vortex_prune::{Head, Rules, ZoneMap};
 use vortex_stats::StatsError;
 
@@ -80,6 +80,7 @@ pub(crate) fn pruning_of(
     requires predicate { IsTrue (is_predicate predicate.now) }
     ensures predicate { IfOk result (λ made. made.predicate ≡ predicate.now) }
     ensures made { IfOk result (IsMadeBy [] (Some max_depth)) }
+    ensures closed { IfOk result (λ made. AreClosed made.falsifier made.satisfier) }
     ensures right { IfOk result IsRight }
 {
     let rules = Rules::builtin(alloc);
@@ -92,46 +93,45 @@ pub(crate) fn pruning_of(
     }
 }
 
-/// The answer for each zone of a map.
+/// The answer for each zone of a map by proofs that have no column outside their placeholders.
 pub(crate) fn map_answers(
     alloc: Global,
-    pruning: &PruningPredicate,
+    proofs: &PruningPredicate,
     map: &ZoneMap,
 ) -> Result<Vec<u8>, StatsError>
-    requires made { IsMadeBy [] (Some max_depth) pruning.now }
-    requires fits { IsTrue (fits_scope pruning.now.predicate map.now.scope) }
-    ensures rows { IfOk result (λ answers. AreRowAnswers pruning.now.falsifier
-        pruning.now.satisfier map.now answers.items) }
+    requires { AreClosed proofs.now.falsifier proofs.now.satisfier }
+    ensures rows { IfOk result (λ answers. AreRowAnswers proofs.now.falsifier
+        proofs.now.satisfier map.now answers.items) }
     ensures told { IfOk result (λ answers. (zones : List ZoneData) → IsMapOf zones map.now
-        → answers.items ≡ zone_answers pruning.now.predicate map.now.scope zones) }
-    ensures memory { IfErr result (λ e. (zones : List ZoneData) → IsMapOf zones map.now
-        → IsMemory e) }
+        → answers.items
+        ≡ zone_answers proofs.now.falsifier proofs.now.satisfier map.now.scope zones) }
+    ensures memory { IfErr result IsMemory }
 {
-    let verdicts = pruning.prune(alloc, map)?;
+    let verdicts = prune_by(alloc, map, proofs.falsifier(), proofs.satisfier())?;
     Ok(answers_of(alloc, &verdicts)?)
 }
 
 // Whether one of the proofs asks for what stands below a head.
-fn is_named(pruning: &PruningPredicate, head: &Head) -> bool
-    ensures { result ≡ spec.names_head pruning.now.falsifier pruning.now.satisfier head.now }
+fn is_named(proofs: &PruningPredicate, head: &Head) -> bool
+    ensures { result ≡ spec.names_head proofs.now.falsifier proofs.now.satisfier head.now }
 {
     let (column, aggregate) = (head.source(), head.aggregate());
-    names_if(pruning.falsifier(), column, aggregate)
-        || names_if(pruning.satisfier(), column, aggregate)
+    names_if(proofs.falsifier(), column, aggregate)
+        || names_if(proofs.satisfier(), column, aggregate)
 }
 
 /// Whether the proofs ask for what stands below each head.
 pub(crate) fn named_heads(
     alloc: Global,
-    pruning: &PruningPredicate,
+    proofs: &PruningPredicate,
     heads: &[Head],
 ) -> Option<Vec<bool>>
     ensures { IfSome result (λ named. named.items
-        ≡ map (spec.names_head pruning.now.falsifier pruning.now.satisfier) heads.now) }
+        ≡ map (spec.names_head proofs.now.falsifier proofs.now.satisfier) heads.now) }
 {
     let mut named = Vec::with_capacity(alloc, heads.len()).ok()?;
     for place in 0..heads.len() {
-        named.push(is_named(pruning, &heads[place])).ok()?;
+        named.push(is_named(proofs, &heads[place])).ok()?;
     }
     Some(named)
 }

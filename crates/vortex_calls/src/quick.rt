@@ -1,14 +1,11 @@
 //! The answers for zones by maps whose tables are filled straight from a caller's arrays, without
 //! a set a zone. There are none where a value or memory is refused.
-ghost use Rattle.std.specs.Prelude.{◌≡◌, ◌+◌, ◌<◌, ◌≤◌, [], All, IfOk, IfSome, IsTrue, List, Ok, Some, length, map, true};
+ghost use Rattle.std.specs.Prelude.{◌≡◌, ◌+◌, ◌<◌, ◌≤◌, All, IfOk, IfSome, IsTrue, List, Ok, length, map, true};
 ghost use Rattle.vortex_base.specs.Data.Cells.{cell_values};
 ghost use Rattle.vortex_calls.specs.MapCells as spec;
 ghost use Rattle.vortex_calls.specs.NamedStats.{AreNamed, HasNamed, names_head};
-ghost use Rattle.vortex_calls.specs.Prunes.{table_answers, zone_answers};
-ghost use Rattle.vortex_calls.specs.Scopes.{max_depth};
+ghost use Rattle.vortex_calls.specs.Prunes.{AreClosed, table_answers, zone_answers};
 ghost use Rattle.vortex_calls.specs.Tables.{IsTypedBy, zones_given};
-ghost use Rattle.vortex_expr.specs.Meanings.Fitting.{fits_scope};
-ghost use Rattle.vortex_normal_scan.specs.Pruning.{IsMadeBy};
 ghost use Rattle.vortex_prune.specs.Part.{ZoneData, zones_fit};
 ghost use Rattle.vortex_prune.specs.Zones.{TellsOf, heads as all_heads, zone_column};
 
@@ -146,20 +143,20 @@ impl Batch<'_> {
         alloc: Global,
         heads: &[Head],
         named: &[bool],
-        pruning: &PruningPredicate,
+        proofs: &PruningPredicate,
     ) -> Option<Vec<u8>>
         requires batch { spec.IsBatch self.now }
         requires heads { heads.now ≡ all_heads self.now.scope.now }
         requires named { named.now
-            ≡ map (names_head pruning.now.falsifier pruning.now.satisfier) heads.now }
-        requires made { IsMadeBy [] (Some max_depth) pruning.now }
-        requires fits { IsTrue (fits_scope pruning.now.predicate self.now.scope.now) }
+            ≡ map (names_head proofs.now.falsifier proofs.now.satisfier) heads.now }
+        requires closed { AreClosed proofs.now.falsifier proofs.now.satisfier }
         ensures { IfSome result (λ answers. (zones : List ZoneData)
             → spec.batch_zones self.now ≡ Ok zones
-            → answers.items ≡ zone_answers pruning.now.predicate self.now.scope.now zones) }
+            → answers.items ≡ zone_answers proofs.now.falsifier proofs.now.satisfier
+            self.now.scope.now zones) }
     {
         let map = self.map(alloc, heads, named)?;
-        match map_answers(alloc, pruning, &map) {
+        match map_answers(alloc, proofs, &map) {
             Ok(answers) => Some(answers),
             Err(_) => None,
         }
@@ -185,22 +182,21 @@ fn next_count(size: usize, left: usize) -> usize
 fn batches_answers<'a>(
     alloc: Global,
     scope: &'a Scope,
-    pruning: &PruningPredicate,
+    proofs: &PruningPredicate,
     sources: &'a [Source<'a>],
     rows: &'a [u64],
 ) -> Option<Vec<u8>>
-    requires made { IsMadeBy [] (Some max_depth) pruning.now }
-    requires fits { IsTrue (fits_scope pruning.now.predicate scope.now) }
+    requires closed { AreClosed proofs.now.falsifier proofs.now.satisfier }
     requires typed { All (IsTypedBy scope.now) sources.now }
     requires read { spec.AllRead sources.now (length rows.now) }
     ensures { IfSome result (λ v. (zones : List ZoneData)
         → zones_given scope.now sources.now rows.now ≡ Ok zones
-        → v.items ≡ zone_answers pruning.now.predicate scope.now zones) }
+        → v.items ≡ zone_answers proofs.now.falsifier proofs.now.satisfier scope.now zones) }
 {
     let Ok(heads) = ZoneMap::heads(alloc, scope) else {
         return None;
     };
-    let named = named_heads(alloc, pruning, &heads)?;
+    let named = named_heads(alloc, proofs, &heads)?;
     let size = 1 + BATCH_CELLS / count_named(&named).max(1);
     let mut answers = Vec::with_capacity(alloc, rows.len()).ok()?;
     'batches: while answers.len() < rows.len() {
@@ -213,7 +209,7 @@ fn batches_answers<'a>(
             from,
             count,
         };
-        let mut more = batch.answers(alloc, &heads, &named, pruning)?;
+        let mut more = batch.answers(alloc, &heads, &named, proofs)?;
         match answers.append(&mut more) {
             Ok(()) => {}
             Err(_) => return None,
@@ -223,19 +219,18 @@ fn batches_answers<'a>(
 }
 
 /// The answers for the zones of a table, if each value is read and no memory is refused. Cells are
-/// made below the heads alone that the proofs of the predicate name.
+/// made below the heads alone that the proofs name.
 pub(crate) fn quick_answers(
     alloc: Global,
     scope: &Scope,
-    pruning: &PruningPredicate,
+    proofs: &PruningPredicate,
     sources: &[Source<'_>],
     rows: &[u64],
 ) -> Option<Vec<u8>>
-    requires made { IsMadeBy [] (Some max_depth) pruning.now }
-    requires fits { IsTrue (fits_scope pruning.now.predicate scope.now) }
+    requires closed { AreClosed proofs.now.falsifier proofs.now.satisfier }
     requires typed { All (IsTypedBy scope.now) sources.now }
-    ensures read { IfSome result (λ v. table_answers pruning.now.predicate scope.now
-        (zones_given scope.now sources.now rows.now) ≡ Ok v.items) }
+    ensures read { IfSome result (λ v. table_answers proofs.now.falsifier proofs.now.satisfier
+        scope.now (zones_given scope.now sources.now rows.now) ≡ Ok v.items) }
     ensures zones { IfSome result (λ v. IfOk (zones_given scope.now sources.now rows.now)
         (λ zones. IsTrue (zones_fit scope.now zones))) }
     ensures long { IfSome result (λ v. length v.items ≡ length rows.now) }
@@ -243,5 +238,5 @@ pub(crate) fn quick_answers(
     if !all_read(sources, rows.len()) {
         return None;
     }
-    batches_answers(alloc, scope, pruning, sources, rows)
+    batches_answers(alloc, scope, proofs, sources, rows)
 }

@@ -41,6 +41,10 @@ pub enum Status {
     BadFlag,
     /// 17: a predicate that nests deeper than a call's stack bears.
     TooDeep,
+    /// 18: a text is no condition in SQL.
+    BadSql,
+    /// 19: the types of a test in SQL don't fit.
+    Misfit,
 }
 
 impl Status {
@@ -65,6 +69,8 @@ impl Status {
             Status::NotAPredicate => 15,
             Status::BadFlag => 16,
             Status::TooDeep => 17,
+            Status::BadSql => 18,
+            Status::Misfit => 19,
         }
     }
 }

@@ -16,10 +16,10 @@ use Rattle.vortex_stats.specs.declared.stat.Stat.TheVariants as stat
 use Rattle.vortex_calls.specs.declared.field.Field.{Field}
 use Rattle.vortex_calls.specs.declared.statistic.Statistic.{Statistic}
 use Rattle.vortex_calls.specs.declared.table.Source.{Source}
-use Rattle.vortex_calls.specs.declared.status.Status.TheVariants.{BadColumn, BadFlag, BadKind, BadKnown, BadLength, BadLine, BadName, BadStat, NotAPredicate, TooDeep}
+use Rattle.vortex_calls.specs.declared.status.Status.TheVariants.{BadColumn, BadFlag, BadKind, BadKnown, BadLength, BadLine, BadName, BadSql, BadStat, Misfit, NotAPredicate, TooDeep}
 use Rattle.vortex_calls.specs.Merges.{merged, set_given}
 use Rattle.vortex_calls.specs.Prunes.{IsRefused, answer_by, answer_of, answered, asked, with_flags}
-use Rattle.vortex_calls.specs.Scopes.{if_predicate, predicate_given, scope_given}
+use Rattle.vortex_calls.specs.Scopes.{filled_scope_given, if_predicate, predicate_given, scope_given}
 use Rattle.vortex_calls.specs.Statuses.{at_column, at_entry, in_column, nowhere, status_number}
 use Rattle.vortex_calls.specs.Tables.{source_of, zones_given}
 
@@ -243,9 +243,25 @@ then_values : asked (field (97 ∷ []) 2 0 ∷ []) (3 ∷ []) (told 0 3 (0 ∷ [
 unfolding is_utf8 chars lib.Utf8.encode
 then_values = refl
 
+-- a scope of a call by SQL has a column
+no_column_given : filled_scope_given [] ≡ Err (nowhere BadLength)
+no_column_given = refl
+
+a_column_given : filled_scope_given (field (97 ∷ []) 2 0 ∷ []) ≡ Ok (byte 97 false ∷ [])
+a_column_given = refl
+
+faults_first : filled_scope_given (field [] 12 0 ∷ []) ≡ Err (at_column BadKind 0)
+faults_first = refl
+
 -- the numbers of the header
-last_number : status_number TooDeep ≡ 17
+last_number : status_number Misfit ≡ 19
 last_number = refl
+
+number_before : status_number BadSql ≡ 18
+number_before = refl
+
+number_of_depth : status_number TooDeep ≡ 17
+number_of_depth = refl
 
 first_number : status_number BadLine ≡ 2
 first_number = refl

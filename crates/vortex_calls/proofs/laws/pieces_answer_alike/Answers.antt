@@ -1,6 +1,6 @@
 use Rattle.std.proofs.lemmas.List.{map-append}
-use Rattle.vortex_calls.specs.Prunes.{zone_answer}
+use Rattle.vortex_calls.specs.Prunes.{answer_by}
 use Rattle.vortex_calls.proofs.laws.pieces_answer_alike.Goals as goal
 
 pub returns : goal.returns
-returns c = λ p scope zones more. map-append (zone_answer p scope) zones more
+returns c = λ f s scope zones more. map-append (answer_by f s scope) zones more

@@ -11,21 +11,21 @@ new_unchecked-requires c =
     let over = given_is_predicate scope c.args.text.now given.0 given.1 in
     ap (λ l. is_scope (named_columns l)) c.into_vec.ensures ∙ given_is_scope c.args.fields.now scope c.in_ok-columns.ensures over.some
 
-pub scope_answers-requires-clause-plain : goal.scope_answers-requires-clause-plain
-scope_answers-requires-clause-plain c =
+pub predicate_answers-requires-clause-plain : goal.predicate_answers-requires-clause-plain
+predicate_answers-requires-clause-plain c =
     let scope = named_columns c.in_ok-columns.columns in
     let given = c.in_ok-predicate.ensures in
     (halved_is_over scope given.0 c.in_ok-predicate.predicate given.2 (given_is_predicate scope c.args.text.now given.0 given.1)).plain
 
-pub scope_answers-requires-clause-fits : goal.scope_answers-requires-clause-fits
-scope_answers-requires-clause-fits c =
+pub predicate_answers-requires-clause-fits : goal.predicate_answers-requires-clause-fits
+predicate_answers-requires-clause-fits c =
     let scope = named_columns c.in_ok-columns.columns in
     let given = c.in_ok-predicate.ensures in
     ap (fits_scope c.in_ok-predicate.predicate) (c.in_ok-scope.ensures ∙ c.new_unchecked.ensures ∙ ap named_columns c.into_vec.ensures)
     ∙ (halved_is_over scope given.0 c.in_ok-predicate.predicate given.2 (given_is_predicate scope c.args.text.now given.0 given.1)).fits
 
-pub scope_answers-requires-clause-predicate : goal.scope_answers-requires-clause-predicate
-scope_answers-requires-clause-predicate c =
+pub predicate_answers-requires-clause-predicate : goal.predicate_answers-requires-clause-predicate
+predicate_answers-requires-clause-predicate c =
     let scope = named_columns c.in_ok-columns.columns in
     let given = c.in_ok-predicate.ensures in
     (halved_is_over scope given.0 c.in_ok-predicate.predicate given.2 (given_is_predicate scope c.args.text.now given.0 given.1)).truth

@@ -6,7 +6,7 @@ use Rattle.vortex_calls.proofs.quick.batches_answers.Given as goal
 abbrev pub invariant-batches : goal.invariant-batches
 invariant-batches l = record {
   within : vec_len l.answers ≤ length l.rows;
-  answered : IsAnswered l.pruning.predicate l.scope l.sources l.rows (vec_len l.answers) l.answers.items;
+  answered : IsAnswered l.proofs.falsifier l.proofs.satisfier l.scope l.sources l.rows (vec_len l.answers) l.answers.items;
 }
 
 abbrev pub decreases-batches : goal.decreases-batches
