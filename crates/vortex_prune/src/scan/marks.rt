@@ -145,9 +145,9 @@ fn take_marks(marks: &mut [bool], others: &[bool])
     }
 }
 
-// Takes away the marks of the rows, from a place on, on which an expression isn't true. Where there
-// is no memory for the marks that the left side of an OR leaves to the other, each row is tested by
-// itself.
+// Takes away the marks of the rows, from a place on, on which an expression isn't true. A side of an
+// AND or OR to which the other leaves no mark isn't looked at. Where there is no memory for the
+// marks that the left side of an OR leaves to the other, each row is tested by itself.
 pub(crate) fn keep_true(
     alloc: Global,
     table: Table<'_>,
@@ -159,6 +159,9 @@ pub(crate) fn keep_true(
     ensures { let test = is_true_at e.now table.entry.chunk.now.columns table.entry.counts in
         marks.new ≡ marked test from marks.old }
 {
+    if !is_any(marks) {
+        return;
+    }
     match e.parts() {
         Parts::Binary(Operator::And, left, right) => {
             keep_true(alloc, table, left, from, marks);

@@ -2,9 +2,12 @@ use Rattle.std.proofs.Common.{◌≡◌, ◌++◌, ap, drop, length, sym, take, 
 use Rattle.std.proofs.lemmas.List.{take_at}
 use Rattle.vortex_expr.specs.Trees.Tree.{binary}
 use Rattle.vortex_expr.specs.declared.scalar_fn.Operator.TheVariants.{And, Or}
-use Rattle.vortex_prune.proofs.ZoneMaps.ZoneMarks.{length-left_marked, length-marked, marked-and, marked-or}
+use Rattle.vortex_prune.proofs.ZoneMaps.ZoneMarks.{length-left_marked, length-marked, marked-and, marked-or, marked_unset}
 use Rattle.vortex_prune.specs.Scanning.Marks.{either_marked, is_true_at, left_marked, marked}
 use Rattle.vortex_prune.proofs.scan.marks.+keep_true.Goals as goal
+
+pub returns-then-not-is_any : goal.returns-then-not-is_any
+returns-then-not-is_any t c = marked_unset (is_true_at c.args.e.now c.args.table.chunk.now.columns c.args.table.counts) c.args.from c.args.marks.now (sym c.is_any.ensures ∙ c.if-not-is_any.true)
 
 pub returns-in-Binary-And-default-default : goal.returns-in-Binary-And-default-default
 returns-in-Binary-And-default-default t c =
