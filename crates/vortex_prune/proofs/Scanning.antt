@@ -2,6 +2,7 @@
 pub mod BinderScan
 pub mod Boxes
 pub mod ColumnLemmas
+pub mod GapLemmas
 pub mod JoinLemmas
 pub mod LeafLemmas
 pub mod Lossless

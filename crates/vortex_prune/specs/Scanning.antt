@@ -1,5 +1,6 @@
 -- What a scan selects, skips and refuses.
 pub mod Complete
+pub mod Gaps
 pub mod Leaves
 pub mod Marks
 pub mod PartScans

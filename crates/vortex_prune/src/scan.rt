@@ -23,6 +23,7 @@ ghost use Rattle.vortex_rewrite.specs.Answers.{IsMemory};
 mod by_binders;
 mod columns;
 mod comparison;
+mod gaps;
 mod leaf;
 mod marks;
 pub mod outcome;

@@ -73,7 +73,7 @@ and_either true true y = refl
 and_either true false y = refl
 and_either false x y = refl
 
-marked-marked : (t u : ℕ → Bool) (i : ℕ) (bs : List Bool) → marked u i (marked t i bs) ≡ marked (λ r. t r && u r) i bs
+pub marked-marked : (t u : ℕ → Bool) (i : ℕ) (bs : List Bool) → marked u i (marked t i bs) ≡ marked (λ r. t r && u r) i bs
 marked-marked t u i [] = refl
 marked-marked t u i (b ∷ bs) = ap (λ x. x ∷ marked u (i + 1) (marked t (i + 1) bs)) (and_again b (t i) (u i)) ∙ ap (λ l. (b && (t i && u i)) ∷ l) (marked-marked t u (i + 1) bs)
 

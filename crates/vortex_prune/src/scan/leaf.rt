@@ -61,15 +61,15 @@ pub(crate) fn passes(test: Test<'_>, value: Option<ValueRef<'_>>) -> bool
     }
 }
 
-// Whether an operator compares its sides.
-fn is_comparison(operator: Operator) -> bool
+/// Whether an operator compares its sides.
+pub(crate) fn is_comparison(operator: Operator) -> bool
     ensures { result ≡ is_comparison operator }
 {
     !matches!(operator, Operator::And | Operator::Or)
 }
 
-// The comparison that says the same with its sides changed about.
-fn swapped(operator: Operator) -> Operator
+/// The comparison that says the same with its sides changed about.
+pub(crate) fn swapped(operator: Operator) -> Operator
     ensures { result ≡ swapped operator }
 {
     match operator {
@@ -81,8 +81,8 @@ fn swapped(operator: Operator) -> Operator
     }
 }
 
-// The column of a chunk that an expression is, if it is one.
-fn column_of<'a>(chunk: &'a Chunk, e: &BoundExpression) -> Option<&'a Column>
+/// The column of a chunk that an expression is, if it is one.
+pub(crate) fn column_of<'a>(chunk: &'a Chunk, e: &BoundExpression) -> Option<&'a Column>
     ensures { IfSome result (λ column.
         IsColumnOf chunk.entry.now.columns e.now column.now) }
 {
@@ -92,8 +92,8 @@ fn column_of<'a>(chunk: &'a Chunk, e: &BoundExpression) -> Option<&'a Column>
     }
 }
 
-// The value that an expression is, if it is a literal other than null.
-fn literal_of(e: &BoundExpression) -> Option<ValueRef<'_>>
+/// The value that an expression is, if it is a literal other than null.
+pub(crate) fn literal_of(e: &BoundExpression) -> Option<ValueRef<'_>>
     ensures { IfSome result (λ value. IsValue e.entry.now (value_of value)) }
 {
     match e.literal() {

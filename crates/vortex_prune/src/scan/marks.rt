@@ -5,11 +5,14 @@ ghost use Rattle.std.specs.Prelude.{◌≡◌, ◌+◌, ◌<◌, ◌≤◌, ◌&
 ghost use Rattle.std.specs.Prelude.{option_copied, vec_len};
 ghost use Rattle.std.specs.List.{list_any};
 ghost use Rattle.vortex_base.specs.Data.Columns.{row_count};
-ghost use Rattle.vortex_expr.specs.Trees.Tree.{between};
+ghost use Rattle.vortex_expr.specs.Trees.Tree.{between, binary};
+ghost use Rattle.vortex_expr.specs.declared.scalar_fn.Operator.TheVariants.{Or};
+ghost use Rattle.vortex_prune.specs.Scanning.Gaps.{AreInOrder, IsGathered, are_true_at};
 ghost use Rattle.vortex_prune.specs.Scanning.Marks.{HasCounts, count_at, either_marked, is_told};
 ghost use Rattle.vortex_prune.specs.Scanning.Marks.{is_true_at, left_marked, marked};
 
 use crate::scan::columns::keep_passing;
+use crate::scan::gaps::{Gap, gap_of, keep_passed, put};
 use crate::scan::leaf::{compared, leaf_of};
 use crate::zone_map::ZoneMap;
 use std::alloc::{AllocError, Global};
@@ -145,9 +148,101 @@ fn take_marks(marks: &mut [bool], others: &[bool])
     }
 }
 
-// Takes away the marks of the rows, from a place on, on which an expression isn't true. A side of an
-// AND or OR to which the other leaves no mark isn't looked at. Where there is no memory for the
-// marks that the left side of an OR leaves to the other, each row is tested by itself.
+// Takes away the marks of the rows on which no gap of some is passed.
+fn keep_gaps(table: Table<'_>, gaps: &[Gap<'_>], from: usize, marks: &mut [bool])
+    requires order { AreInOrder table.chunk.now.columns gaps.now }
+    requires within { from + length marks.old ≤ row_count table.chunk.now.columns }
+    ensures { let test = are_true_at gaps.now table.entry.chunk.now.columns table.entry.counts in
+        marks.new ≡ marked test from marks.old }
+{
+    let _rows = table.chunk.rows();
+    if let Some(first) = gaps.get(0) {
+        keep_passed(gaps, first.above.column, first.below.column, from, marks);
+    }
+}
+
+// Whether an AND stands within an AND within an AND, so that it may have many sides.
+fn is_long(e: &BoundExpression) -> bool {
+    let Parts::Binary(Operator::And, left, _) = e.parts() else {
+        return false;
+    };
+    let Parts::Binary(Operator::And, left, _) = left.parts() else {
+        return false;
+    };
+    matches!(left.parts(), Parts::Binary(Operator::And, _, _))
+}
+
+// The marks of the rows on which either of two expressions is true. Where there is no memory for
+// the marks that the left one leaves to the other, each row is tested by itself.
+#[cycle(keep)]
+fn keep_either(
+    alloc: Global,
+    table: Table<'_>,
+    e: &BoundExpression,
+    left: &BoundExpression,
+    right: &BoundExpression,
+    from: usize,
+    marks: &mut [bool],
+)
+    requires within { from + length marks.old ≤ row_count table.chunk.now.columns }
+    requires either { e.now ≡ binary Or left.now right.now }
+    ensures { let test = is_true_at e.now table.entry.chunk.now.columns table.entry.counts in
+        marks.new ≡ marked test from marks.old }
+{
+    match Vec::from_slice(alloc, marks) {
+        Ok(mut others) => {
+            keep_true(alloc, table, left, from, marks);
+            take_marks(&mut others, marks);
+            keep_true(alloc, table, right, from, &mut others);
+            add_marks(marks, &others);
+        }
+        Err(AllocError) => keep_rows(table, e, from, marks),
+    }
+}
+
+// Takes away the marks of the rows on which an expression isn't true, but for those sides of an AND
+// that are gaps in order, which it puts behind others.
+#[cycle(keep)]
+fn gather<'a>(
+    alloc: Global,
+    table: Table<'a>,
+    searched: bool,
+    e: &'a BoundExpression,
+    from: usize,
+    marks: &mut [bool],
+    gaps: &mut Vec<Gap<'a>>,
+)
+    requires within { from + length marks.old ≤ row_count table.chunk.now.columns }
+    requires order { AreInOrder table.chunk.now.columns gaps.old.items }
+    ensures gathered { IsGathered table.entry.chunk.now.columns table.entry.counts e.entry.now from
+        gaps.old.items gaps.new.items marks.old marks.new }
+    ensures order { AreInOrder table.entry.chunk.now.columns gaps.new.items }
+{
+    match e.parts() {
+        Parts::Binary(Operator::And, left, right) => {
+            gather(alloc, table, searched, left, from, marks, gaps);
+            gather(alloc, table, searched, right, from, marks, gaps);
+        }
+        Parts::Binary(Operator::Or, left, right) => {
+            if searched {
+                if let Some(gap) = gap_of(table.chunk, left, right) {
+                    if put(gaps, gap) {
+                        return;
+                    }
+                }
+            }
+            keep_either(alloc, table, e, left, right, from, marks);
+        }
+        Parts::Between(options, x, lower, upper) => {
+            keep_between(table, e, options, x, lower, upper, from, marks);
+        }
+        _ => keep_asked(table, e, from, marks),
+    }
+}
+
+// Takes away the marks of the rows, from a place on, on which an expression isn't true. Nothing is
+// looked at where no mark is left, and the sides of a long AND that are gaps in order are searched.
+#[cycle(keep)]
 pub(crate) fn keep_true(
     alloc: Global,
     table: Table<'_>,
@@ -162,27 +257,9 @@ pub(crate) fn keep_true(
     if !is_any(marks) {
         return;
     }
-    match e.parts() {
-        Parts::Binary(Operator::And, left, right) => {
-            keep_true(alloc, table, left, from, marks);
-            keep_true(alloc, table, right, from, marks);
-        }
-        Parts::Binary(Operator::Or, left, right) => {
-            match Vec::from_slice(alloc, marks) {
-                Ok(mut others) => {
-                    keep_true(alloc, table, left, from, marks);
-                    take_marks(&mut others, marks);
-                    keep_true(alloc, table, right, from, &mut others);
-                    add_marks(marks, &others);
-                }
-                Err(AllocError) => keep_rows(table, e, from, marks),
-            }
-        }
-        Parts::Between(options, x, lower, upper) => {
-            keep_between(table, e, options, x, lower, upper, from, marks);
-        }
-        _ => keep_asked(table, e, from, marks),
-    }
+    let mut gaps = Vec::new(alloc);
+    gather(alloc, table, is_long(e), e, from, marks, &mut gaps);
+    keep_gaps(table, &gaps, from, marks);
 }
 
 // Where a block of rows ends that begins at a place, before the end of all.
