@@ -2,6 +2,7 @@
 ghost use Rattle.std.specs.Prelude.{◌≡◌};
 ghost use Rattle.vortex_parquet.specs.Reading.{Gives};
 ghost use Rattle.vortex_parquet.specs.Compact.{binary_at, count_at, head_at, id_at, items_at, jump, kind_at, kinds_at};
+ghost use Rattle.vortex_parquet.specs.Skip.{behind};
 ghost use Rattle.vortex_parquet.specs.Compact.{kind_of, map_at, natural_at, varint_at, varint_from, varint_in};
 
 use crate::fault::{Fault, ReadError};
@@ -125,11 +126,29 @@ fn varint_from(left: u8, bytes: &[u8]) -> Result<(u64, &[u8]), ReadError>
 }
 
 /// A number below 2 ^ 64.
+#[inline]
 #[tactic(auto, unfolding(crate::specs::Compact::varint_at))]
 pub fn varint(bytes: &[u8]) -> Result<(u64, &[u8]), ReadError>
     ensures { Gives (λ x. (x.0, x.1.now)) result (varint_at bytes.now) }
 {
-    varint_in(10, bytes)
+    // Most numbers of a footer have one byte.
+    match bytes {
+        [byte, rest @ ..] if *byte < 128 => Ok((*byte as u64, rest)),
+        _ => varint_in(10, bytes),
+    }
+}
+
+/// Returns the bytes behind a number below 2 ^ 64.
+#[inline]
+#[tactic(auto, unfolding(crate::specs::Compact::varint_at))]
+pub fn skip_varint(bytes: &[u8]) -> Result<&[u8], ReadError>
+    ensures { Gives (λ rest. rest.now) result (behind (varint_at bytes.now)) }
+{
+    match bytes {
+        [byte, rest @ ..] if *byte < 128 => Ok(rest),
+        [low, high, rest @ ..] if *low >= 128 && *high < 128 => Ok(rest),
+        _ => Ok(varint_in(10, bytes)?.1),
+    }
 }
 
 /// A number with a sign, which is not below 0.

@@ -30,7 +30,7 @@ fn skip_value(depth: u8, kind: Kind, bytes: &[u8]) -> Result<&[u8], ReadError>
     match kind {
         Kind::True | Kind::False => Ok(bytes),
         Kind::Byte => jump(1, bytes),
-        Kind::I16 | Kind::I32 | Kind::I64 => Ok(compact::varint(bytes)?.1),
+        Kind::I16 | Kind::I32 | Kind::I64 => compact::skip_varint(bytes),
         Kind::Double => jump(8, bytes),
         Kind::Binary => Ok(compact::binary(bytes)?.1),
         Kind::List | Kind::Set => {
