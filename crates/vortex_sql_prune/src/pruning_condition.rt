@@ -27,6 +27,7 @@ use vortex_rewrite::rewrite::rule::StatsRewriteRule;
 use vortex_rewrite::rewrite::rules::Rules;
 use vortex_sql::condition::{Predicate, condition_by};
 use vortex_sql_syntax::parse::Names;
+use vortex_sql_syntax::tree::Condition;
 use vortex_stats::error::StatsError;
 
 /// The most levels of a normal form that takes part in the proofs.
@@ -141,6 +142,13 @@ impl PruningCondition {
         ensures { result.now ≡ pruning_of self.now }
     {
         &self.proofs
+    }
+
+    /// Returns the condition as it was read.
+    pub fn condition(&self) -> &Condition
+        ensures { result.now ≡ self.now.condition }
+    {
+        &self.sql.condition
     }
 
     /// Returns the bytes of the text at which each unread part begins and ends, ascending.
