@@ -1,0 +1,4 @@
+pub mod Choices
+pub mod MentionLoop
+pub mod Names
+pub mod Sound

@@ -1,0 +1,4 @@
+pub mod Choosing
+pub mod Mentions
+pub mod Pruning
+pub mod Refusals
