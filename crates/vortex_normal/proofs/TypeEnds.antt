@@ -1,14 +1,13 @@
 -- What a comparison with a value at an end of a type is of each value of the type, and what its forms say.
-use Rattle.std.proofs.Common.{◌≡◌, ◌⊎◌, inl, inr, ℕ, Bool, true, false, not as not_b, ◌&&◌, List, [], ◌∷◌, Option, Some, None, Ok, IsOk, IsTrue, refl, sym, ap, ◌∙◌, subst, arith, length, Ordering, Less, Equal, Greater, option_map, if◌then◌else◌}
+use Rattle.std.proofs.Common.{◌≡◌, ◌⊎◌, inl, inr, ℕ, Bool, true, false, not as not_b, ◌&&◌, List, [], ◌∷◌, Option, Some, None, refl, sym, ap, ◌∙◌, arith, length, option_map, if◌then◌else◌}
 use Rattle.std.specs.Prelude.{◌==◌, ◌<◌, ◌^◌, ℤ, int_le, int_lt, is_none}
-use Rattle.std.specs.Ordering.{is_lt, is_gt}
 use Rattle.std.proofs.lemmas.Bool.{and_parts, eqb-true}
 use Rattle.std.proofs.lemmas.Int.{ints}
 use Rattle.std.proofs.lemmas.Option.{none-some, same_Some}
 use Rattle.vortex_base.specs.Data.Columns.{IsRow}
 use Rattle.vortex_base.specs.Data.Scalars.{Constant, is_optional_value}
 use Rattle.vortex_base.specs.Data.Types.{as_nullable, ptype_index}
-use Rattle.vortex_base.specs.Data.Values.{greatest, in_range, is_value, kind_index, least, number_of, ptype_of, value_cmp}
+use Rattle.vortex_base.specs.Data.Values.{greatest, in_range, is_value, kind_index, least, number_of, ptype_of}
 use Rattle.vortex_base.specs.declared.dtype.DType.{DType}
 use Rattle.vortex_base.specs.declared.dtype.DType.TheVariants as dtype
 use Rattle.vortex_base.specs.declared.pvalue.PValue.{PValue}
@@ -18,19 +17,16 @@ use Rattle.vortex_base.specs.declared.scalar_value.ScalarValue.{ScalarValue}
 use Rattle.vortex_base.specs.declared.scalar_value.ScalarValue.TheVariants as value
 use Rattle.vortex_expr.proofs.Meanings.MeaningFits.{meaning-fits}
 use Rattle.vortex_expr.specs.Meanings.Fitting.{fits_row}
-use Rattle.vortex_expr.specs.Meanings.Meaning.{compared, holds, is_true, meaning, satisfies, truth_value}
+use Rattle.vortex_expr.specs.Meanings.Meaning.{compared, is_true, meaning, satisfies, truth_value}
 use Rattle.vortex_expr.specs.Meanings.RowTest.{is_wanted}
-use Rattle.vortex_expr.specs.Meanings.Typing.{type_of}
-use Rattle.vortex_expr.specs.Trees.Tree.{Tree, Place, column, literal, binary, between, is_null, is_not_null, not, like, stat, row_count}
+use Rattle.vortex_expr.specs.Trees.Tree.{Tree, Place, column, literal, binary, is_not_null, not}
 use Rattle.vortex_expr.specs.declared.scalar_fn.Operator.{Operator}
 use Rattle.vortex_expr.specs.declared.scalar_fn.Operator.TheVariants.{Eq, NotEq, Gt, Gte, Lt, Lte, And, Or}
-use Rattle.vortex_rewrite.proofs.Completeness.Interval.{is_comparison}
 use Rattle.vortex_rewrite.proofs.Rewriting.ProofTypes.{AreComparable}
 use Rattle.vortex_rewrite.proofs.Soundness.NumberEnds.{SameType, at_least, at_greatest, number_le}
-use Rattle.vortex_rewrite.proofs.Soundness.TruthLogic.{clash}
 use Rattle.vortex_rewrite.proofs.Soundness.ValueTests.{by_le, holds_by_le, value_le}
 use Rattle.vortex_rewrite.specs.Rewriting.Falsifiers.{bool_literal}
-use Rattle.vortex_normal.specs.Ends.{at_value, by_end, by_ends, by_value, each_value, ended, from_above, from_below, in_order, is_greatest, is_least, is_the_truth, of_both, of_comparison, of_truths, of_type, unless_known}
+use Rattle.vortex_normal.specs.Ends.{at_value, by_end, by_ends, by_value, each_value, ended, from_above, from_below, in_order, is_greatest, is_least, is_the_truth, of_truths, of_type, unless_known}
 
 pub none_if : {A : Type 0} (b : Bool) (x : A) → is_none (if b then Some x else None) ≡ not_b b
 none_if true x = refl

@@ -1,5 +1,5 @@
 -- A comparison of a column with a value that no value of the column's type stands below, or above, and one with a truth.
-use Rattle.std.specs.Prelude.{ℕ, Bool, true, false, not as not_b, ◌==◌, List, length, Option, Some, None, option_map, int_lt, if◌then◌else◌}
+use Rattle.std.specs.Prelude.{Bool, true, false, not as not_b, ◌==◌, length, Option, Some, None, option_map, int_lt}
 use Rattle.std.specs.declared.cmp.Ordering.TheVariants.{Less, Equal, Greater}
 use Rattle.vortex_base.specs.Data.Values.{greatest, least, number_of, ptype_of, value_cmp}
 use Rattle.vortex_base.specs.declared.dtype.DType.{DType}

@@ -30,9 +30,9 @@ pub(crate) struct Side<'a> {
 /// Two comparisons, of which one has to be true.
 #[derive(Clone, Copy)]
 pub(crate) struct Gap<'a> {
-    /// That a column lies above a value.
+    /// The one that is true of high values.
     pub(crate) above: Side<'a>,
-    /// That a column lies below a value.
+    /// The one that is true of low values.
     pub(crate) below: Side<'a>,
 }
 
