@@ -151,6 +151,12 @@ module _ (gs : List Gap) (g : Gap) where
     below = each_more (λ x. IsColumnOf cs x.below.operand.now x.below.column.now) h.below is.below;
   }
 
+-- whether it was put behind the others or not
+pub in_order_if : (b : Bool) (cs : List ColumnData) (l r : Tree Place) (gs new : List Gap) (g : Gap) → (b ≡ true → new ≡ gs ++ g ∷ []) → (b ≡ false → new ≡ gs) → (b ≡ true → FollowsLast gs g) → IsGapOf cs l r g
+    → AreInOrder cs gs → AreInOrder cs new
+in_order_if true cs l r gs new g t f last is h = subst (AreInOrder cs) (sym (t refl)) (in_order_more gs g cs l r h (last refl) is)
+in_order_if false cs l r gs new g t f last is h = subst (AreInOrder cs) (sym (f refl)) h
+
 -- ---- all of them, by the place where the first comparisons end
 
 all_by : (p : Gap → Bool) (gs : List Gap) → ((k : ℕ) (d : Gap) → k < length gs → p (get_or gs k d) ≡ true) → list_all p gs ≡ true

@@ -1,5 +1,5 @@
 -- Pairs of comparisons, of each of which one has to be true: gaps between the values of a set, into one of which a zone's bounds fall.
-use Rattle.std.specs.Prelude.{◌≡◌, ◌≤◌, ◌<◌, ◌+◌, ℕ, Bool, true, false, ◌&&◌, ◌||◌, List, length, Option, Some, slice_get, slice_index_or}
+use Rattle.std.specs.Prelude.{◌≡◌, ◌≤◌, ◌<◌, ◌+◌, ℕ, Bool, true, false, ◌&&◌, ◌||◌, List, [], ◌∷◌, ◌++◌, length, Option, Some, slice_get, slice_index_or}
 use Rattle.std.specs.List.{list_all}
 use Rattle.vortex_base.specs.Data.Cells.{value_of}
 use Rattle.vortex_base.specs.Data.Columns.{ColumnData, row_of, value_at}
@@ -82,6 +82,12 @@ pub record AreInOrder (cs : List ColumnData) (gs : List Gap) : Type 0 where
 -- it follows the last of some, if there are any
 abbrev pub FollowsLast : List Gap → Gap → Type 0
 FollowsLast gs g = (k : ℕ) (d : Gap) → k + 1 ≡ length gs → Follows (slice_index_or gs k d) g
+
+-- the gap that two expressions are was put behind the others
+pub record IsPut (cs : List ColumnData) (l r : Tree Place) (old new : List Gap) : Type 0 where
+  pub gap : Gap
+  pub is : IsGapOf cs l r gap
+  pub behind : new ≡ old ++ gap ∷ []
 
 -- of two columns' values at a place each gap passes
 abbrev pub are_passed_at : List Gap → (x y : ColumnData) → ℕ → Bool

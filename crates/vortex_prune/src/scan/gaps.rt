@@ -5,8 +5,8 @@ ghost use Rattle.std.specs.Prelude.{false, length, option_map, slice_get};
 ghost use Rattle.std.specs.List.{list_all};
 ghost use Rattle.vortex_base.specs.Data.Cells.{value_of};
 ghost use Rattle.vortex_base.specs.Data.Columns.{value_at};
-ghost use Rattle.vortex_prune.specs.Scanning.Gaps.{AreOrdered, Covers, Follows, FollowsLast, IsBeside};
-ghost use Rattle.vortex_prune.specs.Scanning.Gaps.{IsGapOf, IsSideOf, are_passed_at, gap_passes};
+ghost use Rattle.vortex_prune.specs.Scanning.Gaps.{AreInOrder, AreOrdered, Covers, Follows, FollowsLast, IsBeside};
+ghost use Rattle.vortex_prune.specs.Scanning.Gaps.{IsGapOf, IsPut, IsSideOf, are_passed_at, gap_passes};
 ghost use Rattle.vortex_prune.specs.Scanning.Gaps.{is_falling, is_rising, side_passes};
 ghost use Rattle.vortex_prune.specs.Scanning.Marks.{marked};
 
@@ -91,8 +91,8 @@ fn side_of<'a>(chunk: &'a Chunk, e: &'a BoundExpression) -> Option<Side<'a>>
     }
 }
 
-/// The gap that two expressions are, of which one has to be true, if they are one.
-pub(crate) fn gap_of<'a>(
+// The gap that two expressions are, of which one has to be true, if they are one.
+fn gap_of<'a>(
     chunk: &'a Chunk,
     left: &'a BoundExpression,
     right: &'a BoundExpression,
@@ -164,8 +164,8 @@ fn goes_on(gaps: &[Gap<'_>], gap: &Gap<'_>) -> bool
     }
 }
 
-/// Puts a gap behind others that it follows, if there is room.
-pub(crate) fn put<'a>(gaps: &mut Vec<Gap<'a>>, gap: Gap<'a>) -> bool
+// Puts a gap behind others that it follows, if there is room.
+fn put<'a>(gaps: &mut Vec<Gap<'a>>, gap: Gap<'a>) -> bool
     ensures taken { IsTrue result → gaps.new.items ≡ gaps.old.items ++ gap.entry ∷ [] }
     ensures left { result ≡ false → gaps.new.items ≡ gaps.old.items }
     ensures order { IsTrue result → FollowsLast gaps.old.items gap.entry }
@@ -174,6 +174,27 @@ pub(crate) fn put<'a>(gaps: &mut Vec<Gap<'a>>, gap: Gap<'a>) -> bool
         return false;
     }
     gaps.push(gap).is_ok()
+}
+
+/// Puts the gap that two expressions are behind others, if they are one that follows these. It is a
+/// function of its own so that the frames of those that call each other stay small.
+#[inline(never)]
+pub(crate) fn put_gap<'a>(
+    chunk: &'a Chunk,
+    left: &'a BoundExpression,
+    right: &'a BoundExpression,
+    gaps: &mut Vec<Gap<'a>>,
+) -> bool
+    requires { AreInOrder chunk.now.columns gaps.old.items }
+    ensures taken { IsTrue result → IsPut chunk.entry.now.columns left.entry.now right.entry.now
+        gaps.old.items gaps.new.items }
+    ensures left { result ≡ false → gaps.new.items ≡ gaps.old.items }
+    ensures order { AreInOrder chunk.entry.now.columns gaps.new.items }
+{
+    match gap_of(chunk, left, right) {
+        Some(gap) => put(gaps, gap),
+        None => false,
+    }
 }
 
 fn passes_side(side: Side<'_>, value: Option<ValueRef<'_>>) -> bool

@@ -12,7 +12,7 @@ ghost use Rattle.vortex_prune.specs.Scanning.Marks.{HasCounts, count_at, either_
 ghost use Rattle.vortex_prune.specs.Scanning.Marks.{is_true_at, left_marked, marked};
 
 use crate::scan::columns::keep_passing;
-use crate::scan::gaps::{Gap, gap_of, keep_passed, put};
+use crate::scan::gaps::{Gap, keep_passed, put_gap};
 use crate::scan::leaf::{compared, leaf_of};
 use crate::zone_map::ZoneMap;
 use std::alloc::{AllocError, Global};
@@ -224,12 +224,8 @@ fn gather<'a>(
             gather(alloc, table, searched, right, from, marks, gaps);
         }
         Parts::Binary(Operator::Or, left, right) => {
-            if searched {
-                if let Some(gap) = gap_of(table.chunk, left, right) {
-                    if put(gaps, gap) {
-                        return;
-                    }
-                }
+            if searched && put_gap(table.chunk, left, right, gaps) {
+                return;
             }
             keep_either(alloc, table, e, left, right, from, marks);
         }

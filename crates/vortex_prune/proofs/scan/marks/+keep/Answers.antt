@@ -2,26 +2,18 @@ use Rattle.std.proofs.Common.{◌≡◌, ◌++◌, ap, drop, length, subst, sym,
 use Rattle.std.proofs.lemmas.List.{take_at}
 use Rattle.vortex_expr.specs.Trees.Tree.{binary}
 use Rattle.vortex_expr.specs.declared.scalar_fn.Operator.TheVariants.{And, Or}
-use Rattle.vortex_prune.proofs.Scanning.GapLemmas.{gathered_all, gathered_and, gathered_put, in_order_more}
+use Rattle.vortex_prune.proofs.Scanning.GapLemmas.{gathered_all, gathered_and, gathered_put}
 use Rattle.vortex_prune.proofs.ZoneMaps.ZoneMarks.{length-left_marked, length-marked, marked-or, marked_unset}
-use Rattle.vortex_prune.specs.Scanning.Gaps.{AreInOrder, IsGathered, are_true_at}
+use Rattle.vortex_prune.specs.Scanning.Gaps.{IsGathered, are_true_at}
 use Rattle.vortex_prune.specs.Scanning.Marks.{either_marked, is_true_at, left_marked, marked}
 use Rattle.vortex_prune.proofs.scan.marks.+keep.Goals as goal
-use Rattle.vortex_prune.proofs.scan.marks.+keep.Goals.{gather-then-searched+in-Some+else-put, gather-then-searched+in_default-gap_of, gather-else-searched}
 
-pub gather-returns-then-put-clause-gathered : goal.gather-returns-then-put-clause-gathered
-gather-returns-then-put-clause-gathered t c =
+pub gather-returns-then-put_gap-clause-gathered : goal.gather-returns-then-put_gap-clause-gathered
+gather-returns-then-put_gap-clause-gathered t c =
     let k = c.in-Binary-Or-default-default in
     let is : c.args.e.now ≡ binary Or k.left.now k.right.now = cc (k.ensures, k.field-0-is) in
-    gathered_put c.args.table.chunk.now.columns c.args.table.counts c.args.e.now c.args.from k.left.now k.right.now c.in-Some.gap c.args.gaps.now.items c.put.new.gaps.items c.args.marks.now is c.in-Some.ensures
-    (c.put.ensures.taken c.if-put.true)
-
-pub gather-returns-then-put-clause-order : goal.gather-returns-then-put-clause-order
-gather-returns-then-put-clause-order t c =
-    let k = c.in-Binary-Or-default-default in
-    let cs = c.args.table.chunk.now.columns in
-    subst (AreInOrder cs) (sym (c.put.ensures.taken c.if-put.true))
-    (in_order_more c.args.gaps.now.items c.in-Some.gap cs k.left.now k.right.now c.requires.order (c.put.ensures.order c.if-put.true) c.in-Some.ensures)
+    let put = c.put_gap.ensures.taken c.if-put_gap.true in
+    gathered_put c.args.table.chunk.now.columns c.args.table.counts c.args.e.now c.args.from k.left.now k.right.now put.gap c.args.gaps.now.items c.put_gap.new.gaps.items c.args.marks.now is put.is put.behind
 
 pub gather-returns-in-Binary-And-default-default-clause-gathered : goal.gather-returns-in-Binary-And-default-default-clause-gathered
 gather-returns-in-Binary-And-default-default-clause-gathered t c =
@@ -30,17 +22,6 @@ gather-returns-in-Binary-And-default-default-clause-gathered t c =
     let is : c.args.e.now ≡ binary And k.left.now k.right.now = cc (k.ensures, k.field-0-is) in
     gathered_and c.args.table.chunk.now.columns c.args.table.counts c.args.e.now c.args.from k.left.now k.right.now c.args.gaps.now.items c.gather.new.gaps.items last.new.gaps.items
     c.args.marks.now c.gather.new.marks last.new.marks is c.gather.ensures.gathered last.ensures.gathered
-
-pub gather-returns-after-searched-clause-order : goal.gather-returns-after-searched-clause-order
-gather-returns-after-searched-clause-order t c =
-    let cs = c.args.table.chunk.now.columns in
-    let is : c.if-searched.gaps.items ≡ c.args.gaps.now.items =
-    elim c.if-searched.branch [
-      | gather-then-searched+in-Some+else-put w ↦ cc (w.put.ensures.left w.if-put.false, w.gaps-is)
-      | gather-then-searched+in_default-gap_of w ↦ cc (w.gaps-is)
-      | gather-else-searched w ↦ cc (w.gaps-is)
-    ] in
-    subst (AreInOrder cs) (sym is) c.requires.order
 
 pub keep_either-returns-in-Ok : goal.keep_either-returns-in-Ok
 keep_either-returns-in-Ok t c =
