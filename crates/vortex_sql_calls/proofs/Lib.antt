@@ -1,0 +1,2 @@
+pub mod AnswerLemmas
+mod WorkedRows
