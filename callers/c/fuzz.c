@@ -2,8 +2,9 @@
 /*
  * Fuzzing beside a model. The bytes of an input choose zones of a few rows, statistics that are true of them, and a
  * predicate. A zone that vortex_prune skips has no row that satisfies the predicate by the model here, which evaluates it
- * row by row; of a whole zone each row does. Other inputs go to vortex_run and to vortex_prune as they are, which answer by
- * a status and leave the arrays of a refused call as they were. vortex_measure and vortex_merge_zones are compared with
+ * row by row; of a whole zone each row does. So it is of vortex_prune_sql and the predicate in SQL. Other inputs go to
+ * vortex_run, vortex_prune and vortex_prune_sql as they are, which answer by a status and leave the arrays of a refused call
+ * as they were. vortex_measure and vortex_merge_zones are compared with
  * the model's own statistics.
  *
  * checks/fuzz.sh builds it with libFuzzer. With -DREPLAY it is a program that runs the files of its arguments.
@@ -225,6 +226,68 @@ static void write_node(char *to, const predicate *of, int place) {
     for (int i = 0; i < count; i++) write_node(to, of, it->operands[i]);
 }
 
+/* SQL */
+
+static void write_sql(char *to, const predicate *of, int place);
+
+static void write_sql_literal(char *to, enum family family, cell value) {
+    char number[16];
+    snprintf(number, sizeof number, "%d", value.number);
+    if (value.is_null || family != TEXT)
+        write_text(to, value.is_null ? "NULL" : family == NUMBER ? number : value.number ? "TRUE" : "FALSE", 0);
+    else
+        write_text(to, "'", 0), write_text(to, value.text, 0), write_text(to, "'", 0);
+}
+
+/* An operand, of which other conditions stand in parentheses. */
+static void write_sql_operand(char *to, const predicate *of, int place) {
+    int is_leaf = of->nodes[place].operation <= LITERAL;
+    if (!is_leaf) write_text(to, "(", 0);
+    write_sql(to, of, place);
+    if (!is_leaf) write_text(to, ")", 0);
+}
+
+static void write_sql_pair(char *to, const predicate *of, int left, const char *between, int right) {
+    write_sql_operand(to, of, left), write_text(to, between, 0), write_sql_operand(to, of, right);
+}
+
+static void write_sql(char *to, const predicate *of, int place) {
+    static const char *const signs[] = {" = ", " <> ", " < ", " <= ", " > ", " >= "};
+    static const char *const likes[] = {" LIKE ", " NOT LIKE ", " ILIKE ", " NOT ILIKE "};
+    const node *it = &of->nodes[place];
+    const int *xs = it->operands;
+    switch (it->operation) {
+    case COLUMN: write_text(to, NAMES[it->form], 0); break;
+    case LITERAL: write_sql_literal(to, it->family, it->value); break;
+    case COMPARE: write_sql_pair(to, of, xs[0], signs[it->form], xs[1]); break;
+    case AND: write_sql_pair(to, of, xs[0], " AND ", xs[1]); break;
+    case OR: write_sql_pair(to, of, xs[0], " OR ", xs[1]); break;
+    case NOT: write_text(to, "NOT ", 0), write_sql_operand(to, of, xs[0]); break;
+    case BETWEEN:
+        if (it->form == 3) {
+            write_sql_pair(to, of, xs[0], " BETWEEN ", xs[1]), write_text(to, " AND ", 0), write_sql_operand(to, of, xs[2]);
+            break;
+        }
+        write_sql_pair(to, of, xs[1], signs[2 + it->form % 2], xs[0]), write_text(to, " AND ", 0);
+        write_sql_pair(to, of, xs[0], signs[2 + it->form / 2], xs[2]);
+        break;
+    case IS_NULL: write_sql_operand(to, of, xs[0]), write_text(to, " IS NULL", 0); break;
+    case NOT_NULL: write_sql_operand(to, of, xs[0]), write_text(to, " IS NOT NULL", 0); break;
+    case LIKE: write_sql_pair(to, of, xs[0], likes[it->form], xs[1]); break;
+    }
+}
+
+/* Whether each comparison is of columns and literals. */
+static int is_flat(const predicate *of) {
+    for (int i = 0; i < of->len; i++) {
+        const node *it = &of->nodes[i];
+        int count = it->operation == COMPARE ? 2 : it->operation == BETWEEN ? 3 : 0;
+        for (int k = 0; k < count; k++)
+            if (of->nodes[it->operands[k]].operation > LITERAL) return 0;
+    }
+    return 1;
+}
+
 /* Statistics */
 
 /* A statistic of each zone as the calls take it. */
@@ -322,6 +385,25 @@ static uint8_t pruned(const zone *zones, size_t len, const vortex_statistic *sta
     return vortex_prune(scope, COLUMNS, rows, len, stats, COLUMNS * STATS, text, text_len, flags, answers, len, &fault);
 }
 
+static uint8_t pruned_by_sql(const zone *zones, size_t len, const vortex_statistic *stats, const char *text, size_t text_len, uint8_t *answers,
+                             vortex_span *unread, size_t *count) {
+    vortex_field scope[COLUMNS];
+    uint64_t rows[ZONES] = {0};
+    for (int c = 0; c < COLUMNS; c++) scope[c] = (vortex_field){(const uint8_t *)NAMES[c], 1, KINDS[c], 1};
+    for (size_t z = 0; z < len; z++) rows[z] = zones[z].len;
+    vortex_fault fault = {0};
+    uint8_t status = vortex_prune_sql(scope, COLUMNS, rows, len, stats, COLUMNS * STATS, (const uint8_t *)text, text_len, 0, answers, len,
+                                      unread, NODES, count, &fault);
+    int has_place = status == VORTEX_BAD_SQL || status == VORTEX_MISFIT || status == VORTEX_TOO_DEEP;
+    if (has_place && (fault.entry > text_len || fault.row > text_len)) fail("a fault is outside of the text", "vortex_prune_sql");
+    size_t end = 0;
+    for (size_t i = 0; status == VORTEX_OK && i < *count; i++) {
+        if (unread[i].start < end || unread[i].end <= unread[i].start || unread[i].end > text_len) fail("a place is none", "vortex_prune_sql");
+        end = unread[i].end;
+    }
+    return status;
+}
+
 static void look_at(uint8_t answer, const zone *it, const predicate *of, const char *text) {
     for (size_t r = 0; r < it->len; r++) {
         cell truth = evaluated(of, 0, it->rows[r]);
@@ -351,6 +433,43 @@ static void prune_known(choices *from) {
     uint8_t status = pruned(zones, len, stats, (const uint8_t *)text, text_len, flags, answers);
     if (status != VORTEX_OK) fail("a predicate is refused", text);
     for (size_t z = 0; z < len; z++) look_at(answers[z], &zones[z], &made, text);
+}
+
+/* Prunes zones of rows that are known by a condition in SQL. Where each comparison is of columns and literals it is read. */
+static void prune_known_by_sql(choices *from) {
+    static zone zones[ZONES];
+    static arrays rooms[COLUMNS * STATS];
+    static char text[ROOM];
+    predicate made = {.len = 0};
+    vortex_statistic stats[COLUMNS * STATS];
+    vortex_span unread[NODES];
+    uint8_t answers[ZONES] = {0};
+    size_t len = 1 + choose(from, ZONES), count = 0;
+    any_truth(from, &made, DEPTH);
+    make_zones(from, zones, len);
+    make_statistics(from, zones, len, rooms, stats);
+    text[0] = 0;
+    write_sql(text, &made, 0);
+    uint8_t status = pruned_by_sql(zones, len, stats, text, strlen(text), answers, unread, &count);
+    if (status != VORTEX_OK && is_flat(&made)) fail("a condition is refused", text);
+    for (size_t z = 0; status == VORTEX_OK && z < len; z++) look_at(answers[z], &zones[z], &made, text);
+}
+
+/* Prunes by a text that may be no condition in SQL. */
+static void prune_any_by_sql(choices *from) {
+    static zone zones[1];
+    static arrays rooms[COLUMNS * STATS];
+    vortex_statistic stats[COLUMNS * STATS];
+    vortex_span unread[NODES];
+    uint8_t answers[1] = {0x5a};
+    size_t count = 0x5a;
+    make_zones(from, zones, 1);
+    make_statistics(from, zones, 1, rooms, stats);
+    uint8_t status = pruned_by_sql(zones, 1, stats, (const char *)from->at, (size_t)(from->end - from->at), answers, unread, &count);
+    int is_refusal = status == VORTEX_BAD_SQL || status == VORTEX_MISFIT || status == VORTEX_TOO_DEEP;
+    if (status != VORTEX_OK && status != VORTEX_TOO_SHORT && !is_refusal) fail("a text has a status of its own", "vortex_prune_sql");
+    if (status != VORTEX_OK && answers[0] != 0x5a) fail("a refusal wrote an answer", "vortex_prune_sql");
+    if (is_refusal && count != 0x5a) fail("a refusal told a count", "vortex_prune_sql");
 }
 
 /* Prunes by a text that may be no predicate. */
@@ -429,6 +548,8 @@ int LLVMFuzzerTestOneInput(const uint8_t *data, size_t size) {
     case 1: run_any(&from); break;
     case 2: measure_known(&from); break;
     case 3: merge_known(&from); break;
+    case 4: prune_any_by_sql(&from); break;
+    case 5: prune_known_by_sql(&from); break;
     default: prune_known(&from);
     }
     return 0;

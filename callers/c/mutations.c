@@ -43,7 +43,8 @@ typedef struct call {
     input inputs[20];
     output outputs[3];
     number numbers[20];
-    int has_len;
+    /* The place of the output whose length the call tells. */
+    int len_of;
 } call;
 
 /* What is changed: `byte` of an array gets a value, or its length another one; an array of no place is none. */
@@ -124,10 +125,10 @@ static uint8_t try(call *of, change what) {
     uint8_t status = of->make();
     alarm(0);
     calls++, seen |= BIT(status);
-    if (status > VORTEX_TOO_DEEP || !(of->statuses & BIT(status))) fail(of, &what, status, "no status of this call");
+    if (status > VORTEX_MISFIT || !(of->statuses & BIT(status))) fail(of, &what, status, "no status of this call");
     if (status == VORTEX_OK && !is_filled(&fault, sizeof fault)) fail(of, &what, status, "an answer has a fault");
-    if (status == VORTEX_OK && of->has_len && len > *of->outputs[2].len) fail(of, &what, status, "more is written than has room");
-    if (status == VORTEX_TOO_SHORT && len <= *of->outputs[of->has_len ? 2 : 0].len) fail(of, &what, status, "it isn't too short");
+    if (status == VORTEX_OK && of->len_of && len > *of->outputs[of->len_of].len) fail(of, &what, status, "more is written than has room");
+    if (status == VORTEX_TOO_SHORT && len <= *of->outputs[of->len_of].len) fail(of, &what, status, "it isn't too short");
     if (!kept(of, written, status)) fail(of, &what, status, "an array was written");
     for (size_t i = 0; i < 20; i++) free(read[i]);
     for (size_t i = 0; i < 3; i++) free(written[i]);
@@ -183,10 +184,11 @@ static vortex_values column;
 static vortex_statistic left[3], right[3];
 static vortex_field scope[2];
 static uint8_t *known, *bytes, *answers, kind, nullable, flags;
+static vortex_span *unread;
 static uint64_t *ends, rows_of_zone;
 static const uint8_t *wanted, *text;
 static const uint64_t *zone_rows;
-static size_t known_len, ends_len, bytes_len, answers_len, wanted_len, text_len, zone_rows_len, zones, zone;
+static size_t known_len, ends_len, bytes_len, answers_len, wanted_len, text_len, zone_rows_len, zones, zone, unread_len;
 
 static uint8_t make_measure(void) {
     return vortex_measure(&column, wanted, wanted_len, known, known_len, ends, ends_len, bytes, bytes_len, &len, &fault);
@@ -204,6 +206,11 @@ static uint8_t make_merge_zones(void) {
 
 static uint8_t make_prune(void) {
     return vortex_prune(scope, 2, zone_rows, zone_rows_len, left, 3, text, text_len, flags, answers, answers_len, &fault);
+}
+
+static uint8_t make_prune_sql(void) {
+    return vortex_prune_sql(scope, 2, zone_rows, zone_rows_len, left, 3, text, text_len, flags, answers, answers_len, unread, unread_len,
+                            &len, &fault);
 }
 
 static uint8_t make_run(void) { return vortex_run(text, text_len, bytes, bytes_len, &len); }
@@ -229,7 +236,7 @@ static void measure_numbers(void) {
     column = (vortex_values){.kind = VORTEX_I16, .nullable = 1, .rows = 3, .size = 6};
     call of = {"measure numbers", make_measure, MEASURE_STATUSES | BIT(VORTEX_BAD_NULL),
                {VALUES(column, numbers, 6), NULLS("\0\1\0", 3), ENDS(column, NULL, 0), WANTED("\0\1\2\3\4\5\6\7", 8)},
-               OUTPUTS(8, 31), {COLUMN_NUMBERS}, 1};
+               OUTPUTS(8, 31), {COLUMN_NUMBERS}, 2};
     mutate(&of, VORTEX_OK);
 }
 
@@ -239,27 +246,27 @@ static void measure_texts(void) {
     call of = {"measure texts", make_measure,
                MEASURE_STATUSES | BIT(VORTEX_BAD_NULL) | BIT(VORTEX_BAD_ENDS) | BIT(VORTEX_BAD_VALUE),
                {VALUES(column, "?bee\xc3\xa9" "abc", 9), NULLS("\0\0\1\0", 4), ENDS(column, text_ends, 4), WANTED("\3\4\6\7\1\2\0", 7)},
-               OUTPUTS(7, 32), {COLUMN_NUMBERS}, 1};
+               OUTPUTS(7, 32), {COLUMN_NUMBERS}, 2};
     mutate(&of, VORTEX_OK);
 }
 
 static void measure_truths_and_bytes(void) {
     column = (vortex_values){.kind = VORTEX_BOOL, .rows = 3, .size = 3};
     call truths = {"measure truths", make_measure, MEASURE_STATUSES | BIT(VORTEX_BAD_VALUE),
-                   {VALUES(column, "\1\0\1", 3), WANTED("\3\4\5\6\0\1\2", 7)}, OUTPUTS(7, 21), {COLUMN_NUMBERS}, 1};
+                   {VALUES(column, "\1\0\1", 3), WANTED("\3\4\5\6\0\1\2", 7)}, OUTPUTS(7, 21), {COLUMN_NUMBERS}, 2};
     mutate(&truths, VORTEX_OK);
     static const uint64_t byte_ends[2] = {0, 3};
     column = (vortex_values){.kind = VORTEX_BINARY, .rows = 2};
     call binary = {"measure bytes", make_measure, MEASURE_STATUSES | BIT(VORTEX_BAD_ENDS) | BIT(VORTEX_BAD_VALUE),
                    {VALUES(column, "\xff\0a", 3), ENDS(column, byte_ends, 2), WANTED("\3\4", 2)}, OUTPUTS(2, 3),
-                   {COLUMN_NUMBERS}, 1};
+                   {COLUMN_NUMBERS}, 2};
     mutate(&binary, VORTEX_OK);
 }
 
 /* Any number of rows of a column of nulls is measured at once. */
 static void measure_nulls(void) {
     column = (vortex_values){.kind = VORTEX_NULL, .rows = 3};
-    call of = {"measure nulls", make_measure, MEASURE_STATUSES, {WANTED("\6\0\7\1\2", 5)}, OUTPUTS(5, 19), {COLUMN_NUMBERS}, 1};
+    call of = {"measure nulls", make_measure, MEASURE_STATUSES, {WANTED("\6\0\7\1\2", 5)}, OUTPUTS(5, 19), {COLUMN_NUMBERS}, 2};
     mutate(&of, VORTEX_OK);
 }
 
@@ -290,7 +297,7 @@ static void merge_tables(void) {
                 ENDS(right[0], right_ends, 2), KNOWN(right[1], "\1\0", 2), VALUES(right[1], right_nulls, 16)},
                OUTPUTS(4, 21),
                {{&kind, 1}, {&nullable, 1}, {&zones, 8}, STAT_NUMBERS(left[0]), STAT_NUMBERS(left[1]), STAT_NUMBERS(right[0]),
-                STAT_NUMBERS(right[1])}, 1};
+                STAT_NUMBERS(right[1])}, 2};
     mutate(&of, VORTEX_OK);
 }
 
@@ -302,7 +309,7 @@ static void merge_a_table(void) {
     call of = {"merge zones", make_merge_zones, MERGE_STATUSES,
                {KNOWN(left[0], "\1\2\1", 3), VALUES(left[0], "?bee\xc3\xa9" "a", 7), ENDS(left[0], text_ends, 3),
                 KNOWN(left[1], "\1\2\1", 3), VALUES(left[1], nulls, 24)},
-               OUTPUTS(2, 10), {{&kind, 1}, {&nullable, 1}, {&zones, 8}, STAT_NUMBERS(left[0]), STAT_NUMBERS(left[1])}, 1};
+               OUTPUTS(2, 10), {{&kind, 1}, {&nullable, 1}, {&zones, 8}, STAT_NUMBERS(left[0]), STAT_NUMBERS(left[1])}, 2};
     mutate(&of, VORTEX_OK);
 }
 
@@ -332,6 +339,29 @@ static void prune_a_table(void) {
     flags = 0;
 }
 
+static void prune_by_sql(void) {
+    static const char condition[] = "a > 12 AND NOT lower(bc) = 'x' OR bc LIKE 'b%' IS TRUE";
+    static const uint64_t rows[3] = {4, 0, 7}, nulls[3] = {0, 4, 4}, text_ends[3] = {2, 3, 6};
+    static const int32_t least[3] = {-5, 10, 20};
+    scope[0] = (vortex_field){.kind = VORTEX_I32};
+    scope[1] = (vortex_field){.kind = VORTEX_UTF8, .nullable = 1};
+    left[0] = (vortex_statistic){.column = 0, .stat = VORTEX_MIN};
+    left[1] = (vortex_statistic){.column = 1, .stat = VORTEX_NULL_COUNT};
+    left[2] = (vortex_statistic){.column = 1, .stat = VORTEX_MAX, .start = 1};
+    call of = {"prune by SQL", make_prune_sql,
+               MERGE_STATUSES | BIT(VORTEX_BAD_COLUMN) | BIT(VORTEX_BAD_NAME) | BIT(VORTEX_BAD_FLAG) | BIT(VORTEX_BAD_SQL) |
+                   BIT(VORTEX_MISFIT),
+               {NAME(scope[0], "a"), NAME(scope[1], "bc"), TEXT(condition),
+                {.bytes = rows, .count = 3, .width = 8, .pointer = &zone_rows, .len = &zone_rows_len},
+                KNOWN(left[0], "\1\2\0", 3), VALUES(left[0], least, 12), KNOWN(left[1], "\1\1\1", 3), VALUES(left[1], nulls, 24),
+                KNOWN(left[2], "\1\0\1", 3), VALUES(left[2], "?cxbee", 6), ENDS(left[2], text_ends, 3), ENDS(left[0], NULL, 0)},
+               {{3, 1, &answers, &answers_len}, {1, sizeof(vortex_span), &unread, &unread_len}},
+               {{&scope[0].kind, 1}, {&scope[0].nullable, 1}, {&scope[1].kind, 1}, {&scope[1].nullable, 1}, STAT_NUMBERS(left[0]),
+                STAT_NUMBERS(left[1]), STAT_NUMBERS(left[2]), {&flags, 1}}, 1};
+    for (flags = 0; flags <= VORTEX_LAST_NAME; flags += VORTEX_LAST_NAME) mutate(&of, VORTEX_OK);
+    flags = 0;
+}
+
 static void run_texts(void) {
     static const char scan[] = "column a i64?\npart\nstat a max exact 10\nrow 10\npart\nrow 20\nwhere gt col a lit i64 10\n";
     call answered = {"run", make_run, BIT(VORTEX_OK) | BIT(VORTEX_BAD_LINE) | BIT(VORTEX_TOO_SHORT), {TEXT(scan)},
@@ -352,6 +382,7 @@ int main(void) {
     merge_tables();
     merge_a_table();
     prune_a_table();
+    prune_by_sql();
     run_texts();
     printf("mutations: %lu calls over changed arrays are answered by a status\n", calls);
     return 0;

@@ -35,6 +35,7 @@ static void layout(void) {
                        offsetof(vortex_statistic, ends) == 56 && offsetof(vortex_statistic, ends_len) == 64, "vortex_statistic");
     _Static_assert(sizeof(vortex_field) == 24 && offsetof(vortex_field, name) == 0 && offsetof(vortex_field, name_len) == 8 &&
                        offsetof(vortex_field, kind) == 16 && offsetof(vortex_field, nullable) == 17, "vortex_field");
+    _Static_assert(sizeof(vortex_span) == 16 && offsetof(vortex_span, start) == 0 && offsetof(vortex_span, end) == 8, "vortex_span");
 }
 
 /* The least and the greatest of the two numbers, whatever the type. */
@@ -413,6 +414,84 @@ static void every_bad_statistic(void) {
     ANSWERS(9, 9, 9);
 }
 
+/* SQL */
+
+static vortex_span unread[4];
+
+static uint8_t prune_sql(const table *it, const char *text, uint8_t flags, size_t room) {
+    len = 77;
+    return vortex_prune_sql(it->scope, 2, zone_rows, 3, it->stats, 5, (const uint8_t *)text, strlen(text), flags, answers, 3, unread, room,
+                            &len, &fault);
+}
+
+#define SQL(text) prune_sql(&it, text, 0, 4)
+
+/* Each answer is given, and each place of what isn't read. */
+static void every_condition(void) {
+    table it = zones_told();
+    memset(unread, 9, sizeof unread);
+    assert(SQL("a > 9") == VORTEX_OK && len == 0);
+    ANSWERS(VORTEX_SKIP, VORTEX_WHOLE, VORTEX_WHOLE);
+    assert(SQL("10 >= a") == VORTEX_OK && len == 0);
+    ANSWERS(VORTEX_WHOLE, VORTEX_READ, VORTEX_SKIP);
+    assert(SQL("a NOT BETWEEN 6 AND 16") == VORTEX_OK);
+    ANSWERS(VORTEX_WHOLE, VORTEX_SKIP, VORTEX_WHOLE);
+    assert(SQL("b IS NULL OR b LIKE 'd%'") == VORTEX_OK && len == 0);
+    ANSWERS(VORTEX_SKIP, VORTEX_WHOLE, VORTEX_READ);
+    assert(SQL("a > 9.5 AND (lower(b) = 'x' OR c IS NULL)") == VORTEX_OK && len == 2);
+    ANSWERS(VORTEX_SKIP, VORTEX_READ, VORTEX_READ);
+    assert(unread[0].start == 13 && unread[0].end == 27 && unread[1].start == 31 && unread[1].end == 40);
+    assert(prune_sql(&it, "t.a > 9", 0, 4) == VORTEX_OK && len == 1 && unread[0].start == 0 && unread[0].end == 7);
+    ANSWERS(VORTEX_READ, VORTEX_READ, VORTEX_READ);
+    assert(prune_sql(&it, "t.a > 9", VORTEX_LAST_NAME, 4) == VORTEX_OK && len == 0);
+    ANSWERS(VORTEX_SKIP, VORTEX_WHOLE, VORTEX_WHOLE);
+    /* Exactly as much room as there are places, and none where there are none. */
+    assert(prune_sql(&it, "f(a) AND g(a)", 0, 2) == VORTEX_OK && len == 2 && unread[1].start == 9 && unread[1].end == 13);
+    assert(vortex_prune_sql(it.scope, 2, zone_rows, 3, NULL, 0, (const uint8_t *)"1 = 2", 5, 0, answers, 3, NULL, 0, &len, &fault) == VORTEX_OK);
+    ANSWERS(VORTEX_SKIP, VORTEX_SKIP, VORTEX_SKIP);
+    assert(vortex_prune_sql(it.scope, 2, NULL, 0, NULL, 0, (const uint8_t *)"a > 1", 5, 0, NULL, 0, NULL, 0, &len, &fault) == VORTEX_OK);
+}
+
+/* A text that is refused from one byte on up to another, or none, and for a reason by its number. */
+static void no_condition(const char *text, uint8_t status, size_t start, size_t end, size_t why) {
+    table it = zones_told();
+    uint8_t found = SQL(text);
+    int is_told = found == status && fault.entry == start && fault.row == end && fault.column == why && len == 77;
+    if (!is_told) fprintf(stderr, "%s: status %d, bytes %zu to %zu, %zu\n", text, found, fault.entry, fault.row, fault.column);
+    assert(is_told);
+}
+
+/* Texts that are no condition, and too little room; the arrays stay as they were. */
+static void every_bad_condition(void) {
+    table it = zones_told();
+    memset(answers, 9, sizeof answers);
+    memset(unread, 9, sizeof unread);
+    no_condition("a > > 3", VORTEX_BAD_SQL, 4, 0, VORTEX_UNEXPECTED);
+    no_condition("", VORTEX_BAD_SQL, 0, 0, VORTEX_UNEXPECTED);
+    no_condition("b = 'x", VORTEX_BAD_SQL, 4, 0, VORTEX_UNCLOSED);
+    no_condition("a > 3 /* x */", VORTEX_BAD_SQL, 6, 0, VORTEX_COMMENT);
+    no_condition("b = E'x'", VORTEX_BAD_SQL, 4, 0, VORTEX_PREFIXED);
+    no_condition("a = $1", VORTEX_BAD_SQL, 4, 0, VORTEX_DOLLAR);
+    no_condition("a > 3AND b = 'x'", VORTEX_BAD_SQL, 4, 0, VORTEX_GLUED);
+    no_condition("b = 'x' 'y'", VORTEX_BAD_SQL, 8, 0, VORTEX_ADJACENT);
+    no_condition("a > 1 OR b = '\xff'", VORTEX_BAD_SQL, 14, 0, VORTEX_NO_UTF8);
+    no_condition("a > 1 OR b = 3 OR a = 'x'", VORTEX_MISFIT, 9, 14, 0);
+    char deep[202] = {0};
+    memset(deep, '(', 201);
+    assert(SQL(deep) == VORTEX_TOO_DEEP && fault.entry > 60 && fault.entry < 70 && fault.row == 0 && fault.column == 0);
+    assert(prune_sql(&it, "f(a) AND g(a)", 0, 1) == VORTEX_TOO_SHORT && len == 2);
+    assert(prune_sql(&it, "a > 3", 1, 4) == VORTEX_BAD_FLAG && len == 77);
+    assert(vortex_prune_sql(it.scope, 2, zone_rows, 3, it.stats, 5, (const uint8_t *)"a > 3", 5, 0, answers, 2, unread, 4, &len, &fault)
+           == VORTEX_BAD_LENGTH);
+    assert(vortex_prune_sql(it.scope, 0, zone_rows, 3, NULL, 0, (const uint8_t *)"1 = 1", 5, 0, answers, 3, unread, 4, &len, &fault)
+           == VORTEX_BAD_LENGTH);
+    it.stats[3].column = 2;
+    assert(SQL("f(a) > 3") == VORTEX_BAD_COLUMN && fault.entry == 3 && fault.row == 0 && len == 77);
+    assert(prune_sql(&it, "f(a) > 3", 0, 0) == VORTEX_TOO_SHORT && len == 1);
+    ANSWERS(9, 9, 9);
+    for (size_t i = 0; i < sizeof unread; i++) assert(((const uint8_t *)unread)[i] == 9);
+}
+
 static void program(void) {
     const char *text = "column a i64?\npart\nstat a max exact 10\nrow 10\npart\nrow 20\nwhere gt col a lit i64 10\n";
     uint8_t output[32];
@@ -438,6 +517,8 @@ int main(void) {
     every_shard();
     every_bad_question();
     every_bad_statistic();
+    every_condition();
+    every_bad_condition();
     program();
     puts("round trip: each field, type and status is as the header says");
     return 0;

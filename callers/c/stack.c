@@ -1,5 +1,6 @@
 /* SPDX-License-Identifier: Apache-2.0 */
-/* Every call but vortex_run on a thread of 256 KiB: predicates of each form as deep as they may be, deeper, and chains. */
+/* Every call but vortex_run on a thread of 256 KiB: predicates of each form as deep as they may be, deeper, and chains; and
+   conditions in SQL. */
 #define _POSIX_C_SOURCE 200809L
 #include "vortex.h"
 #include <assert.h>
@@ -186,6 +187,73 @@ static void every_torso(void) {
     }
 }
 
+/* Conditions in SQL */
+
+static void *prune_sql(void *given) {
+    question *asked = given;
+    size_t count;
+    vortex_fault fault;
+    vortex_span unread[1];
+    asked->status = vortex_prune_sql(scope, 3, rows, 2, stats, 5, (const uint8_t *)asked->predicate->bytes, asked->predicate->len, 0,
+                                     asked->answers, 2, unread, 1, &count, &fault);
+    return NULL;
+}
+
+/* The status of a call by a text that is a front, a middle and a back so many times, and a word in between. */
+static question asked_sql(const char *front, size_t times, const char *middle, const char *back) {
+    text condition = {0};
+    for (size_t i = 0; i < times; i++) add(&condition, front);
+    add(&condition, middle);
+    for (size_t i = 0; i < times && *back; i++) add(&condition, back);
+    question question = {.predicate = &condition, .status = 99, .answers = {9, 9}};
+    on_a_small_stack(prune_sql, &question);
+    free(condition.bytes);
+    return question;
+}
+
+static void answered_sql(const char *front, size_t times, const char *middle, const char *back, uint8_t first, uint8_t second) {
+    question found = asked_sql(front, times, middle, back);
+    if (found.status != VORTEX_OK) fprintf(stderr, "%s .. %s: status %d\n", front, middle, found.status);
+    assert(found.status == VORTEX_OK && found.answers[0] == first && found.answers[1] == second);
+}
+
+/* A list of many values, none of which stands in zone 0. */
+static void every_list(void) {
+    text list = {0};
+    add(&list, "n IN (20");
+    for (size_t i = 0; i < MANY; i++) add(&list, i % 1000 == 7 ? ", 10" : ", 11");
+    add(&list, ")");
+    question question = {.predicate = &list, .status = 99, .answers = {9, 9}};
+    on_a_small_stack(prune_sql, &question);
+    assert(question.status == VORTEX_OK && question.answers[0] == VORTEX_SKIP && question.answers[1] == VORTEX_READ);
+    free(list.bytes);
+}
+
+/* As deep as a text may nest, deeper, and chains and lists of many items, which aren't deep. */
+static void every_condition(void) {
+    answered_sql("(", 60, "n > 9", ")", VORTEX_SKIP, VORTEX_READ);
+    answered_sql("NOT ", 60, "n > 9", "", VORTEX_SKIP, VORTEX_READ);
+    answered_sql("NOT (", 30, "n > 9 AND s LIKE '%a_b%'", ")", VORTEX_SKIP, VORTEX_READ);
+    answered_sql("(", 60, "n > 9", " IS TRUE)", VORTEX_SKIP, VORTEX_READ);
+    answered_sql("(n >= 0 AND ", 60, "n > 9", ")", VORTEX_SKIP, VORTEX_READ);
+    answered_sql("(n < 0 OR ", 60, "n > 9", ")", VORTEX_SKIP, VORTEX_READ);
+    answered_sql("n >= 0 AND ", MANY, "n > 9", "", VORTEX_SKIP, VORTEX_READ);
+    answered_sql("n < 0 OR ", MANY, "n > 9", "", VORTEX_SKIP, VORTEX_READ);
+    const char *const deep[][2] = {{"(", ")"}, {"NOT ", ""}, {"NOT (", ")"}, {"(n > 0 OR ", ")"}, {"n IN (1, ", ")"}, {"CASE ", "END "}};
+    const size_t depths[] = {64, 65, 66, 1000, MANY};
+    for (size_t i = 0; i < sizeof deep / sizeof *deep; i++)
+        for (size_t d = 0; d < sizeof depths / sizeof *depths; d++) {
+            question found = asked_sql(deep[i][0], depths[d], "n > 9", deep[i][1]);
+            assert(found.status == VORTEX_OK || found.status == VORTEX_BAD_SQL || found.status == VORTEX_TOO_DEEP);
+            assert(found.status == VORTEX_OK || (found.answers[0] == 9 && found.answers[1] == 9));
+        }
+    const char *const torsos[] = {"(", "n > 0 AND ", "'", "n IN (", "-", "t.", "\"", "x'", "CASE ", "f("};
+    for (size_t i = 0; i < sizeof torsos / sizeof *torsos; i++) {
+        uint8_t status = asked_sql(torsos[i], MANY, "", "").status;
+        assert(status == VORTEX_BAD_SQL || status == VORTEX_TOO_DEEP);
+    }
+}
+
 /* The calls about columns and tables, with many rows and many zones. */
 static void *other_calls(void *given) {
     (void)given;
@@ -213,6 +281,8 @@ int main(void) {
     forms_in_turn();
     every_chain();
     every_torso();
+    every_condition();
+    every_list();
     on_a_small_stack(other_calls, NULL);
     puts("stack: each call fits into 256 KiB, and a deeper predicate is refused");
     return 0;

@@ -21,7 +21,7 @@
  *
  * Statuses. A call returns one of the codes of vortex_status. VORTEX_OK is an answer. After every other one the arrays
  * of the caller are as they were, and where a vortex_fault was handed in it says which row or zone, which column and
- * which statistic was meant; a place that has no part in it is 0. A vortex_fault is written on a refusal alone.
+ * which statistic was meant, or which bytes of a text; a place that has no part in it is 0. A vortex_fault is written on a refusal alone.
  *
  * Threads. Calls may run side by side, as long as no array that one of them writes is used by another one. No call may
  * come from a signal handler, or from the forked child of a process with threads.
@@ -62,7 +62,7 @@ enum vortex_status {
     VORTEX_NO_ANSWER = 1,       /* vortex_run: there is no scan, and the output says why in a word */
     VORTEX_BAD_LINE = 2,        /* vortex_run: the output says which line is bad; vortex_prune: the predicate is no
                                    expression over these columns */
-    VORTEX_TOO_SHORT = 3,       /* `output` or `values` is too short: *len says how long it has to be */
+    VORTEX_TOO_SHORT = 3,       /* `output`, `values` or `unread` is too short: *len says how long it has to be */
     VORTEX_NO_MEMORY = 4,       /* memory was refused */
     VORTEX_BAD_KIND = 5,        /* a kind above VORTEX_BINARY, or a `nullable` above 1: which column */
     VORTEX_BAD_STAT = 6,        /* no statistic's number, or the column's type has no such statistic: which statistic */
@@ -75,8 +75,23 @@ enum vortex_status {
     VORTEX_BAD_COLUMN = 13,     /* vortex_prune: a statistic of a column that isn't there: which statistic */
     VORTEX_BAD_NAME = 14,       /* vortex_prune: a name that is none, or a name twice: which column */
     VORTEX_NOT_A_PREDICATE = 15, /* vortex_prune: the expression isn't of type bool */
-    VORTEX_BAD_FLAG = 16,       /* vortex_prune: a flag that isn't known */
-    VORTEX_TOO_DEEP = 17        /* vortex_prune: the predicate has more than VORTEX_MAX_DEPTH levels */
+    VORTEX_BAD_FLAG = 16,       /* vortex_prune, vortex_prune_sql: a flag that isn't known */
+    VORTEX_TOO_DEEP = 17,       /* vortex_prune: the predicate has more than VORTEX_MAX_DEPTH levels; vortex_prune_sql: the
+                                   text nests too deep: which byte */
+    VORTEX_BAD_SQL = 18,        /* vortex_prune_sql: the text is no condition: which byte, and a vortex_sql_fault */
+    VORTEX_MISFIT = 19          /* vortex_prune_sql: the types of a test don't fit: which bytes */
+};
+
+/* Why a text is no condition in SQL: fault->column of VORTEX_BAD_SQL. */
+enum vortex_sql_fault {
+    VORTEX_UNEXPECTED = 0, /* no rule reads the word or sign there, or the text ends too soon */
+    VORTEX_UNCLOSED = 1,   /* a quote that begins there isn't closed */
+    VORTEX_COMMENT = 2,    /* a comment begins there */
+    VORTEX_PREFIXED = 3,   /* a word stands right before a quote, as in E'..' */
+    VORTEX_DOLLAR = 4,     /* a dollar sign outside quotes */
+    VORTEX_GLUED = 5,      /* a number runs into a letter, a dot or a quote */
+    VORTEX_ADJACENT = 6,   /* a text stands right behind another one */
+    VORTEX_NO_UTF8 = 7     /* the text isn't UTF-8 from there on */
 };
 
 /* The version of this header: the major number times 65,536, the minor one times 256, and the patch. */
@@ -132,12 +147,22 @@ enum vortex_answer {
 /* Flags of vortex_prune. */
 enum vortex_flag { VORTEX_NORMALIZE = 1 /* taken and without effect: each call prunes by the normal form, too */ };
 
+/* Flags of vortex_prune_sql. */
+enum vortex_sql_flag { VORTEX_LAST_NAME = 2 /* a name of several parts, as t.a, is the column of its last part */ };
+
 /* Where a call was refused. */
 typedef struct vortex_fault {
-    size_t row;    /* the row of a column of values, or the zone of a table */
-    size_t column; /* the column; of vortex_merge 0 for the left table and 1 for the right one */
-    size_t entry;  /* the statistic, by its place among those that were handed in */
+    size_t row;    /* the row of a column of values, or the zone of a table; of VORTEX_MISFIT the byte behind the test */
+    size_t column; /* the column; of vortex_merge 0 for the left table and 1 for the right one; of VORTEX_BAD_SQL why */
+    size_t entry;  /* the statistic, by its place among those that were handed in; of VORTEX_BAD_SQL, VORTEX_MISFIT and
+                      VORTEX_TOO_DEEP of vortex_prune_sql the byte of the text at which what is refused begins */
 } vortex_fault;
+
+/* The bytes of a text from where a test begins up to where it ends. */
+typedef struct vortex_span {
+    size_t start; /* its first byte */
+    size_t end;   /* the byte behind its last one */
+} vortex_span;
 
 /* The values of a column. */
 typedef struct vortex_values {
@@ -245,6 +270,26 @@ uint8_t vortex_check(const vortex_values *column, uint64_t rows, const vortex_st
 uint8_t vortex_prune(const vortex_field *scope, size_t scope_len, const uint64_t *rows, size_t rows_len,
                      const vortex_statistic *stats, size_t stats_len, const uint8_t *predicate, size_t predicate_len,
                      uint8_t flags, uint8_t *answers, size_t answers_len, vortex_fault *fault);
+
+/*
+ * What to do with each zone under a condition in SQL, as it stands behind WHERE: "qty > 9000 AND name LIKE 'pre%'".
+ * docs/SQL.md says what is read and how. Tests that aren't read, as lower(city) = 'rome' or one of a column that the scope
+ * hasn't, may mean anything: of whatever rows the statistics are true, and whatever those tests say of them, no row of a
+ * zone that is skipped satisfies the condition, and each row of a zone that is whole does. The rest of the condition prunes
+ * as in vortex_prune, and the rows, the statistics and `answers` are as there.
+ *
+ * `unread` has the places of the tests that weren't read at its front, ascending; what stands behind them stays as it was.
+ * *len is how many there are, or with VORTEX_TOO_SHORT how many `unread` has to have room for: never more than text_len.
+ * *len is written with VORTEX_OK and VORTEX_TOO_SHORT alone. `text` needs no 0 at its end.
+ *
+ * Of several faults the first is told, in this order: the flags, the length of `answers`, the scope, which has a column at
+ * least, or VORTEX_BAD_LENGTH is returned; the text (VORTEX_BAD_SQL, VORTEX_TOO_DEEP, VORTEX_MISFIT); too little room in
+ * `unread`; and the statistics as in vortex_prune. A call takes memory by the length of the text, and else as vortex_prune.
+ */
+uint8_t vortex_prune_sql(const vortex_field *scope, size_t scope_len, const uint64_t *rows, size_t rows_len,
+                         const vortex_statistic *stats, size_t stats_len, const uint8_t *text, size_t text_len,
+                         uint8_t flags, uint8_t *answers, size_t answers_len, vortex_span *unread, size_t unread_len,
+                         size_t *len, vortex_fault *fault);
 
 #ifdef __cplusplus
 }
