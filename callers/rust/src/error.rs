@@ -3,6 +3,7 @@
 use crate::column::Kind;
 use crate::literal::Literal;
 use crate::raw::status;
+use crate::sql::SqlError;
 use crate::stat::Stat;
 use std::fmt;
 
@@ -86,6 +87,8 @@ pub enum Error {
     NotAPredicate,
     /// The predicate has more than [`MAX_DEPTH`] levels.
     TooDeep,
+    /// The text is no condition in SQL.
+    Sql(SqlError),
     /// What is handed in doesn't fit the map, or two maps don't fit each other: how, in words.
     Misfit(String),
     /// A status that this crate doesn't expect of the call.
@@ -154,6 +157,7 @@ impl fmt::Display for Error {
             Error::BadPredicate => write!(f, "the predicate is no expression over the columns that it names"),
             Error::NotAPredicate => write!(f, "the predicate isn't of type bool"),
             Error::TooDeep => write!(f, "the predicate has more than {MAX_DEPTH} levels"),
+            Error::Sql(error) => error.fmt(f),
             Error::Misfit(words) => f.write_str(words),
             Error::Other(status) => write!(f, "the library answered by status {status}, which is unknown here"),
         }

@@ -19,6 +19,25 @@
 //! # Ok::<(), Error>(())
 //! ```
 //!
+//! # Conditions in SQL
+//!
+//! A condition as it stands behind WHERE prunes, too. What isn't read of it may mean anything, and the answer tells which
+//! tests those are.
+//!
+//! ```
+//! use foalmorrow::{Answer, Column, DType, Error, Kind, Names, Stat, ZoneMap};
+//!
+//! let scope = [("qty", DType { kind: Kind::I64, nullable: false })];
+//! let mut map = ZoneMap::new(&scope, &[Stat::Min, Stat::Max])?;
+//! map.push(&[Column::numbers(&[12_i64, 100])])?;
+//! map.push(&[Column::numbers(&[8000_i64, 9500])])?;
+//! let text = "qty > 9000 AND lower(city) = 'rome'";
+//! let found = map.prune_sql(text, Names::Plain)?;
+//! assert_eq!(found.zones, [Answer::Skip, Answer::Read]);
+//! assert_eq!(&text[found.unread[0].clone()], "lower(city) = 'rome'");
+//! # Ok::<(), Error>(())
+//! ```
+//!
 //! # Dates, times, decimals and floating numbers
 //!
 //! Such a column stands as numbers of a [`Kind`], onto which its [`Logical`] type maps it in its own order, and a
@@ -60,6 +79,7 @@ mod predicate;
 mod pruning;
 mod ranges;
 mod raw;
+mod sql;
 mod stat;
 mod time;
 mod typed;
@@ -73,6 +93,7 @@ pub use float::{Float32, Float64, Nan};
 pub use literal::{Literal, Operand, Operator};
 pub use logical::{Logical, NoLogical};
 pub use predicate::{col, ColumnName, Node, Predicate};
+pub use sql::{Names, SqlAnswers, SqlError, SqlFault};
 pub use stat::{Precision, Stat, Value};
 pub use time::{Date, DateTime, Instant, NoTime, Time, Unit};
 pub use typed::{Decimal, Float, Literals, NoDecimal, TypedColumn};

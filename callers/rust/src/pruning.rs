@@ -15,12 +15,66 @@ use std::marker::PhantomData;
 /// The statistics that pruning reads.
 const READ: [Stat; 3] = [Stat::Min, Stat::Max, Stat::NullCount];
 
+/// The columns of a map that are handed over, by their places.
+pub(crate) struct Handed<'a> {
+    map: &'a ZoneMap,
+    places: Vec<usize>,
+}
+
+impl<'a> Handed<'a> {
+    pub(crate) fn of(map: &'a ZoneMap, places: Vec<usize>) -> Self {
+        Handed { map, places }
+    }
+
+    pub(crate) fn rows(&self) -> &'a [u64] {
+        self.map.rows()
+    }
+
+    fn columns(&self) -> impl Iterator<Item = &'a ColumnStats> + '_ {
+        self.places.iter().map(|place| &self.map.columns()[*place])
+    }
+
+    // The counts of nulls that stand in for those that lack, column by column.
+    pub(crate) fn null_counts(&self) -> Vec<Option<Entry>> {
+        self.columns().map(null_counts).collect()
+    }
+
+    // The columns by the names that are given to them; behind them truths of which nothing is known.
+    pub(crate) fn scope<'n>(&self, names: impl Iterator<Item = &'n str>) -> Vec<raw::Field<'n>> {
+        let types = self.columns().map(|column| (column.dtype().kind, column.dtype().nullable));
+        let unnamed = std::iter::repeat((Kind::Bool, true));
+        let field = |(name, (kind, nullable)): (&'n str, (Kind, bool))| raw::Field {
+            name: name.as_ptr(),
+            name_len: name.len(),
+            kind: kind as u8,
+            nullable: u8::from(nullable),
+            lent: PhantomData,
+        };
+        names.zip(types.chain(unnamed)).map(field).collect()
+    }
+
+    // What pruning reads of the columns, with the counts of nulls that stand in for those that lack.
+    pub(crate) fn entries<'e>(&'e self, counts: &'e [Option<Entry>]) -> Vec<(usize, &'e Entry)> {
+        let of_column = |(slot, (column, count)): (usize, (&'e ColumnStats, &'e Option<Entry>))| {
+            let read = column.entries().iter().filter(|entry| READ.contains(&entry.stat));
+            let kept = read.filter(|entry| count.is_none() || entry.stat != Stat::NullCount);
+            kept.chain(count).map(move |entry| (slot, entry))
+        };
+        self.columns().zip(counts).enumerate().flat_map(of_column).collect()
+    }
+
+    // The place of a statistic in a zone.
+    pub(crate) fn place(&self, entry: Option<&(usize, &Entry)>, zone: usize) -> Place {
+        let name = |slot: usize| self.places.get(slot).map(|place| self.map.names()[*place].clone());
+        let column = entry.and_then(|(slot, _)| name(*slot));
+        Place { column, stat: entry.map(|(_, entry)| entry.stat), zone: Some(zone), ..Place::default() }
+    }
+}
+
 /// A predicate over a map's columns, of which those alone are handed over that it names: as `c0`, `c1`, and so on.
 pub(crate) struct Asked<'a> {
-    map: &'a ZoneMap,
+    handed: Handed<'a>,
     text: String,
-    /// The places in the map of the columns that are handed over.
-    places: Vec<usize>,
     /// How many opaque conditions there are, each a column of its own.
     unknown: usize,
 }
@@ -54,24 +108,21 @@ impl<'a> Asked<'a> {
         let name = |name: &str, out: &mut dyn fmt::Write| write!(out, "col c{}", slots[name]);
         let opaque = |place: usize, out: &mut dyn fmt::Write| write!(out, "col o{place}");
         predicate.write_to_prune(&mut text, &name, &opaque).expect("a String takes all that is written to it");
-        Ok(Asked { map, text, places, unknown })
-    }
-
-    fn columns(&self) -> impl Iterator<Item = &'a ColumnStats> + '_ {
-        self.places.iter().map(|place| &self.map.columns()[*place])
+        Ok(Asked { handed: Handed::of(map, places), text, unknown })
     }
 
     // What to do with each zone.
     pub(crate) fn answers(&self) -> Result<Vec<Answer>, Error> {
-        let names = (0..self.places.len()).map(|slot| format!("c{slot}"));
+        let named = self.handed.places.len();
+        let names = (0..named).map(|slot| format!("c{slot}"));
         // The library takes no table without columns: a predicate that names none gets one that it doesn't name.
-        let unknown = self.unknown.max(usize::from(self.places.is_empty()));
+        let unknown = self.unknown.max(usize::from(named == 0));
         let names: Vec<String> = names.chain((0..unknown).map(|place| format!("o{place}"))).collect();
-        let scope = self.scope(&names);
-        let counts: Vec<Option<Entry>> = self.columns().map(null_counts).collect();
-        let entries: Vec<(usize, &Entry)> = self.entries(&counts).collect();
+        let scope = self.handed.scope(names.iter().map(String::as_str));
+        let counts = self.handed.null_counts();
+        let entries = self.handed.entries(&counts);
         let stats: Vec<raw::Statistic<'_>> = entries.iter().map(|(slot, entry)| entry.raw(*slot)).collect();
-        let rows = self.map.rows();
+        let rows = self.handed.rows();
         let mut codes = vec![0; rows.len()];
         let mut fault = Fault::default();
         // SAFETY: the arrays are as long as is said, the answers are lent to this call alone, and the others for as
@@ -94,42 +145,12 @@ impl<'a> Asked<'a> {
         };
         match found {
             status::OK => codes.into_iter().map(answer).collect(),
-            refused => Err(Error::of(refused, self.place(entries.get(fault.entry), fault.row))),
+            refused => Err(Error::of(refused, self.handed.place(entries.get(fault.entry), fault.row))),
         }
-    }
-
-    // The columns by the names that are given to them, and opaque conditions as truths of which nothing is known.
-    fn scope<'n>(&self, names: &'n [String]) -> Vec<raw::Field<'n>> {
-        let types = self.columns().map(|column| (column.dtype().kind, column.dtype().nullable));
-        let unnamed = std::iter::repeat((Kind::Bool, true));
-        let field = |(name, (kind, nullable)): (&'n String, (Kind, bool))| raw::Field {
-            name: name.as_ptr(),
-            name_len: name.len(),
-            kind: kind as u8,
-            nullable: u8::from(nullable),
-            lent: PhantomData,
-        };
-        names.iter().zip(types.chain(unnamed)).map(field).collect()
-    }
-
-    // What pruning reads of the columns that are handed over, with the counts of nulls that stand in for those that lack.
-    fn entries<'e>(&'e self, counts: &'e [Option<Entry>]) -> impl Iterator<Item = (usize, &'e Entry)> {
-        self.columns().zip(counts).enumerate().flat_map(|(slot, (column, count))| {
-            let read = column.entries().iter().filter(|entry| READ.contains(&entry.stat));
-            let kept = read.filter(|entry| count.is_none() || entry.stat != Stat::NullCount);
-            kept.chain(count).map(move |entry| (slot, entry))
-        })
-    }
-
-    // The place of a statistic in a zone.
-    fn place(&self, entry: Option<&(usize, &Entry)>, zone: usize) -> Place {
-        let name = |slot: usize| self.places.get(slot).map(|place| self.map.names()[*place].clone());
-        let column = entry.and_then(|(slot, _)| name(*slot));
-        Place { column, stat: entry.map(|(_, entry)| entry.stat), zone: Some(zone), ..Place::default() }
     }
 }
 
-fn answer(code: u8) -> Result<Answer, Error> {
+pub(crate) fn answer(code: u8) -> Result<Answer, Error> {
     match code {
         0 => Ok(Answer::Read),
         1 => Ok(Answer::Skip),

@@ -21,7 +21,12 @@ pub mod status {
     pub const UNTRUE: u8 = 12;
     pub const NOT_A_PREDICATE: u8 = 15;
     pub const TOO_DEEP: u8 = 17;
+    pub const BAD_SQL: u8 = 18;
+    pub const MISFIT: u8 = 19;
 }
+
+/// `VORTEX_LAST_NAME`, a flag of `vortex_prune_sql`.
+pub const LAST_NAME: u8 = 2;
 
 /// `vortex_fault`.
 #[repr(C)]
@@ -30,6 +35,14 @@ pub struct Fault {
     pub row: usize,
     pub column: usize,
     pub entry: usize,
+}
+
+/// `vortex_span`.
+#[repr(C)]
+#[derive(Clone, Copy, Debug, Default)]
+pub struct Span {
+    pub start: usize,
+    pub end: usize,
 }
 
 /// `vortex_values`, whose arrays are lent for `'a`.
@@ -151,6 +164,24 @@ unsafe extern "C" {
         flags: u8,
         answers: *mut u8,
         answers_len: usize,
+        fault: *mut Fault,
+    ) -> u8;
+
+    pub fn vortex_prune_sql(
+        scope: *const Field<'_>,
+        scope_len: usize,
+        rows: *const u64,
+        rows_len: usize,
+        stats: *const Statistic<'_>,
+        stats_len: usize,
+        text: *const u8,
+        text_len: usize,
+        flags: u8,
+        answers: *mut u8,
+        answers_len: usize,
+        unread: *mut Span,
+        unread_len: usize,
+        len: *mut usize,
         fault: *mut Fault,
     ) -> u8;
 }

@@ -6,6 +6,7 @@ use crate::error::Error;
 use crate::logical::Logical;
 use crate::predicate::Predicate;
 use crate::pruning::Asked;
+use crate::sql::{self, Names, SqlAnswers};
 use crate::stat::{Precision, Stat, Value};
 use std::collections::HashSet;
 
@@ -197,6 +198,21 @@ impl ZoneMap {
     /// `UnknownColumn`, `BadType` and `BadLiteral` with the column; `TooDeep` and `NoMemory`.
     pub fn prune(&self, predicate: &Predicate) -> Result<Vec<Answer>, Error> {
         Asked::of(self, predicate)?.answers()
+    }
+
+    /// Tells what to do with each zone under a condition in SQL, as it stands behind WHERE. The repository's page
+    /// `docs/SQL.md` says what is read, and how.
+    ///
+    /// A test that isn't read may mean anything, and the answer tells its place. Whatever those tests mean: of whatever
+    /// rows the statistics are true, no row of a skipped zone satisfies the condition, and each row of a whole zone does.
+    ///
+    /// A test of a column that the map hasn't, that has a [`Logical`] type, or whose name isn't made of ASCII letters,
+    /// digits and `_` isn't read: dates, timestamps and decimals are never compared by the numbers that they stand as.
+    ///
+    /// # Errors
+    /// `Sql` with the bytes of the text; `NoMemory`.
+    pub fn prune_sql(&self, text: &str, names: Names) -> Result<SqlAnswers, Error> {
+        sql::prune_sql(self, text, names)
     }
 
     /// Answers as [`ZoneMap::prune`] does, which goes by the normal form, too.
