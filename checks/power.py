@@ -228,7 +228,7 @@ def beside_ideal(rng: Random, kind: str, predicates: int) -> Count:
     footers, grid, count = footers_of(columns, zones), Grid(columns), Count()
     for _ in range(predicates):
         tree = tree_of_kind(rng)
-        answers = footers.prune(words(tree))
+        answers = footers.prune_where(words(tree))
         for zone, answer, ideal in zip(zones, answers, grid.verdicts(tree, zones)):
             count.add(tree, zone, answer, ideal)
     return count
@@ -273,7 +273,7 @@ def beside_postgres(rng: Random, predicates: int) -> bool:
         make_tables(query, zones)
         for _ in range(predicates):
             tree = over_two(tree_of(rng, rng.randint(1, 4), lambda rng: rng.choice(kinds)(rng)))
-            ours = {place for place, it in enumerate(footers.prune(words(tree))) if it == Answer.SKIP}
+            ours = {place for place, it in enumerate(footers.prune_where(words(tree))) if it == Answer.SKIP}
             kept, some = kept_by_plan(query, sql(tree))
             theirs = set(range(PARTS)) - kept
             found = {"ours": ours, "theirs": theirs, "ours alone": ours - theirs}

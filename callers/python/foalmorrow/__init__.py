@@ -8,6 +8,7 @@ from .library import LibraryError, Refused, run, version
 from .overlap import Overlap
 from .predicate import Predicate, PredicateError, col, opaque
 from .kinds import Answer, Column, DType, Logical, Precision, Stat
+from .sql import SqlError, UnreadWarning
 from .types import Date, Decimal, Enum, FixedBinary, Float32, Float64, Time, Timestamp, Unmapped, Uuid
 
 __all__ = [
@@ -34,11 +35,13 @@ __all__ = [
     "Predicate",
     "PredicateError",
     "Refused",
+    "SqlError",
     "Stat",
     "Statistic",
     "Time",
     "Timestamp",
     "Unmapped",
+    "UnreadWarning",
     "Untrue",
     "Uuid",
     "ValueFault",

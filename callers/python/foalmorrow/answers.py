@@ -33,14 +33,16 @@ class Answers(Sequence[Answer]):
     (<4 zones: 1 to be read, 1 skipped, 2 whole>, [1, 2, 3], [(1, 4)])
     """
 
-    __slots__ = ("codes",)
+    __slots__ = ("codes", "unread")
 
-    def __init__(self, codes: bytes | bytearray | memoryview | Iterable[int]):
+    def __init__(self, codes: bytes | bytearray | memoryview | Iterable[int], unread: Iterable[str] = ()):
         """Takes a code for each zone. ValueError where one is no ``Answer``."""
         #: A byte a zone, an ``Answer`` each.
         self.codes = memoryview(codes if isinstance(codes, (bytes, bytearray, memoryview)) else bytes(codes))
         if bytes(self.codes).translate(None, _CODES):
             raise ValueError("a code above 2 is no answer")
+        #: The tests of a condition in SQL that weren't read, in its order: nothing was pruned by them. Of a ``Predicate`` there are none.
+        self.unread = tuple(unread)
 
     def __len__(self) -> int:
         return len(self.codes)
@@ -50,7 +52,7 @@ class Answers(Sequence[Answer]):
     @overload
     def __getitem__(self, place: slice) -> Answers: ...
     def __getitem__(self, place: int | slice) -> Answer | Answers:
-        return Answers(self.codes[place]) if isinstance(place, slice) else Answer(self.codes[place])
+        return Answers(self.codes[place], self.unread) if isinstance(place, slice) else Answer(self.codes[place])
 
     def __iter__(self) -> Iterator[Answer]:
         return map(_ANSWERS.__getitem__, self.codes)
@@ -65,14 +67,15 @@ class Answers(Sequence[Answer]):
     __hash__ = None  # type: ignore[assignment]
 
     def __or__(self, other: Answers) -> Answers:
-        """What two answers about the same zones tell together: a zone is skipped or whole where one of them says so.
+        """What two answers about the same zones tell together: a zone is skipped or whole where one of them says so. What was not read of one
+        condition stands before what was not read of the other one.
         """
         if len(self) != len(other):
             raise ValueError(f"answers about {len(self)} and about {len(other)} zones")
         if numpy is not None:
             left, right = numpy.asarray(self), numpy.asarray(other)
-            return Answers(numpy.where(left == Answer.READ, right, left).tobytes())
-        return Answers(a or b for a, b in zip(self.codes, other.codes))
+            return Answers(numpy.where(left == Answer.READ, right, left).tobytes(), self.unread + other.unread)
+        return Answers((a or b for a, b in zip(self.codes, other.codes)), self.unread + other.unread)
 
     def __repr__(self) -> str:
         return f"<{len(self)} zones: {self.count(Answer.READ)} to be read, {self.count(Answer.SKIP)} skipped, {self.count(Answer.WHOLE)} whole>"

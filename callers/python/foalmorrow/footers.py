@@ -8,7 +8,7 @@ from array import array
 from collections.abc import Collection, Iterable, Iterator, Mapping, Sequence
 from typing import Any, Literal, NamedTuple
 
-from . import files, library
+from . import files, library, logical_sql
 from .answers import Answers
 from .arrays import ValueFault, Values
 from .explain import Explanation
@@ -17,7 +17,8 @@ from .kinds import Column, DType, Logical, Precision, Stat, stat_dtype
 from .overlap import Overlap, overlap
 from .predicate import Opaque, Predicate, PredicateError
 from .reading import Nullable, Read, Where, read, read_column
-from .spelling import is_name
+from .spelling import is_name, unnamed
+from .sql import warn_of
 from .statistic import FooterError, Statistic, absent, joined_statistics, without_nulls
 from .types import Float32, Float64
 
@@ -166,33 +167,96 @@ class Footers:
         """Returns what is known of a zone, by the values that are kept."""
         return {key: statistic.at(zone) for key, statistic in self.statistics.items() if statistic.known[zone]}
 
-    def prune(self, predicate: Predicate | str, normalize: bool = False) -> Answers:
+    def prune(self, predicate: Predicate | str, normalize: bool = False, *, last_names: bool = False) -> Answers:
         """Returns what to do with each zone: of whatever rows the statistics are true, no row of a skipped zone satisfies the predicate and each
         row of a whole one does.
 
-        A predicate is built from columns (``col("a") > 3``), whatever their names, or the words of a ``where`` line, which know the columns whose
-        names the language takes. Pruning goes by the predicate as it is, by its normal form, and by tests of its truth that see columns of
-        nulls alone; ``normalize`` is taken and has no effect. The arrays of the columns that it names are handed over as they are. A column
-        that isn't nullable has an exact null count of 0 where nothing else is known of it.
+        A predicate is built from columns (``col("a") > 3``), whatever their names, or it is a text: a condition in SQL as it stands behind
+        WHERE, which ``docs/SQL.md`` describes. Pruning goes by the predicate as it is, by its normal form, and by tests of its truth that see
+        columns of nulls alone; ``normalize`` is taken and has no effect. The arrays of the columns that it names are handed over as they are.
+        A column that isn't nullable has an exact null count of 0 where nothing else is known of it.
 
-        An opaque condition may be anything of each row: it is a column of its own without statistics. The words of a ``where`` line compare the
-        physical values of columns.
+        An opaque condition may be anything of each row: it is a column of its own without statistics. So may a test in SQL that isn't read:
+        ``unread`` of the answer has the texts of these, and one ``UnreadWarning`` tells of them. A test of a column that the table hasn't, or whose
+        name isn't made of ASCII letters, digits and ``_``, isn't read. Nor is one of a logical type, but for comparisons of dates, timestamps and
+        decimals with literals of their own type, as ``day >= DATE '2026-01-02'``. With ``last_names`` a name of several parts, as ``t.a``, is the
+        column of its last one, and else it isn't read.
 
         PredicateError where the predicate names a column that isn't there, compares a column with a value that isn't of its type, isn't of
-        type bool, or nests deeper than 128 levels; Refused, with the column, the statistic and the zone, where an array says what can't be.
+        type bool, or nests deeper than 128 levels; SqlError, with the place, where a text is no condition; Refused, with the column, the
+        statistic and the zone, where an array says what can't be.
 
         >>> footers = Footers.measure([Column("a", DType.I64)], [{"a": [1, 5]}, {"a": [7, 9]}])
         >>> footers.prune(col("a").between(6, 9))
         <2 zones: 0 to be read, 1 skipped, 1 whole>
+        >>> footers.prune("a BETWEEN 6 AND 9").unread
+        ()
         """
-        if isinstance(predicate, Predicate):
-            columns, names, text, unknown = self._spelled(predicate)
-        elif isinstance(predicate, str):
-            columns, unknown = [column for column in self.columns if is_name(column.name)], []
-            names, text = [column.name for column in columns], predicate
-        else:
+        if isinstance(predicate, str):
+            return self._prune_sql(predicate, last_names)
+        if not isinstance(predicate, Predicate):
             raise TypeError(f"{predicate!r} is no predicate: compare a column, as in col('a') == True")
+        columns, names, text, unknown = self._spelled(predicate)
         return Answers(library.prune(columns, names, self.rows, self._handed(columns), text, unknown))
+
+    def prune_where(self, words: str) -> Answers:
+        """Returns what to do with each zone under the words of a ``where`` line of the program's language, as ``prune`` does under a predicate.
+
+        The words know the columns whose names the language takes, and compare their physical values. Errors are those of ``prune``.
+
+        >>> footers = Footers.measure([Column("a", DType.I64)], [{"a": [1, 5]}, {"a": [7, 9]}])
+        >>> footers.prune_where("gt col a lit i64 5")
+        <2 zones: 0 to be read, 1 skipped, 1 whole>
+        """
+        columns = [column for column in self.columns if is_name(column.name)]
+        return Answers(library.prune(columns, [column.name for column in columns], self.rows, self._handed(columns), words))
+
+    def _prune_sql(self, condition: str, last_names: bool) -> Answers:
+        """Returns the answer to a condition in SQL. Tests that aren't read are tried over the numbers of dates, timestamps and decimals."""
+        codes, unread = self._answered_sql(condition, {}, last_names)
+        named = {it.name: it for it in self.columns if it.logical is not None and it.name in condition}
+        if unread and named:
+            text, names, left = self._over_numbers(condition, unread, named)
+            if names:
+                more, still = self._answered_sql(text, names, last_names)
+                # A test that is told as unread all the same leaves the first answer, which is true.
+                if len(still) == len(left):
+                    codes, unread = more, left
+        words = [condition.encode()[start:end].decode() for start, end in unread]
+        warn_of(words, stacklevel=3)
+        return Answers(codes, words)
+
+    def _answered_sql(self, condition: str, names: Mapping[str, str], last_names: bool) -> tuple[bytearray, list[tuple[int, int]]]:
+        """Returns a code for each zone, and the bytes of tests that weren't read. Columns of logical types are there by the names that they are given.
+
+        No other column is handed over whose name doesn't stand in the condition.
+        """
+        plain = [it for it in self.columns if it.logical is None and is_name(it.name) and it.name in condition]
+        columns = [*plain, *(self._column(name) for name in names)]
+        spelled = [*(it.name for it in plain), *names.values()]
+        handed = self._handed(columns)
+        if not columns:
+            # The library takes no table without columns.
+            columns, spelled = [Column("", DType.BOOL, True)], [unnamed(condition)]
+        return library.prune_sql(columns, spelled, self.rows, handed, condition, last_names)
+
+    def _over_numbers(
+        self, condition: str, unread: Sequence[tuple[int, int]], named: Mapping[str, Column]
+    ) -> tuple[str, dict[str, str], list[tuple[int, int]]]:
+        """Returns a condition in which tests of logical types stand over numbers, the names of their columns there, and the tests that are left unread."""
+        text, made, names, left, at = condition.encode(), b"", dict[str, str](), list[tuple[int, int]](), 0
+        prefix = unnamed(condition)
+
+        def name_of(name: str) -> str:
+            return names.setdefault(name, f"{prefix}_{len(names)}")
+
+        for start, end in unread:
+            found = logical_sql.of_numbers(text[start:end].decode(), named, name_of)
+            if found is None:
+                left.append((start, end))
+            else:
+                made, at = made + text[at:start] + b"(" + found.encode() + b")", end
+        return (made + text[at:]).decode(), names, left
 
     def _spelled(self, predicate: Predicate) -> tuple[list[Column], list[str], str, list[str]]:
         """Returns the columns that a predicate names, the names that it gives them, its text, and the names of its opaque conditions."""

@@ -18,6 +18,7 @@ from typing import Literal
 from .arrays import Values, moved
 from .kinds import Column, DType, Stat, stat_dtype
 from .predicate import PredicateError
+from .sql import misfit, no_condition, too_deep
 from .statistic import Statistic
 
 try:
@@ -47,6 +48,8 @@ class Status(enum.IntEnum):
     NOT_A_PREDICATE = 15
     BAD_FLAG = 16
     TOO_DEEP = 17
+    BAD_SQL = 18
+    MISFIT = 19
 
 
 #: How deep a predicate and its normal form may nest, as VORTEX_MAX_DEPTH says.
@@ -72,6 +75,10 @@ _SENTENCES = {
 
 #: What a text or bytes of a statistic have room for at first.
 _ROOM = 256
+#: For how many tests that aren't read there is room at first.
+_ROOM_UNREAD = 16
+#: The flag by which a name of several parts is the column of its last one.
+_LAST_NAME = 2
 
 
 class LibraryError(OSError):
@@ -153,6 +160,10 @@ class CField(Structure):
     _fields_ = [("name", ctypes.c_void_p), ("name_len", c_size_t), ("kind", c_uint8), ("nullable", c_uint8)]
 
 
+class CSpan(Structure):
+    _fields_ = [("start", c_size_t), ("end", c_size_t)]
+
+
 class _Lent:
     """Addresses of buffers, which are kept as long as a call needs them."""
 
@@ -204,6 +215,7 @@ def _load() -> ctypes.CDLL:
         "vortex_merge": [c_uint8, c_uint8, size, byte, size, byte, size, byte, size, byte, size, byte, size, POINTER(size), place],
         "vortex_merge_zones": [c_uint8, c_uint8, size, byte, size, byte, size, byte, size, byte, size, POINTER(size), place],
         "vortex_prune": [byte, size, byte, size, byte, size, byte, size, c_uint8, byte, size, place],
+        "vortex_prune_sql": [byte, size, byte, size, byte, size, byte, size, c_uint8, byte, size, byte, size, POINTER(size), place],
     }
     for name, types in calls.items():
         call = getattr(loaded, name, None)
@@ -395,6 +407,24 @@ def merge_zones(column: Column, zones: int, statistics: Mapping[Stat, Statistic]
     return _of_output(column, stats, 1, known, ends, output)
 
 
+def _scope(lent: _Lent, spelled: Sequence[tuple[bytes, DType, bool]]) -> ctypes.Array[CField]:
+    """Returns columns by their names, their types and whether they are nullable."""
+    return (CField * len(spelled))(*[CField(lent.at(name), len(name), dtype, nullable) for name, dtype, nullable in spelled])
+
+
+def _zones(lent: _Lent, columns: Sequence[Column], statistics: Mapping[tuple[str, Stat], Statistic]) -> ctypes.Array[CStatistic]:
+    """Returns statistics of columns, each by the place of its column."""
+    places = {column.name: place for place, column in enumerate(columns)}
+    return _table([_statistic(lent, places[name], stat, it) for (name, stat), it in statistics.items()])
+
+
+def _encoded(text: str, word: str) -> bytes:
+    try:
+        return text.encode()
+    except UnicodeEncodeError as wrong:
+        raise PredicateError(f"the {word} is no Unicode text: {wrong}") from wrong
+
+
 def prune(
     columns: Sequence[Column],
     names: Sequence[str],
@@ -408,17 +438,50 @@ def prune(
     ``unknown`` names the columns of truths of which nothing is known, as opaque conditions are.
     """
     lent, fault, keys = _Lent(), Fault(), list(statistics)
-    places = {column.name: place for place, column in enumerate(columns)}
     spelled = [(name.encode(), it.dtype, it.nullable) for name, it in zip(names, columns)]
     spelled += [(name.encode(), DType.BOOL, True) for name in unknown]
-    scope = (CField * len(spelled))(*[CField(lent.at(name), len(name), dtype, nullable) for name, dtype, nullable in spelled])
-    table = _table([_statistic(lent, places[name], stat, statistics[name, stat]) for name, stat in keys])
-    try:
-        text = predicate.encode()
-    except UnicodeEncodeError as wrong:
-        raise PredicateError(f"the predicate is no Unicode text: {wrong}") from wrong
+    scope, table, text = _scope(lent, spelled), _zones(lent, columns, statistics), _encoded(predicate, "predicate")
     answers = bytearray(len(rows))
     given = (scope, len(spelled), lent.at(rows), len(rows), table, len(keys), lent.at(text), len(text), 0)
     status = _library().vortex_prune(*given, lent.at(answers), len(answers), ctypes.byref(fault))
     _answered_zones(status, fault, columns, keys)
     return answers
+
+
+def prune_sql(
+    columns: Sequence[Column],
+    names: Sequence[str],
+    rows: array[int],
+    statistics: Mapping[tuple[str, Stat], Statistic],
+    condition: str,
+    last_names: bool,
+) -> tuple[bytearray, list[tuple[int, int]]]:
+    """Returns what to do with each zone under a condition in SQL, a byte each, and the bytes of its text at which the tests stand that weren't read.
+
+    The condition calls the columns by ``names``. A name of several parts is the column of its last one with ``last_names``, and else it isn't read.
+    """
+    lent, fault, length, keys = _Lent(), Fault(), c_size_t(), list(statistics)
+    spelled = [(name.encode(), it.dtype, it.nullable) for name, it in zip(names, columns)]
+    scope, table, text = _scope(lent, spelled), _zones(lent, columns, statistics), _encoded(condition, "condition")
+    answers, room = bytearray(len(rows)), _ROOM_UNREAD
+    given = (scope, len(spelled), lent.at(rows), len(rows), table, len(keys), lent.at(text), len(text), _LAST_NAME if last_names else 0)
+    while True:
+        unread = (CSpan * room)()
+        outs = (lent.at(answers), len(answers), unread, room, ctypes.byref(length), ctypes.byref(fault))
+        status = _library().vortex_prune_sql(*given, *outs)
+        if status != Status.TOO_SHORT:
+            break
+        room = length.value
+    _answered_sql(status, fault, text)
+    _answered_zones(status, fault, columns, keys)
+    return answers, [(it.start, it.end) for it in unread[: length.value]]
+
+
+def _answered_sql(status: int, fault: Fault, text: bytes) -> None:
+    """Nothing where the text is a condition, and else what was refused of it."""
+    if status == Status.BAD_SQL:
+        raise no_condition(text, fault.column, fault.entry)
+    if status == Status.TOO_DEEP:
+        raise too_deep(text, fault.entry)
+    if status == Status.MISFIT:
+        raise misfit(text, fault.entry, fault.row)

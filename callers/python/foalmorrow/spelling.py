@@ -4,6 +4,7 @@ from __future__ import annotations
 
 import datetime
 import decimal
+import itertools
 import re
 import uuid
 from typing import Any
@@ -21,6 +22,15 @@ def is_name(name: object) -> bool:
     (True, False)
     """
     return isinstance(name, str) and _NAME.fullmatch(name) is not None
+
+
+def unnamed(text: str) -> str:
+    """Returns a name that the language takes and that doesn't stand in a text.
+
+    >>> unnamed("_0 > 3")
+    '_1'
+    """
+    return next(name for name in map("_{}".format, itertools.count()) if name not in text)
 
 
 def shown_name(name: str) -> str:

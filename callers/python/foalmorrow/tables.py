@@ -187,7 +187,8 @@ class Table:
     def prune(self, wanted: Predicate | Filters | str, **options: Any) -> Answers:
         """Returns what to do with each file under a predicate, or under filter tuples as ``foalmorrow.filters`` reads them.
 
-        A text, the options and the errors are those of ``Footers.prune``. Of a predicate and of filters only the columns that they name are looked at.
+        A text is a condition in SQL; the options and the errors are those of ``Footers.prune``. Of a predicate and of filters only the columns that
+        they name are looked at.
         """
         if isinstance(wanted, str):
             return self.footers.prune(wanted, **options)

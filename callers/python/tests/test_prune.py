@@ -240,11 +240,11 @@ class Named(unittest.TestCase):
         self.assertEqual(list(footers.prune(every)), [Answer.WHOLE, Answer.SKIP])
         self.assertEqual(list(footers.prune(col("c0") < col("c1"))), [Answer.SKIP, Answer.SKIP])
 
-    def test_text_knows_the_names_of_the_language(self) -> None:
+    def test_words_know_the_names_of_the_language(self) -> None:
         footers = self.footers("a b", "a", "é")
-        self.assertEqual(list(footers.prune("gt col a lit i64 3")), [Answer.SKIP, Answer.WHOLE])
+        self.assertEqual(list(footers.prune_where("gt col a lit i64 3")), [Answer.SKIP, Answer.WHOLE])
         with self.assertRaises(PredicateError):
-            footers.prune("gt col é lit i64 3")
+            footers.prune_where("gt col é lit i64 3")
 
     def test_other_columns_are_not_read(self) -> None:
         torn = Statistic(memoryview(b"\7\7"), Values(DType.UTF8, memoryview(b"\xff"), memoryview(bytes(16)), 2))
