@@ -1,11 +1,12 @@
 //! The calls over columns, statistics and tables, under the names of the header.
-ghost use Rattle.std.specs.Prelude.{◌≡◌, IfOk, length};
+ghost use Rattle.std.specs.Prelude.{◌≡◌, ◌≢◌, IfOk, length};
 ghost use Rattle.vortex_calls.specs.Checks as checks;
 ghost use Rattle.vortex_calls.specs.Measures.{measured};
 ghost use Rattle.vortex_calls.specs.Merges.{merged, together};
 ghost use Rattle.vortex_calls.specs.Prunes as prunes;
 ghost use Rattle.vortex_calls.specs.Slots.{IsTold};
 ghost use Rattle.vortex_calls.specs.Values.{given_column};
+ghost use Rattle.vortex_sql_calls.specs.SqlPrunes as sql_prunes;
 
 use std::alloc::Global;
 use vortex_calls::check::check;
@@ -17,6 +18,8 @@ use vortex_calls::merge_zones::merge_zones;
 use vortex_calls::prune::prune;
 use vortex_calls::statistic::Statistic;
 use vortex_calls::values::Values;
+use vortex_sql_calls::prune_sql::prune_sql;
+use vortex_sql_calls::span::Span;
 
 /// Whether a zone has as many rows as a column and each of its statistics is true of the column's
 /// values, `vortex_check` of the header.
@@ -142,4 +145,44 @@ pub extern "C" fn vortex_prune(
         result ≡ 0 → IfOk asked (prunes.IsComplete answers.new) }
 {
     prune(alloc, scope, rows, stats, predicate, flags, answers, fault)
+}
+
+/// Answers for each zone of a table under a condition in SQL, and tells which tests of it aren't
+/// read: `vortex_prune_sql` of the header.
+#[unsafe(no_mangle)]
+pub extern "C" fn vortex_prune_sql(
+    alloc: Global,
+    scope: &[Field<'_>],
+    rows: &[u64],
+    stats: &[Statistic<'_>],
+    text: &[u8],
+    flags: u8,
+    answers: &mut [u8],
+    unread: &mut [Span],
+    len: &mut usize,
+    fault: &mut Fault,
+) -> u8
+    // Of an answer: the text is a condition over the scope. The arrays have the answer for each zone
+    // that its proofs give, and where each leaf stands that isn't read. Whatever rows a zone holds,
+    // if its statistics are true of them, and whatever those leaves mean: of a skipped zone none
+    // satisfies the condition, and of a whole one each does.
+    ensures answered { result ≡ 0
+        → sql_prunes.AreAnswered scope.now rows.now stats.now text.now flags
+        (record { answers = answers.old; unread = unread.old })
+        (record { answers = answers.new; unread = unread.new }) len.new }
+    // Of a refusal the arrays are as they were.
+    ensures answers { result ≢ 0 → answers.new ≡ answers.old }
+    ensures unread { result ≢ 0 → unread.new ≡ unread.old }
+    // How many leaves aren't read is told of an answer, and where the room for them is too little.
+    ensures counted { result ≢ 0 → result ≢ 3 → len.new ≡ len.old }
+    // A place is told where the call is refused.
+    ensures told { result ≡ 0 → fault.new ≡ fault.old }
+    // A refusal other than for memory has its cause, the first of several.
+    ensures refused { result ≢ 0 → result ≢ 4 → sql_prunes.IsRefusedFor
+        (sql_prunes.scope_asked scope.now rows.now flags (length answers.old)) rows.now stats.now
+        text.now (length unread.old) result len.new fault.new }
+{
+    prune_sql(
+        alloc, scope, rows, stats, text, flags, answers, unread, len, fault,
+    )
 }
