@@ -80,7 +80,7 @@ python_tests python3
 if ! python_has python3 numpy && python_has /usr/bin/python3 numpy; then python_tests /usr/bin/python3; fi
 # Each kind of container and each logical type beside a model; all pairs of float16 among them, which takes minutes.
 if python_has /usr/bin/python3 "hypothesis, numpy, pandas"; then
-    python_run /usr/bin/python3 -W error -m unittest -q tests.test_containers tests.test_types tests.test_logical tests.test_arrow
+    python_run /usr/bin/python3 -W error -m unittest -q tests.test_containers tests.test_types tests.test_logical tests.test_arrow tests.test_sql
 else
     echo "callers: containers of Python left out: apt-get install python3-hypothesis python3-numpy python3-pandas"
 fi
