@@ -1,4 +1,4 @@
-//! What to do with each zone of a table by a falsifier and a satisfier, whatever they prove.
+//! The answers for the zones of a table by a falsifier and a satisfier, whatever they prove.
 ghost use Rattle.std.specs.Prelude.{◌≡◌, ◌≤◌, [], All, IfOk, List, IsTrue, OnOk, length, map};
 ghost use Rattle.vortex_calls.specs.Prunes as spec;
 ghost use Rattle.vortex_calls.specs.Refusals.{Answers};

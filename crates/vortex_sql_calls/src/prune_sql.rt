@@ -1,4 +1,4 @@
-//! What to do with each zone of a table under a condition in SQL.
+//! The answers for the zones of a table under a condition in SQL.
 ghost use Rattle.std.specs.Prelude.{◌≡◌, ◌≢◌, IfOk, length};
 ghost use Rattle.vortex_calls.specs.Prunes.{AreClosed, IsToldAs, table_answers, zones_asked};
 ghost use Rattle.vortex_calls.specs.Refusals.{Answers};
@@ -103,7 +103,8 @@ fn answered(
     }
 }
 
-/// What to do with each zone of a table under a condition in SQL, `vortex_prune_sql` of the header.
+/// Answers for each zone of a table under a condition in SQL, and tells which tests of it aren't
+/// read: `vortex_prune_sql` of the header.
 pub fn prune_sql(
     alloc: Global,
     scope: &[Field<'_>],
