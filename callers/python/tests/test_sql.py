@@ -2,19 +2,24 @@
 """Conditions in SQL beside a direct filter of the rows, in which tests that aren't read mean anything."""
 from __future__ import annotations
 
+import atexit
 import datetime
+import tempfile
 import unittest
 import warnings
 from collections.abc import Callable, Mapping
 from typing import Any, NamedTuple
 
-from hypothesis import given, settings
+from hypothesis import configuration, given, settings
 from hypothesis import strategies as st
 
 from foalmorrow import (
     Answer, Column, Date, Decimal, DType, Enum, Float64, Footers, PredicateError, Refused, SqlError, Stat, Statistic, Timestamp, UnreadWarning, Uuid, Values, col,
 )
 
+_HOME = tempfile.TemporaryDirectory()
+atexit.register(_HOME.cleanup)
+configuration.set_hypothesis_home_dir(_HOME.name)
 Truth = bool | None
 Row = Mapping[str, Any]
 
@@ -185,7 +190,7 @@ def footers_of(rows: list[list[Row]]) -> Footers:
 
 
 class BesideAModel(unittest.TestCase):
-    @settings(max_examples=3000, deadline=None)
+    @settings(max_examples=3000, deadline=None, database=None)
     @given(CONDITIONS, zones())
     def test_no_row_is_lost(self, wanted: Condition, rows: list[list[Row]]) -> None:
         footers = footers_of(rows)
@@ -199,7 +204,7 @@ class BesideAModel(unittest.TestCase):
         self.assertEqual(answers.unread, wanted.unread)
         self.assertEqual([it.category for it in told], [UnreadWarning] if wanted.unread else [])
 
-    @settings(max_examples=500, deadline=None)
+    @settings(max_examples=500, deadline=None, database=None)
     @given(zones(), st.integers(-9, 9), TEXTS)
     def test_is_as_sharp_as_predicates(self, rows: list[list[Row]], limit: int, text: str) -> None:
         footers = footers_of(rows)
@@ -210,7 +215,7 @@ class BesideAModel(unittest.TestCase):
         for condition, predicate in pairs:
             self.assertEqual(list(footers.prune(condition)), list(footers.prune(predicate)), condition)
 
-    @settings(max_examples=1000, deadline=None)
+    @settings(max_examples=1000, deadline=None, database=None)
     @given(st.text(alphabet="nst0. ='\"()<>-ANDORé\\$/*", max_size=24))
     def test_any_text_is_answered_or_refused(self, text: str) -> None:
         footers = footers_of([[]])
@@ -305,7 +310,7 @@ class LogicalTypes(unittest.TestCase):
                 answers = footers.prune(f"1 = 1 AND {condition}")
             self.assertEqual(answers.unread, (condition,))
 
-    @settings(max_examples=1500, deadline=None)
+    @settings(max_examples=1500, deadline=None, database=None)
     @given(st.data())
     def test_dates_timestamps_and_decimals_beside_a_model(self, data: st.DataObject) -> None:
         day, instant, price = (
