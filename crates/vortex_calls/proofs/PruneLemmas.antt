@@ -45,7 +45,7 @@ use Rattle.vortex_calls.specs.Prunes.{Asked, FindsNoFewer, IsComplete, IsNoFewer
 use Rattle.vortex_calls.specs.Refusals.{Answers, all_found, followed}
 use Rattle.vortex_calls.specs.Scopes.{AnswersText, IsRefusedText, max_depth, predicate_given, scope_given}
 use Rattle.vortex_calls.specs.Statuses.{nowhere, status_number}
-use Rattle.vortex_calls.specs.Tables.{known_zone, sources_given, zone_at, zones_given}
+use Rattle.vortex_calls.specs.Tables.{known_zone, zone_at, zones_given}
 use Rattle.vortex_calls.proofs.ReadLemmas.{followed_read, found_long}
 
 -- ---- the places with an answer are those that pruning lists

@@ -162,10 +162,10 @@ pub extern "C" fn vortex_prune_sql(
     len: &mut usize,
     fault: &mut Fault,
 ) -> u8
-    // Of an answer: the text is a condition over the scope. The arrays have the answer for each zone
-    // that its proofs give, and where each leaf stands that isn't read. Whatever rows a zone holds,
-    // if its statistics are true of them, and whatever those leaves mean: of a skipped zone none
-    // satisfies the condition, and of a whole one each does.
+    // Of an answer: the text is a condition over the scope. The arrays have the answer for each
+    // zone that its proofs give, and where each leaf stands that isn't read. Whatever rows a zone
+    // holds, if its statistics are true of them, and whatever those leaves mean: of a skipped zone
+    // none satisfies the condition, and of a whole one each does.
     ensures answered { result ≡ 0
         → sql_prunes.AreAnswered scope.now rows.now stats.now text.now flags
         (record { answers = answers.old; unread = unread.old })

@@ -1,9 +1,8 @@
 -- The answers for zones by the proofs of a condition.
-use Rattle.std.proofs.Common.{◌≡◌, ◌≢◌, ◌<◌, ◌≤◌, ◌+◌, ◌++◌, ℕ, suc, List, [], ◌∷◌, Option, Some, add-one, ap, append_assoc, arith, drop, drop-cons, get_or, ◌⊎◌, inl, inr, true, length, map, refl, subst, sym, take, ◌∙◌}
+use Rattle.std.proofs.Common.{◌≡◌, ◌≢◌, ◌<◌, ◌≤◌, ◌+◌, ◌++◌, ℕ, suc, List, [], ◌∷◌, Option, Some, add-one, ap, append_assoc, arith, drop, drop-cons, get_or, inl, inr, true, length, map, refl, subst, sym, take, ◌∙◌}
 use Rattle.std.proofs.Math.ListN.{set}
 use Rattle.std.proofs.lemmas.List.{length-map, length-take-le, map_more, set_at, take_all}
 use Rattle.std.specs.Prelude.{Contains, IfOk, IsOk, Result, Ok, Err, slice_get}
-use Rattle.vortex_base.specs.Data.Columns.{row_count as rows_of}
 use Rattle.vortex_base.specs.Data.Scopes.{Named}
 use Rattle.vortex_expr.specs.Trees.Tree.{Place, Tree}
 use Rattle.vortex_calls.proofs.PruneLemmas.{ones, twos}

@@ -1,5 +1,5 @@
 -- Worked rows, found by computation alone, and witnesses of the clauses with premises.
-use Rattle.std.proofs.Common.{◌≡◌, ◌+◌, ◌<◌, ◌≤◌, ℕ, List, [], ◌∷◌, Bor, Ok, Err, inl, inr, ap, arith, length, map, refl, sym, ◌∙◌}
+use Rattle.std.proofs.Common.{◌≡◌, ◌+◌, ℕ, List, [], ◌∷◌, Bor, Ok, Err, ap, arith, length, map, refl, ◌∙◌}
 use Rattle.std.specs.Prelude.{drop}
 use Rattle.std.proofs.lemmas.List.{length-append, length-map}
 use Rattle.vortex_base.specs.Data.Scopes.{Named}
@@ -9,8 +9,7 @@ use Rattle.vortex_base.specs.declared.types.PType.TheVariants as ptype
 use Rattle.vortex_calls.specs.Statuses.{at_column, nowhere}
 use Rattle.vortex_calls.specs.declared.fault.Fault.{Fault}
 use Rattle.vortex_calls.specs.declared.field.Field.{Field}
-use Rattle.vortex_calls.specs.declared.statistic.Statistic.{Statistic}
-use Rattle.vortex_calls.specs.declared.status.Status.TheVariants.{BadColumn, BadFlag, BadKind, BadLength, BadName, BadSql, Misfit, NoMemory, TooDeep}
+use Rattle.vortex_calls.specs.declared.status.Status.TheVariants.{BadFlag, BadKind, BadLength, BadName, BadSql, Misfit, NoMemory, TooDeep}
 use Rattle.vortex_prune.proofs.WorkedRows.Witnesses.Parts.{IsWitness}
 use Rattle.vortex_sql.specs.declared.error.SqlError.TheVariants as sql
 use Rattle.vortex_sql_syntax.specs.declared.cursor.Names.TheVariants.{Last, Plain}

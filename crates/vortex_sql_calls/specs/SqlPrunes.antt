@@ -5,7 +5,7 @@ use Rattle.vortex_base.specs.Data.Scopes.{Named}
 use Rattle.vortex_calls.specs.Prunes.{IsToldAs, answered, with_places, zone_answers, zones_asked}
 use Rattle.vortex_calls.specs.Refusals.{followed}
 use Rattle.vortex_calls.specs.Scopes.{filled_scope_given}
-use Rattle.vortex_calls.specs.Statuses.{at_entry, nowhere}
+use Rattle.vortex_calls.specs.Statuses.{nowhere}
 use Rattle.vortex_calls.specs.declared.fault.Fault.{Fault}
 use Rattle.vortex_calls.specs.declared.fault.Refusal.{Refusal}
 use Rattle.vortex_calls.specs.declared.field.Field.{Field}

@@ -13,7 +13,6 @@ use vortex_calls::status::Status;
 use vortex_prune::Rules;
 use vortex_sql_prune::{ConditionError, PruningCondition};
 use vortex_sql_syntax::parse::Names;
-use vortex_stats::StatsError;
 
 // Returns why no proofs are made by built-in rules.
 fn refusal_of(error: ConditionError) -> Refusal

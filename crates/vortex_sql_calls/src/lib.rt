@@ -1,7 +1,7 @@
 //! The call of other languages that prunes by a condition in SQL: arrays in, arrays out.
 //!
-//! `vortex_ffi` exports it under the name of `callers/c/vortex.h`. It keeps nothing, and every array
-//! is the caller's.
+//! `vortex_ffi` exports it under the name of `callers/c/vortex.h`. It keeps nothing, and every
+//! array is the caller's.
 #![tactic(auto)]
 
 mod condition;

@@ -1,4 +1,4 @@
-use Rattle.std.proofs.Common.{length, ◌∙◌}
+use Rattle.std.proofs.Common.{◌∙◌}
 use Rattle.vortex_calls.specs.Prunes.{zones_asked}
 use Rattle.vortex_sql_calls.proofs.AnswerLemmas.{answered_by}
 use Rattle.vortex_sql_calls.proofs.prune_sql.answered.Goals as goal
