@@ -1,0 +1,2 @@
+pub mod FooterPrunes
+pub mod Refusals

@@ -1,0 +1,13 @@
+//! The calls of other languages that prune the row groups of a Parquet file by a condition in SQL:
+//! the bytes of a footer in, arrays out.
+//!
+//! `vortex_ffi` exports them under the names of `callers/c/vortex.h`. They keep nothing, and every
+//! array is the caller's.
+#![tactic(auto)]
+
+mod asked;
+pub mod prune_footer;
+mod refusal;
+pub mod row_group;
+pub mod span;
+pub mod tail;
