@@ -1,26 +1,24 @@
 -- Columns are chosen name by name.
 use Rattle.std.proofs.Common.{◌≡◌, ◌<◌, ◌+◌, ℕ, zero, suc, Bool, true, false, cond, List, [], ◌∷◌, ◌++◌, Option, None, Some, length, map, take, drop, get_or, inl, inr, refl, ap, sym, subst, ◌∙◌, add-one, drop-cons, take-append-drop, arith}
 use Rattle.std.specs.Prelude.{Contains, is_none, not, slice_get}
-use Rattle.std.specs.List.{list_all, list_any}
+use Rattle.std.specs.List.{list_all}
 use Rattle.std.proofs.lemmas.List.{drop-map, map_push, take-map}
 use Rattle.std.proofs.Math.Seq.{take-suc}
 use Rattle.std.proofs.lemmas.List.Elements.{Contains-append_left, Contains-push, Contains-push_cases}
 use Rattle.std.proofs.lemmas.List.Folds.{list_all-append}
-use Rattle.vortex_base.specs.Data.Exact.{both_true}
 use Rattle.std.proofs.lemmas.List.Quantifiers.{position-Some}
-use Rattle.vortex_base.specs.Data.Scopes.{Named, has_duplicate, is_named, is_state_column, place_of}
+use Rattle.vortex_base.specs.Data.Scopes.{Named, is_named, is_state_column, place_of}
 use Rattle.vortex_base.specs.declared.types.Nullability.{Nullability}
 use Rattle.vortex_expr.specs.Meanings.Binding.{find_column, found, place_at}
 use Rattle.vortex_expr.specs.Trees.Tree.{Place}
-use Rattle.vortex_parquet.specs.Columns.{AreNamed, ColumnView, form_dtype, leaf_dtype, lookup}
+use Rattle.vortex_parquet.specs.Columns.{ColumnView, form_dtype, leaf_dtype, lookup}
 use Rattle.vortex_parquet.specs.declared.columns.Content.{Content}
 use Rattle.vortex_parquet.specs.declared.columns.Content.TheVariants as content
 use Rattle.vortex_parquet.specs.declared.columns.Form.{Form}
 use Rattle.vortex_parquet.specs.declared.columns.Form.TheVariants as form
 use Rattle.vortex_parquet.specs.declared.columns.Leaf.{Leaf}
-use Rattle.vortex_parquet.specs.declared.columns.LeftOut.{LeftOut}
 use Rattle.vortex_syntax.proofs.Fitting.ScopeFits.{storable_more}
-use Rattle.vortex_parquet_sql.specs.Choosing.{AreChosen, IsFirstLeftOut, IsReadAs, is_plain, is_taken, leaf_in, no_column, reason, why_not}
+use Rattle.vortex_parquet_sql.specs.Choosing.{AreChosen, IsReadAs, is_plain, is_taken, leaf_in, no_column, reason}
 use Rattle.vortex_parquet_sql.specs.Mentions.{MentionData, view, views}
 use Rattle.vortex_parquet_sql.specs.Refusals.{IsLeftOutBy, IsLeftOutOf}
 use Rattle.vortex_parquet_sql.specs.declared.error.FooterError.{FooterError}

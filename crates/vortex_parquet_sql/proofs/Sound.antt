@@ -1,19 +1,17 @@
 -- Pruning row groups by a condition is sound.
-use Rattle.std.proofs.Common.{◌≡◌, ℕ, zero, suc, List, [], ◌∷◌, Option, Some, Ok, length, ap, map, subst, sym, ◌∙◌}
+use Rattle.std.proofs.Common.{◌≡◌, ℕ, zero, suc, List, [], ◌∷◌, Ok, length, ap, map, subst, sym, ◌∙◌}
 use Rattle.std.proofs.lemmas.List.{length-map}
 use Rattle.vortex_base.specs.Data.Scopes.{Named}
 use Rattle.vortex_normal_scan.specs.Pruning.{skipped_places, whole_places}
 use Rattle.vortex_parquet.specs.declared.columns.Leaf.{Leaf}
 use Rattle.vortex_parquet.specs.declared.stats.GroupStats.{GroupStats}
 use Rattle.vortex_parquet.specs.Records.{FileData}
-use Rattle.vortex_expr.specs.Trees.Tree.{Place, Tree}
 use Rattle.vortex_parquet.specs.Fields.{many}
 use Rattle.vortex_parquet.specs.Reading.{◌>>=◌, Read}
 use Rattle.vortex_parquet.specs.Stats.{group_at, group_view, groups_of}
 use Rattle.vortex_parquet.proofs.Sound.{bind_ok, one_ok}
 use Rattle.vortex_parquet_prune.specs.Pruning.{GroupsAreParts, zone_data}
 use Rattle.vortex_prune.specs.Part.{AreZonesOf, ZoneData}
-use Rattle.vortex_prune.specs.Scanning.ZoneScans.{zone_verdict, zone_verdicts}
 use Rattle.vortex_prune.specs.Zones.{IsMapOf, MapData, zone_map}
 use Rattle.vortex_prune.specs.declared.scan.verdict.Verdict.{Verdict}
 use Rattle.vortex_sql_prune.specs.Conditions.{IsSoundFor}
@@ -30,7 +28,7 @@ prunes_condition parts scope c ls gs m vs made is_map sound file count e i g k a
     let here : IsSoundFor scope c (map zone_data gs) (skipped_places vs) (whole_places vs) = subst (λ (ns : List Named). IsSoundFor ns c (map zone_data gs) (skipped_places vs) (whole_places vs)) same (sound (map zone_data gs) is_map) in
     here i x.0 (record { chunk = k; stats = x.0.stats }) x.1 x.2 x.3
 
--- ---- there is a verdict for each row group of the file
+-- ---- each row group of the file is read
 
 many_long : {A : Type 0} (one : List ℕ → Read A) (n : ℕ) (bytes : List ℕ) (xs : List A) → many one n bytes ≡ Ok xs → length xs ≡ n
 unfolding many
@@ -43,6 +41,3 @@ many_long {A} one (suc n) bytes xs e =
 pub groups_long : (ls : List Leaf) (count : ℕ) (file : FileData) (gs : List GroupStats) → groups_of ls count file ≡ Ok (map group_view gs) → length gs ≡ file.groups.count
 unfolding groups_of
 groups_long ls count file gs e = sym (length-map gs group_view) ∙ many_long (group_at ls count file.orders) file.groups.count file.groups.from (map group_view gs) e
-
-pub verdicts_long : (f s : Option (Tree Place)) (scope : List Named) (gs : List GroupStats) (vs : List Verdict) → vs ≡ zone_verdicts f s scope (map zone_data gs) → length vs ≡ length gs
-verdicts_long f s scope gs vs e = ap length e ∙ length-map (map zone_data gs) (zone_verdict f s scope) ∙ length-map gs zone_data

@@ -1,5 +1,5 @@
 -- When pruning row groups by a condition is sound.
-use Rattle.std.specs.Prelude.{◌≡◌, ◌<◌, ℕ, Contains, List}
+use Rattle.std.specs.Prelude.{◌<◌, ℕ, Contains, List}
 use Rattle.vortex_base.specs.Data.Columns.{ChunkData, row_count}
 use Rattle.vortex_base.specs.Data.Scopes.{Named}
 use Rattle.vortex_parquet.specs.declared.columns.Leaf.{Leaf}

@@ -1,7 +1,6 @@
 -- What making a condition over a file's columns is refused for.
 use Rattle.std.specs.Prelude.{◌≡◌, ℕ, ◌∷◌, false, List, Some, Result, Err, length}
 use Rattle.vortex_parquet.specs.Columns.{ColumnView}
-use Rattle.vortex_parquet.specs.declared.columns.LeftOut.{LeftOut}
 use Rattle.vortex_parquet.specs.Stats.{GroupData}
 use Rattle.vortex_parquet.specs.declared.fault.Fault.{Fault}
 use Rattle.vortex_parquet.specs.declared.fault.ReadError.{ReadError}

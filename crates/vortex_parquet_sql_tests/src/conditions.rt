@@ -1,7 +1,7 @@
 //! Conditions over a file of two row groups.
 use std::alloc::Global;
 use std::process::Abort;
-use vortex_parquet::columns::{LeftOut, columns_of};
+use vortex_parquet::columns::columns_of;
 use vortex_parquet::footer::footer_of;
 use vortex_parquet::records::file_of;
 use vortex_parquet_sql::{FooterCondition, FooterError};
@@ -9,7 +9,7 @@ use vortex_prune::Verdict;
 use vortex_rewrite::rewrite::rules::Rules;
 use vortex_sql_syntax::parse::Names;
 
-// The columns `a` (INT64), `s` (STRING), `u` (UINT_32) and `f` (DOUBLE), in row groups of 3 and of 2
+// The columns `a` (INT64), `s` (STRING), `u` (UINT_32) and `f` (DOUBLE), in row groups of 3 and 2
 // rows.
 const FILE: [u8; 452] = [
     21, 4, 25, 92, 72, 6, 115, 99, 104, 101, 109, 97, 21, 8, 0, 21, 4, 37, 2, 24, 1, 97, 0, 21, 12,

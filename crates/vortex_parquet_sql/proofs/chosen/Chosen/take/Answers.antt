@@ -1,4 +1,4 @@
-use Rattle.std.proofs.Common.{◌≡◌, Some, ap, sym, ◌∙◌}
+use Rattle.std.proofs.Common.{ap, sym, ◌∙◌}
 use Rattle.vortex_base.specs.Data.Scopes.{named_columns}
 use Rattle.vortex_expr.specs.Meanings.Binding.{find_column}
 use Rattle.vortex_parquet.specs.Columns.{column_views}

@@ -1,4 +1,4 @@
-use Rattle.std.proofs.Common.{◌≡◌, ◌++◌, ◌∷◌, [], Some, None, ℕ, List, ap, subst₂, sym, ◌∙◌}
+use Rattle.std.proofs.Common.{◌≡◌, ◌++◌, ◌∷◌, [], ℕ, List, ap, subst₂, sym, ◌∙◌}
 use Rattle.vortex_base.specs.Data.Scopes.{Named, named_columns}
 use Rattle.vortex_parquet.specs.Columns.{column_views, leaf_dtype, lookup}
 use Rattle.vortex_parquet.specs.declared.columns.Leaf.{Leaf}

@@ -6,7 +6,7 @@ use Rattle.vortex_parquet.specs.declared.columns.Leaf.{Leaf}
 use Rattle.vortex_parquet.specs.declared.stats.GroupStats.{GroupStats}
 use Rattle.vortex_parquet_prune.specs.Pruning.{zone_data}
 use Rattle.vortex_prune.specs.Zones.{zone_map}
-use Rattle.vortex_parquet_sql.proofs.Sound.{groups_long, prunes_condition, verdicts_long}
+use Rattle.vortex_parquet_sql.proofs.Sound.{groups_long, prunes_condition}
 use Rattle.vortex_parquet_sql.proofs.footer_condition.FooterCondition.prune.Goals as goal
 
 pub returns-clause-counted : goal.returns-clause-counted
