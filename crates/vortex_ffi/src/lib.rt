@@ -7,6 +7,7 @@
 #![tactic(auto)]
 
 pub mod calls;
+pub mod parquet;
 pub mod run;
 #[cfg(test)]
 mod tests;
