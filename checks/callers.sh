@@ -24,7 +24,7 @@ exported="$(nm -D --defined-only "$out/libvortex_ffi.so" | awk '{ print $3 }' | 
 
 # C: with warnings as errors, and once as C++ reads the header.
 compiled() { cc -std=c11 -O1 -Wall -Wextra -Wpedantic -Werror -pthread "${@:3}" -o "$out/$1" "callers/c/$2.c" "$out/libvortex_ffi.a"; }
-for program in round_trip mutations stack example; do
+for program in round_trip mutations stack example parquet; do
     compiled "$program" "$program"
     "$out/$program"
 done
@@ -34,7 +34,7 @@ if compiled sanitized mutations -fsanitize=address,undefined -fno-sanitize-recov
     echo "callers: no fault under the address sanitizer"
 fi
 if command -v valgrind > /dev/null; then
-    for program in round_trip mutations example; do
+    for program in round_trip mutations example parquet; do
         valgrind -q --error-exitcode=9 --leak-check=full "$out/$program" > /dev/null
     done
     echo "callers: no fault under valgrind"
@@ -80,7 +80,7 @@ python_tests python3
 if ! python_has python3 numpy && python_has /usr/bin/python3 numpy; then python_tests /usr/bin/python3; fi
 # Each kind of container and each logical type beside a model; all pairs of float16 among them, which takes minutes.
 if python_has /usr/bin/python3 "hypothesis, numpy, pandas"; then
-    python_run /usr/bin/python3 -W error -m unittest -q tests.test_containers tests.test_types tests.test_logical tests.test_arrow tests.test_sql
+    python_run /usr/bin/python3 -W error -m unittest -q tests.test_containers tests.test_types tests.test_logical tests.test_arrow tests.test_sql tests.test_parquet
 else
     echo "callers: containers of Python left out: apt-get install python3-hypothesis python3-numpy python3-pandas"
 fi

@@ -79,7 +79,36 @@ enum vortex_status {
     VORTEX_TOO_DEEP = 17,       /* vortex_prune: the predicate has more than VORTEX_MAX_DEPTH levels; vortex_prune_sql: the
                                    text nests too deep: which byte */
     VORTEX_BAD_SQL = 18,        /* vortex_prune_sql: the text is no condition: which byte, and a vortex_sql_fault */
-    VORTEX_MISFIT = 19          /* vortex_prune_sql: the types of a test don't fit: which bytes */
+    VORTEX_MISFIT = 19,         /* vortex_prune_sql: the types of a test don't fit: which bytes */
+    VORTEX_BAD_FOOTER = 20,     /* vortex_parquet_footer, vortex_parquet_prune: the bytes are no footer: a
+                                   vortex_parquet_fault */
+    VORTEX_NOT_READ = 21        /* vortex_parquet_prune: a test names a column of which no test could be meant: which bytes, and
+                                   a vortex_not_read */
+};
+
+/* Why bytes are no footer of a Parquet file: fault->column of VORTEX_BAD_FOOTER. */
+enum vortex_parquet_fault {
+    VORTEX_NOT_PARQUET = 0,   /* the bytes don't end in PAR1 */
+    VORTEX_ENCRYPTED = 1,     /* they end in PARE */
+    VORTEX_FOOTER_LENGTH = 2, /* the footer is longer than the file, which a caller sees who knows the file's size */
+    VORTEX_SHORT = 3,         /* a value passes the end */
+    VORTEX_VARINT = 4,        /* a number doesn't fit 64 bits, or has more than ten bytes */
+    VORTEX_NEGATIVE = 5,      /* a number is below 0 that may not be */
+    VORTEX_FIELD_ID = 6,      /* an identifier of a field doesn't fit 15 bits */
+    VORTEX_KIND = 7,          /* a code stands for no kind of values */
+    VORTEX_LENGTH = 8,        /* a list claims more items than bytes are left */
+    VORTEX_DEPTH = 9,         /* values nest deeper than 32 levels */
+    VORTEX_MISSING = 10,      /* a row group has no number of rows, or a column no name */
+    VORTEX_SCHEMA = 11,       /* the schema is no tree */
+    VORTEX_COLUMNS = 12,      /* a row group has another number of columns than the schema has leaf columns */
+    VORTEX_NO_VALUE = 13      /* a bound is no value of its column's type */
+};
+
+/* Why no test of a column could be meant: fault->column of VORTEX_NOT_READ. */
+enum vortex_not_read {
+    VORTEX_NESTED = 0,   /* it has columns below it */
+    VORTEX_REPEATED = 1, /* it has a list of values a row */
+    VORTEX_DUPLICATE = 2 /* it is one of several of its name */
 };
 
 /* Why a text is no condition in SQL: fault->column of VORTEX_BAD_SQL. */
@@ -163,6 +192,13 @@ typedef struct vortex_span {
     size_t start; /* its first byte */
     size_t end;   /* the byte behind its last one */
 } vortex_span;
+
+/* A row group of a Parquet file. */
+typedef struct vortex_row_group {
+    uint64_t rows;  /* how many rows it has */
+    uint64_t size;  /* how many bytes its column chunks take in the file, or 0 where the footer doesn't tell */
+    uint8_t answer; /* a vortex_answer */
+} vortex_row_group;
 
 /* The values of a column. */
 typedef struct vortex_values {
@@ -290,6 +326,34 @@ uint8_t vortex_prune_sql(const vortex_field *scope, size_t scope_len, const uint
                          const vortex_statistic *stats, size_t stats_len, const uint8_t *text, size_t text_len,
                          uint8_t flags, uint8_t *answers, size_t answers_len, vortex_span *unread, size_t unread_len,
                          size_t *len, vortex_fault *fault);
+
+/*
+ * How many bytes the footer of a Parquet file has, by the file's last eight bytes, before which it stands. So a reader
+ * fetches eight bytes, and then *length bytes; a file that is shorter than *length + 8 bytes is cut off. *length is written
+ * with VORTEX_OK alone.
+ */
+uint8_t vortex_parquet_footer(const uint8_t *tail, size_t tail_len, size_t *length, vortex_fault *fault);
+
+/*
+ * What to do with each row group of a Parquet file under a condition in SQL (see vortex_prune_sql), by the file's footer
+ * alone: its bytes without the length and the mark behind them. docs/PARQUET.md says which columns and statistics are read.
+ * If the statistics are true of the rows, no row of a row group that is skipped satisfies the condition, and each row of one
+ * that is whole does, whatever the tests mean that weren't read: those of a column that the file hasn't, of one whose order
+ * isn't known, as a floating number's, and of one whose numbers stand for something else, as dates, timestamps and decimals
+ * with a fraction. A test that names a nested or repeated column, or one of several of its name, is VORTEX_NOT_READ.
+ * The statistics of those columns alone are read that the condition names.
+ *
+ * `groups` has the row groups at its front, in the file's order, and `unread` the places of the tests that weren't read,
+ * ascending; what stands behind them stays as it was. *groups_found and *unread_found are how many there are, or with
+ * VORTEX_TOO_SHORT for how many there has to be room: at most footer_len / 5 and text_len. Both are written with VORTEX_OK
+ * and VORTEX_TOO_SHORT alone. `flags` are those of vortex_prune_sql.
+ *
+ * Of several faults the first is told, in this order: the flags, the footer but for its row groups, the text, too little room,
+ * and the row groups.
+ */
+uint8_t vortex_parquet_prune(const uint8_t *footer, size_t footer_len, const uint8_t *text, size_t text_len, uint8_t flags,
+                             vortex_row_group *groups, size_t groups_len, vortex_span *unread, size_t unread_len,
+                             size_t *groups_found, size_t *unread_found, vortex_fault *fault);
 
 #ifdef __cplusplus
 }
