@@ -7,7 +7,7 @@ usage: checks/examples.py            runs them; callers/out has to have the libr
        checks/examples.py --list     says which blocks there are
 
 A block is marked behind its language, as ```python run. A block ```text behind it is what it prints. The blocks of Python on one page
-are one program. A block of Rust or C without `main` is the body of one. Blocks of sh run in the folder of the repository.
+are one program, which sees the folder `examples`. A block of Rust or C without `main` is the body of one. Blocks of sh run in the folder of the repository.
 """
 import os
 import re
@@ -55,6 +55,7 @@ def python():
 def printed_by_python(codes, folder):
     """What each block of one program prints."""
     path = f"{folder}/page.py"
+    os.symlink(f"{ROOT}/examples", f"{folder}/examples")
     with open(path, "w", encoding="utf-8") as file:
         file.write(f"print({MARK!r}, end='')\n".join(codes))
     more = {"FOALMORROW_LIBRARY": f"{OUT}/libvortex_ffi.so", "PYTHONPATH": f"{ROOT}/callers/python", "PYTHONDONTWRITEBYTECODE": "1", "MPLBACKEND": "Agg"}

@@ -8,7 +8,7 @@ import signal
 import sys
 import unittest
 
-NAMES = ["test_delta", "test_iceberg", "test_parquet_footers", "test_dataset", "test_brin", "test_sql", "test_clickhouse", "test_cluster", "test_examples"]
+NAMES = ["test_delta", "test_iceberg", "test_parquet_footers", "test_parquet_proved", "test_dataset", "test_brin", "test_sql", "test_clickhouse", "test_cluster", "test_examples"]
 
 
 def main() -> int:

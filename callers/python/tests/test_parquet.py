@@ -1,0 +1,194 @@
+# SPDX-License-Identifier: Apache-2.0
+"""Row groups of Parquet footers by conditions in SQL, beside a direct filter of the rows of which the footers were written."""
+from __future__ import annotations
+
+import io
+import os
+import pathlib
+import random
+import tempfile
+import unittest
+import warnings
+from typing import Any
+
+from hypothesis import given, settings
+from hypothesis import strategies as st
+
+from foalmorrow import Answer, SqlError, UnreadWarning, parquet
+from foalmorrow.parquet_values import ParquetFault
+from tests.parquet_footers_of import Wide, file_of, footer, struct_of
+from tests.systems.parquet_writer import Raw, thrift
+from tests.test_sql import CONDITIONS, Condition, Row, zones
+
+SEED = int(os.environ.get("FOALMORROW_SEED", "1"))
+
+
+def quietly(file: parquet.File, condition: str, **options: Any) -> parquet.RowGroups:
+    with warnings.catch_warnings():
+        warnings.simplefilter("ignore", UnreadWarning)
+        return file.prune(condition, **options)
+
+
+class BesideAModel(unittest.TestCase):
+    @settings(max_examples=3000, deadline=None)
+    @given(CONDITIONS, zones(), st.integers(0, 2**32))
+    def test_no_row_is_lost(self, wanted: Condition, groups: list[list[Row]], dice: int) -> None:
+        file = parquet.open(file_of(footer(groups, random.Random(dice))))
+        found = quietly(file, wanted.text)
+        self.assertEqual(list(found.rows), [len(rows) for rows in groups])
+        for answer, rows in zip(found, groups, strict=True):
+            truths = {wanted.truth(row) is True for row in rows}
+            self.assertTrue(answer != Answer.SKIP or truths <= {False}, wanted.text)
+            self.assertTrue(answer != Answer.WHOLE or truths <= {True}, wanted.text)
+        self.assertEqual(found.unread, wanted.unread)
+        inside = {row for start, stop in found.ranges() for row in range(start, stop)}
+        starts = [sum(map(len, groups[:place])) for place in range(len(groups))]
+        self.assertEqual(inside, {row for place in found.kept for row in range(starts[place], starts[place] + len(groups[place]))})
+
+    def test_something_is_skipped_and_whole(self) -> None:
+        groups = [[row(n=1), row(n=3)], [row(n=7), row(n=9)]]
+        for dice in range(200):
+            found = quietly(parquet.open(file_of(footer(groups, random.Random(dice)))), "n > 5")
+            if list(found) == [Answer.SKIP, Answer.WHOLE]:
+                break
+        else:
+            self.fail("no footer tells the least and the greatest number")
+        self.assertEqual((list(found.kept), list(found.skipped), list(found.whole), found.ranges()), ([1], [0], [1], [(2, 4)]))
+        self.assertIn(found.bytes_saved, (0, 207))
+
+
+def row(**cells: Any) -> Row:
+    return {"n": None, "m": None, "s": None, "t": None, "day": None, "hidden": (None, None)} | cells
+
+
+class EachByte(unittest.TestCase):
+    def test_each_byte_of_some_footers_has_each_value(self) -> None:
+        groups = [[row(n=1, s="ab"), row(n=3, m=2)], []]
+        for dice in range(2):
+            whole = footer(groups, random.Random(SEED + dice))
+            for place in range(0, len(whole), 1 if dice else 3):
+                for value in range(256):
+                    file = parquet.File(whole[:place] + bytes([value]) + whole[place + 1 :])
+                    try:
+                        quietly(file, "n > 2 AND s LIKE 'a%' OR t")
+                    except (ParquetFault, SqlError):
+                        pass
+            for length in range(len(whole)):
+                with self.assertRaises(parquet.FooterFault):
+                    quietly(parquet.File(whole[:length]), "n > 2")
+
+
+class Sources(unittest.TestCase):
+    DATA = file_of(footer([[row(n=1)], [row(n=5), row(n=6)]], random.Random(3)))
+
+    def rows(self, file: parquet.File) -> list[int]:
+        return list(quietly(file, "n > 2").rows)
+
+    def test_each_source(self) -> None:
+        self.assertEqual(self.rows(parquet.open(self.DATA)), [1, 2])
+        self.assertEqual(self.rows(parquet.open(memoryview(b"pages" + self.DATA))), [1, 2])
+        with tempfile.TemporaryDirectory() as folder:
+            path = pathlib.Path(folder) / "a.parquet"
+            path.write_bytes(self.DATA)
+            self.assertEqual(self.rows(parquet.open(path)), [1, 2])
+            self.assertEqual(self.rows(parquet.open(str(path))), [1, 2])
+            with path.open("rb") as file:
+                file.seek(2)
+                self.assertEqual(self.rows(parquet.open(file)), [1, 2])
+                self.assertEqual(file.tell(), 2)
+
+    def test_the_footer_alone_is_read(self) -> None:
+        read: list[int] = []
+
+        class Counted(io.BytesIO):
+            def read(self, size: int | None = -1) -> bytes:
+                # One byte less than is asked for, as a socket gives them.
+                found = super().read(max(1, (size or 1) - 1))
+                read.append(len(found))
+                return found
+
+        self.assertEqual(self.rows(parquet.open(Counted(bytes(10**6) + self.DATA))), [1, 2])
+        self.assertEqual(sum(read), len(self.DATA) - 4)
+
+    def test_metadata_of_pyarrow_is_taken_by_its_own_bytes(self) -> None:
+        class Metadata:
+            def write_metadata_file(self, where: io.BytesIO) -> None:
+                where.write(Sources.DATA)
+
+        self.assertEqual(self.rows(parquet.open(Metadata())), [1, 2])
+
+    def test_faults_are_named(self) -> None:
+        cases = {b"": "NOT_PARQUET", b"PAR1": "NOT_PARQUET", bytes(4) + b"PARE": "ENCRYPTED", b"\x09" + bytes(3) + b"PAR1": "FOOTER_LENGTH"}
+        for data, fault in cases.items():
+            with self.assertRaises(parquet.FooterFault) as told:
+                parquet.open(data)
+            self.assertEqual(told.exception.fault, fault)
+        with self.assertRaises(parquet.FooterFault) as told:
+            parquet.File(b"").prune("n > 2")
+        self.assertEqual(told.exception.fault, "SHORT")
+        with self.assertRaises(TypeError):
+            parquet.open(5)
+        with self.assertRaises(OSError):
+            parquet.open("/nowhere/a.parquet")
+
+        class Cut(io.BytesIO):
+            def read(self, size: int | None = -1) -> bytes:
+                return b""
+
+        with self.assertRaisesRegex(OSError, "couldn't be read"):
+            parquet.open(Cut(self.DATA))
+
+    def test_sql_faults_have_their_characters(self) -> None:
+        with self.assertRaises(SqlError) as told:
+            parquet.open(self.DATA).prune("é = 1 OR n = 'x'")
+        self.assertEqual((told.exception.start, told.exception.end), (9, 16))
+
+    def test_unread_tests_are_told_once(self) -> None:
+        with self.assertWarns(UnreadWarning) as told:
+            found = parquet.open(self.DATA).prune("n > 2 AND lower(s) = 'é' AND day > 5")
+        self.assertEqual(found.unread, ("lower(s) = 'é'", "day > 5"))
+        self.assertEqual(told.filename, __file__)
+
+
+class Columns(unittest.TestCase):
+    """A schema with a list, a group, a name twice, a timestamp, a decimal and a floating number."""
+
+    def file(self) -> parquet.File:
+        elements = [
+            struct_of((4, b"root"), (5, 8)), struct_of((1, 2), (3, 1), (4, b"n")), struct_of((1, 2), (3, 2), (4, b"repeated")),
+            struct_of((3, 1), (4, b"nested"), (5, 1)), struct_of((1, 2), (3, 1), (4, b"below")), struct_of((1, 2), (3, 1), (4, b"twice")),
+            struct_of((1, 2), (3, 1), (4, b"twice")), struct_of((1, 2), (3, 1), (4, b"at"), (6, 10)), struct_of((1, 5), (3, 1), (4, b"x")),
+            struct_of((1, 1), (3, 1), (4, b"price"), (6, 5), (7, 2), (8, 9)),
+        ]
+        eight, four = (5).to_bytes(8, "little"), (5).to_bytes(4, "little")
+        chunks = []
+        for physical in (2, 2, 2, 2, 2, 2, 5, 1):
+            bound = four if physical == 1 else eight
+            told = Raw(struct_of((3, Wide(0)), (5, bound), (6, bound), (7, True), (8, True)))
+            chunks.append(Raw(struct_of((3, Raw(struct_of((1, physical), (12, told)))))))
+        orders = [Raw(thrift((1, Raw(thrift())))) for _ in chunks]
+        group = struct_of((1, chunks), (3, Wide(4)), (6, Wide(100)))
+        return parquet.File(struct_of((2, [Raw(it) for it in elements]), (4, [Raw(group)]), (7, orders)))
+
+    def test_columns_of_which_no_test_could_be_meant(self) -> None:
+        for name, reason in (("repeated", "a list of values"), ("nested", "columns below"), ("twice", "several of this name")):
+            with self.assertRaisesRegex(parquet.NotReadError, reason) as told:
+                self.file().prune(f"n = 5 AND {name} IS NULL AND repeated = 1")
+            self.assertEqual((told.exception.start, told.exception.end), (10, 10 + len(name) + 8))
+
+    def test_numbers_that_stand_for_something_else_are_never_compared(self) -> None:
+        for name in ("at", "price", "x", "below", "nowhere"):
+            for test in (f"{name} = 5", f"{name} > 5", f"NOT {name} < 6", f"{name} IN (6, 7)", f"{name} = {name}"):
+                found = quietly(self.file(), test)
+                self.assertEqual((list(found), len(found.unread)), ([Answer.READ], 1), test)
+                self.assertEqual(list(quietly(self.file(), f"n > 5 AND {test}")), [Answer.SKIP])
+        self.assertEqual(list(quietly(self.file(), "n = 5")), [Answer.WHOLE])
+
+    def test_names_of_several_parts(self) -> None:
+        self.assertEqual(quietly(self.file(), "t.n > 5").unread, ("t.n > 5",))
+        found = quietly(self.file(), "t.n > 5", last_names=True)
+        self.assertEqual((list(found), found.unread, found.bytes_saved, found.ranges()), ([Answer.SKIP], (), 100, []))
+
+
+if __name__ == "__main__":
+    unittest.main()
