@@ -18,8 +18,8 @@ pub extern "C" fn vortex_parquet_footer(tail: &[u8], length: &mut usize, fault: 
     footer_length(tail, length, fault)
 }
 
-/// What to do with each row group of a file under a condition in SQL, by its footer alone,
-/// `vortex_parquet_prune` of the header.
+/// The row groups of a file with what to do with each under a condition in SQL, by the footer
+/// alone, `vortex_parquet_prune` of the header.
 #[unsafe(no_mangle)]
 pub extern "C" fn vortex_parquet_prune(
     alloc: Global,
@@ -38,10 +38,20 @@ pub extern "C" fn vortex_parquet_prune(
     // skipped one none satisfies the condition, and of a whole one each does. Of a refusal the arrays
     // are as they were, and but for memory its cause is told, the first of several.
     ensures { footers.IsPruned footer.now text.now flags
-        (record { groups = groups.old; unread = unread.old; found_len = groups_found.old;
-        unread_len = unread_found.old; fault = fault.old })
-        (record { groups = groups.new; unread = unread.new; found_len = groups_found.new;
-        unread_len = unread_found.new; fault = fault.new }) result }
+        (record {
+          groups = groups.old;
+          unread = unread.old;
+          found_len = groups_found.old;
+          unread_len = unread_found.old;
+          fault = fault.old;
+        })
+        (record {
+          groups = groups.new;
+          unread = unread.new;
+          found_len = groups_found.new;
+          unread_len = unread_found.new;
+          fault = fault.new;
+        }) result }
 {
     prune_footer(
         alloc,

@@ -1,4 +1,4 @@
-//! What a caller asks of a footer.
+//! The words of a caller about a footer.
 ghost use Rattle.std.specs.Prelude.{◌≡◌, ◌≢◌, IfErr, IfOk};
 ghost use Rattle.vortex_parquet.specs.Records.{file_view};
 ghost use Rattle.vortex_parquet_calls.specs.FooterPrunes as spec;

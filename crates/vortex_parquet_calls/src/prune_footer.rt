@@ -1,4 +1,4 @@
-//! What to do with each row group of a Parquet file under a condition in SQL.
+//! Row groups of a Parquet file, and what to do with each under a condition in SQL.
 ghost use Rattle.std.specs.Prelude.{◌≡◌, IfErr, IfOk, map};
 ghost use Rattle.vortex_parquet.specs.Records.{file_view};
 ghost use Rattle.vortex_parquet.specs.Stats.{groups_of};
@@ -14,7 +14,7 @@ use vortex_calls::fault::Fault;
 use vortex_calls::status::Status;
 use vortex_parquet_sql::FooterError;
 
-// What is told of each row group, and where each leaf stands that isn't read.
+// The row groups as they are told, and where each leaf stands that isn't read.
 #[derive(Drop)]
 struct Found {
     groups: Vec<RowGroup>,
@@ -82,8 +82,8 @@ fn answered(
     }
 }
 
-/// What to do with each row group of a file under a condition in SQL, by its footer alone:
-/// `vortex_parquet_prune` of the header.
+/// The row groups of a file with what to do with each under a condition in SQL, by the footer
+/// alone: `vortex_parquet_prune` of the header.
 pub fn prune_footer(
     alloc: Global,
     footer: &[u8],

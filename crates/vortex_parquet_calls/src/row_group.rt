@@ -1,4 +1,4 @@
-//! What a caller is told of a row group.
+//! A row group as a caller is told of it.
 ghost use Rattle.std.specs.Prelude.{◌≡◌, ◌≤◌, ◌++◌, IfOk, drop, length, map};
 ghost use Rattle.vortex_calls.specs.Prunes.{answer_of};
 ghost use Rattle.vortex_parquet.specs.Stats.{group_view};
