@@ -50,6 +50,8 @@ class Status(enum.IntEnum):
     TOO_DEEP = 17
     BAD_SQL = 18
     MISFIT = 19
+    BAD_FOOTER = 20
+    NOT_READ = 21
 
 
 #: How deep a predicate and its normal form may nest, as VORTEX_MAX_DEPTH says.
@@ -216,6 +218,8 @@ def _load() -> ctypes.CDLL:
         "vortex_merge_zones": [c_uint8, c_uint8, size, byte, size, byte, size, byte, size, byte, size, POINTER(size), place],
         "vortex_prune": [byte, size, byte, size, byte, size, byte, size, c_uint8, byte, size, place],
         "vortex_prune_sql": [byte, size, byte, size, byte, size, byte, size, c_uint8, byte, size, byte, size, POINTER(size), place],
+        "vortex_parquet_footer": [byte, size, POINTER(size), place],
+        "vortex_parquet_prune": [byte, size, byte, size, c_uint8, byte, size, byte, size, POINTER(size), POINTER(size), place],
     }
     for name, types in calls.items():
         call = getattr(loaded, name, None)

@@ -1,5 +1,5 @@
 -- What a refused call says.
-use Rattle.std.proofs.Common.{◌≡◌, ◌≢◌, ◌⊎◌, ℕ, List, Ok, Err, inl, inr, refl, ap, sym, subst, ◌∙◌, arith}
+use Rattle.std.proofs.Common.{◌≡◌, ◌≢◌, ℕ, List, Ok, inl, inr, refl, ap, sym, ◌∙◌, arith}
 use Rattle.vortex_calls.specs.declared.fault.Fault.{Fault}
 use Rattle.vortex_parquet.specs.Columns.{ColumnView, columns_of}
 use Rattle.vortex_parquet.specs.Footer.{length_of}
@@ -7,7 +7,6 @@ use Rattle.vortex_parquet.specs.Reading.{Fails}
 use Rattle.vortex_parquet.specs.Records.{FileData, file_of}
 use Rattle.vortex_parquet.specs.Stats.{groups_of}
 use Rattle.vortex_parquet.specs.declared.columns.Leaf.{Leaf}
-use Rattle.vortex_parquet.specs.declared.fault.Fault.{Fault as FooterFault}
 use Rattle.vortex_parquet.specs.declared.fault.ReadError.{ReadError}
 use Rattle.vortex_parquet.specs.declared.fault.ReadError.TheVariants as read
 use Rattle.vortex_parquet_sql.specs.Refusals.{IsGroupFault, IsToldOf}
@@ -21,7 +20,7 @@ use Rattle.vortex_sql_syntax.specs.declared.error.ParseError.TheVariants as synt
 use Rattle.vortex_stats.specs.declared.error.StatsError.{StatsError}
 use Rattle.vortex_stats.specs.declared.error.StatsError.TheVariants as stats
 use Rattle.vortex_parquet_calls.specs.FooterPrunes.{IsAnsweredBy, IsAskRefusal, IsAsked, IsLack, IsLackOfAsked, IsLengthTold, IsNoText, IsPruned, IsText, Places}
-use Rattle.vortex_parquet_calls.specs.Refusals.{IsPut, bad_footer, of_footer, of_read, of_sql, of_stats, of_syntax}
+use Rattle.vortex_parquet_calls.specs.Refusals.{IsPut, of_footer, of_read, of_sql, of_stats, of_syntax}
 use Rattle.vortex_parquet_calls.specs.declared.refusal.Refused.{Refused}
 
 -- ---- no refusal has the status of an answer

@@ -1,5 +1,5 @@
 -- What a caller asks to be pruned by a footer, and what is answered.
-use Rattle.std.specs.Prelude.{◌≡◌, ◌≢◌, ◌<◌, ◌++◌, ◌==◌, ◌⊎◌, ℕ, List, [], ◌∷◌, Option, Some, None, Result, Ok, Err, OnOk, drop, false, if◌then◌else◌, length, map}
+use Rattle.std.specs.Prelude.{◌≡◌, ◌≢◌, ◌<◌, ◌++◌, ◌==◌, ◌⊎◌, ℕ, List, [], ◌∷◌, Option, Some, None, Result, Ok, Err, drop, false, if◌then◌else◌, length, map}
 use Rattle.std.specs.Str.{IsUtf8, IsValidUpTo}
 use Rattle.vortex_calls.specs.Prunes.{answer_of}
 use Rattle.vortex_calls.specs.declared.fault.Fault.{Fault}

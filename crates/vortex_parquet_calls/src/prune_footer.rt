@@ -95,11 +95,11 @@ pub fn prune_footer(
     unread_len: &mut usize,
     fault: &mut Fault,
 ) -> u8
-    // Of an answer: the bytes are a footer, and the text is a condition over its columns. The arrays
-    // have what is told of each row group, and where each leaf stands that isn't read. If the
-    // footer's statistics are true of the rows of a row group, then whatever those leaves mean, of a
-    // skipped one none satisfies the condition, and of a whole one each does. Of a refusal the arrays
-    // are as they were, and but for memory its cause is told, the first of several.
+    // Of an answer: the bytes are a footer, and the text is a condition over its columns. The
+    // arrays have what is told of each row group, and where each leaf stands that isn't read. If
+    // the footer's statistics are true of the rows of a row group, then whatever those leaves
+    // mean, of a skipped one none satisfies the condition, and of a whole one each does. Of a
+    // refusal the arrays are as they were, and but for memory its cause is told, the first.
     ensures { spec.IsPruned footer.now text.now flags
         (record {
           groups = groups.old;
