@@ -185,8 +185,15 @@ def of_numbers(dtype: DType, numbers: Sequence[int]) -> Values:
 
 def of_texts(dtype: DType, pieces: Sequence[bytes]) -> Values:
     """Returns texts, by their UTF-8, or bytes."""
-    ends = array("Q", accumulate(map(len, pieces)))
-    return Values(dtype, memoryview(b"".join(pieces)), memoryview(ends).cast("B"), len(ends))
+    return Values(dtype, memoryview(b"".join(pieces)), ends_of(pieces), len(pieces))
+
+
+def ends_of(pieces: Sequence[bytes | str]) -> memoryview:
+    """Returns where each piece ends in what they make one behind the other."""
+    if numpy is not None:
+        lengths = numpy.fromiter(map(len, pieces), dtype="<u8", count=len(pieces))
+        return memoryview(numpy.cumsum(lengths, dtype="<u8").tobytes())
+    return memoryview(array("Q", accumulate(map(len, pieces)))).cast("B")
 
 
 def spaced(present: Values, nulls: bytes) -> Values:
@@ -195,9 +202,7 @@ def spaced(present: Values, nulls: bytes) -> Values:
     if not any(nulls):
         return present
     if present.dtype.has_ends:
-        ends = present.ends.cast("Q")
-        counts = accumulate(not null for null in nulls)
-        return Values(present.dtype, present.data, memoryview(array("Q", (ends[at - 1] if at else 0 for at in counts))).cast("B"), count)
+        return Values(present.dtype, present.data, _repeated(present.ends, nulls), count)
     room = bytearray(width * count)
     if numpy is not None and len(present):
         there = numpy.frombuffer(nulls, dtype=numpy.uint8) == 0
@@ -208,6 +213,16 @@ def spaced(present: Values, nulls: bytes) -> Values:
         for place, row in enumerate(rows):
             room[row * width : (row + 1) * width] = present.data[place * width : (place + 1) * width]
     return Values(present.dtype, memoryview(room), _NONE, count)
+
+
+def _repeated(ends: memoryview, nulls: bytes) -> memoryview:
+    """Returns where each text ends, a null where the text before it does."""
+    if numpy is not None:
+        there = numpy.cumsum(numpy.frombuffer(nulls, dtype=numpy.uint8) == 0)
+        return memoryview(numpy.concatenate([numpy.zeros(1, "<u8"), numpy.frombuffer(ends, dtype="<u8")])[there].tobytes())
+    of_present = ends.cast("Q")
+    counts = accumulate(not null for null in nulls)
+    return memoryview(array("Q", (of_present[at - 1] if at else 0 for at in counts))).cast("B")
 
 
 def gathered(values: Values, places: Any) -> Values:
@@ -221,8 +236,8 @@ def gathered(values: Values, places: Any) -> Values:
         pieces.append(b"")
         listed = places.tolist()
         lengths = numpy.fromiter(map(len, pieces), dtype="<u8", count=len(pieces))
-        ends_of = numpy.cumsum(lengths[places], dtype="<u8")
-        return Values(values.dtype, memoryview(b"".join(map(pieces.__getitem__, listed))), memoryview(ends_of.tobytes()), len(listed))
+        ends_there = numpy.cumsum(lengths[places], dtype="<u8")
+        return Values(values.dtype, memoryview(b"".join(map(pieces.__getitem__, listed))), memoryview(ends_there.tobytes()), len(listed))
     width = values.dtype.width
     if not width:
         return Values(values.dtype, _NONE, _NONE, len(places))

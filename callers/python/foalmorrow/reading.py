@@ -19,9 +19,10 @@ import sys
 from array import array
 from collections.abc import Mapping, Sequence, Set
 from dataclasses import dataclass, replace
+from itertools import compress
 from typing import Any
 
-from .arrays import ValueFault, Values, gathered, of_numbers, of_texts, spaced
+from .arrays import ValueFault, Values, ends_of, gathered, of_numbers, of_texts, spaced
 from .items import expected, is_missing, is_null, may_be_null, plain, shown, value_of
 from .kinds import Column, DType, Logical
 
@@ -209,13 +210,23 @@ def _of_items(dtype: DType, items: list[Any], marks: bytes | None, where: Where)
         if row >= 0:
             raise where.misfit(dtype, items[row], row)
         return Read(Values(dtype, memoryview(b""), memoryview(b""), len(items)), None)
-    present = items if nulls is None else [item for item, null in zip(items, nulls) if not null]
-    found = _of_plain(dtype, present)
-    if found is None:
-        rows = range(len(items)) if nulls is None else [row for row, null in enumerate(nulls) if not null]
-        found = _one_by_one(dtype, present, replace(where, rows=rows))
-    values = of_texts(dtype, found) if dtype.has_ends else of_numbers(dtype, found)
+    present = items if nulls is None else list(compress(items, map(operator.not_, nulls)))
+    values = _of_ascii(present) if dtype == DType.UTF8 else None
+    if values is None:
+        found = _of_plain(dtype, present)
+        if found is None:
+            rows = range(len(items)) if nulls is None else [row for row, null in enumerate(nulls) if not null]
+            found = _one_by_one(dtype, present, replace(where, rows=rows))
+        values = of_texts(dtype, found) if dtype.has_ends else of_numbers(dtype, found)
     return Read(values if nulls is None else spaced(values, nulls), nulls)
+
+
+def _of_ascii(items: list[Any]) -> Values | None:
+    """Returns texts of ASCII alone at once, which have a byte for each character; None where an item is anything else."""
+    if set(map(type, items)) != {str}:
+        return None
+    joined = "".join(items)
+    return Values(DType.UTF8, memoryview(joined.encode()), ends_of(items), len(items)) if joined.isascii() else None
 
 
 def nulls_of(items: list[Any], marks: bytes | None, keep_nan: bool = False) -> bytes | None:
