@@ -33,6 +33,7 @@ KNOWN = {
     "packaging/debian/libfoalmorrow-dev.control": "the Debian package of the header and the libraries for C",
     "packaging/foalmorrow.1": "the program's page for man",
     "packaging/foalmorrow.pc.in": "what pkg-config says of the library",
+    "packaging/pages/Doxyfile": "how doxygen writes the pages of the header",
     "pyproject.toml": "the Python package",
 }
 HEAD = """# Map

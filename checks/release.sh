@@ -1,6 +1,6 @@
 #!/usr/bin/env bash
 # SPDX-License-Identifier: Apache-2.0
-# Makes a release in dist/ and tests it: a wheel, two Debian packages and a Rust crate, each with what is told of its proofs.
+# Makes a release in dist/ and tests it: a wheel, two Debian packages and a Rust crate, each with what is told of its proofs; and pages.
 # usage: checks/release.sh            proves and builds the library and the program first where they aren't; the tree has to be committed
 #        checks/release.sh --built    proves nothing: takes the library and the program as they are built, and the tree as it stands
 set -eu
@@ -237,6 +237,23 @@ crate() {
     echo "release: the crate is built and tested over the shared object and over the static library"
 }
 
+# Writes the pages of the calls into dist/docs: those of Rust are the packed crate's.
+pages() {
+    mkdir -p dist/docs
+    cp -r "$work/crate/target/doc" dist/docs/rust
+    if command -v sphinx-build > /dev/null; then
+        packaging/pages.sh python dist/docs/python || fail "the pages of Python aren't written"
+    else
+        left_out "the pages of Python: apt-get install python3-sphinx"
+    fi
+    if command -v doxygen > /dev/null; then
+        packaging/pages.sh c dist/docs/c || fail "the pages of C aren't written"
+    else
+        left_out "the pages of C: apt-get install doxygen"
+    fi
+    echo "release: the pages of the calls are written"
+}
+
 versions_agree
 proved
 built_twice
@@ -245,5 +262,6 @@ wheel
 from_sources
 debian
 crate
+pages
 (cd dist && sha256sum --check --quiet sha256sums)
-echo "release: version $version in dist: $(find dist -type f -printf '%f\n' | sort | tr '\n' ' ')"
+echo "release: version $version in dist: $(find dist -maxdepth 1 -type f -printf '%f\n' | sort | tr '\n' ' ')"
