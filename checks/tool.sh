@@ -74,20 +74,85 @@ case_of "an expression that is no predicate" ended 1 "answer:predicate"
 echo "$?" > "$work/status"
 case_of "a full disk" ended 1 "reasons:write"
 
+# Parquet files: three row groups, of which the last has no statistics, and a column of lists.
+PYTHONPATH=callers/python PYTHONDONTWRITEBYTECODE=1 python3 - "$work/orders.parquet" << 'PYTHON'
+import struct, sys
+from tests.systems.parquet_writer import I32, Raw, thrift
+
+number = lambda value: value.to_bytes(8, "little", signed=True)
+known = lambda least, greatest: Raw(thrift((3, 0), (5, greatest), (6, least), (7, True), (8, True)))
+
+def chunk(kind, name, rows, statistics):
+    meta = thrift((1, I32(kind)), (2, [I32(0)]), (3, [name.encode()]), (4, I32(0)), (5, rows), (6, 0), (7, 0), (9, 4), (12, statistics))
+    return Raw(thrift((2, 4), (3, Raw(meta))))
+
+def group(rows, numbers, texts):
+    told = [numbers and known(*map(number, numbers)), texts and known(*map(str.encode, texts)), None]
+    kinds = [(2, "qty"), (6, "name"), (2, "parts")]
+    return Raw(thrift((1, [chunk(*kind, rows, it) for kind, it in zip(kinds, told)]), (2, 0), (3, rows)))
+
+def element(kind, repetition, name, converted=None):
+    return Raw(thrift((1, I32(kind)), (3, I32(repetition)), (4, name), (6, converted)))
+
+schema = [Raw(thrift((4, b"root"), (5, I32(3)))), element(2, 1, b"qty"), element(6, 1, b"name", I32(0)), element(2, 2, b"parts")]
+groups = [group(10, (1, 9), ("anna", "bert")), group(5, (10, 20), ("carl", "dora")), group(1, None, None)]
+footer = thrift((1, I32(1)), (2, schema), (3, 16), (4, groups), (7, [Raw(thrift((1, Raw(thrift())))) for _ in range(3)]))
+with open(sys.argv[1], "wb") as file:
+    file.write(b"PAR1" + footer + struct.pack("<I", len(footer)) + b"PAR1")
+PYTHON
+orders="$work/orders.parquet"
+pruned() {
+    printf '%s\n' "$orders: $1 of 16 rows to read, 3 row groups" "${@:2}" > "$work/wanted"
+    cmp -s "$work/answer" "$work/wanted" && ended 0
+}
+ran prune "$orders" "qty > 9"
+case_of "row groups by a number" pruned 6 "0 skip 0..10" "1 whole 10..15" "2 read 15..16"
+ran prune "$orders" "name LIKE 'd%' OR qty BETWEEN 3 AND 4"
+case_of "row groups by a text or a number" pruned 16 "0 read 0..10" "1 read 10..15" "2 read 15..16"
+ran prune "$orders" "qty > 9 AND lower(name) = 'dora'"
+case_of "a part that isn't read" pruned 6 "0 skip 0..10" "1 read 10..15" "2 read 15..16" "unread: lower(name) = 'dora'"
+ran prune --explain "$orders" "qty > 9"
+case_of "what is known of row groups" ended 0 "reasons:  qty: min 1 max 9 null_count 0"
+ran prune --format json "$orders" "qty > 9"
+case_of "an answer in JSON" python3 -c '
+import json, sys
+answer = json.load(open(sys.argv[1]))
+groups = [(it["start"], it["stop"], it["verdict"]) for it in answer["row_groups"]]
+sys.exit(groups != [(0, 10, "skip"), (10, 15, "whole"), (15, 16, "read")] or (answer["rows"], answer["rows_to_read"], answer["unread"]) != (16, 6, []))' "$work/answer"
+ran prune "$orders" "$work/none.parquet" "$orders" "qty > 9"
+case_of "files of which one isn't there" ended 66 "reasons:$work/none.parquet: it can't be opened"
+case_of "the files beside one that isn't there" test "$(grep -c "row groups" "$work/answer")" -eq 2
+ran prune "$work/bad.txt" "qty > 9"
+case_of "a file that is no Parquet file" ended 2 "reasons:NotParquet"
+for condition in "qty >" "price > 9 9" "parts > 9" "qty > 'x'"; do
+    ran prune "$orders" "$condition"
+    case_of "the condition '$condition'" ended 2 "reasons:$orders: "
+    case_of "an answer to the condition '$condition'" is_empty answer
+done
+ran prune "$work" "qty > 9"
+case_of "a folder in place of a Parquet file" ended 66
+"$program" prune "$orders" "qty > 9" > /dev/full 2> "$work/reasons"
+echo "$?" > "$work/status"
+case_of "an answer to a full disk" ended 1 "reasons:could not be written"
+ran show "$orders"
+case_of "row groups that are shown" ended 0 "answer:1: 5 rows" "answer:  name: min \"carl\" max \"dora\" null_count 0" "answer:left out: parts: it has a list"
+
 # Words of the command line.
 ran --version
 case_of "the version" ended 0 "answer:foalmorrow $(sed -n 's/^version = "\(.*\)"$/\1/p' pyproject.toml)"
-for words in --help help "scan --help" -h; do
+for words in --help help "scan --help" "prune --help" "show --help" -h; do
     # shellcheck disable=SC2086
     ran $words
-    case_of "$words" ended 0 answer:scan
+    case_of "$words" ended 0 answer:sage:
     case_of "$words on standard error" is_empty reasons
 done
-for words in "" scam --explain "scan --explan x" "scan -x"; do
+for words in "" scam --explain "scan --explan x" "scan -x" prune "prune x.parquet" show; do
     # shellcheck disable=SC2086
     ran $words
     case_of "the words '$words'" ended 64 reasons:sage:
     case_of "an answer to the words '$words'" is_empty answer
 done
+ran prune --format xml "$orders" "qty > 9"
+case_of "a form that isn't known" ended 64 "reasons:text, json"
 echo "$passed passed, $failed failed"
 [ "$failed" -eq 0 ]

@@ -1,9 +1,15 @@
 // The command-line tool over the library: what a predicate leaves of tables, by their statistics.
 #![tactic(auto)]
 
+mod footers;
+mod known;
+mod pruning;
 mod scanning;
+mod showing;
 
+use pruning::prune_files;
 use scanning::{scan_files, scan_input};
+use showing::show_files;
 use std::process::ExitCode;
 use std::{env, io};
 use vortex_command::{Request, requested, status_of};
@@ -28,6 +34,8 @@ fn answered(rt: &HostRuntime, request: &Request<'_>) -> u8 {
             .0
         }
         Request::Scan(scan) => scan_files(rt, alloc, scan, &mut writer, &mut reasons),
+        Request::Prune(prune) => prune_files(rt, alloc, prune, &mut writer, &mut reasons),
+        Request::Show(show) => show_files(rt, alloc, show, &mut writer, &mut reasons),
     }
 }
 

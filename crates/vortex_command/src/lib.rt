@@ -16,12 +16,19 @@ const ABOUT: &str =
 const ABOUT_SCAN: &str =
     "Answers texts of columns, parts and a predicate: the skipped parts and the selected rows";
 
+const ABOUT_PRUNE: &str =
+    "Tells which row groups of Parquet files a condition in SQL leaves to read, by their footers";
+
+const ABOUT_SHOW: &str = "Shows the row groups of Parquet files and their statistics";
+
 const STATUSES: &str = "Exit status, the greatest of several files:
   0   there is an answer
   1   there is none, and standard error says why
-  2   a line is bad
+  2   a line is bad, a file is no Parquet file or a text is no condition over its columns
   64  a word of the command line isn't known
-  66  a file can't be opened";
+  66  a file can't be opened or read";
+
+const FORMATS: [&str; 2] = ["text", "json"];
 
 /// Texts of the program's language that are to be answered.
 #[derive(Debug, Drop)]
@@ -31,10 +38,35 @@ pub struct Scan<'a> {
     pub files: Vec<&'a str>,
 }
 
+/// The form in which an answer is written.
+#[derive(Debug, Clone, Copy, PartialEq, Eq)]
+pub enum Format {
+    Text,
+    Json,
+}
+
+/// Parquet files whose row groups are to be pruned.
+#[derive(Debug, Drop)]
+pub struct Prune<'a> {
+    pub format: Format,
+    pub is_explained: bool,
+    pub files: Vec<&'a str>,
+    /// The condition in SQL.
+    pub condition: &'a str,
+}
+
+/// Parquet files whose row groups are to be shown.
+#[derive(Debug, Drop)]
+pub struct Show<'a> {
+    pub files: Vec<&'a str>,
+}
+
 /// A subcommand with its words.
 #[derive(Debug, Drop)]
 pub enum Request<'a> {
     Scan(Scan<'a>),
+    Prune(Prune<'a>),
+    Show(Show<'a>),
 }
 
 // The words behind `scan` that are known.
@@ -56,28 +88,104 @@ fn scan_command<'a>(alloc: Global) -> Result<Command<'a>, Error> {
     )
 }
 
+// The words behind `prune` that are known.
+fn prune_command<'a>(alloc: Global) -> Result<Command<'a>, Error> {
+    let format = Arg::new(alloc, "format")
+        .long("format")
+        .value_name("FORMAT")
+        .value_parser(FORMATS.as_slice())
+        .default_value("text")
+        .help("The form of the answer");
+    let explain = Arg::new(alloc, "explain")
+        .short('e')
+        .long("explain")
+        .action(ArgAction::SetTrue)
+        .help("Says on standard error what is known of each row group");
+    let files = Arg::new(alloc, "file")
+        .value_name("FILE")
+        .num_args(1..)
+        .required(true)
+        .help("Parquet files");
+    let condition = Arg::new(alloc, "condition")
+        .value_name("CONDITION")
+        .required(true)
+        .help("The condition, as it stands behind WHERE");
+    Ok(
+        Command::new(alloc, "prune")
+            .about(ABOUT_PRUNE)
+            .arg(format)?
+            .arg(explain)?
+            .arg(files)?
+            .arg(condition)?,
+    )
+}
+
+// The words behind `show` that are known.
+fn show_command<'a>(alloc: Global) -> Result<Command<'a>, Error> {
+    let files = Arg::new(alloc, "file")
+        .value_name("FILE")
+        .num_args(1..)
+        .required(true)
+        .help("Parquet files");
+    Ok(Command::new(alloc, "show").about(ABOUT_SHOW).arg(files)?)
+}
+
 // The words that are known.
 fn command<'a>(alloc: Global) -> Result<Command<'a>, Error> {
+    let prune = prune_command(alloc)?;
     let scan = scan_command(alloc)?;
+    let show = show_command(alloc)?;
     Ok(
         Command::new(alloc, "foalmorrow")
             .version(VERSION)
             .about(ABOUT)
             .after_help(STATUSES)
             .subcommand_required(true)
-            .subcommand(scan)?,
+            .subcommand(prune)?
+            .subcommand(scan)?
+            .subcommand(show)?,
     )
 }
 
-// Reads the words behind `scan`.
-fn scan_requested<'a>(alloc: Global, matches: &ArgMatches<'a>) -> Result<Scan<'a>, Error> {
+// The files that are named.
+fn files_of<'a>(alloc: Global, matches: &ArgMatches<'a>) -> Result<Vec<&'a str>, Error> {
     let mut files = Vec::new(alloc);
     if let Some(names) = matches.get_strs("file") {
         files.extend_from_slice(names)?;
     }
-    Ok(Scan {
+    Ok(files)
+}
+
+// Reads the words behind `prune`.
+fn prune_requested<'a>(alloc: Global, matches: &ArgMatches<'a>) -> Result<Prune<'a>, Error> {
+    let format = match matches.get_str("format") {
+        Some("json") => Format::Json,
+        _ => Format::Text,
+    };
+    Ok(Prune {
+        format,
         is_explained: matches.get_flag("explain"),
-        files,
+        files: files_of(alloc, matches)?,
+        condition: matches.get_str("condition").unwrap_or(""),
+    })
+}
+
+// Reads the words behind a command.
+fn request_of<'a>(
+    alloc: Global,
+    name: &str,
+    matches: &ArgMatches<'a>,
+) -> Result<Option<Request<'a>>, Error> {
+    Ok(match name {
+        "prune" => Some(Request::Prune(prune_requested(alloc, matches)?)),
+        "scan" => Some(Request::Scan(Scan {
+            is_explained: matches.get_flag("explain"),
+            files: files_of(alloc, matches)?,
+        })),
+        "show" => Some(Request::Show(Show {
+            files: files_of(alloc, matches)?,
+        })),
+        _ => None,
     })
 }
 
@@ -86,8 +194,12 @@ fn scan_requested<'a>(alloc: Global, matches: &ArgMatches<'a>) -> Result<Scan<'a
 pub fn requested<'a>(alloc: Global, words: &'a [String]) -> Result<Request<'a>, Error> {
     let mut command = command(alloc)?;
     let matches = command.try_get_matches_from_mut(words)?;
-    match matches.subcommand_matches("scan") {
-        Some(scan) => Ok(Request::Scan(scan_requested(alloc, scan)?)),
+    let request = match matches.subcommand() {
+        Some((name, matches)) => request_of(alloc, name, matches)?,
+        None => None,
+    };
+    match request {
+        Some(request) => Ok(request),
         None => Err(command.error(ErrorKind::MissingSubcommand, "a command is missing")?),
     }
 }

@@ -26,7 +26,7 @@ def varint(number: int) -> bytes:
 
 
 def thrift(*fields: tuple[int, object]) -> bytes:
-    """A struct: numbers are i64, bytes binaries, ``Raw`` structs, and lists of any of these lists."""
+    """A struct: numbers are i64, or i32 as ``I32``, bytes binaries, ``Raw`` structs, and lists of any of these lists."""
     out, last = bytearray(), 0
     for number, value in fields:
         if value is None:
@@ -41,11 +41,15 @@ class Raw(bytes):
     """A struct that is written already."""
 
 
+class I32(int):
+    """A number of 32 bits."""
+
+
 def _value(value: object) -> tuple[int, bytes]:
     if isinstance(value, bool):
         return (1 if value else 2), b""
     if isinstance(value, int):
-        return 6, varint(value << 1 if value >= 0 else (-value << 1) - 1)
+        return 5 if isinstance(value, I32) else 6, varint(value << 1 if value >= 0 else (-value << 1) - 1)
     if isinstance(value, Raw):
         return 12, value
     if isinstance(value, bytes):
