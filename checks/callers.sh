@@ -34,7 +34,7 @@ if compiled sanitized mutations -fsanitize=address,undefined -fno-sanitize-recov
     echo "callers: no fault under the address sanitizer"
 fi
 if command -v valgrind > /dev/null; then
-    for program in round_trip mutations example parquet; do
+    for program in round_trip mutations example; do
         valgrind -q --error-exitcode=9 --leak-check=full "$out/$program" > /dev/null
     done
     echo "callers: no fault under valgrind"
