@@ -54,6 +54,11 @@ def _value(protocol: Any, kind: int) -> Any:
         found = [_value(protocol, inner) for _ in range(count)]
         protocol.readListEnd()
         return inner, found
+    if kind == TType.MAP:
+        key, value, count = protocol.readMapBegin()
+        pairs = [(_value(protocol, key), _value(protocol, value)) for _ in range(count)]
+        protocol.readMapEnd()
+        return key, value, pairs
     read = {TType.BOOL: protocol.readBool, TType.BYTE: protocol.readByte, TType.I16: protocol.readI16, TType.I32: protocol.readI32, TType.I64: protocol.readI64,
             TType.DOUBLE: protocol.readDouble, TType.STRING: protocol.readBinary}
     return read[kind]()
@@ -127,8 +132,14 @@ class BesideThrift(unittest.TestCase):
                     found = pruned(bytes(data), "1 = 1")
                 except (ParquetFault, SqlError):
                     continue
+                try:
+                    told = decoded(bytes(data))
+                except KeyError as unknown:
+                    # Thrift 0.17 doesn't know the kind of UUIDs, whose code is 13, and reads no empty list of a kind that isn't there.
+                    self.assertIn(unknown.args, [(13,), (14,), (15,)])
+                    continue
                 answered += 1
-                self.same_groups(found, decoded(bytes(data)))
+                self.same_groups(found, told)
         self.assertGreater(answered, FOOTERS)
 
     def same_groups(self, found: parquet.RowGroups, told: dict[Any, Any]) -> None:
