@@ -87,7 +87,8 @@ class Reading(Directories):
         self.assertEqual(table.footers.at(0), {("n", stat): (Precision.EXACT, value) for stat, value in zip((Stat.MAX, Stat.MIN, Stat.NULL_COUNT), (1, 1, 0))})
         self.assertEqual(table.footers.at(1)["t", Stat.NULL_COUNT], (Precision.EXACT, 0))
         if HAS_LIBRARY:
-            self.assertEqual([file.path for file in table.files_for([("t", "is", None)])], ["a.rows"])
+            for wanted in ([("t", "is", None)], "t IS NULL"):
+                self.assertEqual([file.path for file in table.files_for(wanted)], ["a.rows"])
 
     def test_refusals(self) -> None:
         def refused(words: str, *paths: str, **options: object) -> None:

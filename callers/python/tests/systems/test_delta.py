@@ -51,7 +51,7 @@ class Snapshots(Tables):
         self.assertEqual(delta.read(self.folder).footers.at(2)["n", Stat.MIN], (Precision.EXACT, 2))
         if HAS_LIBRARY:
             table = delta.read(self.folder)
-            for wanted in (col("n") > 1, [("n", ">", 1)], "gt col n lit i64? 1"):
+            for wanted in (col("n") > 1, [("n", ">", 1)], "n > 1"):
                 self.assertEqual([file.path for file in table.files_for(wanted)], ["a b"])
         with self.assertRaisesRegex(DeltaError, "no version 3: its log has 0 to 2"):
             delta.read(self.folder, 3)
