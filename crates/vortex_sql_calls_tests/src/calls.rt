@@ -62,7 +62,7 @@ struct Called {
     fault: Fault,
 }
 
-fn called(alloc: Global, text: &[u8], flags: u8, stats: &[Statistic<'_>]) -> Called {
+fn made_call(alloc: Global, text: &[u8], flags: u8, stats: &[Statistic<'_>]) -> Called {
     let mut called = Called {
         status: 0,
         answers: [9; 3],
@@ -86,7 +86,7 @@ fn called(alloc: Global, text: &[u8], flags: u8, stats: &[Statistic<'_>]) -> Cal
 }
 
 fn pruned(alloc: Global, text: &[u8]) -> Called {
-    called(alloc, text, 0, &[GREATEST, LEAST, NULLS])
+    made_call(alloc, text, 0, &[GREATEST, LEAST, NULLS])
 }
 
 // Whether the call answered so, and each leaf was read.
@@ -138,9 +138,9 @@ fn leaves_that_are_not_read_are_told(rt: HostRuntime) {
 fn names_of_several_parts_are_read_by_a_flag(rt: HostRuntime) {
     let alloc = rt.alloc();
     let stats = &[GREATEST, LEAST, NULLS];
-    let plain = called(alloc, b"t.qty > 3", 0, stats);
+    let plain = made_call(alloc, b"t.qty > 3", 0, stats);
     assert!(rt; plain.answers == [0, 0, 0] && plain.len == 1);
-    let last = called(alloc, b"t.qty > 3", 2, stats);
+    let last = made_call(alloc, b"t.qty > 3", 2, stats);
     assert!(rt; last.answers == [1, 2, 2] && last.len == 0);
 }
 
@@ -174,9 +174,9 @@ fn arguments_are_refused_in_order(rt: HostRuntime) {
         stat: 99,
         ..GREATEST
     };
-    assert!(rt; is_refused(called(alloc, b"", 1, &[bad]), 16, 0, 0, 0));
-    assert!(rt; is_refused(called(alloc, b"", 0, &[bad]), 18, 0, 0, 0));
-    assert!(rt; is_refused(called(alloc, b"f(1)", 0, &[NULLS, bad]), 6, 1, 0, 0));
+    assert!(rt; is_refused(made_call(alloc, b"", 1, &[bad]), 16, 0, 0, 0));
+    assert!(rt; is_refused(made_call(alloc, b"", 0, &[bad]), 18, 0, 0, 0));
+    assert!(rt; is_refused(made_call(alloc, b"f(1)", 0, &[NULLS, bad]), 6, 1, 0, 0));
 }
 
 #[test]
