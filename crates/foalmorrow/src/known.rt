@@ -1,4 +1,4 @@
-// What the footer of a Parquet file says of its row groups, as lines.
+// Writes the statistics of a Parquet file's row groups as lines.
 use crate::footers::FileError;
 use std::alloc::{AllocError, Global};
 use vortex_base::pvalue::PValue;

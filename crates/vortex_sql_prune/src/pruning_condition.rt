@@ -136,8 +136,8 @@ impl PruningCondition {
         &self.scope
     }
 
-    /// Returns the predicate that the condition is, with its proofs. Its scope has a column for each
-    /// unread part behind those of the condition's.
+    /// Returns the predicate that the condition is, with its proofs. Its scope has a column for
+    /// each unread part behind those of the condition's.
     pub fn proofs(&self) -> &PruningPredicate
         ensures { result.now ≡ pruning_of self.now }
     {
