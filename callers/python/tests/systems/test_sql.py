@@ -2,6 +2,7 @@
 import os
 import pathlib
 import random
+import re
 import subprocess
 import unittest
 from itertools import product
@@ -126,6 +127,67 @@ class Texts:
         return " ".join(words)
 
 
+def shown(texts: list[str]) -> list[str]:
+    """Returns each text as it is printed once it is read."""
+    found = subprocess.run([SHOW], input="".join(f"{text}\n" for text in texts).encode(), capture_output=True, check=True).stdout.decode()
+    lines = found.split("\n")[:-1]
+    assert len(lines) == len(texts), (len(lines), len(texts))
+    return lines
+
+
+#: Operands of each kind as they are printed.
+OPERANDS = ['"a"', "NULL", "TRUE", "FALSE", "-3", "4.5", "-0.5", "'it''s'", "X'00ff'"]
+SIGNS = ["=", "<>", ">", ">=", "<", "<="]
+ESCAPES = ["", " ESCAPE ''", " ESCAPE '!'", " ESCAPE ''''"]
+
+
+def tests_printed() -> list[str]:
+    """Returns the print of each test: each operand at each place, lists of up to two, each escape, and what isn't read."""
+    two, three = list(product(OPERANDS, repeat=2)), list(product(OPERANDS, repeat=3))
+    return [
+        *(f"{x} {sign} {y}" for x, y in two for sign in (*SIGNS, "IS DISTINCT FROM")),
+        *(f"{x} BETWEEN {word}{y} AND {z}" for x, y, z in three for word in ("", "SYMMETRIC ")),
+        *(f"{x} IS NULL" for x in OPERANDS),
+        *(f"{x} IN ({y})" for x, y in two),
+        *(f"{x} IN ({y}, {z})" for x, y, z in three),
+        *(f"{x} LIKE {y}{escape}" for x, y in two for escape in ESCAPES),
+        *OPERANDS[:4],
+        "(f(a))",
+        "(a + 1 = 2)",
+    ]
+
+
+def bare(text: str) -> str:
+    """Returns a print without the parentheses round what isn't read, which belong to it where they stand in the text."""
+    return re.sub(r"\(+f\(a\)\)+", "f(a)", text)
+
+
+def joined_printed(size: int, leaves: list[str]) -> list[list[str]]:
+    """Returns the prints of all conditions over these leaves, by how many NOT, IS, AND and OR they have: none, one, and so on."""
+    found = [leaves]
+    for count in range(1, size + 1):
+        one = [text.format(x) for x in found[count - 1] for text in ("NOT ({})", "({}) IS UNKNOWN", "({}) IS TRUE", "({}) IS FALSE")]
+        pairs = [(x, y) for before in range(count) for x in found[before] for y in found[count - 1 - before]]
+        found.append([*one, *(f"({x}) {word} ({y})" for x, y in pairs for word in ("AND", "OR"))])
+    return found
+
+
+@unittest.skipIf(not os.path.exists(SHOW), "the program that prints conditions isn't built: checks/build.py vortex_sql_show")
+class Prints(unittest.TestCase):
+    """Each condition up to a size is read from its print as itself: no two have the same print, and of each print the same is printed again."""
+
+    def compare(self, texts: list[str]) -> None:
+        self.assertEqual(len(set(texts)), len(texts))
+        other = [(text, found) for text, found in zip(texts, shown(texts), strict=True) if bare(found) != bare(text)]
+        self.assertEqual(other[:5], [], f"{len(other)} conditions are read otherwise")
+
+    def test_each_test(self) -> None:
+        self.compare(tests_printed())
+
+    def test_each_condition_of_up_to_three_joints(self) -> None:
+        self.compare([text for texts in joined_printed(3, ['"a" = 3', '"c"', "(f(a))"]) for text in texts])
+
+
 @unittest.skipIf(postgres_folder() is None, "PostgreSQL isn't installed: apt-get install postgresql")
 @unittest.skipIf(not os.path.exists(SHOW), "the program that prints conditions isn't built: checks/build.py vortex_sql_show")
 class Conditions(unittest.TestCase):
@@ -135,16 +197,10 @@ class Conditions(unittest.TestCase):
         cls.query = staticmethod(brin.psql(cls.folder, user="postgres"))
         cls.query(MAKE)
 
-    def shown(self, texts: list[str]) -> list[str]:
-        found = subprocess.run([SHOW], input="".join(f"{text}\n" for text in texts).encode(), capture_output=True, check=True).stdout.decode()
-        lines = found.split("\n")[:-1]
-        self.assertEqual(len(lines), len(texts))
-        return lines
-
     def compare(self, texts: list[str]) -> dict[str, int]:
         """Compares what the server makes of each text and of our print of it; returns how many are read and refused by which."""
-        shown = self.shown(texts)
-        rows = "".join(f"{place}\t{text.translate(COPIED)}\t{ours.translate(COPIED)}\n" for place, (text, ours) in enumerate(zip(texts, shown)))
+        prints = shown(texts)
+        rows = "".join(f"{place}\t{text.translate(COPIED)}\t{ours.translate(COPIED)}\n" for place, (text, ours) in enumerate(zip(texts, prints)))
         words = ["psql", "-X", "-q", "-v", "ON_ERROR_STOP=1", "-h", self.folder, "-U", "postgres", "-d", "postgres"]
         subprocess.run([*words, "-c", "TRUNCATE texts", "-c", "COPY texts FROM STDIN"], input=rows.encode(), check=True)
         answers = self.query(
@@ -152,7 +208,7 @@ class Conditions(unittest.TestCase):
             " CASE WHEN shown LIKE 'refused: %' THEN '' ELSE truths_of(shown) END FROM texts ORDER BY id")
         counts = {"read by both": 0, "refused by both": 0, "of other types": 0, "refused here alone": 0}
         wrong = []
-        for text, ours, (_, plan, our_plan, truths, our_truths) in zip(texts, shown, answers, strict=True):
+        for text, ours, (_, plan, our_plan, truths, our_truths) in zip(texts, prints, answers, strict=True):
             refused = plan is not None and plan.startswith("refused")
             if ours.startswith("refused: "):
                 counts["refused by both" if refused else "refused here alone"] += 1
