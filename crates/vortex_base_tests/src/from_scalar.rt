@@ -100,7 +100,7 @@ fn is_text(scalar: &Scalar, expected: Option<&str>) -> bool {
     }
 }
 
-// The same of bytes.
+// Tells whether a scalar is read as these bytes.
 fn are_bytes(scalar: &Scalar, expected: Option<&[u8]>) -> bool {
     match read::<Vec<u8>>(scalar) {
         Ok(bytes) => expected == Some(bytes.as_slice()),

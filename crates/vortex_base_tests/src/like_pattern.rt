@@ -4,7 +4,7 @@ use std::process::Abort;
 use vortex_expr::LikePattern;
 use vortex_expr::like_pattern::successor;
 
-// What each pattern reads as: its prefix, and whether it is exact.
+// Expects each pattern to have this prefix, and to be exact or not.
 fn expect_readings(rt: &impl Abort, alloc: Global, cases: &[(&str, &str, bool)]) {
     for (pattern, prefix, is_exact) in cases {
         expect_reading(rt, alloc, pattern, prefix, *is_exact);

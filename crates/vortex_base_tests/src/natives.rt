@@ -21,7 +21,7 @@ fn numbers(alloc: Global, dtype: DType, values: &[i64]) -> Result<Column, BaseEr
     Column::of_cells(dtype, Cells::I64(Natives::from_slice(alloc, values)?), 8)
 }
 
-// The same with nulls in the place of some.
+// Numbers in a row, with nulls in the place of some.
 fn some_numbers(
     alloc: Global,
     dtype: DType,
@@ -41,7 +41,7 @@ fn of_vec(alloc: Global, values: &[i64]) -> Result<Column, BaseError> {
     Column::of_cells(I64, Cells::I64(natives), 8)
 }
 
-// The same of two vectors, one of which tells what is there.
+// A column of two vectors, one of which tells what is there.
 fn of_vecs(alloc: Global, values: &[i64], there: &[bool]) -> Result<Column, BaseError> {
     if values.len() != there.len() {
         return Err(BaseError::RowShape);

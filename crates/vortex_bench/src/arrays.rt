@@ -15,7 +15,7 @@ use vortex_base::scope::Scope;
 use vortex_expr::bound_expression::BoundExpression;
 use vortex_prune::zone_map::{Head, ZoneMap};
 
-// What is known of each zone: how many rows it has, and of each of its columns the least and the
+// Each zone by its number of rows, and each of its columns by the least and the
 // greatest value and how many nulls there are.
 #[derive(Drop)]
 struct Arrays {
@@ -33,7 +33,7 @@ fn add_zone(arrays: &mut Arrays, place: i64) -> Result<(), AllocError> {
     Ok(())
 }
 
-// The same zones as those of the sets.
+// Arrays of the zones that the sets are of.
 fn arrays_of(alloc: Global, size: Size) -> Result<Arrays> {
     let mut arrays = Arrays {
         rows: Vec::new(alloc),
@@ -56,7 +56,7 @@ fn without_nulls(alloc: Global, nulls: &[u64]) -> Result<Cells, AllocError> {
     Ok(Cells::Bool(without))
 }
 
-// What stands under a head of the table.
+// The cells under a head of the table.
 fn cells_under(alloc: Global, head: &Head, arrays: &Arrays) -> Result<Cells, AllocError> {
     match head.aggregate() {
         AggregateFnRef::Min => Ok(i64::into_cells(Natives::from_slice(alloc, &arrays.least)?)),

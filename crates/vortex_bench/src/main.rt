@@ -89,7 +89,7 @@ fn count_measured(alloc: Global, name: &str, length: u32) -> Result<usize> {
     Ok(counted?)
 }
 
-// What a workload counts, or 0 for another name.
+// The count of a workload, or 0 for another name.
 fn count(alloc: Global, name: &str, length: u32) -> Result<usize> {
     match name {
         "like" => Ok(workload::count_like(alloc)?),

@@ -102,7 +102,7 @@ fn checked_often(alloc: Global, column: &Column) -> Result<usize, BaseError> {
     Ok(set.len())
 }
 
-// What is done with a column.
+// A way to measure a column.
 #[derive(Clone, Copy)]
 enum Work {
     Made,
@@ -118,7 +118,7 @@ fn count_of(alloc: Global, column: &Column, work: Work) -> Result<usize, BaseErr
     }
 }
 
-// What is counted of a column, or why there is none.
+// The count for a column, or why there is none.
 fn counted(
     alloc: Global,
     column: Result<Column, BaseError>,

@@ -241,7 +241,7 @@ fn often_by_table(alloc: Global, work: &Work) -> Result<usize> {
     Ok(selected)
 }
 
-// What is done with a table.
+// A way to scan a table.
 #[derive(Clone, Copy)]
 enum Way {
     Made,

@@ -73,7 +73,7 @@ pub(crate) fn all_read(sources: &[Source<'_>], zones: usize) -> bool
     true
 }
 
-// What a statistic tells for an aggregate of a zone, if its value is read.
+// The cell of a zone for an aggregate by a statistic, if its value is read.
 fn told_cell(
     alloc: Global,
     source: &Source<'_>,
@@ -91,7 +91,7 @@ fn told_cell(
     }
 }
 
-// The same of values of any kind, of the zones from a place on.
+// The cells of the zones from a place on, by values of any kind.
 fn told_values(
     alloc: Global,
     source: &Source<'_>,
@@ -112,7 +112,7 @@ fn told_values(
     Some(cells)
 }
 
-/// What a statistic tells for an aggregate of the zones from a place on.
+/// The cells of the zones from a place on, for an aggregate by a statistic.
 pub(crate) fn told_cells(
     alloc: Global,
     source: &Source<'_>,

@@ -22,7 +22,7 @@ use vortex_base::scalar_value::ScalarValue;
 use vortex_base::types::{Nullability, PType};
 use vortex_stats::stat::Stat;
 
-/// What the numbers of a column tell.
+/// The extent of a column of numbers: its ends, its nulls, its order.
 #[derive(Clone, Copy)]
 pub(crate) struct Extent {
     /// How many rows are null.

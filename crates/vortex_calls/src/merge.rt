@@ -148,7 +148,7 @@ fn merged_set(
     }
 }
 
-// That of each zone.
+// The merged set of each zone.
 fn merged_sets(
     alloc: Global,
     dtype: DType,

@@ -37,7 +37,7 @@ fn number_there<N: Number>(source: &Source<'_>, zone: usize) -> Option<N>
     }
 }
 
-// What a statistic says of a zone, if its value is read.
+// The number of a statistic in a zone, if its value is read.
 #[inline]
 fn number_in<N: Number>(source: &Source<'_>, zone: usize) -> Option<Precision<N>>
     requires { spec.HasNumbers N.PTYPE source.now }
@@ -99,7 +99,7 @@ fn each_is_read<N: Number>(source: &Source<'_>, zones: usize) -> bool
     true
 }
 
-// The same, where at first a number is looked for in each zone, absent or not.
+// Tells whether each value is read, looking for a number in each zone first, absent or not.
 fn are_read<N: Number>(source: &Source<'_>, zones: usize) -> bool
     requires { spec.HasNumbers N.PTYPE source.now }
     ensures { OnTrue result (spec.AreRead source.now zones) }
@@ -107,7 +107,7 @@ fn are_read<N: Number>(source: &Source<'_>, zones: usize) -> bool
     all_stand::<N>(source, zones) || each_is_read::<N>(source, zones)
 }
 
-/// The same of a statistic whose values are numbers of a type.
+/// Tells whether each value of a statistic over numbers of a type is read.
 pub(crate) fn numbers_are_read(source: &Source<'_>, ptype: PType, zones: usize) -> bool
     requires { spec.HasNumbers ptype source.now }
     ensures { OnTrue result (spec.AreRead source.now zones) }
@@ -380,7 +380,7 @@ fn put_truths_of<N: Number>(
     Some(())
 }
 
-// The same, with the aggregate looked at once.
+// Puts truths, looking at the aggregate once.
 fn put_truths<N: Number>(
     source: &Source<'_>,
     aggregate: AggregateFnRef,
@@ -458,7 +458,7 @@ fn truths_told<N: Number>(
     told_truths::<N>(alloc, source, aggregate, rows, from, count)
 }
 
-// What a statistic tells for an aggregate of the zones from a place on.
+// The cells of the zones from a place on, for an aggregate by a statistic.
 fn told<N: Number>(
     alloc: Global,
     source: &Source<'_>,
@@ -481,7 +481,7 @@ fn told<N: Number>(
     told_each::<N>(alloc, source, aggregate, from, count)
 }
 
-/// The same of a statistic whose values are numbers of a type.
+/// The cells of a statistic whose values are numbers of a type.
 pub(crate) fn told_numbers(
     alloc: Global,
     source: &Source<'_>,

@@ -1,4 +1,4 @@
-//! What to do with each zone of a table under a predicate.
+//! The answer for each zone of a table under a predicate.
 ghost use Rattle.std.specs.Prelude.{◌≡◌, IfOk, IsTrue, Ok, length};
 ghost use Rattle.vortex_expr.specs.Meanings.Fitting.{fits_scope};
 ghost use Rattle.vortex_expr.specs.Trees.Tree.{Place, Tree, is_plain};
@@ -79,7 +79,7 @@ fn answers_given(
     predicate_answers(alloc, &scope, &predicate, rows, stats)
 }
 
-/// What to do with each zone of a table under a predicate, `vortex_prune` of the header.
+/// Answers for each zone of a table under a predicate, as `vortex_prune` of the header.
 pub fn prune(
     alloc: Global,
     scope: &[Field<'_>],

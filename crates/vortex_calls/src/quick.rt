@@ -86,7 +86,7 @@ impl Batch<'_> {
         }
     }
 
-    // Those below all heads of the scope.
+    // The columns below all heads of the scope.
     fn columns(&self, alloc: Global, heads: &[Head], named: &[bool]) -> Option<Vec<Column>>
         requires batch { spec.IsBatch self.now }
         requires heads { heads.now ≡ all_heads self.now.scope.now }

@@ -90,7 +90,7 @@ impl Statistic<'_> {
         }
     }
 
-    /// What the table says of a statistic in a zone.
+    /// The value of a statistic in a zone, as the table says it.
     pub(crate) fn value_in(
         &self,
         alloc: Global,

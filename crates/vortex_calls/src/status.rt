@@ -1,4 +1,4 @@
-//! What a call returns.
+//! The statuses that a call returns.
 ghost use Rattle.std.specs.Prelude.{◌≡◌};
 ghost use Rattle.vortex_calls.specs.Statuses.{status_number};
 ghost use Rattle.vortex_calls.specs.declared.status.Status.TheVariants.{NoMemory};

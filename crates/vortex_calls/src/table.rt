@@ -98,7 +98,7 @@ pub(crate) fn sources_given<'a>(
 }
 
 impl Source<'_> {
-    /// What its array says of a zone.
+    /// The value in a zone, as its array says it.
     pub(crate) fn value(&self, alloc: Global, zone: usize) -> Result<Precision<ScalarValue>, Status>
         ensures read { Gives result (spec.value_of_source self.now zone) }
         ensures fits { IfOk result (λ value.
@@ -172,14 +172,14 @@ fn zone_sets(
     Ok(sets)
 }
 
-/// What is known of a zone.
+/// A zone by its rows and its statistics.
 #[derive(Drop)]
 pub(crate) struct Known {
     pub(crate) rows: u64,
     pub(crate) sets: Vec<StatsSet>,
 }
 
-/// What a table says of a zone.
+/// The zone at a place of a table.
 pub(crate) fn zone_at(
     alloc: Global,
     scope: &Scope,

@@ -1,4 +1,4 @@
-//! What a scan by the built-in rules does with each part, and why.
+//! Explanations of a scan by the built-in rules: the fate of each part, and why.
 use crate::leaves::push_leaves;
 use crate::proofs::{PartAt, Proofs, holds, push_shown, push_told};
 use std::alloc::{AllocError, Global};
@@ -17,7 +17,7 @@ const MOST_TESTED: usize = 10;
 
 const SIGNS: usize = 100;
 
-// What becomes of a part.
+// The fate of a part.
 #[derive(Clone, Copy, Debug, PartialEq, Eq)]
 enum Fate {
     Skipped,
@@ -209,7 +209,7 @@ fn push_parts(
     Ok(())
 }
 
-/// What a scan of parts by the built-in rules does and why, as lines of text: the predicate with its
+/// Explains a scan of parts by the built-in rules, as lines of text: the predicate with its
 /// falsifier and its satisfier, its normal form with those of it, and for each part, of which the map
 /// has the statistics, whether it is skipped, whole or tested, with what the proofs of each leaf of the predicate say by its
 /// statistics: true, false, or null for want of the statistics that are named. Of more than 50 parts

@@ -20,7 +20,7 @@ use vortex_rewrite::rewrite::{falsify, satisfy};
 use vortex_stats::error::StatsError;
 use vortex_stats::stat::Stat;
 
-/// What the built-in rules prove a predicate by, if they do.
+/// The proofs of a predicate by the built-in rules, where there are any.
 #[derive(Debug, Drop)]
 pub(crate) struct Proofs {
     pub(crate) falsifier: Option<BoundExpression>,
@@ -70,7 +70,7 @@ fn value_of(
     }
 }
 
-/// What a proof says of a part: that it holds, that it doesn't, or nothing for want of a statistic.
+/// A proof's answer for a part: it holds, it doesn't, or nothing is known for want of a statistic.
 pub(crate) fn told(
     alloc: Global,
     proof: &BoundExpression,
@@ -94,12 +94,12 @@ pub(crate) fn holds(
     }
 }
 
-// What stands before a missing statistic.
+// The words before a missing statistic.
 fn separator(is_first: bool) -> &'static str {
     if is_first { " for want of " } else { ", " }
 }
 
-// What stands around a statistic that only a count of nulls answers: the words before it and behind
+// The words around a statistic that only a count of nulls answers: before it and behind
 // it. An inexact count is told apart from none.
 fn count_words(aggregate: AggregateFnRef, is_inexact: bool) -> (&'static str, &'static str) {
     match (StatFn::reads(aggregate), aggregate, is_inexact) {

@@ -122,7 +122,7 @@ fn write_column<W: fmt::Write>(
     }
 }
 
-// What stands between the two operands of an expression, if it has two.
+// The words between the two operands of an expression, if it has two.
 fn infix(e: &BoundExpression) -> &'static str {
     match e.kind() {
         ExprKind::Binary(operator) => operator_text(operator),
@@ -131,7 +131,7 @@ fn infix(e: &BoundExpression) -> &'static str {
     }
 }
 
-// What stands before the one operand of an expression, if it has one.
+// The words before the one operand of an expression, if it has one.
 fn prefix(e: &BoundExpression) -> &'static str {
     match e.kind() {
         ExprKind::IsNull => "is_null",

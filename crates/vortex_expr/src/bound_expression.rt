@@ -81,7 +81,7 @@ impl BoundExpression {
         self.dtype
     }
 
-    /// What the top node is.
+    /// The kind of the top node.
     pub fn kind(&self) -> ExprKind
         ensures { result ≡ kind_of self.now }
     {

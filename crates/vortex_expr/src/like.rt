@@ -19,7 +19,7 @@ use ascii::past_same;
 use chance::from_chance;
 use piece::from_piece;
 
-// What the attempts at one place after another may spend at first, and for each place.
+// The steps that attempts at one place after another may take at first, and for each place.
 const PATIENCE: usize = 256;
 
 const PATIENCE_AT_PLACE: usize = 4;
@@ -100,7 +100,7 @@ impl<'a> Characters<'a> {
         self.text.len()
     }
 
-    // What is left at the text's end.
+    // The rest at the text's end.
     fn end(self) -> Characters<'a>
         ensures { characters result ≡ [] }
     {
@@ -157,7 +157,7 @@ fn match_front<'a>(pattern: Characters<'a>, text: Characters<'a>) -> Front<'a>
     }
 }
 
-// The same item by item, after so many that matched.
+// Matches item by item, after so many that matched.
 #[inline(never)]
 fn match_items<'a>(
     left: &'a str,

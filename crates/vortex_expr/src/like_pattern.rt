@@ -1,4 +1,4 @@
-//! What a pattern of LIKE says of the texts that it matches, and a text above all with a beginning.
+//! Patterns of LIKE by the texts that they match, and a text above all with a beginning.
 ghost use Rattle.std.specs.Prelude.{◌≡◌, ◌≢◌, ◌++◌, ◌∷◌, ◌+◌, ◌<◌, [], length, IfOk, IfSome, IsSome, MatchOption, OnErr, true, false};
 ghost use Rattle.std.specs.Prelude.{encode_utf8_all, option_copied, option_map, string_bytes};
 ghost use Rattle.std.specs.Str.{chars, IsUtf8};

@@ -1,4 +1,4 @@
-//! What a node of an expression applies: functions, operators and their options; and the kinds
+//! Functions, operators and their options, as nodes of an expression apply them; and the kinds
 //! of a node.
 ghost use Rattle.std.specs.Prelude.{◌≡◌};
 
@@ -53,7 +53,7 @@ pub struct BetweenOptions {
     pub upper_strict: StrictComparison,
 }
 
-/// What a node applies to its children. A column applies nothing and has none.
+/// A function that a node applies to its children. A column applies nothing and has none.
 #[derive(Clone, Copy, Debug, PartialEq, Eq, Hash)]
 pub enum ScalarFnId {
     Literal,

@@ -110,7 +110,7 @@ pub extern "C" fn vortex_merge_zones(
     )
 }
 
-/// What to do with each zone of a table under a predicate, `vortex_prune` of the header.
+/// Answers for each zone of a table under a predicate, as `vortex_prune` of the header.
 #[unsafe(no_mangle)]
 pub extern "C" fn vortex_prune(
     alloc: Global,

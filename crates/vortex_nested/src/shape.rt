@@ -1,4 +1,4 @@
-//! What stands behind the first word of an expression.
+//! Shapes of an expression behind its first word.
 ghost use Rattle.std.specs.Prelude.{◌≡◌};
 ghost use Rattle.vortex_nested.specs.Reads.{shape_of, shape_of_operator};
 

@@ -37,7 +37,7 @@ pub(crate) struct Values<'a> {
 /// One predicate of a chain.
 #[derive(Drop)]
 pub(crate) enum Item<'a> {
-    /// What is said of a column.
+    /// The values that a column is said to have.
     Inside(Values<'a>),
     /// Any other.
     Other(Predicate),
@@ -313,7 +313,7 @@ impl<'a> Chain<'a> {
     }
 }
 
-// What is said of a column by all sets of a chain, by one set.
+// Says by one set of a column all that the sets of a chain say.
 fn said_once<'a>(alloc: Global, is_and: bool, said: Values<'a>) -> Result<Item<'a>, StatsError>
     requires { IsTrue (is_of_separate (item_of (kept.Inside said))) }
     ensures { OkOrMemory result

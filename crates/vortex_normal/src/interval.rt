@@ -258,7 +258,7 @@ pub(crate) fn comparison_set<'a>(
     }
 }
 
-/// The same comparison with its operands swapped.
+/// The comparison that says the same with its operands swapped.
 pub(crate) fn swapped(operator: Operator) -> Operator
     ensures { result ≡ spec.swapped operator }
 {

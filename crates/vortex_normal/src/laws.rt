@@ -4,7 +4,7 @@ ghost use Rattle.vortex_normal.specs.OneColumn.{JoiningsAreApart, OneColumnIsApa
 ghost use Rattle.vortex_normal.specs.Worked.{BalancedExamples, FormExamples};
 ghost use Rattle.vortex_normal.specs.WorkedTests.{StrictExamples, TestExamples};
 
-/// What is said of one column in one place is satisfied by the same rows.
+/// Groups of what is said of one column in one place are satisfied by the same rows.
 pub fn groups_are_same()
     ensures { GroupsAreSame }
 {}

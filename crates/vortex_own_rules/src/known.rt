@@ -18,12 +18,12 @@ use vortex_prune::scan::scan;
 use vortex_prune::{HookFault, Part, Rules, Scan, StatBinder};
 use vortex_stats::StatsError;
 
-/// What is known of an aggregate of an input.
+/// A fact of an aggregate of an input.
 #[derive(Drop)]
 pub struct Entry {
     /// The expression whose values are meant.
     pub input: BoundExpression,
-    /// What is known of them.
+    /// The aggregate whose value is known.
     pub aggregate: AggregateFnRef,
     /// Its value.
     pub value: Scalar,
@@ -33,7 +33,7 @@ pub struct Entry {
 /// placeholder's type, nullability aside.
 #[derive(Drop)]
 pub struct Known {
-    /// What was told, the first that fits before later ones.
+    /// The entries, the first that fits before later ones.
     pub entries: Vec<Entry>,
 }
 
@@ -96,7 +96,7 @@ impl StatBinder for Known {
     }
 }
 
-/// What a binder of entries names is honest for columns of which each entry is a fact.
+/// A binder of entries is honest for columns of which each entry is a fact.
 pub fn known_facts_are_honest()
     ensures { KnownFactsAreHonest }
 {}

@@ -27,7 +27,7 @@ fn is_connective(operator: Operator) -> bool
     matches!(operator, Operator::And | Operator::Or)
 }
 
-// That an operand is null in every row, which of a literal is known.
+// Proves an operand null in every row, which of a literal is known.
 fn null_proof(alloc: Global, x: &BoundExpression) -> Result<Option<BoundExpression>, HookFault>
     ensures value { MatchResult result (λ o. o ≡ null_proof_of x.now) (IsHookFault (λ k. false)) }
     ensures truth { IfOk result (λ o. IfSome o (λ e. IsTrue (is_predicate e))) }
@@ -41,7 +41,7 @@ fn null_proof(alloc: Global, x: &BoundExpression) -> Result<Option<BoundExpressi
     }
 }
 
-// That one of two operands is null in every row.
+// Proves one of two operands null in every row.
 fn either_null(
     alloc: Global,
     x: &BoundExpression,
@@ -55,7 +55,7 @@ fn either_null(
     either(alloc, left, right)
 }
 
-// That an operand of the top node is null in every row, where the node is a comparison or a LIKE.
+// Proves an operand of the top node null in every row, where the node is a comparison or a LIKE.
 fn null_operands(alloc: Global, e: &BoundExpression) -> Result<Option<BoundExpression>, HookFault>
     ensures { MatchResult result (λ o. o ≡ null_operands_of e.now) (IsHookFault (λ k. false)) }
 {

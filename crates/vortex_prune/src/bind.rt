@@ -26,7 +26,7 @@ use vortex_rewrite::built::built;
 use vortex_rewrite::hook_fault::HookFault;
 use vortex_stats::error::{BinderFault, StatsError};
 
-// What a binder answered, with its fault as binding tells it.
+// The answer of a binder, with its fault as binding tells it.
 fn told<T>(answer: Result<T, HookFault>) -> Result<T, StatsError>
     ensures { MatchResult answer (λ v. result ≡ Ok v) (λ f. result ≡ Err (spec.binder_error f)) }
 {
@@ -55,7 +55,7 @@ fn answered<B: StatBinder>(
     }
 }
 
-// What stands for a placeholder of this type, if it is of the type, nullability aside.
+// The stand-in for a placeholder of this type, if it is of the type, nullability aside.
 fn replaced<B: StatBinder>(
     alloc: Global,
     input: &BoundExpression,
@@ -119,7 +119,7 @@ fn bound_stats<B: StatBinder>(
     }
 }
 
-// What `bind_stats` answers, of an expression that is kept.
+// The answer of `bind_stats`, for an expression that is kept.
 pub(crate) fn bind_stats_of<B: StatBinder>(
     alloc: Global,
     e: &BoundExpression,

@@ -12,7 +12,7 @@ ghost use Rattle.vortex_prune.specs.Scanning.TrueRows.{ZonesHaveTrueRows};
 use crate::bind::stat_binder::StatBinder;
 use crate::bind::stats_binder::StatsBinder;
 
-/// What the statistics of a part answer to placeholders are facts of its columns, where they are
+/// Answers of a part's statistics to placeholders are facts of its columns, where they are
 /// true of them.
 pub fn statistics_are_honest()
     ensures { StatisticsAreHonest }
@@ -38,8 +38,8 @@ pub fn statistics_binders_are_honest<'a>()
         → any_binder ⟦<StatsBinder<'a> as StatBinder>⟧.can_fault parts k ≡ false }
 {}
 
-/// What a binder's author may answer: a literal of the type asked for, nullability aside, and null,
-/// which is worth null.
+/// Literals that a binder's author may answer: those of the type asked for, nullability aside, and
+/// null, which is worth null.
 pub fn literals_are_answers()
     ensures literals { LiteralsAreAnswers }
     ensures nulls { NullsAreAnswers }

@@ -91,7 +91,7 @@ impl Part {
         &sets[i]
     }
 
-    /// What is known of it without its rows.
+    /// The part as it is known without its rows.
     pub fn zone(&self) -> Zone<'_>
         ensures value { result ≡ zone_of self.now }
         ensures is_part { IsPart self.now }

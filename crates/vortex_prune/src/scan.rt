@@ -48,7 +48,7 @@ use vortex_rewrite::rewrite::rules::Rules;
 use vortex_rewrite::rewrite::{falsify, satisfy};
 use vortex_stats::error::StatsError;
 
-// What becomes of a part by two proofs, as the part's binder binds them.
+// The fate of a part by two proofs, as the part's binder binds them.
 #[derive(Drop)]
 struct ByBinders<'a, B: StatBinder> {
     falsifier: Option<&'a BoundExpression>,

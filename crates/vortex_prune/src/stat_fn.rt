@@ -19,7 +19,7 @@ use vortex_stats::precision::Precision;
 use vortex_stats::stat::Stat;
 use vortex_stats::stats_set::StatsSet;
 
-/// What a placeholder asks for.
+/// A question that a placeholder asks.
 #[derive(Clone, Copy, Debug, PartialEq, Eq, Hash)]
 pub struct StatOptions {
     aggregate_fn: AggregateFnRef,
@@ -101,9 +101,9 @@ impl StatFn {
         answer_dtype(options.aggregate_fn, dtype)
     }
 
-    /// What a set of statistics, which `StatsSet::fits` tells to fit the type, answers for a column
-    /// of this type: one value, or null where it tells none, for each of the rows. `Unsupported`
-    /// where the aggregate does not support the type.
+    /// The answer of a set of statistics, which `StatsSet::fits` tells to fit the type, for a
+    /// column of this type: one value, or null where it tells none, for each of the rows.
+    /// `Unsupported` where the aggregate does not support the type.
     pub fn execute(
         options: &StatOptions,
         stats: &StatsSet,
@@ -136,7 +136,7 @@ impl StatFn {
         }
     }
 
-    /// What a column of so many rows answers to an aggregate, where the statistic that `reads`
+    /// The answer of a column of so many rows to an aggregate, where the statistic that `reads`
     /// names has this value: the value of `execute`, for who has no set. It is for the cells of a
     /// table that `ZoneMap::of_table` takes.
     pub fn told(
@@ -166,7 +166,7 @@ fn answer_dtype(aggregate: AggregateFnRef, dtype: &DType) -> Result<DType, Stats
     }
 }
 
-// What the set answers, with the answer's type.
+// The answer of the set, with the answer's type.
 pub(crate) fn scalar_of(
     aggregate: AggregateFnRef,
     stats: &StatsSet,

@@ -64,7 +64,7 @@ impl Head {
         self.source
     }
 
-    /// What it tells of that column in each zone.
+    /// The aggregate that it tells of that column in each zone.
     pub fn aggregate(&self) -> AggregateFnRef
         ensures { result ≡ self.now.aggregate }
     {
@@ -101,7 +101,7 @@ fn aggregates() -> [AggregateFnRef; 7]
     ]
 }
 
-// What follows a column's name in that of its column of the table.
+// The suffix of a column's name in that of its column of the table.
 fn suffix(aggregate: AggregateFnRef) -> &'static str
     ensures { result.now ≡ spec.suffix aggregate }
 {
@@ -197,7 +197,7 @@ fn all_heads(alloc: Global, scope: &Scope, starts: &mut Vec<usize>) -> Result<Ve
     Ok(heads)
 }
 
-// What a zone tells of its column at a place.
+// The value that a zone tells of its column at a place.
 fn zone_value(
     zone: &Zone<'_>,
     source: usize,

@@ -14,7 +14,7 @@ use vortex_base::chunk::Chunk;
 use vortex_base::scope::Scope;
 use vortex_stats::error::StatsError;
 
-// What is known of parts without their rows.
+// The parts as they are known without their rows.
 fn zones_of<'a>(alloc: Global, parts: &'a [Part]) -> Result<Vec<Zone<'a>>, AllocError>
     ensures zones { IfOk result (λ zones. zones.items ≡ zones_of parts.now) }
     ensures parts { IfOk result (λ _. AreParts parts.now) }
@@ -113,7 +113,7 @@ impl Zones {
         &self.parts
     }
 
-    /// What is known of them without their rows, as a map with one zone a part.
+    /// The parts as they are known without their rows, as a map with one zone a part.
     pub fn map(&self) -> &ZoneMap
         ensures value { result.now ≡ zone_map self.now.scope (zones_of self.now.parts) }
         ensures is_map { IsMapOf (zones_of self.now.parts) result.now }

@@ -17,7 +17,7 @@ const COUNT: DType = DType::Primitive(PType::U64, Nullability::Nullable);
 
 const TRUTH: DType = DType::Bool(Nullability::Nullable);
 
-// What a table is built wrong in, if in anything.
+// A fault that a table is built with, or none.
 #[derive(Clone, Copy, PartialEq, Eq)]
 enum Fault {
     None,

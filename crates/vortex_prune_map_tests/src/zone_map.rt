@@ -36,7 +36,7 @@ pub(crate) fn push_alone(
     Ok(())
 }
 
-// Those with no set for the column of one more.
+// These sets, and none for the column of one more.
 fn and_no_set(alloc: Global, sets: SetsOfZones) -> SetsOfZones {
     let mut sets = sets?;
     sets.push(Vec::new(alloc))?;

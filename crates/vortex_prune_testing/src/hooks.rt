@@ -14,14 +14,14 @@ use vortex_rewrite_testing::hooks::truth_answer;
 
 const U64: DType = DType::Primitive(PType::U64, Nullability::NonNullable);
 
-/// What a binder answers to each placeholder.
+/// A binder's answer to each placeholder.
 #[derive(Clone, Copy)]
 pub enum Answerer {
     /// The placeholder.
     Itself,
     /// The placeholder of the least value.
     Least,
-    /// What the placeholder is over.
+    /// The expression that the placeholder is over.
     Input,
     /// A truth.
     Truth,
@@ -31,7 +31,7 @@ pub enum Answerer {
     Zero,
     /// Its fault.
     Faulty,
-    /// That memory was refused.
+    /// A refusal of memory.
     Forgetful,
 }
 

@@ -1,4 +1,4 @@
-//! What tests of pruning share: parts, tables and scans, and binders of a user.
+//! Parts, tables and scans, and binders of a user, which tests of pruning share.
 #![tactic(auto)]
 
 pub mod hooks;

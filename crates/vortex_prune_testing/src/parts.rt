@@ -283,7 +283,7 @@ pub fn all_fit(parts: &[Part], predicate: &BoundExpression) -> bool
 
 pub type Found = Result<Scan, StatsError>;
 
-// What two scans found alike; `Mismatch` where they differ.
+// The outcome that two scans share; `Mismatch` where they differ.
 fn found_alike(one: Scan, other: Scan) -> Found {
     if one == other {
         Ok(one)
@@ -304,7 +304,7 @@ fn is_same_refusal(one: &StatsError, other: &StatsError) -> bool {
     }
 }
 
-// What two scans were refused for alike; `Mismatch` where they differ.
+// The refusal that two scans share; `Mismatch` where they differ.
 fn refused_alike(one: StatsError, other: StatsError) -> StatsError {
     if matches!(one, StatsError::Memory(_)) || is_same_refusal(&one, &other) {
         one
@@ -315,7 +315,7 @@ fn refused_alike(one: StatsError, other: StatsError) -> StatsError {
     }
 }
 
-// What two scans found or were refused for alike; `Mismatch` where they differ.
+// The outcome or the refusal that two scans share; `Mismatch` where they differ.
 fn agreed(one: Found, other: Found) -> Found {
     match (one, other) {
         (Ok(found), Ok(same)) => found_alike(found, same),
@@ -435,7 +435,7 @@ fn scanned_as_one(
     scanned_by_ranges(alloc, &whole, zones.map(), predicate, rules)
 }
 
-/// What is known of the parts without their rows.
+/// The parts as they are known without their rows.
 pub fn known_of<'a>(alloc: Global, parts: &'a [Part]) -> Result<Vec<Zone<'a>>, AllocError> {
     let mut zones = Vec::new(alloc);
     for part in parts {
@@ -483,7 +483,7 @@ fn lists_the_same(found: &Scan, pruned: &Pruned) -> bool {
         && found.whole.as_slice() == pruned.whole.as_slice()
 }
 
-// What a scan found and pruning alike; `Mismatch` where they differ.
+// The outcome that a scan and pruning share; `Mismatch` where they differ.
 fn also_pruned(found: Scan, pruned: Pruned) -> Found {
     if lists_the_same(&found, &pruned) {
         Ok(found)
@@ -492,7 +492,7 @@ fn also_pruned(found: Scan, pruned: Pruned) -> Found {
     }
 }
 
-// What a scan and pruning found or were refused for alike; `Mismatch` where they differ.
+// The outcome or the refusal that a scan and pruning share; `Mismatch` where they differ.
 fn pruned_alike(found: Found, pruned: Result<Pruned, StatsError>) -> Found {
     match (found, pruned) {
         (Ok(found), Ok(pruned)) => also_pruned(found, pruned),
@@ -527,7 +527,7 @@ pub fn scanned_by(
     }
 }
 
-/// The same by the built-in rules.
+/// Scans zones by the built-in rules.
 pub fn scanned(alloc: Global, zones: &Result<Zones, StatsError>, predicate: Built) -> Found {
     scanned_by(alloc, zones, predicate, &Rules::builtin(alloc))
 }

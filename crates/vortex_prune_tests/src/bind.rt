@@ -200,7 +200,7 @@ fn faults_are_the_binders(rt: HostRuntime) {
     assert!(rt; dtype_of(right).expect(&rt, "dtype of") == U64.as_nullable());
 }
 
-// What stands for a missing answer is what the binder says: null is not put in its place.
+// A binder says what stands for a missing answer: null is not put in its place.
 #[test]
 fn what_is_missing_is_asked_for(rt: HostRuntime) {
     let alloc = rt.alloc();

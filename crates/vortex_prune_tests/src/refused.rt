@@ -169,7 +169,7 @@ fn is_bound_to(answer: Built, expected: &BoundExpression) -> bool {
     }
 }
 
-// What is bound by a binder that knows nothing isn't reduced, whichever growth is refused.
+// A binder that knows nothing binds what isn't reduced, whichever growth is refused.
 #[test]
 fn refused_bindings_of_the_unknown(rt: HostRuntime) -> Result<(), Fail> {
     let alloc = rt.alloc();

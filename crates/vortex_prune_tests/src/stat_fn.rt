@@ -1,4 +1,4 @@
-//! What sets over a column of numbers answer.
+//! Answers of sets over a column of numbers.
 use std::alloc::Global;
 use std::process::Abort;
 use vortex_base::types::Element;
@@ -15,7 +15,7 @@ const COUNT: DType = DType::Primitive(PType::U64, Nullability::Nullable);
 
 const TRUTH: DType = DType::Bool(Nullability::Nullable);
 
-// What a set that fits answers, at each row.
+// The answer of a set that fits, at each row.
 fn answer(
     set: &StatsSet,
     aggregate: AggregateFnRef,
@@ -62,7 +62,7 @@ fn expect_sum(rt: &impl Abort, set: StatsSet, value: Option<ScalarValue>) {
     expect(rt, set, AggregateFnRef::Sum, 3, I64, value);
 }
 
-// What a count of nulls in four rows is answered by.
+// Expects an answer to a count of nulls in four rows.
 fn expect_count(rt: &impl Abort, set: StatsSet, value: Option<u64>) {
     let value = match value {
         Some(n) => Some(count(n)),
@@ -207,7 +207,7 @@ fn all_non_null_by_the_count(rt: HostRuntime) {
     expect_truth(&rt, exact_nulls(alloc, 0), no_null, 4, Some(true));
 }
 
-// What a declared size is answered by.
+// Expects an answer to a declared size.
 fn expect_size(rt: &impl Abort, set: StatsSet, value: Option<ScalarValue>) {
     expect(
         rt,
@@ -292,7 +292,7 @@ const AGGREGATES: [AggregateFnRef; 9] = [
     AggregateFnRef::NanCount,
 ];
 
-// What a set tells of an aggregate through the one statistic that is read.
+// The answer of a set to an aggregate through the one statistic that is read.
 fn told_alone(
     set: &StatsSet,
     aggregate: AggregateFnRef,

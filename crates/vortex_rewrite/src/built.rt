@@ -7,7 +7,8 @@ use vortex_base::error::BaseError;
 use vortex_expr::bound_expression::BoundExpression;
 use vortex_stats::error::StatsError;
 
-/// What a constructor made of operands that fit; `Memory` is the one refusal that is left.
+/// Takes the product of a constructor over operands that fit; `Memory` is the one refusal that is
+/// left.
 pub fn built<T>(made: Result<T, BaseError>) -> Result<T, StatsError>
     requires { IfErr made (λ fault. fault ≡ Memory alloc_error) }
     ensures { OkOrMemory result (λ e. made ≡ Ok e) }

@@ -1,4 +1,4 @@
-//! What binders and rules of a user answer where they fail.
+//! Faults that binders and rules of a user answer where they fail.
 use std::alloc::{AllocError, AllocFailed};
 use vortex_base::error::BaseError;
 use vortex_stats::error::StatsError;

@@ -30,7 +30,7 @@ pub fn read_once_is_apart()
     ensures { ReadOnceIsApart }
 {}
 
-/// What the answers to placeholders say of an input, where they are facts of a chunk, is so of its
+/// Answers to placeholders of an input say, where they are facts of a chunk, what is so of its
 /// value on each row: a least and a greatest value bound it, and it is null or isn't as the counts
 /// of nulls and the two truths on nulls say.
 pub fn facts_hold_at_rows()
@@ -49,7 +49,8 @@ pub fn tables_are_sound()
     ensures others { TablesAreSound }
 {}
 
-/// What is over a chunk has parts that are, and a node that has a type is where its operands are.
+/// An expression over a chunk has parts that are, and a node that has a type is where its operands
+/// are.
 pub fn parts_and_wholes_are_over()
     ensures parts { PartsAreOver }
     ensures wholes { WholesAreOver }

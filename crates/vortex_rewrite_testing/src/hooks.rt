@@ -18,7 +18,7 @@ const I32_OR_NULL: DType = DType::Primitive(PType::I32, Nullability::Nullable);
 
 const U64: DType = DType::Primitive(PType::U64, Nullability::NonNullable);
 
-/// What rules and binders answer that know a truth.
+/// The answer of rules and binders that know a truth.
 pub fn truth_answer(alloc: Global, truth: bool) -> Result<Option<BoundExpression>, HookFault>
     ensures { MatchResult result (λ o. o ≡ Some (bool_literal truth)) (IsHookFault (λ k. false)) }
 {
@@ -33,7 +33,7 @@ fn number_answer(alloc: Global) -> Result<Option<BoundExpression>, HookFault>
     Ok(Some(bound::lit(alloc, seven)?))
 }
 
-/// What a rule proves an expression by. None of it is ever true.
+/// A proof that a rule answers for an expression. None of it is ever true.
 #[derive(Clone, Copy)]
 pub enum Claim {
     Nothing,
@@ -47,7 +47,7 @@ pub enum Claim {
     Column(usize),
     /// The rule's fault.
     Fault,
-    /// That memory was refused.
+    /// A refusal of memory.
     Memory,
 }
 

@@ -1,4 +1,4 @@
-//! What tests of rewriting and of all above it share: nodes and scopes, and rules of a user.
+//! Nodes, scopes and rules of a user, which tests of rewriting and of all above it share.
 #![tactic(auto)]
 
 pub mod hooks;

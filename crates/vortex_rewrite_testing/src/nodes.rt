@@ -42,7 +42,7 @@ pub const OPEN_ABOVE: BetweenOptions = BetweenOptions {
     upper_strict: StrictComparison::Strict,
 };
 
-/// What the layer below made, its refusals told as this crate's.
+/// Takes what the layer below made, its refusals told as this crate's.
 pub fn told<T>(made: Result<T, BaseError>) -> Result<T, StatsError> {
     match made {
         Ok(made) => Ok(made),

@@ -77,7 +77,7 @@ fn placed_null_count(alloc: Global) -> Built {
     placed::null_count(alloc, col(alloc, 0, I32)?)
 }
 
-// What is made over a name and bound is what is made over the bound column.
+// A node over a name, once it is bound, is the node over the bound column.
 #[test]
 fn are_those_over_bound_columns(rt: HostRuntime) {
     let alloc = rt.alloc();

@@ -57,7 +57,7 @@ fn all_non_null(alloc: Global) -> Built {
     stat(alloc, a(alloc), AggregateFnRef::AllNonNull)
 }
 
-// That no row is null.
+// Says that no row is null.
 fn no_null(alloc: Global) -> Built {
     or(alloc, no_nulls(alloc), all_non_null(alloc))
 }
@@ -287,7 +287,7 @@ fn like_of(alloc: Global, pattern: &str) -> Built {
     like(alloc, s(alloc), text(alloc, pattern))
 }
 
-// That all texts lie below this one.
+// Says that all texts lie below this one.
 fn all_below(alloc: Global, end: &str) -> Built {
     lt(alloc, max(alloc, s(alloc)), text(alloc, end))
 }
@@ -436,7 +436,7 @@ fn rewriting_is_refused_for_memory_alone(rt: HostRuntime) {
     assert!(rt; is_found(satisfied(alloc, null, &rules)));
 }
 
-// The same of the chain itself, which is kept and asked about again.
+// A chain that is kept and asked about again is rewritten alike.
 #[test]
 fn refused_proofs_of_a_chain(rt: HostRuntime) -> Result<(), Fail> {
     let alloc = rt.alloc();

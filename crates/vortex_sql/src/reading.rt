@@ -1,4 +1,4 @@
-//! What is said of a test.
+//! Meanings of a test.
 ghost use Rattle.std.specs.Prelude.{◌≡◌, [], MatchResult, option_map};
 ghost use Rattle.vortex_sql.specs.declared.fault.Fault.TheVariants.{Memory, Misfit};
 ghost use Rattle.vortex_sql.specs.Readings as spec;

@@ -1,4 +1,4 @@
-//! What is open of a condition: its parentheses and its NOTs.
+//! Open parentheses and NOTs of a condition.
 use crate::chain::{Items, chained};
 use crate::error::ParseError;
 use crate::part::{Built, Form, MAX_LEVELS, put, take_condition};

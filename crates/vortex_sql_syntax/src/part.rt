@@ -1,4 +1,4 @@
-//! What was read of a condition, with its height.
+//! Parts of a condition that were read, with their height.
 use crate::error::ParseError;
 use crate::tree::{Condition, Leaf, Operand, Test};
 use std::alloc::Global;

@@ -1,4 +1,4 @@
-//! What may stand behind an operand: BETWEEN, IN, LIKE, a comparison, IS.
+//! Predicates behind an operand: BETWEEN, IN, LIKE, a comparison, IS.
 use crate::cursor::Cursor;
 use crate::error::ParseError;
 use crate::operand::{arithmetic, goes_on, operand};

@@ -14,7 +14,7 @@ use std::alloc::AllocError;
 use std::cmp::Ordering;
 use std::marker::Model;
 
-/// What two bounds allow in common.
+/// The values that two bounds allow in common.
 #[derive(Debug, PartialEq, Eq, Drop)]
 pub enum IntersectionResult<T> {
     /// The bound on the common values.

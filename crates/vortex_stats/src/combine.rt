@@ -27,7 +27,7 @@ use smallvec::SmallVec;
 use vortex_base::dtype::DType;
 use vortex_base::scalar_value::ScalarValue;
 
-// What two values of the statistic `S` meet in, under its bound; None where a value is absent.
+// Combines two values of the statistic `S`, under its bound; None where a value is absent.
 // `Conflict` where the values contradict each other.
 pub(crate) fn combine<T: Ord + Clone, S: StatType<T>>(
     left: Precision<T>,
@@ -96,7 +96,7 @@ fn combine_truths<S: StatType<bool>>(
     }
 }
 
-// What two values of a statistic meet in, under the bound of the statistic.
+// Combines two values of a statistic, under the bound of the statistic.
 fn met_value(
     stat: Stat,
     dtype: &DType,
@@ -126,7 +126,7 @@ fn met_value(
     }
 }
 
-// What an entry of the other set makes of the left value. One value is copied at most.
+// The change that an entry of the other set makes to the left value. One value is copied at most.
 fn entry_change(
     left: Precision<&ScalarValue>,
     dtype: &DType,

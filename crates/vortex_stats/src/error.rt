@@ -38,7 +38,7 @@ pub enum StatsError {
     TooLarge,
 }
 
-/// What was wrong with a binder's answer.
+/// A fault of a binder's answer.
 #[derive(Debug, Drop)]
 pub enum BinderFault {
     /// The binder's own fault.
@@ -47,7 +47,7 @@ pub enum BinderFault {
     WrongType,
 }
 
-/// What was wrong with a rule's answer.
+/// A fault of a rule's answer.
 #[derive(Debug, Drop)]
 pub enum RuleFault {
     /// The rule's own fault.

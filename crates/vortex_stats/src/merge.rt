@@ -23,7 +23,7 @@ use vortex_base::dtype::DType;
 use vortex_base::pvalue::PValue;
 use vortex_base::scalar_value::ScalarValue;
 
-// What a merge does with an entry.
+// The change that a merge makes to an entry.
 #[derive(Default, Drop)]
 pub(crate) enum Change {
     /// It stays as it is.
@@ -104,7 +104,7 @@ fn may_precede(max: &ScalarValue, min: &ScalarValue, is_strict: bool) -> bool
     }
 }
 
-// What the order of the first side's greatest value and the other's least tells, where both are
+// Tells the order of the first side's greatest value and the other's least, where both are
 // known.
 fn at_seam(
     max: Precision<&ScalarValue>,
@@ -259,7 +259,7 @@ fn count_value(
     }
 }
 
-// What a merge does with each entry. NaNCount has none, and is always cleared.
+// The changes that a merge makes to the entries. NaNCount has none, and is always cleared.
 #[derive(Drop)]
 pub(crate) struct Changes {
     is_constant: Option<Precision<ScalarValue>>,
@@ -272,7 +272,7 @@ pub(crate) struct Changes {
     uncompressed_size_in_bytes: Change,
 }
 
-// What a merge does with each entry where the rows of the other side follow.
+// The changes that a merge makes where the rows of the other side follow.
 fn ordered_changes(left: &StatsSet, other: &StatsSet) -> Result<Changes, AllocError>
     ensures made { IfOk result (λ c. MakesAll c
         (λ s. merged_value s left.now other.now) left.now) }
@@ -296,7 +296,7 @@ fn ordered_changes(left: &StatsSet, other: &StatsSet) -> Result<Changes, AllocEr
     })
 }
 
-// What a merge does with each entry where the order of the rows isn't known.
+// The changes that a merge makes where the order of the rows isn't known.
 fn unordered_changes(left: &StatsSet, other: &StatsSet) -> Result<Changes, AllocError>
     ensures made { IfOk result (λ c. MakesAll c
         (λ s. unordered_value s left.now other.now) left.now) }

@@ -77,7 +77,7 @@ impl<T> Precision<T> {
         Precision::Inexact(value.into())
     }
 
-    /// The same case by reference.
+    /// Borrows the value, in the same case.
     pub fn as_ref(&self) -> Precision<&T>
         ensures { precision_map (λ r. r.now) result ≡ self.now }
     {
@@ -146,7 +146,7 @@ impl<T> Precision<T> {
         matches!(self, Precision::Absent)
     }
 
-    /// The same case around what `f` answers for the value.
+    /// Applies `f` to the value, in the same case.
     pub fn map<U, F: FnOnce(T) -> U>(self, f: F) -> Precision<U>
     where
         F: Drop,
@@ -160,7 +160,7 @@ impl<T> Precision<T> {
         }
     }
 
-    /// The same case around what `f` answers for the value, and Absent where it answers None.
+    /// Applies `f` to the value, in the same case, and answers Absent where it answers None.
     pub fn and_then<U, F: FnOnce(T) -> Option<U>>(self, f: F) -> Precision<U>
     where
         F: Drop,
@@ -232,7 +232,8 @@ impl<T: Ord + Clone> Precision<T> {
 }
 
 impl Precision<ScalarValue> {
-    /// The same case around the scalar of this type. `Mismatch` if the value is none of the type.
+    /// Makes the value a scalar of this type, in the same case. `Mismatch` if the value is none of
+    /// the type.
     pub fn into_scalar(self, dtype: DType) -> Result<Precision<Scalar>, StatsError>
         ensures { result ≡ precise_scalar self dtype }
     {
@@ -245,7 +246,7 @@ impl Precision<ScalarValue> {
 }
 
 impl Precision<&ScalarValue> {
-    /// The same case around the scalar of this type and a clone of the value. `Mismatch` if the
+    /// Makes a clone of the value a scalar of this type, in the same case. `Mismatch` if the
     /// value is none of the type, which is found before anything is cloned; `Memory` if the clone
     /// of a text or bytes is refused.
     pub fn into_scalar(self, dtype: DType) -> Result<Precision<Scalar>, StatsError>
@@ -284,7 +285,7 @@ pub(crate) fn copy_of(value: &ScalarValue) -> Result<ScalarValue, AllocError>
     }
 }
 
-// The same case around a copy of the value. A text or bytes alone take memory.
+// Copies the value, in the same case. A text or bytes alone take memory.
 pub(crate) fn copied(value: Precision<&ScalarValue>) -> Result<Precision<ScalarValue>, AllocError>
     ensures value { IfOk result (λ copy. copy ≡ precision_map (λ v. v.now) value.entry) }
     ensures refused { OnErr result (IsTrue (is_copied (precision_map (λ v. v.now) value.entry))) }
@@ -308,7 +309,7 @@ fn typed_clone(value: &ScalarValue, dtype: DType) -> Result<Scalar, StatsError>
 }
 
 impl<T: Clone> Precision<&T> {
-    /// The same case around a clone of the value.
+    /// Clones the value, in the same case.
     pub fn cloned(self) -> Result<Precision<T>, AllocError>
         requires { ClonesEqual T.is_clone }
         ensures value { IfOk result (λ p. p ≡ precision_map (λ v. v.now) self.entry) }

@@ -1,4 +1,4 @@
-//! What gives statistics under their types.
+//! Providers of statistics under their types.
 ghost use Rattle.std.specs.Prelude.{◌≡◌, ◌==◌, IfOk, OnErr, IsTrue, length};
 ghost use Rattle.vortex_stats.specs.Copies.{is_copied};
 ghost use Rattle.vortex_stats.specs.Sets.Entries.{entry_value};

@@ -9,7 +9,7 @@ use vortex_base::error::BaseError;
 use vortex_base::from_scalar::FromScalar;
 use vortex_base::scalar_value::ScalarValue;
 
-// The same case around what the value is read as, under this type.
+// Reads the value under this type, in the same case.
 pub(crate) fn read_precision<T: FromScalar>(
     value: Precision<&ScalarValue>,
     dtype: DType,
@@ -24,7 +24,7 @@ pub(crate) fn read_precision<T: FromScalar>(
     }
 }
 
-// What the value is read as, under this type.
+// Reads the value under this type.
 fn read_value<T: FromScalar>(value: &ScalarValue, dtype: DType) -> Result<T, StatsError>
     ensures { IsReadAs T.can_read T.reads T.takes_memory dtype value.now result }
 {

@@ -1,4 +1,4 @@
-//! What a bound is, and which bound a statistic has.
+//! Bounds, and which of them a statistic has.
 ghost use Rattle.std.specs.Prelude.{◌≡◌, IfOk, OnErr, Option};
 ghost use Rattle.std.specs.Option.{option_map, option_copied};
 ghost use Rattle.vortex_stats.specs.declared.precision.Precision.{Precision};

@@ -1,4 +1,4 @@
-//! What a writer accumulates of batches, beside what is measured of all their rows.
+//! Statistics that a writer accumulates of batches, beside those measured of all their rows.
 ghost use Rattle.std.specs.Prelude.{◌≡◌, IfOk};
 ghost use Rattle.vortex_base.specs.declared.types.Nullability.TheVariants.{Nullable};
 ghost use Rattle.vortex_base.specs.declared.types.PType.TheVariants.{I64};
@@ -42,7 +42,7 @@ fn of_batches(alloc: Global, rows: [&[Option<i64>]; 3]) -> Sets {
     accumulated(alloc, &first, &more)
 }
 
-// What is measured of all rows.
+// Measures all rows.
 fn of_all(alloc: Global, rows: &[Option<i64>]) -> Sets {
     let all = batch(alloc, rows, 60)?;
     Ok(StatsSet::of_column(alloc, &all, ALL_STATS)?)

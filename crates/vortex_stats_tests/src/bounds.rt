@@ -200,7 +200,7 @@ fn clones_of_union<'a, B: StatBound<Counted<'a>>>(
     Ok((is_some, clones.get()))
 }
 
-// The same of the intersection.
+// Counts the clones of the intersection.
 fn clones_of_intersection<'a, B: StatBound<Counted<'a>>>(
     a: &B,
     b: &B,
@@ -307,7 +307,7 @@ fn cloning(value: u32) -> Fragile {
     }
 }
 
-// What a call answered.
+// The answer of a call.
 #[derive(PartialEq, Eq, Clone, Copy)]
 enum Answer {
     Found,

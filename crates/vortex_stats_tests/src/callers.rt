@@ -51,7 +51,7 @@ pub fn counted(set: &StatsSet) -> usize
     set.iter().count()
 }
 
-/// What is written through a view is written to the set.
+/// Clears through a view, which clears in the set.
 pub fn cleared_through_view(set: &mut StatsSet, dtype: &DType, stat: Stat)
     requires { IsTrue (entries_fit set.old dtype.now) }
     ensures { set.new ≡ without_entry stat set.old }
@@ -60,7 +60,7 @@ pub fn cleared_through_view(set: &mut StatsSet, dtype: &DType, stat: Stat)
     view.clear(stat);
 }
 
-/// What is merged through a view is merged into the set, and a refusal leaves the set as it was.
+/// Merges through a view, which merges into the set; a refusal leaves the set as it was.
 pub fn merged_through_view(
     set: &mut StatsSet,
     other: &StatsSet,
@@ -76,7 +76,7 @@ pub fn merged_through_view(
     Ok(())
 }
 
-/// The same where the order of the rows isn't known.
+/// Merges through a view where the order of the rows isn't known.
 pub fn mixed_through_view(
     set: &mut StatsSet,
     other: &StatsSet,
@@ -92,7 +92,7 @@ pub fn mixed_through_view(
     Ok(())
 }
 
-/// What is combined through a view is combined in the set.
+/// Combines through a view, which combines in the set.
 pub fn combined_through_view(
     set: &mut StatsSet,
     other: &StatsSet,

@@ -52,7 +52,7 @@ fn packed(alloc: Global, dtype: DType, values: Vec<Option<ScalarValue>>) -> Colu
     Ok(Column::new_unchecked(dtype, cells, 40))
 }
 
-// The same column, in the form of its type.
+// The column in the form of its type.
 fn typed(alloc: Global, dtype: DType, rows: &[Option<Plain>]) -> Columns {
     packed(alloc, dtype, values(alloc, rows)?)
 }

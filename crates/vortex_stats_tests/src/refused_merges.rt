@@ -30,7 +30,7 @@ fn texts(alloc: Global, min: &str, max: &str) -> Sets {
     sets::of_entries(alloc, text_entries(alloc, min, max)?)
 }
 
-// The same, and not constant.
+// A set between these ends that isn't constant.
 fn varied(alloc: Global, min: &str, max: &str) -> Sets {
     let mut set = texts(alloc, min, max)?;
     sets::set(&mut set, Stat::IsConstant, Exact(Truth(false)))?;
@@ -113,7 +113,7 @@ fn merge(set: StatsSet, other: &StatsSet, is_ordered: bool) -> Result<StatsSet, 
     }
 }
 
-// The same of an ordered merge or an unordered one; `None` where the sides were refused.
+// Merges with or without order, each growth refused; `None` where the sides were refused.
 fn merges(alloc: Global, is_ordered: bool, is_told: bool) -> Option<bool> {
     let Sides { set, before, other } = make_sides(alloc, is_told)?;
     Some(took_all(merge(set, &other, is_ordered), &before, &other))
@@ -188,7 +188,7 @@ fn combination_sides(alloc: Global, min: &str) -> Option<Sides> {
     all_sides(min_of(alloc, "e"), min_of(alloc, "e"), other)
 }
 
-// The same of that combination; `None` where the sides were refused.
+// Combines two sets, each growth refused; `None` where the sides were refused.
 fn combines(alloc: Global, min: &str, agrees: bool) -> Option<bool> {
     let mut sides = combination_sides(alloc, min)?;
     let answer = sets::combine(&mut sides.set, &sides.other, &UTF8);

@@ -86,7 +86,7 @@ impl Columns {
         }
     }
 
-    /// The same, found soonest where it is the column of this place or the one behind that.
+    /// Finds the column of a name, soonest where it is that of this place or the one behind that.
     #[inline]
     pub fn find_near(&self, place: usize, name: &[u8]) -> Option<(usize, DType)>
         ensures { option_map (λ p. record { index = p.0; dtype = p.1 }) result

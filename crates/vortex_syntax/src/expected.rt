@@ -1,10 +1,10 @@
-//! What may stand at a place of a line, for the sentence that says why the line is bad.
+//! Expectations at a place of a line, for the sentence that says why the line is bad.
 
 use std::fmt;
 use vortex_base::dtype::DType;
 use vortex_base::types::PType;
 
-/// What was expected at a word of a line.
+/// An expectation at a word of a line.
 #[derive(Clone, Copy, Debug, PartialEq, Eq)]
 pub enum Expected {
     /// A line that is UTF-8.

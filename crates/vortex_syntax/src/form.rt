@@ -6,7 +6,7 @@ use crate::names::is;
 use vortex_expr::like::LikeOptions;
 use vortex_expr::scalar_fn::{Operator, StrictComparison};
 
-/// What stands behind the first word of an expression.
+/// The form of an expression behind its first word.
 #[derive(Clone, Copy, Debug)]
 pub enum Form {
     Column,

@@ -11,7 +11,7 @@ use vortex_base::error::BaseError;
 /// Where a line stops being one of the language, and what was expected there.
 #[derive(Clone, Copy, Debug, PartialEq, Eq)]
 pub struct Fault {
-    /// What was expected.
+    /// The expectation that wasn't met.
     pub expected: Expected,
     /// How many bytes of the line are left at that place. It is kept small, since what reads an
     /// expression calls itself; no line has more bytes.

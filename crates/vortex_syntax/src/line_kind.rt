@@ -4,7 +4,7 @@ ghost use Rattle.vortex_syntax.specs.LineKinds.{kind_of};
 
 use crate::names::is;
 
-/// What a line says.
+/// The kind of a line.
 #[derive(Clone, Copy, Debug)]
 pub enum LineKind {
     /// The next column.

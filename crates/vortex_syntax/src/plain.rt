@@ -33,7 +33,7 @@ const MOST_BEFORE_EIGHT: u64 = 184_467_440_736;
 // The digit zero in each byte of a word.
 const ZEROS: u64 = 0x3030_3030_3030_3030;
 
-// What takes a byte above nine to its highest bit, in each byte.
+// Takes a byte above nine to its highest bit, in each byte.
 const ABOVE_NINE: u64 = 0x7676_7676_7676_7676;
 
 // The highest bit of each byte.
@@ -47,7 +47,7 @@ const FOURS: u64 = 0x0000_ffff_0000_ffff;
 // The bytes `row ` as one number, the first of them lowest.
 const ROW: u32 = 0x2077_6f72;
 
-/// What follows the word `row` at the front of a text, where a space follows it.
+/// The rest of a text behind the word `row` at its front, where a space follows it.
 #[inline(always)]
 pub fn behind_row(text: &[u8]) -> Option<&[u8]>
     ensures row { IfSome result (λ values. text.now ≡ codes "row" ++ values.now) }
@@ -408,7 +408,7 @@ pub fn plain_value(dtype: DType, text: &[u8]) -> Option<(ShortCell, &[u8])>
     }
 }
 
-/// What follows `null` behind one space at the front of a text, where a type has null and a space
+/// The rest of a text behind one space and `null` at its front, where a type has null and a space
 /// or a line feed follows. None where anything else stands there.
 #[inline(always)]
 pub fn plain_null(dtype: DType, text: &[u8]) -> Option<&[u8]>

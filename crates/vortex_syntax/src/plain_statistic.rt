@@ -49,7 +49,7 @@ fn other_stat(column: DType, text: &[u8]) -> Option<(Stat, DType, &[u8])>
     Some((stat, stat.dtype(&column)?, rest))
 }
 
-// The same, by its bytes where it is a bound, which most lines tell.
+// Reads the word of a statistic behind one space, by its bytes where it is a bound.
 #[inline(always)]
 fn spaced_stat(column: DType, text: &[u8]) -> Option<(Stat, DType, &[u8])>
     ensures stat { IfSome result (λ x. BeginsSpacedStat text.now x.0 x.2.now) }
@@ -115,7 +115,7 @@ fn plain_scalar(dtype: DType, text: &[u8]) -> Option<(ScalarValue, &[u8])>
     }
 }
 
-// The same behind one space.
+// Reads a value behind one space.
 #[inline(always)]
 fn spaced_value(dtype: DType, text: &[u8]) -> Option<(ScalarValue, &[u8])>
     ensures value { IfSome result (λ x. BeginsSpacedValue dtype text.now x.0 x.1.now) }
@@ -141,7 +141,7 @@ fn plain_claim<'a>(columns: &Columns, near: usize, text: &'a [u8]) -> Option<(Cl
     Some((Claim { place, stat, dtype }, rest))
 }
 
-/// What a line tells, of which the word `stat` was passed, and the text after the line: one space
+/// Reads a line of which the word `stat` was passed, and gives the text after it: one space
 /// in front of each word, the last of them a truth or a number in up to 19 digits, and a line feed.
 /// None where anything else stands there. The column is found soonest near this place.
 #[inline(always)]

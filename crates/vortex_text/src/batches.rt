@@ -38,7 +38,7 @@ fn add_rows(
     Ok(())
 }
 
-/// What is found in no parts.
+/// The scan of no parts.
 pub fn nothing_found(alloc: Global, predicate: &BoundExpression) -> Scan
     ensures { IsFoundIn predicate.now [] result }
 {

@@ -1,4 +1,4 @@
-//! What the lines of a text say, line by line.
+//! Drafts of a query, line by line of a text.
 ghost use Rattle.std.specs.Prelude.{◌≡◌, ◌<◌, ◌≤◌, ◌+◌, ◌++◌, ◌||◌, IfOk, IfSome, IsErrOf, IsTrue, OnErr, OnOk, MatchOption, None, Some, [], codes, is_some, length, ok_or};
 ghost use Rattle.std.specs.Str.Lines.{lines};
 ghost use Rattle.vortex_base.specs.Data.Scopes.{IsScope, named_columns};
@@ -38,7 +38,7 @@ use vortex_syntax::plain_statistic::{Told, plain_stat};
 use vortex_syntax::statistic::{read_claim, read_claimed};
 use vortex_syntax::word::{is_short, no_word, plain_word, skip_spaces};
 
-/// What the lines so far say.
+/// The draft that the lines so far make.
 #[derive(Drop)]
 pub struct Draft {
     columns: Columns,
@@ -126,7 +126,8 @@ impl Draft {
         }
     }
 
-    // What keeps a word from naming the next column, at which so many bytes of the line are left.
+    // The fault that keeps a word from naming the next column, at which so many bytes of the line
+    // are left.
     fn misnamed(&self, name: &[u8], left: usize) -> LineError
         ensures { IsBad result }
     {
@@ -411,8 +412,8 @@ impl Draft {
         Ok(after)
     }
 
-    // The same, where an error is told apart, so that none is handed from one to another with the
-    // rest. The text itself comes back where the line is refused.
+    // Reads the first statistic, where an error is told apart, so that none is handed from one to
+    // another with the rest. The text itself comes back where the line is refused.
     #[inline(never)]
     fn read_first_stat_apart<'a>(
         &mut self,
@@ -458,8 +459,8 @@ impl Draft {
         self.read_any_first(alloc, text)
     }
 
-    // The same, where an error is told apart, so that the reader of rows needs no place for one.
-    // The text itself comes back where the line is refused.
+    // Reads another first line, where an error is told apart, so that the reader of rows needs no
+    // place for one. The text itself comes back where the line is refused.
     #[inline(never)]
     fn read_first_other_apart<'a>(
         &mut self,

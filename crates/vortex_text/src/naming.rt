@@ -1,4 +1,4 @@
-//! What a whole text names.
+//! Queries that a whole text names.
 ghost use Rattle.std.specs.Prelude.{◌≡◌, ◌↔◌, ◌<◌, ◌≤◌, ◌+◌, ◌^◌, ℕ, List, IfOk, IsErrOf, OnOk, Ok, Err, length};
 ghost use Rattle.std.specs.Str.Lines.{lines};
 ghost use Rattle.vortex_expr.specs.Trees.Tree.{Tree, Place};

@@ -52,7 +52,7 @@ macro_rules! match_number_type {
     };
 }
 
-// The same of two types.
+// Matches cells of one of two types of numbers.
 macro_rules! number_type_of {
     (
         $cells:expr, $ptype:expr, $natives:ident, $own:ident => $each:expr, $other:expr,
@@ -153,7 +153,7 @@ fn take_native_rows<'a, T: Native>(
     (count, rest)
 }
 
-// The same of numbers.
+// Adds the numbers of the rows in plain form that a text begins with.
 #[inline(always)]
 fn take_number_rows<'a, T: Native>(
     natives: &mut Natives<T>,
@@ -170,7 +170,7 @@ fn take_number_rows<'a, T: Native>(
     take_native_rows(natives, DType::Primitive(ptype, nullability), text)
 }
 
-// The same, where the column has the form of its type of numbers; else no rows.
+// Adds numbers so where the column has the form of its type of numbers; else no rows.
 #[inline(always)]
 fn take_own_number_rows<'a>(
     cells: &mut Cells,
@@ -206,7 +206,7 @@ fn take_own_rows<'a>(cells: &mut Cells, dtype: DType, text: &'a [u8]) -> (usize,
     }
 }
 
-// The same of a number.
+// Adds the number in plain form that a text begins with, behind a space.
 #[inline(always)]
 fn take_number<'a, T: Native>(
     natives: &mut Natives<T>,
@@ -345,7 +345,7 @@ impl OpenColumn {
         self.other_len()
     }
 
-    // The same in any form.
+    // Counts the values in any form.
     #[inline(never)]
     fn other_len(&self) -> usize
         ensures { result ≡ length self.now.values }
@@ -390,8 +390,8 @@ impl OpenColumn {
         Ok(rest)
     }
 
-    // The same. A truth or a number in plain form, with a space behind it, is read straight from
-    // the bytes.
+    // Adds the value of the first word of a line. A truth or a number in plain form, with a space
+    // behind it, is read straight from the bytes.
     #[inline]
     fn take<'a>(&mut self, alloc: Global, line: &'a [u8]) -> Result<&'a [u8], LineError>
         ensures { GivesAndChanges (λ rest. words rest.now) result

@@ -14,10 +14,10 @@ use crate::query::Query;
 use memchr::{memchr, memrchr};
 use std::alloc::{AllocError, Global};
 
-/// What the lines that have ended say, and the line that has begun.
+/// The draft of the lines that have ended, and the line that has begun.
 #[derive(Drop)]
 pub struct OpenLine {
-    /// What the lines before it say.
+    /// The draft of the lines before it.
     pub draft: Draft,
     /// Its number, counted from 1.
     pub number: usize,
@@ -152,7 +152,7 @@ impl OpenLine {
         self.end(alloc, end)?.read(alloc, whole)?.keep(begun)
     }
 
-    /// What the text names, which ends here.
+    /// Closes the text, and gives the query that it names.
     pub fn close(self, alloc: Global) -> Result<Query, TextError>
         requires fits { FitsTogether (reading_of self.draft) }
         requires few { self.number + length self.line.items < 2 ^ 64 }

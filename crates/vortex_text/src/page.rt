@@ -12,7 +12,7 @@ use std::marker::Model;
 // How many bytes go out together.
 const SIZE: usize = 16_384;
 
-// What stands in front of a number: a space, and a part's number of 20 digits at the most with its
+// The bytes in front of a number: a space, and a part's number of 20 digits at the most with its
 // colon.
 const FRONT: usize = 24;
 
@@ -67,7 +67,7 @@ fn count_digits(number: u64) -> usize
     count + few_digits(left)
 }
 
-/// What stands in front of a number: a few bytes, copied with what lies behind them, so that none
+/// The bytes in front of a number: a few, copied with what lies behind them, so that none
 /// of them is counted.
 #[derive(Drop)]
 pub struct Front {
@@ -96,7 +96,7 @@ impl Front {
         Front { bytes, len: 1 }
     }
 
-    /// What the rows of a part begin with.
+    /// The front of the rows of a part.
     pub fn of_part(part: usize) -> Front
         ensures { result ≡ row_begin part }
     {

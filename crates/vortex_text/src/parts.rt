@@ -118,7 +118,7 @@ fn rows_from(log: &ZoneLog, from: usize, count: usize) -> usize
 }
 
 impl<'a> PartsLeft<'a> {
-    /// What a scan finds in so many of them, the first ones.
+    /// Scans so many of them, the first ones.
     pub fn scan(
         &self,
         alloc: Global,

@@ -29,7 +29,7 @@ const TOO_LONG: &str = "input: the input is longer than 16777216 bytes\n";
 // Why an answer is cut off.
 const NOT_WRITTEN: &str = "write: the answer could not be written to its end\n";
 
-// What a text without a scan is answered: the status, what is printed, and why there is no scan.
+// The answer to a text without a scan: the status, what is printed, and why there is no scan.
 #[derive(Drop)]
 struct Refusal {
     status: u8,

@@ -15,14 +15,14 @@ use vortex_base::{DType, Scope};
 use vortex_expr::BoundExpression;
 use vortex_prune::{Scan, ZoneMap};
 
-/// What a text names: parts of one scope, and a predicate over it.
+/// A query of a text: parts of one scope, and a predicate over it.
 #[derive(Debug, Drop)]
 pub struct Query {
     /// The columns in order.
     pub scope: Scope,
     /// The parts in order, after all joins.
     pub parts: Parts,
-    /// What is asked for, maybe of another type than Bool.
+    /// The expression that is asked for, maybe of another type than Bool.
     pub predicate: BoundExpression,
 }
 

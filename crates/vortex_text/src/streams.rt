@@ -11,7 +11,8 @@ use std::io::{Read, Write};
 /// How many bytes of input are read at the most.
 pub const INPUT_LIMIT: usize = 16_777_216;
 
-/// What a run reads from. Every reader is one; one that isn't may tell whether a read has failed.
+/// A stream that a run reads from. Every reader is one; one that isn't may tell whether a read has
+/// failed.
 pub trait Source {
     // The bytes that reads will give from here on, where they are known.
     ghost remaining: { Self → Option (List ℕ) };
@@ -37,7 +38,8 @@ impl<R: Read> Source for R {
     }
 }
 
-/// What a run writes to. Every writer is one; one that isn't may tell whether a write has failed.
+/// A stream that a run writes to. Every writer is one; one that isn't may tell whether a write has
+/// failed.
 pub trait Sink {
     // The bytes that it holds, where they are known.
     ghost contents: { Self → Option (List ℕ) };

@@ -152,7 +152,7 @@ fn a_line_that_is_not_utf8(rt: HostRuntime) -> Result<(), Fail> {
     Ok(())
 }
 
-// What doesn't fit is not taken, and the text goes on.
+// A value that doesn't fit is not taken, and the text goes on.
 #[test]
 fn a_text_of_the_limit(rt: HostRuntime) -> Result<(), Fail> {
     let alloc = rt.alloc();

@@ -73,7 +73,7 @@ fn put_number<T: Native>(natives: &mut Natives<T>, place: usize, number: T) -> b
     true
 }
 
-// The same of the types that most columns have. They are told apart by a test each, which is
+// Fills a column of a type that most columns have. They are told apart by a test each, which is
 // foreseen where a jump by a table of all types isn't, as on a processor that guards against
 // Spectre.
 #[inline(always)]

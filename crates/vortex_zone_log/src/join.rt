@@ -1,4 +1,4 @@
-//! What is told of two neighbouring zones as one.
+//! Joins of two neighbouring zones into one.
 ghost use Rattle.std.specs.Prelude.{◌≡◌, ◌<◌, ◌^◌, ◌++◌, IfOk, IsTrue, OnOk, length};
 ghost use Rattle.vortex_base.specs.Data.Scopes.{named_columns};
 ghost use Rattle.vortex_prune.specs.Part.{fits_zone, merged_sets};
@@ -54,7 +54,7 @@ fn tell_set(
     Ok(())
 }
 
-/// What is told so that these sets are known.
+/// The claims by which these sets are known.
 pub fn told_of(
     alloc: Global,
     longs: &mut Vec<ScalarValue>,

@@ -2,7 +2,7 @@
 
 use vortex_stats::stats_set::StatsSet;
 
-/// What is known of a zone.
+/// A zone by its rows and its claims.
 #[derive(Debug, Drop)]
 pub struct Known {
     pub rows: u64,

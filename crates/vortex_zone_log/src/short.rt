@@ -1,4 +1,4 @@
-//! What truths and numbers tell for an aggregate, as the cells of a table keep it.
+//! Cells that truths and numbers tell for an aggregate, as a table keeps them.
 ghost use Rattle.std.specs.Prelude.{◌≡◌, IfSome, IsTrue, List, ℕ};
 ghost use Rattle.vortex_base.specs.Data.Cells.{short_value};
 ghost use Rattle.vortex_base.specs.declared.cells.ShortCell as spec;
@@ -29,7 +29,7 @@ pub fn tells_itself(aggregate: AggregateFnRef, form: Form) -> bool
     matches!(form, Form::Inexact) && matches!(aggregate, AggregateFnRef::Max | AggregateFnRef::Min)
 }
 
-/// What an exact count of nulls tells of so many rows, if the aggregate is one that asks for it.
+/// The answer of an exact count of nulls in so many rows, if the aggregate is one that asks for it.
 #[inline]
 pub fn told_of_nulls(aggregate: AggregateFnRef, kept: Kept, rows: u64) -> Option<ShortCell>
     ensures { IfSome result (λ cell. (longs : List ScalarValue)

@@ -1,4 +1,4 @@
-//! What is told of the columns of a zone, one statistic after another.
+//! Claims of the columns of a zone, one statistic after another.
 ghost use Rattle.std.specs.Prelude.{◌≡◌, ◌+◌, ◌++◌, ◌-◌, ◌∷◌, ◌≤◌, [], IfOk, OnErr, OnOk, drop, length, slice_get, take};
 ghost use Rattle.std.specs.Prelude.{Some, vec_capacity, vec_len};
 ghost use Rattle.vortex_base.specs.Data.Cells.{short_value};
@@ -113,7 +113,8 @@ fn other_cell(number: PValue) -> ShortCell
     ShortCell::of_number(number)
 }
 
-// The same, where the types that most columns have are told apart by a test each, as a cell is put.
+// Takes a number as a cell. The types that most columns have are told apart by a test each, as a
+// cell is put.
 #[inline(always)]
 fn number_cell(number: PValue) -> ShortCell
     ensures { short_value result ≡ Some (value.Primitive number) }
@@ -193,7 +194,7 @@ pub fn move_behind(told: &mut Vec<Told>, more: &mut Vec<Told>)
     more.clear();
 }
 
-/// What a stretch tells.
+/// The claims of a stretch.
 #[inline]
 pub fn told_in(told: &[Told], stretch: Stretch) -> &[Told]
     requires { IsWithin (length told.now) stretch }

@@ -121,7 +121,7 @@ impl ZoneLog {
         self.stretches.at(place).rows
     }
 
-    // What is known of the zone at a place.
+    // The zone at a place, as it is known.
     fn known(&self, alloc: Global, place: usize) -> Result<Known, AllocError>
         requires { place < length self.now.zones }
         ensures known { IfOk result (λ known.
@@ -179,7 +179,7 @@ impl ZoneLog {
         Ok(rows)
     }
 
-    // What so many zones from a place on tell under the heads of a table.
+    // The cells of so many zones from a place on under the heads of a table.
     fn cells_from(
         &self,
         alloc: Global,

@@ -103,7 +103,7 @@ pub fn map_of_last_two(alloc: Global, log: &ZoneLog) -> Result<ZoneMap, AllocErr
     log.map(alloc, scope, 1, 2)
 }
 
-/// What a map tells of a zone in a column of its table.
+/// The value that a map tells of a zone in a column of its table.
 pub fn told(map: &ZoneMap, head: usize, zone: usize) -> Option<ValueRef<'_>> {
     let table = map.table();
     if head >= table.scope().len() {

@@ -1,4 +1,4 @@
-//! What an expression holds: columns, placeholders and row counts.
+//! Tests for columns, placeholders and row counts within an expression.
 ghost use Rattle.std.specs.Prelude.{◌≡◌, slice_get};
 ghost use Rattle.vortex_expr.specs.Trees.Tree as tree;
 ghost use Rattle.vortex_expr.specs.Meanings.Fitting as fitting;

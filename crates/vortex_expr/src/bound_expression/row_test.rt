@@ -16,7 +16,7 @@ use crate::scalar_fn::{BetweenOptions, Operator};
 use vortex_base::row::Row;
 use vortex_base::value_ref::{ValueRef, lend};
 
-// What a column or a literal lends, `None` being null; or an inner node.
+// The value that a column or a literal lends, `None` being null; or an inner node.
 #[derive(Clone, Copy)]
 enum Leaf<'a> {
     Of(Option<ValueRef<'a>>),

@@ -25,7 +25,7 @@ pub(super) fn split_ascii(text: &str, ignore_case: bool) -> Option<(u8, &str)>
     }
 }
 
-// What is left of a pattern and a text after the letters at their fronts that are the same, or how
+// The rest of a pattern and of a text after the letters at their fronts that are the same, or how
 // many were the same, where the next ones differ.
 pub(super) fn past_same<'a>(
     pattern: &'a str,

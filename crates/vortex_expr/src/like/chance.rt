@@ -43,7 +43,7 @@ fn first_sign_or_letter(bytes: &[u8]) -> Option<usize>
     None
 }
 
-// The same, before the first ASCII letter too, whose case may be ignored.
+// The beginning before the first ASCII letter too, whose case may be ignored.
 fn caseless_beginning(pattern: &str) -> &str
     ensures { (b d : Bool) (ds : List ℕ)
         → like (items (folded b (chars pattern.now))) (folded d ds) ≡ true
@@ -113,7 +113,7 @@ fn from_item<'a>(pattern: Characters<'a>, text: Characters<'a>) -> Characters<'a
     }
 }
 
-// The same, of which a letter that stands for itself is read from its byte.
+// The rest from a letter on, of which one that stands for itself is read from its byte.
 fn from_letter<'a>(pattern: Characters<'a>, text: Characters<'a>) -> Characters<'a>
     ensures same { let test = like (items (characters pattern.entry)) in
         some_end test (characters result) ≡ some_end test (characters text.entry) }

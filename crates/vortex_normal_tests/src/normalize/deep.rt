@@ -18,7 +18,7 @@ fn deep_and(alloc: Global, is_left: bool) -> Built {
     Ok(deep)
 }
 
-// The same of an OR, each of one value and none beside another.
+// A deep OR, each of one value and none beside another.
 fn deep_or(alloc: Global, is_left: bool) -> Built {
     let mut deep = a_lt(alloc, 0)?;
     for value in 1..LINKS {
@@ -100,7 +100,7 @@ fn many_values(rt: HostRuntime) {
     expect(&rt, alloc, none, never(alloc));
 }
 
-// The same values from the greatest down.
+// Points from the greatest value down.
 fn points_downwards(alloc: Global) -> Built {
     let greatest = LINKS.saturating_sub(1);
     let mut chain = a_eq(alloc, greatest)?;

@@ -40,7 +40,7 @@ fn next(state: u32) -> u32 {
     state.wrapping_mul(1_103_515_245).wrapping_add(12_345)
 }
 
-// What an OR adds: one value, a closed range or an open one.
+// A part that an OR adds: one value, a closed range or an open one.
 fn added(alloc: Global, state: u32) -> Built {
     let low = ((state >> 8) % 97) as i32;
     match (state >> 24) % 4 {
@@ -50,7 +50,7 @@ fn added(alloc: Global, state: u32) -> Built {
     }
 }
 
-// What an AND takes away: one value, a closed range or an open one, and now and then an end.
+// A part that an AND takes away: one value, a closed range or an open one, and now and then an end.
 fn kept(alloc: Global, state: u32) -> Built {
     let low = ((state >> 8) % 97) as i32;
     match (state >> 24) % 16 {

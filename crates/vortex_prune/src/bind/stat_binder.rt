@@ -41,7 +41,7 @@ pub trait StatBinder {
         → IsTrue (is_faithful_over s row n)
         → IsFaithful (answer s) (is_missing s) (value s row n) row n };
 
-    /// What stands for the placeholder of an aggregate of an input, whose type is given, or `None`
+    /// The stand-in for the placeholder of an aggregate of an input, whose type is given, or `None`
     /// where nothing is known of it.
     fn bind_aggregate(
         &self,
@@ -54,7 +54,7 @@ pub trait StatBinder {
             (λ o. o ≡ answer self.now aggregate.now input.now stat_dtype.now)
             (IsHookFault (can_fault self.now)) };
 
-    /// What stands for a placeholder of this type of which nothing is known: null.
+    /// The stand-in for a placeholder of this type of which nothing is known: null.
     fn missing_stat(&self, alloc: Global, dtype: DType) -> Result<BoundExpression, HookFault>
         ensures { MatchResult result (is_missing self.now dtype)
             (IsHookFault (can_fault self.now)) }

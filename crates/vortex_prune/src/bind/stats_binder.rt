@@ -102,7 +102,7 @@ fn column_literal(
     }
 }
 
-// What the statistics of a zone answer to the placeholder of an aggregate of an input.
+// The answer of a zone's statistics to the placeholder of an aggregate of an input.
 fn told_literal(
     alloc: Global,
     scope: &Scope,

@@ -1,4 +1,4 @@
-//! What becomes of a part by its binder: the proofs are bound to what that answers, and evaluated.
+//! Fates of parts by their binders: the proofs are bound to what these answer, and evaluated.
 ghost use Rattle.std.specs.Prelude.{◌≡◌, false, true, IfOk, IfErr, IsTrue, Some, alloc_error, option_copied};
 ghost use Rattle.vortex_base.specs.Data.Columns.{row_count};
 ghost use Rattle.vortex_expr.specs.Meanings.Fitting.{fits_row};
@@ -97,7 +97,7 @@ fn is_proved_by<B: StatBinder>(
     }
 }
 
-// What becomes of a part: its binder is asked for the falsifier, and, if that isn't true of the
+// The fate of a part: its binder is asked for the falsifier, and, if that isn't true of the
 // part, for the satisfier.
 pub(crate) fn verdict<B: StatBinder>(
     alloc: Global,

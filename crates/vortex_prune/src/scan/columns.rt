@@ -120,7 +120,7 @@ fn keep_values(column: &Column, test: Test<'_>, from: usize, marks: &mut [bool])
     }
 }
 
-// The same of a column whose values are kept as truths or numbers of one type.
+// Keeps the rows that pass of a column whose values are truths or numbers of one type.
 fn keep_typed<T: Native>(
     column: &Column,
     natives: &Natives<T>,
@@ -146,7 +146,7 @@ fn keep_typed<T: Native>(
     }
 }
 
-// The same of a column of texts or byte strings.
+// Keeps the rows that pass of a column of texts or byte strings.
 fn keep_lent<S: Strings>(
     column: &Column,
     strings: &S,

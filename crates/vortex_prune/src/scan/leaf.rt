@@ -14,7 +14,7 @@ use vortex_expr::bound_expression::BoundExpression;
 use vortex_expr::bound_expression::parts::Parts;
 use vortex_expr::scalar_fn::Operator;
 
-/// What is asked of a value.
+/// A question that a leaf asks of a value.
 #[derive(Clone, Copy)]
 pub(crate) enum Test<'a> {
     /// Whether it compares so with another.

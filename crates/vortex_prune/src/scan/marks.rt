@@ -24,10 +24,10 @@ use vortex_expr::scalar_fn::{BetweenOptions, Operator};
 /// How many rows are looked at together: their cells of a column fill some 16 KB.
 pub(crate) const BLOCK: usize = 1024;
 
-/// What the row count is worth on the rows of a table.
+/// The worth of the row count on the rows of a table.
 #[derive(Clone, Copy)]
 pub(crate) enum Counts<'a> {
-    /// The same on each.
+    /// One number on each row.
     Same(u64),
     /// One for each.
     Each(&'a [u64]),
@@ -40,7 +40,7 @@ pub(crate) struct Table<'a> {
     pub(crate) counts: Counts<'a>,
 }
 
-// What the row count is worth on the row at a place.
+// The worth of the row count on the row at a place.
 #[inline]
 fn count_at(counts: Counts<'_>, place: usize) -> u64
     ensures { result ≡ count_at counts.entry place }
@@ -76,7 +76,7 @@ fn keep_rows(table: Table<'_>, e: &BoundExpression, from: usize, marks: &mut [bo
     }
 }
 
-// The same, by the values of a column, if the expression asks something of these.
+// Keeps marks by the values of a column, if the expression asks something of these.
 fn keep_asked(table: Table<'_>, e: &BoundExpression, from: usize, marks: &mut [bool])
     requires { from + length marks.old ≤ row_count table.chunk.now.columns }
     ensures { let test = is_true_at e.now table.entry.chunk.now.columns table.entry.counts in
@@ -89,7 +89,7 @@ fn keep_asked(table: Table<'_>, e: &BoundExpression, from: usize, marks: &mut [b
     }
 }
 
-// The same of a BETWEEN, which is a comparison with each end.
+// Keeps the marks of a BETWEEN, which is a comparison with each end.
 fn keep_between(
     table: Table<'_>,
     e: &BoundExpression,

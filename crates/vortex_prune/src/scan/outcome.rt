@@ -1,4 +1,4 @@
-//! What a scan found.
+//! Outcomes of scans.
 ghost use Rattle.std.specs.Prelude.{◌≡◌, ◌+◌, ◌-◌, ◌^◌, ◌≤◌, ◌++◌, IfErr, IsTrue, OnOk};
 ghost use Rattle.std.specs.Prelude.{alloc_error, min};
 ghost use Rattle.vortex_base.specs.Data.Columns.{row_count};
@@ -16,7 +16,7 @@ use crate::scan::verdict::Verdict;
 use vortex_expr::bound_expression::BoundExpression;
 use vortex_stats::error::StatsError;
 
-/// What a scan found: of parts, or of the zones of a map. They and their rows count from 0.
+/// The outcome of a scan of parts, or of the zones of a map. They and their rows count from 0.
 #[derive(Debug, PartialEq, Eq, Drop)]
 pub struct Scan {
     /// The rows that satisfy the predicate, each as its part and its place there, ascending.

@@ -156,7 +156,7 @@ fn put_verdicts(skipped: &[bool], whole: &[bool], verdicts: &mut [Verdict])
     }
 }
 
-// That of each zone.
+// The verdict on each zone, by marks.
 fn marked_verdicts(
     alloc: Global,
     skipped: &[bool],
@@ -310,7 +310,7 @@ pub fn prune_by(
     verdicts_by(alloc, map, bound.as_ref(), satisfier)
 }
 
-/// What pruning found. Zones count from 0.
+/// The zones that pruning skips and finds whole. Zones count from 0.
 #[derive(Debug, PartialEq, Eq, Drop)]
 pub struct Pruned {
     /// The zones of which no row satisfies the predicate, ascending.

@@ -1,6 +1,6 @@
-//! What a scan does with a part.
+//! Verdicts of a scan on a part.
 
-/// What a scan does with a part.
+/// A scan's verdict on a part.
 #[derive(Clone, Copy, Debug, PartialEq, Eq)]
 pub enum Verdict {
     /// The falsifier is true of it: it is left out unread.

@@ -75,7 +75,7 @@ fn measured_chunks_have_their_rows(rt: HostRuntime) {
     expect_found(&rt, found, &[0, 2], &[(1, 0), (1, 1), (3, 1)]);
 }
 
-// The same of checked parts.
+// Scans checked parts.
 fn found_checked(
     alloc: Global,
     parts: Parts,

@@ -59,7 +59,7 @@ fn in_chunk_by(alloc: Global, chunk: &Chunk, map: &ZoneMap, predicate: Built) ->
     scanned_by_ranges(alloc, chunk, map, &predicate?, &Rules::builtin(alloc))
 }
 
-// That of the six rows by zones with these row counts.
+// Scans the six rows by zones with these row counts.
 fn in_six(alloc: Global, counts: &[u64], predicate: Built) -> Found {
     in_chunk(alloc, six_rows(alloc), map_with(alloc, counts), predicate)
 }

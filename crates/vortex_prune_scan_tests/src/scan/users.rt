@@ -1,4 +1,4 @@
-//! What the callers of `vortex_uses` and `vortex_own_rules` answer where memory is ample.
+//! Answers of the callers of `vortex_uses` and `vortex_own_rules` where memory is ample.
 ghost use Rattle.std.specs.Prelude.{◌≡◌};
 ghost use Rattle.std.specs.Bool.{OnTrue};
 

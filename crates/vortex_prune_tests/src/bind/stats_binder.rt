@@ -1,4 +1,4 @@
-//! What the statistics of a part of one column answer.
+//! Answers of the statistics of a part of one column.
 use std::alloc::{AllocError, Global};
 use std::process::Abort;
 use vortex_base::{BaseError, DType, Nullability, Row, ScalarValue};

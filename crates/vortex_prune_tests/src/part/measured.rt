@@ -318,14 +318,14 @@ fn three_columns(alloc: Global) -> Result<Chunk, StatsError> {
     chunk_with(scope_of_three(alloc)?, same_columns(alloc)?)
 }
 
-// That so many rows are null, that no value is above this, and that 1 is the least.
+// Sets that say: so many rows are null, no value is above this, and 1 is the least.
 fn known(alloc: Global, nulls: u64, greatest: i32) -> Sets {
     let set = exactly(alloc, Stat::NullCount, count(nulls));
     let set = and_at_most(set, Stat::Max, number(greatest))?;
     and_exactly(set, Stat::Min, number(1))
 }
 
-// What is known of each of three columns.
+// Sets of each of three columns.
 fn three_known(alloc: Global, of: [(u64, i32); 3]) -> Result<Vec<StatsSet>, StatsError> {
     let mut sets = Vec::new(alloc);
     for (nulls, greatest) in of {

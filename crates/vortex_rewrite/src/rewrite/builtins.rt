@@ -65,7 +65,7 @@ pub(crate) fn empty_proof(alloc: Global, side: Side) -> Result<Option<Proof>, St
     }
 }
 
-// That no row satisfies a literal.
+// Proves that no row satisfies a literal.
 fn literal_falsifier(alloc: Global, value: &Scalar) -> Result<Option<Proof>, StatsError>
     ensures { Makes (literal_falsifier value.now.value) result }
 {
@@ -75,7 +75,7 @@ fn literal_falsifier(alloc: Global, value: &Scalar) -> Result<Option<Proof>, Sta
     }
 }
 
-// That every row satisfies a literal.
+// Proves that every row satisfies a literal.
 fn literal_satisfier(alloc: Global, value: &Scalar) -> Result<Option<Proof>, StatsError>
     ensures { Makes (literal_satisfier value.now.value) result }
 {
@@ -85,7 +85,7 @@ fn literal_satisfier(alloc: Global, value: &Scalar) -> Result<Option<Proof>, Sta
     }
 }
 
-// That no value of an operand is null, in two ways.
+// Proves that no value of an operand is null, in two ways.
 fn none_null(alloc: Global, x: &BoundExpression) -> Result<BuiltIn, StatsError>
     ensures { OkOrMemory result (λ b. listed b.0 b.1 ≡ none_null x.now) }
 {
@@ -98,7 +98,7 @@ fn none_null(alloc: Global, x: &BoundExpression) -> Result<BuiltIn, StatsError>
     Ok((Some(by_count), Some(by_test)))
 }
 
-// That every value of an operand is null, in two ways.
+// Proves that every value of an operand is null, in two ways.
 fn every_null(alloc: Global, x: &BoundExpression) -> Result<BuiltIn, StatsError>
     ensures { OkOrMemory result (λ b. listed b.0 b.1 ≡ every_null x.now) }
 {

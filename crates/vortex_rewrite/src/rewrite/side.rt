@@ -3,8 +3,8 @@
 // Which proof is asked for.
 #[derive(Clone, Copy)]
 pub(crate) enum Side {
-    /// That no row satisfies a predicate.
+    /// Proofs that no row satisfies a predicate.
     Falsify,
-    /// That every row does.
+    /// Proofs that every row does.
     Satisfy,
 }

@@ -63,7 +63,7 @@ pub(crate) fn is_asked(rules: &Rules, e: &BoundExpression) -> bool
     false
 }
 
-// What one rule proves of an expression, if it is a rule for its function.
+// The proof of an expression by one rule, if it is a rule for its function.
 fn ask_rule(
     alloc: Global,
     side: Side,

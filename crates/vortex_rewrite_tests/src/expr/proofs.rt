@@ -10,7 +10,7 @@ use vortex_rewrite::hook_fault::HookFault;
 use vortex_rewrite_testing::nodes::*;
 use vortex_stats::StatsError;
 
-// What a rule was told, as a node.
+// Takes what a rule was told, as a node.
 fn told_rule<T>(made: Result<T, HookFault>) -> Result<T, StatsError> {
     match made {
         Ok(value) => Ok(value),

@@ -21,7 +21,7 @@ fn numbers_between(alloc: Global, lower: PValue, upper: PValue, options: Between
     between(alloc, column(alloc, lower), low, high, options)
 }
 
-// That all numbers lie below one, or above another.
+// Says that all numbers lie below one, or above another.
 fn beyond(alloc: Global, low: PValue, high: PValue) -> Built {
     let below = gt(alloc, number(alloc, low), max(alloc, column(alloc, low)));
     let above = gt(alloc, min(alloc, column(alloc, low)), number(alloc, high));

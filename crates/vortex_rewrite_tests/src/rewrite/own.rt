@@ -248,7 +248,7 @@ fn rules_are_asked_at_connectives_too(rt: HostRuntime) {
     expect_proof(&rt, found, and_unsure(alloc, sides));
 }
 
-// What satisfies `a > 10`, where the unsure rule is asked.
+// The satisfier of `a > 10`, where the unsure rule is asked.
 fn unsure_above_ten(alloc: Global) -> Built {
     let above = gt(alloc, min_a(alloc), int(alloc, 10));
     and_unsure(alloc, and(alloc, above, all_non_null(alloc)))
@@ -287,7 +287,7 @@ fn satisfiers_of_rules_stand_in_for_a_side(rt: HostRuntime) {
     expect_proof(&rt, found, or(alloc, truth(alloc, true), side));
 }
 
-// What falsifies a range from 10 to 50, where the unsure rule is asked at its comparisons.
+// The falsifier of a range from 10 to 50, where the unsure rule is asked at its comparisons.
 fn unsure_range(alloc: Global) -> Built {
     let low = and_unsure(alloc, gt(alloc, int(alloc, 10), max_a(alloc)));
     let high = and_unsure(alloc, gt(alloc, min_a(alloc), int(alloc, 50)));
@@ -307,7 +307,7 @@ fn rules_are_asked_within_a_between(rt: HostRuntime) {
     expect_proof(&rt, found, unsure_satisfied_range(alloc));
 }
 
-// What satisfies that range.
+// The satisfier of that range.
 fn unsure_satisfied_range(alloc: Global) -> Built {
     let low = lt_eq(alloc, int(alloc, 10), min_a(alloc));
     let low = and_unsure(alloc, and(alloc, low, all_non_null(alloc)));

@@ -1,4 +1,4 @@
-//! What a pass over the values of a column finds, and the values of statistics that follow of it.
+//! Measures of a pass over the values of a column, and the values of statistics that follow of it.
 ghost use Rattle.std.specs.Prelude.{◌≡◌, IfOk, IsTrue, OnErr, OnOk, option_map};
 ghost use Rattle.vortex_base.specs.Data.Cells.{value_of};
 ghost use Rattle.vortex_base.specs.Data.Scalars.{is_long};
@@ -15,7 +15,7 @@ use vortex_base::pvalue::PValue;
 use vortex_base::scalar_value::ScalarValue;
 use vortex_base::value_ref::ValueRef;
 
-// What a pass over the values of a column finds. Of the values only the places are kept.
+// Measures of a pass over the values of a column. Of the values only the places are kept.
 #[derive(Clone, Copy)]
 pub(super) struct Measures {
     /// How many are null.

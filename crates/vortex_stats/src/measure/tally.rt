@@ -1,4 +1,4 @@
-//! What the values of a column tell of their order, one value after another.
+//! Tallies of the order of a column's values, one value after another.
 ghost use Rattle.std.specs.Prelude.{◌≡◌, ◌∷◌, ◌++◌, ◌<◌, [], if◌then◌else◌, List, Option, Some, length, option_map};
 ghost use Rattle.vortex_base.specs.declared.dtype.DType.{DType};
 ghost use Rattle.vortex_base.specs.declared.scalar_value.ScalarValue.{ScalarValue};
@@ -13,7 +13,7 @@ ghost use Rattle.vortex_stats.specs.Measuring.Tallies.{IsKeyOf, IsOptionalKeyOf,
 use crate::measure::measures::Measures;
 use vortex_base::pvalue::PValue;
 
-/// What stands for a value while a column is measured. Keys compare as the values of one type do.
+/// A stand-in for a value while a column is measured. Keys compare as the values of one type do.
 pub(crate) trait Key: Ord + Copy {
     ghost use Rattle.std.specs.Prelude.{◌≡◌};
     ghost use Rattle.vortex_stats.specs.Measuring.Codes.{Code, code_cmp};

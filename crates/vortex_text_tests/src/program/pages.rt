@@ -59,7 +59,7 @@ fn are_written_whole(rt: HostRuntime) {
     assert!(rt; written.as_slice() == answer.as_bytes());
 }
 
-// What is written is the front of an answer, as far as there is room.
+// Expects the front of an answer to be written, as far as there is room.
 fn expect_cut(rt: &impl Abort, alloc: Global, text: &str, answer: &[u8], room: usize) {
     let mut writer = Bounded {
         bytes: Vec::new(alloc),

@@ -18,7 +18,7 @@ fn expect_reasons(rt: &impl Abort, alloc: Global, front: &str, cases: &str) {
     }
 }
 
-// What is told of some bytes.
+// Expects a reason to be told of some bytes.
 fn expect_reason(rt: &impl Abort, alloc: Global, input: &[u8], want: &str) {
     let mut reader = input;
     let mut told = Vec::new(alloc);

@@ -135,7 +135,7 @@ fn a_write_that_stumbles_once_cuts_the_answer_off(rt: HostRuntime) {
     }
 }
 
-// What is told of a run into a writer whose fourth write stumbles.
+// Expects a reason to be told of a run into a writer whose fourth write stumbles.
 fn expect_not_written(rt: &impl Abort, alloc: Global, text: &str, before: &str) {
     for how in STUMBLES {
         let mut writer = StumblingWriter {

@@ -155,7 +155,7 @@ fn truths_and_nulls(rt: HostRuntime) {
     expect_each(&rt, rt.alloc(), front, cases);
 }
 
-// What another word is elsewhere may be a name.
+// A word that means something elsewhere may be a name.
 #[test]
 fn names_of_columns(rt: HostRuntime) {
     let front = "column null i64\ncolumn col i64\ncolumn true i64\ncolumn x00 i64\n\
