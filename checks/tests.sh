@@ -5,6 +5,8 @@
 set -u
 cd "$(dirname "$0")/.." || exit 1
 top="$PWD"
+# The frames of a trial run are larger than those of the tests as the gate builds them.
+ulimit -s 65536 || exit 1
 logs="$(mktemp -d)"
 trap 'rm -rf "$logs"' EXIT
 [ "$#" -gt 0 ] || mapfile -t found < <(grep -rlE '#\[(cfg\()?test\)?\]' crates/*/src --include='*.rt' | cut -d/ -f2 | sort -u)
