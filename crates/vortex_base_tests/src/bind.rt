@@ -187,8 +187,8 @@ fn value_of(x: &BoundExpression) -> Result<Option<ScalarValue>, BaseError> {
 }
 
 // As deep as a predicate of 4,096 words can be: each recursion over it fits the usual stack, as the
-// gate builds the tests by LLVM. The frames of a trial run are larger, and `checks/tests.sh` gives it
-// more stack.
+// gate builds the tests by LLVM. The frames of a trial run are larger, and `checks/tests.sh` gives
+// it more stack.
 #[test]
 fn deep_expressions_fit_the_stack(rt: HostRuntime) {
     let bound = deep(rt.alloc()).expect(&rt, "bound");
