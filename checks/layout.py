@@ -101,12 +101,13 @@ def promise_faults():
     clauses = set(re.findall(r"\b(?:ensures|requires|ghost) (\w+) [={]", "".join(CODE.values())))
     clauses |= set(re.findall(r"\bghost (\w+)", "".join(CODE.values())))
     variants = set(re.findall(r"^    (\w+)(?:\(|,| \{)", "".join(CODE.values()), re.M))
-    for number, cells in rows_of("docs/PROMISES.md"):
+    pages = ["docs/PROMISES.md", *(it for it in TRACKED if re.fullmatch(r"crates/\w+/README\.md", it))]
+    for f, number, cells in ((f, *row) for f in pages for row in rows_of(f)):
         for cited in re.findall(r"`([^`]+)`", cells[-1]):
             plain = re.sub(r"<[^>]*>", "", cited)
             for name in re.findall(r"\w+", plain.split("::", 1)[1] if "::" in plain else plain):
                 if name not in named | clauses | variants | {"for", "rt", "Model", "Display", "IntoIterator", "Iterator", "From"}:
-                    yield f"docs/PROMISES.md:{number}: there is no {name}, of {cited}"
+                    yield f"{f}:{number}: there is no {name}, of {cited}"
 
 
 def public_files(crate):

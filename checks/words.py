@@ -51,7 +51,7 @@ def worst_of(f):
 
 def sentences_of_pages():
     """The sentences of the pages that begin so, by their page and line; those that scripts write are left out."""
-    told = subprocess.run(["git", "ls-files", "README.md", "docs/*.md"], capture_output=True, text=True, check=True).stdout
+    told = subprocess.run(["git", "ls-files", "README.md", "docs/*.md", "crates/*/README.md"], capture_output=True, text=True, check=True).stdout
     for f in (it for it in told.split() if it not in MADE and os.path.exists(it)):
         for number, line in enumerate(read(f).split("\n"), 1):
             if SENTENCE.search(line) and not line.startswith("#"):
