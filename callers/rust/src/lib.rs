@@ -38,6 +38,8 @@
 //! # Ok::<(), Error>(())
 //! ```
 //!
+//! [`parquet`] prunes the row groups of a Parquet file so, by its footer.
+//!
 //! # Dates, times, decimals and floating numbers
 //!
 //! Such a column stands as numbers of a [`Kind`], onto which its [`Logical`] type maps it in its own order, and a
@@ -75,6 +77,7 @@ mod header;
 mod json;
 mod literal;
 mod logical;
+pub mod parquet;
 mod predicate;
 mod pruning;
 mod ranges;

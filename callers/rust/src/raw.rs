@@ -19,13 +19,16 @@ pub mod status {
     pub const BAD_VALUE: u8 = 10;
     pub const BAD_NULL: u8 = 11;
     pub const UNTRUE: u8 = 12;
+    pub const BAD_NAME: u8 = 14;
     pub const NOT_A_PREDICATE: u8 = 15;
     pub const TOO_DEEP: u8 = 17;
     pub const BAD_SQL: u8 = 18;
     pub const MISFIT: u8 = 19;
+    pub const BAD_FOOTER: u8 = 20;
+    pub const NOT_READ: u8 = 21;
 }
 
-/// `VORTEX_LAST_NAME`, a flag of `vortex_prune_sql`.
+/// `VORTEX_LAST_NAME`, a flag of `vortex_prune_sql` and `vortex_parquet_prune`.
 pub const LAST_NAME: u8 = 2;
 
 /// `vortex_fault`.
@@ -43,6 +46,15 @@ pub struct Fault {
 pub struct Span {
     pub start: usize,
     pub end: usize,
+}
+
+/// `vortex_row_group`.
+#[repr(C)]
+#[derive(Clone, Copy, Debug, Default)]
+pub struct RowGroup {
+    pub rows: u64,
+    pub size: u64,
+    pub answer: u8,
 }
 
 /// `vortex_values`, whose arrays are lent for `'a`.
@@ -182,6 +194,23 @@ unsafe extern "C" {
         unread: *mut Span,
         unread_len: usize,
         len: *mut usize,
+        fault: *mut Fault,
+    ) -> u8;
+
+    pub fn vortex_parquet_footer(tail: *const u8, tail_len: usize, length: *mut usize, fault: *mut Fault) -> u8;
+
+    pub fn vortex_parquet_prune(
+        footer: *const u8,
+        footer_len: usize,
+        text: *const u8,
+        text_len: usize,
+        flags: u8,
+        groups: *mut RowGroup,
+        groups_len: usize,
+        unread: *mut Span,
+        unread_len: usize,
+        groups_found: *mut usize,
+        unread_found: *mut usize,
         fault: *mut Fault,
     ) -> u8;
 }

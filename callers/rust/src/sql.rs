@@ -17,6 +17,16 @@ pub enum Names {
     Last,
 }
 
+impl Names {
+    // The flags of a call.
+    pub(crate) fn flags(self) -> u8 {
+        match self {
+            Names::Plain => 0,
+            Names::Last => raw::LAST_NAME,
+        }
+    }
+}
+
 /// The answer to a condition in SQL.
 #[derive(Clone, Debug, PartialEq, Eq)]
 pub struct SqlAnswers {
@@ -73,7 +83,7 @@ const FAULTS: [SqlFault; 7] = [
 
 impl SqlError {
     // The error of a status, if it is one of the text.
-    fn of(found: u8, fault: Fault) -> Option<SqlError> {
+    pub(crate) fn of(found: u8, fault: Fault) -> Option<SqlError> {
         let at = fault.entry;
         match found {
             status::BAD_SQL => Some(SqlError { fault: *FAULTS.get(fault.column)?, bytes: at..at }),
@@ -128,10 +138,6 @@ impl Call<'_> {
     // Makes the call. Returns its status, how many tests aren't read, and its fault.
     fn made(&self, codes: &mut [u8], unread: &mut [Span]) -> (u8, usize, Fault) {
         let (mut count, mut fault) = (0, Fault::default());
-        let flags = match self.names {
-            Names::Plain => 0,
-            Names::Last => raw::LAST_NAME,
-        };
         // SAFETY: the arrays are as long as is said, those that are written are lent to this call alone, and the others
         // for as long as it takes.
         let found = unsafe {
@@ -144,7 +150,7 @@ impl Call<'_> {
                 self.stats.len(),
                 self.text.as_ptr(),
                 self.text.len(),
-                flags,
+                self.names.flags(),
                 codes.as_mut_ptr(),
                 codes.len(),
                 unread.as_mut_ptr(),
