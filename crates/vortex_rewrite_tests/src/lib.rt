@@ -1,8 +1,11 @@
-//! Tests of `vortex_rewrite` by its public calls, one module for each of its modules.
+//! Tests of `vortex_rewrite` and `vortex_normal` by their public calls, one module for each of
+//! theirs.
 #![tactic(auto)]
 
 #[cfg(test)]
 mod expr;
+#[cfg(test)]
+mod normalize;
 #[cfg(test)]
 mod rewrite;
 #[cfg(test)]

@@ -3,7 +3,7 @@ ghost use Rattle.std.specs.Prelude.{◌≡◌, ◌++◌, ◌∷◌, [], IfOk, On
 ghost use Rattle.vortex_base.specs.Data.Scopes.{named_columns};
 ghost use Rattle.vortex_prune.specs.Part.{AreZonesOf};
 ghost use Rattle.vortex_zone_log.specs.Logs.{empty_sets};
-ghost use Rattle.vortex_zone_log_tests.specs.Zones as spec;
+ghost use Rattle.vortex_prune_map_tests.specs.Zones as spec;
 
 use std::alloc::{AllocError, Global};
 use vortex_base::{Bytes, DType, Nullability, PType, PValue, ScalarValue, Scope, ValueRef};

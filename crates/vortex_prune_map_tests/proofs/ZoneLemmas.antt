@@ -5,7 +5,7 @@ use Rattle.vortex_base.specs.Data.Scopes.{Named}
 use Rattle.vortex_prune.proofs.ZoneMaps.ZoneKept.{zones_are}
 use Rattle.vortex_prune.specs.Part.{AreZonesOf, ZoneData}
 use Rattle.vortex_zone_log.specs.Logs.{MayJoinAt, zones_from}
-use Rattle.vortex_zone_log_tests.specs.Zones.{columns, three, two}
+use Rattle.vortex_prune_map_tests.specs.Zones.{columns, three, two}
 
 three_fit : AreZonesOf columns three
 three_fit = zones_are columns three refl

@@ -1,7 +1,0 @@
-//! Tests of `vortex_explain` by its public calls.
-#![tactic(auto)]
-
-#[cfg(test)]
-mod explained;
-#[cfg(test)]
-mod running;
