@@ -8,6 +8,7 @@ from itertools import compress, count
 from typing import Any, overload
 
 from .kinds import Answer
+from .sql import underlined
 
 try:
     import numpy
@@ -33,16 +34,22 @@ class Answers(Sequence[Answer]):
     (<4 zones: 1 to be read, 1 skipped, 2 whole>, [1, 2, 3], [(1, 4)])
     """
 
-    __slots__ = ("codes", "unread")
+    __slots__ = ("_conditions", "codes", "unread")
 
-    def __init__(self, codes: bytes | bytearray | memoryview | Iterable[int], unread: Iterable[str] = ()):
-        """Takes a code for each zone. ValueError where one is no ``Answer``."""
+    def __init__(
+        self,
+        codes: bytes | bytearray | memoryview | Iterable[int],
+        unread: Iterable[str] = (),
+        conditions: Iterable[tuple[str, Sequence[tuple[int, int]]]] = (),
+    ):
+        """Takes a code for each zone, and conditions in SQL with the bytes of their tests that weren't read. ValueError where a code is no ``Answer``."""
         #: A byte a zone, an ``Answer`` each.
         self.codes = memoryview(codes if isinstance(codes, (bytes, bytearray, memoryview)) else bytes(codes))
         if bytes(self.codes).translate(None, _CODES):
             raise ValueError("a code above 2 is no answer")
         #: The tests of a condition in SQL that weren't read, in its order: nothing was pruned by them. Of a ``Predicate`` there are none.
         self.unread = tuple(unread)
+        self._conditions = tuple(conditions)
 
     def __len__(self) -> int:
         return len(self.codes)
@@ -52,7 +59,7 @@ class Answers(Sequence[Answer]):
     @overload
     def __getitem__(self, place: slice) -> Answers: ...
     def __getitem__(self, place: int | slice) -> Answer | Answers:
-        return Answers(self.codes[place], self.unread) if isinstance(place, slice) else Answer(self.codes[place])
+        return Answers(self.codes[place], self.unread, self._conditions) if isinstance(place, slice) else Answer(self.codes[place])
 
     def __iter__(self) -> Iterator[Answer]:
         return map(_ANSWERS.__getitem__, self.codes)
@@ -72,10 +79,11 @@ class Answers(Sequence[Answer]):
         """
         if len(self) != len(other):
             raise ValueError(f"answers about {len(self)} and about {len(other)} zones")
+        unread, conditions = self.unread + other.unread, self._conditions + other._conditions
         if numpy is not None:
             left, right = numpy.asarray(self), numpy.asarray(other)
-            return Answers(numpy.where(left == Answer.READ, right, left).tobytes(), self.unread + other.unread)
-        return Answers((a or b for a, b in zip(self.codes, other.codes)), self.unread + other.unread)
+            return Answers(numpy.where(left == Answer.READ, right, left).tobytes(), unread, conditions)
+        return Answers((a or b for a, b in zip(self.codes, other.codes)), unread, conditions)
 
     def __repr__(self) -> str:
         return f"<{len(self)} zones: {self.count(Answer.READ)} to be read, {self.count(Answer.SKIP)} skipped, {self.count(Answer.WHOLE)} whole>"
@@ -87,6 +95,17 @@ class Answers(Sequence[Answer]):
         2
         """
         return bytes(self.codes).count(value) if isinstance(value, Answer) else 0
+
+    def explained(self) -> str:
+        """Returns the condition in SQL, and beneath each of its lines one that marks the tests that weren't read. Of a ``Predicate`` it is empty.
+
+        Where characters may not be one column wide, or a line is longer than 120 columns, each of these tests is told by its place.
+
+        >>> print(Answers([0], ["f(city)"], [("qty > 3 AND f(city)", [(12, 19)])]).explained())
+        qty > 3 AND f(city)
+                    ~~~~~~~ not read
+        """
+        return "\n".join(underlined(condition, unread) for condition, unread in self._conditions)
 
     @property
     def skipped(self) -> array[int]:

@@ -177,10 +177,10 @@ class Footers:
         A column that isn't nullable has an exact null count of 0 where nothing else is known of it.
 
         An opaque condition may be anything of each row: it is a column of its own without statistics. So may a test in SQL that isn't read:
-        ``unread`` of the answer has the texts of these, and one ``UnreadWarning`` tells of them. A test of a column that the table hasn't, or whose
-        name isn't made of ASCII letters, digits and ``_``, isn't read. Nor is one of a logical type, but for comparisons of dates, timestamps and
-        decimals with literals of their own type, as ``day >= DATE '2026-01-02'``. With ``last_names`` a name of several parts, as ``t.a``, is the
-        column of its last one, and else it isn't read.
+        ``unread`` of the answer has the texts of these, ``explained`` underlines them in the condition, and one ``UnreadWarning`` tells of them. A
+        test of a column that the table hasn't, or whose name isn't made of ASCII letters, digits and ``_``, isn't read. Nor is one of a logical
+        type, but for comparisons of dates, timestamps and decimals with literals of their own type, as ``day >= DATE '2026-01-02'``. With
+        ``last_names`` a name of several parts, as ``t.a``, is the column of its last one, and else it isn't read.
 
         PredicateError where the predicate names a column that isn't there, compares a column with a value that isn't of its type, isn't of
         type bool, or nests deeper than 128 levels; SqlError, with the place, where a text is no condition; Refused, with the column, the
@@ -224,7 +224,7 @@ class Footers:
                     codes, unread = more, left
         words = [condition.encode()[start:end].decode() for start, end in unread]
         warn_of(words, stacklevel=3)
-        return Answers(codes, words)
+        return Answers(codes, words, [(condition, unread)])
 
     def _answered_sql(self, condition: str, names: Mapping[str, str], last_names: bool) -> tuple[bytearray, list[tuple[int, int]]]:
         """Returns a code for each zone, and the bytes of tests that weren't read. Columns of logical types are there by the names that they are given.

@@ -101,8 +101,9 @@ class File:
         """
         told = prune_footer(self.footer, condition, last_names, self._groups)
         self._groups = len(told.rows)
-        warn_of(told.unread, stacklevel=2)
-        return RowGroups(Answers(told.codes, told.unread), told.rows, told.sizes)
+        words = [condition.encode()[start:end].decode() for start, end in told.unread]
+        warn_of(words, stacklevel=2)
+        return RowGroups(Answers(told.codes, words, [(condition, told.unread)]), told.rows, told.sizes)
 
 
 class RowGroups:
@@ -154,6 +155,10 @@ class RowGroups:
     def unread(self) -> tuple[str, ...]:
         """The tests of the condition that weren't read, in its order: nothing was pruned by them."""
         return self.answers.unread
+
+    def explained(self) -> str:
+        """Returns the condition, and beneath each of its lines one that marks the tests that weren't read, as ``Answers.explained`` does."""
+        return self.answers.explained()
 
     @property
     def bytes_saved(self) -> int:

@@ -64,11 +64,11 @@ class CRowGroup(Structure):
 
 
 class Told:
-    """What the library told of the row groups of a footer: an answer, the rows and the bytes of each, and the tests that weren't read."""
+    """What the library told of the row groups of a footer: an answer, the rows and the bytes of each, and the bytes of tests that weren't read."""
 
     __slots__ = ("codes", "rows", "sizes", "unread")
 
-    def __init__(self, found: ctypes.Array[CRowGroup], count: int, unread: list[str]):
+    def __init__(self, found: ctypes.Array[CRowGroup], count: int, unread: list[tuple[int, int]]):
         self.codes = bytes(found[place].answer for place in range(count))
         self.rows = array("Q", (found[place].rows for place in range(count)))
         self.sizes = array("Q", (found[place].size for place in range(count)))
@@ -99,7 +99,7 @@ def prune_footer(footer: bytes, condition: str, last_names: bool, groups: int | 
             break
         room, room_unread = max(room, found_len.value), max(room_unread, unread_len.value)
     _answered(status, fault, text)
-    return Told(found, found_len.value, [text[it.start : it.end].decode() for it in unread[: unread_len.value]])
+    return Told(found, found_len.value, [(it.start, it.end) for it in unread[: unread_len.value]])
 
 
 def _answered(status: int, fault: Fault, text: bytes) -> None:

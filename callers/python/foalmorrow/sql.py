@@ -7,7 +7,7 @@ answer tells which tests those are.
 from __future__ import annotations
 
 import warnings
-from collections.abc import Sequence
+from collections.abc import Iterator, Sequence
 
 from .items import shown
 from .predicate import PredicateError
@@ -83,6 +83,44 @@ def misfit(text: bytes, start: int, end: int) -> SqlError:
     first, last = _characters(text, start), _characters(text, end)
     words = text[start:end].decode(errors="replace")
     return SqlError(f"the types of {words} don't fit, at character {first}", "the types don't fit", first, last)
+
+
+#: The longest line of a condition that is underlined.
+_WIDEST = 120
+
+
+def underlined(condition: str, unread: Sequence[tuple[int, int]]) -> str:
+    """Returns a condition with a line beneath each of its lines that marks the tests that aren't read, which are given by their bytes.
+
+    Tabs line up. Where a character may not be one column wide, or a line is longer than 120 columns, each of these tests is told by the character
+    at which it begins.
+    """
+    lines = [line.rstrip("\r") for line in condition.split("\n")]
+    if all(len(line) <= _WIDEST and _is_plain(line) for line in lines):
+        return "\n".join(_marked(condition, unread))
+    text = condition.encode()
+    told = (f"not read, at character {_characters(text, start)}: {text[start:end].decode()}" for start, end in unread)
+    return "\n".join([condition, *told])
+
+
+def _is_plain(line: str) -> bool:
+    """Tells whether each character of a line takes one column, tabs aside."""
+    return line.isascii() and line.replace("\t", "").isprintable()
+
+
+def _marked(condition: str, unread: Sequence[tuple[int, int]]) -> Iterator[str]:
+    """Returns the lines of a condition of ASCII, each with the line of its marks beneath it."""
+    marks = bytearray(len(condition))
+    for start, end in unread:
+        marks[start:end] = b"~" * (end - start)
+    at = 0
+    for line in condition.split("\n"):
+        plain = line.rstrip("\r")
+        below = "".join("\t" if it == "\t" else "~" if mark else " " for it, mark in zip(plain, marks[at : at + len(plain)]))
+        yield plain
+        if "~" in below:
+            yield f"{below.rstrip()} not read"
+        at += len(line) + 1
 
 
 def _characters(text: bytes, count: int) -> int:

@@ -147,6 +147,7 @@ class Sources(unittest.TestCase):
         with self.assertWarns(UnreadWarning) as told:
             found = parquet.open(self.DATA).prune("n > 2 AND lower(s) = 'é' AND day > 5")
         self.assertEqual(found.unread, ("lower(s) = 'é'", "day > 5"))
+        self.assertEqual(found.explained().splitlines()[1:], ["not read, at character 10: lower(s) = 'é'", "not read, at character 29: day > 5"])
         self.assertEqual(told.filename, __file__)
 
 

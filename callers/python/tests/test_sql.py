@@ -16,6 +16,7 @@ from hypothesis import strategies as st
 from foalmorrow import (
     Answer, Column, Date, Decimal, DType, Enum, Float64, Footers, PredicateError, Refused, SqlError, Stat, Statistic, Timestamp, UnreadWarning, Uuid, Values, col,
 )
+from foalmorrow.sql import underlined
 
 _HOME = tempfile.TemporaryDirectory()
 atexit.register(_HOME.cleanup)
@@ -227,6 +228,28 @@ class BesideAModel(unittest.TestCase):
                 self.assertTrue(0 <= fault.start <= fault.end <= len(text), text)
 
 
+class Underlines(unittest.TestCase):
+    """Conditions whose unread tests are given by their bytes."""
+
+    def test_each_line_has_its_marks(self) -> None:
+        self.assertEqual(underlined("f(1) AND\n\n a > 3\nAND g(2)", [(0, 4), (21, 25)]), "f(1) AND\n~~~~ not read\n\n a > 3\nAND g(2)\n    ~~~~ not read")
+
+    def test_a_test_over_lines_is_marked_on_each(self) -> None:
+        self.assertEqual(underlined("a > 3 AND f(1,\r\n\t2)", [(10, 19)]), "a > 3 AND f(1,\n          ~~~~ not read\n\t2)\n\t~~ not read")
+
+    def test_tabs_stay_tabs(self) -> None:
+        self.assertEqual(underlined("a\t>\t3 AND\tf(1,\t2)", [(10, 17)]), "a\t>\t3 AND\tf(1,\t2)\n \t \t     \t~~~~\t~~ not read")
+
+    def test_places_stand_for_marks_that_may_not_line_up(self) -> None:
+        self.assertEqual(underlined("a = 'é' AND f(1)", [(13, 17)]), "a = 'é' AND f(1)\nnot read, at character 12: f(1)")
+        self.assertEqual(underlined("f('\x1b') AND g(é)", [(0, 6), (11, 16)]), "f('\x1b') AND g(é)\nnot read, at character 0: f('\x1b')\nnot read, at character 11: g(é)")
+        wide = f"a = '{'x' * 120}' AND f(1)"
+        self.assertEqual(underlined(wide, [(131, 135)]), f"{wide}\nnot read, at character 131: f(1)")
+
+    def test_all_tests_are_read(self) -> None:
+        self.assertEqual([underlined(it, []) for it in ("", "a > 3", "a = 'é'")], ["", "a > 3", "a = 'é'"])
+
+
 class Texts(unittest.TestCase):
     FOOTERS = Footers.measure([Column("qty", DType.I64), Column("a b", DType.I64)], [{"qty": [1, 5], "a b": [1, 5]}, {"qty": [7, 9], "a b": [7, 9]}])
 
@@ -242,6 +265,15 @@ class Texts(unittest.TestCase):
             self.assertEqual(self.FOOTERS.prune("qty > 6").unread, ())
             with self.assertRaisesRegex(UnreadWarning, "2 tests aren't read, .*: f\\(1\\) = 1; g\\(2\\) = 2"):
                 self.FOOTERS.prune("f(1) = 1 AND g(2) = 2")
+
+    def test_unread_tests_are_underlined(self) -> None:
+        with self.assertWarns(UnreadWarning):
+            answers = self.FOOTERS.prune("qty > 6\n\tAND f(1) = 'u' AND \"a b\" > 3")
+        shown = "qty > 6\n\tAND f(1) = 'u' AND \"a b\" > 3\n\t    ~~~~~~~~~~     ~~~~~~~~~ not read"
+        self.assertEqual(answers.explained(), shown)
+        self.assertEqual((answers[1:].explained(), (answers | answers).explained()), (shown, f"{shown}\n{shown}"))
+        self.assertEqual(self.FOOTERS.prune("qty > 6").explained(), "qty > 6")
+        self.assertEqual(self.FOOTERS.prune(col("qty") > 6).explained(), "")
 
     def test_names_of_several_parts(self) -> None:
         with self.assertWarns(UnreadWarning):
