@@ -1,3 +1,6 @@
 pub mod Joining
+pub mod Naming
 pub mod Places
+pub mod Reading
 pub mod Refusals
+pub mod Worked

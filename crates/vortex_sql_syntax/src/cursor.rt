@@ -177,8 +177,11 @@ impl<'a> Cursor<'a> {
         Ok(())
     }
 
-    /// Goes past the END of a CASE that was taken.
+    /// Goes past the END of a CASE that was taken, which is no part of a name.
     pub fn skip_case(&mut self) -> Result<(), ParseError> {
+        if self.sees(Kind::Dot) {
+            return Err(self.refuse());
+        }
         let mut open: usize = 1;
         for _turn in 0..self.text.len() {
             if self.sees_word(b"case") {

@@ -1,4 +1,9 @@
 //! The operands of tests.
+ghost use Rattle.std.specs.Prelude.{◌≡◌, IfOk};
+ghost use Rattle.vortex_sql_syntax.specs.Naming as spec;
+ghost use Rattle.vortex_sql_syntax.specs.declared.cursor.Names.TheVariants.{Plain};
+ghost use Rattle.vortex_sql_syntax.specs.declared.tree.Operand.TheVariants.{Other};
+
 use crate::cursor::{Cursor, Names};
 use crate::error::ParseError;
 use crate::keyword::{is_called, is_of_type, is_reserved};
@@ -18,8 +23,21 @@ fn column(at: &mut Cursor) -> Result<Operand, ParseError> {
     Ok(Operand::Column(text_of(name, start)?))
 }
 
+// Returns what a name of several parts is read as, by its last one.
+fn read_as(names: Names, last: Operand) -> Operand
+    ensures { result ≡ spec.read_as names last }
+{
+    match names {
+        Names::Plain => Operand::Other,
+        Names::Last => last,
+    }
+}
+
 // Reads a name behind a dot, of which the last part may be a column's.
-fn qualified(at: &mut Cursor) -> Result<Operand, ParseError> {
+fn qualified(at: &mut Cursor) -> Result<Operand, ParseError>
+    ensures { at.old.names ≡ Plain → IfOk result (λ x. x ≡ Other) }
+{
+    let names = at.names;
     let mut last = Operand::Other;
     for _turn in 0..at.len() {
         if !at.eat(Kind::Dot) {
@@ -34,10 +52,7 @@ fn qualified(at: &mut Cursor) -> Result<Operand, ParseError> {
         at.skip_group()?;
         return Ok(Operand::Other);
     }
-    match at.names {
-        Names::Plain => Ok(Operand::Other),
-        Names::Last => Ok(last),
-    }
+    Ok(read_as(names, last))
 }
 
 // Reads a name, a call, or a typed literal as DATE '2024-01-01'.

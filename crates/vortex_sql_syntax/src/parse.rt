@@ -1,6 +1,7 @@
 //! The condition that a text is, by a loop over its words.
 ghost use Rattle.std.specs.Prelude.{◌∷◌, IfErr, IfOk, false, length};
 ghost use Rattle.vortex_sql_syntax.specs.Joining.{Joins, ands};
+ghost use Rattle.vortex_sql_syntax.specs.Naming.{AreNamed};
 ghost use Rattle.vortex_sql_syntax.specs.Places.{Ascends, leaves};
 ghost use Rattle.vortex_sql_syntax.specs.Refusals.{IsPlaced};
 
@@ -8,6 +9,7 @@ use crate::cursor::Cursor;
 pub use crate::cursor::Names;
 use crate::error::ParseError;
 use crate::frame::{Frame, Opening, open};
+use crate::naming::are_named;
 use crate::operand::operand;
 pub use crate::part::MAX_LEVELS;
 use crate::part::{Form, Unary, condition_in, put_operand, take_condition, wrap};
@@ -217,14 +219,21 @@ pub fn parse(alloc: Global, text: &str, names: Names) -> Result<Condition, Parse
     ensures places { IfOk result (λ c. Ascends 0 (leaves c) (length text.now)) }
     // No AND stands before the first leaf.
     ensures joined { IfOk result (λ c. Joins text.now 0 (leaves c) (false ∷ ands c)) }
+    // A name of several parts at the front of a leaf, or beside the sign of a comparison, is the
+    // column of its last part where that is wanted, and else isn't read.
+    ensures named { IfOk result (AreNamed text.now names) }
     // A refusal other than for memory has a place in the text.
     ensures refused { IfErr result (IsPlaced (length text.now)) }
 {
-    let condition = match condition(alloc, text.as_bytes(), names) {
+    let bytes = text.as_bytes();
+    let condition = match condition(alloc, bytes, names) {
         Ok(condition) => condition,
         Err(refused) => return Err(refused.within(text.len())),
     };
-    if !is_ascending(&condition, text.len()) || !is_joined(&condition, text.as_bytes()) {
+    if !is_ascending(&condition, text.len()) || !is_joined(&condition, bytes) {
+        return Err(ParseError::Unexpected(0));
+    }
+    if !are_named(bytes, names, &condition) {
         return Err(ParseError::Unexpected(0));
     }
     Ok(condition)

@@ -1,4 +1,6 @@
 //! The words and signs of a text.
+ghost use Rattle.std.specs.Prelude.{◌≡◌};
+ghost use Rattle.vortex_sql_syntax.specs.Naming as spec;
 
 /// The kind of a word or a sign.
 #[derive(Clone, Copy, PartialEq, Eq)]
@@ -60,11 +62,17 @@ const LONG_SIGNS: [&[u8]; 11] = [
     b"||", b"<<", b">>", b"~*", b"!~", b"~~", b"->", b"->>", b"!~*", b"!~~", b"~~*",
 ];
 
-fn is_space(byte: u8) -> bool {
+/// Tells whether a byte stands between words.
+pub(crate) fn is_space(byte: u8) -> bool
+    ensures { result ≡ spec.is_blank byte }
+{
     matches!(byte, b' ' | b'\t' | b'\n' | b'\r')
 }
 
-fn is_word(byte: u8) -> bool {
+/// Tells whether a byte is one of a name or a keyword.
+pub(crate) fn is_word(byte: u8) -> bool
+    ensures { result ≡ spec.is_word byte }
+{
     byte.is_ascii_alphanumeric() || byte == b'_' || byte >= 128
 }
 
