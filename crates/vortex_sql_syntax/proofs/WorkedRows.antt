@@ -1,5 +1,5 @@
 -- The worked rows, by computing.
-use Rattle.std.proofs.Common.{◌≡◌, refl}
+use Rattle.std.proofs.Common.{refl}
 use Rattle.vortex_sql_syntax.specs.Worked.{NameExamples, NamedExamples, NeighbourExamples}
 
 pub names : NameExamples

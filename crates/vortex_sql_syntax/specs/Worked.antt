@@ -1,5 +1,5 @@
 -- Worked rows of names of several parts.
-use Rattle.std.specs.Prelude.{◌≡◌, Bool, true, false, Some, None, List, [], codes, pos}
+use Rattle.std.specs.Prelude.{◌≡◌, true, false, Some, None, [], codes, pos}
 use Rattle.vortex_sql_syntax.specs.Naming.{IsTestNamed, back, before, begins_comparison, begins_word, behind, ends_comparison, front, last_part}
 use Rattle.vortex_sql_syntax.specs.declared.cursor.Names.TheVariants.{Last, Plain}
 use Rattle.vortex_sql_syntax.specs.declared.tree.Comparison.TheVariants.{Eq}
