@@ -101,7 +101,8 @@ enum vortex_parquet_fault {
     VORTEX_MISSING = 10,      /* a row group has no number of rows, or a column no name */
     VORTEX_SCHEMA = 11,       /* the schema is no tree */
     VORTEX_COLUMNS = 12,      /* a row group has another number of columns than the schema has leaf columns */
-    VORTEX_NO_VALUE = 13      /* a bound is no value of its column's type */
+    VORTEX_NO_VALUE = 13,     /* a bound is no value of its column's type */
+    VORTEX_PAGES = 14         /* the pages of a column chunk are none of its rows */
 };
 
 /* Why no test of a column could be meant: fault->column of VORTEX_NOT_READ. */

@@ -13,3 +13,10 @@ pub mod Known
 pub mod WorkedRows
 pub mod Witness
 pub mod Groups
+pub mod Views
+pub mod StretchLoops
+pub mod Cuts
+pub mod PageTruth
+pub mod PageRows
+pub mod Following
+pub mod PageWitness

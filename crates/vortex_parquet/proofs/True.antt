@@ -62,7 +62,7 @@ count_true None n h = tt
 count_true (Some m) n h = ap (λ (k : ℕ). value.Primitive (number.U64 k)) (sym (h m refl))
 
 -- the claim of each entry of the set holds
-set_claims : (f : Form) (ordered : Bool) (s : StatisticsData) (c : ColumnData) → AreTrue f ordered s c.values → (stat : Stat) → Claims stat (entry_value stat (set_of f ordered s)) c
+pub set_claims : (f : Form) (ordered : Bool) (s : StatisticsData) (c : ColumnData) → AreTrue f ordered s c.values → (stat : Stat) → Claims stat (entry_value stat (set_of f ordered s)) c
 unfolding set_of
 set_claims f ordered s c h IsConstant = tt
 set_claims f ordered s c h IsSorted = tt

@@ -14,7 +14,7 @@ use Rattle.vortex_stats.specs.Merging.Merges.{is_at_most}
 use Rattle.vortex_stats.specs.Sets.Claims.{NoneAbove, NoneBelow}
 use Rattle.vortex_parquet.specs.Compact.{binary_at, count_at, head_at, id_at, items_at, jump, kind_at, kinds_at, map_at, natural_at, varint_at, varint_from, varint_in}
 use Rattle.vortex_parquet.specs.Skip.{fields_in, skip_at, skip_entry, skip_value, struct_at, times}
-use Rattle.vortex_parquet.specs.Fields.{binary_in, is_told, last_found, many, natural_in, number_in, spans_in, struct_of, structs_in, structs_of}
+use Rattle.vortex_parquet.specs.Fields.{binary_in, is_told, last_found, many, natural_in, number_in, spans_in, struct_of, items_in, items_of}
 use Rattle.vortex_parquet.specs.Records.{ColumnChunkData, StatisticsData, annotation_in, chunk_of, element_of, file_of, meta_of, order_of, row_group_of, row_groups_of, spans_of, statistics_in, statistics_of}
 use Rattle.vortex_parquet.specs.Columns.{checked, columns_in, columns_of, content_of, form_of, four, leaf_of, nullability}
 use Rattle.vortex_parquet.specs.Stats.{all_of, chunk_set, four_of, four_value, group_at, group_of, groups_of, leaf_set, set_of, span_set, value_of}
@@ -24,21 +24,21 @@ use Rattle.vortex_parquet.proofs.Sound.{one_ok}
 use Rattle.vortex_parquet.proofs.True.{group_true}
 
 -- a test of all values in place of one value after another
-abbrev is_upper : ScalarValue → Option ScalarValue → Bool
+abbrev pub is_upper : ScalarValue → Option ScalarValue → Bool
 is_upper v None = true
 is_upper v (Some w) = is_at_most w v
 
-abbrev is_lower : ScalarValue → Option ScalarValue → Bool
+abbrev pub is_lower : ScalarValue → Option ScalarValue → Bool
 is_lower v None = true
 is_lower v (Some w) = is_at_most v w
 
-none_above : (v : ScalarValue) (xs : List (Option ScalarValue)) → list_all (is_upper v) xs ≡ true → NoneAbove v xs
+pub none_above : (v : ScalarValue) (xs : List (Option ScalarValue)) → list_all (is_upper v) xs ≡ true → NoneAbove v xs
 none_above v xs h = λ w i. not-true (is_gt (value_cmp w v)) (All-contains (λ x. is_upper v x ≡ true) xs (Some w) (AllPass-from_list_all (is_upper v) xs h) i)
 
-none_below : (v : ScalarValue) (xs : List (Option ScalarValue)) → list_all (is_lower v) xs ≡ true → NoneBelow v xs
+pub none_below : (v : ScalarValue) (xs : List (Option ScalarValue)) → list_all (is_lower v) xs ≡ true → NoneBelow v xs
 none_below v xs h = λ w i. not-true (is_gt (value_cmp v w)) (All-contains (λ x. is_lower v x ≡ true) xs (Some w) (AllPass-from_list_all (is_lower v) xs h) i)
 
-inner : {A : Type 0} (a b : A) → Some a ≡ Some b → a ≡ b
+pub inner : {A : Type 0} (a b : A) → Some a ≡ Some b → a ≡ b
 inner a b e = cc
 
 abbrev seven : ScalarValue
@@ -71,7 +71,7 @@ statistics_true = record {
 }
 
 chunk_is : chunk_of span ≡ Ok chunk
-unfolding kind_at jump varint_from varint_in varint_at natural_at binary_at id_at head_at count_at items_at kinds_at map_at times skip_entry fields_in struct_at skip_value skip_at struct_of last_found binary_in number_in natural_in is_told spans_in structs_of structs_in many statistics_of statistics_in meta_of chunk_of spans_of row_group_of annotation_in element_of order_of file_of row_groups_of
+unfolding kind_at jump varint_from varint_in varint_at natural_at binary_at id_at head_at count_at items_at kinds_at map_at times skip_entry fields_in struct_at skip_value skip_at struct_of last_found binary_in number_in natural_in is_told spans_in items_of items_in many statistics_of statistics_in meta_of chunk_of spans_of row_group_of annotation_in element_of order_of file_of row_groups_of
 chunk_is = refl
 
 span_true : AreTrueOf leaf true (Some span) rows.values
@@ -81,11 +81,11 @@ span_true c s e t k =
     subst (λ (x : StatisticsData). AreTrue leaf.form true x rows.values) (inner statistics s some) statistics_true
 
 sets_are : all_of (leaf_set file.orders group.columns) (leaf ∷ []) ≡ Ok (set ∷ [])
-unfolding kind_at jump varint_from varint_in varint_at natural_at binary_at id_at head_at count_at items_at kinds_at map_at times skip_entry fields_in struct_at skip_value skip_at struct_of last_found binary_in number_in natural_in is_told spans_in structs_of structs_in many statistics_of statistics_in meta_of chunk_of spans_of row_group_of annotation_in element_of order_of file_of row_groups_of all_of leaf_set span_set chunk_set set_of four_value four_of
+unfolding kind_at jump varint_from varint_in varint_at natural_at binary_at id_at head_at count_at items_at kinds_at map_at times skip_entry fields_in struct_at skip_value skip_at struct_of last_found binary_in number_in natural_in is_told spans_in items_of items_in many statistics_of statistics_in meta_of chunk_of spans_of row_group_of annotation_in element_of order_of file_of row_groups_of all_of leaf_set span_set chunk_set set_of four_value four_of
 sets_are = refl
 
 pub a_file_is_true : TrueFile
-unfolding kind_at jump varint_from varint_in varint_at natural_at binary_at id_at head_at count_at items_at kinds_at map_at times skip_entry fields_in struct_at skip_value skip_at struct_of last_found binary_in number_in natural_in is_told spans_in structs_of structs_in many statistics_of statistics_in meta_of chunk_of spans_of row_group_of annotation_in element_of order_of file_of row_groups_of columns_of columns_in checked content_of leaf_of nullability form_of four groups_of group_at group_of all_of leaf_set span_set chunk_set set_of four_value four_of
+unfolding kind_at jump varint_from varint_in varint_at natural_at binary_at id_at head_at count_at items_at kinds_at map_at times skip_entry fields_in struct_at skip_value skip_at struct_of last_found binary_in number_in natural_in is_told spans_in items_of items_in many statistics_of statistics_in meta_of chunk_of spans_of row_group_of annotation_in element_of order_of file_of row_groups_of columns_of columns_in checked content_of leaf_of nullability form_of four groups_of group_at group_of all_of leaf_set span_set chunk_set set_of four_value four_of
 a_file_is_true = record {
   read = refl;
   groups = refl;

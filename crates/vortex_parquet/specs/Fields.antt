@@ -5,7 +5,7 @@ use Rattle.vortex_parquet.specs.declared.compact.Kind.{Kind}
 use Rattle.vortex_parquet.specs.declared.compact.Kind.TheVariants as kind
 use Rattle.vortex_parquet.specs.declared.compact.ListHead.{ListHead}
 use Rattle.vortex_parquet.specs.declared.fields.Field.{Field}
-use Rattle.vortex_parquet.specs.declared.fields.Structs.{Structs}
+use Rattle.vortex_parquet.specs.declared.fields.Items.{Items}
 use Rattle.vortex_parquet.specs.contracts.compact.KindPartialEq.TheImpl as kinds
 use Rattle.vortex_parquet.specs.Reading.{◌>>=◌, Read}
 use Rattle.vortex_parquet.specs.Compact.{binary_at, items_at, varint_at}
@@ -85,33 +85,33 @@ byte_in fs id = first_of (found fs id kind.Byte)
 unfoldable pub is_told : List FieldData → ℕ → Bool
 is_told fs id = is_some (found fs id kind.True) && is_none (found fs id kind.False)
 
--- ---- lists of structs
+-- ---- lists
 
 -- the bytes from each of so many structs on
 unfoldable pub spans_in : ℕ → List ℕ → Result (List (List ℕ)) Fault
 spans_in zero bytes = Ok []
 spans_in (suc n) bytes = skip_at item_depth kind.Struct bytes >>= λ rest. spans_in n rest >>= λ spans. Ok (bytes ∷ spans)
 
--- how many structs a list has, and the bytes from the first one on; none if its items are of another kind
-pub record StructsData : Type 0 where
+-- how many items a list has, and the bytes from the first one on; none if they are of another kind
+pub record ItemsData : Type 0 where
   pub count : ℕ
   pub from : List ℕ
 
-abbrev pub structs_view : Structs → StructsData
-structs_view s = record { count = s.count; from = s.from.now }
+abbrev pub items_view : Items → ItemsData
+items_view s = record { count = s.count; from = s.from.now }
 
-abbrev pub structs_under : Option ListHead × List ℕ → StructsData
-structs_under (None, rest) = record { count = 0; from = rest }
-structs_under (Some l, rest) = if kind_eq l.kind kind.Struct then record { count = l.count; from = rest } else record { count = 0; from = rest }
+abbrev pub items_under : Kind → Option ListHead × List ℕ → ItemsData
+items_under k (None, rest) = record { count = 0; from = rest }
+items_under k (Some l, rest) = if kind_eq l.kind k then record { count = l.count; from = rest } else record { count = 0; from = rest }
 
-unfoldable pub structs_of : List ℕ → Result StructsData Fault
-structs_of bytes = items_at bytes >>= λ h. Ok (structs_under h)
+unfoldable pub items_of : Kind → List ℕ → Result ItemsData Fault
+items_of k bytes = items_at bytes >>= λ h. Ok (items_under k h)
 
 -- those in a field; none if it isn't there
-unfoldable pub structs_in : List FieldData → ℕ → Result StructsData Fault
-structs_in fs id = on_found (Ok (record { count = 0; from = [] })) structs_of (found fs id kind.List)
+unfoldable pub items_in : List FieldData → ℕ → Kind → Result ItemsData Fault
+items_in fs id k = on_found (Ok (record { count = 0; from = [] })) (items_of k) (found fs id kind.List)
 
--- what each of so many structs is, one behind the other, or the first fault
+-- what each of so many items is, one behind the other, or the first fault
 unfoldable pub many : {A : Type 0} → (List ℕ → Read A) → ℕ → List ℕ → Result (List A) Fault
 many one zero bytes = Ok []
 many one (suc n) bytes = one bytes >>= λ x. many one n x.1 >>= λ xs. Ok (x.0 ∷ xs)

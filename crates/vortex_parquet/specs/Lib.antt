@@ -3,10 +3,16 @@ pub mod Compact
 pub mod Skip
 pub mod Fields
 pub mod Records
+pub mod PageIndex
 pub mod Footer
 pub mod Columns
 pub mod Grammar
 pub mod Stats
 pub mod Truth
+pub mod Pages
+pub mod Stretches
 pub mod Worked
 pub mod Witness
+pub mod PageWorked
+pub mod GroupPages
+pub mod PageWitness

@@ -12,7 +12,7 @@ use Rattle.vortex_parquet.specs.declared.records.SchemaElement.{SchemaElement}
 use Rattle.vortex_parquet.specs.declared.records.FileMetaData.{FileMetaData}
 use Rattle.vortex_parquet.specs.Reading.{◌>>=◌, Read}
 use Rattle.vortex_parquet.specs.Skip.{FieldData}
-use Rattle.vortex_parquet.specs.Fields.{StructsData, binary_in, byte_in, found, is_told, kind_eq, many, natural_in, number_in, on_found, spans_in, struct_of, structs_in, structs_view}
+use Rattle.vortex_parquet.specs.Fields.{ItemsData, binary_in, byte_in, found, is_told, items_in, items_view, kind_eq, many, natural_in, number_in, on_found, spans_in, struct_of}
 
 -- ---- the records, without where their bytes lie
 
@@ -48,7 +48,7 @@ pub record ElementData : Type 0 where
 pub record FileData : Type 0 where
   pub schema : List ElementData
   pub orders : List Bool
-  pub groups : StructsData
+  pub groups : ItemsData
 
 abbrev pub statistics_view : Statistics → StatisticsData
 statistics_view s = record {
@@ -82,7 +82,7 @@ element_view n = record {
 }
 
 abbrev pub file_view : FileMetaData → FileData
-file_view f = record { schema = map element_view f.schema.items; orders = f.orders.items; groups = structs_view f.groups }
+file_view f = record { schema = map element_view f.schema.items; orders = f.orders.items; groups = items_view f.groups }
 
 -- ---- what their fields say: parquet.thrift's numbers
 
@@ -118,7 +118,7 @@ chunk_of bytes = struct_of bytes >>= λ s. on_found (Ok (record { physical = Non
 
 -- the bytes from each struct on of a list in a field
 unfoldable pub spans_of : List FieldData → ℕ → Result (List (List ℕ)) Fault
-spans_of fs id = structs_in fs id >>= λ l. spans_in l.count l.from
+spans_of fs id = items_in fs id kind.Struct >>= λ l. spans_in l.count l.from
 
 -- struct RowGroup, and the bytes behind it
 unfoldable pub row_group_of : List ℕ → Read RowGroupData
@@ -184,11 +184,11 @@ order_of bytes = struct_of bytes >>= λ s. Ok (is_some (found s.0 1 kind.Struct)
 unfoldable pub file_of : List ℕ → Result FileData Fault
 file_of bytes = do
   s ← struct_of bytes
-  elements ← structs_in s.0 2
+  elements ← items_in s.0 2 kind.Struct
   schema ← many element_of elements.count elements.from
-  unions ← structs_in s.0 7
+  unions ← items_in s.0 7 kind.Struct
   orders ← many order_of unions.count unions.from
-  groups ← structs_in s.0 4
+  groups ← items_in s.0 4 kind.Struct
   Ok (record { schema = schema; orders = orders; groups = groups })
 
 -- the row groups of a file

@@ -1,8 +1,8 @@
-//! Structs and lists by their fields and items.
+//! Items and lists by their fields and items.
 ghost use Rattle.std.specs.Prelude.{◌≡◌, map, option_copied};
 ghost use Rattle.vortex_parquet.specs.Fields.{binary_in, byte_in, field_view, field_views, found};
-ghost use Rattle.vortex_parquet.specs.Fields.{is_told, natural_in, number_in, pick, spans_in};
-ghost use Rattle.vortex_parquet.specs.Fields.{struct_of, structs_in, structs_of, structs_view};
+ghost use Rattle.vortex_parquet.specs.Fields.{is_told, items_in, items_of, items_view, natural_in};
+ghost use Rattle.vortex_parquet.specs.Fields.{number_in, pick, spans_in, struct_of};
 ghost use Rattle.vortex_parquet.specs.Reading.{Gives};
 
 use crate::compact::{self, Kind};
@@ -18,9 +18,9 @@ pub struct Field<'a> {
     pub from: &'a [u8],
 }
 
-/// A list of structs that is not read yet: how many there are, and the bytes from the first one on.
+/// A list that is not read yet: how many items it has, and the bytes from the first one on.
 #[derive(Clone, Copy, Debug)]
-pub struct Structs<'a> {
+pub struct Items<'a> {
     pub count: usize,
     pub from: &'a [u8],
 }
@@ -61,18 +61,18 @@ pub fn spans(alloc: Global, count: usize, bytes: &[u8]) -> Result<Vec<&[u8]>, Re
     Ok(spans)
 }
 
-// The structs of the list with which the bytes begin; none if its items are of another kind.
-#[tactic(auto, unfolding(crate::specs::Fields::structs_of))]
-fn structs_of(bytes: &[u8]) -> Result<Structs<'_>, ReadError>
-    ensures { Gives structs_view result (structs_of bytes.now) }
+// The items of the list with which the bytes begin; none if they are of another kind.
+#[tactic(auto, unfolding(crate::specs::Fields::items_of))]
+fn items_of(kind: Kind, bytes: &[u8]) -> Result<Items<'_>, ReadError>
+    ensures { Gives items_view result (items_of kind bytes.now) }
 {
     let (head, from) = compact::list_head(bytes)?;
     match head {
-        Some(head) if head.kind == Kind::Struct => Ok(Structs {
+        Some(head) if head.kind == kind => Ok(Items {
             count: head.count,
             from,
         }),
-        _ => Ok(Structs { count: 0, from }),
+        _ => Ok(Items { count: 0, from }),
     }
 }
 
@@ -150,16 +150,16 @@ pub fn is_told(fields: &[Field<'_>], id: u16) -> bool
     found(fields, id, Kind::True).is_some() && found(fields, id, Kind::False).is_none()
 }
 
-/// Returns the list of structs in a field; none if it isn't there.
-#[tactic(auto, unfolding(crate::specs::Fields::structs_in))]
-pub fn structs_in<'a>(fields: &[Field<'a>], id: u16) -> Result<Structs<'a>, ReadError>
-    ensures { Gives structs_view result (structs_in (field_views fields.now) id) }
+/// Returns the list in a field of items of a kind; none if it isn't there.
+#[tactic(auto, unfolding(crate::specs::Fields::items_in))]
+pub fn items_in<'a>(fields: &[Field<'a>], id: u16, kind: Kind) -> Result<Items<'a>, ReadError>
+    ensures { Gives items_view result (items_in (field_views fields.now) id kind) }
 {
     match found(fields, id, Kind::List) {
-        None => Ok(Structs {
+        None => Ok(Items {
             count: 0,
             from: &[],
         }),
-        Some(from) => structs_of(from),
+        Some(from) => items_of(kind, from),
     }
 }

@@ -3,8 +3,11 @@
 ghost use Rattle.std.specs.Prelude.{ℕ, List, IfOk, Ok};
 ghost use Rattle.vortex_parquet.specs.Fields.{field_views, fields_before, struct_of};
 ghost use Rattle.vortex_parquet.specs.Grammar.{IsStruct, IsValue};
+ghost use Rattle.vortex_parquet.specs.PageWitness.{TruePages};
+ghost use Rattle.vortex_parquet.specs.PageWorked.{PageExamples, StretchExamples};
 ghost use Rattle.vortex_parquet.specs.Reading.{Gives};
 ghost use Rattle.vortex_parquet.specs.Skip.{FieldData, skip_at};
+ghost use Rattle.vortex_parquet.specs.Stretches.{PagesFollow, TrueStretches};
 ghost use Rattle.vortex_parquet.specs.Truth.{KnownGroups, TrueGroups};
 ghost use Rattle.vortex_parquet.specs.Witness.{TrueFile};
 ghost use Rattle.vortex_parquet.specs.Worked.{BoundExamples, ColumnExamples, GrammarExamples};
@@ -48,6 +51,17 @@ pub fn groups_are_true()
     ensures known { KnownGroups }
 {}
 
+/// The pages of a column chunk stand one behind the other, so none are refused.
+pub fn pages_follow()
+    ensures { PagesFollow }
+{}
+
+/// Where the statistics of pages are true of the rows of a row group, so are the sets of each
+/// stretch of these.
+pub fn stretches_are_true()
+    ensures { TrueStretches }
+{}
+
 /// Worked rows of the grammar, of the table of types, of the choice of bounds and of the columns of
 /// a schema.
 pub fn examples_hold()
@@ -57,7 +71,18 @@ pub fn examples_hold()
     ensures columns { ColumnExamples }
 {}
 
+/// Worked rows of page indexes, and of the stretches of a row group.
+pub fn page_examples_hold()
+    ensures pages { PageExamples }
+    ensures stretches { StretchExamples }
+{}
+
 /// A file whose statistics are true of the rows of its row group: a witness of `groups_are_true`.
 pub fn a_file_is_true()
     ensures { TrueFile }
+{}
+
+/// Pages whose statistics are true of the rows of a row group: a witness of `stretches_are_true`.
+pub fn pages_are_true()
+    ensures { TruePages }
 {}

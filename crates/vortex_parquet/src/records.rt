@@ -7,8 +7,8 @@ ghost use Rattle.vortex_parquet.specs.Records as spec;
 use crate::compact::Kind;
 use crate::fault::{Fault, ReadError};
 use crate::fields::{
-    Field, Structs, binary_in, byte_in, found, is_told, natural_in, number_in, spans, struct_of,
-    structs_in,
+    Field, Items, binary_in, byte_in, found, is_told, items_in, natural_in, number_in, spans,
+    struct_of,
 };
 use std::alloc::Global;
 
@@ -80,7 +80,7 @@ pub struct SchemaElement<'a> {
 pub struct FileMetaData<'a> {
     pub schema: Vec<SchemaElement<'a>>,
     pub orders: Vec<bool>,
-    pub groups: Structs<'a>,
+    pub groups: Items<'a>,
 }
 
 #[tactic(auto, unfolding(crate::specs::Records::statistics_of))]
@@ -160,8 +160,8 @@ pub fn is_number(number: u64, known: Option<u64>) -> bool
     }
 }
 
-// A number that has to be there.
-fn required(number: Option<u64>) -> Result<u64, ReadError>
+/// Returns a number that has to be there.
+pub fn required(number: Option<u64>) -> Result<u64, ReadError>
     ensures { Gives (λ n. n) result (spec.required number) }
 {
     match number {
@@ -175,7 +175,7 @@ fn spans_of<'a>(alloc: Global, fields: &[Field<'a>], id: u16) -> Result<Vec<&'a 
     ensures { Gives (λ spans. map (λ s. s.now) spans.items) result
         (spec.spans_of (field_views fields.now) id) }
 {
-    let list = structs_in(fields, id)?;
+    let list = items_in(fields, id, Kind::Struct)?;
     spans(alloc, list.count, list.from)
 }
 
@@ -342,11 +342,11 @@ pub fn file_of(alloc: Global, footer: &[u8]) -> Result<FileMetaData<'_>, ReadErr
     ensures { Gives spec.file_view result (spec.file_of footer.now) }
 {
     let (fields, _) = struct_of(alloc, footer)?;
-    let elements = structs_in(&fields, 2)?;
+    let elements = items_in(&fields, 2, Kind::Struct)?;
     let schema = elements_of(alloc, elements.count, elements.from)?;
-    let unions = structs_in(&fields, 7)?;
+    let unions = items_in(&fields, 7, Kind::Struct)?;
     let orders = orders_of(alloc, unions.count, unions.from)?;
-    let groups = structs_in(&fields, 4)?;
+    let groups = items_in(&fields, 4, Kind::Struct)?;
     Ok(FileMetaData {
         schema,
         orders,

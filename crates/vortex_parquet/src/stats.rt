@@ -251,9 +251,9 @@ fn count_of(count: Option<u64>) -> Precision<ScalarValue>
     }
 }
 
-// The set of a column's statistics.
+/// Returns the set of a column's statistics.
 #[tactic(auto, unfolding(crate::specs::Stats::set_of))]
-fn set_of(
+pub fn set_of(
     alloc: Global,
     form: Form,
     is_ordered: bool,
@@ -321,12 +321,12 @@ fn span_set(
     Ok(set)
 }
 
-// Whether the order of the column at a place is that of its type.
-fn is_ordered(orders: &[bool], place: usize) -> bool
-    ensures { result ≡ spec.or_false (slice_get orders.now place) }
+/// Tells whether there is a truth at a place, and not a falsehood.
+pub fn is_true_at(truths: &[bool], place: usize) -> bool
+    ensures { result ≡ spec.or_false (slice_get truths.now place) }
 {
-    match orders.get(place) {
-        Some(order) => *order,
+    match truths.get(place) {
+        Some(truth) => *truth,
         None => false,
     }
 }
@@ -342,7 +342,7 @@ fn leaf_set(
     ensures { Gives (λ s. s) result
         (spec.leaf_set orders.now (map (λ s. s.now) columns.now) leaf) }
 {
-    let is_ordered = is_ordered(orders, leaf.place);
+    let is_ordered = is_true_at(orders, leaf.place);
     if leaf.place >= columns.len() {
         return Ok(StatsSet::new(alloc));
     }

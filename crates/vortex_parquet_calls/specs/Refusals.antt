@@ -38,6 +38,7 @@ number_of footer.Depth = 9
 number_of footer.Missing = 10
 number_of footer.Schema = 11
 number_of footer.Columns = 12
+number_of footer.Pages = 14
 
 abbrev pub bad_footer : FooterFault → Refused
 bad_footer f = record { status = 20; fault = record { row = 0; column = number_of f; entry = 0 } }

@@ -68,6 +68,7 @@ fn number_of(fault: FooterFault) -> usize
         FooterFault::Missing => 10,
         FooterFault::Schema => 11,
         FooterFault::Columns => 12,
+        FooterFault::Pages => 14,
     }
 }
 

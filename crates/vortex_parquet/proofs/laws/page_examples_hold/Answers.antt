@@ -1,0 +1,5 @@
+use Rattle.vortex_parquet.proofs.PageRows.{pages, stretches}
+use Rattle.vortex_parquet.proofs.laws.page_examples_hold.Goals as goal
+
+pub returns : goal.returns
+returns c = record { pages = pages; stretches = stretches }
