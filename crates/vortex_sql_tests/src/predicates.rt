@@ -64,6 +64,8 @@ fn carry_unread_parts_by_their_places(rt: HostRuntime) -> Result<(), Fail> {
             ("qty IN (1, f(2)) OR d = 1", &[(0, 16)]),
             ("name ILIKE 'a' AND flag", &[(0, 14)]),
             ("t.qty = 3", &[(0, 9)]),
+            ("3 < t.qty OR t.qty IN (1, 2)", &[(0, 9), (13, 28)]),
+            ("t.flag AND t.d IS NULL", &[(0, 6), (11, 22)]),
             ("qty = d", &[(0, 7)]),
             ("1 = 1 AND NULL = f(2) AND flag IS NOT TRUE", &[]),
             ("d > 3.5 AND d BETWEEN SYMMETRIC 5 AND 3", &[]),
@@ -78,7 +80,22 @@ fn look_up_the_last_name_where_it_is_wanted(rt: HostRuntime) -> Result<(), Fail>
         &rt,
         rt.alloc(),
         Names::Last,
-        &[("t.qty = 3", &[]), ("t.z = 3", &[(0, 7)])],
+        &[
+            ("t.qty = 3", &[]),
+            ("3 < t.qty", &[]),
+            ("s . t.qty <> 3", &[]),
+            ("t.qty IN (1, 2) OR t.d IS NULL", &[]),
+            ("NOT t.flag AND t.d NOT BETWEEN 1 AND 5", &[]),
+            ("t.name LIKE 'a%' AND t.d IS DISTINCT FROM 3", &[]),
+            ("\"t\".\"qty\" = 3", &[]),
+            ("t.z = 3", &[(0, 7)]),
+            ("t.qty + 1 = 3", &[(0, 13)]),
+            ("t.qty(1) = 3 AND t.qty << 1 = 2", &[(0, 12), (17, 31)]),
+            ("t.qty IN (1) = t.flag", &[(0, 21)]),
+            ("t.d = 3 IS NULL AND t.d::int = 3", &[(20, 32)]),
+            ("d = name -> t.d", &[(0, 15)]),
+            ("t.d ILIKE 'x'", &[(0, 13)]),
+        ],
     )
 }
 
@@ -120,6 +137,7 @@ fn refuse_at_the_first_fault(rt: HostRuntime) -> Result<(), Fail> {
             ("1 = 'x'", SqlError::Misfit(0, 7)),
             ("qty = ", SqlError::Syntax(ParseError::Unexpected(6))),
             ("qty = 1 -- x", SqlError::Syntax(ParseError::Comment(8))),
+            ("case.qty = 3", SqlError::Syntax(ParseError::Unexpected(4))),
             ("f()", SqlError::Name),
         ],
     )
