@@ -1,4 +1,5 @@
 pub mod AnswerLemmas
+pub mod ArrowLemmas
 pub mod BatchLemmas
 pub mod CellLemmas
 pub mod CheckLemmas

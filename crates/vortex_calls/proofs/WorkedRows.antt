@@ -1,4 +1,5 @@
 -- Worked rows, found by computation alone.
+pub mod ArrowRows
 pub mod CallRows
 pub mod TableRows
 pub mod CellRows

@@ -1,3 +1,5 @@
+pub mod Arrow
+pub mod ArrowArrays
 pub mod Checks
 pub mod Encoding
 pub mod Extents

@@ -41,9 +41,9 @@ slots_in t set wanted = map (λ s. slot_of t s (entry_value s set)) wanted
 abbrev pub slots_of : ColumnData → List Stat → List Slot
 slots_of c wanted = slots_in c.dtype (measured_entries wanted c) wanted
 
--- the statistics of values of a type, where its numbers and the values are in order
-abbrev pub measured_as : Values → List ℕ → DType → Result (List Slot) Refusal
-measured_as v numbers t = followed (wanted_of t numbers) (λ wanted. followed (column t v) (λ c. Ok (slots_of c wanted)))
+-- the statistics of the column of a type that is read so, where its numbers and the values are in order
+abbrev pub measured_as : (DType → Result ColumnData Refusal) → List ℕ → DType → Result (List Slot) Refusal
+measured_as read numbers t = followed (wanted_of t numbers) (λ wanted. followed (read t) (λ c. Ok (slots_of c wanted)))
 
 abbrev pub measured : Values → List ℕ → Result (List Slot) Refusal
-measured v numbers = followed (type_given v) (measured_as v numbers)
+measured v numbers = followed (type_given v) (measured_as (λ t. column t v) numbers)

@@ -1,12 +1,17 @@
 //! Whether statistics are true of a column of values.
-ghost use Rattle.std.specs.Prelude.{◌≡◌, ◌≢◌, ◌<◌, false, IfErr, IfOk, IsTrue, OnOk, length, slice_index_or, true};
+ghost use Rattle.std.specs.Prelude.{◌≡◌, ◌≢◌, ◌<◌, false, IfErr, IfOk, IsTrue, MatchResult, OnOk, Result, length, slice_index_or, true};
+ghost use Rattle.vortex_base.specs.Data.Columns.{ColumnData};
+ghost use Rattle.vortex_calls.specs.Arrow as arrow;
 ghost use Rattle.vortex_calls.specs.Checks as spec;
-ghost use Rattle.vortex_calls.specs.Refusals.{Gives};
+ghost use Rattle.vortex_calls.specs.Refusals.{Answers, Gives};
+ghost use Rattle.vortex_calls.specs.Statuses.{status_number};
 ghost use Rattle.vortex_stats.specs.Sets.Entries.{value_fits};
 ghost use Rattle.vortex_calls.specs.Values.{given_column};
+ghost use Rattle.vortex_calls.specs.declared.fault.Refusal.{Refusal as RefusalData};
 ghost use Rattle.vortex_calls.specs.declared.statistic.Statistic.{Statistic as StatisticData};
 ghost use Rattle.vortex_calls.specs.declared.status.Status.TheVariants.{NoMemory};
 
+use crate::arrow::ArrowValues;
 use crate::fault::{Fault, Refusal};
 use crate::measure::stat_of;
 use crate::statistic::{Entry, Statistic};
@@ -100,19 +105,34 @@ fn check_zone(
     check_each(alloc, column, stats, zone)
 }
 
-// Checks the number of rows and statistics against a column as a caller hands it in.
+// Checks the number of rows and statistics against a column as it was read.
 fn checked(
     alloc: Global,
-    values: &Values<'_>,
+    column: Result<Column, Refusal>,
     rows: u64,
     stats: &[Statistic<'_>],
     zone: usize,
 ) -> Result<(), Refusal>
-    ensures { spec.IsVerdict (given_column values.now) rows zone stats.now result }
+    ensures { (given : Result ColumnData RefusalData) → Answers (λ c. c) column given
+        → spec.IsVerdict given rows zone stats.now result }
 {
-    match values.given_column(alloc) {
+    match column {
         Ok(column) => check_zone(alloc, &column, rows, stats, zone),
         Err(refusal) => Err(refusal),
+    }
+}
+
+// Tells a verdict: its status, and where it found a fault.
+fn tell(verdict: Result<(), Refusal>, fault: &mut Fault) -> u8
+    ensures { MatchResult verdict (λ u. result ≡ 0)
+        (λ r. (result ≡ status_number r.status) × (fault.new ≡ r.fault)) }
+{
+    match verdict {
+        Ok(()) => 0,
+        Err(refusal) => {
+            *fault = refusal.fault;
+            refusal.status.number()
+        }
     }
 }
 
@@ -129,11 +149,23 @@ pub fn check(
     // Each is true, or the first that isn't or that is refused is told.
     ensures { spec.IsTold (given_column column.now) rows zone stats.now result fault.new }
 {
-    match checked(alloc, column, rows, stats, zone) {
-        Ok(()) => 0,
-        Err(refusal) => {
-            *fault = refusal.fault;
-            refusal.status.number()
-        }
-    }
+    let column = column.given_column(alloc);
+    tell(checked(alloc, column, rows, stats, zone), fault)
+}
+
+/// Checks whether a zone has as many rows as a column in Arrow's layout and each of its statistics
+/// is true of the column's values, `vortex_check_arrow` of the header.
+pub fn check_arrow(
+    alloc: Global,
+    column: &ArrowValues<'_>,
+    rows: u64,
+    stats: &[Statistic<'_>],
+    zone: usize,
+    fault: &mut Fault,
+) -> u8
+    // Each is true, or the first that isn't or that is refused is told.
+    ensures { spec.IsTold (arrow.given_column column.now) rows zone stats.now result fault.new }
+{
+    let column = column.given_column(alloc);
+    tell(checked(alloc, column, rows, stats, zone), fault)
 }

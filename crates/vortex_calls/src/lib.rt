@@ -5,6 +5,7 @@
 #![tactic(auto)]
 
 mod answers;
+pub mod arrow;
 pub mod by_proofs;
 mod cells;
 pub mod check;

@@ -2,12 +2,15 @@
 ghost use Rattle.std.specs.Prelude.{◌≡◌, IsTrue, Ok};
 ghost use Rattle.std.specs.List.{list_all};
 ghost use Rattle.vortex_base.specs.Data.Columns.{ColumnData};
+ghost use Rattle.vortex_calls.specs.Arrow as arrow;
 ghost use Rattle.vortex_calls.specs.Extents.{IsExtentOf, follows};
 ghost use Rattle.vortex_calls.specs.Measures as spec;
-ghost use Rattle.vortex_calls.specs.Refusals.{Answers};
+ghost use Rattle.vortex_calls.specs.Refusals.{Answers, followed};
 ghost use Rattle.vortex_calls.specs.Slots.{IsTold, Makes};
+ghost use Rattle.vortex_calls.specs.Values.{read_column};
 ghost use Rattle.vortex_stats.specs.Measuring.Told.{exactly};
 
+use crate::arrow::ArrowValues;
 use crate::extent::{Extent, all_follow};
 use crate::fault::{Fault, Refusal};
 use crate::slots::{Slots, tell};
@@ -104,6 +107,25 @@ fn slots_of_extent(
     Ok(slots)
 }
 
+// Measures the column of a type, of arrays that have an element for each row.
+fn slots_of_values(
+    alloc: Global,
+    dtype: DType,
+    values: &Values<'_>,
+    wanted: &[Stat],
+) -> Result<Slots, Refusal>
+    ensures { Makes result
+        (followed (read_column dtype values.now) (λ c. Ok (spec.slots_of c wanted.now))) }
+{
+    if all_follow(wanted) {
+        if let Some(extent) = values.extent(dtype) {
+            return slots_of_extent(alloc, dtype, &extent, values.size, wanted);
+        }
+    }
+    let column = values.read_column(alloc, dtype)?;
+    slots_of(alloc, &column, wanted)
+}
+
 // The statistics of the values that a caller hands in.
 fn measured(alloc: Global, values: &Values<'_>, numbers: &[u8]) -> Result<Slots, Refusal>
     ensures { Makes result (spec.measured values.now numbers.now) }
@@ -111,13 +133,17 @@ fn measured(alloc: Global, values: &Values<'_>, numbers: &[u8]) -> Result<Slots,
     let dtype = values.dtype()?;
     let wanted = wanted_of(alloc, dtype, numbers)?;
     values.filled(dtype)?;
-    if all_follow(&wanted) {
-        if let Some(extent) = values.extent(dtype) {
-            return slots_of_extent(alloc, dtype, &extent, values.size, &wanted);
-        }
-    }
-    let column = values.read_column(alloc, dtype)?;
-    slots_of(alloc, &column, &wanted)
+    slots_of_values(alloc, dtype, values, &wanted)
+}
+
+// Measures the values that a caller hands in in Arrow's layout.
+fn measured_arrow(alloc: Global, column: &ArrowValues<'_>, numbers: &[u8]) -> Result<Slots, Refusal>
+    ensures { Makes result (arrow.measured column.now numbers.now) }
+{
+    let dtype = column.dtype()?;
+    let wanted = wanted_of(alloc, dtype, numbers)?;
+    let unpacked = column.unpacked(alloc, dtype)?;
+    slots_of_values(alloc, dtype, &unpacked.values(column, dtype), &wanted)
 }
 
 /// The statistics of a column of values, `vortex_measure` of the header: for each wanted number how
@@ -139,6 +165,33 @@ pub fn measure(
 {
     tell(
         measured(alloc, column, stats),
+        known,
+        ends,
+        values,
+        len,
+        fault,
+    )
+}
+
+/// Measures a column of values in Arrow's layout, `vortex_measure_arrow` of the header: tells what
+/// `measure` tells of the same column.
+pub fn measure_arrow(
+    alloc: Global,
+    column: &ArrowValues<'_>,
+    stats: &[u8],
+    known: &mut [u8],
+    ends: &mut [u64],
+    values: &mut [u8],
+    len: &mut usize,
+    fault: &mut Fault,
+) -> u8
+    // The statistics of the column's values stand in the arrays, or the arrays are as they were.
+    ensures { IsTold (arrow.measured column.now stats.now)
+        (record { known = known.old; ends = ends.old; values = values.old }) result
+        (record { known = known.new; ends = ends.new; values = values.new }) len.new fault.new }
+{
+    tell(
+        measured_arrow(alloc, column, stats),
         known,
         ends,
         values,
