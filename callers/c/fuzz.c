@@ -499,6 +499,21 @@ static int is_measured(uint8_t known, const uint8_t *value, const cell *end) {
     return end ? known == VORTEX_EXACT && *(const int8_t *)value == end->number : known == VORTEX_ABSENT;
 }
 
+/* Measures numbers in Arrow's layout behind some places: what was measured of them in the library's own arrays. */
+static void measure_placed(size_t before, size_t rows, const uint8_t *bytes, const uint8_t *nulls, const uint8_t *told, size_t told_len) {
+    static const uint8_t wanted[] = {VORTEX_MIN, VORTEX_MAX, VORTEX_NULL_COUNT};
+    uint8_t placed[ROWS + 16] = {0}, validity[ROWS / 8 + 3] = {0}, known[3], values[64];
+    uint64_t ends[3];
+    size_t len = 0;
+    for (size_t r = 0, at = before; r < rows; r++, at++) placed[at] = bytes[r], validity[at / 8] |= (uint8_t)(!nulls[r] << at % 8);
+    const vortex_arrow_values column = {.kind = VORTEX_I8, .nullable = 1, .rows = rows, .offset = before, .validity = validity,
+                                        .validity_len = sizeof validity, .values = placed, .values_len = sizeof placed};
+    vortex_fault fault;
+    uint8_t status = vortex_measure_arrow(&column, wanted, 3, known, 3, ends, 3, values, sizeof values, &len, &fault);
+    if (status != VORTEX_OK) fail("a column is refused", "vortex_measure_arrow");
+    if (len != told_len || memcmp(values, told, len) != 0) fail("a statistic isn't that of vortex_measure", "vortex_measure_arrow");
+}
+
 /* Measures a column of numbers. */
 static void measure_known(choices *from) {
     static const uint8_t wanted[] = {VORTEX_MIN, VORTEX_MAX, VORTEX_NULL_COUNT};
@@ -515,6 +530,7 @@ static void measure_known(choices *from) {
     memcpy(&count, values + ends[1], 8);
     int is_right = is_measured(known[0], values, end_of(&it, 0, 0)) && is_measured(known[1], values + ends[0], end_of(&it, 0, 1));
     if (!is_right || known[2] != VORTEX_EXACT || count != nulls_of(&it, 0)) fail("a statistic isn't that of the model", "vortex_measure");
+    measure_placed(choose(from, 16), it.len, bytes, nulls, values, len);
 }
 
 /* Merges the bounds of zones: a merged bound is known where each zone's is, and lies at or beyond all of them. */

@@ -181,6 +181,7 @@ static void mutate(call *of, uint8_t first) {
 
 /* What the calls are handed. */
 static vortex_values column;
+static vortex_arrow_values arrow;
 static vortex_statistic left[3], right[3];
 static vortex_field scope[2];
 static uint8_t *known, *bytes, *answers, kind, nullable, flags;
@@ -193,6 +194,12 @@ static size_t known_len, ends_len, bytes_len, answers_len, wanted_len, text_len,
 static uint8_t make_measure(void) {
     return vortex_measure(&column, wanted, wanted_len, known, known_len, ends, ends_len, bytes, bytes_len, &len, &fault);
 }
+
+static uint8_t make_measure_arrow(void) {
+    return vortex_measure_arrow(&arrow, wanted, wanted_len, known, known_len, ends, ends_len, bytes, bytes_len, &len, &fault);
+}
+
+static uint8_t make_check_arrow(void) { return vortex_check_arrow(&arrow, rows_of_zone, left, 1, zone, &fault); }
 
 static uint8_t make_check(void) { return vortex_check(&column, rows_of_zone, left, 2, zone, &fault); }
 
@@ -220,6 +227,10 @@ static uint8_t make_run(void) { return vortex_run(text, text_len, bytes, bytes_l
 #define NULLS(in, n) {.bytes = in, .count = n, .width = 1, .pointer = &column.nulls, .len = &column.nulls_len}
 #define KNOWN(it, in, n) {.bytes = in, .count = n, .width = 1, .pointer = &(it).known, .len = &(it).known_len}
 #define COLUMN_NUMBERS {&column.kind, 1}, {&column.nullable, 1}, {&column.rows, 8}, {&column.size, 8}, {&column.start, 8}
+#define VALIDITY(in, n) {.bytes = in, .count = n, .width = 1, .pointer = &arrow.validity, .len = &arrow.validity_len}
+#define OFFSETS(in, n) {.bytes = in, .count = n, .width = 1, .pointer = &arrow.offsets, .len = &arrow.offsets_len}
+#define ARROW_NUMBERS \
+    {&arrow.kind, 1}, {&arrow.nullable, 1}, {&arrow.offset_width, 1}, {&arrow.rows, 8}, {&arrow.offset, 8}, {&arrow.size, 8}
 #define STAT_NUMBERS(it) {&(it).column, 8}, {&(it).stat, 1}, {&(it).start, 8}
 #define OUTPUTS(stats, room) \
     {{stats, 1, &known, &known_len}, {stats, 8, &ends, &ends_len}, {room, 1, &bytes, &bytes_len}}
@@ -267,6 +278,52 @@ static void measure_truths_and_bytes(void) {
 static void measure_nulls(void) {
     column = (vortex_values){.kind = VORTEX_NULL, .rows = 3};
     call of = {"measure nulls", make_measure, MEASURE_STATUSES, {WANTED("\6\0\7\1\2", 5)}, OUTPUTS(5, 19), {COLUMN_NUMBERS}, 2};
+    mutate(&of, VORTEX_OK);
+}
+
+static void measure_arrow_numbers(void) {
+    static const int16_t numbers[5] = {9, -300, 7, 4095, 8};
+    arrow = (vortex_arrow_values){.kind = VORTEX_I16, .nullable = 1, .offset_width = 4, .rows = 3, .offset = 1, .size = 6};
+    call of = {"measure numbers of Arrow", make_measure_arrow,
+               MEASURE_STATUSES | BIT(VORTEX_BAD_NULL) | BIT(VORTEX_BAD_ENDS),
+               {VALUES(arrow, numbers, 10), VALIDITY("\x0b\xff", 2), OFFSETS("\0\0\0\0\1\0\0\0\2\0\0\0\1\0\0\0\2\0\0\0", 20),
+                WANTED("\0\1\2\3\4\6\7", 7)},
+               OUTPUTS(7, 23), {ARROW_NUMBERS}, 2};
+    mutate(&of, VORTEX_OK);
+}
+
+static void measure_arrow_texts(void) {
+    static const int32_t short_offsets[6] = {7, 1, 4, 6, 6, 9};
+    static const int64_t long_offsets[6] = {7, 1, 4, 6, 6, 9};
+    for (int wide = 0; wide <= 1; wide++) {
+        arrow = (vortex_arrow_values){.kind = VORTEX_UTF8, .nullable = 1, .offset_width = wide ? 8 : 4, .rows = 4, .offset = 1, .size = 77};
+        call of = {"measure texts of Arrow", make_measure_arrow,
+                   MEASURE_STATUSES | BIT(VORTEX_BAD_NULL) | BIT(VORTEX_BAD_ENDS) | BIT(VORTEX_BAD_VALUE),
+                   {VALUES(arrow, "?bee\xc3\xa9" "abc", 9), VALIDITY("\x16", 1),
+                    OFFSETS(wide ? (const void *)long_offsets : short_offsets, wide ? 48 : 24), WANTED("\3\4\6\7\1\2\0", 7)},
+                   OUTPUTS(7, 32), {ARROW_NUMBERS}, 2};
+        mutate(&of, VORTEX_OK);
+    }
+}
+
+static void measure_arrow_truths(void) {
+    arrow = (vortex_arrow_values){.kind = VORTEX_BOOL, .nullable = 1, .rows = 3, .offset = 7, .size = 3};
+    call of = {"measure truths of Arrow", make_measure_arrow, MEASURE_STATUSES | BIT(VORTEX_BAD_NULL),
+               {VALUES(arrow, "\x80\x02", 2), VALIDITY("\xff\x02", 2), WANTED("\3\4\6\0\1\2", 6)}, OUTPUTS(6, 13), {ARROW_NUMBERS}, 2};
+    mutate(&of, VORTEX_OK);
+}
+
+static void check_arrow_texts(void) {
+    static const int32_t offsets[3] = {0, 3, 6};
+    static const uint64_t least_ends[2] = {4, 5};
+    arrow = (vortex_arrow_values){.kind = VORTEX_UTF8, .nullable = 1, .offset_width = 4, .rows = 2};
+    left[0] = (vortex_statistic){.stat = VORTEX_MIN, .start = 1};
+    rows_of_zone = 2, zone = 0;
+    call of = {"check texts of Arrow", make_check_arrow,
+               (MERGE_STATUSES & ~BIT(VORTEX_TOO_SHORT)) | BIT(VORTEX_UNTRUE),
+               {VALUES(arrow, "abcabd", 6), OFFSETS(offsets, 12), VALIDITY("\3", 1), KNOWN(left[0], "\1\2", 2),
+                VALUES(left[0], "?abca", 5), ENDS(left[0], least_ends, 2)},
+               {{0}}, {ARROW_NUMBERS, STAT_NUMBERS(left[0]), {&rows_of_zone, 8}, {&zone, 8}}, 0};
     mutate(&of, VORTEX_OK);
 }
 
@@ -378,7 +435,11 @@ int main(void) {
     measure_texts();
     measure_truths_and_bytes();
     measure_nulls();
+    measure_arrow_numbers();
+    measure_arrow_texts();
+    measure_arrow_truths();
     check_texts();
+    check_arrow_texts();
     merge_tables();
     merge_a_table();
     prune_a_table();

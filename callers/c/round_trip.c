@@ -28,6 +28,13 @@ static void layout(void) {
                        offsetof(vortex_values, values_len) == 40 && offsetof(vortex_values, ends) == 48 &&
                        offsetof(vortex_values, ends_len) == 56 && offsetof(vortex_values, nulls) == 64 &&
                        offsetof(vortex_values, nulls_len) == 72, "vortex_values");
+    _Static_assert(sizeof(vortex_arrow_values) == 80 && offsetof(vortex_arrow_values, kind) == 0 &&
+                       offsetof(vortex_arrow_values, nullable) == 1 && offsetof(vortex_arrow_values, offset_width) == 2 &&
+                       offsetof(vortex_arrow_values, rows) == 8 && offsetof(vortex_arrow_values, offset) == 16 &&
+                       offsetof(vortex_arrow_values, size) == 24 && offsetof(vortex_arrow_values, validity) == 32 &&
+                       offsetof(vortex_arrow_values, validity_len) == 40 && offsetof(vortex_arrow_values, values) == 48 &&
+                       offsetof(vortex_arrow_values, values_len) == 56 && offsetof(vortex_arrow_values, offsets) == 64 &&
+                       offsetof(vortex_arrow_values, offsets_len) == 72, "vortex_arrow_values");
     _Static_assert(sizeof(vortex_statistic) == 72 && offsetof(vortex_statistic, column) == 0 &&
                        offsetof(vortex_statistic, stat) == 8 && offsetof(vortex_statistic, start) == 16 &&
                        offsetof(vortex_statistic, known) == 24 && offsetof(vortex_statistic, known_len) == 32 &&
@@ -141,6 +148,113 @@ static void every_refusal(void) {
     assert(known[0] == 99 && ends[0] == 99 && bytes[0] == 99);
     assert(vortex_measure(&good, every_stat, 8, known, 7, ends, 8, bytes, 256, &len, &fault) == VORTEX_BAD_LENGTH);
     assert(known[0] == 99 && ends[0] == 99 && bytes[0] == 99);
+}
+
+/* ---- columns in Arrow's layout */
+
+static uint8_t measure_arrow(const vortex_arrow_values *column, const uint8_t *stats, size_t count) {
+    return vortex_measure_arrow(column, stats, count, known, count, ends, count, bytes, sizeof bytes, &len, &fault);
+}
+
+static const uint8_t least_greatest_nulls[4] = {VORTEX_MIN, VORTEX_MAX, VORTEX_NULL_COUNT, VORTEX_UNCOMPRESSED_SIZE_IN_BYTES};
+
+/* Numbers behind two places, the last of them null, whose bits begin in the middle of a byte and end in the next one. */
+static void arrow_numbers(void) {
+    const int16_t numbers[9] = {9, 9, -300, 7, 4095, 1, 2, 3, -9999};
+    vortex_arrow_values column = {.kind = VORTEX_I16, .nullable = 1, .rows = 7, .offset = 2, .size = 33,
+                                  .validity = (const uint8_t *)"\xfc\xfe", .validity_len = 2, .values = (const uint8_t *)numbers,
+                                  .values_len = 18};
+    assert(measure_arrow(&column, least_greatest_nulls, 4) == VORTEX_OK && len == 20);
+    assert(memcmp(bytes, &(int16_t){-300}, 2) == 0 && memcmp(bytes + 2, &(int16_t){4095}, 2) == 0 && bytes[4] == 1 && bytes[12] == 33);
+    /* No bitmap, and a buffer that goes on. */
+    column.validity = NULL, column.validity_len = 0, column.rows = 2;
+    assert(measure_arrow(&column, least_greatest_nulls, 3) == VORTEX_OK && bytes[4] == 0);
+    assert(memcmp(bytes, &(int16_t){-300}, 2) == 0 && memcmp(bytes + 2, &(int16_t){7}, 2) == 0);
+    column.values_len = 7;
+    refused(measure_arrow(&column, least_greatest_nulls, 3), VORTEX_BAD_LENGTH, 0, 0);
+    column.values_len = 8, column.validity = (const uint8_t *)"\xfb", column.validity_len = 1, column.nullable = 0;
+    refused(measure_arrow(&column, least_greatest_nulls, 3), VORTEX_BAD_NULL, 0, 0);
+    column.nullable = 1, column.offset = 7;
+    refused(measure_arrow(&column, least_greatest_nulls, 3), VORTEX_BAD_LENGTH, 0, 0);
+    column.rows = 0, column.offset = SIZE_MAX;
+    assert(measure_arrow(&column, least_greatest_nulls, 3) == VORTEX_OK && known[0] == VORTEX_ABSENT);
+    column.rows = 1;
+    refused(measure_arrow(&column, least_greatest_nulls, 3), VORTEX_BAD_LENGTH, 0, 0);
+    refused(measure_arrow(&column, (const uint8_t[]){VORTEX_MIN, 9}, 2), VORTEX_BAD_STAT, 0, 1);
+    column.kind = 12;
+    refused(measure_arrow(&column, least_greatest_nulls, 3), VORTEX_BAD_KIND, 0, 0);
+}
+
+/* Truths of which each has a bit, behind seven places. */
+static void arrow_truths(void) {
+    vortex_arrow_values column = {.kind = VORTEX_BOOL, .nullable = 1, .rows = 3, .offset = 7, .values = (const uint8_t *)"\x80\x03",
+                                  .values_len = 2};
+    const uint8_t stats[3] = {VORTEX_MIN, VORTEX_SUM, VORTEX_NULL_COUNT};
+    assert(measure_arrow(&column, stats, 3) == VORTEX_OK && bytes[0] == 1 && bytes[1] == 3 && bytes[9] == 0);
+    column.values = (const uint8_t *)"\x7f\xfe";
+    assert(measure_arrow(&column, stats, 3) == VORTEX_OK && bytes[0] == 0 && bytes[1] == 1 && bytes[9] == 0);
+    column.validity = (const uint8_t *)"\x00\x03", column.validity_len = 2;
+    assert(measure_arrow(&column, stats, 3) == VORTEX_OK && bytes[0] == 0 && bytes[1] == 1 && bytes[9] == 1);
+    column.values_len = 1;
+    refused(measure_arrow(&column, stats, 3), VORTEX_BAD_LENGTH, 0, 0);
+    vortex_arrow_values nothing = {.kind = VORTEX_NULL, .rows = SIZE_MAX, .offset = SIZE_MAX};
+    assert(measure_arrow(&nothing, stats + 2, 1) == VORTEX_OK && bytes[0] == 255 && bytes[7] == 255);
+}
+
+/* Texts and bytes between offsets of 4 and of 8 bytes; what stands below a null may be no text. */
+static void arrow_texts(void) {
+    const int32_t short_offsets[5] = {1, 4, 5, 7, 7};
+    const int64_t long_offsets[5] = {1, 4, 5, 7, 7};
+    vortex_arrow_values column = {.kind = VORTEX_UTF8, .nullable = 1, .offset_width = 4, .rows = 3, .offset = 0, .size = 5,
+                                  .validity = (const uint8_t *)"\x05", .validity_len = 1, .values = (const uint8_t *)"?bee\xffzz",
+                                  .values_len = 7, .offsets = (const uint8_t *)short_offsets, .offsets_len = 20};
+    for (int wide = 0; wide <= 1; wide++) {
+        assert(measure_arrow(&column, least_greatest_nulls, 4) == VORTEX_OK && len == 21);
+        assert(memcmp(bytes, "beezz\1", 6) == 0 && bytes[13] == 5);
+        column.offset = 2, column.rows = 2;
+        assert(measure_arrow(&column, least_greatest_nulls, 3) == VORTEX_OK && len == 12 && memcmp(bytes, "zzzz\1", 5) == 0);
+        column.rows = 3;
+        refused(measure_arrow(&column, least_greatest_nulls, 3), VORTEX_BAD_LENGTH, 0, 0);
+        column.offset = 0, column.validity_len = 0;
+        refused(measure_arrow(&column, least_greatest_nulls, 3), VORTEX_BAD_VALUE, 1, 0);
+        column.values_len = 6;
+        refused(measure_arrow(&column, least_greatest_nulls, 3), VORTEX_BAD_ENDS, 2, 0);
+        column.values_len = 7, column.validity_len = 1;
+        column.offset_width = 8, column.offsets = (const uint8_t *)long_offsets, column.offsets_len = 40;
+    }
+    const int32_t descending[4] = {1, 4, 3, 7}, negative[3] = {0, -1, 1};
+    column.offset_width = 4, column.offsets = (const uint8_t *)descending, column.offsets_len = 16;
+    refused(measure_arrow(&column, least_greatest_nulls, 3), VORTEX_BAD_ENDS, 1, 0);
+    column.kind = VORTEX_BINARY, column.rows = 2, column.offsets = (const uint8_t *)negative, column.offsets_len = 12;
+    refused(measure_arrow(&column, least_greatest_nulls, 3), VORTEX_BAD_ENDS, 0, 0);
+    column.offset_width = 5;
+    refused(measure_arrow(&column, least_greatest_nulls, 3), VORTEX_BAD_KIND, 0, 0);
+    known[0] = 99, ends[0] = 99, bytes[0] = 99;
+    column.offset_width = 4, column.offsets = (const uint8_t *)short_offsets, column.offsets_len = 20;
+    assert(vortex_measure_arrow(&column, least_greatest_nulls, 1, known, 1, ends, 1, bytes, 2, &len, &fault) == VORTEX_TOO_SHORT && len == 3);
+    assert(vortex_measure_arrow(&column, least_greatest_nulls, 1, known, 2, ends, 1, bytes, 9, &len, &fault) == VORTEX_BAD_LENGTH);
+    assert(known[0] == 99 && ends[0] == 99 && bytes[0] == 99);
+    /* Without rows there may be no buffers. */
+    vortex_arrow_values none = {.kind = VORTEX_UTF8, .nullable = 1, .offset_width = 4};
+    assert(measure_arrow(&none, least_greatest_nulls, 3) == VORTEX_OK && len == 8 && known[0] == VORTEX_ABSENT);
+}
+
+static void arrow_check(void) {
+    const int32_t offsets[3] = {1, 3, 5};
+    vortex_arrow_values column = {.kind = VORTEX_UTF8, .nullable = 1, .offset_width = 4, .rows = 2, .validity = (const uint8_t *)"\1",
+                                  .validity_len = 1, .values = (const uint8_t *)"?ab\xff\xff", .values_len = 5,
+                                  .offsets = (const uint8_t *)offsets, .offsets_len = 12};
+    const uint64_t least_end = 2;
+    vortex_statistic least = {.stat = VORTEX_MIN, .known = (const uint8_t *)"\1", .known_len = 1, .values = (const uint8_t *)"ab",
+                              .values_len = 2, .ends = &least_end, .ends_len = 1};
+    assert(vortex_check_arrow(&column, 2, &least, 1, 0, &fault) == VORTEX_OK);
+    refused(vortex_check_arrow(&column, 3, &least, 1, 0, &fault), VORTEX_UNTRUE, 0, 1);
+    least.values = (const uint8_t *)"aa";
+    refused(vortex_check_arrow(&column, 2, &least, 1, 0, &fault), VORTEX_UNTRUE, 0, 0);
+    column.validity = (const uint8_t *)"\3";
+    refused(vortex_check_arrow(&column, 2, &least, 1, 0, &fault), VORTEX_BAD_VALUE, 1, 0);
+    column.offset_width = 0;
+    refused(vortex_check_arrow(&column, 2, &least, 1, 0, &fault), VORTEX_BAD_KIND, 0, 0);
 }
 
 /* Every field of a statistic counts, and a call about a zone looks at that zone alone. */
@@ -509,6 +623,10 @@ int main(void) {
     every_number();
     every_field();
     every_refusal();
+    arrow_numbers();
+    arrow_truths();
+    arrow_texts();
+    arrow_check();
     every_statistic();
     every_merge();
     every_refused_merge();

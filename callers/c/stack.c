@@ -259,17 +259,24 @@ static void every_condition(void) {
 static void *other_calls(void *given) {
     (void)given;
     static uint64_t ends[MANY], merged_ends[MANY];
-    static uint8_t heap[MANY], known[MANY], merged_known[MANY], values[2 * MANY];
+    static uint8_t heap[MANY], known[MANY], merged_known[MANY], values[2 * MANY], validity[MANY / 8 + 1];
+    static int32_t offsets[MANY + 1];
     const uint8_t wanted[4] = {VORTEX_MIN, VORTEX_MAX, VORTEX_NULL_COUNT, VORTEX_IS_SORTED};
     for (size_t i = 0; i < MANY; i++) ends[i] = i + 1, heap[i] = (uint8_t)('a' + i % 26), known[i] = VORTEX_EXACT;
+    for (size_t i = 0; i < MANY; i++) offsets[i + 1] = (int32_t)(i + 1), validity[i / 8] = 255;
     vortex_values column = {.kind = VORTEX_UTF8, .rows = MANY, .values = heap, .values_len = MANY, .ends = ends, .ends_len = MANY};
+    const vortex_arrow_values arrow = {.kind = VORTEX_UTF8, .offset_width = 4, .rows = MANY, .validity = validity,
+                                       .validity_len = sizeof validity, .values = heap, .values_len = MANY,
+                                       .offsets = (const uint8_t *)offsets, .offsets_len = sizeof offsets};
     const vortex_statistic table = {.stat = VORTEX_MAX, .known = known, .known_len = MANY, .values = heap, .values_len = MANY,
                                     .ends = ends, .ends_len = MANY};
     size_t len;
     vortex_fault fault;
     assert(vortex_version() == VORTEX_VERSION);
     assert(vortex_measure(&column, wanted, 4, merged_known, 4, merged_ends, 4, values, sizeof values, &len, &fault) == VORTEX_OK);
+    assert(vortex_measure_arrow(&arrow, wanted, 4, merged_known, 4, merged_ends, 4, values, sizeof values, &len, &fault) == VORTEX_OK);
     assert(vortex_check(&column, MANY, &table, 1, 25, &fault) == VORTEX_OK);
+    assert(vortex_check_arrow(&arrow, MANY, &table, 1, 25, &fault) == VORTEX_OK);
     assert(vortex_merge(VORTEX_UTF8, 0, MANY, &table, 1, &table, 1, merged_known, MANY, merged_ends, MANY, values, sizeof values, &len,
                         &fault) == VORTEX_OK && len == MANY);
     assert(vortex_merge_zones(VORTEX_UTF8, 0, MANY, &table, 1, merged_known, 1, merged_ends, 1, values, sizeof values, &len,

@@ -36,7 +36,10 @@
  * second element on, with the first as `start`. For other types `ends` is empty. A column of VORTEX_NULL has no values.
  *
  * Dates, timestamps, decimals, floating numbers and UUIDs are mapped onto these kinds, each in its own order: docs/TYPES.md
- * says how, and what bounds of other writers mean. Arrow's 32-bit offsets and its bits of validity and truths aren't taken.
+ * says how, and what bounds of other writers mean.
+ *
+ * Arrow. vortex_measure_arrow and vortex_check_arrow take the buffers of an Arrow array as they are: bits of validity and
+ * truths, offsets of 32 or 64 bits, and the places before a slice.
  *
  * Statistics. Each has a number, vortex_stat. Its value is of the column's own kind (VORTEX_MAX, VORTEX_MIN), a truth
  * (VORTEX_IS_CONSTANT, VORTEX_IS_SORTED, VORTEX_IS_STRICT_SORTED), a count of 64 bits without a sign (VORTEX_NULL_COUNT,
@@ -64,7 +67,8 @@ enum vortex_status {
                                    expression over these columns */
     VORTEX_TOO_SHORT = 3,       /* `output`, `values` or `unread` is too short: *len says how long it has to be */
     VORTEX_NO_MEMORY = 4,       /* memory was refused */
-    VORTEX_BAD_KIND = 5,        /* a kind above VORTEX_BINARY, or a `nullable` above 1: which column */
+    VORTEX_BAD_KIND = 5,        /* a kind above VORTEX_BINARY, a `nullable` above 1, or offsets of neither 4 nor 8 bytes: which
+                                   column */
     VORTEX_BAD_STAT = 6,        /* no statistic's number, or the column's type has no such statistic: which statistic */
     VORTEX_BAD_KNOWN = 7,       /* a byte above VORTEX_INEXACT says how a value is known: which zone and statistic */
     VORTEX_BAD_LENGTH = 8,      /* an array is too short or too long: which column or statistic */
@@ -216,6 +220,28 @@ typedef struct vortex_values {
     size_t nulls_len;
 } vortex_values;
 
+/*
+ * The values of a column in Arrow's layout. Row i stands at place offset + i of each buffer: at that bit of `validity` and of
+ * truths, the lowest bit of a byte first, at that number, or between that offset and the next one. A buffer may go on behind
+ * the last row, as a padded or sliced one does. An offset is a signed number, in little-endian order; none is negative.
+ *
+ * Of VORTEX_NULL no buffer is looked at, and without rows none has to be there. The buffers need no alignment.
+ */
+typedef struct vortex_arrow_values {
+    uint8_t kind;            /* a vortex_kind */
+    uint8_t nullable;        /* 0 or 1 */
+    uint8_t offset_width;    /* 4 or 8, the bytes of an offset of texts and bytes; not looked at for other kinds */
+    size_t rows;             /* the number of values: ArrowArray.length */
+    size_t offset;           /* how many places stand before the first row: ArrowArray.offset */
+    uint64_t size;           /* the declared size in bytes, which VORTEX_UNCOMPRESSED_SIZE_IN_BYTES tells */
+    const uint8_t *validity; /* a bit for each place: 1 for a value, 0 for null; or nothing where no row is null */
+    size_t validity_len;     /* in bytes, as each length of a buffer */
+    const uint8_t *values;   /* of truths a bit for each place, of numbers the width of the type, of texts and bytes their data */
+    size_t values_len;
+    const uint8_t *offsets; /* an offset for each place of texts and bytes and one more; not looked at for other kinds */
+    size_t offsets_len;
+} vortex_arrow_values;
+
 /* One statistic of one column in each zone of a table. What isn't handed in is absent. */
 typedef struct vortex_statistic {
     size_t column;        /* the column's place in the scope; 0 where a call is about one column */
@@ -260,6 +286,18 @@ uint8_t vortex_measure(const vortex_values *column, const uint8_t *stats, size_t
                        vortex_fault *fault);
 
 /*
+ * The statistics of a column of values in Arrow's layout: what vortex_measure answers of the same values. Of several faults
+ * the first is told, in this order: the kind, the numbers of the statistics, a buffer that is too short for the rows
+ * (VORTEX_BAD_LENGTH), a text that descends, ends behind the data or has a negative offset, whether its row is null or not
+ * (VORTEX_BAD_ENDS), and the first row that is no value: a null in a column that isn't nullable (VORTEX_BAD_NULL), or a text
+ * that isn't UTF-8 (VORTEX_BAD_VALUE). What stands below a null is not read but for its offsets. While it runs a call takes
+ * up to nine bytes a row more than vortex_measure.
+ */
+uint8_t vortex_measure_arrow(const vortex_arrow_values *column, const uint8_t *stats, size_t stats_len, uint8_t *known,
+                             size_t known_len, uint64_t *ends, size_t ends_len, uint8_t *values, size_t values_len,
+                             size_t *len, vortex_fault *fault);
+
+/*
  * The statistics of chunks of a column, each of them a chunk of `left` followed by the chunk of `right` at the same
  * place. Both have the same statistics in the same order, of a column of this kind, over so many zones; of two of the same
  * number the later counts. Where they aren't the same VORTEX_BAD_LENGTH or VORTEX_BAD_STAT tells the first place. The merged statistic i in zone z is at place i * zones + z of
@@ -292,6 +330,10 @@ uint8_t vortex_merge_zones(uint8_t kind, uint8_t nullable, size_t zones, const v
  */
 uint8_t vortex_check(const vortex_values *column, uint64_t rows, const vortex_statistic *stats, size_t stats_len,
                      size_t zone, vortex_fault *fault);
+
+/* Answers as vortex_check, of a column in Arrow's layout. Its faults are those of vortex_measure_arrow. */
+uint8_t vortex_check_arrow(const vortex_arrow_values *column, uint64_t rows, const vortex_statistic *stats, size_t stats_len,
+                           size_t zone, vortex_fault *fault);
 
 /*
  * What to do with each zone under a predicate: a vortex_answer for each of them in `answers`. The zones have so many

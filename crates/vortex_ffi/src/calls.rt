@@ -1,5 +1,6 @@
 //! The calls over columns, statistics and tables, under the names of the header.
 ghost use Rattle.std.specs.Prelude.{◌≡◌, ◌≢◌, IfOk, length};
+ghost use Rattle.vortex_calls.specs.Arrow as arrow;
 ghost use Rattle.vortex_calls.specs.Checks as checks;
 ghost use Rattle.vortex_calls.specs.Measures.{measured};
 ghost use Rattle.vortex_calls.specs.Merges.{merged, together};
@@ -9,10 +10,11 @@ ghost use Rattle.vortex_calls.specs.Values.{given_column};
 ghost use Rattle.vortex_sql_calls.specs.SqlPrunes as sql_prunes;
 
 use std::alloc::Global;
-use vortex_calls::check::check;
+use vortex_calls::arrow::ArrowValues;
+use vortex_calls::check::{check, check_arrow};
 use vortex_calls::fault::Fault;
 use vortex_calls::field::Field;
-use vortex_calls::measure::measure;
+use vortex_calls::measure::{measure, measure_arrow};
 use vortex_calls::merge::merge;
 use vortex_calls::merge_zones::merge_zones;
 use vortex_calls::prune::prune;
@@ -38,6 +40,23 @@ pub extern "C" fn vortex_check(
     check(alloc, column, rows, stats, zone, fault)
 }
 
+/// Checks whether a zone has as many rows as a column in Arrow's layout and each of its statistics
+/// is true of the column's values, `vortex_check_arrow` of the header.
+#[unsafe(no_mangle)]
+pub extern "C" fn vortex_check_arrow(
+    alloc: Global,
+    column: &ArrowValues<'_>,
+    rows: u64,
+    stats: &[Statistic<'_>],
+    zone: usize,
+    fault: &mut Fault,
+) -> u8
+    // Each is true, or the first that isn't or that is refused is told.
+    ensures { checks.IsTold (arrow.given_column column.now) rows zone stats.now result fault.new }
+{
+    check_arrow(alloc, column, rows, stats, zone, fault)
+}
+
 /// The statistics of a column of values, `vortex_measure` of the header: for each wanted number how
 /// it is known, and its value's bytes.
 #[unsafe(no_mangle)]
@@ -57,6 +76,27 @@ pub extern "C" fn vortex_measure(
         (record { known = known.new; ends = ends.new; values = values.new }) len.new fault.new }
 {
     measure(alloc, column, stats, known, ends, values, len, fault)
+}
+
+/// Measures a column of values in Arrow's layout, `vortex_measure_arrow` of the header: tells what
+/// `vortex_measure` tells of the same column.
+#[unsafe(no_mangle)]
+pub extern "C" fn vortex_measure_arrow(
+    alloc: Global,
+    column: &ArrowValues<'_>,
+    stats: &[u8],
+    known: &mut [u8],
+    ends: &mut [u64],
+    values: &mut [u8],
+    len: &mut usize,
+    fault: &mut Fault,
+) -> u8
+    // The statistics of the column's values stand in the arrays, or the arrays are as they were.
+    ensures { IsTold (arrow.measured column.now stats.now)
+        (record { known = known.old; ends = ends.old; values = values.old }) result
+        (record { known = known.new; ends = ends.new; values = values.new }) len.new fault.new }
+{
+    measure_arrow(alloc, column, stats, known, ends, values, len, fault)
 }
 
 /// The statistics of chunks, each a chunk of the left table followed by that of the right one in
