@@ -9,12 +9,15 @@ from __future__ import annotations
 import struct
 import sys
 from array import array
-from collections.abc import Sequence
+from collections.abc import Callable, Sequence
 from dataclasses import dataclass
 from itertools import accumulate, chain, compress
-from typing import Any
+from typing import TYPE_CHECKING, Any
 
 from .kinds import DType
+
+if TYPE_CHECKING:
+    from .reading import Read
 
 try:
     import numpy
@@ -107,6 +110,11 @@ class Values:
     def __len__(self) -> int:
         return self.count
 
+    @property
+    def size(self) -> int:
+        """The bytes that the values take, 8 for the end of each text among them."""
+        return self.data.nbytes + self.ends.nbytes
+
     def __getitem__(self, place: int) -> bool | int | str | bytes | None:
         """Returns the value at a place; texts as ``str`` and bytes as ``bytes``. ValueFault where a text isn't one, or has no place."""
         if not 0 <= place < self.count:
@@ -175,6 +183,48 @@ class Values:
         if place >= 0:
             raise ValueFault(f"row {place}: a text begins behind its end, or ends behind the heap", row=place)
         return ends
+
+
+@dataclass(frozen=True)
+class Buffers:
+    """The buffers of an array of Arrow as the library takes them: ``vortex_arrow_values`` of its header. The memory is the array's."""
+
+    #: How many places stand before the first value.
+    offset: int
+    #: The bytes of an offset of texts and bytes, and else 0.
+    offset_width: int
+    #: A bit for each place, or nothing where no value is null.
+    validity: memoryview
+    values: memoryview
+    offsets: memoryview
+
+
+class Packed(Values):
+    """Values in the buffers of an array of Arrow, nulls among them, while the array isn't released.
+
+    The library measures and checks them as they are. ``unpacked`` reads them into arrays of their own, which ``data`` and ``ends`` ask for.
+    """
+
+    buffers: Buffers
+    null_count: int
+    unpacked: Callable[[], Read]
+
+    def __init__(self, dtype: DType, count: int, size: int, null_count: int, buffers: Buffers, unpacked: Callable[[], Read]):
+        found = {"dtype": dtype, "count": count, "_size": size, "null_count": null_count, "buffers": buffers, "unpacked": unpacked}
+        for name, value in found.items():
+            object.__setattr__(self, name, value)
+
+    @property
+    def size(self) -> int:
+        return int(self._size)
+
+    def __getattr__(self, name: str) -> Any:
+        if name not in ("data", "ends"):
+            raise AttributeError(name)
+        found = self.unpacked().values
+        object.__setattr__(self, "data", found.data)
+        object.__setattr__(self, "ends", found.ends)
+        return getattr(found, name)
 
 
 def of_numbers(dtype: DType, numbers: Sequence[int]) -> Values:

@@ -2,17 +2,20 @@
 """Arrays, tables and streams of Arrow's C Data Interface, as pyarrow, polars, DuckDB and nanoarrow hand them out; none of these is needed.
 
 A producer offers ``__arrow_c_array__`` or ``__arrow_c_stream__``; or C code hands over the addresses of its structs, as ``Structs``. What is
-read is copied, and each release callback is called once: before a read returns, and after an error too. An array's buffers have no lengths of
+read is copied, and each release callback is called once: before a read returns, and after an error too. A chunk's arrays of numbers, truths,
+texts and bytes are lent to the library as they are, and released once it has measured or checked them. An array's buffers have no lengths of
 their own, so that a producer is trusted for them; all else that its structs say is looked at.
 """
 from __future__ import annotations
 
 import ctypes
-from collections.abc import Iterator, Mapping, Sequence
+from collections.abc import Callable, Iterator, Mapping, Sequence
+from contextlib import contextmanager
 from ctypes import POINTER, Structure, c_char_p, c_int, c_int64, c_void_p
+from itertools import islice
 from typing import Any
 
-from .arrays import joined
+from .arrays import Buffers, Packed, joined
 from .kinds import Column, DType, Logical
 from .reading import Read, Where
 from .types import Unmapped
@@ -48,6 +51,7 @@ CArray._fields_ = [
 ]
 CStream._fields_ = [(name, c_void_p) for name in ("get_schema", "get_next", "get_last_error", "release", "private_data")]
 
+_NONE = memoryview(b"")
 _RELEASE = ctypes.CFUNCTYPE(None, c_void_p)
 _FILL = ctypes.CFUNCTYPE(c_int, c_void_p, c_void_p)
 _TOLD = ctypes.CFUNCTYPE(c_char_p, c_void_p)
@@ -55,6 +59,11 @@ _TOLD = ctypes.CFUNCTYPE(c_char_p, c_void_p)
 _MOST = 2**47
 #: How deep dictionaries and structs may nest.
 _DEEPEST = 16
+#: The formats of arrays that the library takes as they are.
+_TAKEN = {
+    "c": DType.I8, "C": DType.U8, "s": DType.I16, "S": DType.U16, "i": DType.I32, "I": DType.U32, "l": DType.I64, "L": DType.U64, "b": DType.BOOL,
+    "u": DType.UTF8, "U": DType.UTF8, "z": DType.BINARY, "Z": DType.BINARY,
+}
 
 
 class Structs:
@@ -158,11 +167,71 @@ def read(kind: DType | Logical, given: Any, where: Where) -> Read:
         if len(structs) == 2:
             return _read(kind, structs[0], structs[1], where)
         schema = owners.take(_schema_of(structs[0], where))
+        return _joined(kind, _pieces(kind, schema, _arrays(structs[0], where), where, []))
+
+
+@contextmanager
+def lent(kind: DType | Logical, given: Any, where: Where) -> Iterator[Read]:
+    """Lends an array, or the only array of a stream, as it is where the library takes its layout, and else reads it. Errors are those of ``read``.
+
+    What is lent is released at the end.
+    """
+    with _Owners() as owners:
+        schema, first, rest = _first_arrays(_structs(given, owners, where), owners, where)
+        if len(first) == 1:
+            yield _lent(kind, schema, first[0], where)
+            return
         pieces: list[Read] = []
-        for array in _arrays(structs[0], where):
-            with array as chunk:
-                pieces.append(_read(kind, schema, chunk, _moved(where, pieces)))
-        return _joined(kind, pieces)
+        for chunk in first:
+            pieces.append(_read(kind, schema, chunk, _moved(where, pieces)))
+        yield _joined(kind, _pieces(kind, schema, rest, where, pieces))
+
+
+def _first_arrays(structs: tuple[Any, ...], owners: _Owners, where: Where) -> tuple[Any, list[Any], Iterator[_Owned]]:
+    """Returns the schema, the array or the first two arrays of a stream, which are held, and the arrays behind them."""
+    if len(structs) == 2:
+        return structs[0], [structs[1]], iter(())
+    schema, arrays = owners.take(_schema_of(structs[0], where)), _arrays(structs[0], where)
+    return schema, [owners.take(it) for it in islice(arrays, 2)], arrays
+
+
+def _pieces(kind: DType | Logical, schema: Any, arrays: Iterator[_Owned], where: Where, before: list[Read]) -> list[Read]:
+    """Reads the arrays of a stream behind those that were read before."""
+    for array in arrays:
+        with array as chunk:
+            before.append(_read(kind, schema, chunk, _moved(where, before)))
+    return before
+
+
+def _lent(kind: DType | Logical, schema: Any, array: Any, where: Where, start: int = 0, count: int | None = None) -> Read:
+    """Lends an array, or so many of its values from ``start`` on, where the library takes its layout, and else reads it."""
+    form = _text(schema.format or b"")
+    if isinstance(kind, DType) and _TAKEN.get(form) == kind and not schema.dictionary and not array.dictionary:
+        _form(schema, array, where)
+        first, length = array.offset + start, array.length if count is None else count
+        found = _packed(kind, form, array, first, length, where, lambda: _read(kind, schema, array, where, start, count))
+        if found is not None:
+            return Read(found, None)
+    return _read(kind, schema, array, where, start, count)
+
+
+def _packed(kind: DType, form: str, array: Any, first: int, length: int, where: Where, unpacked: Callable[[], Read]) -> Packed | None:
+    """Returns the values of an array in its own buffers; None where its last offset is none."""
+    validity, size, data_size, offsets = _bitmap(array, where), width(form) or 0, kind.width * length, _NONE
+    offset_width = {"u": 4, "z": 4, "U": 8, "Z": 8}.get(form, 0) if length else 0
+    if offset_width:
+        offsets = memoryview(_buffer(array, 1, (first + length + 1) * offset_width, where))
+        begin, end = (int.from_bytes(offsets[place * offset_width :][:offset_width], "little", signed=True) for place in (first, first + length))
+        if not 0 <= begin <= end <= _MOST:
+            return None
+        values, data_size = memoryview(_buffer(array, 2, end, where)), end - begin + 8 * length
+    elif kind.has_ends:
+        values = _NONE
+    else:
+        values = memoryview(_buffer(array, 1, (first + length) * size if size else (first + length + 7) // 8, where))
+    nulls = 0 if validity is None else length - _set_bits(validity, first, length)
+    buffers = Buffers(first, offset_width or 4 * kind.has_ends, memoryview(validity) if nulls else _NONE, values, offsets)
+    return Packed(kind, length, data_size, nulls, buffers, unpacked)
 
 
 def _read(kind: DType | Logical, schema: Any, array: Any, where: Where, start: int = 0, count: int | None = None) -> Read:
@@ -198,20 +267,30 @@ def is_table(given: object) -> bool:
     return any(hasattr(given, name) for name in ("__arrow_c_array__", "__arrow_c_stream__", "arrow_structs"))
 
 
-def columns_of(columns: Sequence[Column], given: Any) -> Mapping[str, Read]:
-    """Reads columns of a record batch, or of a table, whose batches are one chunk. ValueFault as of ``read``; KeyError names a missing column."""
+@contextmanager
+def columns_lent(columns: Sequence[Column], given: Any) -> Iterator[Mapping[str, Read]]:
+    """Lends the columns of a record batch, or of a table of one, as ``lent`` does; reads those of a table of several, which are one chunk.
+
+    ValueFault as of ``read``; KeyError names a missing column.
+    """
     where = Where("the table")
     with _Owners() as owners:
-        structs = _structs(given, owners, where, is_table=True)
-        if len(structs) == 2:
-            return _batch(columns, structs[0], structs[1], {})
-        schema = owners.take(_schema_of(structs[0], where))
+        schema, first, rest = _first_arrays(_structs(given, owners, where, is_table=True), owners, where)
+        if len(first) == 1:
+            yield _batch(columns, schema, first[0], {}, _lent)
+            return
         pieces: dict[str, list[Read]] = {column.name: [] for column in columns}
-        for array in _arrays(structs[0], where):
+        for chunk in first:
+            _add(pieces, _batch(columns, schema, chunk, pieces))
+        for array in rest:
             with array as chunk:
-                for name, found in _batch(columns, schema, chunk, pieces).items():
-                    pieces[name].append(found)
-        return {column.name: _joined(column.type, pieces[column.name]) for column in columns}
+                _add(pieces, _batch(columns, schema, chunk, pieces))
+        yield {column.name: _joined(column.type, pieces[column.name]) for column in columns}
+
+
+def _add(pieces: Mapping[str, list[Read]], found: Mapping[str, Read]) -> None:
+    for name, piece in found.items():
+        pieces[name].append(piece)
 
 
 class Batch:
@@ -221,8 +300,8 @@ class Batch:
         self._schema, self._array = schema, array
 
     def columns(self, columns: Sequence[Column]) -> Mapping[str, Read]:
-        """Reads columns of the batch. Errors are those of ``columns_of``."""
-        return _batch(columns, self._schema, self._array, {})
+        """Lends columns of the batch where the library takes their layouts, and else reads them. Errors are those of ``columns_lent``."""
+        return _batch(columns, self._schema, self._array, {}, _lent)
 
 
 def batches(given: Any) -> Iterator[Batch]:
@@ -239,7 +318,10 @@ def batches(given: Any) -> Iterator[Batch]:
                 yield Batch(schema, chunk)
 
 
-def _batch(columns: Sequence[Column], schema: Any, array: Any, before: Mapping[str, Sequence[Read]]) -> Mapping[str, Read]:
+def _batch(
+    columns: Sequence[Column], schema: Any, array: Any, before: Mapping[str, Sequence[Read]], take: Callable[..., Read] | None = None
+) -> Mapping[str, Read]:
+    """Takes columns of a batch, by reading them where nothing else is said."""
     where = Where("the table")
     if schema.format != b"+s":
         raise where.fault(f"an array of Arrow's format {_text(schema.format)!r} is no table; expected a struct of its columns")
@@ -257,7 +339,7 @@ def _batch(columns: Sequence[Column], schema: Any, array: Any, before: Mapping[s
         child = array.children[place]
         if not child or child.contents.length - array.offset < array.length:
             raise of_column.fault(f"the array is shorter than its table; expected {array.offset + array.length} rows")
-        found[column.name] = _read(column.type, schema.children[place].contents, child.contents, of_column, array.offset, array.length)
+        found[column.name] = (take or _read)(column.type, schema.children[place].contents, child.contents, of_column, array.offset, array.length)
     return found
 
 
@@ -304,22 +386,28 @@ def _text(word: bytes) -> str:
     return word.decode("utf-8", "backslashreplace")
 
 
-def _laid(schema: Any, array: Any, where: Where, start: int = 0, count: int | None = None, depth: int = 0) -> Laid:
-    """Copies an array, or so many of its values from ``start`` on, and looks at all that its structs say."""
-    if depth > _DEEPEST:
-        raise where.fault(f"dictionaries nest deeper than {_DEEPEST}; expected fewer")
+def _form(schema: Any, array: Any, where: Where) -> str:
+    """Looks at the format and the numbers of an array, and returns the format."""
     if schema.format is None:
         raise where.fault("a schema of Arrow has no format; expected one")
     form = _text(schema.format)
-    size = width(form)
     is_heap, is_view = form in ("u", "U", "z", "Z"), form in ("vu", "vz")
-    if size is None and not (is_heap or is_view) and form not in ("b", "n"):
+    if width(form) is None and not (is_heap or is_view) and form not in ("b", "n"):
         raise where.fault(f"arrays of Arrow's format {form!r} aren't read; expected numbers, truths, texts, bytes, dates, times, decimals or dictionaries")
     _checked(schema, array, max(array.n_buffers, 3) if is_view else 0 if form == "n" else 3 if is_heap else 2, where)
     if array.n_children or schema.n_children:
         raise where.fault(f"an array of Arrow's format {form!r} has {array.n_children} children; expected none")
     if bool(schema.dictionary) != bool(array.dictionary):
         raise where.fault("a schema of Arrow and its array don't agree whether there is a dictionary; expected both or none")
+    return form
+
+
+def _laid(schema: Any, array: Any, where: Where, start: int = 0, count: int | None = None, depth: int = 0) -> Laid:
+    """Copies an array, or so many of its values from ``start`` on, and looks at all that its structs say."""
+    if depth > _DEEPEST:
+        raise where.fault(f"dictionaries nest deeper than {_DEEPEST}; expected fewer")
+    form = _form(schema, array, where)
+    size, is_heap, is_view = width(form), form in ("u", "U", "z", "Z"), form in ("vu", "vz")
     first, length = array.offset + start, array.length if count is None else count
     there = _there(array, where, first, length) if form != "n" else None
     dictionary = None
@@ -366,19 +454,31 @@ def _checked(schema: Any, array: Any, buffers: int, where: Where) -> None:
         raise where.fault(f"an array of Arrow has {array.n_children} children; expected none or more")
 
 
-def _there(array: Any, where: Where, first: int | None = None, length: int | None = None) -> Any:
-    """Returns which values aren't null, or None where none is."""
+def _bitmap(array: Any, where: Where) -> Any:
+    """Returns the bits of validity of a whole array, or None where it has none."""
     if not array.buffers or not array.buffers[0]:
         if array.null_count > 0:
             raise where.fault(f"{array.null_count} values are null, and none is marked; expected a buffer of validity")
         return None
     packed = _buffer(array, 0, (array.offset + array.length + 7) // 8, where)
-    whole = _bits(packed, array.offset, array.length)
-    nulls = array.length - int(numpy.count_nonzero(whole))
+    nulls = array.length - _set_bits(packed, array.offset, array.length)
     if array.null_count not in (-1, nulls):
         raise where.fault(f"{array.null_count} values are said to be null, and {nulls} are; expected the same")
-    start = 0 if first is None else first - array.offset
-    there = whole[start : start + (array.length if length is None else length)]
+    return packed
+
+
+def _set_bits(packed: Any, first: int, length: int) -> int:
+    """Returns how many of so many bits from one on are 1."""
+    found = int.from_bytes(packed[first // 8 : (first + length + 7) // 8].tobytes(), "little") >> first % 8
+    return (found & ((1 << length) - 1)).bit_count()
+
+
+def _there(array: Any, where: Where, first: int | None = None, length: int | None = None) -> Any:
+    """Returns which values aren't null, or None where none is."""
+    packed = _bitmap(array, where)
+    if packed is None:
+        return None
+    there = _bits(packed, array.offset if first is None else first, array.length if length is None else length)
     return None if there.all() else there
 
 

@@ -6,6 +6,7 @@ import operator
 import os
 from array import array
 from collections.abc import Collection, Iterable, Iterator, Mapping, Sequence
+from contextlib import ExitStack
 from typing import Any, Literal, NamedTuple
 
 from . import files, library, logical_sql
@@ -16,7 +17,7 @@ from .items import shown
 from .kinds import Column, DType, Logical, Precision, Stat, stat_dtype
 from .overlap import Overlap, overlap
 from .predicate import Opaque, Predicate, PredicateError
-from .reading import Nullable, Read, Where, read, read_column
+from .reading import Nullable, Read, Where, is_arrow, read, read_column
 from .spelling import is_name, unnamed
 from .sql import warn_of
 from .statistic import FooterError, Statistic, absent, joined_statistics, without_nulls
@@ -561,28 +562,38 @@ def _known(given: object, count: int, where: Where) -> bytes:
 
 
 def _chunk_columns(columns: Sequence[Column], chunk: Any) -> Iterator[tuple[Column, Any, bytes | None]]:
-    """Yields each column with its values in a chunk and which of them are null. FooterError where one is missing or longer than another."""
+    """Yields each column with its values in a chunk and which of them are null. FooterError where one is missing or longer than another.
+
+    Arrays of Arrow may be lent, as ``Packed`` values, until the next column is asked for.
+    """
+    from . import arrow
+
     first: tuple[str, int] | None = None
-    table = None if hasattr(chunk, "keys") else _table_columns(columns, chunk)
-    for column in columns:
-        if table is None and column.name not in chunk.keys():
-            raise FooterError(f"the chunk has no column {column.name}")
-        found = read_column(column, chunk[column.name] if table is None else table[column.name])
-        first = first or (column.name, len(found.values))
-        if len(found.values) != first[1]:
-            raise FooterError(f"the chunk's column {column.name} has {len(found.values)} rows, and column {first[0]} has {first[1]}")
-        yield column, found.values, found.nulls
+    with ExitStack() as held:
+        table = None if hasattr(chunk, "keys") else _table_columns(columns, chunk, held)
+        for column in columns:
+            if table is None and column.name not in chunk.keys():
+                raise FooterError(f"the chunk has no column {column.name}")
+            with ExitStack() as lent:
+                given = chunk[column.name] if table is None else table[column.name]
+                if is_arrow(given):
+                    given = lent.enter_context(arrow.lent(column.type, given, Where(f"column {column.name}", column.name)))
+                found = read_column(column, given)
+                first = first or (column.name, len(found.values))
+                if len(found.values) != first[1]:
+                    raise FooterError(f"the chunk's column {column.name} has {len(found.values)} rows, and column {first[0]} has {first[1]}")
+                yield column, found.values, found.nulls
 
 
-def _table_columns(columns: Sequence[Column], chunk: Any) -> Mapping[str, Read]:
-    """Reads the columns of a table of Arrow, or of a frame of the interchange protocol. FooterError where one is missing."""
+def _table_columns(columns: Sequence[Column], chunk: Any, held: ExitStack) -> Mapping[str, Read]:
+    """Reads the columns of a table of Arrow, or of a frame of the interchange protocol; those that are lent are held. FooterError where one is missing."""
     from . import arrow, interchange
 
     try:
         if isinstance(chunk, arrow.Batch):
             return chunk.columns(columns)
         if arrow.is_table(chunk):
-            return arrow.columns_of(columns, chunk)
+            return held.enter_context(arrow.columns_lent(columns, chunk))
         if hasattr(chunk, "__dataframe__"):
             return interchange.columns_of(columns, chunk)
     except KeyError as missing:

@@ -15,7 +15,7 @@ from ctypes import POINTER, Structure, c_size_t, c_uint8, c_uint32, c_uint64
 from functools import partial
 from typing import Literal
 
-from .arrays import Values, moved
+from .arrays import Packed, Values, moved
 from .kinds import Column, DType, Stat, stat_dtype
 from .predicate import PredicateError
 from .sql import misfit, no_condition, too_deep
@@ -144,6 +144,23 @@ class CValues(Structure):
     ]
 
 
+class CArrowValues(Structure):
+    _fields_ = [
+        ("kind", c_uint8),
+        ("nullable", c_uint8),
+        ("offset_width", c_uint8),
+        ("rows", c_size_t),
+        ("offset", c_size_t),
+        ("size", c_uint64),
+        ("validity", ctypes.c_void_p),
+        ("validity_len", c_size_t),
+        ("values", ctypes.c_void_p),
+        ("values_len", c_size_t),
+        ("offsets", ctypes.c_void_p),
+        ("offsets_len", c_size_t),
+    ]
+
+
 class CStatistic(Structure):
     _fields_ = [
         ("column", c_size_t),
@@ -213,7 +230,9 @@ def _load() -> ctypes.CDLL:
     calls = {
         "vortex_run": [byte, size, byte, size, POINTER(size)],
         "vortex_check": [POINTER(CValues), c_uint64, byte, size, size, place],
+        "vortex_check_arrow": [POINTER(CArrowValues), c_uint64, byte, size, size, place],
         "vortex_measure": [POINTER(CValues), byte, size, byte, size, byte, size, byte, size, POINTER(size), place],
+        "vortex_measure_arrow": [POINTER(CArrowValues), byte, size, byte, size, byte, size, byte, size, POINTER(size), place],
         "vortex_merge": [c_uint8, c_uint8, size, byte, size, byte, size, byte, size, byte, size, byte, size, POINTER(size), place],
         "vortex_merge_zones": [c_uint8, c_uint8, size, byte, size, byte, size, byte, size, byte, size, POINTER(size), place],
         "vortex_prune": [byte, size, byte, size, byte, size, byte, size, c_uint8, byte, size, place],
@@ -316,27 +335,40 @@ def run(text: bytes) -> tuple[int, bytes]:
         room = length.value
 
 
-def _values(lent: _Lent, column: Column, values: Values, nulls: bytes | None, size: int) -> CValues:
+def _values(lent: _Lent, column: Column, values: Values, nulls: bytes | None) -> CValues | CArrowValues:
+    """Returns a column's values as the library takes them; those of an array of Arrow as they stand there, with its nulls."""
+    if isinstance(values, Packed):
+        held = values.buffers
+        counts = [it for buffer in (held.validity, held.values, held.offsets) for it in (lent.at(buffer), buffer.nbytes)]
+        return CArrowValues(column.dtype, column.nullable, held.offset_width, len(values), held.offset, values.size, *counts)
     none = nulls if nulls is not None else b""
     data, ends = values.data, values.ends
-    counts = (data.nbytes, lent.numbers_at(ends), ends.nbytes // 8, lent.at(none), len(none))
-    return CValues(column.dtype, column.nullable, len(values), size, 0, lent.at(data), *counts)
+    counts = [data.nbytes, lent.numbers_at(ends), ends.nbytes // 8, lent.at(none), len(none)]
+    return CValues(column.dtype, column.nullable, len(values), values.size, 0, lent.at(data), *counts)
+
+
+def _answered_values(status: int, fault: Fault, column: Column, values: Values, stats: Sequence[Stat]) -> None:
+    """Nothing where a call about a column's values has answered, and else what was refused; of an array of Arrow by what reading it tells."""
+    if isinstance(values, Packed) and status == Status.BAD_ENDS:
+        values.unpacked()
+    _answered(status, fault, column.name, stats)
 
 
 def measure(column: Column, values: Values, nulls: bytes | None, wanted: Sequence[Stat]) -> dict[Stat, Statistic]:
     """Returns the statistics of a column's values, as a table of one zone has them. What isn't known is left out."""
     lent, length, fault = _Lent(), c_size_t(), Fault()
-    given = _values(lent, column, values, nulls, values.data.nbytes + values.ends.nbytes)
+    given = _values(lent, column, values, nulls)
+    call = _library().vortex_measure_arrow if isinstance(values, Packed) else _library().vortex_measure
     known, ends, room = bytearray(len(wanted)), array("Q", bytes(8 * len(wanted))), _ROOM
     stats = bytes(wanted)
     while True:
         output = bytearray(room)
         outs = (lent.at(known), len(known), lent.at(ends), len(ends), lent.at(output), room, ctypes.byref(length), ctypes.byref(fault))
-        status = _library().vortex_measure(ctypes.byref(given), lent.at(stats), len(stats), *outs)
+        status = call(ctypes.byref(given), lent.at(stats), len(stats), *outs)
         if status != Status.TOO_SHORT:
             break
         room = length.value
-    _answered(status, fault, column.name, wanted)
+    _answered_values(status, fault, column, values, wanted)
     return {stat: it for stat, it in _of_output(column, wanted, 1, known, ends, output).items() if it.known[0]}
 
 
@@ -367,11 +399,12 @@ def check(column: Column, values: Values, nulls: bytes | None, rows: int, known:
     """Returns the first statistic of one zone that isn't true of a column's values, or ``rows`` where they are more or fewer; None where all is."""
     lent, fault, stats = _Lent(), Fault(), list(known)
     table = _table([_statistic(lent, 0, stat, known[stat]) for stat in stats])
-    given = _values(lent, column, values, nulls, values.data.nbytes + values.ends.nbytes)
-    status = _library().vortex_check(ctypes.byref(given), rows, table, len(stats), 0, ctypes.byref(fault))
+    given = _values(lent, column, values, nulls)
+    call = _library().vortex_check_arrow if isinstance(values, Packed) else _library().vortex_check
+    status = call(ctypes.byref(given), rows, table, len(stats), 0, ctypes.byref(fault))
     if status == Status.UNTRUE:
         return stats[fault.entry] if fault.entry < len(stats) else "rows"
-    _answered(status, fault, column.name, stats)
+    _answered_values(status, fault, column, values, stats)
     return None
 
 

@@ -22,7 +22,7 @@ from dataclasses import dataclass, replace
 from itertools import compress
 from typing import Any
 
-from .arrays import ValueFault, Values, ends_of, gathered, of_numbers, of_texts, spaced
+from .arrays import Packed, ValueFault, Values, ends_of, gathered, of_numbers, of_texts, spaced
 from .items import expected, is_missing, is_null, may_be_null, plain, shown, value_of
 from .kinds import Column, DType, Logical
 
@@ -50,7 +50,7 @@ class Nullable:
 class Read:
     """What a container holds: a value for each row, and a byte for each row that is 1 for null.
 
-    ``nulls`` is None where no row is null, and of the type null, of which each row is.
+    ``nulls`` is None where no row is null, of the type null, of which each row is, and of ``Packed`` values, which have their own.
     """
 
     values: Values
@@ -86,6 +86,8 @@ def read_column(column: Column, given: object) -> Read:
     """
     where = Where(f"column {column.name}", column.name)
     found = given if isinstance(given, Read) else read(column.type, given, where)
+    if not column.nullable and isinstance(found.values, Packed) and found.values.null_count:
+        found = found.values.unpacked()
     if found.nulls is not None and not column.nullable:
         row = found.nulls.index(1)
         raise where.fault(f"null is no value of {column.word}; expected {expected(column.type)}", row)
@@ -120,7 +122,7 @@ def read(dtype: DType | Logical, given: Any, where: Where) -> Read:
 
 def _of_protocols(dtype: DType | Logical, given: object, marks: bytes | None, where: Where) -> Read | None:
     """Reads what offers its arrays by a protocol; None where the container offers none."""
-    if any(hasattr(given, name) for name in ("__arrow_c_array__", "__arrow_c_stream__", "arrow_structs")):
+    if is_arrow(given):
         from .arrow import read as read_protocol
     elif hasattr(given, "describe_null") and hasattr(given, "get_buffers"):
         from .interchange import read as read_protocol
@@ -129,6 +131,11 @@ def _of_protocols(dtype: DType | Logical, given: object, marks: bytes | None, wh
     if marks is not None:
         raise where.fault("the array has nulls of its own; expected it without a Nullable")
     return read_protocol(dtype, given, where)
+
+
+def is_arrow(given: object) -> bool:
+    """Tells whether a container is read as an array or a stream of Arrow."""
+    return not _is_known(given) and any(hasattr(given, name) for name in ("__arrow_c_array__", "__arrow_c_stream__", "arrow_structs"))
 
 
 def _is_known(given: object) -> bool:

@@ -17,8 +17,10 @@ import numpy
 import pandas
 
 import foalmorrow.layouts
-from foalmorrow import Column, DType, Date, Decimal, Enum, FixedBinary, Float32, Float64, FooterError, Time, Timestamp, Unmapped, Uuid, ValueFault, Values
-from foalmorrow import arrow, footers, interchange
+from foalmorrow import Column, DType, Date, Decimal, Enum, FixedBinary, Float32, Float64, FooterError, Footers, Refused, Stat, Time, Timestamp, Unmapped
+from foalmorrow import Untrue, Uuid, ValueFault, Values, arrow, footers, interchange
+from foalmorrow.arrays import Packed
+from foalmorrow.library import Status
 from foalmorrow.reading import Read, read_column
 from tests import producer
 from tests.producer import Array, Stream, decimals, fixed, numbers, texts, truths
@@ -395,6 +397,88 @@ class Tables(unittest.TestCase):
             with self.assertRaisesRegex(error, words):
                 self.read(make())
             self.assertEqual(producer.counts()[3], before[3])
+
+
+@unittest.skipUnless(producer.is_built(), "the producer isn't built")
+class Lent(unittest.TestCase):
+    """Arrays that the library measures and checks in their own buffers."""
+
+    TAKEN = ("c", "C", "s", "S", "i", "I", "l", "L", "b", "u", "U", "z", "Z")
+    WANTED = (Stat.MIN, Stat.MAX, Stat.NULL_COUNT, Stat.IS_CONSTANT, Stat.IS_SORTED, Stat.SUM)
+
+    def taken(self) -> list[tuple[Column, Build, Items]]:
+        return [(Column("c", kind, True), build, items) for name, kind, build, items in layouts() if name in self.TAKEN]
+
+    def test_statistics_are_those_of_the_items(self) -> None:
+        rng = random.Random(SEED)
+        for column, build, items in self.taken():
+            for before in (0, 1, 7, 8, 13, 64):
+                some = rng.choices(items, k=rng.randrange(40))
+                skip = rng.randrange(len(some) + 1)
+                take = rng.randrange(len(some) - skip + 1)
+                part = some[skip : skip + take]
+
+                def make() -> Array:
+                    return build(some, before).change(lambda _, array: (setattr(array, "offset", before + skip), setattr(array, "length", take)))
+
+                model = Footers.measure([column], [{"c": part}], self.WANTED)
+                for hand in (lambda made: made, lambda made: made.structs(), lambda made: Stream([made])):
+                    before_counts, made = producer.counts(), make()
+                    with self.subTest(column=column, items=part, before=before + skip):
+                        found = Footers.measure([column], [{"c": hand(made)}], self.WANTED)
+                        self.assertEqual(found, model)
+                        self.assertEqual([now - then for now, then in zip(producer.counts(), before_counts)][:2], [1, 1])
+                        self.assertIsNone(model.check(0, {"c": make()}))
+                        self.assertEqual(model.check(0, {"c": build([*part, items[0]], before)}), Untrue("c", "rows"))
+
+    def test_arrays_are_taken_as_they_are(self) -> None:
+        for column, build, items in self.taken():
+            for chunk in ({"c": build(items, 3)}, {"c": Stream([build(items, 3)])}):
+                for _, values, nulls in footers._chunk_columns([column], chunk):
+                    self.assertIsInstance(values, Packed)
+                    self.assertIsNone(nulls)
+                    self.assertEqual((len(values), values.null_count, values.buffers.offset), (len(items), items.count(None), 3))
+                    self.assertEqual(stored(column, values.unpacked()), wanted(column, items))
+                    self.assertEqual(values.size, values.data.nbytes + values.ends.nbytes)
+        for pieces in ([[1], [None]], [[1], [2], [3]], [[1], [], [None], [3]], [[]]):
+            found = Footers.measure([Column("c", DType.I64, True)], [{"c": Stream([numbers("l", "q", it) for it in pieces])}])
+            self.assertEqual(found, Footers.measure([Column("c", DType.I64, True)], [{"c": [it for piece in pieces for it in piece]}]))
+
+    def test_batches_are_taken_as_they_are(self) -> None:
+        columns = [Column("n", DType.I64, True), Column("s", DType.UTF8, True), Column("x", DType.BOOL)]
+        items: dict[str, Items] = {"n": [5, None, 7], "s": ["a", None, "\u00e9"], "x": [True, False, True]}
+
+        def batch(offset: int) -> Array:
+            return table({"n": numbers("l", "q", [0] * offset + items["n"], 2, name="n"), "s": texts("u", ["?"] * offset + items["s"], 1, name="s"),
+                          "x": truths([True] * offset + items["x"], 6, name="x")}, 3, offset)
+
+        model = Footers.measure(columns, [items], self.WANTED)
+        for offset in (0, 5):
+            before = producer.counts()
+            self.assertEqual(Footers.measure(columns, [batch(offset)], self.WANTED), model)
+            self.assertEqual(Footers.measure(columns, Stream([batch(offset)]), self.WANTED), model)
+            self.assertEqual([now - then for now, then in zip(producer.counts(), before)], [8, 8, 1, 0])
+            self.assertIsNone(model.check(0, batch(offset)))
+            for given in (batch(offset), Stream([batch(offset)])):
+                for _, values, _ in footers._chunk_columns(columns, given):
+                    self.assertIsInstance(values, Packed)
+            self.assertEqual(Footers.measure(columns, [Stream([batch(offset), batch(0)])], self.WANTED),
+                             Footers.measure(columns, [{name: some * 2 for name, some in items.items()}], self.WANTED))
+
+    def test_refused(self) -> None:
+        for form, code in (("u", "i"), ("U", "q")):
+            for ends in ([-1, 0, 1], [0, 2, 1], [2, 1, 3], [0, -5, 3]):
+                before, made = producer.counts(), Array(form, 2, [None, struct.pack(f"<3{code}", *ends), b"abc"])
+                with self.assertRaisesRegex(ValueFault, "^column c, row .: a text ends at .*expected offsets from 0 on that don't descend"):
+                    Footers.measure([Column("c", DType.UTF8)], [{"c": made}])
+                self.assertEqual([now - then for now, then in zip(producer.counts(), before)], [1, 1, 0, 0])
+            with self.assertRaises(Refused) as told:
+                Footers.measure([Column("c", DType.UTF8)], [{"c": texts(form, ["a", b"\xff"], 9)}])
+            self.assertEqual((told.exception.status, told.exception.column, told.exception.row), (Status.BAD_VALUE, "c", 1))
+        with self.assertRaisesRegex(ValueFault, "column c, row 1: null is no value of i64"):
+            Footers.measure([Column("c", DType.I64)], [{"c": numbers("l", "q", [1, None], 9)}])
+        with self.assertRaisesRegex(ValueFault, "1 values are said to be null, and 2 are"):
+            Footers.measure([Column("c", DType.I64, True)], [{"c": numbers("l", "q", [1, None, None], null_count=1)}])
 
 
 class Frame:
