@@ -113,6 +113,26 @@ ran prune "$orders" "qty > 9 AND lower(name) = 'dora'"
 case_of "a part that isn't read" pruned 6 "0 skip 0..10" "1 read 10..15" "2 read 15..16" "unread: lower(name) = 'dora'"
 ran prune --explain "$orders" "qty > 9"
 case_of "what is known of row groups" ended 0 "reasons:  qty: min 1 max 9 null_count 0"
+
+# Whether the explanation ends with these lines.
+explained() {
+    printf '%s\n' "$@" > "$work/wanted"
+    tail -n "$#" "$work/reasons" > "$work/last"
+    cmp -s "$work/last" "$work/wanted" && ended 0
+}
+ran prune --explain "$orders" "qty > 9 AND lower(name) = 'dora'"
+case_of "a part that isn't read, underlined" explained "qty > 9 AND lower(name) = 'dora'" "            ~~~~~~~~~~~~~~~~~~~~ not read"
+case_of "an answer beside a part that is underlined" grep -qxF "unread: lower(name) = 'dora'" "$work/answer"
+ran prune --explain "$orders" "f(1) OR g(2)"$'\n\t'"AND qty > h(3,"$'\r\n\t'"4)"
+case_of "parts of several lines, underlined" explained "f(1) OR g(2)" "~~~~    ~~~~ not read" $'\tAND qty > h(3,' $'\t    ~~~~~~~~~~ not read' $'\t4)' $'\t~~ not read'
+ran prune --explain "$orders" "name = 'é' OR f(1)"
+case_of "a part behind a letter that isn't ASCII" explained "name = 'é' OR f(1)" "not read, at byte 15: f(1)"
+wide="qty > 9 OR name = '$(printf 'x%.0s' {1..120})' OR f(1)"
+ran prune --explain "$orders" "$wide"
+case_of "a part on a wide line" explained "$wide" "not read, at byte 144: f(1)"
+ran prune --explain "$orders" "qty > 9"
+case_of "a condition that is read whole" explained "qty > 9"
+
 ran prune --format json "$orders" "qty > 9"
 case_of "an answer in JSON" python3 -c '
 import json, sys

@@ -6,6 +6,7 @@ mod known;
 mod pruning;
 mod scanning;
 mod showing;
+mod underlining;
 
 use pruning::prune_files;
 use scanning::{scan_files, scan_input};

@@ -4,6 +4,7 @@ ghost use Rattle.foalmorrow.specs.Words.{verdict_word};
 
 use crate::footers::{FileError, footer_end, status_of};
 use crate::known::write_known;
+use crate::underlining::underlined;
 use serde::Serialize;
 use std::alloc::{AllocError, Global};
 use std::fs::Files;
@@ -90,8 +91,8 @@ fn names_of(alloc: Global, scope: &Scope) -> Result<Vec<&str>, AllocError> {
     Ok(names)
 }
 
-// Returns the answer for the file with this end, and says what is known of it where that is asked
-// for.
+// Returns the answer for the file with this end, and where that is asked for says what is known of
+// it and underlines the parts of the condition that aren't read.
 fn answer_of<'a, E: Sink>(
     alloc: Global,
     asked: &Prune<'a>,
@@ -108,6 +109,8 @@ fn answer_of<'a, E: Sink>(
     if asked.is_explained {
         let names = names_of(alloc, condition.condition.scope())?;
         write_known(alloc, file, &names, &found.groups, reasons)?;
+        let shown = underlined(alloc, asked.condition, condition.unread())?;
+        write_out(reasons, shown.as_bytes());
     }
     let (row_groups, rows, rows_to_read) = groups_of(alloc, &found)?;
     Ok(Answer {

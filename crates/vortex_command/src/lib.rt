@@ -100,7 +100,7 @@ fn prune_command<'a>(alloc: Global) -> Result<Command<'a>, Error> {
         .short('e')
         .long("explain")
         .action(ArgAction::SetTrue)
-        .help("Says on standard error what is known of each row group");
+        .help("Says on standard error what is known of each row group, and what isn't read");
     let files = Arg::new(alloc, "file")
         .value_name("FILE")
         .num_args(1..)
