@@ -27,11 +27,7 @@ fn lines_up(text: &str) -> bool {
 }
 
 // Returns a mark for each byte of a text: a tab stays one.
-fn marks_of(
-    alloc: Global,
-    text: &str,
-    unread: &[(usize, usize)],
-) -> Result<Vec<u8>, AllocError> {
+fn marks_of(alloc: Global, text: &str, unread: &[(usize, usize)]) -> Result<Vec<u8>, AllocError> {
     let mut marks = Vec::with_capacity(alloc, text.len())?;
     let mut rest = unread.iter().peekable();
     for (at, byte) in text.bytes().enumerate() {
