@@ -26,18 +26,18 @@ fn lines_up(text: &str) -> bool {
     true
 }
 
-// Returns a mark for each byte of a text: a tab stays one.
+// Returns a mark for each byte of a text: a tab stays one. No part is empty, so at most one ends at
+// a byte.
 fn marks_of(alloc: Global, text: &str, unread: &[(usize, usize)]) -> Result<Vec<u8>, AllocError> {
     let mut marks = Vec::with_capacity(alloc, text.len())?;
-    let mut rest = unread.iter().peekable();
+    let mut place: usize = 0;
     for (at, byte) in text.bytes().enumerate() {
-        while let Some((_, end)) = rest.peek() {
-            if at < *end {
-                break;
+        if let Some((_, end)) = unread.get(place) {
+            if *end <= at {
+                place = place.saturating_add(1);
             }
-            rest.next();
         }
-        let is_unread = match rest.peek() {
+        let is_unread = match unread.get(place) {
             Some((start, _)) => *start <= at,
             None => false,
         };
