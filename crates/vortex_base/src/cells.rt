@@ -167,7 +167,7 @@ fn set_native<T: Native>(natives: &mut Natives<T>, place: usize, native: Option<
     natives.set(place, native);
 }
 
-// So many nulls of a type that can be set.
+// A column of `count` nulls of a type that can be set.
 fn null_natives<T: Native>(alloc: Global, count: usize) -> Result<Cells, AllocError>
     ensures { IfOk result (λ cells. cell_values cells ≡ replicate count None) }
 {
@@ -380,7 +380,7 @@ impl Cells {
         }
     }
 
-    /// So many nulls of a type, in whose place its values can be set in no more memory.
+    /// A column of `count` nulls of a type, in whose place its values can be set in no more memory.
     pub fn nulls(alloc: Global, dtype: DType, count: usize) -> Result<Cells, AllocError>
         ensures { IfOk result (λ cells. cell_values cells ≡ replicate count None) }
     {

@@ -29,7 +29,7 @@ impl ConstantArray {
         ConstantArray { scalar, len }
     }
 
-    /// What stands at each place.
+    /// The scalar that stands at each place.
     pub fn scalar(&self) -> &Scalar
         ensures { result.now ≡ self.now.scalar }
     {

@@ -9,7 +9,7 @@ use crate::pvalue::PValue;
 use crate::scalar::Scalar;
 use crate::scalar_value::ScalarValue;
 
-/// What can be read out of a scalar.
+/// A type that can be read out of a scalar.
 pub trait FromScalar: Sized {
     ghost use Rattle.std.specs.Prelude.{Bool};
     ghost use Rattle.vortex_base.specs.declared.scalar_value.ScalarValue.{ScalarValue};

@@ -39,7 +39,7 @@ fn make_room<T>(values: &mut Vec<T>, there: &mut Vec<bool>) -> Result<(), AllocE
     Ok(())
 }
 
-// The same, where most often there is room.
+// Makes room for one more value where there is none yet.
 #[inline(always)]
 pub(crate) fn have_room<T>(values: &mut Vec<T>, there: &mut Vec<bool>) -> Result<(), AllocError>
     ensures values { values.new.items ≡ values.old.items }
@@ -75,7 +75,7 @@ impl<T: Copy + Default> Natives<T> {
         Ok(Natives { values, there })
     }
 
-    /// As many nulls.
+    /// A column of `count` nulls, in whose place values can be set in no more memory.
     pub fn nulls(alloc: Global, count: usize) -> Result<Natives<T>, AllocError>
         ensures { IfOk result (λ natives. natives ≡ replicate count None) }
     {

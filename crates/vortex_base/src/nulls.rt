@@ -7,7 +7,7 @@ pub(crate) use pair::NullPair;
 use std::alloc::{AllocError, Global};
 use std::marker::Model;
 
-/// So many nulls, in no memory.
+/// A column of `count` nulls, which takes no memory.
 #[derive(Debug, Drop)]
 pub struct Nulls {
     alloc: Global,

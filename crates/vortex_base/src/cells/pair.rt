@@ -177,7 +177,7 @@ fn text_pair(texts: Texts, others: Texts) -> Result<CellPair, (Cells, Cells)>
     }
 }
 
-// The same of byte strings.
+// The pair of byte strings, or both as they were where memory for the room is refused.
 fn blob_pair(blobs: Blobs, others: Blobs) -> Result<CellPair, (Cells, Cells)>
     ensures first { IfOk result (λ pair. first_of pair ≡ map bytes_value blobs) }
     ensures second { IfOk result (λ pair. second_of pair ≡ map bytes_value others) }
