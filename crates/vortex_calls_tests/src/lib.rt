@@ -1,7 +1,9 @@
-//! Tests of `vortex_calls` by its public calls.
+//! Tests of `vortex_calls` and `vortex_sql_calls` by their public calls.
 #![tactic(auto)]
 
 #[cfg(test)]
 mod calls;
+#[cfg(test)]
+mod sql;
 #[cfg(test)]
 mod tables;

@@ -1,4 +1,4 @@
-//! The call as a caller in C makes it.
+//! The call that prunes by a condition in SQL, as a caller in C makes it.
 
 use std::alloc::Global;
 use vortex_calls::fault::Fault;
