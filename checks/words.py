@@ -2,20 +2,15 @@
 # SPDX-License-Identifier: Apache-2.0
 """Looks for lines that can't be read without the one above: comments, and sentences of pages, that begin with That, The same, Those or What.
 
-usage: checks/words.py            counts them by crate, and fails where a file has some that the list of those to be mended lacks
-       checks/words.py --lines    prints each of them
-       checks/words.py --shrink   takes the files that have none from the list
+usage: checks/words.py    prints each of them, and fails if there is one
 """
 import os
 import re
 import subprocess
 import sys
-from collections import Counter
 
 os.chdir(os.path.dirname(os.path.dirname(os.path.abspath(__file__))))
 
-# The files that still have such lines. It only shrinks: a new file has to do without.
-LIST = "checks/words.txt"
 MADE = ("docs/MAP.md", "docs/STATEMENT.md", "docs/STATEMENT_REST.md", "docs/WITNESSES.md")
 SENTENCE = re.compile(r"(?:^|[.!?] |^- |^\| )(?:That|The same|Those|What|Of) ")
 WORST = re.compile(r"(That|The same|Those|What)\b")
@@ -58,47 +53,17 @@ def sentences_of_pages():
                 yield f, number, line
 
 
-def counts():
-    return {f: len(worst_of(f)) for f in sources()}
-
-
-def listed():
-    return [it for it in read(LIST).split("\n") if it] if os.path.exists(LIST) else []
-
-
 def faults():
-    """Files with such lines that aren't listed, and listed ones that have none."""
-    found, named = counts(), set(listed())
-    for f in sorted(f for f, number in found.items() if number and f not in named):
+    """Where such a line stands, and the line."""
+    for f in sources():
         yield from (f"{f}:{number}: a comment begins with a word that needs the line above: {line}" for number, line in worst_of(f))
     yield from (f"{f}:{number}: a sentence begins with a word that needs the one before: {line[:100]}" for f, number, line in sentences_of_pages())
-    yield from (f"{LIST}: {f} has no such line any more; checks/words.py --shrink takes it out" for f in sorted(named) if not found.get(f))
 
 
 def main():
-    if sys.argv[1:] == ["--lines"]:
-        for f in sources():
-            print("".join(f"{f}:{number}: {line}\n" for number, line in worst_of(f)), end="")
-        return 0
-    if sys.argv[1:] == ["--shrink"]:
-        found = counts()
-        left = [it for it in listed_or(found) if found.get(it)]
-        with open(LIST, "w", encoding="utf-8") as file:
-            file.write("".join(f"{it}\n" for it in left))
-        return 0
-    by_crate = Counter()
-    for f, number in counts().items():
-        by_crate[f.split("/")[1]] += number
-    for crate, number in sorted(by_crate.items()):
-        print(f"{crate}: {number}")
     wrong = list(faults())
-    print("\n".join(wrong) or f"words: {sum(by_crate.values())} lines in {len(listed())} files are left to mend, and no other file has one")
+    print("\n".join(wrong) or "words: no line needs the one above")
     return 1 if wrong else 0
-
-
-def listed_or(found):
-    """The list, or where there is none yet all files that have such lines."""
-    return listed() if os.path.exists(LIST) else sorted(f for f, number in found.items() if number)
 
 
 if __name__ == "__main__":
