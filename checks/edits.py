@@ -10,10 +10,11 @@ usage: checks/edits.py [--gate] [--goals] [--jobs N] [CRATE..]
 checks/edits/goals.txt names for each edit the goal of the turned function that it leaves open, as `rt` names it by the clause
 and the branch. That has to be a goal of the function as the crate stands, where it is proved: one of a branch that an edit renamed is
 open whatever the function promises. A third word, `made`, says of a goal that its branch is the edit's own and holds the wrong code, as a
-reader has judged. The crates are built first. Then `rt must-fail` tries the edits of each crate in a copy of it, over what the build
-kept. An edit that was refused at its goal is not tried again while it, the goal, the sources that its crate stands on and the
-toolchain stay as they are, so an interrupted run goes on with the crates that it left. Prints a line for each crate and for each
-edit that isn't refused so, and last how many are.
+reader has judged. The crates below are built first. Edits of different functions are tried at once, in a copy of the crate, since a proof
+rests on the contracts of other functions and not on their bodies: `rt check --only` lists the goals of the turned functions that stay open. An
+edit that was refused at its goal is not tried again while it, the goal, the sources that its crate stands on and the toolchain stay as
+they are, so an interrupted run goes on with the crates that it left. Prints a line for each crate and for each edit that isn't
+refused so, and last how many are.
 """
 import argparse
 import concurrent.futures
@@ -31,9 +32,11 @@ import build
 import unplanted
 
 TOP = build.TOP
-# How many edits of a crate are tried side by side, by kits that do so, and the memory that they take at most.
-JOBS_A_CRATE = 2
+# The memory that a try takes at most.
 BYTES_A_CRATE = 5_000_000_000
+# How `rt check` tells an open goal: by the proof of its function, or by a line of the function.
+OF_PROOF = re.compile(r"(?:\./)?proofs/(\S+)/\w+\.antt:\d+:\d+: error: `([^`]+)`:")
+OF_LINE = re.compile(r"note: src/(\S+)\.rt:(\d+):\d+: .*\(`([^`]+)`\)")
 
 
 def named_goals():
@@ -49,32 +52,43 @@ def edits_of(crate, of_gate):
     return {name: f"{folder}/{name}" for name in sorted(os.listdir(folder))} if os.path.isdir(folder) else {}
 
 
-def fault_of(goal, told):
-    """Why what was told of an edit is no refusal at its goal, or None where it is one."""
-    if told is None:
-        return "nothing was told of it"
-    if not told.startswith("refused, as it must be: "):
-        return told
-    if goal is None:
-        return f"checks/edits/goals.txt names no goal for it: {told}"
-    # It tells the goal last, behind the function that is called if one is. `rt` cuts what it tells, so of a long name it may tell the front alone.
-    names = re.findall(r"`([^`]*)(`|$)", told)
-    if not any(name == goal or (name and not end and goal.startswith(name)) for name, end in names):
-        return f"not at the goal {goal}: {told}"
-    return None
+def pairs_of(edit):
+    """The file that an edit turns, and its lines with what stands in place of each."""
+    rows = [it.partition(": ") for it in edit.split("\n")]
+    old = [text for kind, _, text in rows if kind == "old"]
+    new = [text for kind, _, text in rows if kind.rstrip(":") == "new"]
+    return next(text for kind, _, text in rows if kind == "file"), list(zip(old, new, strict=True))
 
 
-def hand_over(kept, to, run):
-    """Gives what a build kept to the folder that `rt must-fail` makes for what its checks keep, so that its first one needn't prove all anew.
+def with_edits(texts, edit):
+    """The texts of files with an edit made in its file, or None where a line of it doesn't stand there once."""
+    file, pairs = pairs_of(edit)
+    text = texts[file]
+    for old, new in pairs:
+        if text.count(old) != 1:
+            return None
+        text = text.replace(old, new)
+    return {**texts, file: text}
 
-    Kits that begin with what stands in the crate's own `out` take it from there.
-    """
-    while run.poll() is None:
-        for made in os.listdir(to):
-            if made.startswith("rt-edits-"):
-                shutil.copytree(kept, f"{to}/{made}", copy_function=build.link, dirs_exist_ok=True)
-                return
-        time.sleep(0.05)
+
+def replace(file, text):
+    """Writes a file anew, which may share its bytes with that of the repository."""
+    os.remove(file)
+    with open(file, "w", encoding="utf-8") as it:
+        it.write(text)
+
+
+def open_goals(told, texts):
+    """The goals that a check left open, by the functions that have them. A function is named by its path below the crate."""
+    found = [(path.replace("/", "::"), goal) for path, goal in OF_PROOF.findall(told)]
+    for file, line, goal in (it for it in OF_LINE.findall(told) if f"src/{it[0]}.rt" in texts):
+        # The line may be one of an attribute above the function.
+        ends = [(end, name) for name, (_, end) in unplanted.functions_in(file, texts[f"src/{file}.rt"]).items() if end >= int(line) - 1]
+        found += [(name, goal) for _, name in sorted(ends)[:1]]
+    goals = {}
+    for name, goal in found:
+        goals.setdefault(name, set()).add(goal)
+    return goals
 
 
 class Crate:
@@ -89,6 +103,7 @@ class Crate:
         self.sums = {it: sum_of(it) for it in edits}
         before = set((build.text_of(self.kept) or "").split())
         self.left = [it for it in edits if self.sums[it] not in before]
+        self.turned = {it: unplanted.functions_of(name, build.text_of(edits[it])) for it in self.left}
 
     def cost(self):
         """What its edits cost beside those of others: each takes longer the longer the crate is."""
@@ -97,7 +112,7 @@ class Crate:
 
     def faults_of_goals(self, room):
         """Of the edits that are left, why the goal of one isn't that of the function that it turns, as the crate stands in a copy."""
-        turned = {it: unplanted.functions_of(self.name, build.text_of(self.edits[it])) for it in self.left}
+        turned = self.turned
         folders, told = unplanted.listed(self.name, sorted({name for names in turned.values() for name in names}), room, f"{room}/goals")
         if folders is None:
             return {it: f"the goals of the crate as it stands can't be listed: {told}" for it in self.left}
@@ -117,35 +132,73 @@ class Crate:
         return len(faults), [*(f"{self.name}/{it}: {fault}" for it, fault in faults.items()), f"{self.name}: {len(self.left)} goals asked in {minutes:.0f} minutes"]
 
     def copy_to(self, room):
-        """Copies the crate, and what its build kept, to a folder in which its edits are tried."""
+        """Copies the crate, and what a check of it kept, to a folder in which its edits are tried."""
         build.copy_beside(self.below, self.name, room)
-        shutil.copytree(f"{TOP}/crates/{self.name}/out/incremental", f"{room}/crates/{self.name}/out/incremental")
+        kept = f"{TOP}/crates/{self.name}/out/incremental"
+        if os.path.isdir(kept):
+            shutil.copytree(kept, f"{room}/crates/{self.name}/out/incremental")
+
+    def rounds(self, texts):
+        """The edits that are left, in rounds: those of one turn different functions, and each can be made over those before it."""
+        rounds = []
+        for it in self.left:
+            for made in rounds:
+                functions = {name for other in made[0] for name in self.turned[other]}
+                after = None if functions & {*self.turned[it]} else with_edits(made[1], build.text_of(self.edits[it]))
+                if after:
+                    made[0].append(it)
+                    made[1] = after
+                    break
+            else:
+                rounds.append([[it], with_edits(texts, build.text_of(self.edits[it]))])
+        return rounds
+
+    def faults_of(self, edits, edited, room):
+        """Tries edits at once, and returns why each that isn't refused at its goal isn't. Those of a text that can't be read are tried by halves."""
+        if edited is None:
+            return {it: "a line of it doesn't stand in its file once" for it in edits}
+        for file, text in edited.items():
+            replace(f"{room}/crates/{self.name}/{file}", text)
+        functions = sorted({name for it in edits for name in self.turned[it]})
+        words = ["rt", "check", *(it for name in functions for it in ("--only", name))]
+        how = {"stdin": subprocess.DEVNULL, "stdout": subprocess.PIPE, "stderr": subprocess.STDOUT}
+        told = subprocess.run(words, cwd=f"{room}/crates/{self.name}", text=True, check=False, **how).stdout
+        if not re.search(r"^only=\d+ proved=", told, re.M):
+            if len(edits) == 1:
+                return {edits[0]: f"no proof was tried of it: {told[-500:]}"}
+            halves = edits[: len(edits) // 2], edits[len(edits) // 2 :]
+            return {it: why for half in halves for it, why in self.faults_of(half, self.made_of(half), room).items()}
+        goals = open_goals(told, edited)
+        found = {it: {goal for name in self.turned[it] for goal in goals.get(name, ())} for it in edits}
+        return {it: f"not at the goal {self.goals[it]}: open are {', '.join(sorted(found[it])) or 'none'}" for it in edits if self.goals[it] not in found[it]}
+
+    def made_of(self, edits):
+        """The texts of the crate's files with these edits."""
+        texts = self.texts()
+        for it in edits:
+            texts = with_edits(texts, build.text_of(self.edits[it]))
+        return texts
+
+    def texts(self):
+        """The texts of the files that the edits turn."""
+        files = {pairs_of(build.text_of(it))[0] for it in self.edits.values()}
+        return {it: build.text_of(f"{TOP}/crates/{self.name}/{it}") for it in files}
 
     def try_left(self):
         """Tries the edits that are left, and returns how many aren't refused at their goal, and what is told of these and of the run."""
         began = time.monotonic()
         with tempfile.TemporaryDirectory() as room:
             self.copy_to(room)
-            unknown = self.faults_of_goals(room)
-            os.mkdir(f"{room}/crates/{self.name}/must-fail")
-            for it in self.left:
-                shutil.copy2(self.edits[it], f"{room}/crates/{self.name}/must-fail/{it}")
-            kept = f"{room}/crates/{self.name}/out/incremental"
-            os.mkdir(f"{room}/tmp")
-            own = {"TMPDIR": f"{room}/tmp", "RT_JOBS": str(JOBS_A_CRATE)}
-            how = {"stdin": subprocess.DEVNULL, "stdout": subprocess.PIPE, "stderr": subprocess.STDOUT, "env": {**os.environ, **own}}
-            with subprocess.Popen(["rt", "must-fail", self.name], cwd=room, text=True, **how) as run:
-                hand_over(kept, f"{room}/tmp", run)
-                said = run.communicate()[0]
-        told = dict(re.findall(rf"^(?:rt: )?must-fail {self.name}/(\S+\.edit): (.*)$", said, re.M))
-        faults = {it: fault_of(self.goals[it], told.get(it)) or unknown.get(it) for it in self.left}
+            faults = self.faults_of_goals(room)
+            rounds = self.rounds(self.texts())
+            for edits, edited in rounds:
+                faults = {**faults, **self.faults_of(edits, edited, room)}
         os.makedirs(os.path.dirname(self.kept), exist_ok=True)
         with open(self.kept, "a", encoding="utf-8") as kept:
-            kept.writelines(f"{self.sums[it]}\n" for it, fault in faults.items() if not fault)
+            kept.writelines(f"{self.sums[it]}\n" for it in self.left if it not in faults)
         minutes = (time.monotonic() - began) / 60
-        lines = [f"{self.name}/{it}: {fault}" for it, fault in faults.items() if fault]
-        more = [] if told else [said[-2000:]]
-        return len(lines), [*lines, *more, f"{self.name}: {len(self.left)} tried in {minutes:.0f} minutes"]
+        told = f"{self.name}: {len(self.left)} tried in {len(rounds)} rounds and {minutes:.0f} minutes"
+        return len(faults), [*(f"{self.name}/{it}: {why}" for it, why in faults.items()), told]
 
 
 def processes_that_fit():
@@ -169,8 +222,9 @@ def main():
     if not count:
         sys.exit("edits: there is no edit to try")
     left = sorted((it for it in crates if it.left), key=Crate.cost, reverse=True)
+    below = {name for it in left for name in it.below if name != it.name}
     with build.alone():
-        if left and not build.are_built(build.crates_below(*(it.name for it in left)), build.jobs_that_fit()):
+        if below and not build.are_built(build.crates_below(*sorted(below)), build.jobs_that_fit()):
             return 1
     faults = 0
     with concurrent.futures.ThreadPoolExecutor(asked.jobs or processes_that_fit()) as pool:
