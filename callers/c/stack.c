@@ -8,6 +8,7 @@
 #include <stdio.h>
 #include <stdlib.h>
 #include <string.h>
+#include <time.h>
 
 /* The whole stack of a thread: the thread's own storage and the frames up to the call are on it too. */
 enum { STACK = 256 * 1024, MANY = 100000 };
@@ -80,9 +81,10 @@ static const vortex_statistic stats[5] = {
      .ends = text_ends, .ends_len = 2},
 };
 
-/* A call of vortex_prune and what it has answered. */
+/* A call of vortex_prune or vortex_prune_sql, what it has answered, and the place that it told of a refusal. */
 typedef struct question {
     const text *predicate;
+    size_t place;
     uint8_t flags, status, answers[2];
 } question;
 
@@ -192,10 +194,11 @@ static void every_torso(void) {
 static void *prune_sql(void *given) {
     question *asked = given;
     size_t count;
-    vortex_fault fault;
+    vortex_fault fault = {0};
     vortex_span unread[1];
     asked->status = vortex_prune_sql(scope, 3, rows, 2, stats, 5, (const uint8_t *)asked->predicate->bytes, asked->predicate->len, 0,
                                      asked->answers, 2, unread, 1, &count, &fault);
+    asked->place = fault.entry;
     return NULL;
 }
 
@@ -255,6 +258,31 @@ static void every_condition(void) {
     }
 }
 
+/* The seconds that a text of so many bytes takes, made of one piece, and whether it is refused at a place. */
+static double refused_in(const char *piece, size_t bytes, uint8_t wanted) {
+    text condition = {0};
+    while (condition.len < bytes) add(&condition, piece);
+    question question = {.predicate = &condition, .status = 99, .answers = {9, 9}};
+    clock_t began = clock();
+    on_a_small_stack(prune_sql, &question);
+    double seconds = (double)(clock() - began) / CLOCKS_PER_SEC;
+    assert(question.status == wanted && question.answers[0] == 9 && question.answers[1] == 9);
+    assert(question.place <= condition.len);
+    free(condition.bytes);
+    return seconds;
+}
+
+/* Texts of 16 MB that are no condition: four times the bytes take less than eight times as long. */
+static void every_long_text(void) {
+    const struct { const char *piece; uint8_t status; } rows[] = {
+        {"(", VORTEX_TOO_DEEP}, {"n > 0 AND ", VORTEX_BAD_SQL}, {"' is not closed '", VORTEX_BAD_SQL}, {"NOT ", VORTEX_TOO_DEEP},
+    };
+    for (size_t i = 0; i < sizeof rows / sizeof *rows; i++) {
+        double quick = refused_in(rows[i].piece, 4000000, rows[i].status);
+        assert(refused_in(rows[i].piece, 16000000, rows[i].status) < 8 * quick + 0.5);
+    }
+}
+
 /* The calls about columns and tables, with many rows and many zones. */
 static void *other_calls(void *given) {
     (void)given;
@@ -291,6 +319,7 @@ int main(void) {
     every_torso();
     every_condition();
     every_list();
+    every_long_text();
     on_a_small_stack(other_calls, NULL);
     puts("stack: each call fits into 256 KiB, and a deeper predicate is refused");
     return 0;
