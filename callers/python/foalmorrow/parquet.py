@@ -17,8 +17,10 @@ from collections.abc import Iterator
 from typing import Any, BinaryIO
 
 from .answers import Answers
+from .footers import Footers
 from .kinds import Answer
 from .parquet_calls import TAIL, FooterFault, NotReadError, footer_length, prune_footer
+from .parquet_footers import of_footer
 from .sql import warn_of
 
 __all__ = ["File", "FooterFault", "NotReadError", "RowGroups", "open"]
@@ -87,6 +89,15 @@ class File:
         """Takes the bytes of a footer, without its length and the mark behind it."""
         self.footer = footer
         self._groups: int | None = None
+
+    @property
+    def footers(self) -> Footers:
+        """The statistics of the row groups as footers, for all that these do: predicates over dates, times, decimals and floating numbers too, merging,
+        explaining, and files of their own. They are read in Python, by the rules of ``docs/SYSTEMS.md`` of the repository, and anew each time.
+
+        ParquetFault where the bytes are no footer, or say what can't be.
+        """
+        return of_footer(self.footer)
 
     def prune(self, condition: str, *, last_names: bool = False) -> RowGroups:
         """Returns what to do with each row group under a condition in SQL, as it stands behind WHERE.

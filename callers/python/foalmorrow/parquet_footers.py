@@ -1,7 +1,8 @@
 # SPDX-License-Identifier: Apache-2.0
-"""The footers of a Parquet file as footers of its row groups: bounds and null counts as the format's rules let them be used.
+"""The footer of a Parquet file as footers of its row groups: bounds and null counts as the format's rules let them be used.
 
-They are read here in Python, for tables of many files. ``foalmorrow.parquet`` reads the footer of one file, and a condition in SQL, by proof.
+It is read here in Python, for tables of many files and for ``foalmorrow.parquet.File.footers``. ``foalmorrow.parquet`` reads the footer of one
+file, and a condition in SQL, by proof.
 """
 from __future__ import annotations
 
@@ -19,7 +20,7 @@ from .tables import Bound, ToldFault, Zones
 from .thrift_compact import Thrift, ThriftFault
 from .types import Date, Decimal, FixedBinary, Float32, Float64, Time, Timestamp, Unmapped, Uuid
 
-__all__ = ["ParquetFault", "read"]
+__all__ = ["ParquetFault", "of_footer", "read"]
 
 _BOOLEAN, _INT32, _INT64, _INT96, _FLOAT, _DOUBLE, _BYTES, _FIXED = range(8)
 _UNITS = {1: "ms", 2: "us", 3: "ns"}
@@ -35,14 +36,28 @@ def read(path: str | os.PathLike[str]) -> Footers:
     or says what can't be; OSError where the file can't be read.
     """
     try:
-        return _File(_footer(path)).footers()
-    except (ThriftFault, ParquetFault, ToldFault, FooterError) as fault:
+        return of_footer(_footer(path))
+    except ParquetFault as fault:
         raise ParquetFault(f"{os.fspath(path)}: {fault}") from None
+
+
+def of_footer(footer: bytes) -> Footers:
+    """Returns the row groups of a footer as zones, as ``read`` does: its bytes, without its length and the mark behind it. ParquetFault as there."""
+    thrift = Thrift(footer)
+    try:
+        found = thrift.struct()
+        if thrift.at != len(footer):
+            raise ParquetFault("bytes stand behind its footer's last field")
+        return _File(found).footers()
+    except (ThriftFault, ToldFault, FooterError) as fault:
+        raise ParquetFault(str(fault)) from None
+    except ParquetFault:
+        raise
     except (IndexError, KeyError, TypeError, ValueError, AttributeError, struct.error, RecursionError) as fault:
-        raise ParquetFault(f"{os.fspath(path)}: its footer can't be read: {fault!r}") from None
+        raise ParquetFault(f"its footer can't be read: {fault!r}") from None
 
 
-def _footer(path: str | os.PathLike[str]) -> dict[int, Any]:
+def _footer(path: str | os.PathLike[str]) -> bytes:
     with open(path, "rb") as file:
         size = file.seek(0, os.SEEK_END)
         file.seek(max(size - 8, 0))
@@ -58,11 +73,7 @@ def _footer(path: str | os.PathLike[str]) -> dict[int, Any]:
         data = file.read(length)
     if len(data) != length:
         raise ParquetFault("it was changed while it was read")
-    thrift = Thrift(data)
-    found = thrift.struct()
-    if thrift.at != len(data):
-        raise ParquetFault("bytes stand behind its footer's last field")
-    return found
+    return data
 
 
 @dataclass(frozen=True)

@@ -45,6 +45,32 @@ class BesideAModel(unittest.TestCase):
         starts = [sum(map(len, groups[:place])) for place in range(len(groups))]
         self.assertEqual(inside, {row for place in found.kept for row in range(starts[place], starts[place] + len(groups[place]))})
 
+    @settings(max_examples=1000, deadline=None)
+    @given(CONDITIONS, zones(), st.integers(0, 2**32))
+    def test_no_row_is_lost_by_footers(self, wanted: Condition, groups: list[list[Row]], dice: int) -> None:
+        file = parquet.File(footer(groups, random.Random(dice)))
+        with warnings.catch_warnings():
+            warnings.simplefilter("ignore", UnreadWarning)
+            found = file.footers.prune(wanted.text)
+        for answer, proved, rows in zip(found, quietly(file, wanted.text), groups, strict=True):
+            truths = {wanted.truth(row) is True for row in rows}
+            self.assertTrue(answer != Answer.SKIP or truths <= {False}, wanted.text)
+            self.assertTrue(answer != Answer.WHOLE or truths <= {True}, wanted.text)
+            self.assertTrue(proved == Answer.READ or answer == proved, wanted.text)
+
+    def test_footers_have_the_types_that_sql_has_no_columns_of(self) -> None:
+        groups = [[row(day=10), row(day=20)], [row(day=30), row(day=31)]]
+        files = [parquet.File(footer(groups, random.Random(dice))) for dice in range(50)]
+        answers = {day: {tuple(it.footers.prune(f"day >= DATE '{day}'")) for it in files} for day in ("1970-01-22", "1970-02-01")}
+        self.assertIn((Answer.SKIP, Answer.WHOLE), answers["1970-01-22"])
+        self.assertLessEqual(answers["1970-02-01"], {(Answer.READ, Answer.READ), (Answer.SKIP, Answer.READ), (Answer.READ, Answer.SKIP)})
+        self.assertIn((Answer.SKIP, Answer.READ), answers["1970-02-01"])
+
+    def test_footers_are_refused_by_name(self) -> None:
+        for data, words in ((b"", "footer"), (b"\0", "can't be read"), (footer([[row(n=1)]], random.Random(1)) + b"\0", "behind its footer's last field")):
+            with self.assertRaisesRegex(ParquetFault, words):
+                parquet.File(data).footers
+
     def test_something_is_skipped_and_whole(self) -> None:
         groups = [[row(n=1), row(n=3)], [row(n=7), row(n=9)]]
         for dice in range(200):
