@@ -1,334 +1,276 @@
-//! Tests of `cells`: the forms in which a column keeps its values, by the columns of them.
-use crate::testing::{self, *};
-use std::alloc::{AllocError, Global};
+//! Tests of `cells`, `natives`, `texts`, `blobs` and `nulls`: the forms in which a column keeps its
+//! values, by the columns of them.
+use crate::testing::*;
+use std::alloc::Global;
 use std::process::Abort;
+use vortex_base::cells::ShortCell;
 use vortex_base::{
-    BaseError, Cells, Chunk, Column, DType, Nullability, PType, ScalarValue, ValueRef,
+    Cells, Chunk, Column, DType, Element, Native, Natives, Nullability, PType, ScalarValue,
+    ValueRef,
 };
 
-const BINARY_OR_NULL: DType = DType::Binary(Nullability::Nullable);
-
-type Values = Vec<Option<ScalarValue>>;
-
-const fn number(ptype: PType) -> DType {
-    DType::Primitive(ptype, Nullability::Nullable)
+fn copy(rt: &impl Abort, value: &ScalarValue) -> ScalarValue {
+    value.try_clone().expect(rt, "a copy")
 }
 
-// The column of cells, where they fit its type.
-fn column_of(dtype: DType, cells: Cells, size: u64) -> Result<Column, BaseError> {
-    if !cells.fits(&dtype) {
-        return Err(BaseError::Mismatch);
-    }
-    Ok(Column::new_unchecked(dtype, cells, size))
+fn expect_value(rt: &impl Abort, lent: Option<ValueRef<'_>>, value: &ScalarValue) {
+    let lent = lent.expect(rt, "a value");
+    assert!(rt; lent.to_value().expect(rt, "a copy") == *value);
 }
 
-// Cells of a type's own form that hold the values.
-fn pushed(alloc: Global, dtype: DType, values: Values) -> Result<Cells, AllocError> {
-    let mut cells = Cells::new(alloc, dtype);
-    for value in values {
-        cells.push(value)?;
-    }
-    Ok(cells)
+fn of_cells(rt: &impl Abort, dtype: DType, cells: Cells) -> Column {
+    Column::of_cells(dtype, cells, 3).expect(rt, "a column")
 }
 
-// A value and null.
-fn and_null(alloc: Global, value: ScalarValue) -> Result<Values, AllocError> {
+// The column of a value and null, pushed into cells of the type.
+fn typed(rt: &impl Abort, alloc: Global, dtype: DType, value: ScalarValue) -> Column {
+    let mut cells = Cells::with_capacity(alloc, dtype, 2).expect(rt, "room");
+    cells.push(Some(value)).expect(rt, "a value");
+    cells.push(None).expect(rt, "null");
+    of_cells(rt, dtype, cells)
+}
+
+// The column of a value and null, kept as values of any kind.
+fn of_any(rt: &impl Abort, alloc: Global, dtype: DType, value: ScalarValue) -> Column {
     let mut values = Vec::new(alloc);
-    values.push(Some(value))?;
-    values.push(None)?;
-    Ok(values)
+    values.push(Some(value)).expect(rt, "a value");
+    values.push(None).expect(rt, "null");
+    Column::try_new(dtype, values, 3).expect(rt, "a column")
 }
 
-fn is_value(lent: Option<ValueRef<'_>>, value: &ScalarValue) -> Result<bool, AllocError> {
-    match lent {
-        Some(lent) => Ok(lent.to_value()? == *value),
-        None => Ok(false),
-    }
-}
-
-// Whether the column holds the value, then null, and no more.
-fn holds_and_null(column: &Column, value: &ScalarValue) -> Result<bool, AllocError> {
-    if column.len() != 2 {
-        return Ok(false);
-    }
-    Ok(is_value(column.get(0), value)? && column.get(1).is_none())
-}
-
-// The value and null, pushed into cells of the type and read again.
-fn is_kept(alloc: Global, dtype: DType, value: &ScalarValue) -> Result<bool, BaseError> {
-    let cells = with_null(alloc, dtype, Ok(value.try_clone()?))?;
-    let column = column_of(dtype, cells, 9)?;
-    keeps(&column, dtype, value)
-}
-
-fn keeps(column: &Column, dtype: DType, value: &ScalarValue) -> Result<bool, BaseError> {
-    Ok(holds_and_null(column, value)? && column.dtype() == dtype && column.size() == 9)
-}
-
-fn expect_kept(rt: &impl Abort, alloc: Global, dtype: DType, value: ScalarValue) {
-    assert!(rt; is_kept(alloc, dtype, &value).expect(rt, "a column"));
-}
-
-fn expect_made_kept(
-    rt: &impl Abort,
-    alloc: Global,
-    dtype: DType,
-    value: Result<ScalarValue, AllocError>,
-) {
-    expect_kept(rt, alloc, dtype, value.expect(rt, "a value"));
-}
-
-#[test]
-fn numbers_are_kept(rt: HostRuntime) {
-    let alloc = rt.alloc();
-    expect_kept(&rt, alloc, number(PType::U8), ScalarValue::from(255u8));
-    expect_kept(&rt, alloc, number(PType::U16), ScalarValue::from(256u16));
-    expect_kept(&rt, alloc, number(PType::U32), ScalarValue::from(65536u32));
-    expect_kept(&rt, alloc, number(PType::U64), ScalarValue::from(u64::MAX));
-    expect_kept(&rt, alloc, number(PType::I8), ScalarValue::from(-128i8));
-    expect_kept(&rt, alloc, number(PType::I16), ScalarValue::from(-129i16));
-    expect_kept(&rt, alloc, number(PType::I32), ScalarValue::from(-32769i32));
-    expect_kept(&rt, alloc, number(PType::I64), ScalarValue::from(i64::MIN));
-}
-
-#[test]
-fn truths_texts_and_bytes_are_kept(rt: HostRuntime) {
-    let alloc = rt.alloc();
-    expect_kept(&rt, alloc, BOOL_OR_NULL, ScalarValue::from(true));
-    expect_kept(&rt, alloc, BOOL_OR_NULL, ScalarValue::from(false));
-    expect_made_kept(&rt, alloc, UTF8_OR_NULL, text_value(alloc, "é"));
-    expect_made_kept(&rt, alloc, BINARY_OR_NULL, bytes_value(alloc, &[0xC1, 0]));
-}
-
-// A value of another kind makes all of them values of any kind.
-fn five_and(alloc: Global, value: Result<ScalarValue, AllocError>) -> Result<Cells, AllocError> {
-    let mut cells = Cells::with_capacity(alloc, I32, 1)?;
-    push_five_and(&mut cells, value)?;
-    Ok(cells)
-}
-
-fn push_five_and(
-    cells: &mut Cells,
-    value: Result<ScalarValue, AllocError>,
-) -> Result<(), AllocError> {
-    cells.push(Some(ScalarValue::from(5i32)))?;
-    cells.push(Some(value?))?;
+// The value is pushed, and lent to be pushed once more behind a null.
+fn expect_kept(rt: &impl Abort, alloc: Global, dtype: DType, value: &ScalarValue) {
+    let mut cells = Cells::new(alloc, dtype);
+    cells.push(Some(copy(rt, value))).expect(rt, "a value");
+    cells.push(None).expect(rt, "null");
+    cells
+        .push_lent(Some(value.lend()))
+        .expect(rt, "a lent value");
     cells.shrink_to_fit();
-    Ok(())
+    let column = of_cells(rt, dtype, cells);
+    assert!(rt; column.len() == 3);
+    expect_value(rt, column.get(0), value);
+    assert!(rt; column.get(1).is_none());
+    expect_value(rt, column.get(2), value);
 }
 
-fn fits_neither(cells: &Cells) -> bool {
-    cells.len() == 2 && !cells.fits(&I32) && !cells.fits(&UTF8)
+// The value is set in the place of a null.
+fn expect_set(rt: &impl Abort, alloc: Global, dtype: DType, value: &ScalarValue) {
+    let mut cells = Cells::nulls(alloc, dtype, 2).expect(rt, "nulls");
+    assert_eq!(rt; cells.len(), 2);
+    cells.set(1, Some(copy(rt, value))).expect(rt, "a value");
+    let column = of_cells(rt, dtype, cells);
+    assert!(rt; column.len() == 2);
+    assert!(rt; column.get(0).is_none());
+    expect_value(rt, column.get(1), value);
 }
 
-fn expect_fits_neither(rt: &impl Abort, cells: Result<Cells, AllocError>) {
-    assert!(rt; fits_neither(&cells.expect(rt, "cells")));
+fn chunk_of(rt: &impl Abort, alloc: Global, dtype: DType, column: Column) -> Chunk {
+    let mut columns = Vec::new(alloc);
+    columns.push(column).expect(rt, "columns");
+    let scope = scope(alloc, &[("a", dtype)]).expect(rt, "a scope");
+    Chunk::try_new(scope, columns).expect(rt, "a chunk")
 }
 
-#[test]
-fn mixed_values_fit_no_type(rt: HostRuntime) {
-    let alloc = rt.alloc();
-    expect_fits_neither(&rt, five_and(alloc, text_value(alloc, "x")));
-    expect_fit(&rt, I32, five_and(alloc, Ok(ScalarValue::from(6i32))), true);
-    expect_fit(
-        &rt,
-        I32,
-        five_and(alloc, Ok(ScalarValue::from(6i64))),
-        false,
-    );
+// Moves the rows of the second chunk behind the first's.
+fn append(rt: &impl Abort, chunk: &mut Chunk, other: &mut Chunk) {
+    assert!(rt; *chunk.scope() == *other.scope());
+    assert!(rt; chunk.sizes_fit(other));
+    chunk.append(other).expect(rt, "appended");
+    assert!(rt; other.rows() == 0);
 }
 
-fn with_null(
-    alloc: Global,
-    dtype: DType,
-    value: Result<ScalarValue, AllocError>,
-) -> Result<Cells, AllocError> {
-    pushed(alloc, dtype, and_null(alloc, value?)?)
+// The chunk holds the value and null, twice.
+fn expect_twice(rt: &impl Abort, chunk: &Chunk, value: &ScalarValue) {
+    assert!(rt; chunk.scope().len() == 1);
+    let column = chunk.column(0);
+    assert!(rt; column.len() == 4);
+    assert!(rt; column.size() == 6 && column.get(1).is_none() && column.get(3).is_none());
+    expect_value(rt, column.get(0), value);
+    expect_value(rt, column.get(2), value);
 }
 
-// Whether the cells of a value and null fit their type, as told.
-fn expect_fit(rt: &impl Abort, dtype: DType, cells: Result<Cells, AllocError>, expected: bool) {
-    assert!(rt; cells.expect(rt, "cells").fits(&dtype) == expected);
-}
-
-fn five() -> Result<ScalarValue, AllocError> {
-    Ok(ScalarValue::from(5i32))
-}
-
-#[test]
-fn null_fits_where_it_may_stand(rt: HostRuntime) {
-    let alloc = rt.alloc();
-    expect_fit(
-        &rt,
-        I32_OR_NULL,
-        with_null(alloc, I32_OR_NULL, five()),
-        true,
-    );
-    expect_fit(&rt, I32, with_null(alloc, I32, five()), false);
-    let text = text_value(alloc, "x");
-    expect_fit(
-        &rt,
-        UTF8_OR_NULL,
-        with_null(alloc, UTF8_OR_NULL, text),
-        true,
-    );
-    let text = text_value(alloc, "x");
-    expect_fit(&rt, UTF8, with_null(alloc, UTF8, text), false);
-}
-
-// The column of a value and null: in cells of the type's own form, or as values of any kind.
+// The chunk of a value and null, in cells of the type or as values of any kind.
 fn side(
+    rt: &impl Abort,
     alloc: Global,
     dtype: DType,
     value: &ScalarValue,
     is_typed: bool,
-) -> Result<Column, BaseError> {
-    let values = and_null(alloc, value.try_clone()?)?;
-    if is_typed {
-        column_of(dtype, pushed(alloc, dtype, values)?, 3)
+) -> Chunk {
+    let value = copy(rt, value);
+    let column = if is_typed {
+        typed(rt, alloc, dtype, value)
     } else {
-        column(dtype, values, 3)
+        of_any(rt, alloc, dtype, value)
+    };
+    chunk_of(rt, alloc, dtype, column)
+}
+
+// Rows go behind others in each form.
+fn expect_behind(rt: &impl Abort, alloc: Global, dtype: DType, value: &ScalarValue) {
+    for (is_typed, is_next_typed) in [(true, true), (true, false), (false, true), (false, false)] {
+        let mut chunk = side(rt, alloc, dtype, value, is_typed);
+        let mut next = side(rt, alloc, dtype, value, is_next_typed);
+        append(rt, &mut chunk, &mut next);
+        expect_twice(rt, &chunk, value);
     }
 }
 
-fn chunk_of(
-    alloc: Global,
-    dtype: DType,
-    side: Result<Column, BaseError>,
-) -> Result<Chunk, BaseError> {
-    testing::chunk(scope(alloc, &[("a", dtype)])?, one_column(alloc, side?)?)
+// Each call that takes memory for the value and its type.
+fn expect_held(rt: &impl Abort, alloc: Global, dtype: DType, value: &ScalarValue) {
+    expect_kept(rt, alloc, dtype, value);
+    expect_set(rt, alloc, dtype, value);
+    expect_behind(rt, alloc, dtype, value);
 }
 
-fn one_column(alloc: Global, column: Column) -> Result<Vec<Column>, AllocError> {
-    let mut columns = Vec::new(alloc);
-    columns.push(column)?;
-    Ok(columns)
-}
-
-// Moves the rows of the second chunk behind the first's, where that may be done.
-fn append(chunk: &mut Chunk, other: &mut Chunk) -> Result<(), BaseError> {
-    if *chunk.scope() == *other.scope() && chunk.sizes_fit(other) {
-        return chunk.append(other);
+#[test]
+fn texts_and_bytes_are_held(rt: HostRuntime) {
+    let alloc = rt.alloc();
+    for text in ["é", ""] {
+        let value = text_value(alloc, text).expect(&rt, "a text");
+        expect_held(&rt, alloc, UTF8_OR_NULL, &value);
     }
-    Err(BaseError::Mismatch)
-}
-
-// Whether the column holds the first value, null, the second value and null, with both sizes.
-fn holds_both(
-    column: &Column,
-    first: &ScalarValue,
-    second: &ScalarValue,
-) -> Result<bool, AllocError> {
-    if column.len() != 4 || column.size() != 6 {
-        return Ok(false);
+    for bytes in [[0xC1, 0].as_slice(), [].as_slice()] {
+        let value = bytes_value(alloc, bytes).expect(&rt, "bytes");
+        expect_held(&rt, alloc, BINARY_OR_NULL, &value);
     }
-    let are_null = column.get(1).is_none() && column.get(3).is_none();
-    Ok(are_null && is_value(column.get(0), first)? && is_value(column.get(2), second)?)
 }
 
-fn is_appended(
-    chunk: &Chunk,
-    first: &ScalarValue,
-    second: &ScalarValue,
-) -> Result<bool, AllocError> {
-    if chunk.scope().len() != 1 {
-        return Ok(false);
-    }
-    Ok(chunk.rows() == 4 && holds_both(chunk.column(0), first, second)?)
+// Whether the column lends the value and null as slices of their type.
+fn lends<T: Native + PartialEq>(column: &Column, value: T) -> bool {
+    let Some(natives) = column.natives::<T>() else {
+        return false;
+    };
+    let (values, there) = natives.as_slices();
+    values.first() == Some(&value) && there == [true, false].as_slice()
 }
 
-fn is_emptied(chunk: &Chunk) -> bool {
-    chunk.rows() == 0
-        && chunk.scope().len() == 1
-        && chunk.column(0).len() == 0
-        && chunk.column(0).size() == 0
+// Cells of the type that hold the value and null, and are made of slices.
+fn of_slices<T: Native>(rt: &impl Abort, alloc: Global, value: T) -> Cells {
+    let mut values = Vec::new(alloc);
+    values.push(value).expect(rt, "a value");
+    values.push(value).expect(rt, "a value");
+    assert_eq!(rt; values.len(), 2);
+    let natives = Natives::from_slices(alloc, &values, &[true, false]).expect(rt, "natives");
+    T::into_cells(natives)
 }
 
-// Whether the second value's chunk goes behind the first's, each in cells of its type or as values
-// of any kind.
-fn goes_behind(
-    alloc: Global,
-    dtype: DType,
-    first: (&ScalarValue, bool),
-    second: (&ScalarValue, bool),
-) -> Result<bool, BaseError> {
-    let mut chunk = chunk_of(alloc, dtype, side(alloc, dtype, first.0, first.1))?;
-    let mut other = chunk_of(alloc, dtype, side(alloc, dtype, second.0, second.1))?;
-    moves(&mut chunk, &mut other, first.0, second.0)
+// Cells of the type that hold the cell and null.
+fn of_short_cells(rt: &impl Abort, alloc: Global, dtype: DType, cell: ShortCell) -> Cells {
+    let mut cells = Cells::nulls(alloc, dtype, 1).expect(rt, "a null");
+    assert_eq!(rt; cells.len(), 1);
+    cells
+        .set_cell(0, cell)
+        .expect(rt, "a cell in the place of another");
+    cells.push_cell(ShortCell::Null).expect(rt, "null");
+    cells
 }
 
-// Whether the rows of the second chunk go behind the first's.
-fn moves(
-    chunk: &mut Chunk,
-    other: &mut Chunk,
-    first: &ScalarValue,
-    second: &ScalarValue,
-) -> Result<bool, BaseError> {
-    append(chunk, other)?;
-    Ok(is_appended(chunk, first, second)? && is_emptied(other))
+// The value is one of its type, and the cell of it.
+fn expect_of_type<T: Native + PartialEq>(rt: &impl Abort, value: T, cell: ShortCell) {
+    assert!(rt; T::of_lent(value.lend()) == Some(value));
+    assert!(rt; T::of_value(&value.to_value()) == Some(value));
+    assert!(rt; T::of_cell(cell) == Some(Some(value)));
 }
 
-fn go_behind_in_each_form(
-    alloc: Global,
-    dtype: DType,
-    first: &ScalarValue,
-    second: &ScalarValue,
-) -> Result<bool, BaseError> {
-    let are_typed = goes_behind(alloc, dtype, (first, true), (second, true))?;
-    let first_is = goes_behind(alloc, dtype, (first, true), (second, false))?;
-    let second_is = goes_behind(alloc, dtype, (first, false), (second, true))?;
-    let neither_is = goes_behind(alloc, dtype, (first, false), (second, false))?;
-    Ok(are_typed && first_is && second_is && neither_is)
-}
-
-fn expect_behind(
+fn expect_native<T: Native + PartialEq>(
     rt: &impl Abort,
     alloc: Global,
     dtype: DType,
-    first: ScalarValue,
-    second: ScalarValue,
+    value: T,
+    cell: ShortCell,
 ) {
-    assert!(rt; go_behind_in_each_form(alloc, dtype, &first, &second).expect(rt, "chunks"));
+    expect_of_type(rt, value, cell);
+    expect_held(rt, alloc, dtype, &value.to_value());
+    assert!(rt; lends(&typed(rt, alloc, dtype, value.to_value()), value));
+    assert!(rt; lends(&of_cells(rt, dtype, of_slices(rt, alloc, value)), value));
+    assert!(rt;
+        lends(
+            &of_cells(rt, dtype, of_short_cells(rt, alloc, dtype, cell)),
+            value
+        )
+    );
 }
 
 #[test]
-fn chunks_of_each_form_are_appended(rt: HostRuntime) {
+fn truths_and_numbers_are_held(rt: HostRuntime) {
+    use ShortCell::{Bool, I8, I16, I32, I64, U8, U16, U32, U64};
     let alloc = rt.alloc();
-    expect_behind(&rt, alloc, I32_OR_NULL, 5i32.into(), 6i32.into());
-    let x = text_value(alloc, "x").expect(&rt, "x");
-    let y = text_value(alloc, "y").expect(&rt, "y");
-    expect_behind(&rt, alloc, UTF8_OR_NULL, x, y);
-    let ab = bytes_value(alloc, &[1, 2]).expect(&rt, "two bytes");
-    let c = bytes_value(alloc, &[3]).expect(&rt, "a byte");
-    expect_behind(&rt, alloc, BINARY_OR_NULL, ab, c);
+    expect_native(&rt, alloc, BOOL_OR_NULL, true, Bool(true));
+    expect_native(&rt, alloc, number(PType::U8), 255u8, U8(255));
+    expect_native(&rt, alloc, number(PType::U16), 256u16, U16(256));
+    expect_native(&rt, alloc, number(PType::U32), 65536u32, U32(65536));
+    expect_native(&rt, alloc, number(PType::U64), u64::MAX, U64(u64::MAX));
+    expect_native(&rt, alloc, number(PType::I8), -128i8, I8(-128));
+    expect_native(&rt, alloc, number(PType::I16), -129i16, I16(-129));
+    expect_native(&rt, alloc, number(PType::I32), -32769i32, I32(-32769));
+    expect_native(&rt, alloc, number(PType::I64), i64::MIN, I64(i64::MIN));
+}
+
+// A truth behind a null of another form makes of both values of any kind.
+fn expect_widened(rt: &impl Abort, alloc: Global, dtype: DType) {
+    let mut cells = Cells::new(alloc, dtype);
+    cells.push(None).expect(rt, "null");
+    cells.push_cell(ShortCell::Bool(true)).expect(rt, "a truth");
+    cells.shrink_to_fit();
+    assert!(rt; cells.len() == 2 && cells.fits(&BOOL_OR_NULL) && !cells.fits(&dtype));
 }
 
 #[test]
-fn chunks_of_each_number_type_are_appended(rt: HostRuntime) {
+fn values_of_another_kind_stand_beside_each_form(rt: HostRuntime) {
     let alloc = rt.alloc();
-    expect_behind(&rt, alloc, number(PType::U8), 5u8.into(), 6u8.into());
-    expect_behind(&rt, alloc, number(PType::U16), 5u16.into(), 6u16.into());
-    expect_behind(&rt, alloc, number(PType::U32), 5u32.into(), 6u32.into());
-    expect_behind(&rt, alloc, number(PType::U64), 5u64.into(), 6u64.into());
-    expect_behind(&rt, alloc, number(PType::I8), 5i8.into(), 6i8.into());
-    expect_behind(&rt, alloc, number(PType::I16), 5i16.into(), 6i16.into());
-    expect_behind(&rt, alloc, number(PType::I64), 5i64.into(), 6i64.into());
-    expect_behind(&rt, alloc, BOOL_OR_NULL, true.into(), false.into());
-}
-
-// Two chunks of nulls alone, one row and two.
-fn nulls(alloc: Global, count: usize) -> Result<Chunk, BaseError> {
-    let mut cells = Cells::new(alloc, DType::Null);
-    for _null in 0..count {
-        cells.push(None)?;
+    for ptype in [PType::U8, PType::U16, PType::U32, PType::U64] {
+        expect_widened(&rt, alloc, number(ptype));
     }
-    chunk_of(alloc, DType::Null, column_of(DType::Null, cells, 1))
+    for ptype in [PType::I8, PType::I16, PType::I32, PType::I64] {
+        expect_widened(&rt, alloc, number(ptype));
+    }
+    for dtype in [UTF8_OR_NULL, BINARY_OR_NULL, DType::Null] {
+        expect_widened(&rt, alloc, dtype);
+    }
+}
+
+fn expect_lent(rt: &impl Abort, natives: Natives<i64>, values: &[i64], there: &[bool]) {
+    let (dtype, cells) = (number(PType::I64), Cells::I64(natives));
+    assert!(rt; cells.fits(&dtype));
+    let column = Column::new_unchecked(dtype, cells, 8);
+    let natives = column.natives::<i64>().expect(rt, "natives");
+    let (lent, told) = natives.as_slices();
+    assert!(rt; lent == values && told == there);
 }
 
 #[test]
-fn chunks_of_nulls_are_appended(rt: HostRuntime) {
-    let mut chunk = nulls(rt.alloc(), 1).expect(&rt, "a chunk");
-    let mut other = nulls(rt.alloc(), 2).expect(&rt, "another");
-    append(&mut chunk, &mut other).expect(&rt, "appended");
-    assert!(rt; chunk.rows() == 3 && other.rows() == 0);
+fn slices_and_vectors_become_columns(rt: HostRuntime) {
+    let alloc = rt.alloc();
+    let values = [-5, 0, i64::MAX];
+    let natives = Natives::from_slice(alloc, &values).expect(&rt, "natives");
+    expect_lent(&rt, natives, &values, &[true, true, true]);
+    let vector = Vec::from_slice(alloc, &values).expect(&rt, "a vector");
+    let natives = Natives::from_vec(alloc, vector).expect(&rt, "natives");
+    expect_lent(&rt, natives, &values, &[true, true, true]);
+    let vector = Vec::from_slice(alloc, &values).expect(&rt, "a vector");
+    let there = Vec::from_slice(alloc, &[true, false, true]).expect(&rt, "truths");
+    assert!(rt; vector.len() == there.len());
+    let natives = Natives::from_vecs(vector, there);
+    expect_lent(&rt, natives, &values, &[true, false, true]);
+}
+
+// The chunk of so many rows of a type without values.
+fn nulls(rt: &impl Abort, alloc: Global, count: usize) -> Chunk {
+    let cells = Cells::nulls(alloc, DType::Null, count).expect(rt, "nulls");
+    chunk_of(rt, alloc, DType::Null, of_cells(rt, DType::Null, cells))
+}
+
+#[test]
+fn nulls_alone_are_held(rt: HostRuntime) {
+    let alloc = rt.alloc();
+    let mut chunk = nulls(&rt, alloc, 1);
+    append(&rt, &mut chunk, &mut nulls(&rt, alloc, 2));
+    assert!(rt; chunk.rows() == 3);
+    let state = DType::MinMaxState(Element::Bool, Nullability::NonNullable);
+    for dtype in [DType::Null, state] {
+        let cells = Cells::with_capacity(alloc, dtype, 3).expect(&rt, "room");
+        assert!(rt; cells.len() == 0);
+    }
 }
