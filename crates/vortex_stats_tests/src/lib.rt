@@ -1,10 +1,7 @@
-//! Tests of `vortex_stats` by its public calls: worked rows, which were written down before the
-//! code, over numbers, texts and a type whose clone refuses; and callers that are proved from the
-//! contracts alone.
+//! Tests of `vortex_stats` by its public calls: ample memory and refused memory, printed texts, and
+//! each call of the built code once; and callers that are proved from the contracts alone.
 #![tactic(auto)]
 
-#[cfg(test)]
-mod batches;
 #[cfg(test)]
 mod bitsets;
 #[cfg(test)]
@@ -12,9 +9,7 @@ mod bounds;
 #[cfg(test)]
 mod callers;
 #[cfg(test)]
-mod combinations;
-#[cfg(test)]
-mod measures;
+mod columns;
 #[cfg(test)]
 mod merges;
 #[cfg(test)]

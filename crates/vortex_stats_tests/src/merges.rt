@@ -1,248 +1,165 @@
-//! Merges of sets by the built code: a table of rows by value, and through views.
-use crate::callers::{merged_through_view, mixed_through_view};
-use crate::testing::Plain::{Int, Long, Truth, Word};
-use crate::testing::{Entry, I32, Row, Sets, U8, UTF8, is_yes, push_text, sets};
-use std::alloc::{AllocError, Global};
+//! Merges and combinations of sets of a text column by the built code, by value and through views,
+//! with ample memory.
+use crate::callers::{combined_through_view, merged_through_view, mixed_through_view};
+use crate::testing::{UTF8, Value, has, text, truth, word};
+use std::alloc::Global;
 use std::process::Abort;
-use vortex_base::dtype::DType;
 use vortex_stats::error::StatsError;
-use vortex_stats::precision::Precision::{Absent, Exact, Inexact};
-use vortex_stats::stat::Stat::{
-    self, IsConstant, IsSorted, IsStrictSorted, Max, Min, NaNCount, NullCount, Sum,
-    UncompressedSizeInBytes,
-};
-use vortex_stats::stats_set::StatsSet;
+use vortex_stats::stat::Stat;
+use vortex_stats::stats_set::{MergeRefused, StatsSet};
 
-// Two sets and their ordered merge.
-type Merge<'a> = (&'a [Row], &'a [Row], &'a [Row]);
+/// Ordered or not, and whether both sides tell that they aren't constant.
+pub const ALL_WAYS: [(bool, bool); 4] = [
+    (true, false),
+    (false, false),
+    (true, true),
+    (false, true),
+];
 
-fn merges(alloc: Global, dtype: &DType, row: &Merge<'_>) -> bool {
-    let set = sets::merge(sets::of(alloc, row.0), sets::of(alloc, row.1), dtype);
-    sets::is(alloc, set, row.2)
+/// Two sets, the first twice.
+#[derive(Drop)]
+pub struct Sides {
+    pub set: StatsSet,
+    pub before: StatsSet,
+    pub other: StatsSet,
 }
 
-// Goes through the rows, whose sets are of a column of the type.
-fn expect_merges(rt: &impl Abort, alloc: Global, dtype: &DType, rows: &[Merge<'_>]) {
-    for (at, row) in rows.iter().enumerate() {
-        assert!(rt; merges(alloc, dtype, row), "row {at}");
+// The set of a text column with these ends, which may tell that it isn't constant.
+fn of_ends(alloc: Global, min: Value, max: Value, is_told: bool) -> StatsSet {
+    let mut set = StatsSet::of(alloc, Stat::Max, max);
+    set.put(Stat::IsSorted, truth(true));
+    set.put(Stat::Min, min);
+    set.put(Stat::IsStrictSorted, truth(true));
+    set.put(Stat::NullCount, word(1));
+    set.put(Stat::UncompressedSizeInBytes, word(64));
+    if is_told {
+        set.put(Stat::IsConstant, truth(false));
+    }
+    set
+}
+
+fn texts(alloc: Global, min: &str, max: &str, is_told: bool) -> Option<StatsSet> {
+    match (text(alloc, min), text(alloc, max)) {
+        (Ok(min), Ok(max)) => Some(of_ends(alloc, min, max, is_told)),
+        _ => None,
     }
 }
 
-#[test]
-fn sums_and_counts(rt: HostRuntime) {
-    let rows: [Merge<'_>; 8] = [
-        (
-            &[(Sum, Exact(Long(37)))],
-            &[(Sum, Exact(Long(42)))],
-            &[(Sum, Exact(Long(79)))],
-        ),
-        (&[(Sum, Exact(Long(37)))], &[(Sum, Inexact(Long(42)))], &[]),
-        (
-            &[(Sum, Exact(Long(i64::MIN)))],
-            &[(Sum, Exact(Long(-1)))],
-            &[],
-        ),
-        (&[(Sum, Exact(Long(37)))], &[], &[]),
-        (
-            &[(NullCount, Exact(Word(3)))],
-            &[(NullCount, Inexact(Word(4)))],
-            &[(NullCount, Inexact(Word(7)))],
-        ),
-        (
-            &[(NullCount, Inexact(Word(u64::MAX)))],
-            &[(NullCount, Exact(Word(1)))],
-            &[],
-        ),
-        (
-            &[(UncompressedSizeInBytes, Inexact(Word(3)))],
-            &[(UncompressedSizeInBytes, Exact(Word(4)))],
-            &[(UncompressedSizeInBytes, Inexact(Word(7)))],
-        ),
-        (
-            &[(NaNCount, Absent), (Max, Exact(Int(1)))],
-            &[(Max, Exact(Int(3)))],
-            &[(Max, Exact(Int(3)))],
-        ),
-    ];
-    expect_merges(&rt, rt.alloc(), &I32, &rows);
+// The sides, if memory was there.
+fn all_sides(
+    set: Option<StatsSet>,
+    before: Option<StatsSet>,
+    other: Option<StatsSet>,
+) -> Option<Sides> {
+    match (set, before, other) {
+        (Some(set), Some(before), Some(other)) => Some(Sides { set, before, other }),
+        _ => None,
+    }
 }
 
-#[test]
-fn sums_of_bytes(rt: HostRuntime) {
-    let rows: [Merge<'_>; 2] = [
-        (
-            &[(Sum, Exact(Word(u64::MAX)))],
-            &[(Sum, Exact(Word(1)))],
-            &[],
-        ),
-        (
-            &[(Sum, Exact(Word(u64::MAX)))],
-            &[(Sum, Exact(Word(0)))],
-            &[(Sum, Exact(Word(u64::MAX)))],
-        ),
-    ];
-    expect_merges(&rt, rt.alloc(), &U8, &rows);
-}
-
-// Bounds, and whether all rows are alike.
-#[test]
-fn bounds_and_constants(rt: HostRuntime) {
-    let all_42: &[Row] = &[(Min, Exact(Int(42))), (IsConstant, Exact(Truth(true)))];
-    let from_42: &[Row] = &[(Min, Exact(Int(42))), (IsConstant, Exact(Truth(false)))];
-    let varied: &[Row] = &[(Max, Exact(Int(3))), (IsConstant, Exact(Truth(false)))];
-    let rows: [Merge<'_>; 9] = [
-        (
-            &[(Min, Inexact(Int(5)))],
-            &[(Min, Exact(Int(5)))],
-            &[(Min, Exact(Int(5)))],
-        ),
-        (
-            &[(Max, Exact(Int(42)))],
-            &[(Max, Inexact(Int(43)))],
-            &[(Max, Inexact(Int(43)))],
-        ),
-        (&[(Min, Exact(Int(42)))], &[], &[]),
-        (&[], &[(Max, Exact(Int(42)))], &[]),
-        (all_42, all_42, all_42),
-        (all_42, from_42, from_42),
-        (
-            all_42,
-            &[(Min, Exact(Int(7))), (IsConstant, Exact(Truth(true)))],
-            &[(Min, Exact(Int(7))), (IsConstant, Exact(Truth(false)))],
-        ),
-        (&[(Max, Exact(Int(1)))], varied, varied),
-        (
-            &[(IsConstant, Absent), (Max, Exact(Int(1)))],
-            varied,
-            &[(IsConstant, Exact(Truth(false))), (Max, Exact(Int(3)))],
-        ),
-    ];
-    expect_merges(&rt, rt.alloc(), &I32, &rows);
-}
-
-// The values at the seam decide which order is known.
-#[test]
-fn order_at_the_seam(rt: HostRuntime) {
-    let to_1: &[Row] = &[(IsStrictSorted, Exact(Truth(true))), (Max, Exact(Int(1)))];
-    let from_1: &[Row] = &[(IsStrictSorted, Exact(Truth(true))), (Min, Exact(Int(1)))];
-    let from_2: &[Row] = &[(IsStrictSorted, Exact(Truth(true))), (Min, Inexact(Int(2)))];
-    let rows: [Merge<'_>; 4] = [
-        (to_1, from_1, &[(IsStrictSorted, Inexact(Truth(false)))]),
-        (to_1, from_2, &[(IsStrictSorted, Exact(Truth(true)))]),
-        (to_1, &[(IsStrictSorted, Exact(Truth(true)))], &[]),
-        (
-            &[(IsSorted, Exact(Truth(true))), (Max, Exact(Int(1)))],
-            &[(IsSorted, Exact(Truth(true))), (Min, Exact(Int(1)))],
-            &[(IsSorted, Exact(Truth(true)))],
-        ),
-    ];
-    expect_merges(&rt, rt.alloc(), &I32, &rows);
-}
-
-// A set with every statistic but the sum.
-fn full(alloc: Global) -> Sets {
-    sets::of(
-        alloc,
-        &[
-            (Min, Exact(Int(1))),
-            (Max, Exact(Int(10000))),
-            (NullCount, Exact(Word(2))),
-            (UncompressedSizeInBytes, Exact(Word(25))),
-            (IsConstant, Exact(Truth(false))),
-            (IsSorted, Exact(Truth(true))),
-            (IsStrictSorted, Exact(Truth(true))),
-        ],
+/// Sides that fit the type, if memory was there. The first set tells that it isn't constant, or
+/// nothing of that.
+pub fn make_sides(alloc: Global, is_told: bool) -> Option<Sides> {
+    all_sides(
+        texts(alloc, "b", "d", is_told),
+        texts(alloc, "b", "d", is_told),
+        texts(alloc, "a", "e", true),
     )
 }
 
-// The unordered merge of the set with itself.
-fn mixed_with_itself(alloc: Global) -> Sets {
-    let other = full(alloc)?;
-    sets::told(sets::mixed(full(alloc)?, &other, &I32))
+fn of_min(alloc: Global, min: &str) -> Option<StatsSet> {
+    Some(StatsSet::of(alloc, Stat::Min, text(alloc, min).ok()?))
 }
 
-#[test]
-fn unordered_merge(rt: HostRuntime) {
-    let alloc = rt.alloc();
-    let expected = [
-        (Min, Exact(Int(1))),
-        (Max, Exact(Int(10000))),
-        (NullCount, Exact(Word(4))),
-        (UncompressedSizeInBytes, Exact(Word(50))),
-        (IsConstant, Exact(Truth(false))),
-    ];
-    assert!(rt; sets::is(alloc, mixed_with_itself(alloc), &expected));
+/// The sides of a minimum that is combined with a maximum, a minimum and what else a set has.
+pub fn combination_sides(alloc: Global, min: &str) -> Option<Sides> {
+    all_sides(
+        of_min(alloc, "e"),
+        of_min(alloc, "e"),
+        texts(alloc, min, "m", false),
+    )
+}
+
+/// Whether the set has the other's entry of the statistic.
+pub fn has_same(set: &StatsSet, other: &StatsSet, stat: Stat) -> bool {
+    other.iter().any(|entry| entry.0 == stat && set.iter().any(|own| *own == *entry))
+}
+
+/// The merge took the other's values and IsConstant, and added the counts.
+pub fn is_merged(set: &StatsSet, other: &StatsSet) -> bool {
+    has(set, Stat::NullCount, word(2))
+        && has(set, Stat::UncompressedSizeInBytes, word(128))
+        && has_same(set, other, Stat::Max)
+        && has_same(set, other, Stat::Min)
+        && has_same(set, other, Stat::IsConstant)
+}
+
+/// An ordered merge or an unordered one, where both sets fit the type.
+pub fn merge(set: StatsSet, other: &StatsSet, is_ordered: bool) -> Result<StatsSet, MergeRefused> {
+    if !set.fits(&UTF8) || !other.fits(&UTF8) {
+        let error = StatsError::Mismatch;
+        return Err(MergeRefused { error, set });
+    }
+    if is_ordered {
+        set.merge_ordered(other, &UTF8)
+    } else {
+        set.merge_unordered(other, &UTF8)
+    }
 }
 
 /// A merge through a view, ordered or not, where both sets fit the type.
 pub fn merge_viewed(
     set: &mut StatsSet,
     other: &StatsSet,
-    dtype: &DType,
     is_ordered: bool,
 ) -> Result<(), StatsError> {
-    if !set.fits(dtype) || !other.fits(dtype) {
+    if !set.fits(&UTF8) || !other.fits(&UTF8) {
         return Err(StatsError::Mismatch);
     }
     if is_ordered {
-        merged_through_view(set, other, dtype)
+        merged_through_view(set, other, &UTF8)
     } else {
-        mixed_through_view(set, other, dtype)
+        mixed_through_view(set, other, &UTF8)
     }
 }
 
-// Whether the full set has merged with itself: with seven entries in order, and else with five, of
-// which none tells the order.
-fn is_merged(set: &StatsSet, is_ordered: bool) -> bool {
-    let (count, order) = if is_ordered {
-        (7, Inexact(Truth(false)))
+/// Combines the sets, where both fit the type, by value or through a view.
+pub fn combine(set: &mut StatsSet, other: &StatsSet, is_viewed: bool) -> Result<(), StatsError> {
+    if !set.fits(&UTF8) || !other.fits(&UTF8) {
+        return Err(StatsError::Mismatch);
+    }
+    if is_viewed {
+        combined_through_view(set, other, &UTF8)
     } else {
-        (5, Absent)
-    };
-    sets::len(set) == count && sets::has(set, IsSorted, order)
+        set.combine_sets(other, &UTF8)
+    }
 }
 
-// Whether the full set merges with itself through a view, in order or not.
-fn merges_full(alloc: Global, is_ordered: bool) -> Result<bool, StatsError> {
-    let other = full(alloc)?;
-    let mut set = full(alloc)?;
-    merge_viewed(&mut set, &other, &I32, is_ordered)?;
-    Ok(is_merged(&set, is_ordered))
+fn expect_merged(rt: &impl Abort, alloc: Global, is_ordered: bool, is_told: bool) {
+    let Sides { set, before, other } = make_sides(alloc, is_told).expect(rt, "sides");
+    let set = merge(set, &other, is_ordered).expect(rt, "merged");
+    assert!(rt; is_merged(&set, &other) && !has_same(&set, &before, Stat::Max));
 }
 
-#[test]
-fn merges_through_views(rt: HostRuntime) {
-    assert!(rt; is_yes(merges_full(rt.alloc(), true)));
-    assert!(rt; is_yes(merges_full(rt.alloc(), false)));
-}
-
-// The entries of two texts.
-fn two_texts(
-    alloc: Global,
-    first: (Stat, &str),
-    second: (Stat, &str),
-) -> Result<Vec<Entry>, AllocError> {
-    let mut entries = Vec::new(alloc);
-    push_text(&mut entries, alloc, first.0, first.1)?;
-    push_text(&mut entries, alloc, second.0, second.1)?;
-    Ok(entries)
-}
-
-/// The set of two texts.
-pub fn set_of_texts(alloc: Global, first: (Stat, &str), second: (Stat, &str)) -> Sets {
-    sets::of_entries(alloc, two_texts(alloc, first, second)?)
-}
-
-// Whether the texts from b to m merge with those from a to k to the texts from a to m.
-fn merges_texts(alloc: Global) -> Result<bool, AllocError> {
-    let first = set_of_texts(alloc, (Max, "m"), (Min, "b"));
-    let other = set_of_texts(alloc, (Min, "a"), (Max, "k"));
-    let expected = two_texts(alloc, (Max, "m"), (Min, "a"))?;
-    let set = sets::merge(first, other, &UTF8);
-    Ok(sets::has_entries(alloc, set, expected.as_slice()))
+fn expect_merged_viewed(rt: &impl Abort, alloc: Global, is_ordered: bool, is_told: bool) {
+    let mut sides = make_sides(alloc, is_told).expect(rt, "sides");
+    merge_viewed(&mut sides.set, &sides.other, is_ordered).expect(rt, "merged");
+    assert!(rt; is_merged(&sides.set, &sides.other));
 }
 
 #[test]
-fn texts(rt: HostRuntime) {
-    assert!(rt; is_yes(merges_texts(rt.alloc())));
+fn merge_by_value_and_through_views(rt: HostRuntime) {
+    for (is_ordered, is_told) in ALL_WAYS {
+        expect_merged(&rt, rt.alloc(), is_ordered, is_told);
+        expect_merged_viewed(&rt, rt.alloc(), is_ordered, is_told);
+    }
+}
+
+#[test]
+fn combine_by_value_and_through_views(rt: HostRuntime) {
+    for is_viewed in [false, true] {
+        let mut sides = combination_sides(rt.alloc(), "e").expect(&rt, "sides");
+        combine(&mut sides.set, &sides.other, is_viewed).expect(&rt, "combined");
+        assert!(rt; sides.set.len() == 6 && has_same(&sides.set, &sides.other, Stat::Max));
+    }
 }
