@@ -1,88 +1,91 @@
-//! Placeholders over named columns, bound to a scope.
+//! Placeholders over named and bound columns, and parts of proofs for rules of a user.
+ghost use Rattle.std.specs.Prelude.{IfOk, IfSome, IsTrue};
+ghost use Rattle.vortex_rewrite.specs.Rewriting.Predicates.{is_predicate};
+
 use std::alloc::Global;
 use std::process::Abort;
-use vortex_base::{AggregateFnRef, Scope};
-use vortex_expr::Expression;
+use vortex_base::AggregateFnRef;
+use vortex_expr::{BoundExpression, Expression};
 use vortex_rewrite::expr::{
-    all_non_null, all_null, bound as placed, min_max, null_count, stat as aggregated, sum,
+    all_non_null, all_null, bound as placed, min_max, null_count, proofs, stat as aggregated, sum,
 };
+use vortex_rewrite::hook_fault::HookFault;
 use vortex_rewrite_testing::nodes::*;
 use vortex_stats::StatsError;
-
-mod bound;
-mod proofs;
 
 type Named = Result<Expression, StatsError>;
 
 // The column `a`, by its name.
-fn a(alloc: Global) -> Named {
-    told(Expression::col(alloc, "a"))
+fn a(rt: &impl Abort, alloc: Global) -> Expression {
+    Expression::col(alloc, "a").expect(rt, "a")
 }
 
-fn bound_to(alloc: Global, named: Expression, scope: &Scope) -> Built {
-    told(named.bind(alloc, scope))
+fn placed_a(rt: &impl Abort, alloc: Global) -> BoundExpression {
+    col(alloc, 0, I32).expect(rt, "a")
 }
 
-fn bound_to_a(alloc: Global, named: Named) -> Built {
-    bound_to(alloc, named?, &scope_of(alloc, I32)?)
-}
-
-// The placeholder is bound to that for the aggregate of the column.
-fn expect_aggregate(rt: &impl Abort, alloc: Global, named: Named, aggregate: AggregateFnRef) {
-    let expected = stat(alloc, col(alloc, 0, I32), aggregate);
-    assert!(rt; are_same(bound_to_a(alloc, named), expected).expect(rt, "an answer"));
-}
-
-fn sum_of_a(alloc: Global) -> Named {
-    sum(alloc, a(alloc)?)
-}
-
-fn null_count_of_a(alloc: Global) -> Named {
-    null_count(alloc, a(alloc)?)
-}
-
-fn all_null_of_a(alloc: Global) -> Named {
-    all_null(alloc, a(alloc)?)
-}
-
-fn all_non_null_of_a(alloc: Global) -> Named {
-    all_non_null(alloc, a(alloc)?)
-}
-
-fn min_max_of_a(alloc: Global) -> Named {
-    min_max(alloc, a(alloc)?)
-}
-
-fn max_of_a(alloc: Global) -> Named {
-    aggregated(alloc, a(alloc)?, AggregateFnRef::Max)
+// The placeholder over the name is bound to that over the column.
+fn expect_placed(rt: &impl Abort, alloc: Global, named: Named, placed: Built) {
+    let scope = scope_of(alloc, I32).expect(rt, "a scope");
+    let found = named
+        .expect(rt, "named")
+        .bind(alloc, &scope)
+        .expect(rt, "bound");
+    assert!(rt; found.child_count() == 1 && found == placed.expect(rt, "placed"));
 }
 
 #[test]
 fn are_bound_to_placeholders(rt: HostRuntime) {
-    use AggregateFnRef::{AllNonNull, AllNull, Max, MinMax, NullCount, Sum};
+    use AggregateFnRef::Max;
     let alloc = rt.alloc();
-    expect_aggregate(&rt, alloc, sum_of_a(alloc), Sum);
-    expect_aggregate(&rt, alloc, null_count_of_a(alloc), NullCount);
-    expect_aggregate(&rt, alloc, all_null_of_a(alloc), AllNull);
-    expect_aggregate(&rt, alloc, all_non_null_of_a(alloc), AllNonNull);
-    expect_aggregate(&rt, alloc, min_max_of_a(alloc), MinMax);
-    expect_aggregate(&rt, alloc, max_of_a(alloc), Max);
+    let placed = placed::sum(alloc, placed_a(&rt, alloc));
+    expect_placed(&rt, alloc, sum(alloc, a(&rt, alloc)), placed);
+    let placed = placed::null_count(alloc, placed_a(&rt, alloc));
+    expect_placed(&rt, alloc, null_count(alloc, a(&rt, alloc)), placed);
+    let placed = placed::all_null(alloc, placed_a(&rt, alloc));
+    expect_placed(&rt, alloc, all_null(alloc, a(&rt, alloc)), placed);
+    let placed = placed::all_non_null(alloc, placed_a(&rt, alloc));
+    expect_placed(&rt, alloc, all_non_null(alloc, a(&rt, alloc)), placed);
+    let placed = placed::min_max(alloc, placed_a(&rt, alloc));
+    expect_placed(&rt, alloc, min_max(alloc, a(&rt, alloc)), placed);
+    let placed = placed::stat(alloc, placed_a(&rt, alloc), Max);
+    expect_placed(&rt, alloc, aggregated(alloc, a(&rt, alloc), Max), placed);
 }
 
-fn placed_sum(alloc: Global) -> Built {
-    placed::sum(alloc, col(alloc, 0, I32)?)
+type Proof = Result<Option<BoundExpression>, HookFault>;
+
+fn proof_of(alloc: Global, truth: bool) -> Proof
+    ensures { IfOk result (λ o. IfSome o (λ e. IsTrue (is_predicate e))) }
+{
+    Ok(Some(proofs::truth(alloc, truth)?))
 }
 
-fn placed_null_count(alloc: Global) -> Built {
-    placed::null_count(alloc, col(alloc, 0, I32)?)
+// One truth or the other.
+fn either(alloc: Global) -> Proof {
+    let left = proof_of(alloc, true)?;
+    let right = proof_of(alloc, false)?;
+    proofs::either(alloc, left, right)
 }
 
-// A node over a name, once it is bound, is the node over the bound column.
+fn both(alloc: Global) -> Proof {
+    let left = proof_of(alloc, true)?;
+    let right = proof_of(alloc, false)?;
+    proofs::both(alloc, left, right)
+}
+
 #[test]
-fn are_those_over_bound_columns(rt: HostRuntime) {
-    let alloc = rt.alloc();
-    let found = bound_to_a(alloc, sum_of_a(alloc));
-    assert!(rt; are_same(found, placed_sum(alloc)).expect(&rt, "an answer"));
-    let found = bound_to_a(alloc, null_count_of_a(alloc));
-    assert!(rt; are_same(found, placed_null_count(alloc)).expect(&rt, "an answer"));
+fn proofs_are_joined(rt: HostRuntime) {
+    assert!(rt; matches!(either(rt.alloc()), Ok(Some(_))));
+    assert!(rt; matches!(both(rt.alloc()), Ok(Some(_))));
+}
+
+// Whether the two proofs are joined, or memory was refused.
+fn is_joined(found: Proof) -> bool {
+    matches!(found, Ok(Some(_)) | Err(HookFault::Memory(_)))
+}
+
+#[test]
+fn refused_joins(rt: HostRuntime) {
+    assert!(rt; is_joined(either(rt.alloc())));
+    assert!(rt; is_joined(both(rt.alloc())));
 }

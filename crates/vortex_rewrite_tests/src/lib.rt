@@ -1,5 +1,5 @@
-//! Tests of `vortex_rewrite` and `vortex_normal` by their public calls, one module for each of
-//! theirs.
+//! Tests of `vortex_rewrite` and `vortex_normal` by their public calls: ample memory and refused
+//! memory, deep and long predicates, and a user's rules.
 #![tactic(auto)]
 
 #[cfg(test)]
@@ -8,5 +8,3 @@ mod expr;
 mod normalize;
 #[cfg(test)]
 mod rewrite;
-#[cfg(test)]
-mod rules;
