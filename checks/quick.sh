@@ -7,23 +7,20 @@ cd "$(dirname "$0")/.." || exit 1
 crate="${1:-}"
 [ -d "crates/$crate/src" ] || { echo "quick: there is no crate $crate; usage: checks/quick.sh CRATE" >&2; exit 2; }
 
-# The crates of its tests: that of its name and those of a part of it, as vortex_prune_map_tests; texts are read by one.
-# Those of a longer crate's name are another's, as vortex_normal_scan_tests.
-tests=()
-for folder in crates/"$crate"*_tests; do
-    [ -d "$folder" ] && { [ "$folder" = "crates/${crate}_tests" ] || [ ! -d "${folder%_tests}" ]; } && tests+=("$folder")
-done
-[ "$crate" = vortex_syntax ] && tests=(crates/vortex_text_tests)
-[ "${#tests[@]}" -gt 0 ] || tests=("crates/$crate")
+# The crate of its tests, which may be that of a crate below it; else its own.
+case "$crate" in
+    vortex_syntax) tests=vortex_text_tests ;;
+    vortex_normal_scan | vortex_zone_log) tests=vortex_prune_tests ;;
+    *) tests="${crate}_tests" ;;
+esac
+[ -d "crates/$tests" ] || tests="$crate"
 
 status=0
-for folder in "crates/$crate" "${tests[@]}"; do
+for folder in "crates/$crate" "crates/$tests"; do
     (cd "$folder" && rt fmt) || status=1
 done
 checks/layout.py || status=1
 (cd "crates/$crate" && rt check) || status=1
-for folder in "${tests[@]}"; do
-    (cd "$folder" && rt try --test) || status=1
-done
+(cd "crates/$tests" && rt try --test) || status=1
 [ "$status" -eq 0 ] && echo "quick: $crate is in order"
 exit "$status"

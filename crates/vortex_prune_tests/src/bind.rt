@@ -12,11 +12,11 @@ use vortex_base::{AggregateFnRef, DType};
 use vortex_expr::{BoundExpression, Parts, bound};
 use vortex_prune::bind::bind_stats;
 use vortex_prune::{HookFault, StatBinder};
-use vortex_prune_testing::hooks::Answerer;
-use vortex_prune_testing::parts::*;
 use vortex_rewrite::expr::bound as placed;
-use vortex_rewrite_testing::nodes::*;
 use vortex_stats::{BinderFault, StatsError};
+use vortex_testing::binders::Answerer;
+use vortex_testing::nodes::*;
+use vortex_testing::parts::*;
 
 mod stats_binder;
 

@@ -1,12 +1,32 @@
-//! Tests of `vortex_prune` by its public calls, one module for each of its modules. Those of maps
-//! of zones and of scans are crates of their own, since one check of all would take longer.
+//! Tests of `vortex_prune`, `vortex_zone_log` and `vortex_normal_scan` by their public calls, and
+//! of the rule and the binder of `vortex_own_rules`. `vortex_testing` has what they stand on.
 #![tactic(auto)]
 
 #[cfg(test)]
 mod bind;
 #[cfg(test)]
+mod choosing;
+#[cfg(test)]
+mod fixtures;
+#[cfg(test)]
+mod known;
+#[cfg(test)]
+mod normal;
+#[cfg(test)]
+mod null_operands;
+#[cfg(test)]
 mod part;
 #[cfg(test)]
 mod refused;
 #[cfg(test)]
+mod scan;
+#[cfg(test)]
 mod stat_fn;
+#[cfg(test)]
+mod tables;
+#[cfg(test)]
+mod zone_log;
+#[cfg(test)]
+mod zone_map;
+#[cfg(test)]
+mod zones;

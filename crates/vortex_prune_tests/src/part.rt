@@ -7,9 +7,9 @@ use std::process::Abort;
 use std::test::Fail;
 use vortex_base::{Chunk, PValue, ScalarValue, ValueRef};
 use vortex_prune::{JoinRefused, Part, PartRefused};
-use vortex_prune_testing::parts::*;
-use vortex_rewrite_testing::nodes::*;
 use vortex_stats::{Precision, Stat, StatsError, StatsSet};
+use vortex_testing::nodes::*;
+use vortex_testing::parts::*;
 
 mod measured;
 

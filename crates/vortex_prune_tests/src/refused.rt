@@ -6,11 +6,11 @@ use vortex_base::{Column, DType, Nullability, PType, ScalarValue, Scope};
 use vortex_expr::BoundExpression;
 use vortex_prune::bind::bind_stats;
 use vortex_prune::{Part, Rules, StatsBinder, Zones};
-use vortex_prune_testing::parts::*;
 use vortex_rewrite::expr::bound as placed;
 use vortex_rewrite::rewrite::{falsify, falsify_counted, satisfy};
-use vortex_rewrite_testing::nodes::*;
 use vortex_stats::{Stat, StatsError};
+use vortex_testing::nodes::*;
+use vortex_testing::parts::*;
 
 fn a(alloc: Global) -> Built {
     col(alloc, 0, I32)

@@ -5,9 +5,9 @@ use vortex_base::types::Element;
 use vortex_base::{AggregateFnRef, ConstantArray, DType, Nullability, PType, Scalar, ScalarValue};
 use vortex_expr::ScalarFnId;
 use vortex_prune::{StatFn, StatOptions};
-use vortex_prune_testing::parts::*;
-use vortex_rewrite_testing::nodes::*;
 use vortex_stats::{Precision, Stat, StatsError, StatsSet};
+use vortex_testing::nodes::*;
+use vortex_testing::parts::*;
 
 const I64: DType = DType::Primitive(PType::I64, Nullability::Nullable);
 

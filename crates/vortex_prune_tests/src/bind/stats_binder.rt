@@ -6,10 +6,10 @@ use vortex_expr::BoundExpression;
 use vortex_expr::evaluate::evaluate;
 use vortex_prune::bind::bind_stats;
 use vortex_prune::{Part, StatsBinder, Zone, ZoneStatsBinder};
-use vortex_prune_testing::parts::*;
 use vortex_rewrite::expr::bound as placed;
-use vortex_rewrite_testing::nodes::*;
 use vortex_stats::{Stat, StatsError};
+use vortex_testing::nodes::*;
+use vortex_testing::parts::*;
 
 const TRUTH: DType = DType::Bool(Nullability::Nullable);
 

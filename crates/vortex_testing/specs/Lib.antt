@@ -1,0 +1,3 @@
+pub mod Binders
+pub mod Hooks
+pub mod RuleExamples
