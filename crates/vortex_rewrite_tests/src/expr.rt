@@ -10,7 +10,7 @@ use vortex_rewrite::expr::{
     all_non_null, all_null, bound as placed, min_max, null_count, proofs, stat as aggregated, sum,
 };
 use vortex_rewrite::hook_fault::HookFault;
-use vortex_rewrite_testing::nodes::*;
+use vortex_testing::nodes::*;
 use vortex_stats::StatsError;
 
 type Named = Result<Expression, StatsError>;

@@ -4,8 +4,8 @@ use std::process::Abort;
 use vortex_base::{DType, Nullability, ScalarValue};
 use vortex_expr::{BoundExpression, LikeOptions};
 use vortex_normal::normalize::normalize;
-use vortex_rewrite_testing::nodes::*;
 use vortex_stats::StatsError;
+use vortex_testing::nodes::*;
 
 mod deep;
 mod turns;

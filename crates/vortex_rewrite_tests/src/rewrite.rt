@@ -6,8 +6,8 @@ use vortex_base::{AggregateFnRef, Bytes, DType, Nullability, PValue, ScalarValue
 use vortex_expr::BoundExpression;
 use vortex_rewrite::Rules;
 use vortex_rewrite::rewrite::{falsify, falsify_counted, satisfy};
-use vortex_rewrite_testing::nodes::*;
 use vortex_stats::StatsError;
+use vortex_testing::nodes::*;
 
 mod own;
 

@@ -1,14 +1,14 @@
 //! Rules of a user, boxed and asked.
 ghost use Rattle.std.specs.Prelude.{◌≡◌, Bool, Some, None, if◌then◌else◌};
 ghost use Rattle.vortex_rewrite.specs.Rewriting.Falsifiers.{bool_literal};
-ghost use Rattle.vortex_rewrite_testing.specs.RuleExamples.{at_opposite};
+ghost use Rattle.vortex_testing.specs.RuleExamples.{at_opposite};
 
 use super::*;
 use std::alloc::AllocError;
 use std::process::Abort;
 use vortex_expr::{Parts, ScalarFnId};
 use vortex_rewrite::{HookFault, StatsRewriteRule, StatsRewriteRuleRef};
-use vortex_rewrite_testing::hooks::{Claim, Claiming, ValueTests, truth_answer};
+use vortex_testing::hooks::{Claim, Claiming, ValueTests, truth_answer};
 use vortex_stats::RuleFault;
 
 fn is_not_of(e: &BoundExpression, truth: bool) -> bool
@@ -36,7 +36,7 @@ struct Opposite {
 impl StatsRewriteRule for Opposite {
     ghost use Rattle.std.specs.Prelude.{true, false};
     ghost use Rattle.vortex_expr.specs.declared.scalar_fn.ScalarFnId.TheVariants as function;
-    ghost use Rattle.vortex_rewrite_testing.specs.RuleExamples.{at_opposite, opposite_is_lawful};
+    ghost use Rattle.vortex_testing.specs.RuleExamples.{at_opposite, opposite_is_lawful};
 
     ghost id = { λ s. function.Not };
 
