@@ -1,4 +1,4 @@
-//! Binding by binders that know a count of nulls or nothing, and by ones that fault.
+//! Binding by binders of the library and of a user: what they know, what they don't, and faults.
 ghost use Rattle.std.specs.Prelude.{◌≡◌, ℕ, List, IsTrue, false, refl, slice_get};
 ghost use Rattle.vortex_base.specs.Data.Scalars.{Constant};
 ghost use Rattle.vortex_expr.specs.Meanings.Fitting.{is_cell_of};
@@ -8,38 +8,23 @@ ghost use Rattle.vortex_prune_tests.specs.Counting.{is_first, one_null, three_nu
 
 use std::alloc::Global;
 use std::process::Abort;
-use vortex_base::{AggregateFnRef, DType};
+use vortex_base::{AggregateFnRef, DType, Nullability, ScalarValue};
 use vortex_expr::{BoundExpression, Parts, bound};
 use vortex_prune::bind::bind_stats;
-use vortex_prune::{HookFault, StatBinder};
-use vortex_rewrite::expr::bound as placed;
-use vortex_stats::{BinderFault, StatsError};
+use vortex_prune::{HookFault, Part, StatBinder, StatsBinder, ZoneBinder, ZoneStatsBinder};
+use vortex_stats::{Stat, StatsError};
 use vortex_testing::binders::Answerer;
 use vortex_testing::nodes::*;
 use vortex_testing::parts::*;
 
-mod stats_binder;
+const TRUTH: DType = DType::Bool(Nullability::Nullable);
 
-// The column `a` of a table of rows.
-fn a(alloc: Global) -> Built {
-    col(alloc, 0, I32)
-}
-
-// The column of the counts of nulls, in a table of statistics.
-fn counts(alloc: Global) -> Built {
-    col(alloc, 1, U64)
-}
-
-fn null(alloc: Global) -> Built {
-    null_of(alloc, BOOL)
+fn all_null(alloc: Global, x: Built) -> Built {
+    stat(alloc, x, AggregateFnRef::AllNull)
 }
 
 fn null_count(alloc: Global, x: Built) -> Built {
-    placed::null_count(alloc, x?)
-}
-
-fn all_null(alloc: Global) -> Built {
-    placed::all_null(alloc, a(alloc)?)
+    stat(alloc, x, AggregateFnRef::NullCount)
 }
 
 fn bound_by<B: StatBinder>(alloc: Global, e: Built, binder: &B) -> Built {
@@ -118,96 +103,131 @@ fn knowing() -> NullCounts
     NullCounts { are_known: true }
 }
 
-const KNOWN: NullCounts = NullCounts { are_known: true };
-
-/// A binder that knows nothing.
-pub const UNKNOWN: NullCounts = NullCounts { are_known: false };
-
-const FAULTY: Answerer = Answerer::Faulty;
-
-// Knows nothing, and answers the null of a count for what is missing.
-const QUIET: Answerer = Answerer::Quiet;
-
-// Knows nothing, and answers the count 0 for what is missing.
-const ZERO: Answerer = Answerer::Zero;
-
+// A binder of counts binds a count to a column, of the first column alone.
 #[test]
 fn a_count_of_nulls_is_a_column(rt: HostRuntime) {
     let alloc = rt.alloc();
-    let count = null_count(alloc, a(alloc));
-    expect_bound(&rt, alloc, count, &knowing(), counts(alloc));
-    let elsewhere = null_count(alloc, col(alloc, 1, I32));
-    expect_bound(&rt, alloc, elsewhere, &knowing(), null_of(alloc, U64));
+    let (first, second) = (col(alloc, 0, I32), col(alloc, 1, I32));
+    expect_bound(
+        &rt,
+        alloc,
+        null_count(alloc, first),
+        &knowing(),
+        col(alloc, 1, U64),
+    );
+    expect_bound(
+        &rt,
+        alloc,
+        null_count(alloc, second),
+        &knowing(),
+        null_of(alloc, U64),
+    );
+    let unknown = NullCounts { are_known: false };
+    let first = null_count(alloc, col(alloc, 0, I32));
+    expect_bound(&rt, alloc, first, &unknown, null_of(alloc, U64));
+}
+
+// The rows 1, null, 3 of a column `a`, which are at most 20, and of which one is null.
+fn part(alloc: Global) -> Result<Part, StatsError> {
+    let set = and_exactly(
+        at_most(alloc, Stat::Max, number(20)),
+        Stat::NullCount,
+        count(1),
+    );
+    part_of_numbers(alloc, &[Some(1), None, Some(3)], set)
+}
+
+// An AND of what the part's statistics tell and what they don't, by placeholders of another column
+// and of another type too.
+fn proof(alloc: Global) -> Built {
+    let known = gt(alloc, max(alloc, a(alloc)), min(alloc, a(alloc)));
+    let elsewhere = all_null(alloc, col(alloc, 1, I32_OR_NULL));
+    let typed = all_null(alloc, col(alloc, 0, UTF8));
+    and(
+        alloc,
+        or(alloc, known, all_null(alloc, a(alloc))),
+        and(alloc, elsewhere, typed),
+    )
+}
+
+// The proof over literals, as the part's statistics bind it.
+fn bound_proof(alloc: Global) -> Built {
+    let greatest = lit(alloc, I32_OR_NULL, number(20));
+    let known = gt(alloc, greatest, null_of(alloc, I32));
+    let is_null = lit(alloc, TRUTH, ScalarValue::Bool(false));
+    let (elsewhere, typed) = (null_of(alloc, BOOL), null_of(alloc, BOOL));
+    and(
+        alloc,
+        or(alloc, known, is_null),
+        and(alloc, elsewhere, typed),
+    )
+}
+
+// The expression, bound by the statistics of the zone that the part stands for, without its rows.
+fn bound_by_zone(alloc: Global, e: Built, part: &Part) -> Built {
+    let zone = part.zone();
+    let binder = ZoneStatsBinder::try_new(part.chunk().scope(), &zone)?;
+    bind_stats(alloc, e?, &binder)
 }
 
 #[test]
-fn a_truth_is_not_derived_from_a_count(rt: HostRuntime) {
+fn statistics_are_literals_of_what_is_known(rt: HostRuntime) {
     let alloc = rt.alloc();
-    expect_bound(&rt, alloc, all_null(alloc), &KNOWN, null(alloc));
+    let part = part(alloc).expect(&rt, "a part");
+    expect_bound(
+        &rt,
+        alloc,
+        proof(alloc),
+        &StatsBinder::new(&part),
+        bound_proof(alloc),
+    );
+    let by_zone = bound_by_zone(alloc, proof(alloc), &part);
+    assert!(rt; are_same(by_zone, bound_proof(alloc)).expect(&rt, "an answer"));
 }
 
 #[test]
-fn nothing_is_reduced(rt: HostRuntime) {
+fn placeholders_are_columns_of_the_table_of_a_map(rt: HostRuntime) {
     let alloc = rt.alloc();
-    let both = and(alloc, truth(alloc, false), all_null(alloc));
-    let kept = and(alloc, truth(alloc, false), null(alloc));
-    expect_bound(&rt, alloc, both, &UNKNOWN, kept);
-    let either = or(alloc, truth(alloc, true), all_null(alloc));
-    let kept = or(alloc, truth(alloc, true), null(alloc));
-    expect_bound(&rt, alloc, either, &UNKNOWN, kept);
+    let map = map_of_sets(alloc, 9, &[]).expect(&rt, "a map");
+    let binder = ZoneBinder::new(&map);
+    let least = min(alloc, a(alloc));
+    expect_bound(&rt, alloc, least, &binder, col(alloc, 1, I32_OR_NULL));
 }
 
-fn null_test(alloc: Global) -> Built {
-    is_null(alloc, a(alloc))
-}
-
+// A binder's answer or its fault is handed on, and what it answers for a missing one is asked.
 #[test]
-fn what_holds_no_placeholder_is_kept(rt: HostRuntime) {
+fn answers_and_faults_are_the_binders(rt: HostRuntime) {
     let alloc = rt.alloc();
-    expect_bound(&rt, alloc, null_test(alloc), &FAULTY, null_test(alloc));
-    expect_bound(&rt, alloc, row_count(alloc), &FAULTY, row_count(alloc));
-}
-
-#[test]
-fn an_inner_placeholder_is_not_met(rt: HostRuntime) {
-    let alloc = rt.alloc();
-    let outer = null_count(alloc, null_count(alloc, a(alloc)));
-    expect_bound(&rt, alloc, outer, &KNOWN, null_of(alloc, U64));
-}
-
-fn is_own(answer: Built) -> bool {
-    matches!(answer, Err(StatsError::Binder(BinderFault::Own(7))))
-}
-
-fn is_wrong_type(answer: Built) -> bool {
-    matches!(answer, Err(StatsError::Binder(BinderFault::WrongType)))
-}
-
-fn expect_wrong_type(rt: &impl Abort, answer: Built) {
-    assert!(rt; is_wrong_type(answer));
-}
-
-fn dtype_of(answer: Built) -> Result<DType, StatsError> {
-    Ok(answer?.dtype())
-}
-
-#[test]
-fn faults_are_the_binders(rt: HostRuntime) {
-    let alloc = rt.alloc();
-    assert!(rt; is_own(bound_by(alloc, all_null(alloc), &FAULTY)));
-    expect_wrong_type(&rt, bound_by(alloc, all_null(alloc), &QUIET));
-    let right = bound_by(alloc, null_count(alloc, a(alloc)), &QUIET);
-    assert!(rt; dtype_of(right).expect(&rt, "dtype of") == U64.as_nullable());
-}
-
-// A binder says what stands for a missing answer: null is not put in its place.
-#[test]
-fn what_is_missing_is_asked_for(rt: HostRuntime) {
-    let alloc = rt.alloc();
+    let greatest = max(alloc, a(alloc));
+    expect_bound(
+        &rt,
+        alloc,
+        max(alloc, a(alloc)),
+        &Answerer::Itself,
+        greatest,
+    );
     let zero = lit(alloc, U64, count(0));
-    expect_bound(&rt, alloc, null_count(alloc, a(alloc)), &ZERO, zero);
-    expect_wrong_type(&rt, bound_by(alloc, all_null(alloc), &ZERO));
-    expect_wrong_type(&rt, bound_by(alloc, min(alloc, a(alloc)), &ZERO));
+    expect_bound(
+        &rt,
+        alloc,
+        null_count(alloc, a(alloc)),
+        &Answerer::Zero,
+        zero,
+    );
     let null = null_of(alloc, U64);
-    expect_bound(&rt, alloc, null_count(alloc, a(alloc)), &QUIET, null);
+    expect_bound(
+        &rt,
+        alloc,
+        null_count(alloc, a(alloc)),
+        &Answerer::Quiet,
+        null,
+    );
+    let kept = is_null(alloc, a(alloc));
+    expect_bound(
+        &rt,
+        alloc,
+        is_null(alloc, a(alloc)),
+        &Answerer::Faulty,
+        kept,
+    );
 }

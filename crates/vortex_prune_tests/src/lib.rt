@@ -1,19 +1,13 @@
 //! Tests of `vortex_prune`, `vortex_zone_log` and `vortex_normal_scan` by their public calls, and
-//! of the rule and the binder of `vortex_own_rules`. `vortex_testing` has what they stand on.
+//! of the callers in `vortex_uses` and `vortex_own_rules`. `vortex_testing` has what they stand on.
 #![tactic(auto)]
 
 #[cfg(test)]
 mod bind;
 #[cfg(test)]
-mod choosing;
-#[cfg(test)]
 mod fixtures;
 #[cfg(test)]
-mod known;
-#[cfg(test)]
 mod normal;
-#[cfg(test)]
-mod null_operands;
 #[cfg(test)]
 mod part;
 #[cfg(test)]
@@ -23,10 +17,6 @@ mod scan;
 #[cfg(test)]
 mod stat_fn;
 #[cfg(test)]
-mod tables;
-#[cfg(test)]
 mod zone_log;
 #[cfg(test)]
 mod zone_map;
-#[cfg(test)]
-mod zones;

@@ -1,29 +1,20 @@
 //! Calls of which a request for memory may be refused: each gives its answer, or `Memory` alone.
-use crate::bind::UNKNOWN;
 use std::alloc::{AllocError, Global};
 use std::test::Fail;
-use vortex_base::{Column, DType, Nullability, PType, ScalarValue, Scope};
+use vortex_base::{DType, Nullability, PType, ScalarValue, Scope};
 use vortex_expr::BoundExpression;
 use vortex_prune::bind::bind_stats;
-use vortex_prune::{Part, Rules, StatsBinder, Zones};
-use vortex_rewrite::expr::bound as placed;
-use vortex_rewrite::rewrite::{falsify, falsify_counted, satisfy};
+use vortex_prune::{
+    Part, Rules, StatsBinder, Zones, ZonesRefused, falsify, falsify_counted, satisfy,
+};
 use vortex_stats::{Stat, StatsError};
 use vortex_testing::nodes::*;
 use vortex_testing::parts::*;
 
-fn a(alloc: Global) -> Built {
-    col(alloc, 0, I32)
-}
-
 // A BETWEEN under an AND.
 fn ranged(alloc: Global) -> Built {
     let range = between(alloc, a(alloc), int(alloc, 10), int(alloc, 50), CLOSED);
-    and(alloc, range, gt(alloc, a(alloc), int(alloc, 0)))
-}
-
-fn is_memory(refused: &StatsError) -> bool {
-    matches!(refused, StatsError::Memory(_))
+    and(alloc, range, above(alloc, 0))
 }
 
 fn is_proof(answer: Result<Option<BoundExpression>, StatsError>) -> bool {
@@ -50,62 +41,59 @@ fn refused_proofs_of_a_range(rt: HostRuntime) -> Result<(), Fail> {
     Ok(())
 }
 
-// Two texts, at least the one and at most the other, beside two numbers.
+const U8_OR_NULL: DType = DType::Primitive(PType::U8, Nullability::Nullable);
+
+fn scope(alloc: Global) -> Result<Scope, StatsError> {
+    scope_of_two(alloc, ("s", UTF8), ("n", U8_OR_NULL))
+}
+
+// A part of these texts and numbers, of which this is known.
 fn part(
     alloc: Global,
-    texts: (&str, &str),
-    numbers: Result<Column, StatsError>,
+    words: &[&str],
+    numbers: Result<Cells, AllocError>,
+    first: Sets,
+    second: Sets,
 ) -> Result<Part, StatsError> {
-    let column = column(UTF8, two_texts(alloc, texts.0, texts.1), 0);
-    let chunk = chunk_of_two(alloc, scope(alloc), column, numbers);
-    let known = exactly(alloc, Stat::NullCount, count(0));
-    part_of_two(
-        alloc,
-        chunk,
-        text_bounds(alloc, texts.0, texts.1),
-        Ok(known),
-    )
+    let texts = column(UTF8, texts(alloc, words), 0);
+    let chunk = chunk_of_two(alloc, scope(alloc), texts, column(U8_OR_NULL, numbers, 0));
+    part_of_two(alloc, chunk, first, second)
 }
 
-fn text_bounds(alloc: Global, least: &str, greatest: &str) -> Sets {
-    let set = exactly(alloc, Stat::Min, text_value(alloc, least)?);
-    and_exactly(set, Stat::Max, text_value(alloc, greatest)?)
-}
-
-fn two_texts(alloc: Global, first: &str, second: &str) -> Result<Cells, AllocError> {
-    and_text(
-        alloc,
-        one_value(alloc, Some(text_value(alloc, first)?))?,
-        second,
-    )
-}
-
-fn and_text(alloc: Global, cells: Cells, value: &str) -> Result<Cells, AllocError> {
-    let mut cells = cells;
-    cells.push(Some(text_value(alloc, value)?))?;
+fn three_and_null(alloc: Global) -> Result<Cells, AllocError> {
+    let mut cells = one_value(alloc, Some(ScalarValue::from(3u8)))?;
+    cells.push(None)?;
     Ok(cells)
 }
 
-fn scope(alloc: Global) -> Result<Scope, StatsError> {
-    scope_of_two(alloc, ("s", UTF8), ("n", I32_OR_NULL))
+fn q_to_rose(alloc: Global) -> Sets {
+    let least = at_most(alloc, Stat::Min, text_value(alloc, "q")?);
+    and_exactly(least, Stat::Max, text_value(alloc, "rose")?)
 }
 
-fn no_nulls(alloc: Global) -> Result<Column, StatsError> {
-    column(I32_OR_NULL, numbers(alloc, &[Some(3), Some(4)]), 0)
+// The rows `apple` and 3, `pear` and null, of which the texts' bounds are known, and in a part of
+// its own `rose` and 7, without a null and with no text before `q`.
+fn two_parts(alloc: Global) -> Parts {
+    let (known, unknown) = (text_bounds(alloc, "apple", "pear"), no_statistics(alloc));
+    let first = part(
+        alloc,
+        &["apple", "pear"],
+        three_and_null(alloc),
+        known,
+        Ok(unknown),
+    );
+    let seven = one_value(alloc, Some(ScalarValue::from(7u8)));
+    let no_null = exactly(alloc, Stat::NullCount, count(0));
+    let second = part(alloc, &["rose"], seven, q_to_rose(alloc), Ok(no_null));
+    and_part(one_part(alloc, first), second)
 }
 
-// The first part has a text that begins with `pre`, the second has none.
-fn two_parts(alloc: Global) -> Result<Zones, StatsError> {
-    let parts = one_part(alloc, part(alloc, ("apple", "present"), no_nulls(alloc)));
-    let parts = and_part(parts, part(alloc, ("q", "rose"), no_nulls(alloc)));
-    zones_of(alloc, scope(alloc), parts)
-}
-
-fn begins_with_pre(alloc: Global) -> Built {
+fn begins_with_pre_or_null(alloc: Global) -> Built {
     let begins = like(alloc, col(alloc, 0, UTF8), text(alloc, "pre%"));
-    or(alloc, begins, is_null(alloc, col(alloc, 1, I32_OR_NULL)))
+    or(alloc, begins, is_null(alloc, col(alloc, 1, U8_OR_NULL)))
 }
 
+// Whether the row with the null was found, and the part without one skipped.
 fn is_found(found: Found) -> bool {
     match found {
         Ok(found) => has_found(&found, &[1], &[], &[(0, 1)]),
@@ -116,13 +104,24 @@ fn is_found(found: Found) -> bool {
 #[test]
 fn refused_scans(rt: HostRuntime) -> Result<(), Fail> {
     let alloc = rt.alloc();
-    let (zones, predicate) = (two_parts(alloc)?, begins_with_pre(alloc)?);
-    let rules = Rules::builtin(alloc);
+    let zones = zones_of(alloc, scope(alloc), two_parts(alloc))?;
+    let (predicate, rules) = (begins_with_pre_or_null(alloc)?, Rules::builtin(alloc));
     assert!(rt; is_found(scanned_by_part(alloc, zones.parts(), &predicate, &rules)));
     assert!(rt; is_found(scanned_by_table(alloc, &zones, &predicate, &rules)));
     let (whole, map) = (chunk_of_all(alloc, &zones)?, zones.map());
     assert!(rt; is_found(scanned_by_ranges(alloc, &whole, map, &predicate, &rules)));
     Ok(())
+}
+
+// The least text is copied into the bound expression, and a null stands for what isn't known.
+fn least_text(alloc: Global) -> Built {
+    let least = gt(alloc, min(alloc, col(alloc, 0, UTF8)), text(alloc, "b"));
+    let unknown = stat(
+        alloc,
+        col(alloc, 7, UTF8),
+        vortex_base::AggregateFnRef::AllNull,
+    );
+    and(alloc, least, unknown)
 }
 
 fn is_bound(answer: Built) -> bool {
@@ -132,119 +131,69 @@ fn is_bound(answer: Built) -> bool {
     }
 }
 
-fn bound_by_first(alloc: Global, e: BoundExpression, zones: &Zones) -> Built {
-    match zones.parts().first() {
+fn bound_by_first(alloc: Global, e: BoundExpression, parts: &[Part]) -> Built {
+    match parts.first() {
         Some(part) => bind_stats(alloc, e, &StatsBinder::new(part)),
         None => Err(StatsError::Mismatch),
     }
 }
 
-// The least text is copied into the bound expression.
-fn least_text(alloc: Global) -> Built {
-    let least = min(alloc, col(alloc, 0, UTF8));
-    and(
-        alloc,
-        truth(alloc, false),
-        gt(alloc, least, text(alloc, "b")),
-    )
-}
-
 #[test]
 fn refused_bindings(rt: HostRuntime) -> Result<(), Fail> {
     let alloc = rt.alloc();
-    let (zones, e) = (two_parts(alloc)?, least_text(alloc)?);
-    assert!(rt; is_bound(bound_by_first(alloc, e, &zones)));
+    let (parts, e) = (two_parts(alloc)?, least_text(alloc)?);
+    assert!(rt; is_bound(bound_by_first(alloc, e, &parts)));
     Ok(())
 }
 
-fn all_null(alloc: Global) -> Built {
-    placed::all_null(alloc, a(alloc)?)
+fn printed(alloc: Global, parts: &[Part]) -> Result<String, StatsError> {
+    Ok(format!(in alloc; "{parts:?}")?)
 }
 
-// Whether it is bound to this expression, or memory was refused.
-fn is_bound_to(answer: Built, expected: &BoundExpression) -> bool {
-    match answer {
-        Ok(bound) => bound == *expected,
-        Err(refused) => is_memory(&refused),
+// Whether the scope and the parts look like these.
+fn are_same(
+    alloc: Global,
+    (scope, parts): (&Scope, &[Part]),
+    (same, same_parts): (&Scope, &[Part]),
+) -> Result<bool, StatsError> {
+    Ok(*scope == *same && printed(alloc, parts)? == printed(alloc, same_parts)?)
+}
+
+// The table, if each part has the scope.
+fn table(alloc: Global, scope: Scope, parts: Vec<Part>) -> Result<Zones, ZonesRefused> {
+    if !all_scoped(&scope, &parts) {
+        let error = StatsError::Mismatch;
+        return Err(ZonesRefused {
+            error,
+            scope,
+            parts,
+        });
+    }
+    Zones::try_new(alloc, scope, parts)
+}
+
+// Whether the table keeps the scope and the parts, or hands them back for memory.
+fn keeps(
+    alloc: Global,
+    made: Result<Zones, ZonesRefused>,
+    same: &Scope,
+    parts: &[Part],
+) -> Result<bool, StatsError> {
+    match made {
+        Ok(zones) => are_same(alloc, (zones.scope(), zones.parts()), (same, parts)),
+        Err(refused) => {
+            let given = (&refused.scope, refused.parts.as_slice());
+            Ok(is_memory(&refused.error) && are_same(alloc, given, (same, parts))?)
+        }
     }
 }
 
-// A binder that knows nothing binds what isn't reduced, whichever growth is refused.
+// Where a request for memory within the call is refused, scope and parts come back as they were.
 #[test]
-fn refused_bindings_of_the_unknown(rt: HostRuntime) -> Result<(), Fail> {
+fn refused_tables_hand_back(rt: HostRuntime) -> Result<(), Fail> {
     let alloc = rt.alloc();
-    let e = and(alloc, truth(alloc, false), all_null(alloc))?;
-    let kept = and(alloc, truth(alloc, false), null_of(alloc, BOOL))?;
-    assert!(rt; is_bound_to(bind_stats(alloc, e, &UNKNOWN), &kept));
-    Ok(())
-}
-
-const U8_OR_NULL: DType = DType::Primitive(PType::U8, Nullability::Nullable);
-
-fn texts_and_numbers(alloc: Global) -> Result<Scope, StatsError> {
-    scope_of_two(alloc, ("s", UTF8), ("n", U8_OR_NULL))
-}
-
-fn three_and_null(alloc: Global) -> Result<Cells, AllocError> {
-    let mut cells = one_value(alloc, Some(ScalarValue::from(3u8)))?;
-    cells.push(None)?;
-    Ok(cells)
-}
-
-// The rows `apple` and 3, `pear` and null, of which the texts' bounds are known.
-fn apple_to_pear(alloc: Global) -> Result<Part, StatsError> {
-    let texts = column(UTF8, two_texts(alloc, "apple", "pear"), 0);
-    let numbers = column(U8_OR_NULL, three_and_null(alloc), 0);
-    let chunk = chunk_of_two(alloc, texts_and_numbers(alloc), texts, numbers);
-    let known = text_bounds(alloc, "apple", "pear");
-    part_of_two(alloc, chunk, known, Ok(no_statistics(alloc)))
-}
-
-fn q_to_rose(alloc: Global) -> Sets {
-    let least = at_most(alloc, Stat::Min, text_value(alloc, "q")?);
-    and_exactly(least, Stat::Max, text_value(alloc, "rose")?)
-}
-
-fn one_text(alloc: Global, value: &str) -> Result<Cells, AllocError> {
-    one_value(alloc, Some(text_value(alloc, value)?))
-}
-
-// The row `rose` and 7, without a null and with no text before `q`.
-fn rose(alloc: Global) -> Result<Part, StatsError> {
-    let texts = column(UTF8, one_text(alloc, "rose"), 0);
-    let seven = one_value(alloc, Some(ScalarValue::from(7u8)));
-    let numbers = column(U8_OR_NULL, seven, 0);
-    let chunk = chunk_of_two(alloc, texts_and_numbers(alloc), texts, numbers);
-    let no_null = exactly(alloc, Stat::NullCount, count(0));
-    part_of_two(alloc, chunk, q_to_rose(alloc), Ok(no_null))
-}
-
-fn texts_and_nulls(alloc: Global) -> Result<Zones, StatsError> {
-    let parts = and_part(one_part(alloc, apple_to_pear(alloc)), rose(alloc));
-    zones_of(alloc, texts_and_numbers(alloc), parts)
-}
-
-fn begins_with_pre_or_null(alloc: Global) -> Built {
-    let begins = like(alloc, col(alloc, 0, UTF8), text(alloc, "pre%"));
-    or(alloc, begins, is_null(alloc, col(alloc, 1, U8_OR_NULL)))
-}
-
-// Whether the row with the null was found, and the part without one skipped.
-fn is_null_found(found: Found) -> bool {
-    match found {
-        Ok(found) => has_found(&found, &[1], &[], &[(0, 1)]),
-        Err(refused) => is_memory(&refused),
-    }
-}
-
-#[test]
-fn refused_scans_of_texts_and_nulls(rt: HostRuntime) -> Result<(), Fail> {
-    let alloc = rt.alloc();
-    let (zones, predicate) = (texts_and_nulls(alloc)?, begins_with_pre_or_null(alloc)?);
-    let rules = Rules::builtin(alloc);
-    assert!(rt; is_null_found(scanned_by_part(alloc, zones.parts(), &predicate, &rules)));
-    assert!(rt; is_null_found(scanned_by_table(alloc, &zones, &predicate, &rules)));
-    let (whole, map) = (chunk_of_all(alloc, &zones)?, zones.map());
-    assert!(rt; is_null_found(scanned_by_ranges(alloc, &whole, map, &predicate, &rules)));
+    let (same, same_parts) = (scope(alloc)?, two_parts(alloc)?);
+    let made = table(alloc, scope(alloc)?, two_parts(alloc)?);
+    assert!(rt; keeps(alloc, made, &same, &same_parts)?);
     Ok(())
 }

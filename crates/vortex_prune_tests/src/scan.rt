@@ -1,24 +1,21 @@
-//! Scans over parts of one column of numbers, row by row.
+//! Scans over parts of one column of numbers: by the binders of the parts, by their table, as
+//! ranges of one chunk, and pruning beside them.
 use std::alloc::{AllocError, Global};
 use std::process::Abort;
-use vortex_expr::{BetweenOptions, Operator, ScalarFnId};
+use vortex_base::{DType, Nullability, Scope};
+use vortex_expr::ScalarFnId;
 use vortex_prune::{Part, Rules, StatsRewriteRuleRef, Zones};
-use vortex_stats::{Stat, StatsError, StatsSet};
+use vortex_stats::{Stat, StatsError};
 use vortex_testing::hooks::{Claim, Claiming};
 use vortex_testing::nodes::*;
 use vortex_testing::parts::*;
 
 mod blocks;
-mod callers;
-mod hostile;
-mod measured;
-mod one_chunk;
+mod faults;
 mod own;
-mod table;
+mod ranges;
 mod typed;
-mod users;
-mod whole;
-mod zones;
+mod uses;
 
 type Table = Result<Zones, StatsError>;
 
@@ -53,165 +50,77 @@ fn expect_found(rt: &impl Abort, found: Found, skipped: &[usize], selected: &[(u
     assert!(rt; found.selected.as_slice() == selected);
 }
 
-// A part of one column `a`, with these statistics of it.
-fn part(alloc: Global, rows: &[Option<i32>], set: Sets) -> Result<Part, StatsError> {
-    let column = column(I32_OR_NULL, numbers(alloc, rows), 0);
-    part_of(
-        alloc,
-        chunk_of(alloc, scope_of(alloc, I32_OR_NULL), column),
-        set,
-    )
-}
-
 // The table of parts of one column `a`.
 fn tabled(alloc: Global, parts: Parts) -> Table {
     zones_of(alloc, scope_of(alloc, I32_OR_NULL), parts)
 }
 
-fn table_of(alloc: Global, rows: &[Option<i32>], set: Sets) -> Table {
-    tabled(alloc, one_part(alloc, part(alloc, rows, set)))
+// The least value, and that no row is null.
+fn from(alloc: Global, low: i32) -> Sets {
+    let set = exactly(alloc, Stat::Min, number(low));
+    and_exactly(set, Stat::NullCount, count(0))
 }
 
-fn bounded(alloc: Global, rows: &[Option<i32>], low: i32, high: i32) -> Table {
-    table_of(alloc, rows, bounds(alloc, low, high))
-}
-
-// The rows have at most so many nulls.
-fn with_nulls(alloc: Global, rows: &[Option<i32>], nulls: u64) -> Table {
-    table_of(
-        alloc,
-        rows,
-        Ok(at_most(alloc, Stat::NullCount, count(nulls))),
-    )
-}
-
-fn with_set(alloc: Global, rows: &[Option<i32>], set: StatsSet) -> Table {
-    table_of(alloc, rows, Ok(set))
-}
-
-fn without_part(alloc: Global) -> Table {
-    tabled(alloc, no_parts(alloc))
-}
-
-// The numbers 1, 5, 10, and 8, null, 20, of which the greatest is known to be at most 25.
-fn two_parts(alloc: Global) -> Table {
-    let first = part(alloc, &[Some(1), Some(5), Some(10)], bounds(alloc, 1, 10));
-    let second = part(alloc, &[Some(8), None, Some(20)], bounds(alloc, 8, 25));
-    tabled(alloc, and_part(one_part(alloc, first), second))
-}
-
-fn a(alloc: Global) -> Built {
-    col(alloc, 0, I32_OR_NULL)
-}
-
-fn compare(alloc: Global, operator: Operator, value: i32) -> Built {
-    binary(alloc, operator, a(alloc), int(alloc, value))
-}
-
-fn above(alloc: Global, value: i32) -> Built {
-    compare(alloc, Operator::Gt, value)
-}
-
-fn range(alloc: Global, options: BetweenOptions, lower: i32, upper: i32) -> Built {
-    between(
-        alloc,
-        a(alloc),
-        int(alloc, lower),
-        int(alloc, upper),
-        options,
-    )
-}
-
-// The one part is skipped.
-fn expect_skipped(rt: &impl Abort, alloc: Global, parts: Table, predicate: Built) {
-    expect_found(rt, scanned(alloc, &parts, predicate), &[0], &[]);
-}
-
-// The one part is looked at, and so many of its rows satisfy the predicate.
-fn expect_rows(rt: &impl Abort, alloc: Global, parts: Table, predicate: Built, rows: usize) {
-    let found = scanned(alloc, &parts, predicate).expect(rt, "found");
-    assert!(rt; found.skipped.is_empty());
-    assert!(rt; found.selected.len() == rows);
+// A part that is skipped, one that is whole, and two that are tested.
+fn four_parts(alloc: Global) -> Table {
+    let low = part_of_numbers(alloc, &[Some(1), Some(10)], bounds(alloc, 1, 10));
+    let high = part_of_numbers(alloc, &[Some(20), Some(30)], from(alloc, 20));
+    let parts = and_part(one_part(alloc, low), high);
+    let unknown = part_of_numbers(alloc, &[Some(11)], Ok(no_statistics(alloc)));
+    let rows = [None, Some(9), Some(12)];
+    let mixed = part_of_numbers(alloc, &rows, bounds(alloc, 9, 12));
+    tabled(alloc, and_part(and_part(parts, unknown), mixed))
 }
 
 #[test]
-fn one_part_is_skipped(rt: HostRuntime) {
+fn parts_are_skipped_tested_and_whole(rt: HostRuntime) {
     let alloc = rt.alloc();
-    let parts = two_parts(alloc);
-    expect_found(
-        &rt,
-        scanned(alloc, &parts, above(alloc, 10)),
-        &[0],
-        &[(1, 2)],
-    );
-    let found = scanned(alloc, &parts, above(alloc, 9));
-    expect_found(&rt, found, &[], &[(0, 2), (1, 2)]);
+    let found = scanned(alloc, &four_parts(alloc), above(alloc, 10)).expect(&rt, "found");
+    let selected = [(1, 0), (1, 1), (2, 0), (3, 2)];
+    assert!(rt; has_found(&found, &[0], &[1], &selected));
+    assert!(rt; found.evaluated == 4);
+    let without = tabled(alloc, no_parts(alloc));
+    expect_found(&rt, scanned(alloc, &without, above(alloc, 10)), &[], &[]);
+}
+
+const TEXT: DType = DType::Utf8(Nullability::Nullable);
+
+// The scope of a column of nulls and a column of texts.
+fn nulls_and_texts(alloc: Global) -> Result<Scope, StatsError> {
+    scope_of_two(alloc, ("n", DType::Null), ("t", TEXT))
+}
+
+// A part of one row of null and this text, with exact statistics of both columns.
+fn part_of_text(alloc: Global, value: &str) -> Result<Part, StatsError> {
+    let nulls = column(DType::Null, one_value(alloc, None), 0);
+    let texts = column(TEXT, texts(alloc, &[value]), 0);
+    let chunk = chunk_of_two(alloc, nulls_and_texts(alloc), nulls, texts);
+    let null = Ok(exactly(alloc, Stat::NullCount, count(1)));
+    part_of_two(alloc, chunk, null, text_bounds(alloc, value, value))
+}
+
+fn fruit(alloc: Global) -> Table {
+    let parts = one_part(alloc, part_of_text(alloc, "apple"));
+    let parts = and_part(parts, part_of_text(alloc, "banana"));
+    let parts = and_part(parts, part_of_text(alloc, "pear"));
+    zones_of(alloc, nulls_and_texts(alloc), parts)
+}
+
+fn text_of(alloc: Global, value: &str) -> Built {
+    lit(alloc, TEXT, text_value(alloc, value)?)
 }
 
 #[test]
-fn a_repeated_column_is_kept(rt: HostRuntime) {
+fn texts_and_nulls_are_found_by_their_statistics(rt: HostRuntime) {
     let alloc = rt.alloc();
-    let both = and(alloc, above(alloc, 10), compare(alloc, Operator::Lt, 5));
-    expect_rows(&rt, alloc, bounded(alloc, &[Some(3)], 0, 20), both, 0);
-}
-
-#[test]
-fn ranges(rt: HostRuntime) {
-    let alloc = rt.alloc();
-    let crossed = range(alloc, CLOSED, 50, 10);
-    expect_skipped(&rt, alloc, bounded(alloc, &[Some(3)], 0, 60), crossed);
-    let neighbours = range(alloc, OPEN, 3, 4);
-    expect_skipped(&rt, alloc, bounded(alloc, &[Some(3)], 0, 10), neighbours);
-    let closed = range(alloc, CLOSED, 10, 50);
-    expect_skipped(&rt, alloc, bounded(alloc, &[Some(51)], 51, 60), closed);
-    let closed = range(alloc, CLOSED, 10, 50);
-    expect_rows(&rt, alloc, bounded(alloc, &[Some(50)], 50, 60), closed, 1);
-}
-
-#[test]
-fn null_tests(rt: HostRuntime) {
-    let alloc = rt.alloc();
-    let rows = [None, Some(2), None];
-    let is_value = is_not_null(alloc, a(alloc));
-    expect_rows(&rt, alloc, with_nulls(alloc, &rows, 3), is_value, 1);
-    let is_value = is_not_null(alloc, a(alloc));
-    expect_rows(&rt, alloc, with_nulls(alloc, &rows, 2), is_value, 1);
-    let null = is_null(alloc, a(alloc));
-    expect_skipped(&rt, alloc, with_nulls(alloc, &[], 0), null);
-    let null = is_null(alloc, a(alloc));
-    expect_skipped(&rt, alloc, with_nulls(alloc, &[Some(1)], 0), null);
-}
-
-#[test]
-fn a_comparison_with_null_proves_nothing(rt: HostRuntime) {
-    let alloc = rt.alloc();
-    let predicate = eq(alloc, a(alloc), null_of(alloc, I32));
-    expect_rows(
-        &rt,
-        alloc,
-        bounded(alloc, &[Some(1), None], 1, 1),
-        predicate,
-        0,
-    );
-}
-
-fn is_no_predicate(found: Found) -> bool {
-    matches!(found, Err(StatsError::NotPredicate))
-}
-
-#[test]
-fn without_parts(rt: HostRuntime) {
-    let alloc = rt.alloc();
-    let parts = without_part(alloc);
-    assert!(rt; is_no_predicate(scanned(alloc, &parts, int(alloc, 7))));
-    expect_found(&rt, scanned(alloc, &parts, above(alloc, 10)), &[], &[]);
-}
-
-#[test]
-fn without_statistics(rt: HostRuntime) {
-    let alloc = rt.alloc();
-    let parts = with_set(alloc, &[Some(11)], no_statistics(alloc));
-    expect_rows(&rt, alloc, parts, above(alloc, 10), 1);
-    let parts = with_set(alloc, &[Some(11)], unknown(alloc, Stat::Max));
-    expect_rows(&rt, alloc, parts, above(alloc, 10), 1);
+    let fruit = fruit(alloc);
+    let after = gt(alloc, col(alloc, 1, TEXT), text_of(alloc, "banana"));
+    expect_found(&rt, scanned(alloc, &fruit, after), &[0, 1], &[(2, 0)]);
+    let starts = like(alloc, col(alloc, 1, TEXT), text_of(alloc, "b%"));
+    expect_found(&rt, scanned(alloc, &fruit, starts), &[0, 2], &[(1, 0)]);
+    let null = is_null(alloc, col(alloc, 0, DType::Null));
+    let all = [(0, 0), (1, 0), (2, 0)];
+    expect_found(&rt, scanned(alloc, &fruit, null), &[], &all);
+    let there = is_not_null(alloc, col(alloc, 0, DType::Null));
+    expect_found(&rt, scanned(alloc, &fruit, there), &[0, 1, 2], &[]);
 }

@@ -10,8 +10,8 @@ use vortex_rewrite::expr::{
     all_non_null, all_null, bound as placed, min_max, null_count, proofs, stat as aggregated, sum,
 };
 use vortex_rewrite::hook_fault::HookFault;
-use vortex_testing::nodes::*;
 use vortex_stats::StatsError;
+use vortex_testing::nodes::*;
 
 type Named = Result<Expression, StatsError>;
 

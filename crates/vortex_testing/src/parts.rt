@@ -1,13 +1,14 @@
 //! Parts, tables and scans for the tests, by calls without a contract that take what other
 //! calls answered: a test is one straight line of calls, so its proof stays short.
 ghost use Rattle.std.specs.Bool.{OnTrue};
-ghost use Rattle.std.specs.Prelude.{◌≡◌, ◌<◌, All, IfOk, IsTrue};
+ghost use Rattle.std.specs.Prelude.{◌≡◌, ◌<◌, All, IsTrue};
 ghost use Rattle.vortex_base.specs.Data.Columns.{row_count};
 ghost use Rattle.vortex_expr.specs.Meanings.Fitting.{fits_scope};
 ghost use Rattle.vortex_prune.specs.Zones.{HaveScope};
 
 use crate::nodes::*;
 use std::alloc::{AllocError, Global};
+use std::slice;
 use vortex_base::{Chunk, Column, DType, ScalarValue, Scope};
 use vortex_expr::BoundExpression;
 use vortex_prune::scan::scan;
@@ -27,6 +28,15 @@ pub fn numbers(alloc: Global, rows: &[Option<i32>]) -> Result<Cells, AllocError>
     let mut values = Vec::new(alloc);
     for row in rows {
         values.push(row.map(number))?;
+    }
+    Ok(values)
+}
+
+/// The values of a column of these texts.
+pub fn texts(alloc: Global, rows: &[&str]) -> Result<Cells, AllocError> {
+    let mut values = Vec::new(alloc);
+    for row in rows {
+        values.push(Some(text_value(alloc, *row)?))?;
     }
     Ok(values)
 }
@@ -106,11 +116,6 @@ pub fn at_most(alloc: Global, stat: Stat, value: ScalarValue) -> StatsSet {
     StatsSet::of(alloc, stat, Precision::Inexact(value))
 }
 
-/// An entry that says nothing.
-pub fn unknown(alloc: Global, stat: Stat) -> StatsSet {
-    StatsSet::of(alloc, stat, Precision::Absent)
-}
-
 /// The set with one more exact entry.
 pub fn and_exactly(set: StatsSet, stat: Stat, value: ScalarValue) -> Sets {
     let mut set = set;
@@ -118,20 +123,22 @@ pub fn and_exactly(set: StatsSet, stat: Stat, value: ScalarValue) -> Sets {
     Ok(set)
 }
 
-/// The set with one more inexact entry.
-pub fn and_at_most(set: StatsSet, stat: Stat, value: ScalarValue) -> Sets {
-    let mut set = set;
-    set.set(stat, Precision::Inexact(value))?;
+/// The least value, and one that is at least the greatest.
+pub fn bounds(alloc: Global, low: i32, high: i32) -> Sets {
+    let mut set = exactly(alloc, Stat::Min, number(low));
+    set.set(Stat::Max, Precision::Inexact(number(high)))?;
     Ok(set)
 }
 
-/// The least value, and one that is at least the greatest.
-pub fn bounds(alloc: Global, low: i32, high: i32) -> Sets {
-    and_at_most(
-        exactly(alloc, Stat::Min, number(low)),
-        Stat::Max,
-        number(high),
-    )
+/// The least text and the greatest one.
+pub fn text_bounds(alloc: Global, least: &str, greatest: &str) -> Sets {
+    let set = exactly(alloc, Stat::Min, text_value(alloc, least)?);
+    and_exactly(set, Stat::Max, text_value(alloc, greatest)?)
+}
+
+/// Bounds of values none of which is null.
+pub fn bounded_without_null(alloc: Global, low: i32, high: i32) -> Sets {
+    and_exactly(bounds(alloc, low, high)?, Stat::NullCount, count(0))
 }
 
 pub fn one_set(alloc: Global, set: StatsSet) -> Result<Vec<StatsSet>, AllocError> {
@@ -195,6 +202,26 @@ pub fn part_of_two(
     made(chunk, two_sets(alloc, first, second))
 }
 
+/// The column `a` of numbers and nulls.
+pub fn a(alloc: Global) -> Built {
+    col(alloc, 0, I32_OR_NULL)
+}
+
+/// The comparison of `a`, which has to be above a number.
+pub fn above(alloc: Global, value: i32) -> Built {
+    gt(alloc, a(alloc), int(alloc, value))
+}
+
+pub fn chunk_of_numbers(alloc: Global, rows: &[Option<i32>]) -> Result<Chunk, StatsError> {
+    let column = column(I32_OR_NULL, numbers(alloc, rows), 0);
+    chunk_of(alloc, scope_of(alloc, I32_OR_NULL), column)
+}
+
+/// A part of these rows of `a`, of which this is known.
+pub fn part_of_numbers(alloc: Global, rows: &[Option<i32>], set: Sets) -> Result<Part, StatsError> {
+    part_of(alloc, chunk_of_numbers(alloc, rows), set)
+}
+
 pub type Parts = Result<Vec<Part>, StatsError>;
 
 pub fn no_parts(alloc: Global) -> Parts {
@@ -255,11 +282,14 @@ pub fn zones_of(
     zones(alloc, scope?, parts?)
 }
 
-/// The binder of each part's own statistics.
-pub fn binders_of<'a>(alloc: Global, parts: &'a [Part]) -> Result<Vec<StatsBinder<'a>>, AllocError>
-    ensures { IfOk result (λ binders. binders.items ≡ parts.entry.now) }
-{
-    StatsBinder::of_parts(alloc, parts)
+/// The table of one part of `a`.
+pub fn table_of_numbers(
+    alloc: Global,
+    rows: &[Option<i32>],
+    set: Sets,
+) -> Result<Zones, StatsError> {
+    let parts = one_part(alloc, part_of_numbers(alloc, rows, set));
+    zones_of(alloc, scope_of(alloc, I32_OR_NULL), parts)
 }
 
 fn fits_part(predicate: &BoundExpression, part: &Part) -> bool
@@ -283,15 +313,6 @@ pub fn all_fit(parts: &[Part], predicate: &BoundExpression) -> bool
 
 pub type Found = Result<Scan, StatsError>;
 
-// The outcome that two scans share; `Mismatch` where they differ.
-fn found_alike(one: Scan, other: Scan) -> Found {
-    if one == other {
-        Ok(one)
-    } else {
-        Err(StatsError::Mismatch)
-    }
-}
-
 // Whether two scans were refused for the same, the fault of a rule or a binder included.
 fn is_same_refusal(one: &StatsError, other: &StatsError) -> bool {
     match (one, other) {
@@ -304,26 +325,12 @@ fn is_same_refusal(one: &StatsError, other: &StatsError) -> bool {
     }
 }
 
-// The refusal that two scans share; `Mismatch` where they differ.
-fn refused_alike(one: StatsError, other: StatsError) -> StatsError {
-    if matches!(one, StatsError::Memory(_)) || is_same_refusal(&one, &other) {
-        one
-    } else if matches!(other, StatsError::Memory(_)) {
-        other
-    } else {
-        StatsError::Mismatch
-    }
-}
-
-// The outcome or the refusal that two scans share; `Mismatch` where they differ.
-fn agreed(one: Found, other: Found) -> Found {
+// Whether two scans found the same, or were refused for the same.
+fn is_agreed(one: &Found, other: &Found) -> bool {
     match (one, other) {
-        (Ok(found), Ok(same)) => found_alike(found, same),
-        (Err(one), Err(other)) => Err(refused_alike(one, other)),
-        (Err(StatsError::Memory(refused)), _) | (_, Err(StatsError::Memory(refused))) => {
-            Err(StatsError::Memory(refused))
-        }
-        _ => Err(StatsError::Mismatch),
+        (Ok(one), Ok(other)) => *one == *other,
+        (Err(one), Err(other)) => is_same_refusal(one, other),
+        _ => false,
     }
 }
 
@@ -348,7 +355,7 @@ pub fn scanned_by_part(
     predicate: &BoundExpression,
     rules: &Rules,
 ) -> Found {
-    let binders = binders_of(alloc, parts)?;
+    let binders = StatsBinder::of_parts(alloc, parts)?;
     scanned_with(alloc, parts, &binders, predicate, rules)
 }
 
@@ -435,8 +442,8 @@ fn scanned_as_one(
     scanned_by_ranges(alloc, &whole, zones.map(), predicate, rules)
 }
 
-/// The parts as they are known without their rows.
-pub fn known_of<'a>(alloc: Global, parts: &'a [Part]) -> Result<Vec<Zone<'a>>, AllocError> {
+// The parts as they are known without their rows.
+fn known_of<'a>(alloc: Global, parts: &'a [Part]) -> Result<Vec<Zone<'a>>, AllocError> {
     let mut zones = Vec::new(alloc);
     for part in parts {
         zones.push(part.zone())?;
@@ -450,6 +457,25 @@ pub fn map_of(alloc: Global, scope: Scope, zones: &[Zone<'_>]) -> Result<ZoneMap
         Ok(map) => Ok(map),
         Err(refused) => Err(refused.error),
     }
+}
+
+/// Zones of so many rows, each with one of the sets.
+pub fn zones_of_sets<'a>(
+    alloc: Global,
+    rows: u64,
+    sets: &'a [StatsSet],
+) -> Result<Vec<Zone<'a>>, AllocError> {
+    let mut zones = Vec::new(alloc);
+    for set in sets {
+        zones.push(Zone::new(rows, slice::from_ref(set)))?;
+    }
+    Ok(zones)
+}
+
+/// The map of zones of so many rows, each with one of the sets of `a`.
+pub fn map_of_sets(alloc: Global, rows: u64, sets: &[StatsSet]) -> Result<ZoneMap, StatsError> {
+    let zones = zones_of_sets(alloc, rows, sets)?;
+    map_of(alloc, scope_of(alloc, I32_OR_NULL)?, &zones)
 }
 
 /// Pruning by a map; `Mismatch` where the predicate doesn't fit it.
@@ -477,39 +503,32 @@ fn pruned_without_rows(
     pruned_by(alloc, &map, predicate, rules)
 }
 
-// Whether pruning lists the parts that a scan does.
-fn lists_the_same(found: &Scan, pruned: &Pruned) -> bool {
-    found.skipped.as_slice() == pruned.skipped.as_slice()
-        && found.whole.as_slice() == pruned.whole.as_slice()
-}
-
-// The outcome that a scan and pruning share; `Mismatch` where they differ.
-fn also_pruned(found: Scan, pruned: Pruned) -> Found {
-    if lists_the_same(&found, &pruned) {
-        Ok(found)
-    } else {
-        Err(StatsError::Mismatch)
-    }
-}
-
-// The outcome or the refusal that a scan and pruning share; `Mismatch` where they differ.
-fn pruned_alike(found: Found, pruned: Result<Pruned, StatsError>) -> Found {
+// Whether pruning lists the parts that a scan does, or was refused for the same.
+fn is_also_pruned(found: &Found, pruned: &Result<Pruned, StatsError>) -> bool {
     match (found, pruned) {
-        (Ok(found), Ok(pruned)) => also_pruned(found, pruned),
-        (Err(one), Err(other)) => Err(refused_alike(one, other)),
-        (Err(StatsError::Memory(refused)), _) | (_, Err(StatsError::Memory(refused))) => {
-            Err(StatsError::Memory(refused))
+        (Ok(found), Ok(pruned)) => {
+            found.skipped.as_slice() == pruned.skipped.as_slice()
+                && found.whole.as_slice() == pruned.whole.as_slice()
         }
-        _ => Err(StatsError::Mismatch),
+        (Err(one), Err(other)) => is_same_refusal(one, other),
+        _ => false,
     }
 }
 
 // The scan in three ways, and what pruning does without the rows; `Mismatch` where two differ.
 fn all_scans(alloc: Global, zones: &Zones, predicate: &BoundExpression, rules: &Rules) -> Found {
     let found = scanned_by_part(alloc, zones.parts(), predicate, rules);
-    let found = agreed(found, scanned_by_table(alloc, zones, predicate, rules));
-    let found = agreed(found, scanned_as_one(alloc, zones, predicate, rules));
-    pruned_alike(found, pruned_without_rows(alloc, zones, predicate, rules))
+    let by_table = scanned_by_table(alloc, zones, predicate, rules);
+    let as_one = scanned_as_one(alloc, zones, predicate, rules);
+    let pruned = pruned_without_rows(alloc, zones, predicate, rules);
+    if is_agreed(&found, &by_table)
+        && is_agreed(&found, &as_one)
+        && is_also_pruned(&found, &pruned)
+    {
+        found
+    } else {
+        Err(StatsError::Mismatch)
+    }
 }
 
 /// The scan of the parts by these rules and their own statistics: with a binder for each part, with
@@ -530,6 +549,10 @@ pub fn scanned_by(
 /// Scans zones by the built-in rules.
 pub fn scanned(alloc: Global, zones: &Result<Zones, StatsError>, predicate: Built) -> Found {
     scanned_by(alloc, zones, predicate, &Rules::builtin(alloc))
+}
+
+pub fn is_memory(refused: &StatsError) -> bool {
+    matches!(refused, StatsError::Memory(_))
 }
 
 /// Whether the scan found these parts and rows.

@@ -1,12 +1,9 @@
 //! Long parts, whose rows are tested a column at a time and block by block: the scan selects what
 //! each row says by itself.
 use super::*;
-use std::alloc::AllocError;
-use vortex_base::{Cells, Column, DType, Nullability, ScalarValue};
+use vortex_base::{Cells, Column, ScalarValue};
 use vortex_expr::BoundExpression;
-use vortex_prune::{Rules, Scan};
-
-const UTF8_OR_NULL: DType = DType::Utf8(Nullability::Nullable);
+use vortex_prune::Scan;
 
 // A number of a row, or null in each place of a block.
 fn number_at(row: usize) -> Option<ScalarValue> {
@@ -36,45 +33,29 @@ fn number_cells(alloc: Global, rows: usize) -> Result<Cells, AllocError> {
 }
 
 fn text_cells(alloc: Global, rows: usize) -> Result<Cells, AllocError> {
-    let mut cells = Cells::new(alloc, UTF8_OR_NULL);
+    let mut cells = Cells::new(alloc, TEXT);
     for row in 0..rows {
         cells.push(text_at(alloc, row)?)?;
     }
     Ok(cells)
 }
 
-// The column of cells as they are kept.
-fn column_of(dtype: DType, cells: Cells) -> Result<Column, StatsError> {
-    if !cells.fits(&dtype) {
-        return Err(StatsError::Mismatch);
-    }
-    Ok(Column::new_unchecked(dtype, cells, 0))
-}
-
 fn numbers_long(alloc: Global, rows: usize) -> Result<Column, StatsError> {
-    column_of(I32_OR_NULL, number_cells(alloc, rows)?)
+    told(Column::of_cells(I32_OR_NULL, number_cells(alloc, rows)?, 0))
 }
 
 fn texts_long(alloc: Global, rows: usize) -> Result<Column, StatsError> {
-    column_of(UTF8_OR_NULL, text_cells(alloc, rows)?)
+    told(Column::of_cells(TEXT, text_cells(alloc, rows)?, 0))
 }
 
 // The table of one part of so many rows in the columns `a` and `b`, without statistics.
 fn long(alloc: Global, rows: usize) -> Table {
-    let scope = scope_of_two(alloc, ("a", I32_OR_NULL), ("b", UTF8_OR_NULL));
-    let chunk = chunk_of_two(
-        alloc,
-        scope,
-        numbers_long(alloc, rows),
-        texts_long(alloc, rows),
-    );
-    let part = part_of_two(
-        alloc,
-        chunk,
-        Ok(no_statistics(alloc)),
-        Ok(no_statistics(alloc)),
-    );
-    let scope = scope_of_two(alloc, ("a", I32_OR_NULL), ("b", UTF8_OR_NULL));
+    let scope = scope_of_two(alloc, ("a", I32_OR_NULL), ("b", TEXT));
+    let (numbers, texts) = (numbers_long(alloc, rows), texts_long(alloc, rows));
+    let chunk = chunk_of_two(alloc, scope, numbers, texts);
+    let (first, second) = (no_statistics(alloc), no_statistics(alloc));
+    let part = part_of_two(alloc, chunk, Ok(first), Ok(second));
+    let scope = scope_of_two(alloc, ("a", I32_OR_NULL), ("b", TEXT));
     zones_of(alloc, scope, one_part(alloc, part))
 }
 
@@ -143,76 +124,26 @@ fn expect_as_alone(rt: &impl Abort, alloc: Global, predicate: Built) {
 }
 
 fn b(alloc: Global) -> Built {
-    col(alloc, 1, UTF8_OR_NULL)
-}
-
-// How many rows the scan of the long part selects.
-fn count_selected(alloc: Global, rows: usize, predicate: Built) -> Result<usize, StatsError> {
-    let (zones, predicate) = (long(alloc, rows)?, predicate?);
-    let found = scanned_by_part(alloc, zones.parts(), &predicate, &Rules::builtin(alloc))?;
-    Ok(found.selected.len())
-}
-
-// Of each five rows two have a number above 4, and so has the last one.
-#[test]
-fn counts_are_known(rt: HostRuntime) {
-    let alloc = rt.alloc();
-    assert!(rt; count_selected(alloc, 2_049, above(alloc, 4)).expect(&rt, "count selected") == 819);
-    assert!(rt;
-        count_selected(alloc, 1_024, is_null(alloc, a(alloc))).expect(&rt, "count selected") == 205
-    );
-    assert!(rt;
-        count_selected(alloc, 3, eq(alloc, b(alloc), text(alloc, "larch"))).expect(
-            &rt,
-            "count selected"
-        ) == 1
-    );
+    col(alloc, 1, TEXT)
 }
 
 #[test]
-fn comparisons_have_the_rows(rt: HostRuntime) {
+fn leaves_have_the_rows(rt: HostRuntime) {
     let alloc = rt.alloc();
-    expect_as_alone(&rt, alloc, above(alloc, 4));
-    expect_as_alone(&rt, alloc, not_eq(alloc, a(alloc), int(alloc, 5)));
     expect_as_alone(&rt, alloc, lt(alloc, int(alloc, 3), a(alloc)));
     expect_as_alone(&rt, alloc, eq(alloc, a(alloc), a(alloc)));
-}
-
-#[test]
-fn texts_have_the_rows(rt: HostRuntime) {
-    let alloc = rt.alloc();
+    expect_as_alone(&rt, alloc, gt(alloc, a(alloc), null_of(alloc, I32)));
     expect_as_alone(&rt, alloc, gt(alloc, b(alloc), text(alloc, "cedar")));
-    expect_as_alone(&rt, alloc, lt_eq(alloc, text(alloc, "larch"), b(alloc)));
     expect_as_alone(&rt, alloc, like(alloc, b(alloc), text(alloc, "%rc%h")));
-}
-
-#[test]
-fn nulls_have_the_rows(rt: HostRuntime) {
-    let alloc = rt.alloc();
-    expect_as_alone(&rt, alloc, is_null(alloc, a(alloc)));
-    expect_as_alone(&rt, alloc, is_not_null(alloc, b(alloc)));
-    expect_as_alone(&rt, alloc, not(alloc, above(alloc, 4)));
-    let null = null_of(alloc, I32_OR_NULL);
-    expect_as_alone(&rt, alloc, gt(alloc, a(alloc), null));
-}
-
-#[test]
-fn ranges_have_the_rows(rt: HostRuntime) {
-    let alloc = rt.alloc();
-    expect_as_alone(&rt, alloc, range(alloc, CLOSED, 3, 5));
-    expect_as_alone(&rt, alloc, range(alloc, OPEN, 3, 7));
-    let turned = between(alloc, int(alloc, 4), a(alloc), int(alloc, 9), OPEN_BELOW);
-    expect_as_alone(&rt, alloc, turned);
-    let null = null_of(alloc, I32_OR_NULL);
-    let half = between(alloc, a(alloc), null, int(alloc, 5), CLOSED);
-    expect_as_alone(&rt, alloc, half);
+    let range = between(alloc, a(alloc), int(alloc, 3), int(alloc, 7), OPEN_BELOW);
+    expect_as_alone(&rt, alloc, range);
 }
 
 // The numbers above 4 beside a text below `cedar`, or minus one.
 fn inner(alloc: Global) -> Built {
     let low = lt(alloc, b(alloc), text(alloc, "cedar"));
     let both = and(alloc, above(alloc, 4), low);
-    or(alloc, both, compare(alloc, Operator::Eq, -1))
+    or(alloc, both, eq(alloc, a(alloc), int(alloc, -1)))
 }
 
 #[test]
@@ -220,8 +151,6 @@ fn connectives_have_the_rows(rt: HostRuntime) {
     let alloc = rt.alloc();
     let there = is_not_null(alloc, b(alloc));
     expect_as_alone(&rt, alloc, and(alloc, inner(alloc), there));
-    let odd = not(alloc, compare(alloc, Operator::Lt, 7));
+    let odd = not(alloc, lt(alloc, a(alloc), int(alloc, 7)));
     expect_as_alone(&rt, alloc, or(alloc, odd, inner(alloc)));
-    let both = or(alloc, above(alloc, 4), compare(alloc, Operator::Gte, 3));
-    expect_as_alone(&rt, alloc, both);
 }

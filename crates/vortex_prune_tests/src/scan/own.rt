@@ -1,4 +1,4 @@
-//! Scans by rules of a user, and what they are refused for.
+//! Scans by rules of a user, whose proofs rest on a type or on facts of a part.
 ghost use Rattle.std.specs.Prelude.{◌≡◌, true, Some, None, if◌then◌else◌};
 ghost use Rattle.vortex_rewrite.specs.Rewriting.Falsifiers.{bool_literal};
 ghost use Rattle.vortex_prune_tests.specs.RuleExamples.{at_null_test};
@@ -6,7 +6,6 @@ ghost use Rattle.vortex_prune_tests.specs.RuleExamples.{at_null_test};
 use super::*;
 use vortex_expr::{BoundExpression, Parts};
 use vortex_prune::{HookFault, StatsRewriteRule};
-use vortex_stats::RuleFault;
 use vortex_testing::hooks::{ValueTests, truth_answer};
 
 // Whether it is IS NULL of a column whose type has no null.
@@ -100,7 +99,8 @@ fn value_test_rules(alloc: Global) -> Result<Rules, AllocError> {
 // The scan for rows of which it is said that they aren't null, by a rule for that.
 fn scanned_for_values(alloc: Global, rows: &[Option<i32>], nulls: u64) -> Found {
     let rules = value_test_rules(alloc)?;
-    let parts = with_set(alloc, rows, exactly(alloc, Stat::NullCount, count(nulls)));
+    let set = exactly(alloc, Stat::NullCount, count(nulls));
+    let parts = table_of_numbers(alloc, rows, Ok(set));
     scanned_by(alloc, &parts, not(alloc, is_null(alloc, a(alloc))), &rules)
 }
 
@@ -114,57 +114,4 @@ fn a_rule_may_rest_on_facts(rt: HostRuntime) {
     assert!(rt; has_found(&found, &[], &[0], &[(0, 0), (0, 1)]));
     let found = scanned_for_values(alloc, &[Some(1), None], 1).expect(&rt, "found");
     assert!(rt; has_found(&found, &[], &[], &[(0, 0)]));
-}
-
-fn is_open(found: Found) -> bool {
-    matches!(found, Err(StatsError::OpenProof))
-}
-
-// The rules prove NOT of a comparison by an open proof, which no part is there to meet, or one.
-fn expect_open(rt: &impl Abort, alloc: Global, rules: &Rules) {
-    let opposite = not(alloc, above(alloc, 10));
-    let parts = bounded(alloc, &[Some(1)], 1, 1);
-    assert!(rt; is_open(scanned_by(alloc, &parts, opposite, rules)));
-    let opposite = not(alloc, above(alloc, 10));
-    let found = scanned_by(alloc, &without_part(alloc), opposite, rules);
-    expect_found(rt, found, &[], &[]);
-}
-
-#[test]
-fn an_open_proof_ends_the_scan_at_a_part(rt: HostRuntime) {
-    let alloc = rt.alloc();
-    let rules = rules_that_claim(alloc, ScalarFnId::Not, Claim::NullTest, Claim::Nothing).expect(
-        &rt, "rules",
-    );
-    expect_open(&rt, alloc, &rules);
-}
-
-#[test]
-fn a_bare_column_ends_the_scan_at_a_part(rt: HostRuntime) {
-    let alloc = rt.alloc();
-    let rules = rules_that_claim(alloc, ScalarFnId::Not, Claim::Column(0), Claim::Nothing).expect(
-        &rt, "rules",
-    );
-    expect_open(&rt, alloc, &rules);
-}
-
-fn is_fault(found: Found) -> bool {
-    matches!(found, Err(StatsError::Rule(RuleFault::Own(3))))
-}
-
-#[test]
-fn an_own_fault_ends_the_scan(rt: HostRuntime) {
-    let alloc = rt.alloc();
-    let rules = rules_that_claim(alloc, ScalarFnId::IsNotNull, Claim::Fault, Claim::Fault).expect(
-        &rt, "rules",
-    );
-    let parts = bounded(alloc, &[Some(1)], 1, 1);
-    let is_value = is_not_null(alloc, a(alloc));
-    assert!(rt; is_fault(scanned_by(alloc, &parts, is_value, &rules)));
-    expect_found(
-        &rt,
-        scanned_by(alloc, &parts, above(alloc, 10), &rules),
-        &[0],
-        &[],
-    );
 }

@@ -2,13 +2,10 @@
 //! at the ends of blocks and between: a scan selects what each row says by itself.
 use super::blocks::scans_as_alone;
 use super::*;
-use std::alloc::AllocError;
-use vortex_base::{Bytes, Cells, Column, DType, Nullability, PType, PValue, ScalarValue};
+use vortex_base::{Bytes, Cells, Column, PType, PValue, ScalarValue};
+use vortex_expr::Operator;
 
 const ROWS: usize = 2_049;
-
-// How many of the rows are null.
-const NULLS: usize = 297;
 
 const OPERATORS: [Operator; 6] = [
     Operator::Eq,
@@ -159,11 +156,13 @@ fn literal(alloc: Global, dtype: DType, place: usize) -> Built {
 }
 
 #[test]
-fn comparisons_of_each_type_have_the_rows(rt: HostRuntime) {
+fn comparisons_and_nulls_of_each_type_have_the_rows(rt: HostRuntime) {
     let alloc = rt.alloc();
     for kind in 0..KINDS {
         let dtype = dtype_at(kind);
         let zones = table(alloc, dtype).expect(&rt, "zones");
+        let nulls = is_null(alloc, first_column(alloc, dtype));
+        assert!(rt; is_as_alone(alloc, &zones, nulls).expect(&rt, "an answer"));
         for operator in OPERATORS {
             for place in 0..3 {
                 let is_alike = is_compared_as_alone(alloc, &zones, dtype, operator, place).expect(
@@ -173,68 +172,4 @@ fn comparisons_of_each_type_have_the_rows(rt: HostRuntime) {
             }
         }
     }
-}
-
-#[test]
-fn nulls_of_each_type_have_the_rows(rt: HostRuntime) {
-    let alloc = rt.alloc();
-    for kind in 0..KINDS {
-        let dtype = dtype_at(kind);
-        let zones = table(alloc, dtype).expect(&rt, "zones");
-        let nulls = is_null(alloc, first_column(alloc, dtype));
-        assert!(rt; is_as_alone(alloc, &zones, nulls).expect(&rt, "an answer"));
-        let values = is_not_null(alloc, first_column(alloc, dtype));
-        assert!(rt; is_as_alone(alloc, &zones, values).expect(&rt, "an answer"));
-    }
-}
-
-// How many rows of a table a predicate selects.
-fn count_selected(alloc: Global, zones: &Zones, predicate: Built) -> Result<usize, StatsError> {
-    let found = scanned_by_part(alloc, zones.parts(), &predicate?, &Rules::builtin(alloc))?;
-    Ok(found.selected.len())
-}
-
-// A null compares with nothing, and each value is above another or isn't.
-#[test]
-fn counts_of_each_type_are_known(rt: HostRuntime) {
-    let alloc = rt.alloc();
-    for kind in 0..KINDS {
-        let dtype = dtype_at(kind);
-        let zones = table(alloc, dtype).expect(&rt, "zones");
-        let nulls = is_null(alloc, first_column(alloc, dtype));
-        let nulls = count_selected(alloc, &zones, nulls).expect(&rt, "nulls");
-        let least = lit(
-            alloc,
-            dtype,
-            value_of(alloc, dtype, 1).expect(&rt, "value of"),
-        );
-        let above = gt(alloc, first_column(alloc, dtype), least);
-        let above = count_selected(alloc, &zones, above).expect(&rt, "above");
-        let least = lit(
-            alloc,
-            dtype,
-            value_of(alloc, dtype, 1).expect(&rt, "value of"),
-        );
-        let others = lt_eq(alloc, first_column(alloc, dtype), least);
-        let others = count_selected(alloc, &zones, others).expect(&rt, "others");
-        assert!(rt; nulls == NULLS && above > 0 && others > 0);
-        assert!(rt; nulls.checked_add(above).and_then(|n| n.checked_add(others)) == Some(ROWS));
-    }
-}
-
-// A column of nulls alone.
-#[test]
-fn nulls_alone_have_the_rows(rt: HostRuntime) {
-    let alloc = rt.alloc();
-    let cells = Cells::nulls(alloc, DType::Null, ROWS).expect(&rt, "cells");
-    let column = told(Column::of_cells(DType::Null, cells, 0));
-    let chunk = chunk_of(alloc, scope_of(alloc, DType::Null), column);
-    let part = part_of(alloc, chunk, Ok(no_statistics(alloc)));
-    let zones = zones_of(alloc, scope_of(alloc, DType::Null), one_part(alloc, part)).expect(
-        &rt, "zones",
-    );
-    let nulls = is_null(alloc, first_column(alloc, DType::Null));
-    assert!(rt; count_selected(alloc, &zones, nulls).expect(&rt, "count selected") == ROWS);
-    let values = is_not_null(alloc, first_column(alloc, DType::Null));
-    assert!(rt; count_selected(alloc, &zones, values).expect(&rt, "count selected") == 0);
 }

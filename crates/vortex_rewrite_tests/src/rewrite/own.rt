@@ -8,8 +8,8 @@ use std::alloc::AllocError;
 use std::process::Abort;
 use vortex_expr::{Parts, ScalarFnId};
 use vortex_rewrite::{HookFault, StatsRewriteRule, StatsRewriteRuleRef};
-use vortex_testing::hooks::{Claim, Claiming, ValueTests, truth_answer};
 use vortex_stats::RuleFault;
+use vortex_testing::hooks::{Claim, Claiming, ValueTests, truth_answer};
 
 fn is_not_of(e: &BoundExpression, truth: bool) -> bool
     ensures { (answer : Bool) → at_opposite truth answer e.now
