@@ -125,6 +125,18 @@ def put_back():
     shutil.rmtree(BESIDE, ignore_errors=True)
 
 
+def kept_count(name):
+    """The file that keeps how many functions of a crate are proved, and the sum of what that stands on."""
+    return f"{TOP}/crates/{name}/out/functions", sum_of(crates_below(name))
+
+
+def note_count(name, count):
+    """Keeps how many functions of a crate are proved."""
+    kept, stamp = kept_count(name)
+    with open(kept, "w", encoding="utf-8") as it:
+        it.write(f"{stamp} {count}\n")
+
+
 class Run:
     """A run of `rt` on one crate, which says how many of its functions are checked."""
 
@@ -151,6 +163,11 @@ class Run:
         """Whether an ended run has built its crate: the status of `rt run` can be the program's own."""
         self.reader.join()
         return any(it.startswith("rt: running ") for it in self.said) if self.is_program else self.process.returncode == 0
+
+    def count(self):
+        """How many functions an ended run has proved, or None where it proved nothing anew."""
+        found = re.search(r"^logic=proved functions=(\d+) ", "".join(self.said), re.M)
+        return found and found[1]
 
 
 class Progress:
@@ -196,6 +213,8 @@ def build(crates, jobs, progress):
                 done.append(run.name)
                 if run.top == BESIDE:
                     put_back()
+                if run.count():
+                    note_count(run.name, run.count())
             progress.tell(", ".join([f"{len(done)} of {len(crates)} crates done", *[it.far for it in runs]]))
     finally:
         progress.end()

@@ -8,7 +8,7 @@ cd "$(dirname "$0")/.."
 out=callers/out
 mkdir -p "$out/parts"
 
-(cd crates/vortex_ffi && rt lib)
+checks/build.py vortex_ffi
 
 # The toolchain's own C, which calls malloc, realloc and free, goes into the same archive. Only the calls of the header are seen.
 kit="$(dirname "$(rt doc | head -n 1)")"

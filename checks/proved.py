@@ -5,7 +5,7 @@
 usage: checks/proved.py --count CRATE..    checks these crates and those below them, and prints commit, toolchain and functions as JSON
        checks/proved.py COUNTS FILE..      prints what --count has printed to the file COUNTS, with a checksum of each FILE
 
-A count stays known in the crate's out/ until its sources, a crate below it or the toolchain changes.
+A count stays known in the crate's out/, where `checks/build.py` notes it too, until its sources, a crate below it or the toolchain changes.
 """
 import hashlib
 import json
@@ -25,10 +25,9 @@ def told_by(*words, where=build.TOP):
     return subprocess.run(words, cwd=where, stdout=subprocess.PIPE, stderr=subprocess.STDOUT, text=True, errors="replace", check=False).stdout
 
 
-def count_of(crates, name):
+def count_of(name):
     """The number of functions of a crate that are proved, by the last line of its check, or None where one isn't."""
-    kept, below = f"{build.TOP}/crates/{name}/out/functions", build.crates_below(name)
-    stamp = build.sum_of(below)
+    kept, stamp = build.kept_count(name)
     known = (build.text_of(kept) or "").split()
     if known[:1] == [stamp]:
         return int(known[1])
@@ -37,8 +36,7 @@ def count_of(crates, name):
     if not found:
         print(f"proved: {name} isn't proved:\n{told[-2000:]}", file=sys.stderr)
         return None
-    with open(kept, "w", encoding="utf-8") as it:
-        it.write(f"{stamp} {found[1]}\n")
+    build.note_count(name, found[1])
     return int(found[1])
 
 
@@ -46,7 +44,7 @@ def counts(names):
     """What is told of the commit and of the crates, or None where one of them isn't proved."""
     crates = build.crates_below(*names)
     with ThreadPoolExecutor(BESIDE) as pool:
-        found = dict(zip(crates, pool.map(lambda it: count_of(crates, it), crates)))
+        found = dict(zip(crates, pool.map(count_of, crates)))
     if None in found.values():
         return None
     changed = told_by("git", "status", "--porcelain", "--untracked-files=no").strip()
