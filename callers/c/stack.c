@@ -258,9 +258,10 @@ static void every_condition(void) {
     }
 }
 
-/* The seconds that a text of so many bytes takes, made of one piece, and whether it is refused at a place. */
-static double refused_in(const char *piece, size_t bytes, uint8_t wanted) {
+/* The seconds that a text of so many bytes takes, a front and then one piece again and again, which is refused at a place. */
+static double refused_in(const char *front, const char *piece, size_t bytes, uint8_t wanted) {
     text condition = {0};
+    add(&condition, front);
     while (condition.len < bytes) add(&condition, piece);
     question question = {.predicate = &condition, .status = 99, .answers = {9, 9}};
     clock_t began = clock();
@@ -274,12 +275,13 @@ static double refused_in(const char *piece, size_t bytes, uint8_t wanted) {
 
 /* Texts of 16 MB that are no condition: four times the bytes take less than eight times as long. */
 static void every_long_text(void) {
-    const struct { const char *piece; uint8_t status; } rows[] = {
-        {"(", VORTEX_TOO_DEEP}, {"n > 0 AND ", VORTEX_BAD_SQL}, {"' is not closed '", VORTEX_BAD_SQL}, {"NOT ", VORTEX_TOO_DEEP},
+    const struct { const char *front, *piece; uint8_t status; } rows[] = {
+        {"", "(", VORTEX_TOO_DEEP}, {"", "NOT ", VORTEX_TOO_DEEP}, {"", "n > 0 AND ", VORTEX_BAD_SQL}, {"", "f(", VORTEX_BAD_SQL},
+        {"s = '", "not closed ", VORTEX_BAD_SQL}, {"s = '", "doubled '' ", VORTEX_BAD_SQL},
     };
     for (size_t i = 0; i < sizeof rows / sizeof *rows; i++) {
-        double quick = refused_in(rows[i].piece, 4000000, rows[i].status);
-        assert(refused_in(rows[i].piece, 16000000, rows[i].status) < 8 * quick + 0.5);
+        double quick = refused_in(rows[i].front, rows[i].piece, 4000000, rows[i].status);
+        assert(refused_in(rows[i].front, rows[i].piece, 16000000, rows[i].status) < 8 * quick + 0.5);
     }
 }
 
