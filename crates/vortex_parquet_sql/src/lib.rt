@@ -1,10 +1,14 @@
-//! Prunes the row groups of a Parquet file by a condition in SQL.
+//! Prunes the row groups and the pages of a Parquet file by a condition in SQL.
 #![tactic(auto)]
 
 pub mod chosen;
 pub mod error;
 pub mod footer_condition;
+pub mod laws;
 mod mentions;
+pub mod page_ranges;
+mod paged;
 
 pub use error::FooterError;
 pub use footer_condition::{FooterCondition, GroupVerdicts};
+pub use page_ranges::{PageRange, PageVerdicts};

@@ -8,4 +8,6 @@ mod file;
 #[cfg(test)]
 mod files;
 #[cfg(test)]
+mod page_ranges;
+#[cfg(test)]
 mod pages;
