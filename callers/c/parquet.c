@@ -1,7 +1,8 @@
 /* SPDX-License-Identifier: Apache-2.0 */
 /*
- * The calls over footers of Parquet files: the row groups of a small file by conditions, what each refusal leaves, and each
- * byte of the footer and of a condition set to each value, which is an answer or a status that the header names.
+ * The calls over footers of Parquet files: the row groups and the pages of small files by conditions, what each refusal leaves,
+ * and each byte of the footer, of the page indexes and of a condition set to each value, which is an answer or a status that
+ * the header names.
  *
  * Every array is lent as a copy of exactly as many bytes as its length says, so that valgrind and the address sanitizer see
  * what is read or written behind it. With a path, it tells how long pruning takes a file by its footer.
@@ -173,6 +174,131 @@ static void mutations(void) {
     printf("parquet: %lu footers with a byte changed are answered, and %lu refused by name\n", answers, refusals);
 }
 
+/*
+ * The end of a file from its byte 200 on. A row group of 8 rows has the column `s` (STRING) in pages of 3, 2 and 3 rows, `a` to
+ * `c` without nulls, nulls alone, and `d` to `f`, and the column `q` (INT32) in pages of 4 and 4, 1 to 4 with a null and 5
+ * without one; one of 4 rows has 7 to 9 in `q` and no indexes. Behind the indexes stands the footer.
+ */
+static const uint8_t paged[232] = {
+    25, 49, 2, 1, 2, 25, 56, 1, 97, 1, 122, 1, 100, 25, 56, 1, 99, 1, 121, 1, 102, 21, 2, 25, 54, 0, 4, 1, 0, 25,
+    60, 22, 8, 21, 20, 22, 0, 0, 22, 28, 21, 10, 22, 6, 0, 22, 38, 21, 12, 22, 10, 0, 0, 25, 33, 2, 2, 25, 40, 4, 1,
+    0, 0, 0, 4, 5, 0, 0, 0, 25, 40, 4, 4, 0, 0, 0, 4, 5, 0, 0, 0, 21, 0, 25, 38, 2, 0, 0, 25, 44, 22, 100, 21, 20,
+    22, 0, 0, 22, 120, 21, 10, 22, 8, 0, 0, 21, 4, 25, 60, 72, 1, 109, 21, 4, 0, 21, 12, 37, 2, 24, 1, 115, 37, 0,
+    0, 21, 2, 37, 2, 24, 1, 113, 0, 22, 24, 25, 44, 25, 44, 38, 8, 28, 21, 12, 0, 22, 202, 3, 21, 48, 22, 144, 3,
+    21, 58, 0, 38, 8, 28, 21, 2, 0, 22, 192, 4, 21, 34, 22, 250, 3, 21, 70, 0, 22, 200, 1, 22, 16, 0, 25, 44, 38, 8,
+    28, 21, 12, 0, 0, 38, 8, 28, 21, 2, 188, 88, 4, 9, 0, 0, 0, 24, 4, 7, 0, 0, 0, 0, 0, 0, 22, 200, 1, 22, 8, 0,
+    57, 44, 28, 0, 0, 28, 0, 0, 0, 119, 0, 0, 0, 80, 65, 82, 49
+};
+
+enum { INDEXES = 105, PAGED_FOOTER = 119, BEGIN = 200 };
+
+/* What a call about pages is handed to be written. */
+typedef struct told_pages {
+    vortex_row_range ranges[ROOM];
+    vortex_span unread[ROOM];
+    size_t ranges_found, unread_found;
+    vortex_fault fault;
+} told_pages;
+
+static told_pages fresh_pages(void) {
+    told_pages it;
+    memset(&it, 0xa5, sizeof it);
+    return it;
+}
+
+static uint8_t pruned_pages(const uint8_t *whole, size_t tail_len, uint64_t begin, const char *text, uint8_t flags, size_t room,
+                            size_t unread_room, told_pages *it) {
+    uint8_t *footer = lent(whole + INDEXES, PAGED_FOOTER), *tail = lent(whole, tail_len), *condition = lent(text, strlen(text));
+    uint8_t status = vortex_parquet_prune_pages(footer, PAGED_FOOTER, tail, tail_len, begin, condition, strlen(text), flags,
+                                                it->ranges, room, it->unread, unread_room, &it->ranges_found,
+                                                &it->unread_found, &it->fault);
+    free(footer);
+    free(tail);
+    free(condition);
+    return status;
+}
+
+/* The rows and the answers of the stretches, as letters: `0:0-4R` are four rows of the first row group that are to be read. */
+static void expect_pages(size_t tail_len, uint64_t begin, const char *text, const char *wanted, size_t unread) {
+    told_pages it = fresh_pages(), old = fresh_pages();
+    assert(pruned_pages(paged, tail_len, begin, text, 0, ROOM, ROOM, &it) == VORTEX_OK);
+    char found[256] = "";
+    for (size_t place = 0; place < it.ranges_found; place++) {
+        const vortex_row_range *range = it.ranges + place;
+        snprintf(found + strlen(found), sizeof found - strlen(found), "%s%zu:%u-%u%c", place ? " " : "", range->group,
+                 (unsigned)range->first, (unsigned)range->end, "RSW"[range->answer]);
+    }
+    assert(!strcmp(found, wanted));
+    assert(it.unread_found == unread);
+    assert(!memcmp(it.ranges + it.ranges_found, old.ranges + it.ranges_found, (ROOM - it.ranges_found) * sizeof *old.ranges));
+    assert(!memcmp(it.unread + unread, old.unread + unread, (ROOM - unread) * sizeof *old.unread));
+    assert(!memcmp(&it.fault, &old.fault, sizeof old.fault));
+}
+
+static void pages(void) {
+    expect_pages(sizeof paged, BEGIN, "q > 4", "0:0-4S 0:4-8W 1:0-4R", 0);
+    expect_pages(INDEXES, BEGIN, "s = 'b'", "0:0-3R 0:3-5S 0:5-8S 1:0-4R", 0);
+    expect_pages(INDEXES, BEGIN, "s IS NULL AND lower(s) = 'x'", "0:0-3S 0:3-5R 0:5-8R 1:0-4R", 1);
+    expect_pages(INDEXES, BEGIN, "s = 'b' AND q < 5", "0:0-3R 0:3-4S 0:4-5S 0:5-8S 1:0-4S", 0);
+    /* Without the indexes each row group is one page. */
+    expect_pages(0, 0, "q < 7", "0:0-8R 1:0-4S", 0);
+    /* Indexes that are cut off are none. */
+    expect_pages(52, BEGIN, "s = 'b'", "0:0-8R 1:0-4R", 0);
+    expect_pages(53, BEGIN, "s = 'b'", "0:0-3R 0:3-5S 0:5-8S 1:0-4R", 0);
+}
+
+static void refused_pages(void) {
+    told_pages it = fresh_pages(), old = fresh_pages();
+    assert(pruned_pages(paged, INDEXES, BEGIN + 1, "q > 4", 0, ROOM, ROOM, &it) == VORTEX_BAD_FOOTER);
+    assert(it.fault.column == VORTEX_PAGES && !it.fault.row && !it.fault.entry);
+    assert(!memcmp(&it, &old, offsetof(told_pages, fault)));
+    it = fresh_pages();
+    assert(pruned_pages(paged, INDEXES, BEGIN + 1, "q > 'x'", 1, ROOM, ROOM, &it) == VORTEX_BAD_FLAG);
+    it = fresh_pages();
+    assert(pruned_pages(paged, INDEXES, BEGIN + 1, "q > 'x'", 0, ROOM, ROOM, &it) == VORTEX_MISFIT);
+    assert(it.fault.entry == 0 && it.fault.row == 7 && !memcmp(&it, &old, offsetof(told_pages, fault)));
+    for (size_t room = 0; room < 4; room++) {
+        it = fresh_pages();
+        assert(pruned_pages(paged, INDEXES, BEGIN, "s = 'b' OR f(s)", 0, room, room & 1, &it) == VORTEX_TOO_SHORT);
+        assert(it.ranges_found == 4 && it.unread_found == 1);
+        assert(!memcmp(&it, &old, offsetof(told_pages, ranges_found)) && !memcmp(&it.fault, &old.fault, sizeof old.fault));
+    }
+    it = fresh_pages();
+    assert(pruned_pages(paged, INDEXES, BEGIN, "s = 'b' OR f(s)", 0, 4, 0, &it) == VORTEX_TOO_SHORT);
+    assert(pruned_pages(paged, INDEXES, BEGIN, "s = 'b' OR f(s)", 0, 4, 1, &it) == VORTEX_OK);
+}
+
+/* The stretches that are told are all rows of each row group, one behind the other. */
+static void expect_all_rows(const told_pages *it) {
+    static const uint64_t rows[] = {8, 4};
+    size_t group = 0;
+    uint64_t from = 0;
+    for (size_t place = 0; place < it->ranges_found; place++) {
+        const vortex_row_range *range = it->ranges + place;
+        assert(range->group == group && range->first == from && range->end > from && range->answer <= VORTEX_WHOLE);
+        from = range->end;
+        if (from == rows[group]) group++, from = 0;
+    }
+    assert(group == 2 && from == 0);
+}
+
+/* Each byte of the indexes set to each value: an answer about all rows, or a fault of the pages. */
+static void changed_pages(void) {
+    unsigned long answers = 0, refusals = 0;
+    for (size_t place = 0; place < INDEXES; place++)
+        for (unsigned value = 0; value < 256; value++) {
+            uint8_t changed[sizeof paged];
+            memcpy(changed, paged, sizeof paged);
+            changed[place] = (uint8_t)value;
+            told_pages it = fresh_pages(), old = fresh_pages();
+            uint8_t status = pruned_pages(changed, INDEXES, BEGIN, "s = 'b' AND q > 3", 0, ROOM, ROOM, &it);
+            assert(status == VORTEX_OK || status == VORTEX_BAD_FOOTER);
+            if (status == VORTEX_OK) answers++, expect_all_rows(&it);
+            else refusals++, assert(!memcmp(&it, &old, offsetof(told_pages, fault)));
+        }
+    printf("parquet: %lu page indexes with a byte changed are answered, and %lu refused by name\n", answers, refusals);
+}
+
 static double now(void) {
     struct timespec t;
     clock_gettime(CLOCK_PROCESS_CPUTIME_ID, &t);
@@ -215,5 +341,8 @@ int main(int count, char **words) {
     refusals();
     lengths();
     mutations();
+    pages();
+    refused_pages();
+    changed_pages();
     return 0;
 }

@@ -84,10 +84,10 @@ enum vortex_status {
                                    text nests too deep: which byte */
     VORTEX_BAD_SQL = 18,        /* vortex_prune_sql: the text is no condition: which byte, and a vortex_sql_fault */
     VORTEX_MISFIT = 19,         /* vortex_prune_sql: the types of a test don't fit: which bytes */
-    VORTEX_BAD_FOOTER = 20,     /* vortex_parquet_footer, vortex_parquet_prune: the bytes are no footer: a
-                                   vortex_parquet_fault */
-    VORTEX_NOT_READ = 21        /* vortex_parquet_prune: a test names a column of which no test could be meant: which bytes, and
-                                   a vortex_not_read */
+    VORTEX_BAD_FOOTER = 20,     /* vortex_parquet_footer, vortex_parquet_prune, vortex_parquet_prune_pages: the bytes are no
+                                   footer, or no page indexes: a vortex_parquet_fault */
+    VORTEX_NOT_READ = 21        /* vortex_parquet_prune, vortex_parquet_prune_pages: a test names a column of which no test
+                                   could be meant: which bytes, and a vortex_not_read */
 };
 
 /* Why bytes are no footer of a Parquet file: fault->column of VORTEX_BAD_FOOTER. */
@@ -204,6 +204,14 @@ typedef struct vortex_row_group {
     uint64_t size;  /* how many bytes its column chunks take in the file, or 0 where the footer doesn't tell */
     uint8_t answer; /* a vortex_answer */
 } vortex_row_group;
+
+/* Rows of a row group of a Parquet file, one behind the other. */
+typedef struct vortex_row_range {
+    size_t group;   /* the row group, by its place in the file */
+    uint64_t first; /* the first of the rows, counted from the first of the row group */
+    uint64_t end;   /* the row behind the last of them */
+    uint8_t answer; /* a vortex_answer */
+} vortex_row_range;
 
 /* The values of a column. */
 typedef struct vortex_values {
@@ -397,6 +405,27 @@ uint8_t vortex_parquet_footer(const uint8_t *tail, size_t tail_len, size_t *leng
 uint8_t vortex_parquet_prune(const uint8_t *footer, size_t footer_len, const uint8_t *text, size_t text_len, uint8_t flags,
                              vortex_row_group *groups, size_t groups_len, vortex_span *unread, size_t unread_len,
                              size_t *groups_found, size_t *unread_found, vortex_fault *fault);
+
+/*
+ * What to do with the rows of a Parquet file under a condition in SQL, by its page indexes. `tail` has the bytes of the file
+ * from the byte `tail_begin` on, as far as the caller has them; the indexes stand right before the footer, and the footer
+ * tells where. A column chunk whose indexes aren't among these bytes is one page with the statistics of the footer, so with a
+ * `tail_len` of 0 the answer is that of the row groups. The footer, the text and `flags` are those of vortex_parquet_prune.
+ *
+ * Each row group is cut where a page of a column ends that the condition names. `ranges` has the stretches between at its
+ * front, which are all rows of each row group, in the file's order. If the statistics of the pages are true of the rows, no row
+ * of a stretch that is skipped satisfies the condition, and each row of one that is whole does, whatever the tests mean that
+ * weren't read; `unread` has the places of these. What stands behind stays as it was. *ranges_found and *unread_found are how
+ * many there are, or with VORTEX_TOO_SHORT for how many there has to be room. Both are written with VORTEX_OK and
+ * VORTEX_TOO_SHORT alone.
+ *
+ * Of several faults the first is told, in this order: the flags, the footer but for its row groups, the text, the row groups
+ * and the pages of the named columns, and too little room.
+ */
+uint8_t vortex_parquet_prune_pages(const uint8_t *footer, size_t footer_len, const uint8_t *tail, size_t tail_len,
+                                   uint64_t tail_begin, const uint8_t *text, size_t text_len, uint8_t flags,
+                                   vortex_row_range *ranges, size_t ranges_len, vortex_span *unread, size_t unread_len,
+                                   size_t *ranges_found, size_t *unread_found, vortex_fault *fault);
 
 #ifdef __cplusplus
 }

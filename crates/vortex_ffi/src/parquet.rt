@@ -1,10 +1,13 @@
 //! The calls over footers of Parquet files, under the names of the header.
 ghost use Rattle.vortex_parquet_calls.specs.FooterPrunes as footers;
+ghost use Rattle.vortex_parquet_calls.specs.PagePrunes as pages;
 
 use std::alloc::Global;
 use vortex_calls::fault::Fault;
 use vortex_parquet_calls::prune_footer::prune_footer;
+use vortex_parquet_calls::prune_pages::prune_pages;
 use vortex_parquet_calls::row_group::RowGroup;
+use vortex_parquet_calls::row_range::RowRange;
 use vortex_parquet_calls::span::Span;
 use vortex_parquet_calls::tail::footer_length;
 
@@ -61,6 +64,59 @@ pub extern "C" fn vortex_parquet_prune(
         groups,
         unread,
         groups_found,
+        unread_found,
+        fault,
+    )
+}
+
+/// The rows of a file with what to do with them under a condition in SQL, by the page indexes among
+/// the file's last bytes, `vortex_parquet_prune_pages` of the header.
+#[unsafe(no_mangle)]
+pub extern "C" fn vortex_parquet_prune_pages(
+    alloc: Global,
+    footer: &[u8],
+    tail: &[u8],
+    tail_begin: u64,
+    text: &[u8],
+    flags: u8,
+    ranges: &mut [RowRange],
+    unread: &mut [Span],
+    ranges_found: &mut usize,
+    unread_found: &mut usize,
+    fault: &mut Fault,
+) -> u8
+    // Of an answer: the bytes are a footer, and the text is a condition over its columns. The
+    // arrays have what is told of each stretch of rows, and where each leaf stands that isn't read.
+    // If the statistics of its pages are true of the rows of a row group, then whatever those
+    // leaves mean, of a skipped stretch none satisfies the condition, and of a whole one each does.
+    // Of a refusal the arrays are as they were, and but for memory its cause is told, the first.
+    ensures { pages.ArePagesPruned footer.now text.now
+        (record { begin = tail_begin; bytes = tail.now }) flags
+        (record {
+          ranges = ranges.old;
+          unread = unread.old;
+          found_len = ranges_found.old;
+          unread_len = unread_found.old;
+          fault = fault.old;
+        })
+        (record {
+          ranges = ranges.new;
+          unread = unread.new;
+          found_len = ranges_found.new;
+          unread_len = unread_found.new;
+          fault = fault.new;
+        }) result }
+{
+    prune_pages(
+        alloc,
+        footer,
+        tail,
+        tail_begin,
+        text,
+        flags,
+        ranges,
+        unread,
+        ranges_found,
         unread_found,
         fault,
     )

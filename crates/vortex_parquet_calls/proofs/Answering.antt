@@ -18,7 +18,7 @@ use Rattle.vortex_parquet_calls.specs.declared.span.Span.{Span}
 use Rattle.vortex_parquet_calls.specs.declared.row_group.RowGroup.{RowGroup}
 use Rattle.vortex_parquet_calls.proofs.Told.{length_told}
 
-same_zones : (gs : List GroupStats) → map zone_data gs ≡ map known_zone (map group_view gs)
+pub same_zones : (gs : List GroupStats) → map zone_data gs ≡ map known_zone (map group_view gs)
 same_zones [] = refl
 same_zones (g ∷ gs) = ap (λ (zs : List ZoneData). zone_data g ∷ zs) (same_zones gs)
 

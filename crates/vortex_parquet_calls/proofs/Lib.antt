@@ -1,3 +1,5 @@
 pub mod Answering
+pub mod PageAnswering
+pub mod RangesTold
 pub mod Refusing
 pub mod Told

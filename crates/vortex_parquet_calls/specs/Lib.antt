@@ -1,2 +1,3 @@
 pub mod FooterPrunes
+pub mod PagePrunes
 pub mod Refusals

@@ -1,5 +1,5 @@
-//! The calls of other languages that prune the row groups of a Parquet file by a condition in SQL:
-//! the bytes of a footer in, arrays out.
+//! The calls of other languages that prune the row groups and the pages of a Parquet file by a
+//! condition in SQL: the bytes of a footer and of page indexes in, arrays out.
 //!
 //! `vortex_ffi` exports them under the names of `callers/c/vortex.h`. They keep nothing, and every
 //! array is the caller's.
@@ -7,7 +7,9 @@
 
 mod asked;
 pub mod prune_footer;
+pub mod prune_pages;
 mod refusal;
 pub mod row_group;
+pub mod row_range;
 pub mod span;
 pub mod tail;

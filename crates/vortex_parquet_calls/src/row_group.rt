@@ -29,7 +29,8 @@ fn or_zero(size: Option<u64>) -> u64
     }
 }
 
-fn answer_of(verdict: Verdict) -> u8
+/// Returns the number by which a caller is told a verdict.
+pub(crate) fn answer_of(verdict: Verdict) -> u8
     ensures { result ≡ answer_of verdict }
 {
     match verdict {
