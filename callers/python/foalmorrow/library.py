@@ -239,6 +239,9 @@ def _load() -> ctypes.CDLL:
         "vortex_prune_sql": [byte, size, byte, size, byte, size, byte, size, c_uint8, byte, size, byte, size, POINTER(size), place],
         "vortex_parquet_footer": [byte, size, POINTER(size), place],
         "vortex_parquet_prune": [byte, size, byte, size, c_uint8, byte, size, byte, size, POINTER(size), POINTER(size), place],
+        "vortex_parquet_prune_pages": [
+            byte, size, byte, size, c_uint64, byte, size, c_uint8, byte, size, byte, size, POINTER(size), POINTER(size), place,
+        ],
     }
     for name, types in calls.items():
         call = getattr(loaded, name, None)

@@ -1,5 +1,5 @@
 # SPDX-License-Identifier: Apache-2.0
-"""Row groups of one Parquet file by a condition in SQL: its footer is read by proof, and no page of data is read at all.
+"""Row groups and pages of one Parquet file by a condition in SQL: its footer and its page indexes are read by proof, and no page of data is read at all.
 
 ``docs/PARQUET.md`` of the repository says which statistics are used as what, and which columns are read; ``docs/SQL.md`` which conditions.
 
@@ -13,67 +13,110 @@ import builtins
 import io
 import os
 from array import array
-from collections.abc import Iterator
+from collections.abc import Callable, Iterator, Sequence
+from contextlib import AbstractContextManager, nullcontext
 from typing import Any, BinaryIO
 
 from .answers import Answers
 from .footers import Footers
 from .kinds import Answer
-from .parquet_calls import TAIL, FooterFault, NotReadError, footer_length, prune_footer
+from .parquet_calls import TAIL, FooterFault, NotReadError, footer_length, prune_footer, prune_pages
 from .parquet_footers import of_footer
 from .sql import warn_of
+from .thrift_compact import Thrift, ThriftFault
 
-__all__ = ["File", "FooterFault", "NotReadError", "RowGroups", "open"]
+__all__ = ["File", "FooterFault", "NotReadError", "RowGroups", "RowRanges", "open"]
+
+#: Returns the file for a while.
+_Opener = Callable[[], AbstractContextManager[BinaryIO]]
 
 
 def open(source: str | os.PathLike[str] | bytes | bytearray | memoryview | Any) -> File:
     """Returns the footer of a file: of a path, of bytes that are the file or its end, of a file object that reads and seeks (so of fsspec, too), or
     of pyarrow's ``FileMetaData``.
 
-    The last eight bytes are read, and then the footer before them. A file object stays open, and stands where it stood.
+    The last eight bytes are read, and then the footer before them; ``prune_pages`` reads the page indexes when it is first called, of a path from the
+    file as it is then, and of bytes only where they begin as a file does. A file object stays open, and stands where it stood.
 
     FooterFault where the bytes end no Parquet file, OSError where they can't be read, TypeError of anything else. Whether the footer itself can be
     read is seen by ``prune``.
     """
     if isinstance(source, (bytes, bytearray, memoryview)):
-        return File(_footer(io.BytesIO(source)))
+        whole = io.BytesIO(source)
+        return _opened(lambda: nullcontext(whole), bytes(source[:4]) == b"PAR1")
     if isinstance(source, (str, os.PathLike)):
-        with builtins.open(source, "rb") as file:
-            return File(_footer(file))
+        return _opened(lambda: builtins.open(source, "rb"), True)
     if hasattr(source, "write_metadata_file"):
-        whole = io.BytesIO()
-        source.write_metadata_file(whole)
-        return File(_footer(whole))
+        told = io.BytesIO()
+        source.write_metadata_file(told)
+        return _opened(lambda: nullcontext(told), False)
     if not hasattr(source, "read") or not hasattr(source, "seek"):
         raise TypeError(f"{source!r} is no path, no bytes, no file that reads and seeks, and no metadata of pyarrow")
-    place = source.tell()
-    try:
-        return File(_footer(source))
-    finally:
-        source.seek(place)
+    file: BinaryIO = source
+    return _opened(lambda: _Kept(file), True)
 
 
-def _footer(file: BinaryIO) -> bytes:
+class _Kept:
+    """A file object, which stands afterwards where it stood."""
+
+    def __init__(self, file: BinaryIO):
+        self.file = file
+
+    def __enter__(self) -> BinaryIO:
+        self.place = self.file.tell()
+        return self.file
+
+    def __exit__(self, *_: object) -> None:
+        self.file.seek(self.place)
+
+
+def _opened(opener: _Opener, is_whole: bool) -> File:
+    with opener() as file:
+        size = _size(file)
+        tail = _read(file, size, size - min(size, TAIL), size)
+        length = footer_length(tail)
+        if length > size - TAIL:
+            raise FooterFault(2)
+        begin = size - TAIL - length
+        footer = _read(file, size, begin, size - TAIL)
+
+    def fetched(start: int) -> bytes:
+        with opener() as file:
+            if _size(file) != size:
+                raise OSError(f"the file had {size} bytes when its footer was read, and has {_size(file)}")
+            return _read(file, size, start, begin)
+
+    return File(footer, (begin, fetched) if is_whole else None)
+
+
+def _size(file: BinaryIO) -> int:
     size = file.seek(0, os.SEEK_END)
-    if size is None:
-        size = file.tell()
-    tail = _last(file, size, min(size, TAIL), 0)
-    length = footer_length(tail)
-    if length > size - TAIL:
-        raise FooterFault(2)
-    return _last(file, size, length, TAIL)
+    return file.tell() if size is None else size
 
 
-def _last(file: BinaryIO, size: int, count: int, behind: int) -> bytes:
-    """Returns so many bytes of a file of this size, before those that stand behind them."""
-    file.seek(size - behind - count)
+def _read(file: BinaryIO, size: int, start: int, stop: int) -> bytes:
+    """Returns the bytes of a file of this size from one up to another."""
+    file.seek(start)
     found = bytearray()
-    while len(found) < count:
-        more = file.read(count - len(found))
+    while len(found) < stop - start:
+        more = file.read(stop - start - len(found))
         if not more:
-            raise OSError(f"the file has {size} bytes, and {count - len(found)} of them couldn't be read")
+            raise OSError(f"the file has {size} bytes, and {stop - start - len(found)} of them couldn't be read")
         found += more
     return bytes(found)
+
+
+def _indexes_begin(footer: bytes, end: int) -> int:
+    """Returns the byte of the file at which the first page index begins, as far as the footer tells, or the one behind all where there is none.
+
+    The library reads the footer again and takes nothing from here: an index before that byte is missing, and its column chunk is one page.
+    """
+    try:
+        groups = Thrift(footer).struct().get(4, [])
+        places = [chunk.get(number) for group in groups for chunk in group.get(1, []) for number in (4, 6)]
+    except (ThriftFault, AttributeError, TypeError):
+        return end
+    return min((it for it in places if isinstance(it, int) and 0 <= it <= end), default=end)
 
 
 class File:
@@ -83,12 +126,16 @@ class File:
     0
     """
 
-    __slots__ = ("_groups", "footer")
+    __slots__ = ("_before", "_groups", "_indexes", "footer")
 
-    def __init__(self, footer: bytes):
-        """Takes the bytes of a footer, without its length and the mark behind it."""
+    def __init__(self, footer: bytes, before: tuple[int, Callable[[int], bytes]] | None = None):
+        """Takes the bytes of a footer, without its length and the mark behind it, and where the file is at hand, at which of its bytes the footer
+        begins, and a function that returns the bytes from one of them up to there.
+        """
         self.footer = footer
+        self._before = before
         self._groups: int | None = None
+        self._indexes: tuple[int, bytes] | None = None
 
     @property
     def footers(self) -> Footers:
@@ -115,6 +162,31 @@ class File:
         words = [condition.encode()[start:end].decode() for start, end in told.unread]
         warn_of(words, stacklevel=2)
         return RowGroups(Answers(told.codes, words, [(condition, told.unread)]), told.rows, told.sizes)
+
+    def prune_pages(self, condition: str, *, last_names: bool = False) -> RowRanges:
+        """Returns what to do with the rows of the file under a condition in SQL, by its page indexes.
+
+        Each row group is cut where a page of a column ends that the condition names. If the statistics of the pages are true, no row of a skipped
+        stretch satisfies the condition, and each row of a whole one does, whatever the tests mean that aren't read. A column chunk without page
+        indexes is one page with the statistics of the footer, so a file without any is pruned by its row groups.
+
+        At its first call it reads the bytes from the first page index up to the footer. It refuses and warns as ``prune`` does, and FooterFault tells
+        of the page indexes, too. OSError where the file can't be read any more, or has another size.
+        """
+        begin, tail = self._tail()
+        told = prune_pages(self.footer, tail, begin, condition, last_names)
+        words = [condition.encode()[start:end].decode() for start, end in told.unread]
+        warn_of(words, stacklevel=2)
+        return RowRanges(Answers(told.codes, words, [(condition, told.unread)]), told.groups, told.firsts, told.ends)
+
+    def _tail(self) -> tuple[int, bytes]:
+        if self._before is None:
+            return 0, b""
+        if self._indexes is None:
+            end, fetched = self._before
+            begin = _indexes_begin(self.footer, end)
+            self._indexes = begin, fetched(begin) if begin < end else b""
+        return self._indexes
 
 
 class RowGroups:
@@ -181,11 +253,93 @@ class RowGroups:
         found: list[tuple[int, int]] = []
         start = 0
         for rows, answer in zip(self.rows, self.answers.codes):
-            stop = start + rows
-            if answer != Answer.SKIP and rows:
-                if found and found[-1][1] == start:
-                    found[-1] = (found[-1][0], stop)
-                else:
-                    found.append((start, stop))
-            start = stop
+            if answer != Answer.SKIP:
+                _join(found, start, start + rows)
+            start += rows
         return found
+
+
+class RowRanges:
+    """What to do with the rows of a file: stretches of them, in their order, each of which lies in one page of each column that the condition names.
+
+    >>> found = RowRanges(Answers([1, 0, 2, 1]), [0, 0, 0, 2], [0, 40, 60, 0], [40, 60, 100, 30])
+    >>> found.ranges(), found.whole_ranges(), list(found.kept_groups), found.rows_skipped
+    ([(40, 100)], [(60, 100)], [0], 70)
+    >>> found
+    <4 stretches of rows: 1 to be read, 2 skipped, 1 whole, 70 of 130 rows skipped>
+    """
+
+    __slots__ = ("answers", "groups", "starts", "stops")
+
+    def __init__(self, answers: Answers, groups: Sequence[int], firsts: Sequence[int], ends: Sequence[int]):
+        """Takes an answer for each stretch, its row group, its first row and the one behind its last, which are counted from the first of the row
+        group. The stretches of a row group are all its rows.
+        """
+        #: An answer for each stretch.
+        self.answers = answers
+        #: The row group of each.
+        self.groups = array("Q", groups)
+        #: The first row of each, counted through the file.
+        self.starts = array("Q")
+        #: The row behind the last one of each.
+        self.stops = array("Q")
+        begin = last = 0
+        for first, end in zip(firsts, ends):
+            # The first stretch of a row group begins where the last one of the row group before it ends.
+            begin = last if first == 0 else begin
+            last = begin + end
+            self.starts.append(begin + first)
+            self.stops.append(last)
+
+    def __len__(self) -> int:
+        return len(self.answers)
+
+    def __iter__(self) -> Iterator[tuple[int, int, Answer]]:
+        """Yields the first row of each stretch, the one behind its last, and the answer."""
+        return zip(self.starts, self.stops, self.answers)
+
+    def __repr__(self) -> str:
+        counts = [f"{self.answers.count(answer)} {word}" for answer, word in ((Answer.READ, "to be read"), (Answer.SKIP, "skipped"), (Answer.WHOLE, "whole"))]
+        rows = self.stops[-1] if self.stops else 0
+        return f"<{len(self)} stretches of rows: {', '.join(counts)}, {self.rows_skipped} of {rows} rows skipped>"
+
+    @property
+    def kept_groups(self) -> array[int]:
+        """The row groups that have rows to be fetched, as ``pyarrow.parquet.ParquetFile.read_row_groups`` takes them."""
+        return array("Q", dict.fromkeys(self.groups[place] for place in self.answers.kept))
+
+    @property
+    def unread(self) -> tuple[str, ...]:
+        """The tests of the condition that weren't read, in its order: nothing was pruned by them."""
+        return self.answers.unread
+
+    def explained(self) -> str:
+        """Returns the condition, and beneath each of its lines one that marks the tests that weren't read, as ``Answers.explained`` does."""
+        return self.answers.explained()
+
+    @property
+    def rows_skipped(self) -> int:
+        """How many rows don't satisfy the condition by the statistics."""
+        return sum(self.stops[place] - self.starts[place] for place in self.answers.skipped)
+
+    def ranges(self) -> list[tuple[int, int]]:
+        """Returns the rows to fetch, counted through the file: the first of each run of them, and the one behind its last."""
+        return self._joined(self.answers.kept)
+
+    def whole_ranges(self) -> list[tuple[int, int]]:
+        """Returns those of the rows to fetch that are known to satisfy the condition."""
+        return self._joined(self.answers.whole)
+
+    def _joined(self, places: Sequence[int]) -> list[tuple[int, int]]:
+        found: list[tuple[int, int]] = []
+        for place in places:
+            _join(found, self.starts[place], self.stops[place])
+        return found
+
+
+def _join(found: list[tuple[int, int]], start: int, stop: int) -> None:
+    """Adds rows behind those that were found so far."""
+    if found and found[-1][1] == start:
+        found[-1] = (found[-1][0], stop)
+    elif start < stop:
+        found.append((start, stop))

@@ -12,8 +12,8 @@ from .sql import SqlError
 
 #: Behind the footer of a file stand its length and a mark.
 TAIL = 8
-#: The bytes of a footer for each of which a row group is taken into account at first.
-_BYTES_A_GROUP = 256
+#: The bytes of a footer for each of which a row group is taken into account at first, and those of page indexes for each of which a page is.
+_BYTES_A_GROUP, _BYTES_A_PAGE = 256, 16
 
 #: Why bytes are no footer, by the library's numbers: a name, and a sentence.
 _FAULTS = (
@@ -31,6 +31,7 @@ _FAULTS = (
     ("SCHEMA", "its schema is no tree"),
     ("COLUMNS", "a row group has another number of columns than the schema"),
     ("VALUE", "a bound is no value of its column's type"),
+    ("PAGES", "the pages of a column chunk are none of its rows"),
 )
 #: Why no test of a column could be meant, by the library's numbers.
 _REASONS = ("has columns below it", "has a list of values a row", "is one of several of this name")
@@ -63,6 +64,10 @@ class CRowGroup(Structure):
     _fields_ = [("rows", c_uint64), ("size", c_uint64), ("answer", c_uint8)]
 
 
+class CRowRange(Structure):
+    _fields_ = [("group", c_size_t), ("first", c_uint64), ("end", c_uint64), ("answer", c_uint8)]
+
+
 class Told:
     """What the library told of the row groups of a footer: an answer, the rows and the bytes of each, and the bytes of tests that weren't read."""
 
@@ -72,6 +77,21 @@ class Told:
         self.codes = bytes(found[place].answer for place in range(count))
         self.rows = array("Q", (found[place].rows for place in range(count)))
         self.sizes = array("Q", (found[place].size for place in range(count)))
+        self.unread = unread
+
+
+class ToldRanges:
+    """What the library told of the stretches of rows of a file: an answer, the row group, the first row and the one behind the last of each, and the
+    bytes of tests that weren't read. Rows are counted from the first of their row group.
+    """
+
+    __slots__ = ("codes", "ends", "firsts", "groups", "unread")
+
+    def __init__(self, found: ctypes.Array[CRowRange], count: int, unread: list[tuple[int, int]]):
+        self.codes = bytes(found[place].answer for place in range(count))
+        self.groups = array("Q", (found[place].group for place in range(count)))
+        self.firsts = array("Q", (found[place].first for place in range(count)))
+        self.ends = array("Q", (found[place].end for place in range(count)))
         self.unread = unread
 
 
@@ -100,6 +120,23 @@ def prune_footer(footer: bytes, condition: str, last_names: bool, groups: int | 
         room, room_unread = max(room, found_len.value), max(room_unread, unread_len.value)
     _answered(status, fault, text)
     return Told(found, found_len.value, [(it.start, it.end) for it in unread[: unread_len.value]])
+
+
+def prune_pages(footer: bytes, tail: bytes, begin: int, condition: str, last_names: bool) -> ToldRanges:
+    """Returns what to do with each stretch of rows under a condition in SQL, by the page indexes among the bytes of the file from one on."""
+    lent, fault, found_len, unread_len = _Lent(), Fault(), c_size_t(), c_size_t()
+    text = _encoded(condition, "condition")
+    given = (lent.at(footer), len(footer), lent.at(tail), len(tail), begin, lent.at(text), len(text), _LAST_NAME if last_names else 0)
+    room, room_unread = len(footer) // _BYTES_A_GROUP + len(tail) // _BYTES_A_PAGE + 1, _ROOM_UNREAD
+    while True:
+        found, unread = (CRowRange * room)(), (CSpan * room_unread)()
+        lens = (ctypes.byref(found_len), ctypes.byref(unread_len), ctypes.byref(fault))
+        status = _library().vortex_parquet_prune_pages(*given, found, room, unread, room_unread, *lens)
+        if status != Status.TOO_SHORT:
+            break
+        room, room_unread = max(room, found_len.value), max(room_unread, unread_len.value)
+    _answered(status, fault, text)
+    return ToldRanges(found, found_len.value, [(it.start, it.end) for it in unread[: unread_len.value]])
 
 
 def _answered(status: int, fault: Fault, text: bytes) -> None:

@@ -44,12 +44,16 @@ def columns(rng: random.Random) -> list[Column]:
     ]
 
 
-def footer(groups: Sequence[Sequence[Row]], rng: random.Random) -> bytes:
+#: Fields of a column chunk behind its metadata, by its column, its values and whether the newer bounds are in their order.
+Behind = Callable[["Column", Sequence[Any], bool], list[tuple[int, object]]]
+
+
+def footer(groups: Sequence[Sequence[Row]], rng: random.Random, behind: Behind | None = None) -> bytes:
     """The footer of row groups of these rows."""
     made, is_ordered = columns(rng), rng.random() < 0.7
     rng.shuffle(made)
     elements = [Raw(struct_of((4, b"root"), (5, len(made)))), *(element_of(it) for it in made)]
-    told = [Raw(group_of(rows, made, is_ordered, rng)) for rows in groups]
+    told = [Raw(group_of(rows, made, is_ordered, rng, behind)) for rows in groups]
     orders = [Raw(thrift((1, Raw(thrift())))) for _ in made] if is_ordered else None
     return struct_of((1, 1), (2, elements), (3, Wide(sum(map(len, groups)))), (4, told), (6, b"a writer for tests"), (7, orders))
 
@@ -81,19 +85,19 @@ def element_of(it: Column) -> Raw:
     return Raw(struct_of((1, it.physical), (3, 1), (4, it.name.encode()), (6, it.older), (10, annotation)))
 
 
-def group_of(rows: Sequence[Row], made: Sequence[Column], is_ordered: bool, rng: random.Random) -> bytes:
-    chunks = [Raw(chunk_of(it, [row[it.name] for row in rows], is_ordered, rng)) for it in made]
+def group_of(rows: Sequence[Row], made: Sequence[Column], is_ordered: bool, rng: random.Random, behind: Behind | None) -> bytes:
+    chunks = [Raw(chunk_of(it, [row[it.name] for row in rows], is_ordered, rng, behind)) for it in made]
     size = rng.choice([None, Wide(100 * len(rows) + 7)])
     return struct_of((1, chunks), (2, Wide(0)), (3, Wide(len(rows))), (6, size))
 
 
-def chunk_of(it: Column, values: Sequence[Any], is_ordered: bool, rng: random.Random) -> bytes:
+def chunk_of(it: Column, values: Sequence[Any], is_ordered: bool, rng: random.Random, behind: Behind | None) -> bytes:
     told = Raw(struct_of(*statistics_of(it, values, is_ordered, rng))) if rng.random() < 0.9 else None
     # A chunk of another physical type than the schema's tells nothing that is used.
     physical = it.physical if rng.random() < 0.95 else 3
     path = [it.name.encode()]
     meta = struct_of((1, physical), (2, [0]), (3, path), (4, 0), (5, Wide(len(values))), (6, Wide(0)), (7, Wide(0)), (9, Wide(4)), (12, told))
-    return struct_of((2, Wide(4)), (3, Raw(meta) if rng.random() < 0.97 else None))
+    return struct_of((2, Wide(4)), (3, Raw(meta) if rng.random() < 0.97 else None), *(behind(it, values, is_ordered) if behind else ()))
 
 
 def statistics_of(it: Column, values: Sequence[Any], is_ordered: bool, rng: random.Random) -> list[tuple[int, object]]:

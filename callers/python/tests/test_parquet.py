@@ -17,6 +17,7 @@ from hypothesis import strategies as st
 from foalmorrow import Answer, SqlError, UnreadWarning, parquet
 from foalmorrow.parquet_values import ParquetFault
 from tests.parquet_footers_of import Wide, file_of, footer, struct_of
+from tests.parquet_pages_of import PagedFile
 from tests.systems.parquet_writer import Raw, thrift
 from tests.test_sql import CONDITIONS, Condition, Row, zones
 
@@ -81,6 +82,120 @@ class BesideAModel(unittest.TestCase):
             self.fail("no footer tells the least and the greatest number")
         self.assertEqual((list(found.kept), list(found.skipped), list(found.whole), found.ranges()), ([1], [0], [1], [(2, 4)]))
         self.assertIn(found.bytes_saved, (0, 207))
+
+
+def pages_quietly(file: parquet.File, condition: str) -> parquet.RowRanges:
+    with warnings.catch_warnings():
+        warnings.simplefilter("ignore", UnreadWarning)
+        return file.prune_pages(condition)
+
+
+class PagesBesideAModel(unittest.TestCase):
+    @settings(max_examples=3000, deadline=None)
+    @given(CONDITIONS, st.lists(zones(), min_size=1, max_size=3), st.integers(0, 2**32))
+    def test_no_row_is_lost(self, wanted: Condition, drawn: list[list[list[Row]]], dice: int) -> None:
+        groups = [[row for zone in zones for row in zone] for zones in drawn]
+        rows = [row for group in groups for row in group]
+        found = pages_quietly(parquet.open(bytes(PagedFile(groups, random.Random(dice)).data)), wanted.text)
+        self.assertEqual([0, *found.stops], [*found.starts, len(rows)])
+        for start, stop, answer in found:
+            truths = {wanted.truth(row) is True for row in rows[start:stop]}
+            self.assertTrue(answer != Answer.SKIP or truths == {False}, wanted.text)
+            self.assertTrue(answer != Answer.WHOLE or truths == {True}, wanted.text)
+        self.assertEqual(found.unread, wanted.unread)
+        ends = [sum(map(len, groups[: place + 1])) for place in range(len(groups))]
+        self.assertEqual(list(found.groups), [next(place for place, end in enumerate(ends) if start < end) for start in found.starts])
+        inside = [row for start, stop in found.ranges() for row in range(start, stop)]
+        self.assertEqual(inside, [row for start, stop, answer in found if answer != Answer.SKIP for row in range(start, stop)])
+        self.assertEqual(found.rows_skipped, len(rows) - len(inside))
+        self.assertTrue({row for start, stop in found.whole_ranges() for row in range(start, stop)} <= set(inside))
+
+    def test_pages_are_skipped_that_row_groups_are_not(self) -> None:
+        skipped = whole = 0
+        for dice in range(300):
+            rng = random.Random(SEED + dice)
+            groups = [[row(n=number // 4, m=None, s="ab") for number in range(24)] for _ in range(2)]
+            file = parquet.open(bytes(PagedFile(groups, rng).data))
+            self.assertEqual(pages_quietly(file, "n >= 0").rows_skipped, 0)
+            found = pages_quietly(file, "n BETWEEN 2 AND 3")
+            skipped += found.rows_skipped
+            whole += sum(stop - start for start, stop in found.whole_ranges())
+        # Of 48 rows in each file 32 are to be skipped, and 16 are whole.
+        self.assertGreater(skipped, 300 * 32 // 4)
+        self.assertGreater(whole, 300 * 16 // 8)
+
+
+class Pages(unittest.TestCase):
+    """A file whose row groups have pages of rows that ascend."""
+
+    def file(self) -> PagedFile:
+        groups = [[row(n=number) for number in range(0, 40)], [], [row(n=number) for number in range(40, 60)]]
+        for dice in range(1000):
+            found = PagedFile(groups, random.Random(dice))
+            if pages_quietly(parquet.open(bytes(found.data)), "n < 10").ranges()[-1:] in ([(0, 10)], [(0, 11)], [(0, 12)]):
+                return found
+        self.fail("no file skips pages")
+
+    def test_rows_are_those_of_the_file(self) -> None:
+        found = pages_quietly(parquet.open(bytes(self.file().data)), "n < 10")
+        self.assertEqual(len(found.ranges()), 1)
+        self.assertEqual(list(found.kept_groups), [0])
+        self.assertEqual(found.rows_skipped, 60 - found.ranges()[0][1])
+        self.assertEqual(set(found.groups), {0, 2})
+
+    def test_the_indexes_alone_are_read(self) -> None:
+        it = self.file()
+        read: list[tuple[int, int]] = []
+
+        class Counted(io.BytesIO):
+            def read(self, size: int | None = -1) -> bytes:
+                start = self.tell()
+                found = super().read(size)
+                read.append((start, start + len(found)))
+                return found
+
+        stream = Counted(bytes(it.data))
+        stream.seek(3)
+        file = parquet.open(stream)
+        read.clear()
+        whole = pages_quietly(file, "n < 10")
+        self.assertEqual((read, stream.tell()), ([(it.begin, it.end)], 3))
+        again = pages_quietly(file, "n < 10")
+        self.assertEqual((len(read), again.ranges()), (1, whole.ranges()))
+
+    def test_each_source(self) -> None:
+        data = bytes(self.file().data)
+        wanted = pages_quietly(parquet.open(data), "n < 10").ranges()
+        with tempfile.TemporaryDirectory() as folder:
+            path = pathlib.Path(folder) / "a.parquet"
+            path.write_bytes(data)
+            file = parquet.open(path)
+            self.assertEqual(pages_quietly(file, "n < 10").ranges(), wanted)
+            later = parquet.open(path)
+            path.write_bytes(data + b"more")
+            self.assertEqual(pages_quietly(file, "n < 10").ranges(), wanted)
+            with self.assertRaisesRegex(OSError, "when its footer was read"):
+                later.prune_pages("n < 10")
+        # Bytes that don't begin as a file does may be its end, of which it isn't known where it begins.
+        for file in (parquet.open(b"end" + data), parquet.File(parquet.open(data).footer)):
+            self.assertEqual(pages_quietly(file, "n < 10").ranges(), [(0, 40)] if list(quietly(file, "n < 10").kept) == [0] else [(0, 60)])
+
+    def test_a_file_without_indexes_is_pruned_by_its_row_groups(self) -> None:
+        file = parquet.open(file_of(footer([[row(n=1), row(n=3)], [row(n=7)]], random.Random(2))))
+        groups, pages = quietly(file, "n > 5"), pages_quietly(file, "n > 5")
+        self.assertEqual((list(pages.answers), pages.ranges()), (list(groups), groups.ranges()))
+
+    def test_faults_of_pages_are_named(self) -> None:
+        it = self.file()
+        names = set()
+        for place in range(it.begin, it.end):
+            data = bytearray(it.data)
+            data[place] ^= 1
+            try:
+                pages_quietly(parquet.open(bytes(data)), "n < 10")
+            except parquet.FooterFault as fault:
+                names.add(fault.fault)
+        self.assertIn("PAGES", names)
 
 
 def row(**cells: Any) -> Row:
