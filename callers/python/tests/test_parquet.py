@@ -14,7 +14,7 @@ from typing import Any
 from hypothesis import given, settings
 from hypothesis import strategies as st
 
-from foalmorrow import Answer, SqlError, UnreadWarning, parquet
+from foalmorrow import Answer, Footers, SqlError, UnreadWarning, parquet
 from foalmorrow.parquet_values import ParquetFault
 from tests.parquet_footers_of import Wide, file_of, footer, struct_of
 from tests.parquet_pages_of import PagedFile
@@ -28,6 +28,16 @@ def quietly(file: parquet.File, condition: str, **options: Any) -> parquet.RowGr
     with warnings.catch_warnings():
         warnings.simplefilter("ignore", UnreadWarning)
         return file.prune(condition, **options)
+
+
+def footers_of(file: parquet.File) -> Footers | None:
+    """The footers of a file, or nothing where they are refused for a number of nulls that no column has."""
+    try:
+        return file.footers
+    except ParquetFault as fault:
+        if "rows are null" not in str(fault):
+            raise
+        return None
 
 
 class BesideAModel(unittest.TestCase):
@@ -50,9 +60,12 @@ class BesideAModel(unittest.TestCase):
     @given(CONDITIONS, zones(), st.integers(0, 2**32))
     def test_no_row_is_lost_by_footers(self, wanted: Condition, groups: list[list[Row]], dice: int) -> None:
         file = parquet.File(footer(groups, random.Random(dice)))
+        footers = footers_of(file)
+        if footers is None:
+            return
         with warnings.catch_warnings():
             warnings.simplefilter("ignore", UnreadWarning)
-            found = file.footers.prune(wanted.text)
+            found = footers.prune(wanted.text)
         for answer, proved, rows in zip(found, quietly(file, wanted.text), groups, strict=True):
             truths = {wanted.truth(row) is True for row in rows}
             self.assertTrue(answer != Answer.SKIP or truths <= {False}, wanted.text)
@@ -61,14 +74,14 @@ class BesideAModel(unittest.TestCase):
 
     def test_footers_have_the_types_that_sql_has_no_columns_of(self) -> None:
         groups = [[row(day=10), row(day=20)], [row(day=30), row(day=31)]]
-        files = [parquet.File(footer(groups, random.Random(dice))) for dice in range(50)]
-        answers = {day: {tuple(it.footers.prune(f"day >= DATE '{day}'")) for it in files} for day in ("1970-01-22", "1970-02-01")}
+        files = [footers_of(parquet.File(footer(groups, random.Random(dice)))) for dice in range(100)]
+        answers = {day: {tuple(it.prune(f"day >= DATE '{day}'")) for it in files if it is not None} for day in ("1970-01-22", "1970-02-01")}
         self.assertIn((Answer.SKIP, Answer.WHOLE), answers["1970-01-22"])
         self.assertLessEqual(answers["1970-02-01"], {(Answer.READ, Answer.READ), (Answer.SKIP, Answer.READ), (Answer.READ, Answer.SKIP)})
         self.assertIn((Answer.SKIP, Answer.READ), answers["1970-02-01"])
 
     def test_footers_are_refused_by_name(self) -> None:
-        for data, words in ((b"", "footer"), (b"\0", "can't be read"), (footer([[row(n=1)]], random.Random(1)) + b"\0", "behind its footer's last field")):
+        for data, words in ((b"", "a value passes the end"), (b"\0", "can't be read"), (footer([[row(n=1)]], random.Random(1)) + b"\0", "behind its footer's last field")):
             with self.assertRaisesRegex(ParquetFault, words):
                 parquet.File(data).footers
 
