@@ -102,7 +102,7 @@ enum vortex_parquet_fault {
     VORTEX_KIND = 7,          /* a code stands for no kind of values */
     VORTEX_LENGTH = 8,        /* a list claims more items than bytes are left */
     VORTEX_DEPTH = 9,         /* values nest deeper than 32 levels */
-    VORTEX_MISSING = 10,      /* a row group has no number of rows, or a column no name */
+    VORTEX_MISSING = 10,      /* a row group has no number of rows, a column no name, or a page no offset, size or first row */
     VORTEX_SCHEMA = 11,       /* the schema is no tree */
     VORTEX_COLUMNS = 12,      /* a row group has another number of columns than the schema has leaf columns */
     VORTEX_NO_VALUE = 13,     /* a bound is no value of its column's type */

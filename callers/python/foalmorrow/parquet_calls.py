@@ -27,7 +27,7 @@ _FAULTS = (
     ("KIND", "a code of its footer stands for no kind of values"),
     ("LENGTH", "a list of its footer claims more items than bytes are left"),
     ("DEPTH", "its footer nests deeper than 32 levels"),
-    ("MISSING", "a row group has no number of rows, or a column no name"),
+    ("MISSING", "a row group has no number of rows, a column no name, or a page no offset, size or first row"),
     ("SCHEMA", "its schema is no tree"),
     ("COLUMNS", "a row group has another number of columns than the schema"),
     ("VALUE", "a bound is no value of its column's type"),
