@@ -72,23 +72,18 @@ fn has_scope(chunk: &Chunk, scope: &Scope) -> bool
     *chunk.scope() == *scope
 }
 
-fn all_have_scope(scope: &Scope, chunks: &[Chunk]) -> bool
-    ensures { OnTrue result (All (λ chunk. chunk.scope ≡ scope.now) chunks.now) }
-{
-    for chunk in chunks {
-        if !has_scope(chunk, scope) {
-            return false;
-        }
-    }
-    true
-}
-
-// The zones of chunks of one scope.
-fn written(alloc: Global, scope: Result<Scope, StatsError>, chunks: Chunks) -> Table {
-    let (scope, chunks) = (scope?, chunks?);
-    if !all_have_scope(&scope, &chunks) {
+// The zone of a chunk of the scope.
+fn written(
+    alloc: Global,
+    scope: Result<Scope, StatsError>,
+    chunk: Result<Chunk, StatsError>,
+) -> Table {
+    let (scope, chunk) = (scope?, chunk?);
+    if !has_scope(&chunk, &scope) {
         return Err(StatsError::Mismatch);
     }
+    let mut chunks = Vec::new(alloc);
+    chunks.push(chunk)?;
     write_zones(alloc, scope, chunks)
 }
 
@@ -97,9 +92,10 @@ fn measured_chunks_have_their_rows(rt: HostRuntime) {
     let alloc = rt.alloc();
     let found = found_measured(alloc, four_chunks(alloc), above(alloc, 10));
     expect_found(&rt, found, &[0], &[(3, 2)]);
-    let zones = written(alloc, scope_of(alloc, I32_OR_NULL), four_chunks(alloc));
+    let last = chunk_of_numbers(alloc, &[Some(8), None, Some(20)]);
+    let zones = written(alloc, scope_of(alloc, I32_OR_NULL), last);
     let found = scanned(alloc, &zones, is_null(alloc, a(alloc)));
-    expect_found(&rt, found, &[0, 2], &[(1, 0), (1, 1), (3, 1)]);
+    expect_found(&rt, found, &[], &[(0, 1)]);
 }
 
 fn pair(
