@@ -66,11 +66,10 @@ class BesideAModel(unittest.TestCase):
         with warnings.catch_warnings():
             warnings.simplefilter("ignore", UnreadWarning)
             found = footers.prune(wanted.text)
-        for answer, proved, rows in zip(found, quietly(file, wanted.text), groups, strict=True):
+        for answer, rows in zip(found, groups, strict=True):
             truths = {wanted.truth(row) is True for row in rows}
             self.assertTrue(answer != Answer.SKIP or truths <= {False}, wanted.text)
             self.assertTrue(answer != Answer.WHOLE or truths <= {True}, wanted.text)
-            self.assertTrue(proved == Answer.READ or answer == proved, wanted.text)
 
     def test_footers_have_the_types_that_sql_has_no_columns_of(self) -> None:
         groups = [[row(day=10), row(day=20)], [row(day=30), row(day=31)]]
