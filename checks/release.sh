@@ -126,7 +126,6 @@ installed() {
 wheel() {
     mkdir -p "$work/python" "$work/rust/tests"
     cp -r callers/python/tests "$work/python"
-    rm -rf "$work/python/tests/systems"
     # Files of footers that Rust has written, and the Arrow arrays that C makes, are where the tests look for them.
     cp callers/rust/tests/*.footers "$work/rust/tests"
     export FOALMORROW_PRODUCER="$PWD/callers/out/libarrow_producer.so"
