@@ -11,10 +11,10 @@ checks/edits/goals.txt names for each edit the goal of the turned function that 
 and the branch. That has to be a goal of the function as the crate stands, where it is proved: one of a branch that an edit renamed is
 open whatever the function promises. A third word, `made`, says of a goal that its branch is the edit's own and holds the wrong code, as a
 reader has judged. The crates below are built first. Edits of different functions are tried at once, in a copy of the crate, since a proof
-rests on the contracts of other functions and not on their bodies: `rt check --only` lists the goals of the turned functions that stay open. An
-edit that was refused at its goal is not tried again while it, the goal, the sources that its crate stands on and the toolchain stay as
-they are, so an interrupted run goes on with the crates that it left. Prints a line for each crate and for each edit that isn't
-refused so, and last how many are.
+rests on the contracts of other functions and not on their bodies: `rt check --only` lists the goals of the turned functions that stay open.
+One that isn't refused at its goal beside others is tried alone. One that was refused so is not tried again while it, the goal, the sources
+that its crate stands on and the toolchain stay as they are, so an interrupted run goes on with the crates that it left. Prints a line for
+each crate and for each edit that isn't refused so, and last how many are.
 """
 import argparse
 import concurrent.futures
@@ -170,7 +170,11 @@ class Crate:
             return {it: why for half in halves for it, why in self.faults_of(half, self.made_of(half), room).items()}
         goals = open_goals(told, edited)
         found = {it: {goal for name in self.turned[it] for goal in goals.get(name, ())} for it in edits}
-        return {it: f"not at the goal {self.goals[it]}: open are {', '.join(sorted(found[it])) or 'none'}" for it in edits if self.goals[it] not in found[it]}
+        missed = [it for it in edits if self.goals[it] not in found[it]]
+        if len(edits) > 1:
+            # A goal may stay unlooked at where a function that it rests on isn't proved, so such an edit is tried alone.
+            return {it: why for each in missed for it, why in self.faults_of([each], self.made_of([each]), room).items()}
+        return {it: f"not at the goal {self.goals[it]}: open are {', '.join(sorted(found[it])) or 'none'}" for it in missed}
 
     def made_of(self, edits):
         """The texts of the crate's files with these edits."""
