@@ -3,6 +3,7 @@ pub mod BinderScan
 pub mod Boxes
 pub mod ColumnLemmas
 pub mod GapLemmas
+pub mod GapOrder
 pub mod JoinLemmas
 pub mod LeafLemmas
 pub mod Lossless

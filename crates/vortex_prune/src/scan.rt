@@ -31,6 +31,7 @@ mod part_scan;
 pub mod prune;
 pub mod ranges;
 mod select;
+mod sides;
 mod strings;
 pub mod verdict;
 pub mod zones;

@@ -1,16 +1,22 @@
-//! Pairs of comparisons in order, of each of which one has to be true. What an AND says of the
-//! bounds of a zone, so that no value of a set lies within them, is searched by halves.
-ghost use Rattle.std.specs.Prelude.{◌≡◌, ◌+◌, ◌<◌, ◌^◌, ◌&&◌, ◌∷◌, ◌++◌, [], IfSome, IsTrue};
-ghost use Rattle.std.specs.Prelude.{false, length, option_map, slice_get};
-ghost use Rattle.std.specs.List.{list_all};
+//! Tests that an AND, or the opposite of an OR, makes of the bounds of a zone, one for each range
+//! of a set, decided for all ranges by one search. That no value of a set lies within the bounds is
+//! an AND of gaps; that all do is an OR of spans, and a row on which it isn't true lies beside each.
+ghost use Rattle.std.specs.Prelude.{◌≡◌, ◌+◌, ◌≤◌, ◌<◌, ◌^◌, ◌&&◌, ◌∷◌, ◌++◌, [], IfSome, IsTrue};
+ghost use Rattle.std.specs.Prelude.{IsSome, false, length, option_map, true};
+ghost use Rattle.std.specs.List.{All, list_all};
+ghost use Rattle.std.specs.List.Sorted.{IsPermutation};
 ghost use Rattle.vortex_base.specs.Data.Cells.{value_of};
-ghost use Rattle.vortex_base.specs.Data.Columns.{value_at};
-ghost use Rattle.vortex_prune.specs.Scanning.Gaps.{AreInOrder, AreOrdered, Covers, Follows, FollowsLast, IsBeside};
-ghost use Rattle.vortex_prune.specs.Scanning.Gaps.{IsGapOf, IsPut, IsSideOf, are_passed_at, gap_passes};
-ghost use Rattle.vortex_prune.specs.Scanning.Gaps.{is_falling, is_rising, side_passes};
+ghost use Rattle.vortex_prune.specs.Scanning.Gaps.{AreAlike, AreOrdered, ArePoints, Follows, GoesWith};
+ghost use Rattle.vortex_prune.specs.Scanning.Gaps.{IsAlike, IsBesideEnds, IsBesideSpan, IsGapOf, IsPoint};
+ghost use Rattle.vortex_prune.specs.Scanning.Gaps.{IsPut, IsSure, are_passed_at, flag_tree, gap_passes};
+ghost use Rattle.vortex_prune.specs.Scanning.Gaps.{is_end, is_past as is_past_of};
 ghost use Rattle.vortex_prune.specs.Scanning.Marks.{marked};
 
-use crate::scan::leaf::{Test, column_of, is_comparison, literal_of, passes, swapped};
+use crate::scan::leaf::{Test, passes};
+use crate::scan::sides::{
+    Flag, Side, cell, flag_of, is_falling, is_lower, is_raised, is_rising, is_set, passes_side,
+    side_of, upper,
+};
 use vortex_base::chunk::Chunk;
 use vortex_base::column::Column;
 use vortex_base::value_ref::ValueRef;
@@ -18,77 +24,14 @@ use vortex_expr::bound_expression::BoundExpression;
 use vortex_expr::bound_expression::parts::Parts;
 use vortex_expr::scalar_fn::Operator;
 
-/// A column compared with a value.
-#[derive(Clone, Copy)]
-pub(crate) struct Side<'a> {
-    pub(crate) operand: &'a BoundExpression,
-    pub(crate) column: &'a Column,
-    pub(crate) operator: Operator,
-    pub(crate) value: ValueRef<'a>,
-}
-
-/// Two comparisons, of which one has to be true.
+/// A test of two columns' values. Without a flag it is a gap: one of two comparisons has to be
+/// true, `above` of high values or `below` of low ones. With a flag it is beside a span: `above`,
+/// of its upper end, `below`, of its lower end, and the flag mustn't all be true.
 #[derive(Clone, Copy)]
 pub(crate) struct Gap<'a> {
-    /// The one that is true of high values.
     pub(crate) above: Side<'a>,
-    /// The one that is true of low values.
     pub(crate) below: Side<'a>,
-}
-
-fn is_rising(operator: Operator) -> bool
-    ensures { result ≡ is_rising operator }
-{
-    matches!(operator, Operator::Gt | Operator::Gte)
-}
-
-fn is_falling(operator: Operator) -> bool
-    ensures { result ≡ is_falling operator }
-{
-    matches!(operator, Operator::Lt | Operator::Lte)
-}
-
-// A column beside a literal, on either side.
-fn beside<'a>(
-    chunk: &'a Chunk,
-    operator: Operator,
-    left: &'a BoundExpression,
-    right: &'a BoundExpression,
-) -> Option<Side<'a>>
-    ensures { IfSome result (λ s. IsBeside chunk.entry.now.columns operator left.entry.now
-        right.entry.now s) }
-{
-    if let (Some(column), Some(value)) = (column_of(chunk, left), literal_of(right)) {
-        let operand = left;
-        return Some(Side {
-            operand,
-            column,
-            operator,
-            value,
-        });
-    }
-    if let (Some(value), Some(column)) = (literal_of(left), column_of(chunk, right)) {
-        let (operand, operator) = (right, swapped(operator));
-        return Some(Side {
-            operand,
-            column,
-            operator,
-            value,
-        });
-    }
-    None
-}
-
-// The comparison of a column with a value that an expression is, if it is one.
-fn side_of<'a>(chunk: &'a Chunk, e: &'a BoundExpression) -> Option<Side<'a>>
-    ensures { IfSome result (λ s. IsSideOf chunk.entry.now.columns e.entry.now s) }
-{
-    match e.parts() {
-        Parts::Binary(operator, left, right) if is_comparison(operator) => {
-            beside(chunk, operator, left, right)
-        }
-        _ => None,
-    }
+    pub(crate) flag: Option<Flag<'a>>,
 }
 
 // The gap that two expressions are, of which one has to be true, if they are one.
@@ -106,78 +49,181 @@ fn gap_of<'a>(
         Some(Gap {
             above: left,
             below: right,
+            flag: None,
         })
     } else if is_rising(right.operator) && is_falling(left.operator) {
         Some(Gap {
             above: right,
             below: left,
+            flag: None,
         })
     } else {
         None
     }
 }
 
-// Whether a comparison that rises is true wherever another one of the same operand is.
-fn is_lower(side: Side<'_>, next: Side<'_>) -> bool
-    ensures { IsTrue result → Covers side.entry next.entry }
+// Whether two comparisons are those with an upper and a lower end, or both with a single value.
+fn are_ends(upper: Operator, lower: Operator) -> bool
+    ensures { IsTrue result → is_end upper ≡ true }
 {
-    if side.operator != next.operator || !is_rising(side.operator) {
-        return false;
+    match upper {
+        Operator::Eq => lower == Operator::Eq,
+        _ => is_falling(upper) && is_rising(lower),
     }
-    if side.value.order(next.value).is_gt() {
-        return false;
-    }
-    *side.operand == *next.operand
 }
 
-// Whether another comparison of the same operand is true wherever one that falls is.
-fn is_raised(side: Side<'_>, next: Side<'_>) -> bool
-    ensures { IsTrue result → Covers next.entry side.entry }
+// The gap beside the span of two comparisons and a column of truths, if they are one: a range of
+// values, or a single one.
+fn beside_ends<'a>(
+    chunk: &'a Chunk,
+    left: &'a BoundExpression,
+    right: &'a BoundExpression,
+    flag: &'a BoundExpression,
+) -> Option<Gap<'a>>
+    ensures { IfSome result (λ g. IsBesideEnds chunk.entry.now.columns left.entry.now
+        right.entry.now flag.entry.now g) }
 {
-    if side.operator != next.operator || !is_falling(side.operator) {
-        return false;
+    let left = side_of(chunk, left)?;
+    let right = side_of(chunk, right)?;
+    let flag = Some(flag_of(chunk, flag)?);
+    if are_ends(left.operator, right.operator) {
+        let (above, below) = (left, right);
+        Some(Gap { above, below, flag })
+    } else if are_ends(right.operator, left.operator) {
+        let (above, below) = (right, left);
+        Some(Gap { above, below, flag })
+    } else {
+        None
     }
-    if side.value.order(next.value).is_gt() {
-        return false;
-    }
-    *side.operand == *next.operand
 }
 
-// Whether a gap lies above another of the same operands.
-fn follows(gap: &Gap<'_>, next: &Gap<'_>) -> bool
+// The gap beside the span that two expressions are, which mustn't both be true, if they are one: a
+// column of truths stands beside both ends, or beside each.
+fn beside_span<'a>(
+    chunk: &'a Chunk,
+    left: &'a BoundExpression,
+    right: &'a BoundExpression,
+) -> Option<Gap<'a>>
+    ensures { IfSome result (λ g.
+        IsBesideSpan chunk.entry.now.columns left.entry.now right.entry.now g) }
+{
+    let Parts::Binary(Operator::And, first, flag) = left.parts() else {
+        return None;
+    };
+    let Parts::Binary(Operator::And, second, again) = right.parts() else {
+        return beside_ends(chunk, first, flag, right);
+    };
+    if *flag == *again {
+        beside_ends(chunk, first, second, flag)
+    } else {
+        None
+    }
+}
+
+// Whether the values of a gap's two comparisons are one, to which both are equal.
+fn is_point(gap: &Gap<'_>) -> bool
+    ensures { IsTrue result → IsPoint gap.now }
+{
+    if gap.above.operator != Operator::Eq || gap.below.operator != Operator::Eq {
+        return false;
+    }
+    gap.above.value.order(gap.below.value).is_eq()
+}
+
+// Whether two gaps beside single values are in order.
+fn are_points(gap: &Gap<'_>, next: &Gap<'_>) -> bool
+    ensures { IsTrue result → ArePoints gap.now next.now }
+{
+    if !is_point(gap) || !is_point(next) {
+        return false;
+    }
+    !gap.above.value.order(next.above.value).is_gt()
+}
+
+// Whether a gap beside a span lies above another.
+fn follows_span(gap: &Gap<'_>, next: &Gap<'_>) -> bool
+    requires flag { IsSome gap.now.flag }
+    requires next_flag { IsSome next.now.flag }
     ensures { IsTrue result → Follows gap.now next.now }
 {
-    if is_lower(gap.above, next.above) {
-        is_raised(gap.below, next.below)
+    if are_points(gap, next) {
+        return true;
+    }
+    if is_raised(gap.above, next.above) {
+        is_lower(gap.below, next.below)
     } else {
         false
     }
 }
 
-// Whether a gap follows the last of some, if there are any.
-fn goes_on(gaps: &[Gap<'_>], gap: &Gap<'_>) -> bool
-    ensures { IsTrue result → FollowsLast gaps.now gap.now }
+// Whether a gap lies above another, as far as their values show.
+fn follows(gap: &Gap<'_>, next: &Gap<'_>) -> bool
+    ensures { IsTrue result → Follows gap.now next.now }
 {
-    match gaps.last() {
-        Some(last) => follows(last, gap),
+    match (gap.flag, next.flag) {
+        (None, None) => {
+            if is_lower(gap.above, next.above) {
+                is_raised(gap.below, next.below)
+            } else {
+                false
+            }
+        }
+        (Some(_), Some(_)) => follows_span(gap, next),
+        _ => false,
+    }
+}
+
+// Whether two flags are one column, or there is none.
+fn are_same(flag: Option<Flag<'_>>, other: Option<Flag<'_>>) -> bool
+    ensures { IsTrue result → flag_tree flag.entry ≡ flag_tree other.entry }
+{
+    match (flag, other) {
+        (None, None) => true,
+        (Some(flag), Some(other)) => *flag.operand == *other.operand,
+        _ => false,
+    }
+}
+
+// Whether two gaps have the same operands, and compare these alike.
+fn is_alike(gap: &Gap<'_>, other: &Gap<'_>) -> bool
+    ensures { IsTrue result → IsAlike gap.now other.now }
+{
+    if gap.above.operator != other.above.operator || gap.below.operator != other.below.operator {
+        return false;
+    }
+    if !are_same(gap.flag, other.flag) {
+        return false;
+    }
+    let is_above = *gap.above.operand == *other.above.operand;
+    let is_below = *gap.below.operand == *other.below.operand;
+    is_above && is_below
+}
+
+// Whether a gap is like the first of some, if there are any.
+fn goes_with(gaps: &[Gap<'_>], gap: &Gap<'_>) -> bool
+    ensures { IsTrue result → GoesWith gaps.now gap.now }
+{
+    match gaps.first() {
+        Some(first) => is_alike(first, gap),
         None => true,
     }
 }
 
-// Puts a gap behind others that it follows, if there is room.
+// Puts a gap behind others that it is like, if there is room.
 fn put<'a>(gaps: &mut Vec<Gap<'a>>, gap: Gap<'a>) -> bool
     ensures taken { IsTrue result → gaps.new.items ≡ gaps.old.items ++ gap.entry ∷ [] }
     ensures left { result ≡ false → gaps.new.items ≡ gaps.old.items }
-    ensures order { IsTrue result → FollowsLast gaps.old.items gap.entry }
+    ensures alike { IsTrue result → GoesWith gaps.old.items gap.entry }
 {
-    if !goes_on(gaps, &gap) {
+    if !goes_with(gaps, &gap) {
         return false;
     }
     gaps.push(gap).is_ok()
 }
 
-/// Puts the gap that two expressions are behind others, if they are one that follows these. It is a
-/// function of its own so that the frames of those that call each other stay small.
+/// Puts the gap that two expressions are behind others, if they are one that is like these: either
+/// expression has to be true. It is a function of its own so that the frames of those that call
+/// each other stay small.
 #[inline(never)]
 pub(crate) fn put_gap<'a>(
     chunk: &'a Chunk,
@@ -185,11 +231,12 @@ pub(crate) fn put_gap<'a>(
     right: &'a BoundExpression,
     gaps: &mut Vec<Gap<'a>>,
 ) -> bool
-    requires { AreInOrder chunk.now.columns gaps.old.items }
-    ensures taken { IsTrue result → IsPut chunk.entry.now.columns left.entry.now right.entry.now
+    requires { AreAlike chunk.now.columns gaps.old.items }
+    ensures taken { IsTrue result → IsPut
+        (IsGapOf chunk.entry.now.columns left.entry.now right.entry.now)
         gaps.old.items gaps.new.items }
     ensures left { result ≡ false → gaps.new.items ≡ gaps.old.items }
-    ensures order { AreInOrder chunk.entry.now.columns gaps.new.items }
+    ensures alike { AreAlike chunk.entry.now.columns gaps.new.items }
 {
     match gap_of(chunk, left, right) {
         Some(gap) => put(gaps, gap),
@@ -197,51 +244,155 @@ pub(crate) fn put_gap<'a>(
     }
 }
 
-fn passes_side(side: Side<'_>, value: Option<ValueRef<'_>>) -> bool
-    ensures { result ≡ side_passes side.entry (option_map value_of value.entry) }
+/// Puts the gap beside the span that two expressions are behind others, likewise: not both
+/// expressions may be true.
+#[inline(never)]
+pub(crate) fn put_beside<'a>(
+    chunk: &'a Chunk,
+    left: &'a BoundExpression,
+    right: &'a BoundExpression,
+    gaps: &mut Vec<Gap<'a>>,
+) -> bool
+    requires { AreAlike chunk.now.columns gaps.old.items }
+    ensures taken { IsTrue result → IsPut
+        (IsBesideSpan chunk.entry.now.columns left.entry.now right.entry.now)
+        gaps.old.items gaps.new.items }
+    ensures left { result ≡ false → gaps.new.items ≡ gaps.old.items }
+    ensures alike { AreAlike chunk.entry.now.columns gaps.new.items }
 {
-    passes(Test::Is(side.operator, side.value), value)
+    match beside_span(chunk, left, right) {
+        Some(gap) => put(gaps, gap),
+        None => false,
+    }
 }
 
-// Whether two values pass each gap: at the first whose value isn't below the one, the other has to
-// lie below its value, and so below those of all behind it.
-fn pass_all(gaps: &[Gap<'_>], x: Option<ValueRef<'_>>, y: Option<ValueRef<'_>>) -> bool
-    requires { AreOrdered gaps.now }
-    ensures { result ≡ list_all (λ g. gap_passes g (option_map value_of x.entry)
-        (option_map value_of y.entry)) gaps.now }
+// Whether each gap follows the one before it.
+fn are_ordered(gaps: &[Gap<'_>]) -> bool
+    ensures { IsTrue result → AreOrdered gaps.now }
 {
-    let place = gaps.partition_point(|gap| passes_side(gap.above, x));
+    for k in 1..gaps.len() {
+        if !follows(&gaps[k - 1], &gaps[k]) {
+            return false;
+        }
+    }
+    true
+}
+
+/// Puts gaps in the order of their values, and answers whether each then follows those before it.
+pub(crate) fn put_in_order(gaps: &mut [Gap<'_>]) -> bool
+    ensures order { IsTrue result → AreOrdered gaps.new }
+    ensures same { IsPermutation gaps.old gaps.new }
+{
+    if are_ordered(gaps) {
+        return true;
+    }
+    gaps.sort_unstable_by(|gap, next| gap.above.value.order(next.above.value));
+    are_ordered(gaps)
+}
+
+fn passes_gap(
+    gap: &Gap<'_>,
+    x: Option<ValueRef<'_>>,
+    y: Option<ValueRef<'_>>,
+    z: Option<ValueRef<'_>>,
+) -> bool
+    ensures { result ≡ gap_passes gap.now (option_map value_of x.entry)
+        (option_map value_of y.entry) (option_map value_of z.entry) }
+{
+    match gap.flag {
+        None => passes_side(gap.above, x) || passes_side(gap.below, y),
+        Some(_) => !(passes_side(gap.above, x) && (passes_side(gap.below, y) && is_set(z))),
+    }
+}
+
+// Whether a first value shows by itself that a gap is passed.
+fn is_past(gap: &Gap<'_>, x: Option<ValueRef<'_>>) -> bool
+    ensures { result ≡ is_past_of gap.now (option_map value_of x.entry) }
+{
+    match gap.flag {
+        None => passes_side(gap.above, x),
+        Some(_) => !passes(Test::Is(upper(gap.above.operator), gap.above.value), x),
+    }
+}
+
+// Whether values pass each gap. In order, the first gap that the first value isn't past decides.
+fn pass_all(
+    gaps: &[Gap<'_>],
+    in_order: bool,
+    x: Option<ValueRef<'_>>,
+    y: Option<ValueRef<'_>>,
+    z: Option<ValueRef<'_>>,
+) -> bool
+    requires order { IsTrue in_order → AreOrdered gaps.now }
+    requires sure { All IsSure gaps.now }
+    ensures { result ≡ list_all (λ g. gap_passes g (option_map value_of x.entry)
+        (option_map value_of y.entry) (option_map value_of z.entry)) gaps.now }
+{
+    if !in_order {
+        return gaps.iter().all(|gap| passes_gap(gap, x, y, z));
+    }
+    let place = gaps.partition_point(|gap| is_past(gap, x));
     match gaps.get(place) {
-        Some(gap) => passes_side(gap.below, y),
+        Some(gap) => passes_gap(gap, x, y, z),
         None => true,
     }
 }
 
-// The value of a column at a place. Past the end stands null.
-fn cell(column: &Column, place: usize) -> Option<ValueRef<'_>>
-    ensures { option_map value_of result ≡ value_at (slice_get column.entry.now.values place) }
+/// The columns of which gaps ask.
+#[derive(Clone, Copy)]
+pub(crate) struct Columns<'a> {
+    pub(crate) above: &'a Column,
+    pub(crate) below: &'a Column,
+    pub(crate) flag: &'a Column,
+}
+
+/// The columns of which a gap asks. One without a flag asks no third one.
+pub(crate) fn asked<'a>(gap: &Gap<'a>) -> Columns<'a>
+    ensures above { result.above.now ≡ gap.now.above.column.now }
+    ensures below { result.below.now ≡ gap.now.below.column.now }
+    ensures flag { IfSome gap.now.flag (λ f. result.flag.now ≡ f.column.now) }
 {
-    if place < column.len() {
-        column.get(place)
-    } else {
-        None
+    let flag = match gap.flag {
+        Some(flag) => flag.column,
+        None => gap.below.column,
+    };
+    Columns {
+        above: gap.above.column,
+        below: gap.below.column,
+        flag,
     }
 }
 
-fn stays_in(mark: bool, gaps: &[Gap<'_>], x: &Column, y: &Column, place: usize) -> bool
-    requires { AreOrdered gaps.now }
-    ensures { result ≡ (mark && are_passed_at gaps.now x.now y.now place) }
+fn stays_in(mark: bool, gaps: &[Gap<'_>], in_order: bool, asked: Columns<'_>, place: usize) -> bool
+    requires order { IsTrue in_order → AreOrdered gaps.now }
+    requires sure { All IsSure gaps.now }
+    ensures { result ≡ (mark && are_passed_at gaps.now asked.entry.above.now
+        asked.entry.below.now asked.entry.flag.now place) }
 {
-    mark && pass_all(gaps, cell(x, place), cell(y, place))
+    mark && pass_all(
+        gaps,
+        in_order,
+        cell(asked.above, place),
+        cell(asked.below, place),
+        cell(asked.flag, place),
+    )
 }
 
-/// Takes away the marks, from a place on, at which the values of two columns don't pass each gap.
-pub(crate) fn keep_passed(gaps: &[Gap<'_>], x: &Column, y: &Column, from: usize, marks: &mut [bool])
-    requires order { AreOrdered gaps.now }
+/// Takes away the marks, from a place on, at which the values of columns don't pass each gap.
+pub(crate) fn keep_passed(
+    gaps: &[Gap<'_>],
+    in_order: bool,
+    asked: Columns<'_>,
+    from: usize,
+    marks: &mut [bool],
+)
+    requires order { IsTrue in_order → AreOrdered gaps.now }
+    requires sure { All IsSure gaps.now }
     requires room { from + length marks.old < 2 ^ 64 }
-    ensures { marks.new ≡ marked (are_passed_at gaps.now x.now y.now) from marks.old }
+    ensures { marks.new ≡ marked (are_passed_at gaps.now asked.entry.above.now
+        asked.entry.below.now asked.entry.flag.now) from marks.old }
 {
     for k in 0..marks.len() {
-        marks[k] = stays_in(marks[k], gaps, x, y, from + k);
+        marks[k] = stays_in(marks[k], gaps, in_order, asked, from + k);
     }
 }

@@ -7,12 +7,12 @@ ghost use Rattle.std.specs.List.{list_any};
 ghost use Rattle.vortex_base.specs.Data.Columns.{row_count};
 ghost use Rattle.vortex_expr.specs.Trees.Tree.{between, binary};
 ghost use Rattle.vortex_expr.specs.declared.scalar_fn.Operator.TheVariants.{Or};
-ghost use Rattle.vortex_prune.specs.Scanning.Gaps.{AreInOrder, IsGathered, are_true_at};
+ghost use Rattle.vortex_prune.specs.Scanning.Gaps.{AreAlike, IsGathered, are_true_at, is_untrue_at};
 ghost use Rattle.vortex_prune.specs.Scanning.Marks.{HasCounts, count_at, either_marked, is_told};
 ghost use Rattle.vortex_prune.specs.Scanning.Marks.{is_true_at, left_marked, marked};
 
 use crate::scan::columns::keep_passing;
-use crate::scan::gaps::{Gap, keep_passed, put_gap};
+use crate::scan::gaps::{Gap, asked, keep_passed, put_beside, put_gap, put_in_order};
 use crate::scan::leaf::{compared, leaf_of};
 use crate::zone_map::ZoneMap;
 use std::alloc::{AllocError, Global};
@@ -148,28 +148,159 @@ fn take_marks(marks: &mut [bool], others: &[bool])
     }
 }
 
-// Takes away the marks of the rows on which no gap of some is passed.
-fn keep_gaps(table: Table<'_>, gaps: &[Gap<'_>], from: usize, marks: &mut [bool])
-    requires order { AreInOrder table.chunk.now.columns gaps.now }
+// Takes away the marks of the rows on which not every one of some gaps is passed.
+fn keep_gaps(table: Table<'_>, gaps: &mut [Gap<'_>], from: usize, marks: &mut [bool])
+    requires alike { AreAlike table.chunk.now.columns gaps.old }
     requires within { from + length marks.old ≤ row_count table.chunk.now.columns }
-    ensures { let test = are_true_at gaps.now table.entry.chunk.now.columns table.entry.counts in
+    ensures { let test = are_true_at gaps.old table.entry.chunk.now.columns table.entry.counts in
         marks.new ≡ marked test from marks.old }
 {
     let _rows = table.chunk.rows();
+    let in_order = put_in_order(gaps);
     if let Some(first) = gaps.get(0) {
-        keep_passed(gaps, first.above.column, first.below.column, from, marks);
+        keep_passed(gaps, in_order, asked(first), from, marks);
     }
 }
 
-// Whether an AND stands within an AND within an AND, so that it may have many sides.
-fn is_long(e: &BoundExpression) -> bool {
-    let Parts::Binary(Operator::And, left, _) = e.parts() else {
+// The left side of a connective, if an expression is one.
+fn left_of(e: &BoundExpression, connective: Operator) -> Option<&BoundExpression> {
+    match e.parts() {
+        Parts::Binary(operator, left, _) if operator == connective => Some(left),
+        _ => None,
+    }
+}
+
+// Whether a connective stands within itself within itself, so that it may have many sides.
+fn is_long(e: &BoundExpression, connective: Operator) -> bool {
+    let Some(left) = left_of(e, connective) else {
         return false;
     };
-    let Parts::Binary(Operator::And, left, _) = left.parts() else {
+    let Some(left) = left_of(left, connective) else {
         return false;
     };
-    matches!(left.parts(), Parts::Binary(Operator::And, _, _))
+    left_of(left, connective).is_some()
+}
+
+// Whether a mark stays on a row where an expression isn't true.
+fn is_left_on(mark: bool, table: Table<'_>, place: usize, e: &BoundExpression) -> bool
+    requires { place < row_count table.chunk.now.columns }
+    ensures { result
+        ≡ (mark && is_untrue_at e.now table.entry.chunk.now.columns table.entry.counts place) }
+{
+    mark && !e.is_satisfied(&table.chunk.row(place), count_at(table.counts, place))
+}
+
+// Takes away the marks of the rows on which an expression is true, row by row.
+#[inline(never)]
+fn drop_rows(table: Table<'_>, e: &BoundExpression, from: usize, marks: &mut [bool])
+    requires { from + length marks.old ≤ row_count table.chunk.now.columns }
+    ensures { let test = is_untrue_at e.now table.entry.chunk.now.columns table.entry.counts in
+        marks.new ≡ marked test from marks.old }
+{
+    let _rows = table.chunk.rows();
+    for k in 0..marks.len() {
+        marks[k] = is_left_on(marks[k], table, from + k, e);
+    }
+}
+
+// Takes away the marks of the rows, from a place on, on which an expression is true.
+#[cycle(keep)]
+#[inline(never)]
+fn drop_true(alloc: Global, table: Table<'_>, e: &BoundExpression, from: usize, marks: &mut [bool])
+    requires { from + length marks.old ≤ row_count table.chunk.now.columns }
+    ensures { let test = is_untrue_at e.now table.entry.chunk.now.columns table.entry.counts in
+        marks.new ≡ marked test from marks.old }
+{
+    match Vec::from_slice(alloc, marks) {
+        Ok(mut others) => {
+            keep_true(alloc, table, e, from, &mut others);
+            take_marks(marks, &others);
+        }
+        Err(AllocError) => drop_rows(table, e, from, marks),
+    }
+}
+
+// Takes away the marks of the rows on which an expression is true, but for those sides of an OR
+// that are spans like each other, for which it puts the gap beside each behind others.
+#[cycle(keep)]
+fn sift<'a>(
+    alloc: Global,
+    table: Table<'a>,
+    e: &'a BoundExpression,
+    from: usize,
+    marks: &mut [bool],
+    gaps: &mut Vec<Gap<'a>>,
+)
+    requires within { from + length marks.old ≤ row_count table.chunk.now.columns }
+    requires alike { AreAlike table.chunk.now.columns gaps.old.items }
+    ensures gathered { let test = is_untrue_at e.entry.now table.entry.chunk.now.columns
+        table.entry.counts in
+        IsGathered table.entry.chunk.now.columns table.entry.counts test from
+        gaps.old.items gaps.new.items marks.old marks.new }
+    ensures alike { AreAlike table.entry.chunk.now.columns gaps.new.items }
+{
+    match e.parts() {
+        Parts::Binary(Operator::Or, left, right) => {
+            sift(alloc, table, left, from, marks, gaps);
+            sift(alloc, table, right, from, marks, gaps);
+        }
+        Parts::Binary(Operator::And, left, right) => {
+            if put_beside(table.chunk, left, right, gaps) {
+                return;
+            }
+            drop_true(alloc, table, e, from, marks);
+        }
+        _ => drop_true(alloc, table, e, from, marks),
+    }
+}
+
+// Takes away the marks of the rows on which either side of a long OR is true: those on which not
+// every gap beside its spans is passed, or on which another of its sides is true.
+#[cycle(keep)]
+fn drop_any(
+    alloc: Global,
+    table: Table<'_>,
+    e: &BoundExpression,
+    left: &BoundExpression,
+    right: &BoundExpression,
+    from: usize,
+    marks: &mut [bool],
+)
+    requires within { from + length marks.old ≤ row_count table.chunk.now.columns }
+    requires either { e.now ≡ binary Or left.now right.now }
+    ensures { let test = is_untrue_at e.now table.entry.chunk.now.columns table.entry.counts in
+        marks.new ≡ marked test from marks.old }
+{
+    let mut gaps = Vec::new(alloc);
+    sift(alloc, table, left, from, marks, &mut gaps);
+    sift(alloc, table, right, from, marks, &mut gaps);
+    keep_gaps(table, &mut gaps, from, marks);
+}
+
+// The marks of the rows on which either side of a long OR is true. Where there is no memory for
+// the marks that it leaves, each row is tested by itself.
+#[cycle(keep)]
+fn keep_any(
+    alloc: Global,
+    table: Table<'_>,
+    e: &BoundExpression,
+    left: &BoundExpression,
+    right: &BoundExpression,
+    from: usize,
+    marks: &mut [bool],
+)
+    requires within { from + length marks.old ≤ row_count table.chunk.now.columns }
+    requires either { e.now ≡ binary Or left.now right.now }
+    ensures { let test = is_true_at e.now table.entry.chunk.now.columns table.entry.counts in
+        marks.new ≡ marked test from marks.old }
+{
+    match Vec::from_slice(alloc, marks) {
+        Ok(mut others) => {
+            drop_any(alloc, table, e, left, right, from, &mut others);
+            take_marks(marks, &others);
+        }
+        Err(AllocError) => keep_rows(table, e, from, marks),
+    }
 }
 
 // The marks of the rows on which either of two expressions is true. Where there is no memory for
@@ -201,7 +332,7 @@ fn keep_either(
 }
 
 // Takes away the marks of the rows on which an expression isn't true, but for those sides of an AND
-// that are gaps in order, which it puts behind others.
+// that are gaps like each other, which it puts behind others.
 #[cycle(keep)]
 fn gather<'a>(
     alloc: Global,
@@ -213,10 +344,12 @@ fn gather<'a>(
     gaps: &mut Vec<Gap<'a>>,
 )
     requires within { from + length marks.old ≤ row_count table.chunk.now.columns }
-    requires order { AreInOrder table.chunk.now.columns gaps.old.items }
-    ensures gathered { IsGathered table.entry.chunk.now.columns table.entry.counts e.entry.now from
+    requires alike { AreAlike table.chunk.now.columns gaps.old.items }
+    ensures gathered { let test = is_true_at e.entry.now table.entry.chunk.now.columns
+        table.entry.counts in
+        IsGathered table.entry.chunk.now.columns table.entry.counts test from
         gaps.old.items gaps.new.items marks.old marks.new }
-    ensures order { AreInOrder table.entry.chunk.now.columns gaps.new.items }
+    ensures alike { AreAlike table.entry.chunk.now.columns gaps.new.items }
 {
     match e.parts() {
         Parts::Binary(Operator::And, left, right) => {
@@ -227,7 +360,11 @@ fn gather<'a>(
             if searched && put_gap(table.chunk, left, right, gaps) {
                 return;
             }
-            keep_either(alloc, table, e, left, right, from, marks);
+            if is_long(e, Operator::Or) {
+                keep_any(alloc, table, e, left, right, from, marks);
+            } else {
+                keep_either(alloc, table, e, left, right, from, marks);
+            }
         }
         Parts::Between(options, x, lower, upper) => {
             keep_between(table, e, options, x, lower, upper, from, marks);
@@ -237,7 +374,8 @@ fn gather<'a>(
 }
 
 // Takes away the marks of the rows, from a place on, on which an expression isn't true. Nothing is
-// looked at where no mark is left, and the sides of a long AND that are gaps in order are searched.
+// looked at where no mark is left, and the sides of a long AND that are gaps are searched, as are
+// those of a long OR that are spans.
 #[cycle(keep)]
 pub(crate) fn keep_true(
     alloc: Global,
@@ -254,8 +392,9 @@ pub(crate) fn keep_true(
         return;
     }
     let mut gaps = Vec::new(alloc);
-    gather(alloc, table, is_long(e), e, from, marks, &mut gaps);
-    keep_gaps(table, &gaps, from, marks);
+    let searched = is_long(e, Operator::And);
+    gather(alloc, table, searched, e, from, marks, &mut gaps);
+    keep_gaps(table, &mut gaps, from, marks);
 }
 
 // Where a block of rows ends that begins at a place, before the end of all.

@@ -4,7 +4,11 @@ use Rattle.vortex_prune.specs.Scanning.Gaps.{are_passed_at}
 use Rattle.vortex_prune.proofs.scan.gaps.keep_passed.Goals as goal
 
 pub loop-k-preserved : goal.loop-k-preserved
-loop-k-preserved c = marked_more (are_passed_at c.args.gaps.now c.args.x.now c.args.y.now) c.args.from c.loop-k.k c.args.marks.now c.loop-k.marks c.stays_in.result c.loop-k.invariant c.loop-k-test.true c.stays_in.ensures
+loop-k-preserved c =
+    let a = c.args.asked in
+    marked_more (are_passed_at c.args.gaps.now a.above.now a.below.now a.flag.now) c.args.from c.loop-k.k c.args.marks.now c.loop-k.marks c.stays_in.result c.loop-k.invariant c.loop-k-test.true c.stays_in.ensures
 
 pub returns : goal.returns
-returns c = c.loop-k.invariant ∙ marked_all (are_passed_at c.args.gaps.now c.args.x.now c.args.y.now) c.args.from c.loop-k.k c.args.marks.now c.loop-k-test.false
+returns c =
+    let a = c.args.asked in
+    c.loop-k.invariant ∙ marked_all (are_passed_at c.args.gaps.now a.above.now a.below.now a.flag.now) c.args.from c.loop-k.k c.args.marks.now c.loop-k-test.false

@@ -5,4 +5,4 @@ use Rattle.vortex_prune.proofs.scan.gaps.keep_passed.Given as goal
 
 -- the marks before this one were looked at
 abbrev pub invariant-loop-k : goal.invariant-loop-k
-invariant-loop-k l = l.marks ≡ marked (are_passed_at l.gaps l.x l.y) l.from (take l.k l.initial.marks) ++ drop l.k l.initial.marks
+invariant-loop-k l = l.marks ≡ marked (are_passed_at l.gaps l.asked.above.now l.asked.below.now l.asked.flag.now) l.from (take l.k l.initial.marks) ++ drop l.k l.initial.marks

@@ -3,7 +3,7 @@ use Rattle.vortex_base.specs.Data.Cells.{value_of}
 use Rattle.vortex_expr.specs.Meanings.Meaning.{meaning}
 use Rattle.vortex_prune.proofs.Scanning.LeafLemmas.{compares_swapped}
 use Rattle.vortex_prune.specs.Scanning.Leaves.{compares, swapped}
-use Rattle.vortex_prune.proofs.scan.gaps.beside.Goals as goal
+use Rattle.vortex_prune.proofs.scan.sides.beside.Goals as goal
 
 pub returns-in-Some-Some-2 : goal.returns-in-Some-Some-2
 returns-in-Some-Some-2 c =

@@ -3,9 +3,9 @@ use Rattle.std.specs.Ordering.{is_gt}
 use Rattle.vortex_base.specs.Data.Cells.{value_of}
 use Rattle.vortex_expr.specs.Trees.TreeEq.{tree_eq_is_exact}
 use Rattle.vortex_rewrite.proofs.Soundness.ValueTests.{value_le}
-use Rattle.vortex_prune.proofs.Scanning.GapLemmas.{rises_so}
+use Rattle.vortex_prune.proofs.Scanning.GapOrder.{rises_so}
 use Rattle.vortex_prune.specs.Scanning.Gaps.{is_rising}
-use Rattle.vortex_prune.proofs.scan.gaps.is_lower.Goals as goal
+use Rattle.vortex_prune.proofs.scan.sides.is_lower.Goals as goal
 
 pub returns : goal.returns
 returns c held =
