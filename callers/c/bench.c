@@ -46,6 +46,41 @@ static int measuring(void) {
     return status;
 }
 
+/* A predicate, and of how many zones it is asked. */
+struct asked {
+    const char *name, *predicate;
+    size_t zones;
+};
+
+/* Whether a is one of so many numbers from 0 to 200,000, by turns of so many places. */
+static char *list(size_t count, size_t turn) {
+    char *text = malloc(count * 40), *end = text;
+    if (!text) exit(1);
+    for (size_t i = 1; i < count; i++) end += sprintf(end, "or ");
+    for (size_t i = 0; i < count; i++) end += sprintf(end, "eq col a lit i64 %zu ", i * turn % count * (200000 / count));
+    return text;
+}
+
+/* Prunes several times, and tells the least time a zone. */
+static uint8_t timed(const struct asked *asked, const vortex_field *scope, const uint64_t *rows, vortex_statistic *stats, uint8_t *answers) {
+    vortex_fault fault;
+    double least = 1e9;
+    uint8_t status = VORTEX_OK;
+    for (size_t i = 0; i < 3 * COLUMNS; i++) stats[i].known_len = asked->zones, stats[i].values_len = asked->zones * 8;
+    for (int run = 0; run < 15 && status == VORTEX_OK; run++) {
+        double start = now();
+        status = vortex_prune(scope, COLUMNS, rows, asked->zones, stats, 3 * COLUMNS, (const uint8_t *)asked->predicate,
+                              strlen(asked->predicate), 0, answers, asked->zones, &fault);
+        double took = now() - start;
+        if (took < least) least = took;
+    }
+    size_t skipped = 0;
+    for (size_t z = 0; z < asked->zones; z++) skipped += answers[z] == VORTEX_SKIP;
+    printf("status %d: pruned under %s in %.1f ns a zone; %zu of %zu are skipped\n", status, asked->name,
+           least * 1e9 / (double)asked->zones, skipped, asked->zones);
+    return status;
+}
+
 /* The values of zone z lie from z to z + 100 in each column. */
 static int pruning(void) {
     const uint8_t numbers[COLUMNS] = {VORTEX_MIN, VORTEX_MAX, VORTEX_NULL_COUNT};
@@ -69,24 +104,16 @@ static int pruning(void) {
         snprintf(leaf, sizeof leaf, "%sgt col %c lit i64 %d ", i < 15 ? "and " : "", 'a' + (char)(i % 3), i < 15 ? -1 : 999900);
         strcat(sixteen, leaf);
     }
-    const char *predicates[2] = {"gt col a lit i64 999900", sixteen};
-    for (int i = 0; i < 2; i++) {
-        vortex_fault fault;
-        double least = 1e9;
-        uint8_t status = 0;
-        for (int run = 0; run < 25; run++) {
-            double start = now();
-            status = vortex_prune(scope, COLUMNS, rows, ZONES, stats, 3 * COLUMNS, (const uint8_t *)predicates[i],
-                                  strlen(predicates[i]), 0, answers, ZONES, &fault);
-            double took = now() - start;
-            if (took < least) least = took;
-        }
-        size_t skipped = 0;
-        for (size_t z = 0; z < ZONES; z++) skipped += answers[z] == VORTEX_SKIP;
-        printf("status %d: pruned under %d comparison(s) in %.0f ns a zone; %zu of %d are skipped\n", status, i ? 16 : 1,
-               least * 1e9 / ZONES, skipped, ZONES);
+    const struct asked asked[] = {
+        {"one comparison", "gt col a lit i64 999900", ZONES},   {"16 comparisons", sixteen, ZONES},
+        {"100 values in order", list(100, 1), ZONES / 5},       {"100 values out of order", list(100, 37), ZONES / 5},
+        {"10,000 values in order", list(10000, 1), ZONES / 50}, {"10,000 values out of order", list(10000, 3701), ZONES / 50},
+    };
+    for (size_t i = 0; i < sizeof asked / sizeof *asked; i++) {
+        uint8_t status = timed(&asked[i], scope, rows, stats, answers);
         if (status) return status;
     }
+    for (size_t i = 2; i < sizeof asked / sizeof *asked; i++) free((void *)asked[i].predicate);
     free(rows), free(bounds), free(known), free(answers);
     return 0;
 }

@@ -3,6 +3,7 @@ pub mod AskingRows
 pub mod CauseRows
 pub mod ChosenRows
 pub mod CompleteRows
+pub mod GapRows
 pub mod HonestRows
 pub mod LeafRows
 pub mod MarkRows

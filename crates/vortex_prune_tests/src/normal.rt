@@ -98,6 +98,47 @@ fn all_proofs_tell_more(rt: HostRuntime) {
     expect(&rt, alloc, compared, (none, none), [Tested, Whole, Skipped]);
 }
 
+// Whether the number is one of some.
+fn is_one_of(alloc: Global, numbers: &[i32]) -> Built {
+    let mut found = truth(alloc, false);
+    for number in numbers {
+        found = or(alloc, found, eq(alloc, a(alloc), int(alloc, *number)));
+    }
+    found
+}
+
+// The number 6 alone, and from 1 to 9; without a null.
+fn one_number_and_nine(alloc: Global) -> Result<ZoneMap, StatsError> {
+    let one = bounded_without_null(alloc, 6, 6);
+    let sets = two_sets(alloc, one, bounded_without_null(alloc, 1, 9))?;
+    map_of_sets(alloc, 2, &sets)
+}
+
+// Pruning by a list of numbers as it is finds these places.
+fn expect_of_list(
+    rt: &impl Abort,
+    alloc: Global,
+    numbers: &[i32],
+    skipped: &[usize],
+    whole: &[usize],
+) {
+    let map = one_number_and_nine(alloc).expect(rt, "a map");
+    let list = is_one_of(alloc, numbers).expect(rt, "a predicate");
+    let pruned = pruned_by(alloc, &map, &list, &Rules::builtin(alloc)).expect(rt, "places");
+    assert!(rt; lists(&pruned, skipped, whole));
+}
+
+#[test]
+fn a_long_list_is_searched_in_any_order(rt: HostRuntime) {
+    let alloc = rt.alloc();
+    let none = [].as_slice();
+    expect_of_list(&rt, alloc, &[-9, -8, -7, 6, 20, 21, 22, 23], none, &[0]);
+    expect_of_list(&rt, alloc, &[23, 22, 21, 20, 6, -7, -8, -9], none, &[0]);
+    expect_of_list(&rt, alloc, &[21, 6, -8, 6, 23, 20, -9, 22], none, &[0]);
+    expect_of_list(&rt, alloc, &[21, 9, -8, 1, 23, 20, -9, 22], &[0], none);
+    expect_of_list(&rt, alloc, &[21, 10, -8, 0, 23, 20, -9, 22], &[0, 1], none);
+}
+
 // The map of one zone of texts that begin with `abc`.
 fn texts_alike(alloc: Global) -> Result<ZoneMap, StatsError> {
     let sets = one_set(alloc, text_bounds(alloc, "abca", "abcz")?)?;

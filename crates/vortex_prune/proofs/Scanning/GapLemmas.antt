@@ -8,7 +8,6 @@ use Rattle.std.proofs.lemmas.Option.{same_Some}
 use Rattle.std.proofs.lemmas.Bool.{cases_lt}
 use Rattle.vortex_base.specs.Data.Columns.{ColumnData, row_of, value_at}
 use Rattle.vortex_base.specs.Data.Scalars.{Constant}
-use Rattle.vortex_base.specs.declared.scalar_value.ScalarValue.{ScalarValue}
 use Rattle.vortex_expr.specs.Meanings.Meaning.{is_true, meaning, satisfies}
 use Rattle.vortex_expr.specs.Trees.Tree.{Tree, Place, binary}
 use Rattle.vortex_expr.specs.declared.scalar_fn.Operator.TheVariants.{And, Or}

@@ -1,20 +1,18 @@
 -- When one gap follows another, and what a search among gaps in order finds.
 use Rattle.std.proofs.Common.{◌≡◌, ◌⊎◌, inl, inr, ◌+◌, ◌-◌, ◌≤◌, ◌<◌, ℕ, zero, suc, Bool, true, false, not, ◌&&◌, ◌||◌, List, [], ◌∷◌, Option, Some, None, refl, sym, ap, ◌∙◌, subst, arith, length, get_or}
 use Rattle.std.specs.List.{All, list_all}
-use Rattle.std.specs.Ordering.{is_eq, is_gt}
+use Rattle.std.specs.Ordering.{is_eq}
 use Rattle.std.specs.declared.cmp.Ordering.{Ordering}
 use Rattle.std.specs.declared.cmp.Ordering.TheVariants.{Less, Equal, Greater}
-use Rattle.std.specs.Prelude.{slice_get, IsSome}
-use Rattle.std.proofs.lemmas.Option.{same_Some}
+use Rattle.std.specs.Prelude.{IsSome}
 use Rattle.std.proofs.lemmas.Bool.{cases_lt}
 use Rattle.vortex_base.specs.Data.Cells.{value_of}
-use Rattle.vortex_base.specs.Data.Values.{value_cmp}
 use Rattle.vortex_base.specs.declared.scalar_value.ScalarValue.{ScalarValue}
 use Rattle.vortex_expr.specs.Meanings.Meaning.{is_true}
 use Rattle.vortex_expr.specs.declared.scalar_fn.Operator.{Operator}
 use Rattle.vortex_expr.specs.declared.scalar_fn.Operator.TheVariants.{Eq, NotEq, Gt, Gte, Lt, Lte, And, Or}
 use Rattle.vortex_rewrite.proofs.Soundness.ValueTests.{by_le, eq_le, holds_by_le, le_antisym, le_trans, value_le}
-use Rattle.vortex_prune.specs.Scanning.Gaps.{AreOrdered, ArePoints, Covers, Follows, IsPoint, IsSure, gap_passes, is_end, is_falling, is_past, is_rising, passes_by, past_by, side_passes, upper}
+use Rattle.vortex_prune.specs.Scanning.Gaps.{AreOrdered, ArePoints, Covers, Follows, IsSure, gap_passes, is_end, is_falling, is_past, is_rising, passes_by, past_by, side_passes, upper}
 use Rattle.vortex_prune.specs.Scanning.Leaves.{compares}
 use Rattle.vortex_prune.specs.declared.scan.gaps.Gap.{Gap}
 use Rattle.vortex_prune.specs.declared.scan.sides.Flag.{Flag}

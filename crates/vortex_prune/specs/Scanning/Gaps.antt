@@ -1,5 +1,5 @@
 -- Tests of a row's values, of which one after another is passed by greater values alone: the gaps between the values of a set, into one of which a zone's bounds fall, and the spans of a set, none of which holds them.
-use Rattle.std.specs.Prelude.{◌≡◌, ◌≤◌, ◌<◌, ◌+◌, ℕ, Bool, true, false, not as not_b, ◌&&◌, ◌||◌, List, [], ◌∷◌, ◌++◌, length, Option, Some, None, IfSome, option_map, slice_get, slice_index_or}
+use Rattle.std.specs.Prelude.{◌≡◌, ◌≤◌, ◌<◌, ◌+◌, ℕ, Bool, true, false, not as not_b, ◌&&◌, ◌||◌, List, [], ◌∷◌, ◌++◌, length, Option, Some, None, IfSome, slice_get, slice_index_or}
 use Rattle.std.specs.List.{All, list_all}
 use Rattle.std.specs.Ordering.{is_gt}
 use Rattle.vortex_base.specs.Data.Cells.{value_of}

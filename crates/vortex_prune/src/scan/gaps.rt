@@ -1,7 +1,7 @@
-//! Tests that an AND, or the opposite of an OR, makes of the bounds of a zone, one for each range
-//! of a set, decided for all ranges by one search. That no value of a set lies within the bounds is
-//! an AND of gaps; that all do is an OR of spans, and a row on which it isn't true lies beside each.
-ghost use Rattle.std.specs.Prelude.{◌≡◌, ◌+◌, ◌≤◌, ◌<◌, ◌^◌, ◌&&◌, ◌∷◌, ◌++◌, [], IfSome, IsTrue};
+//! Gaps between the ranges of a set, and gaps beside them, of which one search among all decides.
+//! An AND of gaps says that no value of the set lies within a zone's bounds. An OR of spans says
+//! that the zone lies within a range of the set, and it is untrue of a zone that is beside each.
+ghost use Rattle.std.specs.Prelude.{◌≡◌, ◌+◌, ◌<◌, ◌^◌, ◌&&◌, ◌∷◌, ◌++◌, [], IfSome, IsTrue};
 ghost use Rattle.std.specs.Prelude.{IsSome, false, length, option_map, true};
 ghost use Rattle.std.specs.List.{All, list_all};
 ghost use Rattle.std.specs.List.Sorted.{IsPermutation};
@@ -24,9 +24,9 @@ use vortex_expr::bound_expression::BoundExpression;
 use vortex_expr::bound_expression::parts::Parts;
 use vortex_expr::scalar_fn::Operator;
 
-/// A test of two columns' values. Without a flag it is a gap: one of two comparisons has to be
-/// true, `above` of high values or `below` of low ones. With a flag it is beside a span: `above`,
-/// of its upper end, `below`, of its lower end, and the flag mustn't all be true.
+/// A test of two columns' values. Without a flag it is a gap between two ranges: either comparison
+/// has to be true, `above` of high values or `below` of low ones. With a flag it is beside a span:
+/// `above` of its upper end, `below` of its lower end and the flag mustn't all be true.
 #[derive(Clone, Copy)]
 pub(crate) struct Gap<'a> {
     pub(crate) above: Side<'a>,

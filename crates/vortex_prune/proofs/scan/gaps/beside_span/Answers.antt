@@ -2,7 +2,7 @@ use Rattle.std.proofs.Common.{◌≡◌, ◌∙◌, sym}
 use Rattle.vortex_expr.specs.Trees.Tree.{binary}
 use Rattle.vortex_expr.specs.Trees.TreeEq.{tree_eq_is_exact}
 use Rattle.vortex_expr.specs.declared.scalar_fn.Operator.TheVariants.{And}
-use Rattle.vortex_prune.proofs.Scanning.GapLemmas.{span_of_both, span_of_ends}
+use Rattle.vortex_prune.proofs.Scanning.GapLemmas.{span_of_both}
 use Rattle.vortex_prune.proofs.scan.gaps.beside_span.Goals as goal
 
 pub returns-then-eq : goal.returns-then-eq

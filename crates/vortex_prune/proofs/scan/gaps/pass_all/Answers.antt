@@ -1,4 +1,4 @@
-use Rattle.std.proofs.Common.{◌∙◌, ap, arith, option_map, rules, sym}
+use Rattle.std.proofs.Common.{◌∙◌, ap, arith, option_map, rules}
 use Rattle.std.proofs.lemmas.List.Sorted.{IsPartitionPoint-from_clause}
 use Rattle.vortex_base.specs.Data.Cells.{value_of}
 use Rattle.vortex_prune.specs.Scanning.Gaps.{gap_passes, is_past}
