@@ -6,6 +6,7 @@ pub mod GapLemmas
 pub mod GapOrder
 pub mod JoinLemmas
 pub mod LeafLemmas
+pub mod LikeLemmas
 pub mod Lossless
 pub mod PartScanLemmas
 pub mod RangeLemmas

@@ -6,6 +6,7 @@ pub mod CompleteRows
 pub mod GapRows
 pub mod HonestRows
 pub mod LeafRows
+pub mod LikeShapeRows
 pub mod MarkRows
 pub mod MeasuredRows
 pub mod PartRows

@@ -2,6 +2,7 @@
 pub mod Complete
 pub mod Gaps
 pub mod Leaves
+pub mod Likes
 pub mod Marks
 pub mod PartScans
 pub mod RangeScans

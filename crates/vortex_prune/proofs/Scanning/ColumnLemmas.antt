@@ -38,12 +38,13 @@ pub so_there : {X : Type 0} (f : X → ScalarValue) (o : Operator) (v : ScalarVa
     → compares_at o v (map (option_map f) (optionals xs ts)) i ≡ (get_or ts i b && holds o (value_cmp (f (get_or xs i d)) v))
 so_there f o v xs ts i d b h low = ap (λ x. compares o x (Some v)) (value_there f xs ts i d b h low) ∙ compares_there f o v (get_or ts i b) (get_or xs i d)
 
--- the comparison of a string that may be there, by how it compares
-strings_at : (f : List ℕ → ScalarValue) (xs : List (Option (List ℕ))) (i : ℕ) → value_at (slice_get (map (option_map f) xs) i) ≡ option_map f (blob_at (slice_get xs i))
+-- the string at a place, as a value
+pub strings_at : (f : List ℕ → ScalarValue) (xs : List (Option (List ℕ))) (i : ℕ) → value_at (slice_get (map (option_map f) xs) i) ≡ option_map f (blob_at (slice_get xs i))
 strings_at f [] i = refl
 strings_at f (x ∷ xs) zero = refl
 strings_at f (x ∷ xs) (suc i) = strings_at f xs i
 
+-- the comparison of one that may be there, by how it compares
 by_order : (f : List ℕ → ScalarValue) (o : Operator) (v : ScalarValue) (x : Option (List ℕ)) → compares o (option_map f x) (Some v) ≡ holds_if o (option_map (λ bytes. value_cmp (f bytes) v) x)
 by_order f o v None = refl
 by_order f o v (Some x) = refl

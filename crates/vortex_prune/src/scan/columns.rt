@@ -1,17 +1,20 @@
 //! Marks that are taken away by the values of one column, a truth a row.
 ghost use Rattle.std.specs.Prelude.{◌≡◌, ◌+◌, ◌<◌, ◌≤◌, ◌^◌, ◌&&◌, None, false, length, map, not, option_map, replicate, slice_index_or};
 ghost use Rattle.vortex_base.specs.Data.Natives.{optionals};
+ghost use Rattle.vortex_base.specs.declared.scalar_value.ScalarValue.TheVariants as value;
 ghost use Rattle.vortex_prune.specs.Scanning.Leaves.{compares_at, passes_at};
 ghost use Rattle.vortex_prune.specs.Scanning.Marks.{marked};
 
 use crate::scan::comparison::{Comparison, match_each_comparison};
 use crate::scan::leaf::{Test, passes};
+use crate::scan::like::keep_like;
 use crate::scan::strings::{Strings, keep_strings};
 use vortex_base::cells::Cells;
 use vortex_base::column::Column;
 use vortex_base::match_each_native;
 use vortex_base::native::Native;
 use vortex_base::natives::Natives;
+use vortex_base::texts::Texts;
 use vortex_expr::scalar_fn::Operator;
 
 // Whether a value that may be there compares so with another.
@@ -143,6 +146,7 @@ fn keep_typed<T: Native>(
             Some(number) => keep_natives(values, there, operator, number, from, marks),
             None => keep_values(column, test, from, marks),
         },
+        Test::Like(_, _) => keep_values(column, test, from, marks),
     }
 }
 
@@ -166,6 +170,18 @@ fn keep_lent<S: Strings>(
     keep_values(column, test, from, marks)
 }
 
+// Keeps the rows that pass of a column of texts.
+fn keep_texts(column: &Column, texts: &Texts, test: Test<'_>, from: usize, marks: &mut [bool])
+    requires room { from + length marks.old < 2 ^ 64 }
+    requires same { column.now.values ≡ map (option_map value.Utf8) texts.now }
+    ensures { marks.new ≡ marked (passes_at test.entry column.now.values) from marks.old }
+{
+    match test {
+        Test::Like(options, pattern) => keep_like(texts, options, pattern, from, marks),
+        _ => keep_lent(column, texts, test, from, marks),
+    }
+}
+
 /// Takes away the marks, from a place on, at which a value of a column doesn't pass.
 pub(crate) fn keep_passing(column: &Column, test: Test<'_>, from: usize, marks: &mut [bool])
     requires { from + length marks.old < 2 ^ 64 }
@@ -174,7 +190,7 @@ pub(crate) fn keep_passing(column: &Column, test: Test<'_>, from: usize, marks: 
     match_each_native!(column.cells(),
         natives => keep_typed(column, natives, test, from, marks),
         Cells::Nulls(nulls) => keep_at_nulls(test, nulls.count(), from, marks),
-        Cells::Texts(texts) => keep_lent(column, texts, test, from, marks),
+        Cells::Texts(texts) => keep_texts(column, texts, test, from, marks),
         Cells::Binary(blobs) => keep_lent(column, blobs, test, from, marks),
         _ => keep_values(column, test, from, marks))
 }

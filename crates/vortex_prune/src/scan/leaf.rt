@@ -1,9 +1,9 @@
 //! Leaves of a predicate that ask something of the values of one column: a comparison with a
-//! literal on either side, IS NULL and IS NOT NULL.
+//! literal on either side, LIKE with a literal pattern, IS NULL and IS NOT NULL.
 ghost use Rattle.std.specs.Prelude.{◌≡◌, IfSome, option_map};
 ghost use Rattle.vortex_base.specs.Data.Cells.{value_of};
 ghost use Rattle.vortex_expr.specs.Meanings.Meaning as spec;
-ghost use Rattle.vortex_prune.specs.Scanning.Leaves.{IsColumnOf, IsComparison, IsLeaf, IsValue};
+ghost use Rattle.vortex_prune.specs.Scanning.Leaves.{IsColumnOf, IsComparison, IsLeaf, IsLike, IsValue};
 ghost use Rattle.vortex_prune.specs.Scanning.Leaves.{is_comparison, passes, swapped};
 
 use std::cmp::Ordering;
@@ -12,6 +12,7 @@ use vortex_base::column::Column;
 use vortex_base::value_ref::ValueRef;
 use vortex_expr::bound_expression::BoundExpression;
 use vortex_expr::bound_expression::parts::Parts;
+use vortex_expr::like::LikeOptions;
 use vortex_expr::scalar_fn::Operator;
 
 /// A question that a leaf asks of a value.
@@ -19,6 +20,8 @@ use vortex_expr::scalar_fn::Operator;
 pub(crate) enum Test<'a> {
     /// Whether it compares so with another.
     Is(Operator, ValueRef<'a>),
+    /// Whether it is a text that matches a pattern.
+    Like(LikeOptions, &'a str),
     Null,
     NotNull,
 }
@@ -57,6 +60,10 @@ pub(crate) fn passes(test: Test<'_>, value: Option<ValueRef<'_>>) -> bool
         Test::Is(operator, other) => match value {
             None => false,
             Some(value) => holds(operator, value.order(other)),
+        },
+        Test::Like(options, pattern) => match value {
+            Some(ValueRef::Utf8(text)) => options.matches(text.as_str(), pattern),
+            _ => false,
         },
     }
 }
@@ -138,6 +145,25 @@ fn asked<'a>(chunk: &'a Chunk, e: &BoundExpression, test: Test<'a>) -> Option<Le
     }
 }
 
+// The leaf that tells of a LIKE of two expressions, if the text is a column and the pattern a
+// literal.
+fn liked<'a>(
+    chunk: &'a Chunk,
+    options: LikeOptions,
+    text: &BoundExpression,
+    pattern: &'a BoundExpression,
+) -> Option<Leaf<'a>>
+    ensures { IfSome result (λ leaf. IsLike chunk.entry.now.columns options text.now
+        pattern.entry.now leaf.column.now leaf.test) }
+{
+    match literal_of(pattern) {
+        Some(ValueRef::Utf8(pattern)) => {
+            asked(chunk, text, Test::Like(options, pattern.as_str()))
+        }
+        _ => None,
+    }
+}
+
 /// The leaf that an expression is, if it is one.
 pub(crate) fn leaf_of<'a>(chunk: &'a Chunk, e: &'a BoundExpression) -> Option<Leaf<'a>>
     ensures { IfSome result (λ leaf.
@@ -147,6 +173,7 @@ pub(crate) fn leaf_of<'a>(chunk: &'a Chunk, e: &'a BoundExpression) -> Option<Le
         Parts::Binary(operator, left, right) if is_comparison(operator) => {
             compared(chunk, operator, left, right)
         }
+        Parts::Like(options, text, pattern) => liked(chunk, options, text, pattern),
         Parts::IsNull(x) => asked(chunk, x, Test::Null),
         Parts::IsNotNull(x) => asked(chunk, x, Test::NotNull),
         _ => None,
