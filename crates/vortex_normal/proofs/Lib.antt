@@ -11,6 +11,7 @@ mod GroupsKept
 pub mod Joined
 mod Kept
 mod Matched
+mod Narrowing
 mod OneColumn
 mod OneColumnApart
 mod OneColumnRows
@@ -37,4 +38,5 @@ mod TurnRows
 mod TypeEnds
 mod WholeDepth
 mod Worked
+mod WorkedNarrowed
 mod WorkedTests

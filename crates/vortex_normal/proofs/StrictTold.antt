@@ -16,7 +16,8 @@ use Rattle.vortex_expr.specs.declared.scalar_fn.Operator.TheVariants.{Eq, NotEq,
 use Rattle.vortex_rewrite.proofs.Completeness.Decided.{comparison_applied}
 use Rattle.vortex_rewrite.proofs.Completeness.Interval.{is_comparison}
 use Rattle.vortex_rewrite.proofs.Soundness.TruthLogic.{true_and, true_or}
-use Rattle.vortex_normal.specs.Strict.{agreed, body, both_valued, column_beside, range_column, rests_on, sides_valued, strict, valued}
+use Rattle.vortex_normal.specs.LeafColumns.{column_beside, range_column}
+use Rattle.vortex_normal.specs.Strict.{agreed, body, both_valued, rests_on, sides_valued, strict, valued}
 
 -- ---- truths of operands that have values
 

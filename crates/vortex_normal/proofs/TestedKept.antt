@@ -11,7 +11,8 @@ use Rattle.vortex_expr.specs.declared.scalar_fn.Operator.TheVariants.{Eq, NotEq,
 use Rattle.vortex_normal.specs.Intervals.{swapped}
 use Rattle.vortex_normal.specs.Pushed.{or_not}
 use Rattle.vortex_normal.specs.Same.{HasNoOther, StaysPlain}
-use Rattle.vortex_normal.specs.Strict.{agreed, body, both_valued, column_beside, range_column, rests_on, sides_valued, strict, valued}
+use Rattle.vortex_normal.specs.LeafColumns.{column_beside, range_column}
+use Rattle.vortex_normal.specs.Strict.{agreed, body, both_valued, rests_on, sides_valued, strict, valued}
 use Rattle.vortex_normal.specs.Tested.{between_tested, comparison_tested, is_inner, joined, null_tested, operand_or, operands_tested, or_null, tested, value_test, wanted_beside, whole_tested}
 use Rattle.vortex_normal.proofs.Forms.{if_as}
 use Rattle.vortex_normal.proofs.GroupsKept.{IsPassedDown, columns_down, nodes_down}
@@ -153,7 +154,7 @@ pub strict_columns : (e : Tree Place) → HasNoOther e (strict e)
 strict_columns e test h = strict_kept (Holds test) (columns_inherited test) (columns_down test) e h
 
 -- a pass that keeps what a test of nodes finds nowhere keeps a predicate plain
-plain_by : (e q : Tree Place) → ((test : Tree Place → Bool) → IsOfLeaves test → some_node test e ≡ false → some_node test q ≡ false) → StaysPlain e q
+pub plain_by : (e q : Tree Place) → ((test : Tree Place → Bool) → IsOfLeaves test → some_node test e ≡ false → some_node test q ≡ false) → StaysPlain e q
 plain_by e q f h =
     let k = and_parts (not_b (has_placeholder e)) (not_b (has_row_count e)) h in
     both_hold _ _

@@ -4,6 +4,8 @@ pub mod Ends
 pub mod Groups
 pub mod Intervals
 pub mod Laws
+pub mod LeafColumns
+pub mod Narrowed
 pub mod OneColumn
 pub mod Pushed
 pub mod Same
@@ -12,4 +14,5 @@ pub mod Signs
 pub mod Strict
 pub mod Tested
 pub mod Worked
+pub mod WorkedNarrowed
 pub mod WorkedTests

@@ -1,24 +1,15 @@
 -- Predicates that say of their columns that they have values, where they aren't true of null.
 use Rattle.std.specs.Prelude.{Bool, Option, Some, None, if◌then◌else◌}
-use Rattle.vortex_expr.specs.Trees.Tree.{Tree, Place, column, literal, binary, between, is_not_null, like}
+use Rattle.vortex_expr.specs.Trees.Tree.{Tree, Place, column, binary, between, is_not_null, like}
 use Rattle.vortex_expr.specs.Trees.TreeEq.{tree_eq}
 use Rattle.vortex_expr.specs.declared.scalar_fn.Operator.{Operator}
 use Rattle.vortex_expr.specs.declared.scalar_fn.Operator.TheVariants.{And, Or}
 use Rattle.vortex_normal.specs.Groups.{normal}
+use Rattle.vortex_normal.specs.LeafColumns.{column_beside, range_column}
+use Rattle.vortex_normal.specs.Narrowed.{narrow}
 use Rattle.vortex_normal.specs.Tested.{tested}
 
 -- ---- the column that a predicate rests on
-
--- of a column and a literal
-abbrev pub column_beside : (x y : Tree Place) → Option (Tree Place)
-column_beside (column c) (literal d) = Some (column c)
-column_beside (literal d) (column c) = Some (column c)
-column_beside x y = None
-
--- of a column between literals
-abbrev pub range_column : (x lower upper : Tree Place) → Option (Tree Place)
-range_column (column c) (literal d) (literal e) = Some (column c)
-range_column x l u = None
 
 -- of two sides that rest on the same
 abbrev pub agreed : (left right : Option (Tree Place)) → Option (Tree Place)
@@ -74,6 +65,10 @@ strict e = valued (rests_on e) (body e)
 abbrev pub normal_test : (wanted with_null : Bool) → Tree Place → Tree Place
 normal_test w m p = normal (tested 3 w m p)
 
+-- with what its ANDs say of a column used within their ORs
+abbrev pub narrow_test : (wanted with_null : Bool) → Tree Place → Tree Place
+narrow_test w m p = narrow (normal_test w m p)
+
 -- and the strict one
 abbrev pub strict_test : (wanted with_null : Bool) → Tree Place → Tree Place
-strict_test w m p = strict (normal_test w m p)
+strict_test w m p = strict (narrow_test w m p)

@@ -2,6 +2,7 @@
 ghost use Rattle.vortex_normal.specs.Laws.{ChainsAreShallow, GroupsAreSame, NormalIsShallow, SetsAreShallow};
 ghost use Rattle.vortex_normal.specs.OneColumn.{JoiningsAreApart, OneColumnIsApart};
 ghost use Rattle.vortex_normal.specs.Worked.{BalancedExamples, FormExamples};
+ghost use Rattle.vortex_normal.specs.WorkedNarrowed.{NarrowedExamples};
 ghost use Rattle.vortex_normal.specs.WorkedTests.{StrictExamples, TestExamples};
 
 /// Groups of what is said of one column in one place are satisfied by the same rows.
@@ -57,4 +58,9 @@ pub fn test_examples_hold()
 /// Worked strict predicates, and strict normal forms.
 pub fn strict_examples_hold()
     ensures { StrictExamples }
+{}
+
+/// Worked narrowed predicates.
+pub fn narrowed_examples_hold()
+    ensures { NarrowedExamples }
 {}

@@ -4,11 +4,13 @@ ghost use Rattle.vortex_stats.specs.declared.error.StatsError.TheVariants.{NotPr
 ghost use Rattle.vortex_rewrite.specs.Answers.{IsMemory};
 ghost use Rattle.vortex_rewrite.specs.Rewriting.Predicates.{is_predicate};
 ghost use Rattle.vortex_normal.specs.Groups.{normal};
+ghost use Rattle.vortex_normal.specs.Narrowed.{narrow as narrow_of};
 ghost use Rattle.vortex_normal.specs.Same.{HasNoOther, Same, StaysPlain};
 ghost use Rattle.vortex_normal.specs.Strict.{normal_test as test_of, strict as strict_of};
 ghost use Rattle.vortex_normal.specs.Tested.{IsTestOf};
 
 use crate::groups::grouped;
+use crate::narrowed;
 use crate::predicate::is_truth;
 use crate::pushed::pushed;
 use crate::strict::with_values;
@@ -92,6 +94,37 @@ pub fn normal_test(
         return Err(StatsError::NotPredicate);
     }
     test_form(alloc, wanted, with_null, predicate)
+}
+
+fn narrow_form(alloc: Global, predicate: &BoundExpression) -> Result<BoundExpression, StatsError>
+    requires { IsTrue (is_predicate predicate.now) }
+    ensures same { IfOk result (λ e. Same predicate.now e) }
+    ensures form { IfOk result (λ e. e ≡ narrow_of predicate.now) }
+    ensures truth { IfOk result (λ e. IsTrue (is_predicate e)) }
+    ensures columns { IfOk result (λ e. HasNoOther predicate.now e) }
+    ensures plain { IfOk result (λ e. StaysPlain predicate.now e) }
+    ensures memory { IfErr result IsMemory }
+{
+    Ok(narrowed::narrow(alloc, predicate)?.into_expression())
+}
+
+/// Returns a predicate that is satisfied by the same rows, in which the leaves below an OR allow
+/// only what the ANDs around it allow of their column: `b > 2 AND a > 5` for `(a < 3 OR b > 2) AND
+/// a > 5`. A predicate in normal form stays in it. `NotPredicate` if the expression isn't of type
+/// Bool, which is found before anything is taken.
+pub fn narrow(alloc: Global, predicate: &BoundExpression) -> Result<BoundExpression, StatsError>
+    ensures not_predicate { is_predicate predicate.now ≡ false → result ≡ Err NotPredicate }
+    ensures same { IfOk result (λ e. Same predicate.now e) }
+    ensures form { IfOk result (λ e. e ≡ narrow_of predicate.now) }
+    ensures truth { IfOk result (λ e. IsTrue (is_predicate e)) }
+    ensures columns { IfOk result (λ e. HasNoOther predicate.now e) }
+    ensures plain { IfOk result (λ e. StaysPlain predicate.now e) }
+    ensures memory { IsTrue (is_predicate predicate.now) → IfErr result IsMemory }
+{
+    if !is_truth(predicate) {
+        return Err(StatsError::NotPredicate);
+    }
+    narrow_form(alloc, predicate)
 }
 
 fn strict_form(alloc: Global, predicate: &BoundExpression) -> Result<BoundExpression, StatsError>

@@ -2,6 +2,7 @@
 ghost use Rattle.std.specs.Prelude.{◌≡◌, IsTrue, option_copied};
 ghost use Rattle.vortex_rewrite.specs.Answers.{Makes, OkOrMemory};
 ghost use Rattle.vortex_rewrite.specs.Rewriting.Predicates.{is_connective, is_predicate};
+ghost use Rattle.vortex_normal.specs.LeafColumns as leaf;
 ghost use Rattle.vortex_normal.specs.Strict as forms;
 
 use crate::predicate::Predicate;
@@ -11,9 +12,12 @@ use vortex_expr::bound_expression::parts::Parts;
 use vortex_expr::scalar_fn::Operator;
 use vortex_stats::error::StatsError;
 
-// The column of a comparison with a literal.
-fn column_beside<'a>(x: &'a BoundExpression, y: &'a BoundExpression) -> Option<&'a BoundExpression>
-    ensures { option_copied result ≡ forms.column_beside x.now y.now }
+/// Returns the column that is compared with a literal, if it is one.
+pub(crate) fn column_beside<'a>(
+    x: &'a BoundExpression,
+    y: &'a BoundExpression,
+) -> Option<&'a BoundExpression>
+    ensures { option_copied result ≡ leaf.column_beside x.now y.now }
 {
     match (x.parts(), y.parts()) {
         (Parts::Column(_, _), Parts::Literal(_)) => Some(x),
@@ -22,13 +26,13 @@ fn column_beside<'a>(x: &'a BoundExpression, y: &'a BoundExpression) -> Option<&
     }
 }
 
-// The column of a range between literals.
-fn range_column<'a>(
+/// Returns the column of a range between literals, if it is one.
+pub(crate) fn range_column<'a>(
     x: &'a BoundExpression,
     lower: &BoundExpression,
     upper: &BoundExpression,
 ) -> Option<&'a BoundExpression>
-    ensures { option_copied result ≡ forms.range_column x.now lower.now upper.now }
+    ensures { option_copied result ≡ leaf.range_column x.now lower.now upper.now }
 {
     match (x.parts(), lower.parts(), upper.parts()) {
         (Parts::Column(_, _), Parts::Literal(_), Parts::Literal(_)) => Some(x),
