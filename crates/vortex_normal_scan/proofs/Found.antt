@@ -10,11 +10,11 @@ use Rattle.vortex_expr.specs.Meanings.Typing.{type_of}
 use Rattle.vortex_expr.specs.Trees.Tree.{Tree, Place, is_plain}
 use Rattle.vortex_normal.proofs.Columns.{carried_columns}
 use Rattle.vortex_normal.specs.Groups.{normal}
-use Rattle.vortex_normal.specs.Strict.{normal_test, strict_test}
+use Rattle.vortex_normal.specs.Strict.{strict_test}
 use Rattle.vortex_normal_scan.proofs.Carried.{satisfiability_is_carried}
 use Rattle.vortex_normal_scan.proofs.JointTrue.{joint_closed, joint_first, joint_rest, joint_second}
 use Rattle.vortex_normal_scan.specs.Joint.{joint}
-use Rattle.vortex_normal_scan.specs.Pruning.{Falsifies, FindsNoFewerWhole, HasRowsOf, Satisfies, SkipsNoFewer, SkipsUnsatisfiable, is_within, skip_proof, skipped_places, test_proof, unless_deep, whole_places, whole_proof}
+use Rattle.vortex_normal_scan.specs.Pruning.{Falsifies, FindsNoFewerWhole, HasRowsOf, Satisfies, SkipsNoFewer, SkipsUnsatisfiable, is_test_within, is_within, skip_proof, skipped_places, test_proof, unless_deep, whole_places, whole_proof}
 use Rattle.vortex_prune.proofs.Scanning.Boxes.{skipping_is_complete}
 use Rattle.vortex_prune.proofs.Scanning.Lossless.{is_over_chunk}
 use Rattle.vortex_prune.proofs.Scanning.SkippedParts.{place_listed}
@@ -56,7 +56,7 @@ deep_closed : (levels : Option ℕ) (form : Tree Place) (o : Option (Tree Place)
 deep_closed levels form o h = closed_if (is_within levels form) o h
 
 test_closed : (levels : Option ℕ) (w m : Bool) (p : Tree Place) → is_open (test_proof [] levels w m p) ≡ false
-test_closed levels w m p = deep_closed levels (normal_test w m p) (falsifier [] (strict_test w m p)) (built_in_is_shut (strict_test w m p))
+test_closed levels w m p = closed_if (is_test_within levels w m p) (falsifier [] (strict_test w m p)) (built_in_is_shut (strict_test w m p))
 
 pub skip_closed : (levels : Option ℕ) (p : Tree Place) → is_open (skip_proof [] levels p) ≡ false
 skip_closed levels p =

@@ -13,12 +13,12 @@ use Rattle.vortex_expr.specs.Meanings.Typing.{type_of}
 use Rattle.vortex_expr.specs.Trees.Tree.{Tree, Place, is_plain}
 use Rattle.vortex_normal.specs.Groups.{normal}
 use Rattle.vortex_normal.specs.Same.{HasNoOther, Same}
-use Rattle.vortex_normal.specs.Strict.{normal_test, strict_test}
+use Rattle.vortex_normal.specs.Strict.{strict_test}
 use Rattle.vortex_normal.specs.Tested.{IsTestOf, passes}
 use Rattle.vortex_normal_scan.proofs.Full.{any_count, at_row, no_count}
 use Rattle.vortex_normal_scan.proofs.JointTrue.{joint_back}
 use Rattle.vortex_normal_scan.specs.Joint.{joint}
-use Rattle.vortex_normal_scan.specs.Pruning.{Falsifies, HasRowsOf, IsRight, IsTestForm, Satisfies, is_within, skip_proof, test_proof, unless_deep, whole_proof}
+use Rattle.vortex_normal_scan.specs.Pruning.{Falsifies, HasRowsOf, IsRight, IsTestForm, Satisfies, is_test_within, is_within, skip_proof, test_proof, unless_deep, whole_proof}
 use Rattle.vortex_prune.proofs.Scanning.Lossless.{is_over_chunk}
 use Rattle.vortex_prune.proofs.Scanning.WholeScan.{predicate_typed}
 use Rattle.vortex_rewrite.proofs.Soundness.SoundRules.{falsifiers_sound, satisfiers_sound}
@@ -121,31 +121,31 @@ whole_if false o p f = λ k A chunk over honest t. cc
 deep_satisfies : (levels : Option ℕ) (form : Tree Place) (o : Option (Tree Place)) (p : Tree Place) → (IsTrue (is_within levels form) → Satisfies o p) → Satisfies (unless_deep levels form o) p
 deep_satisfies levels form o p f = whole_if (is_within levels form) o p f
 
-pub skip_right : (own : List OwnRule) (levels : Option ℕ) (p : Tree Place) → IsTrue (is_plain p) → HasRowsOf p (normal p) → (IsTrue (is_within levels (normal_test true false p)) → IsTestForm true false p (strict_test true false p))
+pub skip_right : (own : List OwnRule) (levels : Option ℕ) (p : Tree Place) → IsTrue (is_plain p) → HasRowsOf p (normal p) → (IsTrue (is_test_within levels true false p) → IsTestForm true false p (strict_test true false p))
     → Falsifies (skip_proof own levels p) p
 skip_right own levels p plain n form =
     let q = strict_test true false p in
     joint_falsifies (falsifier own p) (joint (unless_deep levels (normal p) (falsifier own (normal p))) (test_proof own levels true false p)) p (own_falsifies own p)
     (joint_falsifies (unless_deep levels (normal p) (falsifier own (normal p))) (test_proof own levels true false p) p
     (deep_falsifies levels (normal p) (falsifier own (normal p)) p (λ _. same_falsifies p (normal p) plain (n.plain plain) n.predicate n.columns (falsifier own (normal p)) n.same (own_falsifies own (normal p))))
-    (deep_falsifies levels (normal_test true false p) (falsifier own q) p
+    (deep_if (is_test_within levels true false p) (falsifier own q) p
     (λ within. let t = form within in same_falsifies p q plain (t.plain plain) t.predicate t.columns (falsifier own q) (test_is_same p q t.test) (own_falsifies own q))))
 
-pub whole_right : (own : List OwnRule) (levels : Option ℕ) (p : Tree Place) → IsTrue (is_plain p) → HasRowsOf p (normal p) → (IsTrue (is_within levels (normal_test false true p)) → IsTestForm false true p (strict_test false true p))
+pub whole_right : (own : List OwnRule) (levels : Option ℕ) (p : Tree Place) → IsTrue (is_plain p) → HasRowsOf p (normal p) → (IsTrue (is_test_within levels false true p) → IsTestForm false true p (strict_test false true p))
     → Satisfies (whole_proof own levels p) p
 whole_right own levels p plain n form =
     let q = strict_test false true p in
     joint_satisfies (satisfier own p) (joint (unless_deep levels (normal p) (satisfier own (normal p))) (test_proof own levels false true p)) p (own_satisfies own p)
     (joint_satisfies (unless_deep levels (normal p) (satisfier own (normal p))) (test_proof own levels false true p) p
     (deep_satisfies levels (normal p) (satisfier own (normal p)) p (λ _. same_satisfies p (normal p) plain (n.plain plain) n.predicate n.columns (satisfier own (normal p)) n.same (own_satisfies own (normal p))))
-    (deep_satisfies levels (normal_test false true p) (falsifier own q) p
+    (whole_if (is_test_within levels false true p) (falsifier own q) p
     (λ within. let t = form within in untrue_satisfies p q plain (t.plain plain) t.predicate t.columns (falsifier own q) t.test (own_falsifies own q))))
 
 -- a predicate with these proofs is right
 pub right_of : (own : List OwnRule) (levels : Option ℕ) (p e n : Tree Place) (f s : Option (Tree Place)) → e ≡ p → n ≡ normal p → HasRowsOf p n → IsTrue (is_predicate p) → IsTrue (is_plain p)
     → f ≡ skip_proof own levels p → s ≡ whole_proof own levels p
-    → (IsTrue (is_within levels (normal_test true false p)) → IsTestForm true false p (strict_test true false p))
-    → (IsTrue (is_within levels (normal_test false true p)) → IsTestForm false true p (strict_test false true p)) → IsRight (record { predicate = e; falsifier = f; satisfier = s })
+    → (IsTrue (is_test_within levels true false p) → IsTestForm true false p (strict_test true false p))
+    → (IsTrue (is_test_within levels false true p) → IsTestForm false true p (strict_test false true p)) → IsRight (record { predicate = e; falsifier = f; satisfier = s })
 right_of own levels p e n f s is normal_is rows predicate plain skip whole true_form untrue_form =
     let form : HasRowsOf p (normal p) = subst (λ (x : Tree Place). HasRowsOf p x) normal_is rows in
     subst (λ (x : Tree Place). IsRight (record { predicate = x; falsifier = f; satisfier = s })) (sym is)

@@ -1,12 +1,12 @@
 -- The proofs by which a predicate prunes zones, and what they find.
-use Rattle.std.specs.Prelude.{◌≡◌, ◌⊎◌, ℕ, Bool, true, false, List, Option, None, Some, IsTrue, Contains, if◌then◌else◌, nat_le, slice_get}
+use Rattle.std.specs.Prelude.{◌≡◌, ◌⊎◌, ℕ, Bool, true, false, ◌&&◌, List, Option, None, Some, IsTrue, Contains, if◌then◌else◌, nat_le, slice_get}
 use Rattle.vortex_base.specs.Data.Columns.{ChunkData, IsChunk, row_count as rows_of}
 use Rattle.vortex_base.specs.Data.Scopes.{Named}
 use Rattle.vortex_expr.specs.Trees.Tree.{Tree, Place, is_plain}
 use Rattle.vortex_normal.specs.Balanced.{depth}
 use Rattle.vortex_normal.specs.Groups.{normal}
 use Rattle.vortex_normal.specs.Same.{HasNoOther, Same, StaysPlain}
-use Rattle.vortex_normal.specs.Strict.{normal_test, strict_test}
+use Rattle.vortex_normal.specs.Strict.{narrow_test, normal_test, strict_test}
 use Rattle.vortex_normal.specs.Tested.{IsTestOf}
 use Rattle.vortex_normal_scan.specs.Joint.{joint}
 use Rattle.vortex_prune.specs.Part.{ZoneData}
@@ -35,9 +35,13 @@ is_within (Some n) e = nat_le (depth e) n
 abbrev pub unless_deep : (levels : Option ℕ) → (form : Tree Place) → Option (Tree Place) → Option (Tree Place)
 unless_deep levels form proof = if is_within levels form then proof else None
 
--- that no row satisfies a test of the predicate's truth, by its strict normal form
+-- the normal form of a test of the predicate's truth has no more than so many levels, nor has the narrowed one
+abbrev pub is_test_within : (levels : Option ℕ) → (wanted with_null : Bool) → Tree Place → Bool
+is_test_within levels w m p = is_within levels (normal_test w m p) && is_within levels (narrow_test w m p)
+
+-- that no row satisfies such a test, by its strict form
 abbrev pub test_proof : List OwnRule → (levels : Option ℕ) → (wanted with_null : Bool) → Tree Place → Option (Tree Place)
-test_proof own levels w m p = unless_deep levels (normal_test w m p) (falsifier own (strict_test w m p))
+test_proof own levels w m p = if is_test_within levels w m p then falsifier own (strict_test w m p) else None
 
 -- that no row satisfies a predicate: by the predicate as it is, by its normal form and by the strict one
 abbrev pub skip_proof : List OwnRule → (levels : Option ℕ) → Tree Place → Option (Tree Place)

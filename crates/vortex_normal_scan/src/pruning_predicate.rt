@@ -18,10 +18,10 @@ ghost use Rattle.vortex_prune.specs.Scanning.ZoneScans.{kept_zones, open_causes,
 ghost use Rattle.vortex_prune.specs.Zones.{IsMapOf};
 ghost use Rattle.vortex_normal.specs.Groups.{normal as normal_of};
 ghost use Rattle.vortex_normal.specs.OneColumn.{IsJoining, IsSelective, are_ends_seen, is_over};
-ghost use Rattle.vortex_normal.specs.Strict.{normal_test as test_of, strict_test as strict_of};
+ghost use Rattle.vortex_normal.specs.Strict.{strict_test as strict_of};
 ghost use Rattle.vortex_normal_scan.specs.Pruning.{FindsNoFewerWhole, IsMadeBy, IsRight, IsTestForm};
 ghost use Rattle.vortex_normal_scan.specs.Pruning.{SkipsNoFewer, SkipsUnsatisfiable};
-ghost use Rattle.vortex_normal_scan.specs.Pruning.{falsifying_causes, is_within, making_causes};
+ghost use Rattle.vortex_normal_scan.specs.Pruning.{falsifying_causes, is_test_within, is_within, making_causes};
 ghost use Rattle.vortex_normal_scan.specs.Pruning.{satisfying_causes, skip_causes};
 ghost use Rattle.vortex_normal_scan.specs.Pruning.{skip_proof as skip_proof_of};
 ghost use Rattle.vortex_normal_scan.specs.Pruning.{test_proof as test_proof_of};
@@ -34,7 +34,7 @@ use std::alloc::Global;
 use std::marker::Model;
 use vortex_expr::bound_expression::BoundExpression;
 use vortex_normal::levels::is_within as levels_within;
-use vortex_normal::normalize::{normal_test, normalize, strict};
+use vortex_normal::normalize::{narrow, normal_test, normalize, strict};
 use vortex_prune::scan::prune::prune_by;
 use vortex_prune::scan::verdict::Verdict;
 use vortex_prune::zone_map::ZoneMap;
@@ -83,7 +83,7 @@ fn is_shallow(form: &BoundExpression, levels: Option<u32>) -> bool
     }
 }
 
-// The proof that no row satisfies a test of a predicate's truth, unless its normal form is deeper.
+// The proof that no row satisfies a test of a predicate's truth, unless a form of that is deeper.
 fn test_proof(
     alloc: Global,
     levels: Option<u32>,
@@ -98,7 +98,7 @@ fn test_proof(
         IfOk result (λ proof. proof ≡ test_proof_of own levels wanted with_null predicate.now) }
     ensures truth { IfOk result (λ proof. IfSome proof (λ e. IsTrue (is_predicate e))) }
     ensures form { let p = predicate.now in
-        IfOk result (λ _. IsTrue (is_within levels (test_of wanted with_null p))
+        IfOk result (λ _. IsTrue (is_test_within levels wanted with_null p)
         → IsTestForm wanted with_null p (strict_of wanted with_null p)) }
     ensures refusal { let M = ⟦<dyn StatsRewriteRule as StatsRewriteRule>⟧ in
         let own = own_rules M rules.now.own.items in
@@ -106,13 +106,16 @@ fn test_proof(
         (falsifying_causes own (strict_of wanted with_null predicate.now))) }
 {
     let test = normal_test(alloc, wanted, with_null, predicate)?;
-    if is_shallow(&test, levels) {
-        let form = strict(alloc, &test)?;
-        let proof = falsify(alloc, &form, rules)?;
-        Ok(proof)
-    } else {
-        Ok(None)
+    if !is_shallow(&test, levels) {
+        return Ok(None);
     }
+    let narrowed = narrow(alloc, &test)?;
+    if !is_shallow(&narrowed, levels) {
+        return Ok(None);
+    }
+    let form = strict(alloc, &narrowed)?;
+    let proof = falsify(alloc, &form, rules)?;
+    Ok(proof)
 }
 
 // The falsifier of a normal form, unless that is deeper.
@@ -178,7 +181,7 @@ fn skip_proof(
         let own = own_rules M rules.now.own.items in
         IfOk result (λ proof. proof ≡ skip_proof_of own levels predicate.now) }
     ensures form { let p = predicate.now in
-        IfOk result (λ _. IsTrue (is_within levels (test_of true false p))
+        IfOk result (λ _. IsTrue (is_test_within levels true false p)
         → IsTestForm true false p (strict_of true false p)) }
     ensures truth { IfOk result (λ proof. IfSome proof (λ e. IsTrue (is_predicate e))) }
     ensures refusal { let M = ⟦<dyn StatsRewriteRule as StatsRewriteRule>⟧ in
@@ -207,7 +210,7 @@ fn whole_proof(
         let own = own_rules M rules.now.own.items in
         IfOk result (λ proof. proof ≡ whole_proof_of own levels predicate.now) }
     ensures form { let p = predicate.now in
-        IfOk result (λ _. IsTrue (is_within levels (test_of false true p))
+        IfOk result (λ _. IsTrue (is_test_within levels false true p)
         → IsTestForm false true p (strict_of false true p)) }
     ensures truth { IfOk result (λ proof. IfSome proof (λ e. IsTrue (is_predicate e))) }
     ensures refusal { let M = ⟦<dyn StatsRewriteRule as StatsRewriteRule>⟧ in
