@@ -3,7 +3,7 @@ use std::alloc::Global;
 use std::process::Abort;
 use vortex_base::{DType, Nullability, ScalarValue};
 use vortex_expr::{BoundExpression, LikeOptions};
-use vortex_normal::normalize::normalize;
+use vortex_normal::normalize::{narrow, normalize};
 use vortex_stats::StatsError;
 use vortex_testing::nodes::*;
 
@@ -180,4 +180,25 @@ fn sets(rt: HostRuntime) {
         first,
         and(alloc, range, tested(alloc, 1, Test::Lt, 1)),
     );
+}
+
+// Asserts that a predicate is narrowed to another.
+fn expect_narrow(rt: &impl Abort, alloc: Global, predicate: Built, expected: Built) {
+    let predicate = predicate.expect(rt, "predicate");
+    let found = narrow(alloc, &predicate).expect(rt, "a narrowed predicate");
+    assert!(rt; found == expected.expect(rt, "expected"));
+}
+
+#[test]
+fn sides_of_an_or_are_narrowed(rt: HostRuntime) {
+    let alloc = rt.alloc();
+    let b_gt = |value: i32| tested(alloc, 1, Test::Gt, value);
+    let either = or(alloc, a_lt(alloc, 3), b_gt(2));
+    let found = and(alloc, a_gt(alloc, 5), b_gt(2));
+    expect_narrow(&rt, alloc, and(alloc, a_gt(alloc, 5), either), found);
+    let apart = or(alloc, a_lt(alloc, 3), b_gt(2));
+    let same = or(alloc, a_lt(alloc, 3), b_gt(2));
+    expect_narrow(&rt, alloc, apart, same);
+    let refused = narrow(alloc, &a(alloc).expect(&rt, "a column"));
+    assert!(rt; matches!(refused, Err(StatsError::NotPredicate)));
 }
