@@ -17,6 +17,7 @@ use Rattle.vortex_normal.specs.Pushed.{all_of, any_of, comparison, comparison_of
 use Rattle.vortex_normal.specs.Strict.{strict_test}
 use Rattle.vortex_normal.specs.Tested.{IsTestOf, passes}
 use Rattle.vortex_normal_scan.proofs.RightProofs.{skip_right, whole_right}
+use Rattle.vortex_normal_scan.specs.Complete.{is_decided}
 use Rattle.vortex_normal_scan.specs.Pruning.{FindsNoFewerWhole, HasRowsOf, IsMadeBy, IsRight, IsTestForm, Pruning, SkipsNoFewer, SkipsUnsatisfiable, is_within, making_causes, skip_proof, skipped_places, whole_places, whole_proof}
 use Rattle.vortex_prune.proofs.Scanning.Boxes.{skipping_is_complete}
 use Rattle.vortex_prune.proofs.WorkedRows.ShutRows.{neither}
@@ -231,6 +232,9 @@ prune_joining : IsWitness (IsCall made their_map × IsMapOf zones their_map × I
     (λ (vs : List Verdict). SkipsUnsatisfiable made.predicate zones (skipped_places vs)) left_out
 prune_joining = record { met = (called, is_map, is_made, refl, joining); refuted = low_is_left_out }
 
+prune_complete_for : IsWitness (IsCall made their_map × IsMapOf zones their_map × IsMadeBy [] None made × IsTrue (is_decided None made.predicate)) (λ (vs : List Verdict). SkipsUnsatisfiable made.predicate zones (skipped_places vs)) left_out
+prune_complete_for = record { met = (called, is_map, is_made, refl); refuted = low_is_left_out }
+
 prune_memory : IsWitness (IsCall made their_map × IsMapOf zones their_map × IsMadeBy [] None made) (λ (e : StatsError). IsMemory e) OpenProof
 prune_memory = record { met = (called, is_map, is_made); refuted = open_is_not_memory }
 
@@ -276,3 +280,11 @@ try_new_within_memory = try_new_memory
 
 try_new_within_refusal : IsWitness (IsTrue (is_plain not_above) × IsTrue (is_predicate not_above)) (λ (e : StatsError). IsRefusal (making_causes own_rules not_above) e) (Rule (Own 3))
 try_new_within_refusal = try_new_refusal
+
+-- ---- whether pruning by it is complete
+
+is_complete_for_not_predicate : IsWitness (is_predicate a ≡ false) (λ (answer : Result Bool StatsError). answer ≡ Err NotPredicate) (Ok true)
+is_complete_for_not_predicate = record { met = refl; refuted = λ h. answered_is_not_refused true NotPredicate h }
+
+is_complete_for_memory : IsWitness (IsTrue (is_predicate above_ten)) (λ (e : StatsError). IsMemory e) OpenProof
+is_complete_for_memory = record { met = refl; refuted = open_is_not_memory }

@@ -2,6 +2,7 @@
 ghost use Rattle.vortex_normal_scan.specs.Carried.{SatisfiabilityIsCarried};
 ghost use Rattle.vortex_normal_scan.specs.Full.{SameSelectsTheSame};
 ghost use Rattle.vortex_normal_scan.specs.Worked.{JointExamples, ProofExamples};
+ghost use Rattle.vortex_normal_scan.specs.WorkedComplete.{CompleteExamples};
 
 /// Two predicates that are satisfied by the same rows select the same rows of parts.
 pub fn same_selects_the_same()
@@ -22,4 +23,9 @@ pub fn joint_examples_hold()
 /// The proofs of worked predicates.
 pub fn proof_examples_hold()
     ensures { ProofExamples }
+{}
+
+/// Worked predicates for which pruning is complete, and some for which it isn't.
+pub fn complete_examples_hold()
+    ensures { CompleteExamples }
 {}

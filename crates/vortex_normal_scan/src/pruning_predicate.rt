@@ -19,6 +19,7 @@ ghost use Rattle.vortex_prune.specs.Zones.{IsMapOf};
 ghost use Rattle.vortex_normal.specs.Groups.{normal as normal_of};
 ghost use Rattle.vortex_normal.specs.OneColumn.{IsJoining, IsSelective, are_ends_seen, is_over};
 ghost use Rattle.vortex_normal.specs.Strict.{strict_test as strict_of};
+ghost use Rattle.vortex_normal_scan.specs.Complete.{is_decided};
 ghost use Rattle.vortex_normal_scan.specs.Pruning.{FindsNoFewerWhole, IsMadeBy, IsRight, IsTestForm};
 ghost use Rattle.vortex_normal_scan.specs.Pruning.{SkipsNoFewer, SkipsUnsatisfiable};
 ghost use Rattle.vortex_normal_scan.specs.Pruning.{falsifying_causes, is_test_within, is_within, making_causes};
@@ -74,7 +75,7 @@ impl Model for PruningPredicate {
 }
 
 // Whether a form has no more than so many levels, if they are limited.
-fn is_shallow(form: &BoundExpression, levels: Option<u32>) -> bool
+pub(crate) fn is_shallow(form: &BoundExpression, levels: Option<u32>) -> bool
     ensures { result ≡ is_within levels form.now }
 {
     match levels {
@@ -390,6 +391,11 @@ impl PruningPredicate {
             → (levels : Option ℕ) → IsMadeBy [] levels self.now
             → IsTrue (is_within levels (normal_of self.now.predicate))
             → IsJoining true self.now.predicate
+            → SkipsUnsatisfiable self.now.predicate zones (skipped_places vs.items)) }
+        // So is a zone wherever `is_complete_for` answers true of the predicate and these levels.
+        ensures complete_for { IfOk result (λ vs. (zones : List ZoneData) → IsMapOf zones map.now
+            → (levels : Option ℕ) → IsMadeBy [] levels self.now
+            → IsTrue (is_decided levels self.now.predicate)
             → SkipsUnsatisfiable self.now.predicate zones (skipped_places vs.items)) }
         // By built-in rules memory alone is refused.
         ensures memory { IfErr result (λ e. (zones : List ZoneData) → IsMapOf zones map.now

@@ -1,10 +1,11 @@
 use Rattle.std.proofs.Common.{◌≡◌, Option, ap, false, subst, subst₂, ◌∙◌}
-use Rattle.std.specs.Prelude.{IfErr, IfOk, List, option_copied}
+use Rattle.std.specs.Prelude.{IfErr, IfOk, List, [], option_copied}
 use Rattle.std.proofs.lemmas.Result.{IfErr-weaker, IfOk-weaker}
 use Rattle.vortex_expr.specs.Trees.Tree.{Place, Tree}
 use Rattle.vortex_normal.proofs.Joined.{joinings_are_apart, one_column_is_apart}
+use Rattle.vortex_normal_scan.proofs.Decided.{decided_complete}
 use Rattle.vortex_normal_scan.proofs.Found.{found_right, given_complete, memory_left, no_fewer_skipped, no_fewer_whole, normal_complete, skip_closed, whole_closed}
-use Rattle.vortex_normal_scan.specs.Pruning.{IsRight}
+use Rattle.vortex_normal_scan.specs.Pruning.{IsRight, skipped_places}
 use Rattle.vortex_prune.proofs.Scanning.WholeScan.{of_two}
 use Rattle.vortex_prune.proofs.ZoneMaps.ZonePruned.{of_three}
 use Rattle.vortex_prune.specs.Part.{ZoneData}
@@ -94,6 +95,16 @@ pub returns-clause-joining : goal.returns-clause-joining
 returns-clause-joining c =
     let r = right c in
     IfOk-weaker c.prune_by.result _ _ (λ vs found zones of levels made within joining. found zones of levels made within (joinings_are_apart c.args.self.now.predicate r.predicate r.plain joining)) (returns-clause-as_given c)
+
+pub returns-clause-complete_for : goal.returns-clause-complete_for
+returns-clause-complete_for c =
+    let x = c.args.self.now in
+    let m = c.args.map.now in
+    let r = right c in
+    of_two c.prune_by.result _ _ _
+    (λ vs given no_fewer zones of levels made decided.
+    decided_complete levels x.predicate m.scope zones (skipped_places vs.items) (no_fewer zones [] levels of made) r.predicate c.requires of.are_zones (given zones of levels made) decided)
+    (returns-clause-as_given c) (returns-clause-no_fewer_skipped c)
 
 pub returns-clause-memory : goal.returns-clause-memory
 returns-clause-memory c =
