@@ -1,5 +1,5 @@
 -- Sets of the indexes of columns: what two sides share, and what they have together.
-use Rattle.std.proofs.Common.{◌≡◌, ◌++◌, ◌||◌, ℕ, Bool, true, false, not as not_b, ◌&&◌, List, [], ◌∷◌, IsTrue, refl, ap, ap₂, ◌∙◌, sym, ⊎_elim}
+use Rattle.std.proofs.Common.{◌≡◌, ◌++◌, ◌||◌, ℕ, Bool, true, false, not as not_b, ◌&&◌, List, [], ◌∷◌, refl, ap, ap₂, ◌∙◌, sym, ⊎_elim}
 use Rattle.std.proofs.lemmas.Bool.{and_parts, eq-eqb, eqb-true, false_from_ne_true, not-true, or_cases, or_right}
 use Rattle.std.specs.BTreeSet.{BTreeSet, IsDisjoint, contains}
 use Rattle.std.specs.Ordering.{nat_cmp}

@@ -12,7 +12,7 @@ ghost use Rattle.vortex_rewrite.specs.Rewriting.ReadOnce as read_once;
 ghost use Rattle.vortex_rewrite.specs.Rewriting.ReadOnce.{are_apart, are_distinct, columns_of};
 ghost use Rattle.vortex_rewrite.specs.Rewriting.ReadOnce.{is_number_type, is_operand, is_range};
 ghost use Rattle.vortex_rewrite.specs.Rewriting.ReadOnce.{is_truth};
-ghost use Rattle.vortex_normal_scan.specs.Complete.{AreIndexesIf, HasIndexesOf, is_decided};
+ghost use Rattle.vortex_normal_scan.specs.Complete.{AreIndexesIf, is_decided};
 
 use crate::pruning_predicate::is_shallow;
 use std::alloc::{AllocError, Global};
@@ -26,7 +26,7 @@ use vortex_expr::scalar_fn::{BetweenOptions, Operator, StrictComparison};
 use vortex_normal::normalize::normalize;
 use vortex_stats::error::StatsError;
 
-// Joins two sets, the smaller to the greater.
+// Joins two sets, by moving the smaller one into the larger one.
 fn joined(
     mut left: BTreeSet<usize>,
     mut right: BTreeSet<usize>,
@@ -43,7 +43,7 @@ fn joined(
     }
 }
 
-// Joins the indexes of two sides if each side has such and they share none.
+// Joins the places of two sides, if each has some set of them and they share none.
 fn apart(
     left: Option<BTreeSet<usize>>,
     right: Option<BTreeSet<usize>>,
@@ -65,7 +65,7 @@ fn apart(
     }
 }
 
-// Joins the indexes of two sides if each side has such.
+// Joins the places of two sides, if each has some set of them.
 fn both(
     first: Option<BTreeSet<usize>>,
     second: Option<BTreeSet<usize>>,
@@ -83,7 +83,7 @@ fn both(
     Ok(Some(joined(first, second)?))
 }
 
-// Returns the index of an operand's column, if it is a column, and none where it is no operand.
+// Returns the place of an operand that is a column, no place of a literal, and `None` otherwise.
 fn operand(alloc: Global, e: &BoundExpression) -> Result<Option<BTreeSet<usize>>, AllocError>
     ensures { IfOk result (AreIndexesIf (is_operand e.now) (columns_of e.now)) }
 {
@@ -97,6 +97,7 @@ fn operand(alloc: Global, e: &BoundExpression) -> Result<Option<BTreeSet<usize>>
     }
 }
 
+// Returns the places of the columns of a comparison, if its operands are columns and literals.
 fn compared(
     alloc: Global,
     left: &BoundExpression,
@@ -123,6 +124,7 @@ fn is_closed(end: StrictComparison) -> bool
     matches!(end, StrictComparison::NonStrict)
 }
 
+// Returns the place of the column of a range, if bounds decide that.
 fn ranged(
     alloc: Global,
     options: BetweenOptions,
@@ -151,6 +153,7 @@ fn ranged(
     }
 }
 
+// Returns no place of a literal truth, and `None` for any other literal.
 fn truth(alloc: Global, value: &Scalar) -> Option<BTreeSet<usize>>
     ensures { AreIndexesIf (is_truth value.now.value) [] result }
 {
@@ -160,7 +163,7 @@ fn truth(alloc: Global, value: &Scalar) -> Option<BTreeSet<usize>>
     }
 }
 
-// Returns the indexes of the columns of a predicate that bounds decide, and none for any other.
+// Returns the places of the columns of a tree that bounds decide, and `None` for any other tree.
 fn indexes(alloc: Global, e: &BoundExpression) -> Result<Option<BTreeSet<usize>>, AllocError>
     ensures { IfOk result (AreIndexesIf (read_once.is_apart e.now) (columns_of e.now)) }
 {

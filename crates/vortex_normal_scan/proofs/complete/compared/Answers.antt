@@ -1,6 +1,5 @@
 use Rattle.std.proofs.Common.{Bool, subst, sym, ◌++◌}
 use Rattle.std.proofs.lemmas.Result.{IfOk-weaker}
-use Rattle.vortex_expr.specs.Trees.Tree.{Place, Tree}
 use Rattle.vortex_normal_scan.proofs.Indexes.{operands_apart}
 use Rattle.vortex_normal_scan.specs.Complete.{AreIndexesIf}
 use Rattle.vortex_rewrite.specs.Rewriting.ReadOnce.{columns_of}
