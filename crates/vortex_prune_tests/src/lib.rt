@@ -5,6 +5,8 @@
 #[cfg(test)]
 mod bind;
 #[cfg(test)]
+mod complete;
+#[cfg(test)]
 mod fixtures;
 #[cfg(test)]
 mod normal;
