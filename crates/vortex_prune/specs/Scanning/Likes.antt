@@ -1,5 +1,5 @@
 -- Patterns of LIKE with case regarded, as literal characters at the front and what follows them, and which optional texts pass.
-use Rattle.std.specs.Prelude.{ℕ, Bool, true, false, not as not_b, List, [], ◌∷◌, ◌++◌, Option, Some, None, map, if◌then◌else◌, slice_get}
+use Rattle.std.specs.Prelude.{ℕ, Bool, false, not as not_b, List, [], ◌∷◌, ◌++◌, Option, Some, None, map, if◌then◌else◌, slice_get}
 use Rattle.std.specs.Str.{chars}
 use Rattle.vortex_base.specs.Data.Blobs.{blob_at}
 use Rattle.vortex_expr.specs.Patterns.Like.{items, like, matches}

@@ -8,7 +8,7 @@ ghost use Rattle.vortex_prune.specs.Scanning.Likes.{ends_in, letters, rest_items
 
 use vortex_expr::like::LikeOptions;
 
-/// What follows the literal characters at a pattern's front.
+/// The rest of a pattern behind the literal characters at its front.
 #[derive(Clone, Copy)]
 pub(crate) enum Rest<'a> {
     /// Nothing: the pattern is one text.
