@@ -148,15 +148,21 @@ fn spliced<'a>(
     Ok(all)
 }
 
-// So many sets are few, and so many intervals in each of them but one.
-const FEW: usize = 8;
+// So many intervals are few.
+const FEW: usize = 64;
 
+// Whether all sets but the one with the most intervals have few intervals together.
 fn are_few(sets: &[Vec<Interval<'_>>]) -> bool {
-    sets.len() > 1 && sets.len() <= FEW && sets.iter().filter(|set| set.len() > FEW).count() <= 1
+    let (mut all, mut most) = (0_usize, 0);
+    for set in sets {
+        all = all.saturating_add(set.len());
+        most = most.max(set.len());
+    }
+    sets.len() > 1 && all.saturating_sub(most) <= FEW
 }
 
-/// The values in all of some sets, or in any: in time that is linear but for sorting. Of a set and a
-/// few others only the intervals that these touch are compared, after a search by halves.
+/// The values in all of some sets, or in any: in time that is linear but for sorting. Of a set and
+/// few intervals of others only those that these touch are compared, after a search by halves.
 pub(crate) fn combined<'a>(
     alloc: Global,
     is_and: bool,
