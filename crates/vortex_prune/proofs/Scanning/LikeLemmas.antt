@@ -1,5 +1,5 @@
 -- What a pattern of LIKE says of a text by its literal characters, which stand at the text's front, at its end or within it.
-use Rattle.std.proofs.Common.{Bor, ◌≡◌, ◌≢◌, ◌↔◌, ℕ, ◌+◌, ◌-◌, ◌<◌, ◌≤◌, Bool, true, false, ◌&&◌, ◌||◌, not, List, [], ◌∷◌, ◌++◌, Option, Some, None, length, take, drop, get_or, map, refl, sym, ap, ap₂, subst, ◌∙◌, arith, append-nil, length-append, true≢false, if◌then◌else◌}
+use Rattle.std.proofs.Common.{Bor, ◌≡◌, ◌≢◌, ◌↔◌, ℕ, ◌+◌, ◌-◌, ◌<◌, Bool, true, false, ◌&&◌, ◌||◌, not, List, [], ◌∷◌, ◌++◌, Option, Some, None, length, take, drop, get_or, map, refl, sym, ap, ap₂, subst, ◌∙◌, arith, append-nil, length-append, true≢false, if◌then◌else◌}
 use Rattle.std.specs.Prelude.{◌==◌, encode_utf8_all, option_map, slice_get}
 use Rattle.std.specs.Bool.{MatchBool}
 use Rattle.std.specs.Char.{char_set_contains}
