@@ -20,3 +20,5 @@ pub mod PageTruth
 pub mod PageRows
 pub mod Following
 pub mod PageWitness
+pub mod PageIndexes
+pub mod IndexRows

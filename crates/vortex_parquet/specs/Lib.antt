@@ -16,3 +16,5 @@ pub mod Witness
 pub mod PageWorked
 pub mod GroupPages
 pub mod PageWitness
+pub mod PageIndexes
+pub mod IndexWorked

@@ -3,6 +3,7 @@
 ghost use Rattle.std.specs.Prelude.{ℕ, List, IfOk, Ok};
 ghost use Rattle.vortex_parquet.specs.Fields.{field_views, fields_before, struct_of};
 ghost use Rattle.vortex_parquet.specs.Grammar.{IsStruct, IsValue};
+ghost use Rattle.vortex_parquet.specs.IndexWorked.{IndexExamples};
 ghost use Rattle.vortex_parquet.specs.PageWitness.{TruePages};
 ghost use Rattle.vortex_parquet.specs.PageWorked.{PageExamples, StretchExamples};
 ghost use Rattle.vortex_parquet.specs.Reading.{Gives};
@@ -71,10 +72,12 @@ pub fn examples_hold()
     ensures columns { ColumnExamples }
 {}
 
-/// Worked rows of page indexes, and of the stretches of a row group.
+/// Worked rows of page indexes, of the stretches of a row group, and of where the page indexes of a
+/// file begin.
 pub fn page_examples_hold()
     ensures pages { PageExamples }
     ensures stretches { StretchExamples }
+    ensures indexes { IndexExamples }
 {}
 
 /// A file whose statistics are true of the rows of its row group: a witness of `groups_are_true`.

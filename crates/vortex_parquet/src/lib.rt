@@ -10,6 +10,7 @@ pub mod footer;
 pub mod group_pages;
 pub mod laws;
 pub mod offset_index;
+pub mod page_indexes;
 pub mod pages;
 pub mod records;
 pub mod skip;

@@ -1,5 +1,6 @@
+use Rattle.vortex_parquet.proofs.IndexRows.{indexes}
 use Rattle.vortex_parquet.proofs.PageRows.{pages, stretches}
 use Rattle.vortex_parquet.proofs.laws.page_examples_hold.Goals as goal
 
 pub returns : goal.returns
-returns c = record { pages = pages; stretches = stretches }
+returns c = record { pages = pages; stretches = stretches; indexes = indexes }
