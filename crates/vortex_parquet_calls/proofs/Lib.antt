@@ -2,4 +2,5 @@ pub mod Answering
 pub mod PageAnswering
 pub mod RangesTold
 pub mod Refusing
+pub mod IndexTold
 pub mod Told

@@ -1,3 +1,4 @@
 pub mod FooterPrunes
+pub mod IndexBegins
 pub mod PagePrunes
 pub mod Refusals

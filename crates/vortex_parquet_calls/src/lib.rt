@@ -6,6 +6,7 @@
 #![tactic(auto)]
 
 mod asked;
+pub mod indexes;
 pub mod prune_footer;
 pub mod prune_pages;
 mod refusal;
