@@ -268,6 +268,40 @@ static void refused_pages(void) {
     assert(pruned_pages(paged, INDEXES, BEGIN, "s = 'b' OR f(s)", 0, 4, 1, &it) == VORTEX_OK);
 }
 
+static uint8_t begun(const uint8_t *footer, size_t footer_len, uint64_t *begin, vortex_fault *fault) {
+    uint8_t *bytes = lent(footer, footer_len);
+    uint8_t status = vortex_parquet_indexes(bytes, footer_len, begin, fault);
+    free(bytes);
+    return status;
+}
+
+/* The first index of a file, of one without indexes, and of a footer with each byte set to each value. */
+static void indexes(void) {
+    uint64_t begin = 7;
+    vortex_fault fault = {1, 2, 3};
+    assert(begun(paged + INDEXES, PAGED_FOOTER, &begin, &fault) == VORTEX_OK && begin == BEGIN);
+    assert(begun(file, FOOTER, &begin, &fault) == VORTEX_OK && begin == UINT64_MAX);
+    assert(fault.row == 1 && fault.column == 2 && fault.entry == 3);
+    begin = 7;
+    for (size_t length = 0; length < PAGED_FOOTER; length++) {
+        assert(begun(paged + INDEXES, length, &begin, &fault) == VORTEX_BAD_FOOTER && begin == 7);
+        assert(fault.column < VORTEX_PAGES && !fault.row && !fault.entry);
+    }
+    unsigned long answers = 0, refusals = 0;
+    for (size_t place = 0; place < PAGED_FOOTER; place++)
+        for (unsigned value = 0; value < 256; value++) {
+            uint8_t changed[PAGED_FOOTER];
+            memcpy(changed, paged + INDEXES, PAGED_FOOTER);
+            changed[place] = (uint8_t)value;
+            begin = 7;
+            uint8_t status = begun(changed, PAGED_FOOTER, &begin, &fault);
+            assert(status == VORTEX_OK || (status == VORTEX_BAD_FOOTER && begin == 7 && fault.column < VORTEX_PAGES));
+            if (status == VORTEX_OK) answers++;
+            else refusals++;
+        }
+    printf("parquet: the first index of %lu footers with a byte changed is told, and %lu are refused by name\n", answers, refusals);
+}
+
 /* The stretches that are told are all rows of each row group, one behind the other. */
 static void expect_all_rows(const told_pages *it) {
     static const uint64_t rows[] = {8, 4};
@@ -341,6 +375,7 @@ int main(int count, char **words) {
     refusals();
     lengths();
     mutations();
+    indexes();
     pages();
     refused_pages();
     changed_pages();

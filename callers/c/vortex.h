@@ -84,8 +84,9 @@ enum vortex_status {
                                    text nests too deep: which byte */
     VORTEX_BAD_SQL = 18,        /* vortex_prune_sql: the text is no condition: which byte, and a vortex_sql_fault */
     VORTEX_MISFIT = 19,         /* vortex_prune_sql: the types of a test don't fit: which bytes */
-    VORTEX_BAD_FOOTER = 20,     /* vortex_parquet_footer, vortex_parquet_prune, vortex_parquet_prune_pages: the bytes are no
-                                   footer, or no page indexes: a vortex_parquet_fault */
+    VORTEX_BAD_FOOTER = 20,     /* vortex_parquet_footer, vortex_parquet_prune, vortex_parquet_indexes,
+                                   vortex_parquet_prune_pages: the bytes are no footer, or no page indexes: a
+                                   vortex_parquet_fault */
     VORTEX_NOT_READ = 21        /* vortex_parquet_prune, vortex_parquet_prune_pages: a test names a column of which no test
                                    could be meant: which bytes, and a vortex_not_read */
 };
@@ -407,9 +408,18 @@ uint8_t vortex_parquet_prune(const uint8_t *footer, size_t footer_len, const uin
                              size_t *groups_found, size_t *unread_found, vortex_fault *fault);
 
 /*
+ * Tells in *begin at which byte of a Parquet file its first page index begins, by the file's footer: the least offset of a
+ * column index or an offset index that the footer names for any column chunk, or UINT64_MAX where it names none. A reader
+ * fetches the bytes from there up to the footer for vortex_parquet_prune_pages; an offset that isn't before the footer is that
+ * of no index. *begin is written with VORTEX_OK alone. Of several faults the first is told: those of the footer but for its
+ * row groups, and of these in their order.
+ */
+uint8_t vortex_parquet_indexes(const uint8_t *footer, size_t footer_len, uint64_t *begin, vortex_fault *fault);
+
+/*
  * What to do with the rows of a Parquet file under a condition in SQL, by its page indexes. `tail` has the bytes of the file
- * from the byte `tail_begin` on, as far as the caller has them; the indexes stand right before the footer, and the footer
- * tells where. A column chunk whose indexes aren't among these bytes is one page with the statistics of the footer, so with a
+ * from the byte `tail_begin` on, as far as the caller has them; the indexes stand right before the footer, and
+ * vortex_parquet_indexes tells where. A column chunk whose indexes aren't among these bytes is one page with the statistics of the footer, so with a
  * `tail_len` of 0 the answer is that of the row groups. The footer, the text and `flags` are those of vortex_parquet_prune.
  *
  * Each row group is cut where a page of a column ends that the condition names. `ranges` has the stretches between at its

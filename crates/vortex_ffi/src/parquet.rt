@@ -1,9 +1,11 @@
 //! The calls over footers of Parquet files, under the names of the header.
 ghost use Rattle.vortex_parquet_calls.specs.FooterPrunes as footers;
+ghost use Rattle.vortex_parquet_calls.specs.IndexBegins as indexes;
 ghost use Rattle.vortex_parquet_calls.specs.PagePrunes as pages;
 
 use std::alloc::Global;
 use vortex_calls::fault::Fault;
+use vortex_parquet_calls::indexes::indexes_begin;
 use vortex_parquet_calls::prune_footer::prune_footer;
 use vortex_parquet_calls::prune_pages::prune_pages;
 use vortex_parquet_calls::row_group::RowGroup;
@@ -67,6 +69,22 @@ pub extern "C" fn vortex_parquet_prune(
         unread_found,
         fault,
     )
+}
+
+/// The byte of a file at which its first page index begins, by the file's footer,
+/// `vortex_parquet_indexes` of the header.
+#[unsafe(no_mangle)]
+pub extern "C" fn vortex_parquet_indexes(
+    alloc: Global,
+    footer: &[u8],
+    begin: &mut u64,
+    fault: &mut Fault,
+) -> u8
+    // The least offset of an index is told that the footer names, or the greatest number of 64 bits
+    // where it names none; of a refusal it is as it was, and but for memory its cause is told.
+    ensures { indexes.IsIndexAnswer footer.now begin.old begin.new result fault.old fault.new }
+{
+    indexes_begin(alloc, footer, begin, fault)
 }
 
 /// The rows of a file with what to do with them under a condition in SQL, by the page indexes among
