@@ -1,13 +1,15 @@
 //! Conditions over the pages of a file: a row group of 8 rows, with the column `s` (text) in pages
 //! of 3, 2 and 3 rows, the second one null, and the column `q` (INT32) in pages of 4 and 4 rows;
 //! and one of 4 rows without indexes.
+use crate::file;
 use std::alloc::Global;
 use std::process::Abort;
-use vortex_parquet::Fault;
 use vortex_parquet::columns::columns_of;
 use vortex_parquet::footer::footer_of;
 use vortex_parquet::group_pages::FileTail;
+use vortex_parquet::page_indexes::indexes_begin;
 use vortex_parquet::records::file_of;
+use vortex_parquet::{Fault, ReadError};
 use vortex_parquet_sql::{FooterCondition, FooterError, PageRange, PageVerdicts};
 use vortex_prune::Verdict;
 use vortex_rewrite::rewrite::rules::Rules;
@@ -136,4 +138,23 @@ fn fault_is_told_of_the_named_columns_alone(rt: HostRuntime) {
     let rest = Verdict::Tested;
     let wanted = [(0, 0, 8, rest), (1, 0, 4, rest)];
     expect_told(&rt, rt.alloc(), tail, "s = 'b'", &wanted);
+}
+
+fn begun(alloc: Global, bytes: &[u8]) -> Result<Option<u64>, ReadError> {
+    let footer = footer_of(bytes)?;
+    let file = file_of(alloc, footer)?;
+    indexes_begin(alloc, &file)
+}
+
+fn expect_begin(rt: &impl Abort, alloc: Global, bytes: &[u8], wanted: Option<u64>) {
+    match begun(alloc, bytes) {
+        Ok(begin) => assert!(rt; begin == wanted),
+        Err(_) => assert!(rt; false),
+    }
+}
+
+#[test]
+fn first_index_begins_where_the_footer_says(rt: HostRuntime) {
+    expect_begin(&rt, rt.alloc(), &FILE, Some(BEGIN));
+    expect_begin(&rt, rt.alloc(), &file::FILE, None);
 }
