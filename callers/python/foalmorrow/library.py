@@ -190,10 +190,13 @@ class _Lent:
         self.kept: list[object] = []
 
     def at(self, buffer: memoryview | bytes | bytearray | array[int]) -> int | None:
-        """Where a buffer stands; None of an empty one. A buffer that can't be written is copied where there is no numpy."""
+        """Where a buffer stands; None of an empty one. One that can't be written, and isn't ``bytes``, is copied where there is no numpy."""
         view = memoryview(buffer)
         if not view.nbytes:
             return None
+        if type(buffer) is bytes:
+            self.kept.append(buffer)
+            return ctypes.cast(buffer, ctypes.c_void_p).value
         if numpy is not None:
             lent = numpy.frombuffer(view, dtype=numpy.uint8)
             self.kept.append(lent)
@@ -239,6 +242,7 @@ def _load() -> ctypes.CDLL:
         "vortex_prune_sql": [byte, size, byte, size, byte, size, byte, size, c_uint8, byte, size, byte, size, POINTER(size), place],
         "vortex_parquet_footer": [byte, size, POINTER(size), place],
         "vortex_parquet_prune": [byte, size, byte, size, c_uint8, byte, size, byte, size, POINTER(size), POINTER(size), place],
+        "vortex_parquet_indexes": [byte, size, POINTER(c_uint64), place],
         "vortex_parquet_prune_pages": [
             byte, size, byte, size, c_uint64, byte, size, c_uint8, byte, size, byte, size, POINTER(size), POINTER(size), place,
         ],

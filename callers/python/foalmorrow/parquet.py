@@ -20,10 +20,9 @@ from typing import Any, BinaryIO
 from .answers import Answers
 from .footers import Footers
 from .kinds import Answer
-from .parquet_calls import TAIL, FooterFault, NotReadError, footer_length, prune_footer, prune_pages
+from .parquet_calls import TAIL, FooterFault, NotReadError, footer_length, indexes_begin, prune_footer, prune_pages
 from .parquet_footers import of_footer
 from .sql import warn_of
-from .thrift_compact import Thrift, ThriftFault
 
 __all__ = ["File", "FooterFault", "NotReadError", "RowGroups", "RowRanges", "open"]
 
@@ -97,26 +96,15 @@ def _size(file: BinaryIO) -> int:
 def _read(file: BinaryIO, size: int, start: int, stop: int) -> bytes:
     """Returns the bytes of a file of this size from one up to another."""
     file.seek(start)
-    found = bytearray()
-    while len(found) < stop - start:
-        more = file.read(stop - start - len(found))
+    found: list[bytes] = []
+    left = stop - start
+    while left > 0:
+        more = file.read(left)
         if not more:
-            raise OSError(f"the file has {size} bytes, and {stop - start - len(found)} of them couldn't be read")
-        found += more
-    return bytes(found)
-
-
-def _indexes_begin(footer: bytes, end: int) -> int:
-    """Returns the byte of the file at which the first page index begins, as far as the footer tells, or the one behind all where there is none.
-
-    The library reads the footer again and takes nothing from here: an index before that byte is missing, and its column chunk is one page.
-    """
-    try:
-        groups = Thrift(footer).struct().get(4, [])
-        places = [chunk.get(number) for group in groups for chunk in group.get(1, []) for number in (4, 6)]
-    except (ThriftFault, AttributeError, TypeError):
-        return end
-    return min((it for it in places if isinstance(it, int) and 0 <= it <= end), default=end)
+            raise OSError(f"the file has {size} bytes, and {left} of them couldn't be read")
+        found.append(more)
+        left -= len(more)
+    return b"".join(found)
 
 
 class File:
@@ -184,7 +172,9 @@ class File:
             return 0, b""
         if self._indexes is None:
             end, fetched = self._before
-            begin = _indexes_begin(self.footer, end)
+            first = indexes_begin(self.footer)
+            # An index that isn't named as one before the footer is none, and its column chunk is one page.
+            begin = end if first is None else min(first, end)
             self._indexes = begin, fetched(begin) if begin < end else b""
         return self._indexes
 

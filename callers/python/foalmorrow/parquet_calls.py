@@ -5,6 +5,7 @@ from __future__ import annotations
 import ctypes
 from array import array
 from ctypes import Structure, c_size_t, c_uint8, c_uint64
+from typing import Any
 
 from .library import _LAST_NAME, _ROOM_UNREAD, CSpan, Fault, Status, _answered_sql, _encoded, _Lent, _library
 from .parquet_values import ParquetFault
@@ -14,6 +15,9 @@ from .sql import SqlError
 TAIL = 8
 #: The bytes of a footer for each of which a row group is taken into account at first, and those of page indexes for each of which a page is.
 _BYTES_A_GROUP, _BYTES_A_PAGE = 256, 16
+
+#: The offset that is told where a footer names no page index.
+_NO_INDEXES = 2**64 - 1
 
 #: Why bytes are no footer, by the library's numbers: a name, and a sentence.
 _FAULTS = (
@@ -74,9 +78,7 @@ class Told:
     __slots__ = ("codes", "rows", "sizes", "unread")
 
     def __init__(self, found: ctypes.Array[CRowGroup], count: int, unread: list[tuple[int, int]]):
-        self.codes = bytes(found[place].answer for place in range(count))
-        self.rows = array("Q", (found[place].rows for place in range(count)))
-        self.sizes = array("Q", (found[place].size for place in range(count)))
+        (self.rows, self.sizes), self.codes = _columns(found, count)
         self.unread = unread
 
 
@@ -88,11 +90,18 @@ class ToldRanges:
     __slots__ = ("codes", "ends", "firsts", "groups", "unread")
 
     def __init__(self, found: ctypes.Array[CRowRange], count: int, unread: list[tuple[int, int]]):
-        self.codes = bytes(found[place].answer for place in range(count))
-        self.groups = array("Q", (found[place].group for place in range(count)))
-        self.firsts = array("Q", (found[place].first for place in range(count)))
-        self.ends = array("Q", (found[place].end for place in range(count)))
+        (self.groups, self.firsts, self.ends), self.codes = _columns(found, count)
         self.unread = unread
+
+
+def _columns(found: ctypes.Array[Any], count: int) -> tuple[list[array[int]], bytes]:
+    """Returns the numbers of so many records, field by field, and their answers: records of numbers of 64 bits with an answer behind them."""
+    width = len(found._type_._fields_)
+    words = array("Q")
+    with memoryview(found).cast("B") as data:
+        words.frombytes(data[: count * width * 8])
+        codes = bytes(data[width * 8 - 8 : count * width * 8 : width * 8])
+    return [words[place::width] for place in range(width - 1)], codes
 
 
 def footer_length(tail: bytes) -> int:
@@ -120,6 +129,13 @@ def prune_footer(footer: bytes, condition: str, last_names: bool, groups: int | 
         room, room_unread = max(room, found_len.value), max(room_unread, unread_len.value)
     _answered(status, fault, text)
     return Told(found, found_len.value, [(it.start, it.end) for it in unread[: unread_len.value]])
+
+
+def indexes_begin(footer: bytes) -> int | None:
+    """Returns the byte of the file at which its first page index begins: the least offset of one that the footer names; None where it names none."""
+    lent, begin, fault = _Lent(), c_uint64(), Fault()
+    _answered(_library().vortex_parquet_indexes(lent.at(footer), len(footer), ctypes.byref(begin), ctypes.byref(fault)), fault, b"")
+    return None if begin.value == _NO_INDEXES else begin.value
 
 
 def prune_pages(footer: bytes, tail: bytes, begin: int, condition: str, last_names: bool) -> ToldRanges:

@@ -15,7 +15,9 @@ from hypothesis import given, settings
 from hypothesis import strategies as st
 
 from foalmorrow import Answer, Footers, SqlError, UnreadWarning, parquet
+from foalmorrow.parquet_calls import CRowGroup, CRowRange, _columns, indexes_begin
 from foalmorrow.parquet_values import ParquetFault
+from foalmorrow.thrift_compact import Thrift
 from tests.parquet_footers_of import Wide, file_of, footer, struct_of
 from tests.parquet_pages_of import PagedFile
 from tests.systems.parquet_writer import Raw, thrift
@@ -102,6 +104,14 @@ def pages_quietly(file: parquet.File, condition: str) -> parquet.RowRanges:
         return file.prune_pages(condition)
 
 
+#: An offset of an index, which may be below 0 or missing.
+OFFSETS = st.none() | st.integers(-3, 300) | st.sampled_from([2**40, 2**63 - 1, -(2**63)])
+
+
+def place_of(offset: int | None) -> Wide | None:
+    return None if offset is None else Wide(offset)
+
+
 class PagesBesideAModel(unittest.TestCase):
     @settings(max_examples=3000, deadline=None)
     @given(CONDITIONS, st.lists(zones(), min_size=1, max_size=3), st.integers(0, 2**32))
@@ -135,6 +145,45 @@ class PagesBesideAModel(unittest.TestCase):
         # Of 48 rows in each file 32 are to be skipped, and 16 are whole.
         self.assertGreater(skipped, 300 * 32 // 4)
         self.assertGreater(whole, 300 * 16 // 8)
+
+
+def named_indexes(data: bytes) -> list[int]:
+    """The offsets of page indexes that a footer names, by a decoder of another make."""
+    groups = Thrift(data).struct()[4]
+    return [chunk[number] for group in groups for chunk in group[1] for number in (4, 6) if chunk.get(number, -1) >= 0]
+
+
+class Records(unittest.TestCase):
+    @given(st.sampled_from([CRowGroup, CRowRange]), st.lists(st.lists(st.integers(0, 2**64 - 1), min_size=4, max_size=4), max_size=20), st.integers(0, 3))
+    def test_records_become_columns(self, kind: type[CRowGroup | CRowRange], rows: list[list[int]], room: int) -> None:
+        names = [name for name, *_ in kind._fields_]
+        told = (kind * (len(rows) + room))(*(kind(*row[: len(names) - 1], row[-1] % 256) for row in rows))
+        columns, codes = _columns(told, len(rows))
+        self.assertEqual([list(it) for it in columns], [[getattr(it, name) for it in told[: len(rows)]] for name in names[:-1]])
+        self.assertEqual(list(codes), [it.answer for it in told[: len(rows)]])
+
+
+class WhereIndexesBegin(unittest.TestCase):
+    @settings(max_examples=1000, deadline=None)
+    @given(st.lists(zones(), max_size=3), st.integers(0, 2**32))
+    def test_no_named_index_is_passed_over(self, drawn: list[list[list[Row]]], dice: int) -> None:
+        groups = [[row for zone in zones for row in zone] for zones in drawn]
+        data = parquet.open(bytes(PagedFile(groups, random.Random(dice)).data)).footer
+        self.assertEqual(indexes_begin(data), min(named_indexes(data), default=None))
+
+    @settings(max_examples=1000, deadline=None)
+    @given(st.lists(st.lists(st.tuples(OFFSETS, OFFSETS), max_size=4), max_size=4))
+    def test_any_offset_may_be_named(self, drawn: list[list[tuple[int | None, int | None]]]) -> None:
+        chunks = [[Raw(struct_of((4, place_of(first)), (6, place_of(second)))) for first, second in group] for group in drawn]
+        data = struct_of((4, [Raw(struct_of((1, it), (3, Wide(1)))) for it in chunks]))
+        offsets = [place for group in drawn for pair in group for place in pair if place is not None and place >= 0]
+        self.assertEqual(indexes_begin(data), min(offsets, default=None))
+
+    def test_faults_are_named(self) -> None:
+        for data, fault in ((b"", "SHORT"), (struct_of((4, [Raw(struct_of((1, [])))])), "MISSING")):
+            with self.assertRaises(parquet.FooterFault) as told:
+                indexes_begin(data)
+            self.assertEqual(told.exception.fault, fault)
 
 
 class Pages(unittest.TestCase):
