@@ -1,5 +1,6 @@
 // SPDX-License-Identifier: Apache-2.0
-//! Row groups of a Parquet file by a condition in SQL: its footer is read by proof, and no page of data is read at all.
+//! Row groups and pages of a Parquet file by a condition in SQL: its footer and its page indexes are read by proof, and no
+//! page of data is read at all.
 //!
 //! `docs/PARQUET.md` of the repository says which statistics are used as what and which columns are read, `docs/SQL.md`
 //! which conditions.
@@ -7,6 +8,7 @@
 //! ```no_run
 //! use foalmorrow::parquet::{Error, Footer};
 //! use foalmorrow::Names;
+//! use std::fs::File;
 //!
 //! let footer = Footer::open("trips.parquet")?;
 //! let found = footer.prune("qty > 9000 AND city LIKE 'R%'", Names::Plain)?;
@@ -14,6 +16,9 @@
 //!     println!("fetch row group {group}");
 //! }
 //! println!("rows {:?}, {} bytes saved", found.ranges(), found.bytes_saved());
+//!
+//! let found = footer.prune_pages(File::open("trips.parquet")?, "qty > 9000", Names::Plain)?;
+//! println!("rows {:?}, {} rows skipped", found.ranges(), found.rows_skipped());
 //! # Ok::<(), Error>(())
 //! ```
 use crate::pruning::answer;
@@ -25,6 +30,9 @@ use std::fs::File;
 use std::io::{self, Read, Seek, SeekFrom};
 use std::ops::Range;
 use std::path::Path;
+
+mod pages;
+pub use pages::{RowRange, RowRanges};
 
 /// Behind the footer of a file stand its length and a mark.
 const TAIL: usize = 8;
@@ -58,12 +66,14 @@ pub struct RowGroups {
     pub unread: Vec<Range<usize>>,
 }
 
-/// Why no row groups of a Parquet file are answered.
+/// Why no row groups and no rows of a Parquet file are answered.
 #[derive(Debug)]
 pub enum Error {
     /// The file wasn't opened or read.
     Io(io::Error),
-    /// The bytes are no footer.
+    /// The file doesn't end in the footer that was read of it.
+    Changed,
+    /// The bytes are no footer, or no page indexes.
     Footer(FooterFault),
     /// The text is no condition in SQL over the file's columns.
     Sql(SqlError),
@@ -100,7 +110,7 @@ pub enum FooterFault {
     Length,
     /// Values nest deeper than 32 levels.
     Depth,
-    /// A row group has no number of rows, or a column no name.
+    /// A row group has no number of rows, a column no name, or a page no offset, size or first row.
     Missing,
     /// The schema is no tree.
     Schema,
@@ -108,6 +118,8 @@ pub enum FooterFault {
     Columns,
     /// A bound is no value of its column's type.
     Value,
+    /// The pages of a column chunk are none of its rows.
+    Pages,
 }
 
 /// Why no test of a column could be meant.
@@ -122,7 +134,7 @@ pub enum NotRead {
 }
 
 /// The faults of `VORTEX_BAD_FOOTER`, by their numbers.
-const FAULTS: [FooterFault; 14] = [
+const FAULTS: [FooterFault; 15] = [
     FooterFault::NotParquet,
     FooterFault::Encrypted,
     FooterFault::FooterLength,
@@ -137,6 +149,7 @@ const FAULTS: [FooterFault; 14] = [
     FooterFault::Schema,
     FooterFault::Columns,
     FooterFault::Value,
+    FooterFault::Pages,
 ];
 
 /// The reasons of `VORTEX_NOT_READ`, by their numbers.
@@ -269,10 +282,11 @@ fn told(groups: &[raw::RowGroup], unread: &[Span]) -> Result<RowGroups, Error> {
         let answer = answer(it.answer).map_err(|_| Error::Other(it.answer))?;
         Ok(RowGroup { rows: it.rows, size: it.size, answer })
     };
-    Ok(RowGroups {
-        groups: groups.iter().map(group).collect::<Result<Vec<RowGroup>, Error>>()?,
-        unread: unread.iter().map(|span| span.start..span.end).collect(),
-    })
+    Ok(RowGroups { groups: groups.iter().map(group).collect::<Result<Vec<RowGroup>, Error>>()?, unread: spans(unread) })
+}
+
+fn spans(found: &[Span]) -> Vec<Range<usize>> {
+    found.iter().map(|span| span.start..span.end).collect()
 }
 
 impl RowGroups {
@@ -334,6 +348,7 @@ impl fmt::Display for Error {
     fn fmt(&self, f: &mut fmt::Formatter<'_>) -> fmt::Result {
         match self {
             Error::Io(error) => error.fmt(f),
+            Error::Changed => write!(f, "the file doesn't end in the footer that was read of it"),
             Error::Footer(fault) => write!(f, "the bytes are no footer of a Parquet file: {fault}"),
             Error::Sql(error) => error.fmt(f),
             Error::NotRead(reason, bytes) => {
@@ -369,10 +384,13 @@ impl fmt::Display for FooterFault {
             FooterFault::Kind => "a code stands for no kind of values",
             FooterFault::Length => "a list claims more items than bytes are left",
             FooterFault::Depth => "values nest deeper than 32 levels",
-            FooterFault::Missing => "a row group has no number of rows, or a column no name",
+            FooterFault::Missing => {
+                "a row group has no number of rows, a column no name, or a page no offset, size or first row"
+            }
             FooterFault::Schema => "the schema is no tree",
             FooterFault::Columns => "a row group has another number of columns than the schema",
             FooterFault::Value => "a bound is no value of its column's type",
+            FooterFault::Pages => "the pages of a column chunk are none of its rows",
         })
     }
 }

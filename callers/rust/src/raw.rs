@@ -28,7 +28,7 @@ pub mod status {
     pub const NOT_READ: u8 = 21;
 }
 
-/// `VORTEX_LAST_NAME`, a flag of `vortex_prune_sql` and `vortex_parquet_prune`.
+/// `VORTEX_LAST_NAME`, a flag of `vortex_prune_sql`, `vortex_parquet_prune` and `vortex_parquet_prune_pages`.
 pub const LAST_NAME: u8 = 2;
 
 /// `vortex_fault`.
@@ -54,6 +54,16 @@ pub struct Span {
 pub struct RowGroup {
     pub rows: u64,
     pub size: u64,
+    pub answer: u8,
+}
+
+/// `vortex_row_range`.
+#[repr(C)]
+#[derive(Clone, Copy, Debug, Default)]
+pub struct RowRange {
+    pub group: usize,
+    pub first: u64,
+    pub end: u64,
     pub answer: u8,
 }
 
@@ -210,6 +220,26 @@ unsafe extern "C" {
         unread: *mut Span,
         unread_len: usize,
         groups_found: *mut usize,
+        unread_found: *mut usize,
+        fault: *mut Fault,
+    ) -> u8;
+
+    pub fn vortex_parquet_indexes(footer: *const u8, footer_len: usize, begin: *mut u64, fault: *mut Fault) -> u8;
+
+    pub fn vortex_parquet_prune_pages(
+        footer: *const u8,
+        footer_len: usize,
+        tail: *const u8,
+        tail_len: usize,
+        tail_begin: u64,
+        text: *const u8,
+        text_len: usize,
+        flags: u8,
+        ranges: *mut RowRange,
+        ranges_len: usize,
+        unread: *mut Span,
+        unread_len: usize,
+        ranges_found: *mut usize,
         unread_found: *mut usize,
         fault: *mut Fault,
     ) -> u8;

@@ -5,65 +5,9 @@ use foalmorrow::{Answer, Names, SqlFault};
 use std::io::Cursor;
 
 mod conditions;
+mod thrift;
 use conditions::{Dice, Row};
-
-// A value of Thrift's compact protocol: a number of 32 bits is short.
-enum Value {
-    Bool(bool),
-    Short(i64),
-    Number(i64),
-    Bytes(Vec<u8>),
-    List(Vec<Value>),
-    Fields(Vec<(u8, Value)>),
-}
-use Value::{Bool, Bytes, Fields, List, Number, Short};
-
-fn varint(mut number: u64, out: &mut Vec<u8>) {
-    while number > 0x7f {
-        out.push(number as u8 | 0x80);
-        number >>= 7;
-    }
-    out.push(number as u8);
-}
-
-impl Value {
-    fn kind(&self) -> u8 {
-        match self {
-            Bool(true) => 1,
-            Bool(false) => 2,
-            Short(_) => 5,
-            Number(_) => 6,
-            Bytes(_) => 8,
-            List(_) => 9,
-            Fields(_) => 12,
-        }
-    }
-
-    fn write(&self, out: &mut Vec<u8>) {
-        match self {
-            Bool(_) => {}
-            Short(number) | Number(number) => varint((number << 1 ^ number >> 63) as u64, out),
-            Bytes(bytes) => {
-                varint(bytes.len() as u64, out);
-                out.extend(bytes);
-            }
-            List(items) => {
-                out.push(0xf0 | items.first().map_or(12, Value::kind));
-                varint(items.len() as u64, out);
-                items.iter().for_each(|item| item.write(out));
-            }
-            Fields(fields) => {
-                let mut before = 0;
-                for (id, value) in fields {
-                    out.push((id - before) << 4 | value.kind());
-                    value.write(out);
-                    before = *id;
-                }
-                out.push(0);
-            }
-        }
-    }
-}
+use thrift::Value::{self, Bool, Bytes, Fields, List, Number, Short};
 
 // An element of a schema: a leaf, or one with columns below it.
 fn element(name: &str, physical: Option<i64>, repetition: i64, children: Option<i64>) -> Value {
