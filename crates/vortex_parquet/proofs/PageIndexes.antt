@@ -61,7 +61,7 @@ chunks_go view chunks i d p found lt read h =
       places = h.places ++ p ∷ [];
       so_far = all_goes places_of (map view chunks) h.places i [] p (all_of places_of (map view chunks)) few read' h.so_far;
       least = subst (λ (ns : List ℕ). IsLeast ns (lesser found (lesser p.column_index p.offset_index))) (flat_map_more chunk_offsets [] h.places p)
-        (least_append (group_offsets h.places) (chunk_offsets p) found (lesser p.column_index p.offset_index) h.least (least_of_chunk p));
+          (least_append (group_offsets h.places) (chunk_offsets p) found (lesser p.column_index p.offset_index) h.least (least_of_chunk p));
     }
 
 pub chunks_fail : {X : Type 0} (e : ReadError) (view : X → List ℕ) (chunks : List X) (i : ℕ) (d : X) (found : Option ℕ) → i < length chunks → Fails e (places_of (view (get_or chunks i d))) → IsBeginTo (map view chunks) i found
@@ -69,7 +69,7 @@ pub chunks_fail : {X : Type 0} (e : ReadError) (view : X → List ℕ) (chunks :
 chunks_fail e view chunks i d found lt fails h =
     let few : i < length (map view chunks) = omega (arith, length-map chunks view) in
     all_fails e places_of (map view chunks) h.places i [] (all_of places_of (map view chunks)) few
-      (subst (λ (bytes : List ℕ). Fails e (places_of bytes)) (sym (get_or-map view chunks i d [] lt)) fails) h.so_far
+    (subst (λ (bytes : List ℕ). Fails e (places_of bytes)) (sym (get_or-map view chunks i d [] lt)) fails) h.so_far
 
 pub chunks_done : {X : Type 0} (view : X → List ℕ) (chunks : List X) (i : ℕ) (found : Option ℕ) → length chunks ≤ i → IsBeginTo (map view chunks) i found → IsChunksBegin (map view chunks) found
 chunks_done view chunks i found le h =
@@ -112,7 +112,7 @@ groups_go count i bytes rest after found more lt one h = record {
   places = h.places ++ one.places ∷ [];
   so_far = many_goes group_places h.places count i rest one.places after (many group_places count bytes) lt one.read h.so_far;
   least = subst (λ (ns : List ℕ). IsLeast ns (lesser found more)) (flat_map_more group_offsets [] h.places one.places)
-    (least_append (file_offsets h.places) (group_offsets one.places) found more h.least one.least);
+      (least_append (file_offsets h.places) (group_offsets one.places) found more h.least one.least);
 }
 
 pub groups_fail : (e : ReadError) (count i : ℕ) (bytes rest : List ℕ) (found : Option ℕ) → i < count → Fails e (group_places rest) → IsGroupsBeginTo count i bytes rest found

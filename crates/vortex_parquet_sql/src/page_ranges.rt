@@ -129,8 +129,8 @@ impl FooterCondition {
     /// last bytes of the file. A stretch lies in one page of each column of the condition's scope;
     /// it is skipped if no row of it satisfies the condition, and whole if each does.
     ///
-    /// A column chunk is one page where its indexes aren't among these bytes, with the statistics of
-    /// the footer. `Footer` with the first fault of the row groups and their pages, and else as
+    /// A column chunk is one page where its indexes aren't among these bytes, with the statistics
+    /// of the footer. `Footer` with the first fault of the row groups and their pages, and else as
     /// `prune`.
     pub fn prune_pages(
         &self,
