@@ -225,7 +225,7 @@ all_in None = refl
 all_in (Some x) = refl
 
 -- operands swapped
-compared_swapped : (o : Operator) (a b : Option ScalarValue) → is_true (truth_value (compared o a b)) ≡ is_true (truth_value (compared (swapped o) b a))
+pub compared_swapped : (o : Operator) (a b : Option ScalarValue) → is_true (truth_value (compared o a b)) ≡ is_true (truth_value (compared (swapped o) b a))
 compared_swapped o None None = refl
 compared_swapped o None (Some y) = refl
 compared_swapped o (Some x) None = refl

@@ -10,6 +10,8 @@ mod Grouped
 mod GroupsKept
 pub mod Joined
 mod Kept
+mod LinkSteps
+mod Linking
 mod Matched
 mod Narrowing
 mod OneColumn
@@ -38,5 +40,6 @@ mod TurnRows
 mod TypeEnds
 mod WholeDepth
 mod Worked
+mod WorkedLinks
 mod WorkedNarrowed
 mod WorkedTests

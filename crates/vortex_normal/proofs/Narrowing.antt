@@ -19,15 +19,20 @@ use Rattle.vortex_expr.specs.declared.scalar_fn.Operator.{Operator}
 use Rattle.vortex_expr.specs.declared.scalar_fn.Operator.TheVariants.{Eq, NotEq, Gt, Gte, Lt, Lte, And, Or}
 use Rattle.vortex_rewrite.proofs.Rewriting.ProofTypes.{binary_is_predicate, predicates_connect}
 use Rattle.vortex_rewrite.proofs.Soundness.TruthLogic.{true_and, true_or}
+use Rattle.vortex_rewrite.specs.Rewriting.Falsifiers.{bool_literal}
 use Rattle.vortex_rewrite.specs.Rewriting.Predicates.{is_connective, is_predicate}
+use Rattle.vortex_normal.specs.Balanced.{balanced}
 use Rattle.vortex_normal.specs.Groups.{grouped, normal}
+use Rattle.vortex_normal.specs.Links.{consequences, linked, with_all}
 use Rattle.vortex_normal.specs.Narrowed.{beside, chain, fact_column, facts, is_about, is_column, joins_or, known_fact, known_within, leaf_facts, narrow, narrowed, tested_column, with_fact}
 use Rattle.vortex_normal.specs.Pushed.{pushed}
 use Rattle.vortex_normal.specs.Same.{HasNoOther, Same, StaysPlain}
-use Rattle.vortex_normal.proofs.Forms.{if_as}
+use Rattle.vortex_normal.proofs.Forms.{connected_kept, if_as}
 use Rattle.vortex_normal.proofs.Grouped.{grouped_told}
 use Rattle.vortex_normal.proofs.GroupsKept.{IsPassedDown, columns_down, grouped_columns, grouped_plain, nodes_down}
 use Rattle.vortex_normal.proofs.Kept.{Holds, IsInherited, Lacks, columns_inherited, columns_kept, nodes_inherited, plain_kept}
+use Rattle.vortex_normal.proofs.Linking.{consequences_are_predicates, consequences_kept, consequences_true}
+use Rattle.vortex_normal.proofs.Pairs.{balanced_has}
 use Rattle.vortex_normal.proofs.Steps.{between_is_predicate, sides}
 use Rattle.vortex_normal.proofs.TestedKept.{plain_by}
 use Rattle.vortex_normal.proofs.Told.{pushed_same}
@@ -204,6 +209,24 @@ module _ (row : List Constant) (n : ℕ) where
   within_true : (e : Tree Place) (known : List (Tree Place)) → IsTrueHere e → all_true known → all_true (known_within e known)
   within_true e known h k = within_all IsTrueHere e known (facts_all IsTrueHere each_here e h) k
 
+  all_here : (cs : List (Tree Place)) → all_true cs → IsTrueHere (balanced true cs)
+  all_here cs h =
+      balanced_has IsTrueHere true (λ l r a b. connected_kept IsTrueHere l r a b true (both_here l r a b) (first_here l r a)) cs refl h
+
+  with_less : (q : Tree Place) (cs : List (Tree Place)) → IsTrueHere (with_all q cs) → IsTrueHere q
+  with_less q [] h = h
+  with_less q (c ∷ cs) h = (each_here q (balanced true (c ∷ cs)) h).0
+
+  with_more : (q : Tree Place) (cs : List (Tree Place)) → all_true cs → IsTrueHere q → IsTrueHere (with_all q cs)
+  with_more q [] k h = h
+  with_more q (c ∷ cs) k h = both_here q (balanced true (c ∷ cs)) h (all_here (c ∷ cs) k)
+
+  linked_less : (e q : Tree Place) → IsTrueHere (linked e q) → IsTrueHere q
+  linked_less e q h = with_less q (consequences e) h
+
+  linked_more : (e q : Tree Place) → IsTrueHere e → IsTrueHere q → IsTrueHere (linked e q)
+  linked_more e q k h = with_more q (consequences e) (consequences_true row n each_here e k) h
+
   -- ---- what a narrowed predicate is true of, the predicate is
 
   fact_less : (f : Option (Tree Place)) (e : Tree Place) → IsTrueHere (with_fact f e) → IsTrueHere e
@@ -218,7 +241,9 @@ module _ (row : List Constant) (n : ℕ) where
       let p = each_here (chain outer inner l) (chain outer inner r) h in
       both_here l r (chain_less outer inner l p.0) (chain_less outer inner r p.1)
   chain_less outer inner (binary Or l r) h =
-      side_here (chain inner (known_within l inner) l) (chain inner (known_within r inner) r) l r (chain_less inner (known_within l inner) l) (chain_less inner (known_within r inner) r) h
+      let u = chain inner (known_within l inner) l in
+      let v = chain inner (known_within r inner) r in
+      side_here (linked l u) (linked r v) l r (λ a. chain_less inner (known_within l inner) l (linked_less l u a)) (λ b. chain_less inner (known_within r inner) r (linked_less r v b)) h
   chain_less outer inner (binary Eq l r) h = beside_less outer (binary Eq l r) h
   chain_less outer inner (binary NotEq l r) h = beside_less outer (binary NotEq l r) h
   chain_less outer inner (binary Gt l r) h = beside_less outer (binary Gt l r) h
@@ -241,9 +266,11 @@ module _ (row : List Constant) (n : ℕ) where
       let p = each_here l r h in
       both_here (chain outer inner l) (chain outer inner r) (chain_more outer inner l j k p.0) (chain_more outer inner r j k p.1)
   chain_more outer inner (binary Or l r) j k h =
-      side_here l r (chain inner (known_within l inner) l) (chain inner (known_within r inner) r)
-      (λ a. chain_more inner (known_within l inner) l k (within_true l inner a k) a)
-      (λ b. chain_more inner (known_within r inner) r k (within_true r inner b k) b) h
+      let u = chain inner (known_within l inner) l in
+      let v = chain inner (known_within r inner) r in
+      side_here l r (linked l u) (linked r v)
+      (λ a. linked_more l u a (chain_more inner (known_within l inner) l k (within_true l inner a k) a))
+      (λ b. linked_more r v b (chain_more inner (known_within r inner) r k (within_true r inner b k) b)) h
   chain_more outer inner (binary Eq l r) j k h = beside_more outer (binary Eq l r) j h
   chain_more outer inner (binary NotEq l r) j k h = beside_more outer (binary NotEq l r) j h
   chain_more outer inner (binary Gt l r) j k h = beside_more outer (binary Gt l r) j h
@@ -254,14 +281,27 @@ module _ (row : List Constant) (n : ℕ) where
 
   pub narrowed_same : (e : Tree Place) → satisfies (narrowed e) row n ≡ satisfies e row n
   narrowed_same e =
-      let within = known_within e [] in
-      same_truth (satisfies (narrowed e) row n) (satisfies e row n) (chain_less [] within e) (λ h. chain_more [] within e tt (within_true e [] h tt) h)
+      let known = known_within e [] in
+      let q = chain [] known e in
+      same_truth (satisfies (narrowed e) row n) (satisfies e row n)
+      (λ h. chain_less [] known e (linked_less e q h))
+      (λ h. linked_more e q h (chain_more [] known e tt (within_true e [] h tt) h))
 
 -- ---- what predicates and what they join have alike
 
 module _ (P : Tree Place → Type 0)
     (join : (o : Operator) (l r : Tree Place) → is_connective o ≡ true → P l → P r → P (binary o l r))
-    (split : (o : Operator) (l r : Tree Place) → is_connective o ≡ true → P (binary o l r) → P l × P r) where
+    (split : (o : Operator) (l r : Tree Place) → is_connective o ≡ true → P (binary o l r) → P l × P r)
+    (truth : P (bool_literal true)) (follow : (e : Tree Place) → P e → AllByRecursion P (consequences e)) where
+  with_kept : (q : Tree Place) (cs : List (Tree Place)) → P q → AllByRecursion P cs → P (with_all q cs)
+  with_kept q [] h k = h
+  with_kept q (c ∷ cs) h k =
+      join And q (balanced true (c ∷ cs)) refl h
+      (balanced_has P true (λ l r a b. connected_kept P l r a b true (join And l r refl a b) (join Or l r refl a b)) (c ∷ cs) truth k)
+
+  linked_kept : (e q : Tree Place) → P e → P q → P (linked e q)
+  linked_kept e q h k = with_kept q (consequences e) k (follow e h)
+
   fact_kept : (f : Option (Tree Place)) (e : Tree Place) → ((g : Tree Place) → f ≡ Some g → P g) → P e → P (with_fact f e)
   fact_kept None e k h = h
   fact_kept (Some f) e k h = join And e f refl h (k f refl)
@@ -278,9 +318,11 @@ module _ (P : Tree Place → Type 0)
       join And (chain outer inner l) (chain outer inner r) refl (chain_kept outer inner l j k p.0) (chain_kept outer inner r j k p.1)
   chain_kept outer inner (binary Or l r) j k h =
       let p = split Or l r refl h in
-      join Or (chain inner (known_within l inner) l) (chain inner (known_within r inner) r) refl
-      (chain_kept inner (known_within l inner) l k (within_kept l inner p.0 k) p.0)
-      (chain_kept inner (known_within r inner) r k (within_kept r inner p.1 k) p.1)
+      let u = chain inner (known_within l inner) l in
+      let v = chain inner (known_within r inner) r in
+      join Or (linked l u) (linked r v) refl
+      (linked_kept l u p.0 (chain_kept inner (known_within l inner) l k (within_kept l inner p.0 k) p.0))
+      (linked_kept r v p.1 (chain_kept inner (known_within r inner) r k (within_kept r inner p.1 k) p.1))
   chain_kept outer inner (binary Eq l r) j k h = beside_kept outer (binary Eq l r) j h
   chain_kept outer inner (binary NotEq l r) j k h = beside_kept outer (binary NotEq l r) j h
   chain_kept outer inner (binary Gt l r) j k h = beside_kept outer (binary Gt l r) j h
@@ -290,13 +332,13 @@ module _ (P : Tree Place → Type 0)
   chain_kept outer inner e j k h = beside_kept outer e j h
 
   narrowed_kept : (e : Tree Place) → P e → P (narrowed e)
-  narrowed_kept e h = chain_kept [] (known_within e []) e tt (within_kept e [] h tt) h
+  narrowed_kept e h = linked_kept e (chain [] (known_within e []) e) h (chain_kept [] (known_within e []) e tt (within_kept e [] h tt) h)
 
 narrowed_is_predicate : (e : Tree Place) → is_predicate e ≡ true → is_predicate (narrowed e) ≡ true
-narrowed_is_predicate e h = narrowed_kept (λ x. is_predicate x ≡ true) (λ o l r c a b. binary_is_predicate o l r (predicates_connect o l r c a b)) sides e h
+narrowed_is_predicate e h = narrowed_kept (λ x. is_predicate x ≡ true) (λ o l r c a b. binary_is_predicate o l r (predicates_connect o l r c a b)) sides refl (λ x _. consequences_are_predicates x) e h
 
 narrowed_passed : (P : Tree Place → Type 0) → IsInherited P → IsPassedDown P → (e : Tree Place) → P e → P (narrowed e)
-narrowed_passed P i d e h = narrowed_kept P (λ o l r c a b. i.of_binary o l r a b) (λ o l r c p. d.of_sides o l r p) e h
+narrowed_passed P i d e h = narrowed_kept P (λ o l r c a b. i.of_binary o l r a b) (λ o l r c p. d.of_sides o l r p) (i.of_literal _) (consequences_kept P i d) e h
 
 narrowed_columns : (e : Tree Place) → HasNoOther e (narrowed e)
 narrowed_columns e test h = narrowed_passed (Holds test) (columns_inherited test) (columns_down test) e h

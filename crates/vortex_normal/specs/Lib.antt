@@ -5,6 +5,7 @@ pub mod Groups
 pub mod Intervals
 pub mod Laws
 pub mod LeafColumns
+pub mod Links
 pub mod Narrowed
 pub mod OneColumn
 pub mod Pushed
@@ -14,5 +15,6 @@ pub mod Signs
 pub mod Strict
 pub mod Tested
 pub mod Worked
+pub mod WorkedLinks
 pub mod WorkedNarrowed
 pub mod WorkedTests

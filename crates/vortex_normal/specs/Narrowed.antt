@@ -6,6 +6,7 @@ use Rattle.vortex_expr.specs.declared.scalar_fn.Operator.{Operator}
 use Rattle.vortex_expr.specs.declared.scalar_fn.Operator.TheVariants.{And, Or}
 use Rattle.vortex_normal.specs.Groups.{normal}
 use Rattle.vortex_normal.specs.LeafColumns.{column_beside, range_column}
+use Rattle.vortex_normal.specs.Links.{linked}
 
 -- ---- facts: leaves of one column
 
@@ -86,9 +87,13 @@ beside known e = with_fact (known_fact known (fact_column e)) e
 abbrev pub Narrowing : Type 0
 Narrowing = (outer inner : List (Tree Place)) → Tree Place
 
+-- a predicate where so much is known around it, with what follows from its comparisons of columns
+abbrev pub within : (known : List (Tree Place)) → (e : Tree Place) → Narrowing → Tree Place
+within known e f = linked e (f known (known_within e known))
+
 abbrev pub binary_chain : Operator → (outer inner : List (Tree Place)) → (e l r : Tree Place) → (left right : Narrowing) → Tree Place
 binary_chain And outer inner e l r f g = binary And (f outer inner) (g outer inner)
-binary_chain Or outer inner e l r f g = binary Or (f inner (known_within l inner)) (g inner (known_within r inner))
+binary_chain Or outer inner e l r f g = binary Or (within inner l f) (within inner r g)
 binary_chain o outer inner e l r f g = beside outer e
 
 -- a part of an AND: its leaves beside what is known around the AND, since those of one AND are grouped anyway, and below its ORs beside what is known within it
@@ -97,7 +102,7 @@ chain outer inner (binary o l r) = binary_chain o outer inner (binary o l r) l r
 chain outer inner e = beside outer e
 
 abbrev pub narrowed_by : (known : List (Tree Place)) → Tree Place → Tree Place
-narrowed_by known e = chain known (known_within e known) e
+narrowed_by known e = within known e (λ a b. chain a b e)
 
 abbrev pub narrowed : Tree Place → Tree Place
 narrowed e = narrowed_by [] e

@@ -2,6 +2,7 @@
 ghost use Rattle.vortex_normal.specs.Laws.{ChainsAreShallow, GroupsAreSame, NormalIsShallow, SetsAreShallow};
 ghost use Rattle.vortex_normal.specs.OneColumn.{JoiningsAreApart, OneColumnIsApart};
 ghost use Rattle.vortex_normal.specs.Worked.{BalancedExamples, FormExamples};
+ghost use Rattle.vortex_normal.specs.WorkedLinks.{LinkExamples};
 ghost use Rattle.vortex_normal.specs.WorkedNarrowed.{NarrowedExamples};
 ghost use Rattle.vortex_normal.specs.WorkedTests.{StrictExamples, TestExamples};
 
@@ -63,4 +64,9 @@ pub fn strict_examples_hold()
 /// Worked narrowed predicates.
 pub fn narrowed_examples_hold()
     ensures { NarrowedExamples }
+{}
+
+/// Worked consequences of comparisons of columns.
+pub fn link_examples_hold()
+    ensures { LinkExamples }
 {}

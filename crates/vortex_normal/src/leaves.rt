@@ -48,7 +48,7 @@ pub(crate) fn operator_as(wanted: bool, operator: Operator) -> Operator
     if wanted { operator } else { opposite(operator) }
 }
 
-fn is_reflexive(operator: Operator) -> bool
+pub(crate) fn is_reflexive(operator: Operator) -> bool
     ensures { result ≡ normal.is_reflexive operator }
 {
     matches!(operator, Operator::Eq | Operator::Gte | Operator::Lte)

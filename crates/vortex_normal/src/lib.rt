@@ -9,6 +9,7 @@ pub mod laws;
 mod leaves;
 pub mod levels;
 mod likes;
+mod links;
 mod narrowed;
 pub mod normalize;
 mod predicate;

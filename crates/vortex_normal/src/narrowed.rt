@@ -6,6 +6,7 @@ ghost use Rattle.vortex_rewrite.specs.Rewriting.Predicates.{is_predicate};
 ghost use Rattle.vortex_normal.specs.Narrowed as spec;
 
 use crate::groups::grouped;
+use crate::links::linked;
 use crate::predicate::Predicate;
 use crate::pushed::pushed;
 use crate::strict::{column_beside, range_column};
@@ -198,12 +199,13 @@ fn narrowed_by<'a>(
     requires { IsTrue (is_predicate e.now) }
     ensures { Makes (spec.narrowed_by (map (λ f. f.now) known.now) e.now) result }
 {
-    if joins_or(e) {
+    let narrowed = if joins_or(e) {
         let within = joined_facts(alloc, known, e)?;
-        chain(alloc, known, &within, e)
+        chain(alloc, known, &within, e)?
     } else {
-        chain(alloc, known, known, e)
-    }
+        chain(alloc, known, known, e)?
+    };
+    linked(alloc, e, narrowed)
 }
 
 /// Returns a predicate that is satisfied by the same rows, with what its ANDs say of a column put
