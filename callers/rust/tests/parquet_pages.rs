@@ -269,7 +269,7 @@ fn a_file_that_has_changed_is_refused() {
 fn each_byte_of_page_indexes_may_be_any_other() {
     let mut dice = Dice(9);
     let mut faults = Vec::new();
-    for _ in 0..10 {
+    for _ in 0..3 {
         let file = File::of(&[numbered(0..9)], &mut dice);
         let footer = file.footer();
         for place in file.begin.unwrap_or(file.footer)..file.footer {
