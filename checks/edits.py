@@ -91,6 +91,15 @@ def open_goals(told, texts):
     return goals
 
 
+def goals_at(function, goals):
+    """The goals of a function that are open, of those told by functions: the proof of a cycle has a folder of its own, where
+    they begin with the function's name unless it calls itself alone."""
+    module, _, own = function.rpartition("::")
+    alone = goals.get(f"{module}::+{own}".removeprefix("::"), set())
+    shared = {goal for name, its in goals.items() if "+" in name for goal in its if goal.startswith(f"{own}-")}
+    return goals.get(function, set()) | alone | shared
+
+
 class Crate:
     """A crate whose edits are tried, with those that were refused before on the same sources."""
 
@@ -169,7 +178,7 @@ class Crate:
             halves = edits[: len(edits) // 2], edits[len(edits) // 2 :]
             return {it: why for half in halves for it, why in self.faults_of(half, self.made_of(half), room).items()}
         goals = open_goals(told, edited)
-        found = {it: {goal for name in self.turned[it] for goal in goals.get(name, ())} for it in edits}
+        found = {it: {goal for name in self.turned[it] for goal in goals_at(name, goals)} for it in edits}
         missed = [it for it in edits if self.goals[it] not in found[it]]
         if len(edits) > 1:
             # A goal may stay unlooked at where a function that it rests on isn't proved, so such an edit is tried alone.
