@@ -12,6 +12,7 @@ use vortex_testing::parts::*;
 
 mod blocks;
 mod faults;
+mod likes;
 mod own;
 mod ranges;
 mod typed;
