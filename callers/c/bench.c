@@ -67,7 +67,7 @@ static uint8_t timed(const struct asked *asked, const vortex_field *scope, const
     double least = 1e9;
     uint8_t status = VORTEX_OK;
     for (size_t i = 0; i < 3 * COLUMNS; i++) stats[i].known_len = asked->zones, stats[i].values_len = asked->zones * 8;
-    for (int run = 0; run < 15 && status == VORTEX_OK; run++) {
+    for (size_t run = 0; run < (strlen(asked->predicate) > 10000 ? 3 : 15) && status == VORTEX_OK; run++) {
         double start = now();
         status = vortex_prune(scope, COLUMNS, rows, asked->zones, stats, 3 * COLUMNS, (const uint8_t *)asked->predicate,
                               strlen(asked->predicate), 0, answers, asked->zones, &fault);
@@ -107,7 +107,7 @@ static int pruning(void) {
     const struct asked asked[] = {
         {"one comparison", "gt col a lit i64 999900", ZONES},   {"16 comparisons", sixteen, ZONES},
         {"100 values in order", list(100, 1), ZONES / 5},       {"100 values out of order", list(100, 37), ZONES / 5},
-        {"10,000 values in order", list(10000, 1), ZONES / 50}, {"10,000 values out of order", list(10000, 3701), ZONES / 50},
+        {"10,000 values in order", list(10000, 1), ZONES / 5}, {"10,000 values out of order", list(10000, 3701), ZONES / 5},
     };
     for (size_t i = 0; i < sizeof asked / sizeof *asked; i++) {
         uint8_t status = timed(&asked[i], scope, rows, stats, answers);
