@@ -196,7 +196,7 @@ class _Lent:
             return None
         if type(buffer) is bytes:
             self.kept.append(buffer)
-            return ctypes.cast(buffer, ctypes.c_void_p).value
+            return ctypes.cast(ctypes.c_char_p(buffer), ctypes.c_void_p).value
         if numpy is not None:
             lent = numpy.frombuffer(view, dtype=numpy.uint8)
             self.kept.append(lent)
