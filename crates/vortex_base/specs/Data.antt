@@ -1,12 +1,11 @@
 -- Types, values, columns and scopes.
-pub mod BlobPairs
 pub mod Blobs
 pub mod CellPairs
 pub mod Cells
 pub mod Columns
+pub mod Ends
 pub mod Exact
 pub mod Names
-pub mod NativePairs
 pub mod Natives
 pub mod Neighbours
 pub mod Orders

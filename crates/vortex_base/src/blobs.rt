@@ -1,8 +1,6 @@
 //! Optional byte strings, one behind another in one heap.
-ghost use Rattle.std.specs.Prelude.{◌≡◌, ◌<◌, ◌≤◌, ◌++◌, ◌∷◌, [], IfOk, OnErr, OnOk, length, option_copied, slice_get, take};
+ghost use Rattle.std.specs.Prelude.{◌≡◌, ◌<◌, ◌≤◌, ◌+◌, ◌^◌, ◌++◌, ◌∷◌, [], IfOk, OnErr, OnOk, length, map, option_copied, slice_get, slice_index, take, vec_capacity, vec_len, ℕ};
 ghost use Rattle.vortex_base.specs.Data.Blobs.{blob_at, start_at};
-
-pub(crate) mod pair;
 
 use crate::natives::have_room;
 use std::alloc::{AllocError, Global};
@@ -35,6 +33,17 @@ fn start_at(ends: &[usize], i: usize) -> usize
     ensures { result ≡ start_at 0 ends.now i }
 {
     if i == 0 { 0 } else { ends[i - 1] }
+}
+
+// Puts more ends behind the ends, for which there is room, each moved up.
+fn push_shifted(ends: &mut Vec<usize>, more: &[usize], by: usize)
+    requires room { vec_len ends.old + length more.now ≤ vec_capacity ends.old }
+    requires fits { (i : ℕ) → i < length more.now → by + slice_index more.now i < 2 ^ 64 }
+    ensures { ends.new.items ≡ ends.old.items ++ map (λ e. by + e) more.now }
+{
+    for end in more {
+        ends.push_reserved(by + *end);
+    }
 }
 
 impl Blobs {
@@ -98,6 +107,20 @@ impl Blobs {
         self.heap.extend_from_slice(value.unwrap_or(&[]))?;
         self.ends.push_reserved(self.heap.len());
         self.there.push_reserved(value.is_some());
+        Ok(())
+    }
+
+    // Adds copies of other byte strings. If memory is refused, the byte strings are as they were.
+    pub(crate) fn extend_from(&mut self, others: &Blobs) -> Result<(), AllocError>
+        ensures extended { OnOk result (self.new ≡ self.old ++ others.now) }
+        ensures refused { OnErr result (self.new ≡ self.old) }
+    {
+        self.ends.reserve(others.ends.len())?;
+        self.there.reserve(others.there.len())?;
+        let by = self.heap.len();
+        self.heap.extend_from_slice(&others.heap)?;
+        push_shifted(&mut self.ends, &others.ends, by);
+        let _ = self.there.extend_from_slice(&others.there);
         Ok(())
     }
 

@@ -1,12 +1,12 @@
 //! The values of a column as they are kept: nulls, truths, numbers and texts in forms of their own.
 ghost use Rattle.std.specs.Prelude.{◌≡◌, ◌≢◌, ◌<◌, ◌≤◌, ◌+◌, ◌++◌, ◌∷◌, [], IfOk, IfSome, MatchOption, None, OnErr, OnOk, Option, Some, length, map, option_copied, option_map, false, replicate, slice_get, slice_set, take, vec_capacity, vec_len};
+ghost use Rattle.std.specs.Bool.{OnFalse, OnTrue};
 ghost use Rattle.vortex_base.specs.Data.Cells.{bytes_value, cell_values, short_value, text_value, value_of, IsOfOtherForm};
 ghost use Rattle.vortex_base.specs.Data.Columns.{all_fit, value_at};
 ghost use Rattle.vortex_base.specs.Data.Types.{has_null_alone};
 ghost use Rattle.vortex_base.specs.declared.scalar_value.ScalarValue.TheVariants as value;
 
 pub(crate) mod pair;
-mod vec_pair;
 
 use crate::blobs::{Blobs, BytesRef};
 use crate::dtype::DType;
@@ -165,6 +165,24 @@ fn set_native<T: Native>(natives: &mut Natives<T>, place: usize, native: Option<
         ≡ slice_set (map (option_map T.scalar) natives.old) place (option_map T.scalar native) }
 {
     natives.set(place, native);
+}
+
+// Adds copies of the values of cells of this form, and nothing of others. Returns whether they are
+// of this form.
+#[inline]
+fn extend_natives<T: Native>(natives: &mut Natives<T>, others: &Cells) -> Result<bool, AllocError>
+    ensures extended { IfOk result (λ same. OnTrue same (map (option_map T.scalar) natives.new
+        ≡ map (option_map T.scalar) natives.old ++ cell_values others.now)) }
+    ensures unlike { IfOk result (λ same. OnFalse same (natives.new ≡ natives.old)) }
+    ensures refused { OnErr result (natives.new ≡ natives.old) }
+{
+    match T::of_cells(others) {
+        Some(others) => {
+            natives.extend_from(others)?;
+            Ok(true)
+        }
+        None => Ok(false),
+    }
 }
 
 // A column of `count` nulls of a type that can be set.
@@ -412,6 +430,33 @@ impl Cells {
             Cells::Nulls(nulls) => nulls.truncate(len),
             Cells::Texts(texts) => texts.truncate(len),
             Cells::Binary(blobs) => blobs.truncate(len))
+    }
+
+    // Adds copies of the values of other cells of the same form, but of none of any kind: to these,
+    // and to cells of another form, nothing is added. Returns whether the values were added.
+    #[inline]
+    pub(crate) fn extend_from(&mut self, others: &Cells) -> Result<bool, AllocError>
+        ensures extended { IfOk result (λ same. OnTrue same
+            (cell_values self.new ≡ cell_values self.old ++ cell_values others.now)) }
+        ensures unlike { IfOk result (λ same. OnFalse same
+            (cell_values self.new ≡ cell_values self.old)) }
+        ensures refused { OnErr result (cell_values self.new ≡ cell_values self.old) }
+    {
+        match_each_native!(self, natives => return extend_natives(natives, others),
+            Cells::Any(_) => return Ok(false),
+            Cells::Nulls(nulls) => match others {
+                Cells::Nulls(others) => nulls.extend_from(others)?,
+                _ => return Ok(false),
+            },
+            Cells::Texts(texts) => match others {
+                Cells::Texts(others) => texts.extend_from(others)?,
+                _ => return Ok(false),
+            },
+            Cells::Binary(blobs) => match others {
+                Cells::Binary(others) => blobs.extend_from(others)?,
+                _ => return Ok(false),
+            });
+        Ok(true)
     }
 
     /// Gives back the room that no value takes.

@@ -31,7 +31,8 @@ macro_rules! match_each_native {
 /// A truth or a number, of the type in which a column keeps it (upstream's `NativePType`, and
 /// `bool`).
 pub trait Native: Copy + Default {
-    ghost use Rattle.std.specs.Prelude.{◌≡◌, ◌≢◌, IfSome, List, MatchOption, Option, map, option_map};
+    ghost use Rattle.std.specs.Prelude.{◌≡◌, ◌≢◌, IfSome, List, MatchOption, Option, map};
+    ghost use Rattle.std.specs.Prelude.{option_map};
     ghost use Rattle.vortex_base.specs.Data.Cells.{cell_values, short_value, value_of};
     ghost use Rattle.vortex_base.specs.Data.Values.{value_cmp};
     ghost use Rattle.vortex_base.specs.declared.cells.Cells.{Cells};

@@ -1,10 +1,7 @@
 //! Optional values of one type, kept as a vector of that type beside which of them are there.
-ghost use Rattle.std.specs.Prelude.{◌≡◌, ◌<◌, ◌≤◌, ◌+◌, ◌++◌, ◌∷◌, [], IfOk, None, OnErr, OnOk, Some, length, map, replicate, slice_get, slice_set, take, vec_capacity, vec_len};
+ghost use Rattle.std.specs.Prelude.{◌≡◌, ◌<◌, ◌+◌, ◌++◌, ◌∷◌, [], IfOk, None, OnErr, OnOk, Some, length, map, replicate, slice_get, slice_set, take, vec_capacity, vec_len};
 ghost use Rattle.vortex_base.specs.Data.Natives.{native_at, optionals};
 
-mod pair;
-
-pub(crate) use pair::NativePair;
 use std::alloc::{AllocError, Global};
 use std::marker::Model;
 
@@ -132,6 +129,18 @@ impl<T: Copy + Default> Natives<T> {
     // The allocator of the values.
     pub(crate) fn allocator(&self) -> Global {
         *self.values.allocator()
+    }
+
+    // Adds copies of other values. If memory is refused, the values are as they were.
+    #[inline]
+    pub(crate) fn extend_from(&mut self, others: &Natives<T>) -> Result<(), AllocError>
+        ensures extended { OnOk result (self.new ≡ self.old ++ others.now) }
+        ensures refused { OnErr result (self.new ≡ self.old) }
+    {
+        self.there.reserve(others.there.len())?;
+        self.values.extend_from_slice(&others.values)?;
+        let _ = self.there.extend_from_slice(&others.there);
+        Ok(())
     }
 
     /// The number of values and nulls.

@@ -1,9 +1,6 @@
 //! Nulls, of which only the number is kept.
 ghost use Rattle.std.specs.Prelude.{◌≡◌, ◌+◌, ◌^◌, min, OnErr, OnOk};
 
-mod pair;
-
-pub(crate) use pair::NullPair;
 use std::alloc::{AllocError, Global};
 use std::marker::Model;
 
@@ -49,6 +46,15 @@ impl Nulls {
         ensures full { OnErr result (self.old + 1 ≡ 2 ^ 64) }
     {
         self.count = self.count.checked_add(1).ok_or(AllocError)?;
+        Ok(())
+    }
+
+    // Adds as many as others are, refused as memory is where so many can't be counted.
+    pub(crate) fn extend_from(&mut self, others: &Nulls) -> Result<(), AllocError>
+        ensures extended { OnOk result (self.new ≡ self.old + others.now) }
+        ensures refused { OnErr result (self.new ≡ self.old) }
+    {
+        self.count = self.count.checked_add(others.count).ok_or(AllocError)?;
         Ok(())
     }
 

@@ -2,8 +2,6 @@
 ghost use Rattle.std.specs.Prelude.{◌≡◌, ◌<◌, ◌++◌, ◌∷◌, [], IfOk, IsTrue, OnErr, OnOk, length, option_copied, slice_get, string_bytes, take};
 ghost use Rattle.vortex_base.specs.Data.Blobs.{blob_at};
 
-pub(crate) mod pair;
-
 use crate::blobs::Blobs;
 use std::alloc::{AllocError, Global};
 use std::marker::Model;
@@ -80,6 +78,14 @@ impl Texts {
             Some(text) => self.blobs.push(Some(text.as_bytes())),
             None => self.blobs.push(None),
         }
+    }
+
+    // Adds copies of other texts. If memory is refused, the texts are as they were.
+    pub(crate) fn extend_from(&mut self, others: &Texts) -> Result<(), AllocError>
+        ensures extended { OnOk result (self.new ≡ self.old ++ others.now) }
+        ensures refused { OnErr result (self.new ≡ self.old) }
+    {
+        self.blobs.extend_from(&others.blobs)
     }
 
     /// Drops the texts behind the first ones of this number.

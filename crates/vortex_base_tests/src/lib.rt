@@ -1,5 +1,6 @@
-//! Tests of `vortex_base` and `vortex_expr` by their public calls: ample memory and refused memory,
-//! printed texts, deep and long inputs, and each call of the built code once.
+//! Tests of `vortex_base`, `vortex_expr` and `vortex_stats` by their public calls: ample memory and
+//! refused memory, printed texts, deep and long inputs, and each call of the built code once; and
+//! callers that are proved from the contracts alone.
 #![tactic(auto)]
 
 #[cfg(test)]
@@ -14,6 +15,8 @@ mod like;
 mod like_pattern;
 #[cfg(test)]
 mod scope;
+#[cfg(test)]
+mod statistics;
 #[cfg(test)]
 mod testing;
 #[cfg(test)]

@@ -1,5 +1,5 @@
--- The values of two columns of one type fit it together.
-use Rattle.std.proofs.Common.{◌≡◌, ◌+◌, ◌^◌, ◌&&◌, nat_lt, [], Bool, true, false, cond, List, ◌∷◌, ◌++◌, Option, refl, sym, ap, subst, ◌∙◌}
+-- What is appended to lists and columns.
+use Rattle.std.proofs.Common.{◌≡◌, ◌+◌, ◌^◌, ◌&&◌, nat_lt, [], Bool, true, false, cond, List, ◌∷◌, ◌++◌, Option, Result, Ok, Err, IsOk, is_ok, if◌then◌else◌, refl, sym, ap, subst, ◌∙◌, rules}
 use Rattle.std.proofs.lemmas.List.Folds.{list_all-append}
 use Rattle.std.specs.List.{list_all, zip}
 use Rattle.vortex_base.specs.Data.Columns.{ColumnData, all_fit, can_append, sizes_fit}
@@ -8,6 +8,11 @@ use Rattle.vortex_base.specs.Data.Scalars.{is_optional_value}
 use Rattle.vortex_base.specs.Data.Types.{dtype_eq_is_exact}
 use Rattle.vortex_base.specs.declared.dtype.DType.{DType}
 use Rattle.vortex_base.specs.declared.scalar_value.ScalarValue.{ScalarValue}
+
+-- a list once a call that appends to it succeeds, as it does where there is room
+pub appended_in_room : {X T E : Type 0} (r : Result T E) (xs ys zs : List X) → zs ≡ (if is_ok r then xs ++ ys else xs) → IsOk r → zs ≡ xs ++ ys
+appended_in_room (Ok t) xs ys zs h ok = h
+appended_in_room (Err e) xs ys zs h ok = absurd (search rules)
 
 -- two columns that may be appended are of one type
 pub same_type : (c d : ColumnData) (cs ds : List ColumnData) → can_append (c ∷ cs) (d ∷ ds) ≡ true → c.dtype ≡ d.dtype

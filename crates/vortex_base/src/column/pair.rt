@@ -24,6 +24,7 @@ impl Pair {
     ghost use Rattle.vortex_base.specs.Data.Pairs.{first_of, second_of};
 
     // The pair of two columns, or both as they were where memory for the room is refused.
+    #[inline(always)]
     pub(crate) fn try_new(column: Column, other: Column) -> Result<Pair, (Column, Column)>
         requires { IsTrue (can_append (column ∷ []) (other ∷ [])) }
         ensures first { IfOk result (λ pair. first_of pair ≡ column) }
@@ -57,6 +58,7 @@ impl Pair {
     }
 
     // Both columns as they were.
+    #[inline(always)]
     pub(crate) fn apart(self) -> (Column, Column)
         ensures first { result.0 ≡ first_of self }
         ensures second { result.1 ≡ second_of self }
@@ -78,6 +80,7 @@ impl Pair {
     }
 
     // Both columns, with the values of the second moved behind those of the first, and its size.
+    #[inline(always)]
     pub(crate) fn appended(self) -> (Column, Column)
         ensures first { result.0 ≡ appended (first_of self) (second_of self) }
         ensures second { result.1 ≡ emptied (second_of self) }

@@ -1,0 +1,2 @@
+-- What callers of statistics compute.
+pub mod Writing

@@ -1,0 +1,81 @@
+//! Sets by the built code: writes, look-ups, readings and iterators.
+use crate::statistics::callers::{counted, entries_of, statistics_of};
+use crate::statistics::testing::{Entry, I32, UTF8, has, int, text};
+use smallvec::SmallVec;
+use std::alloc::{AllocError, Global};
+use std::process::Abort;
+use vortex_stats::error::StatsError;
+use vortex_stats::precision::Precision::{Absent, Exact};
+use vortex_stats::stat::Stat::{self, Max, Min, NullCount, Sum};
+use vortex_stats::stats_set::{StatsArray, StatsSet};
+
+// Max 100 and then Min 42, which the caller knows to be of two statistics.
+fn unchecked(alloc: Global) -> Result<StatsSet, StatsError> {
+    let mut entries: StatsArray = SmallVec::new(alloc);
+    entries.push((Max, int(100)))?;
+    entries.push((Min, int(42)))?;
+    Ok(StatsSet::new_unchecked(alloc, entries))
+}
+
+fn expect_statistics(rt: &impl Abort, alloc: Global, set: &StatsSet, expected: &[Stat]) {
+    let found = statistics_of(alloc, set).expect(rt, "statistics");
+    assert!(rt; found.as_slice() == expected && counted(set) == set.len());
+}
+
+#[test]
+fn entries_keep_their_places(rt: HostRuntime) {
+    let alloc = rt.alloc();
+    let mut set = unchecked(alloc).expect(&rt, "a set");
+    set.set(Max, int(4)).expect(&rt, "a maximum");
+    set.set(Sum, Absent).expect(&rt, "no sum");
+    expect_statistics(&rt, alloc, &set, &[Max, Min, Sum]);
+    set.retain_only(&[Sum, Max]);
+    expect_statistics(&rt, alloc, &set, &[Max, Sum]);
+    set.clear(Max);
+    set.clear(NullCount);
+    let entries = entries_of(alloc, set).expect(&rt, "entries");
+    assert!(rt; entries.len() == 1);
+}
+
+#[test]
+fn texts(rt: HostRuntime) {
+    let alloc = rt.alloc();
+    let mut set = StatsSet::new(alloc);
+    assert!(rt; set.is_empty());
+    set.put(Max, text(alloc, "m").expect(&rt, "a text"));
+    let copy = set.try_clone().expect(&rt, "a copy");
+    let max = set.get(Max).expect(&rt, "a value");
+    assert!(rt; has(&copy, Max, max));
+    let read = copy.get_as::<String>(Max, &UTF8).expect(&rt, "a reading");
+    assert!(rt;
+        read.as_exact()
+            .expect(&rt, "a string")
+            .as_str()
+            .starts_with("m and")
+    );
+}
+
+// Max 1, Min 0 and Max inexactly 4.
+fn three_items(alloc: Global) -> Result<Vec<Entry>, AllocError> {
+    let mut items = Vec::new(alloc);
+    items.push((Max, int(1)))?;
+    items.push((Min, int(0)))?;
+    items.push((Max, int(4).into_inexact()))?;
+    Ok(items)
+}
+
+#[test]
+fn items(rt: HostRuntime) {
+    let alloc = rt.alloc();
+    let mut set = StatsSet::of(alloc, Min, int(7));
+    let items = three_items(alloc).expect(&rt, "items");
+    set.try_extend(items.into_iter())
+        .expect(&rt, "an extended set");
+    expect_statistics(&rt, alloc, &set, &[Min, Max]);
+    let items = three_items(alloc).expect(&rt, "items");
+    let set = StatsSet::try_from_iter(alloc, items.into_iter()).expect(&rt, "a set");
+    expect_statistics(&rt, alloc, &set, &[Max, Min]);
+    assert!(rt; has(&set, Max, int(4).into_inexact()));
+    assert!(rt; set.get_as::<u8>(Min, &I32).expect(&rt, "a number") == Exact(0));
+    assert!(rt; StatsSet::value_fits(Max, &I32, &int(5)) && set.fits(&I32) && !set.fits(&UTF8));
+}

@@ -1,6 +1,0 @@
-pub mod AddedUp
-pub mod ExactEntries
-pub mod MergeRows
-pub mod UnionRows
-pub mod WritingLemmas
-pub mod WritingRows
