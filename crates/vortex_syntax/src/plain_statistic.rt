@@ -15,7 +15,7 @@ use vortex_stats::stat::Stat;
 
 /// A statistic that a line tells of a column.
 #[derive(Debug, Drop)]
-pub struct Told {
+pub struct StatLine {
     /// The place of the column.
     pub place: usize,
     pub stat: Stat,
@@ -145,7 +145,11 @@ fn plain_claim<'a>(columns: &Columns, near: usize, text: &'a [u8]) -> Option<(Cl
 /// in front of each word, the last of them a truth or a number in up to 19 digits, and a line feed.
 /// None where anything else stands there. The column is found soonest near this place.
 #[inline(always)]
-pub fn plain_stat<'a>(columns: &Columns, near: usize, text: &'a [u8]) -> Option<(Told, &'a [u8])>
+pub fn plain_stat<'a>(
+    columns: &Columns,
+    near: usize,
+    text: &'a [u8],
+) -> Option<(StatLine, &'a [u8])>
     ensures told { IfSome result (λ x. BeginsStat (named_columns columns.now) text.now
         (x.0.place, x.0.stat, x.0.value) x.1.now) }
     ensures shorter { IfSome result (λ x. length x.1.now < length text.now) }
@@ -156,7 +160,7 @@ pub fn plain_stat<'a>(columns: &Columns, near: usize, text: &'a [u8]) -> Option<
     let [b'\n', after @ ..] = rest else {
         return None;
     };
-    let told = Told {
+    let told = StatLine {
         place: claim.place,
         stat: claim.stat,
         value: precise(is_exact, value),

@@ -8,9 +8,9 @@ use Rattle.std.specs.Prelude.{slice_get}
 use Rattle.vortex_zone_log.proofs.TableLemmas.{lt_or_le}
 use Rattle.vortex_zone_log.specs.Blocks.{AreCounted, IsBlockOf, all_in, before}
 use Rattle.vortex_zone_log.specs.declared.blocks.Block.{Block}
-use Rattle.vortex_zone_log.specs.declared.stretch.Stretch.{Stretch}
+use Rattle.vortex_zone_log.specs.declared.entry_range.EntryRange.{EntryRange}
 
-abbrev own : List Block → ℕ → Block → List Stretch
+abbrev own : List Block → ℕ → Block → List EntryRange
 own bs k d = (get_or bs k d).stretches.items
 
 -- ---- how many stand before a block
@@ -65,23 +65,23 @@ with (x ∷ bs) (suc k) b lt = ap (λ l. x.stretches.items ++ l) (with bs k b (o
 -- ---- a stretch of a block
 
 module _ (bs : List Block) (k : ℕ) (d : Block) (lt : k < length bs) where
-  abbrev front : List Stretch
+  abbrev front : List EntryRange
   front = all_in (take k bs)
 
-  abbrev back : List Stretch
+  abbrev back : List EntryRange
   back = all_in (drop (suc k) bs)
 
   front_long : length front ≡ before bs k
   front_long = length_before bs k (omega (arith, lt))
 
-  pub get_in : (i : ℕ) (e : Stretch) → i < length (own bs k d) → slice_get (all_in bs) (before bs k + i) ≡ Some (get_or (own bs k d) i e)
+  pub get_in : (i : ℕ) (e : EntryRange) → i < length (own bs k d) → slice_get (all_in bs) (before bs k + i) ≡ Some (get_or (own bs k d) i e)
   get_in i e less =
       let more = before_suc bs k d lt in
       let all = before_within bs (suc k) in
       slice_get-get_or (all_in bs) (before bs k + i) e (omega (arith, more, all, less))
       ∙ ap Some (ap₂ (λ l n. get_or l (n + i) e) (split bs k d lt) (sym front_long) ∙ get_or-append-add front (own bs k d ++ back) i e ∙ get_or_append_left (own bs k d) back e i less)
 
-  pub set_in : (i : ℕ) (s : Stretch) (b : Block) → i < length (own bs k d) → b.stretches.items ≡ set (own bs k d) i s → all_in (set bs k b) ≡ set (all_in bs) (before bs k + i) s
+  pub set_in : (i : ℕ) (s : EntryRange) (b : Block) → i < length (own bs k d) → b.stretches.items ≡ set (own bs k d) i s → all_in (set bs k b) ≡ set (all_in bs) (before bs k + i) s
   set_in i s b less is =
       with bs k b lt
       ∙ ap (λ l. front ++ (l ++ back)) is
@@ -106,7 +106,7 @@ module _ (bs : List Block) (k : ℕ) (d : Block) (lt : k < length bs) where
       ∙ ap₂ (λ a b. a ++ b) (sym first) (sym second)
 
   -- behind the last stretch of the last block
-  pub push_in : (s : Stretch) (b : Block) → length bs ≡ k + 1 → b.stretches.items ≡ own bs k d ++ s ∷ [] → all_in (set bs k b) ≡ all_in bs ++ s ∷ []
+  pub push_in : (s : EntryRange) (b : Block) → length bs ≡ k + 1 → b.stretches.items ≡ own bs k d ++ s ∷ [] → all_in (set bs k b) ≡ all_in bs ++ s ∷ []
   push_in s b last is =
       let none : back ≡ [] = ap all_in (drop_all (suc k) bs (omega (arith, last))) in
       with bs k b lt

@@ -16,9 +16,9 @@ use Rattle.vortex_stats.proofs.Sets.Places.{with_entries-distinct}
 use Rattle.vortex_stats.specs.Sets.Entries.{AreDistinct, entries_fit, with_entries, with_entry}
 use Rattle.vortex_base.specs.declared.scalar_value.ScalarValue.{ScalarValue}
 use Rattle.vortex_zone_log.specs.Kept.{IsWithin, Saying, said, said_in, saying, sets_of, sets_with, stretch_of, zone_of, zones_of}
-use Rattle.vortex_zone_log.specs.declared.told.Told.{Told}
+use Rattle.vortex_zone_log.specs.declared.stat_entry.StatEntry.{StatEntry}
 use Rattle.vortex_zone_log.specs.Logs.{empty_sets, joined, joined_at, set_at}
-use Rattle.vortex_zone_log.specs.declared.stretch.Stretch.{Stretch}
+use Rattle.vortex_zone_log.specs.declared.entry_range.EntryRange.{EntryRange}
 use Rattle.vortex_zone_log.proofs.LogLemmas.{IsNext, next_is_within, next_zone, others_within, sets_with-append, zone_long, zones_grow}
 
 pub length-merged : (xs ys : List Entries) → length xs ≡ length ys → length (merged_sets xs ys) ≡ length xs
@@ -50,7 +50,7 @@ drop-map f (suc n) [] = refl
 drop-map f (suc n) (x ∷ xs) = drop-map f n xs
 
 -- the same of what they are told by
-pub zones_joined : (n : ℕ) (ts : List Saying) (ss : List Stretch) (i : ℕ) (s : Stretch) → zones_of n ts (take i ss ++ s ∷ drop (i + 2) ss) ≡ take i (zones_of n ts ss) ++ zone_of n ts s ∷ drop (i + 2) (zones_of n ts ss)
+pub zones_joined : (n : ℕ) (ts : List Saying) (ss : List EntryRange) (i : ℕ) (s : EntryRange) → zones_of n ts (take i ss ++ s ∷ drop (i + 2) ss) ≡ take i (zones_of n ts ss) ++ zone_of n ts s ∷ drop (i + 2) (zones_of n ts ss)
 zones_joined n ts ss i s =
     map-append (zone_of n ts) (take i ss) (s ∷ drop (i + 2) ss)
     ∙ ap (λ l. l ++ zone_of n ts s ∷ map (zone_of n ts) (drop (i + 2) ss)) (sym (take-map (zone_of n ts) i ss))
@@ -121,7 +121,7 @@ one_more_merged xs ys yielded a b set place old new all at within long first sec
 
 -- ---- the log with two zones joined
 
-module _ (n : ℕ) (ts more : List Saying) (s : Stretch) (next : IsNext ts more s) (ss : List Stretch) (within : AllByRecursion (IsWithin (length ts)) ss) (i : ℕ) where
+module _ (n : ℕ) (ts more : List Saying) (s : EntryRange) (next : IsNext ts more s) (ss : List EntryRange) (within : AllByRecursion (IsWithin (length ts)) ss) (i : ℕ) where
   pub joined_within : AllByRecursion (IsWithin (length (ts ++ more))) (take i ss ++ s ∷ drop (i + 2) ss)
   joined_within =
       let P = IsWithin (length (ts ++ more)) in
@@ -150,5 +150,5 @@ one_more_zone zones from k z at =
     take_more (drop from zones) k z (omega (arith, long, within)) ∙ ap (λ x. take k (drop from zones) ++ x ∷ []) (get_or-drop from zones k z ∙ get_or_from_slice_get zones (from + k) z z at)
 
 -- what a stretch of what is told says is a stretch of what it says
-pub stretch_said : (longs : List ScalarValue) (ts : List Told) (s : Stretch) → said longs (take (s.to - s.from) (drop s.from ts)) ≡ stretch_of (said longs ts) s
+pub stretch_said : (longs : List ScalarValue) (ts : List StatEntry) (s : EntryRange) → said longs (take (s.to - s.from) (drop s.from ts)) ≡ stretch_of (said longs ts) s
 stretch_said longs ts s = sym (take-map (saying longs) (s.to - s.from) (drop s.from ts)) ∙ ap (take (s.to - s.from)) (sym (drop-map (saying longs) s.from ts))

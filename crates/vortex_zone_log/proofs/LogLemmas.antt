@@ -10,7 +10,7 @@ use Rattle.vortex_stats.specs.declared.precision.Precision.{Precision}
 use Rattle.vortex_stats.specs.declared.stat.Stat.{Stat}
 use Rattle.vortex_zone_log.specs.Kept.{IsWithin, Saying, sets_of, stretch_of, sets_with, zone_of, zones_of}
 use Rattle.vortex_zone_log.specs.Logs.{empty_sets, set_at}
-use Rattle.vortex_zone_log.specs.declared.stretch.Stretch.{Stretch}
+use Rattle.vortex_zone_log.specs.declared.entry_range.EntryRange.{EntryRange}
 
 -- ---- what is told, one part behind the other
 
@@ -45,7 +45,7 @@ nothing_told n ts i s p past = ap (set_at i s p (sets_of n ts)) (slice_get_past 
 
 -- ---- stretches
 
-pub stretch_grows : (ts more : List Saying) (s : Stretch) → IsWithin (length ts) s → stretch_of (ts ++ more) s ≡ stretch_of ts s
+pub stretch_grows : (ts more : List Saying) (s : EntryRange) → IsWithin (length ts) s → stretch_of (ts ++ more) s ≡ stretch_of ts s
 stretch_grows ts more s is =
     let a = is.ascends in
     let w = is.within in
@@ -53,17 +53,17 @@ stretch_grows ts more s is =
     ap (take (s.to - s.from)) (drop-append-le s.from ts more (omega (arith, a, w)))
     ∙ take-append-le (s.to - s.from) (drop s.from ts) more (omega (arith, long, a, w))
 
-pub zones_grow : (n : ℕ) (ts more : List Saying) (ss : List Stretch) → AllByRecursion (IsWithin (length ts)) ss → zones_of n (ts ++ more) ss ≡ zones_of n ts ss
+pub zones_grow : (n : ℕ) (ts more : List Saying) (ss : List EntryRange) → AllByRecursion (IsWithin (length ts)) ss → zones_of n (ts ++ more) ss ≡ zones_of n ts ss
 zones_grow n ts more [] all = refl
 zones_grow n ts more (s ∷ ss) (is, all) =
     ap₂ (λ (l : List Saying) (zs : List ZoneData). record { rows = s.rows; stats = sets_of n l } ∷ zs) (stretch_grows ts more s is) (zones_grow n ts more ss all)
 
-pub stays_within : (m n : ℕ) (ss : List Stretch) → m ≤ n → AllByRecursion (IsWithin m) ss → AllByRecursion (IsWithin n) ss
+pub stays_within : (m n : ℕ) (ss : List EntryRange) → m ≤ n → AllByRecursion (IsWithin m) ss → AllByRecursion (IsWithin n) ss
 stays_within m n [] le all = tt
 stays_within m n (s ∷ ss) le (is, all) = (record { ascends = is.ascends; within = let w = is.within in omega (arith, le, w) }, stays_within m n ss le all)
 
 -- the stretch of what was told last
-pub stretch_last : (ts more : List Saying) (s : Stretch) → s.from ≡ length ts → s.to ≡ length ts + length more → stretch_of (ts ++ more) s ≡ more
+pub stretch_last : (ts more : List Saying) (s : EntryRange) → s.from ≡ length ts → s.to ≡ length ts + length more → stretch_of (ts ++ more) s ≡ more
 stretch_last ts more s from to =
     let long : length more ≤ s.to - s.from = omega (arith, from, to) in
     ap (take (s.to - s.from)) (drop_at ts more s.from (sym from)) ∙ take_all (s.to - s.from) more long
@@ -71,11 +71,11 @@ stretch_last ts more s from to =
 -- ---- zones that end
 
 -- the stretch of what is told behind all the others
-pub record IsNext (ts more : List Saying) (s : Stretch) : Type 0 where
+pub record IsNext (ts more : List Saying) (s : EntryRange) : Type 0 where
   pub from : s.from ≡ length ts
   pub to : s.to ≡ length (ts ++ more)
 
-module _ (ts more : List Saying) (s : Stretch) (next : IsNext ts more s) where
+module _ (ts more : List Saying) (s : EntryRange) (next : IsNext ts more s) where
   -- it is one of what is told then
   pub next_is_within : IsWithin (length (ts ++ more)) s
   next_is_within =
@@ -85,7 +85,7 @@ module _ (ts more : List Saying) (s : Stretch) (next : IsNext ts more s) where
       record { ascends = omega (arith, f, t, long); within = omega (arith, t) }
 
   -- with the others
-  pub others_within : (ss : List Stretch) → AllByRecursion (IsWithin (length ts)) ss → AllByRecursion (IsWithin (length (ts ++ more))) ss
+  pub others_within : (ss : List EntryRange) → AllByRecursion (IsWithin (length ts)) ss → AllByRecursion (IsWithin (length (ts ++ more))) ss
   others_within ss all = let long = length-append ts more in stays_within (length ts) (length (ts ++ more)) ss (omega (arith, long)) all
 
   -- the zone that it tells of
@@ -93,7 +93,7 @@ module _ (ts more : List Saying) (s : Stretch) (next : IsNext ts more s) where
   next_zone n = ap (λ (l : List Saying). record { rows = s.rows; stats = sets_of n l }) (stretch_last ts more s next.from (next.to ∙ length-append ts more))
 
   -- the zones with it behind them
-  pub zones_ended : (n : ℕ) (ss : List Stretch) → AllByRecursion (IsWithin (length ts)) ss → zones_of n (ts ++ more) (ss ++ s ∷ []) ≡ zones_of n ts ss ++ record { rows = s.rows; stats = sets_of n more } ∷ []
+  pub zones_ended : (n : ℕ) (ss : List EntryRange) → AllByRecursion (IsWithin (length ts)) ss → zones_of n (ts ++ more) (ss ++ s ∷ []) ≡ zones_of n ts ss ++ record { rows = s.rows; stats = sets_of n more } ∷ []
   zones_ended n ss all =
       map-append (zone_of n (ts ++ more)) ss (s ∷ [])
       ∙ ap₂ (λ (zs : List ZoneData) (z : ZoneData). zs ++ z ∷ []) (zones_grow n ts more ss all) (next_zone n)
@@ -103,7 +103,7 @@ pub none_told : (n : ℕ) (ts : List Saying) → sets_of n [] ≡ empty_sets (le
 none_told n ts = ap empty_sets (sym (length-sets_of n ts))
 
 -- each zone has a set for each column
-pub zone_long : (n : ℕ) (ts : List Saying) (ss : List Stretch) (i : ℕ) (z : ZoneData) → slice_get (zones_of n ts ss) i ≡ Some z → length z.stats ≡ n
+pub zone_long : (n : ℕ) (ts : List Saying) (ss : List EntryRange) (i : ℕ) (z : ZoneData) → slice_get (zones_of n ts ss) i ≡ Some z → length z.stats ≡ n
 zone_long n ts [] i z at = absurd cc
 zone_long n ts (s ∷ ss) zero z at = let same = same_Some (zone_of n ts s) z at in ap (λ (x : ZoneData). length x.stats) (sym same) ∙ length-sets_of n (stretch_of ts s)
 zone_long n ts (s ∷ ss) (suc i) z at = zone_long n ts ss i z at

@@ -18,8 +18,8 @@ use Rattle.vortex_zone_log.proofs.TableLemmas.{zone_with}
 use Rattle.vortex_zone_log.specs.Kept.{IsWithin, said, saying}
 use Rattle.vortex_zone_log.specs.Logs.{empty_sets, zones_from}
 use Rattle.vortex_zone_log.specs.Tables.{AreBlank, AreCells, blank_zone, under}
-use Rattle.vortex_zone_log.specs.declared.stretch.Stretch.{Stretch}
-use Rattle.vortex_zone_log.specs.declared.told.Told.{Told}
+use Rattle.vortex_zone_log.specs.declared.entry_range.EntryRange.{EntryRange}
+use Rattle.vortex_zone_log.specs.declared.stat_entry.StatEntry.{StatEntry}
 
 -- ---- zones of which nothing is known
 
@@ -87,7 +87,7 @@ lent_whole len new old long same =
 
 -- ---- a stretch of a log
 
-pub stretch_within : (longs : List ScalarValue) (told : List Told) (runs : List Stretch) (i : ℕ) (s : Stretch) → AllByRecursion (IsWithin (length (said longs told))) runs → slice_get runs i ≡ Some s → IsWithin (length told) s
+pub stretch_within : (longs : List ScalarValue) (told : List StatEntry) (runs : List EntryRange) (i : ℕ) (s : EntryRange) → AllByRecursion (IsWithin (length (said longs told))) runs → slice_get runs i ≡ Some s → IsWithin (length told) s
 stretch_within longs told runs i s all at = subst (λ n. IsWithin n s) (length-map told (saying longs)) (all_at (IsWithin (length (said longs told))) runs i s all at)
 
 -- ---- row counts

@@ -18,7 +18,7 @@ use Rattle.vortex_stats.specs.Stat.{same_from_stat_eq}
 use Rattle.vortex_stats.specs.declared.stat.Stat.{Stat}
 use Rattle.vortex_zone_log.proofs.LogLemmas.{sets_with-append}
 use Rattle.vortex_zone_log.specs.Kept.{Saying, said, saying, sets_with}
-use Rattle.vortex_zone_log.specs.declared.told.Told.{Told}
+use Rattle.vortex_zone_log.specs.declared.stat_entry.StatEntry.{StatEntry}
 use Rattle.vortex_zone_log.specs.Logs.{set_at as stat_set}
 use Rattle.vortex_zone_log.specs.Tables.{AreCells, IsNextReader, is_read, reads, under, with_saying}
 
@@ -196,7 +196,7 @@ module _ (heads : List Head) (t : Saying) (before after : List ZoneData) (z : Zo
     }
 
 -- one more of what is told of a zone
-pub next_sets : (longs : List ScalarValue) (ts : List Told) (n : ℕ) (d : Told) (sets : List Entries) (rows : ℕ) → n < length ts
+pub next_sets : (longs : List ScalarValue) (ts : List StatEntry) (n : ℕ) (d : StatEntry) (sets : List Entries) (rows : ℕ) → n < length ts
     → with_saying (saying longs (get_or ts n d)) (zone_with rows (sets_with sets (said longs (take n ts)))) ≡ zone_with rows (sets_with sets (said longs (take (n + 1) ts)))
 next_sets longs ts n d sets rows within =
     let first = said longs (take n ts) in

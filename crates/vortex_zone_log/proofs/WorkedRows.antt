@@ -11,9 +11,9 @@ use Rattle.vortex_zone_log.specs.Blocks.{all_in, before}
 use Rattle.vortex_zone_log.specs.Kept.{log_of}
 use Rattle.vortex_zone_log.specs.Logs.{LogData, empty_sets, ended, joined_at, with_told, zones_from}
 use Rattle.vortex_zone_log.specs.declared.blocks.Block.{Block}
-use Rattle.vortex_zone_log.specs.declared.kept.Form.TheVariants as form
-use Rattle.vortex_zone_log.specs.declared.stretch.Stretch.{Stretch}
-use Rattle.vortex_zone_log.specs.declared.told.Told.{Told}
+use Rattle.vortex_zone_log.specs.declared.stored_value.ValueTag.TheVariants as form
+use Rattle.vortex_zone_log.specs.declared.entry_range.EntryRange.{EntryRange}
+use Rattle.vortex_zone_log.specs.declared.stat_entry.StatEntry.{StatEntry}
 
 abbrev pub num : ℕ → ScalarValue
 num n = value.Primitive (number.I64 (pos n))
@@ -94,13 +94,13 @@ none_of_them = refl
 
 -- ---- how it is kept: three zones, and a text
 
-abbrev told : ℕ → Told
+abbrev told : ℕ → StatEntry
 told n = record { column = 0; stat = Max; form = form.Exact; cell = cell.I64 (pos n) }
 
-abbrev text : Told
+abbrev text : StatEntry
 text = record { column = 1; stat = Max; form = form.LongInexact; cell = cell.U64 0 }
 
-abbrev stretch : (rows from to : ℕ) → Stretch
+abbrev stretch : (rows from to : ℕ) → EntryRange
 stretch rows from to = record { rows = rows; from = from; to = to }
 
 abbrev kept : LogData

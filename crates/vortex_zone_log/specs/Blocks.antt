@@ -2,14 +2,14 @@
 use Rattle.std.specs.Prelude.{◌≡◌, ◌<◌, ◌≤◌, ◌+◌, ◌++◌, ℕ, zero, suc, List, [], ◌∷◌, Some, length, slice_get, slice_index_or}
 use Rattle.vortex_zone_log.specs.declared.blocks.Block.{Block}
 use Rattle.vortex_zone_log.specs.declared.blocks.Blocks.{Blocks}
-use Rattle.vortex_zone_log.specs.declared.stretch.Stretch.{Stretch}
+use Rattle.vortex_zone_log.specs.declared.entry_range.EntryRange.{EntryRange}
 
 -- the stretches of blocks
-abbrev pub all_in : List Block → List Stretch
+abbrev pub all_in : List Block → List EntryRange
 all_in [] = []
 all_in (b ∷ bs) = b.stretches.items ++ all_in bs
 
-abbrev pub all_of : Blocks → List Stretch
+abbrev pub all_of : Blocks → List EntryRange
 all_of b = all_in b.blocks.items
 
 -- how many stretches stand before the block at a place
@@ -36,5 +36,5 @@ abbrev pub IsCounted : Blocks → Type 0
 IsCounted b = AreCounted b.count b.blocks.items b.places.items b.near
 
 -- these stretches stand together, the first of them at that place
-pub record IsRun (ss : List Stretch) (first : ℕ) (run : List Stretch) : Type 0 where
-  pub at : (i : ℕ) (s : Stretch) → slice_get run i ≡ Some s → slice_get ss (first + i) ≡ Some s
+pub record IsRun (ss : List EntryRange) (first : ℕ) (run : List EntryRange) : Type 0 where
+  pub at : (i : ℕ) (s : EntryRange) → slice_get run i ≡ Some s → slice_get ss (first + i) ≡ Some s

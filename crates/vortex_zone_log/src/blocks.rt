@@ -1,9 +1,9 @@
 //! Stretches in blocks, so that a change moves those of one block alone.
 ghost use Rattle.std.specs.Prelude.{◌≡◌, ◌<◌, ◌≤◌, ◌+◌, ◌++◌, ◌∷◌, [], IsTrue, List, OnErr, OnOk, Some, drop, length, slice_get, slice_set, take};
-ghost use Rattle.vortex_zone_log.specs.declared.stretch.Stretch as spec;
+ghost use Rattle.vortex_zone_log.specs.declared.entry_range.EntryRange as spec;
 ghost use Rattle.vortex_zone_log.specs.Blocks.{IsBlockOf, IsCounted, IsRun, all_of, before};
 
-use crate::stretch::Stretch;
+use crate::entry_range::EntryRange;
 use std::alloc::{AllocError, Global};
 
 // As many stretches as a block takes.
@@ -12,7 +12,7 @@ const FULL: usize = 256;
 /// Stretches one behind the other.
 #[derive(Debug, Drop)]
 pub struct Block {
-    pub stretches: Vec<Stretch>,
+    pub stretches: Vec<EntryRange>,
 }
 
 /// Stretches in order, in blocks of which some may be empty. It is known how many stretches there
@@ -31,14 +31,14 @@ pub struct Blocks {
 #[derive(Clone, Copy, Debug)]
 pub struct Run<'a> {
     pub first: usize,
-    pub stretches: &'a [Stretch],
+    pub stretches: &'a [EntryRange],
 }
 
 impl Run<'_> {
     /// No stretches.
     #[inline]
     pub fn none() -> Run<'static>
-        ensures { (ss : List spec.Stretch) → IsRun ss result.first result.stretches.now }
+        ensures { (ss : List spec.EntryRange) → IsRun ss result.first result.stretches.now }
     {
         Run {
             first: 0,
@@ -125,7 +125,7 @@ impl Blocks {
 
     /// The stretch at a place.
     #[inline]
-    pub fn at(&self, place: usize) -> Stretch
+    pub fn at(&self, place: usize) -> EntryRange
         requires counted { IsCounted self.now }
         requires there { place < length (all_of self.now) }
         ensures { slice_get (all_of self.now) place ≡ Some result }
@@ -153,7 +153,7 @@ impl Blocks {
     /// The stretch at a place, taken from those of a run if it is one of them. If it isn't, the run
     /// becomes one of which it is.
     #[inline]
-    pub fn at_hand<'a>(&'a self, run: &mut Run<'a>, place: usize) -> Stretch
+    pub fn at_hand<'a>(&'a self, run: &mut Run<'a>, place: usize) -> EntryRange
         requires counted { IsCounted self.now }
         requires there { place < length (all_of self.now) }
         requires run { IsRun (all_of self.now) run.old.first run.old.stretches.now }
@@ -189,7 +189,7 @@ impl Blocks {
 
     // Puts a stretch into a block of its own behind the others.
     #[inline(never)]
-    fn push_block(&mut self, stretch: Stretch) -> Result<(), AllocError>
+    fn push_block(&mut self, stretch: EntryRange) -> Result<(), AllocError>
         requires { IsCounted self.old }
         ensures pushed { OnOk result (all_of self.new ≡ all_of self.old ++ stretch ∷ []) }
         ensures refused { OnErr result (all_of self.new ≡ all_of self.old) }
@@ -212,7 +212,7 @@ impl Blocks {
     }
 
     /// Puts a stretch behind the others. Where memory is refused, these stay.
-    pub fn push(&mut self, stretch: Stretch) -> Result<(), AllocError>
+    pub fn push(&mut self, stretch: EntryRange) -> Result<(), AllocError>
         requires { IsCounted self.old }
         ensures pushed { OnOk result (all_of self.new ≡ all_of self.old ++ stretch ∷ []) }
         ensures refused { OnErr result (all_of self.new ≡ all_of self.old) }
@@ -233,7 +233,7 @@ impl Blocks {
     }
 
     // Puts a stretch in the place of another.
-    fn set(&mut self, place: usize, stretch: Stretch)
+    fn set(&mut self, place: usize, stretch: EntryRange)
         requires counted { IsCounted self.old }
         requires there { place < length (all_of self.old) }
         ensures set { all_of self.new ≡ slice_set (all_of self.old) place stretch }
@@ -263,7 +263,7 @@ impl Blocks {
 
     /// Puts a stretch in the place of the one at a place and the one behind it. Of those behind
     /// them only those in the second one's block move.
-    pub fn join_at(&mut self, place: usize, joined: Stretch)
+    pub fn join_at(&mut self, place: usize, joined: EntryRange)
         requires counted { IsCounted self.old }
         requires there { place + 1 < length (all_of self.old) }
         ensures joined { let old = all_of self.old in

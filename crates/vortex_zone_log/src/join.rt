@@ -5,7 +5,7 @@ ghost use Rattle.vortex_prune.specs.Part.{fits_zone, merged_sets};
 ghost use Rattle.vortex_stats.specs.Sets.Entries.{AreDistinct};
 ghost use Rattle.vortex_zone_log.specs.Kept.{AreKept, IsLonger, said, said_in, sets_of};
 
-use crate::told::{Told, tell};
+use crate::stat_entry::{StatEntry, tell};
 use std::alloc::{AllocError, Global};
 use vortex_base::dtype::DType;
 use vortex_base::scalar_value::ScalarValue;
@@ -35,7 +35,7 @@ pub fn merged_sets(
 
 // Tells what a set says of the column at a place.
 fn tell_set(
-    told: &mut Vec<Told>,
+    told: &mut Vec<StatEntry>,
     longs: &mut Vec<ScalarValue>,
     column: u32,
     set: StatsSet,
@@ -59,7 +59,7 @@ pub fn told_of(
     alloc: Global,
     longs: &mut Vec<ScalarValue>,
     sets: Vec<StatsSet>,
-) -> Result<Vec<Told>, AllocError>
+) -> Result<Vec<StatEntry>, AllocError>
     requires { length sets.items < 2 ^ 32 }
     ensures told { IfOk result (λ told.
         sets_of (length sets.items) (said longs.new.items told.items) ≡ sets.items) }

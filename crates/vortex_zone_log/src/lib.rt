@@ -3,15 +3,15 @@
 
 mod blocks;
 mod columns;
+mod entry_range;
 mod fill;
 mod join;
-mod kept;
 mod known;
 mod links;
 mod readers;
 mod short;
-mod stretch;
-mod told;
+mod stat_entry;
+mod stored_value;
 pub mod zone_log;
 
 pub use zone_log::ZoneLog;

@@ -7,10 +7,10 @@ ghost use Rattle.vortex_zone_log.specs.Kept.{said, saying, sets_with};
 ghost use Rattle.vortex_zone_log.specs.Tables.{AreCells, AreLinked, with_saying};
 
 use crate::fill::{set_cell, set_known};
-use crate::kept::copy_of;
 use crate::links::Links;
 use crate::short::{tells_itself, told_of_nulls};
-use crate::told::Told;
+use crate::stat_entry::StatEntry;
+use crate::stored_value::copy_of;
 use std::alloc::{AllocError, Global};
 use vortex_base::cells::Cells;
 use vortex_base::scalar_value::ScalarValue;
@@ -33,7 +33,7 @@ impl Readers<'_> {
         &self,
         head: &Head,
         cells: &mut Cells,
-        told: &Told,
+        told: &StatEntry,
         zone: usize,
         rows: u64,
     ) -> Result<(), AllocError>
@@ -57,7 +57,7 @@ impl Readers<'_> {
         &self,
         head: &Head,
         cells: &mut Cells,
-        told: &Told,
+        told: &StatEntry,
         zone: usize,
         rows: u64,
     ) -> Result<(), AllocError>
@@ -76,7 +76,7 @@ impl Readers<'_> {
     fn put(
         &self,
         cells: &mut [Cells],
-        told: &Told,
+        told: &StatEntry,
         zone: usize,
         rows: u64,
     ) -> Result<(), AllocError>
@@ -101,7 +101,7 @@ impl Readers<'_> {
     pub fn put_all(
         &self,
         cells: &mut [Cells],
-        told: &[Told],
+        told: &[StatEntry],
         zone: usize,
         rows: u64,
     ) -> Result<(), AllocError>

@@ -14,7 +14,7 @@ use crate::join::{merged_sets, told_of};
 use crate::known::Known;
 use crate::links::links_of;
 use crate::readers::Readers;
-use crate::told::{Told, move_behind, next_stretch, sets_of, tell, told_in};
+use crate::stat_entry::{StatEntry, move_behind, next_stretch, sets_of, tell, told_in};
 use std::alloc::{AllocError, Global};
 use std::marker::Model;
 use vortex_base::cells::Cells;
@@ -33,9 +33,9 @@ pub struct ZoneLog {
     // The texts and bytes that are told.
     longs: Vec<ScalarValue>,
     // What is told of the zones that have ended.
-    told: Vec<Told>,
+    told: Vec<StatEntry>,
     // What is told of the one that hasn't.
-    current: Vec<Told>,
+    current: Vec<StatEntry>,
     // Where it is told of each of them.
     stretches: Blocks,
 }

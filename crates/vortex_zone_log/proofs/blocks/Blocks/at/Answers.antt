@@ -3,7 +3,7 @@ use Rattle.std.specs.Prelude.{slice_get}
 use Rattle.vortex_zone_log.proofs.BlockLemmas.{get_in, inside}
 use Rattle.vortex_zone_log.specs.Blocks.{all_in, before}
 use Rattle.vortex_zone_log.specs.declared.blocks.Block.{Block}
-use Rattle.vortex_zone_log.specs.declared.stretch.Stretch.{Stretch}
+use Rattle.vortex_zone_log.specs.declared.entry_range.EntryRange.{EntryRange}
 use Rattle.vortex_zone_log.proofs.blocks.Blocks.at.Goals as goal
 
 pub index-requires-2 : goal.index-requires-2
@@ -28,4 +28,4 @@ returns c =
     let place : c.args.place ≡ before bs k + i = omega (arith, from, told) in
     ap (slice_get (all_in bs)) place
     ∙ get_in bs k b at.there i s less
-    ∙ ap Some (ap (λ (l : List Stretch). get_or l i s) (sym is) ∙ sym c.index-2.ensures)
+    ∙ ap Some (ap (λ (l : List EntryRange). get_or l i s) (sym is) ∙ sym c.index-2.ensures)

@@ -3,7 +3,7 @@ use Rattle.vortex_zone_log.proofs.BlockLemmas.{changed_counted, push_in, same_co
 use Rattle.vortex_zone_log.proofs.StepLemmas.{on_err}
 use Rattle.vortex_zone_log.specs.Blocks.{all_in}
 use Rattle.vortex_zone_log.specs.declared.blocks.Block.{Block}
-use Rattle.vortex_zone_log.specs.declared.stretch.Stretch.{Stretch}
+use Rattle.vortex_zone_log.specs.declared.entry_range.EntryRange.{EntryRange}
 use Rattle.vortex_zone_log.proofs.blocks.Blocks.push.Goals as goal
 
 pub returns-in_err-push-clause-refused : goal.returns-in_err-push-clause-refused
@@ -42,7 +42,7 @@ returns-clause-pushed c =
     let is = ap (λ (x : Block). x.stretches.items) c.index_mut-last.ensures.value in
     let count = c.len-near.ensures ∙ c.args.self.now.blocks.ok.0 ∙ ap length (sym same) in
     let there : k < length bs = omega (arith, count) in
-    push_in bs k b there s new (omega (arith, count)) (c.in_ok-push.ensures.items ∙ ap (λ (l : List Stretch). l ++ s ∷ []) is)
+    push_in bs k b there s new (omega (arith, count)) (c.in_ok-push.ensures.items ∙ ap (λ (l : List EntryRange). l ++ s ∷ []) is)
     ∙ ap (λ (l : List Block). all_in l ++ s ∷ []) same
 
 pub returns-clause-counted : goal.returns-clause-counted

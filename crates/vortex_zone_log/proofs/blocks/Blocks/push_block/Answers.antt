@@ -2,7 +2,7 @@ use Rattle.std.proofs.Common.{◌≡◌, ◌+◌, ◌++◌, ◌∷◌, ℕ, [], 
 use Rattle.vortex_zone_log.proofs.BlockLemmas.{new_counted, new_in}
 use Rattle.vortex_zone_log.specs.Blocks.{AreCounted, all_in}
 use Rattle.vortex_zone_log.specs.declared.blocks.Block.{Block}
-use Rattle.vortex_zone_log.specs.declared.stretch.Stretch.{Stretch}
+use Rattle.vortex_zone_log.specs.declared.entry_range.EntryRange.{EntryRange}
 use Rattle.vortex_zone_log.proofs.blocks.Blocks.push_block.Goals as goal
 
 pub returns-clause-pushed : goal.returns-clause-pushed
@@ -12,8 +12,8 @@ returns-clause-pushed c =
     let new : Block = record { stretches = c.push_reserved.new.self } in
     let same = ap (λ v. v.items) c.count_to.ensures.same in
     let all : c.push_reserved-2.new.self.items ≡ bs ++ new ∷ [] = c.push_reserved-2.ensures.items ∙ ap (λ (l : List Block). l ++ new ∷ []) c.in_ok-reserve.ensures.items in
-    let one : c.push_reserved.new.self.items ≡ s ∷ [] = c.push_reserved.ensures.items ∙ ap (λ (l : List Stretch). l ++ s ∷ []) c.in_ok-stretches.ensures.items in
-    ap all_in all ∙ new_in bs new ∙ ap₂ (λ (l : List Block) (r : List Stretch). all_in l ++ r) same one
+    let one : c.push_reserved.new.self.items ≡ s ∷ [] = c.push_reserved.ensures.items ∙ ap (λ (l : List EntryRange). l ++ s ∷ []) c.in_ok-stretches.ensures.items in
+    ap all_in all ∙ new_in bs new ∙ ap₂ (λ (l : List Block) (r : List EntryRange). all_in l ++ r) same one
 
 pub returns-clause-counted : goal.returns-clause-counted
 returns-clause-counted c =
@@ -25,7 +25,7 @@ returns-clause-counted c =
     let counted = c.count_to.ensures.counted in
     let all : c.push_reserved-2.new.self.items ≡ bs ++ new ∷ [] = c.push_reserved-2.ensures.items ∙ ap (λ (l : List Block). l ++ new ∷ []) c.in_ok-reserve.ensures.items in
     let places : c.push_reserved-3.new.self.items ≡ l.places.items ++ l.count ∷ [] = c.push_reserved-3.ensures.items ∙ ap (λ (l : List ℕ). l ++ c.count_to.new.self.count ∷ []) c.in_ok-reserve-2.ensures.items in
-    let one : length c.push_reserved.new.self.items ≡ 1 = ap length (c.push_reserved.ensures.items ∙ ap (λ (l : List Stretch). l ++ s ∷ []) c.in_ok-stretches.ensures.items) in
+    let one : length c.push_reserved.new.self.items ≡ 1 = ap length (c.push_reserved.ensures.items ∙ ap (λ (l : List EntryRange). l ++ s ∷ []) c.in_ok-stretches.ensures.items) in
     let near : l.near ≡ length bs = c.count_to.ensures.near ∙ c.len-near.ensures ∙ c.args.self.now.blocks.ok.0 ∙ ap length (sym same) in
     let whole = counted.whole in
     let before = c.requires.whole in

@@ -2,7 +2,7 @@ use Rattle.std.proofs.Common.{◌≡◌, ◌-◌, ◌+◌, ◌++◌, List, ap, a
 use Rattle.vortex_zone_log.proofs.BlockLemmas.{before_within, changed_counted, inside, remove_in}
 use Rattle.vortex_zone_log.specs.Blocks.{IsBlockOf, all_in, before}
 use Rattle.vortex_zone_log.specs.declared.blocks.Block.{Block}
-use Rattle.vortex_zone_log.specs.declared.stretch.Stretch.{Stretch}
+use Rattle.vortex_zone_log.specs.declared.entry_range.EntryRange.{EntryRange}
 use Rattle.vortex_zone_log.proofs.blocks.Blocks.remove.Goals as goal
 
 pub remove-requires : goal.remove-requires
@@ -30,7 +30,7 @@ returns-clause-removed c =
     let from = at.from in
     let told = c.before-2.ensures in
     let place : before bs k + i ≡ c.args.place = omega (arith, from, told) in
-    remove_in bs k b at.there i new less (c.remove.ensures.by_index.2 ∙ ap (λ (l : List Stretch). take i l ++ drop (i + 1) l) is)
+    remove_in bs k b at.there i new less (c.remove.ensures.by_index.2 ∙ ap (λ (l : List EntryRange). take i l ++ drop (i + 1) l) is)
     ∙ ap₂ (λ (l : List Block) n. take n (all_in l) ++ drop (n + 1) (all_in l)) same place
 
 pub returns-clause-counted : goal.returns-clause-counted

@@ -4,7 +4,7 @@ use Rattle.std.specs.Prelude.{slice_get}
 use Rattle.vortex_zone_log.proofs.BlockLemmas.{get_in, inside}
 use Rattle.vortex_zone_log.specs.Blocks.{all_in}
 use Rattle.vortex_zone_log.specs.declared.blocks.Block.{Block}
-use Rattle.vortex_zone_log.specs.declared.stretch.Stretch.{Stretch}
+use Rattle.vortex_zone_log.specs.declared.entry_range.EntryRange.{EntryRange}
 use Rattle.vortex_zone_log.proofs.blocks.Blocks.run_of.Goals as goal
 
 pub returns-clause-run : goal.returns-clause-run
@@ -14,7 +14,7 @@ returns-clause-run c = record {
       let k = c.block_of-block.result in
       let b = c.index.result.now in
       let is : c.deref.result.now ≡ (get_or bs k b).stretches.items = c.deref.ensures.value ∙ ap (λ (x : Block). x.stretches.items) c.index.ensures in
-      let there = subst (λ (l : List Stretch). slice_get l i ≡ Some s) is got in
+      let there = subst (λ (l : List EntryRange). slice_get l i ≡ Some s) is got in
       ap (λ n. slice_get (all_in bs) (n + i)) c.before-2.ensures
       ∙ get_in bs k b c.block_of-block.ensures.there i s (slice_get_within (get_or bs k b).stretches.items i s there)
       ∙ ap Some (get_or_from_slice_get (get_or bs k b).stretches.items i s s there);

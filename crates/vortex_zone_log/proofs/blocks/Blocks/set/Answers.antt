@@ -5,7 +5,7 @@ use Rattle.std.specs.Vec.{with_item}
 use Rattle.vortex_zone_log.proofs.BlockLemmas.{inside, same_counted, set_in}
 use Rattle.vortex_zone_log.specs.Blocks.{all_in, before}
 use Rattle.vortex_zone_log.specs.declared.blocks.Block.{Block}
-use Rattle.vortex_zone_log.specs.declared.stretch.Stretch.{Stretch}
+use Rattle.vortex_zone_log.specs.declared.entry_range.EntryRange.{EntryRange}
 use Rattle.vortex_zone_log.proofs.blocks.Blocks.set.Goals as goal
 
 pub index_mut-requires : goal.index_mut-requires
@@ -29,7 +29,7 @@ returns-clause-set c =
     let from = at.from in
     let told = c.before-2.ensures in
     let place : before bs k + i ≡ c.args.place = omega (arith, from, told) in
-    set_in bs k b at.there i s new less (ap (λ (l : List Stretch). set l i s) is)
+    set_in bs k b at.there i s new less (ap (λ (l : List EntryRange). set l i s) is)
     ∙ ap (λ n. set (all_in bs) n s) place
 
 pub returns-clause-counted : goal.returns-clause-counted

@@ -11,7 +11,7 @@ use Rattle.vortex_zone_log.specs.Blocks.{all_of}
 use Rattle.vortex_zone_log.specs.Kept.{IsWithin, said, sets_of, sets_with, stretch_of, zone_of}
 use Rattle.vortex_zone_log.specs.Logs.{LogData, zones_from}
 use Rattle.vortex_zone_log.specs.Tables.{AreCells, blank_zone}
-use Rattle.vortex_zone_log.specs.declared.told.Told.{Told}
+use Rattle.vortex_zone_log.specs.declared.stat_entry.StatEntry.{StatEntry}
 use Rattle.vortex_zone_log.proofs.zone_log.ZoneLog.cells_from.Goals as goal
 
 pub loop-next-init : goal.loop-next-init
@@ -26,7 +26,7 @@ pub told_in-told-requires : goal.told_in-told-requires
 told_in-told-requires c =
     let l = c.self.inside in
     let s = c.at_hand-stretch.result in
-    subst (λ (ts : List Told). IsWithin (length ts) s) (sym c.deref-in-loop-next.ensures.value)
+    subst (λ (ts : List StatEntry). IsWithin (length ts) s) (sym c.deref-in-loop-next.ensures.value)
     (stretch_within l.longs.items l.told.items (all_of l.stretches) (c.args.from + c.loop-next.next) s c.self.invariant.0.stretches c.at_hand-stretch.ensures.found)
 
 pub loop-next-preserved : goal.loop-next-preserved
@@ -46,7 +46,7 @@ loop-next-preserved c = record {
       zone_there c.args.self.now.zones c.args.from c.args.count k (zone_with s.rows full) c.loop-next-test.true
       (ap (λ (d : LogData). slice_get d.zones (c.args.from + k)) (sym c.self.view_is) ∙ slice_get-map (zone_of l.columns ts) runs (c.args.from + k) ∙ ap (option_map (zone_of l.columns ts)) there) in
       let says : said c.deref.result.now c.told_in-told.result.now ≡ stretch_of ts s =
-      ap₂ said c.deref.ensures.value (c.told_in-told.ensures ∙ ap (λ (x : List Told). take (s.to - s.from) (drop s.from x)) c.deref-in-loop-next.ensures.value) ∙ stretch_said l.longs.items l.told.items s in
+      ap₂ said c.deref.ensures.value (c.told_in-told.ensures ∙ ap (λ (x : List StatEntry). take (s.to - s.from) (drop s.from x)) c.deref-in-loop-next.ensures.value) ∙ stretch_said l.longs.items l.told.items s in
       let long : length c.put_all.new.cells ≡ c.loop-next.cells.len = c.put_all.auto.cells ∙ ap length c.deref_mut.ensures.value ∙ sym c.loop-next.cells.ok.0 in
       subst (λ (cs : List Cells). AreCells heads (take (k + 1) zones ++ map (blank_zone l.columns) (drop (k + 1) zones)) cs) (sym (lent_whole c.loop-next.cells.len c.put_all.new.cells c.loop-next.cells.items long (sym c.loop-next.cells.ok.0)))
       (next_told heads l.columns zones k s.rows full c.loop-next.cells.items c.put_all.new.cells at

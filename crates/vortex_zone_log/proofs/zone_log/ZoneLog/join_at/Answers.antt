@@ -6,7 +6,7 @@ use Rattle.vortex_zone_log.proofs.StepLemmas.{joined_is_log, joined_log, on_err,
 use Rattle.vortex_zone_log.specs.Blocks.{all_of}
 use Rattle.vortex_zone_log.specs.Known.{known_zone}
 use Rattle.vortex_zone_log.specs.Logs.{LogData, joined_at}
-use Rattle.vortex_zone_log.specs.declared.told.Told.{Told}
+use Rattle.vortex_zone_log.specs.declared.stat_entry.StatEntry.{StatEntry}
 use Rattle.vortex_zone_log.proofs.zone_log.ZoneLog.join_at.Goals as goal
 
 pub overflow_add-rows : goal.overflow_add-rows
@@ -66,7 +66,7 @@ invariant_of-self-2 c =
     let is = c.in_ok-joined.ensures in
     let to : c.in_ok-joined.joined.to ≡ length l.told.items + length more = is.to ∙ ap (λ k. length l.told.items + k) (c.len.ensures ∙ c.in_ok-told.told.ok.0) in (
       joined_is_log l.columns longs l.told.items more l.current.items runs stays c.in_ok-told.ensures.kept c.in_ok-joined.joined is.from to c.args.place c.move_behind.new.told.items (all_of c.join_at.new.self)
-          (c.move_behind.ensures.told ∙ ap (λ (ts : List Told). ts ++ more) is.same) c.join_at.ensures.joined,
+          (c.move_behind.ensures.told ∙ ap (λ (ts : List StatEntry). ts ++ more) is.same) c.join_at.ensures.joined,
       c.join_at.ensures.counted,
     )
 
@@ -82,7 +82,7 @@ returns-clause-joined c =
     let before = same_log l.columns l.longs.items longs c.in_ok-told.ensures.longer l.told.items l.current.items runs c.self.invariant.0 ∙ c.self.view_is in
     ap (λ (d : LogData). joined_at c.args.place d.zones) (sym before)
     ∙ joined_log l.columns longs l.told.items more l.current.items runs stays c.in_ok-told.ensures.kept c.in_ok-joined.joined is.from to c.args.place c.move_behind.new.told.items (all_of c.join_at.new.self)
-    (known_zone c.in_ok-left.left) (known_zone c.in_ok-right.right) c.in_ok-sets.sets.items (c.move_behind.ensures.told ∙ ap (λ (ts : List Told). ts ++ more) is.same) c.join_at.ensures.joined
+    (known_zone c.in_ok-left.left) (known_zone c.in_ok-right.right) c.in_ok-sets.sets.items (c.move_behind.ensures.told ∙ ap (λ (ts : List StatEntry). ts ++ more) is.same) c.join_at.ensures.joined
     (ap (λ (d : LogData). slice_get d.zones c.args.place) before ∙ c.in_ok-left.ensures.known) (ap (λ (d : LogData). slice_get d.zones (c.args.place + 1)) before ∙ c.in_ok-right.ensures.known) is.rows
     (c.in_ok-sets.ensures ∙ ap (merged_sets c.in_ok-left.left.sets.items) c.deref.ensures.value) c.in_ok-told.ensures.told
 

@@ -7,7 +7,7 @@ use Rattle.vortex_zone_log.proofs.LogLemmas.{length-sets_of}
 use Rattle.vortex_zone_log.specs.Blocks.{all_of}
 use Rattle.vortex_zone_log.specs.Kept.{said, sets_of, zone_of}
 use Rattle.vortex_zone_log.specs.Logs.{LogData}
-use Rattle.vortex_zone_log.specs.declared.told.Told.{Told}
+use Rattle.vortex_zone_log.specs.declared.stat_entry.StatEntry.{StatEntry}
 use Rattle.vortex_zone_log.proofs.zone_log.ZoneLog.known.Goals as goal
 
 pub returns-clause-known : goal.returns-clause-known
@@ -17,7 +17,7 @@ returns-clause-known c =
     let s = c.at-stretch.result in
     let zone : List Entries → ZoneData = λ sets. record { rows = s.rows; stats = sets } in
     let there : slice_get runs c.args.place ≡ Some s = c.at-stretch.ensures in
-    let says = ap₂ (λ longs (ts : List Told). sets_of l.columns (said longs (take (s.to - s.from) (drop s.from ts)))) c.deref-2.ensures.value c.deref.ensures.value
+    let says = ap₂ (λ longs (ts : List StatEntry). sets_of l.columns (said longs (take (s.to - s.from) (drop s.from ts)))) c.deref-2.ensures.value c.deref.ensures.value
     ∙ ap (sets_of l.columns) (stretch_said l.longs.items l.told.items s) in
     ap (λ (d : LogData). slice_get d.zones c.args.place) (sym c.self.view_is)
     ∙ slice_get-map (zone_of l.columns (said l.longs.items l.told.items)) runs c.args.place

@@ -3,7 +3,7 @@ use Rattle.vortex_zone_log.proofs.StepLemmas.{nothing_log, on_err, same_log, tol
 use Rattle.vortex_zone_log.specs.Blocks.{all_of}
 use Rattle.vortex_zone_log.specs.Kept.{Saying, log_of}
 use Rattle.vortex_zone_log.specs.Logs.{with_told}
-use Rattle.vortex_zone_log.specs.declared.told.Told.{Told}
+use Rattle.vortex_zone_log.specs.declared.stat_entry.StatEntry.{StatEntry}
 use Rattle.vortex_zone_log.proofs.zone_log.ZoneLog.put.Goals as goal
 
 pub returns-in_err-tell-clause-refused : goal.returns-in_err-tell-clause-refused
@@ -11,7 +11,7 @@ returns-in_err-tell-clause-refused c =
     let l = c.self.inside in
     let runs = all_of l.stretches in
     on_err c.from_residual.result
-    (ap (λ (now : List Told). log_of l.columns c.tell.new.longs.items l.told.items now runs) c.in_err-tell.ensures.refused
+    (ap (λ (now : List StatEntry). log_of l.columns c.tell.new.longs.items l.told.items now runs) c.in_err-tell.ensures.refused
     ∙ same_log l.columns l.longs.items c.tell.new.longs.items c.in_err-tell.ensures.longer l.told.items l.current.items runs c.self.invariant.0 ∙ c.self.view_is)
 
 pub returns-in_ok-tell-clause-told : goal.returns-in_ok-tell-clause-told

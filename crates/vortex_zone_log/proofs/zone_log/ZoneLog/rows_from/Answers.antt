@@ -6,7 +6,7 @@ use Rattle.vortex_zone_log.proofs.MapLemmas.{next_rows}
 use Rattle.vortex_zone_log.specs.Blocks.{all_of}
 use Rattle.vortex_zone_log.specs.Kept.{said, zone_of}
 use Rattle.vortex_zone_log.specs.Logs.{LogData}
-use Rattle.vortex_zone_log.specs.declared.stretch.Stretch.{Stretch}
+use Rattle.vortex_zone_log.specs.declared.entry_range.EntryRange.{EntryRange}
 use Rattle.vortex_zone_log.proofs.zone_log.ZoneLog.rows_from.Goals as goal
 
 pub loop-next-init : goal.loop-next-init
@@ -22,7 +22,7 @@ loop-next-preserved c =
     let there : counts (slice_get c.args.self.now.zones (c.args.from + k)) ≡ Some s.rows =
     ap (λ (d : LogData). counts (slice_get d.zones (c.args.from + k))) (sym c.self.view_is)
     ∙ ap counts (slice_get-map zone (all_of l.stretches) (c.args.from + k))
-    ∙ ap (λ (o : Option Stretch). counts (option_map zone o)) c.at_hand-stretch.ensures.found in
+    ∙ ap (λ (o : Option EntryRange). counts (option_map zone o)) c.at_hand-stretch.ensures.found in
     record {
       run = c.at_hand-stretch.ensures.run;
       told = next_rows c.args.self.now.zones c.args.from k s.rows c.loop-next.rows.items c.push.new.self.items there c.in_ok-push.ensures.items c.loop-next.invariant.told;

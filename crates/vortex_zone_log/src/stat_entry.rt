@@ -6,8 +6,8 @@ ghost use Rattle.vortex_base.specs.declared.scalar_value.ScalarValue.TheVariants
 ghost use Rattle.vortex_zone_log.specs.Kept.{AreKept, IsLonger, IsWithin, said, sets_of};
 ghost use Rattle.vortex_zone_log.specs.Logs as spec;
 
-use crate::kept::{Form, Kept, copy_of, keep, number_in};
-use crate::stretch::Stretch;
+use crate::entry_range::EntryRange;
+use crate::stored_value::{StoredValue, ValueTag, copy_of, keep, number_in};
 use std::alloc::{AllocError, Global};
 use vortex_base::cells::ShortCell;
 use vortex_base::pvalue::PValue;
@@ -18,20 +18,20 @@ use vortex_stats::stats_set::StatsSet;
 
 /// A statistic of a column, and its value.
 #[derive(Clone, Copy, Debug)]
-pub struct Told {
+pub struct StatEntry {
     pub column: u32,
     pub stat: Stat,
-    pub form: Form,
+    pub form: ValueTag,
     pub cell: ShortCell,
 }
 
-impl Told {
+impl StatEntry {
     /// How the value is kept.
     #[inline]
-    pub fn kept(&self) -> Kept
+    pub fn kept(&self) -> StoredValue
         ensures { result ≡ record { form = self.now.form; cell = self.now.cell } }
     {
-        Kept {
+        StoredValue {
             form: self.form,
             cell: self.cell,
         }
@@ -64,7 +64,7 @@ pub fn sets_of(
     alloc: Global,
     columns: usize,
     longs: &[ScalarValue],
-    told: &[Told],
+    told: &[StatEntry],
 ) -> Result<Vec<StatsSet>, AllocError>
     ensures { IfOk result (λ sets. sets.items ≡ sets_of columns (said longs.now told.now)) }
 {
@@ -80,7 +80,7 @@ pub fn sets_of(
 // Tells a statistic whose value isn't a number.
 #[inline(never)]
 fn tell_other(
-    told: &mut Vec<Told>,
+    told: &mut Vec<StatEntry>,
     longs: &mut Vec<ScalarValue>,
     column: u32,
     stat: Stat,
@@ -96,7 +96,7 @@ fn tell_other(
 {
     told.reserve(1)?;
     let kept = keep(longs, value)?;
-    told.push_reserved(Told {
+    told.push_reserved(StatEntry {
         column,
         stat,
         form: kept.form,
@@ -134,7 +134,7 @@ fn number_cell(number: PValue) -> ShortCell
 /// Tells a statistic behind others. Where memory is refused, the others stay.
 #[inline(always)]
 pub fn tell(
-    told: &mut Vec<Told>,
+    told: &mut Vec<StatEntry>,
     longs: &mut Vec<ScalarValue>,
     column: u32,
     stat: Stat,
@@ -151,7 +151,7 @@ pub fn tell(
     match number_in(&value) {
         Some((form, number)) => {
             told.reserve(1)?;
-            told.push_reserved(Told {
+            told.push_reserved(StatEntry {
                 column,
                 stat,
                 form,
@@ -165,7 +165,11 @@ pub fn tell(
 
 /// Where so much more will stand behind what is told, which tells of a zone of so many rows. Room
 /// is made for it.
-pub fn next_stretch(told: &mut Vec<Told>, more: usize, rows: u64) -> Result<Stretch, AllocError>
+pub fn next_stretch(
+    told: &mut Vec<StatEntry>,
+    more: usize,
+    rows: u64,
+) -> Result<EntryRange, AllocError>
     ensures same { told.new.items ≡ told.old.items }
     ensures room { OnOk result (vec_len told.new + more ≤ vec_capacity told.new) }
     ensures rows { IfOk result (λ next. next.rows ≡ rows) }
@@ -174,7 +178,7 @@ pub fn next_stretch(told: &mut Vec<Told>, more: usize, rows: u64) -> Result<Stre
 {
     told.reserve(more)?;
     let from = told.len();
-    Ok(Stretch {
+    Ok(EntryRange {
         rows,
         from,
         to: from + more,
@@ -182,7 +186,7 @@ pub fn next_stretch(told: &mut Vec<Told>, more: usize, rows: u64) -> Result<Stre
 }
 
 /// Moves what is told behind others, for which there is room.
-pub fn move_behind(told: &mut Vec<Told>, more: &mut Vec<Told>)
+pub fn move_behind(told: &mut Vec<StatEntry>, more: &mut Vec<StatEntry>)
     requires { vec_len told.old + vec_len more.old ≤ vec_capacity told.old }
     ensures told { told.new.items ≡ told.old.items ++ more.old.items }
     ensures emptied { more.new.items ≡ [] }
@@ -196,7 +200,7 @@ pub fn move_behind(told: &mut Vec<Told>, more: &mut Vec<Told>)
 
 /// The claims of a stretch.
 #[inline]
-pub fn told_in(told: &[Told], stretch: Stretch) -> &[Told]
+pub fn told_in(told: &[StatEntry], stretch: EntryRange) -> &[StatEntry]
     requires { IsWithin (length told.now) stretch }
     ensures { result.now ≡ take (stretch.to - stretch.from) (drop stretch.from told.now) }
 {

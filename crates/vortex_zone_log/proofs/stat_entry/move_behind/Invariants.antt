@@ -1,5 +1,5 @@
 use Rattle.std.proofs.Common.{◌≡◌, ◌++◌, ◌+◌, ◌-◌, ◌≤◌, length, take, vec_capacity, vec_len}
-use Rattle.vortex_zone_log.proofs.told.move_behind.Given as goal
+use Rattle.vortex_zone_log.proofs.stat_entry.move_behind.Given as goal
 
 -- what was moved so far stands behind the others, and there is room for the rest
 abbrev pub invariant-loop-next : goal.invariant-loop-next

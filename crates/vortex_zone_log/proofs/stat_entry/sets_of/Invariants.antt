@@ -1,6 +1,6 @@
 use Rattle.std.proofs.Common.{◌≡◌, drop}
 use Rattle.vortex_zone_log.specs.Kept.{said, sets_of, sets_with}
-use Rattle.vortex_zone_log.proofs.told.sets_of.Given as goal
+use Rattle.vortex_zone_log.proofs.stat_entry.sets_of.Given as goal
 
 -- what is left makes of the sets those of all
 abbrev pub invariant-loop-place : goal.invariant-loop-place

@@ -16,7 +16,7 @@ use vortex_stats::precision::Precision;
 
 /// How far a value can be trusted, and whether it is a text or bytes.
 #[derive(Clone, Copy, Debug)]
-pub enum Form {
+pub enum ValueTag {
     Absent,
     Exact,
     Inexact,
@@ -26,8 +26,8 @@ pub enum Form {
 
 /// A value, or the place of a text or bytes in the list beside the log.
 #[derive(Clone, Copy, Debug)]
-pub struct Kept {
-    pub form: Form,
+pub struct StoredValue {
+    pub form: ValueTag,
     pub cell: ShortCell,
 }
 
@@ -45,7 +45,7 @@ pub fn short_cell(value: &ScalarValue) -> Option<ShortCell>
 
 /// The number that is known, if one is, and whether exactly.
 #[inline]
-pub fn number_in(value: &Precision<ScalarValue>) -> Option<(Form, PValue)>
+pub fn number_in(value: &Precision<ScalarValue>) -> Option<(ValueTag, PValue)>
     ensures kept { IfSome result (λ found. (longs : List ScalarValue) (cell : spec_cell.ShortCell)
         → short_value cell ≡ Some (spec_value.Primitive found.1)
         → formed longs found.0 cell ≡ value.now) }
@@ -53,8 +53,8 @@ pub fn number_in(value: &Precision<ScalarValue>) -> Option<(Form, PValue)>
         → IsFormed count found.0 cell) }
 {
     match value {
-        Precision::Exact(ScalarValue::Primitive(number)) => Some((Form::Exact, *number)),
-        Precision::Inexact(ScalarValue::Primitive(number)) => Some((Form::Inexact, *number)),
+        Precision::Exact(ScalarValue::Primitive(number)) => Some((ValueTag::Exact, *number)),
+        Precision::Inexact(ScalarValue::Primitive(number)) => Some((ValueTag::Inexact, *number)),
         _ => None,
     }
 }
@@ -73,34 +73,37 @@ fn long_cell(longs: &mut Vec<ScalarValue>, value: ScalarValue) -> Result<ShortCe
 
 /// Keeps a value. A text or bytes go behind the others.
 #[inline]
-pub fn keep(longs: &mut Vec<ScalarValue>, value: Precision<ScalarValue>) -> Result<Kept, AllocError>
+pub fn keep(
+    longs: &mut Vec<ScalarValue>,
+    value: Precision<ScalarValue>,
+) -> Result<StoredValue, AllocError>
     ensures kept { IfOk result (λ kept. kept_value longs.new.items kept ≡ value) }
     ensures placed { IfOk result (IsKept (length longs.new.items)) }
     ensures longer { IsLonger longs.old.items longs.new.items }
 {
     match value {
         Precision::Exact(value) => match short_cell(&value) {
-            Some(cell) => Ok(Kept {
-                form: Form::Exact,
+            Some(cell) => Ok(StoredValue {
+                form: ValueTag::Exact,
                 cell,
             }),
-            None => Ok(Kept {
-                form: Form::LongExact,
+            None => Ok(StoredValue {
+                form: ValueTag::LongExact,
                 cell: long_cell(longs, value)?,
             }),
         },
         Precision::Inexact(value) => match short_cell(&value) {
-            Some(cell) => Ok(Kept {
-                form: Form::Inexact,
+            Some(cell) => Ok(StoredValue {
+                form: ValueTag::Inexact,
                 cell,
             }),
-            None => Ok(Kept {
-                form: Form::LongInexact,
+            None => Ok(StoredValue {
+                form: ValueTag::LongInexact,
                 cell: long_cell(longs, value)?,
             }),
         },
-        Precision::Absent => Ok(Kept {
-            form: Form::Absent,
+        Precision::Absent => Ok(StoredValue {
+            form: ValueTag::Absent,
             cell: ShortCell::Null,
         }),
     }
@@ -157,14 +160,17 @@ fn inexact(value: Option<ScalarValue>) -> Precision<ScalarValue>
 
 /// A copy of a value. A text or bytes alone take memory.
 #[inline]
-pub fn copy_of(longs: &[ScalarValue], kept: Kept) -> Result<Precision<ScalarValue>, AllocError>
+pub fn copy_of(
+    longs: &[ScalarValue],
+    kept: StoredValue,
+) -> Result<Precision<ScalarValue>, AllocError>
     ensures { IfOk result (λ copy. copy ≡ kept_value longs.now kept) }
 {
     match kept.form {
-        Form::Absent => Ok(Precision::Absent),
-        Form::Exact => Ok(exact(short_copy(kept.cell))),
-        Form::Inexact => Ok(inexact(short_copy(kept.cell))),
-        Form::LongExact => Ok(exact(long_copy(longs, kept.cell)?)),
-        Form::LongInexact => Ok(inexact(long_copy(longs, kept.cell)?)),
+        ValueTag::Absent => Ok(Precision::Absent),
+        ValueTag::Exact => Ok(exact(short_copy(kept.cell))),
+        ValueTag::Inexact => Ok(inexact(short_copy(kept.cell))),
+        ValueTag::LongExact => Ok(exact(long_copy(longs, kept.cell)?)),
+        ValueTag::LongInexact => Ok(inexact(long_copy(longs, kept.cell)?)),
     }
 }

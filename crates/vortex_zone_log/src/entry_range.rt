@@ -2,7 +2,7 @@
 
 /// How many rows a zone has, and from where to where the log tells of it.
 #[derive(Clone, Copy, Debug)]
-pub struct Stretch {
+pub struct EntryRange {
     pub rows: u64,
     pub from: usize,
     pub to: usize,
