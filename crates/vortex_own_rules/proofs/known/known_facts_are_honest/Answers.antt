@@ -1,5 +1,0 @@
-use Rattle.vortex_own_rules.specs.KnownFaithful.{known_facts_are_honest}
-use Rattle.vortex_own_rules.proofs.known.known_facts_are_honest.Goals as goal
-
-pub returns : goal.returns
-returns c = known_facts_are_honest

@@ -1,5 +1,0 @@
-pub mod Known
-pub mod KnownFaithful
-pub mod KnownParts
-pub mod NullOperands
-pub mod NullOperandsLaw
