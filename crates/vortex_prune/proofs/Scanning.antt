@@ -5,6 +5,7 @@ pub mod ColumnLemmas
 pub mod GapLemmas
 pub mod GapOrder
 pub mod JoinLemmas
+pub mod KeyLemmas
 pub mod LeafLemmas
 pub mod LikeLemmas
 pub mod Lossless

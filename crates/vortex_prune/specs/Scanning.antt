@@ -1,6 +1,7 @@
 -- What a scan selects, skips and refuses.
 pub mod Complete
 pub mod Gaps
+pub mod Keys
 pub mod Leaves
 pub mod Likes
 pub mod Marks

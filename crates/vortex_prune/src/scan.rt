@@ -32,6 +32,7 @@ mod part_scan;
 mod pattern;
 pub mod prune;
 pub mod ranges;
+mod search;
 mod select;
 mod sides;
 mod strings;

@@ -2,7 +2,7 @@
 use std::alloc::Global;
 use std::process::Abort;
 use std::test::Fail;
-use vortex_normal_scan::is_complete_for;
+use vortex_predicates::is_complete_for;
 use vortex_stats::StatsError;
 use vortex_testing::nodes::*;
 use vortex_testing::parts::*;

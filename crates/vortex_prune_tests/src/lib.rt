@@ -1,11 +1,13 @@
-//! Tests of `vortex_prune`, `vortex_zone_log` and `vortex_normal_scan` by their public calls, and
-//! of the callers in `vortex_uses` and `vortex_own_rules`. `vortex_testing` has what they stand on.
+//! Tests of `vortex_prune`, `vortex_zone_log` and `vortex_predicates` by their public calls, and of
+//! the callers in `vortex_examples`. `vortex_testing` has what they stand on.
 #![tactic(auto)]
 
 #[cfg(test)]
 mod bind;
 #[cfg(test)]
 mod complete;
+#[cfg(test)]
+mod equal_bounds;
 #[cfg(test)]
 mod fixtures;
 #[cfg(test)]

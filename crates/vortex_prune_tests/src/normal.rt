@@ -4,7 +4,7 @@ use std::alloc::Global;
 use std::process::Abort;
 use std::test::Fail;
 use vortex_expr::{BoundExpression, LikeOptions, ScalarFnId};
-use vortex_normal_scan::PruningPredicate;
+use vortex_predicates::PruningPredicate;
 use vortex_prune::{Pruned, Rules, StatsRewriteRuleRef, Verdict, ZoneMap};
 use vortex_stats::{RuleFault, Stat, StatsError};
 use vortex_testing::hooks::{Claim, Claiming};

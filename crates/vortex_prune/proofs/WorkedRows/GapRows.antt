@@ -7,6 +7,7 @@ use Rattle.vortex_base.specs.declared.value_ref.ValueRef.TheVariants as lent
 use Rattle.vortex_expr.specs.declared.scalar_fn.Operator.{Operator}
 use Rattle.vortex_expr.specs.declared.scalar_fn.Operator.TheVariants.{Eq, NotEq, Gt, Gte, Lt, Lte, And, Or}
 use Rattle.vortex_prune.specs.Scanning.Gaps.{gap_passes, is_end, is_falling, is_past, is_rising, upper}
+use Rattle.vortex_prune.specs.Scanning.Keys.{is_past_key, past_operator_by}
 use Rattle.vortex_prune.specs.declared.scan.gaps.Gap.{Gap}
 use Rattle.vortex_prune.specs.declared.scan.sides.Flag.{Flag}
 use Rattle.vortex_prune.specs.declared.scan.sides.Side.{Side}
@@ -103,3 +104,21 @@ module _ (s : Side) (f : Flag) where
 
   past_the_point : is_past point (num 21) ∷ is_past point (num 20) ∷ is_past point (num 19) ∷ [] ≡ true ∷ false ∷ false ∷ []
   past_the_point = refl
+
+  -- ---- keys
+
+  past_operators : past_operator_by None Gt ∷ past_operator_by None Gte ∷ past_operator_by (Some f) Lt ∷ past_operator_by (Some f) Lte ∷ past_operator_by (Some f) Eq ∷ [] ≡ Gt ∷ Gte ∷ Gte ∷ Gt ∷ Gt ∷ []
+  past_operators = refl
+
+  -- the key 20, which a value above it is past, or one from it on
+  abbrev key : ScalarValue
+  key = value.Primitive (number.I64 (pos 20))
+
+  above_the_key : is_past_key Gt false key (num 21) ∷ is_past_key Gt false key (num 20) ∷ is_past_key Gt false key (num 19) ∷ [] ≡ true ∷ false ∷ false ∷ []
+  above_the_key = refl
+
+  from_the_key_on : is_past_key Gte false key (num 21) ∷ is_past_key Gte false key (num 20) ∷ is_past_key Gte false key (num 19) ∷ [] ≡ true ∷ true ∷ false ∷ []
+  from_the_key_on = refl
+
+  null_by_keys : is_past_key Gt false key None ∷ is_past_key Gt true key None ∷ [] ≡ false ∷ true ∷ []
+  null_by_keys = refl

@@ -290,7 +290,8 @@ pub(crate) fn put_in_order(gaps: &mut [Gap<'_>]) -> bool
     are_ordered(gaps)
 }
 
-fn passes_gap(
+/// Returns whether three values pass a gap.
+pub(crate) fn passes_gap(
     gap: &Gap<'_>,
     x: Option<ValueRef<'_>>,
     y: Option<ValueRef<'_>>,

@@ -14,6 +14,7 @@ ghost use Rattle.vortex_prune.specs.Scanning.Marks.{is_true_at, left_marked, mar
 use crate::scan::columns::keep_passing;
 use crate::scan::gaps::{Gap, asked, keep_passed, put_beside, put_gap, put_in_order};
 use crate::scan::leaf::{compared, leaf_of};
+use crate::scan::search::keep_ordered;
 use crate::zone_map::ZoneMap;
 use std::alloc::{AllocError, Global};
 use vortex_base::chunk::Chunk;
@@ -23,6 +24,9 @@ use vortex_expr::scalar_fn::{BetweenOptions, Operator};
 
 /// How many rows are looked at together: their cells of a column fill some 16 KB.
 pub(crate) const BLOCK: usize = 1024;
+
+// How many zones are looked at together for each pair of a long proof.
+const ZONES_PER_PAIR: usize = 64;
 
 /// The worth of the row count on the rows of a table.
 #[derive(Clone, Copy)]
@@ -149,7 +153,7 @@ fn take_marks(marks: &mut [bool], others: &[bool])
 }
 
 // Takes away the marks of the rows on which not every one of some gaps is passed.
-fn keep_gaps(table: Table<'_>, gaps: &mut [Gap<'_>], from: usize, marks: &mut [bool])
+fn keep_gaps(alloc: Global, table: Table<'_>, gaps: &mut [Gap<'_>], from: usize, marks: &mut [bool])
     requires alike { AreAlike table.chunk.now.columns gaps.old }
     requires within { from + length marks.old ≤ row_count table.chunk.now.columns }
     ensures { let test = are_true_at gaps.old table.entry.chunk.now.columns table.entry.counts in
@@ -157,8 +161,14 @@ fn keep_gaps(table: Table<'_>, gaps: &mut [Gap<'_>], from: usize, marks: &mut [b
 {
     let _rows = table.chunk.rows();
     let in_order = put_in_order(gaps);
-    if let Some(first) = gaps.get(0) {
-        keep_passed(gaps, in_order, asked(first), from, marks);
+    let Some(first) = gaps.get(0) else {
+        return;
+    };
+    let asked = asked(first);
+    if in_order {
+        keep_ordered(alloc, gaps, first, asked, from, marks);
+    } else {
+        keep_passed(gaps, false, asked, from, marks);
     }
 }
 
@@ -274,7 +284,7 @@ fn drop_any(
     let mut gaps = Vec::new(alloc);
     sift(alloc, table, left, from, marks, &mut gaps);
     sift(alloc, table, right, from, marks, &mut gaps);
-    keep_gaps(table, &mut gaps, from, marks);
+    keep_gaps(alloc, table, &mut gaps, from, marks);
 }
 
 // The marks of the rows on which either side of a long OR is true. Where there is no memory for
@@ -394,21 +404,38 @@ pub(crate) fn keep_true(
     let mut gaps = Vec::new(alloc);
     let searched = is_long(e, Operator::And);
     gather(alloc, table, searched, e, from, marks, &mut gaps);
-    keep_gaps(table, &mut gaps, from, marks);
+    keep_gaps(alloc, table, &mut gaps, from, marks);
 }
 
-// Where a block of rows ends that begins at a place, before the end of all.
-pub(crate) fn block_end(from: usize, end: usize) -> usize
-    requires { from < end }
+// Returns where a block of at most so many rows ends that begins at a place, before the end of all.
+pub(crate) fn block_end(from: usize, end: usize, size: usize) -> usize
+    requires before { from < end }
+    requires some { 0 < size }
     ensures after { from < result }
     ensures within { result ≤ end }
-    ensures short { result ≤ from + 1024 }
+    ensures short { result ≤ from + size }
 {
-    if end - from < BLOCK {
-        end
-    } else {
-        from + BLOCK
+    if end - from < size { end } else { from + size }
+}
+
+// Returns how many pairs of expressions are compared or connected.
+fn count_pairs(e: &BoundExpression) -> usize {
+    match e.parts() {
+        Parts::Binary(_, left, right) => {
+            let pairs = count_pairs(left).saturating_add(count_pairs(right));
+            pairs.saturating_add(1)
+        }
+        _ => 0,
     }
+}
+
+// Returns how many zones are looked at together. A proof of many pairs is collected anew for each
+// block, so blocks grow with the pairs.
+fn block_size(bound: &BoundExpression) -> usize
+    ensures { 0 < result }
+{
+    let size = count_pairs(bound).saturating_mul(ZONES_PER_PAIR);
+    if size < BLOCK { BLOCK } else { size }
 }
 
 // The rows of a map's table, one a zone.
@@ -453,10 +480,11 @@ fn all_told(
     ensures { IfOk result (λ told.
         told.items ≡ marked (is_told (Some bound.now) map.now) 0 marks.now) }
 {
+    let size = block_size(bound);
     let mut told = Vec::with_capacity(alloc, marks.len())?;
     'runs: while told.len() < marks.len() {
         let from = told.len();
-        let to = block_end(from, marks.len());
+        let to = block_end(from, marks.len(), size);
         let mut block = block_told(alloc, map, bound, from, &marks[from..to])?;
         told.append(&mut block)?;
     }

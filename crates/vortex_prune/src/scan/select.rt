@@ -111,7 +111,7 @@ pub(crate) fn select(
     *evaluated = evaluated.saturating_add(rows as u64);
     let mut from = 0;
     'runs: while from < rows {
-        let to = block_end(from, rows);
+        let to = block_end(from, rows, BLOCK);
         select_block(selected, place, range, predicate, from, to)?;
         from = to;
     }

@@ -1,18 +1,18 @@
-//! Answers of the callers of `vortex_uses` and `vortex_own_rules` where memory is ample.
+//! Answers of the callers of `vortex_examples` where memory is ample.
 ghost use Rattle.std.specs.Prelude.{◌≡◌, All, IsTrue};
 ghost use Rattle.std.specs.Bool.{OnTrue};
 ghost use Rattle.vortex_expr.specs.Meanings.Fitting.{fits_scope};
 
 use super::*;
 use vortex_base::{AggregateFnRef, Chunk, ScalarValue};
+use vortex_examples::known::{Entry, Known, scan_by_known};
+use vortex_examples::measured::{scan_by_statistics, scan_checked, scan_measured};
+use vortex_examples::null_operands::NullOperands;
+use vortex_examples::planner::scan_by_null_operands;
+use vortex_examples::reader::{zones_left_out, zones_left_out_of_all};
+use vortex_examples::writer::{write_pair, write_zones};
 use vortex_expr::BoundExpression;
-use vortex_own_rules::known::{Entry, Known, scan_by_known};
-use vortex_own_rules::null_operands::NullOperands;
 use vortex_prune::{Scan, falsify};
-use vortex_uses::measured::{scan_by_statistics, scan_checked, scan_measured};
-use vortex_uses::planner::scan_by_null_operands;
-use vortex_uses::reader::{zones_left_out, zones_left_out_of_all};
-use vortex_uses::writer::{write_pair, write_zones};
 
 type Chunks = Result<Vec<Chunk>, StatsError>;
 
