@@ -6,6 +6,7 @@ pub mod Complete
 pub mod ColumnLoop
 pub mod Lookup
 pub mod Texts
+pub mod DecimalNumbers
 pub mod True
 pub mod Structs
 pub mod Smaller
@@ -22,3 +23,5 @@ pub mod Following
 pub mod PageWitness
 pub mod PageIndexes
 pub mod IndexRows
+pub mod DataPages
+pub mod DataPageRows

@@ -5,8 +5,9 @@ use Rattle.vortex_parquet.specs.Compact.{binary_at, count_at, head_at, id_at, it
 use Rattle.vortex_parquet.specs.Skip.{fields_in, skip_at, skip_entry, skip_value, struct_at, times}
 use Rattle.vortex_parquet.specs.Fields.{binary_in, byte_in, is_told, last_found, natural_in, number_in, struct_of}
 use Rattle.vortex_parquet.specs.Footer.{footer_of, last_of, length_of}
-use Rattle.vortex_parquet.specs.Records.{annotation_at, annotation_from, decimal_of, integer_of, statistics_of}
+use Rattle.vortex_parquet.specs.Records.{annotation_at, annotation_from, annotation_in, decimal_of, element_of, integer_of, statistics_of}
 use Rattle.vortex_parquet.specs.Columns.{bool_form, bytes_form, checked, columns_in, columns_of, content_of, converted, eight, fixed_form, form_of, four, leaf_of, lookup, nullability}
+use Rattle.vortex_parquet.specs.Decimals.{number_of}
 use Rattle.vortex_parquet.specs.Stats.{bool_value, chunk_set, eight_of, eight_value, four_of, four_value, set_of}
 use Rattle.vortex_parquet.specs.Worked.{BoundExamples, ColumnExamples, GrammarExamples, TableExamples}
 
@@ -75,7 +76,7 @@ grammar = record {
 }
 
 pub table : TableExamples
-unfolding kind_at jump varint_from varint_in varint_at natural_at binary_at id_at head_at count_at items_at kinds_at map_at times skip_entry fields_in struct_at skip_value skip_at struct_of last_found binary_in number_in natural_in byte_in is_told statistics_of annotation_at annotation_from integer_of decimal_of converted form_of bool_form four eight bytes_form fixed_form nullability
+unfolding kind_at jump varint_from varint_in varint_at natural_at binary_at id_at head_at count_at items_at kinds_at map_at times skip_entry fields_in struct_at skip_value skip_at struct_of last_found binary_in number_in natural_in byte_in is_told statistics_of element_of annotation_in annotation_at annotation_from integer_of decimal_of converted form_of bool_form four eight bytes_form fixed_form nullability leaf_of
 table = record {
   truths = refl;
   truths_annotated = refl;
@@ -104,15 +105,19 @@ table = record {
   texts = refl;
   bson = refl;
   decimals_in_bytes = refl;
+  whole_decimals_in_bytes = refl;
+  long_decimals_in_bytes = refl;
   fixed = refl;
   uuids = refl;
   fixed_texts = refl;
   fixed_decimals = refl;
+  long_fixed_decimals = refl;
   no_type = refl;
   newer_wins = refl;
   newer_unknown_wins = refl;
   newer_empty = refl;
   older_alone = refl;
+  older_decimals = refl;
   neither = refl;
   older_0 = refl;
   older_1 = refl;
@@ -147,10 +152,15 @@ table = record {
   newer_5_whole = refl;
   newer_5_fraction = refl;
   newer_5_without_scale = refl;
+  newer_5_of_18_digits = refl;
+  newer_5_of_19_digits = refl;
   older_5_fraction = refl;
   older_5_scale_0 = refl;
+  older_5_of_18_digits = refl;
+  older_5_of_19_digits = refl;
   raw_times = refl;
   raw_fractions = refl;
+  raw_short_fractions = refl;
   plain_decimals = refl;
   plain_numbers = refl;
   newer_6 = refl;
@@ -165,12 +175,14 @@ table = record {
   newer_10_16 = refl;
   newer_10_64 = refl;
   newer_none = refl;
+  decimal_element = refl;
+  decimal_leaf = refl;
   statistics = refl;
   statistics_few = refl;
 }
 
 pub bounds : BoundExamples
-unfolding bool_value four_of eight_of four_value eight_value set_of chunk_set is_utf8 chars lib.Utf8.encode
+unfolding bool_value four_of eight_of four_value eight_value number_of set_of chunk_set is_utf8 chars lib.Utf8.encode
 bounds = record {
   newer_exact = refl;
   newer_inexact = refl;
@@ -182,6 +194,10 @@ bounds = record {
   older_of_long_signed = refl;
   older_of_texts = refl;
   older_of_bytes = refl;
+  older_of_decimals = refl;
+  older_of_decimals_in_order = refl;
+  newer_of_decimals = refl;
+  newer_of_decimals_without_order = refl;
   older_of_truths = refl;
   neither = refl;
   truth_0 = refl;
@@ -211,6 +227,26 @@ bounds = record {
   i64_short = refl;
   text = refl;
   no_text = refl;
+  decimal = refl;
+  decimal_below_0 = refl;
+  decimal_minus_1 = refl;
+  decimal_of_two_bytes = refl;
+  decimal_of_two_bytes_below_0 = refl;
+  decimal_padded = refl;
+  decimal_of_eight_bytes = refl;
+  least_decimal_of_eight_bytes = refl;
+  decimal_of_nine_bytes = refl;
+  decimal_past_64_bits = refl;
+  least_decimal_of_nine_bytes = refl;
+  decimal_below_64_bits = refl;
+  decimal_of_16_bytes = refl;
+  decimal_of_16_bytes_below_0 = refl;
+  greatest_of_16_bytes = refl;
+  least_of_16_bytes = refl;
+  high_byte_of_16 = refl;
+  decimal_of_17_bytes = refl;
+  long_decimal_of_17_bytes = refl;
+  no_decimal = refl;
   bytes = refl;
   exact_if_told = refl;
   inexact_else = refl;
@@ -220,6 +256,7 @@ bounds = record {
   nulls_unknown = refl;
   set = refl;
   set_without_order = refl;
+  set_of_decimals = refl;
   set_of_another_type = refl;
   set_of_no_type = refl;
   set_without_statistics = refl;

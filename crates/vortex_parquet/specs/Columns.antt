@@ -21,7 +21,7 @@ use Rattle.vortex_parquet.specs.declared.columns.LeftOut.TheVariants as left_out
 use Rattle.vortex_parquet.specs.declared.records.Annotation.{Annotation}
 use Rattle.vortex_parquet.specs.declared.records.Annotation.TheVariants as annotation
 use Rattle.vortex_parquet.specs.Reading.{◌>>=◌}
-use Rattle.vortex_parquet.specs.Records.{ElementData, is_number}
+use Rattle.vortex_parquet.specs.Records.{ElementData, is_number, is_short}
 
 -- the type of the values of a form
 abbrev pub form_dtype : Form → Nullability → DType
@@ -30,6 +30,7 @@ form_dtype (form.Four p) n = dtype.Primitive p n
 form_dtype (form.Eight p) n = dtype.Primitive p n
 form_dtype form.Utf8 n = dtype.Utf8 n
 form_dtype form.Binary n = dtype.Binary n
+form_dtype form.Decimal n = dtype.Primitive ptype.I64 n
 
 abbrev pub is_signed_ptype : PType → Bool
 is_signed_ptype ptype.U8 = false
@@ -41,13 +42,14 @@ is_signed_ptype ptype.I16 = true
 is_signed_ptype ptype.I32 = true
 is_signed_ptype ptype.I64 = true
 
--- the order of the values is that of signed numbers
+-- the deprecated bounds are in the order of the values, as those of signed numbers are; those of decimals in bytes need not be
 abbrev pub is_signed : Form → Bool
 is_signed form.Bool = true
 is_signed (form.Four p) = is_signed_ptype p
 is_signed (form.Eight p) = is_signed_ptype p
 is_signed form.Utf8 = false
 is_signed form.Binary = false
+is_signed form.Decimal = false
 
 -- decimals that are annotated in the older way are whole numbers without a scale, or of scale 0
 abbrev pub is_whole : Option ℕ → Bool
@@ -55,10 +57,10 @@ is_whole None = true
 is_whole (Some n) = n == 0
 
 -- the older annotation, enum ConvertedType, as the newer one
-unfoldable pub converted : ℕ → Option ℕ → Annotation
-converted n scale =
+unfoldable pub converted : ℕ → (scale precision : Option ℕ) → Annotation
+converted n scale precision =
     if (n == 0) || (n == 4) || (n == 19) then annotation.Text else (
-    if n == 5 then annotation.Decimal (is_whole scale) else (
+    if n == 5 then annotation.Decimal (is_whole scale) (is_short precision) else (
     if (n == 6) || (n == 7) || (n == 8) || (n == 9) || (n == 10) then annotation.Time else (
     if n == 11 then annotation.Integer 8 false else (
     if n == 12 then annotation.Integer 16 false else (
@@ -70,15 +72,15 @@ converted n scale =
     if n == 18 then annotation.Integer 64 true else (
     if n == 20 then annotation.Bytes else annotation.Other)))))))))))
 
-abbrev pub converted_or_none : Option ℕ → Option ℕ → Annotation
-converted_or_none None scale = annotation.None
-converted_or_none (Some n) scale = converted n scale
+abbrev pub converted_or_none : Option ℕ → (scale precision : Option ℕ) → Annotation
+converted_or_none None scale precision = annotation.None
+converted_or_none (Some n) scale precision = converted n scale precision
 
 -- the newer annotation if there is one, and else the older one
-abbrev pub annotation_of : Option Annotation → Option ℕ → Option ℕ → Annotation
-annotation_of None c scale = converted_or_none c scale
-annotation_of (Some annotation.None) c scale = converted_or_none c scale
-annotation_of (Some l) c scale = l
+abbrev pub annotation_of : Option Annotation → Option ℕ → (scale precision : Option ℕ) → Annotation
+annotation_of None c scale precision = converted_or_none c scale precision
+annotation_of (Some annotation.None) c scale precision = converted_or_none c scale precision
+annotation_of (Some l) c scale precision = l
 
 -- a whole number of so many bits, in four bytes
 abbrev pub four_integer : ℕ → Bool → Option Form
@@ -90,7 +92,7 @@ four_integer bits signed =
 -- numbers in four bytes
 unfoldable pub four : Annotation → Option Form
 four annotation.None = Some (form.Four ptype.I32)
-four (annotation.Decimal whole) = Some (form.Four ptype.I32)
+four (annotation.Decimal whole short) = Some (form.Four ptype.I32)
 four annotation.Time = Some (form.Four ptype.I32)
 four (annotation.Integer bits signed) = four_integer bits signed
 four l = None
@@ -102,21 +104,27 @@ eight_integer bits signed = if bits == 64 then Some (form.Eight (if signed then 
 -- numbers in eight bytes
 unfoldable pub eight : Annotation → Option Form
 eight annotation.None = Some (form.Eight ptype.I64)
-eight (annotation.Decimal whole) = Some (form.Eight ptype.I64)
+eight (annotation.Decimal whole short) = Some (form.Eight ptype.I64)
 eight annotation.Time = Some (form.Eight ptype.I64)
 eight (annotation.Integer bits signed) = eight_integer bits signed
 eight l = None
+
+-- decimals in bytes are read where each fits 64 bits
+abbrev pub decimal_form : Bool → Option Form
+decimal_form short = if short then Some form.Decimal else None
 
 -- bytes of any length, and of one length
 unfoldable pub bytes_form : Annotation → Option Form
 bytes_form annotation.None = Some form.Binary
 bytes_form annotation.Bytes = Some form.Binary
 bytes_form annotation.Text = Some form.Utf8
+bytes_form (annotation.Decimal whole short) = decimal_form short
 bytes_form l = None
 
 unfoldable pub fixed_form : Annotation → Option Form
 fixed_form annotation.None = Some form.Binary
 fixed_form annotation.Bytes = Some form.Binary
+fixed_form (annotation.Decimal whole short) = decimal_form short
 fixed_form l = None
 
 unfoldable pub bool_form : Annotation → Option Form
@@ -143,7 +151,7 @@ o >=> f = option_and_then f o
 -- numbers that are annotated so stand for something else: days, times, or decimals with a fraction
 abbrev pub is_raw : Annotation → Bool
 is_raw annotation.Time = true
-is_raw (annotation.Decimal whole) = not whole
+is_raw (annotation.Decimal whole short) = not whole
 is_raw l = false
 
 -- the leaf column of an element at a place among the leaf columns, if its statistics are read
@@ -152,8 +160,8 @@ leaf_of place e =
     e.physical >=> λ physical.
     e.repetition >=> λ repetition.
     nullability repetition >=> λ n.
-    form_of physical (annotation_of e.annotation e.converted e.scale) >=> λ form.
-    Some (record { place = place; physical = physical; form = form; is_raw = is_raw (annotation_of e.annotation e.converted e.scale); nullability = n })
+    form_of physical (annotation_of e.annotation e.converted e.scale e.precision) >=> λ form.
+    Some (record { place = place; physical = physical; form = form; is_raw = is_raw (annotation_of e.annotation e.converted e.scale e.precision); nullability = n })
 
 -- how many elements stand right below one
 abbrev pub below : Option ℕ → ℕ

@@ -6,6 +6,7 @@ pub mod Records
 pub mod PageIndex
 pub mod Footer
 pub mod Columns
+pub mod Decimals
 pub mod Grammar
 pub mod Stats
 pub mod Truth
@@ -18,3 +19,5 @@ pub mod GroupPages
 pub mod PageWitness
 pub mod PageIndexes
 pub mod IndexWorked
+pub mod DataPages
+pub mod DataPageWorked

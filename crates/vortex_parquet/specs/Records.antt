@@ -1,5 +1,5 @@
 -- The records of a footer, as definitions over the fields of its structs.
-use Rattle.std.specs.Prelude.{ℕ, Bool, false, List, [], ◌∷◌, Option, Some, None, Result, Ok, Err, map, is_some, option_copied, option_map, ◌&&◌, ◌==◌, ◌||◌, if◌then◌else◌}
+use Rattle.std.specs.Prelude.{ℕ, Bool, false, List, [], ◌∷◌, Option, Some, None, Result, Ok, Err, map, is_some, nat_le, option_copied, option_map, ◌&&◌, ◌==◌, ◌||◌, if◌then◌else◌}
 use Rattle.vortex_parquet.specs.declared.fault.Fault.{Fault}
 use Rattle.vortex_parquet.specs.declared.fault.Fault.TheVariants as fault
 use Rattle.vortex_parquet.specs.declared.compact.Kind.TheVariants as kind
@@ -42,6 +42,7 @@ pub record ElementData : Type 0 where
   pub children : Option ℕ
   pub converted : Option ℕ
   pub scale : Option ℕ
+  pub precision : Option ℕ
   pub annotation : Option Annotation
 
 -- the schema, for each column whether its order is that of its type, and the row groups
@@ -78,6 +79,7 @@ element_view n = record {
   children = n.children;
   converted = n.converted;
   scale = n.scale;
+  precision = n.precision;
   annotation = n.annotation;
 }
 
@@ -142,9 +144,18 @@ abbrev pub is_number : ℕ → Option ℕ → Bool
 is_number n None = false
 is_number n (Some m) = m == n
 
--- struct DecimalType: whether the scale is 0
+-- decimals of at most 18 digits fit 64 bits
+abbrev pub is_short : Option ℕ → Bool
+is_short None = false
+is_short (Some n) = nat_le n 18
+
+-- struct DecimalType: whether the scale is 0, and whether each decimal fits 64 bits
 unfoldable pub decimal_of : List ℕ → Result Annotation Fault
-decimal_of bytes = struct_of bytes >>= λ s. number_in s.0 1 kind.I32 >>= λ scale. Ok (annotation.Decimal (is_number 0 scale))
+decimal_of bytes = do
+  s ← struct_of bytes
+  scale ← number_in s.0 1 kind.I32
+  precision ← natural_in s.0 2 kind.I32
+  Ok (annotation.Decimal (is_number 0 scale) (is_short precision))
 
 -- union LogicalType: which field it has
 unfoldable pub annotation_from : List FieldData → Result Annotation Fault
@@ -173,8 +184,9 @@ element_of bytes = do
   children ← natural_in s.0 5 kind.I32
   converted ← natural_in s.0 6 kind.I32
   scale ← number_in s.0 7 kind.I32
+  precision ← natural_in s.0 8 kind.I32
   annotation ← annotation_in s.0 10
-  Ok (record { physical = physical; repetition = repetition; name = name; children = children; converted = converted; scale = scale; annotation = annotation }, s.1)
+  Ok (record { physical = physical; repetition = repetition; name = name; children = children; converted = converted; scale = scale; precision = precision; annotation = annotation }, s.1)
 
 -- union ColumnOrder: whether it is TYPE_ORDER; and the bytes behind it
 unfoldable pub order_of : List ℕ → Read Bool

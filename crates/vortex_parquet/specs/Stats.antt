@@ -23,6 +23,7 @@ use Rattle.vortex_parquet.specs.Reading.{◌>>=◌, Read}
 use Rattle.vortex_parquet.specs.Fields.{many, on_found}
 use Rattle.vortex_parquet.specs.Records.{ColumnChunkData, FileData, RowGroupData, StatisticsData, chunk_of, is_number, row_group_of}
 use Rattle.vortex_parquet.specs.Columns.{is_signed}
+use Rattle.vortex_parquet.specs.Decimals.{number_of}
 
 -- a set of statistics, as the list of its entries
 abbrev pub Entries : Type 0
@@ -72,6 +73,14 @@ eight_value p bytes = if length bytes == 8 then number_value (eight_of p (from_l
 abbrev pub text_value : List ℕ → Option ScalarValue
 text_value bytes = if is_utf8 bytes then Some (value.Utf8 bytes) else None
 
+-- a decimal in bytes is the number that they are, if it fits 64 bits
+abbrev pub whole_value : Option ℤ → Option ScalarValue
+whole_value None = None
+whole_value (Some n) = Some (value.Primitive (number.I64 n))
+
+abbrev pub decimal_value : List ℕ → Option ScalarValue
+decimal_value bytes = whole_value (number_of bytes)
+
 -- the value of a form that the bytes are
 abbrev pub value_of : Form → List ℕ → Option ScalarValue
 value_of form.Bool bytes = bool_value bytes
@@ -79,6 +88,7 @@ value_of (form.Four p) bytes = four_value p bytes
 value_of (form.Eight p) bytes = eight_value p bytes
 value_of form.Utf8 bytes = text_value bytes
 value_of form.Binary bytes = Some (value.Binary bytes)
+value_of form.Decimal bytes = decimal_value bytes
 
 abbrev pub told : Option (List ℕ) → Bool → Option (List ℕ × Bool)
 told None exact = None

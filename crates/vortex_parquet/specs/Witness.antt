@@ -20,10 +20,10 @@ abbrev pub footer : List ℕ
 footer = 21 ∷ 4 ∷ 25 ∷ 44 ∷ 72 ∷ 1 ∷ 115 ∷ 21 ∷ 2 ∷ 0 ∷ 21 ∷ 2 ∷ 37 ∷ 2 ∷ 24 ∷ 3 ∷ 113 ∷ 116 ∷ 121 ∷ 0 ∷ 22 ∷ 6 ∷ 25 ∷ 28 ∷ 25 ∷ 28 ∷ 38 ∷ 8 ∷ 28 ∷ 21 ∷ 2 ∷ 188 ∷ 54 ∷ 2 ∷ 40 ∷ 4 ∷ 7 ∷ 0 ∷ 0 ∷ 0 ∷ 24 ∷ 4 ∷ 255 ∷ 255 ∷ 255 ∷ 255 ∷ 17 ∷ 0 ∷ 0 ∷ 0 ∷ 22 ∷ 198 ∷ 1 ∷ 22 ∷ 6 ∷ 54 ∷ 80 ∷ 0 ∷ 57 ∷ 28 ∷ 28 ∷ 0 ∷ 0 ∷ 0 ∷ []
 
 abbrev pub qty : ElementData
-qty = record { physical = Some 1; repetition = Some 1; name = codes "qty"; children = None; converted = None; scale = None; annotation = None }
+qty = record { physical = Some 1; repetition = Some 1; name = codes "qty"; children = None; converted = None; scale = None; precision = None; annotation = None }
 
 abbrev pub root : ElementData
-root = record { physical = None; repetition = None; name = codes "s"; children = Some 1; converted = None; scale = None; annotation = None }
+root = record { physical = None; repetition = None; name = codes "s"; children = Some 1; converted = None; scale = None; precision = None; annotation = None }
 
 abbrev pub file : FileData
 file = record { schema = root ∷ qty ∷ []; orders = true ∷ []; groups = record { count = 1; from = drop 24 footer } }

@@ -13,10 +13,10 @@ use Rattle.vortex_parquet.specs.declared.compact.Kind.TheVariants as kind
 use Rattle.vortex_parquet.specs.declared.fault.Fault.TheVariants as fault
 use Rattle.vortex_parquet.specs.declared.records.Annotation.TheVariants as annotation
 use Rattle.vortex_parquet.specs.Compact.{binary_at, head_at, items_at, map_at, natural_at, varint_at}
-use Rattle.vortex_parquet.specs.Columns.{annotation_of, columns_of, converted, form_of, is_raw, lookup, nullability}
+use Rattle.vortex_parquet.specs.Columns.{annotation_of, columns_of, converted, form_of, is_raw, leaf_of, lookup, nullability}
 use Rattle.vortex_parquet.specs.Fields.{found, struct_of}
 use Rattle.vortex_parquet.specs.Footer.{footer_of, length_of}
-use Rattle.vortex_parquet.specs.Records.{annotation_at, statistics_of}
+use Rattle.vortex_parquet.specs.Records.{annotation_at, element_of, statistics_of}
 use Rattle.vortex_parquet.specs.Skip.{skip_at}
 use Rattle.vortex_parquet.specs.Stats.{bound_of, chosen, chunk_set, count_of, set_of, value_of}
 
@@ -87,7 +87,7 @@ pub record TableExamples : Type 0 where
   pub truths : form_of 0 annotation.None ≡ Some form.Bool
   pub truths_annotated : form_of 0 annotation.Text ≡ None
   pub numbers : form_of 1 annotation.None ≡ Some (form.Four ptype.I32)
-  pub decimals : form_of 1 (annotation.Decimal false) ≡ Some (form.Four ptype.I32)
+  pub decimals : form_of 1 (annotation.Decimal false false) ≡ Some (form.Four ptype.I32)
   pub times : form_of 1 annotation.Time ≡ Some (form.Four ptype.I32)
   pub numbers_i8 : form_of 1 (annotation.Integer 8 true) ≡ Some (form.Four ptype.I8)
   pub numbers_u8 : form_of 1 (annotation.Integer 8 false) ≡ Some (form.Four ptype.U8)
@@ -99,7 +99,7 @@ pub record TableExamples : Type 0 where
   pub numbers_as_text : form_of 1 annotation.Text ≡ None
   pub numbers_otherwise : form_of 1 annotation.Other ≡ None
   pub long_numbers : form_of 2 annotation.None ≡ Some (form.Eight ptype.I64)
-  pub long_decimals : form_of 2 (annotation.Decimal false) ≡ Some (form.Eight ptype.I64)
+  pub long_decimals : form_of 2 (annotation.Decimal false false) ≡ Some (form.Eight ptype.I64)
   pub long_times : form_of 2 annotation.Time ≡ Some (form.Eight ptype.I64)
   pub long_signed : form_of 2 (annotation.Integer 64 true) ≡ Some (form.Eight ptype.I64)
   pub long_unsigned : form_of 2 (annotation.Integer 64 false) ≡ Some (form.Eight ptype.U64)
@@ -110,40 +110,44 @@ pub record TableExamples : Type 0 where
   pub bytes : form_of 6 annotation.None ≡ Some form.Binary
   pub texts : form_of 6 annotation.Text ≡ Some form.Utf8
   pub bson : form_of 6 annotation.Bytes ≡ Some form.Binary
-  pub decimals_in_bytes : form_of 6 (annotation.Decimal false) ≡ None
+  pub decimals_in_bytes : form_of 6 (annotation.Decimal false true) ≡ Some form.Decimal
+  pub whole_decimals_in_bytes : form_of 6 (annotation.Decimal true true) ≡ Some form.Decimal
+  pub long_decimals_in_bytes : form_of 6 (annotation.Decimal true false) ≡ None
   pub fixed : form_of 7 annotation.None ≡ Some form.Binary
   pub uuids : form_of 7 annotation.Bytes ≡ Some form.Binary
   pub fixed_texts : form_of 7 annotation.Text ≡ None
-  pub fixed_decimals : form_of 7 (annotation.Decimal false) ≡ None
+  pub fixed_decimals : form_of 7 (annotation.Decimal false true) ≡ Some form.Decimal
+  pub long_fixed_decimals : form_of 7 (annotation.Decimal false false) ≡ None
   pub no_type : form_of 8 annotation.None ≡ None
-  pub newer_wins : annotation_of (Some annotation.Text) (Some 5) None ≡ annotation.Text
-  pub newer_unknown_wins : annotation_of (Some annotation.Other) (Some 0) None ≡ annotation.Other
-  pub newer_empty : annotation_of (Some annotation.None) (Some 0) None ≡ annotation.Text
-  pub older_alone : annotation_of None (Some 5) (Some 4) ≡ annotation.Decimal false
-  pub neither : annotation_of None None None ≡ annotation.None
-  pub older_0 : converted 0 None ≡ annotation.Text
-  pub older_1 : converted 1 None ≡ annotation.Other
-  pub older_2 : converted 2 None ≡ annotation.Other
-  pub older_3 : converted 3 None ≡ annotation.Other
-  pub older_4 : converted 4 None ≡ annotation.Text
-  pub older_5 : converted 5 None ≡ annotation.Decimal true
-  pub older_6 : converted 6 None ≡ annotation.Time
-  pub older_7 : converted 7 None ≡ annotation.Time
-  pub older_8 : converted 8 None ≡ annotation.Time
-  pub older_9 : converted 9 None ≡ annotation.Time
-  pub older_10 : converted 10 None ≡ annotation.Time
-  pub older_11 : converted 11 None ≡ annotation.Integer 8 false
-  pub older_12 : converted 12 None ≡ annotation.Integer 16 false
-  pub older_13 : converted 13 None ≡ annotation.Integer 32 false
-  pub older_14 : converted 14 None ≡ annotation.Integer 64 false
-  pub older_15 : converted 15 None ≡ annotation.Integer 8 true
-  pub older_16 : converted 16 None ≡ annotation.Integer 16 true
-  pub older_17 : converted 17 None ≡ annotation.Integer 32 true
-  pub older_18 : converted 18 None ≡ annotation.Integer 64 true
-  pub older_19 : converted 19 None ≡ annotation.Text
-  pub older_20 : converted 20 None ≡ annotation.Bytes
-  pub older_21 : converted 21 None ≡ annotation.Other
-  pub older_22 : converted 22 None ≡ annotation.Other
+  pub newer_wins : annotation_of (Some annotation.Text) (Some 5) None None ≡ annotation.Text
+  pub newer_unknown_wins : annotation_of (Some annotation.Other) (Some 0) None None ≡ annotation.Other
+  pub newer_empty : annotation_of (Some annotation.None) (Some 0) None None ≡ annotation.Text
+  pub older_alone : annotation_of None (Some 5) (Some 4) None ≡ annotation.Decimal false false
+  pub older_decimals : annotation_of None (Some 5) (Some 4) (Some 9) ≡ annotation.Decimal false true
+  pub neither : annotation_of None None None None ≡ annotation.None
+  pub older_0 : converted 0 None None ≡ annotation.Text
+  pub older_1 : converted 1 None None ≡ annotation.Other
+  pub older_2 : converted 2 None None ≡ annotation.Other
+  pub older_3 : converted 3 None None ≡ annotation.Other
+  pub older_4 : converted 4 None None ≡ annotation.Text
+  pub older_5 : converted 5 None None ≡ annotation.Decimal true false
+  pub older_6 : converted 6 None None ≡ annotation.Time
+  pub older_7 : converted 7 None None ≡ annotation.Time
+  pub older_8 : converted 8 None None ≡ annotation.Time
+  pub older_9 : converted 9 None None ≡ annotation.Time
+  pub older_10 : converted 10 None None ≡ annotation.Time
+  pub older_11 : converted 11 None None ≡ annotation.Integer 8 false
+  pub older_12 : converted 12 None None ≡ annotation.Integer 16 false
+  pub older_13 : converted 13 None None ≡ annotation.Integer 32 false
+  pub older_14 : converted 14 None None ≡ annotation.Integer 64 false
+  pub older_15 : converted 15 None None ≡ annotation.Integer 8 true
+  pub older_16 : converted 16 None None ≡ annotation.Integer 16 true
+  pub older_17 : converted 17 None None ≡ annotation.Integer 32 true
+  pub older_18 : converted 18 None None ≡ annotation.Integer 64 true
+  pub older_19 : converted 19 None None ≡ annotation.Text
+  pub older_20 : converted 20 None None ≡ annotation.Bytes
+  pub older_21 : converted 21 None None ≡ annotation.Other
+  pub older_22 : converted 22 None None ≡ annotation.Other
   pub repetition_0 : nullability 0 ≡ Some NonNullable
   pub repetition_1 : nullability 1 ≡ Some Nullable
   pub repetition_2 : nullability 2 ≡ None
@@ -151,14 +155,19 @@ pub record TableExamples : Type 0 where
   pub newer_2 : annotation_at (44 ∷ 0 ∷ 0 ∷ []) ≡ Ok annotation.Other
   pub newer_3 : annotation_at (60 ∷ 0 ∷ 0 ∷ []) ≡ Ok annotation.Other
   pub newer_4 : annotation_at (76 ∷ 0 ∷ 0 ∷ []) ≡ Ok annotation.Text
-  pub newer_5_whole : annotation_at (92 ∷ 21 ∷ 0 ∷ 0 ∷ 0 ∷ []) ≡ Ok (annotation.Decimal true)
-  pub newer_5_fraction : annotation_at (92 ∷ 21 ∷ 4 ∷ 0 ∷ 0 ∷ []) ≡ Ok (annotation.Decimal false)
-  pub newer_5_without_scale : annotation_at (92 ∷ 0 ∷ 0 ∷ []) ≡ Ok (annotation.Decimal false)
-  pub older_5_fraction : converted 5 (Some 4) ≡ annotation.Decimal false
-  pub older_5_scale_0 : converted 5 (Some 0) ≡ annotation.Decimal true
+  pub newer_5_whole : annotation_at (92 ∷ 21 ∷ 0 ∷ 0 ∷ 0 ∷ []) ≡ Ok (annotation.Decimal true false)
+  pub newer_5_fraction : annotation_at (92 ∷ 21 ∷ 4 ∷ 0 ∷ 0 ∷ []) ≡ Ok (annotation.Decimal false false)
+  pub newer_5_without_scale : annotation_at (92 ∷ 0 ∷ 0 ∷ []) ≡ Ok (annotation.Decimal false false)
+  pub newer_5_of_18_digits : annotation_at (92 ∷ 21 ∷ 4 ∷ 21 ∷ 36 ∷ 0 ∷ 0 ∷ []) ≡ Ok (annotation.Decimal false true)
+  pub newer_5_of_19_digits : annotation_at (92 ∷ 21 ∷ 0 ∷ 21 ∷ 38 ∷ 0 ∷ 0 ∷ []) ≡ Ok (annotation.Decimal true false)
+  pub older_5_fraction : converted 5 (Some 4) None ≡ annotation.Decimal false false
+  pub older_5_scale_0 : converted 5 (Some 0) None ≡ annotation.Decimal true false
+  pub older_5_of_18_digits : converted 5 (Some 4) (Some 18) ≡ annotation.Decimal false true
+  pub older_5_of_19_digits : converted 5 None (Some 19) ≡ annotation.Decimal true false
   pub raw_times : is_raw annotation.Time ≡ true
-  pub raw_fractions : is_raw (annotation.Decimal false) ≡ true
-  pub plain_decimals : is_raw (annotation.Decimal true) ≡ false
+  pub raw_fractions : is_raw (annotation.Decimal false false) ≡ true
+  pub raw_short_fractions : is_raw (annotation.Decimal false true) ≡ true
+  pub plain_decimals : is_raw (annotation.Decimal true false) ≡ false
   pub plain_numbers : is_raw annotation.None ≡ false
   pub newer_6 : annotation_at (108 ∷ 0 ∷ 0 ∷ []) ≡ Ok annotation.Time
   pub newer_7 : annotation_at (124 ∷ 0 ∷ 0 ∷ []) ≡ Ok annotation.Time
@@ -172,6 +181,8 @@ pub record TableExamples : Type 0 where
   pub newer_10_16 : annotation_at (172 ∷ 19 ∷ 16 ∷ 18 ∷ 0 ∷ 0 ∷ []) ≡ Ok (annotation.Integer 16 false)
   pub newer_10_64 : annotation_at (172 ∷ 19 ∷ 64 ∷ 17 ∷ 0 ∷ 0 ∷ []) ≡ Ok (annotation.Integer 64 true)
   pub newer_none : annotation_at (0 ∷ []) ≡ Ok annotation.None
+  pub decimal_element : element_of (21 ∷ 14 ∷ 37 ∷ 2 ∷ 24 ∷ 1 ∷ 97 ∷ 37 ∷ 10 ∷ 21 ∷ 4 ∷ 21 ∷ 18 ∷ 0 ∷ 9 ∷ []) ≡ Ok (record { physical = Some 7; repetition = Some 1; name = codes "a"; children = None; converted = Some 5; scale = Some 4; precision = Some 9; annotation = None }, 9 ∷ [])
+  pub decimal_leaf : leaf_of 3 (record { physical = Some 7; repetition = Some 1; name = codes "a"; children = None; converted = Some 5; scale = Some 4; precision = Some 9; annotation = None }) ≡ Some (record { place = 3; physical = 7; form = form.Decimal; is_raw = true; nullability = Nullable })
   pub statistics : statistics_of (24 ∷ 1 ∷ 65 ∷ 24 ∷ 1 ∷ 66 ∷ 22 ∷ 6 ∷ 22 ∷ 18 ∷ 24 ∷ 1 ∷ 67 ∷ 24 ∷ 1 ∷ 68 ∷ 17 ∷ 18 ∷ 0 ∷ []) ≡ Ok (record { old_max = Some (65 ∷ []); old_min = Some (66 ∷ []); null_count = Some 3; max = Some (67 ∷ []); min = Some (68 ∷ []); is_max_exact = true; is_min_exact = false })
   pub statistics_few : statistics_of (54 ∷ 1 ∷ 81 ∷ 0 ∷ []) ≡ Ok (record { old_max = None; old_min = None; null_count = None; max = None; min = None; is_max_exact = false; is_min_exact = true })
 
@@ -187,6 +198,10 @@ pub record BoundExamples : Type 0 where
   pub older_of_long_signed : chosen (form.Eight ptype.I64) false None (Some (2 ∷ [])) true ≡ Some (2 ∷ [], false)
   pub older_of_texts : chosen form.Utf8 false None (Some (2 ∷ [])) true ≡ None
   pub older_of_bytes : chosen form.Binary false None (Some (2 ∷ [])) true ≡ None
+  pub older_of_decimals : chosen form.Decimal false None (Some (2 ∷ [])) true ≡ None
+  pub older_of_decimals_in_order : chosen form.Decimal true None (Some (2 ∷ [])) true ≡ None
+  pub newer_of_decimals : chosen form.Decimal true (Some (1 ∷ [])) (Some (2 ∷ [])) true ≡ Some (1 ∷ [], true)
+  pub newer_of_decimals_without_order : chosen form.Decimal false (Some (1 ∷ [])) (Some (2 ∷ [])) true ≡ None
   pub older_of_truths : chosen form.Bool false None (Some (2 ∷ [])) true ≡ Some (2 ∷ [], false)
   pub neither : chosen (form.Four ptype.I32) true None None true ≡ None
   pub truth_0 : value_of form.Bool (0 ∷ []) ≡ Some (value.Bool false)
@@ -216,6 +231,26 @@ pub record BoundExamples : Type 0 where
   pub i64_short : value_of (form.Eight ptype.I64) (1 ∷ 0 ∷ 0 ∷ 0 ∷ []) ≡ None
   pub text : value_of form.Utf8 (195 ∷ 164 ∷ []) ≡ Some (value.Utf8 (195 ∷ 164 ∷ []))
   pub no_text : value_of form.Utf8 (195 ∷ []) ≡ None
+  pub decimal : value_of form.Decimal (127 ∷ []) ≡ Some (value.Primitive (number.I64 (pos 127)))
+  pub decimal_below_0 : value_of form.Decimal (128 ∷ []) ≡ Some (value.Primitive (number.I64 (negsuc 127)))
+  pub decimal_minus_1 : value_of form.Decimal (255 ∷ []) ≡ Some (value.Primitive (number.I64 (negsuc 0)))
+  pub decimal_of_two_bytes : value_of form.Decimal (1 ∷ 2 ∷ []) ≡ Some (value.Primitive (number.I64 (pos 258)))
+  pub decimal_of_two_bytes_below_0 : value_of form.Decimal (254 ∷ 255 ∷ []) ≡ Some (value.Primitive (number.I64 (negsuc 256)))
+  pub decimal_padded : value_of form.Decimal (0 ∷ 200 ∷ []) ≡ Some (value.Primitive (number.I64 (pos 200)))
+  pub decimal_of_eight_bytes : value_of form.Decimal (127 ∷ 255 ∷ 255 ∷ 255 ∷ 255 ∷ 255 ∷ 255 ∷ 255 ∷ []) ≡ Some (value.Primitive (number.I64 (pos 9223372036854775807)))
+  pub least_decimal_of_eight_bytes : value_of form.Decimal (128 ∷ 0 ∷ 0 ∷ 0 ∷ 0 ∷ 0 ∷ 0 ∷ 0 ∷ []) ≡ Some (value.Primitive (number.I64 (negsuc 9223372036854775807)))
+  pub decimal_of_nine_bytes : value_of form.Decimal (0 ∷ 127 ∷ 255 ∷ 255 ∷ 255 ∷ 255 ∷ 255 ∷ 255 ∷ 255 ∷ []) ≡ Some (value.Primitive (number.I64 (pos 9223372036854775807)))
+  pub decimal_past_64_bits : value_of form.Decimal (0 ∷ 128 ∷ 0 ∷ 0 ∷ 0 ∷ 0 ∷ 0 ∷ 0 ∷ 0 ∷ []) ≡ None
+  pub least_decimal_of_nine_bytes : value_of form.Decimal (255 ∷ 128 ∷ 0 ∷ 0 ∷ 0 ∷ 0 ∷ 0 ∷ 0 ∷ 0 ∷ []) ≡ Some (value.Primitive (number.I64 (negsuc 9223372036854775807)))
+  pub decimal_below_64_bits : value_of form.Decimal (255 ∷ 127 ∷ 255 ∷ 255 ∷ 255 ∷ 255 ∷ 255 ∷ 255 ∷ 255 ∷ []) ≡ None
+  pub decimal_of_16_bytes : value_of form.Decimal (0 ∷ 0 ∷ 0 ∷ 0 ∷ 0 ∷ 0 ∷ 0 ∷ 0 ∷ 0 ∷ 0 ∷ 0 ∷ 0 ∷ 0 ∷ 0 ∷ 1 ∷ 44 ∷ []) ≡ Some (value.Primitive (number.I64 (pos 300)))
+  pub decimal_of_16_bytes_below_0 : value_of form.Decimal (255 ∷ 255 ∷ 255 ∷ 255 ∷ 255 ∷ 255 ∷ 255 ∷ 255 ∷ 255 ∷ 255 ∷ 255 ∷ 255 ∷ 255 ∷ 255 ∷ 255 ∷ 156 ∷ []) ≡ Some (value.Primitive (number.I64 (negsuc 99)))
+  pub greatest_of_16_bytes : value_of form.Decimal (127 ∷ 255 ∷ 255 ∷ 255 ∷ 255 ∷ 255 ∷ 255 ∷ 255 ∷ 255 ∷ 255 ∷ 255 ∷ 255 ∷ 255 ∷ 255 ∷ 255 ∷ 255 ∷ []) ≡ None
+  pub least_of_16_bytes : value_of form.Decimal (128 ∷ 0 ∷ 0 ∷ 0 ∷ 0 ∷ 0 ∷ 0 ∷ 0 ∷ 0 ∷ 0 ∷ 0 ∷ 0 ∷ 0 ∷ 0 ∷ 0 ∷ 0 ∷ []) ≡ None
+  pub high_byte_of_16 : value_of form.Decimal (1 ∷ 0 ∷ 0 ∷ 0 ∷ 0 ∷ 0 ∷ 0 ∷ 0 ∷ 0 ∷ 0 ∷ 0 ∷ 0 ∷ 0 ∷ 0 ∷ 0 ∷ 0 ∷ []) ≡ None
+  pub decimal_of_17_bytes : value_of form.Decimal (0 ∷ 0 ∷ 0 ∷ 0 ∷ 0 ∷ 0 ∷ 0 ∷ 0 ∷ 0 ∷ 0 ∷ 0 ∷ 0 ∷ 0 ∷ 0 ∷ 0 ∷ 0 ∷ 5 ∷ []) ≡ Some (value.Primitive (number.I64 (pos 5)))
+  pub long_decimal_of_17_bytes : value_of form.Decimal (0 ∷ 0 ∷ 0 ∷ 0 ∷ 0 ∷ 0 ∷ 1 ∷ 0 ∷ 0 ∷ 0 ∷ 0 ∷ 0 ∷ 0 ∷ 0 ∷ 0 ∷ 0 ∷ 0 ∷ []) ≡ None
+  pub no_decimal : value_of form.Decimal ([]) ≡ None
   pub bytes : value_of form.Binary (195 ∷ []) ≡ Some (value.Binary (195 ∷ []))
   pub exact_if_told : bound_of form.Binary (Some (7 ∷ [], true)) ≡ Exact (value.Binary (7 ∷ []))
   pub inexact_else : bound_of form.Binary (Some (7 ∷ [], false)) ≡ Inexact (value.Binary (7 ∷ []))
@@ -225,16 +260,17 @@ pub record BoundExamples : Type 0 where
   pub nulls_unknown : count_of None ≡ Absent
   pub set : set_of form.Bool true (record { old_max = Some (1 ∷ []); old_min = Some (0 ∷ []); null_count = Some 2; max = Some (0 ∷ []); min = Some (1 ∷ []); is_max_exact = true; is_min_exact = false }) ≡ (Max, Exact (value.Bool false)) ∷ (Min, Inexact (value.Bool true)) ∷ (NullCount, Exact (value.Primitive (number.U64 2))) ∷ []
   pub set_without_order : set_of form.Bool false (record { old_max = Some (1 ∷ []); old_min = Some (0 ∷ []); null_count = Some 2; max = Some (0 ∷ []); min = Some (1 ∷ []); is_max_exact = true; is_min_exact = false }) ≡ (Max, Inexact (value.Bool true)) ∷ (Min, Inexact (value.Bool false)) ∷ (NullCount, Exact (value.Primitive (number.U64 2))) ∷ []
+  pub set_of_decimals : set_of form.Decimal true (record { old_max = None; old_min = None; null_count = None; max = Some (0 ∷ 128 ∷ 0 ∷ 0 ∷ 0 ∷ 0 ∷ 0 ∷ 0 ∷ 0 ∷ []); min = Some (255 ∷ 56 ∷ []); is_max_exact = true; is_min_exact = true }) ≡ (Max, Absent) ∷ (Min, Exact (value.Primitive (number.I64 (negsuc 199)))) ∷ (NullCount, Absent) ∷ []
   pub set_of_another_type : chunk_set (record { place = 0; physical = 0; form = form.Bool; is_raw = false; nullability = NonNullable }) true (record { physical = Some 1; statistics = Some (record { old_max = Some (1 ∷ []); old_min = Some (0 ∷ []); null_count = Some 2; max = Some (0 ∷ []); min = Some (1 ∷ []); is_max_exact = true; is_min_exact = false }) }) ≡ []
   pub set_of_no_type : chunk_set (record { place = 0; physical = 0; form = form.Bool; is_raw = false; nullability = NonNullable }) true (record { physical = None; statistics = Some (record { old_max = Some (1 ∷ []); old_min = Some (0 ∷ []); null_count = Some 2; max = Some (0 ∷ []); min = Some (1 ∷ []); is_max_exact = true; is_min_exact = false }) }) ≡ []
   pub set_without_statistics : chunk_set (record { place = 0; physical = 0; form = form.Bool; is_raw = false; nullability = NonNullable }) true (record { physical = Some 0; statistics = None }) ≡ []
 
 -- the columns of a schema, and the one of a name
 pub record ColumnExamples : Type 0 where
-  pub columns : columns_of (record { physical = None; repetition = None; name = codes "schema"; children = Some 5; converted = None; scale = None; annotation = None } ∷ record { physical = Some 1; repetition = Some 1; name = codes "a"; children = None; converted = None; scale = None; annotation = None } ∷ record { physical = None; repetition = Some 1; name = codes "g"; children = Some 2; converted = None; scale = None; annotation = None } ∷ record { physical = Some 1; repetition = Some 0; name = codes "x"; children = None; converted = None; scale = None; annotation = None } ∷ record { physical = Some 2; repetition = Some 0; name = codes "y"; children = None; converted = None; scale = None; annotation = None } ∷ record { physical = Some 1; repetition = Some 2; name = codes "r"; children = None; converted = None; scale = None; annotation = None } ∷ record { physical = Some 6; repetition = Some 0; name = codes "s"; children = None; converted = Some 0; scale = None; annotation = None } ∷ record { physical = Some 5; repetition = Some 1; name = codes "d"; children = None; converted = None; scale = None; annotation = None } ∷ []) ≡ Ok (record { name = codes "a"; content = content.Leaf (record { place = 0; physical = 1; form = form.Four ptype.I32; is_raw = false; nullability = Nullable }) } ∷ record { name = codes "g"; content = content.LeftOut left_out.Nested } ∷ record { name = codes "r"; content = content.LeftOut left_out.Repeated } ∷ record { name = codes "s"; content = content.Leaf (record { place = 4; physical = 6; form = form.Utf8; is_raw = false; nullability = NonNullable }) } ∷ record { name = codes "d"; content = content.LeftOut left_out.Type } ∷ [], 6)
+  pub columns : columns_of (record { physical = None; repetition = None; name = codes "schema"; children = Some 5; converted = None; scale = None; precision = None; annotation = None } ∷ record { physical = Some 1; repetition = Some 1; name = codes "a"; children = None; converted = None; scale = None; precision = None; annotation = None } ∷ record { physical = None; repetition = Some 1; name = codes "g"; children = Some 2; converted = None; scale = None; precision = None; annotation = None } ∷ record { physical = Some 1; repetition = Some 0; name = codes "x"; children = None; converted = None; scale = None; precision = None; annotation = None } ∷ record { physical = Some 2; repetition = Some 0; name = codes "y"; children = None; converted = None; scale = None; precision = None; annotation = None } ∷ record { physical = Some 1; repetition = Some 2; name = codes "r"; children = None; converted = None; scale = None; precision = None; annotation = None } ∷ record { physical = Some 6; repetition = Some 0; name = codes "s"; children = None; converted = Some 0; scale = None; precision = None; annotation = None } ∷ record { physical = Some 5; repetition = Some 1; name = codes "d"; children = None; converted = None; scale = None; precision = None; annotation = None } ∷ []) ≡ Ok (record { name = codes "a"; content = content.Leaf (record { place = 0; physical = 1; form = form.Four ptype.I32; is_raw = false; nullability = Nullable }) } ∷ record { name = codes "g"; content = content.LeftOut left_out.Nested } ∷ record { name = codes "r"; content = content.LeftOut left_out.Repeated } ∷ record { name = codes "s"; content = content.Leaf (record { place = 4; physical = 6; form = form.Utf8; is_raw = false; nullability = NonNullable }) } ∷ record { name = codes "d"; content = content.LeftOut left_out.Type } ∷ [], 6)
   pub no_root : columns_of [] ≡ Err fault.Schema
-  pub group_past_the_end : columns_of (record { physical = None; repetition = None; name = codes "schema"; children = Some 1; converted = None; scale = None; annotation = None } ∷ record { physical = None; repetition = Some 1; name = codes "g"; children = Some 2; converted = None; scale = None; annotation = None } ∷ record { physical = Some 1; repetition = Some 0; name = codes "x"; children = None; converted = None; scale = None; annotation = None } ∷ []) ≡ Err fault.Schema
-  pub nested_group : columns_of (record { physical = None; repetition = None; name = codes "schema"; children = Some 2; converted = None; scale = None; annotation = None } ∷ record { physical = None; repetition = Some 1; name = codes "g"; children = Some 1; converted = None; scale = None; annotation = None } ∷ record { physical = None; repetition = Some 1; name = codes "h"; children = Some 1; converted = None; scale = None; annotation = None } ∷ record { physical = Some 1; repetition = Some 0; name = codes "x"; children = None; converted = None; scale = None; annotation = None } ∷ record { physical = Some 1; repetition = Some 0; name = codes "b"; children = None; converted = None; scale = None; annotation = None } ∷ []) ≡ Ok (record { name = codes "g"; content = content.LeftOut left_out.Nested } ∷ record { name = codes "b"; content = content.Leaf (record { place = 1; physical = 1; form = form.Four ptype.I32; is_raw = false; nullability = NonNullable }) } ∷ [], 2)
+  pub group_past_the_end : columns_of (record { physical = None; repetition = None; name = codes "schema"; children = Some 1; converted = None; scale = None; precision = None; annotation = None } ∷ record { physical = None; repetition = Some 1; name = codes "g"; children = Some 2; converted = None; scale = None; precision = None; annotation = None } ∷ record { physical = Some 1; repetition = Some 0; name = codes "x"; children = None; converted = None; scale = None; precision = None; annotation = None } ∷ []) ≡ Err fault.Schema
+  pub nested_group : columns_of (record { physical = None; repetition = None; name = codes "schema"; children = Some 2; converted = None; scale = None; precision = None; annotation = None } ∷ record { physical = None; repetition = Some 1; name = codes "g"; children = Some 1; converted = None; scale = None; precision = None; annotation = None } ∷ record { physical = None; repetition = Some 1; name = codes "h"; children = Some 1; converted = None; scale = None; precision = None; annotation = None } ∷ record { physical = Some 1; repetition = Some 0; name = codes "x"; children = None; converted = None; scale = None; precision = None; annotation = None } ∷ record { physical = Some 1; repetition = Some 0; name = codes "b"; children = None; converted = None; scale = None; precision = None; annotation = None } ∷ []) ≡ Ok (record { name = codes "g"; content = content.LeftOut left_out.Nested } ∷ record { name = codes "b"; content = content.Leaf (record { place = 1; physical = 1; form = form.Four ptype.I32; is_raw = false; nullability = NonNullable }) } ∷ [], 2)
   pub one_of_a_name : lookup (codes "b") (record { name = codes "a"; content = content.Leaf (record { place = 0; physical = 1; form = form.Four ptype.I32; is_raw = false; nullability = Nullable }) } ∷ record { name = codes "b"; content = content.Leaf (record { place = 1; physical = 6; form = form.Utf8; is_raw = false; nullability = NonNullable }) } ∷ record { name = codes "a"; content = content.Leaf (record { place = 1; physical = 6; form = form.Utf8; is_raw = false; nullability = NonNullable }) } ∷ record { name = codes "g"; content = content.LeftOut left_out.Nested } ∷ []) ≡ Some (content.Leaf (record { place = 1; physical = 6; form = form.Utf8; is_raw = false; nullability = NonNullable }))
   pub two_of_a_name : lookup (codes "a") (record { name = codes "a"; content = content.Leaf (record { place = 0; physical = 1; form = form.Four ptype.I32; is_raw = false; nullability = Nullable }) } ∷ record { name = codes "b"; content = content.Leaf (record { place = 1; physical = 6; form = form.Utf8; is_raw = false; nullability = NonNullable }) } ∷ record { name = codes "a"; content = content.Leaf (record { place = 1; physical = 6; form = form.Utf8; is_raw = false; nullability = NonNullable }) } ∷ record { name = codes "g"; content = content.LeftOut left_out.Nested } ∷ []) ≡ Some (content.LeftOut left_out.Duplicate)
   pub one_left_out : lookup (codes "g") (record { name = codes "a"; content = content.Leaf (record { place = 0; physical = 1; form = form.Four ptype.I32; is_raw = false; nullability = Nullable }) } ∷ record { name = codes "b"; content = content.Leaf (record { place = 1; physical = 6; form = form.Utf8; is_raw = false; nullability = NonNullable }) } ∷ record { name = codes "a"; content = content.Leaf (record { place = 1; physical = 6; form = form.Utf8; is_raw = false; nullability = NonNullable }) } ∷ record { name = codes "g"; content = content.LeftOut left_out.Nested } ∷ []) ≡ Some (content.LeftOut left_out.Nested)

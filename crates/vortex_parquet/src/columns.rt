@@ -5,7 +5,7 @@ ghost use Rattle.vortex_parquet.specs.Records.{element_view};
 ghost use Rattle.vortex_parquet.specs.Reading.{Gives};
 
 use crate::fault::{Fault, ReadError};
-use crate::records::{Annotation, SchemaElement, is_number};
+use crate::records::{Annotation, SchemaElement, is_number, is_short};
 use std::alloc::{AllocError, Global};
 use vortex_base::dtype::DType;
 use vortex_base::types::{Nullability, PType};
@@ -20,6 +20,8 @@ pub enum Form {
     Eight(PType),
     Utf8,
     Binary,
+    /// A whole number of 64 bits with a sign, the highest byte first, in any number of bytes.
+    Decimal,
 }
 
 /// A leaf column that is read: its place among all leaf columns, its physical type, and what it
@@ -71,13 +73,14 @@ impl Leaf {
             Form::Four(ptype) | Form::Eight(ptype) => DType::Primitive(ptype, self.nullability),
             Form::Utf8 => DType::Utf8(self.nullability),
             Form::Binary => DType::Binary(self.nullability),
+            Form::Decimal => DType::Primitive(PType::I64, self.nullability),
         }
     }
 }
 
 impl Form {
-    /// Tells whether the order of the values is that of signed numbers, as that of the deprecated
-    /// bounds is.
+    /// Tells whether the deprecated bounds are in the order of the values, as those of signed
+    /// numbers are. Those of decimals in bytes may have been compared byte by byte.
     pub fn is_signed(self) -> bool
         ensures { result ≡ spec.is_signed self }
     {
@@ -86,7 +89,7 @@ impl Form {
             Form::Four(ptype) | Form::Eight(ptype) => {
                 matches!(ptype, PType::I8 | PType::I16 | PType::I32 | PType::I64)
             }
-            Form::Utf8 | Form::Binary => false,
+            Form::Utf8 | Form::Binary | Form::Decimal => false,
         }
     }
 }
@@ -103,12 +106,12 @@ fn is_whole(scale: Option<u64>) -> bool
 
 // The older annotation, as the newer one.
 #[tactic(auto, unfolding(crate::specs::Columns::converted))]
-fn converted(code: u64, scale: Option<u64>) -> Annotation
-    ensures { result ≡ spec.converted code scale }
+fn converted(code: u64, scale: Option<u64>, precision: Option<u64>) -> Annotation
+    ensures { result ≡ spec.converted code scale precision }
 {
     match code {
         0 | 4 | 19 => Annotation::Text,
-        5 => Annotation::Decimal(is_whole(scale)),
+        5 => Annotation::Decimal(is_whole(scale), is_short(precision)),
         6 | 7 | 8 | 9 | 10 => Annotation::Time,
         11 => Annotation::Integer(8, false),
         12 => Annotation::Integer(16, false),
@@ -124,11 +127,11 @@ fn converted(code: u64, scale: Option<u64>) -> Annotation
 }
 
 // The older annotation, if there is one.
-fn converted_or_none(code: Option<u64>, scale: Option<u64>) -> Annotation
-    ensures { result ≡ spec.converted_or_none code scale }
+fn converted_or_none(code: Option<u64>, scale: Option<u64>, precision: Option<u64>) -> Annotation
+    ensures { result ≡ spec.converted_or_none code scale precision }
 {
     match code {
-        Some(code) => converted(code, scale),
+        Some(code) => converted(code, scale, precision),
         None => Annotation::None,
     }
 }
@@ -138,11 +141,12 @@ fn annotation_of(
     annotation: Option<Annotation>,
     code: Option<u64>,
     scale: Option<u64>,
+    precision: Option<u64>,
 ) -> Annotation
-    ensures { result ≡ spec.annotation_of annotation code scale }
+    ensures { result ≡ spec.annotation_of annotation code scale precision }
 {
     match annotation {
-        None | Some(Annotation::None) => converted_or_none(code, scale),
+        None | Some(Annotation::None) => converted_or_none(code, scale, precision),
         Some(annotation) => annotation,
     }
 }
@@ -168,7 +172,7 @@ fn four(annotation: Annotation) -> Option<Form>
     ensures { result ≡ spec.four annotation }
 {
     match annotation {
-        Annotation::None | Annotation::Decimal(_) | Annotation::Time => Some(Form::Four(
+        Annotation::None | Annotation::Decimal(_, _) | Annotation::Time => Some(Form::Four(
             PType::I32,
         )),
         Annotation::Integer(bits, signed) => four_integer(bits, signed),
@@ -193,12 +197,22 @@ fn eight(annotation: Annotation) -> Option<Form>
     ensures { result ≡ spec.eight annotation }
 {
     match annotation {
-        Annotation::None | Annotation::Decimal(_) | Annotation::Time => Some(Form::Eight(
+        Annotation::None | Annotation::Decimal(_, _) | Annotation::Time => Some(Form::Eight(
             PType::I64,
         )),
         Annotation::Integer(bits, signed) => eight_integer(bits, signed),
         _ => None,
     }
+}
+
+// Decimals in bytes, if each fits 64 bits.
+fn decimal_form(is_short: bool) -> Option<Form>
+    ensures { result ≡ spec.decimal_form is_short }
+{
+    if is_short {
+        return Some(Form::Decimal);
+    }
+    None
 }
 
 // Bytes of any length.
@@ -209,6 +223,7 @@ fn bytes_form(annotation: Annotation) -> Option<Form>
     match annotation {
         Annotation::None | Annotation::Bytes => Some(Form::Binary),
         Annotation::Text => Some(Form::Utf8),
+        Annotation::Decimal(_, is_short) => decimal_form(is_short),
         _ => None,
     }
 }
@@ -220,6 +235,7 @@ fn fixed_form(annotation: Annotation) -> Option<Form>
 {
     match annotation {
         Annotation::None | Annotation::Bytes => Some(Form::Binary),
+        Annotation::Decimal(_, is_short) => decimal_form(is_short),
         _ => None,
     }
 }
@@ -267,7 +283,7 @@ fn is_raw(annotation: Annotation) -> bool
 {
     match annotation {
         Annotation::Time => true,
-        Annotation::Decimal(is_whole) => !is_whole,
+        Annotation::Decimal(is_whole, _) => !is_whole,
         _ => false,
     }
 }
@@ -280,7 +296,12 @@ fn leaf_of(place: usize, element: &SchemaElement<'_>) -> Option<Leaf>
     let physical = element.physical?;
     let repetition = element.repetition?;
     let nullability = nullability(repetition)?;
-    let annotation = annotation_of(element.annotation, element.converted, element.scale);
+    let annotation = annotation_of(
+        element.annotation,
+        element.converted,
+        element.scale,
+        element.precision,
+    );
     let form = form_of(physical, annotation)?;
     Some(Leaf {
         place,

@@ -147,6 +147,11 @@ pub fn skip_varint(bytes: &[u8]) -> Result<&[u8], ReadError>
     match bytes {
         [byte, rest @ ..] if *byte < 128 => Ok(rest),
         [low, high, rest @ ..] if *low >= 128 && *high < 128 => Ok(rest),
+        // Numbers of rows and of bytes have three mostly, and offsets five.
+        [a, b, c, rest @ ..] if *a >= 128 && *b >= 128 && *c < 128 => Ok(rest),
+        [a, b, c, d, rest @ ..] if *a >= 128 && *b >= 128 && *c >= 128 && *d < 128 => Ok(rest),
+        [a, b, c, d, e, rest @ ..]
+            if *a >= 128 && *b >= 128 && *c >= 128 && *d >= 128 && *e < 128 => { Ok(rest) }
         _ => Ok(varint_in(10, bytes)?.1),
     }
 }

@@ -36,8 +36,12 @@ fn cut_out(bytes: &[u8], from: u64, length: u64) -> Option<&[u8]>
     Some(found)
 }
 
-// So many bytes of the file from a place on, if they are known and among the last ones.
-fn bytes_at<'a>(tail: FileTail<'a>, place: Option<u64>, length: Option<u64>) -> Option<&'a [u8]>
+/// Returns so many bytes of the file from a place on, if they are known and among the last ones.
+pub(crate) fn bytes_at<'a>(
+    tail: FileTail<'a>,
+    place: Option<u64>,
+    length: Option<u64>,
+) -> Option<&'a [u8]>
     ensures { option_copied result ≡ spec.bytes_at (spec.tail_view tail.entry) place length }
 {
     let place = place?;

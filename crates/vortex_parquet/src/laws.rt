@@ -1,6 +1,7 @@
 //! Laws of this layer, in the words of its definitions. The functions carry them by their
 //! contracts.
 ghost use Rattle.std.specs.Prelude.{ℕ, List, IfOk, Ok};
+ghost use Rattle.vortex_parquet.specs.DataPageWorked.{DataPageExamples};
 ghost use Rattle.vortex_parquet.specs.Fields.{field_views, fields_before, struct_of};
 ghost use Rattle.vortex_parquet.specs.Grammar.{IsStruct, IsValue};
 ghost use Rattle.vortex_parquet.specs.IndexWorked.{IndexExamples};
@@ -72,12 +73,13 @@ pub fn examples_hold()
     ensures columns { ColumnExamples }
 {}
 
-/// Worked rows of page indexes, of the stretches of a row group, and of where the page indexes of a
-/// file begin.
+/// Worked rows of page indexes, of the stretches of a row group, of where the page indexes of a
+/// file begin, and of its data pages.
 pub fn page_examples_hold()
     ensures pages { PageExamples }
     ensures stretches { StretchExamples }
     ensures indexes { IndexExamples }
+    ensures data_pages { DataPageExamples }
 {}
 
 /// A file whose statistics are true of the rows of its row group: a witness of `groups_are_true`.

@@ -4,6 +4,8 @@
 pub mod column_index;
 pub mod columns;
 pub mod compact;
+pub mod data_pages;
+mod decimals;
 pub mod fault;
 pub mod fields;
 pub mod footer;

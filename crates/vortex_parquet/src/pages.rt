@@ -89,8 +89,9 @@ fn statistics_at<'a>(index: &ColumnIndex<'a>, place: usize, rows: u64) -> Statis
     bounded(min, max, null_count)
 }
 
-// The first row of the page at a place. Behind the last page stands the end of the row group.
-fn first_at(rows: u64, locations: &[PageLocation], place: usize) -> u64
+/// Returns the first row of the page at a place. Behind the last page stands the end of the row
+/// group.
+pub(crate) fn first_at(rows: u64, locations: &[PageLocation], place: usize) -> u64
     ensures { result ≡ spec.first_at rows locations.now place }
 {
     match locations.get(place) {

@@ -49,8 +49,9 @@ pub enum Annotation {
     None,
     /// String, enumeration or JSON text.
     Text,
-    /// Decimals, and whether their scale is 0, so that they are whole numbers.
-    Decimal(bool),
+    /// Decimals: whether their scale is 0, so that they are whole numbers, and whether they have at
+    /// most 18 digits, so that each fits 64 bits.
+    Decimal(bool, bool),
     /// A date, a time or a timestamp.
     Time,
     /// A whole number of so many bits, with a sign or without.
@@ -71,6 +72,8 @@ pub struct SchemaElement<'a> {
     pub converted: Option<u64>,
     /// The scale of decimals, with its sign in the lowest bit.
     pub scale: Option<u64>,
+    /// How many digits decimals have at most.
+    pub precision: Option<u64>,
     pub annotation: Option<Annotation>,
 }
 
@@ -211,14 +214,25 @@ fn integer_of(alloc: Global, bytes: &[u8]) -> Result<Annotation, ReadError>
     }
 }
 
-// The annotation of decimals, which always tells their scale.
+/// Tells whether decimals of so many digits at most fit 64 bits.
+pub(crate) fn is_short(precision: Option<u64>) -> bool
+    ensures { result ≡ spec.is_short precision }
+{
+    match precision {
+        Some(precision) => precision <= 18,
+        None => false,
+    }
+}
+
+// The annotation of decimals, which always tells their scale and their precision.
 #[tactic(auto, unfolding(crate::specs::Records::decimal_of))]
 fn decimal_of(alloc: Global, bytes: &[u8]) -> Result<Annotation, ReadError>
     ensures { Gives (λ l. l) result (spec.decimal_of bytes.now) }
 {
     let (fields, _) = struct_of(alloc, bytes)?;
     let scale = number_in(&fields, 1, Kind::I32)?;
-    Ok(Annotation::Decimal(is_number(0, scale)))
+    let precision = natural_in(&fields, 2, Kind::I32)?;
+    Ok(Annotation::Decimal(is_number(0, scale), is_short(precision)))
 }
 
 // The annotation that a union tells by its first field.
@@ -283,6 +297,7 @@ fn element_of(alloc: Global, bytes: &[u8]) -> Result<(SchemaElement<'_>, &[u8]),
     let children = natural_in(&fields, 5, Kind::I32)?;
     let converted = natural_in(&fields, 6, Kind::I32)?;
     let scale = number_in(&fields, 7, Kind::I32)?;
+    let precision = natural_in(&fields, 8, Kind::I32)?;
     let annotation = annotation_in(alloc, &fields, 10)?;
     let element = SchemaElement {
         physical,
@@ -291,6 +306,7 @@ fn element_of(alloc: Global, bytes: &[u8]) -> Result<(SchemaElement<'_>, &[u8]),
         children,
         converted,
         scale,
+        precision,
         annotation,
     };
     Ok((element, rest))

@@ -8,6 +8,7 @@ ghost use Rattle.vortex_parquet.specs.Records.{statistics_view, statistics_views
 ghost use Rattle.vortex_parquet.specs.Stats as spec;
 
 use crate::columns::{Form, Leaf};
+use crate::decimals::number_of;
 use crate::fault::{Fault, ReadError};
 use crate::records::{
     ColumnChunk, FileMetaData, RowGroup, Statistics, chunk_of, is_number, row_group_of,
@@ -154,6 +155,16 @@ fn text_value(alloc: Global, bytes: &[u8]) -> Result<Option<ScalarValue>, AllocE
     }
 }
 
+// The number of a decimal that the bytes are, if it fits 64 bits.
+fn decimal_value(bytes: &[u8]) -> Option<ScalarValue>
+    ensures { result ≡ spec.decimal_value bytes.now }
+{
+    match number_of(bytes) {
+        Some(number) => Some(ScalarValue::Primitive(PValue::I64(number))),
+        None => None,
+    }
+}
+
 // The value of a form that the bytes are, if they are one.
 fn value_of(alloc: Global, form: Form, bytes: &[u8]) -> Result<Option<ScalarValue>, AllocError>
     ensures { IfOk result (λ v. v ≡ spec.value_of form bytes.now) }
@@ -163,6 +174,7 @@ fn value_of(alloc: Global, form: Form, bytes: &[u8]) -> Result<Option<ScalarValu
         Form::Four(ptype) => Ok(four_value(ptype, bytes)),
         Form::Eight(ptype) => Ok(eight_value(ptype, bytes)),
         Form::Utf8 => text_value(alloc, bytes),
+        Form::Decimal => Ok(decimal_value(bytes)),
         Form::Binary => {
             let bytes = Vec::from_slice(alloc, bytes)?;
             Ok(Some(ScalarValue::Binary(Bytes::new(bytes))))
