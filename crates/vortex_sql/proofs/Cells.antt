@@ -9,7 +9,7 @@ use Rattle.vortex_base.specs.Data.Scopes.{Named, place_of}
 use Rattle.vortex_base.specs.Data.Columns.{cell_value}
 use Rattle.vortex_expr.specs.Meanings.Binding.{find_column, found, place_at}
 use Rattle.vortex_expr.specs.Trees.Tree.{Place}
-use Rattle.vortex_sql_syntax.specs.declared.tree.Leaf.{Leaf}
+use Rattle.vortex_sql.specs.declared.syntax.tree.Leaf.{Leaf}
 use Rattle.vortex_sql.specs.Lowering.{IsRowOf, told_cell, with_told}
 
 -- ---- what is told stands behind the row, in order

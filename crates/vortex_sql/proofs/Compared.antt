@@ -23,8 +23,8 @@ use Rattle.vortex_base.specs.Data.Values.{kind_index, value_cmp, is_value, numbe
 use Rattle.vortex_base.specs.Data.Scalars.{is_optional_value}
 use Rattle.vortex_expr.specs.Meanings.Meaning.{applied, holds}
 use Rattle.vortex_expr.specs.Meanings.Meaning as meanings
-use Rattle.vortex_sql_syntax.specs.declared.tree.Comparison.{Comparison}
-use Rattle.vortex_sql_syntax.specs.declared.tree.Comparison.TheVariants as comparison
+use Rattle.vortex_sql.specs.declared.syntax.tree.Comparison.{Comparison}
+use Rattle.vortex_sql.specs.declared.syntax.tree.Comparison.TheVariants as comparison
 use Rattle.vortex_sql.specs.Sql.{Item, truth, number as whole, fraction, text, binary, item_of, item_cmp, against_fraction, compared, operator_of, flipped, rank}
 use Rattle.vortex_sql.specs.Numbers.{sized, with_least, with_greatest, least_of, greatest_of, clamped_by, clamped, fractional}
 

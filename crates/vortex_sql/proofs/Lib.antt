@@ -3,6 +3,7 @@ pub mod Compared
 pub mod Made
 pub mod Members
 pub mod Pairs
+pub mod Parsing
 pub mod Refusing
 pub mod Refuting
 pub mod Saying

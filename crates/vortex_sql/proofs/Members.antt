@@ -4,8 +4,8 @@ use Rattle.std.specs.Prelude.{Option, Ok, Err}
 use Rattle.vortex_base.specs.Data.Scopes.{Named}
 use Rattle.vortex_expr.specs.Trees.Tree.{Tree, Place}
 use Rattle.vortex_sql.specs.declared.fault.Fault.{Fault}
-use Rattle.vortex_sql_syntax.specs.declared.tree.Comparison.TheVariants as comparison
-use Rattle.vortex_sql_syntax.specs.declared.tree.Operand.{Operand}
+use Rattle.vortex_sql.specs.declared.syntax.tree.Comparison.TheVariants as comparison
+use Rattle.vortex_sql.specs.declared.syntax.tree.Operand.{Operand}
 use Rattle.vortex_sql.specs.Readings.{Reading, Members, compare, with_member, members_from}
 
 abbrev failed : Fault → Members

@@ -1,10 +1,10 @@
 -- A misfit of a part is one of the whole.
 use Rattle.std.proofs.Common.{◌≡◌, ℕ, List, [], ◌∷◌, ◌++◌, false, length, sym, ap, subst, ◌∙◌}
 use Rattle.vortex_base.specs.Data.Scopes.{Named}
-use Rattle.vortex_sql_syntax.specs.Joining.{Joins, ands}
-use Rattle.vortex_sql_syntax.specs.Places.{Ascends, leaves}
-use Rattle.vortex_sql_syntax.specs.declared.tree.Condition.{Condition}
-use Rattle.vortex_sql_syntax.specs.declared.tree.Leaf.{Leaf}
+use Rattle.vortex_sql.specs.Parsing.Joining.{Joins, ands}
+use Rattle.vortex_sql.specs.Parsing.Places.{Ascends, leaves}
+use Rattle.vortex_sql.specs.declared.syntax.tree.Condition.{Condition}
+use Rattle.vortex_sql.specs.declared.syntax.tree.Leaf.{Leaf}
 use Rattle.vortex_sql.specs.declared.lower.LowerError.{LowerError}
 use Rattle.vortex_sql.specs.declared.lower.LowerError.TheVariants.{Memory, Misfit}
 use Rattle.vortex_sql.specs.declared.error.SqlError.{SqlError}

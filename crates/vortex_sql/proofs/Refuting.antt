@@ -12,9 +12,9 @@ use Rattle.vortex_base.specs.Data.Scalars.{Constant, is_optional_value}
 use Rattle.vortex_base.specs.Data.Scopes.{Named}
 use Rattle.vortex_base.specs.Data.Columns.{ChunkData, ColumnData, IsChunk, row_of, row_count, value_at, all_fit, all_long, has_types, is_column}
 use Rattle.vortex_expr.specs.Meanings.Meaning.{truth_value, meaning, is_true}
-use Rattle.vortex_sql_syntax.specs.declared.tree.Leaf.{Leaf}
+use Rattle.vortex_sql.specs.declared.syntax.tree.Leaf.{Leaf}
 use Rattle.vortex_expr.specs.Trees.Tree.{Tree, Place}
-use Rattle.vortex_sql_syntax.specs.declared.tree.Condition.{Condition}
+use Rattle.vortex_sql.specs.declared.syntax.tree.Condition.{Condition}
 use Rattle.vortex_sql.specs.Lowering.{IsRowOf, Says, opaques, truth_on, told_cell, with_told}
 use Rattle.vortex_sql.specs.Pruning.{told_column, with_columns, ConfirmsCondition, RefutesCondition}
 

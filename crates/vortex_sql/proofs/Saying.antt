@@ -19,16 +19,16 @@ use Rattle.vortex_expr.specs.Meanings.Typing.{is_bool, is_utf8}
 use Rattle.vortex_expr.specs.Patterns.Like.{plain}
 use Rattle.vortex_expr.specs.Trees.Tree.{Tree, Place, literal, column, binary, like, is_null, is_not_null, not}
 use Rattle.vortex_sql.specs.declared.fault.Fault.TheVariants.{Misfit}
-use Rattle.vortex_sql_syntax.specs.declared.tree.Comparison.{Comparison}
-use Rattle.vortex_sql_syntax.specs.declared.tree.Comparison.TheVariants as comparison
-use Rattle.vortex_sql_syntax.specs.declared.tree.Escape.TheVariants as escape
-use Rattle.vortex_sql_syntax.specs.declared.tree.Operand.{Operand}
-use Rattle.vortex_sql_syntax.specs.declared.tree.Operand.TheVariants as operand
-use Rattle.vortex_sql_syntax.specs.declared.tree.Test.{Test}
-use Rattle.vortex_sql_syntax.specs.declared.tree.Test.TheVariants as test
-use Rattle.vortex_sql_syntax.specs.declared.tree.Leaf.{Leaf}
-use Rattle.vortex_sql_syntax.specs.declared.tree.Condition.{Condition}
-use Rattle.vortex_sql_syntax.specs.declared.tree.Condition.TheVariants.{Leaf as Leaf', Not', And', Or', IsNull', IsTrue', IsFalse'}
+use Rattle.vortex_sql.specs.declared.syntax.tree.Comparison.{Comparison}
+use Rattle.vortex_sql.specs.declared.syntax.tree.Comparison.TheVariants as comparison
+use Rattle.vortex_sql.specs.declared.syntax.tree.Escape.TheVariants as escape
+use Rattle.vortex_sql.specs.declared.syntax.tree.Operand.{Operand}
+use Rattle.vortex_sql.specs.declared.syntax.tree.Operand.TheVariants as operand
+use Rattle.vortex_sql.specs.declared.syntax.tree.Test.{Test}
+use Rattle.vortex_sql.specs.declared.syntax.tree.Test.TheVariants as test
+use Rattle.vortex_sql.specs.declared.syntax.tree.Leaf.{Leaf}
+use Rattle.vortex_sql.specs.declared.syntax.tree.Condition.{Condition}
+use Rattle.vortex_sql.specs.declared.syntax.tree.Condition.TheVariants.{Leaf as Leaf', Not', And', Or', IsNull', IsTrue', IsFalse'}
 use Rattle.vortex_sql.specs.Sql.{Item, truth, number, fraction, text, binary as binary_item, item_of, item_cmp, compared, distinct, liked, pattern_of, within, among, truth_of, cell_at, value_in, values_in, test_truth, operator_of, flipped}
 use Rattle.vortex_sql.specs.Numbers.{clamped, fractional}
 use Rattle.vortex_sql.specs.Halves.{joined, first_of, in_turns, paired}

@@ -1,8 +1,9 @@
-pub mod Sql
 pub mod Halves
-pub mod Numbers
-pub mod Readings
 pub mod Lowering
-pub mod Refusals
+pub mod Numbers
+pub mod Parsing
 pub mod Pruning
+pub mod Readings
+pub mod Refusals
+pub mod Sql
 pub mod Worked

@@ -9,9 +9,9 @@ use Rattle.vortex_expr.specs.declared.scalar_fn.Operator.TheVariants as operator
 use Rattle.vortex_expr.specs.Meanings.Meaning.{both, either, opposite, truth_value, meaning}
 use Rattle.vortex_expr.specs.Meanings.Typing.{is_bool, type_of}
 use Rattle.vortex_expr.specs.Trees.Tree.{Tree, Place, column, binary, is_null, is_not_null, not}
-use Rattle.vortex_sql_syntax.specs.declared.tree.Leaf.{Leaf}
-use Rattle.vortex_sql_syntax.specs.declared.tree.Condition.{Condition}
-use Rattle.vortex_sql_syntax.specs.declared.tree.Condition.TheVariants.{Leaf as Leaf', Not', And', Or', IsNull', IsTrue', IsFalse'}
+use Rattle.vortex_sql.specs.declared.syntax.tree.Leaf.{Leaf}
+use Rattle.vortex_sql.specs.declared.syntax.tree.Condition.{Condition}
+use Rattle.vortex_sql.specs.declared.syntax.tree.Condition.TheVariants.{Leaf as Leaf', Not', And', Or', IsNull', IsTrue', IsFalse'}
 use Rattle.vortex_sql.specs.Sql.{test_truth}
 use Rattle.vortex_sql.specs.Readings.{Reading, reading, bool_or_null, truth_literal}
 

@@ -5,8 +5,8 @@ use Rattle.vortex_base.specs.declared.types.PType.TheVariants as ptype
 use Rattle.vortex_base.specs.declared.pvalue.PValue.{PValue}
 use Rattle.vortex_base.specs.declared.pvalue.PValue.TheVariants as number
 use Rattle.vortex_base.specs.Data.Values.{least, greatest}
-use Rattle.vortex_sql_syntax.specs.declared.tree.Comparison.{Comparison}
-use Rattle.vortex_sql_syntax.specs.declared.tree.Comparison.TheVariants as comparison
+use Rattle.vortex_sql.specs.declared.syntax.tree.Comparison.{Comparison}
+use Rattle.vortex_sql.specs.declared.syntax.tree.Comparison.TheVariants as comparison
 
 abbrev pub to_nat : ℤ → ℕ
 to_nat (pos n) = n

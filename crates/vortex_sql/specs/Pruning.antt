@@ -4,8 +4,8 @@ use Rattle.vortex_base.specs.Data.Columns.{ColumnData, ChunkData, IsChunk, row_o
 use Rattle.vortex_base.specs.Data.Scopes.{Named}
 use Rattle.vortex_expr.specs.Meanings.Meaning.{truth_value, satisfies}
 use Rattle.vortex_expr.specs.Trees.Tree.{Tree, Place}
-use Rattle.vortex_sql_syntax.specs.declared.tree.Leaf.{Leaf}
-use Rattle.vortex_sql_syntax.specs.declared.tree.Condition.{Condition}
+use Rattle.vortex_sql.specs.declared.syntax.tree.Leaf.{Leaf}
+use Rattle.vortex_sql.specs.declared.syntax.tree.Condition.{Condition}
 use Rattle.vortex_sql.specs.Readings.{bool_or_null}
 use Rattle.vortex_sql.specs.Lowering.{Says, opaques, truth_on}
 

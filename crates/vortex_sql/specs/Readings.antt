@@ -19,13 +19,13 @@ use Rattle.vortex_expr.specs.Trees.Tree.{Tree, Place, literal, column, binary, i
 use Rattle.vortex_sql.specs.declared.fault.Fault.{Fault}
 use Rattle.vortex_sql.specs.declared.fault.Fault.TheVariants.{Memory, Misfit}
 use Rattle.vortex_sql.specs.declared.found.Found.{Found}
-use Rattle.vortex_sql_syntax.specs.declared.tree.Comparison.{Comparison}
-use Rattle.vortex_sql_syntax.specs.declared.tree.Comparison.TheVariants as comparison
-use Rattle.vortex_sql_syntax.specs.declared.tree.Escape.TheVariants as escape
-use Rattle.vortex_sql_syntax.specs.declared.tree.Operand.{Operand}
-use Rattle.vortex_sql_syntax.specs.declared.tree.Operand.TheVariants as operand
-use Rattle.vortex_sql_syntax.specs.declared.tree.Test.{Test}
-use Rattle.vortex_sql_syntax.specs.declared.tree.Test.TheVariants as test
+use Rattle.vortex_sql.specs.declared.syntax.tree.Comparison.{Comparison}
+use Rattle.vortex_sql.specs.declared.syntax.tree.Comparison.TheVariants as comparison
+use Rattle.vortex_sql.specs.declared.syntax.tree.Escape.TheVariants as escape
+use Rattle.vortex_sql.specs.declared.syntax.tree.Operand.{Operand}
+use Rattle.vortex_sql.specs.declared.syntax.tree.Operand.TheVariants as operand
+use Rattle.vortex_sql.specs.declared.syntax.tree.Test.{Test}
+use Rattle.vortex_sql.specs.declared.syntax.tree.Test.TheVariants as test
 use Rattle.vortex_sql.specs.Sql.{Item, truth as truth_item, number, text, binary as binary_item, item_cmp, operator_of, flipped}
 use Rattle.vortex_sql.specs.Numbers.{clamped, fractional}
 use Rattle.vortex_sql.specs.Halves.{joined}

@@ -1,12 +1,12 @@
 -- When a condition is refused.
 use Rattle.std.specs.Prelude.{◌≡◌, ◌++◌, ℕ, List, [], ◌∷◌, Ok, Err, false, length}
 use Rattle.vortex_base.specs.Data.Scopes.{Named}
-use Rattle.vortex_sql_syntax.specs.Joining.{Joins, ands}
-use Rattle.vortex_sql_syntax.specs.Places.{Ascends, leaves}
-use Rattle.vortex_sql_syntax.specs.Refusals.{IsPlaced}
-use Rattle.vortex_sql_syntax.specs.declared.tree.Leaf.{Leaf}
-use Rattle.vortex_sql_syntax.specs.declared.tree.Condition.{Condition}
-use Rattle.vortex_sql_syntax.specs.declared.tree.Condition.TheVariants.{Leaf as Leaf', Not', And', Or', IsNull', IsTrue', IsFalse'}
+use Rattle.vortex_sql.specs.Parsing.Joining.{Joins, ands}
+use Rattle.vortex_sql.specs.Parsing.Places.{Ascends, leaves}
+use Rattle.vortex_sql.specs.Parsing.Refusals.{IsPlaced}
+use Rattle.vortex_sql.specs.declared.syntax.tree.Leaf.{Leaf}
+use Rattle.vortex_sql.specs.declared.syntax.tree.Condition.{Condition}
+use Rattle.vortex_sql.specs.declared.syntax.tree.Condition.TheVariants.{Leaf as Leaf', Not', And', Or', IsNull', IsTrue', IsFalse'}
 use Rattle.vortex_sql.specs.declared.lower.LowerError.{LowerError}
 use Rattle.vortex_sql.specs.declared.lower.LowerError.TheVariants.{Memory, Misfit}
 use Rattle.vortex_sql.specs.declared.error.SqlError.{SqlError}

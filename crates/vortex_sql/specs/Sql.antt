@@ -16,14 +16,14 @@ use Rattle.vortex_expr.specs.Patterns.Like.{like_text}
 use Rattle.vortex_expr.specs.Meanings.Meaning.{both, either, holds}
 use Rattle.vortex_expr.specs.Meanings.Binding.{find_column}
 use Rattle.vortex_expr.specs.Trees.Tree.{Place}
-use Rattle.vortex_sql_syntax.specs.declared.tree.Comparison.{Comparison}
-use Rattle.vortex_sql_syntax.specs.declared.tree.Comparison.TheVariants as comparison
-use Rattle.vortex_sql_syntax.specs.declared.tree.Escape.{Escape}
-use Rattle.vortex_sql_syntax.specs.declared.tree.Escape.TheVariants as escape
-use Rattle.vortex_sql_syntax.specs.declared.tree.Operand.{Operand}
-use Rattle.vortex_sql_syntax.specs.declared.tree.Operand.TheVariants as operand
-use Rattle.vortex_sql_syntax.specs.declared.tree.Test.{Test}
-use Rattle.vortex_sql_syntax.specs.declared.tree.Test.TheVariants as test
+use Rattle.vortex_sql.specs.declared.syntax.tree.Comparison.{Comparison}
+use Rattle.vortex_sql.specs.declared.syntax.tree.Comparison.TheVariants as comparison
+use Rattle.vortex_sql.specs.declared.syntax.tree.Escape.{Escape}
+use Rattle.vortex_sql.specs.declared.syntax.tree.Escape.TheVariants as escape
+use Rattle.vortex_sql.specs.declared.syntax.tree.Operand.{Operand}
+use Rattle.vortex_sql.specs.declared.syntax.tree.Operand.TheVariants as operand
+use Rattle.vortex_sql.specs.declared.syntax.tree.Test.{Test}
+use Rattle.vortex_sql.specs.declared.syntax.tree.Test.TheVariants as test
 
 abbrev pub operator_of : Comparison → Operator
 operator_of comparison.Eq = operator.Eq

@@ -14,13 +14,13 @@ use Rattle.vortex_expr.specs.declared.scalar_fn.Operator.{Operator}
 use Rattle.vortex_expr.specs.declared.scalar_fn.Operator.TheVariants as operator
 use Rattle.vortex_expr.specs.Trees.Tree.{Tree, Place, binary, column, literal, is_null, is_not_null}
 use Rattle.vortex_sql.specs.declared.fault.Fault.TheVariants.{Misfit}
-use Rattle.vortex_sql_syntax.specs.declared.tree.Comparison.{Comparison}
-use Rattle.vortex_sql_syntax.specs.declared.tree.Comparison.TheVariants.{Eq, NotEq, Gt, Gte, Lt, Lte}
-use Rattle.vortex_sql_syntax.specs.declared.tree.Escape.TheVariants as escape
-use Rattle.vortex_sql_syntax.specs.declared.tree.Operand.{Operand}
-use Rattle.vortex_sql_syntax.specs.declared.tree.Operand.TheVariants.{Column, Null, Truth, Integer, Fraction, Text, Binary, Other}
-use Rattle.vortex_sql_syntax.specs.declared.tree.Test.{Test}
-use Rattle.vortex_sql_syntax.specs.declared.tree.Test.TheVariants as test
+use Rattle.vortex_sql.specs.declared.syntax.tree.Comparison.{Comparison}
+use Rattle.vortex_sql.specs.declared.syntax.tree.Comparison.TheVariants.{Eq, NotEq, Gt, Gte, Lt, Lte}
+use Rattle.vortex_sql.specs.declared.syntax.tree.Escape.TheVariants as escape
+use Rattle.vortex_sql.specs.declared.syntax.tree.Operand.{Operand}
+use Rattle.vortex_sql.specs.declared.syntax.tree.Operand.TheVariants.{Column, Null, Truth, Integer, Fraction, Text, Binary, Other}
+use Rattle.vortex_sql.specs.declared.syntax.tree.Test.{Test}
+use Rattle.vortex_sql.specs.declared.syntax.tree.Test.TheVariants as test
 use Rattle.vortex_sql.specs.Sql as sql
 use Rattle.vortex_sql.specs.Sql.{item_cmp, distinct, flipped, test_truth, pattern_in}
 use Rattle.vortex_sql.specs.Readings.{Reading, said, unread, reading, truth_literal}

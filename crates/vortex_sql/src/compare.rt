@@ -8,6 +8,7 @@ use crate::fault::Fault;
 use crate::found::Found;
 use crate::literal::{constant, literals, said};
 use crate::number::{clamped, fractional};
+use crate::syntax::tree::{Comparison, Operand};
 use std::alloc::Global;
 use vortex_base::dtype::DType;
 use vortex_base::scalar_value::ScalarValue;
@@ -15,7 +16,6 @@ use vortex_base::scope::Scope;
 use vortex_base::types::PType;
 use vortex_expr::bound;
 use vortex_expr::bound_expression::BoundExpression;
-use vortex_sql_syntax::tree::{Comparison, Operand};
 
 fn comparing(
     alloc: Global,

@@ -4,9 +4,9 @@ ghost use Rattle.vortex_expr.specs.Meanings.Meaning as meaning;
 ghost use Rattle.vortex_sql.specs.Sql as spec;
 ghost use Rattle.vortex_sql.specs.Numbers as numbers;
 
+use crate::syntax::tree::Comparison;
 use std::cmp::Ordering;
 use vortex_expr::scalar_fn::Operator;
-use vortex_sql_syntax::tree::Comparison;
 
 /// Returns the operator of expressions.
 pub(crate) fn operator_of(comparison: Comparison) -> Operator

@@ -7,19 +7,19 @@ ghost use Rattle.vortex_expr.specs.Trees.Tree.{is_plain};
 ghost use Rattle.vortex_sql.specs.Lowering as spec;
 ghost use Rattle.vortex_sql.specs.Readings.{bool_or_null};
 ghost use Rattle.vortex_sql.specs.Refusals.{IsOfName, IsTextRefusal, misfits};
-ghost use Rattle.vortex_sql_syntax.specs.Joining.{Joins, ands};
-ghost use Rattle.vortex_sql_syntax.specs.Places.{Ascends, leaves};
+ghost use Rattle.vortex_sql.specs.Parsing.Joining.{Joins, ands};
+ghost use Rattle.vortex_sql.specs.Parsing.Places.{Ascends, leaves};
 
 use crate::error::SqlError;
 use crate::lower::{Said, lower};
+use crate::syntax::parse::{Names, parse};
+use crate::syntax::tree::Condition;
 use std::alloc::Global;
 use vortex_base::dtype::DType;
 use vortex_base::error::BaseError;
 use vortex_base::scope::Scope;
 use vortex_base::types::Nullability;
 use vortex_expr::bound_expression::BoundExpression;
-use vortex_sql_syntax::parse::{Names, parse};
-use vortex_sql_syntax::tree::Condition;
 
 /// A condition of SQL over the columns of a scope.
 #[derive(Drop)]

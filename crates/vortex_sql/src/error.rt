@@ -3,9 +3,9 @@ ghost use Rattle.std.specs.Prelude.{◌≡◌};
 ghost use Rattle.vortex_sql.specs.Refusals.{of_lower};
 
 use crate::lower::LowerError;
+use crate::syntax::error::ParseError;
 use std::alloc::{AllocError, AllocFailed};
 use thiserror::Error;
-use vortex_sql_syntax::error::ParseError;
 
 /// Says why a text is refused. Places are in bytes from the beginning of the text.
 #[derive(Clone, Copy, Debug, PartialEq, Eq, Error)]

@@ -17,3 +17,4 @@ mod literal;
 pub mod lower;
 mod number;
 mod reading;
+pub mod syntax;

@@ -5,6 +5,7 @@ ghost use Rattle.vortex_sql.specs.Sql as sql;
 
 use crate::comparison::holds;
 use crate::fault::Fault;
+use crate::syntax::tree::{Comparison, Operand};
 use std::alloc::Global;
 use std::cmp::Ordering;
 use vortex_base::dtype::DType;
@@ -13,7 +14,6 @@ use vortex_base::scalar_value::ScalarValue;
 use vortex_base::types::Nullability;
 use vortex_expr::bound;
 use vortex_expr::bound_expression::BoundExpression;
-use vortex_sql_syntax::tree::{Comparison, Operand};
 
 /// Returns a value of a type as an expression.
 pub(crate) fn constant(

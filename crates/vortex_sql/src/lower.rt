@@ -7,6 +7,7 @@ ghost use Rattle.vortex_sql.specs.Refusals as refusals;
 use crate::fault::Fault;
 use crate::literal::truth_literal;
 use crate::reading::reading;
+use crate::syntax::tree::{Condition, Leaf};
 use std::alloc::{AllocError, AllocFailed, Global};
 use vortex_base::dtype::DType;
 use vortex_base::error::BaseError;
@@ -14,7 +15,6 @@ use vortex_base::scope::Scope;
 use vortex_base::types::Nullability;
 use vortex_expr::bound;
 use vortex_expr::bound_expression::BoundExpression;
-use vortex_sql_syntax::tree::{Condition, Leaf};
 
 /// Says why a condition is not said, and where.
 #[derive(Clone, Copy, Debug, PartialEq, Eq)]

@@ -3,9 +3,9 @@ ghost use Rattle.std.specs.Prelude.{◌≡◌};
 ghost use Rattle.vortex_sql.specs.Numbers as spec;
 
 use crate::comparison::{with_greatest, with_least};
+use crate::syntax::tree::Comparison;
 use vortex_base::pvalue::PValue;
 use vortex_base::types::PType;
-use vortex_sql_syntax::tree::Comparison;
 
 // Returns a number of a type that has it.
 fn in_type(ptype: PType, number: i128) -> Option<PValue>

@@ -9,6 +9,7 @@ use crate::fault::Fault;
 use crate::found::Found;
 use crate::halves::joined;
 use crate::literal::{constant, distinct_literals, has_value, said};
+use crate::syntax::tree::{Comparison, Escape, Operand, Test};
 use std::alloc::Global;
 use vortex_base::dtype::DType;
 use vortex_base::scalar_value::ScalarValue;
@@ -18,7 +19,6 @@ use vortex_base::types::Nullability;
 use vortex_expr::bound;
 use vortex_expr::bound_expression::BoundExpression;
 use vortex_expr::scalar_fn::Operator;
-use vortex_sql_syntax::tree::{Comparison, Escape, Operand, Test};
 
 // Joins two parts, if both are said.
 fn joined_by(

@@ -1,4 +1,0 @@
-pub mod Ascending
-pub mod Joined
-pub mod Named
-pub mod WorkedRows
