@@ -1,5 +1,0 @@
-use Rattle.vortex_normal_scan.proofs.Rows.{proof_examples}
-use Rattle.vortex_normal_scan.proofs.laws.proof_examples_hold.Goals as goal
-
-pub returns : goal.returns
-returns c = proof_examples

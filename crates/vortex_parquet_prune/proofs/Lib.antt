@@ -1,2 +1,0 @@
-pub mod ZoneLoop
-pub mod Sound

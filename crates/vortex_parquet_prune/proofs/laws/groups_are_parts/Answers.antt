@@ -1,5 +1,0 @@
-use Rattle.vortex_parquet_prune.proofs.Sound.{parts_of}
-use Rattle.vortex_parquet_prune.proofs.laws.groups_are_parts.Goals as goal
-
-pub returns : goal.returns
-returns c = parts_of c.groups_are_true.ensures.sets c.groups_are_true.ensures.known

@@ -1,9 +1,0 @@
-pub mod Choices
-pub mod MentionLoop
-pub mod Names
-pub mod PageGroups
-pub mod PageSound
-pub mod PageWitness
-pub mod RangeLoops
-pub mod Slices
-pub mod Sound

@@ -1,6 +1,0 @@
-use Rattle.std.proofs.Common.{◌≡◌, ◌++◌, drop}
-use Rattle.vortex_parquet_sql.specs.Mentions.{of_operands, views}
-use Rattle.vortex_parquet_sql.proofs.mentions.add_operands.Given as goal
-
-abbrev pub invariant-loop-operand : goal.invariant-loop-operand
-invariant-loop-operand l = views l.found.items ++ of_operands l.leaf (drop l.operand-index l.operands) ≡ views l.initial.found.items ++ of_operands l.leaf l.operands

@@ -1,7 +1,0 @@
-pub mod Choosing
-pub mod Mentions
-pub mod PagePruning
-pub mod PageWitness
-pub mod PagedGroups
-pub mod Pruning
-pub mod Refusals

@@ -1,0 +1,16 @@
+mod CompleteRows
+mod Decided
+mod EqualBounds
+mod Full
+mod Indexes
+mod JointRight
+mod JointTrue
+mod RightProofs
+mod Rows
+pub mod BuiltIn
+pub mod Carried
+pub mod Conditions
+pub mod Footers
+pub mod Found
+pub mod PredicateWitnesses
+pub mod RowGroups

@@ -1,0 +1,290 @@
+-- Witnesses of the clauses of a predicate that was made with its proofs.
+use Rattle.std.specs.Prelude.{◌≡◌, ◌&&◌, ℕ, zero, suc, Bool, Contains, false, true, not as not_b, IsTrue, List, [], ◌∷◌, Option, Some, None, Result, Ok, Err, refl}
+use Rattle.std.specs.Ordering.{is_gt}
+use Rattle.std.proofs.Common.{arith, subst, sym}
+use Rattle.vortex_base.specs.declared.dtype.DType.{DType}
+use Rattle.vortex_base.specs.declared.dtype.DType.TheVariants as dtype
+use Rattle.vortex_base.specs.declared.scalar_value.ScalarValue.{ScalarValue}
+use Rattle.vortex_base.specs.Data.Scalars.{Constant}
+use Rattle.vortex_base.specs.Data.Values.{value_cmp}
+use Rattle.vortex_base.specs.declared.types.Nullability.TheVariants.{Nullable}
+use Rattle.vortex_expr.specs.Meanings.Fitting.{fits_scope}
+use Rattle.vortex_expr.specs.Meanings.Meaning.{both, either, is_true, meaning, satisfies, truth, truth_value}
+use Rattle.vortex_expr.specs.Trees.Tree.{Tree, Place, is_plain, not}
+use Rattle.vortex_normal.specs.Groups.{normal}
+use Rattle.vortex_normal.specs.OneColumn.{IsJoining, IsSelective, are_ends_seen, is_over}
+use Rattle.vortex_normal.specs.Pushed.{all_of, any_of, comparison, comparison_of, folded, settled}
+use Rattle.vortex_normal.specs.Strict.{strict_test}
+use Rattle.vortex_normal.specs.Tested.{IsTestOf, passes}
+use Rattle.vortex_predicates.proofs.RightProofs.{skip_right, whole_right}
+use Rattle.vortex_predicates.specs.Complete.{is_decided}
+use Rattle.vortex_predicates.specs.Pruning.{FindsNoFewerWhole, HasRowsOf, IsMadeBy, IsRight, IsTestForm, Pruning, SkipsNoFewer, SkipsUnsatisfiable, is_within, making_causes, skip_proof, skipped_places, whole_places, whole_proof}
+use Rattle.vortex_prune.proofs.Scanning.Boxes.{skipping_is_complete}
+use Rattle.vortex_prune.proofs.WorkedRows.ShutRows.{neither}
+use Rattle.vortex_prune.proofs.WorkedRows.Witnesses.Parts.{IsWitness, a, above_ten, high, high_is_in_its_zone, high_is_true, i64_type, is_map, low, num, scope, their_map, zones}
+use Rattle.vortex_prune.proofs.WorkedRows.Witnesses.Pruning.{answered_is_not_refused, built_in, open_is_not_memory, own_rules, shut}
+use Rattle.vortex_prune.specs.Part.{zone_of}
+use Rattle.vortex_prune.specs.Scanning.Complete.{IsBoxIn}
+use Rattle.vortex_prune.specs.Scanning.ZoneScans.{IsSoundPruning, kept_zones, open_causes, zone_verdicts}
+use Rattle.vortex_prune.specs.Zones.{IsMapOf, MapData}
+use Rattle.vortex_prune.specs.declared.scan.verdict.Verdict.{Verdict}
+use Rattle.vortex_prune.specs.declared.scan.verdict.Verdict.TheVariants.{Skipped, Whole, Tested}
+use Rattle.vortex_rewrite.specs.Answers.{IsMemory}
+use Rattle.vortex_rewrite.specs.Causes.{IsRefusal, either_causes}
+use Rattle.vortex_rewrite.specs.Rewriting.Falsifiers.{node, reduce_balanced}
+use Rattle.vortex_rewrite.specs.Rewriting.Lawful.{OwnRule}
+use Rattle.vortex_rewrite.specs.Rewriting.Predicates.{is_predicate}
+use Rattle.vortex_rewrite.specs.Rewriting.ReadOnce.{Box, IsInOrder, IsSatisfiable, is_apart}
+use Rattle.vortex_rewrite.specs.Rewriting.RuleRefusals.{SomeAsked}
+use Rattle.vortex_rewrite.specs.Rewriting.Visited.{visited}
+use Rattle.vortex_stats.specs.declared.error.RuleFault.TheVariants.{Own}
+use Rattle.vortex_stats.specs.declared.error.StatsError.{StatsError}
+use Rattle.vortex_stats.specs.declared.error.StatsError.TheVariants.{NotPredicate, OpenProof, Rule}
+use mathlib.Core.Bool.{true≢false}
+
+abbrev place_a : Place
+place_a = record { index = 0; dtype = i64_type }
+
+-- ---- a predicate with its proofs by the built-in rules
+
+abbrev made : Pruning
+made = record { predicate = above_ten; falsifier = skip_proof [] None above_ten; satisfier = whole_proof [] None above_ten }
+
+is_made : IsMadeBy [] None made
+is_made = record { falsifier = refl; satisfier = refl }
+
+-- ---- its proofs are right: its other forms are satisfied by the same rows
+
+same_form : HasRowsOf above_ten (normal above_ten)
+unfolding all_of any_of comparison comparison_of folded settled
+same_form = record { predicate = refl; same = λ row n r f small. refl; columns = λ test h. h; plain = λ h. refl }
+
+-- the only column is named twice
+named_twice : (b : Bool) → IsTrue (b && true) → IsTrue ((b && true) && b)
+named_twice true h = refl
+named_twice false h = cc
+
+named_twice_behind : (b : Bool) → IsTrue (b && true) → IsTrue (b && ((b && true) && b))
+named_twice_behind true h = refl
+named_twice_behind false h = cc
+
+if_above : (b : Bool) → is_true (truth_value (both (Some b) (Some true))) ≡ passes true false (Some b)
+if_above true = refl
+if_above false = refl
+
+if_not_above : (b : Bool) → is_true (truth_value (either (Some false) (truth (truth_value (both (Some (not_b b)) (Some true)))))) ≡ passes false true (Some b)
+if_not_above true = refl
+if_not_above false = refl
+
+true_of : (t : DType) (v : Option ScalarValue) (row : List Constant) (n : ℕ)
+    → satisfies (strict_test true false above_ten) (record { dtype = t; value = v } ∷ row) n ≡ passes true false (truth (meaning above_ten (record { dtype = t; value = v } ∷ row) n))
+unfolding all_of any_of comparison comparison_of folded settled
+true_of t None row n = refl
+true_of t (Some x) row n = if_above (is_gt (value_cmp x (num 10)))
+
+untrue_of : (t : DType) (v : Option ScalarValue) (row : List Constant) (n : ℕ)
+    → satisfies (strict_test false true above_ten) (record { dtype = t; value = v } ∷ row) n ≡ passes false true (truth (meaning above_ten (record { dtype = t; value = v } ∷ row) n))
+unfolding all_of any_of comparison comparison_of folded settled
+untrue_of t None row n = refl
+untrue_of t (Some x) row n = if_not_above (is_gt (value_cmp x (num 10)))
+
+true_test : IsTestOf true false above_ten (strict_test true false above_ten)
+unfolding all_of any_of comparison comparison_of folded settled
+true_test [] n r f small = refl
+true_test (c ∷ row) n r f small = true_of c.dtype c.value row n
+
+untrue_test : IsTestOf false true above_ten (strict_test false true above_ten)
+unfolding all_of any_of comparison comparison_of folded settled
+untrue_test [] n r f small = refl
+untrue_test (c ∷ row) n r f small = untrue_of c.dtype c.value row n
+
+true_form : IsTestForm true false above_ten (strict_test true false above_ten)
+unfolding all_of any_of comparison comparison_of folded settled
+true_form = record { predicate = refl; test = true_test; columns = λ test h. named_twice (test place_a) h; plain = λ h. refl }
+
+untrue_form : IsTestForm false true above_ten (strict_test false true above_ten)
+unfolding all_of any_of comparison comparison_of folded settled
+untrue_form = record { predicate = refl; test = untrue_test; columns = λ test h. named_twice_behind (test place_a) h; plain = λ h. refl }
+
+is_right : IsRight made
+is_right = record {
+  predicate = refl;
+  plain = refl;
+  form = same_form;
+  falsifies = skip_right [] None above_ten refl same_form (λ _. true_form);
+  satisfies = whole_right [] None above_ten refl same_form (λ _. untrue_form);
+}
+
+selective : IsSelective place_a above_ten
+selective = record { row = record { dtype = i64_type; value = Some (num 3) } ∷ []; value = num 3; cell = refl; of_type = refl; refused = refl; null_refused = refl }
+
+joining : IsJoining true above_ten
+joining = (place_a, refl, refl, selective)
+
+-- ---- the first zone has to be skipped: its only value is 3
+
+abbrev low_box : Box
+low_box = record { low = λ i. num 3; high = λ i. num 3 }
+
+low_box_known : IsBoxIn (zone_of low).stats above_ten low_box
+low_box_known = ((refl, refl), tt)
+
+low_box_ordered : IsInOrder above_ten low_box
+low_box_ordered = (refl, tt)
+
+abbrev bool_type : DType
+bool_type = dtype.Bool Nullable
+
+none_above : ¬ IsSatisfiable above_ten low_box 2
+unfolding node reduce_balanced
+none_above = (skipping_is_complete above_ten bool_type scope (zone_of low) low_box refl refl refl refl refl low_box_known low_box_ordered).0 refl
+
+-- the same by the normal form
+normal_box_known : IsBoxIn (zone_of low).stats (normal above_ten) low_box
+unfolding all_of comparison comparison_of folded settled
+normal_box_known = ((refl, refl), tt)
+
+normal_box_ordered : IsInOrder (normal above_ten) low_box
+unfolding all_of comparison comparison_of folded settled
+normal_box_ordered = (refl, tt)
+
+none_above_by_normal : ¬ IsSatisfiable (normal above_ten) low_box 2
+unfolding node reduce_balanced all_of comparison comparison_of folded settled
+none_above_by_normal = (skipping_is_complete (normal above_ten) bool_type scope (zone_of low) low_box refl refl refl refl refl normal_box_known normal_box_ordered).0 refl
+
+-- verdicts that leave it out
+abbrev left_out : List Verdict
+left_out = Tested ∷ Tested ∷ Whole ∷ []
+
+none_there : (i : ℕ) → Contains [] i → ⊥
+none_there i (k, less, is) = absurd (omega (arith, less))
+
+pub low_is_left_out : SkipsUnsatisfiable above_ten zones (skipped_places left_out) → ⊥
+low_is_left_out h = none_there 0 (h 0 (zone_of low) low_box refl low_box_known low_box_ordered none_above)
+
+low_is_left_out_by_normal : SkipsUnsatisfiable (normal above_ten) zones (skipped_places left_out) → ⊥
+low_is_left_out_by_normal h = none_there 0 (h 0 (zone_of low) low_box refl normal_box_known normal_box_ordered none_above_by_normal)
+
+-- ---- pruning by the proofs
+
+-- the proofs are right, and the predicate fits the map's scope
+abbrev IsCall : Pruning → MapData → Type 0
+IsCall x m = IsRight x × IsTrue (fits_scope x.predicate m.scope)
+
+called : IsCall made their_map
+called = (is_right, refl)
+
+tested_is_not_skipped : Tested ∷ Tested ∷ Whole ∷ [] ≡ Skipped ∷ Tested ∷ Whole ∷ [] → ⊥
+tested_is_not_skipped h = cc
+
+prune_verdicts : IsWitness (IsCall made their_map × IsMapOf zones their_map) (λ (vs : List Verdict). vs ≡ zone_verdicts made.falsifier made.satisfier their_map.scope zones) left_out
+unfolding node reduce_balanced all_of any_of comparison comparison_of folded settled
+prune_verdicts = record { met = (called, is_map); refuted = tested_is_not_skipped }
+
+-- a zone with rows that satisfy is skipped, and one without is whole
+prune_sound : IsWitness (IsCall made their_map × IsMapOf zones their_map)
+    (λ (vs : List Verdict). IsSoundPruning made.predicate their_map.scope zones (skipped_places vs) (whole_places vs)) (Whole ∷ Tested ∷ Skipped ∷ [])
+prune_sound = record {
+  met = (called, is_map);
+  refuted = λ h. true≢false ((h 2 (zone_of high) high refl high_is_in_its_zone high_is_true).0 (0, omega arith, refl) 0 (omega arith));
+}
+
+pub low_is_not_there : SkipsNoFewer [] above_ten scope zones (skipped_places left_out) → ⊥
+unfolding node reduce_balanced
+low_is_not_there h = none_there 0 (h 0 (zone_of low) refl (0, omega arith, refl))
+
+prune_no_fewer_skipped : IsWitness (IsCall made their_map × IsMapOf zones their_map × IsMadeBy [] None made)
+    (λ (vs : List Verdict). SkipsNoFewer [] made.predicate their_map.scope zones (skipped_places vs)) left_out
+prune_no_fewer_skipped = record { met = (called, is_map, is_made); refuted = low_is_not_there }
+
+-- the third zone is neither skipped nor whole
+abbrev first_place : List ℕ
+first_place = 0 ∷ []
+
+not_the_third : Contains first_place 2 → ⊥
+not_the_third (zero, less, is) = cc
+not_the_third (suc k, less, is) = absurd (omega (arith, less))
+
+high_is_not_there : FindsNoFewerWhole [] above_ten scope zones first_place [] → ⊥
+unfolding node reduce_balanced
+high_is_not_there h = neither not_the_third (none_there 2) (h 2 (zone_of high) refl (0, omega arith, refl))
+
+prune_no_fewer_whole : IsWitness (IsCall made their_map × IsMapOf zones their_map × IsMadeBy [] None made)
+    (λ (vs : List Verdict). FindsNoFewerWhole [] made.predicate their_map.scope zones (skipped_places vs) (whole_places vs)) (Skipped ∷ Tested ∷ Tested ∷ [])
+prune_no_fewer_whole = record { met = (called, is_map, is_made); refuted = high_is_not_there }
+
+prune_complete : IsWitness (IsCall made their_map × IsMapOf zones their_map × IsMadeBy [] None made × IsTrue (is_within None (normal made.predicate)) × IsTrue (is_apart (normal made.predicate)))
+    (λ (vs : List Verdict). SkipsUnsatisfiable (normal made.predicate) zones (skipped_places vs)) left_out
+unfolding all_of comparison comparison_of folded settled
+prune_complete = record { met = (called, is_map, is_made, refl, refl); refuted = low_is_left_out_by_normal }
+
+prune_as_given : IsWitness (IsCall made their_map × IsMapOf zones their_map × IsMadeBy [] None made × IsTrue (is_within None (normal made.predicate)) × IsTrue (is_apart (normal made.predicate)))
+    (λ (vs : List Verdict). SkipsUnsatisfiable made.predicate zones (skipped_places vs)) left_out
+unfolding all_of comparison comparison_of folded settled
+prune_as_given = record { met = (called, is_map, is_made, refl, refl); refuted = low_is_left_out }
+
+prune_one_column : IsWitness
+    (IsCall made their_map × IsMapOf zones their_map × IsMadeBy [] None made × IsTrue (is_within None (normal made.predicate)) × IsTrue (is_over place_a made.predicate) × IsTrue (are_ends_seen place_a made.predicate) × IsSelective place_a made.predicate)
+    (λ (vs : List Verdict). SkipsUnsatisfiable made.predicate zones (skipped_places vs)) left_out
+prune_one_column = record { met = (called, is_map, is_made, refl, refl, refl, selective); refuted = low_is_left_out }
+
+prune_joining : IsWitness (IsCall made their_map × IsMapOf zones their_map × IsMadeBy [] None made × IsTrue (is_within None (normal made.predicate)) × IsJoining true made.predicate)
+    (λ (vs : List Verdict). SkipsUnsatisfiable made.predicate zones (skipped_places vs)) left_out
+prune_joining = record { met = (called, is_map, is_made, refl, joining); refuted = low_is_left_out }
+
+prune_complete_for : IsWitness (IsCall made their_map × IsMapOf zones their_map × IsMadeBy [] None made × IsTrue (is_decided None made.predicate)) (λ (vs : List Verdict). SkipsUnsatisfiable made.predicate zones (skipped_places vs)) left_out
+prune_complete_for = record { met = (called, is_map, is_made, refl); refuted = low_is_left_out }
+
+prune_memory : IsWitness (IsCall made their_map × IsMapOf zones their_map × IsMadeBy [] None made) (λ (e : StatsError). IsMemory e) OpenProof
+prune_memory = record { met = (called, is_map, is_made); refuted = open_is_not_memory }
+
+prune_refusal : IsWitness (IsCall made their_map × IsMapOf zones their_map)
+    (λ (e : StatsError). IsRefusal (either_causes (open_causes made.falsifier their_map.rows) (open_causes made.satisfier (kept_zones made.falsifier their_map.scope zones))) e) OpenProof
+unfolding node reduce_balanced all_of any_of comparison comparison_of folded settled
+prune_refusal = record { met = (called, is_map); refuted = λ h. neither shut shut h }
+
+-- ---- making it
+
+try_new_not_predicate : IsWitness (IsTrue (is_plain a) × (is_predicate a ≡ false)) (λ (answer : Result Pruning StatsError). answer ≡ Err NotPredicate) (Ok made)
+try_new_not_predicate = record { met = (refl, refl); refuted = λ h. answered_is_not_refused made NotPredicate h }
+
+try_new_memory : IsWitness (IsTrue (is_plain above_ten) × IsTrue (is_predicate above_ten) × (built_in ≡ [])) (λ (e : StatsError). IsMemory e) OpenProof
+try_new_memory = record { met = (refl, refl, refl); refuted = open_is_not_memory }
+
+-- the rule of the user is asked at a NOT, and doesn't name the fault 3
+abbrev not_above : Tree Place
+not_above = not above_ten
+
+abbrev Names : Tree Place → OwnRule → Type 0
+Names p rule = IsTrue (rule.can_fault 3)
+
+none_names : (nodes : List (Tree Place)) → SomeAsked Names own_rules nodes → ⊥
+none_names nodes (p, rule, at, (zero, less, is), fits, named) = shut (subst (λ (r : OwnRule). IsTrue (r.can_fault 3)) (sym is) named)
+none_names nodes (p, rule, at, (suc k, less, is), fits, named) = absurd (omega (arith, less))
+
+try_new_refusal : IsWitness (IsTrue (is_plain not_above) × IsTrue (is_predicate not_above)) (λ (e : StatsError). IsRefusal (making_causes own_rules not_above) e) (Rule (Own 3))
+try_new_refusal = record {
+  met = (refl, refl);
+  refuted = λ h. neither
+      (λ f. neither (none_names (visited not_above)) (λ g. neither (none_names (visited (normal not_above))) (none_names (visited (strict_test true false not_above))) g) f)
+      (λ s. neither (none_names (visited not_above)) (λ t. neither (none_names (visited (normal not_above))) (none_names (visited (strict_test false true not_above))) t) s) h;
+}
+
+-- ---- making it of forms that have no more than so many levels: its premises are the same
+
+try_new_within_not_predicate : IsWitness (IsTrue (is_plain a) × (is_predicate a ≡ false)) (λ (answer : Result Pruning StatsError). answer ≡ Err NotPredicate) (Ok made)
+try_new_within_not_predicate = try_new_not_predicate
+
+try_new_within_memory : IsWitness (IsTrue (is_plain above_ten) × IsTrue (is_predicate above_ten) × (built_in ≡ [])) (λ (e : StatsError). IsMemory e) OpenProof
+try_new_within_memory = try_new_memory
+
+try_new_within_refusal : IsWitness (IsTrue (is_plain not_above) × IsTrue (is_predicate not_above)) (λ (e : StatsError). IsRefusal (making_causes own_rules not_above) e) (Rule (Own 3))
+try_new_within_refusal = try_new_refusal
+
+-- ---- whether pruning by it is complete
+
+is_complete_for_not_predicate : IsWitness (is_predicate a ≡ false) (λ (answer : Result Bool StatsError). answer ≡ Err NotPredicate) (Ok true)
+is_complete_for_not_predicate = record { met = refl; refuted = λ h. answered_is_not_refused true NotPredicate h }
+
+is_complete_for_memory : IsWitness (IsTrue (is_predicate above_ten)) (λ (e : StatsError). IsMemory e) OpenProof
+is_complete_for_memory = record { met = refl; refuted = open_is_not_memory }

@@ -1,0 +1,13 @@
+pub mod Carried
+pub mod Complete
+pub mod Conditions
+pub mod EqualBounds
+pub mod Footers
+pub mod Full
+pub mod Joint
+pub mod Pruning
+pub mod PruningCode
+pub mod RowGroups
+pub mod Worked
+pub mod WorkedComplete
+pub mod WorkedLikes

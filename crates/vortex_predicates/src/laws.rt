@@ -1,0 +1,45 @@
+//! Laws of pruning by normal forms, in the words of the definitions.
+ghost use Rattle.vortex_predicates.specs.Carried.{SatisfiabilityIsCarried};
+ghost use Rattle.vortex_predicates.specs.EqualBounds.{OneTextIsTold};
+ghost use Rattle.vortex_predicates.specs.Full.{SameSelectsTheSame};
+ghost use Rattle.vortex_predicates.specs.Worked.{JointExamples, ProofExamples};
+ghost use Rattle.vortex_predicates.specs.WorkedComplete.{CompleteExamples};
+ghost use Rattle.vortex_predicates.specs.WorkedLikes.{LikeExamples, LikeProofExamples};
+
+/// Two predicates that are satisfied by the same rows select the same rows of parts.
+pub fn same_selects_the_same()
+    ensures { SameSelectsTheSame }
+{}
+
+/// Values within bounds satisfy a predicate exactly if some satisfy one that the same rows satisfy,
+/// also where that has fewer columns.
+pub fn satisfiability_is_carried()
+    ensures { SatisfiabilityIsCarried }
+{}
+
+/// Worked joint proofs.
+pub fn joint_examples_hold()
+    ensures { JointExamples }
+{}
+
+/// The proofs of worked predicates.
+pub fn proof_examples_hold()
+    ensures { ProofExamples }
+{}
+
+/// Worked predicates for which pruning is complete, and some for which it isn't.
+pub fn complete_examples_hold()
+    ensures { CompleteExamples }
+{}
+
+/// Where a column's bounds are one text of which a LIKE isn't true, the proof that no row satisfies
+/// the LIKE is true.
+pub fn one_text_is_told()
+    ensures { OneTextIsTold }
+{}
+
+/// Worked proofs of LIKE for a column that has one value alone.
+pub fn like_examples_hold()
+    ensures proofs { LikeExamples }
+    ensures predicates { LikeProofExamples }
+{}

@@ -1,5 +1,0 @@
-use Rattle.vortex_sql_prune.proofs.Parts.{tell}
-use Rattle.vortex_sql_prune.proofs.laws.proofs_tell_of_conditions.Goals as goal
-
-pub returns : goal.returns
-returns c = tell c.predicate_refutes_condition.ensures c.predicate_confirms_condition.ensures

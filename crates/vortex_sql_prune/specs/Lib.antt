@@ -1,3 +1,0 @@
-pub mod ConditionCode
-pub mod Conditions
-pub mod Refusals
