@@ -3,8 +3,8 @@ use Rattle.std.proofs.Common.{◌≡◌, ◌<◌, ◌+◌, ◌∷◌, ◌++◌, 
 use Rattle.std.proofs.lemmas.List.{map_more}
 use Rattle.vortex_base.specs.Data.Scopes.{Named}
 use Rattle.vortex_expr.specs.Trees.Tree.{Place, Tree}
-use Rattle.vortex_normal_scan.proofs.Found.{skip_closed, whole_closed}
-use Rattle.vortex_normal_scan.specs.Pruning.{IsMadeBy, Pruning}
+use Rattle.vortex_predicates.proofs.Found.{skip_closed, whole_closed}
+use Rattle.vortex_predicates.specs.Pruning.{IsMadeBy, Pruning}
 use Rattle.vortex_prune.specs.Binding.PartAnswers.{told_values}
 use Rattle.vortex_prune.specs.Part.{ZoneData}
 use Rattle.vortex_prune.specs.Scanning.Selection.{proves_of}

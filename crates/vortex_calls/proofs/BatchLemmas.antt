@@ -22,7 +22,7 @@ use Rattle.vortex_prune.specs.GivenTables.{is_table, map_with}
 use Rattle.vortex_prune.specs.Part.{ZoneData, zones_fit}
 use Rattle.vortex_prune.specs.Zones.{Head, MapData, TellsOf, heads, zone_column, zone_value}
 use Rattle.vortex_calls.specs.declared.fault.Refusal.{Refusal}
-use Rattle.vortex_calls.specs.declared.quick.Batch.{Batch}
+use Rattle.vortex_calls.specs.declared.batches.Batch.{Batch}
 use Rattle.vortex_calls.specs.declared.table.Source.{Source}
 use Rattle.vortex_calls.specs.NamedStats.{AreNamed, HasNamed}
 use Rattle.vortex_calls.specs.MapCells.{AllRead, AreCells, AreZonesFrom, IsBatch, batch_zones, told_cells, zones_from}

@@ -4,13 +4,17 @@ pub mod BatchLemmas
 pub mod CellLemmas
 pub mod CheckLemmas
 pub mod ExtentLemmas
+pub mod FaultLemmas
 pub mod MadeLemmas
 pub mod MergeLemmas
 pub mod NamedLemmas
+pub mod Nesting
 pub mod NumberLemmas
+pub mod ParquetCalls
 pub mod PruneLemmas
 pub mod ReadLemmas
 pub mod ScopeLemmas
 pub mod SlotLemmas
+pub mod SqlCalls
 pub mod TableLemmas
 pub mod WorkedRows

@@ -1,6 +1,5 @@
 -- What the answers for zones list.
-use Rattle.std.proofs.Common.{◌≡◌, ◌≢◌, ◌==◌, ◌+◌, ◌++◌, ◌∙◌, ◌⊎◌, ℕ, Bool, true, false, if◌then◌else◌, filter, List, [], ◌∷◌, Option, Some, Result, Ok, Err, IfOk, IsOk, IsTrue, ap, append-nil, append_assoc, arith, eq-eqb, inl, inr, length, map, refl, subst, subst₂, sym}
-use Rattle.std.proofs.lemmas.List.{length-map, map-append, map_push}
+use Rattle.std.proofs.Common.{◌≡◌, ◌≢◌, ◌==◌, ◌+◌, ◌∙◌, ◌⊎◌, ℕ, Bool, true, false, if◌then◌else◌, filter, List, [], ◌∷◌, Option, Some, Result, Ok, Err, IfOk, IsOk, IsTrue, ap, arith, eq-eqb, inl, inr, length, map, refl, subst, subst₂, sym}
 use Rattle.std.specs.List.{AllByRecursion, enumerate_from}
 use Rattle.std.specs.Prelude.{Contains, MatchOption, slice_get}
 use Rattle.vortex_base.specs.Data.Columns.{row_count as rows_of, row_of}
@@ -10,14 +9,14 @@ use Rattle.vortex_expr.specs.Meanings.Fitting.{fits_scope, is_of_type}
 use Rattle.vortex_expr.specs.Meanings.Meaning.{is_true}
 use Rattle.vortex_expr.specs.Meanings.Typing.{type_of}
 use Rattle.vortex_expr.specs.Trees.Tree.{Place, Tree, is_plain}
-use Rattle.vortex_nested.specs.Halves.{halved}
-use Rattle.vortex_nested.proofs.Apart.{same_apart, same_columns_of}
-use Rattle.vortex_nested.proofs.Columns.{same_fit, same_plain}
-use Rattle.vortex_nested.proofs.Meanings.{same_meaning}
+use Rattle.vortex_calls.specs.Nesting.Halves.{halved}
+use Rattle.vortex_calls.proofs.Nesting.Apart.{same_apart, same_columns_of}
+use Rattle.vortex_calls.proofs.Nesting.Columns.{same_fit, same_plain}
+use Rattle.vortex_calls.proofs.Nesting.Meanings.{same_meaning}
 use Rattle.vortex_normal.specs.Groups.{normal}
-use Rattle.vortex_normal_scan.proofs.BuiltIn.{normal_finds, normal_skips, own_finds, own_skips}
-use Rattle.vortex_normal_scan.proofs.Found.{carried_unsatisfiable, found_right, whole_if, whole_proved}
-use Rattle.vortex_normal_scan.specs.Pruning.{Falsifies, FindsNoFewerWhole, IsMadeBy, IsRight, Pruning, Satisfies, SkipsNoFewer, SkipsUnsatisfiable, is_within, skip_proof, whole_proof}
+use Rattle.vortex_predicates.proofs.BuiltIn.{normal_finds, normal_skips, own_finds, own_skips}
+use Rattle.vortex_predicates.proofs.Found.{carried_unsatisfiable, found_right, whole_if, whole_proved}
+use Rattle.vortex_predicates.specs.Pruning.{Falsifies, FindsNoFewerWhole, IsMadeBy, IsRight, Pruning, Satisfies, SkipsNoFewer, SkipsUnsatisfiable, is_within, skip_proof, whole_proof}
 use Rattle.vortex_prune.proofs.Scanning.Boxes.{skipping_is_complete}
 use Rattle.vortex_prune.proofs.Scanning.SkippedParts.{place_listed}
 use Rattle.vortex_prune.proofs.Scanning.WholeScan.{typed_bool}
@@ -39,14 +38,13 @@ use Rattle.vortex_calls.specs.declared.field.Field.{Field}
 use Rattle.vortex_calls.specs.declared.statistic.Statistic.{Statistic}
 use Rattle.vortex_calls.specs.declared.status.Status.{Status}
 use Rattle.vortex_calls.specs.declared.status.Status.TheVariants.{BadLine, TooShort, NoMemory, BadKind, BadStat, BadKnown, BadLength, BadEnds, BadValue, BadNull, Untrue, BadColumn, BadName, NotAPredicate, BadFlag, TooDeep, BadSql, Misfit}
-use Rattle.vortex_calls.specs.declared.table.Known.{Known}
 use Rattle.vortex_calls.specs.declared.table.Source.{Source}
-use Rattle.vortex_calls.specs.Prunes.{Asked, FindsNoFewer, IsComplete, IsNoFewer, IsPruned, IsReached, IsRefused, IsSound, IsWellAsked, answer_by, answered, answers_of, asked, asked_of, proofs_of, table_answers, with_flags, with_places, zone_answers, zones_asked}
-use Rattle.vortex_calls.specs.Refusals.{Answers, all_found, followed}
+use Rattle.vortex_calls.specs.Prunes.{Asked, FindsNoFewer, IsComplete, IsNoFewer, IsPruned, IsRefused, IsSound, IsWellAsked, answer_by, answered, answers_of, asked, asked_of, proofs_of, table_answers, with_flags, with_places, zones_asked}
+use Rattle.vortex_calls.specs.Refusals.{Answers, followed}
 use Rattle.vortex_calls.specs.Scopes.{AnswersText, IsRefusedText, max_depth, predicate_given, scope_given}
 use Rattle.vortex_calls.specs.Statuses.{nowhere, status_number}
-use Rattle.vortex_calls.specs.Tables.{known_zone, zone_at, zones_given}
-use Rattle.vortex_calls.proofs.ReadLemmas.{followed_read, found_long}
+use Rattle.vortex_calls.specs.Tables.{zones_given}
+use Rattle.vortex_calls.proofs.ReadLemmas.{followed_read}
 
 -- ---- the places with an answer are those that pruning lists
 
@@ -133,49 +131,11 @@ module _ (f s : Option (Tree Place)) (scope : List Named) where
         let t = typed_bool p (type_of p) refl truth in
         one_there i zone there (more zone.rows (told_values scope zone) ((skipping_is_complete p t.0 scope zone box t.1 t.2 (are i zone there) fits apart is_box order).1 none))
 
--- ---- how far a table is answered
-
-module _ (f s : Option (Tree Place)) (scope : List Named) where
-  pub none_reached : IsReached f s scope [] [] []
-  none_reached = record { done = []; same = refl; told = refl }
-
-  -- one more zone stands in the batch
-  pub one_reached : (zones : List ZoneData) (answers : List ℕ) (batch new : List Known) (k : Known) → new ≡ batch ++ k ∷ [] → IsReached f s scope zones answers batch → IsReached f s scope (zones ++ known_zone k ∷ []) answers new
-  one_reached zones answers batch new k pushed r =
-      subst (IsReached f s scope (zones ++ known_zone k ∷ []) answers) (sym pushed)
-      (record { done = r.done; same = ap (λ l. l ++ known_zone k ∷ []) r.same ∙ append_assoc r.done (map known_zone batch) (known_zone k ∷ []) ∙ ap (λ l. r.done ++ l) (sym (map_push known_zone batch k)); told = r.told })
-
-  -- the batch is answered
-  pub batch_reached : (zones : List ZoneData) (answers new more : List ℕ) (batch rest : List Known) → new ≡ answers ++ more → more ≡ zone_answers f s scope (map known_zone batch) → rest ≡ [] → IsReached f s scope zones answers batch → IsReached f s scope zones new rest
-  batch_reached zones answers new more batch rest pushed is none r =
-      subst (IsReached f s scope zones new) (sym none)
-      (record {
-        done = zones;
-        same = sym (append-nil zones);
-        told = pushed ∙ ap (λ l. answers ++ l) is ∙ ap (λ l. l ++ zone_answers f s scope (map known_zone batch)) r.told ∙ sym (map-append (answer_by f s scope) r.done (map known_zone batch)) ∙ ap (zone_answers f s scope) (sym r.same);
-      })
-
-  -- no batch is left
-  pub all_reached : (zones : List ZoneData) (answers : List ℕ) (rest : List Known) → rest ≡ [] → IsReached f s scope zones answers rest → answers ≡ zone_answers f s scope zones
-  all_reached zones answers rest none r =
-      r.told ∙ ap (zone_answers f s scope) (sym (append-nil r.done) ∙ ap (λ l. r.done ++ map known_zone l) (sym none) ∙ sym r.same)
-
 -- the answers are those of all zones
 pub record IsWhole (f s : Option (Tree Place)) (scope : List Named) (sources : List Source) (rows answers : List ℕ) : Type 0 where
   pub read : table_answers f s scope (zones_given scope sources rows) ≡ Ok answers
   pub long : length answers ≡ length rows
   pub fit : IfOk (zones_given scope sources rows) (λ zones. IsTrue (zones_fit scope zones))
-
-pub whole_told : (f s : Option (Tree Place)) (scope : List Named) (sources : List Source) (rows : List ℕ) (n : ℕ) (zones : List ZoneData) (answers : List ℕ) (rest : List Known) → n ≡ length rows → all_found (zone_at scope sources rows) n ≡ Ok zones
-    → IsTrue (zones_fit scope zones) → rest ≡ [] → IsReached f s scope zones answers rest → IsWhole f s scope sources rows answers
-whole_told f s scope sources rows n zones answers rest last found fit none r =
-    let given : zones_given scope sources rows ≡ Ok zones = subst (λ k. all_found (zone_at scope sources rows) k ≡ Ok zones) last found in
-    let told = all_reached f s scope zones answers rest none r in
-    record {
-      read = followed_read (zones_given scope sources rows) (λ zs. Ok (zone_answers f s scope zs)) zones given ∙ ap Ok (sym told);
-      long = ap length told ∙ length-map zones (answer_by f s scope) ∙ found_long (zone_at scope sources rows) n zones found ∙ last;
-      fit = subst (λ (x : Result (List ZoneData) Refusal). IfOk x (λ zs. IsTrue (zones_fit scope zs))) (sym given) fit;
-    }
 
 -- ---- what is asked
 

@@ -14,11 +14,11 @@ use Rattle.vortex_syntax.specs.Expressions.{expression_of}
 use Rattle.vortex_syntax.specs.Words.{words}
 use Rattle.std.proofs.lemmas.Bool.{le-leb, lt-leb}
 use Rattle.vortex_normal.specs.Balanced.{depth}
-use Rattle.vortex_nested.specs.Halves.{halved}
-use Rattle.vortex_nested.proofs.Columns.{same_fit, same_plain}
-use Rattle.vortex_nested.proofs.Types.{same_predicate}
-use Rattle.vortex_nested.specs.declared.error.NestedError.{NestedError}
-use Rattle.vortex_nested.specs.declared.error.NestedError.TheVariants as nested
+use Rattle.vortex_calls.specs.Nesting.Halves.{halved}
+use Rattle.vortex_calls.proofs.Nesting.Columns.{same_fit, same_plain}
+use Rattle.vortex_calls.proofs.Nesting.Types.{same_predicate}
+use Rattle.vortex_calls.specs.declared.nested.error.NestedError.{NestedError}
+use Rattle.vortex_calls.specs.declared.nested.error.NestedError.TheVariants as nested
 use Rattle.vortex_calls.specs.declared.fault.Refusal.{Refusal}
 use Rattle.vortex_syntax.proofs.Fitting.ExpressionFits.{expression_fits, step_of}
 use Rattle.vortex_syntax.proofs.Fitting.ScopeFits.{distinct_more, storable_more}

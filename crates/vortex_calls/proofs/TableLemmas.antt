@@ -1,7 +1,6 @@
 -- The sets of a zone fit their columns.
-use Rattle.std.proofs.Common.{◌≡◌, ◌<◌, ◌+◌, ◌∙◌, All, Ok, Err, add-one, ℕ, zero, suc, true, List, [], ◌∷◌, ◌++◌, Option, None, Some, IsTrue, length, map, slice_get, take, refl, ap, sym, subst}
+use Rattle.std.proofs.Common.{◌≡◌, ◌<◌, ◌+◌, ◌∙◌, All, Ok, Err, add-one, ℕ, zero, suc, true, List, [], ◌∷◌, ◌++◌, Option, None, Some, IsTrue, length, map, slice_get, refl, ap, sym, subst}
 use Rattle.std.proofs.lemmas.Bool.{and_from, and_parts}
-use Rattle.std.proofs.lemmas.List.{map_more}
 use Rattle.std.proofs.lemmas.List.Elements.{All-push, All-same}
 use Rattle.std.proofs.lemmas.List.Folds.{list_all-append}
 use Rattle.std.proofs.lemmas.Option.{get_or_from_slice_get, same_Some}
@@ -13,25 +12,18 @@ use Rattle.vortex_stats.proofs.Sets.Fitting.{entries_fit_with_entry}
 use Rattle.vortex_stats.specs.Sets.Entries.{entries_fit, value_fits}
 use Rattle.vortex_stats.specs.declared.precision.Precision.{Precision}
 use Rattle.vortex_stats.specs.declared.stat.Stat.{Stat}
-use Rattle.vortex_calls.specs.declared.table.Known.{Known}
 use Rattle.vortex_calls.specs.declared.statistic.Statistic.{Statistic}
 use Rattle.vortex_calls.specs.declared.status.Status.{Status}
 use Rattle.vortex_calls.specs.declared.table.Source.{Source}
 use Rattle.vortex_calls.specs.Refusals.{all_read, stepped}
 use Rattle.vortex_calls.specs.Statuses.{at_entry, in_column}
-use Rattle.vortex_calls.specs.Tables.{IsTypedBy, known_zone, next_source, no_entries, set_at, source_or, value_of_source, zone_sets}
+use Rattle.vortex_calls.specs.Tables.{IsTypedBy, next_source, no_entries, set_at, source_or, value_of_source, zone_sets}
 use Rattle.vortex_calls.proofs.ReadLemmas.{steps_stop}
 
 -- of nothing known
 pub empty_fits : (scope : List Named) → fits_zone scope (map no_entries scope) ≡ true
 empty_fits [] = refl
 empty_fits (c ∷ scope) = empty_fits scope
-
-pub empty_next : (scope : List Named) (i : ℕ) (sets new : List Entries) → i < length scope → new ≡ sets ++ [] ∷ [] → sets ≡ map no_entries (take i scope) → new ≡ map no_entries (take (i + 1) scope)
-empty_next scope i sets new h pushed before = pushed ∙ ap (λ l. l ++ [] ∷ []) before ∙ sym (map_more no_entries scope i ([], dtype.Null) h)
-
-pub empty_sets_fit : (scope : List Named) (sets : List Entries) → sets ≡ map no_entries scope → IsTrue (fits_zone scope sets)
-empty_sets_fit scope sets is = ap (fits_zone scope) is ∙ empty_fits scope
 
 later_set : (i : ℕ) (s : Stat) (p : Precision ScalarValue) (set : Entries) (sets : List Entries) (o : Option Entries) → set_at (suc i) s p (set ∷ sets) o ≡ set ∷ set_at i s p sets o
 later_set i s p set sets None = refl
@@ -59,12 +51,6 @@ source_fits scope sets x p typed h fits = set_fits scope sets x.statistic.column
 pub both_fit : (scope : List Named) (xs ys : List ZoneData) → zones_fit scope xs ≡ true → zones_fit scope ys ≡ true → zones_fit scope (xs ++ ys) ≡ true
 both_fit scope xs ys h k = list_all-append (λ (z : ZoneData). fits_zone scope z.stats) xs ys ∙ and_from _ _ h k
 
-pub one_more_fits : (scope : List Named) (batch : List Known) (k : Known) → zones_fit scope (map known_zone batch) ≡ true → fits_zone scope k.sets.items ≡ true → zones_fit scope (map known_zone (batch ++ k ∷ [])) ≡ true
-one_more_fits scope [] k h one = and_from _ _ one refl
-one_more_fits scope (b ∷ batch) k h one =
-    let both = and_parts (fits_zone scope b.sets.items) (zones_fit scope (map known_zone batch)) h in
-    and_from _ _ both.0 (one_more_fits scope batch k both.1 one)
-
 -- ---- the statistics of a table
 
 pub sources_next : (scope : List Named) (zones : ℕ) (table : List Statistic) (i : ℕ) (x : Source) (sources new : List Source) → Ok x ≡ source_or scope zones (slice_get table i) → IsTypedBy scope x → new ≡ sources ++ x ∷ []
@@ -87,9 +73,3 @@ module _ (scope : List Named) (zone : ℕ) (sources : List Source) (i : ℕ) (x 
 pub next_set_fits : (scope : List Named) (sources : List Source) (i : ℕ) (x : Source) (sets new : List Entries) (p : Precision ScalarValue) → All (IsTypedBy scope) sources → i < length sources → slice_get sources i ≡ Some x → IsTrue (fits_zone scope sets)
     → IsTrue (value_fits x.stat x.dtype p) → new ≡ set_at x.statistic.column x.stat p sets (slice_get sets x.statistic.column) → IsTrue (fits_zone scope new)
 next_set_fits scope sources i x sets new p all h there fits one is = ap (fits_zone scope) is ∙ source_fits scope sets x p (typed_there scope sources i x all h there) fits one
-
-pub one_zone_fits : (scope : List Named) (zones : List ZoneData) (k : Known) → IsTrue (zones_fit scope zones) → IsTrue (fits_zone scope k.sets.items) → IsTrue (zones_fit scope (zones ++ known_zone k ∷ []))
-one_zone_fits scope zones k h one = both_fit scope zones (known_zone k ∷ []) h (and_from _ _ one refl)
-
-pub batch_fits : (scope : List Named) (batch new : List Known) (k : Known) → new ≡ batch ++ k ∷ [] → IsTrue (zones_fit scope (map known_zone batch)) → IsTrue (fits_zone scope k.sets.items) → IsTrue (zones_fit scope (map known_zone new))
-batch_fits scope batch new k pushed h one = ap (λ l. zones_fit scope (map known_zone l)) pushed ∙ one_more_fits scope batch k h one

@@ -9,10 +9,14 @@ pub mod MapCells
 pub mod Measures
 pub mod Merges
 pub mod NamedStats
+pub mod Nesting
+pub mod ParquetCalls
 pub mod Prunes
 pub mod Refusals
 pub mod Scopes
 pub mod Slots
+pub mod Spans
+pub mod SqlCalls
 pub mod Statistics
 pub mod Statuses
 pub mod Tables

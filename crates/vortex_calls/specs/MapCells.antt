@@ -19,7 +19,7 @@ use Rattle.vortex_stats.specs.declared.precision.Precision.{Precision}
 use Rattle.vortex_stats.specs.declared.precision.Precision.TheVariants.{Absent, Exact, Inexact}
 use Rattle.vortex_stats.specs.declared.stat.Stat.{Stat}
 use Rattle.vortex_calls.specs.declared.fault.Refusal.{Refusal}
-use Rattle.vortex_calls.specs.declared.quick.Batch.{Batch}
+use Rattle.vortex_calls.specs.declared.batches.Batch.{Batch}
 use Rattle.vortex_calls.specs.declared.status.Status.{Status}
 use Rattle.vortex_calls.specs.declared.table.Source.{Source}
 use Rattle.vortex_calls.specs.Refusals.{all_found, all_read}

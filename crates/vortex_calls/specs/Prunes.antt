@@ -1,11 +1,11 @@
 -- What a caller asks to be pruned, and what is answered.
-use Rattle.std.specs.Prelude.{◌≡◌, ◌≢◌, ℕ, ◌==◌, ◌⊎◌, false, List, [], ◌++◌, Option, Some, Result, Ok, Err, IfOk, IsOk, IsTrue, if◌then◌else◌, length, map}
+use Rattle.std.specs.Prelude.{◌≡◌, ◌≢◌, ℕ, ◌==◌, ◌⊎◌, false, List, [], Option, Some, Result, Ok, Err, IfOk, IsOk, IsTrue, if◌then◌else◌, length, map}
 use Rattle.vortex_base.specs.Data.Scopes.{Named}
 use Rattle.vortex_expr.specs.Meanings.Fitting.{fits_scope}
 use Rattle.vortex_expr.specs.Trees.Tree.{Place, Tree, is_plain}
-use Rattle.vortex_nested.specs.Halves.{halved}
+use Rattle.vortex_calls.specs.Nesting.Halves.{halved}
 use Rattle.vortex_normal.specs.Groups.{normal}
-use Rattle.vortex_normal_scan.specs.Pruning.{FindsNoFewerWhole, IsRight, Pruning, SkipsNoFewer, SkipsUnsatisfiable, is_within, skip_proof, whole_proof}
+use Rattle.vortex_predicates.specs.Pruning.{FindsNoFewerWhole, IsRight, Pruning, SkipsNoFewer, SkipsUnsatisfiable, is_within, skip_proof, whole_proof}
 use Rattle.vortex_prune.specs.Binding.PartAnswers.{told_values}
 use Rattle.vortex_prune.specs.Part.{ZoneData, zones_fit}
 use Rattle.vortex_prune.specs.Scanning.Selection.{places_where, proves_of}
@@ -20,11 +20,10 @@ use Rattle.vortex_calls.specs.declared.fault.Refusal.{Refusal}
 use Rattle.vortex_calls.specs.declared.field.Field.{Field}
 use Rattle.vortex_calls.specs.declared.statistic.Statistic.{Statistic}
 use Rattle.vortex_calls.specs.declared.status.Status.TheVariants.{BadFlag, BadLength, BadLine, TooDeep}
-use Rattle.vortex_calls.specs.declared.table.Known.{Known}
 use Rattle.vortex_calls.specs.Refusals.{followed}
 use Rattle.vortex_calls.specs.Scopes.{max_depth, predicate_given, scope_given}
 use Rattle.vortex_calls.specs.Statuses.{nowhere, status_number}
-use Rattle.vortex_calls.specs.Tables.{known_zone, sources_given, zones_given}
+use Rattle.vortex_calls.specs.Tables.{sources_given, zones_given}
 
 -- ---- the answers
 
@@ -62,12 +61,6 @@ zone_answers f s scope zones = map (answer_by f s scope) zones
 -- those of zones that may be refused
 abbrev pub table_answers : (falsifier satisfier : Option (Tree Place)) → List Named → Result (List ZoneData) Refusal → Result (List ℕ) Refusal
 table_answers f s scope given = followed given (λ zones. Ok (zone_answers f s scope zones))
-
--- some of the zones are answered, and the others stand in a batch behind them
-pub record IsReached (f s : Option (Tree Place)) (scope : List Named) (zones : List ZoneData) (answers : List ℕ) (batch : List Known) : Type 0 where
-  pub done : List ZoneData
-  pub same : zones ≡ done ++ map known_zone batch
-  pub told : answers ≡ zone_answers f s scope done
 
 -- the places of the zones with an answer, ascending
 abbrev pub answered : ℕ → List ℕ → List ℕ

@@ -6,10 +6,10 @@ use Rattle.vortex_base.specs.Data.Scopes.{Named, is_empty}
 use Rattle.vortex_expr.specs.Trees.Tree.{Place, Tree}
 use Rattle.vortex_rewrite.specs.Rewriting.Predicates.{is_predicate}
 use Rattle.vortex_normal.specs.Balanced.{depth}
-use Rattle.vortex_nested.specs.Halves.{halved}
-use Rattle.vortex_nested.specs.Texts.{IsDeeper, IsHalvedOf}
-use Rattle.vortex_nested.specs.declared.error.NestedError.{NestedError}
-use Rattle.vortex_nested.specs.declared.error.NestedError.TheVariants as nested
+use Rattle.vortex_calls.specs.Nesting.Halves.{halved}
+use Rattle.vortex_calls.specs.Nesting.Texts.{IsDeeper, IsHalvedOf}
+use Rattle.vortex_calls.specs.declared.nested.error.NestedError.{NestedError}
+use Rattle.vortex_calls.specs.declared.nested.error.NestedError.TheVariants as nested
 use Rattle.vortex_syntax.specs.Expressions.{expression_of}
 use Rattle.vortex_syntax.specs.Fails.{when, ◌>>=◌}
 use Rattle.vortex_syntax.specs.Words.{words}

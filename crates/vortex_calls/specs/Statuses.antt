@@ -1,7 +1,7 @@
 -- The statuses by their numbers, and where a call is refused.
 use Rattle.std.specs.Prelude.{ℕ}
-use Rattle.vortex_nested.specs.declared.error.NestedError.{NestedError}
-use Rattle.vortex_nested.specs.declared.error.NestedError.TheVariants as nested
+use Rattle.vortex_calls.specs.declared.nested.error.NestedError.{NestedError}
+use Rattle.vortex_calls.specs.declared.nested.error.NestedError.TheVariants as nested
 use Rattle.vortex_calls.specs.declared.fault.Refusal.{Refusal}
 use Rattle.vortex_calls.specs.declared.status.Status.{Status}
 use Rattle.vortex_calls.specs.declared.status.Status.TheVariants.{BadLine, TooShort, NoMemory, BadKind, BadStat, BadKnown, BadLength, BadEnds, BadValue, BadNull, Untrue, BadColumn, BadName, NotAPredicate, BadFlag, TooDeep, BadSql, Misfit}

@@ -11,7 +11,6 @@ use Rattle.vortex_calls.specs.declared.fault.Refusal.{Refusal}
 use Rattle.vortex_calls.specs.declared.statistic.Statistic.{Statistic}
 use Rattle.vortex_calls.specs.declared.status.Status.{Status}
 use Rattle.vortex_calls.specs.declared.status.Status.TheVariants.{BadColumn, BadLength}
-use Rattle.vortex_calls.specs.declared.table.Known.{Known}
 use Rattle.vortex_calls.specs.declared.table.Source.{Source}
 use Rattle.vortex_calls.specs.Measures.{stat_of}
 use Rattle.vortex_calls.specs.Refusals.{all_found, all_read, followed, placed, stepped}
@@ -77,10 +76,6 @@ zone_sets scope sources zone = stepped (next_source zone sources) (map no_entrie
 
 abbrev pub zone_at : List Named → List Source → List ℕ → ℕ → Result ZoneData Refusal
 zone_at scope sources rows zone = followed (zone_sets scope sources zone) (λ sets. Ok (record { rows = slice_index rows zone; stats = sets }))
-
--- the zone that is known so
-abbrev pub known_zone : Known → ZoneData
-known_zone k = record { rows = k.rows; stats = k.sets.items }
 
 -- the zones in order, or the first value that is refused
 abbrev pub zones_given : List Named → List Source → List ℕ → Result (List ZoneData) Refusal

@@ -5,12 +5,12 @@ ghost use Rattle.vortex_rewrite.specs.Rewriting.Predicates.{is_predicate};
 ghost use Rattle.vortex_calls.specs.Scopes as spec;
 
 use crate::fault::Refusal;
+use crate::nested::error::NestedError;
+use crate::nested::text::nested_expression;
 use crate::status::Status;
 use std::alloc::Global;
 use vortex_base::dtype::DType;
 use vortex_expr::bound_expression::BoundExpression;
-use vortex_nested::error::NestedError;
-use vortex_nested::text::nested_expression;
 use vortex_syntax::columns::Columns;
 use vortex_syntax::lines::is_utf8;
 

@@ -2,7 +2,7 @@
 ghost use Rattle.std.specs.Prelude.{◌≡◌, IfOk, IsTrue, Ok, length};
 ghost use Rattle.vortex_expr.specs.Meanings.Fitting.{fits_scope};
 ghost use Rattle.vortex_expr.specs.Trees.Tree.{Place, Tree, is_plain};
-ghost use Rattle.vortex_nested.specs.Halves.{halved};
+ghost use Rattle.vortex_calls.specs.Nesting.Halves.{halved};
 ghost use Rattle.vortex_rewrite.specs.Rewriting.Predicates.{is_predicate};
 ghost use Rattle.vortex_calls.specs.Prunes as spec;
 ghost use Rattle.vortex_calls.specs.Refusals.{Answers, followed};

@@ -3,8 +3,8 @@ ghost use Rattle.std.specs.Prelude.{◌≡◌};
 ghost use Rattle.vortex_calls.specs.Statuses.{status_number};
 ghost use Rattle.vortex_calls.specs.declared.status.Status.TheVariants.{NoMemory};
 
+use crate::nested::error::NestedError;
 use std::alloc::{AllocError, AllocFailed};
-use vortex_nested::error::NestedError;
 
 /// Why a call was refused. The header's `vortex_status` has the numbers.
 #[derive(Clone, Copy, Debug, PartialEq, Eq)]

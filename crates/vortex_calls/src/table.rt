@@ -1,7 +1,6 @@
 //! Zones as a table of columns.
-ghost use Rattle.std.specs.Prelude.{◌≡◌, ◌<◌, All, IfOk, IsTrue, Ok, Some, length, map, slice_get};
+ghost use Rattle.std.specs.Prelude.{◌≡◌, ◌<◌, All, IfOk, IsTrue, Ok, Some, length, slice_get};
 ghost use Rattle.std.specs.Bool.{OnTrue};
-ghost use Rattle.vortex_prune.specs.Part.{fits_zone};
 ghost use Rattle.vortex_stats.specs.Sets.Entries.{value_fits};
 ghost use Rattle.vortex_calls.specs.MapCells.{IsRead};
 ghost use Rattle.vortex_calls.specs.Refusals.{Answers, Gives};
@@ -11,13 +10,12 @@ use crate::fault::Refusal;
 use crate::measure::stat_of;
 use crate::statistic::Statistic;
 use crate::status::Status;
-use std::alloc::{AllocError, Global};
+use std::alloc::Global;
 use vortex_base::dtype::DType;
 use vortex_base::scalar_value::ScalarValue;
 use vortex_base::scope::Scope;
 use vortex_stats::precision::Precision;
 use vortex_stats::stat::Stat;
-use vortex_stats::stats_set::StatsSet;
 
 /// A statistic of a table beside its column's type.
 #[derive(Clone, Copy)]
@@ -119,83 +117,10 @@ impl Source<'_> {
     }
 }
 
-// Sets of which nothing is known, one a column.
-fn empty_sets(alloc: Global, scope: &Scope) -> Result<Vec<StatsSet>, AllocError>
-    ensures { IfOk result (λ v. v.items ≡ map spec.no_entries scope.now) }
-{
-    let mut sets = Vec::with_capacity(alloc, scope.len())?;
-    for _place in 0..scope.len() {
-        sets.push(StatsSet::new(alloc))?;
-    }
-    Ok(sets)
-}
-
-// Sets a statistic of the column at a place.
-fn set_at(sets: &mut Vec<StatsSet>, place: usize, stat: Stat, value: Precision<ScalarValue>)
-    ensures { sets.new.items
-        ≡ spec.set_at place stat value sets.old.items (slice_get sets.old.items place) }
-{
-    if place < sets.len() {
-        let set = &mut sets[place];
-        set.put(stat, value);
-    }
-}
-
 /// The statistic at a place.
 pub(crate) fn source_there<'b, 'a>(sources: &'b [Source<'a>], entry: usize) -> &'b Source<'a>
     requires { entry < length sources.now }
     ensures { slice_get sources.now entry ≡ Some result.now }
 {
     &sources[entry]
-}
-
-// The set of each column in a zone.
-fn zone_sets(
-    alloc: Global,
-    scope: &Scope,
-    sources: &[Source<'_>],
-    zone: usize,
-) -> Result<Vec<StatsSet>, Refusal>
-    requires { All (spec.IsTypedBy scope.now) sources.now }
-    ensures read { Answers (λ v. v.items) result (spec.zone_sets scope.now sources.now zone) }
-    ensures fits { IfOk result (λ v. IsTrue (fits_zone scope.now v.items)) }
-{
-    let mut sets = empty_sets(alloc, scope)?;
-    for entry in 0..sources.len() {
-        let source = source_there(sources, entry);
-        let column = source.statistic.column;
-        match source.value(alloc, zone) {
-            Ok(value) => set_at(&mut sets, column, source.stat, value),
-            Err(status) => return Err(Refusal::in_column(status, zone, column, entry)),
-        }
-    }
-    Ok(sets)
-}
-
-/// A zone by its rows and its statistics.
-#[derive(Drop)]
-pub(crate) struct Known {
-    pub(crate) rows: u64,
-    pub(crate) sets: Vec<StatsSet>,
-}
-
-/// The zone at a place of a table.
-pub(crate) fn zone_at(
-    alloc: Global,
-    scope: &Scope,
-    sources: &[Source<'_>],
-    rows: &[u64],
-    zone: usize,
-) -> Result<Known, Refusal>
-    requires within { zone < length rows.now }
-    requires typed { All (spec.IsTypedBy scope.now) sources.now }
-    ensures read { Answers spec.known_zone result
-        (spec.zone_at scope.now sources.now rows.now zone) }
-    ensures fits { IfOk result (λ known. IsTrue (fits_zone scope.now known.sets.items)) }
-{
-    let sets = zone_sets(alloc, scope, sources, zone)?;
-    Ok(Known {
-        rows: rows[zone],
-        sets,
-    })
 }

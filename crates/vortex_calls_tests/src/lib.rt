@@ -1,8 +1,15 @@
-//! Tests of `vortex_calls` and `vortex_sql_calls` by their public calls.
+//! Tests of `vortex_calls`, `vortex_sql`, `vortex_parquet` and the conditions of
+//! `vortex_predicates` by their public calls.
 #![tactic(auto)]
 
 #[cfg(test)]
 mod calls;
+#[cfg(test)]
+mod nested;
+#[cfg(test)]
+mod parquet;
+#[cfg(test)]
+mod predicates;
 #[cfg(test)]
 mod sql;
 #[cfg(test)]

@@ -3,9 +3,9 @@
 use std::alloc::Global;
 use vortex_calls::fault::Fault;
 use vortex_calls::field::Field;
+use vortex_calls::span::Span;
+use vortex_calls::sql::prune_sql::prune_sql;
 use vortex_calls::statistic::Statistic;
-use vortex_sql_calls::prune_sql::prune_sql;
-use vortex_sql_calls::span::Span;
 
 const NOWHERE: Fault = Fault {
     row: 9,

@@ -10,8 +10,8 @@ use Rattle.vortex_calls.specs.declared.fault.Refusal.{Refusal}
 use Rattle.vortex_calls.specs.declared.statistic.Statistic.{Statistic}
 use Rattle.vortex_normal.specs.Groups.{normal}
 use Rattle.vortex_normal.specs.Pushed.{all_of, comparison, comparison_of, folded, settled}
-use Rattle.vortex_normal_scan.proofs.PredicateWitnesses.{low_is_left_out, low_is_not_there}
-use Rattle.vortex_normal_scan.specs.Pruning.{is_within}
+use Rattle.vortex_predicates.proofs.PredicateWitnesses.{low_is_left_out, low_is_not_there}
+use Rattle.vortex_predicates.specs.Pruning.{is_within}
 use Rattle.vortex_prune.proofs.WorkedRows.PartRows.{turned_round}
 use Rattle.vortex_prune.proofs.WorkedRows.Witnesses.Parts.{IsWitness, above_ten, scope, zones}
 use Rattle.vortex_rewrite.specs.Rewriting.ReadOnce.{is_apart}

@@ -1,7 +1,7 @@
 use Rattle.std.proofs.Common.{Option, ap, ap₂, map, subst₂, ◌∙◌}
 use Rattle.std.proofs.lemmas.Result.{err_from_is_err_and}
 use Rattle.vortex_expr.specs.Trees.Tree.{Place, Tree}
-use Rattle.vortex_normal_scan.proofs.Found.{memory_left}
+use Rattle.vortex_predicates.proofs.Found.{memory_left}
 use Rattle.vortex_prune.specs.Scanning.ZoneScans.{AreRowVerdicts, open_causes, zone_verdicts}
 use Rattle.vortex_rewrite.specs.Causes.{IsRefusal, either_causes}
 use Rattle.vortex_calls.specs.Prunes.{answer_of}

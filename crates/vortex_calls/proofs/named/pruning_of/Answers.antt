@@ -1,5 +1,5 @@
 use Rattle.std.proofs.Common.{[], Some, rules}
-use Rattle.vortex_normal_scan.specs.Pruning.{IsMadeBy}
+use Rattle.vortex_predicates.specs.Pruning.{IsMadeBy}
 use Rattle.vortex_calls.specs.Scopes.{max_depth}
 use Rattle.vortex_calls.proofs.AnswerLemmas.{made_closed}
 use Rattle.vortex_calls.proofs.named.pruning_of.Goals as goal

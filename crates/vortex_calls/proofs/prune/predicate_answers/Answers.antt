@@ -1,7 +1,7 @@
 use Rattle.std.proofs.Common.{[], ap, ◌∙◌}
 use Rattle.std.proofs.lemmas.Result.{IfOk-weaker}
 use Rattle.std.specs.Prelude.{Some}
-use Rattle.vortex_normal_scan.specs.Pruning.{skip_proof, whole_proof}
+use Rattle.vortex_predicates.specs.Pruning.{skip_proof, whole_proof}
 use Rattle.vortex_calls.specs.Prunes.{zones_asked}
 use Rattle.vortex_calls.specs.Scopes.{max_depth}
 use Rattle.vortex_calls.proofs.PruneLemmas.{by_proofs, made_right, well_zones}

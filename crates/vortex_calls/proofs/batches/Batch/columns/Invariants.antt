@@ -1,0 +1,12 @@
+use Rattle.std.proofs.Common.{◌≡◌, List, Ok, length}
+use Rattle.vortex_prune.specs.Part.{ZoneData}
+use Rattle.vortex_calls.specs.MapCells.{batch_zones}
+use Rattle.vortex_calls.specs.NamedStats.{AreNamed}
+use Rattle.vortex_calls.proofs.batches.Batch.columns.Given as goal
+
+-- what is named stands below the heads so far
+abbrev pub invariant-loop-place : goal.invariant-loop-place
+invariant-loop-place l = record {
+  long : length l.columns.items ≡ l.place;
+  told : (zones : List ZoneData) → batch_zones l.self ≡ Ok zones → AreNamed l.named l.heads zones l.columns.items;
+}

@@ -1,0 +1,8 @@
+//! Tests of footers, page indexes and conditions over them.
+
+mod conditions;
+mod decimals;
+mod file;
+mod files;
+mod page_ranges;
+mod pages;

@@ -1,6 +1,0 @@
-pub mod Errors
-pub mod Halves
-pub mod Laws
-pub mod Nodes
-pub mod Reads
-pub mod Texts

@@ -1,4 +1,0 @@
-pub mod FooterPrunes
-pub mod IndexBegins
-pub mod PagePrunes
-pub mod Refusals
