@@ -2,6 +2,7 @@ pub mod BatchLemmas
 pub mod ColumnLemmas
 pub mod DraftLemmas
 pub mod DraftSteps
+pub mod Explaining
 pub mod FirstLineLemmas
 pub mod FirstReads
 pub mod FirstRows

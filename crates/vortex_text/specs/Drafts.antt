@@ -2,10 +2,10 @@
 use Rattle.vortex_base.specs.Data.Scopes.{named_columns}
 use Rattle.vortex_text.specs.Lines.{Reading}
 use Rattle.vortex_text.specs.Stores.{current_of, ended_of}
-use Rattle.vortex_text.specs.declared.draft.Draft.{Draft}
+use Rattle.vortex_text.specs.declared.document_parser.DocumentParser.{DocumentParser}
 
 -- what the lines so far say
-abbrev pub reading_of : Draft → Reading
+abbrev pub reading_of : DocumentParser → Reading
 reading_of d = record {
   scope = named_columns d.columns;
   ended = ended_of d.store;

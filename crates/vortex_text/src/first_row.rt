@@ -5,7 +5,7 @@ ghost use Rattle.vortex_syntax.specs.Fails.{Fails, GivesAndChanges};
 ghost use Rattle.vortex_syntax.specs.Plain.{EndsWord};
 ghost use Rattle.vortex_text.specs.FirstLines.{BeginsRow, first_row};
 
-use crate::open_column::{OpenColumn, push_row};
+use crate::column_builder::{ColumnBuilder, push_row};
 use std::alloc::Global;
 use vortex_syntax::expected::Expected;
 use vortex_syntax::line_error::LineError;
@@ -14,7 +14,7 @@ use vortex_syntax::lines::{is_utf8, next_line};
 // Gives columns the values in plain form at the front of a text, as far as those go: how many
 // columns have one, and what follows.
 #[inline(always)]
-fn take_plain<'a>(columns: &mut [OpenColumn], text: &'a [u8]) -> (usize, &'a [u8])
+fn take_plain<'a>(columns: &mut [ColumnBuilder], text: &'a [u8]) -> (usize, &'a [u8])
     requires { EndsWord text.now }
     ensures row { BeginsRow columns.old columns.new text.now result.1.now result.0 }
     ensures count { result.0 ≤ length columns.new }
@@ -38,7 +38,7 @@ fn take_plain<'a>(columns: &mut [OpenColumn], text: &'a [u8]) -> (usize, &'a [u8
 #[inline(never)]
 fn push_words<'a>(
     alloc: Global,
-    columns: &mut [OpenColumn],
+    columns: &mut [ColumnBuilder],
     text: &'a [u8],
     refused: &mut LineError,
 ) -> &'a [u8]
@@ -68,7 +68,7 @@ fn push_words<'a>(
 #[inline(always)]
 pub fn push_first_row<'a>(
     alloc: Global,
-    columns: &mut [OpenColumn],
+    columns: &mut [ColumnBuilder],
     text: &'a [u8],
     refused: &mut LineError,
 ) -> Option<&'a [u8]>

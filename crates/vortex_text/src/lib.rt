@@ -3,11 +3,12 @@
 
 pub mod bad_line;
 mod batches;
-mod draft;
+mod column_builder;
+mod document_parser;
+pub mod explain;
 mod first_row;
 pub mod input;
 pub mod naming;
-mod open_column;
 mod open_line;
 pub mod open_text;
 mod page;

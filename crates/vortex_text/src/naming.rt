@@ -10,7 +10,7 @@ ghost use Rattle.vortex_text.specs.MemoryTaken.{TakesMemory};
 ghost use Rattle.vortex_text.specs.Naming.{IsFirstBad, IsNamed, NamesQuery, named, named_from};
 
 use crate::bad_line::BadLine;
-use crate::draft::Draft;
+use crate::document_parser::DocumentParser;
 use crate::query::Query;
 use std::alloc::{AllocError, Global};
 use vortex_syntax::expected::Expected;
@@ -56,7 +56,7 @@ fn without_predicate(number: usize) -> BadLine<'static>
 /// line after them comes back.
 pub(crate) fn read_lines<'a>(
     alloc: Global,
-    draft: &mut Draft,
+    draft: &mut DocumentParser,
     first: usize,
     text: &'a [u8],
 ) -> Result<usize, InputError<'a>>
@@ -92,7 +92,7 @@ pub(crate) fn read_lines<'a>(
 /// of them name come back, with their scope.
 pub(crate) fn read_last(
     alloc: Global,
-    draft: Draft,
+    draft: DocumentParser,
     first: usize,
     text: &[u8],
 ) -> Result<Query, InputError<'_>>
@@ -119,7 +119,7 @@ pub fn read_input(alloc: Global, text: &[u8]) -> Result<Query, InputError<'_>>
     ensures fits { IfOk result (λ q. IsQueryOver q.scope q.parts q.predicate) }
     ensures memory { IsErrOf result InputError.Memory → TakesMemory text.now }
 {
-    read_last(alloc, Draft::new(alloc), 1, text)
+    read_last(alloc, DocumentParser::new(alloc), 1, text)
 }
 
 /// The law of what a text names, over all its lines at once: parts and a predicate exactly if every

@@ -8,7 +8,7 @@ ghost use Rattle.vortex_text.specs.Naming.{named};
 ghost use Rattle.vortex_text.specs.OpenTexts.{GoesOn, KeepsError, TakesBytes, Tells, named_behind};
 
 use crate::bad_line::{BadInput, TextError};
-use crate::draft::Draft;
+use crate::document_parser::DocumentParser;
 use crate::naming::{InputError, read_last, read_lines};
 use crate::query::Query;
 use memchr::{memchr, memrchr};
@@ -18,7 +18,7 @@ use std::alloc::{AllocError, Global};
 #[derive(Drop)]
 pub struct OpenLine {
     /// The draft of the lines before it.
-    pub draft: Draft,
+    pub draft: DocumentParser,
     /// Its number, counted from 1.
     pub number: usize,
     /// Its bytes so far.
@@ -61,7 +61,7 @@ fn kept_error(alloc: Global, error: InputError<'_>) -> TextError
 // Reads lines, of which the first has this number. The number of the line after them comes back.
 fn read_block(
     alloc: Global,
-    draft: &mut Draft,
+    draft: &mut DocumentParser,
     first: usize,
     text: &[u8],
 ) -> Result<usize, TextError>
@@ -86,7 +86,7 @@ impl OpenLine {
         ensures few { result.number + length result.line.items ≤ 1 }
     {
         OpenLine {
-            draft: Draft::new(alloc),
+            draft: DocumentParser::new(alloc),
             number: 1,
             line: Vec::new(alloc),
         }

@@ -3,7 +3,7 @@ ghost use Rattle.std.specs.Prelude.{◌≡◌, IfOk, map};
 ghost use Rattle.vortex_base.specs.Data.Scopes.{IsScope, named_columns};
 ghost use Rattle.vortex_text.specs.Rows.{empty_column};
 
-use crate::open_column::OpenColumn;
+use crate::column_builder::ColumnBuilder;
 use std::alloc::{AllocError, Global};
 use vortex_base::dtype::DType;
 use vortex_base::scope::Scope;
@@ -33,12 +33,12 @@ pub fn scope_of(alloc: Global, columns: &[(String, DType)]) -> Result<Scope, All
 pub fn empty_columns(
     alloc: Global,
     columns: &[(String, DType)],
-) -> Result<Vec<OpenColumn>, AllocError>
+) -> Result<Vec<ColumnBuilder>, AllocError>
     ensures { IfOk result (λ empty. empty.items ≡ map empty_column (named_columns columns.now)) }
 {
     let mut empty = Vec::with_capacity(alloc, columns.len())?;
     for column in columns {
-        empty.push(OpenColumn::new(alloc, column.1))?;
+        empty.push(ColumnBuilder::new(alloc, column.1))?;
     }
     Ok(empty)
 }

@@ -12,8 +12,8 @@ ghost use Rattle.vortex_text.specs.Rows.{empty_part, joined_at};
 ghost use Rattle.vortex_text.specs.Stores.{HaveRows, all_parts, ended_all, last_row, with_first};
 ghost use Rattle.vortex_text.specs.Stores.{with_joined, with_told, with_words};
 
+use crate::column_builder::{ColumnBuilder, close_columns, push_row};
 use crate::first_row::push_first_row;
-use crate::open_column::{OpenColumn, close_columns, push_row};
 use crate::parts::Parts;
 use crate::starts::{empty_columns, scope_of};
 use std::alloc::{AllocError, Global};
@@ -34,7 +34,7 @@ use vortex_zone_log::ZoneLog;
 #[derive(Debug, Drop)]
 pub struct Store {
     scope: Scope,
-    columns: Vec<OpenColumn>,
+    columns: Vec<ColumnBuilder>,
     log: ZoneLog,
     // The first row behind the parts that have ended.
     from: usize,
@@ -54,7 +54,7 @@ impl Model for Store {
 }
 
 // Where columns end, which have so many rows at least.
-fn last_row(columns: &[OpenColumn], from: usize) -> usize
+fn last_row(columns: &[ColumnBuilder], from: usize) -> usize
     requires { HaveRows from columns.now }
     ensures row { result ≡ last_row from columns.now }
 {

@@ -1,7 +1,7 @@
 //! Explanations of the scans that small texts name, and expressions as they are printed.
 use std::alloc::Global;
 use std::process::Abort;
-use vortex_explain::text::explain_text;
+use vortex_text::explain::text::explain_text;
 
 // The lines of the predicate `gt col a lit i64 5` over a column `a` of type `i64?`.
 const ABOVE_5: &str = "predicate: ($.a > 5i64)\n  falsifier: (stat($.a, max) <= 5i64)\n  \

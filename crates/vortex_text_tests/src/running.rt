@@ -5,7 +5,7 @@ use std::alloc::Global;
 use std::io;
 use std::io::{ErrorKind, Read, Write};
 use std::process::Abort;
-use vortex_explain::program::run_explained;
+use vortex_text::explain::program::run_explained;
 
 const TEXT: &str = "column a i64?\npart\nstat a max exact 5\nrow 5\nwhere gt col a lit i64 5\n";
 

@@ -1,0 +1,2 @@
+-- Proofs of the program that explains.
+pub mod Explained
