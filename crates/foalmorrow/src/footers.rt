@@ -6,7 +6,7 @@ use std::{fs, io};
 use thiserror::Error;
 use vortex_parquet::footer::{TAIL, length_of};
 use vortex_parquet::{Fault, ReadError};
-use vortex_parquet_sql::FooterError;
+use vortex_predicates::FooterError;
 use vortex_text::streams::{Sink, write_out};
 
 // The statuses of a file without an answer: for want of memory or because a write failed, because

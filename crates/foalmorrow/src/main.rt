@@ -1,6 +1,7 @@
 // The command-line tool over the library: what a predicate leaves of tables, by their statistics.
 #![tactic(auto)]
 
+mod command;
 mod footers;
 mod known;
 mod pruning;
@@ -8,12 +9,12 @@ mod scanning;
 mod showing;
 mod underlining;
 
+use command::{Request, requested, status_of};
 use pruning::prune_files;
 use scanning::{scan_files, scan_input};
 use showing::show_files;
 use std::process::ExitCode;
 use std::{env, io};
-use vortex_command::{Request, requested, status_of};
 
 // The status where the words of the command line can't be read.
 const BAD_WORDS: u8 = 64;

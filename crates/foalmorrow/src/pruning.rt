@@ -2,6 +2,7 @@
 ghost use Rattle.std.specs.Prelude.{◌≡◌};
 ghost use Rattle.foalmorrow.specs.Words.{verdict_word};
 
+use crate::command::{Format, Prune};
 use crate::footers::{FileError, footer_end, status_of};
 use crate::known::write_known;
 use crate::underlining::underlined;
@@ -9,13 +10,12 @@ use serde::Serialize;
 use std::alloc::{AllocError, Global};
 use std::fs::Files;
 use vortex_base::scope::Scope;
-use vortex_command::{Format, Prune};
 use vortex_parquet::columns::columns_of;
 use vortex_parquet::footer::footer_of;
 use vortex_parquet::records::file_of;
-use vortex_parquet_sql::{FooterCondition, GroupVerdicts};
+use vortex_predicates::{FooterCondition, GroupVerdicts};
 use vortex_prune::{Rules, Verdict};
-use vortex_sql_syntax::parse::Names;
+use vortex_sql::syntax::parse::Names;
 use vortex_text::streams::{Sink, write_out};
 
 // A row group with what is to be done with it.

@@ -2,11 +2,11 @@
 ghost use Rattle.std.specs.Prelude.{◌≡◌, ◌≢◌, ◌⊎◌, ℕ, List, IfSome};
 ghost use Rattle.vortex_text.specs.Program.{Answers, ReadsOnce, Stops, WritesFullScan, WritesOnce};
 
+use crate::command::Scan;
 use std::alloc::Global;
 use std::fs;
 use std::rt::Files;
-use vortex_command::Scan;
-use vortex_explain::program::run_explained;
+use vortex_text::explain::program::run_explained;
 use vortex_text::program::run;
 use vortex_text::streams::{Sink, Source, write_out};
 

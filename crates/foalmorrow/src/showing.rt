@@ -1,9 +1,9 @@
 // The row groups of Parquet files, and what is known of their columns.
+use crate::command::Show;
 use crate::footers::{FileError, footer_end, status_of};
 use crate::known::write_known;
 use std::alloc::{AllocError, Global};
 use std::fs::Files;
-use vortex_command::Show;
 use vortex_parquet::columns::{Columns, Content, Leaf, LeftOut, columns_of};
 use vortex_parquet::footer::footer_of;
 use vortex_parquet::records::file_of;

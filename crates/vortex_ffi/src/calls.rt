@@ -7,7 +7,7 @@ ghost use Rattle.vortex_calls.specs.Merges.{merged, together};
 ghost use Rattle.vortex_calls.specs.Prunes as prunes;
 ghost use Rattle.vortex_calls.specs.Slots.{IsTold};
 ghost use Rattle.vortex_calls.specs.Values.{given_column};
-ghost use Rattle.vortex_sql_calls.specs.SqlPrunes as sql_prunes;
+ghost use Rattle.vortex_calls.specs.SqlCalls.SqlPrunes as sql_prunes;
 
 use std::alloc::Global;
 use vortex_calls::arrow::ArrowValues;
@@ -18,10 +18,10 @@ use vortex_calls::measure::{measure, measure_arrow};
 use vortex_calls::merge::merge;
 use vortex_calls::merge_zones::merge_zones;
 use vortex_calls::prune::prune;
+use vortex_calls::span::Span;
+use vortex_calls::sql::prune_sql::prune_sql;
 use vortex_calls::statistic::Statistic;
 use vortex_calls::values::Values;
-use vortex_sql_calls::prune_sql::prune_sql;
-use vortex_sql_calls::span::Span;
 
 /// Whether a zone has as many rows as a column and each of its statistics is true of the column's
 /// values, `vortex_check` of the header.

@@ -2,8 +2,8 @@
 //! arrays out.
 //!
 //! `callers/c/vortex.h` declares what crosses and says what each call needs. No call keeps
-//! anything, and every array is the caller's. Each is a call of `vortex_calls`, of
-//! `vortex_sql_calls` or of `vortex_text` under the name of the header.
+//! anything, and every array is the caller's. Each is a call of `vortex_calls` or of `vortex_text`
+//! under the name of the header.
 #![tactic(auto)]
 
 pub mod calls;

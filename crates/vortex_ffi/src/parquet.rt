@@ -1,17 +1,20 @@
 //! The calls over footers of Parquet files, under the names of the header.
-ghost use Rattle.vortex_parquet_calls.specs.FooterPrunes as footers;
-ghost use Rattle.vortex_parquet_calls.specs.IndexBegins as indexes;
-ghost use Rattle.vortex_parquet_calls.specs.PagePrunes as pages;
+ghost use Rattle.vortex_calls.specs.ParquetCalls.DataPages as told;
+ghost use Rattle.vortex_calls.specs.ParquetCalls.FooterPrunes as footers;
+ghost use Rattle.vortex_calls.specs.ParquetCalls.IndexBegins as indexes;
+ghost use Rattle.vortex_calls.specs.ParquetCalls.PagePrunes as pages;
 
 use std::alloc::Global;
 use vortex_calls::fault::Fault;
-use vortex_parquet_calls::indexes::indexes_begin;
-use vortex_parquet_calls::prune_footer::prune_footer;
-use vortex_parquet_calls::prune_pages::prune_pages;
-use vortex_parquet_calls::row_group::RowGroup;
-use vortex_parquet_calls::row_range::RowRange;
-use vortex_parquet_calls::span::Span;
-use vortex_parquet_calls::tail::footer_length;
+use vortex_calls::parquet::data_pages::data_pages;
+use vortex_calls::parquet::indexes::indexes_begin;
+use vortex_calls::parquet::prune_footer::prune_footer;
+use vortex_calls::parquet::prune_pages::prune_pages;
+use vortex_calls::parquet::row_group::RowGroup;
+use vortex_calls::parquet::row_range::RowRange;
+use vortex_calls::parquet::tail::footer_length;
+use vortex_calls::span::Span;
+use vortex_parquet::data_pages::DataPage;
 
 /// How many bytes the footer has that stands before the last eight bytes of a file,
 /// `vortex_parquet_footer` of the header.
@@ -138,4 +141,25 @@ pub extern "C" fn vortex_parquet_prune_pages(
         unread_found,
         fault,
     )
+}
+
+/// The data pages of a file with the rows and the bytes of each, by the offset indexes among the
+/// file's last bytes, `vortex_parquet_data_pages` of the header.
+#[unsafe(no_mangle)]
+pub extern "C" fn vortex_parquet_data_pages(
+    alloc: Global,
+    footer: &[u8],
+    tail: &[u8],
+    tail_begin: u64,
+    pages: &mut [DataPage],
+    pages_found: &mut usize,
+    fault: &mut Fault,
+) -> u8
+    // Of an answer the array has each page at its front that an offset index tells. Of a refusal it
+    // is as it was, and but for memory its cause is told, the first.
+    ensures { told.ArePagesTold footer.now (record { begin = tail_begin; bytes = tail.now })
+        (record { pages = pages.old; found_len = pages_found.old; fault = fault.old })
+        (record { pages = pages.new; found_len = pages_found.new; fault = fault.new }) result }
+{
+    data_pages(alloc, footer, tail, tail_begin, pages, pages_found, fault)
 }

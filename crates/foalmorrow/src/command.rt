@@ -1,5 +1,4 @@
 //! The words of the command-line tool `foalmorrow`, and what they ask for.
-#![tactic(auto)]
 
 ghost use Rattle.std.specs.Prelude.{◌≡◌, ◌≢◌, ◌⊎◌};
 ghost use Rattle.clap.specs.Words.{kind_of};
