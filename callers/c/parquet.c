@@ -10,6 +10,7 @@
 #define _POSIX_C_SOURCE 200809L
 #include "vortex.h"
 #include <assert.h>
+#include <stdbool.h>
 #include <stdio.h>
 #include <stdlib.h>
 #include <string.h>
@@ -333,6 +334,85 @@ static void changed_pages(void) {
     printf("parquet: %lu page indexes with a byte changed are answered, and %lu refused by name\n", answers, refusals);
 }
 
+/* What a call about data pages is handed to be written. */
+typedef struct told_data {
+    vortex_data_page pages[ROOM];
+    size_t pages_found;
+    vortex_fault fault;
+} told_data;
+
+static told_data fresh_data(void) {
+    told_data it;
+    memset(&it, 0xa5, sizeof it);
+    return it;
+}
+
+static uint8_t told_of(const uint8_t *whole, size_t footer_len, size_t tail_len, uint64_t begin, size_t room, told_data *it) {
+    uint8_t *footer = lent(whole + INDEXES, footer_len), *tail = lent(whole, tail_len);
+    uint8_t status = vortex_parquet_data_pages(footer, footer_len, tail, tail_len, begin, it->pages, room, &it->pages_found,
+                                               &it->fault);
+    free(footer);
+    free(tail);
+    return status;
+}
+
+/* The pages of both columns of the first row group; the second one has no indexes. */
+static const vortex_data_page data[] = {
+    {0, 0, 0, 3, 4, 10}, {0, 0, 3, 5, 14, 5}, {0, 0, 5, 8, 19, 6}, {0, 1, 0, 4, 50, 10}, {0, 1, 4, 8, 60, 5},
+};
+
+enum { PAGES = sizeof data / sizeof *data };
+
+static void data_pages(void) {
+    told_data it = fresh_data(), old = fresh_data();
+    assert(told_of(paged, PAGED_FOOTER, INDEXES, BEGIN, ROOM, &it) == VORTEX_OK);
+    assert(it.pages_found == PAGES && !memcmp(it.pages, data, sizeof data));
+    assert(!memcmp(it.pages + PAGES, old.pages + PAGES, sizeof old.pages - sizeof data));
+    assert(!memcmp(&it.fault, &old.fault, sizeof old.fault));
+    /* The bytes behind the offset index of the first column are cut off: it has its pages, and the second column none. */
+    it = fresh_data();
+    assert(told_of(paged, PAGED_FOOTER, 53, BEGIN, ROOM, &it) == VORTEX_OK && it.pages_found == 3);
+    assert(!memcmp(it.pages, data, 3 * sizeof *data) && !memcmp(it.pages + 3, old.pages + 3, (ROOM - 3) * sizeof *data));
+    it = fresh_data();
+    assert(told_of(paged, PAGED_FOOTER, 0, 0, ROOM, &it) == VORTEX_OK && it.pages_found == 0);
+    for (size_t room = 0; room < PAGES; room++) {
+        it = fresh_data();
+        assert(told_of(paged, PAGED_FOOTER, INDEXES, BEGIN, room, &it) == VORTEX_TOO_SHORT && it.pages_found == PAGES);
+        assert(!memcmp(&it, &old, offsetof(told_data, pages_found)) && !memcmp(&it.fault, &old.fault, sizeof old.fault));
+    }
+    for (size_t length = 0; length < PAGED_FOOTER; length++) {
+        it = fresh_data();
+        assert(told_of(paged, length, INDEXES, BEGIN, ROOM, &it) == VORTEX_BAD_FOOTER);
+        assert(!memcmp(&it, &old, offsetof(told_data, fault)) && it.fault.column < VORTEX_PAGES);
+    }
+}
+
+/* Each byte of the indexes set to each value: pages that stand one behind the other, or a fault. */
+static void changed_data_pages(void) {
+    unsigned long answers = 0, refusals = 0;
+    for (size_t place = 0; place < INDEXES; place++)
+        for (unsigned value = 0; value < 256; value++) {
+            uint8_t changed[sizeof paged];
+            memcpy(changed, paged, sizeof paged);
+            changed[place] = (uint8_t)value;
+            told_data it = fresh_data(), old = fresh_data();
+            uint8_t status = told_of(changed, PAGED_FOOTER, INDEXES, BEGIN, ROOM, &it);
+            assert(status == VORTEX_OK || status == VORTEX_BAD_FOOTER);
+            if (status != VORTEX_OK) {
+                refusals++;
+                assert(!memcmp(&it, &old, offsetof(told_data, fault)));
+                continue;
+            }
+            answers++;
+            for (size_t page = 0; page < it.pages_found; page++) {
+                bool first = !page || it.pages[page].column != it.pages[page - 1].column;
+                assert(it.pages[page].first == (first ? 0 : it.pages[page - 1].end) && it.pages[page].end <= 8);
+                assert(it.pages[page].first < it.pages[page].end);
+            }
+        }
+    printf("parquet: the data pages of %lu page indexes with a byte changed are told, and %lu refused by name\n", answers, refusals);
+}
+
 static double now(void) {
     struct timespec t;
     clock_gettime(CLOCK_PROCESS_CPUTIME_ID, &t);
@@ -379,5 +459,7 @@ int main(int count, char **words) {
     pages();
     refused_pages();
     changed_pages();
+    data_pages();
+    changed_data_pages();
     return 0;
 }

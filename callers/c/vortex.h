@@ -85,8 +85,8 @@ enum vortex_status {
     VORTEX_BAD_SQL = 18,        /* vortex_prune_sql: the text is no condition: which byte, and a vortex_sql_fault */
     VORTEX_MISFIT = 19,         /* vortex_prune_sql: the types of a test don't fit: which bytes */
     VORTEX_BAD_FOOTER = 20,     /* vortex_parquet_footer, vortex_parquet_prune, vortex_parquet_indexes,
-                                   vortex_parquet_prune_pages: the bytes are no footer, or no page indexes: a
-                                   vortex_parquet_fault */
+                                   vortex_parquet_prune_pages, vortex_parquet_data_pages: the bytes are no footer, or
+                                   no page indexes: a vortex_parquet_fault */
     VORTEX_NOT_READ = 21        /* vortex_parquet_prune, vortex_parquet_prune_pages: a test names a column of which no test
                                    could be meant: which bytes, and a vortex_not_read */
 };
@@ -213,6 +213,16 @@ typedef struct vortex_row_range {
     uint64_t end;   /* the row behind the last of them */
     uint8_t answer; /* a vortex_answer */
 } vortex_row_range;
+
+/* A data page of a Parquet file. */
+typedef struct vortex_data_page {
+    size_t group;    /* its row group, by the place in the file */
+    size_t column;   /* its column, by the place among all leaf columns of the schema */
+    uint64_t first;  /* its first row, counted from the first of the row group */
+    uint64_t end;    /* the row behind its last one */
+    uint64_t offset; /* the byte of the file at which it begins */
+    uint64_t size;   /* how many bytes it takes in the file, with its header */
+} vortex_data_page;
 
 /* The values of a column. */
 typedef struct vortex_values {
@@ -436,6 +446,20 @@ uint8_t vortex_parquet_prune_pages(const uint8_t *footer, size_t footer_len, con
                                    uint64_t tail_begin, const uint8_t *text, size_t text_len, uint8_t flags,
                                    vortex_row_range *ranges, size_t ranges_len, vortex_span *unread, size_t unread_len,
                                    size_t *ranges_found, size_t *unread_found, vortex_fault *fault);
+
+/*
+ * The data pages of a Parquet file with the rows and the bytes of each, by the offset indexes among the bytes of `tail`, which
+ * are those of vortex_parquet_prune_pages. A page whose rows are all skipped needn't be read, and its `size` is saved.
+ *
+ * `pages` has at its front the pages of each column chunk whose offset index is among these bytes, of all columns: row group by
+ * row group, in each column by column, and in each by their rows. What stands behind stays as it was. *pages_found is how many
+ * there are, or with VORTEX_TOO_SHORT for how many there has to be room. It is written with VORTEX_OK and VORTEX_TOO_SHORT
+ * alone. Of several faults the first is told, in this order: the footer but for its row groups, the row groups and their offset
+ * indexes, and too little room.
+ */
+uint8_t vortex_parquet_data_pages(const uint8_t *footer, size_t footer_len, const uint8_t *tail, size_t tail_len,
+                                  uint64_t tail_begin, vortex_data_page *pages, size_t pages_len, size_t *pages_found,
+                                  vortex_fault *fault);
 
 #ifdef __cplusplus
 }

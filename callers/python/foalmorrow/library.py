@@ -246,6 +246,7 @@ def _load() -> ctypes.CDLL:
         "vortex_parquet_prune_pages": [
             byte, size, byte, size, c_uint64, byte, size, c_uint8, byte, size, byte, size, POINTER(size), POINTER(size), place,
         ],
+        "vortex_parquet_data_pages": [byte, size, byte, size, c_uint64, byte, size, POINTER(size), place],
     }
     for name, types in calls.items():
         call = getattr(loaded, name, None)

@@ -20,11 +20,12 @@ from typing import Any, BinaryIO
 from .answers import Answers
 from .footers import Footers
 from .kinds import Answer
-from .parquet_calls import TAIL, FooterFault, NotReadError, footer_length, indexes_begin, prune_footer, prune_pages
+from .parquet_calls import TAIL, FooterFault, NotReadError, data_pages, footer_length, indexes_begin, prune_footer, prune_pages
 from .parquet_footers import of_footer
+from .parquet_pages import DataPages
 from .sql import warn_of
 
-__all__ = ["File", "FooterFault", "NotReadError", "RowGroups", "RowRanges", "open"]
+__all__ = ["DataPages", "File", "FooterFault", "NotReadError", "RowGroups", "RowRanges", "open"]
 
 #: Returns the file for a while.
 _Opener = Callable[[], AbstractContextManager[BinaryIO]]
@@ -165,7 +166,16 @@ class File:
         told = prune_pages(self.footer, tail, begin, condition, last_names)
         words = [condition.encode()[start:end].decode() for start, end in told.unread]
         warn_of(words, stacklevel=2)
-        return RowRanges(Answers(told.codes, words, [(condition, told.unread)]), told.groups, told.firsts, told.ends)
+        return RowRanges(Answers(told.codes, words, [(condition, told.unread)]), told.groups, told.firsts, told.ends, self.data_pages)
+
+    def data_pages(self) -> DataPages:
+        """Returns the data pages of all columns with the rows and the bytes of each, as far as the offset indexes tell. A column chunk without an
+        offset index has none here.
+
+        It reads what ``prune_pages`` reads, and raises what that does of the footer and of the file.
+        """
+        begin, tail = self._tail()
+        return data_pages(self.footer, tail, begin)
 
     def _tail(self) -> tuple[int, bytes]:
         if self._before is None:
@@ -259,12 +269,16 @@ class RowRanges:
     <4 stretches of rows: 1 to be read, 2 skipped, 1 whole, 70 of 130 rows skipped>
     """
 
-    __slots__ = ("answers", "groups", "starts", "stops")
+    __slots__ = ("_pages", "_saved", "answers", "groups", "starts", "stops")
 
-    def __init__(self, answers: Answers, groups: Sequence[int], firsts: Sequence[int], ends: Sequence[int]):
+    def __init__(
+        self, answers: Answers, groups: Sequence[int], firsts: Sequence[int], ends: Sequence[int], pages: Callable[[], DataPages] | None = None
+    ):
         """Takes an answer for each stretch, its row group, its first row and the one behind its last, which are counted from the first of the row
-        group. The stretches of a row group are all its rows.
+        group. The stretches of a row group are all its rows. ``pages`` returns the data pages of the file, where they are known.
         """
+        self._pages = pages
+        self._saved: int | None = None
         #: An answer for each stretch.
         self.answers = answers
         #: The row group of each.
@@ -311,6 +325,18 @@ class RowRanges:
     def rows_skipped(self) -> int:
         """How many rows don't satisfy the condition by the statistics."""
         return sum(self.stops[place] - self.starts[place] for place in self.answers.skipped)
+
+    @property
+    def bytes_saved(self) -> int:
+        """How many bytes of the file the data pages take that have skipped rows alone, as far as the offset indexes tell: those of all columns, with
+        the headers of pages. The offset indexes are read when it is first asked for, and FooterFault tells of them.
+        """
+        if self._saved is None:
+            begins: dict[int, int] = {}
+            for group, start in zip(self.groups, self.starts):
+                begins.setdefault(group, start)
+            self._saved = self._pages().bytes_outside(self.ranges(), begins) if self._pages is not None else 0
+        return self._saved
 
     def ranges(self) -> list[tuple[int, int]]:
         """Returns the rows to fetch, counted through the file: the first of each run of them, and the one behind its last."""

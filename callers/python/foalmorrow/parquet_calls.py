@@ -8,6 +8,7 @@ from ctypes import Structure, c_size_t, c_uint8, c_uint64
 from typing import Any
 
 from .library import _LAST_NAME, _ROOM_UNREAD, CSpan, Fault, Status, _answered_sql, _encoded, _Lent, _library
+from .parquet_pages import DataPages
 from .parquet_values import ParquetFault
 from .sql import SqlError
 
@@ -15,6 +16,8 @@ from .sql import SqlError
 TAIL = 8
 #: The bytes of a footer for each of which a row group is taken into account at first, and those of page indexes for each of which a page is.
 _BYTES_A_GROUP, _BYTES_A_PAGE = 256, 16
+#: The bytes of page indexes for each of which a data page is taken into account at first: a location takes seven at least.
+_BYTES_A_LOCATION = 7
 
 #: The offset that is told where a footer names no page index.
 _NO_INDEXES = 2**64 - 1
@@ -70,6 +73,10 @@ class CRowGroup(Structure):
 
 class CRowRange(Structure):
     _fields_ = [("group", c_size_t), ("first", c_uint64), ("end", c_uint64), ("answer", c_uint8)]
+
+
+class CDataPage(Structure):
+    _fields_ = [("group", c_size_t), ("column", c_size_t), ("first", c_uint64), ("end", c_uint64), ("offset", c_uint64), ("size", c_uint64)]
 
 
 class Told:
@@ -153,6 +160,24 @@ def prune_pages(footer: bytes, tail: bytes, begin: int, condition: str, last_nam
         room, room_unread = max(room, found_len.value), max(room_unread, unread_len.value)
     _answered(status, fault, text)
     return ToldRanges(found, found_len.value, [(it.start, it.end) for it in unread[: unread_len.value]])
+
+
+def data_pages(footer: bytes, tail: bytes, begin: int) -> DataPages:
+    """Returns the data pages that the offset indexes tell among the bytes of the file from one on."""
+    lent, fault, found_len = _Lent(), Fault(), c_size_t()
+    given = (lent.at(footer), len(footer), lent.at(tail), len(tail), begin)
+    room = len(tail) // _BYTES_A_LOCATION + 1
+    while True:
+        found = (CDataPage * room)()
+        status = _library().vortex_parquet_data_pages(*given, found, room, ctypes.byref(found_len), ctypes.byref(fault))
+        if status != Status.TOO_SHORT:
+            break
+        room = found_len.value
+    _answered(status, fault, b"")
+    words = array("Q")
+    with memoryview(found).cast("B") as data:
+        words.frombytes(data[: found_len.value * ctypes.sizeof(CDataPage)])
+    return DataPages(*(words[place::6] for place in range(6)))
 
 
 def _answered(status: int, fault: Fault, text: bytes) -> None:

@@ -152,11 +152,23 @@ def _type(it: dict[int, Any]) -> DType | Logical:
         return DType.UTF8
     if physical == _BYTES and not newer and older is None:
         return DType.BINARY
+    if physical in (_BYTES, _FIXED) and _is_decimal(older, newer):
+        return _decimal(it, newer, 18)
     if physical == _FIXED and 14 in newer and it.get(2) == 16:
         return Uuid()
     if physical == _FIXED and not newer and older is None:
         return FixedBinary(it[2])
     return Unmapped(f"Parquet type {physical}")
+
+
+def _is_decimal(older: int | None, newer: dict[int, Any]) -> bool:
+    return 5 in newer or (not newer and older == 5)
+
+
+def _decimal(it: dict[int, Any], newer: dict[int, Any], most: int) -> Logical:
+    """Returns the type of decimals of so many digits at most, by their element of the schema."""
+    scale, precision = (newer[5].get(1, 0), newer[5][2]) if 5 in newer else (it.get(7, 0), it[8])
+    return Decimal(precision, scale) if 1 <= precision <= most and 0 <= scale <= precision else Unmapped("decimal")
 
 
 def _whole(it: dict[int, Any], physical: int, older: int | None, newer: dict[int, Any]) -> DType | Logical:
@@ -168,9 +180,8 @@ def _whole(it: dict[int, Any], physical: int, older: int | None, newer: dict[int
         return _WHOLE[older] if (_WHOLE[older].width == 8) == (physical == _INT64) else Unmapped("whole number")
     if not newer and older is None:
         return own
-    if 5 in newer or (not newer and older == 5):
-        scale, precision = (newer[5].get(1, 0), newer[5][2]) if 5 in newer else (it.get(7, 0), it[8])
-        return Decimal(precision, scale) if 1 <= precision <= (9 if physical == _INT32 else 18) and 0 <= scale <= precision else Unmapped("decimal")
+    if _is_decimal(older, newer):
+        return _decimal(it, newer, 9 if physical == _INT32 else 18)
     if physical == _INT32 and (6 in newer or (not newer and older == 6)):
         return Date()
     if 8 in newer or (not newer and older in (9, 10)):
@@ -221,6 +232,10 @@ def _bound(leaf: _Leaf, told: bytes | None, exact: bool) -> Bound | None:
         (value,) = struct.unpack("<f" if width == 4 else "<d", told)
         kind = floats.SINGLE if width == 4 else floats.DOUBLE
         return None if value != value else Bound(kind.number(value), exact and value != 0)
+    if leaf.physical in (_BYTES, _FIXED) and isinstance(leaf.column.logical, Decimal):
+        # A number that doesn't fit 64 bits bounds nothing that the type has, and no bytes are no number.
+        number = int.from_bytes(told, "big", signed=True)
+        return Bound(number, exact) if told and -(2**63) <= number < 2**63 else None
     if dtype.range is not None:
         number = int.from_bytes(told, "little", signed=dtype >= DType.I8)
         if not dtype.range[0] <= number <= dtype.range[1]:

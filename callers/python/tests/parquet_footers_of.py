@@ -11,25 +11,39 @@ from tests.systems.parquet_writer import Raw, thrift
 
 Row = Mapping[str, Any]
 
-INT32, INT64, BYTES, BOOLEAN = 1, 2, 6, 0
+INT32, INT64, BYTES, FIXED, BOOLEAN = 1, 2, 6, 7, 0
+#: The newer annotation of decimals of 18 digits, none of them behind the point.
+DECIMAL = b"\x15\0\x15\x24\0"
 #: Of whole numbers the physical type, the older annotation and the newer one.
 NUMBERS = [
     (INT32, None, None), (INT64, None, None), (INT32, 15, None), (INT32, 16, None), (INT64, 18, None), (INT32, None, b"\x13\x08\x11\0"), (INT32, 15, b"\x13\x20\x11\0"),
-    (INT32, 11, b"\x13\x08\x11\0"), (INT64, None, b"\x13\x40\x11\0"),
+    (INT32, 11, b"\x13\x08\x11\0"), (INT64, None, b"\x13\x40\x11\0"), (BYTES, 5, None), (FIXED, 5, None), (BYTES, None, DECIMAL), (FIXED, 5, DECIMAL),
 ]
 
 
 class Column:
     """A column of the first level: how its values are written, and whether the older bounds are in their order."""
 
-    def __init__(self, name: str, physical: int, older: int | None, newer: tuple[int, bytes] | None, plain: Callable[[Any], bytes], is_signed: bool):
-        self.name, self.physical, self.older, self.newer, self.plain, self.is_signed = name, physical, older, newer, plain, is_signed
+    def __init__(
+        self, name: str, physical: int, older: int | None, newer: tuple[int, bytes] | None, plain: Callable[[Any], bytes], is_signed: bool, length: int | None = None
+    ):
+        self.name, self.physical, self.older, self.newer, self.plain, self.is_signed, self.length = name, physical, older, newer, plain, is_signed, length
+        self.is_text = plain is str.encode
+        self.is_decimal = physical in (BYTES, FIXED) and not self.is_text
 
 
 def whole(name: str, kind: tuple[int, int | None, bytes | None]) -> Column:
     physical, older, newer = kind
+    if physical in (BYTES, FIXED):
+        length = None if physical == BYTES else 1 + 5 * (ord(name) % 4)
+        return Column(name, physical, older, None if newer is None else (5, newer), lambda it: decimal(it, length), False, length)
     code = "<i" if physical == INT32 else "<q"
     return Column(name, physical, older, None if newer is None else (10, newer), lambda it: struct.pack(code, it), True)
+
+
+def decimal(number: int, length: int | None) -> bytes:
+    """A decimal in two's complement, the highest byte first: in so many bytes, or in any number that holds it."""
+    return number.to_bytes(length or number.bit_length() // 8 + 1 + 4 * (number % 4), "big", signed=True)
 
 
 def columns(rng: random.Random) -> list[Column]:
@@ -82,7 +96,7 @@ def struct_of(*fields: tuple[int, object]) -> bytes:
 
 def element_of(it: Column) -> Raw:
     annotation = None if it.newer is None else Raw(thrift((it.newer[0], Raw(it.newer[1]))))
-    return Raw(struct_of((1, it.physical), (3, 1), (4, it.name.encode()), (6, it.older), (10, annotation)))
+    return Raw(struct_of((1, it.physical), (2, it.length), (3, 1), (4, it.name.encode()), (6, it.older), (8, 18 if it.is_decimal else None), (10, annotation)))
 
 
 def group_of(rows: Sequence[Row], made: Sequence[Column], is_ordered: bool, rng: random.Random, behind: Behind | None) -> bytes:
@@ -106,10 +120,13 @@ def statistics_of(it: Column, values: Sequence[Any], is_ordered: bool, rng: rand
     nulls = rng.choice([Wide(count), Wide(count), Wide(count), None, Wide(-1) if rng.random() < 0.1 else None])
     if not present:
         return [(3, nulls)]
-    order = str.encode if it.physical == BYTES else int
+    order = str.encode if it.is_text else int
     least, greatest = it.plain(min(present, key=order)), it.plain(max(present, key=order))
-    is_cut = it.physical == BYTES and rng.random() < 0.3
+    is_cut = it.is_text and rng.random() < 0.3
     newer = [greatest + b"~" if is_cut else greatest, least[:1] if is_cut and least[:1].isascii() else least]
+    if it.is_decimal and rng.random() < 0.2:
+        # Bounds that don't fit 64 bits are bounds all the same.
+        is_cut, newer = True, [rng.choice([greatest, decimal(2 ** rng.choice([63, 70]), 16)]), rng.choice([least, decimal(-(2**63) - rng.choice([1, 2**60]), 16)])]
     flags: list[tuple[int, object]] = [] if is_cut or rng.random() < 0.5 else [(7, rng.random() < 0.8), (8, rng.random() < 0.8)]
     # Without an order the newer bounds may be anything, and so may the older ones of values that aren't in the order of signed numbers.
     newer = newer if is_ordered else newer[::-1]

@@ -7,7 +7,7 @@ import struct
 from collections.abc import Sequence
 from typing import Any
 
-from tests.parquet_footers_of import BYTES, Column, Row, Wide, footer
+from tests.parquet_footers_of import Column, Row, Wide, footer
 from tests.systems.parquet_writer import varint
 
 I32, I64, BINARY, LIST, STRUCT = 5, 6, 8, 9, 12
@@ -86,8 +86,8 @@ def bounds(it: Column, present: Sequence[Any], is_ordered: bool, rng: random.Ran
     """The bounds of a page as they are written; of a page of nulls, and without an order, they may be anything."""
     if not present:
         return rng.choice([(b"", b""), (b"\x01\0\0\0", b"\x02\0\0\0"), (b"zz", b"a")])
-    order = str.encode if it.physical == BYTES else int
+    order = str.encode if it.is_text else int
     low, high = it.plain(min(present, key=order)), it.plain(max(present, key=order))
-    if it.physical == BYTES and rng.random() < 0.3:
+    if it.is_text and rng.random() < 0.3:
         low, high = low[:1] if low[:1].isascii() else low, high + b"~"
     return (low, high) if is_ordered else (high, low)

@@ -14,7 +14,7 @@ from typing import Any
 from hypothesis import given, settings
 from hypothesis import strategies as st
 
-from foalmorrow import Answer, Footers, SqlError, UnreadWarning, parquet
+from foalmorrow import Answer, Answers, Footers, SqlError, UnreadWarning, parquet
 from foalmorrow.parquet_calls import CRowGroup, CRowRange, _columns, indexes_begin
 from foalmorrow.parquet_values import ParquetFault
 from foalmorrow.thrift_compact import Thrift
@@ -24,6 +24,8 @@ from tests.systems.parquet_writer import Raw, thrift
 from tests.test_sql import CONDITIONS, Condition, Row, zones
 
 SEED = int(os.environ.get("FOALMORROW_SEED", "1"))
+#: How many files and conditions are drawn; 20000 for the count of a release.
+EXAMPLES = int(os.environ.get("FOALMORROW_EXAMPLES", "3000"))
 
 
 def quietly(file: parquet.File, condition: str, **options: Any) -> parquet.RowGroups:
@@ -43,7 +45,7 @@ def footers_of(file: parquet.File) -> Footers | None:
 
 
 class BesideAModel(unittest.TestCase):
-    @settings(max_examples=3000, deadline=None)
+    @settings(max_examples=EXAMPLES, deadline=None)
     @given(CONDITIONS, zones(), st.integers(0, 2**32))
     def test_no_row_is_lost(self, wanted: Condition, groups: list[list[Row]], dice: int) -> None:
         file = parquet.open(file_of(footer(groups, random.Random(dice))))
@@ -58,7 +60,7 @@ class BesideAModel(unittest.TestCase):
         starts = [sum(map(len, groups[:place])) for place in range(len(groups))]
         self.assertEqual(inside, {row for place in found.kept for row in range(starts[place], starts[place] + len(groups[place]))})
 
-    @settings(max_examples=1000, deadline=None)
+    @settings(max_examples=EXAMPLES // 3, deadline=None)
     @given(CONDITIONS, zones(), st.integers(0, 2**32))
     def test_no_row_is_lost_by_footers(self, wanted: Condition, groups: list[list[Row]], dice: int) -> None:
         file = parquet.File(footer(groups, random.Random(dice)))
@@ -113,7 +115,7 @@ def place_of(offset: int | None) -> Wide | None:
 
 
 class PagesBesideAModel(unittest.TestCase):
-    @settings(max_examples=3000, deadline=None)
+    @settings(max_examples=EXAMPLES, deadline=None)
     @given(CONDITIONS, st.lists(zones(), min_size=1, max_size=3), st.integers(0, 2**32))
     def test_no_row_is_lost(self, wanted: Condition, drawn: list[list[list[Row]]], dice: int) -> None:
         groups = [[row for zone in zones for row in zone] for zones in drawn]
@@ -153,6 +155,79 @@ def named_indexes(data: bytes) -> list[int]:
     return [chunk[number] for group in groups for chunk in group[1] for number in (4, 6) if chunk.get(number, -1) >= 0]
 
 
+def named_pages(data: bytes) -> list[tuple[int, ...]]:
+    """The data pages of a file by the offset indexes that its footer names, by a decoder of another make."""
+    found = []
+    for place, group in enumerate(Thrift(parquet.open(data).footer).struct()[4]):
+        for column, chunk in enumerate(group[1]):
+            if chunk.get(4) is None or chunk.get(5) is None:
+                continue
+            locations = Thrift(data[chunk[4] : chunk[4] + chunk[5]]).struct()[1]
+            ends = [*(it[3] for it in locations[1:]), group[3]]
+            # A row group without rows has no page.
+            found += [(place, column, it[3], end, it[1], it[2]) for it, end in zip(locations, ends[: len(locations)], strict=True)]
+    return found
+
+
+class DataPagesBesideAModel(unittest.TestCase):
+    @settings(max_examples=EXAMPLES, deadline=None)
+    @given(CONDITIONS, st.lists(zones(), min_size=1, max_size=3), st.integers(0, 2**32))
+    def test_bytes_saved_are_those_of_pages_of_skipped_rows(self, wanted: Condition, drawn: list[list[list[Row]]], dice: int) -> None:
+        groups = [[row for zone in zones for row in zone] for zones in drawn]
+        data = bytes(PagedFile(groups, random.Random(dice)).data)
+        file = parquet.open(data)
+        pages, told = file.data_pages(), named_pages(data)
+        self.assertEqual(list(zip(pages.groups, pages.columns, pages.firsts, pages.ends, pages.offsets, pages.sizes)), told)
+        found = pages_quietly(file, wanted.text)
+        skipped = [answer == Answer.SKIP for start, stop, answer in found for _ in range(start, stop)]
+        starts = [sum(map(len, groups[:place])) for place in range(len(groups))]
+        saved = sum(size for group, _, first, end, _, size in told if all(skipped[starts[group] + first : starts[group] + end]))
+        self.assertEqual(found.bytes_saved, saved)
+        self.assertEqual(found.bytes_saved, saved)
+
+    def test_some_bytes_are_saved(self) -> None:
+        groups = [[row(n=number) for number in range(40)], [], [row(n=number) for number in range(40, 60)]]
+        saved = whole = 0
+        for dice in range(200):
+            data = bytes(PagedFile(groups, random.Random(SEED + dice)).data)
+            saved += pages_quietly(parquet.open(data), "n < 10").bytes_saved
+            whole += sum(size for *_, size in named_pages(data))
+        # Of 60 rows 10 are kept at least, where the column has an index.
+        self.assertGreater(saved, whole // 10)
+        self.assertLess(saved, whole * 5 // 6)
+
+    def test_a_file_without_indexes_saves_no_data_pages(self) -> None:
+        file = parquet.open(file_of(footer([[row(n=1), row(n=3)], [row(n=7)]], random.Random(2))))
+        self.assertEqual((len(file.data_pages()), pages_quietly(file, "n > 5").bytes_saved), (0, 0))
+        self.assertEqual(parquet.RowRanges(Answers([0]), [0], [0], [5]).bytes_saved, 0)
+
+    def test_faults_of_offset_indexes_are_named(self) -> None:
+        groups = [[row(n=number) for number in range(20)]]
+        names, answers = set(), 0
+        for dice in range(20):
+            it = PagedFile(groups, random.Random(SEED + dice))
+            for place in range(it.begin, it.end):
+                data = bytearray(it.data)
+                data[place] ^= 1 << dice % 8
+                try:
+                    pages = parquet.open(bytes(data)).data_pages()
+                except parquet.FooterFault as fault:
+                    names.add(fault.fault)
+                else:
+                    answers += 1
+                    self.assertTrue(all(first < end <= 20 for first, end in zip(pages.firsts, pages.ends, strict=True)))
+        self.assertLessEqual({"PAGES", "SHORT", "KIND"}, names)
+        self.assertGreater(answers, 100)
+
+    def test_other_columns_than_the_schema_has(self) -> None:
+        group = struct_of((1, []), (3, Wide(1)))
+        data = struct_of((2, [Raw(struct_of((4, b"root"), (5, 1))), Raw(struct_of((1, 1), (3, 1), (4, b"n")))]), (4, [Raw(group)]))
+        for bad, fault in ((b"", "SHORT"), (data, "COLUMNS")):
+            with self.assertRaises(parquet.FooterFault) as told:
+                parquet.File(bad).data_pages()
+            self.assertEqual(told.exception.fault, fault)
+
+
 class Records(unittest.TestCase):
     @given(st.sampled_from([CRowGroup, CRowRange]), st.lists(st.lists(st.integers(0, 2**64 - 1), min_size=4, max_size=4), max_size=20), st.integers(0, 3))
     def test_records_become_columns(self, kind: type[CRowGroup | CRowRange], rows: list[list[int]], room: int) -> None:
@@ -164,14 +239,14 @@ class Records(unittest.TestCase):
 
 
 class WhereIndexesBegin(unittest.TestCase):
-    @settings(max_examples=1000, deadline=None)
+    @settings(max_examples=EXAMPLES // 3, deadline=None)
     @given(st.lists(zones(), max_size=3), st.integers(0, 2**32))
     def test_no_named_index_is_passed_over(self, drawn: list[list[list[Row]]], dice: int) -> None:
         groups = [[row for zone in zones for row in zone] for zones in drawn]
         data = parquet.open(bytes(PagedFile(groups, random.Random(dice)).data)).footer
         self.assertEqual(indexes_begin(data), min(named_indexes(data), default=None))
 
-    @settings(max_examples=1000, deadline=None)
+    @settings(max_examples=EXAMPLES // 3, deadline=None)
     @given(st.lists(st.lists(st.tuples(OFFSETS, OFFSETS), max_size=4), max_size=4))
     def test_any_offset_may_be_named(self, drawn: list[list[tuple[int | None, int | None]]]) -> None:
         chunks = [[Raw(struct_of((4, place_of(first)), (6, place_of(second)))) for first, second in group] for group in drawn]

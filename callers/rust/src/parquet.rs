@@ -31,7 +31,9 @@ use std::io::{self, Read, Seek, SeekFrom};
 use std::ops::Range;
 use std::path::Path;
 
+mod data_pages;
 mod pages;
+pub use data_pages::DataPage;
 pub use pages::{RowRange, RowRanges};
 
 /// Behind the footer of a file stand its length and a mark.

@@ -67,6 +67,18 @@ pub struct RowRange {
     pub answer: u8,
 }
 
+/// `vortex_data_page`.
+#[repr(C)]
+#[derive(Clone, Copy, Debug, Default)]
+pub struct DataPage {
+    pub group: usize,
+    pub column: usize,
+    pub first: u64,
+    pub end: u64,
+    pub offset: u64,
+    pub size: u64,
+}
+
 /// `vortex_values`, whose arrays are lent for `'a`.
 #[repr(C)]
 #[derive(Clone, Copy, Debug)]
@@ -225,6 +237,18 @@ unsafe extern "C" {
     ) -> u8;
 
     pub fn vortex_parquet_indexes(footer: *const u8, footer_len: usize, begin: *mut u64, fault: *mut Fault) -> u8;
+
+    pub fn vortex_parquet_data_pages(
+        footer: *const u8,
+        footer_len: usize,
+        tail: *const u8,
+        tail_len: usize,
+        tail_begin: u64,
+        pages: *mut DataPage,
+        pages_len: usize,
+        pages_found: *mut usize,
+        fault: *mut Fault,
+    ) -> u8;
 
     pub fn vortex_parquet_prune_pages(
         footer: *const u8,

@@ -1,6 +1,6 @@
 // SPDX-License-Identifier: Apache-2.0
 //! Rows of Parquet files by conditions in SQL, beside a direct filter of the rows of which the page indexes were written.
-use foalmorrow::parquet::{Error, Footer, FooterFault, RowRange, RowRanges};
+use foalmorrow::parquet::{DataPage, Error, Footer, FooterFault, RowRange, RowRanges};
 use foalmorrow::{Answer, Names};
 use std::io::{Cursor, Read, Result as IoResult, Seek, SeekFrom};
 
@@ -17,6 +17,8 @@ struct File {
     footer: usize,
     /// For each row group the first row of each page of both columns, where both indexes are named, and else 0 alone.
     firsts: Vec<[Vec<usize>; 2]>,
+    /// The data pages of each column chunk whose offset index is named.
+    pages: Vec<DataPage>,
 }
 
 // The least and the greatest value of a column, as they are written.
@@ -40,8 +42,8 @@ fn written(value: thrift::Value) -> Vec<u8> {
     out
 }
 
-// The column index and the offset index of pages of a column.
-fn indexes(pages: &[&[Row]], column: usize, dice: &mut Dice) -> (Vec<u8>, Vec<u8>) {
+// The column index and the offset index of pages of a column, and how many bytes each page takes.
+fn indexes(pages: &[&[Row]], column: usize, dice: &mut Dice) -> (Vec<u8>, Vec<u8>, Vec<u64>) {
     let ends: Vec<_> = pages.iter().map(|rows| ends(rows, column)).collect();
     // A page of nulls has no bounds, whatever stands in their places.
     let junk = || (b"zz".to_vec(), b"a".to_vec());
@@ -52,18 +54,20 @@ fn indexes(pages: &[&[Row]], column: usize, dice: &mut Dice) -> (Vec<u8>, Vec<u8
         (4, Short(0)),
         (5, List(pages.iter().map(|rows| Number(nulls(rows, column))).collect())),
     ]);
+    let sizes: Vec<u64> = pages.iter().map(|_| 1 + dice.roll(100)).collect();
     let mut first = 0;
-    let location = |rows: &&[Row]| {
-        let found = Fields(vec![(1, Number(4)), (2, Short(1 + dice.roll(100) as i64)), (3, Number(first))]);
+    let location = |(rows, size): (&&[Row], &u64)| {
+        let found = Fields(vec![(1, Number(4)), (2, Short(*size as i64)), (3, Number(first))]);
         first += rows.len() as i64;
         found
     };
-    (written(column_index), written(Fields(vec![(1, List(pages.iter().map(location).collect()))])))
+    let locations = pages.iter().zip(&sizes).map(location).collect();
+    (written(column_index), written(Fields(vec![(1, List(locations))])), sizes)
 }
 
 impl File {
     fn of(groups: &[Vec<Row>], dice: &mut Dice) -> File {
-        let mut it = File { bytes: b"PAR1".to_vec(), begin: None, footer: 0, firsts: vec![] };
+        let mut it = File { bytes: b"PAR1".to_vec(), begin: None, footer: 0, firsts: vec![], pages: vec![] };
         it.bytes.extend((0..dice.roll(40)).map(|_| 7));
         let told = groups.iter().map(|rows| it.group(rows, dice)).collect();
         let element = |name: &str, fields: Vec<(u8, thrift::Value)>| {
@@ -97,7 +101,7 @@ impl File {
         let cuts: Vec<usize> = (0..rows.len()).filter(|at| *at == 0 || dice.roll(3) == 0).collect();
         let stops = cuts.iter().skip(1).copied().chain([rows.len()]);
         let pages: Vec<&[Row]> = cuts.iter().zip(stops).map(|(start, stop)| &rows[*start..stop]).collect();
-        let (column_index, offset_index) = indexes(&pages, column, dice);
+        let (column_index, offset_index, sizes) = indexes(&pages, column, dice);
         let mut stats = vec![(3, Number(nulls(rows, column)))];
         if let Some((least, greatest)) = ends(rows, column) {
             stats.extend([(5, Bytes(greatest)), (6, Bytes(least))]);
@@ -107,6 +111,15 @@ impl File {
             [(true, true), (true, true), (true, false), (false, true), (false, false)][dice.roll(5) as usize];
         if has_offsets {
             fields.extend(self.put(offset_index, 4));
+            let ends = cuts.iter().skip(1).copied().chain([rows.len()]);
+            let group = self.firsts.len();
+            self.pages.extend(cuts.iter().zip(ends).zip(sizes).map(|((start, end), size)| DataPage {
+                group,
+                column,
+                rows: *start as u64..end as u64,
+                offset: 4,
+                size,
+            }));
         }
         if has_columns {
             fields.extend(self.put(column_index, 6));
@@ -160,7 +173,7 @@ impl Seek for Counted<'_> {
 #[test]
 fn random_conditions_lose_no_row() {
     let mut dice = Dice(88_172_645_463_325_252);
-    let mut seen = [0_usize; 3];
+    let (mut seen, mut saves) = ([0_usize; 3], 0_usize);
     for _ in 0..5_000 {
         let groups: Vec<Vec<Row>> =
             (0..1 + dice.roll(3)).map(|_| (0..dice.roll(4)).flat_map(|_| dice.rows()).collect()).collect();
@@ -200,7 +213,19 @@ fn random_conditions_lose_no_row() {
         kept.dedup();
         assert_eq!(found.kept_groups().collect::<Vec<_>>(), kept);
         assert_eq!(found.unread.len(), condition.text.matches("f(").count());
+        let pages = file.footer().data_pages(Cursor::new(&file.bytes)).unwrap();
+        assert_eq!(pages, file.pages);
+        let is_skipped =
+            |page: &&DataPage| page.rows.clone().all(|row| !wanted.contains(&(start_of(page.group) + row)));
+        let saved: u64 = pages.iter().filter(is_skipped).map(|page| page.size).sum();
+        assert_eq!(found.bytes_saved(&pages), saved);
+        assert_eq!(
+            found.bytes_saved(pages.iter().filter(|page| page.column == 1)),
+            pages.iter().filter(is_skipped).filter(|page| page.column == 1).map(|page| page.size).sum()
+        );
+        saves += usize::from(saved > 0);
     }
+    assert!(saves > 500, "{saves}");
     assert!(seen.iter().all(|count| *count > 1_000), "{seen:?}");
 }
 
@@ -285,6 +310,29 @@ fn each_byte_of_page_indexes_may_be_any_other() {
         }
     }
     assert!(faults.contains(&FooterFault::Pages) && faults.contains(&FooterFault::Short));
+}
+
+#[test]
+fn faults_of_offset_indexes_are_named() {
+    let mut dice = Dice(9);
+    let mut faults = Vec::new();
+    for _ in 0..3 {
+        let file = File::of(&[numbered(0..9)], &mut dice);
+        let footer = file.footer();
+        for place in file.begin.unwrap_or(file.footer)..file.footer {
+            for byte in 0..=255 {
+                let mut bytes = file.bytes.clone();
+                bytes[place] = byte;
+                match footer.data_pages(Cursor::new(&bytes)) {
+                    Ok(pages) => assert!(pages.iter().all(|it| it.rows.start < it.rows.end && it.rows.end <= 9)),
+                    Err(Error::Footer(fault)) => faults.push(fault),
+                    Err(error) => panic!("{place}, {byte}: {error}"),
+                }
+            }
+        }
+        assert!(matches!(footer.data_pages(Cursor::new(b"PAR1")), Err(Error::Changed)));
+    }
+    assert!(faults.contains(&FooterFault::Pages));
 }
 
 #[test]

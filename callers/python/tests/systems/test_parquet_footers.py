@@ -20,6 +20,7 @@ KINDS = {
     "s": ("short", 1, None, (10, "16 with a sign")), "d": ("date", 1, 6, None), "at": ("timestamptz", 2, 10, None),
     "local": ("timestamp_ntz", 2, None, (8, "us, local")), "p": ("decimal(9,2)", 1, 5, None), "q": ("decimal(18,4)", 2, None, (5, "18, 4")),
     "x": ("double", 5, None, None), "y": ("float", 4, None, None), "t": ("string", 6, 0, None), "raw": ("binary", 6, None, None),
+    "f": ("decimal(9,2)", 7, 5, None), "v": ("decimal(18,4)", 6, None, (5, "18, 4")), "w": ("decimal(18,4)", 7, 5, (5, "18, 4")),
     "ok": ("boolean", 0, None, None), "u": ("uuid", 7, None, (14, "")), "odd": ("int96", 3, None, None),
 }
 SIGNED = {"n", "i", "b", "s", "d", "at", "local", "p", "q", "ok"}
@@ -41,8 +42,9 @@ def element(name: str) -> Raw:
             5: Raw(thrift((1, digits[1]), (2, digits[0])) if digits else b"\0"),
         }[newer[0]]
         logical = Raw(thrift((newer[0], inside)))
+    length = 16 if kind == "uuid" or name == "w" else 4 if physical == 7 else None
     scale = (7, digits[1] if digits else None), (8, digits[0] if digits else None)
-    return Raw(thrift((1, physical), (2, 16 if kind == "uuid" else None), (3, 1), (4, name.encode()), (6, older), *scale, (10, logical)))
+    return Raw(thrift((1, physical), (2, length), (3, 1), (4, name.encode()), (6, older), *scale, (10, logical)))
 
 
 def plain(name: str, value: object) -> bytes:
@@ -52,6 +54,10 @@ def plain(name: str, value: object) -> bytes:
         value = int(value.scaleb(int(kind[8:-1].split(",")[1])))
     if isinstance(value, (datetime.date, datetime.datetime)):
         value = order(value)
+    if physical in (6, 7) and kind.startswith("decimal"):
+        # In two's complement, the highest byte first: in as few bytes as hold it, or in as many as the column has.
+        width = value.bit_length() // 8 + 1 if physical == 6 else 16 if name == "w" else 4
+        return value.to_bytes(width, "big", signed=True)
     if physical in (4, 5):
         return struct.pack("<f" if physical == 4 else "<d", value)
     if physical in (1, 2):
@@ -144,7 +150,7 @@ class Files(TableTests):
         path.write_bytes(Writer(random.Random(1), list(KINDS)).file([[]]))
         words = [column.word for column in parquet_footers.read(path).columns]
         wanted = ["i64", "i32", "i8", "u8", "u64", "i16", "date", "timestamp[us, UTC]", "timestamp[us]", "decimal(9, 2)", "decimal(18, 4)", "float64"]
-        wanted += ["float32", "utf8", "binary", "bool", "uuid", "unmapped(Parquet type 3)"]
+        wanted += ["float32", "utf8", "binary", "decimal(9, 2)", "decimal(18, 4)", "decimal(18, 4)", "bool", "uuid", "unmapped(Parquet type 3)"]
         self.assertEqual(words, [f"{word}?" for word in wanted])
 
     def test_bounds_by_another_order(self) -> None:
@@ -152,6 +158,19 @@ class Files(TableTests):
         self.assertEqual(self.told("t", (1, b"a"), (2, "é".encode()), (3, 0)), [(("t", Stat.NULL_COUNT), 0)])
         self.assertEqual(self.told("u8", (1, plain("u8", 1)), (2, plain("u8", 200))), [])
         self.assertEqual(dict(self.told("n", (1, plain("n", 5)), (2, plain("n", -5)))), {("n", Stat.MIN): -5, ("n", Stat.MAX): 5})
+
+    def test_decimals_in_bytes(self) -> None:
+        def told(*bounds: bytes, is_ordered: bool = True) -> dict:
+            found = self.told("v", (5, bounds[1]), (6, bounds[0]), is_ordered=is_ordered)
+            return {key: int(value.scaleb(4)) for key, value in found}
+
+        self.assertEqual(told(b"\xff\x38", b"\x01\x2c"), {("v", Stat.MIN): -200, ("v", Stat.MAX): 300})
+        self.assertEqual(told(b"\xff" * 15 + b"\x9c", bytes(15) + b"\x05"), {("v", Stat.MIN): -100, ("v", Stat.MAX): 5})
+        self.assertEqual(told(b"\xff\x7f" + b"\xff" * 7, b"\0\x7f" + b"\xff" * 7), {("v", Stat.MAX): 2**63 - 1})
+        self.assertEqual(told(b"", b"\0\x80" + bytes(7)), {})
+        # Without an order, and of the older bounds, nothing is known: they may have been compared byte by byte.
+        self.assertEqual(told(b"\xff\x38", b"\x01\x2c", is_ordered=False), {})
+        self.assertEqual(self.told("v", (1, b"\x01"), (2, b"\xff"), is_ordered=True), [])
 
     def test_text_that_is_cut_within_a_character(self) -> None:
         self.assertEqual(dict(self.told("t", (5, b"z"), (6, "é".encode()[:1]), is_ordered=True)), {("t", Stat.MAX): "z"})

@@ -64,7 +64,7 @@ def _value(protocol: Any, kind: int) -> Any:
     return read[kind]()
 
 
-I32, I64, TEXT, STRUCT, LIST, TRUTH = 8, 10, 11, 12, 15, 2
+BYTE, I32, I64, TEXT, STRUCT, LIST, TRUTH = 3, 8, 10, 11, 12, 15, 2
 
 
 def groups_of(told: dict[Any, Any]) -> list[dict[Any, Any]]:
@@ -80,16 +80,27 @@ def greatest(told: dict[Any, Any], group: dict[Any, Any], name: bytes) -> int | 
     if meta is None or meta.get((1, I32)) != element[1, I32] or (12, STRUCT) not in meta:
         return None
     statistics = meta[12, STRUCT]
-    orders = told.get((7, LIST), (STRUCT, []))[1]
-    newer = element.get((10, STRUCT), {}).get((10, STRUCT), {})
-    is_unsigned = newer.get((2, TRUTH)) is False or (not newer and element.get((6, I32)) in (11, 12, 13, 14))
-    is_ordered = place < len(orders) and (1, STRUCT) in orders[place]
+    kind, orders = told.get((7, LIST), (STRUCT, []))
+    newer, older = element.get((10, STRUCT), {}).get((10, STRUCT), {}), element.get((6, I32))
+    is_unsigned = newer.get((2, TRUTH)) is False or (not newer and older in (11, 12, 13, 14))
+    is_ordered = kind == STRUCT and place < len(orders) and (1, STRUCT) in orders[place]
     bytes_of = statistics.get((5, TEXT)) if is_ordered else None
-    if bytes_of is None and not is_unsigned:
+    is_decimal = element[1, I32] in (6, 7)
+    if bytes_of is None and not is_unsigned and not is_decimal:
         bytes_of = statistics.get((1, TEXT))
-    if bytes_of is None or len(bytes_of) != (4 if element[1, I32] == 1 else 8):
+    if bytes_of is None or (not bytes_of if is_decimal else len(bytes_of) != (4 if element[1, I32] == 1 else 8)):
         return None
-    return int.from_bytes(bytes_of, "little", signed=not is_unsigned)
+    number = int.from_bytes(bytes_of, "big" if is_decimal else "little", signed=not is_unsigned)
+    bits = newer.get((1, BYTE)) or {11: 8, 12: 16, 13: 32, 15: 8, 16: 16, 17: 32}.get(0 if newer else older, 32 if element[1, I32] == 1 else 64)
+    # One that isn't of the column's type bounds nothing.
+    return number if -(2 ** (bits - 1)) <= number < 2 ** (bits - 1) or (is_unsigned and 0 <= number < 2**bits) else None
+
+
+def all_null(told: dict[Any, Any], group: dict[Any, Any], name: bytes) -> bool:
+    """Whether the statistics say of a column of a row group that each row is null."""
+    place = [it[4, TEXT] for it in told[2, LIST][1][1:]].index(name)
+    meta = group[1, LIST][1][place].get((3, STRUCT), {})
+    return meta.get((12, STRUCT), {}).get((3, I64)) == group[3, I64]
 
 
 def rows_of(rng: random.Random) -> list[dict[str, Any]]:
@@ -121,9 +132,10 @@ class BesideThrift(unittest.TestCase):
 
     def test_changed_footers(self) -> None:
         rng = random.Random(SEED + 1)
-        answered = 0
+        answered = compared = 0
         for _ in range(FOOTERS):
             whole = footer([rows_of(rng) for _ in range(rng.randrange(1, 4))], rng)
+            schema = decoded(whole)[2, LIST]
             for _ in range(CHANGES):
                 data = bytearray(whole)
                 for _ in range(rng.randrange(1, 3)):
@@ -140,7 +152,24 @@ class BesideThrift(unittest.TestCase):
                     continue
                 answered += 1
                 self.same_groups(found, told)
+                compared += told.get((2, LIST)) == schema and self.same_bounds(bytes(data), told, rng.randrange(12))
+        print(f"parquet: {answered} of {FOOTERS * CHANGES} changed footers are read, and the bounds of {compared} row groups are compared")
         self.assertGreater(answered, FOOTERS)
+        self.assertGreater(compared, FOOTERS)
+
+    def same_bounds(self, data: bytes, told: dict[Any, Any], limit: int) -> int:
+        """Compares what is done with row groups by the greatest number of a column, and returns how many have one that isn't told to be all null."""
+        try:
+            found = pruned(data, f"n > {limit}")
+        except ParquetFault:
+            return 0
+        compared = 0
+        for answer, group in zip(found, groups_of(told), strict=True):
+            bound = greatest(told, group, b"n")
+            if bound is not None and not all_null(told, group, b"n"):
+                self.assertEqual(answer == Answer.SKIP, bound <= limit, (data, bound, limit))
+                compared += 1
+        return compared
 
     def same_groups(self, found: parquet.RowGroups, told: dict[Any, Any]) -> None:
         groups = groups_of(told)

@@ -12,7 +12,8 @@ from tests.systems.servers import postgres, postgres_folder
 
 SEED = int(os.environ.get("FOALMORROW_SEED", "1"))
 TEXTS = 20_000
-SHOW = os.environ.get("FOALMORROW_SQL_SHOW", str(pathlib.Path(__file__).resolve().parents[4] / "crates/vortex_sql_show/out/vortex_sql_show"))
+#: The program that prints conditions as they are read.
+PRINTER = os.environ.get("FOALMORROW_SQL_PRINTER", str(pathlib.Path(__file__).resolve().parents[4] / "crates/vortex_bench/out/vortex_bench"))
 
 MAKE = """
 CREATE TABLE t (k int, a int, b int, c boolean, d boolean, s text, u text);
@@ -129,10 +130,10 @@ class Texts:
 
 def shown(texts: list[str]) -> list[str]:
     """Returns each text as it is printed once it is read."""
-    found = subprocess.run([SHOW], input="".join(f"{text}\n" for text in texts).encode(), capture_output=True, check=True).stdout.decode()
-    lines = found.split("\n")[:-1]
-    assert len(lines) == len(texts), (len(lines), len(texts))
-    return lines
+    lines = "".join(f"{text}\n" for text in ["conditions", *texts])
+    *prints, count, end = subprocess.run([PRINTER], input=lines.encode(), capture_output=True, check=True).stdout.decode().split("\n")
+    assert (count, end) == (str(len(texts)), "") and len(prints) == len(texts), (count, len(prints), len(texts))
+    return prints
 
 
 #: Operands of each kind as they are printed.
@@ -172,7 +173,7 @@ def joined_printed(size: int, leaves: list[str]) -> list[list[str]]:
     return found
 
 
-@unittest.skipIf(not os.path.exists(SHOW), "the program that prints conditions isn't built: checks/build.py vortex_sql_show")
+@unittest.skipIf(not os.path.exists(PRINTER), "the program that prints conditions isn't built: checks/build.py vortex_bench")
 class Prints(unittest.TestCase):
     """Each condition up to a size is read from its print as itself: no two have the same print, and of each print the same is printed again."""
 
@@ -189,7 +190,7 @@ class Prints(unittest.TestCase):
 
 
 @unittest.skipIf(postgres_folder() is None, "PostgreSQL isn't installed: apt-get install postgresql")
-@unittest.skipIf(not os.path.exists(SHOW), "the program that prints conditions isn't built: checks/build.py vortex_sql_show")
+@unittest.skipIf(not os.path.exists(PRINTER), "the program that prints conditions isn't built: checks/build.py vortex_bench")
 class Conditions(unittest.TestCase):
     @classmethod
     def setUpClass(cls) -> None:

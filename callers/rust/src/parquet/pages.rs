@@ -80,7 +80,7 @@ impl Footer {
     }
 
     // Reads the bytes of the file from its first page index up to its footer, and tells at which byte they begin.
-    fn page_indexes(&self, mut source: impl Read + Seek) -> Result<(u64, Vec<u8>), Error> {
+    pub(super) fn page_indexes(&self, mut source: impl Read + Seek) -> Result<(u64, Vec<u8>), Error> {
         let size = source.seek(SeekFrom::End(0))?;
         let length = u32::try_from(self.bytes.len()).map_err(|_| Error::Footer(FooterFault::FooterLength))?;
         let end = size.checked_sub(u64::from(length) + TAIL as u64).ok_or(Error::Changed)?;
