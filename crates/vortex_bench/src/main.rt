@@ -1,10 +1,12 @@
-// Work for timing the layers: LIKE on a text that tempts a search to go back, comparisons, the
-// calls of a set of statistics, statistics of large columns, scans of many small parts, pruning of
-// many zones, and normal forms of long chains.
+// Work for timing the layers, and for judging how conditions are read: LIKE on a text that tempts a
+// search to go back, comparisons, the calls of a set of statistics, statistics of large columns,
+// scans of many small parts, pruning of many zones, normal forms of long chains, and the print of
+// conditions.
 #![tactic(auto)]
 
 mod arrays;
 mod chosen;
+mod conditions;
 mod made;
 mod measures;
 mod normal;
@@ -101,16 +103,21 @@ fn count(alloc: Global, name: &str, length: u32) -> Result<usize> {
     }
 }
 
-// Runs the workload that standard input names, with a length behind the name where it has one, and
-// prints what it counted.
+// Runs the workload that the first line of standard input names, with a length behind the name
+// where it has one, and prints what it counted. `conditions` prints the lines behind it as they are
+// read.
 fn main(rt: HostRuntime) -> Result<()> {
     let alloc = rt.alloc();
-    let mut line = String::new(alloc);
-    rt.reader().read_to_string(&mut line)?;
-    let mut words = line.as_str().split_whitespace();
+    let mut text = String::new(alloc);
+    rt.reader().read_to_string(&mut text)?;
+    let mut lines = text.as_str().lines();
+    let mut words = lines.next().unwrap_or("").split_whitespace();
     let name = words.next().unwrap_or("");
     let length = words.next().unwrap_or("").parse().unwrap_or(0);
-    let count = count(alloc, name, length)?;
+    let count = match name {
+        "conditions" => conditions::print_all(&rt, lines)?,
+        _ => count(alloc, name, length)?,
+    };
     println!(rt; "{count}")?;
     Ok(())
 }
