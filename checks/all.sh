@@ -47,6 +47,6 @@ check "packages of what is built" checks/release.sh --built
 check "real systems" checks/systems.sh
 check "pruning beside an ideal and PostgreSQL" checks/power.py
 check "refused growths of the program" checks/refused-growths.py
-check "refused growths of tests" checks/refused-growths-of-tests.py "$@" vortex_stats_tests vortex_rewrite_tests vortex_prune_tests vortex_text_tests
+check "refused growths of tests" checks/refused-growths-of-tests.py "$@" vortex_base_tests vortex_rewrite_tests vortex_prune_tests vortex_text_tests
 echo "$passed passed, $failed failed"
 [ "$failed" -eq 0 ]

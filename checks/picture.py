@@ -117,7 +117,7 @@ def stands_on():
     found = {}
     for row in open("crates.txt", encoding="utf-8"):
         name, _, below = row.partition("#")[0].partition(":")
-        if below and not name.split()[0].endswith(("_tests", "_testing", "_bench", "_uses", "_own_rules")):
+        if below and not name.split()[0].endswith(("_tests", "_testing", "_bench", "_examples")):
             found[name.split()[0]] = below.split()
     return {name: [it for it in below if it in found] for name, below in found.items()}
 
@@ -139,8 +139,84 @@ def layers():
     return page(830, 30 + len(rows) * (height + 10), "The crates, each above those that it stands on", shapes)
 
 
+def flow(title, height, boxes, arrows):
+    """Boxes in columns of equal width, each at a column and a height with its lines, and arrows between them by their first lines."""
+    wide, columns = 176, 1 + max(it[0] for it in boxes)
+    step, places, shapes = wide + 46, {}, []
+    for column, y, lines in boxes:
+        h = 24 + 17 * len(lines)
+        places[lines[0]] = (20 + column * step, y, h)
+        shapes += box(20 + column * step, y, wide, h, lines)
+    for start, end in arrows:
+        (x1, y1, h1), (x2, y2, h2) = places[start], places[end]
+        if x1 == x2:
+            down = y1 < y2
+            shapes.append(to(x1 + wide / 2, y1 + h1 if down else y1, x2 + wide / 2, y2 - 2 if down else y2 + h2 + 2))
+        else:
+            shapes.append(to(x1 + wide, y1 + h1 / 2, x2 - 2, y2 + h2 / 2))
+    return page(20 + columns * step - 26, height, title, shapes)
+
+
+def zone_map():
+    """The way of statistics into a map of zones, and to the answer for each zone."""
+    boxes = [
+        (0, 20, ["chunk of columns", "StatsSet::of_column", "vortex_stats"]),
+        (0, 115, ["statistics one by one", "ZoneLog::put", "vortex_zone_log"]),
+        (0, 210, ["arrays of a caller", "batches", "vortex_calls"]),
+        (0, 305, ["bytes of a footer", "groups_of", "vortex_parquet"]),
+        (1, 20, ["Zone", "rows, a set a column", "vortex_prune"]),
+        (1, 305, ["row group", "map_of", "vortex_predicates"]),
+        (2, 162, ["ZoneMap", "a row a zone, a column", "a statistic", "vortex_prune"]),
+        (3, 20, ["falsifier, satisfier", "PruningPredicate", "vortex_predicates"]),
+        (3, 170, ["prune_by", "bound once, evaluated", "on 1,024 zones", "vortex_prune"]),
+        (4, 170, ["Verdict", "skipped, whole", "or tested", "a zone"]),
+    ]
+    arrows = [("chunk of columns", "Zone"), ("bytes of a footer", "row group"), ("Zone", "ZoneMap"), ("statistics one by one", "ZoneMap"), ("arrays of a caller", "ZoneMap"), ("row group", "ZoneMap")]
+    arrows += [("ZoneMap", "prune_by"), ("falsifier, satisfier", "prune_by"), ("prune_by", "Verdict")]
+    return flow("Statistics become a map of zones, and a verdict on each", 400, boxes, arrows)
+
+
+def scan_way():
+    """The way of a scan: proofs once, a verdict on each part, rows of the parts that are tested."""
+    boxes = [
+        (0, 20, ["predicate, rules", "plain, typed", "vortex_expr"]),
+        (0, 150, ["parts", "scan: a binder each", "scan_zones: a map", "scan_ranges: a chunk"]),
+        (1, 20, ["two proofs", "falsify, satisfy", "vortex_rewrite"]),
+        (2, 90, ["verdict on a part", "scan::by_binders", "scan::zones", "scan::ranges"]),
+        (3, 20, ["skipped", "no row is read", "scan::outcome"]),
+        (3, 115, ["whole", "all rows, untested", "scan::outcome"]),
+        (3, 210, ["tested", "1,024 rows together", "scan::select"]),
+        (4, 115, ["Scan", "selected rows, skipped", "and whole parts"]),
+    ]
+    arrows = [("predicate, rules", "two proofs"), ("two proofs", "verdict on a part"), ("parts", "verdict on a part")]
+    arrows += [("verdict on a part", it) for it in ("skipped", "whole", "tested")] + [(it, "Scan") for it in ("skipped", "whole", "tested")]
+    return flow("A scan proves once, judges each part, and tests the rows that are left", 310, boxes, arrows)
+
+
+def text_way():
+    """The way of a text through the program, from its bytes to the bytes of the answer."""
+    boxes = [
+        (0, 20, ["bytes", "Source", "vortex_text::streams"]),
+        (1, 20, ["lines", "OpenText", "vortex_text::open_text"]),
+        (2, 20, ["words", "statistics, rows, joins", "vortex_syntax"]),
+        (3, 20, ["DocumentParser", "a line after another", "document_parser"]),
+        (3, 140, ["columns, ZoneLog", "vortex_text::store", "vortex_zone_log"]),
+        (4, 20, ["bad line", "the first that isn't fine", "vortex_text::bad_line"]),
+        (2, 140, ["batches of zones", "scan_ranges_from", "vortex_prune"]),
+        (1, 140, ["selected rows", "whole before it is", "written"]),
+        (0, 140, ["answer", "Sink", "vortex_text::printing"]),
+    ]
+    placed = {it[2][0]: it for it in boxes}
+    shapes = [("bytes", "lines"), ("lines", "words"), ("words", "DocumentParser"), ("DocumentParser", "bad line"), ("DocumentParser", "columns, ZoneLog")]
+    drawn = flow("A text goes line by line into columns and statistics, and its scan becomes the answer", 240, boxes, shapes)
+    back = [("columns, ZoneLog", "batches of zones"), ("batches of zones", "selected rows"), ("selected rows", "answer")]
+    ends = [(20 + placed[a][0] * 222, 20 + placed[b][0] * 222 + 176) for a, b in back]
+    return drawn.replace("</svg>\n", "\n".join(to(x1, 177.5, x2 + 2, 177.5) for x1, x2 in ends) + "\n</svg>\n")
+
+
 def pictures():
-    return {f"{FOLDER}/pruning.svg": pruning(), f"{FOLDER}/way.svg": way(), f"{FOLDER}/layers.svg": layers()}
+    drawn = {"pruning": pruning, "way": way, "layers": layers, "zone_map": zone_map, "scan": scan_way, "text": text_way}
+    return {f"{FOLDER}/{name}.svg": draw() for name, draw in drawn.items()}
 
 
 def faults():

@@ -35,7 +35,7 @@ versions_agree() {
     grep -q "define VORTEX_VERSION $number\$" callers/c/vortex.h || fail "callers/c/vortex.h has another version than $version"
     grep -q "^## $version" CHANGELOG.md || fail "CHANGELOG.md tells nothing of $version"
     grep -qx "version: $version" CITATION.cff || fail "CITATION.cff has another version than $version"
-    grep -qF "const VERSION: &str = \"$version\";" crates/vortex_command/src/lib.rt || fail "the program has another version than $version"
+    grep -qF "const VERSION: &str = \"$version\";" crates/foalmorrow/src/command.rt || fail "the program has another version than $version"
 }
 
 # Proves and builds the library and the program where they aren't, and counts what is proved.

@@ -9,7 +9,7 @@ export PYTHONDONTWRITEBYTECODE=1 FOALMORROW_LIBRARY="${FOALMORROW_LIBRARY:-$PWD/
 
 [ -f "$FOALMORROW_LIBRARY" ] || checks/callers.sh --build > /dev/null || { echo "systems: the library isn't built; see checks/callers.sh"; exit 1; }
 # The program that prints conditions as they are read, which are compared with PostgreSQL.
-checks/build.py vortex_sql_show > /dev/null || { echo "systems: vortex_sql_show isn't built"; exit 1; }
+checks/build.py vortex_bench > /dev/null || { echo "systems: vortex_bench isn't built"; exit 1; }
 # Debian's packages of Dask and numpy are seen by Debian's own python3 alone.
 python=python3
 for found in python3 /usr/bin/python3; do
