@@ -14,13 +14,11 @@ fn printed(alloc: Global, text: &str) -> Result<String, AllocError> {
     }
 }
 
-/// Prints each line of a text as a condition is read. Returns how many there were.
-pub fn print_all(rt: &HostRuntime, lines: Lines<'_>) -> io::Result<usize> {
-    let mut count = 0;
+/// Prints each line of a text as a condition is read.
+pub fn print_all(rt: &HostRuntime, lines: Lines<'_>) -> io::Result<()> {
     for line in lines {
         let text = printed(rt.alloc(), line)?;
         println!(rt; "{text}")?;
-        count += 1;
     }
-    Ok(count)
+    Ok(())
 }

@@ -114,10 +114,11 @@ fn main(rt: HostRuntime) -> Result<()> {
     let mut words = lines.next().unwrap_or("").split_whitespace();
     let name = words.next().unwrap_or("");
     let length = words.next().unwrap_or("").parse().unwrap_or(0);
-    let count = match name {
-        "conditions" => conditions::print_all(&rt, lines)?,
-        _ => count(alloc, name, length)?,
-    };
+    if name == "conditions" {
+        conditions::print_all(&rt, lines)?;
+        return Ok(());
+    }
+    let count = count(alloc, name, length)?;
     println!(rt; "{count}")?;
     Ok(())
 }
