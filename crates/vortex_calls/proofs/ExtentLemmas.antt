@@ -1,4 +1,4 @@
--- The range of numbers that are read one after another.
+-- The range of values that are read one after another.
 use Rattle.std.proofs.Common.{◌≡◌, ℕ, ◌+◌, Bool, true, false, cond, not, ◌&&◌, ◌||◌, map, List, [], ◌∷◌, ◌++◌, Option, Some, None, Result, Ok, Err, refl, sym, ap, append_assoc, subst, ◌∙◌, ⊎_elim, arith}
 use Rattle.std.specs.Int.{from_bool}
 use Rattle.std.specs.Prelude.{Contains, IsTrue}
@@ -12,6 +12,9 @@ use Rattle.vortex_base.specs.declared.types.Nullability.{Nullability}
 use Rattle.vortex_base.specs.declared.types.PType.{PType}
 use Rattle.vortex_base.specs.declared.pvalue.PValue.{PValue}
 use Rattle.vortex_base.specs.declared.scalar_value.ScalarValue.{ScalarValue}
+use Rattle.vortex_base.specs.declared.value_ref.ValueRef.{ValueRef}
+use Rattle.vortex_base.specs.declared.value_ref.ValueRef.TheVariants as lent
+use Rattle.vortex_base.specs.Data.Cells.{value_of}
 use Rattle.vortex_base.specs.Data.Columns.{ColumnData, all_fit}
 use Rattle.vortex_base.specs.Data.Types.{allows_null, is_nullable}
 use Rattle.vortex_base.specs.Data.Values.{is_value, value_cmp}
@@ -37,13 +40,13 @@ use Rattle.vortex_calls.specs.declared.status.Status.{Status}
 use Rattle.vortex_calls.specs.declared.status.Status.TheVariants.{BadNull, BadValue}
 use Rattle.vortex_calls.specs.declared.values.Values.{Values}
 use Rattle.vortex_calls.specs.Encoding.{is_number, number_at, number_from, number_of}
-use Rattle.vortex_calls.specs.Extents.{HasRead, IsExtentOf, IsOptionalRangeOf, IsRangeOf, scalar_of}
+use Rattle.vortex_calls.specs.Extents.{HasRead, IsExtentOf, IsOptionalRangeOf, IsRangeOf, is_lent, scalar_of}
 use Rattle.vortex_calls.specs.Given.{fixed}
 use Rattle.vortex_calls.specs.Measures.{slots_in, slots_of}
 use Rattle.vortex_calls.specs.Slots.{slot_of}
 use Rattle.vortex_calls.specs.Statuses.{at_row}
 use Rattle.vortex_calls.specs.Types.{number_width}
-use Rattle.vortex_calls.specs.Values.{cell, cell_by, cells, column_of, is_null, read_column}
+use Rattle.vortex_calls.specs.Values.{cell, cell_by, cells, column_of, is_null, present_cell, read_column, value_at}
 use Rattle.vortex_calls.proofs.ReadLemmas.{followed_from, followed_read, reads_on}
 
 -- behind nulls alone there is no other value
@@ -62,10 +65,10 @@ from_not_false : (b : Bool) → not b ≡ false → b ≡ true
 from_not_false true e = refl
 from_not_false false e = sym e
 
-module _ {N : Type 0} (number : N → PValue) where
-  pub first_range : (xs : List (Option ScalarValue)) (n : N) → present xs ≡ [] → IsRangeOf number (record { least = n; greatest = n }) (xs ++ Some (scalar_of number n) ∷ [])
+module _ {N : Type 0} (scalar : N → ScalarValue) where
+  pub first_range : (xs : List (Option ScalarValue)) (n : N) → present xs ≡ [] → IsRangeOf scalar (record { least = n; greatest = n }) (xs ++ Some (scalar n) ∷ [])
   first_range xs n none =
-      let v = scalar_of number n in
+      let v = scalar n in
       record {
         least_within = Contains-push xs (Some v);
         none_below = λ w i. subst (AtMost value_cmp v) (only_value xs v w none i) (AtMost-refl value_total v);
@@ -73,44 +76,44 @@ module _ {N : Type 0} (number : N → PValue) where
         none_above = λ w i. subst (λ u. AtMost value_cmp u v) (only_value xs v w none i) (AtMost-refl value_total v);
       }
 
-  scalar_chosen : (b : Bool) (m n : N) → scalar_of number (cond b m n) ≡ cond b (scalar_of number m) (scalar_of number n)
+  scalar_chosen : (b : Bool) (m n : N) → scalar (cond b m n) ≡ cond b (scalar m) (scalar n)
   scalar_chosen true m n = refl
   scalar_chosen false m n = refl
 
-  chosen_within : (xs : List (Option ScalarValue)) (b : Bool) (m n : N) → Contains xs (Some (scalar_of number m)) → Contains (xs ++ Some (scalar_of number n) ∷ []) (Some (scalar_of number (cond b n m)))
-  chosen_within xs true m n i = Contains-push xs (Some (scalar_of number n))
-  chosen_within xs false m n i = Contains-append_left xs (Some (scalar_of number n) ∷ []) (Some (scalar_of number m)) i
+  chosen_within : (xs : List (Option ScalarValue)) (b : Bool) (m n : N) → Contains xs (Some (scalar m)) → Contains (xs ++ Some (scalar n) ∷ []) (Some (scalar (cond b n m)))
+  chosen_within xs true m n i = Contains-push xs (Some (scalar n))
+  chosen_within xs false m n i = Contains-append_left xs (Some (scalar n) ∷ []) (Some (scalar m)) i
 
-  module _ (cmp : N → N → Ordering) (ordered : (a b : N) → cmp a b ≡ value_cmp (scalar_of number a) (scalar_of number b)) where
-    least_chosen : (m n : N) → scalar_of number (ord_min cmp m n) ≡ lesser value_cmp (scalar_of number m) (scalar_of number n)
-    least_chosen m n = scalar_chosen (is_lt (cmp n m)) n m ∙ ap (λ o. cond (is_lt o) (scalar_of number n) (scalar_of number m)) (ordered n m)
+  module _ (cmp : N → N → Ordering) (ordered : (a b : N) → cmp a b ≡ value_cmp (scalar a) (scalar b)) where
+    least_chosen : (m n : N) → scalar (ord_min cmp m n) ≡ lesser value_cmp (scalar m) (scalar n)
+    least_chosen m n = scalar_chosen (is_lt (cmp n m)) n m ∙ ap (λ o. cond (is_lt o) (scalar n) (scalar m)) (ordered n m)
 
-    greatest_chosen : (m n : N) → scalar_of number (ord_max cmp n m) ≡ greater value_cmp (scalar_of number m) (scalar_of number n)
-    greatest_chosen m n = scalar_chosen (is_lt (cmp m n)) n m ∙ ap (λ o. cond (is_lt o) (scalar_of number n) (scalar_of number m)) (ordered m n)
+    greatest_chosen : (m n : N) → scalar (ord_max cmp n m) ≡ greater value_cmp (scalar m) (scalar n)
+    greatest_chosen m n = scalar_chosen (is_lt (cmp m n)) n m ∙ ap (λ o. cond (is_lt o) (scalar n) (scalar m)) (ordered m n)
 
-    pub longer_range : (r : Range N) (xs : List (Option ScalarValue)) (n : N) → IsRangeOf number r xs → IsRangeOf number (record { least = ord_min cmp r.least n; greatest = ord_max cmp n r.greatest }) (xs ++ Some (scalar_of number n) ∷ [])
+    pub longer_range : (r : Range N) (xs : List (Option ScalarValue)) (n : N) → IsRangeOf scalar r xs → IsRangeOf scalar (record { least = ord_min cmp r.least n; greatest = ord_max cmp n r.greatest }) (xs ++ Some (scalar n) ∷ [])
     longer_range r xs n q =
-        let v = scalar_of number n in
+        let v = scalar n in
         record {
           least_within = chosen_within xs (is_lt (cmp n r.least)) r.least n q.least_within;
-          none_below = subst (λ u. NoneBelow u (xs ++ Some v ∷ [])) (sym (least_chosen r.least n)) (none_below_both xs v (scalar_of number r.least) q.none_below);
+          none_below = subst (λ u. NoneBelow u (xs ++ Some v ∷ [])) (sym (least_chosen r.least n)) (none_below_both xs v (scalar r.least) q.none_below);
           greatest_within = chosen_within xs (is_lt (cmp r.greatest n)) r.greatest n q.greatest_within;
-          none_above = subst (λ u. NoneAbove u (xs ++ Some v ∷ [])) (sym (greatest_chosen r.greatest n)) (none_above_both xs v (scalar_of number r.greatest) q.none_above);
+          none_above = subst (λ u. NoneAbove u (xs ++ Some v ∷ [])) (sym (greatest_chosen r.greatest n)) (none_above_both xs v (scalar r.greatest) q.none_above);
         }
 
   -- ---- one more optional value
 
-  kept_range : (r : Option (Range N)) (xs : List (Option ScalarValue)) → IsOptionalRangeOf number r xs → IsOptionalRangeOf number r (xs ++ None ∷ [])
+  kept_range : (r : Option (Range N)) (xs : List (Option ScalarValue)) → IsOptionalRangeOf scalar r xs → IsOptionalRangeOf scalar r (xs ++ None ∷ [])
   kept_range None xs q = present-append xs (None ∷ []) ∙ append-nil (present xs) ∙ q
   kept_range (Some r) xs q = record {
-    least_within = Contains-append_left xs (None ∷ []) (Some (scalar_of number r.least)) q.least_within;
+    least_within = Contains-append_left xs (None ∷ []) (Some (scalar r.least)) q.least_within;
     none_below = λ w i. q.none_below w (before_null xs w i);
-    greatest_within = Contains-append_left xs (None ∷ []) (Some (scalar_of number r.greatest)) q.greatest_within;
+    greatest_within = Contains-append_left xs (None ∷ []) (Some (scalar r.greatest)) q.greatest_within;
     none_above = λ w i. q.none_above w (before_null xs w i);
   }
 
-  module _ (t : DType) (read : ℕ → Result (Option ScalarValue) Status) (row nulls : ℕ) (range : Option (Range N)) (so_far : HasRead number t read row nulls range) where
-    null_read : read row ≡ Ok None → is_nullable t ≡ true → HasRead number t read (row + 1) (nulls + 1) range
+  module _ (t : DType) (read : ℕ → Result (Option ScalarValue) Status) (row nulls : ℕ) (range : Option (Range N)) (so_far : HasRead scalar t read row nulls range) where
+    null_read : read row ≡ Ok None → is_nullable t ≡ true → HasRead scalar t read (row + 1) (nulls + 1) range
     null_read is_none may = record {
       values = so_far.values ++ None ∷ [];
       all = reads_on at_row read row so_far.values None so_far.all is_none;
@@ -120,26 +123,27 @@ module _ {N : Type 0} (number : N → PValue) where
       ranged = kept_range range so_far.values so_far.ranged;
     }
 
-    number_read : (next : Option (Range N)) (n : N) → read row ≡ Ok (Some (scalar_of number n)) → is_value (scalar_of number n) t ≡ true → IsOptionalRangeOf number next (so_far.values ++ Some (scalar_of number n) ∷ []) → HasRead number t read (row + 1) (nulls + 0) next
-    number_read next n is_some fits ranged = record {
-      values = so_far.values ++ Some (scalar_of number n) ∷ [];
-      all = reads_on at_row read row so_far.values (Some (scalar_of number n)) so_far.all is_some;
-      fits = both_fit t so_far.values (Some (scalar_of number n) ∷ []) so_far.fits (ap (λ b. b && true) fits);
-      counted = ap (λ n. n + 0) so_far.counted ∙ sym (null_count-append so_far.values (Some (scalar_of number n) ∷ []));
+    value_read : (next : Option (Range N)) (n : N) → read row ≡ Ok (Some (scalar n)) → is_value (scalar n) t ≡ true → IsOptionalRangeOf scalar next (so_far.values ++ Some (scalar n) ∷ []) → HasRead scalar t read (row + 1) (nulls + 0) next
+    value_read next n is_some fits ranged = record {
+      values = so_far.values ++ Some (scalar n) ∷ [];
+      all = reads_on at_row read row so_far.values (Some (scalar n)) so_far.all is_some;
+      fits = both_fit t so_far.values (Some (scalar n) ∷ []) so_far.fits (ap (λ b. b && true) fits);
+      counted = ap (λ n. n + 0) so_far.counted ∙ sym (null_count-append so_far.values (Some (scalar n) ∷ []));
       within = omega (arith, so_far.within);
       ranged = ranged;
     }
 
-    -- one more row, whose number counts where it isn't null
-    goes_on : (null : Bool) (n : N) (next : Option (Range N)) → read row ≡ cell_by t (Ok null) (Ok (scalar_of number n)) → (null && not (is_nullable t)) ≡ false → is_value (scalar_of number n) t ≡ true
+    -- one more row, whose value counts where it isn't null
+    goes_on : (null : Bool) (n : N) (next : Option (Range N)) → read row ≡ cell_by t (Ok null) (Ok (scalar n)) → (null && not (is_nullable t)) ≡ false → is_value (scalar n) t ≡ true
         → (null ≡ true → next ≡ range)
-        → (null ≡ false → (xs : List (Option ScalarValue)) → IsOptionalRangeOf number range xs → IsOptionalRangeOf number next (xs ++ Some (scalar_of number n) ∷ []))
-        → HasRead number t read (row + 1) (nulls + from_bool null) next
+        → (null ≡ false → (xs : List (Option ScalarValue)) → IsOptionalRangeOf scalar range xs → IsOptionalRangeOf scalar next (xs ++ Some (scalar n) ∷ []))
+        → HasRead scalar t read (row + 1) (nulls + from_bool null) next
     goes_on true n next is may fits kept ranged =
         let nullable : is_nullable t ≡ true = from_not_false (is_nullable t) may in
         rw (kept refl) (null_read (is ∙ ap (λ b. cond b (Ok None) (Err BadNull)) nullable) nullable)
-    goes_on false n next is may fits kept ranged = number_read next n is fits (ranged refl so_far.values so_far.ranged)
+    goes_on false n next is may fits kept ranged = value_read next n is fits (ranged refl so_far.values so_far.ranged)
 
+module _ {N : Type 0} (number : N → PValue) where
   -- what a row of numbers holds, by its bytes
   pub record IsRead (p : PType) (values nulls : List ℕ) (row : ℕ) (null : Bool) (n : N) : Type 0 where
     pub width : ℕ
@@ -156,12 +160,12 @@ module _ {N : Type 0} (number : N → PValue) where
         let there : fixed values (number_width p) row ≡ Some q.bytes = ap (λ w. fixed values w row) (sym q.of_type) ∙ sym q.there in
         rw (sym q.told, there, sym q.made) refl
 
-    pub row_read : (row count : ℕ) (range : Option (Range N)) (null : Bool) (n : N) (next : Option (Range N)) → HasRead number (types.Primitive p m) (cell (types.Primitive p m) values start ends nulls) row count range
+    pub row_read : (row count : ℕ) (range : Option (Range N)) (null : Bool) (n : N) (next : Option (Range N)) → HasRead (scalar_of number) (types.Primitive p m) (cell (types.Primitive p m) values start ends nulls) row count range
         → IsRead p values nulls row null n → (null && not (allows_null m)) ≡ false → (null ≡ true → next ≡ range)
-        → (null ≡ false → (xs : List (Option ScalarValue)) → IsOptionalRangeOf number range xs → IsOptionalRangeOf number next (xs ++ Some (scalar_of number n) ∷ []))
-        → HasRead number (types.Primitive p m) (cell (types.Primitive p m) values start ends nulls) (row + 1) (count + from_bool null) next
+        → (null ≡ false → (xs : List (Option ScalarValue)) → IsOptionalRangeOf (scalar_of number) range xs → IsOptionalRangeOf (scalar_of number) next (xs ++ Some (scalar_of number n) ∷ []))
+        → HasRead (scalar_of number) (types.Primitive p m) (cell (types.Primitive p m) values start ends nulls) (row + 1) (count + from_bool null) next
     row_read row count range null n next so_far q may kept ranged =
-        goes_on (types.Primitive p m) (cell (types.Primitive p m) values start ends nulls) row count range so_far null n next (row_cell row null n q) may q.fits kept ranged
+        goes_on (scalar_of number) (types.Primitive p m) (cell (types.Primitive p m) values start ends nulls) row count range so_far null n next (row_cell row null n q) may q.fits kept ranged
 
   -- ---- rows without nulls
 
@@ -174,37 +178,71 @@ module _ {N : Type 0} (number : N → PValue) where
     by_bytes row n (Some bytes) there made fits = record { width = number_width p; bytes = bytes; of_type = refl; there = there; made = made; fits = fits; told = refl }
 
     -- no rows
-    pub none_read : HasRead number t (cell t values start ends []) 0 0 None
+    pub none_read : HasRead (scalar_of number) t (cell t values start ends []) 0 0 None
     none_read = record { values = []; all = refl; fits = refl; counted = refl; within = omega arith; ranged = refl }
 
     -- one more row of numbers none of which is null
-    pub plain_read : (row : ℕ) (range : Option (Range N)) (n : N) (next : Option (Range N)) → HasRead number t (cell t values start ends []) row 0 range → Some (number n) ≡ number_at p values row → IsTrue (is_number p (number n))
-        → ((xs : List (Option ScalarValue)) → IsOptionalRangeOf number range xs → IsOptionalRangeOf number next (xs ++ Some (scalar_of number n) ∷ []))
-        → HasRead number t (cell t values start ends []) (row + 1) 0 next
+    pub plain_read : (row : ℕ) (range : Option (Range N)) (n : N) (next : Option (Range N)) → HasRead (scalar_of number) t (cell t values start ends []) row 0 range → Some (number n) ≡ number_at p values row → IsTrue (is_number p (number n))
+        → ((xs : List (Option ScalarValue)) → IsOptionalRangeOf (scalar_of number) range xs → IsOptionalRangeOf (scalar_of number) next (xs ++ Some (scalar_of number n) ∷ []))
+        → HasRead (scalar_of number) t (cell t values start ends []) (row + 1) 0 next
     plain_read row range n next so_far made fits ranged =
         row_read p m values start ends [] row 0 range false n next so_far (by_bytes row n (fixed values (number_width p) row) refl made fits) refl (λ e. absurd cc) (λ e. ranged)
 
-  -- ---- all rows
+-- ---- all rows
 
-  -- the column of numbers that were all read
-  pub column_read : (p : PType) (m : Nullability) (v : Values) (count : ℕ) (range : Option (Range N)) (e : Extent)
-      → (so_far : HasRead number (types.Primitive p m) (cell (types.Primitive p m) v.values.now v.start v.ends.now v.nulls.now) v.rows count range)
-      → ((c : ColumnData) → count ≡ null_count c.values → IsOptionalRangeOf number range c.values → IsExtentOf e c)
-      → (c : ColumnData) × (read_column (types.Primitive p m) v ≡ Ok c) × IsExtentOf e c
-  column_read p m v count range e so_far is =
-      let t = types.Primitive p m in
+module _ {N : Type 0} (scalar : N → ScalarValue) where
+  -- the column of values that were all read
+  pub column_read : (t : DType) (v : Values) (count : ℕ) (range : Option (Range N)) (e : Extent)
+      → (so_far : HasRead scalar t (cell t v.values.now v.start v.ends.now v.nulls.now) v.rows count range)
+      → ((c : ColumnData) → count ≡ null_count c.values → IsOptionalRangeOf scalar range c.values → IsExtentOf e c)
+      → (c : ColumnData) × (read_column t v ≡ Ok c) × IsExtentOf e c
+  column_read t v count range e so_far is =
       let c : ColumnData = record { dtype = t; values = so_far.values; size = v.size } in
       (c, followed_read _ (column_of t v.size) so_far.values so_far.all ∙ ap (λ b. cond b (Ok c) (Err (at_row BadValue 0))) so_far.fits, is c so_far.counted so_far.ranged)
 
-  pub empty_extent : (c : ColumnData) (count : ℕ) → count ≡ null_count c.values → present c.values ≡ [] → IsExtentOf (record { nulls = count; least = None; greatest = None }) c
-  empty_extent c count counted none = record { nulls = counted; least = sym (ap min_value none); greatest = sym (ap max_value none) }
+pub empty_extent : (c : ColumnData) (count : ℕ) → count ≡ null_count c.values → present c.values ≡ [] → IsExtentOf (record { nulls = count; least = None; greatest = None }) c
+empty_extent c count counted none = record { nulls = counted; least = sym (ap min_value none); greatest = sym (ap max_value none) }
 
-  pub full_extent : (c : ColumnData) (count : ℕ) (r : Range N) → count ≡ null_count c.values → IsRangeOf number r c.values → IsExtentOf (record { nulls = count; least = Some (number r.least); greatest = Some (number r.greatest) }) c
-  full_extent c count r counted q = record {
-    nulls = counted;
-    least = sym (least_is c.values (scalar_of number r.least) q.least_within q.none_below);
-    greatest = sym (greatest_is c.values (scalar_of number r.greatest) q.greatest_within q.none_above);
-  }
+pub full_extent : (c : ColumnData) (count : ℕ) (r : Range ValueRef) → count ≡ null_count c.values → IsRangeOf value_of r c.values → IsExtentOf (record { nulls = count; least = Some r.least; greatest = Some r.greatest }) c
+full_extent c count r counted q = record {
+  nulls = counted;
+  least = sym (least_is c.values (value_of r.least) q.least_within q.none_below);
+  greatest = sym (greatest_is c.values (value_of r.greatest) q.greatest_within q.none_above);
+}
+
+-- a range of numbers, each as a value that is lent
+pub number_range : {N : Type 0} (number : N → PValue) (r : Range N) (xs : List (Option ScalarValue)) → IsRangeOf (scalar_of number) r xs → IsRangeOf value_of (record { least = lent.Primitive (number r.least); greatest = lent.Primitive (number r.greatest) }) xs
+number_range number r xs q = record { least_within = q.least_within; none_below = q.none_below; greatest_within = q.greatest_within; none_above = q.none_above }
+
+-- ---- texts and byte strings
+
+-- of another type than null the optional value of a row goes by its mark and its bytes
+lent_cell : (t : DType) (values : List ℕ) (start : ℕ) (ends nulls : List ℕ) (row : ℕ) → IsTrue (is_lent t) → cell t values start ends nulls row ≡ cell_by t (is_null nulls row) (value_at t values start ends row)
+lent_cell types.Null values start ends nulls row is = absurd is
+lent_cell (types.Bool n) values start ends nulls row is = refl
+lent_cell (types.Primitive p n) values start ends nulls row is = refl
+lent_cell (types.Utf8 n) values start ends nulls row is = refl
+lent_cell (types.Binary n) values start ends nulls row is = refl
+lent_cell (types.MinMaxState e n) values start ends nulls row is = refl
+
+module _ (t : DType) (v : Values) (lends : IsTrue (is_lent t)) (row count : ℕ) (range : Option (Range ValueRef)) where
+  abbrev read : ℕ → Result (Option ScalarValue) Status
+  read = cell t v.values.now v.start v.ends.now v.nulls.now
+
+  -- one more row that is null
+  pub lent_null : HasRead value_of t read row count range → Ok true ≡ is_null v.nulls.now row → is_nullable t ≡ true → HasRead value_of t read (row + 1) (count + 1) range
+  lent_null so_far null may =
+      null_read value_of t read row count range so_far
+      (lent_cell t v.values.now v.start v.ends.now v.nulls.now row lends ∙ ap (λ r. cell_by t r (value_at t v.values.now v.start v.ends.now row)) (sym null) ∙ ap (λ b. cond b (Ok None) (Err BadNull)) may) may
+
+  -- one more row that holds a value
+  pub lent_value : (next : Range ValueRef) (value : ValueRef) → HasRead value_of t read row count range → Ok false ≡ is_null v.nulls.now row → value_at t v.values.now v.start v.ends.now row ≡ Ok (value_of value) → is_value (value_of value) t ≡ true
+      → ((xs : List (Option ScalarValue)) → IsOptionalRangeOf value_of range xs → IsRangeOf value_of next (xs ++ Some (value_of value) ∷ []))
+      → HasRead value_of t read (row + 1) (count + 0) (Some next)
+  lent_value next value so_far null at fits ranged =
+      value_read value_of t read row count range so_far (Some next) value
+      (lent_cell t v.values.now v.start v.ends.now v.nulls.now row lends ∙ ap (λ r. cell_by t r (value_at t v.values.now v.start v.ends.now row)) (sym null) ∙ ap present_cell at)
+      fits (ranged so_far.values so_far.ranged)
 
 -- ---- the statistics that are told of a column
 

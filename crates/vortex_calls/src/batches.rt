@@ -24,8 +24,9 @@ use std::alloc::Global;
 use vortex_base::cells::Cells;
 use vortex_base::column::Column;
 use vortex_base::scope::Scope;
+use vortex_expr::bound_expression::BoundExpression;
 use vortex_predicates::PruningPredicate;
-use vortex_prune::{Head, StatFn, ZoneMap};
+use vortex_prune::{Head, StatFn, ZoneMap, block_size};
 
 // How many cells are made at once of statistics. Each takes up to 9 bytes, and a text its own more.
 const BATCH_CELLS: usize = 32768;
@@ -186,6 +187,24 @@ fn next_count(size: usize, left: usize) -> usize
     if left < size { left } else { size }
 }
 
+// How many zones a proof, if there is one, is bound for at once at least.
+fn zones_of(proof: Option<&BoundExpression>) -> usize {
+    match proof {
+        Some(proof) => block_size(proof),
+        None => 0,
+    }
+}
+
+// How many zones a map has: as many as fill a batch with cells, or more under long proofs, which are
+// bound anew for each map.
+fn batch_size(named: &[bool], proofs: &PruningPredicate) -> usize
+    ensures { 0 < result }
+{
+    let by_cells = 1 + BATCH_CELLS / count_named(named).max(1);
+    let by_proofs = zones_of(proofs.falsifier()).max(zones_of(proofs.satisfier()));
+    if by_cells < by_proofs { by_proofs } else { by_cells }
+}
+
 // The answers for all zones, batch by batch.
 fn batches_answers<'a>(
     alloc: Global,
@@ -205,7 +224,7 @@ fn batches_answers<'a>(
         return None;
     };
     let named = named_heads(alloc, proofs, &heads)?;
-    let size = 1 + BATCH_CELLS / count_named(&named).max(1);
+    let size = batch_size(&named, proofs);
     let mut answers = Vec::with_capacity(alloc, rows.len()).ok()?;
     'batches: while answers.len() < rows.len() {
         let from = answers.len();

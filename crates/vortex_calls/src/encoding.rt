@@ -1,6 +1,7 @@
 //! Values as bytes.
-ghost use Rattle.std.specs.Prelude.{◌≡◌, ◌++◌, IfOk, IfSome, IsTrue, OnOk};
+ghost use Rattle.std.specs.Prelude.{◌≡◌, ◌++◌, IfOk, IfSome, IsTrue, Ok, OnOk};
 ghost use Rattle.std.specs.Bool.{OnTrue};
+ghost use Rattle.vortex_base.specs.Data.Cells.{value_of as lent_value};
 ghost use Rattle.vortex_base.specs.Data.Values.{is_value};
 ghost use Rattle.vortex_calls.specs.Encoding as spec;
 ghost use Rattle.vortex_calls.specs.Refusals.{Gives};
@@ -8,11 +9,15 @@ ghost use Rattle.vortex_calls.specs.declared.status.Status.TheVariants.{NoMemory
 
 use crate::status::Status;
 use std::alloc::{AllocError, Global};
+use std::str;
+use vortex_base::blobs::BytesRef;
 use vortex_base::bytes::Bytes;
 use vortex_base::dtype::DType;
 use vortex_base::pvalue::PValue;
 use vortex_base::scalar_value::ScalarValue;
+use vortex_base::texts::TextRef;
 use vortex_base::types::PType;
+use vortex_base::value_ref::ValueRef;
 use vortex_syntax::line_error::LineError;
 use vortex_syntax::lines::is_utf8;
 use vortex_syntax::value;
@@ -80,6 +85,24 @@ pub(crate) fn value_of(alloc: Global, dtype: DType, bytes: &[u8]) -> Result<Scal
             Ok(ScalarValue::Binary(Bytes::new(bytes)))
         }
         DType::Null | DType::MinMaxState(_, _) => Err(Status::BadStat),
+    }
+}
+
+/// The text or the byte string of a type that the bytes are, lent. `None` of another type, and of
+/// bytes that are no UTF-8.
+#[inline]
+pub(crate) fn lent_of<'a>(alloc: Global, dtype: DType, bytes: &'a [u8]) -> Option<ValueRef<'a>>
+    ensures read { IfSome result (λ value. spec.value_of dtype bytes.entry.now
+        ≡ Ok (lent_value value)) }
+    ensures fits { IfSome result (λ value. IsTrue (is_value (lent_value value) dtype)) }
+{
+    match dtype {
+        DType::Utf8(_) => match str::from_utf8(bytes) {
+            Ok(text) => Some(ValueRef::Utf8(TextRef::new(text, alloc))),
+            Err(_) => None,
+        },
+        DType::Binary(_) => Some(ValueRef::Binary(BytesRef::new(bytes, alloc))),
+        _ => None,
     }
 }
 

@@ -92,7 +92,7 @@ fn exactly(value: Option<ScalarValue>) -> Precision<ScalarValue>
 fn slots_of_extent(
     alloc: Global,
     dtype: DType,
-    extent: &Extent,
+    extent: &Extent<'_>,
     size: u64,
     wanted: &[Stat],
 ) -> Result<Slots, Refusal>
@@ -102,7 +102,7 @@ fn slots_of_extent(
 {
     let mut slots = Slots::new(alloc);
     for stat in wanted {
-        slots.push(dtype, *stat, &exactly(extent.value(*stat, size)))?;
+        slots.push(dtype, *stat, &exactly(extent.value(*stat, size)?))?;
     }
     Ok(slots)
 }
@@ -118,7 +118,7 @@ fn slots_of_values(
         (followed (read_column dtype values.now) (λ c. Ok (spec.slots_of c wanted.now))) }
 {
     if all_follow(wanted) {
-        if let Some(extent) = values.extent(dtype) {
+        if let Some(extent) = values.extent(alloc, dtype) {
             return slots_of_extent(alloc, dtype, &extent, values.size, wanted);
         }
     }

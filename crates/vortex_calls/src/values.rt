@@ -98,9 +98,9 @@ pub(crate) fn has_value(given: &Given<'_>, dtype: DType, place: usize) -> bool
     }
 }
 
-impl Values<'_> {
-    // The values with where each of them ends.
-    fn given(&self) -> Given<'_>
+impl<'a> Values<'a> {
+    /// The values with where each of them ends.
+    pub(crate) fn given(&self) -> Given<'a>
         ensures values { result.values.now ≡ self.now.values.now }
         ensures start { result.start ≡ self.now.start }
         ensures ends { result.ends.now ≡ self.now.ends.now }

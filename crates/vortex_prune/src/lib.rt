@@ -15,6 +15,7 @@ pub use bind::stat_binder::StatBinder;
 pub use bind::stats_binder::{StatsBinder, ZoneStatsBinder};
 pub use bind::zone_binder::ZoneBinder;
 pub use part::{JoinRefused, MeasureRefused, Part, PartRefused};
+pub use scan::marks::block_size;
 pub use scan::outcome::Scan;
 pub use scan::prune::{Pruned, prune, prune_by};
 pub use scan::ranges::{scan_ranges, scan_ranges_from};

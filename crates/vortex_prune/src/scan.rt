@@ -26,7 +26,7 @@ mod comparison;
 mod gaps;
 mod leaf;
 mod like;
-mod marks;
+pub(crate) mod marks;
 pub mod outcome;
 mod part_scan;
 mod pattern;

@@ -5,11 +5,13 @@ use Rattle.vortex_base.specs.declared.types.Nullability.TheVariants.{Nullable, N
 use Rattle.vortex_base.specs.declared.types.PType.TheVariants as ptype
 use Rattle.vortex_base.specs.declared.pvalue.PValue.TheVariants as number
 use Rattle.vortex_base.specs.declared.scalar_value.ScalarValue.TheVariants as value
+use Rattle.vortex_base.specs.declared.texts.TextRef.{TextRef}
+use Rattle.vortex_base.specs.declared.value_ref.ValueRef.TheVariants as lent
 use Rattle.vortex_stats.specs.declared.precision.Precision.TheVariants.{Exact, Inexact, Absent}
 use Rattle.vortex_stats.specs.declared.stat.Stat.TheVariants as stat
 use Rattle.vortex_calls.specs.declared.status.Status.TheVariants.{BadEnds, BadKind, BadLength, BadNull, BadStat, BadValue}
 use Rattle.vortex_calls.specs.Encoding.{bytes_of, number_of, value_of}
-use Rattle.vortex_calls.specs.Extents.{IsExtentOf, follows}
+use Rattle.vortex_calls.specs.Extents.{IsExtentOf, follows, is_lent}
 use Rattle.vortex_calls.specs.Given.{bytes_at}
 use Rattle.vortex_calls.specs.Measures.{slots_in, stat_of, wanted_of}
 use Rattle.vortex_calls.specs.Slots.{ends_from, heap, slot_of}
@@ -159,12 +161,19 @@ the_heap = refl
 
 -- ---- extents: the null doesn't count as a value, and the least is below zero
 
-an_extent : IsExtentOf (record { nulls = 1; least = Some (number.I16 (negsuc 1)); greatest = Some (number.I16 (pos 5)) })
+an_extent : IsExtentOf (record { nulls = 1; least = Some (lent.Primitive (number.I16 (negsuc 1))); greatest = Some (lent.Primitive (number.I16 (pos 5))) })
     (record { dtype = dtype.Primitive ptype.I16 Nullable; values = Some (value.Primitive (number.I16 (pos 5))) ∷ None ∷ Some (value.Primitive (number.I16 (negsuc 1))) ∷ []; size = 6 })
 an_extent = record { nulls = refl; least = refl; greatest = refl }
 
 of_nulls_alone : IsExtentOf (record { nulls = 2; least = None; greatest = None }) (record { dtype = dtype.Primitive ptype.U8 Nullable; values = None ∷ None ∷ []; size = 0 })
 of_nulls_alone = record { nulls = refl; least = refl; greatest = refl }
+
+an_extent_of_texts : (least greatest : TextRef) → least.text.now ≡ 97 ∷ 98 ∷ [] → greatest.text.now ≡ 98 ∷ [] → IsExtentOf (record { nulls = 1; least = Some (lent.Utf8 least); greatest = Some (lent.Utf8 greatest) })
+    (record { dtype = dtype.Utf8 Nullable; values = Some (value.Utf8 (98 ∷ [])) ∷ None ∷ Some (value.Utf8 (97 ∷ 98 ∷ [])) ∷ []; size = 3 })
+an_extent_of_texts least greatest l g = record { nulls = refl; least = rw l refl; greatest = rw g refl }
+
+these_are_lent : map is_lent (dtype.Null ∷ dtype.Bool Nullable ∷ dtype.Primitive ptype.U8 Nullable ∷ dtype.Utf8 NonNullable ∷ dtype.Binary Nullable ∷ []) ≡ false ∷ false ∷ false ∷ true ∷ true ∷ []
+these_are_lent = refl
 
 these_follow : map follows (stat.Max ∷ stat.Min ∷ stat.NullCount ∷ stat.UncompressedSizeInBytes ∷ []) ≡ true ∷ true ∷ true ∷ true ∷ []
 these_follow = refl

@@ -429,9 +429,9 @@ fn count_pairs(e: &BoundExpression) -> usize {
     }
 }
 
-// Returns how many zones are looked at together. A proof of many pairs is collected anew for each
-// block, so blocks grow with the pairs.
-fn block_size(bound: &BoundExpression) -> usize
+/// Returns how many zones are looked at together by a proof. A proof of many comparisons is bound
+/// and collected anew for each block of zones, so blocks grow with its comparisons.
+pub fn block_size(bound: &BoundExpression) -> usize
     ensures { 0 < result }
 {
     let size = count_pairs(bound).saturating_mul(ZONES_PER_PAIR);
