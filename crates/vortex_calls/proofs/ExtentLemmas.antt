@@ -1,10 +1,11 @@
 -- The range of values that are read one after another.
 use Rattle.std.proofs.Common.{◌≡◌, ℕ, ◌+◌, Bool, true, false, cond, not, ◌&&◌, ◌||◌, map, List, [], ◌∷◌, ◌++◌, Option, Some, None, Result, Ok, Err, refl, sym, ap, append_assoc, subst, ◌∙◌, ⊎_elim, arith}
 use Rattle.std.specs.Int.{from_bool}
-use Rattle.std.specs.Prelude.{Contains, IsTrue}
+use Rattle.std.specs.Prelude.{Contains, IsTrue, IsUtf8}
 use Rattle.std.specs.declared.cmp.Ordering.{Ordering}
 use Rattle.std.specs.Ordering.{is_lt, ord_max, ord_min}
 use Rattle.std.proofs.lemmas.List.{append-nil}
+use Rattle.std.proofs.lemmas.Str.{is_utf8-from_IsUtf8}
 use Rattle.std.proofs.lemmas.List.Elements.{Contains-append_left, Contains-push, Contains-push_cases}
 use Rattle.vortex_base.specs.declared.dtype.DType.{DType}
 use Rattle.vortex_base.specs.declared.dtype.DType.TheVariants as types
@@ -12,6 +13,7 @@ use Rattle.vortex_base.specs.declared.types.Nullability.{Nullability}
 use Rattle.vortex_base.specs.declared.types.PType.{PType}
 use Rattle.vortex_base.specs.declared.pvalue.PValue.{PValue}
 use Rattle.vortex_base.specs.declared.scalar_value.ScalarValue.{ScalarValue}
+use Rattle.vortex_base.specs.declared.scalar_value.ScalarValue.TheVariants as value
 use Rattle.vortex_base.specs.declared.value_ref.ValueRef.{ValueRef}
 use Rattle.vortex_base.specs.declared.value_ref.ValueRef.TheVariants as lent
 use Rattle.vortex_base.specs.Data.Cells.{value_of}
@@ -39,7 +41,7 @@ use Rattle.vortex_calls.specs.declared.extent.Range.{Range}
 use Rattle.vortex_calls.specs.declared.status.Status.{Status}
 use Rattle.vortex_calls.specs.declared.status.Status.TheVariants.{BadNull, BadValue}
 use Rattle.vortex_calls.specs.declared.values.Values.{Values}
-use Rattle.vortex_calls.specs.Encoding.{is_number, number_at, number_from, number_of}
+use Rattle.vortex_calls.specs.Encoding.{is_number, number_at, number_from, number_of, value_of as value_of_bytes}
 use Rattle.vortex_calls.specs.Extents.{HasRead, IsExtentOf, IsOptionalRangeOf, IsRangeOf, is_lent, scalar_of}
 use Rattle.vortex_calls.specs.Given.{fixed}
 use Rattle.vortex_calls.specs.Measures.{slots_in, slots_of}
@@ -216,9 +218,16 @@ number_range number r xs q = record { least_within = q.least_within; none_below 
 
 -- ---- texts and byte strings
 
+-- bytes that are UTF-8 are a text
+pub text_read : (n : Nullability) (bytes text : List ℕ) → IsUtf8 bytes → text ≡ bytes → value_of_bytes (types.Utf8 n) bytes ≡ Ok (value.Utf8 text)
+text_read n bytes text is same = ap (λ b. cond b (Ok (value.Utf8 bytes)) (Err BadValue)) (is_utf8-from_IsUtf8 bytes is) ∙ ap (λ t. Ok (value.Utf8 t)) (sym same)
+
+pub text_fits : (n : Nullability) (bytes text : List ℕ) → IsUtf8 bytes → text ≡ bytes → IsTrue (is_value (value.Utf8 text) (types.Utf8 n))
+text_fits n bytes text is same = rw same (is_utf8-from_IsUtf8 bytes is)
+
 -- of another type than null the optional value of a row goes by its mark and its bytes
 lent_cell : (t : DType) (values : List ℕ) (start : ℕ) (ends nulls : List ℕ) (row : ℕ) → IsTrue (is_lent t) → cell t values start ends nulls row ≡ cell_by t (is_null nulls row) (value_at t values start ends row)
-lent_cell types.Null values start ends nulls row is = absurd is
+lent_cell types.Null values start ends nulls row is = absurd cc
 lent_cell (types.Bool n) values start ends nulls row is = refl
 lent_cell (types.Primitive p n) values start ends nulls row is = refl
 lent_cell (types.Utf8 n) values start ends nulls row is = refl
@@ -238,11 +247,13 @@ module _ (t : DType) (v : Values) (lends : IsTrue (is_lent t)) (row count : ℕ)
   -- one more row that holds a value
   pub lent_value : (next : Range ValueRef) (value : ValueRef) → HasRead value_of t read row count range → Ok false ≡ is_null v.nulls.now row → value_at t v.values.now v.start v.ends.now row ≡ Ok (value_of value) → is_value (value_of value) t ≡ true
       → ((xs : List (Option ScalarValue)) → IsOptionalRangeOf value_of range xs → IsRangeOf value_of next (xs ++ Some (value_of value) ∷ []))
-      → HasRead value_of t read (row + 1) (count + 0) (Some next)
+      → HasRead value_of t read (row + 1) count (Some next)
   lent_value next value so_far null at fits ranged =
-      value_read value_of t read row count range so_far (Some next) value
+      let same : count + 0 ≡ count = omega arith in
+      subst (λ k. HasRead value_of t read (row + 1) k (Some next)) same
+      (value_read value_of t read row count range so_far (Some next) value
       (lent_cell t v.values.now v.start v.ends.now v.nulls.now row lends ∙ ap (λ r. cell_by t r (value_at t v.values.now v.start v.ends.now row)) (sym null) ∙ ap present_cell at)
-      fits (ranged so_far.values so_far.ranged)
+      fits (ranged so_far.values so_far.ranged))
 
 -- ---- the statistics that are told of a column
 
