@@ -100,6 +100,7 @@ def promise_faults():
     named |= {re.sub(r"\.rt$", "", part) for f in CODE for part in f.split("/")}
     clauses = set(re.findall(r"\b(?:ensures|requires|ghost) (\w+) [={]", "".join(CODE.values())))
     clauses |= set(re.findall(r"\bghost (\w+)", "".join(CODE.values())))
+    clauses |= {fact for crate in WITNESSED for record in promised(crate).values() for fact, _ in record}
     variants = set(re.findall(r"^    (\w+)(?:\(|,| \{)", "".join(CODE.values()), re.M))
     pages = ["docs/PROMISES.md", *(it for it in TRACKED if re.fullmatch(r"crates/\w+/README\.md", it))]
     for f, number, cells in ((f, *row) for f in pages for row in rows_of(f)):
@@ -144,13 +145,31 @@ def offered(crate):
         yield from (it for it in contracts(f) if (it[0].split("::")[0] in types if "::" in it[0] else f in files))
 
 
+def promised(crate):
+    """The records of promises of a crate, by their names: the facts of each, with their names."""
+    texts = [text for f, text in TEXTS.items() if re.fullmatch(rf"crates/{crate}/specs/(?:\w+/)*Promises\.antt", f)]
+    records = re.findall(r"^pub record (\w+).*? where\n((?:  .*\n)+)", "\n".join(texts), re.M)
+    return {name: re.findall(r"^  pub (\w+) : (.*?)(?=^  (?:pub|--) |\Z)", facts, re.M | re.S) for name, facts in records}
+
+
+def facts(clause, text, records):
+    """A clause, or in its place the facts of the records of promises that it cites, each with what the clause says before them."""
+    cited = [it for it in records if re.search(rf"\b{it}\b", text)]
+    if not cited:
+        yield clause, text
+    for record in cited:
+        for name, fact in records[record]:
+            yield from facts(f"{clause}.{name}", re.sub(rf"\b{record}\b", "", text) + fact, records)
+
+
 def public_clauses():
-    """The clauses of what the witnessed crates offer: their names and texts."""
+    """The clauses of what the witnessed crates offer: their names and texts, and for a record of promises those of its facts."""
     form = r"^\s*ensures(?: (\w+))? \{(.*?)(?=^\s*(?:ensures|requires)\b|\Z)"
     for crate in WITNESSED:
+        records = promised(crate)
         for function, contract in offered(crate):
             for name, text in re.findall(form, "\n".join(contract), re.M | re.S):
-                yield f"{crate}::{function}" + (f".{name}" if name else ""), text
+                yield from facts(f"{crate}::{function}" + (f".{name}" if name else ""), text, records)
 
 
 def relations(text):

@@ -9,9 +9,11 @@ pub mod KeyLemmas
 pub mod LeafLemmas
 pub mod LikeLemmas
 pub mod Lossless
+pub mod PartPromises
 pub mod PartScanLemmas
 pub mod RangeLemmas
 pub mod RangeParts
+pub mod RangePromises
 pub mod RangeThere
 pub mod ScanLemmas
 pub mod ScanRefused

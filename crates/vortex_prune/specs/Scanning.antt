@@ -6,6 +6,7 @@ pub mod Leaves
 pub mod Likes
 pub mod Marks
 pub mod PartScans
+pub mod Promises
 pub mod RangeScans
 pub mod ScanRefusals
 pub mod Selection

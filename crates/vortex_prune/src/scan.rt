@@ -1,24 +1,19 @@
 //! Scans: which rows of which parts a predicate selects, and which parts it needn't look at.
-ghost use Rattle.std.specs.Prelude.{◌≡◌, ◌-◌, ◌^◌, ℕ, [], false, All, Option, Err, IfErr, IfOk, IsTrue};
-ghost use Rattle.std.specs.Prelude.{length, min, option_copied};
+ghost use Rattle.std.specs.Prelude.{◌≡◌, [], All, Option, IfErr, IfOk, IsTrue};
+ghost use Rattle.std.specs.Prelude.{length, option_copied};
 ghost use Rattle.vortex_expr.specs.Meanings.Fitting.{fits_scope};
 ghost use Rattle.vortex_expr.specs.Trees.Tree.{Place, Tree, is_plain};
-ghost use Rattle.vortex_prune.specs.Part.{AreParts};
+ghost use Rattle.vortex_prune.specs.Scanning.Promises.{RefusesByBinders, ScansByBinders};
 ghost use Rattle.vortex_prune.specs.Scanning.Selection.{AreByStatistics, AreFaithful, AreHonest};
-ghost use Rattle.vortex_prune.specs.Scanning.Selection.{answered, any_binder, full, selected_rows};
-ghost use Rattle.vortex_prune.specs.Scanning.Selection.{skipped_parts, tested_rows, whole_parts};
+ghost use Rattle.vortex_prune.specs.Scanning.Selection.{answered, full, skipped_parts};
 ghost use Rattle.vortex_rewrite.specs.Causes.{Causes, IsRefusal, either_causes};
-ghost use Rattle.vortex_prune.specs.Scanning.ScanRefusals.{AreClosed, KeptAreClosed};
 ghost use Rattle.vortex_prune.specs.Scanning.ScanRefusals.{asking_causes, binder_causes};
-ghost use Rattle.vortex_prune.specs.Scanning.ScanRefusals.{faithful_causes, kept_binders, scan_causes};
+ghost use Rattle.vortex_prune.specs.Scanning.ScanRefusals.{kept_binders};
 ghost use Rattle.vortex_rewrite.specs.Rewriting.ReadOnce.{is_apart};
 ghost use Rattle.vortex_prune.specs.Scanning.Complete.{SkipsExactly};
 ghost use Rattle.vortex_rewrite.specs.Rewriting.Own.{own_rules};
-ghost use Rattle.vortex_rewrite.specs.Rewriting.Predicates.{is_predicate};
 ghost use Rattle.vortex_rewrite.specs.Rewriting.Falsifiers.{falsifier as falsifier_of};
 ghost use Rattle.vortex_rewrite.specs.Rewriting.Falsifiers.{satisfier as satisfier_of};
-ghost use Rattle.vortex_stats.specs.declared.error.StatsError.TheVariants.{NotPredicate};
-ghost use Rattle.vortex_rewrite.specs.Answers.{IsMemory};
 
 mod by_binders;
 mod columns;
@@ -95,23 +90,9 @@ fn scan_by<B: StatBinder>(
     requires binders { length binders.now ≡ length parts.now }
     requires plain { IsTrue (is_plain predicate.now) }
     requires fits { All (λ part. IsTrue (fits_scope predicate.now part.chunk.scope)) parts.now }
-    ensures skipped { IfOk result (λ scan. AreFaithful B.is_faithful_over parts.now binders.now
-        → scan.skipped.items ≡ skipped_parts (option_copied falsifier.entry)
-        (answered B.value parts.now binders.now)) }
-    ensures whole { IfOk result (λ scan. AreFaithful B.is_faithful_over parts.now binders.now
-        → scan.whole.items ≡ whole_parts (option_copied falsifier.entry)
-        (option_copied satisfier.entry) (answered B.value parts.now binders.now)) }
-    ensures selected { IfOk result (λ scan. AreFaithful B.is_faithful_over parts.now binders.now
-        → scan.selected.items ≡ selected_rows (option_copied falsifier.entry)
-        (option_copied satisfier.entry) predicate.now (answered B.value parts.now binders.now)) }
-    ensures evaluated { IfOk result (λ scan. AreFaithful B.is_faithful_over parts.now binders.now
-        → scan.evaluated ≡ min (tested_rows (option_copied falsifier.entry)
-        (option_copied satisfier.entry) (answered B.value parts.now binders.now)) (2 ^ 64 - 1)) }
-    ensures parts { IfOk result (λ _. AreParts parts.now) }
-    ensures closed { IfOk result (λ _. AreClosed B.answer B.is_missing
-        (option_copied falsifier.entry) binders.now) }
-    ensures kept_closed { IfOk result (λ scan. KeptAreClosed B.answer B.is_missing
-        scan.skipped.items (option_copied satisfier.entry) binders.now) }
+    ensures answered { let f = option_copied falsifier.entry in
+        let s = option_copied satisfier.entry in
+        IfOk result (ScansByBinders B.StatBinder f s predicate.now parts.now binders.now) }
     ensures refusal { let causes : Option (Tree Place) → Causes = λ proof.
         binder_causes B.answer B.is_missing B.can_fault proof binders.now in
         IfErr result (IsRefusal (either_causes (causes (option_copied falsifier.entry))
@@ -163,27 +144,6 @@ pub fn scan<B: StatBinder>(
         IfOk result (λ scan. AreFaithful B.is_faithful_over parts.now binders.now
         → scan.skipped.items ≡ skipped_parts (falsifier_of own predicate.now)
         (answered B.value parts.now binders.now)) }
-    // And whole exactly if it isn't skipped and the satisfier is true of it.
-    ensures whole { let own =
-        own_rules ⟦<dyn StatsRewriteRule as StatsRewriteRule>⟧ rules.now.own.items in
-        IfOk result (λ scan. AreFaithful B.is_faithful_over parts.now binders.now
-        → scan.whole.items ≡ whole_parts (falsifier_of own predicate.now)
-        (satisfier_of own predicate.now) (answered B.value parts.now binders.now)) }
-    // Whether or not they are honest, all rows of the whole parts are selected, and the satisfying
-    // rows of the parts that are neither.
-    ensures kept { let own =
-        own_rules ⟦<dyn StatsRewriteRule as StatsRewriteRule>⟧ rules.now.own.items in
-        IfOk result (λ scan. AreFaithful B.is_faithful_over parts.now binders.now
-        → scan.selected.items ≡ selected_rows (falsifier_of own predicate.now)
-        (satisfier_of own predicate.now) predicate.now (answered B.value parts.now binders.now)) }
-    // The rows of these were tested.
-    ensures evaluated { let own =
-        own_rules ⟦<dyn StatsRewriteRule as StatsRewriteRule>⟧ rules.now.own.items in
-        IfOk result (λ scan. AreFaithful B.is_faithful_over parts.now binders.now
-        → scan.evaluated ≡ min (tested_rows (falsifier_of own predicate.now)
-        (satisfier_of own predicate.now) (answered B.value parts.now binders.now)) (2 ^ 64 - 1)) }
-    // What was looked at are parts, as `statistics_binders_are_honest` asks.
-    ensures parts { IfOk result (λ _. AreParts parts.now) }
     // By built-in rules and the parts' own statistics, a predicate whose ANDs are apart skips a
     // part exactly if no values within its bounds satisfy it.
     ensures complete { IfOk result (λ scan. rules.now.own.items ≡ []
@@ -191,33 +151,17 @@ pub fn scan<B: StatBinder>(
         → AreByStatistics B.value parts.now binders.now
         → IsTrue (is_apart predicate.now)
         → SkipsExactly predicate.now parts.now scan.skipped.items) }
-    // By built-in rules, and binders that are faithful and name no fault of their own, as those of
-    // the parts' own statistics, a predicate is refused for memory alone.
-    ensures memory { IsTrue (is_predicate predicate.now) → rules.now.own.items ≡ []
-        → AreFaithful B.is_faithful_over parts.now binders.now
-        → ((k : ℕ) → any_binder B.can_fault binders.now k ≡ false) → IfErr result IsMemory }
-    ensures not_predicate { is_predicate predicate.now ≡ false → result ≡ Err NotPredicate }
-    // Where there is a falsifier, each binder has bound it to a closed expression.
-    ensures closed { let own =
+    // Which parts are skipped and whole, which rows are selected and how many tested, where the
+    // binders are faithful; and what each binder has bound.
+    ensures answered { let own =
         own_rules ⟦<dyn StatsRewriteRule as StatsRewriteRule>⟧ rules.now.own.items in
-        IfOk result (λ _.
-        AreClosed B.answer B.is_missing (falsifier_of own predicate.now) binders.now) }
-    // Where there is a satisfier, so has the binder of each part that isn't skipped.
-    ensures kept_closed { let own =
+        let f = falsifier_of own predicate.now in
+        let s = satisfier_of own predicate.now in
+        IfOk result (ScansByBinders B.StatBinder f s predicate.now parts.now binders.now) }
+    // When each refusal comes.
+    ensures refused { let own =
         own_rules ⟦<dyn StatsRewriteRule as StatsRewriteRule>⟧ rules.now.own.items in
-        IfOk result (λ scan. KeptAreClosed B.answer B.is_missing scan.skipped.items
-        (satisfier_of own predicate.now) binders.now) }
-    // A refusal has its cause: a rule asked at a visited node, or a binder asked for a proof.
-    ensures refusal { let own =
-        own_rules ⟦<dyn StatsRewriteRule as StatsRewriteRule>⟧ rules.now.own.items in
-        let causes = scan_causes B.answer B.is_missing B.can_fault own predicate.now binders.now in
-        IsTrue (is_predicate predicate.now) → IfErr result (IsRefusal causes) }
-    // Faithful binders are asked for the satisfier only where the falsifier isn't true of the part.
-    ensures faithful { let own =
-        own_rules ⟦<dyn StatsRewriteRule as StatsRewriteRule>⟧ rules.now.own.items in
-        let causes = faithful_causes B.answer B.is_missing B.can_fault B.value own predicate.now in
-        IsTrue (is_predicate predicate.now) → AreFaithful B.is_faithful_over parts.now binders.now
-        → IfErr result (IsRefusal (causes parts.now binders.now)) }
+        RefusesByBinders B.StatBinder own predicate.now parts.now binders.now result }
 {
     let falsifier = falsify(alloc, predicate, rules)?;
     let satisfier = satisfy(alloc, predicate, rules)?;

@@ -11,7 +11,7 @@ use Rattle.vortex_base.specs.declared.types.Nullability.TheVariants.{Nullable, N
 use Rattle.vortex_expr.specs.declared.scalar_fn.Operator.TheVariants.{Gt}
 use Rattle.vortex_base.specs.declared.types.PType.TheVariants as ptype
 use Rattle.vortex_prune.specs.Part.{Entries, PartData, ZoneData}
-use Rattle.vortex_prune.specs.Scanning.RangeScans.{has_ranges, has_ranges_from, is_true_in, range_parts, range_rows, ranges_by, row_in_chunk, rows_in_chunk, selected_from, selected_ranges, tested_by, tested_ranges}
+use Rattle.vortex_prune.specs.Scanning.RangeScans.{has_ranges, has_ranges_from, is_true_in, range_parts, range_rows, ranges_by, row_in_chunk, rows_in_chunk, selected_from, tested_by, tested_ranges}
 use Rattle.vortex_prune.specs.Scanning.Selection.{full, satisfying}
 use Rattle.vortex_prune.specs.Zones.{MapData, zone_map}
 use Rattle.vortex_prune.specs.declared.scan.verdict.Verdict.TheVariants.{Skipped, Whole, Tested}
@@ -171,7 +171,7 @@ unfolding node reduce_balanced
 from_the_ten_on = refl
 
 abbrev selects : Tree Place → List (ℕ × ℕ)
-selects p = selected_ranges (falsifier [] p) (satisfier [] p) p six_rows six_rows.scope four_zones
+selects p = selected_from (falsifier [] p) (satisfier [] p) p six_rows 0 six_rows.scope four_zones
 
 -- the first is tested, the third tested since nothing is known of its values, the last whole
 above_four : selects (above 4) ≡ (0, 1) ∷ (0, 2) ∷ (3, 0) ∷ (3, 1) ∷ []

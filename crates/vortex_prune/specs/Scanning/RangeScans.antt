@@ -71,10 +71,6 @@ module _ (falsifier satisfier : Option (Tree Place)) where
   abbrev pub selected_from : Tree Place → ChunkData → (from : ℕ) → List Named → List ZoneData → List (ℕ × ℕ)
   selected_from p k from scope zones = ranges_by p k 0 from (zone_verdicts falsifier satisfier scope zones) (counts_of zones)
 
-  -- by zones whose ranges begin at the first row
-  abbrev pub selected_ranges : Tree Place → ChunkData → List Named → List ZoneData → List (ℕ × ℕ)
-  selected_ranges p k scope zones = selected_from p k 0 scope zones
-
   -- how many rows are tested
   abbrev pub tested_ranges : List Named → List ZoneData → ℕ
   tested_ranges scope zones = tested_by (zone_verdicts falsifier satisfier scope zones) (counts_of zones)

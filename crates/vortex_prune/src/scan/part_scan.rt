@@ -1,12 +1,12 @@
 //! Scans part by part: the interface that decides for each part, and the loop over the parts.
-ghost use Rattle.std.specs.Prelude.{◌≡◌, ◌-◌, ◌^◌, ◌<◌, ℕ, All, List, Option, IfErr, IfOk, IsTrue};
-ghost use Rattle.std.specs.Prelude.{MatchResult, length, min};
+ghost use Rattle.std.specs.Prelude.{◌<◌, ℕ, All, List, Option, IfErr, IfOk, IsTrue};
+ghost use Rattle.std.specs.Prelude.{MatchResult, length};
 ghost use Rattle.vortex_expr.specs.Meanings.Fitting.{fits_scope};
 ghost use Rattle.vortex_expr.specs.Trees.Tree.{Place, Tree, is_plain};
 ghost use Rattle.vortex_prune.specs.Part.{AreParts, PartData};
 ghost use Rattle.vortex_prune.specs.Scanning.PartScans.{AreTold, IsRefusedAt, IsSameTest, TellsOf};
-ghost use Rattle.vortex_prune.specs.Scanning.Selection.{Answered, selected_rows, skipped_parts};
-ghost use Rattle.vortex_prune.specs.Scanning.Selection.{tested_rows, whole_parts};
+ghost use Rattle.vortex_prune.specs.Scanning.Promises.{ScansParts};
+ghost use Rattle.vortex_prune.specs.Scanning.Selection.{Answered};
 ghost use Rattle.vortex_prune.specs.declared.scan.verdict.Verdict.{Verdict};
 ghost use Rattle.vortex_stats.specs.declared.error.StatsError.{StatsError};
 
@@ -48,18 +48,9 @@ pub(crate) fn scan_parts<T: PartTest>(
     requires fits { All (λ part. IsTrue (fits_scope predicate.now part.chunk.scope)) parts.now }
     // Whatever answers the parts stand with: where what the test tells of each is the verdict by
     // two proofs under them, the scan finds what there is to find by these.
-    ensures skipped { IfOk result (λ scan. (f s : Option (Tree Place)) (answers : List Answered)
+    ensures found { IfOk result (λ scan. (f s : Option (Tree Place)) (answers : List Answered)
         → TellsOf (T.tells test.old) f s parts.now answers
-        → scan.skipped.items ≡ skipped_parts f answers) }
-    ensures whole { IfOk result (λ scan. (f s : Option (Tree Place)) (answers : List Answered)
-        → TellsOf (T.tells test.old) f s parts.now answers
-        → scan.whole.items ≡ whole_parts f s answers) }
-    ensures selected { IfOk result (λ scan. (f s : Option (Tree Place)) (answers : List Answered)
-        → TellsOf (T.tells test.old) f s parts.now answers
-        → scan.selected.items ≡ selected_rows f s predicate.now answers) }
-    ensures evaluated { IfOk result (λ scan. (f s : Option (Tree Place)) (answers : List Answered)
-        → TellsOf (T.tells test.old) f s parts.now answers
-        → scan.evaluated ≡ min (tested_rows f s answers) (2 ^ 64 - 1)) }
+        → ScansParts f s predicate.now answers scan) }
     ensures told { IfOk result (λ scan.
         AreTold (T.tells test.old) parts.now scan.skipped.items) }
     ensures parts { IfOk result (λ _. AreParts parts.now) }

@@ -1,34 +1,23 @@
 //! Scans of one chunk by a map of zones, each of which is a range of its rows.
-ghost use Rattle.std.specs.Prelude.{◌≡◌, ◌+◌, ◌<◌, ◌≤◌, ◌↔◌, List, [], Err, IfErr, IfOk, IsTrue, MatchOption};
-ghost use Rattle.std.specs.Prelude.{alloc_error, false, length, sum, true};
+ghost use Rattle.std.specs.Prelude.{◌≡◌, ◌+◌, ◌<◌, ◌≤◌, List, [], IfErr, IfOk, IsTrue, MatchOption};
+ghost use Rattle.std.specs.Prelude.{alloc_error, length, sum};
 ghost use Rattle.std.specs.List.{AllByRecursion};
 ghost use Rattle.vortex_base.specs.Data.Columns.{row_count};
 ghost use Rattle.vortex_expr.specs.Meanings.Fitting.{fits_scope};
 ghost use Rattle.vortex_expr.specs.Trees.Tree.{is_plain};
-ghost use Rattle.vortex_rewrite.specs.Answers.{IsMemory};
-ghost use Rattle.vortex_rewrite.specs.Causes.{IsRefusal};
-ghost use Rattle.vortex_rewrite.specs.Rewriting.Falsifiers.{falsifier as falsifier_of};
-ghost use Rattle.vortex_rewrite.specs.Rewriting.Falsifiers.{satisfier as satisfier_of};
 ghost use Rattle.vortex_rewrite.specs.Rewriting.Own.{own_rules};
-ghost use Rattle.vortex_rewrite.specs.Rewriting.Predicates.{is_predicate};
 ghost use Rattle.vortex_rewrite.specs.Rewriting.ReadOnce.{is_apart};
 ghost use Rattle.vortex_prune.specs.Part.{IsTruePart, PartData, ZoneData};
 ghost use Rattle.vortex_prune.specs.Scanning.Complete.{ZonesSkipExactly};
+ghost use Rattle.vortex_prune.specs.Scanning.Promises.{RefusesRanges, ScansRanges};
 ghost use Rattle.vortex_prune.specs.Scanning.RangeScans.{AreRanges, AreRangesBehind, has_ranges};
-ghost use Rattle.vortex_prune.specs.Scanning.RangeScans.{has_ranges_from, ranges_by, selected_from};
-ghost use Rattle.vortex_prune.specs.Scanning.RangeScans.{rows_in_chunk, satisfying_ranges};
-ghost use Rattle.vortex_prune.specs.Scanning.RangeScans.{selected_ranges};
-ghost use Rattle.vortex_prune.specs.Scanning.RangeScans.{tested_by, tested_ranges};
+ghost use Rattle.vortex_prune.specs.Scanning.RangeScans.{has_ranges_from, ranges_by, rows_in_chunk};
+ghost use Rattle.vortex_prune.specs.Scanning.RangeScans.{tested_by};
 ghost use Rattle.vortex_prune.specs.Scanning.Selection.{full, is_skipped, is_whole, places_where};
-ghost use Rattle.vortex_prune.specs.Scanning.Selection.{satisfying, selected_rows};
-ghost use Rattle.vortex_prune.specs.Scanning.TrueRows.{AreTrueRanges, EachRowOf};
-ghost use Rattle.vortex_prune.specs.Scanning.ZoneScans.{IsShutIfKept, is_left_open, most_causes};
-ghost use Rattle.vortex_prune.specs.Scanning.ZoneScans.{pruning_causes, row_verdicts};
-ghost use Rattle.vortex_prune.specs.Scanning.ZoneScans.{skipped_zones, statistics_answers};
-ghost use Rattle.vortex_prune.specs.Scanning.ZoneScans.{whole_zones};
+ghost use Rattle.vortex_prune.specs.Scanning.Selection.{satisfying};
+ghost use Rattle.vortex_prune.specs.Scanning.TrueRows.{AreTrueRanges};
 ghost use Rattle.vortex_prune.specs.Zones.{IsMapOf};
-ghost use Rattle.vortex_stats.specs.declared.error.StatsError.TheVariants.{Memory, Mismatch};
-ghost use Rattle.vortex_stats.specs.declared.error.StatsError.TheVariants.{NotPredicate};
+ghost use Rattle.vortex_stats.specs.declared.error.StatsError.TheVariants.{Memory};
 
 use crate::scan::outcome::Scan;
 use crate::scan::prune::{has_table, verdicts};
@@ -137,107 +126,21 @@ pub fn scan_ranges_from(
     ensures full { IfOk result (λ scan. (parts : List PartData)
         → AreRangesBehind chunk.now first map.now parts → AllByRecursion IsTruePart parts
         → scan.selected.items ≡ full predicate.now parts) }
-    // Whatever the table was made of, the verdicts on its rows tell which zones are skipped.
-    ensures rows_skipped { let M = ⟦<dyn StatsRewriteRule as StatsRewriteRule>⟧ in
-        let f = falsifier_of (own_rules M rules.now.own.items) predicate.now in
-        let s = satisfier_of (own_rules M rules.now.own.items) predicate.now in
-        let places = places_where is_skipped (row_verdicts f s map.now) in
-        IfOk result (λ scan. scan.skipped.items ≡ places) }
-    // They tell which zones are whole.
-    ensures rows_whole { let M = ⟦<dyn StatsRewriteRule as StatsRewriteRule>⟧ in
-        let f = falsifier_of (own_rules M rules.now.own.items) predicate.now in
-        let s = satisfier_of (own_rules M rules.now.own.items) predicate.now in
-        let places = places_where is_whole (row_verdicts f s map.now) in
-        IfOk result (λ scan. scan.whole.items ≡ places) }
-    // They select all rows of the whole zones, and the satisfying rows of those that are neither.
-    ensures rows_kept { let M = ⟦<dyn StatsRewriteRule as StatsRewriteRule>⟧ in
-        let f = falsifier_of (own_rules M rules.now.own.items) predicate.now in
-        let s = satisfier_of (own_rules M rules.now.own.items) predicate.now in
-        let verdicts = row_verdicts f s map.now in IfOk result (λ scan. scan.selected.items
-        ≡ ranges_by predicate.now chunk.now 0 first verdicts map.now.rows) }
-    // The rows of the zones that are neither were tested.
-    ensures rows_evaluated { let M = ⟦<dyn StatsRewriteRule as StatsRewriteRule>⟧ in
-        let f = falsifier_of (own_rules M rules.now.own.items) predicate.now in
-        let s = satisfier_of (own_rules M rules.now.own.items) predicate.now in
-        let tested = tested_by (row_verdicts f s map.now) map.now.rows in
-        IfOk result (λ scan. scan.evaluated ≡ tested) }
-    // Whatever rows stand in a skipped zone, if its row of the table is true of them: none
-    // satisfies the predicate.
-    ensures skipped_sound { IfOk result (λ scan.
-        EachRowOf false predicate.now map.now scan.skipped.items) }
-    // And of a whole one each does.
-    ensures whole_sound { IfOk result (λ scan.
-        EachRowOf true predicate.now map.now scan.whole.items) }
-    // So where each row of the table is true of its range no wanted row is lost and no other is
-    // told.
-    ensures rows_full { IfOk result (λ scan. AreTrueRanges chunk.now first map.now
-        → scan.selected.items
-        ≡ satisfying_ranges predicate.now chunk.now 0 first map.now.rows) }
-    // A zone is skipped exactly if the falsifier is true by its statistics.
-    ensures skipped { let M = ⟦<dyn StatsRewriteRule as StatsRewriteRule>⟧ in
-        let proof = falsifier_of (own_rules M rules.now.own.items) predicate.now in
-        IfOk result (λ scan. (zones : List ZoneData) → IsMapOf zones map.now
-        → scan.skipped.items ≡ skipped_zones proof map.now.scope zones) }
-    // And whole exactly if it isn't skipped and the satisfier is.
-    ensures whole { let M = ⟦<dyn StatsRewriteRule as StatsRewriteRule>⟧ in
-        let f = falsifier_of (own_rules M rules.now.own.items) predicate.now in
-        let s = satisfier_of (own_rules M rules.now.own.items) predicate.now in
-        IfOk result (λ scan. (zones : List ZoneData) → IsMapOf zones map.now
-        → scan.whole.items ≡ whole_zones f s map.now.scope zones) }
-    // Whether or not the statistics are true, all rows of the whole zones are selected, and the
-    // satisfying rows of the zones that are neither.
-    ensures kept { let M = ⟦<dyn StatsRewriteRule as StatsRewriteRule>⟧ in
-        let f = falsifier_of (own_rules M rules.now.own.items) predicate.now in
-        let s = satisfier_of (own_rules M rules.now.own.items) predicate.now in
-        IfOk result (λ scan. (zones : List ZoneData) → IsMapOf zones map.now → scan.selected.items
-        ≡ selected_from f s predicate.now chunk.now first map.now.scope zones) }
-    // So they are those that a scan of the ranges as parts with their statistics selects.
-    ensures parted { let M = ⟦<dyn StatsRewriteRule as StatsRewriteRule>⟧ in
-        let f = falsifier_of (own_rules M rules.now.own.items) predicate.now in
-        let s = satisfier_of (own_rules M rules.now.own.items) predicate.now in
-        IfOk result (λ scan. (parts : List PartData) → AreRangesBehind chunk.now first map.now parts
-        → scan.selected.items ≡ selected_rows f s predicate.now (statistics_answers parts)) }
-    // The rows of the zones that are neither were tested.
-    ensures evaluated { let M = ⟦<dyn StatsRewriteRule as StatsRewriteRule>⟧ in
-        let f = falsifier_of (own_rules M rules.now.own.items) predicate.now in
-        let s = satisfier_of (own_rules M rules.now.own.items) predicate.now in
-        IfOk result (λ scan. (zones : List ZoneData) → IsMapOf zones map.now
-        → scan.evaluated ≡ tested_ranges f s map.now.scope zones) }
     // By built-in rules a predicate whose ANDs are apart skips a zone exactly if no values within
     // its bounds satisfy it.
     ensures complete { IfOk result (λ scan. (zones : List ZoneData) → IsMapOf zones map.now
         → rules.now.own.items ≡ [] → IsTrue (is_apart predicate.now)
         → ZonesSkipExactly predicate.now zones scan.skipped.items) }
-    // Exactly where the zones aren't ranges of the chunk from that row on, that is refused.
-    ensures mismatch { (result ≡ Err Mismatch) ↔ (has_ranges_from chunk.now first map.now ≡ false) }
-    // Where they are, the other refusals have their causes. By built-in rules a predicate is
-    // refused for memory alone.
-    ensures memory { IsTrue (has_ranges_from chunk.now first map.now)
-        → IsTrue (is_predicate predicate.now) → rules.now.own.items ≡ [] → IfErr result IsMemory }
-    ensures predicate { IfOk result (λ _. IsTrue (is_predicate predicate.now)) }
-    ensures not_predicate { IsTrue (has_ranges_from chunk.now first map.now)
-        → is_predicate predicate.now ≡ false → result ≡ Err NotPredicate }
-    // No falsifier that has a column outside its placeholders was bound.
-    ensures closed { let M = ⟦<dyn StatsRewriteRule as StatsRewriteRule>⟧ in
-        let proof = falsifier_of (own_rules M rules.now.own.items) predicate.now in
-        IfOk result (λ _. is_left_open proof map.now.rows ≡ false) }
-    // Nor such a satisfier, for a zone that isn't skipped.
-    ensures kept_closed { let M = ⟦<dyn StatsRewriteRule as StatsRewriteRule>⟧ in
-        let s = satisfier_of (own_rules M rules.now.own.items) predicate.now in
-        IfOk result (λ scan. IsShutIfKept scan.skipped.items s map.now.rows) }
-    // A refusal has its cause: a rule asked at a visited node, such a falsifier and a zone, or such
-    // a satisfier and a zone that isn't skipped.
-    ensures refusal { let M = ⟦<dyn StatsRewriteRule as StatsRewriteRule>⟧ in
-        let own = own_rules M rules.now.own.items in
-        IsTrue (has_ranges_from chunk.now first map.now) → IsTrue (is_predicate predicate.now)
-        → IfErr result (λ e. (zones : List ZoneData) → IsMapOf zones map.now
-        → IsRefusal (pruning_causes own predicate.now map.now.scope zones) e) }
-    // Whatever the table was made of, it has such a rule, or such a falsifier or satisfier and a
-    // zone.
-    ensures at_most { let M = ⟦<dyn StatsRewriteRule as StatsRewriteRule>⟧ in
-        let causes = most_causes (own_rules M rules.now.own.items) predicate.now map.now.rows in
-        IsTrue (has_ranges_from chunk.now first map.now) → IsTrue (is_predicate predicate.now)
-        → IfErr result (IsRefusal causes) }
+    // Which zones are skipped and whole, which rows are selected and how many tested, by any table
+    // and by that of zones; and that no open proof was bound.
+    ensures answered { let own =
+        own_rules ⟦<dyn StatsRewriteRule as StatsRewriteRule>⟧ rules.now.own.items in
+        IfOk result (ScansRanges own predicate.now chunk.now first map.now) }
+    // When each refusal comes.
+    ensures refused { let own =
+        own_rules ⟦<dyn StatsRewriteRule as StatsRewriteRule>⟧ rules.now.own.items in
+        let are_ranges = has_ranges_from chunk.now first map.now in
+        RefusesRanges are_ranges own predicate.now map.now result }
 {
     if !has_ranges_from(chunk, first, map) {
         return Err(StatsError::Mismatch);
@@ -282,110 +185,25 @@ pub fn scan_ranges(
     ensures full { IfOk result (λ scan. (parts : List PartData)
         → AreRanges chunk.now map.now parts → AllByRecursion IsTruePart parts
         → scan.selected.items ≡ full predicate.now parts) }
-    // Whatever the table was made of, the verdicts on its rows tell which zones are skipped.
-    ensures rows_skipped { let M = ⟦<dyn StatsRewriteRule as StatsRewriteRule>⟧ in
-        let f = falsifier_of (own_rules M rules.now.own.items) predicate.now in
-        let s = satisfier_of (own_rules M rules.now.own.items) predicate.now in
-        let places = places_where is_skipped (row_verdicts f s map.now) in
-        IfOk result (λ scan. scan.skipped.items ≡ places) }
-    // They tell which zones are whole.
-    ensures rows_whole { let M = ⟦<dyn StatsRewriteRule as StatsRewriteRule>⟧ in
-        let f = falsifier_of (own_rules M rules.now.own.items) predicate.now in
-        let s = satisfier_of (own_rules M rules.now.own.items) predicate.now in
-        let places = places_where is_whole (row_verdicts f s map.now) in
-        IfOk result (λ scan. scan.whole.items ≡ places) }
-    // They select all rows of the whole zones, and the satisfying rows of those that are neither.
-    ensures rows_kept { let M = ⟦<dyn StatsRewriteRule as StatsRewriteRule>⟧ in
-        let f = falsifier_of (own_rules M rules.now.own.items) predicate.now in
-        let s = satisfier_of (own_rules M rules.now.own.items) predicate.now in
-        let verdicts = row_verdicts f s map.now in IfOk result (λ scan. scan.selected.items
-        ≡ ranges_by predicate.now chunk.now 0 0 verdicts map.now.rows) }
-    // The rows of the zones that are neither were tested.
-    ensures rows_evaluated { let M = ⟦<dyn StatsRewriteRule as StatsRewriteRule>⟧ in
-        let f = falsifier_of (own_rules M rules.now.own.items) predicate.now in
-        let s = satisfier_of (own_rules M rules.now.own.items) predicate.now in
-        let tested = tested_by (row_verdicts f s map.now) map.now.rows in
-        IfOk result (λ scan. scan.evaluated ≡ tested) }
-    // Whatever rows stand in a skipped zone, if its row of the table is true of them: none
-    // satisfies the predicate.
-    ensures skipped_sound { IfOk result (λ scan.
-        EachRowOf false predicate.now map.now scan.skipped.items) }
-    // And of a whole one each does.
-    ensures whole_sound { IfOk result (λ scan.
-        EachRowOf true predicate.now map.now scan.whole.items) }
-    // So where each row of the table is true of its range no wanted row is lost and no other is
-    // told.
-    ensures rows_full { IfOk result (λ scan. AreTrueRanges chunk.now 0 map.now
-        → scan.selected.items
-        ≡ satisfying_ranges predicate.now chunk.now 0 0 map.now.rows) }
-    // These are the chunk's rows that satisfy the predicate.
+    // Whatever the table was made of: where each row of it is true of its range, the selected rows
+    // are the chunk's rows that satisfy the predicate.
     ensures rows_selected { IfOk result (λ scan. AreTrueRanges chunk.now 0 map.now
         → rows_in_chunk map.now.rows scan.selected.items
         ≡ satisfying predicate.now chunk.now) }
-    // A zone is skipped exactly if the falsifier is true by its statistics.
-    ensures skipped { let M = ⟦<dyn StatsRewriteRule as StatsRewriteRule>⟧ in
-        let proof = falsifier_of (own_rules M rules.now.own.items) predicate.now in
-        IfOk result (λ scan. (zones : List ZoneData) → IsMapOf zones map.now
-        → scan.skipped.items ≡ skipped_zones proof map.now.scope zones) }
-    // And whole exactly if it isn't skipped and the satisfier is.
-    ensures whole { let M = ⟦<dyn StatsRewriteRule as StatsRewriteRule>⟧ in
-        let f = falsifier_of (own_rules M rules.now.own.items) predicate.now in
-        let s = satisfier_of (own_rules M rules.now.own.items) predicate.now in
-        IfOk result (λ scan. (zones : List ZoneData) → IsMapOf zones map.now
-        → scan.whole.items ≡ whole_zones f s map.now.scope zones) }
-    // Whether or not the statistics are true, all rows of the whole zones are selected, and the
-    // satisfying rows of the zones that are neither.
-    ensures kept { let M = ⟦<dyn StatsRewriteRule as StatsRewriteRule>⟧ in
-        let f = falsifier_of (own_rules M rules.now.own.items) predicate.now in
-        let s = satisfier_of (own_rules M rules.now.own.items) predicate.now in
-        IfOk result (λ scan. (zones : List ZoneData) → IsMapOf zones map.now
-        → scan.selected.items ≡ selected_ranges f s predicate.now chunk.now map.now.scope zones) }
-    // So they are those that a scan of the ranges as parts with their statistics selects.
-    ensures parted { let M = ⟦<dyn StatsRewriteRule as StatsRewriteRule>⟧ in
-        let f = falsifier_of (own_rules M rules.now.own.items) predicate.now in
-        let s = satisfier_of (own_rules M rules.now.own.items) predicate.now in
-        IfOk result (λ scan. (parts : List PartData) → AreRanges chunk.now map.now parts
-        → scan.selected.items ≡ selected_rows f s predicate.now (statistics_answers parts)) }
-    // The rows of the zones that are neither were tested.
-    ensures evaluated { let M = ⟦<dyn StatsRewriteRule as StatsRewriteRule>⟧ in
-        let f = falsifier_of (own_rules M rules.now.own.items) predicate.now in
-        let s = satisfier_of (own_rules M rules.now.own.items) predicate.now in
-        IfOk result (λ scan. (zones : List ZoneData) → IsMapOf zones map.now
-        → scan.evaluated ≡ tested_ranges f s map.now.scope zones) }
     // By built-in rules a predicate whose ANDs are apart skips a zone exactly if no values within
     // its bounds satisfy it.
     ensures complete { IfOk result (λ scan. (zones : List ZoneData) → IsMapOf zones map.now
         → rules.now.own.items ≡ [] → IsTrue (is_apart predicate.now)
         → ZonesSkipExactly predicate.now zones scan.skipped.items) }
-    // Exactly where the zones aren't ranges of the chunk, that is refused.
-    ensures mismatch { (result ≡ Err Mismatch) ↔ (has_ranges chunk.now map.now ≡ false) }
-    // Where they are, the other refusals have their causes. By built-in rules a predicate is
-    // refused for memory alone.
-    ensures memory { IsTrue (has_ranges chunk.now map.now) → IsTrue (is_predicate predicate.now)
-        → rules.now.own.items ≡ [] → IfErr result IsMemory }
-    ensures not_predicate { IsTrue (has_ranges chunk.now map.now)
-        → is_predicate predicate.now ≡ false → result ≡ Err NotPredicate }
-    // No falsifier that has a column outside its placeholders was bound.
-    ensures closed { let M = ⟦<dyn StatsRewriteRule as StatsRewriteRule>⟧ in
-        let proof = falsifier_of (own_rules M rules.now.own.items) predicate.now in
-        IfOk result (λ _. is_left_open proof map.now.rows ≡ false) }
-    // Nor such a satisfier, for a zone that isn't skipped.
-    ensures kept_closed { let M = ⟦<dyn StatsRewriteRule as StatsRewriteRule>⟧ in
-        let s = satisfier_of (own_rules M rules.now.own.items) predicate.now in
-        IfOk result (λ scan. IsShutIfKept scan.skipped.items s map.now.rows) }
-    // A refusal has its cause: a rule asked at a visited node, such a falsifier and a zone, or such
-    // a satisfier and a zone that isn't skipped.
-    ensures refusal { let M = ⟦<dyn StatsRewriteRule as StatsRewriteRule>⟧ in
-        let own = own_rules M rules.now.own.items in
-        IsTrue (has_ranges chunk.now map.now) → IsTrue (is_predicate predicate.now)
-        → IfErr result (λ e. (zones : List ZoneData) → IsMapOf zones map.now
-        → IsRefusal (pruning_causes own predicate.now map.now.scope zones) e) }
-    // Whatever the table was made of, it has such a rule, or such a falsifier or satisfier and a
-    // zone.
-    ensures at_most { let M = ⟦<dyn StatsRewriteRule as StatsRewriteRule>⟧ in
-        let causes = most_causes (own_rules M rules.now.own.items) predicate.now map.now.rows in
-        IsTrue (has_ranges chunk.now map.now) → IsTrue (is_predicate predicate.now)
-        → IfErr result (IsRefusal causes) }
+    // All that `scan_ranges_from` finds from the first row on.
+    ensures answered { let own =
+        own_rules ⟦<dyn StatsRewriteRule as StatsRewriteRule>⟧ rules.now.own.items in
+        IfOk result (ScansRanges own predicate.now chunk.now 0 map.now) }
+    // When each refusal comes.
+    ensures refused { let own =
+        own_rules ⟦<dyn StatsRewriteRule as StatsRewriteRule>⟧ rules.now.own.items in
+        let are_ranges = has_ranges chunk.now map.now in
+        RefusesRanges are_ranges own predicate.now map.now result }
 {
     if !has_ranges(chunk, map) {
         return Err(StatsError::Mismatch);

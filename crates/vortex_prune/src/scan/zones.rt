@@ -1,25 +1,20 @@
 //! Scans of parts that stand with a map of zones, which decides for each part.
-ghost use Rattle.std.specs.Prelude.{◌≡◌, ◌-◌, ◌^◌, Option, [], Err, IfErr, IfOk, IsTrue};
-ghost use Rattle.std.specs.Prelude.{alloc_error, false, length, min};
+ghost use Rattle.std.specs.Prelude.{◌≡◌, Option, [], IfErr, IfOk, IsTrue};
+ghost use Rattle.std.specs.Prelude.{alloc_error, length};
 ghost use Rattle.std.specs.List.{AllByRecursion};
 ghost use Rattle.vortex_expr.specs.Meanings.Fitting.{fits_scope};
 ghost use Rattle.vortex_expr.specs.Trees.Tree.{Place, Tree, is_plain};
-ghost use Rattle.vortex_rewrite.specs.Causes.{IsRefusal};
 ghost use Rattle.vortex_rewrite.specs.Rewriting.ReadOnce.{is_apart};
 ghost use Rattle.vortex_prune.specs.Scanning.Complete.{SkipsExactly};
 ghost use Rattle.vortex_rewrite.specs.Rewriting.Own.{own_rules};
 ghost use Rattle.vortex_prune.specs.Part.{AreParts, IsTruePart};
-ghost use Rattle.vortex_rewrite.specs.Rewriting.Predicates.{is_predicate};
 ghost use Rattle.vortex_rewrite.specs.Rewriting.Falsifiers.{falsifier as falsifier_of};
-ghost use Rattle.vortex_rewrite.specs.Rewriting.Falsifiers.{satisfier as satisfier_of};
-ghost use Rattle.vortex_rewrite.specs.Answers.{IsMemory};
-ghost use Rattle.vortex_prune.specs.Scanning.Selection.{answered, full, selected_rows};
-ghost use Rattle.vortex_prune.specs.Scanning.Selection.{skipped_parts, tested_rows, whole_parts};
+ghost use Rattle.vortex_prune.specs.Scanning.Promises.{RefusesByZones, ScansByZones, ScansParts};
+ghost use Rattle.vortex_prune.specs.Scanning.Selection.{answered, full, skipped_parts};
 ghost use Rattle.vortex_prune.specs.Scanning.ZoneScans.{IsShutIfKept, IsShutIfVerdict};
-ghost use Rattle.vortex_prune.specs.Scanning.ZoneScans.{is_left_open, statistics_answers};
-ghost use Rattle.vortex_prune.specs.Scanning.ZoneScans.{zone_causes, zone_verdicts};
+ghost use Rattle.vortex_prune.specs.Scanning.ZoneScans.{statistics_answers, zone_verdicts};
 ghost use Rattle.vortex_prune.specs.Zones.{HaveScope, zones_of};
-ghost use Rattle.vortex_stats.specs.declared.error.StatsError.TheVariants.{Memory, NotPredicate};
+ghost use Rattle.vortex_stats.specs.declared.error.StatsError.TheVariants.{Memory};
 
 use crate::bind::stat_binder::StatBinder;
 use crate::bind::stats_binder::StatsBinder;
@@ -70,20 +65,9 @@ fn scan_verdicts(
     requires plain { IsTrue (is_plain predicate.now) }
     requires fits { IsTrue (fits_scope predicate.now zones.now.scope) }
     requires long { length verdicts.now ≡ length zones.now.parts }
-    ensures skipped { IfOk result (λ scan. (f s : Option (Tree Place))
+    ensures found { IfOk result (λ scan. (f s : Option (Tree Place))
         → verdicts.now ≡ zone_verdicts f s zones.now.scope (zones_of zones.now.parts)
-        → scan.skipped.items ≡ skipped_parts f (statistics_answers zones.now.parts)) }
-    ensures whole { IfOk result (λ scan. (f s : Option (Tree Place))
-        → verdicts.now ≡ zone_verdicts f s zones.now.scope (zones_of zones.now.parts)
-        → scan.whole.items ≡ whole_parts f s (statistics_answers zones.now.parts)) }
-    ensures selected { IfOk result (λ scan. (f s : Option (Tree Place))
-        → verdicts.now ≡ zone_verdicts f s zones.now.scope (zones_of zones.now.parts)
-        → scan.selected.items
-        ≡ selected_rows f s predicate.now (statistics_answers zones.now.parts)) }
-    ensures evaluated { IfOk result (λ scan. (f s : Option (Tree Place))
-        → verdicts.now ≡ zone_verdicts f s zones.now.scope (zones_of zones.now.parts)
-        → scan.evaluated
-        ≡ min (tested_rows f s (statistics_answers zones.now.parts)) (2 ^ 64 - 1)) }
+        → ScansParts f s predicate.now (statistics_answers zones.now.parts) scan) }
     ensures kept_closed { IfOk result (λ scan. (s : Option (Tree Place))
         → IsShutIfVerdict s verdicts.now → IsShutIfKept scan.skipped.items s zones.now.parts) }
     ensures memory { IfErr result (λ f. f ≡ Memory alloc_error) }
@@ -101,38 +85,15 @@ fn scan_rules(
 ) -> Result<Scan, StatsError>
     requires plain { IsTrue (is_plain predicate.now) }
     requires fits { IsTrue (fits_scope predicate.now zones.now.scope) }
-    ensures skipped { let M = ⟦<dyn StatsRewriteRule as StatsRewriteRule>⟧ in
-        let proof = falsifier_of (own_rules M rules.now.own.items) predicate.now in
-        let places = skipped_parts proof (statistics_answers zones.now.parts) in
-        IfOk result (λ scan. scan.skipped.items ≡ places) }
-    ensures whole { let M = ⟦<dyn StatsRewriteRule as StatsRewriteRule>⟧ in
-        let f = falsifier_of (own_rules M rules.now.own.items) predicate.now in
-        let s = satisfier_of (own_rules M rules.now.own.items) predicate.now in
-        let places = whole_parts f s (statistics_answers zones.now.parts) in
-        IfOk result (λ scan. scan.whole.items ≡ places) }
-    ensures kept { let M = ⟦<dyn StatsRewriteRule as StatsRewriteRule>⟧ in
-        let f = falsifier_of (own_rules M rules.now.own.items) predicate.now in
-        let s = satisfier_of (own_rules M rules.now.own.items) predicate.now in
-        let rows = selected_rows f s predicate.now (statistics_answers zones.now.parts) in
-        IfOk result (λ scan. scan.selected.items ≡ rows) }
-    ensures evaluated { let M = ⟦<dyn StatsRewriteRule as StatsRewriteRule>⟧ in
-        let f = falsifier_of (own_rules M rules.now.own.items) predicate.now in
-        let s = satisfier_of (own_rules M rules.now.own.items) predicate.now in
-        let rows = tested_rows f s (statistics_answers zones.now.parts) in
-        IfOk result (λ scan. scan.evaluated ≡ min rows (2 ^ 64 - 1)) }
     ensures parts { AreParts zones.now.parts }
     ensures scoped { HaveScope zones.now.scope zones.now.parts }
-    ensures predicate { IfOk result (λ _. IsTrue (is_predicate predicate.now)) }
-    ensures not_predicate { is_predicate predicate.now ≡ false → result ≡ Err NotPredicate }
-    ensures closed { let M = ⟦<dyn StatsRewriteRule as StatsRewriteRule>⟧ in
-        let proof = falsifier_of (own_rules M rules.now.own.items) predicate.now in
-        IfOk result (λ _. is_left_open proof zones.now.parts ≡ false) }
-    ensures kept_closed { let M = ⟦<dyn StatsRewriteRule as StatsRewriteRule>⟧ in
-        let s = satisfier_of (own_rules M rules.now.own.items) predicate.now in
-        IfOk result (λ scan. IsShutIfKept scan.skipped.items s zones.now.parts) }
-    ensures refusal { let M = ⟦<dyn StatsRewriteRule as StatsRewriteRule>⟧ in
-        let causes = zone_causes (own_rules M rules.now.own.items) predicate.now zones.now.parts in
-        IsTrue (is_predicate predicate.now) → IfErr result (IsRefusal causes) }
+    ensures answered { let own =
+        own_rules ⟦<dyn StatsRewriteRule as StatsRewriteRule>⟧ rules.now.own.items in
+        let answers = statistics_answers zones.now.parts in
+        IfOk result (ScansByZones own predicate.now zones.now.parts answers) }
+    ensures refused { let own =
+        own_rules ⟦<dyn StatsRewriteRule as StatsRewriteRule>⟧ rules.now.own.items in
+        RefusesByZones own predicate.now zones.now.parts result }
 {
     // That the parts are of the scope and their map is kept.
     let _parts = zones.parts();
@@ -167,55 +128,28 @@ pub fn scan_zones<'a>(
         → scan.selected.items ≡ full predicate.now zones.now.parts) }
     // A part is skipped exactly if the falsifier is true of it, as in the scan of these parts by
     // the binders of their own statistics.
-    ensures skipped { let M = ⟦<dyn StatsRewriteRule as StatsRewriteRule>⟧ in
+    ensures skipped { let own =
+        own_rules ⟦<dyn StatsRewriteRule as StatsRewriteRule>⟧ rules.now.own.items in
         let values = ⟦<StatsBinder<'a> as StatBinder>⟧.value in
-        let proof = falsifier_of (own_rules M rules.now.own.items) predicate.now in
         let answers = answered values zones.now.parts zones.now.parts in
-        IfOk result (λ scan. scan.skipped.items ≡ skipped_parts proof answers) }
-    // And whole exactly if it isn't skipped and the satisfier is true of it.
-    ensures whole { let M = ⟦<dyn StatsRewriteRule as StatsRewriteRule>⟧ in
-        let values = ⟦<StatsBinder<'a> as StatBinder>⟧.value in
-        let f = falsifier_of (own_rules M rules.now.own.items) predicate.now in
-        let s = satisfier_of (own_rules M rules.now.own.items) predicate.now in
-        let answers = answered values zones.now.parts zones.now.parts in
-        IfOk result (λ scan. scan.whole.items ≡ whole_parts f s answers) }
-    // Whether or not the statistics are true, all rows of the whole parts are selected, and the
-    // satisfying rows of the parts that are neither.
-    ensures kept { let M = ⟦<dyn StatsRewriteRule as StatsRewriteRule>⟧ in
-        let values = ⟦<StatsBinder<'a> as StatBinder>⟧.value in
-        let f = falsifier_of (own_rules M rules.now.own.items) predicate.now in
-        let s = satisfier_of (own_rules M rules.now.own.items) predicate.now in
-        let answers = answered values zones.now.parts zones.now.parts in
-        IfOk result (λ scan. scan.selected.items ≡ selected_rows f s predicate.now answers) }
-    // The rows of these were tested.
-    ensures evaluated { let M = ⟦<dyn StatsRewriteRule as StatsRewriteRule>⟧ in
-        let values = ⟦<StatsBinder<'a> as StatBinder>⟧.value in
-        let f = falsifier_of (own_rules M rules.now.own.items) predicate.now in
-        let s = satisfier_of (own_rules M rules.now.own.items) predicate.now in
-        let answers = answered values zones.now.parts zones.now.parts in
-        IfOk result (λ scan. scan.evaluated ≡ min (tested_rows f s answers) (2 ^ 64 - 1)) }
+        let places = skipped_parts (falsifier_of own predicate.now) answers in
+        IfOk result (λ scan. scan.skipped.items ≡ places) }
     // By built-in rules a predicate whose ANDs are apart skips a part exactly if no values within
     // its bounds satisfy it.
     ensures complete { IfOk result (λ scan. rules.now.own.items ≡ []
         → IsTrue (is_apart predicate.now)
         → SkipsExactly predicate.now zones.now.parts scan.skipped.items) }
-    // By built-in rules a predicate is refused for memory alone.
-    ensures memory { IsTrue (is_predicate predicate.now) → rules.now.own.items ≡ []
-        → IfErr result IsMemory }
-    ensures not_predicate { is_predicate predicate.now ≡ false → result ≡ Err NotPredicate }
-    // No falsifier that has a column outside its placeholders was bound.
-    ensures closed { let M = ⟦<dyn StatsRewriteRule as StatsRewriteRule>⟧ in
-        let proof = falsifier_of (own_rules M rules.now.own.items) predicate.now in
-        IfOk result (λ _. is_left_open proof zones.now.parts ≡ false) }
-    // Nor such a satisfier, for a part that isn't skipped.
-    ensures kept_closed { let M = ⟦<dyn StatsRewriteRule as StatsRewriteRule>⟧ in
-        let s = satisfier_of (own_rules M rules.now.own.items) predicate.now in
-        IfOk result (λ scan. IsShutIfKept scan.skipped.items s zones.now.parts) }
-    // A refusal has its cause: a rule asked at a visited node, such a falsifier and a part, or such
-    // a satisfier and a part that isn't skipped.
-    ensures refusal { let M = ⟦<dyn StatsRewriteRule as StatsRewriteRule>⟧ in
-        let causes = zone_causes (own_rules M rules.now.own.items) predicate.now zones.now.parts in
-        IsTrue (is_predicate predicate.now) → IfErr result (IsRefusal causes) }
+    // Which parts are skipped and whole, which rows are selected and how many tested, as in that
+    // scan; and that no open proof was bound.
+    ensures answered { let own =
+        own_rules ⟦<dyn StatsRewriteRule as StatsRewriteRule>⟧ rules.now.own.items in
+        let values = ⟦<StatsBinder<'a> as StatBinder>⟧.value in
+        let answers = answered values zones.now.parts zones.now.parts in
+        IfOk result (ScansByZones own predicate.now zones.now.parts answers) }
+    // When each refusal comes.
+    ensures refused { let own =
+        own_rules ⟦<dyn StatsRewriteRule as StatsRewriteRule>⟧ rules.now.own.items in
+        RefusesByZones own predicate.now zones.now.parts result }
 {
     scan_rules(alloc, zones, predicate, rules)
 }

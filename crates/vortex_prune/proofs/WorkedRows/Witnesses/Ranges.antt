@@ -9,7 +9,7 @@ use Rattle.vortex_prune.proofs.WorkedRows.Witnesses.Parts.{IsWitness, a, above_t
 use Rattle.vortex_prune.proofs.WorkedRows.Witnesses.Pruning.{IsAskedOf, answered_is_not_refused, asked, built_in, mixed_is_not_skipped, none_for_one, number_asked, open_is_not_memory, shut}
 use Rattle.vortex_prune.specs.Part.{IsTruePart, PartData}
 use Rattle.vortex_prune.specs.Scanning.Complete.{ZonesSkipExactly}
-use Rattle.vortex_prune.specs.Scanning.RangeScans.{AreRanges, AreRangesBehind, AreRangesFrom, has_ranges, has_ranges_from, rows_in_chunk, selected_from, selected_ranges, tested_ranges}
+use Rattle.vortex_prune.specs.Scanning.RangeScans.{AreRanges, AreRangesBehind, AreRangesFrom, has_ranges, has_ranges_from, rows_in_chunk, selected_from, tested_ranges}
 use Rattle.vortex_prune.specs.Scanning.Selection.{full, satisfying, selected_rows}
 use Rattle.vortex_prune.specs.Scanning.ZoneScans.{pruning_causes, skipped_zones, statistics_answers, whole_zones}
 use Rattle.vortex_prune.specs.Zones.{IsMapOf}
@@ -93,11 +93,11 @@ pub scan_ranges_whole : IsWitness (IsAskedOf above_ten scope × IsMapOf zones th
 unfolding node reduce_balanced
 scan_ranges_whole = record { met = (asked, is_map); refuted = none_for_one 2 }
 
-pub scan_ranges_kept : IsWitness (IsAskedOf above_ten scope × IsMapOf zones their_map) (λ (selected : Rows). selected ≡ selected_ranges (falsifier [] above_ten) (satisfier [] above_ten) above_ten six_rows scope zones) lossy
+pub scan_ranges_kept : IsWitness (IsAskedOf above_ten scope × IsMapOf zones their_map) (λ (selected : Rows). selected ≡ selected_from (falsifier [] above_ten) (satisfier [] above_ten) above_ten six_rows 0 scope zones) lossy
 unfolding node reduce_balanced
 scan_ranges_kept = record { met = (asked, is_map); refuted = lossy_is_not_all }
 
-pub scan_ranges_parted : IsWitness (IsAskedOf above_ten scope × AreRanges six_rows their_map parts)
+pub scan_ranges_parted : IsWitness (IsAskedOf above_ten scope × AreRangesBehind six_rows 0 their_map parts)
     (λ (selected : Rows). selected ≡ selected_rows (falsifier [] above_ten) (satisfier [] above_ten) above_ten (statistics_answers parts)) lossy
 unfolding node reduce_balanced
 scan_ranges_parted = record { met = (asked, are_ranges); refuted = lossy_is_not_all }

@@ -1,62 +1,30 @@
 use Rattle.std.proofs.Common.{arith}
-use Rattle.std.proofs.lemmas.Result.{IfErr-weaker, IfOk-weaker}
+use Rattle.std.proofs.lemmas.Result.{IfErr-weaker}
 use Rattle.std.specs.Prelude.{option_copied}
 use Rattle.vortex_prune.proofs.Scanning.BinderScan.{binders_closed, binders_kept_closed, binders_refused, binders_refused_faithful, binders_tell}
+use Rattle.vortex_prune.proofs.ZoneMaps.ZonePruned.{of_three}
 use Rattle.vortex_prune.specs.Scanning.Selection.{answered}
 use Rattle.vortex_prune.proofs.scan.scan_by.Goals as goal
 
 pub scan_parts-requires-clause-able : goal.scan_parts-requires-clause-able
 scan_parts-requires-clause-able g c = λ place less. omega (arith, c.requires.binders, less)
 
-pub returns-clause-skipped : goal.returns-clause-skipped
-returns-clause-skipped g c =
+pub returns-clause-answered : goal.returns-clause-answered
+returns-clause-answered g c =
     let B = g.B.StatBinder in
-    IfOk-weaker c.scan_parts.result _ _
-    (λ scan found faithful.
-    found (option_copied c.args.falsifier) (option_copied c.args.satisfier) (answered B.value c.args.parts.now c.args.binders.now)
-    (binders_tell B.answer B.is_missing B.is_faithful_over (option_copied c.args.falsifier) (option_copied c.args.satisfier) c.args.binders.now B.value c.args.parts.now c.requires.binders faithful))
-    c.scan_parts.ensures.skipped
-
-pub returns-clause-whole : goal.returns-clause-whole
-returns-clause-whole g c =
-    let B = g.B.StatBinder in
-    IfOk-weaker c.scan_parts.result _ _
-    (λ scan found faithful.
-    found (option_copied c.args.falsifier) (option_copied c.args.satisfier) (answered B.value c.args.parts.now c.args.binders.now)
-    (binders_tell B.answer B.is_missing B.is_faithful_over (option_copied c.args.falsifier) (option_copied c.args.satisfier) c.args.binders.now B.value c.args.parts.now c.requires.binders faithful))
-    c.scan_parts.ensures.whole
-
-pub returns-clause-selected : goal.returns-clause-selected
-returns-clause-selected g c =
-    let B = g.B.StatBinder in
-    IfOk-weaker c.scan_parts.result _ _
-    (λ scan found faithful.
-    found (option_copied c.args.falsifier) (option_copied c.args.satisfier) (answered B.value c.args.parts.now c.args.binders.now)
-    (binders_tell B.answer B.is_missing B.is_faithful_over (option_copied c.args.falsifier) (option_copied c.args.satisfier) c.args.binders.now B.value c.args.parts.now c.requires.binders faithful))
-    c.scan_parts.ensures.selected
-
-pub returns-clause-evaluated : goal.returns-clause-evaluated
-returns-clause-evaluated g c =
-    let B = g.B.StatBinder in
-    IfOk-weaker c.scan_parts.result _ _
-    (λ scan found faithful.
-    found (option_copied c.args.falsifier) (option_copied c.args.satisfier) (answered B.value c.args.parts.now c.args.binders.now)
-    (binders_tell B.answer B.is_missing B.is_faithful_over (option_copied c.args.falsifier) (option_copied c.args.satisfier) c.args.binders.now B.value c.args.parts.now c.requires.binders faithful))
-    c.scan_parts.ensures.evaluated
-
-pub returns-clause-closed : goal.returns-clause-closed
-returns-clause-closed g c =
-    let B = g.B.StatBinder in
-    IfOk-weaker c.scan_parts.result _ _
-    (λ scan told. binders_closed B.answer B.is_missing B.is_faithful_over (option_copied c.args.falsifier) (option_copied c.args.satisfier) c.args.binders.now B.value c.args.parts.now _ c.requires.binders told)
-    c.scan_parts.ensures.told
-
-pub returns-clause-kept_closed : goal.returns-clause-kept_closed
-returns-clause-kept_closed g c =
-    let B = g.B.StatBinder in
-    IfOk-weaker c.scan_parts.result _ _
-    (λ scan told. binders_kept_closed B.answer B.is_missing B.is_faithful_over (option_copied c.args.falsifier) (option_copied c.args.satisfier) c.args.binders.now B.value c.args.parts.now _ c.requires.binders told)
-    c.scan_parts.ensures.told
+    let f = option_copied c.args.falsifier in
+    let s = option_copied c.args.satisfier in
+    let parts = c.args.parts.now in
+    let binders = c.args.binders.now in
+    of_three c.scan_parts.result _ _ _ _
+    (λ scan found told are.
+    record {
+      found = λ faithful. found f s (answered B.value parts binders) (binders_tell B.answer B.is_missing B.is_faithful_over f s binders B.value parts c.requires.binders faithful);
+      are_parts = are;
+      closed = binders_closed B.answer B.is_missing B.is_faithful_over f s binders B.value parts _ c.requires.binders told;
+      kept_closed = binders_kept_closed B.answer B.is_missing B.is_faithful_over f s binders B.value parts _ c.requires.binders told;
+    })
+    c.scan_parts.ensures.found c.scan_parts.ensures.told c.scan_parts.ensures.parts
 
 pub returns-clause-refusal : goal.returns-clause-refusal
 returns-clause-refusal g c =

@@ -32,25 +32,15 @@ loop-place-preserved g c =
           c.in_ok-record.ensures.evaluated (c.loop-place.invariant.evaluated f s answers told);
     }
 
-pub returns-clause-skipped : goal.returns-clause-skipped
-returns-clause-skipped g c = λ f s answers told.
-    c.loop-place.invariant.skipped f s answers told
-    ∙ ap (skipped_parts f) (all_answered (g.T.PartTest.tells c.args.test.now) c.args.parts.now f s answers c.loop-place.place told (omega (arith, c.loop-place-test.false)))
-
-pub returns-clause-whole : goal.returns-clause-whole
-returns-clause-whole g c = λ f s answers told.
-    c.loop-place.invariant.whole f s answers told
-    ∙ ap (whole_parts f s) (all_answered (g.T.PartTest.tells c.args.test.now) c.args.parts.now f s answers c.loop-place.place told (omega (arith, c.loop-place-test.false)))
-
-pub returns-clause-selected : goal.returns-clause-selected
-returns-clause-selected g c = λ f s answers told.
-    c.loop-place.invariant.selected f s answers told
-    ∙ ap (selected_rows f s c.args.predicate.now) (all_answered (g.T.PartTest.tells c.args.test.now) c.args.parts.now f s answers c.loop-place.place told (omega (arith, c.loop-place-test.false)))
-
-pub returns-clause-evaluated : goal.returns-clause-evaluated
-returns-clause-evaluated g c = λ f s answers told.
-    c.loop-place.invariant.evaluated f s answers told
-    ∙ ap (λ l. min (tested_rows f s l) (2 ^ 64 - 1)) (all_answered (g.T.PartTest.tells c.args.test.now) c.args.parts.now f s answers c.loop-place.place told (omega (arith, c.loop-place-test.false)))
+pub returns-clause-found : goal.returns-clause-found
+returns-clause-found g c = λ f s answers told.
+    let all = all_answered (g.T.PartTest.tells c.args.test.now) c.args.parts.now f s answers c.loop-place.place told (omega (arith, c.loop-place-test.false)) in
+    record {
+      skipped = c.loop-place.invariant.skipped f s answers told ∙ ap (skipped_parts f) all;
+      whole = c.loop-place.invariant.whole f s answers told ∙ ap (whole_parts f s) all;
+      kept = c.loop-place.invariant.selected f s answers told ∙ ap (selected_rows f s c.args.predicate.now) all;
+      evaluated = c.loop-place.invariant.evaluated f s answers told ∙ ap (λ l. min (tested_rows f s l) (2 ^ 64 - 1)) all;
+    }
 
 pub returns-clause-told : goal.returns-clause-told
 returns-clause-told g c = told_all (g.T.PartTest.tells c.args.test.now) c.args.parts.now c.loop-place.place _ (omega (arith, c.loop-place-test.false)) c.loop-place.invariant.told
