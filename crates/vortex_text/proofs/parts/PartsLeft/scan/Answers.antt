@@ -1,10 +1,11 @@
-use Rattle.std.proofs.Common.{◌≡◌, List, IsTrue, drop, subst, sym, take, ◌∙◌, arith}
+use Rattle.std.proofs.Common.{◌≡◌, List, IsTrue, ap, drop, subst, sym, take, ◌∙◌, arith}
 use Rattle.vortex_base.specs.Data.Scopes.{Named}
 use Rattle.vortex_expr.specs.Meanings.Fitting.{fits_scope}
 use Rattle.vortex_prune.specs.Part.{AreZonesOf, PartData}
 use Rattle.vortex_text.proofs.LeftLemmas.{found_by, left_first, left_long, left_scope, left_within, left_zones, ranges_of_map, ranges_there}
 use Rattle.vortex_text.proofs.QueryLemmas.{not_memory}
 use Rattle.vortex_text.specs.Batches.{IsFoundIn}
+use Rattle.vortex_rewrite.specs.Rewriting.Own.{own_rules}
 use Rattle.vortex_text.proofs.parts.PartsLeft.scan.Goals as goal
 
 pub map-requires-clause-within : goal.map-requires-clause-within
@@ -38,9 +39,9 @@ returns-in-Ok c =
     let are = ranges_there p k s.row m zones c.in-Ok.found c.rows-rows.ensures.is_chunk same c.in_ok-map.ensures.is_map within in
     subst (λ (ps : List PartData). IsFoundIn p ps c.in-Ok.found) (left_first k all s.place s.row c.args.self.now c.self.view_is c.args.count)
     (found_by p k s.row m zones c.in-Ok.found c.rows-rows.ensures.is_chunk same c.in_ok-map.ensures.is_map within
-    (rw c.builtin-rules.ensures at (c.in-Ok.ensures.skipped zones c.in_ok-map.ensures.is_map))
-    (rw c.builtin-rules.ensures at (c.in-Ok.ensures.whole zones c.in_ok-map.ensures.is_map))
-    (rw c.builtin-rules.ensures at (c.in-Ok.ensures.parted _ are))
+    (rw c.builtin-rules.ensures at (c.in-Ok.ensures.answered.skipped zones c.in_ok-map.ensures.is_map))
+    (rw c.builtin-rules.ensures at (c.in-Ok.ensures.answered.whole zones c.in_ok-map.ensures.is_map))
+    (rw c.builtin-rules.ensures at (c.in-Ok.ensures.answered.parted _ are))
     (c.in-Ok.ensures.full _ are))
 
 pub unreachable-requires : goal.unreachable-requires
@@ -53,4 +54,4 @@ unreachable-requires c =
     let scope = left_scope k all s.place s.row c.args.self.now c.self.view_is c.args.scope.now (omega (arith, c.requires.some, c.requires.within)) c.requires.query.are_parts in
     let same : k.scope ≡ m.scope = scope ∙ sym (c.in_ok-map.ensures.scoped ∙ c.in_ok-try_clone.ensures) in
     let within = left_within k all s.place s.row c.args.self.now c.self.view_is c.args.count c.self.invariant.within in
-    not_memory c.in-Err.fault (c.in-Err.ensures.memory (ranges_of_map k s.row m zones same c.in_ok-map.ensures.is_map within) c.requires.predicate c.builtin-rules.ensures) c.in_default.not-Memory
+    not_memory c.in-Err.fault (c.in-Err.ensures.refused.memory (ranges_of_map k s.row m zones same c.in_ok-map.ensures.is_map within) c.requires.predicate (ap (own_rules _) c.builtin-rules.ensures)) c.in_default.not-Memory
