@@ -39,25 +39,25 @@ use Rattle.vortex_predicates.specs.Carried.{SatisfiabilityIsCarried}
 
 -- ---- rows of values for the columns of a scope
 
-abbrev type_at : Option Named → DType
+abbrev pub type_at : Option Named → DType
 type_at None = dtype.Null
 type_at (Some n) = n.1
 
-scoped_type : (o : Option Named) (t : DType) → is_of_type t o ≡ true → type_at o ≡ t
+pub scoped_type : (o : Option Named) (t : DType) → is_of_type t o ≡ true → type_at o ≡ t
 scoped_type None t h = cc
 scoped_type (Some n) t h = (dtype_eq_is_exact n.1 t).0 h
 
-scoped_there : (scope : List Named) (i : ℕ) (t : DType) (o : Option Named) → slice_get scope i ≡ o → is_of_type t o ≡ true → i < length scope
+pub scoped_there : (scope : List Named) (i : ℕ) (t : DType) (o : Option Named) → slice_get scope i ≡ o → is_of_type t o ≡ true → i < length scope
 scoped_there scope i t None e h = cc
 scoped_there scope i t (Some n) e h = slice_get_within scope i n e
 
-number_at : (m i : ℕ) → i < m → slice_get (range_with_len 0 m) i ≡ Some i
+pub number_at : (m i : ℕ) → i < m → slice_get (range_with_len 0 m) i ≡ Some i
 number_at m i h =
     let long : i < length (range_with_len 0 m) = rw (length-range_with_len 0 m) h in
     let same : 0 + i ≡ i = omega arith in
     slice_get-get_or (range_with_len 0 m) i 0 long ∙ ap Some (get_or-range_with_len 0 m i 0 h ∙ same)
 
-all_made : (test : Constant → Bool) (make : ℕ → Constant) (a n : ℕ) → ((i : ℕ) → test (make i) ≡ true) → list_all test (map make (range_with_len a n)) ≡ true
+pub all_made : (test : Constant → Bool) (make : ℕ → Constant) (a n : ℕ) → ((i : ℕ) → test (make i) ≡ true) → list_all test (map make (range_with_len a n)) ≡ true
 all_made test make a zero f = refl
 all_made test make a (suc n) f = both_hold _ _ (f a) (all_made test make (a + 1) n f)
 
@@ -129,7 +129,7 @@ value_or d None = d
 value_or d (Some v) = v
 
 -- a column of a scope, whose low is of its type and at most its high
-record IsBounded (scope : List Named) (box : Box) (c : Place) : Type 0 where
+pub record IsBounded (scope : List Named) (box : Box) (c : Place) : Type 0 where
   pub scoped : is_of_type c.dtype (slice_get scope c.index) ≡ true
   pub low : is_value (box.low c.index) c.dtype ≡ true
   pub order : AtMost value_cmp (box.low c.index) (box.high c.index)
@@ -219,16 +219,16 @@ extreme_fits (dtype.Utf8 n) v h = h
 extreme_fits (dtype.Binary n) v h = h
 extreme_fits (dtype.MinMaxState e n) v h = h
 
-set_there : (P : Entries → Type 0) (o : Option Entries) → MatchOption o ⊥ P → (es : Entries) × (o ≡ Some es) × P es
+pub set_there : (P : Entries → Type 0) (o : Option Entries) → MatchOption o ⊥ P → (es : Entries) × (o ≡ Some es) × P es
 set_there P (Some es) h = (es, refl, h)
 set_there P None h = absurd h
 
-name_there : (o : Option Named) (t : DType) → is_of_type t o ≡ true → (n : Named) × (o ≡ Some n) × (n.1 ≡ t)
+pub name_there : (o : Option Named) (t : DType) → is_of_type t o ≡ true → (n : Named) × (o ≡ Some n) × (n.1 ≡ t)
 name_there None t h = cc
 name_there (Some n) t h = (n, refl, (dtype_eq_is_exact n.1 t).0 h)
 
 module _ (scope : List Named) (zone : ZoneData) (box : Box) (is_zone : IsZone scope zone) where
-  bounded_at : (c : Place) → is_of_type c.dtype (slice_get scope c.index) ≡ true → MatchOption (slice_get zone.stats c.index) ⊥ (IsKnownBy box c.index) → AtMost value_cmp (box.low c.index) (box.high c.index) → IsBounded scope box c
+  pub bounded_at : (c : Place) → is_of_type c.dtype (slice_get scope c.index) ≡ true → MatchOption (slice_get zone.stats c.index) ⊥ (IsKnownBy box c.index) → AtMost value_cmp (box.low c.index) (box.high c.index) → IsBounded scope box c
   bounded_at c s known order =
       let n = name_there (slice_get scope c.index) c.dtype s in
       let es = set_there (IsKnownBy box c.index) (slice_get zone.stats c.index) known in

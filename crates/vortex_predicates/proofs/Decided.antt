@@ -1,5 +1,5 @@
 -- Pruning is complete for the predicates that bounds decide.
-use Rattle.std.proofs.Common.{◌⊎◌, ◌&&◌, ℕ, List, [], Option, IsTrue, ⊎_elim, refl}
+use Rattle.std.proofs.Common.{◌&&◌, ℕ, List, [], Option, IsTrue, ⊎_elim, refl}
 use Rattle.std.proofs.lemmas.Bool.{and_parts, or_cases}
 use Rattle.vortex_base.specs.Data.Scopes.{Named}
 use Rattle.vortex_expr.specs.Meanings.Fitting.{fits_scope}

@@ -13,7 +13,7 @@ use Rattle.vortex_base.specs.declared.scalar_value.ScalarValue.TheVariants as va
 use Rattle.vortex_expr.specs.Meanings.Meaning.{holds, is_like, is_true, liked, meaning, satisfies, truth_value}
 use Rattle.vortex_expr.specs.Meanings.Typing.{is_bool, like_type, stat_type, type_of, with_type, with_types}
 use Rattle.vortex_expr.specs.Patterns.Like.{like_text}
-use Rattle.vortex_expr.specs.Trees.Tree.{Tree, Place, column, literal, binary, between, like, stat, row_count, has_bare_column}
+use Rattle.vortex_expr.specs.Trees.Tree.{Tree, Place, column, literal, binary, like, stat, has_bare_column}
 use Rattle.vortex_expr.specs.declared.like.LikeOptions.{LikeOptions}
 use Rattle.vortex_expr.specs.declared.scalar_fn.Operator.{Operator}
 use Rattle.vortex_expr.specs.declared.scalar_fn.Operator.TheVariants.{Eq, NotEq, Gt, Gte, Lt, Lte, And, Or}

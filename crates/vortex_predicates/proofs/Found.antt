@@ -136,14 +136,14 @@ module _ (f s : Option (Tree Place)) (scope : List Named) (zones : List ZoneData
     skipped_true : Contains (skipped_places vs) i → told_true f zone ≡ true
     skipped_true h = (place_listed (told_true f) zones i zone there).0 (subst (λ l. Contains l i) skipped_is h)
 
-    true_skipped : told_true f zone ≡ true → Contains (skipped_places vs) i
+    pub true_skipped : told_true f zone ≡ true → Contains (skipped_places vs) i
     true_skipped h = subst (λ l. Contains l i) (sym skipped_is) ((place_listed (told_true f) zones i zone there).1 h)
 
     whole_true : Contains (whole_places vs) i → told_true s zone ≡ true
     whole_true h =
         whole_proved (told_true f zone) (told_true s zone) ((place_listed (λ z. is_whole (zone_verdict f s scope z)) zones i zone there).0 (subst (λ l. Contains l i) whole_is h))
 
-    true_whole : told_true f zone ≡ false → told_true s zone ≡ true → Contains (whole_places vs) i
+    pub true_whole : told_true f zone ≡ false → told_true s zone ≡ true → Contains (whole_places vs) i
     true_whole h k =
         subst (λ l. Contains l i) (sym whole_is) ((place_listed (λ z. is_whole (zone_verdict f s scope z)) zones i zone there).1 (whole_if (told_true f zone) (told_true s zone) h k))
 

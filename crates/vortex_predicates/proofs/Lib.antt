@@ -5,6 +5,10 @@ mod Full
 mod Indexes
 mod JointRight
 mod JointTrue
+mod NullChoices
+mod NullFound
+mod NullRows
+mod NullTests
 mod RightProofs
 mod Rows
 pub mod BuiltIn

@@ -1,16 +1,18 @@
 -- Witnesses of the clauses of a predicate that was made with its proofs.
-use Rattle.std.specs.Prelude.{◌≡◌, ◌&&◌, ℕ, zero, suc, Bool, Contains, false, true, not as not_b, IsTrue, List, [], ◌∷◌, Option, Some, None, Result, Ok, Err, refl}
+use Rattle.std.specs.Prelude.{◌≡◌, ◌&&◌, ℕ, zero, suc, Bool, Contains, false, true, not as not_b, IsTrue, List, [], ◌∷◌, Option, Some, None, Result, Ok, Err, refl, slice_get}
 use Rattle.std.specs.Ordering.{is_gt}
-use Rattle.std.proofs.Common.{arith, subst, sym}
+use Rattle.std.proofs.Common.{◌∙◌, ap, arith, subst, sym}
 use Rattle.vortex_base.specs.declared.dtype.DType.{DType}
 use Rattle.vortex_base.specs.declared.dtype.DType.TheVariants as dtype
 use Rattle.vortex_base.specs.declared.scalar_value.ScalarValue.{ScalarValue}
+use Rattle.vortex_base.specs.Data.Columns.{cell_value}
 use Rattle.vortex_base.specs.Data.Scalars.{Constant}
 use Rattle.vortex_base.specs.Data.Values.{value_cmp}
 use Rattle.vortex_base.specs.declared.types.Nullability.TheVariants.{Nullable}
 use Rattle.vortex_expr.specs.Meanings.Fitting.{fits_scope}
-use Rattle.vortex_expr.specs.Meanings.Meaning.{both, either, is_true, meaning, satisfies, truth, truth_value}
+use Rattle.vortex_expr.specs.Meanings.Meaning.{both, compared, either, is_true, meaning, satisfies, truth, truth_value}
 use Rattle.vortex_expr.specs.Trees.Tree.{Tree, Place, is_plain, not}
+use Rattle.vortex_expr.specs.declared.scalar_fn.Operator.TheVariants.{Gt}
 use Rattle.vortex_normal.specs.Groups.{normal}
 use Rattle.vortex_normal.specs.OneColumn.{IsJoining, IsSelective, are_ends_seen, is_over}
 use Rattle.vortex_normal.specs.Pushed.{all_of, any_of, comparison, comparison_of, folded, settled}
@@ -18,6 +20,7 @@ use Rattle.vortex_normal.specs.Strict.{strict_test}
 use Rattle.vortex_normal.specs.Tested.{IsTestOf, passes}
 use Rattle.vortex_predicates.proofs.RightProofs.{skip_right, whole_right}
 use Rattle.vortex_predicates.specs.Complete.{is_decided}
+use Rattle.vortex_predicates.specs.NullBoxes.{FindsCertain, HasTestForms, IsCertain, IsNullBoxOf, IsPossible, IsPossibleCell, NullBox, SkipsImpossible, is_null_decided}
 use Rattle.vortex_predicates.specs.Pruning.{FindsNoFewerWhole, HasRowsOf, IsMadeBy, IsRight, IsTestForm, Pruning, SkipsNoFewer, SkipsUnsatisfiable, is_within, making_causes, skip_proof, skipped_places, whole_places, whole_proof}
 use Rattle.vortex_prune.proofs.Scanning.Boxes.{skipping_is_complete}
 use Rattle.vortex_prune.proofs.WorkedRows.ShutRows.{neither}
@@ -29,6 +32,8 @@ use Rattle.vortex_prune.specs.Scanning.ZoneScans.{IsSoundPruning, kept_zones, op
 use Rattle.vortex_prune.specs.Zones.{IsMapOf, MapData}
 use Rattle.vortex_prune.specs.declared.scan.verdict.Verdict.{Verdict}
 use Rattle.vortex_prune.specs.declared.scan.verdict.Verdict.TheVariants.{Skipped, Whole, Tested}
+use Rattle.vortex_rewrite.proofs.Soundness.TruthLogic.{refuted as not_so}
+use Rattle.vortex_rewrite.proofs.Soundness.ValueTests.{holds_by_le, le_antisym, le_trans, value_le}
 use Rattle.vortex_rewrite.specs.Answers.{IsMemory}
 use Rattle.vortex_rewrite.specs.Causes.{IsRefusal, either_causes}
 use Rattle.vortex_rewrite.specs.Rewriting.Falsifiers.{node, reduce_balanced}
@@ -234,6 +239,58 @@ prune_joining = record { met = (called, is_map, is_made, refl, joining); refuted
 
 prune_complete_for : IsWitness (IsCall made their_map × IsMapOf zones their_map × IsMadeBy [] None made × IsTrue (is_decided None made.predicate)) (λ (vs : List Verdict). SkipsUnsatisfiable made.predicate zones (skipped_places vs)) left_out
 prune_complete_for = record { met = (called, is_map, is_made, refl); refuted = low_is_left_out }
+
+-- ---- by null counts: of 3 and null none is above ten, and of 20 and 30 each is
+
+tests : HasTestForms None above_ten
+tests = record { true_form = λ _. true_form; untrue_form = λ _. untrue_form }
+
+abbrev low_nulls : NullBox
+low_nulls = record { bounds = low_box; nulls = λ i. 1 }
+
+low_nulls_known : IsNullBoxOf (zone_of low) above_ten low_nulls
+low_nulls_known = record { rows = omega arith; known = (record { nulls = refl; bounds = λ _. (refl, refl); order = λ _. refl }, tt) }
+
+not_three : (o : Option ScalarValue) → IsPossibleCell low_nulls 2 place_a o → is_true (truth_value (compared Gt o (Some (num 10)))) ≡ true → ⊥
+not_three None h above = cc
+not_three (Some v) h above =
+    let same : v ≡ num 3 = le_antisym v (num 3) (ap not_b h.below_high) (ap not_b h.above_low) in
+    let no : is_gt (value_cmp (num 3) (num 10)) ≡ true = subst (λ (w : ScalarValue). is_gt (value_cmp w (num 10)) ≡ true) same above in
+    cc
+
+none_possible : ¬ IsPossible above_ten low_nulls 2
+none_possible x = not_three (cell_value (slice_get x.0 0)) x.1.0 x.2
+
+pub low_is_left_out_by_nulls : SkipsImpossible above_ten zones (skipped_places left_out) → ⊥
+low_is_left_out_by_nulls h = none_there 0 (h 0 (zone_of low) low_nulls refl low_nulls_known none_possible)
+
+prune_complete_with_nulls : IsWitness (IsCall made their_map × IsMapOf zones their_map × IsMadeBy [] None made × HasTestForms None made.predicate × IsTrue (is_null_decided None true false made.predicate))
+    (λ (vs : List Verdict). SkipsImpossible made.predicate zones (skipped_places vs)) left_out
+unfolding all_of any_of comparison comparison_of folded settled
+prune_complete_with_nulls = record { met = (called, is_map, is_made, tests, refl); refuted = low_is_left_out_by_nulls }
+
+abbrev high_nulls : NullBox
+high_nulls = record { bounds = record { low = λ i. num 20; high = λ i. num 30 }; nulls = λ i. 0 }
+
+high_nulls_known : IsNullBoxOf (zone_of high) above_ten high_nulls
+high_nulls_known = record { rows = omega arith; known = (record { nulls = refl; bounds = λ _. (refl, refl); order = λ _. refl }, tt) }
+
+from_twenty : (o : Option ScalarValue) → IsPossibleCell high_nulls 2 place_a o → is_true (truth_value (compared Gt o (Some (num 10)))) ≡ true
+from_twenty None h = absurd (h refl)
+from_twenty (Some v) h =
+    holds_by_le Gt v (num 10)
+    ∙ ap not_b (not_so (value_le v (num 10)) (λ below. let no : value_le (num 20) (num 10) ≡ true = le_trans (num 20) v (num 10) (ap not_b h.above_low) below in cc))
+
+all_certain : IsCertain above_ten high_nulls 2
+all_certain row cells = from_twenty (cell_value (slice_get row 0)) cells.0
+
+pub high_is_not_found : FindsCertain above_ten zones first_place [] → ⊥
+high_is_not_found h = neither not_the_third (none_there 2) (h 2 (zone_of high) high_nulls refl high_nulls_known all_certain)
+
+prune_complete_whole : IsWitness (IsCall made their_map × IsMapOf zones their_map × IsMadeBy [] None made × HasTestForms None made.predicate × IsTrue (is_null_decided None false true made.predicate))
+    (λ (vs : List Verdict). FindsCertain made.predicate zones (skipped_places vs) (whole_places vs)) (Skipped ∷ Tested ∷ Tested ∷ [])
+unfolding all_of any_of comparison comparison_of folded settled
+prune_complete_whole = record { met = (called, is_map, is_made, tests, refl); refuted = high_is_not_found }
 
 prune_memory : IsWitness (IsCall made their_map × IsMapOf zones their_map × IsMadeBy [] None made) (λ (e : StatsError). IsMemory e) OpenProof
 prune_memory = record { met = (called, is_map, is_made); refuted = open_is_not_memory }

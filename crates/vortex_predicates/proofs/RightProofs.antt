@@ -29,7 +29,7 @@ use Rattle.vortex_rewrite.specs.Rewriting.Predicates.{is_predicate}
 
 -- ---- proofs of other forms
 
-passing_true : (v : Option ScalarValue) → passes true false (truth v) ≡ is_true v
+pub passing_true : (v : Option ScalarValue) → passes true false (truth v) ≡ is_true v
 passing_true None = refl
 passing_true (Some (value.Bool b)) = refl
 passing_true (Some (value.Primitive p)) = refl

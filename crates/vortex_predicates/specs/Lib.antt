@@ -5,9 +5,11 @@ pub mod EqualBounds
 pub mod Footers
 pub mod Full
 pub mod Joint
+pub mod NullBoxes
 pub mod Pruning
 pub mod PruningCode
 pub mod RowGroups
 pub mod Worked
 pub mod WorkedComplete
 pub mod WorkedLikes
+pub mod WorkedNulls

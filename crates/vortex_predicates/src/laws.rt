@@ -5,6 +5,7 @@ ghost use Rattle.vortex_predicates.specs.Full.{SameSelectsTheSame};
 ghost use Rattle.vortex_predicates.specs.Worked.{JointExamples, ProofExamples};
 ghost use Rattle.vortex_predicates.specs.WorkedComplete.{CompleteExamples};
 ghost use Rattle.vortex_predicates.specs.WorkedLikes.{LikeExamples, LikeProofExamples};
+ghost use Rattle.vortex_predicates.specs.WorkedNulls.{NullExamples, NullZoneExamples};
 
 /// Two predicates that are satisfied by the same rows select the same rows of parts.
 pub fn same_selects_the_same()
@@ -30,6 +31,12 @@ pub fn proof_examples_hold()
 /// Worked predicates for which pruning is complete, and some for which it isn't.
 pub fn complete_examples_hold()
     ensures { CompleteExamples }
+{}
+
+/// Worked predicates for which pruning is complete where null counts are known, and worked zones.
+pub fn null_examples_hold()
+    ensures predicates { NullExamples }
+    ensures zones { NullZoneExamples }
 {}
 
 /// Where a column's bounds are one text of which a LIKE isn't true, the proof that no row satisfies

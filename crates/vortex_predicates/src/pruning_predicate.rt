@@ -20,6 +20,8 @@ ghost use Rattle.vortex_normal.specs.Groups.{normal as normal_of};
 ghost use Rattle.vortex_normal.specs.OneColumn.{IsJoining, IsSelective, are_ends_seen, is_over};
 ghost use Rattle.vortex_normal.specs.Strict.{strict_test as strict_of};
 ghost use Rattle.vortex_predicates.specs.Complete.{is_decided};
+ghost use Rattle.vortex_predicates.specs.NullBoxes.{FindsCertain, HasTestForms, SkipsImpossible};
+ghost use Rattle.vortex_predicates.specs.NullBoxes.{is_null_decided};
 ghost use Rattle.vortex_predicates.specs.Pruning.{FindsNoFewerWhole, IsMadeBy, IsRight, IsTestForm};
 ghost use Rattle.vortex_predicates.specs.Pruning.{SkipsNoFewer, SkipsUnsatisfiable};
 ghost use Rattle.vortex_predicates.specs.Pruning.{falsifying_causes, is_test_within, is_within, making_causes};
@@ -238,6 +240,7 @@ fn made(
     ensures made { let M = ⟦<dyn StatsRewriteRule as StatsRewriteRule>⟧ in
         IfOk result (IsMadeBy (own_rules M rules.now.own.items) levels) }
     ensures right { IfOk result IsRight }
+    ensures forms { IfOk result (λ made. HasTestForms levels made.predicate) }
     ensures not_predicate { is_predicate predicate.now ≡ false → result ≡ Err NotPredicate }
     ensures memory { IsTrue (is_predicate predicate.now) → rules.now.own.items ≡ []
         → IfErr result IsMemory }
@@ -277,6 +280,8 @@ impl PruningPredicate {
             IfOk result (IsMadeBy (own_rules M rules.now.own.items) None) }
         // They mean what they are for, whichever lawful rules took part.
         ensures right { IfOk result IsRight }
+        // The tests of its truth are satisfied where they are to be.
+        ensures forms { IfOk result (λ made. HasTestForms None made.predicate) }
         ensures not_predicate { is_predicate predicate.now ≡ false → result ≡ Err NotPredicate }
         // By built-in rules a predicate is refused for memory alone.
         ensures memory { IsTrue (is_predicate predicate.now) → rules.now.own.items ≡ []
@@ -304,6 +309,7 @@ impl PruningPredicate {
         ensures made { let M = ⟦<dyn StatsRewriteRule as StatsRewriteRule>⟧ in
             IfOk result (IsMadeBy (own_rules M rules.now.own.items) (Some levels)) }
         ensures right { IfOk result IsRight }
+        ensures forms { IfOk result (λ made. HasTestForms (Some levels) made.predicate) }
         ensures not_predicate { is_predicate predicate.now ≡ false → result ≡ Err NotPredicate }
         ensures memory { IsTrue (is_predicate predicate.now) → rules.now.own.items ≡ []
             → IfErr result IsMemory }
@@ -398,6 +404,23 @@ impl PruningPredicate {
             → (levels : Option ℕ) → IsMadeBy [] levels self.now
             → IsTrue (is_decided levels self.now.predicate)
             → SkipsUnsatisfiable self.now.predicate zones (skipped_places vs.items)) }
+        // By built-in rules, where the narrowed test that the predicate is true is a tree of AND
+        // and OR over comparisons, ranges, truths and null tests in which the sides of no AND share
+        // a column, a zone is skipped if its bounds and null counts leave no row that satisfies the
+        // predicate. `try_new` tells what the tests mean.
+        ensures complete_with_nulls { IfOk result (λ vs. (zones : List ZoneData)
+            → IsMapOf zones map.now → (levels : Option ℕ) → IsMadeBy [] levels self.now
+            → HasTestForms levels self.now.predicate
+            → IsTrue (is_null_decided levels true false self.now.predicate)
+            → SkipsImpossible self.now.predicate zones (skipped_places vs.items)) }
+        // And where the test that it isn't true is such a tree, a zone is skipped or whole if they
+        // leave only rows that satisfy the predicate.
+        ensures complete_whole { IfOk result (λ vs. (zones : List ZoneData) → IsMapOf zones map.now
+            → (levels : Option ℕ) → IsMadeBy [] levels self.now
+            → HasTestForms levels self.now.predicate
+            → IsTrue (is_null_decided levels false true self.now.predicate)
+            → FindsCertain self.now.predicate zones (skipped_places vs.items)
+            (whole_places vs.items)) }
         // By built-in rules memory alone is refused.
         ensures memory { IfErr result (λ e. (zones : List ZoneData) → IsMapOf zones map.now
             → (levels : Option ℕ) → IsMadeBy [] levels self.now → IsMemory e) }

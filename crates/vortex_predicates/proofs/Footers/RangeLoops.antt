@@ -2,7 +2,6 @@
 use Rattle.std.proofs.Common.{◌≡◌, ℕ, zero, suc, ◌+◌, ◌≤◌, ◌<◌, true, true≢false, List, [], ◌∷◌, ◌++◌, length, refl, sym, ap, subst, subst₂, ◌∙◌, map, drop, drop-cons, get_or, append_assoc, add-one, arith}
 use Rattle.std.proofs.lemmas.List.{append-nil, drop_all, map_push}
 use Rattle.vortex_base.specs.Data.Exact.{both_true}
-use Rattle.vortex_parquet.specs.declared.fault.Fault.{Fault}
 use Rattle.vortex_parquet.specs.declared.fault.ReadError.{ReadError}
 use Rattle.vortex_parquet.specs.declared.fault.ReadError.TheVariants as errors
 use Rattle.vortex_parquet.specs.declared.stats.GroupStats.{GroupStats}

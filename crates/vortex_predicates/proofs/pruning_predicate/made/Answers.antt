@@ -1,6 +1,9 @@
+use Rattle.std.proofs.Common.{subst, sym}
 use Rattle.std.proofs.lemmas.Bool.{true_from_ne_false}
 use Rattle.std.proofs.lemmas.Result.{err_from_is_err_and}
 use Rattle.vortex_predicates.proofs.RightProofs.{right_of}
+use Rattle.vortex_expr.specs.Trees.Tree.{Place, Tree}
+use Rattle.vortex_predicates.specs.NullBoxes.{HasTestForms}
 use Rattle.vortex_predicates.specs.Pruning.{skip_causes, whole_causes}
 use Rattle.vortex_rewrite.proofs.Rewriting.CauseLemmas.{either-right}
 use Rattle.vortex_rewrite.specs.Rewriting.Own.{own_rules}
@@ -20,6 +23,10 @@ returns-clause-right g c =
     right_of (own_rules (λ i. (g.dyn-1.0.entry i).1) c.args.rules.now.own.items) c.args.levels c.args.predicate.now c.in_ok-predicate.predicate _ c.in_ok-falsifier.falsifier c.in_ok-satisfier.satisfier
     c.in_ok-predicate.ensures h.form (record { predicate = h.truth; same = h.same; columns = h.columns; plain = h.plain })
     (true_from_ne_false (is_predicate c.args.predicate.now) (λ no. let k = h.not_predicate no in cc)) c.requires c.in_ok-falsifier.ensures.value c.in_ok-satisfier.ensures.value c.in_ok-falsifier.ensures.form c.in_ok-satisfier.ensures.form
+
+pub returns-clause-forms : goal.returns-clause-forms
+returns-clause-forms g c =
+    subst (λ (e : Tree Place). HasTestForms c.args.levels e) (sym c.in_ok-predicate.ensures) (record { true_form = c.in_ok-falsifier.ensures.form; untrue_form = c.in_ok-satisfier.ensures.form })
 
 pub returns-in_err-satisfier-clause-refusal : goal.returns-in_err-satisfier-clause-refusal
 returns-in_err-satisfier-clause-refusal g c = λ predicate.

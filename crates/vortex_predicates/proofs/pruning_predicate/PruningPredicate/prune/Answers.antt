@@ -5,6 +5,7 @@ use Rattle.vortex_expr.specs.Trees.Tree.{Place, Tree}
 use Rattle.vortex_normal.proofs.Joined.{joinings_are_apart, one_column_is_apart}
 use Rattle.vortex_predicates.proofs.Decided.{decided_complete}
 use Rattle.vortex_predicates.proofs.Found.{found_right, given_complete, memory_left, no_fewer_skipped, no_fewer_whole, normal_complete, skip_closed, whole_closed}
+use Rattle.vortex_predicates.proofs.NullFound.{finds_certain, skips_impossible}
 use Rattle.vortex_predicates.specs.Pruning.{IsRight, skipped_places}
 use Rattle.vortex_prune.proofs.Scanning.WholeScan.{of_two}
 use Rattle.vortex_prune.proofs.ZoneMaps.ZonePruned.{of_three}
@@ -105,6 +106,24 @@ returns-clause-complete_for c =
     (λ vs given no_fewer zones of levels made decided.
     decided_complete levels x.predicate m.scope zones (skipped_places vs.items) (no_fewer zones [] levels of made) r.predicate c.requires of.are_zones (given zones of levels made) decided)
     (returns-clause-as_given c) (returns-clause-no_fewer_skipped c)
+
+pub returns-clause-complete_with_nulls : goal.returns-clause-complete_with_nulls
+returns-clause-complete_with_nulls c =
+    let x = c.args.self.now in
+    let m = c.args.map.now in
+    let r = right c in
+    IfOk-weaker c.prune_by.result _ _
+    (λ vs told zones of levels made forms decided. skips_impossible x.falsifier x.satisfier m.scope zones vs.items (told zones of) levels x.predicate c.requires r.plain of.are_zones forms made.falsifier decided)
+    (returns-clause-verdicts c)
+
+pub returns-clause-complete_whole : goal.returns-clause-complete_whole
+returns-clause-complete_whole c =
+    let x = c.args.self.now in
+    let m = c.args.map.now in
+    let r = right c in
+    IfOk-weaker c.prune_by.result _ _
+    (λ vs told zones of levels made forms decided. finds_certain x.falsifier x.satisfier m.scope zones vs.items (told zones of) levels x.predicate c.requires r.plain of.are_zones forms made.satisfier decided)
+    (returns-clause-verdicts c)
 
 pub returns-clause-memory : goal.returns-clause-memory
 returns-clause-memory c =
