@@ -8,6 +8,7 @@ use Rattle.vortex_base.specs.Data.Exact.{both_hold}
 use Rattle.vortex_expr.specs.Trees.Tree.{Tree, Place, binary, column, literal}
 use Rattle.vortex_expr.specs.declared.scalar_fn.Operator.TheVariants.{And, Or}
 use Rattle.vortex_predicates.specs.Complete.{HasIndexesOf}
+use Rattle.vortex_predicates.specs.NullBoxes.{is_null_apart, is_simple_or_null}
 use Rattle.vortex_rewrite.specs.Rewriting.ReadOnce.{are_apart, are_distinct, are_sides_apart, columns_of, has_index, is_apart, is_operand, is_simple}
 use mathlib.Core.Bool.{true≢false}
 
@@ -65,6 +66,13 @@ and_is_apart l r = of_and (is_simple l) (is_simple r) (are_apart (columns_of l) 
 
 pub or_is_apart : (l r : Tree Place) → is_apart (binary Or l r) ≡ (is_apart l && is_apart r)
 or_is_apart l r = of_or (is_simple l) (is_simple r) (are_sides_apart l) (are_sides_apart r)
+
+-- and with null tests
+pub and_is_null_apart : (l r : Tree Place) → is_null_apart (binary And l r) ≡ (are_apart (columns_of l) (columns_of r) && (is_null_apart l && is_null_apart r))
+and_is_null_apart l r = of_and (is_simple_or_null l) (is_simple_or_null r) (are_apart (columns_of l) (columns_of r)) (are_sides_apart l) (are_sides_apart r)
+
+pub or_is_null_apart : (l r : Tree Place) → is_null_apart (binary Or l r) ≡ (is_null_apart l && is_null_apart r)
+or_is_null_apart l r = of_or (is_simple_or_null l) (is_simple_or_null r) (are_sides_apart l) (are_sides_apart r)
 
 distinct_apart : (l r : Tree Place) → is_operand l ≡ true → is_operand r ≡ true → are_distinct (columns_of l ++ columns_of r) ≡ are_apart (columns_of l) (columns_of r)
 distinct_apart (column c) (column d) h k = refl

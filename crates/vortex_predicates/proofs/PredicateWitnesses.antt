@@ -345,3 +345,15 @@ is_complete_for_not_predicate = record { met = refl; refuted = λ h. answered_is
 
 is_complete_for_memory : IsWitness (IsTrue (is_predicate above_ten)) (λ (e : StatsError). IsMemory e) OpenProof
 is_complete_for_memory = record { met = refl; refuted = open_is_not_memory }
+
+is_complete_with_nulls_not_predicate : IsWitness (is_predicate a ≡ false) (λ (answer : Result Bool StatsError). answer ≡ Err NotPredicate) (Ok true)
+is_complete_with_nulls_not_predicate = is_complete_for_not_predicate
+
+is_complete_with_nulls_memory : IsWitness (IsTrue (is_predicate above_ten)) (λ (e : StatsError). IsMemory e) OpenProof
+is_complete_with_nulls_memory = is_complete_for_memory
+
+is_whole_complete_for_not_predicate : IsWitness (is_predicate a ≡ false) (λ (answer : Result Bool StatsError). answer ≡ Err NotPredicate) (Ok true)
+is_whole_complete_for_not_predicate = is_complete_for_not_predicate
+
+is_whole_complete_for_memory : IsWitness (IsTrue (is_predicate above_ten)) (λ (e : StatsError). IsMemory e) OpenProof
+is_whole_complete_for_memory = is_complete_for_memory

@@ -1,6 +1,6 @@
 //! The predicates for which pruning by built-in rules is complete.
 ghost use Rattle.std.specs.Prelude.{◌≡◌, ◌&&◌, ◌||◌, ◌++◌, ℕ, Bool, Err, IfErr, IfOk, IsTrue};
-ghost use Rattle.std.specs.Prelude.{List, [], false};
+ghost use Rattle.std.specs.Prelude.{List, [], false, true};
 ghost use Rattle.std.specs.BTreeSet.{contains};
 ghost use Rattle.std.specs.Ordering.{nat_cmp};
 ghost use Rattle.vortex_expr.specs.Trees.Tree.{Place};
@@ -13,6 +13,8 @@ ghost use Rattle.vortex_rewrite.specs.Rewriting.ReadOnce.{are_apart, are_distinc
 ghost use Rattle.vortex_rewrite.specs.Rewriting.ReadOnce.{is_number_type, is_operand, is_range};
 ghost use Rattle.vortex_rewrite.specs.Rewriting.ReadOnce.{is_truth};
 ghost use Rattle.vortex_predicates.specs.Complete.{AreIndexesIf, is_decided};
+ghost use Rattle.vortex_predicates.specs.NullBoxes as null_boxes;
+ghost use Rattle.vortex_predicates.specs.NullBoxes.{is_a_column};
 
 use crate::pruning_predicate::is_shallow;
 use std::alloc::{AllocError, Global};
@@ -23,7 +25,7 @@ use vortex_base::scalar_value::ScalarValue;
 use vortex_expr::bound_expression::BoundExpression;
 use vortex_expr::bound_expression::parts::Parts;
 use vortex_expr::scalar_fn::{BetweenOptions, Operator, StrictComparison};
-use vortex_normal::normalize::normalize;
+use vortex_normal::normalize::{narrow, normal_test, normalize};
 use vortex_stats::error::StatsError;
 
 // Joins two sets, by moving the smaller one into the larger one.
@@ -189,6 +191,115 @@ fn is_apart(alloc: Global, e: &BoundExpression) -> Result<bool, AllocError>
     ensures { IfOk result (λ apart. apart ≡ read_once.is_apart e.now) }
 {
     Ok(indexes(alloc, e)?.is_some())
+}
+
+// Returns the place of a column, and `None` for any other expression.
+fn column(alloc: Global, x: &BoundExpression) -> Result<Option<BTreeSet<usize>>, AllocError>
+    ensures { let cs = columns_of x.now in
+        IfOk result (AreIndexesIf (is_a_column x.now && are_distinct cs) cs) }
+{
+    match x.parts() {
+        Parts::Column(place, _) => Ok(Some(BTreeSet::from_array(alloc, [place])?)),
+        _ => Ok(None),
+    }
+}
+
+// Returns the places of the columns of a tree that bounds and null counts decide, and `None` for
+// any other tree.
+fn null_indexes(alloc: Global, e: &BoundExpression) -> Result<Option<BTreeSet<usize>>, AllocError>
+    ensures { IfOk result (AreIndexesIf (null_boxes.is_null_apart e.now) (columns_of e.now)) }
+{
+    match e.parts() {
+        Parts::Binary(Operator::And, left, right) => {
+            let left = null_indexes(alloc, left)?;
+            let right = null_indexes(alloc, right)?;
+            apart(left, right)
+        }
+        Parts::Binary(Operator::Or, left, right) => {
+            let left = null_indexes(alloc, left)?;
+            let right = null_indexes(alloc, right)?;
+            both(left, right)
+        }
+        Parts::Binary(_, left, right) => compared(alloc, left, right),
+        Parts::Between(options, x, lower, upper) => ranged(alloc, options, x, lower, upper),
+        Parts::IsNull(x) | Parts::IsNotNull(x) => column(alloc, x),
+        Parts::Literal(value) => Ok(truth(alloc, value)),
+        _ => Ok(None),
+    }
+}
+
+fn is_null_apart(alloc: Global, e: &BoundExpression) -> Result<bool, AllocError>
+    ensures { IfOk result (λ apart. apart ≡ null_boxes.is_null_apart e.now) }
+{
+    Ok(null_indexes(alloc, e)?.is_some())
+}
+
+// Returns whether bounds and null counts decide the narrowed test of a predicate's truth.
+fn is_null_decided(
+    alloc: Global,
+    levels: Option<u32>,
+    wanted: bool,
+    with_null: bool,
+    predicate: &BoundExpression,
+) -> Result<bool, StatsError>
+    ensures value { let decided = null_boxes.is_null_decided levels wanted with_null in
+        IfOk result (λ complete. complete ≡ decided predicate.now) }
+    ensures not_predicate { is_predicate predicate.now ≡ false → result ≡ Err NotPredicate }
+    ensures memory { IsTrue (is_predicate predicate.now) → IfErr result IsMemory }
+{
+    let test = normal_test(alloc, wanted, with_null, predicate)?;
+    if !is_shallow(&test, levels) {
+        return Ok(false);
+    }
+    let narrowed = narrow(alloc, &test)?;
+    if !is_shallow(&narrowed, levels) {
+        return Ok(false);
+    }
+    Ok(is_null_apart(alloc, &narrowed)?)
+}
+
+/// Returns whether pruning by a predicate is complete by built-in rules with known null counts:
+/// each zone is skipped whose bounds and null counts leave no row that satisfies the predicate.
+///
+/// It is if the narrowed test that the predicate is true, unless that has more than so many
+/// levels, is a tree of AND and OR over comparisons, ranges, truths and null tests of columns in
+/// which the sides of no AND share a column. `levels` are those of
+/// `PruningPredicate::try_new_within`; `None` stands for `try_new`.
+///
+/// `NotPredicate` if the expression isn't of type Bool, which is found before anything is taken.
+pub fn is_complete_with_nulls(
+    alloc: Global,
+    levels: Option<u32>,
+    predicate: &BoundExpression,
+) -> Result<bool, StatsError>
+    ensures value { let decided = null_boxes.is_null_decided levels true false predicate.now in
+        IfOk result (λ complete. complete ≡ decided) }
+    ensures not_predicate { is_predicate predicate.now ≡ false → result ≡ Err NotPredicate }
+    // A predicate is refused for memory alone.
+    ensures memory { IsTrue (is_predicate predicate.now) → IfErr result IsMemory }
+{
+    is_null_decided(alloc, levels, true, false, predicate)
+}
+
+/// Returns whether pruning by a predicate names each zone whole, or skips it, whose bounds and null
+/// counts leave only rows that satisfy the predicate.
+///
+/// It does if the narrowed test that the predicate isn't true is such a tree as
+/// `is_complete_with_nulls` asks for.
+///
+/// `NotPredicate` if the expression isn't of type Bool, which is found before anything is taken.
+pub fn is_whole_complete_for(
+    alloc: Global,
+    levels: Option<u32>,
+    predicate: &BoundExpression,
+) -> Result<bool, StatsError>
+    ensures value { let decided = null_boxes.is_null_decided levels false true predicate.now in
+        IfOk result (λ complete. complete ≡ decided) }
+    ensures not_predicate { is_predicate predicate.now ≡ false → result ≡ Err NotPredicate }
+    // A predicate is refused for memory alone.
+    ensures memory { IsTrue (is_predicate predicate.now) → IfErr result IsMemory }
+{
+    is_null_decided(alloc, levels, false, true, predicate)
 }
 
 /// Returns whether pruning by a predicate is complete by built-in rules, so that each zone with

@@ -12,7 +12,7 @@ pub mod pruning_predicate;
 pub mod row_groups;
 pub mod sql;
 
-pub use complete::is_complete_for;
+pub use complete::{is_complete_for, is_complete_with_nulls, is_whole_complete_for};
 pub use parquet::error::FooterError;
 pub use parquet::footer_condition::{FooterCondition, GroupVerdicts};
 pub use parquet::page_ranges::{PageRange, PageVerdicts};
