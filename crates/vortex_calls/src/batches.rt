@@ -195,14 +195,18 @@ fn zones_of(proof: Option<&BoundExpression>) -> usize {
     }
 }
 
-// How many zones a map has: as many as fill a batch with cells, or more under long proofs, which are
-// bound anew for each map.
+// How many zones a map has: as many as fill a batch with cells, or more under long proofs, which
+// are bound anew for each map.
 fn batch_size(named: &[bool], proofs: &PruningPredicate) -> usize
     ensures { 0 < result }
 {
     let by_cells = 1 + BATCH_CELLS / count_named(named).max(1);
     let by_proofs = zones_of(proofs.falsifier()).max(zones_of(proofs.satisfier()));
-    if by_cells < by_proofs { by_proofs } else { by_cells }
+    if by_cells < by_proofs {
+        by_proofs
+    } else {
+        by_cells
+    }
 }
 
 // The answers for all zones, batch by batch.

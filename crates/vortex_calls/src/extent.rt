@@ -96,7 +96,8 @@ fn with_row<N: Number>(range: Option<Range<N>>, null: bool, number: N) -> Option
     ensures null { null ≡ true → result ≡ range }
     ensures value { null ≡ false → (xs : List (Option ScalarValue))
         → IsOptionalRangeOf (scalar_of N.pvalue) range xs
-        → IsOptionalRangeOf (scalar_of N.pvalue) result (xs ++ Some (scalar_of N.pvalue number) ∷ []) }
+        → IsOptionalRangeOf (scalar_of N.pvalue) result
+        (xs ++ Some (scalar_of N.pvalue number) ∷ []) }
 {
     pick(null, range, Some(with_number(range, number)))
 }
@@ -133,10 +134,7 @@ fn greater<'a>(value: ValueRef<'a>, other: ValueRef<'a>) -> ValueRef<'a>
 
 // The range, if there is one, with one more value that is lent.
 #[inline]
-fn with_lent<'a>(
-    range: Option<Range<ValueRef<'a>>>,
-    value: ValueRef<'a>,
-) -> Range<ValueRef<'a>>
+fn with_lent<'a>(range: Option<Range<ValueRef<'a>>>, value: ValueRef<'a>) -> Range<ValueRef<'a>>
     ensures { (xs : List (Option ScalarValue)) → IsOptionalRangeOf value_of range.entry xs
         → IsRangeOf value_of result (xs ++ Some (value_of value.entry) ∷ []) }
 {
@@ -221,8 +219,8 @@ impl<'a> Values<'a> {
         requires none { self.now.nulls.now ≡ [] }
         requires there { self.now.rows * number_width N.PTYPE ≤ length self.now.values.now }
         ensures { (n : Nullability) → let t = types.Primitive N.PTYPE n in
-            HasRead (scalar_of N.pvalue) t (cell t self.now.values.now self.now.start self.now.ends.now
-            self.now.nulls.now) self.now.rows 0 result }
+            HasRead (scalar_of N.pvalue) t (cell t self.now.values.now self.now.start
+            self.now.ends.now self.now.nulls.now) self.now.rows 0 result }
     {
         if self.rows == 0 {
             return None;
@@ -240,8 +238,8 @@ impl<'a> Values<'a> {
         nullability: Nullability,
     ) -> Option<(u64, Option<Range<N>>)>
         ensures { let t = types.Primitive N.PTYPE nullability in
-            IfSome result (λ read. HasRead (scalar_of N.pvalue) t (cell t self.now.values.now self.now.start
-            self.now.ends.now self.now.nulls.now) self.now.rows read.0 read.1) }
+            IfSome result (λ read. HasRead (scalar_of N.pvalue) t (cell t self.now.values.now
+            self.now.start self.now.ends.now self.now.nulls.now) self.now.rows read.0 read.1) }
     {
         let nullable = DType::Primitive(N::PTYPE, nullability).is_nullable();
         let mut nulls = 0;
