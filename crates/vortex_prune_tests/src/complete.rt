@@ -2,7 +2,7 @@
 use std::alloc::Global;
 use std::process::Abort;
 use std::test::Fail;
-use vortex_predicates::is_complete_for;
+use vortex_predicates::{is_complete_for, is_complete_with_nulls, is_whole_complete_for};
 use vortex_stats::StatsError;
 use vortex_testing::nodes::*;
 use vortex_testing::parts::*;
@@ -87,6 +87,57 @@ fn null_tests_are_not_complete(rt: HostRuntime) {
     expect(&rt, alloc, truth(alloc, false), true);
 }
 
+fn expect_with_nulls(rt: &impl Abort, alloc: Global, predicate: Built, skips: bool, wholes: bool) {
+    let predicate = predicate.expect(rt, "a predicate");
+    let found = is_complete_with_nulls(alloc, None, &predicate).expect(rt, "an answer");
+    assert!(rt; found == skips);
+    let found = is_whole_complete_for(alloc, None, &predicate).expect(rt, "an answer");
+    assert!(rt; found == wholes);
+}
+
+#[test]
+fn null_tests_are_complete_with_null_counts(rt: HostRuntime) {
+    let alloc = rt.alloc();
+    let null = is_null(alloc, col(alloc, 0, I32));
+    expect_with_nulls(
+        &rt,
+        alloc,
+        or(alloc, above_at(alloc, 0, 5), null),
+        true,
+        true,
+    );
+    let null = is_null(alloc, col(alloc, 0, I32));
+    expect_with_nulls(
+        &rt,
+        alloc,
+        and(alloc, null, below_at(alloc, 1, 3)),
+        true,
+        true,
+    );
+    let negated = not(alloc, above_at(alloc, 0, 5));
+    expect_with_nulls(&rt, alloc, negated, true, true);
+}
+
+#[test]
+fn shared_columns_are_not_complete_with_null_counts(rt: HostRuntime) {
+    let alloc = rt.alloc();
+    let other = or(alloc, below_at(alloc, 0, 2), above_at(alloc, 1, 9));
+    let shared = and(alloc, either_column(alloc), other);
+    expect_with_nulls(&rt, alloc, shared, false, true);
+}
+
+#[test]
+fn tests_too_deep_are_not_complete_with_null_counts(rt: HostRuntime) {
+    let alloc = rt.alloc();
+    let both = and(alloc, above_at(alloc, 0, 5), below_at(alloc, 1, 3)).expect(&rt, "both");
+    let found = is_complete_with_nulls(alloc, Some(0), &both).expect(&rt, "an answer");
+    assert!(rt; !found);
+    let found = is_whole_complete_for(alloc, Some(0), &both).expect(&rt, "an answer");
+    assert!(rt; !found);
+    let found = is_complete_with_nulls(alloc, Some(64), &both).expect(&rt, "an answer");
+    assert!(rt; found);
+}
+
 fn answer(alloc: Global, predicate: Built) -> Result<bool, StatsError> {
     is_complete_for(alloc, None, &predicate?)
 }
@@ -144,5 +195,7 @@ fn refused_answers(rt: HostRuntime) -> Result<(), Fail> {
     let (form, given) = (one_column(alloc)?, either_column(alloc)?);
     assert!(rt; is_told(is_complete_for(alloc, None, &form)));
     assert!(rt; is_told(is_complete_for(alloc, None, &given)));
+    assert!(rt; is_told(is_complete_with_nulls(alloc, None, &form)));
+    assert!(rt; is_told(is_whole_complete_for(alloc, None, &given)));
     Ok(())
 }
