@@ -1,5 +1,7 @@
 # SPDX-License-Identifier: Apache-2.0
 """Tables of Iceberg by a writer of its own: what their footers say beside the rows, and that no file is skipped that has a wanted row."""
+from __future__ import annotations
+
 import datetime
 import json
 import math
