@@ -131,8 +131,8 @@ class Texts:
 def shown(texts: list[str]) -> list[str]:
     """Returns each text as it is printed once it is read."""
     lines = "".join(f"{text}\n" for text in ["conditions", *texts])
-    *prints, count, end = subprocess.run([PRINTER], input=lines.encode(), capture_output=True, check=True).stdout.decode().split("\n")
-    assert (count, end) == (str(len(texts)), "") and len(prints) == len(texts), (count, len(prints), len(texts))
+    *prints, end = subprocess.run([PRINTER], input=lines.encode(), capture_output=True, check=True).stdout.decode().split("\n")
+    assert end == "" and len(prints) == len(texts), (end, len(prints), len(texts))
     return prints
 
 
