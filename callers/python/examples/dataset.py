@@ -2,6 +2,7 @@
 """A directory of CSV files in folders by year: the footers of each file measured once, kept, and the files named that have to be read."""
 import csv
 import pathlib
+import sys
 import tempfile
 
 from foalmorrow import Column, DType, Footers, col, dataset
@@ -9,7 +10,8 @@ from foalmorrow import Column, DType, Footers, col, dataset
 
 def footers_of(path: str) -> Footers:
     """Measures a file: its footers are true of its rows by proof."""
-    print(f"measured: {pathlib.Path(path).name}")
+    # Files are read by several threads, so a line goes out in one piece.
+    sys.stdout.write(f"measured: {pathlib.Path(path).name}\n")
     with open(path, newline="", encoding="utf-8") as file:
         rows = list(csv.DictReader(file))
     return Footers.measure([Column("qty", DType.I64)], [{"qty": [int(row["qty"]) for row in rows]}])
