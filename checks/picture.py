@@ -161,12 +161,12 @@ def zone_map():
     """The way of statistics into a map of zones, and to the answer for each zone."""
     boxes = [
         (0, 20, ["chunk of columns", "StatsSet::of_column", "vortex_stats"]),
-        (0, 115, ["statistics one by one", "ZoneLog::put", "vortex_zone_log"]),
+        (0, 115, ["statistics one by one", "ZoneMapBuilder::put", "vortex_zone_map"]),
         (0, 210, ["arrays of a caller", "batches", "vortex_calls"]),
         (0, 305, ["bytes of a footer", "groups_of", "vortex_parquet"]),
-        (1, 20, ["Zone", "rows, a set a column", "vortex_prune"]),
+        (1, 20, ["Zone", "rows, a set a column", "vortex_zone_map"]),
         (1, 305, ["row group", "map_of", "vortex_predicates"]),
-        (2, 162, ["ZoneMap", "a row a zone, a column", "a statistic", "vortex_prune"]),
+        (2, 162, ["ZoneMap", "a row a zone, a column", "a statistic", "vortex_zone_map"]),
         (3, 20, ["falsifier, satisfier", "PruningPredicate", "vortex_predicates"]),
         (3, 170, ["prune_by", "bound once, evaluated", "on 1,024 zones", "vortex_prune"]),
         (4, 170, ["Verdict", "skipped, whole", "or tested", "a zone"]),
@@ -200,16 +200,16 @@ def text_way():
         (1, 20, ["lines", "OpenText", "vortex_text::open_text"]),
         (2, 20, ["words", "statistics, rows, joins", "vortex_syntax"]),
         (3, 20, ["DocumentParser", "a line after another", "document_parser"]),
-        (3, 140, ["columns, ZoneLog", "vortex_text::store", "vortex_zone_log"]),
+        (3, 140, ["columns, builder", "vortex_text::store", "vortex_zone_map"]),
         (4, 20, ["bad line", "the first that isn't fine", "vortex_text::bad_line"]),
         (2, 140, ["batches of zones", "scan_ranges_from", "vortex_prune"]),
         (1, 140, ["selected rows", "whole before it is", "written"]),
         (0, 140, ["answer", "Sink", "vortex_text::printing"]),
     ]
     placed = {it[2][0]: it for it in boxes}
-    shapes = [("bytes", "lines"), ("lines", "words"), ("words", "DocumentParser"), ("DocumentParser", "bad line"), ("DocumentParser", "columns, ZoneLog")]
+    shapes = [("bytes", "lines"), ("lines", "words"), ("words", "DocumentParser"), ("DocumentParser", "bad line"), ("DocumentParser", "columns, builder")]
     drawn = flow("A text goes line by line into columns and statistics, and its scan becomes the answer", 240, boxes, shapes)
-    back = [("columns, ZoneLog", "batches of zones"), ("batches of zones", "selected rows"), ("selected rows", "answer")]
+    back = [("columns, builder", "batches of zones"), ("batches of zones", "selected rows"), ("selected rows", "answer")]
     ends = [(20 + placed[a][0] * 222, 20 + placed[b][0] * 222 + 176) for a, b in back]
     return drawn.replace("</svg>\n", "\n".join(to(x1, 177.5, x2 + 2, 177.5) for x1, x2 in ends) + "\n</svg>\n")
 

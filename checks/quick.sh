@@ -12,7 +12,7 @@ case "$crate" in
     vortex_expr | vortex_stats) tests=vortex_base_tests ;;
     vortex_normal) tests=vortex_rewrite_tests ;;
     vortex_syntax) tests=vortex_text_tests ;;
-    vortex_predicates | vortex_zone_log) tests=vortex_prune_tests ;;
+    vortex_predicates | vortex_zone_map) tests=vortex_prune_tests ;;
     vortex_parquet | vortex_sql) tests=vortex_calls_tests ;;
     *) tests="${crate}_tests" ;;
 esac

@@ -256,7 +256,7 @@ def section(name, keys):
 
 def ordered(keys):
     """The modules of some definitions, each behind those that it rests on, layer by layer."""
-    layers = ["vortex_base", "vortex_expr", "vortex_stats", "vortex_rewrite", "vortex_prune", "vortex_syntax", "vortex_zone_log", "vortex_text"]
+    layers = ["vortex_base", "vortex_expr", "vortex_stats", "vortex_rewrite", "vortex_zone_map", "vortex_prune", "vortex_syntax", "vortex_text"]
     below, out = {}, []
     for key in keys:
         below.setdefault(key[0], set()).update(it[0] for it in rests_on(key) if it in keys and it[0] != key[0])

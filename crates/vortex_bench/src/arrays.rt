@@ -13,7 +13,7 @@ use vortex_base::natives::Natives;
 use vortex_base::nulls::Nulls;
 use vortex_base::scope::Scope;
 use vortex_expr::bound_expression::BoundExpression;
-use vortex_prune::zone_map::{Head, ZoneMap};
+use vortex_zone_map::zone_map::{Head, ZoneMap};
 
 // Each zone by its number of rows, and each of its columns by the least and the
 // greatest value and how many nulls there are.

@@ -2,8 +2,8 @@
 use crate::pruning::{ROWS, Size, batch_of, map_of_zones, zones_of};
 use anyhow::Result;
 use std::alloc::{AllocError, Global};
-use vortex_prune::zone::Zone;
 use vortex_stats::stats_set::StatsSet;
+use vortex_zone_map::zone::Zone;
 
 const REPEATS: usize = 10;
 

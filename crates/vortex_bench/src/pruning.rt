@@ -5,11 +5,11 @@ use std::alloc::{AllocError, Global};
 use vortex_expr::bound;
 use vortex_expr::bound_expression::BoundExpression;
 use vortex_prune::scan::prune::prune;
-use vortex_prune::zone::Zone;
-use vortex_prune::zone_map::ZoneMap;
 use vortex_rewrite::rewrite::rules::Rules;
 use vortex_stats::error::StatsError;
 use vortex_stats::stats_set::StatsSet;
+use vortex_zone_map::zone::Zone;
+use vortex_zone_map::zone_map::ZoneMap;
 
 /// How often a map is pruned.
 pub const REPEATS: u32 = 10;

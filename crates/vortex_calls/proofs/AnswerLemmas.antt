@@ -6,7 +6,7 @@ use Rattle.vortex_expr.specs.Trees.Tree.{Place, Tree}
 use Rattle.vortex_predicates.proofs.Found.{skip_closed, whole_closed}
 use Rattle.vortex_predicates.specs.Pruning.{IsMadeBy, Pruning}
 use Rattle.vortex_prune.specs.Binding.PartAnswers.{told_values}
-use Rattle.vortex_prune.specs.Part.{ZoneData}
+use Rattle.vortex_zone_map.specs.Zone.{ZoneData}
 use Rattle.vortex_prune.specs.Scanning.Selection.{proves_of}
 use Rattle.vortex_prune.specs.Scanning.ZoneScans.{zone_verdict, zone_verdicts}
 use Rattle.vortex_prune.specs.declared.scan.verdict.Verdict.{Verdict}

@@ -15,12 +15,12 @@ use Rattle.vortex_base.specs.declared.aggregate.AggregateFnRef.{AggregateFnRef}
 use Rattle.vortex_base.specs.declared.aggregate.AggregateFnRef.TheVariants as aggregate
 use Rattle.vortex_base.specs.declared.dtype.DType.{DType}
 use Rattle.vortex_base.specs.declared.scalar_value.ScalarValue.{ScalarValue}
-use Rattle.vortex_prune.proofs.ZoneMaps.ZoneKept.{zones_are}
-use Rattle.vortex_prune.proofs.ZoneMaps.ZoneNames.{column_is_made, zones_tell}
+use Rattle.vortex_zone_map.proofs.ZoneMaps.ZoneKept.{zones_are}
+use Rattle.vortex_zone_map.proofs.ZoneMaps.ZoneNames.{column_is_made, zones_tell}
 use Rattle.vortex_prune.proofs.ZoneMaps.ZoneScan.{all_pushed}
-use Rattle.vortex_prune.specs.GivenTables.{is_table, map_with}
-use Rattle.vortex_prune.specs.Part.{ZoneData, zones_fit}
-use Rattle.vortex_prune.specs.Zones.{Head, MapData, TellsOf, heads, zone_column, zone_value}
+use Rattle.vortex_zone_map.specs.GivenTables.{is_table, map_with}
+use Rattle.vortex_zone_map.specs.Zone.{ZoneData, zones_fit}
+use Rattle.vortex_zone_map.specs.ZoneMaps.{Head, MapData, TellsOf, heads, zone_column, zone_value}
 use Rattle.vortex_calls.specs.declared.fault.Refusal.{Refusal}
 use Rattle.vortex_calls.specs.declared.batches.Batch.{Batch}
 use Rattle.vortex_calls.specs.declared.table.Source.{Source}

@@ -8,11 +8,11 @@ use Rattle.std.proofs.lemmas.Option.{same_Some, slice_get-map}
 use Rattle.vortex_base.specs.declared.aggregate.AggregateFnRef.{AggregateFnRef}
 use Rattle.vortex_base.specs.declared.scalar_value.ScalarValue.{ScalarValue}
 use Rattle.vortex_base.specs.Data.Scopes.{Named}
-use Rattle.vortex_prune.proofs.Binding.ReadStats.{stat_value-reads, told_value-absent}
+use Rattle.vortex_zone_map.proofs.ReadStats.{stat_value-reads, told_value-absent}
 use Rattle.vortex_prune.proofs.Scanning.BinderScan.{element_there}
-use Rattle.vortex_prune.specs.Binding.StatValues.{read_stat, told_value}
-use Rattle.vortex_prune.specs.Part.{Entries, ZoneData, fits_zone}
-use Rattle.vortex_prune.specs.Zones.{set_value, zone_value}
+use Rattle.vortex_zone_map.specs.StatValues.{read_stat, told_value}
+use Rattle.vortex_zone_map.specs.Zone.{Entries, ZoneData, fits_zone}
+use Rattle.vortex_zone_map.specs.ZoneMaps.{set_value, zone_value}
 use Rattle.vortex_stats.proofs.Sets.Lookups.{entry_value-with_other, entry_value-with_own}
 use Rattle.vortex_stats.specs.Sets.Entries.{entry_value, with_entry}
 use Rattle.vortex_stats.specs.Stat.{same_from_stat_eq, stat_eq}

@@ -4,7 +4,7 @@ use Rattle.std.proofs.Math.Nat.{eq-or-lt_of_le}
 use Rattle.std.proofs.lemmas.Option.{same_Some}
 use Rattle.std.specs.Prelude.{slice_index}
 use Rattle.vortex_base.specs.Data.Scopes.{Named}
-use Rattle.vortex_prune.specs.Part.{Entries, ZoneData}
+use Rattle.vortex_zone_map.specs.Zone.{Entries, ZoneData}
 use Rattle.vortex_calls.specs.declared.table.Source.{Source}
 use Rattle.vortex_calls.specs.MapCells.{AllRead, IsRead}
 use Rattle.vortex_calls.specs.Refusals.{all_found, stepped}

@@ -10,16 +10,17 @@ use Rattle.vortex_expr.specs.Trees.Tree.{Place, Tree, between, binary, column, i
 use Rattle.vortex_base.specs.declared.aggregate.AggregateFnRef.{AggregateFnRef}
 use Rattle.vortex_base.specs.declared.scalar_value.ScalarValue.{ScalarValue}
 use Rattle.vortex_prune.proofs.Scanning.BinderScan.{element_there}
-use Rattle.vortex_prune.proofs.ZoneMaps.ZoneKept.{zones_are}
+use Rattle.vortex_zone_map.proofs.ZoneMaps.ZoneKept.{zones_are}
 use Rattle.vortex_prune.proofs.ZoneMaps.ZoneRows.{HoldsTold, cell_told, column_told}
 use Rattle.vortex_prune.proofs.ZoneMaps.ZoneScan.{same_lists}
 use Rattle.vortex_prune.specs.Binding.PartAnswers.{told_values}
-use Rattle.vortex_prune.specs.Binding.ZoneFaithful.{aggregate_eq_is_exact, pointwise_at}
-use Rattle.vortex_prune.specs.GivenTables.{stands_under}
-use Rattle.vortex_prune.specs.Part.{ZoneData, fits_zone, zones_fit}
+use Rattle.vortex_zone_map.proofs.ZoneMaps.HeadPlaces.{aggregate_eq_is_exact, pointwise_at}
+use Rattle.vortex_zone_map.specs.GivenTables.{stands_under}
+use Rattle.vortex_zone_map.specs.Zone.{ZoneData, fits_zone, zones_fit}
 use Rattle.vortex_prune.specs.Scanning.Selection.{proves_of, verdict_of}
 use Rattle.vortex_prune.specs.Scanning.ZoneScans.{zone_verdict, zone_verdicts}
-use Rattle.vortex_prune.specs.Zones.{MapData, head, heads, zone_place, zone_values}
+use Rattle.vortex_prune.specs.Zones.{zone_values}
+use Rattle.vortex_zone_map.specs.ZoneMaps.{MapData, head, heads, zone_place}
 use Rattle.vortex_rewrite.specs.Rewriting.Proof.{Assignment, value_under}
 use Rattle.vortex_calls.specs.NamedStats.{HasNamed, asks, either_names, names, names_head, names_if}
 use Rattle.vortex_calls.specs.Prunes.{AreRowAnswers, answer_by, answer_of}

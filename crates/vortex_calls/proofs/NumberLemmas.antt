@@ -15,7 +15,7 @@ use Rattle.vortex_base.specs.declared.scalar_value.ScalarValue.{ScalarValue}
 use Rattle.vortex_base.specs.declared.scalar_value.ScalarValue.TheVariants as value
 use Rattle.vortex_base.specs.declared.types.Nullability.{Nullability}
 use Rattle.vortex_base.specs.declared.types.PType.{PType}
-use Rattle.vortex_prune.specs.Binding.StatValues.{told_value}
+use Rattle.vortex_zone_map.specs.StatValues.{told_value}
 use Rattle.vortex_stats.specs.Sets.Entries.{is_value_of}
 use Rattle.vortex_stats.specs.Stat.{stat_dtype}
 use Rattle.vortex_stats.specs.declared.precision.Precision.{Precision}

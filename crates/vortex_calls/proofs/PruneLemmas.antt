@@ -20,10 +20,10 @@ use Rattle.vortex_predicates.specs.Pruning.{Falsifies, FindsNoFewerWhole, IsMade
 use Rattle.vortex_prune.proofs.Scanning.Boxes.{skipping_is_complete}
 use Rattle.vortex_prune.proofs.Scanning.SkippedParts.{place_listed}
 use Rattle.vortex_prune.proofs.Scanning.WholeScan.{typed_bool}
-use Rattle.vortex_prune.proofs.ZoneMaps.ZoneKept.{zones_are}
+use Rattle.vortex_zone_map.proofs.ZoneMaps.ZoneKept.{zones_are}
 use Rattle.vortex_prune.proofs.ZoneMaps.ZonePruned.{skipped_listed, whole_listed}
 use Rattle.vortex_prune.specs.Binding.PartAnswers.{told_values}
-use Rattle.vortex_prune.specs.Part.{AreZonesOf, ZoneData, zones_fit}
+use Rattle.vortex_zone_map.specs.Zone.{AreZonesOf, ZoneData, zones_fit}
 use Rattle.vortex_prune.specs.Scanning.Complete.{IsKnownBy}
 use Rattle.vortex_prune.specs.Scanning.Selection.{is_whole, proves_of}
 use Rattle.vortex_prune.specs.Scanning.ZoneScans.{IsSoundPruning, skipped_zones, whole_zones, zone_verdict, zone_verdicts}

@@ -7,7 +7,7 @@ use Rattle.std.proofs.lemmas.Option.{get_or_from_slice_get, same_Some}
 use Rattle.vortex_base.specs.Data.Scopes.{Named}
 use Rattle.vortex_base.specs.declared.dtype.DType.TheVariants as dtype
 use Rattle.vortex_base.specs.declared.scalar_value.ScalarValue.{ScalarValue}
-use Rattle.vortex_prune.specs.Part.{Entries, ZoneData, fits_zone, zones_fit}
+use Rattle.vortex_zone_map.specs.Zone.{Entries, ZoneData, fits_zone, zones_fit}
 use Rattle.vortex_stats.proofs.Sets.Fitting.{entries_fit_with_entry}
 use Rattle.vortex_stats.specs.Sets.Entries.{entries_fit, value_fits}
 use Rattle.vortex_stats.specs.declared.precision.Precision.{Precision}

@@ -10,9 +10,9 @@ use Rattle.vortex_base.specs.declared.types.Nullability.{Nullability}
 use Rattle.vortex_base.specs.declared.types.PType.{PType}
 use Rattle.vortex_base.specs.Data.Columns.{ColumnData}
 use Rattle.vortex_base.specs.Data.Scopes.{Named}
-use Rattle.vortex_prune.specs.Binding.StatValues.{read_stat, told_value}
-use Rattle.vortex_prune.specs.Part.{ZoneData, zones_fit}
-use Rattle.vortex_prune.specs.Zones.{Head}
+use Rattle.vortex_zone_map.specs.StatValues.{read_stat, told_value}
+use Rattle.vortex_zone_map.specs.Zone.{ZoneData, zones_fit}
+use Rattle.vortex_zone_map.specs.ZoneMaps.{Head}
 use Rattle.vortex_stats.specs.Sets.Entries.{value_fits}
 use Rattle.vortex_stats.specs.Stat.{stat_dtype, stat_eq}
 use Rattle.vortex_stats.specs.declared.precision.Precision.{Precision}

@@ -4,9 +4,9 @@ use Rattle.vortex_base.specs.declared.aggregate.AggregateFnRef.{AggregateFnRef}
 use Rattle.vortex_base.specs.Data.Columns.{ColumnData}
 use Rattle.vortex_expr.specs.Trees.Tree.{Place, Tree, between, binary, column, is_not_null, is_null, like, literal, not, row_count, stat}
 use Rattle.vortex_expr.specs.Trees.TreeEq.{aggregate_eq}
-use Rattle.vortex_prune.specs.GivenTables.{is_table}
-use Rattle.vortex_prune.specs.Part.{ZoneData}
-use Rattle.vortex_prune.specs.Zones.{Head, MapData, heads, zone_column}
+use Rattle.vortex_zone_map.specs.GivenTables.{is_table}
+use Rattle.vortex_zone_map.specs.Zone.{ZoneData}
+use Rattle.vortex_zone_map.specs.ZoneMaps.{Head, MapData, heads, zone_column}
 
 -- ---- the placeholders of a proof
 

@@ -7,10 +7,10 @@ use Rattle.vortex_calls.specs.Nesting.Halves.{halved}
 use Rattle.vortex_normal.specs.Groups.{normal}
 use Rattle.vortex_predicates.specs.Pruning.{FindsNoFewerWhole, IsRight, Pruning, SkipsNoFewer, SkipsUnsatisfiable, is_within, skip_proof, whole_proof}
 use Rattle.vortex_prune.specs.Binding.PartAnswers.{told_values}
-use Rattle.vortex_prune.specs.Part.{ZoneData, zones_fit}
+use Rattle.vortex_zone_map.specs.Zone.{ZoneData, zones_fit}
 use Rattle.vortex_prune.specs.Scanning.Selection.{places_where, proves_of}
 use Rattle.vortex_prune.specs.Scanning.ZoneScans.{AreRowVerdicts, IsSoundPruning}
-use Rattle.vortex_prune.specs.Zones.{MapData}
+use Rattle.vortex_zone_map.specs.ZoneMaps.{MapData}
 use Rattle.vortex_prune.specs.declared.scan.verdict.Verdict.{Verdict}
 use Rattle.vortex_prune.specs.declared.scan.verdict.Verdict.TheVariants.{Skipped, Tested, Whole}
 use Rattle.vortex_rewrite.specs.Rewriting.Proof.{is_open}

@@ -11,8 +11,8 @@ ghost use Rattle.vortex_calls.specs.Prunes.{table_answers as answers_of_table};
 ghost use Rattle.vortex_calls.specs.Refusals.{Answers};
 ghost use Rattle.vortex_calls.specs.Tables.{IsTypedBy, zones_given};
 ghost use Rattle.vortex_calls.specs.declared.status.Status.TheVariants.{NoMemory};
-ghost use Rattle.vortex_prune.specs.Part.{ZoneData, zones_fit};
-ghost use Rattle.vortex_prune.specs.Zones.{TellsOf, heads as all_heads, zone_column};
+ghost use Rattle.vortex_zone_map.specs.Zone.{ZoneData, zones_fit};
+ghost use Rattle.vortex_zone_map.specs.ZoneMaps.{TellsOf, heads as all_heads, zone_column};
 
 use crate::cells::{all_read, last_of, null_cells, told_cells};
 use crate::fault::Refusal;
@@ -26,7 +26,8 @@ use vortex_base::column::Column;
 use vortex_base::scope::Scope;
 use vortex_expr::bound_expression::BoundExpression;
 use vortex_predicates::PruningPredicate;
-use vortex_prune::{Head, StatFn, ZoneMap, block_size};
+use vortex_prune::block_size;
+use vortex_zone_map::{Head, StatFn, ZoneMap};
 
 // How many cells are made at once of statistics. Each takes up to 9 bytes, and a text its own more.
 const BATCH_CELLS: usize = 32768;

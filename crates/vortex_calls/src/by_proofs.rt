@@ -2,7 +2,7 @@
 ghost use Rattle.std.specs.Prelude.{◌≡◌, IfOk, IsTrue, length};
 ghost use Rattle.vortex_calls.specs.Prunes as spec;
 ghost use Rattle.vortex_calls.specs.Refusals.{Answers};
-ghost use Rattle.vortex_prune.specs.Part.{zones_fit};
+ghost use Rattle.vortex_zone_map.specs.Zone.{zones_fit};
 
 use crate::batches::table_answers;
 use crate::fault::Refusal;

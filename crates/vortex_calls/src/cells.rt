@@ -13,8 +13,8 @@ use vortex_base::cells::Cells;
 use vortex_base::dtype::DType;
 use vortex_base::nulls::Nulls;
 use vortex_base::scalar_value::ScalarValue;
-use vortex_prune::StatFn;
 use vortex_stats::stat::Stat;
+use vortex_zone_map::StatFn;
 
 // Whether a statistic is this one of the column at a place.
 fn is_of(source: &Source<'_>, column: usize, stat: Stat) -> bool

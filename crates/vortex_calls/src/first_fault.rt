@@ -5,7 +5,7 @@ ghost use Rattle.vortex_calls.specs.MapCells.{AllRead, IsRead};
 ghost use Rattle.vortex_calls.specs.Tables.{zone_sets, zones_given};
 ghost use Rattle.vortex_calls.specs.declared.status.Status.TheVariants.{NoMemory};
 ghost use Rattle.vortex_calls.specs.declared.table.Source.{Source};
-ghost use Rattle.vortex_prune.specs.Part.{Entries};
+ghost use Rattle.vortex_zone_map.specs.Zone.{Entries};
 
 use crate::fault::Refusal;
 use crate::table::{Source, source_there};

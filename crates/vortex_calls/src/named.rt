@@ -5,8 +5,8 @@ ghost use Rattle.vortex_calls.specs.Prunes.{AreClosed, AreRowAnswers, zone_answe
 ghost use Rattle.vortex_calls.specs.Scopes.{max_depth};
 ghost use Rattle.vortex_expr.specs.Trees.Tree.{is_plain};
 ghost use Rattle.vortex_predicates.specs.Pruning.{IsMadeBy, IsRight};
-ghost use Rattle.vortex_prune.specs.Part.{ZoneData};
-ghost use Rattle.vortex_prune.specs.Zones.{IsMapOf};
+ghost use Rattle.vortex_zone_map.specs.Zone.{ZoneData};
+ghost use Rattle.vortex_zone_map.specs.ZoneMaps.{IsMapOf};
 ghost use Rattle.vortex_rewrite.specs.Answers.{IsMemory};
 ghost use Rattle.vortex_rewrite.specs.Rewriting.Predicates.{is_predicate};
 
@@ -17,9 +17,10 @@ use vortex_base::aggregate::AggregateFnRef;
 use vortex_expr::bound_expression::BoundExpression;
 use vortex_expr::bound_expression::parts::Parts;
 use vortex_predicates::PruningPredicate;
+use vortex_prune::Rules;
 use vortex_prune::scan::prune::prune_by;
-use vortex_prune::{Head, Rules, ZoneMap};
 use vortex_stats::StatsError;
+use vortex_zone_map::{Head, ZoneMap};
 
 // Whether an aggregate of an input is this one of the column at a place.
 fn asks(

@@ -8,7 +8,7 @@ ghost use Rattle.vortex_base.specs.declared.scalar_value.ScalarValue.TheVariants
 ghost use Rattle.vortex_calls.specs.Encoding.{AreNumbers, is_number};
 ghost use Rattle.vortex_calls.specs.MapCells as spec;
 ghost use Rattle.vortex_calls.specs.Types.{number_width};
-ghost use Rattle.vortex_prune.specs.Binding.StatValues.{told_value};
+ghost use Rattle.vortex_zone_map.specs.StatValues.{told_value};
 ghost use Rattle.vortex_stats.specs.declared.precision.Precision.TheVariants.{Exact, Inexact};
 
 use crate::given::fixed;

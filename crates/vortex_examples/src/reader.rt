@@ -4,17 +4,19 @@ ghost use Rattle.std.specs.Prelude.{OnErr, OnOk, Some, slice_get};
 ghost use Rattle.std.specs.Bool.{MatchBool};
 ghost use Rattle.vortex_expr.specs.Meanings.Fitting.{fits_scope};
 ghost use Rattle.vortex_expr.specs.Trees.Tree.{is_plain};
-ghost use Rattle.vortex_prune.specs.Part.{IsPartOf, IsTruePart, PartData, ZoneData, zones_fit};
+ghost use Rattle.vortex_prune.specs.Part.{IsPartOf, IsTruePart, PartData};
+ghost use Rattle.vortex_zone_map.specs.Zone.{ZoneData, zones_fit};
 ghost use Rattle.vortex_prune.specs.Scanning.ZoneScans.{EachSatisfies};
-ghost use Rattle.vortex_prune.specs.Zones.{IsMapOf, appended_map, zone_map};
+ghost use Rattle.vortex_zone_map.specs.ZoneMaps.{IsMapOf, appended_map, zone_map};
 ghost use Rattle.vortex_rewrite.specs.Answers.{IsMemory};
 ghost use Rattle.vortex_rewrite.specs.Rewriting.Predicates.{is_predicate};
 ghost use Rattle.vortex_stats.specs.declared.error.StatsError.TheVariants.{Mismatch};
 
 use std::alloc::Global;
 use vortex_expr::BoundExpression;
-use vortex_prune::{Pruned, Rules, Zone, ZoneMap, prune};
+use vortex_prune::{Pruned, Rules, prune};
 use vortex_stats::StatsError;
+use vortex_zone_map::{Zone, ZoneMap};
 
 /// The zones that needn't be fetched, ascending.
 pub fn zones_left_out(

@@ -17,8 +17,8 @@ use Rattle.vortex_expr.specs.Trees.Tree.{Tree, Place, is_plain}
 use Rattle.vortex_base.specs.declared.dtype.DType.{DType}
 use Rattle.vortex_base.specs.declared.dtype.DType.TheVariants as dtype
 use Rattle.vortex_base.specs.declared.scalar_value.ScalarValue.{ScalarValue}
-use Rattle.vortex_prune.proofs.Honesty.ZoneLemmas.{zone_set_fits}
-use Rattle.vortex_prune.specs.Part.{Entries, IsZone, ZoneData}
+use Rattle.vortex_zone_map.proofs.ZoneLemmas.{zone_set_fits}
+use Rattle.vortex_zone_map.specs.Zone.{Entries, IsZone, ZoneData}
 use Rattle.vortex_prune.specs.Scanning.Complete.{IsKnownBy}
 use Rattle.vortex_rewrite.proofs.Completeness.Choices.{RowsAgree, all_map, all_map_both, meaning_agreed}
 use Rattle.vortex_rewrite.proofs.Soundness.ValueTests.{le_refl}

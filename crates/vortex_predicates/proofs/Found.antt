@@ -24,12 +24,12 @@ use Rattle.vortex_prune.proofs.Scanning.WholeScan.{predicate_typed, typed_bool}
 use Rattle.vortex_prune.proofs.ZoneMaps.ZonePruned.{skipped_listed, whole_listed}
 use Rattle.vortex_prune.proofs.ZoneMaps.ZoneRows.{told_is_honest}
 use Rattle.vortex_prune.specs.Binding.PartAnswers.{told_values}
-use Rattle.vortex_prune.specs.Part.{AreZonesOf, ZoneData}
+use Rattle.vortex_zone_map.specs.Zone.{AreZonesOf, ZoneData}
 use Rattle.vortex_prune.specs.Scanning.Complete.{IsKnownBy}
 use Rattle.vortex_prune.specs.Scanning.PartScans.{UnlessSkipped}
 use Rattle.vortex_prune.specs.Scanning.Selection.{is_skipped, is_whole, places_where, proves_of}
 use Rattle.vortex_prune.specs.Scanning.ZoneScans.{IsShutIfVerdict, IsSoundPruning, is_left_open, open_causes, skipped_zones, whole_zones, zone_verdict, zone_verdicts}
-use Rattle.vortex_prune.specs.Zones.{IsMapOf, MapData}
+use Rattle.vortex_zone_map.specs.ZoneMaps.{IsMapOf, MapData}
 use Rattle.vortex_prune.specs.declared.scan.verdict.Verdict.{Verdict}
 use Rattle.vortex_prune.specs.declared.scan.verdict.Verdict.TheVariants.{Skipped, Whole, Tested}
 use Rattle.vortex_rewrite.proofs.Rewriting.CauseLemmas.{either-refused}

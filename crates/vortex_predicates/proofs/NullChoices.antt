@@ -33,8 +33,8 @@ use Rattle.vortex_predicates.specs.NullBoxes.{IsNullKnownBy, IsPossibleCell, IsP
 use Rattle.vortex_prune.proofs.Scanning.Boxes.{falsifiers_are_complete}
 use Rattle.vortex_prune.proofs.Scanning.WholeScan.{typed_bool}
 use Rattle.vortex_prune.specs.Binding.PartAnswers.{column_value, told_values}
-use Rattle.vortex_prune.specs.Binding.StatValues.{stat_value}
-use Rattle.vortex_prune.specs.Part.{Entries, IsZone, ZoneData}
+use Rattle.vortex_zone_map.specs.StatValues.{stat_value}
+use Rattle.vortex_zone_map.specs.Zone.{Entries, IsZone, ZoneData}
 use Rattle.vortex_prune.specs.Scanning.Complete.{IsKnownBy}
 use Rattle.vortex_rewrite.proofs.Completeness.Choices.{RowsAgree, all_back, all_front, all_map_both, meaning_agreed}
 use Rattle.vortex_rewrite.proofs.Soundness.TruthLogic.{clash, proves_value, refuted, true_and, true_or}

@@ -31,7 +31,7 @@ use Rattle.vortex_predicates.specs.Joint.{joint}
 use Rattle.vortex_predicates.specs.NullBoxes.{FindsCertain, HasTestForms, IsCertain, IsNullBoxOf, IsNullKnownBy, IsPossible, IsPossibleCell, IsPossibleRow, NullBox, SkipsImpossible, is_null_apart, is_null_decided, is_simple_or_null}
 use Rattle.vortex_predicates.specs.Pruning.{IsTestForm, is_test_within, skip_proof, skipped_places, test_proof, unless_deep, whole_places, whole_proof}
 use Rattle.vortex_prune.specs.Binding.PartAnswers.{told_values}
-use Rattle.vortex_prune.specs.Part.{AreZonesOf, IsZone, ZoneData}
+use Rattle.vortex_zone_map.specs.Zone.{AreZonesOf, IsZone, ZoneData}
 use Rattle.vortex_prune.specs.Scanning.Selection.{proves_of}
 use Rattle.vortex_prune.specs.Scanning.ZoneScans.{zone_verdicts}
 use Rattle.vortex_prune.specs.declared.scan.verdict.Verdict.{Verdict}

@@ -10,7 +10,7 @@ use Rattle.vortex_expr.specs.Meanings.Meaning.{compared, holds, is_true, truth_v
 use Rattle.vortex_expr.specs.Trees.Tree.{Tree, Place, column, binary, is_null, is_not_null, stat, row_count}
 use Rattle.vortex_expr.specs.declared.scalar_fn.Operator.TheVariants.{And, Eq, Or}
 use Rattle.vortex_normal.proofs.Columns.{eqb_same}
-use Rattle.vortex_prune.specs.Binding.StatValues.{all_non_null_value, all_null_value, count_of, null_count_value, of_count}
+use Rattle.vortex_zone_map.specs.StatValues.{all_non_null_value, all_null_value, count_of, null_count_value, of_count}
 use Rattle.vortex_rewrite.proofs.Completeness.Decided.{one_proof}
 use Rattle.vortex_rewrite.proofs.Soundness.TruthLogic.{clash, refuted, true_and, true_or}
 use Rattle.vortex_rewrite.proofs.Soundness.ValueTests.{by_order, eq_le, le_antisym, le_refl}

@@ -24,12 +24,13 @@ use Rattle.vortex_predicates.specs.NullBoxes.{FindsCertain, HasTestForms, IsCert
 use Rattle.vortex_predicates.specs.Pruning.{FindsNoFewerWhole, HasRowsOf, IsMadeBy, IsRight, IsTestForm, Pruning, SkipsNoFewer, SkipsUnsatisfiable, is_within, making_causes, skip_proof, skipped_places, whole_places, whole_proof}
 use Rattle.vortex_prune.proofs.Scanning.Boxes.{skipping_is_complete}
 use Rattle.vortex_prune.proofs.WorkedRows.ShutRows.{neither}
-use Rattle.vortex_prune.proofs.WorkedRows.Witnesses.Parts.{IsWitness, a, above_ten, high, high_is_in_its_zone, high_is_true, i64_type, is_map, low, num, scope, their_map, zones}
+use Rattle.vortex_prune.proofs.WorkedRows.Witnesses.Parts.{a, above_ten, high, high_is_in_its_zone, high_is_true, is_map, low, their_map, zones}
+use Rattle.vortex_zone_map.proofs.WorkedRows.Witnesses.{IsWitness, i64_type, num, scope}
 use Rattle.vortex_prune.proofs.WorkedRows.Witnesses.Pruning.{answered_is_not_refused, built_in, open_is_not_memory, own_rules, shut}
 use Rattle.vortex_prune.specs.Part.{zone_of}
 use Rattle.vortex_prune.specs.Scanning.Complete.{IsBoxIn}
 use Rattle.vortex_prune.specs.Scanning.ZoneScans.{IsSoundPruning, kept_zones, open_causes, zone_verdicts}
-use Rattle.vortex_prune.specs.Zones.{IsMapOf, MapData}
+use Rattle.vortex_zone_map.specs.ZoneMaps.{IsMapOf, MapData}
 use Rattle.vortex_prune.specs.declared.scan.verdict.Verdict.{Verdict}
 use Rattle.vortex_prune.specs.declared.scan.verdict.Verdict.TheVariants.{Skipped, Whole, Tested}
 use Rattle.vortex_rewrite.proofs.Soundness.TruthLogic.{refuted as not_so}

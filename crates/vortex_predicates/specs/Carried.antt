@@ -3,7 +3,7 @@ use Rattle.std.specs.Prelude.{◌↔◌, List, IsTrue}
 use Rattle.vortex_base.specs.Data.Scopes.{Named}
 use Rattle.vortex_expr.specs.Meanings.Fitting.{fits_scope}
 use Rattle.vortex_expr.specs.Trees.Tree.{Tree, Place, is_plain}
-use Rattle.vortex_prune.specs.Part.{IsZone, ZoneData}
+use Rattle.vortex_zone_map.specs.Zone.{IsZone, ZoneData}
 use Rattle.vortex_prune.specs.Scanning.Complete.{IsBoxIn}
 use Rattle.vortex_rewrite.specs.Rewriting.ReadOnce.{Box, IsInOrder, IsSatisfiable}
 use Rattle.vortex_normal.specs.Same.{HasNoOther, Same, StaysPlain}

@@ -9,8 +9,8 @@ use Rattle.vortex_expr.specs.Meanings.Meaning.{satisfies}
 use Rattle.vortex_expr.specs.Trees.Tree.{Tree, Place, column, literal, binary, between, is_null, is_not_null}
 use Rattle.vortex_normal.specs.Strict.{narrow_test, strict_test}
 use Rattle.vortex_predicates.specs.Pruning.{IsTestForm, is_test_within}
-use Rattle.vortex_prune.specs.Binding.StatValues.{null_count_value}
-use Rattle.vortex_prune.specs.Part.{Entries, ZoneData}
+use Rattle.vortex_zone_map.specs.StatValues.{null_count_value}
+use Rattle.vortex_zone_map.specs.Zone.{Entries, ZoneData}
 use Rattle.vortex_prune.specs.Scanning.Complete.{IsKnownBy}
 use Rattle.vortex_rewrite.specs.Rewriting.ReadOnce.{Box, are_sides_apart, columns_of, is_operand, is_range, is_simple_binary, is_truth}
 use Rattle.vortex_stats.specs.Bounds.Order.{AtMost}

@@ -10,7 +10,7 @@ use Rattle.vortex_normal.specs.Strict.{narrow_test, normal_test, strict_test}
 use Rattle.vortex_normal.specs.Tested.{IsTestOf}
 use Rattle.vortex_predicates.specs.EqualBounds.{form_proof}
 use Rattle.vortex_predicates.specs.Joint.{joint}
-use Rattle.vortex_prune.specs.Part.{ZoneData}
+use Rattle.vortex_zone_map.specs.Zone.{ZoneData}
 use Rattle.vortex_prune.specs.Scanning.Complete.{IsBoxIn}
 use Rattle.vortex_prune.specs.Scanning.Selection.{is_skipped, is_whole, places_where, proves_of}
 use Rattle.vortex_prune.specs.Scanning.ZoneScans.{skipped_zones, whole_zones}

@@ -10,7 +10,7 @@ use Rattle.vortex_normal.specs.Worked.{a, all, any, b, byte, compare, like_of}
 use Rattle.vortex_predicates.specs.NullBoxes.{is_null_decided}
 use Rattle.vortex_predicates.specs.Pruning.{skip_proof, whole_proof}
 use Rattle.vortex_prune.specs.Binding.PartAnswers.{told_values}
-use Rattle.vortex_prune.specs.Part.{Entries, ZoneData}
+use Rattle.vortex_zone_map.specs.Zone.{Entries, ZoneData}
 use Rattle.vortex_prune.specs.Scanning.Selection.{proves_of}
 use Rattle.vortex_stats.specs.Sets.Claims.{count_value}
 use Rattle.vortex_stats.specs.declared.precision.Precision.TheVariants.{Exact}

@@ -12,10 +12,10 @@ ghost use Rattle.vortex_rewrite.specs.Rewriting.Lawful.{OwnRule};
 ghost use Rattle.vortex_rewrite.specs.Rewriting.Own.{own_rules};
 ghost use Rattle.vortex_rewrite.specs.Rewriting.Predicates.{is_predicate};
 ghost use Rattle.vortex_rewrite.specs.Rewriting.ReadOnce.{is_apart};
-ghost use Rattle.vortex_prune.specs.Part.{ZoneData};
-ghost use Rattle.vortex_prune.specs.Scanning.ZoneScans.{AreRowVerdicts, IsSoundPruning};
-ghost use Rattle.vortex_prune.specs.Scanning.ZoneScans.{kept_zones, open_causes, zone_verdicts};
-ghost use Rattle.vortex_prune.specs.Zones.{IsMapOf};
+ghost use Rattle.vortex_zone_map.specs.Zone.{ZoneData};
+ghost use Rattle.vortex_prune.specs.Scanning.ZoneScans.{AreRowVerdicts, IsSoundPruning, kept_zones};
+ghost use Rattle.vortex_prune.specs.Scanning.ZoneScans.{open_causes, zone_verdicts};
+ghost use Rattle.vortex_zone_map.specs.ZoneMaps.{IsMapOf};
 ghost use Rattle.vortex_normal.specs.Groups.{normal as normal_of};
 ghost use Rattle.vortex_normal.specs.OneColumn.{IsJoining, IsSelective, are_ends_seen, is_over};
 ghost use Rattle.vortex_normal.specs.Strict.{strict_test as strict_of};
@@ -41,12 +41,12 @@ use vortex_normal::levels::is_within as levels_within;
 use vortex_normal::normalize::{narrow, normal_test, normalize, strict};
 use vortex_prune::scan::prune::prune_by;
 use vortex_prune::scan::verdict::Verdict;
-use vortex_prune::zone_map::ZoneMap;
 use vortex_rewrite::built::cloned;
 use vortex_rewrite::rewrite::rule::StatsRewriteRule;
 use vortex_rewrite::rewrite::rules::Rules;
 use vortex_rewrite::rewrite::{falsify, satisfy};
 use vortex_stats::error::StatsError;
+use vortex_zone_map::zone_map::ZoneMap;
 
 /// A predicate with a proof over statistics that no row satisfies it and one that every row does,
 /// where there are such.

@@ -2,4 +2,3 @@
 pub mod BoundTypes
 pub mod BoundValues
 pub mod ProofLemmas
-pub mod ReadStats

@@ -6,6 +6,5 @@ pub mod OwnValues
 pub mod StatisticsBinders
 pub mod PartLemmas
 pub mod PartLiterals
-pub mod StatFits
 pub mod StatTypes
 pub mod ZoneLemmas

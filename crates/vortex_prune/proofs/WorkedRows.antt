@@ -1,7 +1,6 @@
 -- Worked rows, found by computation alone.
 pub mod AskingRows
 pub mod CauseRows
-pub mod ChosenRows
 pub mod CompleteRows
 pub mod GapRows
 pub mod HonestRows
@@ -13,7 +12,6 @@ pub mod PartRows
 pub mod PremiseRows
 pub mod RangeRows
 pub mod ShutRows
-pub mod StatRows
 pub mod TrueRows
 pub mod WholeRows
 pub mod Witnesses

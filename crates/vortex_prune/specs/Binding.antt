@@ -4,5 +4,4 @@ pub mod BoundTo
 pub mod PartAnswers
 pub mod PartBinder
 pub mod PartFaithful
-pub mod StatValues
 pub mod ZoneFaithful

@@ -7,12 +7,12 @@ ghost use Rattle.vortex_prune.specs.Part.{IsPart, sets_fit, zone_of};
 mod join;
 mod measure;
 
-use crate::zone::{Zone, sets_fit};
 use std::alloc::AllocError;
 use std::marker::Model;
 use vortex_base::chunk::Chunk;
 use vortex_stats::error::StatsError;
 use vortex_stats::stats_set::StatsSet;
+use vortex_zone_map::zone::{Zone, sets_fit};
 
 /// The rows of a chunk, and for each of its columns the statistics that came with it.
 #[derive(Debug, Drop)]

@@ -2,17 +2,18 @@
 ghost use Rattle.std.specs.Prelude.{◌≡◌, IfErr, IfOk, alloc_error, map};
 ghost use Rattle.vortex_prune.specs.Part.{AreParts};
 ghost use Rattle.vortex_prune.specs.Zones as spec;
-ghost use Rattle.vortex_prune.specs.Zones.{HaveScope, IsMapOf, zone_map, zone_table, zones_of};
+ghost use Rattle.vortex_prune.specs.Zones.{HaveScope, zones_of};
+ghost use Rattle.vortex_zone_map.specs.ZoneMaps.{IsMapOf, zone_map, zone_table};
 ghost use Rattle.vortex_stats.specs.declared.error.StatsError.TheVariants.{Memory};
 
 use crate::part::Part;
-use crate::zone::Zone;
-use crate::zone_map::{ZoneMap, ZoneMapRefused, map_of};
 use std::alloc::{AllocError, Global};
 use std::marker::Model;
 use vortex_base::chunk::Chunk;
 use vortex_base::scope::Scope;
 use vortex_stats::error::StatsError;
+use vortex_zone_map::zone::Zone;
+use vortex_zone_map::zone_map::{ZoneMap, ZoneMapRefused, map_of};
 
 // The parts as they are known without their rows.
 fn zones_of<'a>(alloc: Global, parts: &'a [Part]) -> Result<Vec<Zone<'a>>, AllocError>

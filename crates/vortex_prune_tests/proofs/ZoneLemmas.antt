@@ -2,9 +2,9 @@
 use Rattle.std.proofs.Common.{◌≡◌, List, ap, arith, refl, subst, sym}
 use Rattle.std.proofs.lemmas.Option.{same_Some}
 use Rattle.vortex_base.specs.Data.Scopes.{Named}
-use Rattle.vortex_prune.proofs.ZoneMaps.ZoneKept.{zones_are}
-use Rattle.vortex_prune.specs.Part.{AreZonesOf, ZoneData}
-use Rattle.vortex_zone_log.specs.Logs.{MayJoinAt, zones_from}
+use Rattle.vortex_zone_map.proofs.ZoneMaps.ZoneKept.{zones_are}
+use Rattle.vortex_zone_map.specs.Zone.{AreZonesOf, ZoneData}
+use Rattle.vortex_zone_map.specs.Logs.{MayJoinAt, zones_from}
 use Rattle.vortex_prune_tests.specs.Zones.{columns, three, two}
 
 three_fit : AreZonesOf columns three

@@ -6,11 +6,12 @@ use std::test::Fail;
 use vortex_base::{DType, Nullability};
 use vortex_expr::{BoundExpression, LikeOptions, ScalarFnId};
 use vortex_predicates::PruningPredicate;
-use vortex_prune::{Rules, StatsRewriteRuleRef, Verdict, ZoneMap};
+use vortex_prune::{Rules, StatsRewriteRuleRef, Verdict};
 use vortex_stats::{Precision, Stat, StatsError, StatsSet};
 use vortex_testing::hooks::{Claim, Claiming};
 use vortex_testing::nodes::*;
 use vortex_testing::parts::*;
+use vortex_zone_map::ZoneMap;
 
 const NULLABLE_UTF8: DType = DType::Utf8(Nullability::Nullable);
 

@@ -1,15 +1,14 @@
 //! Logs of zones, whose contracts tell what the calls ask for.
 ghost use Rattle.std.specs.Prelude.{◌≡◌, ◌++◌, ◌∷◌, [], IfOk, OnOk};
 ghost use Rattle.vortex_base.specs.Data.Scopes.{named_columns};
-ghost use Rattle.vortex_prune.specs.Part.{AreZonesOf};
-ghost use Rattle.vortex_zone_log.specs.Logs.{empty_sets};
+ghost use Rattle.vortex_zone_map.specs.Zone.{AreZonesOf};
+ghost use Rattle.vortex_zone_map.specs.Logs.{empty_sets};
 ghost use Rattle.vortex_prune_tests.specs.Zones as spec;
 
 use std::alloc::{AllocError, Global};
 use vortex_base::{Bytes, DType, Nullability, PType, PValue, ScalarValue, Scope, ValueRef};
-use vortex_prune::ZoneMap;
 use vortex_stats::{Precision, Stat};
-use vortex_zone_log::ZoneLog;
+use vortex_zone_map::{ZoneMap, ZoneMapBuilder};
 
 // The columns of the zones: numbers and bytes.
 fn columns(alloc: Global) -> Result<Vec<(String, DType)>, AllocError>
@@ -43,7 +42,7 @@ fn at_most(alloc: Global, last: &[u8]) -> Result<Precision<ScalarValue>, AllocEr
 // zone. The greatest number is told twice.
 fn tell_zone(
     alloc: Global,
-    log: &mut ZoneLog,
+    log: &mut ZoneMapBuilder,
     numbers: (i64, i64),
     nulls: u64,
     last: &[u8],
@@ -65,11 +64,11 @@ fn tell_zone(
 }
 
 /// Three zones.
-pub fn three_zones(alloc: Global) -> Result<ZoneLog, AllocError>
+pub fn three_zones(alloc: Global) -> Result<ZoneMapBuilder, AllocError>
     ensures zones { IfOk result (λ log. log.zones ≡ spec.three) }
     ensures fit { IfOk result (λ log. AreZonesOf spec.columns log.zones) }
 {
-    let mut log = ZoneLog::new(alloc, 2);
+    let mut log = ZoneMapBuilder::new(alloc, 2);
     tell_zone(alloc, &mut log, (2, 7), 0, b"pear", 3)?;
     tell_zone(alloc, &mut log, (8, 9), 1, b"quince", 4)?;
     tell_zone(alloc, &mut log, (-5, 1), 5, b"fig", 5)?;
@@ -77,7 +76,7 @@ pub fn three_zones(alloc: Global) -> Result<ZoneLog, AllocError>
 }
 
 /// Joins the first two of them.
-pub fn join_first(alloc: Global, log: &mut ZoneLog) -> Result<(), AllocError>
+pub fn join_first(alloc: Global, log: &mut ZoneMapBuilder) -> Result<(), AllocError>
     requires { log.old.zones ≡ spec.three }
     ensures zones { OnOk result (log.new.zones ≡ spec.two) }
     ensures fit { OnOk result (AreZonesOf spec.columns log.new.zones) }
@@ -88,7 +87,7 @@ pub fn join_first(alloc: Global, log: &mut ZoneLog) -> Result<(), AllocError>
 }
 
 /// The map of all zones.
-pub fn map_of(alloc: Global, log: &ZoneLog) -> Result<ZoneMap, AllocError>
+pub fn map_of(alloc: Global, log: &ZoneMapBuilder) -> Result<ZoneMap, AllocError>
     requires { AreZonesOf spec.columns log.now.zones }
 {
     let scope = Scope::new_unchecked(columns(alloc)?);
@@ -96,7 +95,7 @@ pub fn map_of(alloc: Global, log: &ZoneLog) -> Result<ZoneMap, AllocError>
 }
 
 /// The map of the last two of the three zones.
-pub fn map_of_last_two(alloc: Global, log: &ZoneLog) -> Result<ZoneMap, AllocError>
+pub fn map_of_last_two(alloc: Global, log: &ZoneMapBuilder) -> Result<ZoneMap, AllocError>
     requires { log.now.zones ≡ spec.three }
 {
     let scope = Scope::new_unchecked(columns(alloc)?);

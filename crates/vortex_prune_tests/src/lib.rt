@@ -1,9 +1,11 @@
-//! Tests of `vortex_prune`, `vortex_zone_log` and `vortex_predicates` by their public calls, and of
+//! Tests of `vortex_prune`, `vortex_zone_map` and `vortex_predicates` by their public calls, and of
 //! the callers in `vortex_examples`. `vortex_testing` has what they stand on.
 #![tactic(auto)]
 
 #[cfg(test)]
 mod bind;
+#[cfg(test)]
+mod builder;
 #[cfg(test)]
 mod complete;
 #[cfg(test)]
@@ -20,7 +22,5 @@ mod refused;
 mod scan;
 #[cfg(test)]
 mod stat_fn;
-#[cfg(test)]
-mod zone_log;
 #[cfg(test)]
 mod zone_map;

@@ -5,11 +5,12 @@ use std::process::Abort;
 use std::test::Fail;
 use vortex_expr::{BoundExpression, LikeOptions, ScalarFnId};
 use vortex_predicates::PruningPredicate;
-use vortex_prune::{Pruned, Rules, StatsRewriteRuleRef, Verdict, ZoneMap};
+use vortex_prune::{Pruned, Rules, StatsRewriteRuleRef, Verdict};
 use vortex_stats::{RuleFault, Stat, StatsError};
 use vortex_testing::hooks::{Claim, Claiming};
 use vortex_testing::nodes::*;
 use vortex_testing::parts::*;
+use vortex_zone_map::ZoneMap;
 
 // The verdicts by all proofs of a predicate, and how many levels of its normal forms they may have.
 fn verdicts(

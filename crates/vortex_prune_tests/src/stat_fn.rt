@@ -4,10 +4,10 @@ use std::process::Abort;
 use vortex_base::types::Element;
 use vortex_base::{AggregateFnRef, ConstantArray, DType, Nullability, PType, ScalarValue};
 use vortex_expr::ScalarFnId;
-use vortex_prune::{StatFn, StatOptions};
 use vortex_stats::{Precision, Stat, StatsError, StatsSet};
 use vortex_testing::nodes::*;
 use vortex_testing::parts::*;
+use vortex_zone_map::{StatFn, StatOptions};
 
 const I64: DType = DType::Primitive(PType::I64, Nullability::Nullable);
 

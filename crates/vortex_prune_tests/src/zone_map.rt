@@ -5,13 +5,11 @@ use std::slice;
 use std::test::Fail;
 use vortex_base::{AggregateFnRef, Cells, Column, ScalarValue, Scope};
 use vortex_expr::BoundExpression;
-use vortex_prune::{
-    Head, Pruned, Rules, TableRefused, Verdict, Zone, ZoneMap, ZoneMapRefused, falsify, prune_by,
-    satisfy,
-};
+use vortex_prune::{Pruned, Rules, Verdict, falsify, prune_by, satisfy};
 use vortex_stats::{Stat, StatsError, StatsSet};
 use vortex_testing::nodes::*;
 use vortex_testing::parts::*;
+use vortex_zone_map::{Head, TableRefused, Zone, ZoneMap, ZoneMapRefused};
 
 type ManySets = Result<Vec<StatsSet>, StatsError>;
 

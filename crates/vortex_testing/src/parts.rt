@@ -14,10 +14,10 @@ use vortex_expr::BoundExpression;
 use vortex_prune::scan::scan;
 use vortex_prune::scan::zones::scan_zones;
 use vortex_prune::{
-    Part, PartRefused, Pruned, Rules, Scan, StatBinder, StatsBinder, Zone, ZoneMap, Zones, prune,
-    scan_ranges,
+    Part, PartRefused, Pruned, Rules, Scan, StatBinder, StatsBinder, Zones, prune, scan_ranges,
 };
 use vortex_stats::{Precision, RuleFault, Stat, StatsError, StatsSet};
+use vortex_zone_map::{Zone, ZoneMap};
 
 pub type Sets = Result<StatsSet, StatsError>;
 

@@ -13,11 +13,13 @@ use Rattle.vortex_base.specs.Data.Scopes.{Named, scope_eq_is_exact}
 use Rattle.vortex_expr.specs.Trees.Tree.{Place, Tree}
 use Rattle.vortex_prune.proofs.Honesty.ZoneLemmas.{chunk_alike}
 use Rattle.vortex_prune.proofs.Scanning.RangeThere.{ranges_behind_are_there}
-use Rattle.vortex_prune.specs.Part.{AreZonesOf, IsTruePart, PartData, ZoneData, fits_zone}
+use Rattle.vortex_prune.specs.Part.{IsTruePart, PartData}
+use Rattle.vortex_zone_map.specs.Zone.{AreZonesOf, ZoneData, fits_zone}
 use Rattle.vortex_prune.specs.Scanning.RangeScans.{AreRangesBehind, counts_of, has_ranges_from, range_chunk, range_parts}
 use Rattle.vortex_prune.specs.Scanning.Selection.{full, selected_rows}
 use Rattle.vortex_prune.specs.Scanning.ZoneScans.{skipped_zones, statistics_answers, whole_zones}
-use Rattle.vortex_prune.specs.Zones.{IsMapOf, MapData, zones_of}
+use Rattle.vortex_prune.specs.Zones.{zones_of}
+use Rattle.vortex_zone_map.specs.ZoneMaps.{IsMapOf, MapData}
 use Rattle.vortex_prune.specs.declared.scan.outcome.Scan.{Scan}
 use Rattle.vortex_rewrite.specs.Rewriting.Falsifiers.{falsifier, satisfier}
 use Rattle.vortex_text.proofs.Fitting.PartFits.{one_of}

@@ -20,7 +20,7 @@ use Rattle.vortex_text.specs.Fitting.{FitsTogether}
 use Rattle.vortex_text.specs.Lines.{Reading}
 use Rattle.vortex_text.specs.Naming.{Reads}
 use Rattle.vortex_text.specs.Stores.{IsStore, StoreData, current_of, ended_of, parts_in, with_first}
-use Rattle.vortex_zone_log.specs.Logs.{LogData}
+use Rattle.vortex_zone_map.specs.Logs.{LogData}
 
 -- ---- the only column
 

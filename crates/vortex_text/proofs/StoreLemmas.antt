@@ -13,7 +13,8 @@ use Rattle.vortex_base.specs.Data.Scopes.{Named}
 use Rattle.vortex_base.specs.Data.Types.{dtype_eq, dtype_eq_is_exact}
 use Rattle.vortex_base.specs.declared.dtype.DType.{DType}
 use Rattle.vortex_base.specs.declared.scalar_value.ScalarValue.{ScalarValue}
-use Rattle.vortex_prune.specs.Part.{Entries, PartData, ZoneData, joined, merged_sets}
+use Rattle.vortex_prune.specs.Part.{PartData, joined}
+use Rattle.vortex_zone_map.specs.Zone.{Entries, ZoneData, merged_sets}
 use Rattle.vortex_prune.specs.Scanning.RangeScans.{counts_of, range_chunk, range_column, range_parts}
 use Rattle.vortex_syntax.specs.Values.{optional_value_of}
 use Rattle.vortex_syntax.specs.Words.{Token, first_word, no_word, words}

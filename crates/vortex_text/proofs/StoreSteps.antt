@@ -14,7 +14,8 @@ use Rattle.std.specs.declared.alloc.Global.{Global}
 use Rattle.vortex_base.specs.Data.Scopes.{Named, is_scope, named, named_columns}
 use Rattle.vortex_base.specs.declared.dtype.DType.{DType}
 use Rattle.vortex_base.specs.Data.Types.{dtype_eq}
-use Rattle.vortex_prune.specs.Part.{Entries, PartData, ZoneData, joined}
+use Rattle.vortex_prune.specs.Part.{PartData, joined}
+use Rattle.vortex_zone_map.specs.Zone.{Entries, ZoneData}
 use Rattle.vortex_prune.specs.Scanning.RangeScans.{counts_of, range_column, range_parts}
 use Rattle.vortex_syntax.specs.Fails.{Fails, when}
 use Rattle.vortex_syntax.specs.Words.{Token}
@@ -30,8 +31,8 @@ use Rattle.vortex_text.specs.Fitting.{AreNeighbours, IsPartOf}
 use Rattle.vortex_text.specs.Lines.{has_part}
 use Rattle.vortex_text.specs.Rows.{empty_column, empty_part, joined_at, no_entries}
 use Rattle.vortex_text.specs.Stores.{AreLong, HaveRows, IsShut, IsStore, StoreData, all_parts, ended_all, last_row, parts_in, rest_column, rest_part, with_first, with_joined, with_words}
-use Rattle.vortex_zone_log.specs.Logs as logs
-use Rattle.vortex_zone_log.specs.Logs.{LogData, empty_sets}
+use Rattle.vortex_zone_map.specs.Logs as logs
+use Rattle.vortex_zone_map.specs.Logs.{LogData, empty_sets}
 
 not_open : (b : Bool) → b ≡ true → b ≡ false → ⊥
 not_open b is isnt = cc

@@ -3,13 +3,14 @@ use Rattle.std.specs.Prelude.{ℕ, ◌+◌, List, [], ◌∷◌, ◌++◌, Optio
 use Rattle.vortex_base.specs.Data.Columns.{ColumnData}
 use Rattle.vortex_base.specs.Data.Scopes.{Named}
 use Rattle.vortex_base.specs.declared.scalar_value.ScalarValue.{ScalarValue}
-use Rattle.vortex_prune.specs.Part.{Entries, PartData, joined}
+use Rattle.vortex_prune.specs.Part.{PartData, joined}
+use Rattle.vortex_zone_map.specs.Zone.{Entries}
 use Rattle.vortex_stats.specs.declared.precision.Precision.{Precision}
 use Rattle.vortex_stats.specs.declared.stat.Stat.{Stat}
 use Rattle.vortex_syntax.specs.Fails.{◌>>=◌}
 use Rattle.vortex_syntax.specs.Words.{Token}
 use Rattle.vortex_text.specs.Columns.{with_values}
-use Rattle.vortex_zone_log.specs.Logs.{set_at}
+use Rattle.vortex_zone_map.specs.Logs.{set_at}
 
 -- a column of a part that has no rows yet; its size is 0
 abbrev pub empty_column : Named → ColumnData

@@ -3,7 +3,8 @@ use Rattle.std.specs.Prelude.{◌≡◌, ◌<◌, ◌≤◌, ◌+◌, ℕ, Bool,
 use Rattle.std.specs.List.{AllByRecursion, list_all}
 use Rattle.vortex_base.specs.Data.Columns.{ChunkData, ColumnData, all_long, is_column, row_count}
 use Rattle.vortex_base.specs.declared.scalar_value.ScalarValue.{ScalarValue}
-use Rattle.vortex_prune.specs.Part.{Entries, PartData}
+use Rattle.vortex_prune.specs.Part.{PartData}
+use Rattle.vortex_zone_map.specs.Zone.{Entries}
 use Rattle.vortex_prune.specs.Scanning.RangeScans.{counts_of, range_parts}
 use Rattle.vortex_stats.specs.declared.precision.Precision.{Precision}
 use Rattle.vortex_stats.specs.declared.stat.Stat.{Stat}
@@ -12,7 +13,7 @@ use Rattle.vortex_syntax.specs.Words.{Token}
 use Rattle.vortex_text.specs.FirstLines.{first_row}
 use Rattle.vortex_text.specs.Lines.{and_current}
 use Rattle.vortex_text.specs.Rows.{joined_at, with_row, with_statistic}
-use Rattle.vortex_zone_log.specs.Logs.{LogData, empty_sets}
+use Rattle.vortex_zone_map.specs.Logs.{LogData, empty_sets}
 
 -- the parts that take no more rows, and the one that does
 pub record StoreData : Type 0 where

@@ -4,9 +4,10 @@ ghost use Rattle.vortex_base.specs.Data.Columns.{row_count};
 ghost use Rattle.vortex_prune.specs.Scanning.RangeScans.{counts_of, range_parts};
 ghost use Rattle.vortex_rewrite.specs.Rewriting.Predicates.{is_predicate};
 ghost use Rattle.vortex_text.specs.Batches.{IsFoundIn};
-ghost use Rattle.vortex_prune.specs.Zones.{IsMapOf, zones_of};
+ghost use Rattle.vortex_prune.specs.Zones.{zones_of};
+ghost use Rattle.vortex_zone_map.specs.ZoneMaps.{IsMapOf};
 ghost use Rattle.vortex_text.specs.Fitting.{IsPartOf, IsQueryOver};
-ghost use Rattle.vortex_zone_log.specs.Logs.{zones_from};
+ghost use Rattle.vortex_zone_map.specs.Logs.{zones_from};
 
 use std::alloc::{AllocError, Global};
 use std::marker::Model;
@@ -15,16 +16,16 @@ use vortex_base::scope::Scope;
 use vortex_expr::bound_expression::BoundExpression;
 use vortex_prune::scan::outcome::Scan;
 use vortex_prune::scan::ranges::scan_ranges_from;
-use vortex_prune::zone_map::ZoneMap;
 use vortex_rewrite::rewrite::rules::Rules;
 use vortex_stats::error::StatsError;
-use vortex_zone_log::ZoneLog;
+use vortex_zone_map::ZoneMapBuilder;
+use vortex_zone_map::zone_map::ZoneMap;
 
 /// The rows of all parts one behind the other, and how many rows and which statistics each has.
 #[derive(Debug, Drop)]
 pub struct Parts {
     chunk: Chunk,
-    log: ZoneLog,
+    log: ZoneMapBuilder,
 }
 
 impl Model for Parts {
@@ -42,7 +43,7 @@ impl Model for Parts {
 
 impl Parts {
     /// The zones of a log as ranges of a chunk.
-    pub fn new(chunk: Chunk, log: ZoneLog) -> Parts
+    pub fn new(chunk: Chunk, log: ZoneMapBuilder) -> Parts
         requires { sum (counts_of log.zones) ≤ row_count chunk.columns }
         ensures { result ≡ range_parts chunk 0 log.zones }
     {
@@ -84,7 +85,7 @@ impl Parts {
 #[derive(Debug, Drop)]
 pub struct PartsLeft<'a> {
     chunk: &'a Chunk,
-    log: &'a ZoneLog,
+    log: &'a ZoneMapBuilder,
     // The first of them, and where its rows begin.
     place: usize,
     row: usize,
@@ -104,7 +105,7 @@ impl<'a> Model for PartsLeft<'a> {
 }
 
 // How many rows so many zones from a place on have.
-fn rows_from(log: &ZoneLog, from: usize, count: usize) -> usize
+fn rows_from(log: &ZoneMapBuilder, from: usize, count: usize) -> usize
     requires within { from + count ≤ length log.now.zones }
     requires ends { from + count < 2 ^ 64 }
     requires few { sum (counts_of (zones_from from count log.now.zones)) < 2 ^ 64 }

@@ -4,7 +4,8 @@ ghost use Rattle.std.specs.List.{AllByRecursion};
 ghost use Rattle.vortex_prune.specs.Part.{IsTruePart};
 ghost use Rattle.vortex_rewrite.specs.Rewriting.Predicates.{is_predicate};
 ghost use Rattle.vortex_prune.specs.Scanning.Selection.{full};
-ghost use Rattle.vortex_prune.specs.Zones.{IsMapOf, zones_of};
+ghost use Rattle.vortex_prune.specs.Zones.{zones_of};
+ghost use Rattle.vortex_zone_map.specs.ZoneMaps.{IsMapOf};
 ghost use Rattle.vortex_text.specs.Fitting.{IsQueryOver};
 ghost use Rattle.vortex_text.specs.Program.{selected, skipped, whole};
 
@@ -13,7 +14,8 @@ use crate::parts::Parts;
 use std::alloc::{AllocError, Global};
 use vortex_base::{DType, Scope};
 use vortex_expr::BoundExpression;
-use vortex_prune::{Scan, ZoneMap};
+use vortex_prune::Scan;
+use vortex_zone_map::ZoneMap;
 
 /// A query of a text: parts of one scope, and a predicate over it.
 #[derive(Debug, Drop)]

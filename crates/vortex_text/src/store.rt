@@ -27,7 +27,7 @@ use vortex_stats::stat::Stat;
 use vortex_syntax::expected::Expected;
 use vortex_syntax::line_error::LineError;
 use vortex_syntax::plain::behind_row;
-use vortex_zone_log::ZoneLog;
+use vortex_zone_map::ZoneMapBuilder;
 
 /// The parts of a text so far, of which the last one may be open. Their rows stand one behind the
 /// other in one set of columns, and their statistics in one log.
@@ -35,7 +35,7 @@ use vortex_zone_log::ZoneLog;
 pub struct Store {
     scope: Scope,
     columns: Vec<ColumnBuilder>,
-    log: ZoneLog,
+    log: ZoneMapBuilder,
     // The first row behind the parts that have ended.
     from: usize,
     is_open: bool,
@@ -77,7 +77,7 @@ impl Store {
         if columns.len() > u32::MAX as usize {
             return Err(AllocError);
         }
-        let log = ZoneLog::new(alloc, columns.len() as u32);
+        let log = ZoneMapBuilder::new(alloc, columns.len() as u32);
         Ok(Store {
             scope,
             columns: empty,

@@ -9,7 +9,7 @@ use Rattle.vortex_calls.specs.Nesting.Texts.{IsDeeper}
 use Rattle.vortex_calls.specs.declared.nested.error.NestedError.{NestedError}
 use Rattle.vortex_calls.specs.declared.nested.error.NestedError.TheVariants as error
 use Rattle.vortex_expr.specs.Trees.Tree.{Tree, Place, not}
-use Rattle.vortex_prune.proofs.WorkedRows.Witnesses.Parts.{IsWitness}
+use Rattle.vortex_zone_map.proofs.WorkedRows.Witnesses.{IsWitness}
 use Rattle.vortex_syntax.specs.Expressions.{expression_of}
 use Rattle.vortex_syntax.specs.Words.{words}
 

@@ -7,7 +7,7 @@ use Rattle.vortex_parquet.specs.declared.columns.Leaf.{Leaf}
 use Rattle.vortex_parquet.specs.declared.stats.GroupStats.{GroupStats}
 use Rattle.vortex_predicates.specs.RowGroups.Pruning.{zone_data}
 use Rattle.vortex_predicates.specs.Footers.Pruning.{PrunesCondition}
-use Rattle.vortex_prune.specs.Part.{ZoneData}
+use Rattle.vortex_zone_map.specs.Zone.{ZoneData}
 use Rattle.vortex_prune.specs.Scanning.ZoneScans.{zone_verdicts}
 use Rattle.vortex_prune.specs.declared.scan.verdict.Verdict.{Verdict}
 use Rattle.vortex_predicates.specs.Conditions.Conditions.{ProvedCondition}

@@ -11,7 +11,7 @@ use Rattle.vortex_calls.specs.Prunes.{IsToldAs, answered, table_answers, zone_an
 use Rattle.vortex_predicates.proofs.Found.{whole_proved}
 use Rattle.vortex_prune.proofs.Scanning.SkippedParts.{place_listed}
 use Rattle.vortex_prune.specs.Binding.PartAnswers.{told_values}
-use Rattle.vortex_prune.specs.Part.{ZoneData}
+use Rattle.vortex_zone_map.specs.Zone.{ZoneData}
 use Rattle.vortex_prune.specs.Scanning.Selection.{is_whole, proves_of}
 use Rattle.vortex_prune.specs.Scanning.ZoneScans.{zone_verdict}
 use Rattle.vortex_predicates.specs.Conditions.Conditions.{Confirms, IsSoundFor, ProvedCondition, Refutes}

@@ -11,7 +11,7 @@ use Rattle.vortex_calls.specs.Statuses.{at_column, nowhere}
 use Rattle.vortex_calls.specs.declared.fault.Fault.{Fault}
 use Rattle.vortex_calls.specs.declared.field.Field.{Field}
 use Rattle.vortex_calls.specs.declared.status.Status.TheVariants.{BadFlag, BadKind, BadLength, BadName, BadSql, Misfit, NoMemory, TooDeep}
-use Rattle.vortex_prune.proofs.WorkedRows.Witnesses.Parts.{IsWitness}
+use Rattle.vortex_zone_map.proofs.WorkedRows.Witnesses.{IsWitness}
 use Rattle.vortex_sql.specs.declared.error.SqlError.TheVariants as sql
 use Rattle.vortex_sql.specs.declared.syntax.cursor.Names.TheVariants.{Last, Plain}
 use Rattle.vortex_sql.specs.declared.syntax.error.ParseError.TheVariants as syntax

@@ -14,10 +14,10 @@ use Rattle.vortex_expr.specs.declared.scalar_fn.BetweenOptions.{BetweenOptions}
 use Rattle.vortex_base.specs.declared.types.Nullability.TheVariants.{Nullable}
 use Rattle.vortex_expr.specs.declared.scalar_fn.Operator.TheVariants.{Gt}
 use Rattle.vortex_base.specs.declared.types.PType.TheVariants as ptype
-use Rattle.vortex_prune.specs.GivenTables.{map_with}
-use Rattle.vortex_prune.specs.Part.{ZoneData}
+use Rattle.vortex_zone_map.specs.GivenTables.{map_with}
+use Rattle.vortex_zone_map.specs.Zone.{ZoneData}
 use Rattle.vortex_prune.specs.Scanning.ZoneScans.{AreRowVerdicts}
-use Rattle.vortex_prune.specs.Zones.{MapData, head, heads}
+use Rattle.vortex_zone_map.specs.ZoneMaps.{MapData, head, heads}
 use Rattle.vortex_prune.specs.declared.scan.verdict.Verdict.TheVariants.{Tested, Whole}
 use Rattle.vortex_stats.specs.declared.precision.Precision.TheVariants.{Exact}
 use Rattle.vortex_stats.specs.declared.stat.Stat.TheVariants as stats

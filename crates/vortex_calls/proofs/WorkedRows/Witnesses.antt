@@ -13,7 +13,8 @@ use Rattle.vortex_normal.specs.Pushed.{all_of, comparison, comparison_of, folded
 use Rattle.vortex_predicates.proofs.PredicateWitnesses.{low_is_left_out, low_is_not_there}
 use Rattle.vortex_predicates.specs.Pruning.{is_within}
 use Rattle.vortex_prune.proofs.WorkedRows.PartRows.{turned_round}
-use Rattle.vortex_prune.proofs.WorkedRows.Witnesses.Parts.{IsWitness, above_ten, scope, zones}
+use Rattle.vortex_prune.proofs.WorkedRows.Witnesses.Parts.{above_ten, zones}
+use Rattle.vortex_zone_map.proofs.WorkedRows.Witnesses.{IsWitness, scope}
 use Rattle.vortex_rewrite.specs.Rewriting.ReadOnce.{is_apart}
 
 -- ---- the arrays of a caller: eight statistics of one column, each exact in three zones

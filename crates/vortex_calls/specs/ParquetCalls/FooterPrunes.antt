@@ -16,7 +16,7 @@ use Rattle.vortex_predicates.specs.Footers.Mentions.{mentions}
 use Rattle.vortex_predicates.specs.Footers.Pruning.{PrunesCondition}
 use Rattle.vortex_predicates.specs.Footers.Refusals.{IsGroupFault, IsToldOf}
 use Rattle.vortex_predicates.specs.declared.parquet.error.FooterError.{FooterError}
-use Rattle.vortex_prune.specs.Part.{ZoneData}
+use Rattle.vortex_zone_map.specs.Zone.{ZoneData}
 use Rattle.vortex_prune.specs.Scanning.ZoneScans.{zone_verdicts}
 use Rattle.vortex_prune.specs.declared.scan.verdict.Verdict.{Verdict}
 use Rattle.vortex_sql.specs.Refusals.{misfits}

@@ -13,7 +13,7 @@ use Rattle.vortex_calls.specs.declared.field.Field.{Field}
 use Rattle.vortex_calls.specs.declared.statistic.Statistic.{Statistic}
 use Rattle.vortex_calls.specs.declared.status.Status.TheVariants.{BadFlag, BadName, BadSql, Misfit, NoMemory, TooDeep}
 use Rattle.vortex_predicates.specs.Pruning.{IsMadeBy}
-use Rattle.vortex_prune.specs.Part.{ZoneData}
+use Rattle.vortex_zone_map.specs.Zone.{ZoneData}
 use Rattle.vortex_sql.specs.Lowering.{opaques}
 use Rattle.vortex_sql.specs.Refusals.{IsTextRefusal, misfits}
 use Rattle.vortex_sql.specs.declared.error.SqlError.{SqlError}

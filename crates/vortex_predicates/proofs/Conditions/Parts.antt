@@ -23,8 +23,9 @@ use Rattle.vortex_prune.proofs.Scanning.Lossless.{is_over_chunk}
 use Rattle.vortex_prune.proofs.Scanning.WholeScan.{predicate_typed}
 use Rattle.vortex_prune.proofs.ZoneMaps.ZoneRows.{told_is_honest}
 use Rattle.vortex_prune.specs.Binding.PartAnswers.{column_value, told_values}
-use Rattle.vortex_prune.specs.Binding.StatValues.{stat_value}
-use Rattle.vortex_prune.specs.Part.{AreTrueSets, Entries, IsPart, IsPartOf, IsTruePart, PartData, ZoneData, each_fits, fits_zone, sets_fit, zone_of}
+use Rattle.vortex_zone_map.specs.StatValues.{stat_value}
+use Rattle.vortex_prune.specs.Part.{AreTrueSets, IsPart, IsPartOf, IsTruePart, PartData, sets_fit, zone_of}
+use Rattle.vortex_zone_map.specs.Zone.{Entries, ZoneData, each_fits, fits_zone}
 use Rattle.vortex_prune.specs.Scanning.Selection.{proves_of}
 use Rattle.vortex_rewrite.specs.Facts.{IsHonest}
 use Rattle.vortex_rewrite.specs.Rewriting.Lawful.{IsOver}

@@ -12,7 +12,7 @@ use Rattle.vortex_predicates.specs.Pruning.{IsMadeBy, IsRight, Pruning, skip_pro
 use Rattle.vortex_prune.proofs.Scanning.SkippedParts.{place_listed}
 use Rattle.vortex_prune.proofs.ZoneMaps.ZonePruned.{skipped_listed, whole_listed, whole_proved}
 use Rattle.vortex_prune.specs.Binding.PartAnswers.{told_values}
-use Rattle.vortex_prune.specs.Part.{ZoneData}
+use Rattle.vortex_zone_map.specs.Zone.{ZoneData}
 use Rattle.vortex_prune.specs.Scanning.Selection.{is_skipped, is_whole, places_where, proves_of}
 use Rattle.vortex_prune.specs.Scanning.ZoneScans.{zone_verdict, zone_verdicts}
 use Rattle.vortex_prune.specs.declared.scan.verdict.Verdict.{Verdict}

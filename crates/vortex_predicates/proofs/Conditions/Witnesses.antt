@@ -2,10 +2,11 @@
 use Rattle.std.specs.Prelude.{◌≡◌, false, codes, pos, List, [], ◌∷◌, Some, None, refl}
 use Rattle.std.proofs.Common.{arith, sym}
 use Rattle.vortex_predicates.specs.Pruning.{skipped_places, whole_places}
-use Rattle.vortex_prune.proofs.WorkedRows.Witnesses.Parts.{IsWitness, a, high, high_is_in_its_zone, high_is_true, is_map, scope, their_map, zones}
+use Rattle.vortex_prune.proofs.WorkedRows.Witnesses.Parts.{a, high, high_is_in_its_zone, high_is_true, is_map, their_map, zones}
+use Rattle.vortex_zone_map.proofs.WorkedRows.Witnesses.{IsWitness, scope}
 use Rattle.vortex_prune.proofs.WorkedRows.Witnesses.Pruning.{built_in, open_is_not_memory}
 use Rattle.vortex_prune.specs.Scanning.ZoneScans.{zone_verdicts}
-use Rattle.vortex_prune.specs.Zones.{IsMapOf, MapData}
+use Rattle.vortex_zone_map.specs.ZoneMaps.{IsMapOf, MapData}
 use Rattle.vortex_prune.specs.declared.scan.verdict.Verdict.{Verdict}
 use Rattle.vortex_prune.specs.declared.scan.verdict.Verdict.TheVariants.{Skipped, Tested}
 use Rattle.vortex_rewrite.specs.Answers.{IsMemory}

@@ -22,8 +22,9 @@ use Rattle.vortex_parquet.specs.Truth.{AreTrue, Fit}
 use Rattle.vortex_parquet.specs.Truth as truth
 use Rattle.vortex_parquet.proofs.Sound.{one_ok}
 use Rattle.vortex_predicates.specs.RowGroups.Pruning.{zone_data}
-use Rattle.vortex_prune.specs.Part.{AreTrueSets, AreZonesOf, IsPartOf, PartData, ZoneData, fits_zone, sets_fit}
-use Rattle.vortex_prune.specs.Zones.{IsMapOf, MapData, zone_map}
+use Rattle.vortex_prune.specs.Part.{AreTrueSets, IsPartOf, PartData, sets_fit}
+use Rattle.vortex_zone_map.specs.Zone.{AreZonesOf, ZoneData, fits_zone}
+use Rattle.vortex_zone_map.specs.ZoneMaps.{IsMapOf, MapData, zone_map}
 use Rattle.vortex_prune.specs.declared.scan.verdict.Verdict.{Verdict}
 use Rattle.vortex_prune.proofs.Honesty.ZoneLemmas.{chunk_alike}
 use Rattle.vortex_sql.specs.Lowering.{truth_on}

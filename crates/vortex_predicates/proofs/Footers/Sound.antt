@@ -11,8 +11,8 @@ use Rattle.vortex_parquet.specs.Reading.{◌>>=◌, Read}
 use Rattle.vortex_parquet.specs.Stats.{group_at, group_view, groups_of}
 use Rattle.vortex_parquet.proofs.Sound.{bind_ok, one_ok}
 use Rattle.vortex_predicates.specs.RowGroups.Pruning.{GroupsAreParts, zone_data}
-use Rattle.vortex_prune.specs.Part.{AreZonesOf, ZoneData}
-use Rattle.vortex_prune.specs.Zones.{IsMapOf, MapData, zone_map}
+use Rattle.vortex_zone_map.specs.Zone.{AreZonesOf, ZoneData}
+use Rattle.vortex_zone_map.specs.ZoneMaps.{IsMapOf, MapData, zone_map}
 use Rattle.vortex_prune.specs.declared.scan.verdict.Verdict.{Verdict}
 use Rattle.vortex_predicates.specs.Conditions.Conditions.{IsSoundFor}
 use Rattle.vortex_sql.specs.declared.syntax.tree.Condition.{Condition}

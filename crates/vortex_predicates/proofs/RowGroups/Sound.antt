@@ -15,8 +15,9 @@ use Rattle.vortex_parquet.specs.Stats.{Entries, GroupData, all_of, group_of, gro
 use Rattle.vortex_parquet.specs.Truth.{Fit, KnownGroups, TrueGroups}
 use Rattle.vortex_parquet.specs.Truth as truth
 use Rattle.vortex_parquet.proofs.Sound.{bind_ok, one_ok}
-use Rattle.vortex_prune.specs.Part.{AreTrueSets, AreZonesOf, IsPartOf, ZoneData, fits_zone, sets_fit}
-use Rattle.vortex_prune.specs.Zones.{IsMapOf, MapData, zone_map}
+use Rattle.vortex_prune.specs.Part.{AreTrueSets, IsPartOf, sets_fit}
+use Rattle.vortex_zone_map.specs.Zone.{AreZonesOf, ZoneData, fits_zone}
+use Rattle.vortex_zone_map.specs.ZoneMaps.{IsMapOf, MapData, zone_map}
 use Rattle.vortex_prune.proofs.Honesty.ZoneLemmas.{chunk_alike}
 use Rattle.vortex_prune.specs.Scanning.ZoneScans.{IsSoundPruning}
 use Rattle.vortex_predicates.specs.RowGroups.Pruning.{GroupsAreParts, PrunesSoundly, zone_data}

@@ -19,7 +19,7 @@ use Rattle.vortex_parquet.specs.Skip.{fields_in, skip_at, skip_entry, skip_value
 use Rattle.vortex_parquet.specs.Stats.{groups_of}
 use Rattle.vortex_parquet.specs.Witness.{file, group, leaf, rows, set}
 use Rattle.vortex_predicates.specs.RowGroups.Pruning.{IsGroupAt, MayStandIn, PrunesSoundly}
-use Rattle.vortex_prune.proofs.WorkedRows.Witnesses.Parts.{IsWitness}
+use Rattle.vortex_zone_map.proofs.WorkedRows.Witnesses.{IsWitness}
 use mathlib.Core.Bool.{true≢false}
 
 abbrev numbers : DType

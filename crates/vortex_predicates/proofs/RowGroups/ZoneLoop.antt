@@ -2,7 +2,7 @@
 use Rattle.std.proofs.Common.{◌≡◌, ℕ, ◌+◌, ◌≤◌, ◌<◌, List, [], ◌∷◌, ◌++◌, length, sym, ap, ◌∙◌, map, drop, drop-cons, get_or, append_assoc, add-one}
 use Rattle.std.proofs.lemmas.List.{append-nil, drop_all}
 use Rattle.vortex_parquet.specs.declared.stats.GroupStats.{GroupStats}
-use Rattle.vortex_prune.specs.Part.{ZoneData}
+use Rattle.vortex_zone_map.specs.Zone.{ZoneData}
 use Rattle.vortex_predicates.specs.RowGroups.Pruning.{zone_data}
 
 pub zones_go : (gs : List GroupStats) (front : List ZoneData) (i : ℕ) (g : GroupStats) (z : ZoneData) → i < length gs → g ≡ get_or gs i g → z ≡ zone_data g

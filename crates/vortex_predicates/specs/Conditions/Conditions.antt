@@ -6,7 +6,8 @@ use Rattle.vortex_expr.specs.Meanings.Fitting.{fits_scope}
 use Rattle.vortex_expr.specs.Trees.Tree.{Tree, Place}
 use Rattle.vortex_predicates.specs.Pruning.{IsRight, Pruning}
 use Rattle.vortex_prune.specs.Binding.PartAnswers.{told_values}
-use Rattle.vortex_prune.specs.Part.{IsPartOf, IsTruePart, PartData, ZoneData}
+use Rattle.vortex_prune.specs.Part.{IsPartOf, IsTruePart, PartData}
+use Rattle.vortex_zone_map.specs.Zone.{ZoneData}
 use Rattle.vortex_prune.specs.Scanning.Selection.{proves_of}
 use Rattle.vortex_sql.specs.declared.syntax.tree.Leaf.{Leaf}
 use Rattle.vortex_sql.specs.declared.syntax.tree.Condition.{Condition}

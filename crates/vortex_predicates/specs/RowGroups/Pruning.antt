@@ -8,7 +8,8 @@ use Rattle.vortex_parquet.specs.declared.stats.GroupStats.{GroupStats}
 use Rattle.vortex_parquet.specs.Records.{FileData, RowGroupData, row_groups_of}
 use Rattle.vortex_parquet.specs.Stats.{group_view, groups_of}
 use Rattle.vortex_parquet.specs.Truth.{IsTrueGroup}
-use Rattle.vortex_prune.specs.Part.{AreZonesOf, IsPartOf, IsTruePart, ZoneData}
+use Rattle.vortex_prune.specs.Part.{IsPartOf, IsTruePart}
+use Rattle.vortex_zone_map.specs.Zone.{AreZonesOf, ZoneData}
 use Rattle.vortex_prune.specs.Scanning.ZoneScans.{EachSatisfies}
 
 -- a row group as a zone

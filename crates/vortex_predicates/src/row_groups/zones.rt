@@ -1,13 +1,13 @@
 //! Row groups as zones.
 ghost use Rattle.std.specs.Prelude.{◌≡◌, IfOk, map};
 ghost use Rattle.vortex_predicates.specs.RowGroups.Pruning.{zone_data};
-ghost use Rattle.vortex_prune.specs.Zones.{IsMapOf, zone_map};
+ghost use Rattle.vortex_zone_map.specs.ZoneMaps.{IsMapOf, zone_map};
 
 use std::alloc::{AllocError, Global};
 use vortex_base::scope::Scope;
 use vortex_parquet::stats::GroupStats;
-use vortex_prune::{Zone, ZoneMap};
 use vortex_stats::error::StatsError;
+use vortex_zone_map::{Zone, ZoneMap};
 
 fn zone_of(group: &GroupStats) -> Zone<'_>
     ensures { result ≡ zone_data group.now }

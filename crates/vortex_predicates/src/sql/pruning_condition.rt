@@ -2,9 +2,9 @@
 ghost use Rattle.std.specs.Prelude.{◌≡◌, ◌∷◌, [], IfErr, IfOk, List, Some, length, false, map};
 ghost use Rattle.vortex_rewrite.specs.Answers.{IsMemory};
 ghost use Rattle.vortex_rewrite.specs.Rewriting.Proof.{is_open};
-ghost use Rattle.vortex_prune.specs.Part.{ZoneData};
+ghost use Rattle.vortex_zone_map.specs.Zone.{ZoneData};
 ghost use Rattle.vortex_prune.specs.Scanning.ZoneScans.{AreRowVerdicts, zone_verdicts};
-ghost use Rattle.vortex_prune.specs.Zones.{IsMapOf};
+ghost use Rattle.vortex_zone_map.specs.ZoneMaps.{IsMapOf};
 ghost use Rattle.vortex_predicates.specs.Pruning.{IsMadeBy, skipped_places, whole_places};
 ghost use Rattle.vortex_rewrite.specs.Rewriting.Own.{own_rules};
 ghost use Rattle.vortex_sql.specs.Lowering.{Says, opaques, span_of};
@@ -22,13 +22,13 @@ use std::marker::Model;
 use vortex_base::scope::Scope;
 use vortex_prune::scan::prune::prune_by;
 use vortex_prune::scan::verdict::Verdict;
-use vortex_prune::zone_map::ZoneMap;
 use vortex_rewrite::rewrite::rule::StatsRewriteRule;
 use vortex_rewrite::rewrite::rules::Rules;
 use vortex_sql::condition::{Predicate, condition_by};
 use vortex_sql::syntax::parse::Names;
 use vortex_sql::syntax::tree::Condition;
 use vortex_stats::error::StatsError;
+use vortex_zone_map::zone_map::ZoneMap;
 
 /// The most levels of a normal form that takes part in the proofs.
 pub const MAX_LEVELS: u32 = 128;

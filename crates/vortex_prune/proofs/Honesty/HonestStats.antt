@@ -26,9 +26,10 @@ use Rattle.vortex_stats.specs.declared.precision.Precision.{Precision}
 use Rattle.vortex_stats.specs.declared.precision.Precision.TheVariants.{Exact, Inexact, Absent}
 use Rattle.vortex_stats.specs.declared.stat.Stat.TheVariants.{Max, Min, Sum, NullCount, UncompressedSizeInBytes}
 use Rattle.vortex_rewrite.specs.Facts.{IsFact, IsNumber, is_column_of, is_over, meanings, size_of}
-use Rattle.vortex_prune.specs.Part.{AreTrueSets, Entries, PartData}
+use Rattle.vortex_prune.specs.Part.{AreTrueSets, PartData}
+use Rattle.vortex_zone_map.specs.Zone.{Entries}
 use Rattle.vortex_prune.proofs.Honesty.OwnValues.{column_told, own_values}
-use Rattle.vortex_prune.specs.Binding.StatValues.{all_non_null_value, all_null_value, exact_value, null_count_value, stat_value}
+use Rattle.vortex_zone_map.specs.StatValues.{all_non_null_value, all_null_value, exact_value, null_count_value, stat_value}
 use Rattle.vortex_base.proofs.Data.ChunkLemmas.{equal_numbers}
 
 -- ---- of one statistic

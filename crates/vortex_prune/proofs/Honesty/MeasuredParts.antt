@@ -5,8 +5,9 @@ use Rattle.std.specs.List.{list_all}
 use Rattle.vortex_base.specs.Data.Columns.{ChunkData, ColumnData, IsChunk, has_shape, has_types, is_column}
 use Rattle.vortex_base.specs.Data.Scopes.{is_scope}
 use Rattle.vortex_base.specs.Data.Exact.{both_hold, both_true}
-use Rattle.vortex_prune.proofs.Honesty.PartLemmas.{rest_of}
-use Rattle.vortex_prune.specs.Part.{AreTrueSets, Entries, IsPart, IsTruePart, measured_sets, sets_fit}
+use Rattle.vortex_zone_map.proofs.ZoneLemmas.{rest_of}
+use Rattle.vortex_prune.specs.Part.{AreTrueSets, IsPart, IsTruePart, measured_sets, sets_fit}
+use Rattle.vortex_zone_map.specs.Zone.{Entries}
 use Rattle.vortex_stats.proofs.Kit.{measured_is_true}
 use Rattle.vortex_stats.specs.Measuring.Measured.{measured}
 use Rattle.vortex_stats.specs.Sets.Claims.{IsTrueOf}

@@ -12,8 +12,9 @@ use Rattle.vortex_base.specs.declared.scalar_value.ScalarValue.{ScalarValue}
 use Rattle.vortex_rewrite.specs.Rewriting.Proof.{Assignment}
 use Rattle.vortex_prune.proofs.Honesty.PartLemmas.{types_of}
 use Rattle.vortex_prune.specs.Binding.PartAnswers.{column_value, part_values}
-use Rattle.vortex_prune.specs.Binding.StatValues.{stat_value}
-use Rattle.vortex_prune.specs.Part.{Entries, IsPart, PartData}
+use Rattle.vortex_zone_map.specs.StatValues.{stat_value}
+use Rattle.vortex_prune.specs.Part.{IsPart, PartData}
+use Rattle.vortex_zone_map.specs.Zone.{Entries}
 
 abbrev pub column_told : AggregateFnRef → DType → Option ColumnData → Option Entries → (n : ℕ) → Option ScalarValue
 column_told f t (Some c) (Some es) n = if eq_ignore_nullability c.dtype t then stat_value f es n else None

@@ -1,8 +1,6 @@
 -- What the set of a zone's column tells, as a literal.
-use Rattle.std.proofs.Common.{◌≡◌, ◌<◌, ℕ, List, Option, Some, arith, length, map, subst, sym, ap, ap₂, ◌∙◌}
-use Rattle.std.specs.Prelude.{Bool, IsTrue, MatchResult, Result, Ok, Err, alloc_error, option_map, slice_get}
-use Rattle.std.proofs.lemmas.List.{length-map}
-use lib.Pointwise.{pointwise_long}
+use Rattle.std.proofs.Common.{◌≡◌, ℕ, List, Option, Some, subst, sym, ap, ap₂, ◌∙◌}
+use Rattle.std.specs.Prelude.{Bool, MatchResult, Result, Ok, Err, alloc_error, option_map, slice_get}
 use Rattle.vortex_base.specs.declared.aggregate.AggregateFnRef.{AggregateFnRef}
 use Rattle.vortex_base.specs.declared.dtype.DType.{DType}
 use Rattle.vortex_base.specs.declared.error.BaseError.{BaseError}
@@ -12,29 +10,14 @@ use Rattle.vortex_base.specs.Data.Scopes.{Named}
 use Rattle.vortex_expr.specs.Trees.Tree.{Tree, Place, literal}
 use Rattle.vortex_expr.specs.Meanings.Typing.{stat_type}
 use Rattle.vortex_stats.specs.declared.error.StatsError.{StatsError}
-use Rattle.vortex_stats.specs.Sets.Entries.{entries_fit}
 use Rattle.vortex_rewrite.specs.Answers.{IfSupported}
 use Rattle.vortex_rewrite.specs.HookFaults.{IsHookFault}
 use Rattle.vortex_rewrite.specs.declared.hook_fault.HookFault.{HookFault}
 use Rattle.vortex_rewrite.specs.declared.hook_fault.HookFault.TheVariants as fault
-use Rattle.vortex_prune.specs.Part.{Entries, IsZone, ZoneData}
+use Rattle.vortex_zone_map.specs.Zone.{Entries, ZoneData}
 use Rattle.vortex_prune.specs.Binding.PartBinder.{column_literal, literal_if}
-use Rattle.vortex_prune.specs.Binding.StatValues.{stat_value}
-use Rattle.vortex_prune.proofs.Honesty.PartLemmas.{named_at}
-use Rattle.vortex_prune.proofs.Honesty.ZoneLemmas.{zone_set_fits}
-
--- a zone has a set for each column
-pub set_within : (scope : List Named) (zone : ZoneData) (i : ℕ) → IsZone scope zone → i < length scope → i < length zone.stats
-set_within scope zone i h within =
-    let types = pointwise_long (λ t es. entries_fit es t) (map (λ (c : Named). c.1) scope) zone.stats h in
-    let columns = length-map scope (λ (c : Named). c.1) in
-    omega arith
-
--- and that fits the column's type
-pub set_fits_type : (scope : List Named) (zone : ZoneData) (i : ℕ) (es : Entries) (t : DType) → IsZone scope zone → option_map (λ (c : Named). c.1) (slice_get scope i) ≡ Some t → slice_get zone.stats i ≡ Some es → IsTrue (entries_fit es t)
-set_fits_type scope zone i es t h there set =
-    let c = named_at (slice_get scope i) t there in
-    ap (entries_fit es) (sym c.2) ∙ zone_set_fits scope zone.stats i c.0 es h c.1 set
+use Rattle.vortex_zone_map.specs.StatValues.{stat_value}
+use Rattle.vortex_zone_map.proofs.ZoneLemmas.{named_at}
 
 abbrev answer : Constant → Result Constant StatsError
 answer s = Ok s

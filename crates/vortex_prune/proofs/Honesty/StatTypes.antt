@@ -11,10 +11,11 @@ use Rattle.vortex_base.specs.declared.aggregate.AggregateFnRef.{AggregateFnRef}
 use Rattle.vortex_base.specs.declared.dtype.DType.{DType}
 use Rattle.vortex_rewrite.proofs.NullErasure.{placeholder_null, typed_null}
 use Rattle.vortex_prune.proofs.Honesty.PartLemmas.{part_set_fits}
-use Rattle.vortex_prune.proofs.Honesty.StatFits.{stat_value-fits}
-use Rattle.vortex_prune.specs.Part.{Entries, IsPart, PartData}
+use Rattle.vortex_zone_map.proofs.StatFits.{stat_value-fits}
+use Rattle.vortex_prune.specs.Part.{IsPart, PartData}
+use Rattle.vortex_zone_map.specs.Zone.{Entries}
 use Rattle.vortex_prune.proofs.Honesty.OwnValues.{column_told, own_values}
-use Rattle.vortex_prune.specs.Binding.StatValues.{stat_value}
+use Rattle.vortex_zone_map.specs.StatValues.{stat_value}
 use Rattle.vortex_rewrite.specs.StateTypes.{same_stat_type}
 
 -- a column of the type, nullability aside, has placeholders of the same type

@@ -37,11 +37,11 @@ use Rattle.vortex_rewrite.proofs.Completeness.Choices.{all_back, all_front, row_
 use Rattle.vortex_rewrite.proofs.Completeness.Decided.{Decided, comparison_decided, truth_decided}
 use Rattle.vortex_rewrite.proofs.Completeness.Interval.{is_comparison}
 use Rattle.vortex_rewrite.proofs.Completeness.Operands.{IsInterval, if_ok, if_typed, operand, operand_type, same_operands, same_values, some_value}
-use Rattle.vortex_prune.proofs.Honesty.ZoneLemmas.{zone_set_fits}
+use Rattle.vortex_zone_map.proofs.ZoneLemmas.{zone_set_fits}
 use Rattle.vortex_rewrite.proofs.Soundness.TruthLogic.{clash}
 use Rattle.vortex_rewrite.specs.Rewriting.ReadOnce.{Box, IsInOrder, IsSatisfiable, are_apart, are_distinct, are_sides_apart, columns_of, has_closed_end, is_number_type, is_operand, is_range, is_simple, is_truth}
 use Rattle.vortex_prune.specs.Scanning.Complete.{FalsifiersAreComplete, IsBoxIn, IsKnownBy, SkippingIsComplete}
-use Rattle.vortex_prune.specs.Part.{Entries, IsZone, ZoneData}
+use Rattle.vortex_zone_map.specs.Zone.{Entries, IsZone, ZoneData}
 use Rattle.vortex_prune.specs.Binding.PartAnswers.{column_value, told_values}
 use Rattle.vortex_rewrite.specs.Rewriting.Proof.{Assignment, proves}
 use Rattle.vortex_rewrite.specs.Rewriting.Falsifiers.{closed, ends, falsifier, high_size, is_crossed, literal_ends, low_size, number_literal}

@@ -5,7 +5,8 @@ use Rattle.vortex_base.proofs.Data.ChunkLemmas.{IsChunk-appended, chunks_may_app
 use Rattle.vortex_base.specs.Data.Columns.{ChunkData, ColumnData, all_appended, appended_chunk, can_append, sizes_fit}
 use Rattle.vortex_base.specs.Data.Exact.{both_hold, both_true}
 use Rattle.vortex_base.specs.declared.dtype.DType.{DType}
-use Rattle.vortex_prune.specs.Part.{AreTrueSets, Entries, IsPart, IsTruePart, PartData, joined, merged_sets, sets_fit}
+use Rattle.vortex_prune.specs.Part.{AreTrueSets, IsPart, IsTruePart, PartData, joined, sets_fit}
+use Rattle.vortex_zone_map.specs.Zone.{Entries, merged_sets}
 use Rattle.vortex_stats.proofs.Kit.{merged_ordered-fits, merged_ordered_is_true}
 use Rattle.vortex_stats.specs.Sets.Entries.{entries_fit}
 

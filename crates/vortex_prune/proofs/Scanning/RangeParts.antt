@@ -20,11 +20,13 @@ use Rattle.vortex_prune.proofs.Scanning.RangeLemmas.{filter_same}
 use Rattle.vortex_prune.proofs.Scanning.WholeScan.{kept_is_full, parts_by_recursion}
 use Rattle.vortex_prune.proofs.ZoneMaps.ZoneScan.{fits_each}
 use Rattle.vortex_prune.specs.Binding.PartAnswers.{part_values}
-use Rattle.vortex_prune.specs.Part.{IsTruePart, PartData, ZoneData, zone_of}
+use Rattle.vortex_prune.specs.Part.{IsTruePart, PartData, zone_of}
+use Rattle.vortex_zone_map.specs.Zone.{ZoneData}
 use Rattle.vortex_prune.specs.Scanning.RangeScans.{AreRanges, AreRangesBehind, AreRangesFrom, IsRange, counts_of, has_ranges, has_ranges_from, is_true_in, range_rows, range_satisfying, ranges_by, row_in_chunk, rows_in_chunk, satisfying_ranges, selected_from}
 use Rattle.vortex_prune.specs.Scanning.Selection.{full, rows_by, satisfying, satisfying_rows, selected_rows, verdict}
 use Rattle.vortex_prune.specs.Scanning.ZoneScans.{statistics_answers, zone_verdict, zone_verdicts}
-use Rattle.vortex_prune.specs.Zones.{IsMapOf, MapData, zones_of}
+use Rattle.vortex_prune.specs.Zones.{zones_of}
+use Rattle.vortex_zone_map.specs.ZoneMaps.{IsMapOf, MapData}
 use Rattle.vortex_prune.specs.declared.scan.verdict.Verdict.{Verdict}
 use Rattle.vortex_prune.specs.declared.scan.verdict.Verdict.TheVariants.{Skipped, Whole, Tested}
 use Rattle.vortex_rewrite.specs.Rewriting.Falsifiers.{falsifier, satisfier}

@@ -10,12 +10,13 @@ use Rattle.vortex_prune.proofs.Scanning.TrueRanges.{ranges_full}
 use Rattle.vortex_prune.proofs.ZoneMaps.TrueRows.{are_row_verdicts, skipped_rows_sound, whole_rows_sound}
 use Rattle.vortex_prune.proofs.ZoneMaps.ZonePruned.{pruned_is_shut, skipped_listed, whole_listed}
 use Rattle.vortex_prune.proofs.ZoneMaps.ZoneRefusals.{most_refused_for_memory}
-use Rattle.vortex_prune.specs.Part.{ZoneData}
+use Rattle.vortex_zone_map.specs.Zone.{ZoneData}
 use Rattle.vortex_prune.specs.Scanning.Promises.{RefusesRanges, ScansRanges}
 use Rattle.vortex_prune.specs.Scanning.RangeScans.{has_ranges_from, ranges_by, tested_by}
 use Rattle.vortex_prune.specs.Scanning.Selection.{is_skipped, is_whole, places_where}
 use Rattle.vortex_prune.specs.Scanning.ZoneScans.{AreRowVerdicts, IsShutIfVerdict, is_left_open, most_causes, pruning_causes, row_verdicts, zone_verdicts}
-use Rattle.vortex_prune.specs.Zones.{HasTable, IsMapOf, MapData, zones_of}
+use Rattle.vortex_prune.specs.Zones.{zones_of}
+use Rattle.vortex_zone_map.specs.ZoneMaps.{HasTable, IsMapOf, MapData}
 use Rattle.vortex_prune.specs.declared.scan.outcome.Scan.{Scan}
 use Rattle.vortex_prune.specs.declared.scan.verdict.Verdict.{Verdict}
 use Rattle.vortex_rewrite.specs.Causes.{IsRefusal}

@@ -16,9 +16,11 @@ use Rattle.vortex_base.specs.declared.dtype.DType.{DType}
 use Rattle.vortex_base.specs.declared.scalar_value.ScalarValue.{ScalarValue}
 use Rattle.vortex_prune.proofs.Honesty.ZoneLemmas.{chunk_alike}
 use Rattle.vortex_prune.proofs.Scanning.RangeParts.{from_first, same_scope_from, within_from}
-use Rattle.vortex_prune.specs.Part.{AreParts, AreZonesOf, Entries, IsPart, ZoneData, fits_zone}
+use Rattle.vortex_prune.specs.Part.{AreParts, IsPart}
+use Rattle.vortex_zone_map.specs.Zone.{AreZonesOf, Entries, ZoneData, fits_zone}
 use Rattle.vortex_prune.specs.Scanning.RangeScans.{AreRangesFrom, RangesAreThere, RangesBehindAreThere, counts_of, range_chunk, range_column, range_parts}
-use Rattle.vortex_prune.specs.Zones.{IsMapOf, MapData, zones_of}
+use Rattle.vortex_prune.specs.Zones.{zones_of}
+use Rattle.vortex_zone_map.specs.ZoneMaps.{IsMapOf, MapData}
 
 -- ---- values from a place on
 

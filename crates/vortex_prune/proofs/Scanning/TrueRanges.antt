@@ -16,7 +16,7 @@ use Rattle.vortex_prune.specs.Scanning.RangeScans.{IsRange, has_ranges, is_true_
 use Rattle.vortex_prune.specs.Scanning.Selection.{proves_of, satisfying}
 use Rattle.vortex_prune.specs.Scanning.TrueRows.{AreTrueRanges, IsTrueRow}
 use Rattle.vortex_prune.specs.Scanning.ZoneScans.{EachSatisfies, row_values, row_verdict, row_verdicts}
-use Rattle.vortex_prune.specs.Zones.{HasTable, MapData}
+use Rattle.vortex_zone_map.specs.ZoneMaps.{HasTable, MapData}
 use Rattle.vortex_prune.specs.declared.scan.verdict.Verdict.TheVariants.{Skipped, Whole, Tested}
 use Rattle.vortex_rewrite.specs.Rewriting.Falsifiers.{falsifier, satisfier}
 use Rattle.vortex_rewrite.specs.Rewriting.Lawful.{OwnRule}

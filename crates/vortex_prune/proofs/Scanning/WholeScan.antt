@@ -19,7 +19,8 @@ use Rattle.vortex_prune.proofs.Scanning.SkippedParts.{scans_skip_exactly}
 use Rattle.vortex_rewrite.specs.Rewriting.ReadOnce.{IsSatisfiable, is_apart}
 use Rattle.vortex_prune.specs.Scanning.Complete.{IsBoxIn, SkipsExactly, by_own_statistics}
 use Rattle.vortex_rewrite.specs.Rewriting.Lawful.{OwnRule}
-use Rattle.vortex_prune.specs.Part.{AreParts, IsPart, PartData, ZoneData, zone_of}
+use Rattle.vortex_prune.specs.Part.{AreParts, IsPart, PartData, zone_of}
+use Rattle.vortex_zone_map.specs.Zone.{ZoneData}
 use Rattle.vortex_prune.specs.Zones.{zones_of}
 use Rattle.vortex_prune.specs.Binding.PartAnswers.{part_values}
 use Rattle.vortex_rewrite.specs.Rewriting.Predicates.{has_type, is_predicate}

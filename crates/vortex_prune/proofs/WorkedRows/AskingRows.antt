@@ -24,7 +24,8 @@ use Rattle.vortex_prune.specs.Part.{PartData}
 use Rattle.vortex_prune.specs.Scanning.ScanRefusals.{faithful_causes, kept_binders, verdict_causes}
 use Rattle.vortex_prune.specs.Scanning.ZoneScans.{AreRowVerdicts, is_left_open, kept_parts, row_verdict, table_refuses, zone_causes}
 use Rattle.vortex_prune.specs.declared.scan.verdict.Verdict.TheVariants.{Skipped, Tested, Whole}
-use Rattle.vortex_prune.specs.Zones.{MapData, zone_map, zones_of}
+use Rattle.vortex_prune.specs.Zones.{zones_of}
+use Rattle.vortex_zone_map.specs.ZoneMaps.{MapData, zone_map}
 use Rattle.vortex_stats.specs.declared.error.StatsError.TheVariants.{OpenProof}
 use mathlib.Core.Bool.{true≢false}
 

@@ -13,9 +13,11 @@ use Rattle.vortex_expr.specs.Trees.Tree.{Tree, Place, between, binary, column, i
 use Rattle.vortex_expr.specs.declared.scalar_fn.Operator.TheVariants.{And}
 use Rattle.vortex_expr.specs.declared.scalar_fn.ScalarFnId.TheVariants as functions
 use Rattle.vortex_prune.proofs.WorkedRows.ShutRows.{Fixed, IsMissing, answers, neither, three}
-use Rattle.vortex_prune.proofs.WorkedRows.Witnesses.Parts.{a, above_ten, high, i64_type, low, scope}
+use Rattle.vortex_prune.proofs.WorkedRows.Witnesses.Parts.{a, above_ten, high, low}
+use Rattle.vortex_zone_map.proofs.WorkedRows.Witnesses.{i64_type, scope}
 use Rattle.vortex_prune.specs.Binding.BoundTo.{IsBoundTo, IsWrong, SomeMet}
-use Rattle.vortex_prune.specs.Part.{ZoneData, zone_of}
+use Rattle.vortex_prune.specs.Part.{zone_of}
+use Rattle.vortex_zone_map.specs.Zone.{ZoneData}
 use Rattle.vortex_prune.specs.Scanning.ScanRefusals.{scan_causes}
 use Rattle.vortex_prune.specs.Scanning.ZoneScans.{pruning_causes}
 use Rattle.vortex_rewrite.specs.Causes.{Causes}

@@ -17,7 +17,8 @@ use Rattle.vortex_expr.specs.Trees.Tree.{Tree, Place, column, literal, binary, b
 use Rattle.vortex_expr.specs.Meanings.Typing.{truth_type}
 use Rattle.vortex_prune.proofs.Scanning.Boxes.{skipping_is_complete}
 use Rattle.vortex_rewrite.specs.Rewriting.ReadOnce.{Box, IsInOrder, IsSatisfiable, is_read_once}
-use Rattle.vortex_prune.specs.Part.{Entries, IsPart, IsZone, PartData, ZoneData, zone_of}
+use Rattle.vortex_prune.specs.Part.{IsPart, PartData, zone_of}
+use Rattle.vortex_zone_map.specs.Zone.{Entries, IsZone, ZoneData}
 use Rattle.vortex_prune.specs.Binding.PartAnswers.{part_values, told_values}
 use Rattle.vortex_rewrite.specs.Rewriting.Falsifiers.{bool_literal, falsifier, reduce_balanced, node}
 use Rattle.vortex_prune.specs.Scanning.Complete.{IsBoxIn, SkipsExactly}

@@ -12,10 +12,12 @@ use Rattle.vortex_base.specs.Data.Scopes.{Named}
 use Rattle.vortex_expr.specs.declared.scalar_fn.Operator.TheVariants.{Eq}
 use Rattle.vortex_expr.specs.Meanings.Meaning.{satisfies}
 use Rattle.vortex_expr.specs.Trees.Tree.{Tree, Place, binary, literal, row_count}
-use Rattle.vortex_prune.proofs.WorkedRows.Witnesses.Parts.{a, above_ten, below_two, chunk_of, high, high_is_in_its_zone, high_is_true, i64_type, known, low, low_is_in_its_zone, low_is_true, mixed, mixed_is_in_its_zone, mixed_is_true, num, part, scope, zones}
+use Rattle.vortex_prune.proofs.WorkedRows.Witnesses.Parts.{a, above_ten, below_two, chunk_of, high, high_is_in_its_zone, high_is_true, low, low_is_in_its_zone, low_is_true, mixed, mixed_is_in_its_zone, mixed_is_true, part, zones}
+use Rattle.vortex_zone_map.proofs.WorkedRows.Witnesses.{i64_type, known, num, scope}
 use Rattle.vortex_prune.proofs.ZoneMaps.ZonePruned.{pruning_is_sound}
 use Rattle.vortex_prune.specs.Binding.PartAnswers.{told_values}
-use Rattle.vortex_prune.specs.Part.{IsPartOf, PartData, ZoneData, zone_of}
+use Rattle.vortex_prune.specs.Part.{IsPartOf, PartData, zone_of}
+use Rattle.vortex_zone_map.specs.Zone.{ZoneData}
 use Rattle.vortex_prune.specs.Scanning.ZoneScans.{EachSatisfies, IsSoundPruning}
 use Rattle.vortex_rewrite.specs.Rewriting.Falsifiers.{node, reduce_balanced}
 use mathlib.Core.Bool.{true≢false}

@@ -6,15 +6,17 @@ use Rattle.vortex_base.specs.declared.scalar_value.ScalarValue.{ScalarValue}
 use Rattle.vortex_base.specs.Data.Columns.{ColumnData, row_of}
 use Rattle.vortex_base.specs.Data.Scalars.{Constant}
 use Rattle.vortex_prune.proofs.WorkedRows.Witnesses.Binders.{five_is_above}
-use Rattle.vortex_prune.proofs.WorkedRows.Witnesses.Parts.{a, below_two, chunk_of, high, high_is_true, is_map, known, low, low_is_true, mixed, num, part, parts, scope, their_map, values_of, zones}
+use Rattle.vortex_prune.proofs.WorkedRows.Witnesses.Parts.{a, below_two, chunk_of, high, high_is_true, is_map, low, low_is_true, mixed, part, their_map, values_of, zones}
+use Rattle.vortex_zone_map.proofs.WorkedRows.Witnesses.{known, num, scope}
 use Rattle.vortex_prune.proofs.WorkedRows.Witnesses.Pruning.{shut}
 use Rattle.vortex_prune.proofs.WorkedRows.Witnesses.Ranges.{eight_rows, six_rows}
 use Rattle.vortex_prune.specs.Binding.PartAnswers.{part_values}
-use Rattle.vortex_prune.specs.GivenTables.{IsTableOf}
-use Rattle.vortex_prune.specs.Part.{AreParts, AreTrueSets, AreZonesOf, Entries, IsPart, PartData, ZoneData, zone_of}
+use Rattle.vortex_zone_map.specs.GivenTables.{IsTableOf}
+use Rattle.vortex_prune.specs.Part.{AreParts, AreTrueSets, IsPart, PartData, zone_of}
+use Rattle.vortex_zone_map.specs.Zone.{AreZonesOf, Entries, ZoneData}
 use Rattle.vortex_prune.specs.Scanning.RangeScans.{AreRangesFrom, IsRange}
 use Rattle.vortex_prune.specs.Scanning.Selection.{AreByStatistics, AreFaithful, AreHonest}
-use Rattle.vortex_prune.specs.Zones.{IsMapOf, MapData, zone_columns, zone_map}
+use Rattle.vortex_zone_map.specs.ZoneMaps.{IsMapOf, MapData, zone_columns, zone_map}
 use Rattle.vortex_rewrite.specs.Rewriting.Proof.{Assignment}
 use Rattle.vortex_stats.specs.Sets.Claims.{count_value}
 use Rattle.vortex_stats.specs.declared.precision.Precision.TheVariants.{Exact}

@@ -10,10 +10,11 @@ use Rattle.vortex_base.specs.declared.scalar_value.ScalarValue.TheVariants as va
 use Rattle.vortex_base.specs.declared.types.Nullability.TheVariants.{Nullable, NonNullable}
 use Rattle.vortex_expr.specs.declared.scalar_fn.Operator.TheVariants.{Gt}
 use Rattle.vortex_base.specs.declared.types.PType.TheVariants as ptype
-use Rattle.vortex_prune.specs.Part.{Entries, PartData, ZoneData}
+use Rattle.vortex_prune.specs.Part.{PartData}
+use Rattle.vortex_zone_map.specs.Zone.{Entries, ZoneData}
 use Rattle.vortex_prune.specs.Scanning.RangeScans.{has_ranges, has_ranges_from, is_true_in, range_parts, range_rows, ranges_by, row_in_chunk, rows_in_chunk, selected_from, tested_by, tested_ranges}
 use Rattle.vortex_prune.specs.Scanning.Selection.{full, satisfying}
-use Rattle.vortex_prune.specs.Zones.{MapData, zone_map}
+use Rattle.vortex_zone_map.specs.ZoneMaps.{MapData, zone_map}
 use Rattle.vortex_prune.specs.declared.scan.verdict.Verdict.TheVariants.{Skipped, Whole, Tested}
 use Rattle.vortex_rewrite.specs.Rewriting.Falsifiers.{falsifier, node, reduce_balanced, satisfier}
 use Rattle.vortex_stats.specs.Sets.Claims.{count_value}

@@ -7,7 +7,8 @@ use Rattle.vortex_base.specs.declared.aggregate.AggregateFnRef.{AggregateFnRef}
 use Rattle.vortex_base.specs.declared.aggregate.AggregateFnRef.TheVariants.{Max}
 use Rattle.vortex_base.specs.declared.dtype.DType.{DType}
 use Rattle.vortex_expr.specs.Trees.Tree.{Tree, Place, is_closed, literal, stat}
-use Rattle.vortex_prune.proofs.WorkedRows.Witnesses.Parts.{a, i64_type, num}
+use Rattle.vortex_prune.proofs.WorkedRows.Witnesses.Parts.{a}
+use Rattle.vortex_zone_map.proofs.WorkedRows.Witnesses.{i64_type, num}
 use Rattle.vortex_prune.specs.Binding.BoundTo.{IsBoundTo}
 use Rattle.vortex_prune.specs.Scanning.PartScans.{UnlessSkipped}
 use Rattle.vortex_prune.specs.Scanning.ScanRefusals.{AreClosed, IsClosed, KeptAreClosed}

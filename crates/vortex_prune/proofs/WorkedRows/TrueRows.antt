@@ -21,11 +21,11 @@ use Rattle.vortex_stats.specs.declared.precision.Precision.{Precision}
 use Rattle.vortex_stats.specs.declared.precision.Precision.TheVariants.{Exact, Inexact, Absent}
 use Rattle.vortex_stats.specs.declared.stat.Stat.TheVariants as stats
 use Rattle.vortex_prune.proofs.ZoneMaps.ZoneRows.{cell_is}
-use Rattle.vortex_prune.specs.Binding.StatValues.{all_null_value, count_of, null_count_value, of_count}
-use Rattle.vortex_prune.specs.GivenTables.{is_table, map_with}
-use Rattle.vortex_prune.specs.Part.{Entries, ZoneData}
+use Rattle.vortex_zone_map.specs.StatValues.{all_null_value, count_of, null_count_value, of_count}
+use Rattle.vortex_zone_map.specs.GivenTables.{is_table, map_with}
+use Rattle.vortex_zone_map.specs.Zone.{Entries, ZoneData}
 use Rattle.vortex_prune.specs.Scanning.TrueRows.{IsTrueRow, value_in}
-use Rattle.vortex_prune.specs.Zones.{Head, IsMapOf, MapData, head, heads, set_value}
+use Rattle.vortex_zone_map.specs.ZoneMaps.{Head, IsMapOf, MapData, head, heads, set_value}
 use mathlib.Core.Bool.{true≢false}
 
 abbrev i64_type : DType

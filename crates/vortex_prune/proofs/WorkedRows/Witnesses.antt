@@ -2,7 +2,6 @@
 pub mod AnyTable
 pub mod Binders
 pub mod Laws
-pub mod Maps
 pub mod Parts
 pub mod Pruning
 pub mod Ranges

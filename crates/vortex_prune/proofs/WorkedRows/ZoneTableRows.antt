@@ -15,10 +15,12 @@ use Rattle.vortex_base.specs.declared.scalar_value.ScalarValue.TheVariants as va
 use Rattle.vortex_stats.specs.Sets.Claims.{count_value}
 use Rattle.vortex_stats.specs.declared.precision.Precision.TheVariants.{Exact, Inexact}
 use Rattle.vortex_stats.specs.declared.stat.Stat.TheVariants as stats
-use Rattle.vortex_prune.specs.GivenTables.{is_table, map_with}
-use Rattle.vortex_prune.specs.Part.{Entries, PartData}
+use Rattle.vortex_zone_map.specs.GivenTables.{is_table, map_with}
+use Rattle.vortex_prune.specs.Part.{PartData}
+use Rattle.vortex_zone_map.specs.Zone.{Entries}
 use Rattle.vortex_prune.specs.Scanning.ZoneScans.{is_left_open}
-use Rattle.vortex_prune.specs.Zones.{ZonesData, heads, is_zone_row, starts_from, zone_answer, zone_columns, zone_place, zone_table, zones_of}
+use Rattle.vortex_prune.specs.Zones.{ZonesData, is_zone_row, zone_answer, zones_of}
+use Rattle.vortex_zone_map.specs.ZoneMaps.{heads, starts_from, zone_columns, zone_place, zone_table}
 
 abbrev i64_type : DType
 i64_type = dtype.Primitive ptype.I64 Nullable

@@ -26,12 +26,14 @@ use Rattle.vortex_prune.proofs.Scanning.WholeScan.{predicate_typed}
 use Rattle.vortex_prune.proofs.ZoneMaps.ZonePruned.{each_by, none_by, whole_proved}
 use Rattle.vortex_prune.proofs.ZoneMaps.ZoneRows.{cell_is, row_is_zone_row}
 use Rattle.vortex_prune.proofs.ZoneMaps.ZoneScan.{row_count_at, same_lists}
-use Rattle.vortex_prune.specs.Binding.ZoneFaithful.{place_of, pointwise_at}
-use Rattle.vortex_prune.specs.Part.{Entries, IsPartOf, IsTruePart, PartData, ZoneData}
+use Rattle.vortex_zone_map.proofs.ZoneMaps.HeadPlaces.{place_of, pointwise_at}
+use Rattle.vortex_prune.specs.Part.{IsPartOf, IsTruePart, PartData}
+use Rattle.vortex_zone_map.specs.Zone.{Entries, ZoneData}
 use Rattle.vortex_prune.specs.Scanning.Selection.{is_skipped, is_whole, places_where, proves_of}
 use Rattle.vortex_prune.specs.Scanning.TrueRows.{EachRowOf, IsTrueRow, ZonesHaveTrueRows, value_in}
 use Rattle.vortex_prune.specs.Scanning.ZoneScans.{AreRowVerdicts, EachSatisfies, row_values, row_verdict, row_verdicts}
-use Rattle.vortex_prune.specs.Zones.{HasTable, Head, IsMapOf, MapData, cell_at, head, heads, set_value, type_or_null, zone_place, zone_type}
+use Rattle.vortex_prune.specs.Zones.{cell_at}
+use Rattle.vortex_zone_map.specs.ZoneMaps.{HasTable, Head, IsMapOf, MapData, head, heads, set_value, type_or_null, zone_place, zone_type}
 use Rattle.vortex_prune.specs.declared.scan.verdict.Verdict.{Verdict}
 use Rattle.vortex_rewrite.proofs.NullErasure.{typed_null}
 use Rattle.vortex_rewrite.specs.Facts.{IsFact, IsHonest, is_column_of, is_over, meanings, size_of}

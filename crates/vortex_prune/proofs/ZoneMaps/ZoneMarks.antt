@@ -14,7 +14,7 @@ use Rattle.vortex_base.specs.declared.scalar_value.ScalarValue.TheVariants as va
 use Rattle.vortex_expr.specs.declared.scalar_fn.Operator.TheVariants as operator
 use Rattle.vortex_prune.specs.Scanning.Leaves.{IsComparison, IsLeaf, compares, passes_at}
 use Rattle.vortex_prune.specs.Scanning.Marks.{HasCounts, count_at, either_marked, is_told, is_true_at, left_marked, marked, paired}
-use Rattle.vortex_prune.specs.Zones.{MapData}
+use Rattle.vortex_zone_map.specs.ZoneMaps.{MapData}
 use Rattle.vortex_prune.specs.declared.scan.leaf.Test.{Test}
 use Rattle.vortex_prune.specs.declared.scan.marks.Counts.{Counts}
 

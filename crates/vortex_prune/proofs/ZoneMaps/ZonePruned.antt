@@ -16,7 +16,8 @@ use Rattle.vortex_prune.proofs.Scanning.SkippedParts.{place_listed}
 use Rattle.vortex_prune.proofs.Scanning.WholeScan.{predicate_typed, typed_bool}
 use Rattle.vortex_prune.proofs.ZoneMaps.ZoneRows.{told_is_honest}
 use Rattle.vortex_prune.specs.Binding.PartAnswers.{told_values}
-use Rattle.vortex_prune.specs.Part.{AreZonesOf, IsPartOf, IsTruePart, PartData, ZoneData}
+use Rattle.vortex_prune.specs.Part.{IsPartOf, IsTruePart, PartData}
+use Rattle.vortex_zone_map.specs.Zone.{AreZonesOf, ZoneData}
 use Rattle.vortex_prune.specs.Scanning.Complete.{ZonesSkipExactly}
 use Rattle.vortex_prune.specs.Scanning.PartScans.{UnlessSkipped}
 use Rattle.vortex_prune.specs.Scanning.Selection.{is_skipped, is_whole, place_if, places_where, proves_of}

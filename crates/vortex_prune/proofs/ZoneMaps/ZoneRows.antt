@@ -29,12 +29,14 @@ use Rattle.vortex_prune.proofs.Honesty.HonestParts.{part_is_honest}
 use Rattle.vortex_prune.proofs.Honesty.PartLemmas.{types_of}
 use Rattle.vortex_prune.specs.Binding.Binders.{IsHonestOver}
 use Rattle.vortex_rewrite.specs.Facts.{IsHonest}
-use Rattle.vortex_prune.specs.Part.{Entries, IsPartOf, IsTruePart, PartData, ZoneData, fits_zone, zone_of}
+use Rattle.vortex_prune.specs.Part.{IsPartOf, IsTruePart, PartData, zone_of}
+use Rattle.vortex_zone_map.specs.Zone.{Entries, ZoneData, fits_zone}
 use Rattle.vortex_prune.specs.Binding.PartAnswers.{column_value, part_values, told_values}
 use Rattle.vortex_rewrite.specs.Rewriting.Proof.{Assignment}
-use Rattle.vortex_prune.specs.Binding.StatValues.{exact_value, stat_value}
-use Rattle.vortex_prune.specs.Binding.ZoneFaithful.{place_of}
-use Rattle.vortex_prune.specs.Zones.{Head, IsMapOf, MapData, cell_at, head, heads, is_zone_row, named_head, offset, set_value, supporting, zone_column, zone_columns, zone_place, zone_value, zone_values}
+use Rattle.vortex_zone_map.specs.StatValues.{exact_value, stat_value}
+use Rattle.vortex_zone_map.proofs.ZoneMaps.HeadPlaces.{place_of}
+use Rattle.vortex_prune.specs.Zones.{cell_at, is_zone_row, zone_values}
+use Rattle.vortex_zone_map.specs.ZoneMaps.{Head, IsMapOf, MapData, head, heads, named_head, offset, set_value, supporting, zone_column, zone_columns, zone_place, zone_value}
 
 -- ---- the row's types
 

@@ -15,7 +15,8 @@ use Rattle.vortex_prune.proofs.Scanning.WholeScan.{all_at}
 use Rattle.vortex_prune.proofs.ZoneMaps.ZoneRows.{values_same}
 use Rattle.vortex_prune.specs.Binding.BoundTo.{HasNoColumnOn, WhereFaithful}
 use Rattle.vortex_prune.specs.Binding.PartAnswers.{part_values}
-use Rattle.vortex_prune.specs.Part.{PartData, ZoneData, zone_of}
+use Rattle.vortex_prune.specs.Part.{PartData, zone_of}
+use Rattle.vortex_zone_map.specs.Zone.{ZoneData}
 use Rattle.vortex_prune.specs.Scanning.PartScans.{AreTold, TellsOf}
 use Rattle.vortex_prune.specs.Scanning.Selection.{Answered, proves_of, verdict, verdict_of}
 use Rattle.vortex_prune.proofs.ZoneMaps.ZoneRefusals.{causes_alike, is_opened, kept_open, some_open}
@@ -25,7 +26,8 @@ use Rattle.vortex_rewrite.specs.Rewriting.Falsifiers.{falsifier}
 use Rattle.vortex_rewrite.specs.Rewriting.Lawful.{OwnRule}
 use Rattle.vortex_prune.specs.Scanning.ZoneScans.{IsTableRefused, is_proved_part, is_proved_zone, kept_zones, open_causes, pruning_causes, table_refuses, zone_causes}
 use Rattle.vortex_prune.specs.Scanning.ZoneScans.{AllTold, AreRowVerdicts, IsShutIfKept, IsShutIfVerdict, TellsAs, row_values, statistics_answers, table_tells, table_verdict, zone_truth, zone_verdict, zone_verdicts}
-use Rattle.vortex_prune.specs.Zones.{HaveScope, IsMapOf, MapData, is_zone_row, zone_values, zones_of}
+use Rattle.vortex_prune.specs.Zones.{HaveScope, is_zone_row, zone_values, zones_of}
+use Rattle.vortex_zone_map.specs.ZoneMaps.{IsMapOf, MapData}
 use Rattle.vortex_prune.specs.declared.scan.verdict.Verdict.{Verdict}
 use Rattle.vortex_prune.specs.declared.scan.verdict.Verdict.TheVariants.{Skipped, Whole, Tested}
 use Rattle.vortex_rewrite.specs.Rewriting.Proof.{is_open, value_under}

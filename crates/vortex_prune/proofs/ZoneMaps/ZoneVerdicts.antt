@@ -10,7 +10,7 @@ use Rattle.vortex_prune.proofs.ZoneMaps.ZoneMarks.{length-marked, marked_at}
 use Rattle.vortex_prune.proofs.ZoneMaps.ZoneScan.{IsTruth, is_skipped_zone, is_tested_zone, is_whole_zone, refuses_there}
 use Rattle.vortex_prune.specs.Scanning.Marks.{is_told, marked, marked_verdict, marked_verdicts}
 use Rattle.vortex_prune.specs.Scanning.ZoneScans.{AllTold, IsTableRefused, TellsAs, is_left_open, open_causes, table_tells, zone_truth}
-use Rattle.vortex_prune.specs.Zones.{MapData}
+use Rattle.vortex_zone_map.specs.ZoneMaps.{MapData}
 use Rattle.vortex_prune.specs.declared.scan.verdict.Verdict.{Verdict}
 use Rattle.vortex_rewrite.specs.Causes.{IsRefusal}
 use Rattle.vortex_rewrite.specs.Rewriting.Proof.{is_open}

@@ -6,9 +6,10 @@ use Rattle.vortex_base.specs.declared.scalar_value.ScalarValue.{ScalarValue}
 use Rattle.vortex_base.specs.Data.Scopes.{Named}
 use Rattle.vortex_expr.specs.Trees.Tree.{column}
 use Rattle.vortex_base.specs.Data.Types.{eq_ignore_nullability}
-use Rattle.vortex_prune.specs.Part.{Entries, PartData, ZoneData, zone_of}
+use Rattle.vortex_prune.specs.Part.{PartData, zone_of}
+use Rattle.vortex_zone_map.specs.Zone.{Entries, ZoneData}
 use Rattle.vortex_rewrite.specs.Rewriting.Proof.{Assignment}
-use Rattle.vortex_prune.specs.Binding.StatValues.{stat_value}
+use Rattle.vortex_zone_map.specs.StatValues.{stat_value}
 
 -- there is a column there, and it has this type, nullability aside
 abbrev pub declares : DType → Option Named → Bool

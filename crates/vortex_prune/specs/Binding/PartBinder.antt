@@ -10,9 +10,10 @@ use Rattle.vortex_expr.specs.Trees.Tree.{Tree, Place, column, literal}
 use Rattle.vortex_base.specs.Data.Types.{as_nullable}
 use Rattle.vortex_expr.specs.Meanings.Typing.{stat_type}
 use Rattle.vortex_prune.specs.Binding.Binders.{BinderAnswer}
-use Rattle.vortex_prune.specs.Part.{Entries, PartData, ZoneData, zone_of}
+use Rattle.vortex_prune.specs.Part.{PartData, zone_of}
+use Rattle.vortex_zone_map.specs.Zone.{Entries, ZoneData}
 use Rattle.vortex_prune.specs.Binding.PartAnswers.{declares}
-use Rattle.vortex_prune.specs.Binding.StatValues.{stat_value}
+use Rattle.vortex_zone_map.specs.StatValues.{stat_value}
 
 -- the literal of a value, where the aggregate supports the type
 abbrev pub literal_if : Result DType BaseError → Option ScalarValue → Option (Tree Place)

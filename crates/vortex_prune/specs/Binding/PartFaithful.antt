@@ -14,11 +14,12 @@ use Rattle.vortex_expr.specs.Trees.Tree.{Tree, Place, column, literal, stat, has
 use Rattle.vortex_base.specs.Data.Types.{as_nullable, dtype_eq_is_exact, eq_ignore_nullability}
 use Rattle.vortex_expr.specs.Meanings.Typing.{stat_type, type_of}
 use Rattle.vortex_prune.specs.Binding.Binders.{IsAnswerOf, IsFaithful}
-use Rattle.vortex_prune.specs.Part.{Entries, PartData, ZoneData, zone_of}
+use Rattle.vortex_prune.specs.Part.{PartData, zone_of}
+use Rattle.vortex_zone_map.specs.Zone.{Entries, ZoneData}
 use Rattle.vortex_prune.specs.Binding.PartAnswers.{column_value, declares, part_values, told_values}
 use Rattle.vortex_prune.specs.Binding.PartBinder.{IsNullOf, column_literal, literal_if, part_answer, told_answer}
 use Rattle.vortex_rewrite.specs.StateTypes.{as_nullable-again, same_stat_type}
-use Rattle.vortex_prune.specs.Binding.StatValues.{stat_value}
+use Rattle.vortex_zone_map.specs.StatValues.{stat_value}
 
 abbrev ok : DType → Result DType BaseError
 ok t = Ok t

@@ -10,7 +10,8 @@ use Rattle.vortex_expr.specs.Meanings.Typing.{is_bool, type_of}
 use Rattle.vortex_stats.specs.Sets.Entries.{entry_value}
 use Rattle.vortex_stats.specs.Precision.{present_value}
 use Rattle.vortex_stats.specs.declared.stat.Stat.TheVariants.{Max, Min}
-use Rattle.vortex_prune.specs.Part.{Entries, IsPart, IsZone, PartData, ZoneData}
+use Rattle.vortex_prune.specs.Part.{IsPart, PartData}
+use Rattle.vortex_zone_map.specs.Zone.{Entries, IsZone, ZoneData}
 use Rattle.vortex_prune.specs.Binding.PartAnswers.{part_values, told_values}
 use Rattle.vortex_prune.specs.Zones.{zones_of}
 use Rattle.vortex_rewrite.specs.Rewriting.Proof.{proves}

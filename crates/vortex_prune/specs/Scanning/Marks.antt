@@ -7,7 +7,7 @@ use Rattle.vortex_prune.specs.Scanning.Selection.{row_if}
 use Rattle.vortex_prune.specs.Scanning.ZoneScans.{zone_truth}
 use Rattle.vortex_prune.specs.declared.scan.marks.Counts.{Counts}
 use Rattle.vortex_prune.specs.declared.scan.marks.Counts.TheVariants.{Same, Each}
-use Rattle.vortex_prune.specs.Zones.{MapData}
+use Rattle.vortex_zone_map.specs.ZoneMaps.{MapData}
 use Rattle.vortex_prune.specs.declared.scan.verdict.Verdict.{Verdict}
 use Rattle.vortex_prune.specs.declared.scan.verdict.Verdict.TheVariants.{Skipped, Whole, Tested}
 

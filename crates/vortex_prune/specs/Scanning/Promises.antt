@@ -2,13 +2,14 @@
 use Rattle.std.specs.Prelude.{◌≡◌, ◌-◌, ◌^◌, ◌↔◌, ℕ, Bool, true, false, List, [], Option, Result, Err, IfErr, IsTrue, min}
 use Rattle.vortex_base.specs.Data.Columns.{ChunkData}
 use Rattle.vortex_expr.specs.Trees.Tree.{Tree, Place}
-use Rattle.vortex_prune.specs.Part.{AreParts, PartData, ZoneData}
+use Rattle.vortex_prune.specs.Part.{AreParts, PartData}
+use Rattle.vortex_zone_map.specs.Zone.{ZoneData}
 use Rattle.vortex_prune.specs.Scanning.RangeScans.{AreRangesBehind, ranges_by, satisfying_ranges, selected_from, tested_by, tested_ranges}
 use Rattle.vortex_prune.specs.Scanning.ScanRefusals.{AreClosed, KeptAreClosed, faithful_causes, scan_causes}
 use Rattle.vortex_prune.specs.Scanning.Selection.{Answered, AreFaithful, answered, any_binder, is_skipped, is_whole, places_where, selected_rows, skipped_parts, tested_rows, whole_parts}
 use Rattle.vortex_prune.specs.Scanning.TrueRows.{AreTrueRanges, EachRowOf}
 use Rattle.vortex_prune.specs.Scanning.ZoneScans.{IsShutIfKept, is_left_open, most_causes, pruning_causes, row_verdicts, skipped_zones, statistics_answers, whole_zones, zone_causes}
-use Rattle.vortex_prune.specs.Zones.{IsMapOf, MapData}
+use Rattle.vortex_zone_map.specs.ZoneMaps.{IsMapOf, MapData}
 use Rattle.vortex_prune.specs.declared.bind.stat_binder.StatBinder.{Ghosts}
 use Rattle.vortex_prune.specs.declared.scan.outcome.Scan.{Scan}
 use Rattle.vortex_rewrite.specs.Answers.{IsMemory}

@@ -5,9 +5,11 @@ use Rattle.vortex_base.specs.Data.Columns.{ChunkData, ColumnData, IsChunk, row_o
 use Rattle.vortex_base.specs.Data.Scopes.{Named, scope_eq}
 use Rattle.vortex_expr.specs.Meanings.Meaning.{satisfies}
 use Rattle.vortex_expr.specs.Trees.Tree.{Tree, Place}
-use Rattle.vortex_prune.specs.Part.{AreParts, PartData, ZoneData}
+use Rattle.vortex_prune.specs.Part.{AreParts, PartData}
+use Rattle.vortex_zone_map.specs.Zone.{ZoneData}
 use Rattle.vortex_prune.specs.Scanning.ZoneScans.{zone_verdicts}
-use Rattle.vortex_prune.specs.Zones.{HaveScope, IsMapOf, MapData, zones_of}
+use Rattle.vortex_prune.specs.Zones.{HaveScope, zones_of}
+use Rattle.vortex_zone_map.specs.ZoneMaps.{IsMapOf, MapData}
 use Rattle.vortex_prune.specs.declared.scan.verdict.Verdict.{Verdict}
 use Rattle.vortex_prune.specs.declared.scan.verdict.Verdict.TheVariants.{Skipped, Whole, Tested}
 

@@ -3,10 +3,11 @@ use Rattle.std.specs.Prelude.{◌≡◌, ◌+◌, ℕ, Bool, Contains, List, Opt
 use Rattle.vortex_base.specs.Data.Columns.{ChunkData, ColumnData, IsChunk, cell_value, row_count as rows_of, row_of}
 use Rattle.vortex_base.specs.declared.scalar_value.ScalarValue.{ScalarValue}
 use Rattle.vortex_expr.specs.Trees.Tree.{Place, Tree}
-use Rattle.vortex_prune.specs.Part.{IsPartOf, IsTruePart, PartData, ZoneData}
+use Rattle.vortex_prune.specs.Part.{IsPartOf, IsTruePart, PartData}
+use Rattle.vortex_zone_map.specs.Zone.{ZoneData}
 use Rattle.vortex_prune.specs.Scanning.RangeScans.{IsRange}
 use Rattle.vortex_prune.specs.Scanning.ZoneScans.{EachSatisfies}
-use Rattle.vortex_prune.specs.Zones.{Head, IsMapOf, MapData, heads}
+use Rattle.vortex_zone_map.specs.ZoneMaps.{Head, IsMapOf, MapData, heads}
 use Rattle.vortex_rewrite.specs.Facts.{IsFact}
 
 -- what stands in the row at a place r of the table, in its column at a place i

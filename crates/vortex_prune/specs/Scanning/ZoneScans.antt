@@ -7,7 +7,8 @@ use Rattle.vortex_expr.specs.Meanings.Meaning.{is_true, meaning, satisfies}
 use Rattle.vortex_expr.specs.Trees.Tree.{Tree, Place}
 use Rattle.vortex_rewrite.specs.Causes.{Causes, IsRefusal, no_causes}
 use Rattle.vortex_rewrite.specs.Rewriting.Lawful.{OwnRule}
-use Rattle.vortex_prune.specs.Part.{IsPartOf, IsTruePart, PartData, ZoneData}
+use Rattle.vortex_prune.specs.Part.{IsPartOf, IsTruePart, PartData}
+use Rattle.vortex_zone_map.specs.Zone.{ZoneData}
 use Rattle.vortex_prune.specs.Binding.PartAnswers.{part_values, told_values}
 use Rattle.vortex_rewrite.specs.Rewriting.Proof.{Assignment, is_open}
 use Rattle.vortex_rewrite.specs.Rewriting.Falsifiers.{falsifier}
@@ -16,7 +17,8 @@ use Rattle.vortex_prune.specs.Scanning.PartScans.{UnlessSkipped}
 use Rattle.vortex_prune.specs.Scanning.Selection.{Answered, answered, is_whole, is_proved, places_where, proves_of, verdict_of}
 use Rattle.vortex_prune.specs.declared.scan.verdict.Verdict.{Verdict}
 use Rattle.vortex_prune.specs.declared.scan.verdict.Verdict.TheVariants.{Skipped, Whole, Tested}
-use Rattle.vortex_prune.specs.Zones.{MapData, zone_values}
+use Rattle.vortex_prune.specs.Zones.{zone_values}
+use Rattle.vortex_zone_map.specs.ZoneMaps.{MapData}
 use Rattle.vortex_stats.specs.declared.error.StatsError.{StatsError}
 use Rattle.vortex_stats.specs.declared.error.StatsError.TheVariants.{Memory}
 

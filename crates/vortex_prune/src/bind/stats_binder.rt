@@ -8,14 +8,13 @@ ghost use Rattle.vortex_prune.specs.Binding.Binders.{IsHonestOver};
 ghost use Rattle.vortex_prune.specs.Binding.PartAnswers.{declares};
 ghost use Rattle.vortex_prune.specs.Binding.PartBinder as spec;
 ghost use Rattle.vortex_prune.specs.Binding.PartBinder.{told_answer};
-ghost use Rattle.vortex_prune.specs.Part.{IsPartOf, IsTruePart, IsZone, PartData, fits_zone};
+ghost use Rattle.vortex_prune.specs.Part.{IsPartOf, IsTruePart, PartData};
+ghost use Rattle.vortex_zone_map.specs.Zone.{IsZone, fits_zone};
 ghost use Rattle.vortex_base.specs.declared.dtype.DType.{DType};
 ghost use Rattle.vortex_stats.specs.declared.error.StatsError.TheVariants.{Mismatch};
 
 use crate::bind::stat_binder::StatBinder;
 use crate::part::Part;
-use crate::stat_fn::scalar_of;
-use crate::zone::{Zone, sets_fit};
 use std::alloc::{AllocError, Global};
 use std::marker::Model;
 use vortex_base::aggregate::AggregateFnRef;
@@ -26,6 +25,8 @@ use vortex_expr::bound_expression::BoundExpression;
 use vortex_expr::bound_expression::parts::Parts;
 use vortex_rewrite::hook_fault::HookFault;
 use vortex_stats::error::StatsError;
+use vortex_zone_map::stat_fn::scalar_of;
+use vortex_zone_map::zone::{Zone, sets_fit};
 
 /// Binds the placeholders of a proof to literals from the statistics of a part.
 #[derive(Drop)]
@@ -168,7 +169,7 @@ pub struct ZoneStatsBinder<'a> {
 }
 
 impl<'a> Model for ZoneStatsBinder<'a> {
-    ghost use Rattle.vortex_prune.specs.Part.{IsZone, ScopedZone};
+    ghost use Rattle.vortex_zone_map.specs.Zone.{IsZone, ScopedZone};
 
     ghost Value = { ScopedZone };
 

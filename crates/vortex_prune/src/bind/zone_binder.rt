@@ -3,11 +3,11 @@ ghost use Rattle.std.specs.Prelude.{◌≡◌, ℕ, IsTrue, Some, slice_get};
 ghost use Rattle.vortex_base.specs.Data.Columns.{row_of};
 ghost use Rattle.vortex_prune.specs.Binding.Binders.{IsHonestOver};
 ghost use Rattle.std.specs.Prelude.{List};
-ghost use Rattle.vortex_prune.specs.Part.{IsPartOf, IsTruePart, PartData, ZoneData};
-ghost use Rattle.vortex_prune.specs.Zones.{IsMapOf};
+ghost use Rattle.vortex_prune.specs.Part.{IsPartOf, IsTruePart, PartData};
+ghost use Rattle.vortex_zone_map.specs.Zone.{ZoneData};
+ghost use Rattle.vortex_zone_map.specs.ZoneMaps.{IsMapOf};
 
 use crate::bind::stat_binder::StatBinder;
-use crate::zone_map::ZoneMap;
 use std::alloc::Global;
 use std::marker::Model;
 use vortex_base::aggregate::AggregateFnRef;
@@ -16,6 +16,7 @@ use vortex_expr::bound;
 use vortex_expr::bound_expression::BoundExpression;
 use vortex_expr::bound_expression::parts::Parts;
 use vortex_rewrite::hook_fault::HookFault;
+use vortex_zone_map::zone_map::ZoneMap;
 
 /// Binds the placeholders of a proof to the columns of the table of a map of zones, so that one
 /// bound proof is evaluated on the row of each zone. What it answers is read on the rows of its own
@@ -27,7 +28,7 @@ pub struct ZoneBinder<'a> {
 }
 
 impl<'a> Model for ZoneBinder<'a> {
-    ghost use Rattle.vortex_prune.specs.Zones.{MapData};
+    ghost use Rattle.vortex_zone_map.specs.ZoneMaps.{MapData};
 
     ghost Value = { MapData };
 

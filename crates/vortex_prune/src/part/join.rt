@@ -2,7 +2,8 @@
 ghost use Rattle.std.specs.Prelude.{◌≡◌, ◌<◌, IfErr, IfOk, IsTrue, OnOk, length, slice_get, Some};
 ghost use Rattle.std.specs.Bool.{MatchBool};
 ghost use Rattle.vortex_base.specs.Data.Columns.{sizes_fit};
-ghost use Rattle.vortex_prune.specs.Part.{Entries, IsPart, IsTruePart, joined, merged_sets};
+ghost use Rattle.vortex_prune.specs.Part.{IsPart, IsTruePart, joined};
+ghost use Rattle.vortex_zone_map.specs.Zone.{merged_sets, Entries};
 ghost use Rattle.vortex_stats.specs.Merging.Merges.{merged_ordered};
 ghost use Rattle.vortex_stats.specs.declared.error.StatsError.TheVariants.{TooLarge};
 ghost use Rattle.vortex_rewrite.specs.Answers.{IsMemory, OkOrMemory};

@@ -15,12 +15,12 @@ use crate::scan::columns::keep_passing;
 use crate::scan::gaps::{Gap, asked, keep_passed, put_beside, put_gap, put_in_order};
 use crate::scan::leaf::{compared, leaf_of};
 use crate::scan::search::keep_ordered;
-use crate::zone_map::ZoneMap;
 use std::alloc::{AllocError, Global};
 use vortex_base::chunk::Chunk;
 use vortex_expr::bound_expression::BoundExpression;
 use vortex_expr::bound_expression::parts::Parts;
 use vortex_expr::scalar_fn::{BetweenOptions, Operator};
+use vortex_zone_map::zone_map::ZoneMap;
 
 /// How many rows are looked at together: their cells of a column fill some 16 KB.
 pub(crate) const BLOCK: usize = 1024;

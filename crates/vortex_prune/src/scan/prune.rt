@@ -14,7 +14,7 @@ ghost use Rattle.vortex_rewrite.specs.Rewriting.Own.{own_rules};
 ghost use Rattle.vortex_rewrite.specs.Rewriting.Predicates.{is_predicate};
 ghost use Rattle.vortex_rewrite.specs.Rewriting.Proof.{is_open};
 ghost use Rattle.vortex_rewrite.specs.Rewriting.ReadOnce.{is_apart};
-ghost use Rattle.vortex_prune.specs.Part.{ZoneData};
+ghost use Rattle.vortex_zone_map.specs.Zone.{ZoneData};
 ghost use Rattle.vortex_prune.specs.Scanning.Complete.{ZonesSkipExactly};
 ghost use Rattle.vortex_prune.specs.Scanning.Selection.{is_skipped, is_whole, place_if};
 ghost use Rattle.vortex_prune.specs.Scanning.Selection.{places_where};
@@ -27,20 +27,20 @@ ghost use Rattle.vortex_prune.specs.Scanning.ZoneScans.{kept_zones, pruning_caus
 ghost use Rattle.vortex_prune.specs.Scanning.ZoneScans.{whole_zones};
 ghost use Rattle.vortex_prune.specs.Scanning.Marks.{marked_verdict, marked_verdicts};
 ghost use Rattle.vortex_prune.specs.Scanning.ZoneScans.{zone_verdicts};
-ghost use Rattle.vortex_prune.specs.Zones.{HasTable, IsMapOf};
+ghost use Rattle.vortex_zone_map.specs.ZoneMaps.{HasTable, IsMapOf};
 ghost use Rattle.vortex_stats.specs.declared.error.StatsError.TheVariants.{Memory, NotPredicate};
 
 use crate::bind::bind_stats_of;
 use crate::bind::zone_binder::ZoneBinder;
 use crate::scan::marks::told;
 use crate::scan::verdict::Verdict;
-use crate::zone_map::ZoneMap;
 use std::alloc::{AllocError, Global};
 use vortex_expr::bound_expression::BoundExpression;
 use vortex_rewrite::rewrite::rule::StatsRewriteRule;
 use vortex_rewrite::rewrite::rules::Rules;
 use vortex_rewrite::rewrite::{falsify, satisfy};
 use vortex_stats::error::StatsError;
+use vortex_zone_map::zone_map::ZoneMap;
 
 // Tells that the table of a map is a chunk, with a row for each zone.
 pub(crate) fn has_table(map: &ZoneMap)

@@ -7,7 +7,8 @@ ghost use Rattle.vortex_expr.specs.Meanings.Fitting.{fits_scope};
 ghost use Rattle.vortex_expr.specs.Trees.Tree.{is_plain};
 ghost use Rattle.vortex_rewrite.specs.Rewriting.Own.{own_rules};
 ghost use Rattle.vortex_rewrite.specs.Rewriting.ReadOnce.{is_apart};
-ghost use Rattle.vortex_prune.specs.Part.{IsTruePart, PartData, ZoneData};
+ghost use Rattle.vortex_prune.specs.Part.{IsTruePart, PartData};
+ghost use Rattle.vortex_zone_map.specs.Zone.{ZoneData};
 ghost use Rattle.vortex_prune.specs.Scanning.Complete.{ZonesSkipExactly};
 ghost use Rattle.vortex_prune.specs.Scanning.Promises.{RefusesRanges, ScansRanges};
 ghost use Rattle.vortex_prune.specs.Scanning.RangeScans.{AreRanges, AreRangesBehind, has_ranges};
@@ -16,20 +17,20 @@ ghost use Rattle.vortex_prune.specs.Scanning.RangeScans.{tested_by};
 ghost use Rattle.vortex_prune.specs.Scanning.Selection.{full, is_skipped, is_whole, places_where};
 ghost use Rattle.vortex_prune.specs.Scanning.Selection.{satisfying};
 ghost use Rattle.vortex_prune.specs.Scanning.TrueRows.{AreTrueRanges};
-ghost use Rattle.vortex_prune.specs.Zones.{IsMapOf};
+ghost use Rattle.vortex_zone_map.specs.ZoneMaps.{IsMapOf};
 ghost use Rattle.vortex_stats.specs.declared.error.StatsError.TheVariants.{Memory};
 
 use crate::scan::outcome::Scan;
 use crate::scan::prune::{has_table, verdicts};
 use crate::scan::select::RowRange;
 use crate::scan::verdict::Verdict;
-use crate::zone_map::ZoneMap;
 use std::alloc::Global;
 use vortex_base::chunk::Chunk;
 use vortex_expr::bound_expression::BoundExpression;
 use vortex_rewrite::rewrite::rule::StatsRewriteRule;
 use vortex_rewrite::rewrite::rules::Rules;
 use vortex_stats::error::StatsError;
+use vortex_zone_map::zone_map::ZoneMap;
 
 // How many of some rows stand behind as many as counts say, if there are as many.
 fn rows_behind(counts: &[u64], rows: usize) -> Option<u64>

@@ -2,8 +2,9 @@
 use super::*;
 use vortex_base::{Chunk, ScalarValue};
 use vortex_expr::BoundExpression;
-use vortex_prune::{Zone, ZoneMap, scan_ranges_from};
+use vortex_prune::scan_ranges_from;
 use vortex_stats::StatsSet;
+use vortex_zone_map::{Zone, ZoneMap};
 
 // The numbers 1, 5, 10, null, 20, 30.
 fn six_rows(alloc: Global) -> Result<Chunk, StatsError> {

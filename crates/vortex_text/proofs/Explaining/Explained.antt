@@ -1,7 +1,8 @@
 -- Witnesses of the clauses of the program that explains: those of the program.
 use Rattle.std.specs.Prelude.{◌≡◌, ◌≢◌, ◌⊎◌, ℕ, false, IfSome, IsTrue, List, [], Some}
 use Rattle.std.specs.List.{AllByRecursion}
-use Rattle.vortex_prune.proofs.WorkedRows.Witnesses.Parts.{IsWitness, above_ten}
+use Rattle.vortex_prune.proofs.WorkedRows.Witnesses.Parts.{above_ten}
+use Rattle.vortex_zone_map.proofs.WorkedRows.Witnesses.{IsWitness}
 use Rattle.vortex_prune.specs.Part.{IsTruePart}
 use Rattle.vortex_rewrite.specs.Rewriting.Predicates.{is_predicate}
 use Rattle.vortex_text.proofs.WorkedRows.Witnesses.{Held, lossy, named_parts, other_word, query, run_answered, run_lossless, run_refused, run_some_input, run_some_refused, two_parts}

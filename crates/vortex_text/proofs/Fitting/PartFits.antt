@@ -10,7 +10,8 @@ use Rattle.vortex_base.specs.Data.Scopes.{Named, has_duplicate, is_empty, is_sco
 use Rattle.vortex_base.specs.Data.Types.{dtype_eq_is_exact}
 use Rattle.vortex_base.specs.declared.scalar_value.ScalarValue.{ScalarValue}
 use Rattle.vortex_prune.proofs.Scanning.JoinLemmas.{joined_is_part}
-use Rattle.vortex_prune.specs.Part.{Entries, PartData, joined, sets_fit}
+use Rattle.vortex_prune.specs.Part.{PartData, joined, sets_fit}
+use Rattle.vortex_zone_map.specs.Zone.{Entries}
 use Rattle.vortex_stats.proofs.Sets.Fitting.{entries_fit_with_entry}
 use Rattle.vortex_stats.specs.Sets.Entries.{entries_fit, value_fits, with_entry}
 use Rattle.vortex_stats.specs.declared.precision.Precision.{Precision}
@@ -19,7 +20,7 @@ use Rattle.vortex_syntax.specs.Words.{Token}
 use Rattle.vortex_syntax.proofs.Fitting.ExpressionFits.{one_made, step_of}
 use Rattle.vortex_text.proofs.Fitting.RowFits.{Grown, grown_alike, grown_count, grown_fit, grown_sets, grown_types, grown_unsized, row_grows}
 use Rattle.vortex_text.specs.Columns.{with_values}
-use Rattle.vortex_zone_log.specs.Logs.{set_at}
+use Rattle.vortex_zone_map.specs.Logs.{set_at}
 use Rattle.vortex_text.specs.Fitting.{IsPartOf, is_unsized}
 use Rattle.vortex_text.specs.Rows.{empty_column, empty_part, joined_at, no_entries, with_row, with_statistic}
 

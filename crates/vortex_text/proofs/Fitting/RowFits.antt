@@ -11,7 +11,8 @@ use Rattle.vortex_base.specs.Data.Scopes.{Named}
 use Rattle.vortex_base.specs.Data.Types.{dtype_eq}
 use Rattle.vortex_base.specs.declared.dtype.DType.{DType}
 use Rattle.vortex_base.specs.declared.scalar_value.ScalarValue.{ScalarValue}
-use Rattle.vortex_prune.specs.Part.{Entries, sets_fit}
+use Rattle.vortex_prune.specs.Part.{sets_fit}
+use Rattle.vortex_zone_map.specs.Zone.{Entries}
 use Rattle.vortex_stats.specs.Sets.Entries.{entries_fit}
 use Rattle.vortex_syntax.specs.Values.{optional_value_of}
 use Rattle.vortex_syntax.specs.Words.{Token, first_word, no_word}

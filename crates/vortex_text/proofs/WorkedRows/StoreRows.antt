@@ -6,11 +6,12 @@ use Rattle.vortex_base.specs.declared.dtype.DType.TheVariants as dtype
 use Rattle.vortex_base.specs.declared.scalar_value.ScalarValue.{ScalarValue}
 use Rattle.vortex_base.specs.declared.scalar_value.ScalarValue.TheVariants as value
 use Rattle.vortex_base.specs.declared.types.Nullability.TheVariants.{NonNullable, Nullable}
-use Rattle.vortex_prune.specs.Part.{Entries, PartData, ZoneData}
+use Rattle.vortex_prune.specs.Part.{PartData}
+use Rattle.vortex_zone_map.specs.Zone.{Entries, ZoneData}
 use Rattle.vortex_stats.specs.declared.precision.Precision.TheVariants.{Exact}
 use Rattle.vortex_stats.specs.declared.stat.Stat.TheVariants as stat
 use Rattle.vortex_text.specs.Stores.{parts_in, with_joined}
-use Rattle.vortex_zone_log.specs.Logs.{LogData, ended, joined_at}
+use Rattle.vortex_zone_map.specs.Logs.{LogData, ended, joined_at}
 
 abbrev truth : Option ScalarValue
 truth = Some (value.Bool true)

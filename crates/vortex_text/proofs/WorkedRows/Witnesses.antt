@@ -8,9 +8,11 @@ use Rattle.std.proofs.Common.{ap, arith, inl, inr, sym, ◌∙◌}
 use Rattle.vortex_expr.specs.Trees.Tree.{Tree, Place}
 use Rattle.vortex_prune.proofs.Honesty.MeasuredParts.{measured_is_true_part}
 use Rattle.vortex_prune.proofs.WorkedRows.ShutRows.{neither}
-use Rattle.vortex_prune.proofs.WorkedRows.Witnesses.Parts.{IsWitness, above_ten, i64_type, known_in, num, parts, scope}
+use Rattle.vortex_prune.proofs.WorkedRows.Witnesses.Parts.{above_ten, parts}
+use Rattle.vortex_zone_map.proofs.WorkedRows.Witnesses.{IsWitness, i64_type, known_in, num, scope}
 use Rattle.vortex_prune.proofs.WorkedRows.Witnesses.Pruning.{shut}
-use Rattle.vortex_prune.specs.Part.{Entries, IsTruePart, PartData}
+use Rattle.vortex_prune.specs.Part.{IsTruePart, PartData}
+use Rattle.vortex_zone_map.specs.Zone.{Entries}
 use Rattle.vortex_prune.specs.Scanning.Selection.{full}
 use Rattle.vortex_base.specs.declared.scalar_value.ScalarValue.{ScalarValue}
 use Rattle.vortex_rewrite.specs.Rewriting.Falsifiers as rewriting

@@ -5,9 +5,9 @@ use std::alloc::{AllocError, Global};
 use vortex_base::scope::Scope;
 use vortex_expr::bound_expression::BoundExpression;
 use vortex_normal::normalize::normalize;
-use vortex_prune::zone_map::ZoneMap;
 use vortex_rewrite::rewrite::rules::Rules;
 use vortex_stats::error::StatsError;
+use vortex_zone_map::zone_map::ZoneMap;
 
 // How many parts are told one by one.
 const TOLD: usize = 50;

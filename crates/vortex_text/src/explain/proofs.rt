@@ -11,14 +11,14 @@ use vortex_expr::bound_expression::parts::Parts;
 use vortex_expr::evaluate::evaluate;
 use vortex_prune::bind::bind_stats;
 use vortex_prune::bind::zone_binder::ZoneBinder;
-use vortex_prune::stat_fn::StatFn;
-use vortex_prune::zone_map::ZoneMap;
 use vortex_rewrite::built::built;
 use vortex_rewrite::expr::bound::{all_null, null_count};
 use vortex_rewrite::rewrite::rules::Rules;
 use vortex_rewrite::rewrite::{falsify, satisfy};
 use vortex_stats::error::StatsError;
 use vortex_stats::stat::Stat;
+use vortex_zone_map::stat_fn::StatFn;
+use vortex_zone_map::zone_map::ZoneMap;
 
 /// The proofs of a predicate by the built-in rules, where there are any.
 #[derive(Debug, Drop)]

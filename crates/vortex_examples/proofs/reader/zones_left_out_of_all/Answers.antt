@@ -2,7 +2,7 @@ use Rattle.std.proofs.Common.{List, ap, subst, sym}
 use Rattle.std.proofs.lemmas.Result.{IfOk-weaker}
 use Rattle.vortex_base.specs.Data.Scopes.{Named}
 use Rattle.vortex_prune.specs.Part.{IsPartOf}
-use Rattle.vortex_prune.specs.Zones.{MapData}
+use Rattle.vortex_zone_map.specs.ZoneMaps.{MapData}
 use Rattle.vortex_examples.proofs.reader.zones_left_out_of_all.Goals as goal
 
 pub returns-in-Ok-clause-lossless : goal.returns-in-Ok-clause-lossless

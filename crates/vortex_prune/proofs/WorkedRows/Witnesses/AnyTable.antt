@@ -6,7 +6,8 @@ use Rattle.vortex_expr.specs.Trees.Tree.{Tree, Place, binary, is_plain}
 use Rattle.vortex_expr.specs.declared.scalar_fn.Operator.TheVariants.{Gt}
 use Rattle.vortex_prune.proofs.WorkedRows.CauseRows.{none_of, nothing}
 use Rattle.vortex_prune.proofs.WorkedRows.TrueRows.{kept, kept_is_true, rows}
-use Rattle.vortex_prune.proofs.WorkedRows.Witnesses.Parts.{IsWitness, a, above_ten, below_two, high, high_is_in_its_zone, high_is_true, is_map, lit, low, low_is_in_its_zone, low_is_true, mixed, mixed_is_in_its_zone, mixed_is_true, scope, their_map, zones}
+use Rattle.vortex_prune.proofs.WorkedRows.Witnesses.Parts.{a, above_ten, below_two, high, high_is_in_its_zone, high_is_true, is_map, lit, low, low_is_in_its_zone, low_is_true, mixed, mixed_is_in_its_zone, mixed_is_true, their_map, zones}
+use Rattle.vortex_zone_map.proofs.WorkedRows.Witnesses.{IsWitness, scope}
 use Rattle.vortex_prune.proofs.WorkedRows.Witnesses.Pruning.{IsAskedOf, asked, shut}
 use Rattle.vortex_prune.proofs.WorkedRows.Witnesses.Ranges.{Rows, RowsStandFrom, eight_rows, lossy, lossy_is_not_all, one_is_lost, six_rows}
 use Rattle.vortex_prune.proofs.ZoneMaps.TrueRows.{zones_have_true_rows}

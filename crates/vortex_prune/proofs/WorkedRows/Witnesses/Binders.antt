@@ -9,15 +9,18 @@ use Rattle.vortex_base.specs.Data.Scalars.{Constant}
 use Rattle.vortex_expr.specs.Meanings.Fitting.{fits_row}
 use Rattle.vortex_expr.specs.Meanings.Meaning.{meaning}
 use Rattle.vortex_expr.specs.Trees.Tree.{Tree, Place, has_bare_column, stat}
-use Rattle.vortex_prune.proofs.WorkedRows.Witnesses.Parts.{IsWitness, a, all_true, are_parts, high, high_is_true, is_map, known, lit, low, low_is_in_its_zone, low_is_true, mixed, num, part, parts, scope, their_map, zones}
+use Rattle.vortex_prune.proofs.WorkedRows.Witnesses.Parts.{a, all_true, are_parts, high, high_is_true, is_map, lit, low, low_is_in_its_zone, low_is_true, mixed, part, parts, their_map, zones}
+use Rattle.vortex_zone_map.proofs.WorkedRows.Witnesses.{IsWitness, known, num, scope}
 use Rattle.vortex_prune.proofs.WorkedRows.Witnesses.Pruning.{shut}
 use Rattle.vortex_prune.proofs.WorkedRows.Witnesses.Scans.{is_faithful_over, value}
 use Rattle.vortex_prune.specs.Binding.Binders.{IsHonestOver}
 use Rattle.vortex_prune.specs.Binding.BoundTo.{HasNoColumnOn}
 use Rattle.vortex_prune.specs.Binding.PartAnswers.{part_values, told_values}
-use Rattle.vortex_prune.specs.Part.{AreParts, IsPartOf, IsTruePart, PartData, ScopedZone, sets_fit, zone_of}
+use Rattle.vortex_prune.specs.Part.{AreParts, IsPartOf, IsTruePart, PartData, sets_fit, zone_of}
+use Rattle.vortex_zone_map.specs.Zone.{ScopedZone}
 use Rattle.vortex_prune.specs.Scanning.Selection.{AreHonest}
-use Rattle.vortex_prune.specs.Zones.{IsMapOf, MapData, is_zone_row, zone_map, zone_values}
+use Rattle.vortex_prune.specs.Zones.{is_zone_row, zone_values}
+use Rattle.vortex_zone_map.specs.ZoneMaps.{IsMapOf, MapData, zone_map}
 use Rattle.vortex_rewrite.specs.Facts.{IsFact, meanings, size_of}
 use Rattle.vortex_rewrite.specs.Rewriting.Proof.{Assignment, value_under}
 use Rattle.vortex_stats.specs.declared.error.StatsError.{StatsError}

@@ -9,15 +9,18 @@ use Rattle.vortex_expr.specs.Meanings.Fitting.{fits_scope}
 use Rattle.vortex_expr.specs.Meanings.Typing.{is_bool, truth_type, type_of}
 use Rattle.vortex_prune.proofs.WorkedRows.PremiseRows.{last_untrue}
 use Rattle.vortex_prune.proofs.WorkedRows.Witnesses.Binders.{five_is_above}
-use Rattle.vortex_prune.proofs.WorkedRows.Witnesses.Parts.{IsWitness, a, above_ten, high, high_is_true, is_map, low, low_is_part, low_is_true, mixed, scope, their_map, zones}
+use Rattle.vortex_prune.proofs.WorkedRows.Witnesses.Parts.{a, above_ten, high, high_is_true, is_map, low, low_is_part, low_is_true, mixed, their_map, zones}
+use Rattle.vortex_zone_map.proofs.WorkedRows.Witnesses.{IsWitness, scope}
 use Rattle.vortex_prune.proofs.WorkedRows.Witnesses.Pruning.{mixed_box, mixed_box_known, mixed_box_ordered, thirty_satisfies}
 use Rattle.vortex_prune.proofs.WorkedRows.Witnesses.Ranges.{eight_rows, six_rows}
 use Rattle.vortex_prune.specs.Binding.PartAnswers.{part_values}
-use Rattle.vortex_prune.specs.Choosing.{chosen}
-use Rattle.vortex_prune.specs.Part.{AreTrueSets, Entries, IsPart, IsTruePart, IsZone, PartData, zone_of}
+use Rattle.vortex_zone_map.specs.Choosing.{chosen}
+use Rattle.vortex_prune.specs.Part.{AreTrueSets, IsPart, IsTruePart, PartData, zone_of}
+use Rattle.vortex_zone_map.specs.Zone.{Entries, IsZone}
 use Rattle.vortex_prune.specs.Scanning.Complete.{IsBoxIn}
 use Rattle.vortex_prune.specs.Scanning.RangeScans.{AreRanges, AreRangesBehind, has_ranges, has_ranges_from}
-use Rattle.vortex_prune.specs.Zones.{IsMapOf, zones_of}
+use Rattle.vortex_prune.specs.Zones.{zones_of}
+use Rattle.vortex_zone_map.specs.ZoneMaps.{IsMapOf}
 use Rattle.vortex_rewrite.specs.Facts.{IsHonest}
 use Rattle.vortex_rewrite.specs.Rewriting.Proof.{Assignment}
 use Rattle.vortex_rewrite.specs.Rewriting.ReadOnce.{IsInOrder, IsSatisfiable, is_apart}

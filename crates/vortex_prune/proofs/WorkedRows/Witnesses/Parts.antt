@@ -1,45 +1,25 @@
 -- Three parts whose statistics are true, their zones and their map: on these the clauses with premises are witnessed.
-use Rattle.std.specs.Prelude.{◌≡◌, ◌<◌, ℕ, zero, suc, Bool, true, false, List, [], ◌∷◌, Option, Some, None, codes, pos, refl, slice_get}
+use Rattle.std.specs.Prelude.{◌≡◌, ◌<◌, ℕ, zero, suc, List, [], ◌∷◌, Option, Some, None, refl}
 use Rattle.std.specs.List.{AllByRecursion}
-use Rattle.std.proofs.Common.{arith, subst}
+use Rattle.std.proofs.Common.{arith}
 use Rattle.std.proofs.lemmas.List.Elements.{All-from_recursion}
-use Rattle.std.proofs.lemmas.Option.{same_Some}
-use Rattle.vortex_base.specs.declared.dtype.DType.{DType}
 use Rattle.vortex_base.specs.declared.dtype.DType.TheVariants as dtype
-use Rattle.vortex_base.specs.declared.pvalue.PValue.TheVariants as number
 use Rattle.vortex_base.specs.declared.scalar_value.ScalarValue.{ScalarValue}
 use Rattle.vortex_base.specs.declared.scalar_value.ScalarValue.TheVariants as value
-use Rattle.vortex_base.specs.declared.types.Nullability.TheVariants.{Nullable, NonNullable}
+use Rattle.vortex_base.specs.declared.types.Nullability.TheVariants.{NonNullable}
 use Rattle.vortex_base.specs.declared.types.PType.TheVariants as ptype
 use Rattle.vortex_base.specs.Data.Columns.{ChunkData, ColumnData}
-use Rattle.vortex_base.specs.Data.Scopes.{Named}
 use Rattle.vortex_expr.specs.declared.scalar_fn.Operator.TheVariants.{Gt}
 use Rattle.vortex_expr.specs.Trees.Tree.{Tree, Place, binary, column, literal}
 use Rattle.vortex_prune.proofs.Honesty.MeasuredParts.{measured_is_true_part}
-use Rattle.vortex_prune.specs.Part.{AreParts, Entries, IsPart, IsPartOf, IsTruePart, IsZone, PartData, ZoneData, zone_of}
-use Rattle.vortex_prune.specs.Zones.{HaveScope, IsMapOf, MapData, zone_map, zones_of}
-use Rattle.vortex_stats.specs.Sets.Claims.{count_value}
+use Rattle.vortex_prune.specs.Part.{AreParts, IsPart, IsPartOf, IsTruePart, PartData, zone_of}
+use Rattle.vortex_zone_map.specs.Zone.{Entries, IsZone, ZoneData}
+use Rattle.vortex_prune.specs.Zones.{HaveScope, zones_of}
+use Rattle.vortex_zone_map.specs.ZoneMaps.{IsMapOf, MapData, zone_map}
 use Rattle.vortex_stats.specs.Stat.{all_stats}
-use Rattle.vortex_stats.specs.declared.precision.Precision.{Precision}
-use Rattle.vortex_stats.specs.declared.precision.Precision.TheVariants.{Exact}
-use Rattle.vortex_stats.specs.declared.stat.Stat.{Stat}
-use Rattle.vortex_stats.specs.declared.stat.Stat.TheVariants.{IsConstant, IsSorted, IsStrictSorted, Max, Min, Sum, NullCount, UncompressedSizeInBytes}
-
--- all premises of a clause are met at once, and there its conclusion is false of a turned answer
-pub record IsWitness {X : Type 0} (premises : Type 0) (concludes : X → Type 0) (turned : X) : Type 0 where
-  pub met : premises
-  pub refuted : concludes turned → ⊥
+use Rattle.vortex_zone_map.proofs.WorkedRows.Witnesses.{each_of_three, i64_type, known, num, scope}
 
 -- ---- a column of numbers and a predicate over it
-
-abbrev pub i64_type : DType
-i64_type = dtype.Primitive ptype.I64 Nullable
-
-abbrev pub num : ℕ → ScalarValue
-num n = value.Primitive (number.I64 (pos n))
-
-abbrev pub scope : List Named
-scope = (codes "a", i64_type) ∷ []
 
 abbrev pub a : Tree Place
 a = column (record { index = 0; dtype = i64_type })
@@ -57,18 +37,6 @@ values_of vs = record { dtype = i64_type; values = vs; size = 16 }
 
 abbrev pub chunk_of : List (Option ScalarValue) → ChunkData
 chunk_of vs = record { scope = scope; columns = values_of vs ∷ [] }
-
-abbrev tell : Stat → Bool → Stat × Precision ScalarValue
-tell s b = (s, Exact (value.Bool b))
-
--- all statistics of two values that ascend, of a column of a declared size
-abbrev pub known_in : (size least greatest sum nulls : ℕ) → Entries
-known_in size least greatest sum nulls =
-    tell IsConstant false ∷ tell IsSorted true ∷ tell IsStrictSorted true ∷ (Max, Exact (num greatest)) ∷ (Min, Exact (num least)) ∷ (Sum, Exact (num sum))
-    ∷ (NullCount, Exact (count_value nulls)) ∷ (UncompressedSizeInBytes, Exact (count_value size)) ∷ []
-
-abbrev pub known : (least greatest sum nulls : ℕ) → Entries
-known least greatest sum nulls = known_in 16 least greatest sum nulls
 
 abbrev pub part : List (Option ScalarValue) → Entries → PartData
 part vs set = record { chunk = chunk_of vs; stats = set ∷ [] }
@@ -119,13 +87,6 @@ mixed_is_part = (refl, refl)
 
 pub high_is_part : IsPart high
 high_is_part = (refl, refl)
-
--- what is so of three elements is so of each that stands at a place
-pub each_of_three : {X : Type 0} (P : X → Type 0) (x y z : X) → P x → P y → P z → (i : ℕ) (w : X) → slice_get (x ∷ y ∷ z ∷ []) i ≡ Some w → P w
-each_of_three P x y z p q r zero w there = subst P (same_Some x w there) p
-each_of_three P x y z p q r (suc zero) w there = subst P (same_Some y w there) q
-each_of_three P x y z p q r (suc (suc zero)) w there = subst P (same_Some z w there) r
-each_of_three P x y z p q r (suc (suc (suc i))) w there = absurd cc
 
 pub are_parts : AreParts parts
 are_parts = each_of_three IsPart low mixed high low_is_part mixed_is_part high_is_part

@@ -8,18 +8,19 @@ use Rattle.vortex_base.specs.Data.Scalars.{Constant}
 use Rattle.vortex_base.specs.Data.Scopes.{Named}
 use Rattle.vortex_expr.specs.Meanings.Fitting.{fits_scope}
 use Rattle.vortex_expr.specs.Meanings.Meaning.{is_true, satisfies}
-use Rattle.vortex_expr.specs.Trees.Tree.{Tree, Place, binary, column, literal, is_plain, not}
+use Rattle.vortex_expr.specs.Trees.Tree.{Tree, Place, binary, literal, is_plain, not}
 use Rattle.vortex_expr.specs.declared.scalar_fn.Operator.TheVariants.{Or}
 use Rattle.vortex_expr.specs.declared.scalar_fn.ScalarFnId.TheVariants as functions
 use Rattle.vortex_prune.proofs.WorkedRows.CauseRows.{none_of, nothing}
 use Rattle.vortex_prune.proofs.WorkedRows.PartRows.{turned_round}
 use Rattle.vortex_prune.proofs.WorkedRows.ShutRows.{neither}
-use Rattle.vortex_prune.proofs.WorkedRows.Witnesses.Parts.{IsWitness, a, above_ten, high, high_is_in_its_zone, high_is_true, i64_type, is_map, mixed, num, scope, their_map, zones}
+use Rattle.vortex_prune.proofs.WorkedRows.Witnesses.Parts.{a, above_ten, high, high_is_in_its_zone, high_is_true, is_map, mixed, their_map, zones}
+use Rattle.vortex_zone_map.proofs.WorkedRows.Witnesses.{IsWitness, i64_type, num, scope}
 use Rattle.vortex_prune.specs.Part.{zone_of}
 use Rattle.vortex_prune.specs.Scanning.Complete.{IsBoxIn, ZonesSkipExactly}
 use Rattle.vortex_prune.specs.Scanning.Selection.{is_skipped, is_whole, places_where}
 use Rattle.vortex_prune.specs.Scanning.ZoneScans.{IsSoundPruning, kept_zones, open_causes, pruning_causes, skipped_zones, whole_zones, zone_verdicts}
-use Rattle.vortex_prune.specs.Zones.{IsMapOf}
+use Rattle.vortex_zone_map.specs.ZoneMaps.{IsMapOf}
 use Rattle.vortex_prune.specs.declared.scan.verdict.Verdict.{Verdict}
 use Rattle.vortex_prune.specs.declared.scan.verdict.Verdict.TheVariants.{Skipped, Whole, Tested}
 use Rattle.vortex_rewrite.specs.Answers.{IsMemory}

@@ -5,14 +5,15 @@ use Rattle.std.proofs.Common.{arith}
 use Rattle.vortex_base.specs.declared.scalar_value.ScalarValue.{ScalarValue}
 use Rattle.vortex_base.specs.Data.Columns.{ChunkData, row_of}
 use Rattle.vortex_prune.proofs.WorkedRows.CauseRows.{none_of, nothing}
-use Rattle.vortex_prune.proofs.WorkedRows.Witnesses.Parts.{IsWitness, a, above_ten, all_true, are_parts, below_two, have_scope, high, i64_type, is_map, low, mixed, num, parts, scope, their_map, zones}
+use Rattle.vortex_prune.proofs.WorkedRows.Witnesses.Parts.{a, above_ten, all_true, are_parts, below_two, have_scope, high, is_map, low, mixed, parts, their_map, zones}
+use Rattle.vortex_zone_map.proofs.WorkedRows.Witnesses.{IsWitness, i64_type, num, scope}
 use Rattle.vortex_prune.proofs.WorkedRows.Witnesses.Pruning.{IsAskedOf, answered_is_not_refused, asked, built_in, mixed_is_not_skipped, none_for_one, number_asked, open_is_not_memory, shut}
 use Rattle.vortex_prune.specs.Part.{IsTruePart, PartData}
 use Rattle.vortex_prune.specs.Scanning.Complete.{ZonesSkipExactly}
 use Rattle.vortex_prune.specs.Scanning.RangeScans.{AreRanges, AreRangesBehind, AreRangesFrom, has_ranges, has_ranges_from, rows_in_chunk, selected_from, tested_ranges}
 use Rattle.vortex_prune.specs.Scanning.Selection.{full, satisfying, selected_rows}
 use Rattle.vortex_prune.specs.Scanning.ZoneScans.{pruning_causes, skipped_zones, statistics_answers, whole_zones}
-use Rattle.vortex_prune.specs.Zones.{IsMapOf}
+use Rattle.vortex_zone_map.specs.ZoneMaps.{IsMapOf}
 use Rattle.vortex_rewrite.specs.Answers.{IsMemory}
 use Rattle.vortex_rewrite.specs.Causes.{IsRefusal}
 use Rattle.vortex_rewrite.specs.Rewriting.Falsifiers.{falsifier, node, reduce_balanced, satisfier}

@@ -8,7 +8,8 @@ use Rattle.vortex_expr.specs.Trees.Tree.{Tree, Place, is_plain}
 use Rattle.vortex_prune.proofs.Honesty.StatisticsBinders.{by_statistics, statistics_faithful, statistics_honest, statistics_quiet}
 use Rattle.vortex_prune.proofs.Scanning.WholeScan.{parts_by_recursion}
 use Rattle.vortex_prune.proofs.WorkedRows.CauseRows.{none_named, none_of, nothing}
-use Rattle.vortex_prune.proofs.WorkedRows.Witnesses.Parts.{IsWitness, a, above_ten, all_true, are_parts, parts, scope}
+use Rattle.vortex_prune.proofs.WorkedRows.Witnesses.Parts.{a, above_ten, all_true, are_parts, parts}
+use Rattle.vortex_zone_map.proofs.WorkedRows.Witnesses.{IsWitness, scope}
 use Rattle.vortex_prune.proofs.WorkedRows.Witnesses.Pruning.{IsAskedOf, answered_is_not_refused, asked, built_in, mixed_is_not_skipped, none_for_one, number_asked, open_is_not_memory, shut}
 use Rattle.vortex_prune.proofs.WorkedRows.Witnesses.Ranges.{Rows, lossy, lossy_is_not_all, six_are_not_two}
 use Rattle.vortex_prune.specs.Binding.PartAnswers.{part_values}

@@ -1,6 +1,6 @@
 use Rattle.std.proofs.Common.{ap, ◌∙◌}
 use Rattle.vortex_prune.proofs.Honesty.ZoneLemmas.{chunk_alike}
-use Rattle.vortex_prune.specs.Part.{ZoneData, fits_zone}
+use Rattle.vortex_zone_map.specs.Zone.{ZoneData, fits_zone}
 use Rattle.vortex_prune.proofs.part.chunk_fits.Goals as goal
 
 pub returns-clause-value : goal.returns-clause-value

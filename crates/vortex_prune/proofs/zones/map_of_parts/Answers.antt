@@ -1,6 +1,6 @@
 use Rattle.std.proofs.Common.{List, subst, sym, ◌∙◌}
 use Rattle.vortex_prune.proofs.ZoneMaps.ZoneKept.{parts_are_zones}
-use Rattle.vortex_prune.specs.Part.{AreZonesOf, ZoneData}
+use Rattle.vortex_zone_map.specs.Zone.{AreZonesOf, ZoneData}
 use Rattle.vortex_prune.proofs.zones.map_of_parts.Goals as goal
 
 pub map_of-requires : goal.map_of-requires

@@ -1,6 +1,6 @@
 use Rattle.std.proofs.Common.{◌++◌, [], ◌∷◌, ap, arith, ◌∙◌}
 use Rattle.vortex_prune.proofs.Scanning.ScanLemmas.{all_below, below_more}
-use Rattle.vortex_prune.proofs.ZoneMaps.ZoneTables.{mapped_more}
+use Rattle.vortex_zone_map.proofs.ZoneMaps.ZoneTables.{mapped_more}
 use Rattle.vortex_prune.specs.Part.{zone_of}
 use Rattle.vortex_prune.proofs.zones.zones_of.Goals as goal
 

@@ -1,8 +1,8 @@
 use Rattle.std.proofs.Common.{ap, length, map, subst, sym, ◌∙◌}
 use Rattle.std.proofs.lemmas.List.{length-map}
 use Rattle.std.specs.Prelude.{IsTrue}
-use Rattle.vortex_prune.specs.Part.{zones_fit}
-use Rattle.vortex_prune.specs.Zones.{heads}
+use Rattle.vortex_zone_map.specs.Zone.{zones_fit}
+use Rattle.vortex_zone_map.specs.ZoneMaps.{heads}
 use Rattle.vortex_calls.specs.NamedStats.{names_head}
 use Rattle.vortex_calls.specs.Prunes.{answer_by}
 use Rattle.vortex_calls.proofs.BatchLemmas.{zones_of_batch}

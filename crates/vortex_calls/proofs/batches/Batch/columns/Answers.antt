@@ -2,7 +2,7 @@ use Rattle.std.proofs.Common.{◌≡◌, ◌+◌, ◌++◌, ◌∷◌, [], if◌
 use Rattle.std.proofs.lemmas.List.{length_push}
 use Rattle.std.specs.Prelude.{false, slice_get}
 use Rattle.std.proofs.lemmas.Option.{slice_get-get_or}
-use Rattle.vortex_prune.proofs.ZoneMaps.ZoneNames.{head_tells}
+use Rattle.vortex_zone_map.proofs.ZoneMaps.ZoneNames.{head_tells}
 use Rattle.vortex_calls.proofs.BatchLemmas.{head_there, named_pushed}
 use Rattle.vortex_calls.proofs.batches.Batch.columns.Goals as goal
 

@@ -1,5 +1,5 @@
 use Rattle.std.proofs.Common.{◌≡◌, List, Ok, length}
-use Rattle.vortex_prune.specs.Part.{ZoneData}
+use Rattle.vortex_zone_map.specs.Zone.{ZoneData}
 use Rattle.vortex_calls.specs.MapCells.{batch_zones}
 use Rattle.vortex_calls.specs.NamedStats.{AreNamed}
 use Rattle.vortex_calls.proofs.batches.Batch.columns.Given as goal

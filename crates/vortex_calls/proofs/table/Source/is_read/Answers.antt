@@ -2,7 +2,7 @@ use Rattle.std.proofs.Common.{◌≡◌, arith, true}
 use Rattle.std.proofs.lemmas.Bool.{OnTrue_at, OnTrue_from}
 use Rattle.std.proofs.lemmas.Bool.Decides.{nat_tests}
 use Rattle.std.specs.Prelude.{nat_le}
-use Rattle.vortex_prune.proofs.ZoneMaps.ZonePlaces.{read_start}
+use Rattle.vortex_zone_map.proofs.ZoneMaps.ZonePlaces.{read_start}
 use Rattle.vortex_calls.proofs.NumberLemmas.{read_by_code}
 use Rattle.vortex_calls.proofs.table.Source.is_read.Goals as goal
 

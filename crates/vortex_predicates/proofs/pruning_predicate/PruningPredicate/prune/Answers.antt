@@ -9,9 +9,9 @@ use Rattle.vortex_predicates.proofs.NullFound.{finds_certain, skips_impossible}
 use Rattle.vortex_predicates.specs.Pruning.{IsRight, skipped_places}
 use Rattle.vortex_prune.proofs.Scanning.WholeScan.{of_two}
 use Rattle.vortex_prune.proofs.ZoneMaps.ZonePruned.{of_three}
-use Rattle.vortex_prune.specs.Part.{ZoneData}
+use Rattle.vortex_zone_map.specs.Zone.{ZoneData}
 use Rattle.vortex_prune.specs.Scanning.ZoneScans.{IsShutIfVerdict, is_left_open, kept_zones, open_causes, zone_verdicts}
-use Rattle.vortex_prune.specs.Zones.{IsMapOf}
+use Rattle.vortex_zone_map.specs.ZoneMaps.{IsMapOf}
 use Rattle.vortex_rewrite.specs.Causes.{IsRefusal, either_causes}
 use Rattle.vortex_rewrite.specs.Rewriting.Proof.{is_open}
 use Rattle.vortex_predicates.proofs.pruning_predicate.PruningPredicate.prune.Goals as goal

@@ -1,7 +1,8 @@
 use Rattle.std.proofs.Common.{ap, ◌∙◌}
 use Rattle.std.specs.Prelude.{slice_get}
 use Rattle.vortex_prune.specs.Binding.PartBinder as spec
-use Rattle.vortex_prune.proofs.Honesty.PartLiterals.{literal_known, set_fits_type, set_within}
+use Rattle.vortex_prune.proofs.Honesty.PartLiterals.{literal_known}
+use Rattle.vortex_zone_map.proofs.ZoneLemmas.{set_fits_type, set_within}
 use Rattle.vortex_prune.proofs.bind.stats_binder.column_literal.Goals as goal
 
 pub set-set-requires : goal.set-set-requires

@@ -1,5 +1,6 @@
 use Rattle.std.proofs.Common.{◌≡◌, ◌<◌, refl, ap, length, arith}
-use Rattle.vortex_prune.proofs.Honesty.PartLemmas.{sets_pushed, stats_within}
+use Rattle.vortex_prune.proofs.Honesty.PartLemmas.{stats_within}
+use Rattle.vortex_zone_map.proofs.ZoneLemmas.{sets_pushed}
 use Rattle.vortex_prune.proofs.part.join.merged_sets.Goals as goal
 
 pub loop-i-preserved : goal.loop-i-preserved

@@ -1,5 +1,5 @@
 use Rattle.std.proofs.Common.{◌≡◌, ◌++◌, drop}
-use Rattle.vortex_prune.specs.Part.{merged_sets}
+use Rattle.vortex_zone_map.specs.Zone.{merged_sets}
 use Rattle.vortex_prune.proofs.part.join.merged_sets.Given as goal
 
 -- the sets so far, and those to come, are all

@@ -6,7 +6,8 @@ use Rattle.vortex_prune.proofs.ZoneMaps.ZoneKept.{map_long}
 use Rattle.vortex_prune.proofs.ZoneMaps.ZoneRefusals.{open_alike}
 use Rattle.vortex_prune.proofs.ZoneMaps.ZoneScan.{parts_alike}
 use Rattle.vortex_prune.specs.Scanning.ZoneScans.{IsShutIfVerdict, pruning_causes, zone_verdicts}
-use Rattle.vortex_prune.specs.Zones.{MapData, zones_of}
+use Rattle.vortex_prune.specs.Zones.{zones_of}
+use Rattle.vortex_zone_map.specs.ZoneMaps.{MapData}
 use Rattle.vortex_prune.specs.declared.scan.verdict.Verdict.{Verdict}
 use Rattle.vortex_rewrite.specs.Causes.{Causes, IsRefusal}
 use Rattle.vortex_rewrite.specs.Rewriting.Falsifiers.{falsifier, satisfier}

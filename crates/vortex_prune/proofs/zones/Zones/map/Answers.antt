@@ -1,6 +1,8 @@
 use Rattle.std.proofs.Common.{subst}
-use Rattle.vortex_prune.proofs.ZoneMaps.ZoneKept.{map_is_of, parts_are_zones}
-use Rattle.vortex_prune.specs.Zones.{IsMapOf, ZonesData, zones_of}
+use Rattle.vortex_prune.proofs.ZoneMaps.ZoneKept.{parts_are_zones}
+use Rattle.vortex_zone_map.proofs.ZoneMaps.ZoneKept.{map_is_of}
+use Rattle.vortex_prune.specs.Zones.{ZonesData, zones_of}
+use Rattle.vortex_zone_map.specs.ZoneMaps.{IsMapOf}
 use Rattle.vortex_prune.proofs.zones.Zones.map.Goals as goal
 
 pub returns-clause-is_map : goal.returns-clause-is_map

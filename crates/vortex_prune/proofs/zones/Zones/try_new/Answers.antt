@@ -1,7 +1,8 @@
 use Rattle.std.proofs.Common.{List, ap, subst, ◌∙◌}
 use Rattle.vortex_prune.proofs.ZoneMaps.ZoneKept.{zones_are_kept}
 use Rattle.vortex_prune.specs.Part.{AreParts, PartData}
-use Rattle.vortex_prune.specs.Zones.{zone_map, zones_of}
+use Rattle.vortex_prune.specs.Zones.{zones_of}
+use Rattle.vortex_zone_map.specs.ZoneMaps.{zone_map}
 use Rattle.vortex_prune.proofs.zones.Zones.try_new.Goals as goal
 
 pub invariant_of-result : goal.invariant_of-result

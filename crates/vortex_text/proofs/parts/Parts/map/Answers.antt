@@ -1,8 +1,10 @@
 use Rattle.std.proofs.Common.{◌≡◌, All, List, subst, sym, take, ◌∙◌, arith}
 use Rattle.std.proofs.lemmas.List.{take_all}
 use Rattle.vortex_base.specs.Data.Scopes.{Named}
-use Rattle.vortex_prune.specs.Part.{AreZonesOf, PartData, ZoneData}
-use Rattle.vortex_prune.specs.Zones.{IsMapOf, zones_of}
+use Rattle.vortex_prune.specs.Part.{PartData}
+use Rattle.vortex_zone_map.specs.Zone.{AreZonesOf, ZoneData}
+use Rattle.vortex_prune.specs.Zones.{zones_of}
+use Rattle.vortex_zone_map.specs.ZoneMaps.{IsMapOf}
 use Rattle.vortex_text.proofs.LeftLemmas.{all_map, zones_are}
 use Rattle.vortex_text.specs.Fitting.{IsPartOf}
 use Rattle.vortex_text.proofs.parts.Parts.map.Goals as goal

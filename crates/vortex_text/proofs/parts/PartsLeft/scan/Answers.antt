@@ -1,7 +1,8 @@
 use Rattle.std.proofs.Common.{◌≡◌, List, IsTrue, ap, drop, subst, sym, take, ◌∙◌, arith}
 use Rattle.vortex_base.specs.Data.Scopes.{Named}
 use Rattle.vortex_expr.specs.Meanings.Fitting.{fits_scope}
-use Rattle.vortex_prune.specs.Part.{AreZonesOf, PartData}
+use Rattle.vortex_prune.specs.Part.{PartData}
+use Rattle.vortex_zone_map.specs.Zone.{AreZonesOf}
 use Rattle.vortex_text.proofs.LeftLemmas.{found_by, left_first, left_long, left_scope, left_within, left_zones, ranges_of_map, ranges_there}
 use Rattle.vortex_text.proofs.QueryLemmas.{not_memory}
 use Rattle.vortex_text.specs.Batches.{IsFoundIn}

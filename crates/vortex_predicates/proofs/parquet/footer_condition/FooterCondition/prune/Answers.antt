@@ -5,7 +5,7 @@ use Rattle.vortex_parquet.specs.Stats.{group_view, groups_of}
 use Rattle.vortex_parquet.specs.declared.columns.Leaf.{Leaf}
 use Rattle.vortex_parquet.specs.declared.stats.GroupStats.{GroupStats}
 use Rattle.vortex_predicates.specs.RowGroups.Pruning.{zone_data}
-use Rattle.vortex_prune.specs.Zones.{zone_map}
+use Rattle.vortex_zone_map.specs.ZoneMaps.{zone_map}
 use Rattle.vortex_predicates.proofs.Footers.Sound.{groups_long, prunes_condition}
 use Rattle.vortex_predicates.proofs.parquet.footer_condition.FooterCondition.prune.Goals as goal
 

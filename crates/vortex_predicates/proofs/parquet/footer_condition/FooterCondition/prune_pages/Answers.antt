@@ -7,7 +7,7 @@ use Rattle.vortex_parquet.specs.Stats.{group_view}
 use Rattle.vortex_parquet.specs.declared.columns.Leaf.{Leaf}
 use Rattle.vortex_parquet.specs.declared.stats.GroupStats.{GroupStats}
 use Rattle.vortex_predicates.specs.RowGroups.Pruning.{zone_data}
-use Rattle.vortex_prune.specs.Zones.{zone_map}
+use Rattle.vortex_zone_map.specs.ZoneMaps.{zone_map}
 use Rattle.vortex_predicates.specs.Footers.PagedGroups.{AreStretchesFrom, AreStretchesIn, paged_groups, paged_view}
 use Rattle.vortex_predicates.specs.declared.parquet.paged.GroupPages.{GroupPages}
 use Rattle.vortex_predicates.proofs.Footers.PageGroups.{groups_follow}

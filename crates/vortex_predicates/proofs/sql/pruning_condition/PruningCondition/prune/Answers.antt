@@ -4,9 +4,9 @@ use Rattle.std.specs.Prelude.{IfErr, IfOk, List, option_copied}
 use Rattle.vortex_base.specs.Data.Scopes.{Named}
 use Rattle.vortex_expr.specs.Trees.Tree.{Place, Tree}
 use Rattle.vortex_predicates.proofs.Found.{memory_left}
-use Rattle.vortex_prune.specs.Part.{ZoneData}
+use Rattle.vortex_zone_map.specs.Zone.{ZoneData}
 use Rattle.vortex_prune.specs.Scanning.ZoneScans.{AreRowVerdicts, open_causes, zone_verdicts}
-use Rattle.vortex_prune.specs.Zones.{IsMapOf}
+use Rattle.vortex_zone_map.specs.ZoneMaps.{IsMapOf}
 use Rattle.vortex_rewrite.specs.Causes.{IsRefusal, either_causes}
 use Rattle.vortex_predicates.proofs.Conditions.Pruned.{sound_for}
 use Rattle.vortex_predicates.specs.Conditions.Conditions.{AreProofsOf, Confirms, Refutes}

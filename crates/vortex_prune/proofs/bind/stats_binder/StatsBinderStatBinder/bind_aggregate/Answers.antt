@@ -4,7 +4,8 @@ use Rattle.vortex_base.specs.Data.Scopes.{Named}
 use Rattle.vortex_prune.proofs.Honesty.PartLiterals.{for_memory_alone}
 use Rattle.vortex_prune.proofs.Honesty.ZoneLemmas.{part_is_zone}
 use Rattle.vortex_prune.specs.Binding.PartBinder.{part_answer, told_answer}
-use Rattle.vortex_prune.specs.Part.{PartData, ZoneData, fits_zone}
+use Rattle.vortex_prune.specs.Part.{PartData}
+use Rattle.vortex_zone_map.specs.Zone.{ZoneData, fits_zone}
 use Rattle.vortex_prune.proofs.bind.stats_binder.StatsBinderStatBinder.bind_aggregate.Goals as goal
 
 pub told_literal-requires : goal.told_literal-requires

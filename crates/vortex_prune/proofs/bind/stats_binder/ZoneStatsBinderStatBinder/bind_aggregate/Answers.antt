@@ -1,7 +1,7 @@
 use Rattle.std.proofs.Common.{ap, ◌∙◌}
 use Rattle.vortex_prune.proofs.Honesty.PartLiterals.{for_memory_alone}
 use Rattle.vortex_prune.specs.Binding.PartBinder.{told_answer}
-use Rattle.vortex_prune.specs.Part.{ScopedZone}
+use Rattle.vortex_zone_map.specs.Zone.{ScopedZone}
 use Rattle.vortex_prune.proofs.bind.stats_binder.ZoneStatsBinderStatBinder.bind_aggregate.Goals as goal
 
 pub returns : goal.returns

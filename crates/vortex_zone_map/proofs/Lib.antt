@@ -1,0 +1,16 @@
+pub mod BlockLemmas
+pub mod ChosenPlaces
+pub mod FillLemmas
+pub mod JoinLemmas
+pub mod KeptLemmas
+pub mod LinkLemmas
+pub mod LogLemmas
+pub mod MapLemmas
+pub mod ReadStats
+pub mod ShortLemmas
+pub mod StatFits
+pub mod StepLemmas
+pub mod TableLemmas
+pub mod WorkedRows
+pub mod ZoneLemmas
+pub mod ZoneMaps

@@ -1,0 +1,15 @@
+use Rattle.std.proofs.Common.{◌≡◌, ◌++◌, Some, drop, map}
+use Rattle.std.specs.List.{filter}
+use Rattle.std.specs.Prelude.{slice_get}
+use Rattle.vortex_base.specs.Data.Scopes.{Named}
+use Rattle.vortex_expr.specs.Meanings.Typing.{stat_type}
+use Rattle.vortex_zone_map.specs.ZoneMaps.{aggregates, is_typed, supporting, zone_value}
+use Rattle.vortex_zone_map.proofs.zone_map.push_values.Given as goal
+
+-- the values so far, and those to come, are all
+abbrev pub invariant-loop-k : goal.invariant-loop-k
+invariant-loop-k l = record {
+  all : l.all ≡ aggregates;
+  values : (c : Named) → slice_get l.scope l.source ≡ Some c
+      → l.values.items ++ map (λ f. zone_value f l.source l.zone) (filter (λ f. is_typed (stat_type f c.1)) (drop l.k aggregates)) ≡ l.fn.values.items ++ map (λ f. zone_value f l.source l.zone) (supporting c.1);
+}

@@ -1,0 +1,12 @@
+pub mod Blocks
+pub mod Choosing
+pub mod GivenTables
+pub mod Kept
+pub mod Known
+pub mod Logs
+pub mod StatValues
+pub mod Tables
+pub mod Told
+pub mod Zone
+pub mod ZoneMaps
+pub mod ZoneSets
